@@ -1,0 +1,4 @@
+pub mod MarkLists
+pub mod States
+pub mod TableRows
+pub mod TableLaws

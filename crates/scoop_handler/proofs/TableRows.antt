@@ -1,0 +1,190 @@
+-- Every message has its row.
+use Rattle.std.proofs.Common.{◌≡◌, ◌≢◌, ℕ, ◌<◌, ◌≤◌, Bool, true, false, cond, ◌==◌, nat_lt, ◌&&◌, ◌||◌, not, IsTrue, Option, Some, None, length, refl, sym, ap, subst, ◌∙◌, inl, inr, arith}
+use Rattle.std.specs.Prelude.{is_none}
+use Rattle.std.proofs.lemmas.Bool.{eqb-true}
+use Rattle.std.proofs.lemmas.Bool.Decides.{nat_tests}
+use Rattle.scoop_message.specs.declared.limits.TheConstants.{MAX_CLIENTS}
+use Rattle.scoop_message.specs.declared.name.Block.{Block}
+use Rattle.scoop_message.specs.declared.name.ClientId.{ClientId}
+use Rattle.scoop_message.specs.declared.name.HandlerId.{HandlerId}
+use Rattle.scoop_message.specs.declared.message.Message.{Message}
+use Rattle.scoop_message.specs.declared.message.Message.TheVariants.{Hello, Welcome, Lock, Locked, Busy, Open, Opened, Unlock, Unlocked, Log, Logged, Answer}
+use Rattle.scoop_message.specs.Message.{same_handler, handler_of, is_for_handler}
+use Rattle.scoop_message.proofs.Same.{block_decides}
+use Rattle.scoop_handler.specs.declared.mark.Mark.{Mark}
+use Rattle.scoop_handler.specs.declared.mark.Stage.{Stage}
+use Rattle.scoop_handler.specs.declared.mark.Stage.TheVariants.{Held as AtHeld, Open as AtOpen, Shut as AtShut}
+use Rattle.scoop_handler.specs.Marks.{mark_of, is_held, is_open}
+use Rattle.scoop_handler.specs.State.{HandlerState, is_holder, is_unfinished}
+use Rattle.scoop_handler.specs.Hearing.{Hearing, IsHeardAt, hear, hear_hello, hear_lock, hear_open, hear_unlock, hear_log, hear_of, hear_at, mark_for, if_here, is_new, granted}
+use Rattle.scoop_handler.specs.Rows.{Row, asking_block, IsUngreeted, IsPast, not_for_handlers, wrong_handler, too_many_clients, first_greeting, newer_greeting, same_greeting, older_greeting, ungreeted, past, lock_granted, lock_busy, lock_again, lock_over, open_not_holder, open_no_room, open_again, unlock_unfinished, unlock_new, unlock_holder, unlock_again, log_not_open}
+
+-- ---- tests, and what they say
+
+-- a choice, by its test
+pub split : {A : Type 0} (P : A → Type 0) (t : Bool) (x y : A) → (t ≡ true → P x) → (t ≡ false → P y) → P (cond t x y)
+split P true x y then else = then refl
+split P false x y then else = else refl
+
+lt_of : (a b : ℕ) → nat_lt a b ≡ true → a < b
+lt_of a b e = grind (arith, nat_tests)
+
+le_of : (a b : ℕ) → nat_lt a b ≡ false → b ≤ a
+le_of a b e = grind (arith, nat_tests)
+
+pub handler_from_same : (h k : HandlerId) → same_handler h k ≡ true → h ≡ k
+handler_from_same h k e = let make : ℕ → HandlerId = λ n. record { 0 = n } in ap make (eqb-true h.0 k.0 e)
+
+handlers_apart : (h k : HandlerId) → same_handler h k ≡ false → h ≢ k
+handlers_apart h k e same = let one : h.0 ≡ k.0 = ap (λ (x : HandlerId). x.0) same in grind (arith, nat_tests)
+
+held_from_test : (stage : Stage) → is_held stage ≡ true → stage ≡ AtHeld
+held_from_test AtHeld e = refl
+held_from_test AtOpen e = cc
+held_from_test AtShut e = cc
+
+not_held_from_test : (stage : Stage) → is_held stage ≡ false → stage ≢ AtHeld
+not_held_from_test stage e same = let yes_held : true ≡ false = sym (ap is_held same) ∙ e in cc
+
+open_from_test : (stage : Stage) → is_open stage ≡ true → stage ≡ AtOpen
+open_from_test AtHeld e = cc
+open_from_test AtOpen e = refl
+open_from_test AtShut e = cc
+
+shut_from_tests : (stage : Stage) → is_open stage ≡ false → is_held stage ≡ false → stage ≡ AtShut
+shut_from_tests AtHeld e f = cc
+shut_from_tests AtOpen e f = cc
+shut_from_tests AtShut e f = refl
+
+none_from_test : {X : Type 0} (o : Option X) → is_none o ≡ true → o ≡ None
+none_from_test None e = refl
+none_from_test (Some x) e = cc
+
+and_true : (t u : Bool) → (t && u) ≡ true → (t ≡ true) × (u ≡ true)
+and_true true u e = (refl, e)
+and_true false u e = cc
+
+not_true : (t : Bool) → not t ≡ true → t ≡ false
+not_true true e = cc
+not_true false e = refl
+
+-- ---- the holder
+
+pub holder_from_test : (holder : Option Block) (b : Block) → is_holder holder b ≡ true → holder ≡ Some b
+holder_from_test None b e = cc
+holder_from_test (Some x) b e = ap Some ((block_decides x b).0 e)
+
+not_holder_from_test : (holder : Option Block) (b : Block) → is_holder holder b ≡ false → holder ≢ Some b
+not_holder_from_test None b e same = cc
+not_holder_from_test (Some x) b e same = let one : x ≡ b = cc in
+    let holds : true ≡ false = sym ((block_decides x b).1 one) ∙ e in
+    cc
+
+-- ---- rows of each kind
+
+hello_row : (s : HandlerState) (h : HandlerId) (c : ClientId) (inc : ℕ) (k : Option Mark) → h ≡ s.number → mark_of c s.marks ≡ k → Row s (Hello h c inc) (hear_hello s c inc k)
+hello_row s h c inc None here is =
+    split (Row s (Hello h c inc)) (length s.marks == MAX_CLIENTS) _ _
+    (λ e. too_many_clients h c inc here is (eqb-true (length s.marks) MAX_CLIENTS e))
+    (λ e. first_greeting h c inc here is (λ same. no_room same e)) where
+      no_room : length s.marks ≡ MAX_CLIENTS → (length s.marks == MAX_CLIENTS) ≡ false → ⊥
+      no_room same e = grind (arith, nat_tests)
+hello_row s h c inc (Some k) here is =
+    split (Row s (Hello h c inc)) (nat_lt k.inc inc) _ _
+    (λ below. newer_greeting h c inc k here is (lt_of k.inc inc below))
+    (λ at_least. split (Row s (Hello h c inc)) (k.inc == inc) _ _
+    (λ same. same_greeting h c inc k here is (eqb-true k.inc inc same))
+    (λ apart. older_greeting h c inc k here is (above at_least apart))) where
+      above : nat_lt k.inc inc ≡ false → (k.inc == inc) ≡ false → inc < k.inc
+      above e f = grind (arith, nat_tests)
+
+lock_row : (s : HandlerState) (h : HandlerId) (b : Block) (k : Mark) → h ≡ s.number → IsHeardAt s b k → Row s (Lock h b) (hear_lock s b k)
+lock_row s h b k here at =
+    let P = Row s (Lock h b) in
+    split P (is_new b k && (is_none s.holder && not (is_unfinished s k))) _ _ grants
+    (λ busy. split P (is_new b k) _ _
+    (λ new. lock_busy h b k here at (lt_of k.num b.num new) (rest new busy))
+    (λ old. split P (is_held k.stage) _ _
+    (λ held. lock_again h b k here at (same_num old) (held_from_test k.stage held))
+    (λ over. lock_over h b k here at (same_num old) (not_held_from_test k.stage over)))) where
+      grants : (is_new b k && (is_none s.holder && not (is_unfinished s k))) ≡ true → Row s (Lock h b) (granted s b)
+      grants e =
+          let t = and_true _ _ e in
+          let u = and_true _ _ t.1 in
+          lock_granted h b k here at (lt_of k.num b.num t.0) (none_from_test s.holder u.0) (not_true (is_unfinished s k) u.1)
+
+      rest : is_new b k ≡ true → (is_new b k && (is_none s.holder && not (is_unfinished s k))) ≡ false → (is_none s.holder && not (is_unfinished s k)) ≡ false
+      rest new e = sym (ap (λ t. t && (is_none s.holder && not (is_unfinished s k))) new) ∙ e
+
+      same_num : is_new b k ≡ false → k.num ≡ b.num
+      same_num e = let le = le_of k.num b.num e in omega (arith, at.num)
+
+open_row : (s : HandlerState) (h : HandlerId) (b : Block) (k : Mark) → h ≡ s.number → IsHeardAt s b k → Row s (Open h b) (hear_open s b k)
+open_row s h b k here at =
+    let P = Row s (Open h b) in
+    split P (is_new b k) _ _
+    (λ new. open_not_holder h b k here at (inl (lt_of k.num b.num new)))
+    (λ old. split P (is_open k.stage) _ _
+    (λ again. open_again h b k here at (same_num old) (open_from_test k.stage again))
+    (λ closed. split P (is_held k.stage) _ _
+    (λ held. open_no_room h b k here at (same_num old) (held_from_test k.stage held))
+    (λ over. open_not_holder h b k here at (inr (shut_from_tests k.stage closed over))))) where
+      same_num : is_new b k ≡ false → k.num ≡ b.num
+      same_num e = let le = le_of k.num b.num e in omega (arith, at.num)
+
+unlock_row : (s : HandlerState) (h : HandlerId) (b : Block) (k : Mark) → h ≡ s.number → IsHeardAt s b k → Row s (Unlock h b) (hear_unlock s b k)
+unlock_row s h b k here at =
+    let P = Row s (Unlock h b) in
+    split P (is_new b k && is_unfinished s k) _ _
+    (λ busy. let t = and_true _ _ busy in unlock_unfinished h b k here at (lt_of k.num b.num t.0) t.1)
+    (λ clear. split P (is_new b k) _ _
+    (λ new. unlock_new h b k here at (lt_of k.num b.num new) (rest new clear))
+    (λ old. split P (is_holder s.holder b) _ _
+    (λ holds. unlock_holder h b k here at (same_num old) (holder_from_test s.holder b holds))
+    (λ free. unlock_again h b k here at (same_num old) (not_holder_from_test s.holder b free)))) where
+      rest : is_new b k ≡ true → (is_new b k && is_unfinished s k) ≡ false → is_unfinished s k ≡ false
+      rest new e = sym (ap (λ t. t && is_unfinished s k) new) ∙ e
+
+      same_num : is_new b k ≡ false → k.num ≡ b.num
+      same_num e = let le = le_of k.num b.num e in omega (arith, at.num)
+
+-- ---- which row a message comes to
+
+block_row : (s : HandlerState) (m : Message) (b : Block) (heard : Mark → Hearing) → handler_of m ≡ s.number → asking_block m ≡ Some b → ((k : Mark) → IsHeardAt s b k → Row s m (heard k)) → Row s m (hear_of s b heard)
+block_row s m b heard here asks row = by_mark (mark_of b.client s.marks) refl where
+  by_mark : (k : Option Mark) → mark_of b.client s.marks ≡ k → Row s m (hear_at s (mark_for b k) heard)
+  by_mark None is = ungreeted m b here asks (subst (IsUngreeted b) (sym is) tt)
+  by_mark (Some k) is =
+      split (λ r. Row s m (hear_at s r heard)) (nat_lt k.inc b.inc) _ _
+      (λ below. ungreeted m b here asks (subst (IsUngreeted b) (sym is) (lt_of k.inc b.inc below)))
+      (λ greeted. split (λ r. Row s m (hear_at s r heard)) (nat_lt b.inc k.inc || nat_lt b.num k.num) _ _
+      (λ stale. past m b k here asks is (is_past greeted stale))
+      (λ new. row k (record { found = is; inc = same_inc greeted new; num = reached greeted new }))) where
+        is_past : nat_lt k.inc b.inc ≡ false → (nat_lt b.inc k.inc || nat_lt b.num k.num) ≡ true → IsPast b k
+        is_past e f = grind (arith, nat_tests)
+
+        same_inc : nat_lt k.inc b.inc ≡ false → (nat_lt b.inc k.inc || nat_lt b.num k.num) ≡ false → k.inc ≡ b.inc
+        same_inc e f = grind (arith, nat_tests)
+
+        reached : nat_lt k.inc b.inc ≡ false → (nat_lt b.inc k.inc || nat_lt b.num k.num) ≡ false → k.num ≤ b.num
+        reached e f = grind (arith, nat_tests)
+
+here_row : (s : HandlerState) (m : Message) (h : HandlerId) (heard : Hearing) → IsTrue (is_for_handler m) → handler_of m ≡ h → (h ≡ s.number → Row s m heard) → Row s m (if_here s h heard)
+here_row s m h heard to_handler names row =
+    split (Row s m) (same_handler h s.number) _ _
+    (λ same. row (handler_from_same h s.number same))
+    (λ apart. wrong_handler m to_handler (λ e. handlers_apart h s.number apart (sym names ∙ e)))
+
+pub row : (s : HandlerState) (m : Message) → Row s m (hear s m)
+row s (Hello h c inc) = here_row s (Hello h c inc) h _ refl refl (λ here. hello_row s h c inc (mark_of c s.marks) here refl)
+row s (Welcome h c inc) = not_for_handlers (Welcome h c inc) refl
+row s (Lock h b) = here_row s (Lock h b) h _ refl refl (λ here. block_row s (Lock h b) b (hear_lock s b) here refl (λ k at. lock_row s h b k here at))
+row s (Locked h b) = not_for_handlers (Locked h b) refl
+row s (Busy h b) = not_for_handlers (Busy h b) refl
+row s (Open h b) = here_row s (Open h b) h _ refl refl (λ here. block_row s (Open h b) b (hear_open s b) here refl (λ k at. open_row s h b k here at))
+row s (Opened h b) = not_for_handlers (Opened h b) refl
+row s (Unlock h b) = here_row s (Unlock h b) h _ refl refl (λ here. block_row s (Unlock h b) b (hear_unlock s b) here refl (λ k at. unlock_row s h b k here at))
+row s (Unlocked h b) = not_for_handlers (Unlocked h b) refl
+row s (Log h b n es) = here_row s (Log h b n es) h _ refl refl (λ here. block_row s (Log h b n es) b (λ k. hear_log s) here refl (λ k at. log_not_open h b n es k here at))
+row s (Logged h b n) = not_for_handlers (Logged h b n) refl
+row s (Answer h b n a) = not_for_handlers (Answer h b n a) refl

@@ -1,0 +1,65 @@
+-- The table by which a handler hears, a row for each case: which message, in which state, and what comes
+-- of it. Every message has a row, so what is true of each row is true of `hear`.
+use Rattle.std.specs.Prelude.{⊤, ◌≡◌, ◌≢◌, ◌⊎◌, ◌<◌, ℕ, ◌&&◌, not, List, length, Option, Some, None, is_none, IsTrue, IsFalse}
+use Rattle.scoop_message.specs.declared.limits.TheConstants.{MAX_CLIENTS}
+use Rattle.scoop_message.specs.declared.name.Block.{Block}
+use Rattle.scoop_message.specs.declared.name.ClientId.{ClientId}
+use Rattle.scoop_message.specs.declared.name.HandlerId.{HandlerId}
+use Rattle.scoop_message.specs.declared.request.Entry.{Entry}
+use Rattle.scoop_message.specs.declared.message.Message.{Message}
+use Rattle.scoop_message.specs.declared.message.Message.TheVariants.{Hello, Welcome, Lock, Locked, Busy, Open, Opened, Unlock, Unlocked, Log, Logged, Answer}
+use Rattle.scoop_message.specs.Message.{handler_of, is_for_handler}
+use Rattle.scoop_handler.specs.declared.mark.Mark.{Mark}
+use Rattle.scoop_handler.specs.declared.mark.Stage.TheVariants.{Held as AtHeld, Open as AtOpen, Shut as AtShut}
+use Rattle.scoop_handler.specs.declared.note.Note.TheVariants.{Held}
+use Rattle.scoop_handler.specs.declared.note.Reason.TheVariants.{NotForHandlers, WrongHandler, TooManyClients, Ungreeted, Stale, NotHolder, QueueFull, NotOpen}
+use Rattle.scoop_handler.specs.Marks.{mark_of}
+use Rattle.scoop_handler.specs.State.{HandlerState, is_unfinished}
+use Rattle.scoop_handler.specs.Hearing.{Hearing, IsHeardAt, dropped, replied, known, greeted_first, greeted_newer, granted, skipped, freed}
+
+-- the block that asks the handler for something
+abbrev pub asking_block : Message → Option Block
+asking_block (Hello h c inc) = None
+asking_block (Welcome h c inc) = None
+asking_block (Lock h b) = Some b
+asking_block (Locked h b) = None
+asking_block (Busy h b) = None
+asking_block (Open h b) = Some b
+asking_block (Opened h b) = None
+asking_block (Unlock h b) = Some b
+asking_block (Unlocked h b) = None
+asking_block (Log h b n es) = Some b
+asking_block (Logged h b n) = None
+asking_block (Answer h b n a) = None
+
+-- the block's incarnation has not greeted
+abbrev pub IsUngreeted : Block → Option Mark → Type 0
+IsUngreeted b None = ⊤
+IsUngreeted b (Some k) = k.inc < b.inc
+
+-- a newer incarnation, or a newer block of the same one, was there before
+abbrev pub IsPast : Block → Mark → Type 0
+IsPast b k = (b.inc < k.inc) ⊎ ((k.inc ≡ b.inc) × (b.num < k.num))
+
+pub data Row (s : HandlerState) : Message → Hearing → Type 0 where
+  not_for_handlers : (m : Message) → IsFalse (is_for_handler m) → Row s m (dropped s NotForHandlers)
+  wrong_handler : (m : Message) → IsTrue (is_for_handler m) → handler_of m ≢ s.number → Row s m (dropped s WrongHandler)
+  too_many_clients : (h : HandlerId) (c : ClientId) (inc : ℕ) → h ≡ s.number → mark_of c s.marks ≡ None → length s.marks ≡ MAX_CLIENTS → Row s (Hello h c inc) (dropped s TooManyClients)
+  first_greeting : (h : HandlerId) (c : ClientId) (inc : ℕ) → h ≡ s.number → mark_of c s.marks ≡ None → length s.marks ≢ MAX_CLIENTS → Row s (Hello h c inc) (greeted_first s c inc)
+  newer_greeting : (h : HandlerId) (c : ClientId) (inc : ℕ) (k : Mark) → h ≡ s.number → mark_of c s.marks ≡ Some k → k.inc < inc → Row s (Hello h c inc) (greeted_newer s c inc)
+  same_greeting : (h : HandlerId) (c : ClientId) (inc : ℕ) (k : Mark) → h ≡ s.number → mark_of c s.marks ≡ Some k → k.inc ≡ inc → Row s (Hello h c inc) (known s (Welcome s.number c inc))
+  older_greeting : (h : HandlerId) (c : ClientId) (inc : ℕ) (k : Mark) → h ≡ s.number → mark_of c s.marks ≡ Some k → inc < k.inc → Row s (Hello h c inc) (dropped s Stale)
+  ungreeted : (m : Message) (b : Block) → handler_of m ≡ s.number → asking_block m ≡ Some b → IsUngreeted b (mark_of b.client s.marks) → Row s m (dropped s Ungreeted)
+  past : (m : Message) (b : Block) (k : Mark) → handler_of m ≡ s.number → asking_block m ≡ Some b → mark_of b.client s.marks ≡ Some k → IsPast b k → Row s m (dropped s Stale)
+  lock_granted : (h : HandlerId) (b : Block) (k : Mark) → h ≡ s.number → IsHeardAt s b k → k.num < b.num → s.holder ≡ None → IsFalse (is_unfinished s k) → Row s (Lock h b) (granted s b)
+  lock_busy : (h : HandlerId) (b : Block) (k : Mark) → h ≡ s.number → IsHeardAt s b k → k.num < b.num → IsFalse (is_none s.holder && not (is_unfinished s k)) → Row s (Lock h b) (replied s (Busy s.number b) Held)
+  lock_again : (h : HandlerId) (b : Block) (k : Mark) → h ≡ s.number → IsHeardAt s b k → k.num ≡ b.num → k.stage ≡ AtHeld → Row s (Lock h b) (known s (Locked s.number b))
+  lock_over : (h : HandlerId) (b : Block) (k : Mark) → h ≡ s.number → IsHeardAt s b k → k.num ≡ b.num → k.stage ≢ AtHeld → Row s (Lock h b) (dropped s Stale)
+  open_not_holder : (h : HandlerId) (b : Block) (k : Mark) → h ≡ s.number → IsHeardAt s b k → (k.num < b.num) ⊎ (k.stage ≡ AtShut) → Row s (Open h b) (dropped s NotHolder)
+  open_no_room : (h : HandlerId) (b : Block) (k : Mark) → h ≡ s.number → IsHeardAt s b k → k.num ≡ b.num → k.stage ≡ AtHeld → Row s (Open h b) (dropped s QueueFull)
+  open_again : (h : HandlerId) (b : Block) (k : Mark) → h ≡ s.number → IsHeardAt s b k → k.num ≡ b.num → k.stage ≡ AtOpen → Row s (Open h b) (known s (Opened s.number b))
+  unlock_unfinished : (h : HandlerId) (b : Block) (k : Mark) → h ≡ s.number → IsHeardAt s b k → k.num < b.num → IsTrue (is_unfinished s k) → Row s (Unlock h b) (dropped s NotHolder)
+  unlock_new : (h : HandlerId) (b : Block) (k : Mark) → h ≡ s.number → IsHeardAt s b k → k.num < b.num → IsFalse (is_unfinished s k) → Row s (Unlock h b) (skipped s b)
+  unlock_holder : (h : HandlerId) (b : Block) (k : Mark) → h ≡ s.number → IsHeardAt s b k → k.num ≡ b.num → s.holder ≡ Some b → Row s (Unlock h b) (freed s b k)
+  unlock_again : (h : HandlerId) (b : Block) (k : Mark) → h ≡ s.number → IsHeardAt s b k → k.num ≡ b.num → s.holder ≢ Some b → Row s (Unlock h b) (known s (Unlocked s.number b))
+  log_not_open : (h : HandlerId) (b : Block) (n : ℕ) (es : List Entry) (k : Mark) → h ≡ s.number → IsHeardAt s b k → Row s (Log h b n es) (dropped s NotOpen)

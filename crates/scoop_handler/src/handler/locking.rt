@@ -1,0 +1,67 @@
+//! A block asks for the lock, and gives it back.
+
+ghost use Rattle.std.specs.Prelude.{◌≡◌};
+ghost use Rattle.scoop_handler.specs.State.{is_holder, is_unfinished};
+ghost use Rattle.scoop_handler.specs.Hearing.{hear_lock, hear_unlock, IsHeardAt};
+
+use crate::handler::Handler;
+use crate::mark::{Mark, Stage};
+use crate::note::{Heard, Note, Reason};
+use scoop_message::{Block, Message};
+use std::alloc::Allocator;
+
+impl<A: Allocator> Handler<A> {
+    // The block asks for the lock. `mark` is its client's.
+    pub(super) fn hear_lock(&mut self, block: Block, mark: Mark) -> Heard
+        requires { IsHeardAt self.old block mark }
+        ensures { hear_lock self.old block mark ≡ (self.new, result) }
+    {
+        if mark.num < block.num {
+            if self.holder.is_none() && !self.is_unfinished(&mark) {
+                self.change(Some(block), Mark::fresh(block, Stage::Held));
+                return Heard::replied(Message::Locked(self.number, block), Note::Granted);
+            }
+            return Heard::replied(Message::Busy(self.number, block), Note::Held);
+        }
+        match mark.stage {
+            Stage::Held => Heard::replied(Message::Locked(self.number, block), Note::Known),
+            Stage::Open | Stage::Shut => Heard::dropped(Reason::Stale),
+        }
+    }
+
+    // The block gives the lock back, or is past asking for it. `mark` is its client's.
+    pub(super) fn hear_unlock(&mut self, block: Block, mark: Mark) -> Heard
+        requires { IsHeardAt self.old block mark }
+        ensures { hear_unlock self.old block mark ≡ (self.new, result) }
+    {
+        let unlocked = Message::Unlocked(self.number, block);
+        if mark.num < block.num {
+            if self.is_unfinished(&mark) {
+                return Heard::dropped(Reason::NotHolder);
+            }
+            self.change(self.holder, Mark::fresh(block, Stage::Shut));
+            return Heard::replied(unlocked, Note::Freed);
+        }
+        if self.holds(block) {
+            self.change(None, mark.without_hold());
+            return Heard::replied(unlocked, Note::Freed);
+        }
+        Heard::replied(unlocked, Note::Known)
+    }
+
+    // Whether the client's newest block holds the lock, or is open and has not ended.
+    fn is_unfinished(&self, mark: &Mark) -> bool
+        ensures { result ≡ is_unfinished self.now mark.now }
+    {
+        self.holds(mark.block()) || mark.stage == Stage::Open && !mark.ended
+    }
+
+    fn holds(&self, block: Block) -> bool
+        ensures { result ≡ is_holder self.now.holder block }
+    {
+        match self.holder {
+            None => false,
+            Some(holder) => holder == block,
+        }
+    }
+}

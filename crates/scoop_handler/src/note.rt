@@ -1,0 +1,120 @@
+//! What a handler answers to a message, and what it tells of it.
+
+ghost use Rattle.std.specs.Prelude.{◌≡◌, Some, None};
+
+use scoop_message::{Block, Message};
+use std::fmt;
+
+/// Why a message was dropped. Printed as its name.
+#[derive(Clone, Copy, Debug, PartialEq, Eq)]
+pub enum Reason {
+    /// It is of a kind that goes to clients.
+    NotForHandlers,
+    /// It is for another handler.
+    WrongHandler,
+    /// It greets for a client that is not known, and 64 clients are.
+    TooManyClients,
+    /// The client has sent a newer greeting, or asked something for a newer block.
+    Stale,
+    /// This incarnation of the client has not greeted.
+    Ungreeted,
+    /// The block doesn't hold the lock.
+    NotHolder,
+    /// The handler has no room for another private queue.
+    QueueFull,
+    /// The block has no private queue that takes entries.
+    NotOpen,
+    /// An earlier entry of the block was not received.
+    Gap,
+    /// The block's private queue has no room for the entries.
+    PendingFull,
+}
+
+impl fmt::Display for Reason {
+    ghost use Rattle.scoop_handler.specs.Text.{reason_text};
+
+    ghost output = { λ why. Some (reason_text why) };
+
+    fn fmt<W: fmt::Write>(&self, f: &mut fmt::Formatter<W>) -> fmt::Result {
+        f.write_str(match self {
+            Reason::NotForHandlers => "NotForHandlers",
+            Reason::WrongHandler => "WrongHandler",
+            Reason::TooManyClients => "TooManyClients",
+            Reason::Stale => "Stale",
+            Reason::Ungreeted => "Ungreeted",
+            Reason::NotHolder => "NotHolder",
+            Reason::QueueFull => "QueueFull",
+            Reason::NotOpen => "NotOpen",
+            Reason::Gap => "Gap",
+            Reason::PendingFull => "PendingFull",
+        })
+    }
+}
+
+/// What a handler did with a message. Printed as its name; a number of entries and a reason follow.
+#[derive(Clone, Copy, Debug, PartialEq, Eq)]
+pub enum Note {
+    /// The client, or a newer incarnation of it, has been greeted.
+    Greeted,
+    /// The block was granted the lock.
+    Granted,
+    /// The lock was refused to the block.
+    Held,
+    /// The block was given a private queue.
+    Opened(Block),
+    /// The block doesn't hold the lock any more.
+    Freed,
+    /// The block's entries up to this number are received.
+    Took(u32),
+    /// The message was heard before, and is answered again.
+    Known,
+    /// The message changed nothing and has no answer.
+    Dropped(Reason),
+}
+
+impl fmt::Display for Note {
+    ghost use Rattle.scoop_handler.specs.Text.{note_text};
+
+    ghost output = { λ note. Some (note_text note) };
+
+    fn fmt<W: fmt::Write>(&self, f: &mut fmt::Formatter<W>) -> fmt::Result {
+        match self {
+            Note::Greeted => f.write_str("Greeted"),
+            Note::Granted => f.write_str("Granted"),
+            Note::Held => f.write_str("Held"),
+            Note::Opened(_) => f.write_str("Opened"),
+            Note::Freed => f.write_str("Freed"),
+            Note::Took(number) => write!(f, "Took {number}"),
+            Note::Known => f.write_str("Known"),
+            Note::Dropped(why) => write!(f, "Dropped {why}"),
+        }
+    }
+}
+
+/// The answer to a message.
+#[derive(Clone, Copy, Debug, PartialEq, Eq)]
+pub struct Heard {
+    /// The message to send back to the client, if any.
+    pub reply: Option<Message>,
+    pub note: Note,
+}
+
+impl Heard {
+    pub(crate) fn replied(reply: Message, note: Note) -> Heard
+        ensures { result ≡ record { reply = Some reply; note = note } }
+    {
+        Heard {
+            reply: Some(reply),
+            note,
+        }
+    }
+
+    pub(crate) fn dropped(why: Reason) -> Heard
+        ensures { result ≡ record { reply = None; note = Note.Dropped why } }
+    {
+        Heard {
+            reply: None,
+            note: Note::Dropped(why),
+        }
+    }
+}
