@@ -1,0 +1,6 @@
+pub mod Bytes
+pub mod Writing
+pub mod Entries
+pub mod Frames
+pub mod Refusals
+pub mod Exact

@@ -1,0 +1,11 @@
+pub use Rattle.scoop_message.specs.Message
+pub use Rattle.scoop_message.specs.Range
+pub mod Version
+pub mod Body
+pub mod Log
+pub mod Frame
+pub mod Buffer
+pub mod Kind
+pub mod Header
+pub mod Fault
+pub mod Text

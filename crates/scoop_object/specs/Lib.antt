@@ -1,0 +1,5 @@
+pub mod Blank
+pub mod Repeats
+pub mod Class
+pub mod Effect
+pub mod Play
