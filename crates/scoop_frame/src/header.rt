@@ -40,6 +40,7 @@ fn no_block(client: ClientId, inc: u32) -> Block
     }
 }
 
+// The header with these fields, whose numbers are in range since a program holds them.
 fn head(version: Version, kind: Kind, handler: HandlerId, block: Block, number: u32) -> Header
     ensures fields { result ≡ record { version = version; kind = kind; handler = handler; block = block; number = number } }
     ensures numbers { IsNumberOf handler block number }
@@ -187,6 +188,7 @@ impl Header {
         if message.fits() { Some(message) } else { None }
     }
 
+    // The message of this header, of a kind whose body is empty.
     fn message_without_body(&self) -> Message
         requires sound { IsSound self.now }
         requires not_log { code self.now.kind ≢ 10 }

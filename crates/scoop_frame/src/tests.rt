@@ -1,4 +1,4 @@
-ghost use Rattle.std.specs.Prelude.{◌<◌};
+ghost use Rattle.std.specs.Prelude.{◌<◌, ◌≤◌, length};
 
 use super::*;
 use scoop_message::limits::BUFFER_LEN;
@@ -17,10 +17,6 @@ const BLOCK: Block = Block {
 
 const LOCK: [u8; 26] = *b"SQ\x01\x03\0\0\0\x01\0\0\0\x07\0\0\0\x01\0\0\0\x01\0\0\0\0\0\0";
 
-// A Log whose call tells five arguments, without them.
-const LONG: &[u8; 30] =
-    b"SQ\x01\x0a\0\0\0\x01\0\0\0\x07\0\0\0\x01\0\0\0\x01\0\0\0\x01\0\x2c\x01\0\x01\x05";
-
 const HELLO: [u8; 26] = *b"SQ\x01\x01\0\0\0\x01\0\0\0\x07\0\0\0\x01\0\0\0\0\0\0\0\0\0\0";
 
 fn with_byte(frame: [u8; 26], at: usize, byte: u8) -> [u8; 26]
@@ -31,7 +27,19 @@ fn with_byte(frame: [u8; 26], at: usize, byte: u8) -> [u8; 26]
     changed
 }
 
-// Whether the bytes are written for the message and read as it, and the rest of the buffer stays.
+// The frame of handler 1 and of client 7's first block, with what follows the block number.
+fn frame_of(version: u8, kind: u8, rest: &[u8]) -> [u8; BUFFER_LEN]
+    requires { length rest.now ≤ 100 }
+{
+    let mut frame = [0; BUFFER_LEN];
+    frame[..20].copy_from_slice(&LOCK[..20]);
+    frame[2] = version;
+    frame[3] = kind;
+    frame[20..20 + rest.len()].copy_from_slice(rest);
+    frame
+}
+
+// Whether the message is written as the frame and read from it, and the rest of the buffer stays.
 fn is_frame(version: Version, message: &Message, frame: &[u8]) -> bool {
     if !message.fits() || !version.carries(message) {
         return false;
@@ -41,6 +49,22 @@ fn is_frame(version: Version, message: &Message, frame: &[u8]) -> bool {
     &buffer[..len] == frame
         && buffer[len..].iter().all(|byte| *byte == 0xee)
         && decode(frame) == Ok((version, *message))
+}
+
+fn is_framed(version: Version, message: &Message, kind: u8, rest: &[u8]) -> bool {
+    if rest.len() > 100 {
+        return false;
+    }
+    let frame = frame_of(version.byte(), kind, rest);
+    is_frame(version, message, &frame[..20 + rest.len()])
+}
+
+fn is_refused(version: u8, kind: u8, rest: &[u8], fault: FrameError) -> bool {
+    if rest.len() > 100 {
+        return false;
+    }
+    let frame = frame_of(version, kind, rest);
+    decode(&frame[..20 + rest.len()]) == Err(fault)
 }
 
 // Whether each proper prefix of the message's frame is refused by its length.
@@ -64,37 +88,32 @@ fn prefixes_are_refused(version: Version, message: &Message) -> bool {
 }
 
 #[test]
-fn messages_without_a_body_have_their_frames(rt: HostRuntime) {
-    let cases = [
-        (Message::Lock(HANDLER, BLOCK), LOCK.as_slice()),
-        (Message::Hello(HANDLER, CLIENT, 1), HELLO.as_slice()),
-        (
-            Message::Welcome(HANDLER, CLIENT, 1),
-            b"SQ\x01\x02\0\0\0\x01\0\0\0\x07\0\0\0\x01\0\0\0\0\0\0\0\0\0\0",
-        ),
-        (
-            Message::Locked(HANDLER, BLOCK),
-            b"SQ\x01\x04\0\0\0\x01\0\0\0\x07\0\0\0\x01\0\0\0\x01\0\0\0\0\0\0",
-        ),
-        (
-            Message::Open(HANDLER, BLOCK),
-            b"SQ\x01\x06\0\0\0\x01\0\0\0\x07\0\0\0\x01\0\0\0\x01\0\0\0\0\0\0",
-        ),
-        (
-            Message::Opened(HANDLER, BLOCK),
-            b"SQ\x01\x07\0\0\0\x01\0\0\0\x07\0\0\0\x01\0\0\0\x01\0\0\0\0\0\0",
-        ),
-        (
-            Message::Unlock(HANDLER, BLOCK),
-            b"SQ\x01\x08\0\0\0\x01\0\0\0\x07\0\0\0\x01\0\0\0\x01\0\0\0\0\0\0",
-        ),
-        (
-            Message::Unlocked(HANDLER, BLOCK),
-            b"SQ\x01\x09\0\0\0\x01\0\0\0\x07\0\0\0\x01\0\0\0\x01\0\0\0\0\0\0",
-        ),
+fn messages_have_their_frames(rt: HostRuntime) {
+    let hello = Message::Hello(HANDLER, CLIENT, 1);
+    let welcome = Message::Welcome(HANDLER, CLIENT, 1);
+    assert!(rt; is_frame(Version::One, &hello, &HELLO));
+    assert!(rt; is_frame(Version::One, &welcome, &with_byte(HELLO, 3, 2)));
+    let kinds = [
+        (Message::Lock(HANDLER, BLOCK), 3),
+        (Message::Locked(HANDLER, BLOCK), 4),
+        (Message::Open(HANDLER, BLOCK), 6),
+        (Message::Opened(HANDLER, BLOCK), 7),
+        (Message::Unlock(HANDLER, BLOCK), 8),
+        (Message::Unlocked(HANDLER, BLOCK), 9),
     ];
-    for (message, frame) in cases {
-        assert!(rt; is_frame(Version::One, &message, frame), "{message:?}");
+    for (message, kind) in kinds {
+        let framed = is_framed(Version::One, &message, kind, b"\0\0\0\0\0\0");
+        assert!(rt; framed, "{message:?}");
+    }
+    let counts = [
+        (Version::One, 1, b"\0\0\0\x01\0\0"),
+        (Version::One, 3, b"\0\0\0\x03\0\0"),
+        (Version::Two, 2, b"\0\0\0\x02\0\0"),
+        (Version::Two, 3, b"\0\0\0\x03\0\0"),
+    ];
+    for (version, count, rest) in counts {
+        let message = Message::Logged(HANDLER, BLOCK, count);
+        assert!(rt; is_framed(version, &message, 11, rest), "{message:?}");
     }
 }
 
@@ -108,66 +127,47 @@ fn entries_and_answers_are_framed(rt: HostRuntime) -> Result<(), Fail> {
         op: 2,
         args: Args::of(&[])?,
     });
-    let cases = [
+    let logs = [
         (
             Version::One,
-            Message::Log(HANDLER, BLOCK, 1, Entries::of(&[set])?),
-            b"SQ\x01\x0a\0\0\0\x01\0\0\0\x07\0\0\0\x01\0\0\0\x01\0\0\0\x01\0\x0c\x01\0\x01\x01\0\0\0\0\0\0\0\x05".as_slice(),
+            1,
+            Entries::of(&[set])?,
+            b"\0\0\0\x01\0\x0c\x01\0\x01\x01\0\0\0\0\0\0\0\x05".as_slice(),
         ),
         (
             Version::One,
-            Message::Logged(HANDLER, BLOCK, 1),
-            b"SQ\x01\x0b\0\0\0\x01\0\0\0\x07\0\0\0\x01\0\0\0\x01\0\0\0\x01\0\0".as_slice(),
+            2,
+            Entries::of(&[get])?,
+            b"\0\0\0\x02\0\x04\x02\0\x02\0",
         ),
         (
             Version::One,
-            Message::Log(HANDLER, BLOCK, 2, Entries::of(&[get])?),
-            b"SQ\x01\x0a\0\0\0\x01\0\0\0\x07\0\0\0\x01\0\0\0\x01\0\0\0\x02\0\x04\x02\0\x02\0".as_slice(),
-        ),
-        (
-            Version::One,
-            Message::Answer(HANDLER, BLOCK, 2, Answer::Value(5)),
-            b"SQ\x01\x0c\0\0\0\x01\0\0\0\x07\0\0\0\x01\0\0\0\x01\0\0\0\x02\0\x09\x01\0\0\0\0\0\0\0\x05".as_slice(),
-        ),
-        (
-            Version::One,
-            Message::Log(HANDLER, BLOCK, 3, Entries::of(&[Entry::End])?),
-            b"SQ\x01\x0a\0\0\0\x01\0\0\0\x07\0\0\0\x01\0\0\0\x01\0\0\0\x03\0\x01\x03".as_slice(),
-        ),
-        (
-            Version::One,
-            Message::Logged(HANDLER, BLOCK, 3),
-            b"SQ\x01\x0b\0\0\0\x01\0\0\0\x07\0\0\0\x01\0\0\0\x01\0\0\0\x03\0\0".as_slice(),
+            3,
+            Entries::of(&[Entry::End])?,
+            b"\0\0\0\x03\0\x01\x03",
         ),
         (
             Version::Two,
-            Message::Log(HANDLER, BLOCK, 1, Entries::of(&[set, get])?),
-            b"SQ\x02\x0a\0\0\0\x01\0\0\0\x07\0\0\0\x01\0\0\0\x01\0\0\0\x01\0\x11\x02\x01\0\x01\x01\0\0\0\0\0\0\0\x05\x02\0\x02\0".as_slice(),
+            1,
+            Entries::of(&[set, get])?,
+            b"\0\0\0\x01\0\x11\x02\x01\0\x01\x01\0\0\0\0\0\0\0\x05\x02\0\x02\0",
         ),
         (
             Version::Two,
-            Message::Logged(HANDLER, BLOCK, 2),
-            b"SQ\x02\x0b\0\0\0\x01\0\0\0\x07\0\0\0\x01\0\0\0\x01\0\0\0\x02\0\0".as_slice(),
-        ),
-        (
-            Version::Two,
-            Message::Answer(HANDLER, BLOCK, 2, Answer::Value(5)),
-            b"SQ\x02\x0c\0\0\0\x01\0\0\0\x07\0\0\0\x01\0\0\0\x01\0\0\0\x02\0\x09\x01\0\0\0\0\0\0\0\x05".as_slice(),
-        ),
-        (
-            Version::Two,
-            Message::Log(HANDLER, BLOCK, 2, Entries::of(&[get, Entry::End])?),
-            b"SQ\x02\x0a\0\0\0\x01\0\0\0\x07\0\0\0\x01\0\0\0\x01\0\0\0\x02\0\x06\x02\x02\0\x02\0\x03".as_slice(),
-        ),
-        (
-            Version::Two,
-            Message::Logged(HANDLER, BLOCK, 3),
-            b"SQ\x02\x0b\0\0\0\x01\0\0\0\x07\0\0\0\x01\0\0\0\x01\0\0\0\x03\0\0".as_slice(),
+            2,
+            Entries::of(&[get, Entry::End])?,
+            b"\0\0\0\x02\0\x06\x02\x02\0\x02\0\x03",
         ),
     ];
-    for (version, message, frame) in cases {
-        assert!(rt; is_frame(version, &message, frame), "{message:?}");
+    for (version, number, entries, rest) in logs {
+        let message = Message::Log(HANDLER, BLOCK, number, entries);
+        assert!(rt; is_framed(version, &message, 10, rest), "{message:?}");
     }
+    let answer = Message::Answer(HANDLER, BLOCK, 2, Answer::Value(5));
+    let rest = b"\0\0\0\x02\0\x09\x01\0\0\0\0\0\0\0\x05";
+    assert!(rt;
+        is_framed(Version::One, &answer, 12, rest) && is_framed(Version::Two, &answer, 12, rest)
+    );
     Ok(())
 }
 
@@ -194,83 +194,36 @@ fn the_first_fault_is_told(rt: HostRuntime) {
 
 #[test]
 fn bodies_are_whole(rt: HostRuntime) {
-    let mut long = [0; 70];
-    long[..30].copy_from_slice(LONG);
-    assert_eq!(rt; decode(&long), Err(FrameError::BadBody));
+    let mut five_args = [0; 50];
+    five_args[..10].copy_from_slice(b"\0\0\0\x01\0\x2c\x01\0\x01\x05");
+    assert!(rt; is_refused(1, 10, &five_args, FrameError::BadBody));
+    let trailing = b"\0\0\0\0\0\0\0";
+    assert!(rt; is_refused(1, 3, trailing, FrameError::LengthWrong));
+    let unnumbered = b"\0\0\0\0\0\x01\x04";
+    assert!(rt; is_refused(1, 10, unnumbered, FrameError::FieldZero));
     let cases = [
-        // A byte behind the frame.
+        (1, 3, b"\0\0\0\0\0\x01\0".as_slice()), // a kind without a body
+        (1, 10, b"\0\0\0\x01\0\x01\x04"), // no entry
+        (1, 10, b"\0\0\0\x01\0\x02\x03\0"), // a byte behind the entry
+        (1, 10, b"\0\0\0\x01\0\x02\x03\x03"), // two entries in version 1
+        (2, 10, b"\0\0\0\x01\0\x01\0"), // no entries
         (
-            b"SQ\x01\x03\0\0\0\x01\0\0\0\x07\0\0\0\x01\0\0\0\x01\0\0\0\0\0\0\0".as_slice(),
-            FrameError::LengthWrong,
-        ),
-        // A body of a kind without one.
-        (
-            b"SQ\x01\x03\0\0\0\x01\0\0\0\x07\0\0\0\x01\0\0\0\x01\0\0\0\0\0\x01\0".as_slice(),
-            FrameError::BadBody,
-        ),
-        // No entry.
-        (
-            b"SQ\x01\x0a\0\0\0\x01\0\0\0\x07\0\0\0\x01\0\0\0\x01\0\0\0\x01\0\x01\x04".as_slice(),
-            FrameError::BadBody,
-        ),
-        // A byte behind the entry.
-        (
-            b"SQ\x01\x0a\0\0\0\x01\0\0\0\x07\0\0\0\x01\0\0\0\x01\0\0\0\x01\0\x02\x03\0".as_slice(),
-            FrameError::BadBody,
-        ),
-        // Number 0 comes first.
-        (
-            b"SQ\x01\x0a\0\0\0\x01\0\0\0\x07\0\0\0\x01\0\0\0\x01\0\0\0\0\0\x01\x04".as_slice(),
-            FrameError::FieldZero,
-        ),
-        // Two entries in version 1.
-        (
-            b"SQ\x01\x0a\0\0\0\x01\0\0\0\x07\0\0\0\x01\0\0\0\x01\0\0\0\x01\0\x02\x03\x03".as_slice(),
-            FrameError::BadBody,
-        ),
-        // No entries.
-        (
-            b"SQ\x02\x0a\0\0\0\x01\0\0\0\x07\0\0\0\x01\0\0\0\x01\0\0\0\x01\0\x01\0".as_slice(),
-            FrameError::BadBody,
-        ),
-        // Five entries.
-        (
-            b"SQ\x02\x0a\0\0\0\x01\0\0\0\x07\0\0\0\x01\0\0\0\x01\0\0\0\x01\0\x12\x05\x02\0\x02\0\x02\0\x02\0\x02\0\x02\0\x02\0\x02\0\x03".as_slice(),
-            FrameError::BadBody,
-        ),
-        // An End before the last entry.
-        (
-            b"SQ\x02\x0a\0\0\0\x01\0\0\0\x07\0\0\0\x01\0\0\0\x01\0\0\0\x01\0\x03\x02\x03\x03".as_slice(),
-            FrameError::BadBody,
-        ),
-        // Fewer entries than told.
-        (
-            b"SQ\x02\x0a\0\0\0\x01\0\0\0\x07\0\0\0\x01\0\0\0\x01\0\0\0\x01\0\x02\x02\x03".as_slice(),
-            FrameError::BadBody,
-        ),
-        // More bytes than the entries.
-        (
-            b"SQ\x02\x0a\0\0\0\x01\0\0\0\x07\0\0\0\x01\0\0\0\x01\0\0\0\x01\0\x03\x01\x03\0".as_slice(),
-            FrameError::BadBody,
-        ),
-        // A last number above 2^32-1.
-        (
-            b"SQ\x02\x0a\0\0\0\x01\0\0\0\x07\0\0\0\x01\0\0\0\x01\xff\xff\xff\xff\0\x06\x02\x02\0\x02\0\x03".as_slice(),
-            FrameError::BadBody,
-        ),
-        // An answer that is none.
-        (
-            b"SQ\x02\x0c\0\0\0\x01\0\0\0\x07\0\0\0\x01\0\0\0\x01\0\0\0\x01\0\x01\x02".as_slice(),
-            FrameError::BadBody,
-        ),
-        // A value cut short.
-        (
-            b"SQ\x01\x0c\0\0\0\x01\0\0\0\x07\0\0\0\x01\0\0\0\x01\0\0\0\x01\0\x08\x01\0\0\0\0\0\0\0".as_slice(),
-            FrameError::BadBody,
-        ),
+            2,
+            10,
+            b"\0\0\0\x01\0\x12\x05\x02\0\x02\0\x02\0\x02\0\x02\0\x02\0\x02\0\x02\0\x03",
+        ), // five entries
+        (2, 10, b"\0\0\0\x01\0\x03\x02\x03\x03"), // an End before the last entry
+        (2, 10, b"\0\0\0\x01\0\x02\x02\x03"), // fewer entries than told
+        (2, 10, b"\0\0\0\x01\0\x03\x01\x03\0"), // a byte behind the entries
+        (2, 10, b"\xff\xff\xff\xff\0\x06\x02\x02\0\x02\0\x03"), // a last number above 2^32-1
+        (2, 12, b"\0\0\0\x01\0\x01\x02"), // no answer
+        (1, 12, b"\0\0\0\x01\0\x08\x01\0\0\0\0\0\0\0"), // a value without its last byte
     ];
-    for (bytes, fault) in cases {
-        assert_eq!(rt; decode(bytes), Err(fault));
+    for (version, kind, rest) in cases {
+        assert!(rt;
+            is_refused(version, kind, rest, FrameError::BadBody),
+            "{rest:?}"
+        );
     }
 }
 

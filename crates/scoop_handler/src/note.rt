@@ -14,7 +14,8 @@ pub enum Reason {
     WrongHandler,
     /// It greets for a client that is not known, and 64 clients are.
     TooManyClients,
-    /// The client has sent a newer greeting, or asked something for a newer block.
+    /// The client has sent a newer greeting or asked something for a newer block, or the block is past
+    /// asking for the lock.
     Stale,
     /// This incarnation of the client has not greeted.
     Ungreeted,
@@ -22,7 +23,7 @@ pub enum Reason {
     NotHolder,
     /// The handler has no room for another private queue.
     QueueFull,
-    /// The block has no private queue that takes entries.
+    /// The block has no private queue that takes the entries, or no number left for them.
     NotOpen,
     /// An earlier entry of the block was not received.
     Gap,

@@ -18,7 +18,7 @@ pub enum Message {
     Lock(HandlerId, Block),
     /// The block holds the lock.
     Locked(HandlerId, Block),
-    /// Another block holds the lock.
+    /// The block doesn't get the lock now: another block holds it, or the client's last one is unfinished.
     Busy(HandlerId, Block),
     /// The block asks for a private queue.
     Open(HandlerId, Block),

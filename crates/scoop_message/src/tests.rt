@@ -108,6 +108,26 @@ fn numbers_begin_at_one(rt: HostRuntime) -> Result<(), Fail> {
 }
 
 #[test]
+fn names_are_ordered_by_their_fields_in_turn(rt: HostRuntime) {
+    let next = Block {
+        num: 4,
+        ..block()
+    };
+    let reborn = Block {
+        inc: 3,
+        num: 1,
+        ..block()
+    };
+    let other = Block {
+        client: ClientId(8),
+        inc: 1,
+        num: 1,
+    };
+    assert!(rt; block() < next && next < reborn && reborn < other);
+    assert!(rt; HandlerId(1) < HandlerId(2) && ClientId(9) > ClientId(8));
+}
+
+#[test]
 fn names_and_answers_are_printed(rt: HostRuntime) -> Result<(), Fail> {
     let text = format!(in rt.alloc();
         "{} {} {} {} {}",

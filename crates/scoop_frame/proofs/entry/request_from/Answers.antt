@@ -30,7 +30,7 @@ returns c =
     let args = c.unwrap-args.result in
     let args-are : args ≡ take count c.loop-i.items = (rw c.unwrap-args.ensures at c.of.ensures).1 in
     let words-are : flat_map (to_be_bytes w64) args ≡ front 3 (8 * count) b = ap (flat_map (to_be_bytes w64)) args-are ∙ (let i-is : count ≡ c.loop-i.i = omega arith in subst (λ (n : ℕ). flat_map (to_be_bytes w64) (take n c.loop-i.items) ≡ front 3 (8 * n) b) (sym i-is) c.loop-i.invariant.words) in
-    let len : length args ≡ count = omega (arith, args-are, ap length args-are, length-take-le count c.loop-i.items) in (
+    let len : length args ≡ count = omega (arith, ap length args-are, length-take-le count c.loop-i.items) in (
       record {
         op = omega arith;
         count = omega (arith, len);

@@ -1,0 +1,47 @@
+//! The command line that the program takes.
+
+use crate::failure::Failure;
+use clap::{Arg, ArgAction, Command, value_parser};
+use std::alloc::{AllocError, Global};
+use std::env;
+use std::io::ErrorKind;
+use std::rt::Env;
+
+/// The program's arguments, its name first.
+pub fn words<R: Env + AllocGlobal>(rt: &R) -> Result<Vec<String>, Failure> {
+    let words = env::args(rt).map_err(|error| match error.kind() {
+        ErrorKind::OutOfMemory => Failure::from(AllocError),
+        _ => Failure::Arguments,
+    })?;
+    Ok(words.collect(rt.alloc())?)
+}
+
+/// What the program and its subcommands take, with their help.
+pub fn command<'a>(alloc: Global) -> Result<Command<'a>, AllocError> {
+    Command::new(alloc, "scoop")
+        .bin_name("scoop")?
+        .version("0.1.0")
+        .about("Runs SCOOP handlers, which answer the messages that clients send them")
+        .propagate_version(true)
+        .subcommand_required(true)
+        .arg_required_else_help(true)
+        .subcommand(answer_command(alloc)?)
+}
+
+fn answer_command<'a>(alloc: Global) -> Result<Command<'a>, AllocError> {
+    let handler = Arg::new(alloc, "handler")
+        .long("handler")
+        .value_name("N")
+        .help("The number of the handler")
+        .action(ArgAction::Set)
+        .value_parser(value_parser!(u32))
+        .default_value("1");
+    Command::new(alloc, "answer")
+        .about("Answers the datagrams of standard input, with one line for each")
+        .long_about(
+            "Runs one handler, and gives it the datagrams of standard input. Each line is one datagram in \
+            hex digits of either case; spaces are skipped. Each is answered with one line: the reply in hex \
+            digits, or `none` and what the handler did, or `refused` and why the datagram is no frame.",
+        )
+        .arg(handler)
+}

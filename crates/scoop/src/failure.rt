@@ -1,0 +1,77 @@
+//! How the program ends where it can't do its work.
+
+use clap::Error;
+use clap::error::ErrorKind;
+use scoop_demo::RunError;
+use scoop_message::OutOfMemory;
+use std::alloc::AllocError;
+
+/// Why the program ends early.
+#[derive(Drop)]
+pub enum Failure {
+    /// The command line is wrong, or asks for help or the version.
+    CommandLine(Error),
+    /// The arguments aren't text.
+    Arguments,
+    /// The work on the input ended early.
+    Run(RunError),
+}
+
+impl Failure {
+    /// Tells the user, and answers the program's status: 0 after help or the version, 2 where the command
+    /// line is wrong, else that of the run's error.
+    pub fn report<R: Print + Eprint>(self, rt: &R) -> u8 {
+        match self {
+            Failure::CommandLine(error) => report_command_line(rt, &error),
+            Failure::Arguments => {
+                let _ = eprintln!(rt; "scoop: the arguments are not text");
+                2
+            }
+            Failure::Run(error) => report_run(rt, error),
+        }
+    }
+}
+
+fn report_run<R: Eprint>(rt: &R, error: RunError) -> u8 {
+    let _ = eprintln!(rt; "scoop: {error}");
+    error.status()
+}
+
+// Prints help or the version, or what is wrong with the command line.
+fn report_command_line<R: Print + Eprint>(rt: &R, error: &Error) -> u8 {
+    let printed = error.print(rt);
+    if error.use_stderr() {
+        2
+    } else if printed.is_ok() {
+        0
+    } else {
+        report_run(rt, RunError::Write)
+    }
+}
+
+impl From<RunError> for Failure {
+    fn from(error: RunError) -> Failure {
+        Failure::Run(error)
+    }
+}
+
+impl From<OutOfMemory> for Failure {
+    fn from(error: OutOfMemory) -> Failure {
+        Failure::Run(RunError::from(error))
+    }
+}
+
+impl From<AllocError> for Failure {
+    fn from(error: AllocError) -> Failure {
+        Failure::from(OutOfMemory::from(error))
+    }
+}
+
+impl From<Error> for Failure {
+    fn from(error: Error) -> Failure {
+        match error.kind() {
+            ErrorKind::OutOfMemory => Failure::from(OutOfMemory),
+            _ => Failure::CommandLine(error),
+        }
+    }
+}

@@ -1,0 +1,5 @@
+pub mod Places
+pub mod Windows
+pub mod Batches
+pub mod Retained
+pub mod Ordering

@@ -1,0 +1,7 @@
+pub mod Line
+pub mod State
+pub mod Due
+pub mod Hearing
+pub mod Beginning
+pub mod Commands
+pub mod Laws

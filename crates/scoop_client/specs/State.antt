@@ -1,0 +1,78 @@
+-- Where a client stands.
+use Rattle.std.specs.Prelude.{◌≡◌, ℕ, ◌+◌, ◌≤◌, Bool, true, false, if◌then◌else◌, List, [], Option, Some, None, IfSome}
+use Rattle.scoop_message.specs.declared.limits.TheConstants.{MAX_ENTRIES}
+use Rattle.scoop_message.specs.declared.name.HandlerId.{HandlerId}
+use Rattle.scoop_message.specs.declared.name.ClientId.{ClientId}
+use Rattle.scoop_message.specs.declared.name.Block.{Block}
+use Rattle.scoop_reserve.specs.declared.stage.Stage.{Stage}
+use Rattle.scoop_reserve.specs.declared.stage.Stage.TheVariants as stage
+use Rattle.scoop_reserve.specs.Handlers.{is_empty}
+use Rattle.scoop_reserve.specs.State.{ReservationState}
+use Rattle.scoop_client.specs.declared.phase.Phase.{Phase}
+use Rattle.scoop_client.specs.declared.phase.Phase.TheVariants.{Greeting, Idle, Locking, Opening, Running, Ending, GivingUp}
+use Rattle.scoop_client.specs.Line.{LineState, is_ended}
+
+-- its handlers and those of them that haven't welcomed it, the last block number used, and of the block
+-- that it has the reservation, a line for each reserved handler, and the query that waits, by handler
+-- and number
+pub record ClientState : Type 0 where
+  pub id : ClientId
+  pub inc : ℕ
+  pub batch : ℕ
+  pub handlers : List HandlerId
+  pub left : List HandlerId
+  pub last : ℕ
+  pub reservation : Option ReservationState
+  pub lines : List LineState
+  pub waits : Option (HandlerId × ℕ)
+
+abbrev pub phase_at : Stage → Bool → Phase
+phase_at stage.Locking ended = Locking
+phase_at stage.Opening ended = Opening
+phase_at stage.Unlocking ended = if ended then Ending else Running
+phase_at stage.GivingUp ended = GivingUp
+
+abbrev pub phase_of_block : List LineState → Option ReservationState → Phase
+phase_of_block lines None = Idle
+phase_of_block lines (Some r) = phase_at r.stage (is_ended lines)
+
+abbrev pub phase_of : ClientState → Phase
+phase_of c = if is_empty c.left then phase_of_block c.lines c.reservation else Greeting
+
+-- the block that it has
+abbrev pub block_of : Option ReservationState → Option Block
+block_of None = None
+block_of (Some r) = Some r.block
+
+abbrev pub with_left : ClientState → List HandlerId → ClientState
+with_left c left =
+    record { id = c.id; inc = c.inc; batch = c.batch; handlers = c.handlers; left = left; last = c.last; reservation = c.reservation; lines = c.lines; waits = c.waits }
+
+abbrev pub with_reservation : ClientState → ReservationState → ClientState
+with_reservation c r =
+    record { id = c.id; inc = c.inc; batch = c.batch; handlers = c.handlers; left = c.left; last = c.last; reservation = Some r; lines = c.lines; waits = c.waits }
+
+abbrev pub with_lines : ClientState → List LineState → Option (HandlerId × ℕ) → ClientState
+with_lines c lines waits =
+    record { id = c.id; inc = c.inc; batch = c.batch; handlers = c.handlers; left = c.left; last = c.last; reservation = c.reservation; lines = lines; waits = waits }
+
+-- its block is over
+abbrev pub idle : ClientState → ClientState
+idle c =
+    record { id = c.id; inc = c.inc; batch = c.batch; handlers = c.handlers; left = c.left; last = c.last; reservation = None; lines = []; waits = None }
+
+-- the name of a block of this client
+abbrev pub block_named : ClientId → ℕ → ℕ → Block
+block_named id inc num = record { client = id; inc = inc; num = num }
+
+-- the block that it has is the last that it began
+pub record IsBegun (id : ClientId) (inc last : ℕ) (r : ReservationState) : Type 0 where
+  pub block : r.block ≡ block_named id inc last
+  pub some : 1 ≤ last
+
+-- incarnations begin at 1, and a Log carries one to four entries
+pub record IsClient (id : ClientId) (inc batch last : ℕ) (reservation : Option ReservationState) : Type 0 where
+  pub incarnation : 1 ≤ inc
+  pub some : 1 ≤ batch
+  pub limit : batch ≤ MAX_ENTRIES
+  pub begun : IfSome reservation (IsBegun id inc last)

@@ -1,0 +1,226 @@
+//! A client.
+
+ghost use Rattle.std.specs.Prelude.{◌≡◌, ◌≤◌, IfSome};
+ghost use Rattle.scoop_message.specs.Message.{Fits};
+ghost use Rattle.scoop_client.specs.State.{phase_of, block_of, idle};
+ghost use Rattle.scoop_client.specs.Due.{due, due_in_block};
+ghost use Rattle.scoop_client.specs.Laws.{DueInOrder};
+ghost use Rattle.scoop_client.specs.Beginning.{begun, Begins};
+
+use crate::error::BeginError;
+use crate::line::Line;
+use crate::lines::{is_ended, line_of};
+use crate::phase::Phase;
+use scoop_message::limits::{MAX_ENTRIES, MAX_HANDLERS};
+use scoop_message::{Block, ClientId, HandlerId, Message};
+use scoop_reserve::{Reservation, Stage, first_repeated, has};
+use std::alloc::{Allocator, Global};
+use std::marker::Model;
+
+/// A client, which has one block at a time.
+///
+/// Contracts see it as its identity and limits, its handlers and those of them that haven't welcomed
+/// it, the last block number used, and of its block the reservation, the lines and the query that
+/// waits.
+#[derive(Drop)]
+pub struct Client<A: Allocator = Global> {
+    pub(crate) id: ClientId,
+    pub(crate) inc: u32,
+    batch: u8,
+    pub(crate) handlers: Vec<HandlerId, A>,
+    pub(crate) left: Vec<HandlerId, A>,
+    pub(crate) last: u32,
+    pub(crate) reservation: Option<Reservation>,
+    pub(crate) lines: Vec<Line<A>, A>,
+    pub(crate) waits: Option<(HandlerId, u32)>,
+}
+
+impl<A: Allocator> Model for Client<A> {
+    ghost use Rattle.scoop_client.specs.State.{ClientState, IsClient};
+
+    ghost Value = { ClientState };
+
+    ghost view = { λ c. record { id = c.id; inc = c.inc; batch = c.batch; handlers = c.handlers.items; left = c.left.items; last = c.last; reservation = c.reservation; lines = c.lines.items; waits = c.waits } };
+
+    ghost invariant = { λ c. IsClient c.id c.inc c.batch c.last c.reservation };
+}
+
+impl<A: Allocator> Client<A> {
+    /// How many entries one Log carries at most: 1 to 4.
+    pub fn batch(&self) -> u8
+        ensures value { result ≡ self.now.batch }
+        ensures some { 1 ≤ self.now.batch }
+        ensures limit { self.now.batch ≤ MAX_ENTRIES }
+    {
+        self.batch
+    }
+
+    /// The handlers with which it began, in their order.
+    pub fn handlers(&self) -> &[HandlerId]
+        ensures { result.now ≡ self.now.handlers }
+    {
+        &self.handlers
+    }
+
+    /// What it is at.
+    pub fn phase(&self) -> Phase
+        ensures { result ≡ phase_of self.now }
+    {
+        if !self.left.is_empty() {
+            return Phase::Greeting;
+        }
+        let Some(reservation) = self.reservation else {
+            return Phase::Idle;
+        };
+        match reservation.stage() {
+            Stage::Locking => Phase::Locking,
+            Stage::Opening => Phase::Opening,
+            Stage::Unlocking => {
+                if is_ended(&self.lines) {
+                    Phase::Ending
+                } else {
+                    Phase::Running
+                }
+            }
+            Stage::GivingUp => Phase::GivingUp,
+        }
+    }
+
+    /// The block that it has.
+    pub fn block(&self) -> Option<Block>
+        ensures { result ≡ block_of self.now.reservation }
+    {
+        match self.reservation {
+            Some(reservation) => Some(reservation.block()),
+            None => None,
+        }
+    }
+
+    /// The one message owed to this handler now.
+    pub fn due(&self, handler: HandlerId) -> Option<Message>
+        ensures value { result ≡ due self.now handler }
+        ensures fits { IfSome result Fits }
+
+        // an entry only once the handler is unlocked, and at its number
+        ensures order { IfSome result (DueInOrder self.now handler) }
+    {
+        if has(&self.left, handler) {
+            Some(Message::Hello(handler, self.id, self.inc))
+        } else {
+            self.due_in_block(handler)
+        }
+    }
+
+    // What is due to a handler that has welcomed the client.
+    fn due_in_block(&self, handler: HandlerId) -> Option<Message>
+        ensures value { result ≡ due_in_block self.now handler self.now.reservation }
+        ensures fits { IfSome result Fits }
+    {
+        let Some(reservation) = self.reservation else {
+            return None;
+        };
+        if let Some(message) = reservation.due(handler) {
+            return Some(message);
+        }
+        if !reservation.is_open() {
+            return None;
+        }
+        match line_of(&self.lines, handler) {
+            Some(line) => line.due(reservation.block(), self.batch),
+            None => None,
+        }
+    }
+
+    // Leaves the block, which is over.
+    pub(crate) fn leave(&mut self)
+        ensures { self.new ≡ idle self.old }
+    {
+        self.reservation = None;
+        self.lines.clear();
+        self.waits = None;
+    }
+}
+
+impl<A: Allocator + Clone> Client<A> {
+    fn begin_with(
+        alloc: A,
+        id: ClientId,
+        inc: u32,
+        handlers: &[HandlerId],
+        last: u32,
+        batch: u8,
+    ) -> Result<Client<A>, BeginError>
+        requires inc { 1 ≤ inc }
+        requires some { 1 ≤ batch }
+        requires limit { batch ≤ MAX_ENTRIES }
+        ensures { Begins (begun id inc handlers.now last batch) result }
+    {
+        if handlers.is_empty() {
+            return Err(BeginError::NoHandlers);
+        }
+        if handlers.len() > MAX_HANDLERS {
+            return Err(BeginError::TooManyHandlers);
+        }
+        if let Some(handler) = first_repeated(handlers) {
+            return Err(BeginError::Repeated(handler));
+        }
+        let known = Vec::from_slice(alloc.clone()?, handlers)?;
+        let left = Vec::from_slice(alloc.clone()?, handlers)?;
+        Ok(Client {
+            id,
+            inc,
+            batch,
+            handlers: known,
+            left,
+            last,
+            reservation: None,
+            lines: Vec::new(alloc),
+            waits: None,
+        })
+    }
+
+    /// A client that has to greet these handlers, with no block number used. The incarnation is at
+    /// least 1. It is refused, in this order, with `NoHandlers`, `TooManyHandlers` above 64,
+    /// `Repeated` and `OutOfMemory`. One Log carries one entry.
+    pub fn begin(
+        alloc: A,
+        id: ClientId,
+        inc: u32,
+        handlers: &[HandlerId],
+    ) -> Result<Client<A>, BeginError>
+        requires { 1 ≤ inc }
+        ensures { Begins (begun id inc handlers.now 0 1) result }
+    {
+        Client::begin_with(alloc, id, inc, handlers, 0, 1)
+    }
+
+    /// The same with the block number that was used last.
+    pub fn begin_at(
+        alloc: A,
+        id: ClientId,
+        inc: u32,
+        handlers: &[HandlerId],
+        last: u32,
+    ) -> Result<Client<A>, BeginError>
+        requires { 1 ≤ inc }
+        ensures { Begins (begun id inc handlers.now last 1) result }
+    {
+        Client::begin_with(alloc, id, inc, handlers, last, 1)
+    }
+
+    /// The same as `begin`, where one Log carries up to this many entries, 1 to 4.
+    pub fn begin_batched(
+        alloc: A,
+        id: ClientId,
+        inc: u32,
+        handlers: &[HandlerId],
+        batch: u8,
+    ) -> Result<Client<A>, BeginError>
+        requires inc { 1 ≤ inc }
+        requires some { 1 ≤ batch }
+        requires limit { batch ≤ MAX_ENTRIES }
+        ensures { Begins (begun id inc handlers.now 0 batch) result }
+    {
+        Client::begin_with(alloc, id, inc, handlers, 0, batch)
+    }
+}

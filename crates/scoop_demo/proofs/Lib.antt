@@ -1,0 +1,6 @@
+mod ChunkLemmas
+mod LineLemmas
+mod InputLemmas
+mod HexLemmas
+mod AnswerLemmas
+mod RunLemmas

@@ -1,0 +1,222 @@
+-- A run over lines, one line at a time.
+use Rattle.std.proofs.Common.{◌≡◌, ◌≤◌, ℕ, ◌+◌, List, [], ◌∷◌, ◌++◌, length, Option, Some, None, IfSome, Result, Ok, Err, IfErr, refl, sym, ◌∙◌, ap, subst, arith, append_assoc, append-nil}
+use Rattle.std.specs.Prelude.{⊤}
+use Rattle.std.proofs.lemmas.List.{length_push}
+use Rattle.std.specs.Io.KnownBytes.{Appends, Keeps, IsAtEnd}
+use Rattle.std.proofs.lemmas.Bool.Decides.{nat_tests}
+use Rattle.scoop_handler.specs.State.{HandlerState}
+use Rattle.scoop_demo.specs.declared.fault.InputFault.{InputFault}
+use Rattle.scoop_demo.specs.declared.fault.InputFault.TheVariants.{ReadFault}
+use Rattle.scoop_demo.specs.declared.fault.RunError.{RunError}
+use Rattle.scoop_demo.specs.declared.fault.RunError.TheVariants.{Input as InputError, Write, OutOfMemory}
+use Rattle.scoop_demo.specs.Line.{count_limit, lines_of, limit_fault, BeginsWith, TakesFirst}
+use Rattle.scoop_demo.specs.Hex.{hex_fault}
+use Rattle.scoop_demo.specs.Answer.{WantsMemory}
+use Rattle.scoop_demo.specs.Input.{Input, TakesLine, StopsAtNext}
+use Rattle.scoop_demo.specs.Input.StopsAtNext.{read_fault as next_unread, past_limit, write_fault}
+use Rattle.scoop_demo.specs.Run.{AnswersLine, AnswersLines, AnswersAll, BeginsWithLines, WritesAnswer, StopsInLine, StopsBehind, StopsEarly, fault_of, first_fault}
+use Rattle.scoop_demo.specs.Run.StopsInLine.{in_digits, in_memory, in_output}
+use Rattle.scoop_demo.specs.Run.StopsBehind.{read_fault, line_fault, no_memory}
+use Rattle.scoop_demo.specs.Run.StopsEarly.{at_line, at_output}
+use Rattle.scoop_demo.proofs.InputLemmas.{begins_with}
+
+-- ---- known bytes
+
+-- the lines of an input are those that were taken and those of what is left
+abbrev pub Splits : Option (List ℕ) → List (List ℕ) → Option (List ℕ) → Type 0
+Splits None taken left = ⊤
+Splits (Some xs) taken None = ⊥
+Splits (Some xs) taken (Some ys) = lines_of xs ≡ taken ++ lines_of ys
+
+splits_none : (input : Option (List ℕ)) → Splits input [] input
+splits_none None = tt
+splits_none (Some xs) = refl
+
+splits_more : (input left left' : Option (List ℕ)) (taken : List (List ℕ)) (line : List ℕ) → Splits input taken left → TakesFirst left line left'
+    → Splits input (taken ++ line ∷ []) left'
+splits_more None left left' taken line s t = tt
+splits_more (Some xs) None left' taken line s t = absurd s
+splits_more (Some xs) (Some ys) None taken line s t = absurd t
+splits_more (Some xs) (Some ys) (Some zs) taken line s t = s ∙ ap (λ v. taken ++ v) t ∙ sym (append_assoc taken (line ∷ []) (lines_of zs))
+
+splits_all : (input left : Option (List ℕ)) (taken : List (List ℕ)) → Splits input taken left → IsAtEnd left → IfSome input (λ bytes. lines_of bytes ≡ taken)
+splits_all None left taken s e = tt
+splits_all (Some xs) None taken s e = absurd s
+splits_all (Some xs) (Some ys) taken s e = s ∙ ap (λ v. taken ++ lines_of v) e ∙ append-nil taken
+
+splits_first : (input left : Option (List ℕ)) (taken : List (List ℕ)) → Splits input taken left → BeginsWithLines input taken
+splits_first None left taken s = tt
+splits_first (Some xs) None taken s = absurd s
+splits_first (Some xs) (Some ys) taken s = (lines_of ys, s)
+
+splits_next : (input left : Option (List ℕ)) (taken : List (List ℕ)) (line : List ℕ) → Splits input taken left → BeginsWith left line
+    → BeginsWithLines input (taken ++ line ∷ [])
+splits_next None left taken line s b = tt
+splits_next (Some xs) None taken line s b = absurd s
+splits_next (Some xs) (Some ys) taken line s b = (b.0, s ∙ ap (λ v. taken ++ v) b.1 ∙ sym (append_assoc taken (line ∷ []) b.0))
+
+all_begin : (input : Option (List ℕ)) (lines : List (List ℕ)) → IfSome input (λ bytes. lines_of bytes ≡ lines) → BeginsWithLines input lines
+all_begin None lines a = tt
+all_begin (Some xs) lines a = ([], a ∙ sym (append-nil lines))
+
+appends_nil : (old : Option (List ℕ)) → Appends old old []
+appends_nil None = tt
+appends_nil (Some xs) = sym (append-nil xs)
+
+pub keeps_all : (a : Option (List ℕ)) → Keeps a a
+keeps_all None = tt
+keeps_all (Some xs) = refl
+
+appends_more : (a b c : Option (List ℕ)) (xs ys : List ℕ) → Appends a b xs → Appends b c ys → Appends a c (xs ++ ys)
+appends_more None b c xs ys f s = tt
+appends_more (Some ws) None c xs ys f s = absurd f
+appends_more (Some ws) (Some bs) None xs ys f s = absurd s
+appends_more (Some ws) (Some bs) (Some cs) xs ys f s = s ∙ ap (λ v. v ++ ys) f ∙ append_assoc ws xs ys
+
+appends_keeps : (a b c : Option (List ℕ)) (xs : List ℕ) → Appends a b xs → Keeps b c → Appends a c xs
+appends_keeps None b c xs f s = tt
+appends_keeps (Some ws) None c xs f s = absurd f
+appends_keeps (Some ws) (Some bs) None xs f s = absurd s
+appends_keeps (Some ws) (Some bs) (Some cs) xs f s = s ∙ f
+
+-- ---- answers
+
+-- within the limits, a line's fault is that of its digits
+pub digits_fault : (number : ℕ) (line : List ℕ) (fault : Option InputFault) → limit_fault number line ≡ None → hex_fault line ≡ fault → fault_of number line ≡ fault
+digits_fault number line fault none found = ap (λ f. first_fault f (hex_fault line)) none ∙ found
+
+-- one line more has its answer
+answers_more : (number : ℕ) (first mid last : HandlerState) (lines : List (List ℕ)) (text line answer : List ℕ) → AnswersLines number first lines mid text
+    → AnswersLine (number + length lines) mid line last answer → AnswersLines number first (lines ++ line ∷ []) last (text ++ (answer ++ 10 ∷ []))
+answers_more number first mid last [] text line answer a l =
+    let here : AnswersLine number first line last answer =
+    (let at : number + 0 ≡ number = omega arith in
+    let P : ℕ → Type 0 = λ n. AnswersLine n first line last answer in
+    let Q : HandlerState → Type 0 = λ s. AnswersLine (number + 0) s line last answer in
+    subst P at (subst Q a.0 l)) in
+    (last, answer, [], here, (refl, refl), ap (λ v. v ++ (answer ++ 10 ∷ [])) a.1)
+answers_more number first mid last (x ∷ xs) text line answer a l =
+    let at : number + length (x ∷ xs) ≡ (number + 1) + length xs = omega arith in
+    let P : ℕ → Type 0 = λ n. AnswersLine n mid line last answer in
+    let more = answers_more (number + 1) a.0 mid last xs a.2 line answer a.4 (subst P at l) in
+    let joined : text ++ (answer ++ 10 ∷ []) ≡ a.1 ++ 10 ∷ (a.2 ++ (answer ++ 10 ∷ [])) =
+    ap (λ v. v ++ (answer ++ 10 ∷ [])) a.5 ∙ append_assoc a.1 (10 ∷ a.2) (answer ++ 10 ∷ []) in
+    (a.0, a.1, a.2 ++ (answer ++ 10 ∷ []), a.3, more, joined)
+
+-- ---- a run
+
+-- the lines that were taken have their answers
+pub record Progress (input : Option (List ℕ)) (lines : Input) (first last : HandlerState) (before after : Option (List ℕ)) : Type 0 where
+  pub taken : List (List ℕ)
+  pub text : List ℕ
+  pub count : length taken ≡ lines.taken
+  pub limit : lines.taken ≤ count_limit
+  pub answers : AnswersLines 1 first taken last text
+  pub writes : Appends before after text
+  pub splits : Splits input taken lines.left
+
+pub progress_none : (input before : Option (List ℕ)) (s : HandlerState) → Progress input (record { taken = 0; left = input }) s s before before
+progress_none input before s = record {
+  taken = [];
+  text = [];
+  count = refl;
+  limit = omega arith;
+  answers = (refl, refl);
+  writes = appends_nil before;
+  splits = splits_none input;
+}
+
+few_lines : (number : ℕ) (line : List ℕ) → limit_fault number line ≡ None → number ≤ count_limit
+few_lines number line none = grind (arith, nat_tests)
+
+answers_next : {input : Option (List ℕ)} {lines next : Input} {first mid last : HandlerState} {before after : Option (List ℕ)} {line : List ℕ} (text : List ℕ)
+    (p : Progress input lines first mid before after) → TakesLine lines line next → AnswersLine next.taken mid line last text
+    → AnswersLines 1 first (p.taken ++ line ∷ []) last (p.text ++ (text ++ 10 ∷ []))
+answers_next {next = next} {first = first} {mid = mid} {last = last} {line = line} text p t a =
+    let at : next.taken ≡ 1 + length p.taken = omega (arith, t.count, p.count) in
+    let P : ℕ → Type 0 = λ n. AnswersLine n mid line last text in
+    answers_more 1 first mid last p.taken p.text line text p.answers (subst P at a)
+
+-- a line was taken, and has its answer
+pub progress_more : {input : Option (List ℕ)} {lines next : Input} {first mid last : HandlerState} {before after kept more : Option (List ℕ)} (line : List ℕ)
+    → Progress input lines first mid before after → TakesLine lines line next → Keeps after kept → WritesAnswer next.taken mid line last kept more
+    → Progress input next first last before more
+progress_more {next = next} line p t k w = record {
+  taken = p.taken ++ line ∷ [];
+  text = p.text ++ (w.text ++ 10 ∷ []);
+  count = omega (arith, length_push p.taken line, t.count, p.count);
+  limit = few_lines next.taken line t.limits;
+  answers = answers_next w.text p t w.answers;
+  writes = appends_more _ _ _ _ _ (appends_keeps _ _ _ _ p.writes k) w.writes;
+  splits = splits_more _ _ _ _ _ p.splits t.bytes;
+}
+
+-- the input is at its end
+pub progress_all : {input : Option (List ℕ)} {lines : Input} {first last : HandlerState} {before after kept : Option (List ℕ)}
+    → Progress input lines first last before after → IsAtEnd lines.left → Keeps after kept → AnswersAll input first last before kept
+progress_all p e k = record {
+  lines = p.taken;
+  text = p.text;
+  answers = p.answers;
+  writes = appends_keeps _ _ _ _ p.writes k;
+  all = splits_all _ _ p.taken p.splits e;
+}
+
+-- the next line could not be taken
+pub progress_stops : {input : Option (List ℕ)} {lines : Input} {first last : HandlerState} {before after kept : Option (List ℕ)} (e : RunError)
+    → Progress input lines first last before after → StopsAtNext lines e → Keeps after kept → StopsEarly input first last before kept e
+progress_stops {input = input} {last = last} e p next_unread k =
+    let P : ℕ → Type 0 = λ n. StopsBehind input p.taken last (InputError (n + 1) ReadFault) in
+    at_line p.taken p.text p.answers (appends_keeps _ _ _ _ p.writes k) (subst P p.count (read_fault (splits_first _ _ p.taken p.splits)))
+progress_stops {input = input} {lines = lines} {last = last} e p (past_limit {fault} b) k =
+    let P : ℕ → Type 0 = λ n. limit_fault (n + 1) b.line ≡ Some fault → StopsBehind input p.taken last (InputError (n + 1) fault) in
+    let stops : P (length p.taken) = λ found.
+    line_fault b.line (ap (λ f. first_fault f (hex_fault b.line)) found) (splits_next _ _ p.taken b.line p.splits b.next) in
+    at_line p.taken p.text p.answers (appends_keeps _ _ _ _ p.writes k) (subst P p.count stops b.found)
+progress_stops e p write_fault k = at_output p.taken p.text p.answers (splits_first _ _ p.taken p.splits)
+
+next_number : {input : Option (List ℕ)} {lines next : Input} {first mid : HandlerState} {before after : Option (List ℕ)} {line : List ℕ}
+    (p : Progress input lines first mid before after) → TakesLine lines line next → next.taken ≡ length p.taken + 1
+next_number p t = omega (arith, t.count, p.count)
+
+goes_on : {input : Option (List ℕ)} {lines next : Input} {first mid : HandlerState} {before after : Option (List ℕ)} {line : List ℕ}
+    (p : Progress input lines first mid before after) → TakesLine lines line next → BeginsWithLines input (p.taken ++ line ∷ [])
+goes_on {line = line} p t = splits_next _ _ p.taken line p.splits (begins_with _ _ line t.bytes)
+
+answers_same : {input : Option (List ℕ)} {lines : Input} {first mid last : HandlerState} {before after : Option (List ℕ)} → last ≡ mid
+    → (p : Progress input lines first mid before after) → AnswersLines 1 first p.taken last p.text
+answers_same {first = first} same p = let P : HandlerState → Type 0 = λ s. AnswersLines 1 first p.taken s p.text in subst P (sym same) p.answers
+
+-- the line that was taken has no answer
+pub progress_stops_in : {input : Option (List ℕ)} {lines next : Input} {first mid last : HandlerState} {before after kept more : Option (List ℕ)} (e : RunError) (line : List ℕ)
+    → Progress input lines first mid before after → TakesLine lines line next → Keeps after kept → StopsInLine next.taken mid line last kept more e
+    → StopsEarly input first last before more e
+progress_stops_in {input = input} {last = last} e line p t k (in_digits {fault} found same kept) =
+    let P : ℕ → Type 0 = λ n. fault_of n line ≡ Some fault → StopsBehind input p.taken last (InputError n fault) in
+    let stops : P (length p.taken + 1) = λ f. line_fault line f (goes_on p t) in
+    at_line p.taken p.text (answers_same same p) (appends_keeps _ _ _ _ (appends_keeps _ _ _ _ p.writes k) kept) (subst P (sym (next_number p t)) stops found)
+progress_stops_in {input = input} {last = last} e line p t k (in_memory datagram none stands wants same kept) =
+    let P : ℕ → Type 0 = λ n. fault_of n line ≡ None in
+    let Q : HandlerState → Type 0 = λ s. WantsMemory s datagram in
+    let stops : StopsBehind input p.taken last OutOfMemory =
+    no_memory line datagram (subst P (next_number p t) none) stands (subst Q (sym same) wants) (goes_on p t) in
+    at_line p.taken p.text (answers_same same p) (appends_keeps _ _ _ _ (appends_keeps _ _ _ _ p.writes k) kept) stops
+progress_stops_in e line p t k (in_output text answer) =
+    let done = answers_next text p t answer in
+    at_output (p.taken ++ line ∷ []) (p.text ++ (text ++ 10 ∷ [])) done (splits_first _ _ (p.taken ++ line ∷ []) (splits_more _ _ _ _ _ p.splits t.bytes))
+
+-- the writer is flushed behind a run that stopped early
+flushed : (input : Option (List ℕ)) (first last : HandlerState) (before after kept : Option (List ℕ)) (e : RunError) → StopsEarly input first last before after e
+    → Keeps after kept → StopsEarly input first last before kept e
+flushed input first last before after kept e (at_line lines text a w s) k = at_line lines text a (appends_keeps _ _ _ _ w k) s
+flushed input first last before after kept e (at_output lines text a b) k = at_output lines text a b
+
+pub stops_flushed : (r : Result Unit RunError) (input : Option (List ℕ)) (first last : HandlerState) (before after kept : Option (List ℕ))
+    → IfErr r (StopsEarly input first last before after) → Keeps after kept → IfErr r (StopsEarly input first last before kept)
+stops_flushed (Ok u) input first last before after kept s k = tt
+stops_flushed (Err e) input first last before after kept s k = flushed input first last before after kept e s k
+
+-- all lines have their answers, but the writer may have lost some
+pub all_but_output : (input : Option (List ℕ)) (first last : HandlerState) (before after kept : Option (List ℕ)) → AnswersAll input first last before after
+    → StopsEarly input first last before kept Write
+all_but_output input first last before after kept a = at_output a.lines a.text a.answers (all_begin input a.lines a.all)

@@ -1,0 +1,7 @@
+pub mod Text
+pub mod Line
+pub mod Input
+pub mod Hex
+pub mod Answer
+pub mod Run
+pub mod Classes

@@ -1,0 +1,131 @@
+//! A run over the lines of an input, one answer for each.
+
+ghost use Rattle.std.specs.Prelude.{◌≡◌, ◌≤◌, ◌∷◌, ◌++◌, [], length, None, IfErr, OnOk};
+ghost use Rattle.std.specs.Io.KnownBytes.{Appends, Keeps};
+ghost use Rattle.hex.specs.Hex.{encode_lower};
+ghost use Rattle.scoop_demo.specs.Line.{limit_fault};
+ghost use Rattle.scoop_demo.specs.Answer.{IsShort, line_of};
+ghost use Rattle.scoop_demo.specs.Run.{AnswersAll, StopsEarly, WritesAnswer, StopsInLine};
+
+use crate::answer::{Answered, answer_one};
+use crate::datagram::{MAX_DATAGRAM_LEN, read_datagram};
+use crate::fault::RunError;
+use crate::lines::Lines;
+use crate::source::Line;
+use arrayvec::ArrayVec;
+use scoop_handler::Handler;
+use scoop_message::limits::{BUFFER_LEN, MAX_FRAME};
+use std::alloc::Allocator;
+use std::io;
+use std::io::{Read, Write};
+
+/// Answers the datagrams of an input, one in hex digits on each line, with one line for each: the reply
+/// in lower-case hex digits; or `none` and what the handler did; or `refused` and why the datagram is no
+/// frame.
+///
+/// The error names the first line that has a fault, or says that the output failed or that the handler
+/// wanted memory. The answers to earlier lines stand. The writer is flushed before each read of the
+/// input, which may wait for the user, and at the end.
+pub fn answer_run<A: Allocator, R: Read + Drop, W: Write>(
+    handler: &mut Handler<A>,
+    reader: R,
+    writer: &mut W,
+) -> Result<(), RunError>
+    ensures ok { OnOk result (AnswersAll (R.remaining reader) handler.old handler.new
+        (W.contents writer.old) (W.contents writer.new)) }
+    ensures err { IfErr result (StopsEarly (R.remaining reader) handler.old handler.new
+        (W.contents writer.old) (W.contents writer.new)) }
+{
+    let answered = answer_lines(handler, reader, writer);
+    let flushed = writer.flush();
+    match answered {
+        Ok(()) if flushed.is_err() => Err(RunError::Write),
+        answered => answered,
+    }
+}
+
+// Answers the lines of an input until one has a fault.
+fn answer_lines<A: Allocator, R: Read + Drop, W: Write>(
+    handler: &mut Handler<A>,
+    reader: R,
+    writer: &mut W,
+) -> Result<(), RunError>
+    ensures ok { OnOk result (AnswersAll (R.remaining reader) handler.old handler.new
+        (W.contents writer.old) (W.contents writer.new)) }
+    ensures err { IfErr result (StopsEarly (R.remaining reader) handler.old handler.new
+        (W.contents writer.old) (W.contents writer.new)) }
+{
+    let mut lines = Lines::new(reader);
+    let mut line = ArrayVec::new();
+    loop {
+        match lines.next_line(&mut line, writer) {
+            Ok(true) => {}
+            Ok(false) => return Ok(()),
+            Err(error) => return Err(error),
+        }
+        match answer_line(handler, lines.number(), &mut line, writer) {
+            Ok(()) => {}
+            Err(error) => return Err(error),
+        }
+    }
+}
+
+// Answers the datagram of the line of this number, which is within the limits.
+fn answer_line<A: Allocator, W: Write>(
+    handler: &mut Handler<A>,
+    number: u32,
+    line: &mut Line,
+    writer: &mut W,
+) -> Result<(), RunError>
+    requires { limit_fault number line.old.items ≡ None }
+    ensures ok { OnOk result (WritesAnswer number handler.old line.old.items handler.new (W.contents writer.old) (W.contents writer.new)) }
+    ensures err { IfErr result (StopsInLine number handler.old line.old.items handler.new (W.contents writer.old) (W.contents writer.new)) }
+{
+    let mut buffer = [0; MAX_DATAGRAM_LEN];
+    let datagram = match read_datagram(line, &mut buffer) {
+        Ok(datagram) => datagram,
+        Err(fault) => {
+            return Err(RunError::Input {
+                line: number,
+                fault,
+            });
+        }
+    };
+    let mut out = [0; BUFFER_LEN];
+    let answered = match answer_one(handler, datagram, &mut out) {
+        Ok(answered) => answered,
+        Err(_) => return Err(RunError::OutOfMemory),
+    };
+    match print_answer(answered, &out, writer) {
+        Ok(()) => Ok(()),
+        Err(_) => Err(RunError::Write),
+    }
+}
+
+// Writes the line of an answer.
+fn print_answer<W: Write>(
+    answered: Answered,
+    out: &[u8; BUFFER_LEN],
+    writer: &mut W,
+) -> io::Result<()>
+    requires { IsShort answered }
+    ensures { OnOk result (Appends (W.contents writer.old) (W.contents writer.new) (line_of answered out.now ++ 10 ∷ [])) }
+{
+    match answered {
+        Answered::Reply(len, _) => print_frame(&out[..len], writer),
+        Answered::Silent(note) => writeln!(writer, "none {note}"),
+        Answered::RefusedFrame(error) => writeln!(writer, "refused {error}"),
+    }
+}
+
+// Writes the bytes of a frame as a line of hex digits.
+fn print_frame<W: Write>(frame: &[u8], writer: &mut W) -> io::Result<()>
+    requires { length frame.now ≤ MAX_FRAME }
+    ensures { OnOk result (Appends (W.contents writer.old) (W.contents writer.new) (encode_lower frame.now ++ 10 ∷ [])) }
+{
+    let mut digits = [0; 2 * MAX_FRAME];
+    let digits = &mut digits[..2 * frame.len()];
+    hex::encode_to_slice(frame, digits).unwrap();
+    writer.write_all(digits)?;
+    writer.write_all(b"\n")
+}

@@ -1,0 +1,44 @@
+//! What every link keeps.
+
+ghost use Rattle.std.specs.Prelude.{◌≡◌, ℕ, ◌≤◌, [], Option, IfOk, IfSome};
+ghost use Rattle.scoop_link.specs.Link.{Told, CountsFault, Exchanges, sent_by, taken_by};
+
+use crate::party::Party;
+use scoop_message::limits::BUFFER_LEN;
+use thiserror::Error;
+
+/// A send or a receive that failed. It has done nothing else.
+#[derive(Clone, Copy, Debug, PartialEq, Eq, Error)]
+#[error("LinkFault")]
+pub struct LinkFault;
+
+/// A way to send and receive datagrams. None is sure to arrive, or to arrive once or in order.
+///
+/// Some links tell contracts their datagrams: those to come, and those sent with their receivers. A
+/// link that tells after a call told before it.
+pub trait Link: Drop {
+    /// The datagrams to come and those sent, where the link tells them.
+    ghost told: { Self → Option Told };
+
+    /// How many sends and receives failed.
+    ghost fault_count: { Self → ℕ };
+
+    /// Sends some bytes as one datagram, of which a link keeps the first 192 bytes. `LinkFault` comes
+    /// exactly where the count of faults rises. Otherwise a link that tells has sent them.
+    fn send(&mut self, to: Party, bytes: &[u8]) -> Result<(), LinkFault>
+        ensures faults { CountsFault result (fault_count self.old) (fault_count self.new) }
+        ensures told { Exchanges (told self.old) (told self.new) [] (sent_by result to bytes.now) };
+
+    /// Receives one datagram: its length, at most 192, and its bytes at the start of the buffer. A longer
+    /// one gives its first 192 bytes, which are never a frame. `None` means that nothing came in this
+    /// turn, and `LinkFault` comes exactly where the count of faults rises. Either leaves what is to come.
+    fn receive(&mut self, buffer: &mut [u8; BUFFER_LEN]) -> Result<Option<usize>, LinkFault>
+        ensures in_bounds { IfOk result (λ got. IfSome got (λ n. n ≤ BUFFER_LEN)) }
+        ensures faults { CountsFault result (fault_count self.old) (fault_count self.new) }
+        ensures told { Exchanges (told self.old) (told self.new) (taken_by result buffer.new) [] };
+
+    /// How many sends and receives failed. The count stops at 2^64-1: then a send that would fail
+    /// answers `Ok` and its datagram is lost, and a receive that would fail answers `None`.
+    fn faults(&self) -> u64
+        ensures { result ≡ fault_count self.now };
+}

@@ -1,0 +1,37 @@
+-- Where an End stands in a list of entries.
+use Rattle.std.proofs.Common.{◌≡◌, ℕ, zero, suc, ◌+◌, ◌<◌, Bool, true, false, not, ◌&&◌, IsTrue, List, [], ◌∷◌, ◌++◌, length, get_or, refl, sym, ap, ◌∙◌, arith, true≢false, rules}
+use Rattle.scoop_message.specs.declared.request.Entry.{Entry}
+use Rattle.scoop_message.specs.Entry.{is_end}
+use Rattle.scoop_message.specs.Entries.{EndOnlyLast, end_only_last, ends}
+
+-- the last entry decides
+pub ends-last : (es : List Entry) (i : ℕ) (x : Entry) → i + 1 ≡ length es → x ≡ get_or es i x → ends es ≡ is_end x
+ends-last [] i x last is = absurd (omega arith)
+ends-last (e ∷ []) zero x last is = ap is_end (sym is)
+ends-last (e ∷ []) (suc i) x last is = absurd (omega arith)
+ends-last (e ∷ f ∷ es) zero x last is = absurd (omega arith)
+ends-last (e ∷ f ∷ es) (suc i) x last is = ends-last (f ∷ es) i x (omega arith) is
+
+-- entries that are put behind others decide
+pub ends-append : (xs ys : List Entry) → 0 < length ys → ends (xs ++ ys) ≡ ends ys
+ends-append [] ys some = refl
+ends-append (x ∷ []) [] some = absurd (omega arith)
+ends-append (x ∷ []) (y ∷ ys) some = refl
+ends-append (x ∷ z ∷ xs) ys some = ends-append (z ∷ xs) ys some
+
+pub both : (s t : Bool) → IsTrue (s && t) → IsTrue s × IsTrue t
+both true t h = (search rules, h)
+both false t h = absurd (search rules)
+
+-- behind entries without an End an End may stand last
+pub EndOnlyLast-append : (xs ys : List Entry) → EndOnlyLast xs → ends xs ≡ false → EndOnlyLast ys → EndOnlyLast (xs ++ ys)
+EndOnlyLast-append [] ys h open_end k = k
+EndOnlyLast-append (x ∷ []) [] h open_end k = h
+EndOnlyLast-append (x ∷ []) (y ∷ ys) h open_end k = rw open_end k
+EndOnlyLast-append (x ∷ z ∷ xs) ys h open_end k =
+    let p = both (not (is_end x)) (end_only_last (z ∷ xs)) h in
+    rw (p.0) (EndOnlyLast-append (z ∷ xs) ys p.1 open_end k)
+
+pub EndOnlyLast-tail : (e : Entry) (es : List Entry) → EndOnlyLast (e ∷ es) → EndOnlyLast es
+EndOnlyLast-tail e [] h = refl
+EndOnlyLast-tail e (f ∷ es) h = (both (not (is_end e)) (end_only_last (f ∷ es)) h).1

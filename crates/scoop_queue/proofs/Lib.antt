@@ -1,0 +1,7 @@
+pub mod Ends
+pub mod Found
+pub mod Keeping
+pub mod Kept
+pub mod Lookup
+pub mod Results
+pub mod States

@@ -1,0 +1,5 @@
+pub use Rattle.scoop_message.specs.Entries
+pub mod Queue
+pub mod Sound
+pub mod Refusal
+pub mod Kept

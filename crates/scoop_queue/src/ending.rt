@@ -1,0 +1,46 @@
+//! Where an End stands in a list of entries, and whether a list is that of a private queue.
+
+ghost use Rattle.std.specs.Prelude.{◌≡◌, length};
+ghost use Rattle.scoop_message.specs.Entries.{ends};
+ghost use Rattle.scoop_queue.specs.Queue.{queue_with};
+ghost use Rattle.scoop_queue.specs.Refusal.{has_ending, is_queue};
+
+use crate::state::{Head, QueueState};
+use scoop_message::Entry;
+use scoop_message::limits::MAX_PENDING;
+
+/// Whether the last entry is an End.
+pub(crate) fn ends(entries: &[Entry]) -> bool
+    ensures { result ≡ ends entries.now }
+{
+    match entries {
+        [.., last] => last.is_end(),
+        [] => false,
+    }
+}
+
+// Whether no End stands before the last entry, and one stands there exactly where it is wanted.
+fn has_ending(wanted: bool, entries: &[Entry]) -> bool
+    ensures { result ≡ has_ending wanted entries.now }
+{
+    match entries {
+        [] => !wanted,
+        [last] => last.is_end() == wanted,
+        [first, rest @ ..] => !first.is_end() && has_ending(wanted, rest),
+    }
+}
+
+/// Whether these are the head and the entries of a private queue.
+pub(crate) fn is_queue(head: Head, entries: &[Entry]) -> bool
+    ensures { result ≡ is_queue (queue_with head entries.now) }
+{
+    let limit = match head.state {
+        QueueState::Open => u64::from(u32::MAX),
+        QueueState::Ended | QueueState::Cut => u64::from(u32::MAX) + 1,
+    };
+    head.first >= 1
+        && entries.len() <= MAX_PENDING
+        && u64::from(head.first) + entries.len() as u64 <= limit
+        && has_ending(matches!(head.state, QueueState::Ended), entries)
+        && (!matches!(head.state, QueueState::Cut) || !entries.is_empty())
+}

@@ -1,0 +1,6 @@
+pub mod Handlers
+pub mod State
+pub mod Due
+pub mod Hearing
+pub mod Starting
+pub mod Orders

@@ -1,0 +1,20 @@
+//! A block's reservation of its handlers: it locks them one by one in ascending number, then opens a
+//! private queue at each, then unlocks each. Until all are locked it can be given up.
+//!
+//! `Reservation` says which message is due to which handler, and takes the handlers' replies. It is of
+//! fixed size, so nothing here takes memory.
+#![tactic(auto)]
+
+mod error;
+mod handlers;
+mod reservation;
+mod set;
+mod stage;
+
+pub use error::{ReserveError, TooLate};
+pub use handlers::{first_repeated, has};
+pub use reservation::Reservation;
+pub use stage::{Stage, Step};
+
+#[cfg(test)]
+mod tests;
