@@ -109,10 +109,7 @@ fn numbers_begin_at_one(rt: HostRuntime) -> Result<(), Fail> {
 
 #[test]
 fn names_are_ordered_by_their_fields_in_turn(rt: HostRuntime) {
-    let next = Block {
-        num: 4,
-        ..block()
-    };
+    let next = Block { num: 4, ..block() };
     let reborn = Block {
         inc: 3,
         num: 1,
