@@ -3,3 +3,4 @@ pub mod Windows
 pub mod Batches
 pub mod Retained
 pub mod Ordering
+pub mod Rows

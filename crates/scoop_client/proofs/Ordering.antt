@@ -1,5 +1,5 @@
 -- The laws of what is due and of what is accepted.
-use Rattle.std.proofs.Common.{◌≡◌, ℕ, ◌+◌, ◌==◌, ◌&&◌, ◌||◌, Bool, true, false, List, length, Option, Some, None, refl, sym, ap, ◌∙◌}
+use Rattle.std.proofs.Common.{◌≡◌, ℕ, ◌==◌, ◌&&◌, ◌||◌, Bool, true, false, length, Option, Some, None, refl, ap, ◌∙◌}
 use Rattle.std.specs.Prelude.{if◌then◌else◌, nat_lt, nat_le, IfSome}
 use Rattle.std.proofs.lemmas.Bool.{false≢true}
 use Rattle.std.proofs.lemmas.Bool.Decides.{Decides-eqb}
@@ -20,11 +20,11 @@ use Rattle.scoop_reserve.specs.Hearing.{is_open, is_open_in}
 use Rattle.scoop_reserve.specs.Hearing as reservation
 use Rattle.scoop_reserve.specs.Due as owed
 use Rattle.scoop_client.specs.declared.phase.ClientNote.TheVariants.{Welcomed, Acknowledged, Accepted}
-use Rattle.scoop_client.specs.Line.{LineState, line_of, logged, acknowledged, at_line, first_entries}
+use Rattle.scoop_client.specs.Line.{LineState, line_of, logged, acknowledged, at_line}
 use Rattle.scoop_client.specs.State.{ClientState, with_lines, with_left}
-use Rattle.scoop_client.specs.Due.{due, due_in_block, due_after, due_line, due_log}
+use Rattle.scoop_client.specs.Due.{due, due_in_block, due_after, due_line}
 use Rattle.scoop_client.specs.Hearing.{Notice, heard, ignored, is_own, hear_welcome, hear_step, note_of, hear_logged, hear_count, hear_answer, hear_answer_to, is_open_block, settled, stepped, up_to}
-use Rattle.scoop_client.specs.Laws.{IsLoggedAt, DueInOrder, AcceptsOnce}
+use Rattle.scoop_client.specs.Laws.{DueInOrder, AcceptsOnce}
 
 -- ---- accepting
 

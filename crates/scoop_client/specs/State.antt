@@ -1,5 +1,5 @@
 -- Where a client stands.
-use Rattle.std.specs.Prelude.{◌≡◌, ℕ, ◌+◌, ◌≤◌, Bool, true, false, if◌then◌else◌, List, [], Option, Some, None, IfSome}
+use Rattle.std.specs.Prelude.{◌≡◌, ℕ, ◌≤◌, Bool, if◌then◌else◌, List, [], Option, Some, None, IfSome}
 use Rattle.scoop_message.specs.declared.limits.TheConstants.{MAX_ENTRIES}
 use Rattle.scoop_message.specs.declared.name.HandlerId.{HandlerId}
 use Rattle.scoop_message.specs.declared.name.ClientId.{ClientId}

@@ -284,19 +284,24 @@ fn block_numbers_are_spent(rt: HostRuntime) -> Result<(), Fail> {
 
 #[test]
 fn a_log_carries_a_batch(rt: HostRuntime) -> Result<(), Fail> {
-    for (batch, count) in [(1, 1), (2, 2), (3, 3), (4, 4)] {
+    let calls = [
+        Entry::Call(add(0)?),
+        Entry::Call(add(1)?),
+        Entry::Call(add(2)?),
+        Entry::Call(add(3)?),
+    ];
+    for batch in 1..5 {
+        let count = usize::from(batch);
         let mut client = Client::begin_batched(rt.alloc(), SEVEN, 1, &[ONE], batch)?;
         assert_eq!(rt; client.batch(), batch);
         settle(&mut client);
         client.reserve(&[ONE])?;
         settle(&mut client);
-        let mut logged = Vec::new(rt.alloc());
         for value in 0..4 {
             client.call(ONE, add(value)?)?;
-            logged.push(Entry::Call(add(value)?))?;
         }
         client.end()?;
-        let first = Entries::of(&logged[..count])?;
+        let first = Entries::of(&calls[..count])?;
         assert_eq!(rt; client.due(ONE), Some(Message::Log(ONE, BLOCK, 1, first)));
         client.hear(&Message::Logged(ONE, BLOCK, 3));
         let rest = [Entry::Call(add(3)?), Entry::End];
@@ -311,8 +316,8 @@ fn a_log_carries_a_batch(rt: HostRuntime) -> Result<(), Fail> {
 #[test]
 fn refused_memory_changes_nothing(rt: HostRuntime) -> Result<(), Fail> {
     let (mut unbegun, mut unreserved, mut reserved) = (0u32, 0u32, 0u32);
-    for step in 1..200 {
-        let heap = LocalHeap::new(rt.alloc(), step * 64)?;
+    for step in 0..200 {
+        let heap = LocalHeap::new(rt.alloc(), 32 + step * 64)?;
         let mut client = match Client::begin(&heap, SEVEN, 1, &NINE[..8]) {
             Ok(client) => client,
             Err(error) => {

@@ -19,9 +19,9 @@ use std::rc::Rc;
 type SharedLane<A> = Rc<RefCell<Lane<A>>, A>;
 
 /// One end of a pair, for tests. What it sends goes into the lane of its own script, whoever the
-/// receiver is, and it receives from the other end's lane. Contracts see its script and its count of
-/// calls: its call of number `fail_at`, sends and receives counted together from 1, fails and does
-/// nothing else, and no other call fails.
+/// receiver is, and it receives from the other end's lane. Its call of number `fail_at`, sends and
+/// receives counted together from 1, fails and does nothing else, and no other call fails. Contracts
+/// see its script and its count of calls, and so which call fails; what the lanes hold they don't see.
 #[derive(Drop)]
 pub struct ScriptLink<A: Allocator = Global> {
     script: Script,

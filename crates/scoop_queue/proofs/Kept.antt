@@ -1,5 +1,5 @@
 -- What the map's calls do to the private queues that it keeps.
-use Rattle.std.proofs.Common.{◌≡◌, ℕ, zero, suc, ◌+◌, ◌<◌, ◌≤◌, Bool, true, false, not, cond, List, [], ◌∷◌, ◌++◌, length, map, remove, slice_get, get_or, Option, None, Some, position, MatchOption, find, is_some, nat_lt, refl, sym, ap, ◌∙◌, subst, arith, true≢false, append_assoc}
+use Rattle.std.proofs.Common.{◌≡◌, ℕ, zero, suc, ◌+◌, ◌<◌, ◌≤◌, Bool, true, false, cond, List, [], ◌∷◌, ◌++◌, length, remove, slice_get, get_or, Option, None, Some, position, MatchOption, is_some, nat_lt, refl, sym, ap, ◌∙◌, subst, arith, append_assoc}
 use Rattle.std.specs.List.{position_or_len}
 use Rattle.std.specs.Option.{option_map_or}
 use Rattle.std.specs.Map.{keys_of, values_of}
@@ -17,7 +17,7 @@ use Rattle.scoop_queue.specs.Refusal.{put_refusal, refusal_at}
 use Rattle.scoop_queue.specs.Kept.{block_of, queue_at, queue_kept, queues_kept, IsPlaceOf}
 use Rattle.scoop_queue.specs.Sound.{IsQueue, IsQueues}
 use Rattle.scoop_queue.proofs.Keeping.{IsQueue-rebound}
-use Rattle.scoop_queue.proofs.Lookup.{at_block-absent, absent-first, absent-rest}
+use Rattle.scoop_queue.proofs.Lookup.{absent-first, absent-rest}
 
 abbrev same_key : Key → Key → Bool
 same_key = on_key.eq-value.it

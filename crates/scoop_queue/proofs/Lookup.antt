@@ -1,11 +1,10 @@
 -- What is found of a block among the private queues, before and after a change.
-use Rattle.std.proofs.Common.{◌≡◌, ℕ, zero, suc, take, slice_get, ◌+◌, ◌≤◌, Bool, true, false, not, ◌||◌, IsTrue, List, [], ◌∷◌, ◌++◌, length, Option, None, Some, find, is_some, refl, sym, ap, ◌∙◌, subst, arith, rules, true≢false}
+use Rattle.std.proofs.Common.{◌≡◌, ℕ, zero, suc, take, slice_get, Bool, true, false, List, [], ◌∷◌, refl, sym, ap, ◌∙◌, subst, true≢false}
 use Rattle.std.proofs.lemmas.Option.{same_Some}
 use Rattle.scoop_message.specs.declared.name.Block.{Block}
-use Rattle.scoop_message.specs.declared.request.Entry.{Entry}
 use Rattle.scoop_message.specs.Message.{same_block}
 use Rattle.scoop_message.proofs.Same.{block_decides}
-use Rattle.scoop_queue.specs.Queue.{PrivateQueue, at_block, cut, has_queue, is_queue_of, left_by_cut, new_queue, opened, pending, put_all, queue_of, with_entries}
+use Rattle.scoop_queue.specs.Queue.{PrivateQueue, at_block, has_queue, is_queue_of}
 
 -- `same_block` decides
 pub same_block-true : (b d : Block) → same_block b d ≡ true → b ≡ d

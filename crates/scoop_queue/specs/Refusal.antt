@@ -1,5 +1,5 @@
 -- Why a call on the queue of queues is refused, want of memory apart.
-use Rattle.std.specs.Prelude.{ℕ, ◌+◌, ◌^◌, Bool, true, not, ◌&&◌, ◌||◌, nat_le, nat_lt, if◌then◌else◌, IsTrue, List, length, Option, Some, None}
+use Rattle.std.specs.Prelude.{ℕ, ◌+◌, Bool, not, ◌&&◌, ◌||◌, nat_le, nat_lt, if◌then◌else◌, IsTrue, List, length, Option, Some, None}
 use Rattle.std.specs.Option.{ForSome}
 use Rattle.scoop_message.specs.declared.limits.TheConstants.{MAX_QUEUES, MAX_PENDING}
 use Rattle.scoop_message.specs.declared.name.Block.{Block}

@@ -1,5 +1,3 @@
-use Rattle.std.proofs.Common.{◌∙◌, ap}
-use Rattle.scoop_queue.specs.Kept.{queues_kept}
 use Rattle.scoop_queue.proofs.Kept.{first-sound, kept-goes, kept-stays}
 use Rattle.scoop_queue.proofs.Results.{on-true, on-false}
 use Rattle.scoop_queue.proofs.table.advance.Goals as goal

@@ -1,5 +1,4 @@
-use Rattle.std.proofs.Common.{◌≡◌, ◌++◌, ◌∷◌, sym, subst, rules}
-use Rattle.scoop_queue.specs.Queue.{PrivateQueue}
+use Rattle.std.proofs.Common.{◌++◌, ◌∷◌, sym, subst, rules}
 use Rattle.scoop_queue.specs.Sound.{AreApart}
 use Rattle.scoop_queue.specs.Kept.{block_of, queue_at, queues_kept}
 use Rattle.scoop_queue.proofs.Keeping.{apart-before}

@@ -1,4 +1,4 @@
-use Rattle.std.proofs.Common.{◌≡◌, true, false, refl, sym, ◌∙◌}
+use Rattle.std.proofs.Common.{◌≡◌, false, refl, sym, ◌∙◌}
 use Rattle.scoop_queue.specs.Kept.{queues_kept}
 use Rattle.scoop_queue.specs.Queue.{is_open, left_by_cut}
 use Rattle.scoop_queue.proofs.Kept.{has_open-place, kept-remove, kept-set, kept-unchanged, kept-same}

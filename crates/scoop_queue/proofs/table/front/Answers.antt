@@ -1,4 +1,4 @@
-use Rattle.std.proofs.Common.{◌≡◌, None, Some, sym, ◌∙◌}
+use Rattle.std.proofs.Common.{sym, ◌∙◌}
 use Rattle.scoop_queue.specs.Kept.{block_of, queue_at}
 use Rattle.scoop_queue.proofs.Kept.{front-at, first-none, first-some}
 use Rattle.scoop_queue.proofs.table.front.Goals as goal

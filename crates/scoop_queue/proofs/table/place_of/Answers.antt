@@ -1,4 +1,4 @@
-use Rattle.std.proofs.Common.{◌≡◌, false, MatchOption, subst, ℕ, Option}
+use Rattle.std.proofs.Common.{◌≡◌, false, MatchOption, subst}
 use Rattle.scoop_message.specs.declared.name.Block.{Block}
 use Rattle.scoop_queue.specs.Queue.{has_queue}
 use Rattle.scoop_queue.specs.Kept.{queues_kept, IsPlaceOf}

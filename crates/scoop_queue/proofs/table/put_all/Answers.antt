@@ -1,4 +1,4 @@
-use Rattle.std.proofs.Common.{◌≡◌, length, [], ◌∷◌, Option, None, Some, unwrap_or, sym, ap, ◌∙◌}
+use Rattle.std.proofs.Common.{length, [], ◌∷◌, Option, unwrap_or, sym, ap, ◌∙◌}
 use Rattle.scoop_queue.specs.declared.error.PutError.{PutError}
 use Rattle.scoop_queue.specs.declared.error.PutError.TheVariants.{OutOfMemory}
 use Rattle.scoop_queue.specs.Queue.{PrivateQueue, with_entries}

@@ -1,6 +1,5 @@
-use Rattle.std.proofs.Common.{◌≡◌, ◌<◌, ◌≤◌, length, arith, ap, ◌∙◌}
+use Rattle.std.proofs.Common.{◌<◌, length, arith, ap, ◌∙◌}
 use Rattle.std.proofs.lemmas.Bool.Decides.{nat_tests}
-use Rattle.scoop_client.specs.Line.{first_entries}
 use Rattle.scoop_client.proofs.Batches.{is_batch}
 use Rattle.scoop_client.proofs.line.Line.due.Goals as goal
 

@@ -1,4 +1,4 @@
-use Rattle.std.proofs.Common.{◌≡◌, ◌+◌, ◌<◌, ◌^◌, sym, ◌∙◌, arith}
+use Rattle.std.proofs.Common.{sym, ◌∙◌, arith}
 use Rattle.scoop_message.specs.declared.name.Block.{Block}
 use Rattle.scoop_queue.specs.Kept.{queue_at}
 use Rattle.scoop_queue.proofs.Keeping.{number-fits}

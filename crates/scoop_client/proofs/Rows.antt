@@ -1,0 +1,104 @@
+-- What a client does with a message, case by case.
+use Rattle.std.proofs.Common.{◌≡◌, ℕ, ◌==◌, ◌&&◌, ◌||◌, Bool, true, false, Option, Some, None, refl, sym, ap, ◌∙◌, subst}
+use Rattle.std.specs.Prelude.{if◌then◌else◌, nat_lt, nat_le}
+use Rattle.std.proofs.lemmas.Bool.Decides.{Decides-eqb}
+use Rattle.scoop_message.specs.declared.name.HandlerId.{HandlerId}
+use Rattle.scoop_message.specs.declared.name.ClientId.{ClientId}
+use Rattle.scoop_message.specs.declared.name.Block.{Block}
+use Rattle.scoop_message.specs.declared.request.Answer.{Answer as ObjectAnswer}
+use Rattle.scoop_message.specs.declared.message.Message.{Message}
+use Rattle.scoop_message.specs.declared.message.Message.TheVariants.{Hello, Welcome, Lock, Locked, Busy, Open, Opened, Unlock, Unlocked, Log, Logged, Answer}
+use Rattle.scoop_message.specs.Message.{same_handler, same_block}
+use Rattle.scoop_message.proofs.Same.{handler_decides, client_decides, block_decides, pair_decides}
+use Rattle.scoop_reserve.specs.Handlers.{has, without}
+use Rattle.scoop_reserve.specs.State.{ReservationState}
+use Rattle.scoop_reserve.specs.Hearing.{is_open}
+use Rattle.scoop_reserve.specs.Hearing as reservation
+use Rattle.scoop_client.specs.declared.phase.ClientNote.{ClientNote}
+use Rattle.scoop_client.specs.declared.phase.ClientNote.TheVariants.{Welcomed, Acknowledged, Accepted, Ignored}
+use Rattle.scoop_client.specs.Line.{LineState, line_of, logged, acknowledged, at_line}
+use Rattle.scoop_client.specs.State.{ClientState, with_left, with_lines}
+use Rattle.scoop_client.specs.Hearing.{Notice, heard, ignored, is_own, hear_step, note_of, stepped, settled, up_to, hear_count, hear_logged, hear_answer, hear_answer_to, is_open_block}
+
+pub data HeardRow (c : ClientState) : Message → ClientState → ClientNote → Type 0 where
+  passed_over : (m : Message) → HeardRow c m c Ignored
+  is_welcomed : (h : HandlerId) → has c.left h ≡ true → HeardRow c (Welcome h c.id c.inc) (with_left c (without h c.left)) (Welcomed h)
+  takes_step : (m : Message) (r : ReservationState) → c.reservation ≡ Some r → HeardRow c m (stepped c (reservation.heard r m).0) (note_of (reservation.heard r m).1)
+  is_acknowledged : (h : HandlerId) (n : ℕ) (r : ReservationState) (l : LineState) → c.reservation ≡ Some r → is_open r ≡ true → line_of h c.lines ≡ Some l → (nat_lt (logged l) n || nat_le (up_to h n c.waits) l.acked) ≡ false →
+      HeardRow c (Logged h r.block n) (settled (with_lines c (at_line h (acknowledged (up_to h n c.waits)) c.lines) c.waits)) (Acknowledged h (up_to h n c.waits))
+  is_accepted : (h : HandlerId) (n : ℕ) (a : ObjectAnswer) (r : ReservationState) → c.reservation ≡ Some r → is_open r ≡ true → c.waits ≡ Some (h, n) → HeardRow c (Answer h r.block n a) (with_lines c (at_line h (acknowledged n) c.lines) None) (Accepted h n a)
+
+both_true : (a b : Bool) → (a && b) ≡ true → (a ≡ true) × (b ≡ true)
+both_true true b e = (refl, e)
+both_true false b e = cc
+
+module _ (c : ClientState) where
+  abbrev Row : Message → Notice → Type 0
+  Row m n = HeardRow c m n.0 n.1
+
+  by_test : (m : Message) (b : Bool) (s t : Notice) → (b ≡ true → Row m s) → (b ≡ false → Row m t) → Row m (if b then s else t)
+  by_test m true s t p q = p refl
+  by_test m false s t p q = q refl
+
+  over : (m : Message) → Row m (ignored c)
+  over m = passed_over m
+
+  welcome_row : (h : HandlerId) (x : ClientId) (inc : ℕ) → Row (Welcome h x inc) (heard c (Welcome h x inc))
+  welcome_row h x inc =
+      let next : Notice = (with_left c (without h c.left), Welcomed h) in
+      let P : ClientId × ℕ → Type 0 = λ p. Row (Welcome h p.0 p.1) (if has c.left h then next else ignored c) in
+      by_test _ (is_own c x inc) (if has c.left h then next else ignored c) (ignored c)
+      (λ own. subst P (sym ((pair_decides x c.id inc c.inc (client_decides x c.id) (Decides-eqb inc c.inc)).0 own)) (by_test _ (has c.left h) next (ignored c) (is_welcomed h) (λ other. over _)))
+      (λ other. over _)
+
+  step_row : (m : Message) (r : Option ReservationState) → c.reservation ≡ r → Row m (hear_step c m r)
+  step_row m None held = over m
+  step_row m (Some r) held = takes_step m r held
+
+  count_row : (h : HandlerId) (n : ℕ) (r : ReservationState) (l : Option LineState) → c.reservation ≡ Some r → is_open r ≡ true → line_of h c.lines ≡ l → Row (Logged h r.block n) (hear_count c h n (up_to h n c.waits) l)
+  count_row h n r None held opened line = over _
+  count_row h n r (Some l) held opened line =
+      let k = up_to h n c.waits in
+      let counted : Notice = (settled (with_lines c (at_line h (acknowledged k) c.lines) c.waits), Acknowledged h k) in
+      by_test _ (nat_lt (logged l) n || nat_le k l.acked) (ignored c) counted (λ past. over _) (λ new. is_acknowledged h n r l held opened line new)
+
+  -- a message of another block, or of one that isn't opened, is passed over
+  in_block : (tell : Block → Message) (b : Block) (r : ReservationState) (n : Notice) → (is_open r ≡ true → Row (tell r.block) n) → Row (tell b) (if is_open_block b r then n else ignored c)
+  in_block tell b r n row =
+      let P : Block → Type 0 = λ d. Row (tell d) n in
+      by_test (tell b) (is_open_block b r) n (ignored c)
+      (λ e. let is = both_true (same_block b r.block) (is_open r) e in subst P (sym ((block_decides b r.block).0 is.0)) (row is.1))
+      (λ other. over _)
+
+  logged_row : (h : HandlerId) (b : Block) (n : ℕ) (r : Option ReservationState) → c.reservation ≡ r → Row (Logged h b n) (hear_logged c h b n r)
+  logged_row h b n None held = over _
+  logged_row h b n (Some r) held =
+      in_block (λ d. Logged h d n) b r (hear_count c h n (up_to h n c.waits) (line_of h c.lines)) (λ opened. count_row h n r (line_of h c.lines) held opened refl)
+
+  answer_row : (h : HandlerId) (n : ℕ) (a : ObjectAnswer) (r : ReservationState) (w : Option (HandlerId × ℕ)) → c.reservation ≡ Some r → is_open r ≡ true → c.waits ≡ w → Row (Answer h r.block n a) (hear_answer_to c h n a w)
+  answer_row h n a r None held opened waits = over _
+  answer_row h n a r (Some w) held opened waits =
+      let taken : Notice = (with_lines c (at_line h (acknowledged n) c.lines) None, Accepted h n a) in
+      by_test _ (same_handler w.0 h && w.1 == n) taken (ignored c)
+      (λ e. is_accepted h n a r held opened (waits ∙ ap Some ((pair_decides w.0 h w.1 n (handler_decides w.0 h) (Decides-eqb w.1 n)).0 e)))
+      (λ other. over _)
+
+  block_answer_row : (h : HandlerId) (b : Block) (n : ℕ) (a : ObjectAnswer) (r : Option ReservationState) → c.reservation ≡ r → Row (Answer h b n a) (hear_answer c h b n a r)
+  block_answer_row h b n a None held = over _
+  block_answer_row h b n a (Some r) held =
+      in_block (λ d. Answer h d n a) b r (hear_answer_to c h n a c.waits) (λ opened. answer_row h n a r c.waits held opened refl)
+
+  -- each message is heard by one of these cases
+  pub heard_row : (m : Message) → HeardRow c m (heard c m).0 (heard c m).1
+  heard_row (Hello h x inc) = over _
+  heard_row (Welcome h x inc) = welcome_row h x inc
+  heard_row (Lock h b) = over _
+  heard_row (Locked h b) = step_row (Locked h b) c.reservation refl
+  heard_row (Busy h b) = step_row (Busy h b) c.reservation refl
+  heard_row (Open h b) = over _
+  heard_row (Opened h b) = step_row (Opened h b) c.reservation refl
+  heard_row (Unlock h b) = over _
+  heard_row (Unlocked h b) = step_row (Unlocked h b) c.reservation refl
+  heard_row (Log h b n es) = over _
+  heard_row (Logged h b n) = logged_row h b n c.reservation refl
+  heard_row (Answer h b n a) = block_answer_row h b n a c.reservation refl
