@@ -23,7 +23,7 @@ use Rattle.scoop_client.specs.declared.phase.ClientNote.TheVariants.{Welcomed, A
 use Rattle.scoop_client.specs.Line.{LineState, line_of, logged, acknowledged, at_line}
 use Rattle.scoop_client.specs.State.{ClientState, with_lines, with_left}
 use Rattle.scoop_client.specs.Due.{due, due_in_block, due_after, due_line}
-use Rattle.scoop_client.specs.Hearing.{Notice, heard, ignored, is_own, hear_welcome, hear_step, note_of, hear_logged, hear_count, hear_answer, hear_answer_to, is_open_block, settled, stepped, up_to}
+use Rattle.scoop_client.specs.Hearing.{Notice, heard, ignored, is_own, hear_welcome, after_step, hear_step, hear_logged, hear_count, hear_answer, hear_answer_to, is_open_block, settled, up_to}
 use Rattle.scoop_client.specs.Laws.{DueInOrder, AcceptsOnce}
 
 -- ---- accepting
@@ -35,16 +35,16 @@ once_of : (c : ClientState) (b : Bool) (m n : Notice) → Once c m → Once c n 
 once_of c true m n s t = s
 once_of c false m n s t = t
 
-note_once : (c d : ClientState) (s : Step) → AcceptsOnce c d (note_of s)
-note_once c d (step.Locked h) = tt
-note_once c d (step.Busy h) = tt
-note_once c d (step.Opened h) = tt
-note_once c d (step.Unlocked h) = tt
-note_once c d step.Ignored = tt
+after_step_once : (c : ClientState) (r : ReservationState) (s : Step) → Once c (after_step c r s)
+after_step_once c r (step.Locked h) = tt
+after_step_once c r (step.Busy h) = tt
+after_step_once c r (step.Opened h) = tt
+after_step_once c r (step.Unlocked h) = tt
+after_step_once c r step.Ignored = tt
 
 step_once : (c : ClientState) (m : Message) (r : Option ReservationState) → Once c (hear_step c m r)
 step_once c m None = tt
-step_once c m (Some r) = note_once c (stepped c (reservation.heard r m).0) (reservation.heard r m).1
+step_once c m (Some r) = after_step_once c (reservation.heard r m).0 (reservation.heard r m).1
 
 count_once : (c : ClientState) (h : HandlerId) (n k : ℕ) (l : Option LineState) → Once c (hear_count c h n k l)
 count_once c h n k None = tt

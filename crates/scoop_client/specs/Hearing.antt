@@ -29,21 +29,21 @@ ignored c = (c, Ignored)
 abbrev pub hear_welcome : ClientState → HandlerId → Notice
 hear_welcome c h = if has c.left h then (with_left c (without h c.left), Welcomed h) else ignored c
 
--- locking, opening and unlocking are the reservation's, and a block that was given up is over once it
--- is unlocked wherever it was asked
-abbrev pub note_of : Step → ClientNote
-note_of (step.Locked h) = LockedNote h
-note_of (step.Busy h) = BusyNote h
-note_of (step.Opened h) = OpenedNote h
-note_of (step.Unlocked h) = UnlockedNote h
-note_of step.Ignored = Ignored
-
+-- a block that was given up is over once it is unlocked wherever it was asked
 abbrev pub stepped : ClientState → ReservationState → ClientState
 stepped c r = if is_gone r then idle c else with_reservation c r
 
+-- locking, opening and unlocking are the reservation's, and what it doesn't await changes nothing
+abbrev pub after_step : ClientState → ReservationState → Step → Notice
+after_step c r (step.Locked h) = (stepped c r, LockedNote h)
+after_step c r (step.Busy h) = (stepped c r, BusyNote h)
+after_step c r (step.Opened h) = (stepped c r, OpenedNote h)
+after_step c r (step.Unlocked h) = (stepped c r, UnlockedNote h)
+after_step c r step.Ignored = ignored c
+
 abbrev pub hear_step : ClientState → Message → Option ReservationState → Notice
 hear_step c m None = ignored c
-hear_step c m (Some r) = (stepped c (reservation.heard r m).0, note_of (reservation.heard r m).1)
+hear_step c m (Some r) = after_step c (reservation.heard r m).0 (reservation.heard r m).1
 
 -- a block is over once every End is acknowledged
 abbrev pub settled : ClientState → ClientState

@@ -3,7 +3,7 @@
 ghost use Rattle.std.specs.Prelude.{◌≡◌, List};
 ghost use Rattle.scoop_reserve.specs.Handlers.{without};
 ghost use Rattle.scoop_client.specs.Laws.{AcceptsOnce};
-ghost use Rattle.scoop_client.specs.Hearing.{heard, hear_welcome, hear_step, hear_logged, hear_answer, settled, note_of, up_to};
+ghost use Rattle.scoop_client.specs.Hearing.{heard, hear_welcome, hear_step, hear_logged, hear_answer, settled, up_to};
 
 use crate::client::Client;
 use crate::lines::{acknowledge_at, all_over, line_of};
@@ -11,19 +11,6 @@ use crate::phase::ClientNote;
 use scoop_message::{Answer, Block, HandlerId, Message};
 use scoop_reserve::{Step, has};
 use std::alloc::Allocator;
-
-// What a step of the reservation is told as.
-fn note_of(step: Step) -> ClientNote
-    ensures { result ≡ note_of step }
-{
-    match step {
-        Step::Locked(handler) => ClientNote::Locked(handler),
-        Step::Busy(handler) => ClientNote::Busy(handler),
-        Step::Opened(handler) => ClientNote::Opened(handler),
-        Step::Unlocked(handler) => ClientNote::Unlocked(handler),
-        Step::Ignored => ClientNote::Ignored,
-    }
-}
 
 // How far a count acknowledges: up to a query that waits, and not that query.
 fn up_to(handler: HandlerId, number: u32, waits: Option<(HandlerId, u32)>) -> u32
@@ -95,13 +82,20 @@ impl<A: Allocator> Client<A> {
         let Some(mut reservation) = self.reservation else {
             return ClientNote::Ignored;
         };
-        let step = reservation.hear(message);
+        let note = match reservation.hear(message) {
+            Step::Locked(handler) => ClientNote::Locked(handler),
+            Step::Busy(handler) => ClientNote::Busy(handler),
+            Step::Opened(handler) => ClientNote::Opened(handler),
+            Step::Unlocked(handler) => ClientNote::Unlocked(handler),
+            Step::Ignored => return ClientNote::Ignored,
+        };
+        // A block that was given up is over once it is unlocked wherever it was asked.
         if reservation.is_gone() {
             self.leave();
         } else {
             self.reservation = Some(reservation);
         }
-        note_of(step)
+        note
     }
 
     fn hear_logged(&mut self, handler: HandlerId, block: Block, number: u32) -> ClientNote

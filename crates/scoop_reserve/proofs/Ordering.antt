@@ -234,11 +234,11 @@ open_due b hs past Opening left h e s = s.0
 open_due b hs past Unlocking left h e s = absurd (no_other (has left h) (Unlock h b) (Open h b) (λ m. cc) e)
 open_due b hs past GivingUp left h e s = absurd (no_other (has left h) (Unlock h b) (Open h b) (λ m. cc) e)
 
-unlock_due : (b : Block) (hs : List HandlerId) (past : List Event) (stage : Stage) (left : List HandlerId) (h : HandlerId) → due_in (of_parts b hs stage left) h stage ≡ Some (Unlock h b) → Stands b hs past stage left → LeftOr (opened b) hs [] past ⊎ Contains past GivesUp
+unlock_due : (b : Block) (hs : List HandlerId) (past : List Event) (stage : Stage) (left : List HandlerId) (h : HandlerId) → due_in (of_parts b hs stage left) h stage ≡ Some (Unlock h b) → Stands b hs past stage left → LeftOr (opened b) hs [] past ⊎ (stage ≡ GivingUp)
 unlock_due b hs past Locking left h e s = absurd (no_other (is_lowest h left) (Lock h b) (Unlock h b) (λ m. cc) e)
 unlock_due b hs past Opening left h e s = absurd (no_other (has left h) (Open h b) (Unlock h b) (λ m. cc) e)
 unlock_due b hs past Unlocking left h e s = inl s
-unlock_due b hs past GivingUp left h e s = inr s
+unlock_due b hs past GivingUp left h e s = inr refl
 
 all_told : (told : HandlerId → Message) (hs : List HandlerId) (past : List Event) → LeftOr told hs [] past → (x : HandlerId) → has hs x ≡ true → Contains past (Hears (told x))
 all_told told hs past s x among = ⊎_elim (λ nowhere. absurd (false≢true nowhere)) (λ k. k) (s.told_or x among)

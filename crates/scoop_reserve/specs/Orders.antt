@@ -5,6 +5,7 @@ use Rattle.scoop_message.specs.declared.name.Block.{Block}
 use Rattle.scoop_message.specs.declared.message.Message.{Message}
 use Rattle.scoop_message.specs.declared.message.Message.TheVariants.{Locked, Open, Opened, Unlock}
 use Rattle.scoop_reserve.specs.declared.error.TooLate.{TooLate}
+use Rattle.scoop_reserve.specs.declared.stage.Stage.TheVariants.{GivingUp}
 use Rattle.scoop_reserve.specs.Handlers.{has}
 use Rattle.scoop_reserve.specs.State.{ReservationState}
 use Rattle.scoop_reserve.specs.Due.{due}
@@ -30,7 +31,7 @@ after r (e ∷ es) = after (after_one r e) es
 abbrev pub AllTold : (HandlerId → Block → Message) → ReservationState → List Event → Type 0
 AllTold told r es = (x : HandlerId) → has r.handlers x ≡ true → Contains es (Hears (told x r.block))
 
--- an Open is due only once all are locked, and an Unlock only once all are opened or it was given up
+-- an Open is due only once all are locked, and an Unlock only once all are opened, or while it is given up
 pub record KeepsOrder (r : ReservationState) : Type 0 where
   pub opens : (es : List Event) (h : HandlerId) → due (after r es) h ≡ Some (Open h r.block) → AllTold Locked r es
-  pub unlocks : (es : List Event) (h : HandlerId) → due (after r es) h ≡ Some (Unlock h r.block) → AllTold Opened r es ⊎ Contains es GivesUp
+  pub unlocks : (es : List Event) (h : HandlerId) → due (after r es) h ≡ Some (Unlock h r.block) → AllTold Opened r es ⊎ ((after r es).stage ≡ GivingUp)
