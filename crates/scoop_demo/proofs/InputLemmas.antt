@@ -1,5 +1,5 @@
 -- How the next line of an input ends a run, or doesn't.
-use Rattle.std.proofs.Common.{◌≡◌, ℕ, ◌+◌, ◌<◌, ◌≤◌, List, length, refl, arith, Option, Some, None, Result, Err}
+use Rattle.std.proofs.Common.{◌≡◌, ℕ, ◌+◌, ◌<◌, ◌≤◌, List, length, refl, arith, Option, Some, None}
 use Rattle.std.proofs.lemmas.Bool.Decides.{nat_tests}
 use Rattle.scoop_demo.specs.declared.fault.InputFault.TheVariants.{LineTooLong, TooManyLines}
 use Rattle.scoop_demo.specs.declared.fault.RunError.TheVariants.{Input as InputError}

@@ -4,7 +4,7 @@ use Rattle.std.proofs.lemmas.List.{length_push}
 use Rattle.std.proofs.lemmas.Bool.Decides.{nat_tests}
 use Rattle.std.specs.Bool.{OnTrue}
 use Rattle.std.specs.Io.KnownBytes.{Consumes, IsAtEnd, Keeps}
-use Rattle.scoop_demo.specs.Line.{line_limit, lines_of, BeginsWith, BeginsTooLong, TakesFirst}
+use Rattle.scoop_demo.specs.Line.{line_limit, lines_of, BeginsTooLong, TakesFirst}
 
 -- no byte ends a line
 abbrev pub HasNoNewline : List ℕ → Type 0

@@ -1,5 +1,5 @@
 -- A run over lines, one line at a time.
-use Rattle.std.proofs.Common.{◌≡◌, ◌≤◌, ℕ, ◌+◌, List, [], ◌∷◌, ◌++◌, length, Option, Some, None, IfSome, Result, Ok, Err, IfErr, refl, sym, ◌∙◌, ap, subst, arith, append_assoc, append-nil}
+use Rattle.std.proofs.Common.{◌≡◌, ◌≤◌, ℕ, ◌+◌, List, [], ◌∷◌, ◌++◌, length, Option, Some, None, IfSome, Result, Ok, Err, IfErr, OnOk, refl, sym, ◌∙◌, ap, subst, arith, append_assoc, append-nil}
 use Rattle.std.specs.Prelude.{⊤}
 use Rattle.std.proofs.lemmas.List.{length_push}
 use Rattle.std.specs.Io.KnownBytes.{Appends, Keeps, IsAtEnd}
@@ -10,11 +10,12 @@ use Rattle.scoop_demo.specs.declared.fault.InputFault.TheVariants.{ReadFault}
 use Rattle.scoop_demo.specs.declared.fault.RunError.{RunError}
 use Rattle.scoop_demo.specs.declared.fault.RunError.TheVariants.{Input as InputError, Write, OutOfMemory}
 use Rattle.scoop_demo.specs.Line.{count_limit, lines_of, limit_fault, BeginsWith, TakesFirst}
-use Rattle.scoop_demo.specs.Hex.{hex_fault}
+use Rattle.scoop_demo.specs.Hex.{hex_fault, digits_of, StandsFor}
 use Rattle.scoop_demo.specs.Answer.{WantsMemory}
 use Rattle.scoop_demo.specs.Input.{Input, TakesLine, StopsAtNext}
 use Rattle.scoop_demo.specs.Input.StopsAtNext.{read_fault as next_unread, past_limit, write_fault}
-use Rattle.scoop_demo.specs.Run.{AnswersLine, AnswersLines, AnswersAll, BeginsWithLines, WritesAnswer, StopsInLine, StopsBehind, StopsEarly, fault_of, first_fault}
+use Rattle.hex.proofs.HexLemmas.{decode_of-same}
+use Rattle.scoop_demo.specs.Run.{Prints, AnswersLine, AnswersLines, AnswersAll, BeginsWithLines, WritesAnswer, StopsInLine, StopsBehind, StopsEarly, fault_of, first_fault}
 use Rattle.scoop_demo.specs.Run.StopsInLine.{in_digits, in_memory, in_output}
 use Rattle.scoop_demo.specs.Run.StopsBehind.{read_fault, line_fault, no_memory}
 use Rattle.scoop_demo.specs.Run.StopsEarly.{at_line, at_output}
@@ -103,6 +104,22 @@ answers_more number first mid last (x ∷ xs) text line answer a l =
     ap (λ v. v ++ (answer ++ 10 ∷ [])) a.5 ∙ append_assoc a.1 (10 ∷ a.2) (answer ++ 10 ∷ []) in
     (a.0, a.1, a.2 ++ (answer ++ 10 ∷ []), a.3, more, joined)
 
+-- a datagram's line has one datagram
+same_datagram : (line d e : List ℕ) → StandsFor line d → StandsFor line e → e ≡ d
+same_datagram line d e s t = decode_of-same (digits_of line) e d t s
+
+-- lines have one answer
+pub answers_only : (number : ℕ) (old new : HandlerState) (lines : List (List ℕ)) (text : List ℕ) → AnswersLines number old lines new text
+    → (other_state : HandlerState) (other_text : List ℕ) → AnswersLines number old lines other_state other_text → (other_state ≡ new) × (other_text ≡ text)
+answers_only number old new [] text a state other b = (b.0 ∙ sym a.0, b.1 ∙ sym a.1)
+answers_only number old new (line ∷ lines) text a state other b =
+    let datagram = same_datagram line a.3.datagram b.3.datagram a.3.stands b.3.stands in
+    let P : List ℕ → Type 0 = λ d. Prints old d b.0 b.1 in
+    let first = a.3.only.same b.0 b.1 (subst P datagram b.3.prints) in
+    let Q : HandlerState → Type 0 = λ s. AnswersLines (number + 1) s lines state b.2 in
+    let rest = answers_only (number + 1) a.0 new lines a.2 a.4 state b.2 (subst Q first.0 b.4) in
+    (rest.0, b.5 ∙ ap (λ x. x ++ 10 ∷ b.2) first.1 ∙ ap (λ x. a.1 ++ 10 ∷ x) rest.1 ∙ sym a.5)
+
 -- ---- a run
 
 -- the lines that were taken have their answers
@@ -160,6 +177,7 @@ progress_all p e k = record {
   answers = p.answers;
   writes = appends_keeps _ _ _ _ p.writes k;
   all = splits_all _ _ p.taken p.splits e;
+  only = answers_only 1 _ _ p.taken p.text p.answers;
 }
 
 -- the next line could not be taken
@@ -215,6 +233,13 @@ pub stops_flushed : (r : Result Unit RunError) (input : Option (List ℕ)) (firs
     → IfErr r (StopsEarly input first last before after) → Keeps after kept → IfErr r (StopsEarly input first last before kept)
 stops_flushed (Ok u) input first last before after kept s k = tt
 stops_flushed (Err e) input first last before after kept s k = flushed input first last before after kept e s k
+
+-- the writer is flushed behind a whole run
+pub all_flushed : (r : Result Unit RunError) (input : Option (List ℕ)) (first last : HandlerState) (before after kept : Option (List ℕ))
+    → OnOk r (AnswersAll input first last before after) → Keeps after kept → OnOk r (AnswersAll input first last before kept)
+all_flushed (Ok u) input first last before after kept a k =
+    record { lines = a.lines; text = a.text; answers = a.answers; writes = appends_keeps _ _ _ _ a.writes k; all = a.all; only = a.only }
+all_flushed (Err e) input first last before after kept a k = tt
 
 -- all lines have their answers, but the writer may have lost some
 pub all_but_output : (input : Option (List ℕ)) (first last : HandlerState) (before after kept : Option (List ℕ)) → AnswersAll input first last before after

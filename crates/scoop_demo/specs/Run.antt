@@ -1,5 +1,5 @@
 -- What a run over the lines of an input writes.
-use Rattle.std.specs.Prelude.{◌≡◌, ◌⊎◌, ℕ, ◌+◌, List, [], ◌∷◌, ◌++◌, length, codes, Option, Some, None, IfSome, ⊤}
+use Rattle.std.specs.Prelude.{◌≡◌, ◌⊎◌, ℕ, ◌+◌, List, [], ◌∷◌, ◌++◌, length, codes, Option, Some, None, IfSome}
 use Rattle.std.specs.Io.KnownBytes.{Appends, Keeps}
 use Rattle.hex.specs.Hex.{encode_lower}
 use Rattle.scoop_message.specs.declared.message.Message.{Message}
@@ -45,12 +45,21 @@ pub record PrintsHeard (old : HandlerState) (datagram : List ℕ) (new : Handler
   pub is_heard : IsHeard old datagram new version heard
   pub is : text ≡ text_of version heard.reply heard.note
 
+-- the text of the answer to a datagram
+abbrev pub Prints : HandlerState → List ℕ → HandlerState → List ℕ → Type 0
+Prints old datagram new text = PrintsRefused old datagram new text ⊎ PrintsHeard old datagram new text
+
+-- no other state and no other text answer the datagram
+pub record PrintsOnly (old : HandlerState) (datagram : List ℕ) (new : HandlerState) (text : List ℕ) : Type 0 where
+  pub same : (other_state : HandlerState) (other_text : List ℕ) → Prints old datagram other_state other_text → (other_state ≡ new) × (other_text ≡ text)
+
 -- the line of this number has no fault, and this is the answer to its datagram
 pub record AnswersLine (number : ℕ) (old : HandlerState) (line : List ℕ) (new : HandlerState) (text : List ℕ) : Type 0 where
   pub faultless : fault_of number line ≡ None
   pub datagram : List ℕ
   pub stands : StandsFor line datagram
-  pub prints : PrintsRefused old datagram new text ⊎ PrintsHeard old datagram new text
+  pub prints : Prints old datagram new text
+  pub only : PrintsOnly old datagram new text
 
 -- this is the answer, and the writer has gained it and a newline
 pub record WritesAnswer (number : ℕ) (old : HandlerState) (line : List ℕ) (new : HandlerState) (before after : Option (List ℕ)) : Type 0 where
@@ -89,6 +98,7 @@ pub record AnswersAll (input : Option (List ℕ)) (old new : HandlerState) (befo
   pub answers : AnswersLines 1 old lines new text
   pub writes : Appends before after text
   pub all : IfSome input (λ bytes. lines_of bytes ≡ lines)
+  pub only : (other_state : HandlerState) (other_text : List ℕ) → AnswersLines 1 old lines other_state other_text → (other_state ≡ new) × (other_text ≡ text)
 
 -- why a run stops at the line behind these: the input can't be read, the line has a fault, or its datagram
 -- takes memory that was refused

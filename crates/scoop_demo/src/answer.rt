@@ -1,7 +1,8 @@
 //! One handler that answers datagrams.
 
 ghost use Rattle.std.specs.Prelude.{◌≡◌, ◌≢◌, IfOk, IsErr, OnErr};
-ghost use Rattle.scoop_demo.specs.Answer.{AnswersDatagram, WantsMemory, ConfirmsHolder, MovesHolder, LeavesState, IsShort};
+ghost use Rattle.scoop_demo.specs.Answer.{AnswersDatagram, WantsMemory, ConfirmsHolder, MovesHolder, LeavesState, IsShort, line_of};
+ghost use Rattle.scoop_demo.specs.Run.{PrintsOnly};
 
 use scoop_frame::{FrameError, decode, encode};
 use scoop_handler::{Handler, Heard, Note};
@@ -32,6 +33,8 @@ pub fn answer_one<A: Allocator>(
 ) -> Result<Answered, OutOfMemory>
     ensures ok { IfOk result (λ answered.
         AnswersDatagram handler.old datagram.now handler.new answered out.old out.new) }
+    ensures only { IfOk result (λ answered.
+        PrintsOnly handler.old datagram.now handler.new (line_of answered out.new)) }
     ensures err { OnErr result (handler.new ≡ handler.old) }
     ensures memory { IsErr result → WantsMemory handler.old datagram.now }
 

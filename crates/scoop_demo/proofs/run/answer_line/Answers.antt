@@ -21,6 +21,7 @@ returns-in-Ok-print_answer-clause-ok g c = record {
     datagram = c.in-Ok.datagram.now;
     stands = c.in-Ok.ensures.ok;
     prints = prints _ _ _ _ _ _ c.in-Ok-answer_one.ensures.ok;
+    only = c.in-Ok-answer_one.ensures.only;
   };
   writes = c.in-Ok-print_answer.ensures;
 }
@@ -31,4 +32,5 @@ returns-in-Err-print_answer-clause-err g c = in_output _ (record {
   datagram = c.in-Ok.datagram.now;
   stands = c.in-Ok.ensures.ok;
   prints = prints _ _ _ _ _ _ c.in-Ok-answer_one.ensures.ok;
+  only = c.in-Ok-answer_one.ensures.only;
 })

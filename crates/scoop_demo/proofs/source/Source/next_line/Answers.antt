@@ -1,4 +1,4 @@
-use Rattle.std.proofs.Common.{◌≡◌, ◌<◌, nat_eq, false, length, arith, Ok, Some, ap}
+use Rattle.std.proofs.Common.{◌≡◌, nat_eq, false, length, arith, Ok, ap}
 use Rattle.std.proofs.lemmas.Bool.Decides.{nat_tests}
 use Rattle.scoop_demo.specs.Line.{line_limit, IsWithin}
 use Rattle.scoop_demo.proofs.LineLemmas.{HasNoNewline-push, Consumes-push, Keeps-keeps, takes_line, ends_line, begins_too_long}
