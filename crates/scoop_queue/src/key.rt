@@ -5,7 +5,7 @@ ghost use Rattle.scoop_queue.specs.Kept.{block_of};
 
 use scoop_message::{Block, ClientId};
 
-/// A block as the key of its private queue: the block's own type has no hash.
+/// A block as the key of its private queue: its numbers alone.
 #[derive(Clone, Copy, Debug, PartialEq, Eq, Hash)]
 pub(crate) struct Key {
     client: u32,
