@@ -4,3 +4,5 @@ pub mod Batches
 pub mod Retained
 pub mod Ordering
 pub mod Rows
+pub mod DueRows
+pub mod CommandRows

@@ -1,4 +1,4 @@
--- What a client does with a message, case by case.
+-- Each message is heard by one of the cases.
 use Rattle.std.proofs.Common.{◌≡◌, ℕ, ◌==◌, ◌&&◌, ◌||◌, Bool, true, false, Option, Some, None, refl, sym, ap, ◌∙◌, subst}
 use Rattle.std.specs.Prelude.{if◌then◌else◌, nat_lt, nat_le}
 use Rattle.std.proofs.lemmas.Bool.Decides.{Decides-eqb}
@@ -13,21 +13,11 @@ use Rattle.scoop_message.proofs.Same.{handler_decides, client_decides, block_dec
 use Rattle.scoop_reserve.specs.Handlers.{has, without}
 use Rattle.scoop_reserve.specs.State.{ReservationState}
 use Rattle.scoop_reserve.specs.Hearing.{is_open}
-use Rattle.scoop_reserve.specs.Hearing as reservation
-use Rattle.scoop_client.specs.declared.phase.ClientNote.{ClientNote}
-use Rattle.scoop_client.specs.declared.phase.ClientNote.TheVariants.{Welcomed, Acknowledged, Accepted, Ignored}
+use Rattle.scoop_client.specs.declared.phase.ClientNote.TheVariants.{Welcomed, Acknowledged, Accepted}
 use Rattle.scoop_client.specs.Line.{LineState, line_of, logged, acknowledged, at_line}
 use Rattle.scoop_client.specs.State.{ClientState, with_left, with_lines}
-use Rattle.scoop_client.specs.Hearing.{Notice, heard, ignored, is_own, after_step, hear_step, settled, up_to, hear_count, hear_logged, hear_answer, hear_answer_to, is_open_block}
-
-pub data HeardRow (c : ClientState) : Message → ClientState → ClientNote → Type 0 where
-  passed_over : (m : Message) → HeardRow c m c Ignored
-  is_welcomed : (h : HandlerId) → has c.left h ≡ true → HeardRow c (Welcome h c.id c.inc) (with_left c (without h c.left)) (Welcomed h)
-  takes_step : (m : Message) (r : ReservationState) → c.reservation ≡ Some r →
-      HeardRow c m (after_step c (reservation.heard r m).0 (reservation.heard r m).1).0 (after_step c (reservation.heard r m).0 (reservation.heard r m).1).1
-  is_acknowledged : (h : HandlerId) (n : ℕ) (r : ReservationState) (l : LineState) → c.reservation ≡ Some r → is_open r ≡ true → line_of h c.lines ≡ Some l → (nat_lt (logged l) n || nat_le (up_to h n c.waits) l.acked) ≡ false →
-      HeardRow c (Logged h r.block n) (settled (with_lines c (at_line h (acknowledged (up_to h n c.waits)) c.lines) c.waits)) (Acknowledged h (up_to h n c.waits))
-  is_accepted : (h : HandlerId) (n : ℕ) (a : ObjectAnswer) (r : ReservationState) → c.reservation ≡ Some r → is_open r ≡ true → c.waits ≡ Some (h, n) → HeardRow c (Answer h r.block n a) (with_lines c (at_line h (acknowledged n) c.lines) None) (Accepted h n a)
+use Rattle.scoop_client.specs.Rows.{HeardRow, passed_over, is_welcomed, takes_step, is_acknowledged, is_accepted}
+use Rattle.scoop_client.specs.Hearing.{Notice, heard, ignored, is_own, hear_step, settled, up_to, hear_count, hear_logged, hear_answer, hear_answer_to, is_open_block}
 
 both_true : (a b : Bool) → (a && b) ≡ true → (a ≡ true) × (b ≡ true)
 both_true true b e = (refl, e)

@@ -5,3 +5,4 @@ pub mod Hearing
 pub mod Beginning
 pub mod Commands
 pub mod Laws
+pub mod Rows

@@ -1,0 +1,112 @@
+-- The client's tables as relations, with a case for each of their lines. Later proofs go case by case.
+use Rattle.std.specs.Prelude.{◌≡◌, ℕ, ◌+◌, ◌-◌, ◌^◌, ◌==◌, ◌||◌, Bool, true, false, nat_lt, nat_le, length, map, List, Option, Some, None, Ok, Err}
+use Rattle.scoop_message.specs.declared.name.HandlerId.{HandlerId}
+use Rattle.scoop_message.specs.declared.request.Entry.{Entry}
+use Rattle.scoop_message.specs.declared.request.Entry.TheVariants.{Call, Query}
+use Rattle.scoop_message.specs.declared.request.Answer.{Answer as ObjectAnswer}
+use Rattle.scoop_message.specs.declared.message.Message.{Message}
+use Rattle.scoop_message.specs.declared.message.Message.TheVariants.{Hello, Welcome, Log, Logged, Answer}
+use Rattle.scoop_reserve.specs.declared.error.ReserveError.{ReserveError}
+use Rattle.scoop_reserve.specs.Handlers.{has, without}
+use Rattle.scoop_reserve.specs.State.{ReservationState}
+use Rattle.scoop_reserve.specs.Starting.{started}
+use Rattle.scoop_reserve.specs.Hearing.{is_open, given_up}
+use Rattle.scoop_reserve.specs.Hearing as reservation
+use Rattle.scoop_reserve.specs.Due as owed
+use Rattle.scoop_client.specs.declared.phase.Phase.{Phase}
+use Rattle.scoop_client.specs.declared.phase.Phase.TheVariants.{Greeting, Idle, Locking, Opening, Running, Ending, GivingUp}
+use Rattle.scoop_client.specs.declared.phase.ClientNote.{ClientNote}
+use Rattle.scoop_client.specs.declared.phase.ClientNote.TheVariants.{Welcomed, Acknowledged, Accepted, Ignored}
+use Rattle.scoop_client.specs.declared.error.ClientError.TheVariants.{NotGreeted, NotIdle, NoBlock, Waiting, NotReserved, WindowFull, TooLate, Spent, Reserve as NotReservable}
+use Rattle.scoop_client.specs.Line.{LineState, first_entries, is_full, logged, with_entry, with_end, acknowledged, line_of, at_line, lowest_full}
+use Rattle.scoop_client.specs.State.{ClientState, phase_of, with_left, with_lines, with_reservation}
+use Rattle.scoop_client.specs.Hearing.{after_step, settled, up_to}
+use Rattle.scoop_client.specs.Commands.{Command, Outcome, Reserve, DoCall, DoQuery, DoEnd, GiveUp, next_block, with_block, waits_for}
+
+-- ---- the message that is due
+
+pub data DueRow (c : ClientState) (h : HandlerId) : Option Message → Type 0 where
+  owes_nothing : DueRow c h None
+  greets : has c.left h ≡ true → DueRow c h (Some (Hello h c.id c.inc))
+  reserves : (r : ReservationState) (m : Message) → has c.left h ≡ false → c.reservation ≡ Some r → owed.due r h ≡ Some m → DueRow c h (Some m)
+  logs : (r : ReservationState) (l : LineState) → has c.left h ≡ false → c.reservation ≡ Some r → owed.due r h ≡ None → is_open r ≡ true → line_of h c.lines ≡ Some l → (length l.unacked == 0) ≡ false →
+      DueRow c h (Some (Log l.handler r.block (l.acked + 1) (first_entries c.batch l.unacked)))
+
+-- ---- hearing
+
+pub data HeardRow (c : ClientState) : Message → ClientState → ClientNote → Type 0 where
+  passed_over : (m : Message) → HeardRow c m c Ignored
+  is_welcomed : (h : HandlerId) → has c.left h ≡ true → HeardRow c (Welcome h c.id c.inc) (with_left c (without h c.left)) (Welcomed h)
+  takes_step : (m : Message) (r : ReservationState) → c.reservation ≡ Some r →
+      HeardRow c m (after_step c (reservation.heard r m).0 (reservation.heard r m).1).0 (after_step c (reservation.heard r m).0 (reservation.heard r m).1).1
+  is_acknowledged : (h : HandlerId) (n : ℕ) (r : ReservationState) (l : LineState) → c.reservation ≡ Some r → is_open r ≡ true → line_of h c.lines ≡ Some l → (nat_lt (logged l) n || nat_le (up_to h n c.waits) l.acked) ≡ false →
+      HeardRow c (Logged h r.block n) (settled (with_lines c (at_line h (acknowledged (up_to h n c.waits)) c.lines) c.waits)) (Acknowledged h (up_to h n c.waits))
+  is_accepted : (h : HandlerId) (n : ℕ) (a : ObjectAnswer) (r : ReservationState) → c.reservation ≡ Some r → is_open r ≡ true → c.waits ≡ Some (h, n) → HeardRow c (Answer h r.block n a) (with_lines c (at_line h (acknowledged n) c.lines) None) (Accepted h n a)
+
+-- ---- commands
+
+-- a block is under way
+abbrev pub has_block : Phase → Bool
+has_block Greeting = false
+has_block Idle = false
+has_block Locking = true
+has_block Opening = true
+has_block Running = true
+has_block Ending = true
+has_block GivingUp = true
+
+abbrev pub is_running : Phase → Bool
+is_running Greeting = false
+is_running Idle = false
+is_running Locking = false
+is_running Opening = false
+is_running Running = true
+is_running Ending = false
+is_running GivingUp = false
+
+abbrev pub is_locking : Phase → Bool
+is_locking Greeting = false
+is_locking Idle = false
+is_locking Locking = true
+is_locking Opening = false
+is_locking Running = false
+is_locking Ending = false
+is_locking GivingUp = false
+
+pub data ReserveRow (c : ClientState) (hs : List HandlerId) : Outcome → Type 0 where
+  reserve_ungreeted : phase_of c ≡ Greeting → ReserveRow c hs (Err NotGreeted)
+  reserve_busy : has_block (phase_of c) ≡ true → ReserveRow c hs (Err NotIdle)
+  reserve_spent : phase_of c ≡ Idle → (c.last == 2 ^ 32 - 1) ≡ true → ReserveRow c hs (Err Spent)
+  reserve_refused : (e : ReserveError) → phase_of c ≡ Idle → (c.last == 2 ^ 32 - 1) ≡ false → started (next_block c) hs c.handlers ≡ Err e → ReserveRow c hs (Err (NotReservable e))
+  begins_block : (r : ReservationState) → phase_of c ≡ Idle → (c.last == 2 ^ 32 - 1) ≡ false → started (next_block c) hs c.handlers ≡ Ok r → ReserveRow c hs (Ok (with_block c hs r))
+
+-- a call or a query
+pub data LogRow (c : ClientState) (h : HandlerId) (e : Entry) : Outcome → Type 0 where
+  log_ungreeted : phase_of c ≡ Greeting → LogRow c h e (Err NotGreeted)
+  log_without_block : is_running (phase_of c) ≡ false → LogRow c h e (Err NoBlock)
+  log_waiting : (w : HandlerId × ℕ) → phase_of c ≡ Running → c.waits ≡ Some w → LogRow c h e (Err (Waiting w.0))
+  log_unreserved : phase_of c ≡ Running → c.waits ≡ None → line_of h c.lines ≡ None → LogRow c h e (Err (NotReserved h))
+  log_window_full : (l : LineState) → phase_of c ≡ Running → c.waits ≡ None → line_of h c.lines ≡ Some l → is_full l ≡ true → LogRow c h e (Err (WindowFull h))
+  log_spent : (l : LineState) → phase_of c ≡ Running → c.waits ≡ None → line_of h c.lines ≡ Some l → is_full l ≡ false → nat_le (2 ^ 32 - 2) (logged l) ≡ true → LogRow c h e (Err Spent)
+  is_logged : (l : LineState) → phase_of c ≡ Running → c.waits ≡ None → line_of h c.lines ≡ Some l → is_full l ≡ false → nat_le (2 ^ 32 - 2) (logged l) ≡ false →
+      LogRow c h e (Ok (with_lines c (at_line h (with_entry e) c.lines) (waits_for h (logged l + 1) e)))
+
+pub data EndRow (c : ClientState) : Outcome → Type 0 where
+  end_ungreeted : phase_of c ≡ Greeting → EndRow c (Err NotGreeted)
+  end_without_block : is_running (phase_of c) ≡ false → EndRow c (Err NoBlock)
+  end_waiting : (w : HandlerId × ℕ) → phase_of c ≡ Running → c.waits ≡ Some w → EndRow c (Err (Waiting w.0))
+  end_window_full : (h : HandlerId) → phase_of c ≡ Running → c.waits ≡ None → lowest_full c.lines ≡ Some h → EndRow c (Err (WindowFull h))
+  ends_block : phase_of c ≡ Running → c.waits ≡ None → lowest_full c.lines ≡ None → EndRow c (Ok (with_lines c (map with_end c.lines) None))
+
+pub data GiveUpRow (c : ClientState) : Outcome → Type 0 where
+  give_up_ungreeted : phase_of c ≡ Greeting → GiveUpRow c (Err NotGreeted)
+  give_up_without_block : has_block (phase_of c) ≡ false → GiveUpRow c (Err NoBlock)
+  give_up_too_late : has_block (phase_of c) ≡ true → GiveUpRow c (Err TooLate)
+  gives_up : (r s : ReservationState) → is_locking (phase_of c) ≡ true → c.reservation ≡ Some r → given_up r ≡ Ok s → GiveUpRow c (Ok (with_reservation c s))
+
+abbrev pub CommandRow : ClientState → Command → Outcome → Type 0
+CommandRow c (Reserve hs) = ReserveRow c hs
+CommandRow c (DoCall h r) = LogRow c h (Call r)
+CommandRow c (DoQuery h r) = LogRow c h (Query r)
+CommandRow c DoEnd = EndRow c
+CommandRow c GiveUp = GiveUpRow c
