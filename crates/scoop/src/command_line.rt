@@ -28,20 +28,57 @@ pub fn command<'a>(alloc: Global) -> Result<Command<'a>, AllocError> {
         .subcommand(answer_command(alloc)?)
 }
 
+// The names of the classes.
+const CLASSES: &[&str] = &["cell", "counter", "account", "exchange"];
+
 fn answer_command<'a>(alloc: Global) -> Result<Command<'a>, AllocError> {
-    let handler = Arg::new(alloc, "handler")
+    Command::new(alloc, "answer")
+        .about("Answers the datagrams of standard input, with one line for each")
+        .long_about(
+            "Runs one handler with one object, and gives it the datagrams of standard input. Each line is one \
+            datagram in hex digits of either case; spaces are skipped. Each is answered with one line: the reply \
+            in hex digits, or `none` and what the handler did, or `refused` and why the datagram is no frame. \
+            What clients have logged is run as soon as it may run.",
+        )
+        .arg(handler_option(alloc))?
+        .arg(class_option(alloc))?
+        .arg(word_option(alloc))?
+        .arg(words_flag(alloc))
+}
+
+fn handler_option<'a>(alloc: Global) -> Arg<'a> {
+    Arg::new(alloc, "handler")
         .long("handler")
         .value_name("N")
         .help("The number of the handler")
         .action(ArgAction::Set)
         .value_parser(value_parser!(u32))
-        .default_value("1");
-    Command::new(alloc, "answer")
-        .about("Answers the datagrams of standard input, with one line for each")
-        .long_about(
-            "Runs one handler, and gives it the datagrams of standard input. Each line is one datagram in \
-            hex digits of either case; spaces are skipped. Each is answered with one line: the reply in hex \
-            digits, or `none` and what the handler did, or `refused` and why the datagram is no frame.",
-        )
-        .arg(handler)
+        .default_value("1")
+}
+
+fn class_option<'a>(alloc: Global) -> Arg<'a> {
+    Arg::new(alloc, "class")
+        .long("class")
+        .value_name("NAME")
+        .help("The class of its object")
+        .action(ArgAction::Set)
+        .value_parser(CLASSES)
+        .default_value("cell")
+}
+
+fn word_option<'a>(alloc: Global) -> Arg<'a> {
+    Arg::new(alloc, "word")
+        .long("word")
+        .value_name("W")
+        .help("The object's first word; any others are 0")
+        .action(ArgAction::Set)
+        .value_parser(value_parser!(u64))
+        .default_value("0")
+}
+
+fn words_flag<'a>(alloc: Global) -> Arg<'a> {
+    Arg::new(alloc, "words")
+        .long("words")
+        .help("Shows the object's words in decimal after the last line")
+        .action(ArgAction::SetTrue)
 }

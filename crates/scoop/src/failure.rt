@@ -4,7 +4,7 @@ use clap::Error;
 use clap::error::ErrorKind;
 use scoop_demo::RunError;
 use scoop_message::OutOfMemory;
-use std::alloc::AllocError;
+use std::alloc::{AllocError, AllocFailed};
 
 /// Why the program ends early.
 #[derive(Drop)]
@@ -63,6 +63,12 @@ impl From<OutOfMemory> for Failure {
 
 impl From<AllocError> for Failure {
     fn from(error: AllocError) -> Failure {
+        Failure::from(OutOfMemory::from(error))
+    }
+}
+
+impl<T: Drop> From<AllocFailed<T>> for Failure {
+    fn from(error: AllocFailed<T>) -> Failure {
         Failure::from(OutOfMemory::from(error))
     }
 }

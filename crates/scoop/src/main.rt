@@ -1,17 +1,13 @@
 //! The program `scoop`: SCOOP handlers, by the messages that are sent to them.
 #![tactic(auto)]
 
+mod answering;
 mod command_line;
 mod failure;
 
-use clap::ArgMatches;
+use answering::answer;
 use command_line::{command, words};
 use failure::Failure;
-use scoop_demo::answer_run;
-use scoop_handler::Handler;
-use scoop_message::{HandlerId, OutOfMemory};
-use std::io;
-use std::io::BufWriter;
 use std::process::ExitCode;
 use std::rt::Runtime;
 
@@ -30,13 +26,4 @@ fn scoop<R: Runtime + AllocGlobal>(rt: &R) -> Result<(), Failure> {
         Some(("answer", given)) => answer(rt, given),
         _ => Ok(()),
     }
-}
-
-// Answers the datagrams of standard input.
-fn answer<R: Input + Print + AllocGlobal>(rt: &R, given: &ArgMatches<'_>) -> Result<(), Failure> {
-    let number = HandlerId(given.get_one::<u32>("handler").unwrap_or(1));
-    let mut handler = Handler::new(rt.alloc(), number);
-    let mut output = BufWriter::new(rt.alloc(), io::writer(rt)).map_err(|_| OutOfMemory)?;
-    answer_run(&mut handler, rt.reader(), &mut output)?;
-    Ok(())
 }

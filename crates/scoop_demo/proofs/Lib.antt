@@ -3,4 +3,5 @@ mod LineLemmas
 mod InputLemmas
 mod HexLemmas
 mod AnswerLemmas
+mod RunningLemmas
 mod RunLemmas

@@ -4,7 +4,8 @@ use Rattle.std.specs.Prelude.{⊤}
 use Rattle.std.proofs.lemmas.List.{length_push}
 use Rattle.std.specs.Io.KnownBytes.{Appends, Keeps, IsAtEnd}
 use Rattle.std.proofs.lemmas.Bool.Decides.{nat_tests}
-use Rattle.scoop_handler.specs.State.{HandlerState}
+use Rattle.scoop_handler.specs.declared.note.Note.{Note}
+use Rattle.scoop_handler.specs.Core.{Core}
 use Rattle.scoop_demo.specs.declared.fault.InputFault.{InputFault}
 use Rattle.scoop_demo.specs.declared.fault.InputFault.TheVariants.{ReadFault}
 use Rattle.scoop_demo.specs.declared.fault.RunError.{RunError}
@@ -15,11 +16,13 @@ use Rattle.scoop_demo.specs.Answer.{WantsMemory}
 use Rattle.scoop_demo.specs.Input.{Input, TakesLine, StopsAtNext}
 use Rattle.scoop_demo.specs.Input.StopsAtNext.{read_fault as next_unread, past_limit, write_fault}
 use Rattle.hex.proofs.HexLemmas.{decode_of-same}
-use Rattle.scoop_demo.specs.Run.{Prints, AnswersLine, AnswersLines, AnswersAll, BeginsWithLines, WritesAnswer, StopsInLine, StopsBehind, StopsEarly, fault_of, first_fault}
+use Rattle.scoop_demo.specs.Run.{Prints, HearsLine, AnswersLine, AnswersLines, AnswersAll, BeginsWithLines, WritesAnswer, StopsInLine, StopsBehind, StopsEarly, fault_of, first_fault}
+use Rattle.scoop_demo.specs.Running.{RunsBehind}
 use Rattle.scoop_demo.specs.Run.StopsInLine.{in_digits, in_memory, in_output}
 use Rattle.scoop_demo.specs.Run.StopsBehind.{read_fault, line_fault, no_memory}
-use Rattle.scoop_demo.specs.Run.StopsEarly.{at_line, at_output}
+use Rattle.scoop_demo.specs.Run.StopsEarly.{at_line, at_output, at_answer}
 use Rattle.scoop_demo.proofs.InputLemmas.{begins_with}
+use Rattle.scoop_demo.proofs.RunningLemmas.{behind_same}
 
 -- ---- known bytes
 
@@ -87,13 +90,13 @@ pub digits_fault : (number : ℕ) (line : List ℕ) (fault : Option InputFault) 
 digits_fault number line fault none found = ap (λ f. first_fault f (hex_fault line)) none ∙ found
 
 -- one line more has its answer
-answers_more : (number : ℕ) (first mid last : HandlerState) (lines : List (List ℕ)) (text line answer : List ℕ) → AnswersLines number first lines mid text
+answers_more : (number : ℕ) (first mid last : Core) (lines : List (List ℕ)) (text line answer : List ℕ) → AnswersLines number first lines mid text
     → AnswersLine (number + length lines) mid line last answer → AnswersLines number first (lines ++ line ∷ []) last (text ++ (answer ++ 10 ∷ []))
 answers_more number first mid last [] text line answer a l =
     let here : AnswersLine number first line last answer =
     (let at : number + 0 ≡ number = omega arith in
     let P : ℕ → Type 0 = λ n. AnswersLine n first line last answer in
-    let Q : HandlerState → Type 0 = λ s. AnswersLine (number + 0) s line last answer in
+    let Q : Core → Type 0 = λ s. AnswersLine (number + 0) s line last answer in
     subst P at (subst Q a.0 l)) in
     (last, answer, [], here, (refl, refl), ap (λ v. v ++ (answer ++ 10 ∷ [])) a.1)
 answers_more number first mid last (x ∷ xs) text line answer a l =
@@ -108,22 +111,32 @@ answers_more number first mid last (x ∷ xs) text line answer a l =
 same_datagram : (line d e : List ℕ) → StandsFor line d → StandsFor line e → e ≡ d
 same_datagram line d e s t = decode_of-same (digits_of line) e d t s
 
--- lines have one answer
-pub answers_only : (number : ℕ) (old new : HandlerState) (lines : List (List ℕ)) (text : List ℕ) → AnswersLines number old lines new text
-    → (other_state : HandlerState) (other_text : List ℕ) → AnswersLines number old lines other_state other_text → (other_state ≡ new) × (other_text ≡ text)
-answers_only number old new [] text a state other b = (b.0 ∙ sym a.0, b.1 ∙ sym a.1)
-answers_only number old new (line ∷ lines) text a state other b =
-    let datagram = same_datagram line a.3.datagram b.3.datagram a.3.stands b.3.stands in
-    let P : List ℕ → Type 0 = λ d. Prints old d b.0 b.1 in
-    let first = a.3.only.same b.0 b.1 (subst P datagram b.3.prints) in
-    let Q : HandlerState → Type 0 = λ s. AnswersLines (number + 1) s lines state b.2 in
-    let rest = answers_only (number + 1) a.0 new lines a.2 a.4 state b.2 (subst Q first.0 b.4) in
+-- a line has one answer
+answer_only : (number : ℕ) (old new : Core) (line text : List ℕ) → AnswersLine number old line new text
+    → (other : Core) (other_text : List ℕ) → AnswersLine number old line other other_text → (other ≡ new) × (other_text ≡ text)
+answer_only number old new line text a other other_text b =
+    let datagram = same_datagram line a.hears.datagram b.hears.datagram a.hears.stands b.hears.stands in
+    let P : List ℕ → Type 0 = λ d. Prints old d b.heard b.note other_text in
+    let first = a.hears.only.same b.heard b.note other_text (subst P datagram b.hears.prints) in
+    let Q : Option Note → Type 0 = λ n. RunsBehind n b.heard other in
+    let R : Core → Type 0 = λ c. RunsBehind a.note c other in
+    let behind = subst R first.0 (subst Q first.1 b.runs) in
+    (behind_same a.note a.heard new other a.runs behind, first.2)
+
+-- so have lines
+pub answers_only : (number : ℕ) (old new : Core) (lines : List (List ℕ)) (text : List ℕ) → AnswersLines number old lines new text
+    → (other : Core) (other_text : List ℕ) → AnswersLines number old lines other other_text → (other ≡ new) × (other_text ≡ text)
+answers_only number old new [] text a other t b = (b.0 ∙ sym a.0, b.1 ∙ sym a.1)
+answers_only number old new (line ∷ lines) text a other t b =
+    let first = answer_only number old a.0 line a.1 a.3 b.0 b.1 b.3 in
+    let P : Core → Type 0 = λ c. AnswersLines (number + 1) c lines other b.2 in
+    let rest = answers_only (number + 1) a.0 new lines a.2 a.4 other b.2 (subst P first.0 b.4) in
     (rest.0, b.5 ∙ ap (λ x. x ++ 10 ∷ b.2) first.1 ∙ ap (λ x. a.1 ++ 10 ∷ x) rest.1 ∙ sym a.5)
 
 -- ---- a run
 
 -- the lines that were taken have their answers
-pub record Progress (input : Option (List ℕ)) (lines : Input) (first last : HandlerState) (before after : Option (List ℕ)) : Type 0 where
+pub record Progress (input : Option (List ℕ)) (lines : Input) (first last : Core) (before after : Option (List ℕ)) : Type 0 where
   pub taken : List (List ℕ)
   pub text : List ℕ
   pub count : length taken ≡ lines.taken
@@ -132,7 +145,7 @@ pub record Progress (input : Option (List ℕ)) (lines : Input) (first last : Ha
   pub writes : Appends before after text
   pub splits : Splits input taken lines.left
 
-pub progress_none : (input before : Option (List ℕ)) (s : HandlerState) → Progress input (record { taken = 0; left = input }) s s before before
+pub progress_none : (input before : Option (List ℕ)) (s : Core) → Progress input (record { taken = 0; left = input }) s s before before
 progress_none input before s = record {
   taken = [];
   text = [];
@@ -146,7 +159,7 @@ progress_none input before s = record {
 few_lines : (number : ℕ) (line : List ℕ) → limit_fault number line ≡ None → number ≤ count_limit
 few_lines number line none = grind (arith, nat_tests)
 
-answers_next : {input : Option (List ℕ)} {lines next : Input} {first mid last : HandlerState} {before after : Option (List ℕ)} {line : List ℕ} (text : List ℕ)
+answers_next : {input : Option (List ℕ)} {lines next : Input} {first mid last : Core} {before after : Option (List ℕ)} {line : List ℕ} (text : List ℕ)
     (p : Progress input lines first mid before after) → TakesLine lines line next → AnswersLine next.taken mid line last text
     → AnswersLines 1 first (p.taken ++ line ∷ []) last (p.text ++ (text ++ 10 ∷ []))
 answers_next {next = next} {first = first} {mid = mid} {last = last} {line = line} text p t a =
@@ -155,7 +168,7 @@ answers_next {next = next} {first = first} {mid = mid} {last = last} {line = lin
     answers_more 1 first mid last p.taken p.text line text p.answers (subst P at a)
 
 -- a line was taken, and has its answer
-pub progress_more : {input : Option (List ℕ)} {lines next : Input} {first mid last : HandlerState} {before after kept more : Option (List ℕ)} (line : List ℕ)
+pub progress_more : {input : Option (List ℕ)} {lines next : Input} {first mid last : Core} {before after kept more : Option (List ℕ)} (line : List ℕ)
     → Progress input lines first mid before after → TakesLine lines line next → Keeps after kept → WritesAnswer next.taken mid line last kept more
     → Progress input next first last before more
 progress_more {next = next} line p t k w = record {
@@ -169,19 +182,19 @@ progress_more {next = next} line p t k w = record {
 }
 
 -- the input is at its end
-pub progress_all : {input : Option (List ℕ)} {lines : Input} {first last : HandlerState} {before after kept : Option (List ℕ)}
-    → Progress input lines first last before after → IsAtEnd lines.left → Keeps after kept → AnswersAll input first last before kept
-progress_all p e k = record {
+pub progress_all : {input : Option (List ℕ)} {lines : Input} {first last : Core} {before after kept : Option (List ℕ)}
+    → Progress input lines first last before after → IsAtEnd lines.left → Keeps after kept → AnswersAll input first last [] before kept
+progress_all {before = before} {kept = kept} p e k = record {
   lines = p.taken;
   text = p.text;
   answers = p.answers;
-  writes = appends_keeps _ _ _ _ p.writes k;
+  writes = subst (λ v. Appends before kept v) (sym (append-nil p.text)) (appends_keeps _ _ _ _ p.writes k);
   all = splits_all _ _ p.taken p.splits e;
   only = answers_only 1 _ _ p.taken p.text p.answers;
 }
 
 -- the next line could not be taken
-pub progress_stops : {input : Option (List ℕ)} {lines : Input} {first last : HandlerState} {before after kept : Option (List ℕ)} (e : RunError)
+pub progress_stops : {input : Option (List ℕ)} {lines : Input} {first last : Core} {before after kept : Option (List ℕ)} (e : RunError)
     → Progress input lines first last before after → StopsAtNext lines e → Keeps after kept → StopsEarly input first last before kept e
 progress_stops {input = input} {last = last} e p next_unread k =
     let P : ℕ → Type 0 = λ n. StopsBehind input p.taken last (InputError (n + 1) ReadFault) in
@@ -193,20 +206,20 @@ progress_stops {input = input} {lines = lines} {last = last} e p (past_limit {fa
     at_line p.taken p.text p.answers (appends_keeps _ _ _ _ p.writes k) (subst P p.count stops b.found)
 progress_stops e p write_fault k = at_output p.taken p.text p.answers (splits_first _ _ p.taken p.splits)
 
-next_number : {input : Option (List ℕ)} {lines next : Input} {first mid : HandlerState} {before after : Option (List ℕ)} {line : List ℕ}
+next_number : {input : Option (List ℕ)} {lines next : Input} {first mid : Core} {before after : Option (List ℕ)} {line : List ℕ}
     (p : Progress input lines first mid before after) → TakesLine lines line next → next.taken ≡ length p.taken + 1
 next_number p t = omega (arith, t.count, p.count)
 
-goes_on : {input : Option (List ℕ)} {lines next : Input} {first mid : HandlerState} {before after : Option (List ℕ)} {line : List ℕ}
+goes_on : {input : Option (List ℕ)} {lines next : Input} {first mid : Core} {before after : Option (List ℕ)} {line : List ℕ}
     (p : Progress input lines first mid before after) → TakesLine lines line next → BeginsWithLines input (p.taken ++ line ∷ [])
 goes_on {line = line} p t = splits_next _ _ p.taken line p.splits (begins_with _ _ line t.bytes)
 
-answers_same : {input : Option (List ℕ)} {lines : Input} {first mid last : HandlerState} {before after : Option (List ℕ)} → last ≡ mid
+answers_same : {input : Option (List ℕ)} {lines : Input} {first mid last : Core} {before after : Option (List ℕ)} → last ≡ mid
     → (p : Progress input lines first mid before after) → AnswersLines 1 first p.taken last p.text
-answers_same {first = first} same p = let P : HandlerState → Type 0 = λ s. AnswersLines 1 first p.taken s p.text in subst P (sym same) p.answers
+answers_same {first = first} same p = let P : Core → Type 0 = λ s. AnswersLines 1 first p.taken s p.text in subst P (sym same) p.answers
 
 -- the line that was taken has no answer
-pub progress_stops_in : {input : Option (List ℕ)} {lines next : Input} {first mid last : HandlerState} {before after kept more : Option (List ℕ)} (e : RunError) (line : List ℕ)
+pub progress_stops_in : {input : Option (List ℕ)} {lines next : Input} {first mid last : Core} {before after kept more : Option (List ℕ)} (e : RunError) (line : List ℕ)
     → Progress input lines first mid before after → TakesLine lines line next → Keeps after kept → StopsInLine next.taken mid line last kept more e
     → StopsEarly input first last before more e
 progress_stops_in {input = input} {last = last} e line p t k (in_digits {fault} found same kept) =
@@ -215,33 +228,42 @@ progress_stops_in {input = input} {last = last} e line p t k (in_digits {fault} 
     at_line p.taken p.text (answers_same same p) (appends_keeps _ _ _ _ (appends_keeps _ _ _ _ p.writes k) kept) (subst P (sym (next_number p t)) stops found)
 progress_stops_in {input = input} {last = last} e line p t k (in_memory datagram none stands wants same kept) =
     let P : ℕ → Type 0 = λ n. fault_of n line ≡ None in
-    let Q : HandlerState → Type 0 = λ s. WantsMemory s datagram in
+    let Q : Core → Type 0 = λ s. WantsMemory s datagram in
     let stops : StopsBehind input p.taken last OutOfMemory =
     no_memory line datagram (subst P (next_number p t) none) stands (subst Q (sym same) wants) (goes_on p t) in
     at_line p.taken p.text (answers_same same p) (appends_keeps _ _ _ _ (appends_keeps _ _ _ _ p.writes k) kept) stops
-progress_stops_in e line p t k (in_output text answer) =
-    let done = answers_next text p t answer in
-    at_output (p.taken ++ line ∷ []) (p.text ++ (text ++ 10 ∷ [])) done (splits_first _ _ (p.taken ++ line ∷ []) (splits_more _ _ _ _ _ p.splits t.bytes))
+progress_stops_in {mid = mid} {last = last} e line p t k (in_output note text hears) =
+    let P : ℕ → Type 0 = λ n. HearsLine n mid line last note text in
+    at_answer p.taken p.text mid line note text p.answers (subst P (next_number p t) hears) (goes_on p t)
 
 -- the writer is flushed behind a run that stopped early
-flushed : (input : Option (List ℕ)) (first last : HandlerState) (before after kept : Option (List ℕ)) (e : RunError) → StopsEarly input first last before after e
+flushed : (input : Option (List ℕ)) (first last : Core) (before after kept : Option (List ℕ)) (e : RunError) → StopsEarly input first last before after e
     → Keeps after kept → StopsEarly input first last before kept e
 flushed input first last before after kept e (at_line lines text a w s) k = at_line lines text a (appends_keeps _ _ _ _ w k) s
 flushed input first last before after kept e (at_output lines text a b) k = at_output lines text a b
+flushed input first last before after kept e (at_answer lines text mid line note answer a h b) k = at_answer lines text mid line note answer a h b
 
-pub stops_flushed : (r : Result Unit RunError) (input : Option (List ℕ)) (first last : HandlerState) (before after kept : Option (List ℕ))
+pub stops_flushed : (r : Result Unit RunError) (input : Option (List ℕ)) (first last : Core) (before after kept : Option (List ℕ))
     → IfErr r (StopsEarly input first last before after) → Keeps after kept → IfErr r (StopsEarly input first last before kept)
 stops_flushed (Ok u) input first last before after kept s k = tt
 stops_flushed (Err e) input first last before after kept s k = flushed input first last before after kept e s k
 
 -- the writer is flushed behind a whole run
-pub all_flushed : (r : Result Unit RunError) (input : Option (List ℕ)) (first last : HandlerState) (before after kept : Option (List ℕ))
-    → OnOk r (AnswersAll input first last before after) → Keeps after kept → OnOk r (AnswersAll input first last before kept)
-all_flushed (Ok u) input first last before after kept a k =
+pub all_flushed : (r : Result Unit RunError) (input : Option (List ℕ)) (first last : Core) (shown : List ℕ) (before after kept : Option (List ℕ))
+    → OnOk r (AnswersAll input first last shown before after) → Keeps after kept → OnOk r (AnswersAll input first last shown before kept)
+all_flushed (Ok u) input first last shown before after kept a k =
     record { lines = a.lines; text = a.text; answers = a.answers; writes = appends_keeps _ _ _ _ a.writes k; all = a.all; only = a.only }
-all_flushed (Err e) input first last before after kept a k = tt
+all_flushed (Err e) input first last shown before after kept a k = tt
+
+-- what is shown is written behind the answers
+pub all_shown : (input : Option (List ℕ)) (first last : Core) (shown : List ℕ) (before after more : Option (List ℕ)) → AnswersAll input first last [] before after
+    → Appends after more shown → AnswersAll input first last shown before more
+all_shown input first last shown before after more a w =
+    let P : List ℕ → Type 0 = λ v. Appends before more (v ++ shown) in
+    let writes = subst P (append-nil a.text) (appends_more _ _ _ _ _ a.writes w) in
+    record { lines = a.lines; text = a.text; answers = a.answers; writes = writes; all = a.all; only = a.only }
 
 -- all lines have their answers, but the writer may have lost some
-pub all_but_output : (input : Option (List ℕ)) (first last : HandlerState) (before after kept : Option (List ℕ)) → AnswersAll input first last before after
-    → StopsEarly input first last before kept Write
-all_but_output input first last before after kept a = at_output a.lines a.text a.answers (all_begin input a.lines a.all)
+pub all_but_output : (input : Option (List ℕ)) (first last : Core) (shown : List ℕ) (before after kept : Option (List ℕ))
+    → AnswersAll input first last shown before after → StopsEarly input first last before kept Write
+all_but_output input first last shown before after kept a = at_output a.lines a.text a.answers (all_begin input a.lines a.all)

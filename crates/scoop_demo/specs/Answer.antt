@@ -16,7 +16,7 @@ use Rattle.scoop_handler.specs.declared.note.Heard.{Heard}
 use Rattle.scoop_handler.specs.declared.note.Note.{Note}
 use Rattle.scoop_handler.specs.declared.note.Note.TheVariants.{Dropped}
 use Rattle.scoop_handler.specs.declared.note.Reason.{Reason}
-use Rattle.scoop_handler.specs.State.{HandlerState}
+use Rattle.scoop_handler.specs.Core.{Core, with_state}
 use Rattle.scoop_handler.specs.Hearing.{hear}
 use Rattle.scoop_handler.specs.Locking.{HolderMoves}
 use Rattle.scoop_handler.specs.Memory.{TakesMemory}
@@ -37,18 +37,19 @@ answered_of v None note = Silent note
 answered_of v (Some reply) note = Reply (length (frame v reply)) note
 
 -- bytes that are no frame change nothing
-pub record IsRefused (old : HandlerState) (datagram : List ℕ) (new : HandlerState) (e : FrameError) : Type 0 where
+pub record IsRefused (old : Core) (datagram : List ℕ) (new : Core) (e : FrameError) : Type 0 where
   pub first_fault : IsFirstFault e datagram
   pub same : new ≡ old
 
 -- the datagram is the frame of a message, which the handler has heard
-pub record IsHeard (old : HandlerState) (datagram : List ℕ) (new : HandlerState) (v : Version) (heard : Heard) : Type 0 where
+pub record IsHeard (old : Core) (datagram : List ℕ) (new : Core) (v : Version) (heard : Heard) : Type 0 where
   pub message : Message
   pub carried : IsFrame v message datagram
-  pub hears : hear old message ≡ (new, heard)
+  pub hears : hear old.state message ≡ (new.state, heard)
+  pub stays : new ≡ with_state new.state old
 
 -- the answer to a frame, and the buffer with the frame of the reply at its front
-pub record AnswersFrame (old : HandlerState) (datagram : List ℕ) (new : HandlerState) (answered : Answered) (buffer out : List ℕ) : Type 0 where
+pub record AnswersFrame (old : Core) (datagram : List ℕ) (new : Core) (answered : Answered) (buffer out : List ℕ) : Type 0 where
   pub version : Version
   pub heard : Heard
   pub is_heard : IsHeard old datagram new version heard
@@ -56,30 +57,30 @@ pub record AnswersFrame (old : HandlerState) (datagram : List ℕ) (new : Handle
   pub bytes : out ≡ written (frame_of version heard.reply) buffer
 
 -- the answer to bytes that are no frame
-pub record AnswersRefused (old : HandlerState) (datagram : List ℕ) (new : HandlerState) (answered : Answered) (buffer out : List ℕ) : Type 0 where
+pub record AnswersRefused (old : Core) (datagram : List ℕ) (new : Core) (answered : Answered) (buffer out : List ℕ) : Type 0 where
   pub error : FrameError
   pub is_refused : IsRefused old datagram new error
   pub answer : answered ≡ RefusedFrame error
   pub bytes : out ≡ buffer
 
-abbrev pub AnswersDatagram : HandlerState → List ℕ → HandlerState → Answered → List ℕ → List ℕ → Type 0
+abbrev pub AnswersDatagram : Core → List ℕ → Core → Answered → List ℕ → List ℕ → Type 0
 AnswersDatagram old datagram new answered buffer out =
     AnswersRefused old datagram new answered buffer out ⊎ AnswersFrame old datagram new answered buffer out
 
 -- the datagram is the frame of a message that takes memory
-pub record WantsMemory (s : HandlerState) (datagram : List ℕ) : Type 0 where
+pub record WantsMemory (c : Core) (datagram : List ℕ) : Type 0 where
   pub version : Version
   pub message : Message
   pub carried : IsFrame version message datagram
-  pub takes : TakesMemory s message
+  pub takes : TakesMemory c.state message
 
 -- ---- what the lock's users rely on
 
 -- where a Locked is answered, its block holds the lock afterwards
-abbrev pub ConfirmsHolder : Answered → List ℕ → HandlerState → Type 0
+abbrev pub ConfirmsHolder : Answered → List ℕ → Core → Type 0
 ConfirmsHolder (Reply n note) out new =
     (v : Version) × (reply : Message) × (take n out ≡ frame v reply)
-    × ((h : HandlerId) (b : Block) → reply ≡ Locked h b → new.holder ≡ Some b)
+    × ((h : HandlerId) (b : Block) → reply ≡ Locked h b → new.state.holder ≡ Some b)
 ConfirmsHolder (Silent note) out new = ⊤
 ConfirmsHolder (RefusedFrame e) out new = ⊤
 
@@ -91,7 +92,7 @@ pub record MovesHolder (old : Option Block) (datagram : List ℕ) (new : Option 
   pub moves : HolderMoves old message new
 
 -- a refused frame and a dropped message change nothing, and a dropped message has no reply
-abbrev pub LeavesState : HandlerState → HandlerState → Answered → Type 0
+abbrev pub LeavesState : Core → Core → Answered → Type 0
 LeavesState old new (Reply n note) = (why : Reason) → note ≡ Dropped why → ⊥
 LeavesState old new (Silent note) = (why : Reason) → note ≡ Dropped why → new ≡ old
 LeavesState old new (RefusedFrame e) = new ≡ old
@@ -108,3 +109,9 @@ abbrev pub line_of : Answered → List ℕ → List ℕ
 line_of (Reply n note) out = encode_lower (take n out)
 line_of (Silent note) out = codes "none " ++ note_text note
 line_of (RefusedFrame e) out = codes "refused " ++ error_text e
+
+-- what the handler did with a frame
+abbrev pub note_of : Answered → Option Note
+note_of (Reply n note) = Some note
+note_of (Silent note) = Some note
+note_of (RefusedFrame e) = None

@@ -1,5 +1,6 @@
 -- What a run over the lines of an input writes.
-use Rattle.std.specs.Prelude.{◌≡◌, ◌⊎◌, ℕ, ◌+◌, List, [], ◌∷◌, ◌++◌, length, codes, Option, Some, None, IfSome}
+use Rattle.std.specs.Prelude.{◌≡◌, ◌⊎◌, ℕ, Bool, true, false, ◌+◌, List, [], ◌∷◌, ◌++◌, length, codes, Option, Some, None, IfSome}
+use Rattle.std.specs.Fmt.{decimal}
 use Rattle.std.specs.Io.KnownBytes.{Appends, Keeps}
 use Rattle.hex.specs.Hex.{encode_lower}
 use Rattle.scoop_message.specs.declared.message.Message.{Message}
@@ -9,7 +10,7 @@ use Rattle.scoop_frame.specs.Frame.{frame}
 use Rattle.scoop_frame.specs.Text.{error_text}
 use Rattle.scoop_handler.specs.declared.note.Heard.{Heard}
 use Rattle.scoop_handler.specs.declared.note.Note.{Note}
-use Rattle.scoop_handler.specs.State.{HandlerState}
+use Rattle.scoop_handler.specs.Core.{Core}
 use Rattle.scoop_handler.specs.Text.{note_text}
 use Rattle.scoop_demo.specs.declared.fault.InputFault.{InputFault}
 use Rattle.scoop_demo.specs.declared.fault.InputFault.TheVariants.{ReadFault}
@@ -18,6 +19,7 @@ use Rattle.scoop_demo.specs.declared.fault.RunError.TheVariants.{Input, Write, O
 use Rattle.scoop_demo.specs.Line.{lines_of, limit_fault}
 use Rattle.scoop_demo.specs.Hex.{hex_fault, StandsFor}
 use Rattle.scoop_demo.specs.Answer.{IsRefused, IsHeard, WantsMemory}
+use Rattle.scoop_demo.specs.Running.{RunsBehind}
 
 -- ---- one line
 
@@ -34,56 +36,80 @@ abbrev pub text_of : Version → Option Message → Note → List ℕ
 text_of v None note = codes "none " ++ note_text note
 text_of v (Some reply) note = encode_lower (frame v reply)
 
-pub record PrintsRefused (old : HandlerState) (datagram : List ℕ) (new : HandlerState) (text : List ℕ) : Type 0 where
+pub record PrintsRefused (old : Core) (datagram : List ℕ) (new : Core) (note : Option Note) (text : List ℕ) : Type 0 where
   pub error : FrameError
   pub is_refused : IsRefused old datagram new error
+  pub note_is : note ≡ None
   pub is : text ≡ codes "refused " ++ error_text error
 
-pub record PrintsHeard (old : HandlerState) (datagram : List ℕ) (new : HandlerState) (text : List ℕ) : Type 0 where
+pub record PrintsHeard (old : Core) (datagram : List ℕ) (new : Core) (note : Option Note) (text : List ℕ) : Type 0 where
   pub version : Version
   pub heard : Heard
   pub is_heard : IsHeard old datagram new version heard
+  pub note_is : note ≡ Some heard.note
   pub is : text ≡ text_of version heard.reply heard.note
 
--- the text of the answer to a datagram
-abbrev pub Prints : HandlerState → List ℕ → HandlerState → List ℕ → Type 0
-Prints old datagram new text = PrintsRefused old datagram new text ⊎ PrintsHeard old datagram new text
+-- the handler once it has heard a datagram, its note, and the text of the answer
+abbrev pub Prints : Core → List ℕ → Core → Option Note → List ℕ → Type 0
+Prints old datagram new note text = PrintsRefused old datagram new note text ⊎ PrintsHeard old datagram new note text
 
--- no other state and no other text answer the datagram
-pub record PrintsOnly (old : HandlerState) (datagram : List ℕ) (new : HandlerState) (text : List ℕ) : Type 0 where
-  pub same : (other_state : HandlerState) (other_text : List ℕ) → Prints old datagram other_state other_text → (other_state ≡ new) × (other_text ≡ text)
+-- no other state, note or text answer the datagram
+pub record PrintsOnly (old : Core) (datagram : List ℕ) (new : Core) (note : Option Note) (text : List ℕ) : Type 0 where
+  pub same : (c : Core) (n : Option Note) (t : List ℕ) → Prints old datagram c n t → (c ≡ new) × (n ≡ note) × (t ≡ text)
 
--- the line of this number has no fault, and this is the answer to its datagram
-pub record AnswersLine (number : ℕ) (old : HandlerState) (line : List ℕ) (new : HandlerState) (text : List ℕ) : Type 0 where
+-- the line of this number has no fault, the handler has heard its datagram, and this is the answer
+pub record HearsLine (number : ℕ) (old : Core) (line : List ℕ) (new : Core) (note : Option Note) (text : List ℕ) : Type 0 where
   pub faultless : fault_of number line ≡ None
   pub datagram : List ℕ
   pub stands : StandsFor line datagram
-  pub prints : Prints old datagram new text
-  pub only : PrintsOnly old datagram new text
+  pub prints : Prints old datagram new note text
+  pub only : PrintsOnly old datagram new note text
+
+-- and then the handler has run what can run
+pub record AnswersLine (number : ℕ) (old : Core) (line : List ℕ) (new : Core) (text : List ℕ) : Type 0 where
+  pub heard : Core
+  pub note : Option Note
+  pub hears : HearsLine number old line heard note text
+  pub runs : RunsBehind note heard new
 
 -- this is the answer, and the writer has gained it and a newline
-pub record WritesAnswer (number : ℕ) (old : HandlerState) (line : List ℕ) (new : HandlerState) (before after : Option (List ℕ)) : Type 0 where
+pub record WritesAnswer (number : ℕ) (old : Core) (line : List ℕ) (new : Core) (before after : Option (List ℕ)) : Type 0 where
   pub text : List ℕ
   pub answers : AnswersLine number old line new text
   pub writes : Appends before after (text ++ 10 ∷ [])
 
 -- why a line within the limits has no answer: its digits have a fault, or its datagram takes memory that was
--- refused, and nothing has changed; or the output failed
-pub data StopsInLine (number : ℕ) (old : HandlerState) (line : List ℕ) (new : HandlerState) (before after : Option (List ℕ)) : RunError → Type 0 where
+-- refused, and nothing has changed; or the output failed, and the handler has heard the datagram but not run
+pub data StopsInLine (number : ℕ) (old : Core) (line : List ℕ) (new : Core) (before after : Option (List ℕ)) : RunError → Type 0 where
   in_digits : {fault : InputFault} → fault_of number line ≡ Some fault → new ≡ old → Keeps before after
       → StopsInLine number old line new before after (Input number fault)
   in_memory : (datagram : List ℕ) → fault_of number line ≡ None → StandsFor line datagram → WantsMemory old datagram → new ≡ old → Keeps before after
       → StopsInLine number old line new before after OutOfMemory
-  in_output : (text : List ℕ) → AnswersLine number old line new text → StopsInLine number old line new before after Write
+  in_output : (note : Option Note) (text : List ℕ) → HearsLine number old line new note text → StopsInLine number old line new before after Write
 
 -- ---- several lines
 
 -- the first of these lines has this number, and the text has one line for each of them
-abbrev pub AnswersLines : ℕ → HandlerState → List (List ℕ) → HandlerState → List ℕ → Type 0
+abbrev pub AnswersLines : ℕ → Core → List (List ℕ) → Core → List ℕ → Type 0
 AnswersLines number old [] new text = (new ≡ old) × (text ≡ [])
 AnswersLines number old (line ∷ lines) new text =
-    (next : HandlerState) × (answer rest : List ℕ) × AnswersLine number old line next answer × AnswersLines (number + 1) next lines new rest
+    (next : Core) × (answer rest : List ℕ) × AnswersLine number old line next answer × AnswersLines (number + 1) next lines new rest
     × (text ≡ answer ++ 10 ∷ rest)
+
+-- ---- the words behind the last line
+
+-- numbers in decimal, with a space before each
+abbrev pub numbers_text : List ℕ → List ℕ
+numbers_text [] = []
+numbers_text (n ∷ ns) = 32 ∷ decimal n ++ numbers_text ns
+
+abbrev pub words_text : List ℕ → List ℕ
+words_text words = codes "words" ++ numbers_text words
+
+-- the line of the words, where it is asked for
+abbrev pub words_line : Bool → List ℕ → List ℕ
+words_line false words = []
+words_line true words = words_text words ++ 10 ∷ []
 
 -- ---- a whole run
 
@@ -91,28 +117,32 @@ AnswersLines number old (line ∷ lines) new text =
 abbrev pub BeginsWithLines : Option (List ℕ) → List (List ℕ) → Type 0
 BeginsWithLines input lines = IfSome input (λ bytes. (rest : List (List ℕ)) × (lines_of bytes ≡ lines ++ rest))
 
--- the handler has answered all lines of the input, and the writer has gained the answers
-pub record AnswersAll (input : Option (List ℕ)) (old new : HandlerState) (before after : Option (List ℕ)) : Type 0 where
+-- the handler has answered all lines of the input, and the writer has gained the answers and what is shown
+-- behind them
+pub record AnswersAll (input : Option (List ℕ)) (old new : Core) (shown : List ℕ) (before after : Option (List ℕ)) : Type 0 where
   pub lines : List (List ℕ)
   pub text : List ℕ
   pub answers : AnswersLines 1 old lines new text
-  pub writes : Appends before after text
+  pub writes : Appends before after (text ++ shown)
   pub all : IfSome input (λ bytes. lines_of bytes ≡ lines)
-  pub only : (other_state : HandlerState) (other_text : List ℕ) → AnswersLines 1 old lines other_state other_text → (other_state ≡ new) × (other_text ≡ text)
+  pub only : (other : Core) (other_text : List ℕ) → AnswersLines 1 old lines other other_text → (other ≡ new) × (other_text ≡ text)
 
 -- why a run stops at the line behind these: the input can't be read, the line has a fault, or its datagram
 -- takes memory that was refused
-pub data StopsBehind (input : Option (List ℕ)) (lines : List (List ℕ)) (s : HandlerState) : RunError → Type 0 where
-  read_fault : BeginsWithLines input lines → StopsBehind input lines s (Input (length lines + 1) ReadFault)
+pub data StopsBehind (input : Option (List ℕ)) (lines : List (List ℕ)) (c : Core) : RunError → Type 0 where
+  read_fault : BeginsWithLines input lines → StopsBehind input lines c (Input (length lines + 1) ReadFault)
   line_fault : {fault : InputFault} (line : List ℕ) → fault_of (length lines + 1) line ≡ Some fault → BeginsWithLines input (lines ++ line ∷ [])
-      → StopsBehind input lines s (Input (length lines + 1) fault)
-  no_memory : (line datagram : List ℕ) → fault_of (length lines + 1) line ≡ None → StandsFor line datagram → WantsMemory s datagram
-      → BeginsWithLines input (lines ++ line ∷ []) → StopsBehind input lines s OutOfMemory
+      → StopsBehind input lines c (Input (length lines + 1) fault)
+  no_memory : (line datagram : List ℕ) → fault_of (length lines + 1) line ≡ None → StandsFor line datagram → WantsMemory c datagram
+      → BeginsWithLines input (lines ++ line ∷ []) → StopsBehind input lines c OutOfMemory
 
 -- a run that stopped early: the handler has answered the lines before that one, and the writer has gained
--- their answers. Where the output failed, some of the answers may be lost
-pub data StopsEarly (input : Option (List ℕ)) (old new : HandlerState) (before after : Option (List ℕ)) : RunError → Type 0 where
+-- their answers and no more. Where the output failed, some of the answers may be lost, and the handler may have
+-- heard one more line, for which it has not run
+pub data StopsEarly (input : Option (List ℕ)) (old new : Core) (before after : Option (List ℕ)) : RunError → Type 0 where
   at_line : {e : RunError} (lines : List (List ℕ)) (text : List ℕ) → AnswersLines 1 old lines new text → Appends before after text
       → StopsBehind input lines new e → StopsEarly input old new before after e
   at_output : (lines : List (List ℕ)) (text : List ℕ) → AnswersLines 1 old lines new text → BeginsWithLines input lines
       → StopsEarly input old new before after Write
+  at_answer : (lines : List (List ℕ)) (text : List ℕ) (mid : Core) (line : List ℕ) (note : Option Note) (answer : List ℕ) → AnswersLines 1 old lines mid text
+      → HearsLine (length lines + 1) mid line new note answer → BeginsWithLines input (lines ++ line ∷ []) → StopsEarly input old new before after Write

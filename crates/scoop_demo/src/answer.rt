@@ -1,13 +1,15 @@
 //! One handler that answers datagrams.
 
 ghost use Rattle.std.specs.Prelude.{◌≡◌, ◌≢◌, IfOk, IsErr, OnErr};
-ghost use Rattle.scoop_demo.specs.Answer.{AnswersDatagram, WantsMemory, ConfirmsHolder, MovesHolder, LeavesState, IsShort, line_of};
+ghost use Rattle.scoop_demo.specs.Answer.{AnswersDatagram, WantsMemory, ConfirmsHolder, MovesHolder, LeavesState, IsShort, line_of, note_of};
+ghost use Rattle.scoop_demo.specs.Running.{RunsDry, runs_after, runs_next};
 ghost use Rattle.scoop_demo.specs.Run.{PrintsOnly};
 
 use scoop_frame::{FrameError, decode, encode};
 use scoop_handler::{Handler, Heard, Note};
 use scoop_message::OutOfMemory;
 use scoop_message::limits::BUFFER_LEN;
+use scoop_object::Behaviour;
 use std::alloc::Allocator;
 
 /// What a handler did with a datagram.
@@ -21,27 +23,47 @@ pub enum Answered {
     RefusedFrame(FrameError),
 }
 
+impl Answered {
+    /// Whether something may have become ready to run: after `Greeted`, `Took` and `Known`.
+    pub fn runs_next(self) -> bool
+        ensures { result ≡ runs_next (note_of self) }
+    {
+        match self {
+            Answered::Reply(_, note) => runs_after(note),
+            Answered::Silent(note) => runs_after(note),
+            Answered::RefusedFrame(_) => false,
+        }
+    }
+}
+
+fn runs_after(note: Note) -> bool
+    ensures { result ≡ runs_after note }
+{
+    matches!(note, Note::Greeted | Note::Took(_) | Note::Known)
+}
+
 /// Gives a datagram to a handler. The frame of the reply, in the version of the datagram, is written to
 /// the front of the buffer.
 ///
 /// `OutOfMemory` comes only where the message makes the handler keep more than before, and changes
 /// nothing.
-pub fn answer_one<A: Allocator>(
-    handler: &mut Handler<A>,
+pub fn answer_one<B: Behaviour, A: Allocator + Copy>(
+    handler: &mut Handler<B, A>,
     datagram: &[u8],
     out: &mut [u8; BUFFER_LEN],
 ) -> Result<Answered, OutOfMemory>
     ensures ok { IfOk result (λ answered.
         AnswersDatagram handler.old datagram.now handler.new answered out.old out.new) }
     ensures only { IfOk result (λ answered.
-        PrintsOnly handler.old datagram.now handler.new (line_of answered out.new)) }
+        PrintsOnly handler.old datagram.now handler.new (note_of answered) (line_of answered out.new)) }
     ensures err { OnErr result (handler.new ≡ handler.old) }
     ensures memory { IsErr result → WantsMemory handler.old datagram.now }
 
     // What follows for those who only lock.
     ensures confirms { IfOk result (λ answered. ConfirmsHolder answered out.new handler.new) }
     ensures moves { IfOk result (λ _.
-        handler.new.holder ≢ handler.old.holder → MovesHolder handler.old.holder datagram.now handler.new.holder) }
+        handler.new.state.holder ≢ handler.old.state.holder
+        → MovesHolder handler.old.state.holder datagram.now handler.new.state.holder) }
     ensures leaves { IfOk result (LeavesState handler.old handler.new) }
     ensures short { IfOk result IsShort }
 {
@@ -54,4 +76,11 @@ pub fn answer_one<A: Allocator>(
         Some(reply) => Ok(Answered::Reply(encode(version, &reply, out), note)),
         None => Ok(Answered::Silent(note)),
     }
+}
+
+/// Runs what a handler's private queues hold until nothing can run.
+pub fn run_out<B: Behaviour, A: Allocator>(handler: &mut Handler<B, A>)
+    ensures { RunsDry handler.old handler.new }
+{
+    while handler.run().is_some() {}
 }

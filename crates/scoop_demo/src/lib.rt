@@ -12,7 +12,7 @@ mod objects;
 mod run;
 mod source;
 
-pub use answer::{Answered, answer_one};
+pub use answer::{Answered, answer_one, run_out};
 pub use datagram::{MAX_DATAGRAM_LEN, read_datagram};
 pub use fault::{InputFault, RunError};
 pub use lines::{Lines, MAX_LINES};

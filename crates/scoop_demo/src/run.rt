@@ -5,38 +5,43 @@ ghost use Rattle.std.specs.Io.KnownBytes.{Appends, Keeps};
 ghost use Rattle.hex.specs.Hex.{encode_lower};
 ghost use Rattle.scoop_demo.specs.Line.{limit_fault};
 ghost use Rattle.scoop_demo.specs.Answer.{IsShort, line_of};
-ghost use Rattle.scoop_demo.specs.Run.{AnswersAll, StopsEarly, WritesAnswer, StopsInLine};
+ghost use Rattle.scoop_demo.specs.Run.{AnswersAll, StopsEarly, WritesAnswer, StopsInLine, words_text, words_line, numbers_text};
 
-use crate::answer::{Answered, answer_one};
+use crate::answer::{Answered, answer_one, run_out};
 use crate::datagram::{MAX_DATAGRAM_LEN, read_datagram};
 use crate::fault::RunError;
 use crate::lines::Lines;
 use crate::source::Line;
 use arrayvec::ArrayVec;
 use scoop_handler::Handler;
+use scoop_message::Words;
 use scoop_message::limits::{BUFFER_LEN, MAX_FRAME};
+use scoop_object::Behaviour;
 use std::alloc::Allocator;
 use std::io;
 use std::io::{Read, Write};
 
 /// Answers the datagrams of an input, one in hex digits on each line, with one line for each: the reply
 /// in lower-case hex digits; or `none` and what the handler did; or `refused` and why the datagram is no
-/// frame.
+/// frame. Once a line is answered, the handler runs until nothing can run, where the datagram may have
+/// made something ready. After the last line the object's words are shown, if asked for: `words` and the
+/// words in decimal.
 ///
 /// The error names the first line that has a fault, or says that the output failed or that the handler
-/// wanted memory. The answers to earlier lines stand. The writer is flushed before each read of the
-/// input, which may wait for the user, and at the end.
-pub fn answer_run<A: Allocator, R: Read + Drop, W: Write>(
-    handler: &mut Handler<A>,
+/// wanted memory. The answers to earlier lines stand, and no words are shown. The writer is flushed before
+/// each read of the input, which may wait for the user, and at the end.
+pub fn answer_run<B: Behaviour, A: Allocator + Copy, R: Read + Drop, W: Write>(
+    handler: &mut Handler<B, A>,
+    shows_words: bool,
     reader: R,
     writer: &mut W,
 ) -> Result<(), RunError>
     ensures ok { OnOk result (AnswersAll (R.remaining reader) handler.old handler.new
-        (W.contents writer.old) (W.contents writer.new)) }
+        (words_line shows_words handler.new.state.words) (W.contents writer.old) (W.contents writer.new)) }
     ensures err { IfErr result (StopsEarly (R.remaining reader) handler.old handler.new
         (W.contents writer.old) (W.contents writer.new)) }
 {
-    let answered = answer_lines(handler, reader, writer);
+    let answered = answer_all(handler, shows_words, reader, writer);
     let flushed = writer.flush();
     match answered {
         Ok(()) if flushed.is_err() => Err(RunError::Write),
@@ -44,13 +49,38 @@ pub fn answer_run<A: Allocator, R: Read + Drop, W: Write>(
     }
 }
 
-// Answers the lines of an input until one has a fault.
-fn answer_lines<A: Allocator, R: Read + Drop, W: Write>(
-    handler: &mut Handler<A>,
+// Answers the lines of an input, and shows the words.
+fn answer_all<B: Behaviour, A: Allocator + Copy, R: Read + Drop, W: Write>(
+    handler: &mut Handler<B, A>,
+    shows_words: bool,
     reader: R,
     writer: &mut W,
 ) -> Result<(), RunError>
     ensures ok { OnOk result (AnswersAll (R.remaining reader) handler.old handler.new
+        (words_line shows_words handler.new.state.words) (W.contents writer.old) (W.contents writer.new)) }
+    ensures err { IfErr result (StopsEarly (R.remaining reader) handler.old handler.new
+        (W.contents writer.old) (W.contents writer.new)) }
+{
+    match answer_lines(handler, reader, writer) {
+        Ok(()) => {}
+        Err(error) => return Err(error),
+    }
+    if !shows_words {
+        return Ok(());
+    }
+    match print_words(&handler.words(), writer) {
+        Ok(()) => Ok(()),
+        Err(_) => Err(RunError::Write),
+    }
+}
+
+// Answers the lines of an input until one has a fault.
+fn answer_lines<B: Behaviour, A: Allocator + Copy, R: Read + Drop, W: Write>(
+    handler: &mut Handler<B, A>,
+    reader: R,
+    writer: &mut W,
+) -> Result<(), RunError>
+    ensures ok { OnOk result (AnswersAll (R.remaining reader) handler.old handler.new []
         (W.contents writer.old) (W.contents writer.new)) }
     ensures err { IfErr result (StopsEarly (R.remaining reader) handler.old handler.new
         (W.contents writer.old) (W.contents writer.new)) }
@@ -70,9 +100,9 @@ fn answer_lines<A: Allocator, R: Read + Drop, W: Write>(
     }
 }
 
-// Answers the datagram of the line of this number, which is within the limits.
-fn answer_line<A: Allocator, W: Write>(
-    handler: &mut Handler<A>,
+// Answers the datagram of the line of this number, which is within the limits, and runs the handler.
+fn answer_line<B: Behaviour, A: Allocator + Copy, W: Write>(
+    handler: &mut Handler<B, A>,
     number: u32,
     line: &mut Line,
     writer: &mut W,
@@ -97,9 +127,13 @@ fn answer_line<A: Allocator, W: Write>(
         Err(_) => return Err(RunError::OutOfMemory),
     };
     match print_answer(answered, &out, writer) {
-        Ok(()) => Ok(()),
-        Err(_) => Err(RunError::Write),
+        Ok(()) => {}
+        Err(_) => return Err(RunError::Write),
     }
+    if answered.runs_next() {
+        run_out(handler);
+    }
+    Ok(())
 }
 
 // Writes the line of an answer.
@@ -128,4 +162,26 @@ fn print_frame<W: Write>(frame: &[u8], writer: &mut W) -> io::Result<()>
     hex::encode_to_slice(frame, digits).unwrap();
     writer.write_all(digits)?;
     writer.write_all(b"\n")
+}
+
+// Writes the line of an object's words.
+fn print_words<W: Write>(words: &Words, writer: &mut W) -> io::Result<()>
+    ensures { OnOk result (Appends (W.contents writer.old) (W.contents writer.new) (words_text words.now ++ 10 ∷ [])) }
+{
+    writer.write_all(b"words")?;
+    print_numbers(words.as_slice(), writer)?;
+    writer.write_all(b"\n")
+}
+
+// Writes numbers in decimal, with a space before each.
+fn print_numbers<W: Write>(numbers: &[u64], writer: &mut W) -> io::Result<()>
+    ensures { OnOk result (Appends (W.contents writer.old) (W.contents writer.new) (numbers_text numbers.now)) }
+{
+    match numbers {
+        [] => Ok(()),
+        [first, rest @ ..] => {
+            write!(writer, " {first}")?;
+            print_numbers(rest, writer)
+        }
+    }
 }

@@ -1,25 +1,68 @@
 use super::*;
 use linked_list_allocator::LocalHeap;
-use scoop_frame::FrameError;
-use scoop_handler::{Handler, Note};
-use scoop_message::HandlerId;
-use scoop_message::limits::BUFFER_LEN;
-use std::alloc::Global;
+use scoop_handler::Handler;
+use scoop_message::{HandlerId, Words};
+use scoop_object::{Behaviour, Boxed, Table};
+use std::alloc::{Allocator, Global};
 use std::cell::Cell;
 use std::io;
 use std::io::{ErrorKind, Read, Write};
+use std::process::Abort;
 use std::test::Fail;
 
 const LOCK: &str = "53510103 00000001 00000007 00000001 00000001 00000000 0000\n";
 
 const HELLO: &str = "53510101 00000001 00000007 00000001 00000000 00000000 0000\n";
 
-// A run of handler 1 over an input: how it ended, and what it wrote.
-fn run(alloc: Global, input: &[u8]) -> (Result<(), RunError>, Vec<u8>) {
-    let mut handler = Handler::new(alloc, HandlerId(1));
+// Client 7's greeting, and the Lock, Open and Unlock of its first block.
+const OPENING: &str = "\
+    53510101 00000001 00000007 00000001 00000000 00000000 0000\n\
+    53510103 00000001 00000007 00000001 00000001 00000000 0000\n\
+    53510106 00000001 00000007 00000001 00000001 00000000 0000\n\
+    53510108 00000001 00000007 00000001 00000001 00000000 0000\n";
+
+const OPENED: &str = "\
+    5351010200000001000000070000000100000000000000000000\n\
+    5351010400000001000000070000000100000001000000000000\n\
+    5351010700000001000000070000000100000001000000000000\n\
+    5351010900000001000000070000000100000001000000000000\n";
+
+// An input that ends with a line of the words where it has no fault, how the run ends, and what it writes.
+#[derive(Clone, Copy)]
+struct Case<'a> {
+    input: &'a str,
+    ended: Result<(), RunError>,
+    output: &'a str,
+}
+
+// Runs handler 1 with an object of that class over an input.
+fn runs<B: Behaviour, A: Allocator + Copy>(
+    rt: &impl Abort,
+    (alloc, heap): (Global, A),
+    (class, object): (&str, B),
+    case: Case<'_>,
+) -> Result<(), Fail> {
+    let class = demo_class(alloc, class)?.expect(rt, "it has a name");
+    let mut handler = match Handler::new(heap, HandlerId(1), class, object) {
+        Ok(handler) => handler,
+        Err(_) => panic!(rt; "it is of its class"),
+    };
     let mut output = Vec::new(alloc);
-    let ended = answer_run(&mut handler, input, &mut output);
-    (ended, output)
+    let ended = answer_run(&mut handler, true, case.input.as_bytes(), &mut output);
+    assert_eq!(rt; ended, case.ended, "at {:?}", case.input);
+    assert_eq!(rt;
+        output.as_slice(),
+        case.output.as_bytes(),
+        "at {:?}",
+        case.input
+    );
+    Ok(())
+}
+
+// The same with a cell that holds 0.
+fn runs_cell(rt: &impl Abort, alloc: Global, case: Case<'_>) -> Result<(), Fail> {
+    let cell = Boxed::new(Box::new(alloc, CellObject::new(0))?);
+    runs(rt, (alloc, alloc), ("cell", cell), case)
 }
 
 fn fault(line: u32, fault: InputFault) -> Result<(), RunError> {
@@ -27,97 +70,142 @@ fn fault(line: u32, fault: InputFault) -> Result<(), RunError> {
 }
 
 #[test]
-fn greets_and_locks(rt: HostRuntime) -> Result<(), Fail> {
-    let input = format!(in rt.alloc(); "{LOCK}{HELLO}{LOCK}")?;
-    let (ended, output) = run(rt.alloc(), input.as_bytes());
-    assert_eq!(rt; ended, Ok(()));
-    let wanted = b"none Dropped Ungreeted\n\
-        5351010200000001000000070000000100000000000000000000\n\
-        5351010400000001000000070000000100000001000000000000\n";
-    assert_eq!(rt; output.as_slice(), wanted.as_slice());
-    Ok(())
+fn runs_a_block_of_calls(rt: HostRuntime) -> Result<(), Fail> {
+    let alloc = rt.alloc();
+    let input = format!(in alloc;
+        "{OPENING}\
+        5351010a0000000100000007000000010000000100000001000c010001010000000000000005\n\
+        5351010a0000000100000007000000010000000100000002000402000200\n\
+        5351010a0000000100000007000000010000000100000002000402000200\n\
+        5351010a0000000100000007000000010000000100000003000103\n"
+    )?;
+    let output = format!(in alloc;
+        "{OPENED}\
+        5351010b00000001000000070000000100000001000000010000\n\
+        5351010b00000001000000070000000100000001000000020000\n\
+        5351010c00000001000000070000000100000001000000020009010000000000000005\n\
+        5351010b00000001000000070000000100000001000000030000\n\
+        words 5\n"
+    )?;
+    runs_cell(
+        &rt,
+        alloc,
+        Case {
+            input: &input,
+            ended: Ok(()),
+            output: &output,
+        },
+    )
 }
 
 #[test]
-fn replies_in_the_version_of_the_datagram(rt: HostRuntime) {
-    let mut handler = Handler::new(rt.alloc(), HandlerId(1));
-    let hello = [
-        0x53, 0x51, 2, 1, 0, 0, 0, 1, 0, 0, 0, 7, 0, 0, 0, 1, 0, 0, 0, 0, 0, 0, 0, 0, 0, 0,
-    ];
-    let mut out = [9; BUFFER_LEN];
-    let answered = answer_one(&mut handler, &hello, &mut out);
-    assert_eq!(rt; answered, Ok(Answered::Reply(26, Note::Greeted)));
-    assert_eq!(rt; &out[..4], [0x53, 0x51, 2, 2].as_slice());
-    assert_eq!(rt; out[26], 9);
-    let answered = answer_one(&mut handler, &hello[..25], &mut out);
-    assert_eq!(rt; answered, Ok(Answered::RefusedFrame(FrameError::Short)));
+fn runs_batches_and_replies_in_their_version(rt: HostRuntime) -> Result<(), Fail> {
+    let alloc = rt.alloc();
+    let input = format!(in alloc;
+        "{OPENING}\
+        5351020a000000010000000700000001000000010000000100110201000101000000000000000502000200\n\
+        5351020a000000010000000700000001000000010000000100110201000101000000000000000502000200\n\
+        5351020a0000000100000007000000010000000100000002000602 0200020003\n\
+        5351010a0000000100000007000000010000000100000003000103\n"
+    )?;
+    let output = format!(in alloc;
+        "{OPENED}\
+        5351020b00000001000000070000000100000001000000020000\n\
+        5351020c00000001000000070000000100000001000000020009010000000000000005\n\
+        5351020b00000001000000070000000100000001000000030000\n\
+        5351010b00000001000000070000000100000001000000030000\n\
+        words 5\n"
+    )?;
+    runs_cell(
+        &rt,
+        alloc,
+        Case {
+            input: &input,
+            ended: Ok(()),
+            output: &output,
+        },
+    )
+}
+
+#[test]
+fn answers_a_withdrawal_that_is_refused(rt: HostRuntime) -> Result<(), Fail> {
+    let alloc = rt.alloc();
+    let input = format!(in alloc;
+        "{OPENING}\
+        5351010a0000000100000007000000010000000100000001000c020002010000000000000097\n\
+        5351010a0000000100000007000000010000000100000001000c020002010000000000000097"
+    )?;
+    let output = format!(in alloc;
+        "{OPENED}\
+        5351010b00000001000000070000000100000001000000010000\n\
+        5351010c0000000100000007000000010000000100000001000100\n\
+        words 150\n"
+    )?;
+    let account = Boxed::new(Box::new(alloc, AccountObject::new(150))?);
+    let case = Case {
+        input: &input,
+        ended: Ok(()),
+        output: &output,
+    };
+    runs(&rt, (alloc, alloc), ("account", account), case)
+}
+
+#[test]
+fn tells_want_of_memory(rt: HostRuntime) -> Result<(), Fail> {
+    let alloc = rt.alloc();
+    let heap = LocalHeap::new(alloc, 16)?;
+    let exchange = Boxed::new(Box::new(alloc, ExchangeObject::new(0, 0))?);
+    let input = format!(in alloc; "{LOCK}{HELLO}{LOCK}")?;
+    let ended = Err(RunError::OutOfMemory);
+    let case = Case {
+        input: &input,
+        ended,
+        output: "none Dropped Ungreeted\n",
+    };
+    runs(&rt, (alloc, &heap), ("exchange", exchange), case)
 }
 
 #[test]
 fn refuses_what_is_no_frame(rt: HostRuntime) -> Result<(), Fail> {
-    let cases = [
-        ("", "Short"),
-        (
-            "53510103 00000001 00000007 00000001 00000001 00000000 00",
-            "Short",
-        ),
-        (
-            "53520103 00000001 00000007 00000001 00000001 00000000 0000",
-            "BadMagic",
-        ),
-        (
-            "53510903 00000001 00000007 00000001 00000001 00000000 0000",
-            "BadVersion 9",
-        ),
-        (
-            "5351010d 00000001 00000007 00000001 00000001 00000000 0000",
-            "BadKind 13",
-        ),
-        (
-            "53510103 00000001 00000007 00000001 00000001 00000000 0001",
-            "LengthWrong",
-        ),
-        (
-            "53510103 00000001 00000007 00000001 00000001 00000000 000000",
-            "LengthWrong",
-        ),
-        (
-            "53510103 00000001 00000007 00000001 00000001 00000001 0000",
-            "FieldNotZero",
-        ),
-        (
-            "53510101 00000001 00000007 00000000 00000000 00000000 0000",
-            "FieldZero",
-        ),
-        (
-            "5351010a 00000001 00000007 00000001 00000001 00000001 0001 04",
-            "BadBody",
-        ),
-        (
-            "5351010a 00000001 00000007 00000001 00000001 00000001 002c 01 0001 05 \
-            00000000000000000000 00000000000000000000 00000000000000000000 00000000000000000000",
-            "BadBody",
-        ),
-        (
-            "5351010a 00000001 00000007 00000001 00000001 00000001 0002 03 00",
-            "BadBody",
-        ),
-        (
-            "53510103 00000001 00000007 00000001 00000001 00000000 0001 00",
-            "BadBody",
-        ),
-        (
-            "5351090d 00000001 00000007 00000001 00000001 00000000 0000",
-            "BadVersion 9",
-        ),
-    ];
-    for (line, name) in cases {
-        let (ended, output) = run(rt.alloc(), format!(in rt.alloc(); "{line}\n")?.as_bytes());
-        assert_eq!(rt; ended, Ok(()));
-        let wanted = format!(in rt.alloc(); "refused {name}\n")?;
-        assert_eq!(rt; output.as_slice(), wanted.as_bytes(), "at {line}");
-    }
-    Ok(())
+    let input = "\n\
+        53510103 00000001 00000007 00000001 00000001 00000000 00\n\
+        53520103 00000001 00000007 00000001 00000001 00000000 0000\n\
+        53510903 00000001 00000007 00000001 00000001 00000000 0000\n\
+        5351010d 00000001 00000007 00000001 00000001 00000000 0000\n\
+        53510103 00000001 00000007 00000001 00000001 00000000 0001\n\
+        53510103 00000001 00000007 00000001 00000001 00000000 000000\n\
+        53510103 00000001 00000007 00000001 00000001 00000001 0000\n\
+        53510101 00000001 00000007 00000000 00000000 00000000 0000\n\
+        5351010a 00000001 00000007 00000001 00000001 00000001 0001 04\n\
+        5351010a 00000001 00000007 00000001 00000001 00000001 002c 01 0001 05 \
+        00000000000000000000 00000000000000000000 00000000000000000000 00000000000000000000\n\
+        5351010a 00000001 00000007 00000001 00000001 00000001 0002 03 00\n\
+        53510103 00000001 00000007 00000001 00000001 00000000 0001 00\n\
+        5351090d 00000001 00000007 00000001 00000001 00000000 0000\n";
+    let output = "refused Short\n\
+        refused Short\n\
+        refused BadMagic\n\
+        refused BadVersion 9\n\
+        refused BadKind 13\n\
+        refused LengthWrong\n\
+        refused LengthWrong\n\
+        refused FieldNotZero\n\
+        refused FieldZero\n\
+        refused BadBody\n\
+        refused BadBody\n\
+        refused BadBody\n\
+        refused BadBody\n\
+        refused BadVersion 9\n\
+        words 0\n";
+    runs_cell(
+        &rt,
+        rt.alloc(),
+        Case {
+            input,
+            ended: Ok(()),
+            output,
+        },
+    )
 }
 
 #[test]
@@ -125,31 +213,55 @@ fn names_the_line_of_a_fault(rt: HostRuntime) -> Result<(), Fail> {
     let full = "0 ".repeat(rt.alloc(), 2048)?;
     let longer = format!(in rt.alloc(); "\n{full}g")?;
     let cases = [
-        ("".as_bytes(), Ok(()), ""),
-        (b"\n", Ok(()), "refused Short\n"),
-        (b" 0 0\n00", Ok(()), "refused Short\nrefused Short\n"),
-        (b"aF\nxyz", fault(2, InputFault::NotHex), "refused Short\n"),
-        (b"\r\n", fault(1, InputFault::NotHex), ""),
-        (b"0\xc3\xa9", fault(1, InputFault::NotHex), ""),
-        (b"0g0", fault(1, InputFault::NotHex), ""),
+        ("", Ok(()), "words 0\n"),
         (
-            b"\n\n0\n00\n",
+            " 0 0\n00",
+            Ok(()),
+            "refused Short\nrefused Short\nwords 0\n",
+        ),
+        ("aF\nxyz", fault(2, InputFault::NotHex), "refused Short\n"),
+        ("\r\n", fault(1, InputFault::NotHex), ""),
+        ("0é", fault(1, InputFault::NotHex), ""),
+        ("0g0", fault(1, InputFault::NotHex), ""),
+        (
+            "\n\n0\n00\n",
             fault(3, InputFault::OddDigits),
             "refused Short\nrefused Short\n",
         ),
-        (full.as_bytes(), Ok(()), "refused BadMagic\n"),
+        (full.as_str(), Ok(()), "refused BadMagic\nwords 0\n"),
         (
-            longer.as_bytes(),
+            longer.as_str(),
             fault(2, InputFault::LineTooLong),
             "refused Short\n",
         ),
     ];
-    for (input, wanted, text) in cases {
-        let (ended, output) = run(rt.alloc(), input);
-        assert_eq!(rt; ended, wanted, "at {input:?}");
-        assert_eq!(rt; output.as_slice(), text.as_bytes(), "at {input:?}");
+    for (input, ended, output) in cases {
+        runs_cell(
+            &rt,
+            rt.alloc(),
+            Case {
+                input,
+                ended,
+                output,
+            },
+        )?;
     }
     Ok(())
+}
+
+// How a run of a cell ends.
+fn answers_all<R: Read + Drop, W: Write>(
+    rt: &impl Abort,
+    alloc: Global,
+    reader: R,
+    writer: &mut W,
+) -> Result<Result<(), RunError>, Fail> {
+    let class = demo_class(alloc, "cell")?.expect(rt, "it has a name");
+    let cell = Table::new(class.copy()?, Words::of(&[0])?)?;
+    match Handler::new(alloc, HandlerId(1), class, cell) {
+        Ok(mut handler) => Ok(answer_run(&mut handler, true, reader, writer)),
+        Err(_) => panic!(rt; "it is of its class"),
+    }
 }
 
 // Gives newlines, each time as many as there is room for, and then an error of this kind or the end.
@@ -174,27 +286,21 @@ impl Read for Newlines {
 }
 
 #[test]
-fn ends_at_a_read_fault_and_at_too_many_lines(rt: HostRuntime) {
-    let lines = MAX_LINES as usize;
-    let cases = [
-        (lines, None, Ok(())),
-        (
-            lines + 1,
-            None,
-            fault(MAX_LINES + 1, InputFault::TooManyLines),
-        ),
-        (3, Some(ErrorKind::Other), fault(4, InputFault::ReadFault)),
-        (
-            3,
-            Some(ErrorKind::Interrupted),
-            fault(4, InputFault::ReadFault),
-        ),
-    ];
-    for (left, then, wanted) in cases {
-        let mut handler = Handler::new(rt.alloc(), HandlerId(1));
-        let ended = answer_run(&mut handler, Newlines { left, then }, &mut io::sink());
-        assert_eq!(rt; ended, wanted, "after {left} lines");
-    }
+fn ends_at_a_read_fault_and_past_the_last_line(rt: HostRuntime) -> Result<(), Fail> {
+    let alloc = rt.alloc();
+    let faulty = Newlines {
+        left: 3,
+        then: Some(ErrorKind::Other),
+    };
+    let ended = answers_all(&rt, alloc, faulty, &mut io::sink())?;
+    assert_eq!(rt; ended, fault(4, InputFault::ReadFault));
+    let long = Newlines {
+        left: MAX_LINES as usize + 1,
+        then: None,
+    };
+    let ended = answers_all(&rt, alloc, long, &mut io::sink())?;
+    assert_eq!(rt; ended, fault(MAX_LINES + 1, InputFault::TooManyLines));
+    Ok(())
 }
 
 // A user who types the next byte only when every answer is on the screen, and a screen that shows what
@@ -261,46 +367,8 @@ fn shows_each_answer_before_it_waits(rt: HostRuntime) -> Result<(), Fail> {
             hidden: &hidden,
             room,
         };
-        let mut handler = Handler::new(rt.alloc(), HandlerId(1));
-        assert_eq!(rt;
-            answer_run(&mut handler, user, &mut screen),
-            wanted,
-            "with room {room}"
-        );
-    }
-    Ok(())
-}
-
-#[test]
-fn tells_want_of_memory(rt: HostRuntime) -> Result<(), Fail> {
-    let heap = LocalHeap::new(rt.alloc(), 16)?;
-    let mut handler = Handler::new(&heap, HandlerId(1));
-    let mut output = Vec::new(rt.alloc());
-    let input = format!(in rt.alloc(); "{LOCK}{HELLO}{LOCK}")?;
-    let ended = answer_run(&mut handler, input.as_bytes(), &mut output);
-    assert_eq!(rt; ended, Err(RunError::OutOfMemory));
-    assert_eq!(rt; output.as_slice(), b"none Dropped Ungreeted\n".as_slice());
-    Ok(())
-}
-
-#[test]
-fn greets_64_clients(rt: HostRuntime) -> Result<(), Fail> {
-    let mut handler = Handler::new(rt.alloc(), HandlerId(1));
-    for client in 1..=65u32 {
-        let mut output = Vec::new(rt.alloc());
-        let hello = format!(in rt.alloc();
-            "5351010100000001{client:08x}0000000100000000000000000000"
-        )?;
-        let answer = if client <= 64 {
-            format!(in rt.alloc(); "5351010200000001{client:08x}0000000100000000000000000000\n")?
-        } else {
-            format!(in rt.alloc(); "none Dropped TooManyClients\n")?
-        };
-        assert_eq!(rt;
-            answer_run(&mut handler, hello.as_bytes(), &mut output),
-            Ok(())
-        );
-        assert_eq!(rt; output.as_slice(), answer.as_bytes(), "client {client}");
+        let ended = answers_all(&rt, rt.alloc(), user, &mut screen)?;
+        assert_eq!(rt; ended, wanted, "with room {room}");
     }
     Ok(())
 }

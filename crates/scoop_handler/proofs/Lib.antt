@@ -1,4 +1,11 @@
 pub mod MarkLists
+pub mod QueuePlaces
+pub mod Same
+pub mod Beside
 pub mod States
+pub mod Fronts
 pub mod TableRows
 pub mod TableLaws
+pub mod After
+pub mod Taking
+pub mod RunsOut

@@ -11,7 +11,7 @@ use Rattle.scoop_handler.specs.declared.mark.Mark.{Mark}
 use Rattle.scoop_handler.specs.Marks.{mark_of, newer_mark, set_mark, add_mark, place_of}
 use Rattle.scoop_handler.specs.State.{IsAscending}
 
-none_some : {X : Type 0} {x : X} → None ≡ Some x → ⊥
+pub none_some : {X : Type 0} {x : X} → None ≡ Some x → ⊥
 none_some e = cc
 
 -- ---- clients
@@ -190,3 +190,8 @@ All-add_mark P Q k (x ∷ xs) own others all =
       All-weaker : (P Q : Mark → Type 0) (marks : List Mark) → ((x : Mark) → P x → Q x) → AllByRecursion P marks → AllByRecursion Q marks
       All-weaker P Q [] others all = tt
       All-weaker P Q (x ∷ xs) others all = (others x all.0, All-weaker P Q xs others all.1)
+
+pub IsAscending-single : (marks : List Mark) → length marks < 2 → IsAscending marks
+IsAscending-single [] few = tt
+IsAscending-single (k ∷ []) few = tt
+IsAscending-single (k ∷ x ∷ xs) few = let none : ⊥ = omega (arith, few) in absurd none

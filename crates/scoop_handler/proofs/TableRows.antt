@@ -1,14 +1,17 @@
 -- Every message has its row.
-use Rattle.std.proofs.Common.{◌≡◌, ◌≢◌, ℕ, ◌<◌, ◌≤◌, Bool, true, false, cond, ◌==◌, nat_lt, ◌&&◌, ◌||◌, not, IsTrue, Option, Some, None, length, refl, sym, ap, subst, ◌∙◌, inl, inr, arith}
+use Rattle.std.proofs.Common.{◌≡◌, ◌≢◌, ℕ, ◌+◌, ◌<◌, ◌≤◌, Bool, true, false, cond, ◌==◌, nat_lt, nat_le, ◌&&◌, ◌||◌, not, IsTrue, List, ◌⊎◌, Option, Some, None, length, refl, sym, ap, subst, ◌∙◌, inl, inr, arith}
 use Rattle.std.specs.Prelude.{is_none}
 use Rattle.std.proofs.lemmas.Bool.{eqb-true}
 use Rattle.std.proofs.lemmas.Bool.Decides.{nat_tests}
-use Rattle.scoop_message.specs.declared.limits.TheConstants.{MAX_CLIENTS}
+use Rattle.scoop_message.specs.declared.limits.TheConstants.{MAX_CLIENTS, MAX_QUEUES}
 use Rattle.scoop_message.specs.declared.name.Block.{Block}
 use Rattle.scoop_message.specs.declared.name.ClientId.{ClientId}
 use Rattle.scoop_message.specs.declared.name.HandlerId.{HandlerId}
 use Rattle.scoop_message.specs.declared.message.Message.{Message}
 use Rattle.scoop_message.specs.declared.message.Message.TheVariants.{Hello, Welcome, Lock, Locked, Busy, Open, Opened, Unlock, Unlocked, Log, Logged, Answer}
+use Rattle.scoop_message.specs.declared.request.Entry.{Entry}
+use Rattle.scoop_message.specs.declared.request.Answer.{Answer as QueryAnswer}
+use Rattle.scoop_message.specs.Entries.{last_number}
 use Rattle.scoop_message.specs.Message.{same_handler, handler_of, is_for_handler}
 use Rattle.scoop_message.proofs.Same.{block_decides}
 use Rattle.scoop_handler.specs.declared.mark.Mark.{Mark}
@@ -16,8 +19,8 @@ use Rattle.scoop_handler.specs.declared.mark.Stage.{Stage}
 use Rattle.scoop_handler.specs.declared.mark.Stage.TheVariants.{Held as AtHeld, Open as AtOpen, Shut as AtShut}
 use Rattle.scoop_handler.specs.Marks.{mark_of, is_held, is_open}
 use Rattle.scoop_handler.specs.State.{HandlerState, is_holder, is_unfinished}
-use Rattle.scoop_handler.specs.Hearing.{Hearing, IsHeardAt, hear, hear_hello, hear_lock, hear_open, hear_unlock, hear_log, hear_of, hear_at, mark_for, if_here, is_new, granted}
-use Rattle.scoop_handler.specs.Rows.{Row, asking_block, IsUngreeted, IsPast, not_for_handlers, wrong_handler, too_many_clients, first_greeting, newer_greeting, same_greeting, older_greeting, ungreeted, past, lock_granted, lock_busy, lock_again, lock_over, open_not_holder, open_no_room, open_again, unlock_unfinished, unlock_new, unlock_holder, unlock_again, log_not_open}
+use Rattle.scoop_handler.specs.Hearing.{Hearing, IsHeardAt, hear, hear_hello, hear_lock, hear_open, hear_unlock, hear_log, hear_of, hear_at, mark_for, if_here, is_new, granted, received_before, kept_answer, new_entries, is_closed, has_no_room}
+use Rattle.scoop_handler.specs.Rows.{Row, asking_block, IsUngreeted, IsPast, not_for_handlers, wrong_handler, too_many_clients, first_greeting, newer_greeting, same_greeting, older_greeting, ungreeted, past, lock_granted, lock_busy, lock_again, lock_over, open_not_holder, open_no_room, open_granted, open_again, unlock_unfinished, unlock_new, unlock_holder, unlock_again, IsLogAt, IsNext, log_not_open, log_answered, log_again, log_gap, log_closed, log_no_room, log_taken}
 
 -- ---- tests, and what they say
 
@@ -67,6 +70,21 @@ and_true false u e = cc
 not_true : (t : Bool) → not t ≡ true → t ≡ false
 not_true true e = cc
 not_true false e = refl
+
+not_false : (t : Bool) → not t ≡ false → t ≡ true
+not_false true e = refl
+not_false false e = cc
+
+not_open_from_test : (stage : Stage) → not (is_open stage) ≡ true → stage ≢ AtOpen
+not_open_from_test stage e same = let closed : false ≡ true = sym (ap (λ x. not (is_open x)) same) ∙ e in cc
+
+or_false : (t u : Bool) → (t || u) ≡ false → (t ≡ false) × (u ≡ false)
+or_false true u e = cc
+or_false false u e = (refl, e)
+
+or_true : (t u : Bool) → (t || u) ≡ true → (t ≡ true) ⊎ (u ≡ true)
+or_true true u e = inl refl
+or_true false u e = inr e
 
 -- ---- the holder
 
@@ -126,9 +144,14 @@ open_row s h b k here at =
     (λ new. open_not_holder h b k here at (inl (lt_of k.num b.num new)))
     (λ old. split P (is_open k.stage) _ _
     (λ again. open_again h b k here at (same_num old) (open_from_test k.stage again))
-    (λ closed. split P (is_held k.stage) _ _
-    (λ held. open_no_room h b k here at (same_num old) (held_from_test k.stage held))
-    (λ over. open_not_holder h b k here at (inr (shut_from_tests k.stage closed over))))) where
+    (λ closed. split P (not (is_held k.stage)) _ _
+    (λ over. open_not_holder h b k here at (inr (shut_from_tests k.stage closed (not_true (is_held k.stage) over))))
+    (λ holds. split P (length s.queues == MAX_QUEUES) _ _
+    (λ many. open_no_room h b k here at (same_num old) (held_from_test k.stage (not_false (is_held k.stage) holds)) (eqb-true (length s.queues) MAX_QUEUES many))
+    (λ room. open_granted h b k here at (same_num old) (held_from_test k.stage (not_false (is_held k.stage) holds)) (λ same. has_room same room))))) where
+      has_room : length s.queues ≡ MAX_QUEUES → (length s.queues == MAX_QUEUES) ≡ false → ⊥
+      has_room same e = grind (arith, nat_tests)
+
       same_num : is_new b k ≡ false → k.num ≡ b.num
       same_num e = let le = le_of k.num b.num e in omega (arith, at.num)
 
@@ -147,6 +170,53 @@ unlock_row s h b k here at =
 
       same_num : is_new b k ≡ false → k.num ≡ b.num
       same_num e = let le = le_of k.num b.num e in omega (arith, at.num)
+
+-- entries that were all received
+received_row : (s : HandlerState) (h : HandlerId) (b : Block) (n : ℕ) (es : List Entry) (k : Mark) → h ≡ s.number → IsLogAt s b k → last_number n es ≤ k.received
+    → Row s (Log h b n es) (received_before s b (last_number n es) k (kept_answer (last_number n es) k.kept))
+received_row s h b n es k here at before = by_kept k.kept refl where
+  by_kept : (kept : Option (ℕ × QueryAnswer)) → k.kept ≡ kept → Row s (Log h b n es) (received_before s b (last_number n es) k (kept_answer (last_number n es) kept))
+  by_kept None e = log_again h b n es k here at before (ap (kept_answer (last_number n es)) e)
+  by_kept (Some kept) e =
+      let make : ℕ → Option (ℕ × QueryAnswer) = λ i. Some (i, kept.1) in
+      split (λ o. Row s (Log h b n es) (received_before s b (last_number n es) k o)) (kept.0 == last_number n es) (Some kept.1) None
+      (λ same. log_answered h b n es k kept.1 here at before (e ∙ ap make (eqb-true kept.0 (last_number n es) same)))
+      (λ other. log_again h b n es k here at before (ap (kept_answer (last_number n es)) e ∙ rw other refl))
+
+log_row : (s : HandlerState) (h : HandlerId) (b : Block) (n : ℕ) (es : List Entry) (k : Mark) → h ≡ s.number → IsHeardAt s b k → Row s (Log h b n es) (hear_log s b n es k)
+log_row s h b n es k here at =
+    let P = Row s (Log h b n es) in
+    split P (is_new b k || not (is_open k.stage)) _ _
+    (λ shut. log_not_open h b n es k here at (not_taking (or_true _ _ shut)))
+    (λ takes. split P (nat_le (last_number n es) k.received) _ _
+    (λ before. received_row s h b n es k here (is_at takes) (at_most before))
+    (λ beyond. split P (nat_lt (k.received + 1) n) _ _
+    (λ gap. log_gap h b n es k here (is_at takes) (above beyond) (lt_of (k.received + 1) n gap))
+    (λ follows. split P (is_closed k (last_number n es) es) _ _
+    (λ closed. log_closed h b n es k here (is_at takes) (is_next beyond follows) closed)
+    (λ goes_on. split P (has_no_room s b (length (new_entries n es k))) _ _
+    (λ crowded. log_no_room h b n es k here (is_at takes) (is_next beyond follows) goes_on crowded)
+    (λ room. log_taken h b n es k here (is_at takes) (is_next beyond follows) goes_on room))))) where
+      not_taking : (is_new b k ≡ true) ⊎ (not (is_open k.stage) ≡ true) → (k.num < b.num) ⊎ (k.stage ≢ AtOpen)
+      not_taking (inl new) = inl (lt_of k.num b.num new)
+      not_taking (inr shut) = inr (not_open_from_test k.stage shut)
+
+      is_at : (is_new b k || not (is_open k.stage)) ≡ false → IsLogAt s b k
+      is_at e =
+          let t = or_false _ _ e in
+          let le = le_of k.num b.num t.0 in
+          record { heard = at; num = omega (arith, at.num); stage = open_from_test k.stage (not_false_open t.1) } where
+            not_false_open : not (is_open k.stage) ≡ false → is_open k.stage ≡ true
+            not_false_open f = not_false (is_open k.stage) f
+
+      at_most : nat_le (last_number n es) k.received ≡ true → last_number n es ≤ k.received
+      at_most e = grind (arith, nat_tests)
+
+      above : nat_le (last_number n es) k.received ≡ false → k.received < last_number n es
+      above e = grind (arith, nat_tests)
+
+      is_next : nat_le (last_number n es) k.received ≡ false → nat_lt (k.received + 1) n ≡ false → IsNext k n es
+      is_next e f = record { new = above e; no_gap = le_of (k.received + 1) n f }
 
 -- ---- which row a message comes to
 
@@ -185,6 +255,6 @@ row s (Open h b) = here_row s (Open h b) h _ refl refl (λ here. block_row s (Op
 row s (Opened h b) = not_for_handlers (Opened h b) refl
 row s (Unlock h b) = here_row s (Unlock h b) h _ refl refl (λ here. block_row s (Unlock h b) b (hear_unlock s b) here refl (λ k at. unlock_row s h b k here at))
 row s (Unlocked h b) = not_for_handlers (Unlocked h b) refl
-row s (Log h b n es) = here_row s (Log h b n es) h _ refl refl (λ here. block_row s (Log h b n es) b (λ k. hear_log s) here refl (λ k at. log_not_open h b n es k here at))
+row s (Log h b n es) = here_row s (Log h b n es) h _ refl refl (λ here. block_row s (Log h b n es) b (hear_log s b n es) here refl (λ k at. log_row s h b n es k here at))
 row s (Logged h b n) = not_for_handlers (Logged h b n) refl
 row s (Answer h b n a) = not_for_handlers (Answer h b n a) refl

@@ -1,6 +1,9 @@
 pub mod Marks
 pub mod State
+pub mod Core
 pub mod Hearing
+pub mod Running
+pub mod Growing
 pub mod Memory
 pub mod Rows
 pub mod Locking

@@ -1,80 +1,75 @@
 //! One handler: its state, and how a message changes it.
 
-ghost use Rattle.std.specs.Prelude.{◌≡◌, [], None, OnOk, OnErr};
-ghost use Rattle.scoop_handler.specs.State.{IsState};
-ghost use Rattle.scoop_handler.specs.Hearing.{moved, with_mark};
+ghost use Rattle.std.specs.Prelude.{◌≡◌};
+ghost use Rattle.scoop_handler.specs.Core.{IsCore};
 
+mod changing;
 mod greeting;
 mod hearing;
 mod locking;
+mod logging;
+mod making;
+mod opening;
+mod recalling;
+mod running;
 
+use crate::held::Held;
 use crate::mark::Mark;
-use crate::marks::{add_mark_in, set_mark_in};
-use scoop_message::{Block, HandlerId, OutOfMemory};
+use scoop_message::{Block, HandlerId, Words};
+use scoop_object::{Behaviour, Class};
+use scoop_queue::QueueOfQueues;
 use std::alloc::{Allocator, Global};
 use std::marker::Model;
 
-/// One handler. Contracts see it as its state: its number, the block that holds its lock, and the marks
-/// of its clients.
-#[derive(Debug, Drop)]
-pub struct Handler<A: Allocator = Global> {
+/// One handler with its object. Contracts see it as its state, the class of its object, and whether a job
+/// is out.
+#[derive(Drop)]
+pub struct Handler<B: Behaviour, A: Allocator = Global> {
+    class: Class,
     number: HandlerId,
     holder: Option<Block>,
     marks: Vec<Mark, A>,
+    queues: QueueOfQueues<A>,
+    held: Held<B>,
 }
 
-impl<A: Allocator> Model for Handler<A> {
-    ghost use Rattle.scoop_handler.specs.State.{HandlerState, IsState, state_of};
+impl<B: Behaviour, A: Allocator> Model for Handler<B, A> {
+    ghost use Rattle.std.specs.Prelude.{◌≡◌};
+    ghost use Rattle.scoop_handler.specs.State.{state_of};
+    ghost use Rattle.scoop_handler.specs.Core.{Core, IsCore, core_of, held_words, is_out, IfHere};
 
-    ghost Value = { HandlerState };
+    ghost Value = { Core };
 
-    ghost view = { λ h. state_of h.number h.holder h.marks.items };
+    ghost view = { λ h. core_of h.class (state_of h.number h.holder h.marks.items h.queues (held_words B.words h.held)) (is_out h.held) };
 
-    ghost invariant = { λ h. IsState (state_of h.number h.holder h.marks.items) };
+    ghost invariant = { λ h.
+        IsCore (core_of h.class (state_of h.number h.holder h.marks.items h.queues (held_words B.words h.held)) (is_out h.held))
+        × IfHere h.held (λ object. B.class object ≡ h.class) };
 }
 
-impl<A: Allocator> Handler<A> {
-    /// A handler that nobody has greeted.
-    pub fn new(alloc: A, number: HandlerId) -> Handler<A>
-        ensures { result ≡ record { number = number; holder = None; marks = [] } }
-    {
-        Handler {
-            number,
-            holder: None,
-            marks: Vec::new(alloc),
-        }
-    }
-
+impl<B: Behaviour, A: Allocator> Handler<B, A> {
     /// The handler's number.
     pub fn number(&self) -> HandlerId
-        ensures value { result ≡ self.now.number }
-        ensures state { IsState self.now }
+        ensures value { result ≡ self.now.state.number }
+        ensures core { IsCore self.now }
     {
         self.number
     }
 
     /// The block that holds the lock.
     pub fn holder(&self) -> Option<Block>
-        ensures { result ≡ self.now.holder }
+        ensures { result ≡ self.now.state.holder }
     {
         self.holder
     }
 
-    // Puts the mark in place of its client's, beside this holder.
-    fn change(&mut self, holder: Option<Block>, mark: Mark)
-        requires { IsState (moved self.old holder mark) }
-        ensures { self.new ≡ moved self.old holder mark }
+    /// The object's words, or those with which it left for a job.
+    pub fn words(&self) -> Words
+        ensures { result ≡ self.now.state.words }
     {
-        set_mark_in(&mut self.marks, mark);
-        self.holder = holder;
-    }
-
-    // Adds the mark of a client that has none. An `Err` changes nothing.
-    fn add(&mut self, mark: Mark) -> Result<(), OutOfMemory>
-        requires { IsState (with_mark self.old mark) }
-        ensures ok { OnOk result (self.new ≡ with_mark self.old mark) }
-        ensures err { OnErr result (self.new ≡ self.old) }
-    {
-        add_mark_in(&mut self.marks, mark)
+        match &self.held {
+            Held::Here(object) => object.words(),
+            Held::Out(left) => *left,
+        }
     }
 }

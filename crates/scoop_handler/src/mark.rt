@@ -1,8 +1,10 @@
 //! What a handler keeps of one client.
 
 ghost use Rattle.std.specs.Prelude.{◌≡◌};
-ghost use Rattle.scoop_handler.specs.Marks.{block_of, fresh_mark, newer_mark, without_hold};
+ghost use Rattle.scoop_handler.specs.Marks.{block_of, fresh_mark, newer_mark, opened_mark, with_received, without_hold};
+ghost use Rattle.scoop_handler.specs.Running.{mark_after};
 
+use crate::ran::Ran;
 use scoop_message::{Answer, Block, ClientId};
 
 /// How far a client's newest block has come at a handler.
@@ -71,6 +73,27 @@ impl Mark {
         Mark { stage, ..self }
     }
 
+    /// The mark once a private queue is opened for its block.
+    pub(crate) fn opened(self) -> Mark
+        ensures { result ≡ opened_mark self }
+    {
+        Mark {
+            stage: Stage::Open,
+            ..self
+        }
+    }
+
+    /// The mark once entries up to this number were received; `ended` says whether the last is an End.
+    pub(crate) fn with_received(self, received: u32, ended: bool) -> Mark
+        ensures { result ≡ with_received received ended self }
+    {
+        Mark {
+            received,
+            ended,
+            ..self
+        }
+    }
+
     /// The newer mark, if it is of the same client, and else this one.
     pub(crate) fn or_newer(self, newer: Mark) -> Mark
         ensures { result ≡ newer_mark newer self }
@@ -80,5 +103,17 @@ impl Mark {
         } else {
             self
         }
+    }
+
+    /// The mark once an entry has run: a query's answer is kept, if its block is the mark's.
+    pub(crate) fn after(self, ran: &Ran) -> Mark
+        ensures { result ≡ mark_after ran.now self }
+    {
+        let kept = if ran.is_query() && self.block() == ran.block {
+            ran.answer.map(|answer| (ran.number, answer))
+        } else {
+            self.kept
+        };
+        Mark { kept, ..self }
     }
 }

@@ -1,10 +1,12 @@
 //! The marks of a handler's clients, by ascending client. There are at most 64, so they are searched
 //! from the front.
 
-ghost use Rattle.std.specs.Prelude.{◌≡◌, ◌≤◌, length, OnOk, OnErr};
+ghost use Rattle.std.specs.Prelude.{◌≡◌, ◌≤◌, length, map, OnOk, OnErr};
 ghost use Rattle.scoop_handler.specs.Marks.{mark_of, set_mark, add_mark, place_of};
+ghost use Rattle.scoop_handler.specs.Running.{mark_after};
 
 use crate::mark::Mark;
+use crate::ran::Ran;
 use scoop_message::{ClientId, OutOfMemory};
 use std::alloc::Allocator;
 
@@ -43,4 +45,16 @@ pub(crate) fn add_mark_in<A: Allocator>(
     let place = place_of_client(marks, mark.client);
     marks.insert(place, mark)?;
     Ok(())
+}
+
+/// Keeps the answer of an entry that has run, where it is a query of its client's newest block.
+pub(crate) fn keep_answer_in<A: Allocator>(marks: &mut Vec<Mark, A>, ran: &Ran)
+    ensures { marks.new.items ≡ map (mark_after ran.now) marks.old.items }
+{
+    if !ran.is_query() {
+        return;
+    }
+    for k in marks.iter_mut() {
+        *k = k.after(ran);
+    }
 }

@@ -67,7 +67,7 @@ pub enum Note {
     Freed,
     /// The block's entries up to this number are received.
     Took(u32),
-    /// The message was heard before, and is answered again.
+    /// What the message asks for stands already. Nothing changes, and it is answered.
     Known,
     /// The message changed nothing and has no answer.
     Dropped(Reason),

@@ -2,35 +2,40 @@
 
 ghost use Rattle.std.specs.Prelude.{◌≡◌, IfOk, OnErr, IsErr, IsTrue};
 ghost use Rattle.scoop_message.specs.Message.{handler_of, is_for_handler};
+ghost use Rattle.scoop_handler.specs.Core.{IsCore, with_state};
+ghost use Rattle.scoop_handler.specs.Growing.{MarksGrow};
 ghost use Rattle.scoop_handler.specs.Marks.{mark_of};
-ghost use Rattle.scoop_handler.specs.State.{IsState};
-ghost use Rattle.scoop_handler.specs.Hearing.{hear, hear_open, mark_for, IsHeardAt};
+ghost use Rattle.scoop_handler.specs.Hearing.{hear, mark_for, IsHeardAt};
 ghost use Rattle.scoop_handler.specs.Memory.{TakesMemory};
 ghost use Rattle.scoop_handler.specs.Locking.{ConfirmsOnlyHolder, HolderMoves, DroppedChangesNothing};
-ghost use Rattle.scoop_handler.specs.Replies.{RepliesTo};
+ghost use Rattle.scoop_handler.specs.Replies.{RepliesTo, HasEntries};
 
 use crate::handler::Handler;
-use crate::mark::{Mark, Stage};
+use crate::mark::Mark;
 use crate::marks::find_mark;
-use crate::note::{Heard, Note, Reason};
+use crate::note::{Heard, Reason};
 use scoop_message::{Block, Message, OutOfMemory};
+use scoop_object::Behaviour;
 use std::alloc::Allocator;
 
-impl<A: Allocator> Handler<A> {
+impl<B: Behaviour, A: Allocator + Copy> Handler<B, A> {
     /// Hears one message.
     ///
     /// `OutOfMemory` comes only where the handler has to keep more than before, and changes nothing.
     pub fn hear(&mut self, message: &Message) -> Result<Heard, OutOfMemory>
-        ensures ok { IfOk result (λ heard. hear self.old message.now ≡ (self.new, heard)) }
+        ensures ok { IfOk result (λ heard. hear self.old.state message.now ≡ (self.new.state, heard)) }
+        ensures stays { self.new ≡ with_state self.new.state self.old }
         ensures err { OnErr result (self.new ≡ self.old) }
-        ensures memory { IsErr result → TakesMemory self.old message.now }
+        ensures memory { IsErr result → TakesMemory self.old.state message.now }
 
         // What follows, for those who need no more.
-        ensures state { IsState self.new }
-        ensures confirms { IfOk result (ConfirmsOnlyHolder self.new) }
-        ensures holder { HolderMoves self.old.holder message.now self.new.holder }
-        ensures drops { IfOk result (DroppedChangesNothing self.old self.new) }
+        ensures sound { IsCore self.new }
+        ensures confirms { IfOk result (ConfirmsOnlyHolder self.new.state) }
+        ensures holder { HolderMoves self.old.state.holder message.now self.new.state.holder }
+        ensures drops { IfOk result (DroppedChangesNothing self.old.state self.new.state) }
         ensures replies { IfOk result (RepliesTo message.now) }
+        ensures grows { MarksGrow self.old.state.marks self.new.state.marks }
+        ensures words { self.new.state.words ≡ self.old.state.words }
     {
         let is_here = message.handler() == self.number;
         if !message.for_handler() {
@@ -45,10 +50,12 @@ impl<A: Allocator> Handler<A> {
     // Hears a message to this handler.
     fn hear_here(&mut self, message: &Message) -> Result<Heard, OutOfMemory>
         requires kind { IsTrue (is_for_handler message.now) }
-        requires number { handler_of message.now ≡ self.old.number }
-        ensures ok { IfOk result (λ heard. hear self.old message.now ≡ (self.new, heard)) }
+        requires number { handler_of message.now ≡ self.old.state.number }
+        ensures ok { IfOk result (λ heard. hear self.old.state message.now ≡ (self.new.state, heard)) }
+        ensures stays { self.new ≡ with_state self.new.state self.old }
         ensures err { OnErr result (self.new ≡ self.old) }
-        ensures memory { IsErr result → TakesMemory self.old message.now }
+        ensures memory { IsErr result → TakesMemory self.old.state message.now }
+        ensures entries { HasEntries message.now }
     {
         match *message {
             Message::Hello(_, client, inc) => self.hear_hello(client, inc),
@@ -56,26 +63,30 @@ impl<A: Allocator> Handler<A> {
                 Ok(mark) => self.hear_lock(block, mark),
                 Err(why) => Heard::dropped(why),
             }),
-            Message::Open(_, block) => Ok(match self.mark_for(block) {
+            Message::Open(_, block) => match self.mark_for(block) {
                 Ok(mark) => self.hear_open(block, mark),
-                Err(why) => Heard::dropped(why),
-            }),
+                Err(why) => Ok(Heard::dropped(why)),
+            },
             Message::Unlock(_, block) => Ok(match self.mark_for(block) {
                 Ok(mark) => self.hear_unlock(block, mark),
                 Err(why) => Heard::dropped(why),
             }),
-            Message::Log(_, block, _, _) => Ok(match self.mark_for(block) {
-                Ok(_) => Heard::dropped(Reason::NotOpen),
-                Err(why) => Heard::dropped(why),
-            }),
+            Message::Log(_, block, number, entries) => {
+                // Says that there are entries, an End only last.
+                let _count = entries.len();
+                match self.mark_for(block) {
+                    Ok(mark) => self.hear_log(block, number, entries.as_slice(), mark),
+                    Err(why) => Ok(Heard::dropped(why)),
+                }
+            }
             _ => unreachable!(),
         }
     }
 
     // The mark that a message of this block is heard at, or why it is dropped.
     fn mark_for(&self, block: Block) -> Result<Mark, Reason>
-        ensures mark { result ≡ mark_for block (mark_of block.client self.now.marks) }
-        ensures heard { IfOk result (IsHeardAt self.now block) }
+        ensures mark { result ≡ mark_for block (mark_of block.client self.now.state.marks) }
+        ensures heard { IfOk result (IsHeardAt self.now.state block) }
     {
         let Some(mark) = find_mark(&self.marks, block.client) else {
             return Err(Reason::Ungreeted);
@@ -87,19 +98,5 @@ impl<A: Allocator> Handler<A> {
             return Err(Reason::Stale);
         }
         Ok(mark)
-    }
-
-    // The block asks for a private queue: the handler has room for none.
-    fn hear_open(&self, block: Block, mark: Mark) -> Heard
-        ensures { hear_open self.now block mark ≡ (self.now, result) }
-    {
-        if mark.num < block.num {
-            return Heard::dropped(Reason::NotHolder);
-        }
-        match mark.stage {
-            Stage::Open => Heard::replied(Message::Opened(self.number, block), Note::Known),
-            Stage::Held => Heard::dropped(Reason::QueueFull),
-            Stage::Shut => Heard::dropped(Reason::NotHolder),
-        }
     }
 }

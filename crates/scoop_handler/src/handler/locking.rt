@@ -1,6 +1,7 @@
 //! A block asks for the lock, and gives it back.
 
 ghost use Rattle.std.specs.Prelude.{◌≡◌};
+ghost use Rattle.scoop_handler.specs.Core.{with_state};
 ghost use Rattle.scoop_handler.specs.State.{is_holder, is_unfinished};
 ghost use Rattle.scoop_handler.specs.Hearing.{hear_lock, hear_unlock, IsHeardAt};
 
@@ -8,13 +9,15 @@ use crate::handler::Handler;
 use crate::mark::{Mark, Stage};
 use crate::note::{Heard, Note, Reason};
 use scoop_message::{Block, Message};
+use scoop_object::Behaviour;
 use std::alloc::Allocator;
 
-impl<A: Allocator> Handler<A> {
+impl<B: Behaviour, A: Allocator> Handler<B, A> {
     // The block asks for the lock. `mark` is its client's.
     pub(super) fn hear_lock(&mut self, block: Block, mark: Mark) -> Heard
-        requires { IsHeardAt self.old block mark }
-        ensures { hear_lock self.old block mark ≡ (self.new, result) }
+        requires { IsHeardAt self.old.state block mark }
+        ensures heard { hear_lock self.old.state block mark ≡ (self.new.state, result) }
+        ensures stays { self.new ≡ with_state self.new.state self.old }
     {
         if mark.num < block.num {
             if self.holder.is_none() && !self.is_unfinished(&mark) {
@@ -31,8 +34,9 @@ impl<A: Allocator> Handler<A> {
 
     // The block gives the lock back, or is past asking for it. `mark` is its client's.
     pub(super) fn hear_unlock(&mut self, block: Block, mark: Mark) -> Heard
-        requires { IsHeardAt self.old block mark }
-        ensures { hear_unlock self.old block mark ≡ (self.new, result) }
+        requires { IsHeardAt self.old.state block mark }
+        ensures heard { hear_unlock self.old.state block mark ≡ (self.new.state, result) }
+        ensures stays { self.new ≡ with_state self.new.state self.old }
     {
         let unlocked = Message::Unlocked(self.number, block);
         if mark.num < block.num {
@@ -51,13 +55,13 @@ impl<A: Allocator> Handler<A> {
 
     // Whether the client's newest block holds the lock, or is open and has not ended.
     fn is_unfinished(&self, mark: &Mark) -> bool
-        ensures { result ≡ is_unfinished self.now mark.now }
+        ensures { result ≡ is_unfinished self.now.state mark.now }
     {
         self.holds(mark.block()) || mark.stage == Stage::Open && !mark.ended
     }
 
     fn holds(&self, block: Block) -> bool
-        ensures { result ≡ is_holder self.now.holder block }
+        ensures { result ≡ is_holder self.now.state.holder block }
     {
         match self.holder {
             None => false,

@@ -1,0 +1,14 @@
+use Rattle.std.proofs.Common.{◌≡◌, ◌<◌, length, ap, subst, arith}
+use Rattle.scoop_handler.specs.Core.{Core, IsCore}
+use Rattle.scoop_handler.proofs.States.{IsState-opened}
+use Rattle.scoop_handler.proofs.handler.Handler.hear_open.Goals as goal
+
+pub open-requires : goal.open-requires
+open-requires g c =
+    let is : IsCore c.args.self.now = subst IsCore c.self.view_is c.self.invariant.0 in
+    let same_num : c.args.mark.num ≡ c.args.block.num = omega (arith, c.requires.num, c.if-mark-block.false) in
+    let same_length = ap (λ (s : Core). length s.state.queues) c.self.view_is in
+    let counted = c.list_len.ensures.value in
+    let apart = c.if-list_len-eq-MAX_QUEUES.false in
+    let room : length c.args.self.now.state.queues < 64 = omega (arith, is.state.queues.limit) in
+    IsState-opened c.args.self.now.state c.args.block c.args.mark is.state c.requires same_num c.in-Held.is room

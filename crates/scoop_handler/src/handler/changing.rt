@@ -1,0 +1,143 @@
+//! The changes by which a handler goes from one state to the next.
+
+ghost use Rattle.std.specs.Prelude.{◌≡◌, ◌<◌, length, None, OnOk, OnErr};
+ghost use Rattle.scoop_message.specs.Entries.{EndOnlyLast};
+ghost use Rattle.scoop_queue.specs.Queue.{opened, put_all};
+ghost use Rattle.scoop_queue.specs.Refusal.{HasNumbersFor, open_refusal, put_refusal};
+ghost use Rattle.scoop_handler.specs.Core.{with_state};
+ghost use Rattle.scoop_handler.specs.State.{IsState};
+ghost use Rattle.scoop_handler.specs.Hearing.{moved, with_mark, with_queue, with_incarnation, with_put, holder_without, greeting_mark};
+
+use crate::handler::Handler;
+use crate::mark::{Mark, Stage};
+use crate::marks::{add_mark_in, set_mark_in};
+use scoop_message::{Block, ClientId, Entry, OutOfMemory};
+use scoop_object::Behaviour;
+use scoop_queue::{OpenQueueError, PutError, QueueOfQueues};
+use std::alloc::Allocator;
+
+/// The mark of an incarnation that has no block yet.
+pub(super) fn greeting(client: ClientId, inc: u32) -> Mark
+    ensures { result ≡ greeting_mark client inc }
+{
+    Mark::fresh(
+        Block {
+            client,
+            inc,
+            num: 0,
+        },
+        Stage::Shut,
+    )
+}
+
+// Opens a private queue where that is refused for want of memory alone. An `Err` changes nothing.
+fn open_in<A: Allocator + Copy>(
+    queues: &mut QueueOfQueues<A>,
+    block: Block,
+) -> Result<(), OutOfMemory>
+    requires { open_refusal block queues.old ≡ None }
+    ensures ok { OnOk result (queues.new ≡ opened block queues.old) }
+    ensures err { OnErr result (queues.new ≡ queues.old) }
+{
+    match queues.open(block) {
+        Ok(()) => Ok(()),
+        Err(OpenQueueError::OutOfMemory) => Err(OutOfMemory),
+        Err(_) => unreachable!(),
+    }
+}
+
+// Puts entries where that is refused for want of memory alone. An `Err` changes nothing.
+fn put_in<A: Allocator>(
+    queues: &mut QueueOfQueues<A>,
+    block: Block,
+    entries: &[Entry],
+) -> Result<(), OutOfMemory>
+    requires some { 0 < length entries.now }
+    requires end { EndOnlyLast entries.now }
+    requires numbers { HasNumbersFor block entries.now queues.old }
+    requires fits { put_refusal block (length entries.now) queues.old ≡ None }
+    ensures ok { OnOk result (queues.new ≡ put_all block entries.now queues.old) }
+    ensures err { OnErr result (queues.new ≡ queues.old) }
+{
+    match queues.put_all(block, entries) {
+        Ok(()) => Ok(()),
+        Err(PutError::OutOfMemory) => Err(OutOfMemory),
+        Err(_) => unreachable!(),
+    }
+}
+
+impl<B: Behaviour, A: Allocator> Handler<B, A> {
+    // Puts the mark in place of its client's, beside this holder.
+    pub(super) fn change(&mut self, holder: Option<Block>, mark: Mark)
+        requires { IsState (moved self.old.state holder mark) }
+        ensures { self.new ≡ with_state (moved self.old.state holder mark) self.old }
+    {
+        set_mark_in(&mut self.marks, mark);
+        self.holder = holder;
+    }
+
+    // Adds the mark of a client that has none. An `Err` changes nothing.
+    pub(super) fn add(&mut self, mark: Mark) -> Result<(), OutOfMemory>
+        requires { IsState (with_mark self.old.state mark) }
+        ensures ok { OnOk result (self.new ≡ with_state (with_mark self.old.state mark) self.old) }
+        ensures err { OnErr result (self.new ≡ self.old) }
+    {
+        add_mark_in(&mut self.marks, mark)
+    }
+
+    // A newer incarnation of the client takes the place of its mark: its lock is freed, and the private
+    // queue of its newest block is cut.
+    pub(super) fn renew(&mut self, client: ClientId, inc: u32, mark: Mark)
+        requires { IsState (with_incarnation self.old.state client inc mark) }
+        ensures { self.new ≡ with_state (with_incarnation self.old.state client inc mark) self.old }
+    {
+        let holder = self.holder_without(client);
+        self.queues.cut(mark.block());
+        set_mark_in(&mut self.marks, greeting(client, inc));
+        self.holder = holder;
+    }
+
+    // The holder, unless it is a block of that client.
+    fn holder_without(&self, client: ClientId) -> Option<Block>
+        ensures { result ≡ holder_without client self.now.state.holder }
+    {
+        match self.holder {
+            Some(holder) if holder.client != client => Some(holder),
+            _ => None,
+        }
+    }
+
+    // Puts entries behind those of the block's private queue, and the mark in place of its client's. An
+    // `Err` changes nothing.
+    pub(super) fn put(
+        &mut self,
+        block: Block,
+        entries: &[Entry],
+        mark: Mark,
+    ) -> Result<(), OutOfMemory>
+        requires some { 0 < length entries.now }
+        requires end { EndOnlyLast entries.now }
+        requires numbers { HasNumbersFor block entries.now self.old.state.queues }
+        requires fits { put_refusal block (length entries.now) self.old.state.queues ≡ None }
+        requires state { IsState (with_put self.old.state block entries.now mark) }
+        ensures ok { OnOk result (self.new ≡ with_state (with_put self.old.state block entries.now mark) self.old) }
+        ensures err { OnErr result (self.new ≡ self.old) }
+    {
+        put_in(&mut self.queues, block, entries)?;
+        set_mark_in(&mut self.marks, mark);
+        Ok(())
+    }
+}
+
+impl<B: Behaviour, A: Allocator + Copy> Handler<B, A> {
+    // Opens a private queue for the block, whose mark this is. An `Err` changes nothing.
+    pub(super) fn open(&mut self, block: Block, mark: Mark) -> Result<(), OutOfMemory>
+        requires { IsState (with_queue self.old.state block mark) }
+        ensures ok { OnOk result (self.new ≡ with_state (with_queue self.old.state block mark) self.old) }
+        ensures err { OnErr result (self.new ≡ self.old) }
+    {
+        open_in(&mut self.queues, block)?;
+        set_mark_in(&mut self.marks, mark.opened());
+        Ok(())
+    }
+}

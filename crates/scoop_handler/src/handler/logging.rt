@@ -1,0 +1,111 @@
+//! A block logs entries.
+
+ghost use Rattle.std.specs.Prelude.{◌≡◌, ◌<◌, ◌≤◌, ◌+◌, ◌^◌, ℕ, length, IfOk, OnErr, IsErr, IsTrue, Some};
+ghost use Rattle.scoop_message.specs.Entries.{EndOnlyLast, ends, last_number};
+ghost use Rattle.scoop_handler.specs.Core.{IsCore, with_state};
+ghost use Rattle.scoop_handler.specs.Hearing.{hear_log, received_before, kept_answer, is_closed, new_entries, has_no_room, IsHeardAt};
+ghost use Rattle.scoop_handler.specs.Rows.{IsNext};
+ghost use Rattle.scoop_handler.specs.Memory.{adds};
+
+use crate::handler::Handler;
+use crate::mark::{Mark, Stage};
+use crate::note::{Heard, Note, Reason};
+use scoop_message::limits::{MAX_ENTRIES, MAX_PENDING};
+use scoop_message::{Block, Entry, Message, OutOfMemory};
+use scoop_object::Behaviour;
+use std::alloc::Allocator;
+
+// Whether the last entry is an End.
+fn ends(entries: &[Entry]) -> bool
+    ensures { result ≡ ends entries.now }
+{
+    match entries {
+        [.., last] => last.is_end(),
+        [] => false,
+    }
+}
+
+// Whether the block takes no more, or entries up to the number `last` would leave none for the End.
+fn is_closed(mark: &Mark, last: u64, entries: &[Entry]) -> bool
+    ensures { result ≡ is_closed mark.now last entries.now }
+{
+    let highest = u64::from(u32::MAX);
+    mark.ended || last > highest || last == highest && !ends(entries)
+}
+
+// The entries that were not received yet: no earlier one is missing, and there are some.
+fn unreceived<'a>(mark: &Mark, number: u32, entries: &'a [Entry]) -> &'a [Entry]
+    requires { IsNext mark.now number entries.now }
+    ensures new { result.now ≡ new_entries number entries.now mark.now }
+    ensures few { length (new_entries number entries.now mark.now) ≤ length entries.now }
+{
+    let skipped = u64::from(mark.received) + 1 - u64::from(number);
+    &entries[skipped as usize..]
+}
+
+impl<B: Behaviour, A: Allocator> Handler<B, A> {
+    // The block logs entries, the first of which has this number. `mark` is its client's. An `Err` comes
+    // only where entries would be taken, and changes nothing.
+    pub(super) fn hear_log(
+        &mut self,
+        block: Block,
+        number: u32,
+        entries: &[Entry],
+        mark: Mark,
+    ) -> Result<Heard, OutOfMemory>
+        requires heard { IsHeardAt self.old.state block mark }
+        requires some { 0 < length entries.now }
+        requires few { length entries.now ≤ MAX_ENTRIES }
+        requires end { EndOnlyLast entries.now }
+        ensures ok { IfOk result (λ heard. hear_log self.old.state block number entries.now mark ≡ (self.new.state, heard)) }
+        ensures stays { self.new ≡ with_state self.new.state self.old }
+        ensures err { OnErr result (self.new ≡ self.old) }
+        ensures memory { IsErr result → IsTrue (adds (Some mark) (hear_log self.old.state block number entries.now mark).1.note) }
+    {
+        if mark.num < block.num || mark.stage != Stage::Open {
+            return Ok(Heard::dropped(Reason::NotOpen));
+        }
+        let last = u64::from(number) + entries.len() as u64 - 1;
+        if last <= u64::from(mark.received) {
+            return Ok(self.received_before(block, last as u32, &mark));
+        }
+        if u64::from(mark.received) + 1 < u64::from(number) {
+            return Ok(Heard::dropped(Reason::Gap));
+        }
+        if is_closed(&mark, last, entries) {
+            return Ok(Heard::dropped(Reason::NotOpen));
+        }
+        let new = unreceived(&mark, number, entries);
+        if self.has_no_room(block, new.len()) {
+            return Ok(Heard::dropped(Reason::PendingFull));
+        }
+        let received = last as u32;
+        self.put(block, new, mark.with_received(received, ends(entries)))?;
+        Ok(Heard::replied(
+            Message::Logged(self.number, block, received),
+            Note::Took(received),
+        ))
+    }
+
+    // Whether the block's private queue has no room for so many more entries.
+    fn has_no_room(&self, block: Block, more: usize) -> bool
+        requires { more ≤ MAX_ENTRIES }
+        ensures value { result ≡ has_no_room self.now.state block more }
+        ensures core { IsCore self.now }
+    {
+        self.queues.pending_len(block) + more > MAX_PENDING
+    }
+
+    // What is answered to entries that were all received, the last of which has this number.
+    fn received_before(&self, block: Block, last: u32, mark: &Mark) -> Heard
+        ensures { received_before self.now.state block last mark.now (kept_answer last mark.now.kept) ≡ (self.now.state, result) }
+    {
+        let reply = match mark.kept {
+            Some((number, answer)) if number == last => {
+                Message::Answer(self.number, block, last, answer)
+            }
+            _ => Message::Logged(self.number, block, mark.received),
+        };
+        Heard::replied(reply, Note::Known)
+    }
+}

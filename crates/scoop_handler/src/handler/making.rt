@@ -1,0 +1,88 @@
+//! How a handler is made, and copied.
+
+ghost use Rattle.std.specs.Prelude.{◌≡◌, ◌↔◌, length, IsOk, IfOk, IfErr, false};
+ghost use Rattle.scoop_handler.specs.State.{new_state};
+ghost use Rattle.scoop_handler.specs.Core.{core_of};
+ghost use Rattle.scoop_handler.specs.Running.{FitsClass};
+
+use crate::error::WrongClass;
+use crate::handler::Handler;
+use crate::held::{Held, set_words};
+use crate::state::HandlerState;
+use scoop_message::{HandlerId, OutOfMemory};
+use scoop_object::{Behaviour, Class};
+use scoop_queue::QueueOfQueues;
+use std::alloc::Allocator;
+
+impl<B: Behaviour, A: Allocator + Copy> Handler<B, A> {
+    /// A handler that nobody has greeted yet, with its object. Takes no memory yet.
+    ///
+    /// `WrongClass` comes exactly where the object hasn't the class, and hands it back.
+    pub fn new(
+        alloc: A,
+        number: HandlerId,
+        class: Class,
+        object: B,
+    ) -> Result<Handler<B, A>, WrongClass<B>>
+        ensures accepted { IsOk result ↔ (B.class object ≡ class) }
+        ensures made { IfOk result (λ h. h ≡ core_of class (new_state number (B.words object)) false) }
+        ensures handed_back { IfErr result (λ e. e.0 ≡ object) }
+    {
+        if !object.has_class(&class) {
+            return Err(WrongClass(object));
+        }
+        let _words = object.words();
+        Ok(Handler {
+            class,
+            number,
+            holder: None,
+            marks: Vec::new(alloc),
+            queues: QueueOfQueues::new(alloc),
+            held: Held::Here(object),
+        })
+    }
+
+    /// The handler's state, kept with the same allocator. `OutOfMemory` is the one refusal.
+    pub fn copy(&self) -> Result<HandlerState<A>, OutOfMemory>
+        ensures { IfOk result (λ copy. copy ≡ self.now.state) }
+    {
+        let alloc = *self.marks.allocator();
+        Ok(HandlerState {
+            number: self.number,
+            holder: self.holder,
+            marks: Vec::from_slice(alloc, self.marks.as_slice())?,
+            queues: self.queues.copy()?,
+            words: self.words(),
+        })
+    }
+}
+
+impl<B: Behaviour, A: Allocator> Handler<B, A> {
+    /// A handler with a stored state and no job out, its object set to the stored words. Takes no memory.
+    ///
+    /// `WrongClass` comes exactly where the object hasn't the class, or the stored words are not as many
+    /// as the class has. It hands the object back as it was.
+    pub fn restart(
+        class: Class,
+        object: B,
+        state: HandlerState<A>,
+    ) -> Result<Handler<B, A>, WrongClass<B>>
+        ensures accepted { IsOk result ↔ ((B.class object ≡ class) × FitsClass class state) }
+        ensures made { IfOk result (λ h. h ≡ core_of class state false) }
+        ensures handed_back { IfErr result (λ e. e.0 ≡ object) }
+    {
+        if !object.has_class(&class) || state.words.len() != class.words() {
+            return Err(WrongClass(object));
+        }
+        let mut object = object;
+        set_words(&mut object, state.words);
+        Ok(Handler {
+            class,
+            number: state.number,
+            holder: state.holder,
+            marks: state.marks,
+            queues: state.queues,
+            held: Held::Here(object),
+        })
+    }
+}

@@ -1,0 +1,42 @@
+//! A block asks for a private queue.
+
+ghost use Rattle.std.specs.Prelude.{◌≡◌, IfOk, OnErr, IsErr, IsTrue, Some};
+ghost use Rattle.scoop_handler.specs.Core.{with_state};
+ghost use Rattle.scoop_handler.specs.Hearing.{hear_open, IsHeardAt};
+ghost use Rattle.scoop_handler.specs.Memory.{adds};
+
+use crate::handler::Handler;
+use crate::mark::{Mark, Stage};
+use crate::note::{Heard, Note, Reason};
+use scoop_message::limits::MAX_QUEUES;
+use scoop_message::{Block, Message, OutOfMemory};
+use scoop_object::Behaviour;
+use std::alloc::Allocator;
+
+impl<B: Behaviour, A: Allocator + Copy> Handler<B, A> {
+    // The block asks for a private queue. `mark` is its client's. An `Err` comes only where the block
+    // would get one, and changes nothing.
+    pub(super) fn hear_open(&mut self, block: Block, mark: Mark) -> Result<Heard, OutOfMemory>
+        requires { IsHeardAt self.old.state block mark }
+        ensures ok { IfOk result (λ heard. hear_open self.old.state block mark ≡ (self.new.state, heard)) }
+        ensures stays { self.new ≡ with_state self.new.state self.old }
+        ensures err { OnErr result (self.new ≡ self.old) }
+        ensures memory { IsErr result → IsTrue (adds (Some mark) (hear_open self.old.state block mark).1.note) }
+    {
+        if mark.num < block.num {
+            return Ok(Heard::dropped(Reason::NotHolder));
+        }
+        let opened = Message::Opened(self.number, block);
+        match mark.stage {
+            Stage::Open => Ok(Heard::replied(opened, Note::Known)),
+            Stage::Shut => Ok(Heard::dropped(Reason::NotHolder)),
+            Stage::Held => {
+                if self.queues.list_len() == MAX_QUEUES {
+                    return Ok(Heard::dropped(Reason::QueueFull));
+                }
+                self.open(block, mark)?;
+                Ok(Heard::replied(opened, Note::Opened(block)))
+            }
+        }
+    }
+}

@@ -1,0 +1,84 @@
+//! How a handler takes another state.
+
+ghost use Rattle.std.specs.Prelude.{◌≡◌, ◌↔◌, IsTrue, IsOk, OnOk, IfErr, false};
+ghost use Rattle.scoop_handler.specs.Core.{IsCore, core_of, with_state};
+ghost use Rattle.scoop_handler.specs.Running.{MayRecall, MayReset, job_out};
+
+use crate::handler::Handler;
+use crate::held::{Held, set_words};
+use crate::state::HandlerState;
+use scoop_object::Behaviour;
+use std::alloc::Allocator;
+
+impl<B: Behaviour, A: Allocator> Handler<B, A> {
+    /// Makes this the state, and sets the object's words. A job that is out stays out. Takes no memory.
+    ///
+    /// Refused exactly where the handler's number differs, or the words are not as many as the class
+    /// has; with a job out also where the words aren't those with which it left, or the first pending
+    /// entry isn't its entry. The state is handed back, and nothing changes.
+    pub fn reset(&mut self, state: HandlerState<A>) -> Result<(), HandlerState<A>>
+        ensures accepted { IsOk result ↔ MayReset state self.old }
+        ensures state { OnOk result (self.new ≡ with_state state self.old) }
+        ensures refused { IfErr result (λ e. (self.new ≡ self.old) × (e ≡ state)) }
+        ensures sound { IsCore self.new }
+    {
+        if !self.may_reset(&state) {
+            return Err(state);
+        }
+        if let Held::Here(object) = &mut self.held {
+            set_words(object, state.words);
+        }
+        self.holder = state.holder;
+        self.marks = state.marks;
+        self.queues = state.queues;
+        Ok(())
+    }
+
+    /// Takes the state, and the object of a dropped job with it, set to the state's words: no job is
+    /// out any more. Takes no memory.
+    ///
+    /// Refused exactly where no job is out, where the handler's number or the object's class differs,
+    /// or where the words are not as many as the class has. Object and state are handed back, and
+    /// nothing changes.
+    pub fn recall(&mut self, object: B, state: HandlerState<A>) -> Result<(), (B, HandlerState<A>)>
+        ensures accepted { IsOk result ↔ MayRecall (B.class object) state self.old }
+        ensures state { OnOk result (self.new ≡ core_of self.old.class state false) }
+        ensures refused { IfErr result (λ e. (self.new ≡ self.old) × ((e.0 ≡ object) × (e.1 ≡ state))) }
+        ensures sound { IsCore self.new }
+    {
+        if !self.may_recall(&object, &state) {
+            return Err((object, state));
+        }
+        let mut object = object;
+        set_words(&mut object, state.words);
+        self.held = Held::Here(object);
+        self.holder = state.holder;
+        self.marks = state.marks;
+        self.queues = state.queues;
+        Ok(())
+    }
+
+    // Whether `reset` takes the state.
+    fn may_reset(&self, state: &HandlerState<A>) -> bool
+        ensures may { IsTrue result ↔ MayReset state.now self.now }
+        ensures sound { IsCore self.now }
+    {
+        let job_stays = match &self.held {
+            Held::Here(_) => true,
+            Held::Out(left) => {
+                state.words == *left && state.queues.front() == self.queues.front()
+            }
+        };
+        state.number == self.number && state.words.len() == self.class.words() && job_stays
+    }
+
+    // Whether `recall` takes the object and the state.
+    fn may_recall(&self, object: &B, state: &HandlerState<A>) -> bool
+        ensures { IsTrue result ↔ MayRecall (B.class object.now) state.now self.now }
+    {
+        matches!(self.held, Held::Out(_))
+            && state.number == self.number
+            && state.words.len() == self.class.words()
+            && object.has_class(&self.class)
+    }
+}

@@ -1,0 +1,116 @@
+//! How a handler runs the first entry of its first private queue: at once, or as a job that takes the
+//! object away meanwhile.
+
+ghost use Rattle.std.specs.Prelude.{◌≡◌, ◌≢◌, ◌↔◌, IsTrue, IsOk, OnOk, IfOk, IfErr, Some};
+ghost use Rattle.std.specs.Option.{option_map};
+ghost use Rattle.scoop_handler.specs.Core.{IsCore};
+ghost use Rattle.scoop_handler.specs.Growing.{MarksGrow};
+ghost use Rattle.scoop_handler.specs.Running.{after, begun, finished, job_out, ran_of, ready, run};
+
+use crate::error::{AfterError, StrangerJob};
+use crate::handler::Handler;
+use crate::held::Held;
+use crate::job::{Done, Job, run_entry};
+use crate::marks::keep_answer_in;
+use crate::ran::Ran;
+use crate::state::HandlerState;
+use scoop_object::Behaviour;
+use std::alloc::Allocator;
+use std::mem;
+
+impl<B: Behaviour, A: Allocator> Handler<B, A> {
+    /// Runs the first entry of the first private queue. `None` comes exactly where there is no private
+    /// queue, the first one has no entry, or a job is out; then nothing changes. Takes no memory.
+    pub fn run(&mut self) -> Option<Ran>
+        ensures ran { result ≡ option_map ran_of (ready self.old) }
+        ensures state { self.new ≡ run self.old }
+        ensures sound { IsCore self.new }
+        ensures grows { MarksGrow self.old.state.marks self.new.state.marks }
+    {
+        let Held::Here(object) = &mut self.held else {
+            return None;
+        };
+        let (block, number, entry) = self.queues.advance()?;
+        let answer = run_entry(object, &entry);
+        let ran = Ran {
+            block,
+            number,
+            entry,
+            answer,
+        };
+        keep_answer_in(&mut self.marks, &ran);
+        Some(ran)
+    }
+
+    /// Starts the first entry of the first private queue as a job, which takes the object away. The
+    /// entry stays in its private queue until the job is finished. `None` comes exactly where `run`
+    /// would give it. Takes no memory.
+    pub fn begin(&mut self) -> Option<Job<B>>
+        ensures job { result ≡ ready self.old }
+        ensures state { self.new ≡ begun self.old }
+        ensures sound { IsCore self.new }
+    {
+        let first = self.queues.front()?;
+        let Held::Here(object) = &self.held else {
+            return None;
+        };
+        let words = object.words();
+        match mem::replace(&mut self.held, Held::Out(words)) {
+            Held::Here(object) => Some(Job::new(self.number, first, words, object)),
+            Held::Out(_) => unreachable!(),
+        }
+    }
+
+    /// Takes the object of a job back, with what its entry did. Takes no memory.
+    ///
+    /// `StrangerJob` comes exactly where no job is out, or handler, block, number, entry, class or
+    /// starting words aren't those of the job that is out. It hands the job back, and nothing changes.
+    pub fn finish(&mut self, done: Done<B>) -> Result<Ran, StrangerJob<B>>
+        ensures accepted { IsOk result ↔ (job_out self.old ≡ Some done) }
+        ensures ran { IfOk result (λ ran. ran ≡ ran_of done) }
+        ensures state { OnOk result (self.new ≡ finished done self.old) }
+        ensures refused { IfErr result (λ e. (self.new ≡ self.old) × (e.0 ≡ done)) }
+        ensures sound { IsCore self.new }
+        ensures grows { MarksGrow self.old.state.marks self.new.state.marks }
+    {
+        if !self.is_out(&done) {
+            return Err(StrangerJob(done));
+        }
+        self.queues.advance();
+        let ran = done.ran();
+        keep_answer_in(&mut self.marks, &ran);
+        let object = done.into_object();
+        self.held = Held::Here(object);
+        Ok(ran)
+    }
+
+    /// Whether a job is the one that is out.
+    fn is_out(&self, done: &Done<B>) -> bool
+        ensures { IsTrue result ↔ (job_out self.now ≡ Some done.now) }
+    {
+        match (&self.held, self.queues.front()) {
+            (Held::Out(left), Some(first)) => done.is_of(self.number, first, &self.class, left),
+            _ => false,
+        }
+    }
+}
+
+impl<B: Behaviour, A: Allocator + Copy> Handler<B, A> {
+    /// The state that `finish` would give, kept with the same allocator.
+    ///
+    /// `Stranger` comes exactly where `finish` would refuse the job; then `OutOfMemory`.
+    pub fn after_finish(&self, done: &Done<B>) -> Result<HandlerState<A>, AfterError>
+        ensures out { OnOk result (job_out self.now ≡ Some done.now) }
+        ensures state { IfOk result (λ s. s ≡ after done.now self.now.state) }
+        ensures stranger { IfErr result (λ e. (e ≡ AfterError.Stranger) ↔ (job_out self.now ≢ Some done.now)) }
+    {
+        if !self.is_out(done) {
+            return Err(AfterError::Stranger);
+        }
+        let mut state = self.copy()?;
+        state.queues.advance();
+        keep_answer_in(&mut state.marks, &done.ran());
+        state.words = done.words();
+        Ok(state)
+    }
+}

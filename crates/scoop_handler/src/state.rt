@@ -1,0 +1,156 @@
+//! What a handler keeps, as a value of its own.
+
+ghost use Rattle.std.specs.Prelude.{◌≡◌, ◌↔◌, length, slice_get, IsTrue, IfErr, IfOk, OnOk};
+ghost use Rattle.scoop_handler.specs.State.{state_of, IsState};
+
+mod conditions;
+
+use crate::mark::Mark;
+use conditions::is_state;
+use scoop_message::{Block, HandlerId, Words};
+use scoop_queue::QueueOfQueues;
+use std::alloc::{Allocator, Global};
+use std::marker::Model;
+use thiserror::Error;
+
+/// Why parts were not made a handler's state, in the order in which it is tested.
+#[derive(Clone, Copy, Debug, PartialEq, Eq, Error)]
+pub enum StateError {
+    /// No handler can have this state.
+    #[error("BadState")]
+    BadState,
+    /// A growth of memory was refused.
+    #[error("out of memory")]
+    OutOfMemory,
+}
+
+/// The state of a handler: its number, the block that holds its lock, the marks of its clients, its
+/// private queues, and its object's words. Whether a job is out isn't in it: the entry of a job that is
+/// out is pending there, and the words are those with which it left.
+#[derive(Drop)]
+pub struct HandlerState<A: Allocator = Global> {
+    pub(crate) number: HandlerId,
+    pub(crate) holder: Option<Block>,
+    pub(crate) marks: Vec<Mark, A>,
+    pub(crate) queues: QueueOfQueues<A>,
+    pub(crate) words: Words,
+}
+
+impl<A: Allocator> Model for HandlerState<A> {
+    ghost use Rattle.scoop_handler.specs.State.{HandlerState as State, IsState, state_of};
+
+    ghost Value = { State };
+
+    ghost view = { λ s. state_of s.number s.holder s.marks.items s.queues s.words };
+
+    ghost invariant = { λ s. IsState (state_of s.number s.holder s.marks.items s.queues s.words) };
+}
+
+impl<A: Allocator> HandlerState<A> {
+    /// The state of these parts; the marks are kept with this allocator.
+    ///
+    /// Refused: `BadState` where there are more than 64 marks or they don't stand by ascending client;
+    /// where the holder isn't the block of a mark that is held or open, or a held mark's block isn't the
+    /// holder; where something was received of a block that isn't open; where the block of a mark that is
+    /// open and not ended has no open private queue; where a private queue's client has no mark, its block
+    /// is above that mark's, or what it holds differs from what the mark says was received; where a queue
+    /// is open whose block isn't that of such a mark, or cut and of the mark's incarnation; `OutOfMemory`.
+    pub fn of(
+        alloc: A,
+        number: HandlerId,
+        words: Words,
+        holder: Option<Block>,
+        marks: &[Mark],
+        queues: QueueOfQueues<A>,
+    ) -> Result<HandlerState<A>, StateError>
+        ensures ok { IfOk result (λ s. s ≡ state_of number holder marks.now queues words) }
+        ensures fits { OnOk result (IsState (state_of number holder marks.now queues words)) }
+        ensures bad { IfErr result (λ e. (e ≡ StateError.BadState) ↔ (IsState (state_of number holder marks.now queues words) → ⊥)) }
+    {
+        if !is_state(&words, holder, marks, &queues) {
+            return Err(StateError::BadState);
+        }
+        let Ok(marks) = Vec::from_slice(alloc, marks) else {
+            return Err(StateError::OutOfMemory);
+        };
+        Ok(HandlerState {
+            number,
+            holder,
+            marks,
+            queues,
+            words,
+        })
+    }
+
+    /// The handler's number.
+    pub fn handler(&self) -> HandlerId
+        ensures value { result ≡ self.now.number }
+        ensures state { IsState self.now }
+    {
+        self.number
+    }
+
+    /// The block that holds the lock.
+    pub fn holder(&self) -> Option<Block>
+        ensures { result ≡ self.now.holder }
+    {
+        self.holder
+    }
+
+    /// The object's words.
+    pub fn words(&self) -> Words
+        ensures { result ≡ self.now.words }
+    {
+        self.words
+    }
+
+    /// How many clients have a mark.
+    pub fn marks(&self) -> usize
+        ensures { result ≡ length self.now.marks }
+    {
+        self.marks.len()
+    }
+
+    /// The mark at a place, counted from 0, by ascending client.
+    pub fn mark(&self, i: usize) -> Option<Mark>
+        ensures { result ≡ slice_get self.now.marks i }
+    {
+        self.marks.get(i).copied()
+    }
+
+    /// The private queues, in the order in which they opened.
+    pub fn queues(&self) -> &QueueOfQueues<A>
+        ensures { result.now ≡ self.now.queues }
+    {
+        &self.queues
+    }
+
+    /// Whether the other one is the same state.
+    pub fn same(&self, other: &HandlerState<A>) -> bool
+        ensures { IsTrue result ↔ (self.now ≡ other.now) }
+    {
+        self.number.0 == other.number.0
+            && same_holder(self.holder, other.holder)
+            && same_marks(&self.marks, &other.marks)
+            && same_words(&self.words, &other.words)
+            && self.queues.same(&other.queues)
+    }
+}
+
+fn same_holder(left: Option<Block>, right: Option<Block>) -> bool
+    ensures { IsTrue result ↔ (left ≡ right) }
+{
+    left == right
+}
+
+fn same_marks(left: &[Mark], right: &[Mark]) -> bool
+    ensures { IsTrue result ↔ (left.now ≡ right.now) }
+{
+    left == right
+}
+
+fn same_words(left: &Words, right: &Words) -> bool
+    ensures { IsTrue result ↔ (left.now ≡ right.now) }
+{
+    left == right
+}
