@@ -8,7 +8,7 @@ use Rattle.scoop_demo.specs.Running.RunsBehind.{runs, rests}
 
 -- it comes to one end
 pub behind_same : (note : Option Note) (heard new other : Core) → RunsBehind note heard new → RunsBehind note heard other → other ≡ new
-behind_same note heard new other (runs n r) (runs m s) = runs_out_same heard new other r.0 s.0 r.1 s.1
-behind_same note heard new other (runs n r) (rests m s) = cc
-behind_same note heard new other (rests n r) (runs m s) = cc
-behind_same note heard new other (rests n r) (rests m s) = cc
+behind_same said heard new other (runs n r) (runs m s) = runs_out_same heard new other r.0 s.0 r.1 s.1
+behind_same said heard new other (runs n r) (rests m s) = cc
+behind_same said heard new other (rests n r) (runs m s) = cc
+behind_same said heard new other (rests n r) (rests m s) = cc

@@ -35,27 +35,34 @@ struct Case<'a> {
     output: &'a str,
 }
 
-// Runs handler 1 with an object of that class over an input.
-fn runs<B: Behaviour, A: Allocator + Copy>(
+// How a run of handler 1 with an object of that class ends, and what it writes.
+fn run_of<B: Behaviour, A: Allocator + Copy>(
     rt: &impl Abort,
     (alloc, heap): (Global, A),
     (class, object): (&str, B),
+    input: &[u8],
+) -> Result<(Result<(), RunError>, Vec<u8>), Fail> {
+    let class = demo_class(alloc, class)?.expect(rt, "it has a name");
+    let mut output = Vec::new(alloc);
+    match Handler::new(heap, HandlerId(1), class, object) {
+        Ok(mut handler) => {
+            let ended = answer_run(&mut handler, true, input, &mut output);
+            Ok((ended, output))
+        }
+        Err(_) => panic!(rt; "it is of its class"),
+    }
+}
+
+// Runs handler 1 with an object of that class over an input.
+fn runs<B: Behaviour, A: Allocator + Copy>(
+    rt: &impl Abort,
+    heaps: (Global, A),
+    object: (&str, B),
     case: Case<'_>,
 ) -> Result<(), Fail> {
-    let class = demo_class(alloc, class)?.expect(rt, "it has a name");
-    let mut handler = match Handler::new(heap, HandlerId(1), class, object) {
-        Ok(handler) => handler,
-        Err(_) => panic!(rt; "it is of its class"),
-    };
-    let mut output = Vec::new(alloc);
-    let ended = answer_run(&mut handler, true, case.input.as_bytes(), &mut output);
-    assert_eq!(rt; ended, case.ended, "at {:?}", case.input);
-    assert_eq!(rt;
-        output.as_slice(),
-        case.output.as_bytes(),
-        "at {:?}",
-        case.input
-    );
+    let (ended, output) = run_of(rt, heaps, object, case.input.as_bytes())?;
+    assert_eq!(rt; ended, case.ended);
+    assert_eq!(rt; output.as_slice(), case.output.as_bytes());
     Ok(())
 }
 
