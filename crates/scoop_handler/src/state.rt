@@ -7,7 +7,7 @@ mod conditions;
 
 use crate::mark::Mark;
 use conditions::is_state;
-use scoop_message::{Block, HandlerId, Words};
+use scoop_message::{Block, HandlerId, OutOfMemory, Words};
 use scoop_queue::QueueOfQueues;
 use std::alloc::{Allocator, Global};
 use std::marker::Model;
@@ -153,4 +153,22 @@ fn same_words(left: &Words, right: &Words) -> bool
     ensures { IsTrue result ↔ (left.now ≡ right.now) }
 {
     left == right
+}
+
+impl<A: Allocator + Copy> HandlerState<A> {
+    /// The same state, kept with the same allocator. `OutOfMemory` is the one refusal.
+    pub fn copy(&self) -> Result<HandlerState<A>, OutOfMemory>
+        ensures { IfOk result (λ copy. copy ≡ self.now) }
+    {
+        let mut marks = Vec::with_capacity(*self.marks.allocator(), self.marks.len())?;
+        marks.extend_from_slice(self.marks.as_slice())?;
+        let queues = self.queues.copy()?;
+        Ok(HandlerState {
+            number: self.number,
+            holder: self.holder,
+            marks,
+            queues,
+            words: self.words,
+        })
+    }
 }

@@ -1,0 +1,193 @@
+-- A record of version 1 that was migrated holds what it held.
+use Rattle.std.proofs.Common.{◌≡◌, ◌≢◌, inl, inr, ◌<◌, ℕ, pos, List, [], ◌∷◌, ◌++◌, All, map, Bool, true, false, find, Option, Some, None, option_map, refl, sym, ap, ◌∙◌, subst, arith, IsPermutation}
+use Rattle.std.specs.List.{AllByRecursion, AllZip}
+use Rattle.std.proofs.lemmas.List.Sorted.{All-permutation, IsPermutation-sym}
+use Rattle.std.proofs.lemmas.List.Elements.{All-from_recursion, recursion_from_All}
+use Rattle.sqlite_value.specs.declared.value.Value.{Value}
+use Rattle.sqlite_value.specs.declared.value.Value.TheVariants.{Int, Blob}
+use Rattle.sqlite_value.specs.Order.{Row, column}
+use Rattle.sqlite_trees.specs.Tree.{Trees, rowid, has_rowid}
+use Rattle.sqlite_rules.specs.Lists.{Has}
+use Rattle.sqlite_rules.proofs.ListLemmas.{all_from, all_has, has_found}
+use Rattle.sqlite.specs.Effect.{Database}
+use Rattle.scoop_handler.specs.State.{HandlerState, IsState}
+use Rattle.scoop_record.specs.Range.{InRange}
+use Rattle.scoop_record.specs.Image.{image, pending_row}
+use Rattle.scoop_record.specs.Reading.{IsStored, IsStoredWithEntries}
+use Rattle.scoop_record.specs.Keeper.{Stored, Missing, Holds, Damaged, IsTheOne}
+use Rattle.scoop_record.specs.Tables.{first_schema, record_schema, value_at, Puts, Makes}
+use Rattle.scoop_record.specs.Store.{handlers_in, incs_in, inc_in}
+use Rattle.scoop_record.specs.Migrate.{FirstHas, first_handlers_in, SavesAll, IsFirstRow, IsRising, keyed_value, IsCarried, Migrates}
+use Rattle.scoop_record.proofs.RowLemmas.{find_own}
+use Rattle.scoop_record.proofs.TableLemmas.{int_key}
+use Rattle.scoop_record.proofs.MapLemmas.{saved, saved_incs, stays}
+use Rattle.scoop_record.proofs.StoredLemmas.{same_id, missing_there}
+
+-- a state has its own rows
+own_rows : (s : HandlerState) → IsState s → InRange s → IsStored s.number (image s) (pending_row s) s
+own_rows s state range = record { state = state; range = range; number = refl; image = refl; pending = refl }
+
+-- a handler that is not among the states keeps what it has
+others_stay : (old new : Database) (all : List HandlerState) (handler : ℕ) → AllByRecursion (λ (s : HandlerState). s.number.0 ≢ handler) all → SavesAll old new all
+    → (v : Stored) → handlers_in old.trees handler v → handlers_in new.trees handler v
+others_stay old new [] handler apart same v h = ((stays old new same).each handler v).0 h
+others_stay old new (s ∷ more) handler apart (state, range, mid, first, rest) v h =
+    let step = saved old mid s (image s) (pending_row s) (own_rows s state range) first in
+    others_stay mid new more handler apart.1 rest v ((step.others handler (λ e. apart.0 (sym e)) v).0 h)
+
+incs_stay : (old new : Database) (all : List HandlerState) (client : ℕ) → SavesAll old new all → incs_in new.trees client ≡ incs_in old.trees client
+incs_stay old new [] client same = ap (λ (d : Database). incs_in d.trees client) same
+incs_stay old new (s ∷ more) client (state, range, mid, first, rest) = incs_stay mid new more client rest ∙ (saved_incs old mid s.number.0 (image s) (pending_row s) first).each client
+
+schema_stays : (old new : Database) (all : List HandlerState) → SavesAll old new all → new.schema ≡ old.schema
+schema_stays old new [] same = ap (λ (d : Database). d.schema) same
+schema_stays old new (s ∷ more) (state, range, mid, (half, first, second), rest) = schema_stays mid new more rest ∙ second.schema ∙ first.schema
+
+above_apart : (it : HandlerState) (more : List HandlerState) → AllByRecursion (λ (b : HandlerState). it.number.0 < b.number.0) more → AllByRecursion (λ (b : HandlerState). b.number.0 ≢ it.number.0) more
+above_apart it [] all = tt
+above_apart it (b ∷ more) all = (λ e. omega (arith, e, all.0), above_apart it more all.1)
+
+-- a handler among the states has its own
+own_stands : (old new : Database) (all : List HandlerState) (it : HandlerState) → IsRising all → Has all it → SavesAll old new all → handlers_in new.trees it.number.0 (Holds it)
+own_stands old new [] it rising here saves = absurd here
+own_stands old new (s ∷ more) it rising here (state, range, mid, first, rest) = elim here [
+  | inl same ↦
+      let apart : AllByRecursion (λ (b : HandlerState). b.number.0 ≢ s.number.0) more = above_apart s more rising.0 in
+      let there = others_stay mid new more s.number.0 apart rest (Holds s) (saved old mid s (image s) (pending_row s) (own_rows s state range) first).there in
+      subst (λ (x : HandlerState). handlers_in new.trees x.number.0 (Holds x)) (sym same) there
+  | inr later ↦ own_stands mid new more it rising.1 later rest
+]
+
+-- the state of a row that is there
+state_of_row : (rows : List Row) (all : List HandlerState) → AllZip IsFirstRow rows all → (row : Row) → Has rows row → (it : HandlerState) × Has all it × IsFirstRow row it
+state_of_row [] all zip row here = absurd here
+state_of_row (r ∷ rows) [] zip row here = absurd zip
+state_of_row (r ∷ rows) (it ∷ all) zip row here = elim here [
+  | inl same ↦ (it, inl refl, rw same zip.0)
+  | inr later ↦ let found = state_of_row rows all zip.1 row later in (found.0, inr found.1, found.2)
+]
+
+-- the row of a state
+row_of_state : (rows : List Row) (all : List HandlerState) → AllZip IsFirstRow rows all → (P : HandlerState → Type 0) → ((row : Row) (it : HandlerState) → Has rows row → IsFirstRow row it → P it) → AllByRecursion P all
+row_of_state [] [] zip P f = tt
+row_of_state [] (it ∷ all) zip P f = absurd zip
+row_of_state (r ∷ rows) [] zip P f = absurd zip
+row_of_state (r ∷ rows) (it ∷ all) zip P f = (f r it (inl refl) zip.0, row_of_state rows all zip.1 P (λ row s here is. f row s (inr here) is))
+
+has_mapped : {A B : Type 0} (f : A → B) (xs : List A) (x : A) → Has xs x → Has (map f xs) (f x)
+has_mapped f [] x here = absurd here
+has_mapped f (y ∷ xs) x (inl same) = inl (ap f same)
+has_mapped f (y ∷ xs) x (inr later) = inr (has_mapped f xs x later)
+
+has_source : {A B : Type 0} (f : A → B) (xs : List A) (y : B) → Has (map f xs) y → (x : A) × Has xs x × (y ≡ f x)
+has_source f [] y here = absurd here
+has_source f (x ∷ xs) y (inl same) = (x, inl refl, same)
+has_source f (x ∷ xs) y (inr later) = let found = has_source f xs y later in (found.0, inr found.1, found.2)
+
+has_permuted : {X : Type 0} (xs ys : List X) (x : X) → IsPermutation xs ys → Has xs x → Has ys x
+has_permuted xs ys x same here = all_has (Has ys) xs x (recursion_from_All (Has ys) xs (All-permutation (Has ys) ys xs (IsPermutation-sym xs ys same) (All-from_recursion (Has ys) ys (all_from (Has ys) ys (λ y at. at))))) here
+
+none_has : (p : Row → Bool) (rows : List Row) (r : Row) → find p rows ≡ None → Has rows r → p r ≡ true → ⊥
+none_has p [] r none here is = here
+none_has p (x ∷ rows) r none here is = go (p x) refl none here (λ n later. none_has p rows r n later is)
+  where
+    go : (b : Bool) → p x ≡ b → find p (x ∷ rows) ≡ None → Has (x ∷ rows) r → (find p rows ≡ None → Has rows r → ⊥) → ⊥
+    go true hits none here deeper = absurd (let e = rw hits at none in cc)
+    go false fails none (inl same) deeper = absurd (let e : p x ≡ true = rw (← same) is in cc)
+    go false fails none (inr later) deeper = deeper (rw fails at none) later
+
+-- nothing is the one thing that a record of version 1 has for a handler without an image
+missing_one : (handler : ℕ) (value : Option Value) → value ≡ None → IsTheOne (FirstHas handler value) Missing
+missing_one handler value is = record { there = is; only = only }
+  where
+    only : (other : Stored) → FirstHas handler value other → other ≡ Missing
+    only Missing h = refl
+    only (Holds s) h = absurd (let e = sym is ∙ h.there in cc)
+    only Damaged h = absurd (h.some is)
+
+-- the state whose image is there is the one thing that it has
+held_one : (handler : ℕ) (value : Option Value) (bytes : List ℕ) (it : HandlerState) → value ≡ Some (Blob bytes) → it.number.0 ≡ handler → IsStoredWithEntries it.number bytes it
+    → ((t : HandlerState) → IsStoredWithEntries it.number bytes t → t ≡ it) → IsTheOne (FirstHas handler value) (Holds it)
+held_one handler value bytes it is own stored unique = record { there = record { number = own; bytes = bytes; there = is; stored = stored }; only = only }
+  where
+    only : (other : Stored) → FirstHas handler value other → other ≡ Holds it
+    only Missing h = absurd (let e = sym h ∙ is in cc)
+    only (Holds s) h =
+        let e = sym h.there ∙ is in
+        let same : h.bytes ≡ bytes = cc in
+        let id : s.number ≡ it.number = same_id s.number it.number (h.number ∙ sym own) in
+        ap Holds (unique s (subst (λ b. IsStoredWithEntries it.number b s) same (subst (λ n. IsStoredWithEntries n h.bytes s) id h.stored)))
+    only Damaged h = absurd (h.none it (record { number = own; bytes = bytes; there = is; stored = stored }))
+
+pos_same : (m n : ℕ) → Int (pos m) ≡ Int (pos n) → m ≡ n
+pos_same m n e = cc
+
+-- what the migration writes is what was read
+module _ (db new : Database) (rows : List Row) (all : List HandlerState) (same : IsPermutation (map keyed_value (db.trees 1)) rows) (zip : AllZip IsFirstRow rows all) (rising : IsRising all) (saves : SavesAll db new all) where
+  pub states_kept : (handler : ℕ) → IsCarried (first_handlers_in db.trees handler) (handlers_in new.trees handler)
+  states_kept handler = go (find (has_rowid (pos handler)) (db.trees 1)) refl
+    where
+      go : (found : Option Row) → find (has_rowid (pos handler)) (db.trees 1) ≡ found → IsCarried (first_handlers_in db.trees handler) (handlers_in new.trees handler)
+      go None none =
+          let apart : AllByRecursion (λ (it : HandlerState). it.number.0 ≢ handler) all = row_of_state rows all zip (λ it. it.number.0 ≢ handler) (λ row it here is own.
+          let source = has_source keyed_value (db.trees 1) row (has_permuted rows (map keyed_value (db.trees 1)) row (IsPermutation-sym (map keyed_value (db.trees 1)) rows same) here) in
+          let key : rowid source.0 ≡ Int (pos handler) = ap (λ (r : Row). column r 0) (sym source.2) ∙ is.key ∙ ap (λ n. Int (pos n)) own in
+          none_has (has_rowid (pos handler)) (db.trees 1) source.0 none source.1 (rw key (find_own handler))) in
+          let empty : value_at (db.trees 1) handler ≡ None = ap (option_map (λ (r : Row). column r 2)) none in
+          record { found = None; before = missing_one handler (value_at (db.trees 1) handler) empty; after = others_stay db new all handler apart saves Missing (missing_there handler (value_at (db.trees 1) handler) (value_at (db.trees 3) handler) empty) }
+      go (Some r) some =
+          let stands = has_found (has_rowid (pos handler)) (db.trees 1) r some in
+          let it = state_of_row rows all zip (keyed_value r) (has_permuted (map keyed_value (db.trees 1)) rows (keyed_value r) same (has_mapped keyed_value (db.trees 1) r stands.0)) in
+          let is = it.2 in
+          let key : rowid r ≡ Int (pos it.0.number.0) = is.key in
+          let own : it.0.number.0 ≡ handler = pos_same it.0.number.0 handler (int_key handler (pos it.0.number.0) (rw key at stands.1)) in
+          let value : value_at (db.trees 1) handler ≡ Some (Blob is.bytes) = ap (option_map (λ (r : Row). column r 2)) some ∙ ap Some is.there in
+          record {
+            found = Some it.0;
+            before = held_one handler (value_at (db.trees 1) handler) is.bytes it.0 value own is.stored is.only;
+            after = subst (λ n. handlers_in new.trees n (Holds it.0)) own (own_stands db new all it.0 rising it.1 saves);
+          }
+
+-- what there is for a handler in each version rests on the rows of these tables alone
+carried_on : (a b c d : Trees) (handler : ℕ) → a 1 ≡ b 1 → c 1 ≡ d 1 → c 3 ≡ d 3 → IsCarried (first_handlers_in b handler) (handlers_in d handler) → IsCarried (first_handlers_in a handler) (handlers_in c handler)
+carried_on a b c d handler one two three h = rw (one, two, three) h
+
+-- the whole migration
+pub migrated : (old db mid new : Database) (rows : List Row) (all : List HandlerState) → Makes old db first_schema record_schema 3 → IsPermutation (map keyed_value (db.trees 1)) rows → AllZip IsFirstRow rows all → IsRising all
+    → SavesAll db mid all → Puts mid new 0 1 (Int (pos 2)) → Migrates old new
+migrated old db mid new rows all makes same zip rising saves put =
+    let images : db.trees 1 ≡ old.trees 1 = makes.others.1.0 in
+    let clients : db.trees 2 ≡ old.trees 2 = makes.others.1.1.0 in
+    record {
+      schema = put.schema ∙ schema_stays db mid all saves ∙ makes.schema;
+      version = put.there;
+      handlers = λ handler. carried_on old.trees db.trees new.trees mid.trees handler (sym images) (put.trees 1 (λ e. omega (arith, e))) (put.trees 3 (λ e. omega (arith, e))) (states_kept db mid rows all same zip rising saves handler);
+      incarnations = λ client. ap (λ rows. option_map inc_in (value_at rows client)) (put.trees 2 (λ e. omega (arith, e))) ∙ incs_stay db mid all client saves ∙ ap (λ rows. option_map inc_in (value_at rows client)) clients;
+    }
+
+pub zip_push : (rows : List Row) (all : List HandlerState) (row : Row) (it : HandlerState) → AllZip IsFirstRow rows all → IsFirstRow row it → AllZip IsFirstRow (rows ++ row ∷ []) (all ++ it ∷ [])
+zip_push [] [] row it zip is = (is, tt)
+zip_push [] (s ∷ all) row it zip is = absurd zip
+zip_push (r ∷ rows) [] row it zip is = absurd zip
+zip_push (r ∷ rows) (s ∷ all) row it zip is = (zip.0, zip_push rows all row it zip.1 is)
+
+below_push : (low : ℕ) (all : List HandlerState) (it : HandlerState) → AllByRecursion (λ (b : HandlerState). low < b.number.0) all → low < it.number.0 → AllByRecursion (λ (b : HandlerState). low < b.number.0) (all ++ it ∷ [])
+below_push low [] it below is = (is, tt)
+below_push low (s ∷ all) it below is = (below.0, below_push low all it below.1 is)
+
+rising_push_by : (all : List HandlerState) (it : HandlerState) → IsRising all → AllByRecursion (λ (b : HandlerState). b.number.0 < it.number.0) all → IsRising (all ++ it ∷ [])
+rising_push_by [] it rising above = (tt, tt)
+rising_push_by (s ∷ all) it rising above = (below_push s.number.0 all it rising.0 above.0, rising_push_by all it rising.1 above.1)
+
+pub rising_push : (all : List HandlerState) (it : HandlerState) → IsRising all → All (λ (b : HandlerState). b.number.0 < it.number.0) all → IsRising (all ++ it ∷ [])
+rising_push all it rising above = rising_push_by all it rising (recursion_from_All (λ (b : HandlerState). b.number.0 < it.number.0) all above)
+
+pub version_stays : (old new : Database) (all : List HandlerState) → SavesAll old new all → new.trees 0 ≡ old.trees 0
+version_stays old new [] same = ap (λ (d : Database). d.trees 0) same
+version_stays old new (it ∷ more) (state, range, mid, (half, first, second), rest) = version_stays mid new more rest ∙ second.trees 0 (λ e. omega (arith, e)) ∙ first.trees 0 (λ e. omega (arith, e))
+
+-- the version stands while the states are stored
+pub version_before : (old db mid : Database) (all : List HandlerState) (version : Value) → Makes old db first_schema record_schema 3 → SavesAll db mid all → value_at (old.trees 0) 1 ≡ Some version
+    → (mid.schema ≡ record_schema) × (value_at (mid.trees 0) 1 ≡ Some version)
+version_before old db mid all version makes saves there =
+    (schema_stays db mid all saves ∙ makes.schema, ap (λ rows. value_at rows 1) (version_stays db mid all saves ∙ makes.others.0) ∙ there)

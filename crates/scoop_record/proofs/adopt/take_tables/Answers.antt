@@ -1,0 +1,49 @@
+use Rattle.std.proofs.Common.{◌≡◌, Some, pos, subst, sym, ap, arith, ◌∙◌, inr, inl}
+use Rattle.sqlite.specs.Effect.{Database}
+use Rattle.sqlite.specs.Held.{state}
+use Rattle.sqlite.proofs.StateLemmas.{survives_then}
+use Rattle.scoop_record.specs.Migrate.{Migrates}
+use Rattle.scoop_record.specs.Store.{IsSound, TellsVersion, number_of}
+use Rattle.scoop_record.proofs.StatementLemmas.{clean_before}
+use Rattle.scoop_record.specs.Tables.{first_schema, record_schema, value_at}
+use Rattle.scoop_record.proofs.StoredLemmas.{version_stands}
+use Rattle.std.proofs.lemmas.Int.{ints}
+use Rattle.scoop_record.proofs.adopt.take_tables.Goals as goal
+
+pub returns-then-is_first_schema-clause-survives : goal.returns-then-is_first_schema-clause-survives
+returns-then-is_first_schema-clause-survives g c =
+    let before = state g.S.Store c.args.conn.now in
+    let read = state g.S.Store c.version.new.conn in
+    let after = state g.S.Store c.migrate.new.conn in
+    survives_then before read after _ _ _ (λ clean trees none. absurd none)
+    (λ clean trees (opened, db, moves, is).
+    let sound : IsSound read = (clean_before read after _ c.migrate.ensures.survives clean, opened) in
+    let same = (c.version.ensures.same sound).0 ∙ sym (c.requires.settled (c.version.ensures.sound sound)) in
+    (db, subst (λ d. Migrates d db) same moves, is))
+    c.version.ensures.survives c.migrate.ensures.survives
+
+pub migrate-requires-clause-first : goal.migrate-requires-clause-first
+unfolding TellsVersion
+migrate-requires-clause-first g c sound =
+    let before = state g.S.Store c.args.conn.now in
+    let read = state g.S.Store c.version.new.conn in
+    let has : read.now.schema ≡ first_schema = sym c.schema-then-found-eq1.ensures.value ∙ c.is_first_schema.ensures c.if-is_first_schema.true in
+    let same : read.now ≡ before.now = (c.version.ensures.same sound).0 ∙ sym (c.requires.settled (c.version.ensures.sound sound)) in
+    let told = c.in_ok-found.ensures.version sound (inl (ap (λ (d : Database). d.schema) (sym same) ∙ has)) in
+    let one : c.in-Some.found ≡ pos 1 = grind (arith, ints) in
+    (has, ap (λ (d : Database). value_at (d.trees 0) 1) same ∙ version_stands _ (pos 1) (subst (λ n. Some n ≡ number_of (value_at (before.now.trees 0) 1)) one (rw c.in-Some.is at told)))
+
+pub returns-then-is_record_schema-clause-adopted : goal.returns-then-is_record_schema-clause-adopted
+unfolding TellsVersion
+returns-then-is_record_schema-clause-adopted g c sound =
+    let before = state g.S.Store c.args.conn.now in
+    let read = state g.S.Store c.version.new.conn in
+    let has : read.now.schema ≡ record_schema = sym c.schema.ensures.value ∙ c.is_record_schema.ensures c.if-is_record_schema.true in
+    let same : read.now ≡ before.now = (c.version.ensures.same sound).0 ∙ sym (c.requires.settled (c.version.ensures.sound sound)) in
+    let told = c.in_ok-found.ensures.version sound (inr (ap (λ (d : Database). d.schema) (sym same) ∙ has)) in
+    let two : c.in-Some.found ≡ pos 2 = grind (arith, ints) in
+    record {
+      schema = has;
+      version = ap (λ (d : Database). value_at (d.trees 0) 1) same ∙ version_stands _ (pos 2) (subst (λ n. Some n ≡ number_of (value_at (before.now.trees 0) 1)) two (rw c.in-Some.is at told));
+      kept = inl same;
+    }

@@ -1,0 +1,40 @@
+use Rattle.std.proofs.Common.{pos, subst}
+use Rattle.sqlite.specs.declared.types.Value.TheVariants.{Int}
+use Rattle.sqlite.specs.Effect.{Database}
+use Rattle.sqlite.specs.Held.{state}
+use Rattle.scoop_record.specs.Migrate.{SavesAll}
+use Rattle.scoop_record.proofs.StatementLemmas.{clean_before}
+use Rattle.scoop_record.proofs.MigrateLemmas.{version_before, migrated}
+use Rattle.scoop_record.proofs.migrate.migrate_in.Goals as goal
+
+pub raise_version-requires : goal.raise_version-requires
+raise_version-requires g c sound =
+    let before = state g.S.Store c.args.tx.now.conn.now in
+    let made = state g.S.Store c.create_pending.new.tx.conn.now in
+    let read = state g.S.Store c.rows_of_handlers.new.tx.conn.now in
+    let saved = state g.S.Store c.put_states.new.tx.conn.now in
+    let clean2 = clean_before read saved _ c.put_states.ensures.survives sound.0 in
+    let clean1 = clean_before made read _ c.rows_of_handlers.ensures.survives clean2 in
+    let clean0 = clean_before before made _ c.create_pending.ensures.survives clean1 in
+    let open2 = (c.put_states.ensures.kept sound.0).was_open sound.1 in
+    let open1 = (c.rows_of_handlers.ensures.kept clean2).was_open open2 in
+    let open0 = (c.create_pending.ensures.kept clean1).was_open open1 in
+    let shown = c.in-Ok.ensures.rows clean2 in
+    let saves = subst (λ (d : Database). SavesAll d saved.now c.as_slice-2.result.now) shown.0.0.now_is (c.in_ok-put_states.ensures.put sound) in
+    version_before before.now made.now saved.now c.as_slice-2.result.now (Int (pos 1)) (c.in_default.ensures.made clean1).0 saves (c.requires (clean0, open0)).1
+
+pub returns-in-Ok-raise_version-clause-migrated : goal.returns-in-Ok-raise_version-clause-migrated
+returns-in-Ok-raise_version-clause-migrated g c clean =
+    let before = state g.S.Store c.args.tx.now.conn.now in
+    let made = state g.S.Store c.create_pending.new.tx.conn.now in
+    let read = state g.S.Store c.rows_of_handlers.new.tx.conn.now in
+    let saved = state g.S.Store c.put_states.new.tx.conn.now in
+    let after = state g.S.Store c.raise_version.new.tx.conn.now in
+    let clean3 = clean_before saved after _ c.raise_version.ensures.survives clean in
+    let clean2 = clean_before read saved _ c.put_states.ensures.survives clean3 in
+    let clean1 = clean_before made read _ c.rows_of_handlers.ensures.survives clean2 in
+    let open3 = (c.in-Ok-raise_version.ensures.put clean).1.was_open in
+    let shown = c.in-Ok.ensures.rows clean2 in
+    let saves = subst (λ (d : Database). SavesAll d saved.now c.as_slice-2.result.now) shown.0.0.now_is (c.in_ok-put_states.ensures.put (clean3, open3)) in
+    migrated before.now made.now saved.now after.now c.as_slice.result.now c.as_slice-2.result.now (c.in_default.ensures.made clean1).0
+    (rw c.as_slice.ensures.value shown.1) (rw c.as_slice-2.ensures.value c.in_ok-all.ensures.read) (rw c.as_slice-2.ensures.value c.in_ok-all.ensures.rises) saves (c.in-Ok-raise_version.ensures.put clean).0

@@ -1,0 +1,74 @@
+-- A record of version 1, and the record of version 2 that it becomes.
+use Rattle.std.specs.Prelude.{◌≡◌, ◌≢◌, ◌⊎◌, ◌<◌, ℕ, pos, List, [], ◌∷◌, Option, Some, None}
+use Rattle.sqlite_value.specs.declared.value.Value.{Value}
+use Rattle.sqlite_value.specs.declared.value.Value.TheVariants.{Int, Blob}
+use Rattle.sqlite_value.specs.Order.{Row, column}
+use Rattle.sqlite_trees.specs.Tree.{Trees, IsAscending, rowid}
+use Rattle.sqlite.specs.Effect.{Database}
+use Rattle.scoop_handler.specs.State.{HandlerState}
+use Rattle.scoop_handler.specs.State.{IsState}
+use Rattle.scoop_record.specs.Range.{InRange}
+use Rattle.scoop_record.specs.Reading.{IsStoredWithEntries}
+use Rattle.scoop_record.specs.Keeper.{Stored, Missing, Holds, Damaged, stored_of, IsTheOne}
+use Rattle.scoop_record.specs.Tables.{record_schema, value_at}
+use Rattle.scoop_record.specs.Store.{handlers_in, incs_in, Saves}
+
+-- in the handler's row stands the image of the state, with its entries
+pub record IsFirstRowOf (handler : ℕ) (value : Option Value) (s : HandlerState) : Type 0 where
+  pub number : s.number.0 ≡ handler
+  pub bytes : List ℕ
+  pub there : value ≡ Some (Blob bytes)
+  pub stored : IsStoredWithEntries s.number bytes s
+
+-- the handler has an image, and it is no state's
+pub record IsNoFirstRow (handler : ℕ) (value : Option Value) : Type 0 where
+  pub some : value ≢ None
+  pub none : (s : HandlerState) → IsFirstRowOf handler value s → ⊥
+
+abbrev pub FirstHas : ℕ → Option Value → Stored → Type 0
+FirstHas handler value Missing = value ≡ None
+FirstHas handler value (Holds s) = IsFirstRowOf handler value s
+FirstHas handler value Damaged = IsNoFirstRow handler value
+
+-- what a record of version 1 has for a handler
+abbrev pub first_handlers_in : Trees → ℕ → Stored → Type 0
+first_handlers_in trees handler = FirstHas handler (value_at (trees 1) handler)
+
+-- the database with these states, one after the other
+abbrev pub SavesAll : Database → Database → List HandlerState → Type 0
+SavesAll old new [] = new ≡ old
+SavesAll old new (s ∷ more) = IsState s × InRange s × (mid : Database) × Saves old mid s × SavesAll mid new more
+
+-- a key and an image of version 1, which is that of the state and of no other
+pub record IsFirstRow (row : Row) (s : HandlerState) : Type 0 where
+  pub key : column row 0 ≡ Int (pos s.number.0)
+  pub bytes : List ℕ
+  pub there : column row 1 ≡ Blob bytes
+  pub stored : IsStoredWithEntries s.number bytes s
+  pub only : (t : HandlerState) → IsStoredWithEntries s.number bytes t → t ≡ s
+
+-- the handlers' numbers rise, so none comes twice
+abbrev pub IsRising : List HandlerState → Type 0
+IsRising = IsAscending (λ a b. a.number.0 < b.number.0)
+
+abbrev pub keyed_value : Row → Row
+keyed_value row = rowid row ∷ column row 2 ∷ []
+
+-- what was stored for the handler, a state or nothing, is stored for it
+pub record IsCarried (old new : Stored → Type 0) : Type 0 where
+  pub found : Option HandlerState
+  pub before : IsTheOne old (stored_of found)
+  pub after : new (stored_of found)
+
+-- each state and each incarnation is as it was
+pub record Migrates (old new : Database) : Type 0 where
+  pub schema : new.schema ≡ record_schema
+  pub version : value_at (new.trees 0) 1 ≡ Some (Int (pos 2))
+  pub handlers : (handler : ℕ) → IsCarried (first_handlers_in old.trees handler) (handlers_in new.trees handler)
+  pub incarnations : (client : ℕ) → incs_in new.trees client ≡ incs_in old.trees client
+
+-- a record of version 2 stays, and one of version 1 becomes one
+pub record Adopts (old new : Database) : Type 0 where
+  pub schema : new.schema ≡ record_schema
+  pub version : value_at (new.trees 0) 1 ≡ Some (Int (pos 2))
+  pub kept : (new ≡ old) ⊎ Migrates old new

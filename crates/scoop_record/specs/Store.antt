@@ -1,0 +1,100 @@
+-- What a record over a database shows.
+use Rattle.std.specs.Prelude.{◌≡◌, ◌≢◌, ◌⊎◌, ℕ, ℤ, min, pos, negsuc, false, List, [], Option, Some, None, option_map, IsTrue}
+use Rattle.sqlite_value.specs.declared.value.Value.{Value}
+use Rattle.sqlite_value.specs.declared.value.Value.TheVariants.{Null, Int, Real, Text, Blob}
+use Rattle.sqlite_trees.specs.Tree.{Trees}
+use Rattle.sqlite.specs.Effect.{Database}
+use Rattle.sqlite.specs.Store.{Ghosts}
+use Rattle.sqlite.specs.Held.{Held, state}
+use Rattle.sqlite.specs.State.{State, HasCleanDisk}
+use Rattle.scoop_handler.specs.State.{HandlerState}
+use Rattle.scoop_record.specs.Image.{image, pending_row}
+use Rattle.scoop_record.specs.Reading.{IsStored}
+use Rattle.scoop_record.specs.Keeper.{Stored, Missing, Holds, Damaged, last_incarnation, next_of}
+use Rattle.scoop_record.specs.Tables.{first_schema, record_schema, value_at, Puts}
+
+-- what is no incarnation counts as the last one, after which none comes
+abbrev pub inc_in : Value → ℕ
+inc_in Null = last_incarnation
+inc_in (Int (pos n)) = min n last_incarnation
+inc_in (Int (negsuc n)) = last_incarnation
+inc_in (Real x) = last_incarnation
+inc_in (Text t) = last_incarnation
+inc_in (Blob b) = last_incarnation
+
+abbrev pub incs_in : Trees → ℕ → Option ℕ
+incs_in trees client = option_map inc_in (value_at (trees 2) client)
+
+-- in the handler's two rows stand the image and the pending entries of the state
+pub record AreRowsOf (handler : ℕ) (first second : Option Value) (s : HandlerState) : Type 0 where
+  pub number : s.number.0 ≡ handler
+  pub bytes : List ℕ
+  pub row : List ℕ
+  pub there : first ≡ Some (Blob bytes)
+  pub beside : second ≡ Some (Blob row)
+  pub stored : IsStored s.number bytes row s
+
+-- the handler has an image, and no state has its two rows
+pub record AreNoRows (handler : ℕ) (first second : Option Value) : Type 0 where
+  pub some : first ≢ None
+  pub none : (s : HandlerState) → AreRowsOf handler first second s → ⊥
+
+-- what the row of the handler's image and that of its pending entries have for it
+unfoldable pub Has : ℕ → Option Value → Option Value → Stored → Type 0
+Has handler first second Missing = first ≡ None
+Has handler first second (Holds s) = AreRowsOf handler first second s
+Has handler first second Damaged = AreNoRows handler first second
+
+abbrev pub handlers_in : Trees → ℕ → Stored → Type 0
+handlers_in trees handler = Has handler (value_at (trees 1) handler) (value_at (trees 3) handler)
+
+-- the tables are those of a record, with whatever rows
+abbrev pub IsRecord : Database → Type 0
+IsRecord db = db.schema ≡ record_schema
+
+-- the tables are those of version 1, with whatever rows
+abbrev pub IsFirstRecord : Database → Type 0
+IsFirstRecord db = db.schema ≡ first_schema
+
+abbrev pub IsLaidOut : Database → Type 0
+IsLaidOut db = IsFirstRecord db ⊎ IsRecord db
+
+abbrev pub number_of : Option Value → Option ℤ
+number_of (Some (Int n)) = Some n
+number_of _ = None
+
+-- what the query of the version finds, where there are the tables of a record
+unfoldable pub TellsVersion : Database → Option ℤ → Type 0
+TellsVersion db found = IsLaidOut db → found ≡ number_of (value_at (db.trees 0) 1)
+
+-- the disk has been honest, and no failure of it has shut the connection
+abbrev pub IsSound : State → Type 0
+IsSound s = HasCleanDisk s × IsTrue s.is_open
+
+-- between calls all is committed
+abbrev pub IsReady : State → Type 0
+IsReady s = IsSound s → IsRecord s.now × (s.now ≡ s.committed)
+
+-- the database with the next incarnation of the client
+abbrev pub Advances : Database → Database → ℕ → Type 0
+Advances old new client = Puts old new 2 client (Int (pos (next_of (incs_in old.trees client))))
+
+-- the database with these bytes for the handler, in two tables
+abbrev pub PutsBoth : Database → Database → ℕ → List ℕ → List ℕ → Type 0
+PutsBoth old new handler bytes row = (mid : Database) × Puts old mid 1 handler (Blob bytes) × Puts mid new 3 handler (Blob row)
+
+-- the database with the state
+abbrev pub Saves : Database → Database → HandlerState → Type 0
+Saves old new s = PutsBoth old new s.number.0 (image s) (pending_row s)
+
+-- what a record over a database holds between calls
+abbrev pub IsIdle : {S : Type 0} → Ghosts S → Held S → Type 0
+IsIdle g h = (h.in_transaction ≡ false) × IsReady (state g h)
+
+-- a record that holds nothing yet, of this version
+pub record IsNewRecord (db : Database) (version : ℕ) : Type 0 where
+  pub sound : IsRecord db
+  pub version_is : value_at (db.trees 0) 1 ≡ Some (Int (pos version))
+  pub handlers : db.trees 1 ≡ []
+  pub clients : db.trees 2 ≡ []
+  pub pending : db.trees 3 ≡ []

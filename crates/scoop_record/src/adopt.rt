@@ -1,0 +1,46 @@
+//! A database that has the tables of a record is taken.
+
+ghost use Rattle.std.specs.Prelude.{◌≡◌, false, IfErr, OnOk, OnErr};
+ghost use Rattle.sqlite.specs.Effect.{Database};
+ghost use Rattle.sqlite.specs.Held.{state};
+ghost use Rattle.sqlite.specs.State.{Survives};
+ghost use Rattle.scoop_record.specs.Keeper.{IsAdoptError};
+ghost use Rattle.scoop_record.specs.Migrate.{Migrates, Adopts};
+ghost use Rattle.scoop_record.specs.Store.{IsSound, IsReady};
+
+use crate::keeper::KeeperError;
+use crate::migrate::migrate;
+use crate::schema::{is_first_schema, is_record_schema};
+use crate::version::version;
+use sqlite::{Alter, Connection};
+use std::alloc::Global;
+
+/// The tables are those of version 2, or become them.
+pub(crate) fn take_tables<S: Alter>(
+    alloc: Global,
+    conn: &mut Connection<S>,
+) -> Result<(), KeeperError>
+    requires mode { conn.old.in_transaction ≡ false }
+    requires settled { IsSound (state S.Store conn.old) → (state S.Store conn.old).now ≡ (state S.Store conn.old).committed }
+    ensures mode { conn.new.in_transaction ≡ false }
+    ensures sound { IsSound (state S.Store conn.new) → IsSound (state S.Store conn.old) }
+    ensures ready { OnOk result (IsReady (state S.Store conn.new)) }
+    ensures adopted { IsSound (state S.Store conn.new) → OnOk result (Adopts (state S.Store conn.old).now (state S.Store conn.new).now) }
+    ensures refused { IsSound (state S.Store conn.new) → OnErr result ((state S.Store conn.new).now ≡ (state S.Store conn.old).now) }
+    ensures named { IfErr result IsAdoptError }
+    ensures survives { Survives (state S.Store conn.old) (state S.Store conn.new) (λ trees. (db : Database) × Migrates (state S.Store conn.old).now db × (trees ≡ db.trees)) }
+{
+    let Some(found) = version(conn)? else {
+        return Err(KeeperError::WrongSchema);
+    };
+    if found != 1 && found != 2 {
+        return Err(KeeperError::WrongSchema);
+    }
+    if found == 2 && is_record_schema(conn.schema()) {
+        return Ok(());
+    }
+    if found == 1 && is_first_schema(conn.schema()) {
+        return migrate(alloc, conn);
+    }
+    Err(KeeperError::Refused)
+}

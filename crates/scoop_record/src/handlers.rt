@@ -1,0 +1,233 @@
+//! The rows of the handlers.
+
+ghost use Rattle.std.specs.Prelude.{◌≡◌, ◌≤◌, length, [], ◌∷◌, map, pos, Some, IsTrue, IfSome, IfOk, IfErr, OnOk, OnErr, false, true, Option, option_map, ◌⊎◌};
+ghost use Rattle.std.specs.Option.{option_to_list};
+ghost use Rattle.sqlite.specs.Effect.{Database};
+ghost use Rattle.sqlite.specs.Held.{state};
+ghost use Rattle.sqlite.specs.State.{HasCleanDisk, IsUnchanged, KeepsCommit, Shows, Survives};
+ghost use Rattle.sqlite.specs.declared.types.Value.{Value as SqlValue};
+ghost use Rattle.sqlite.specs.declared.types.Value.TheVariants.{Int, Blob};
+ghost use Rattle.scoop_record.specs.Tables.{value_at, Puts};
+ghost use Rattle.scoop_record.specs.Store.{IsRecord, IsSound, IsReady, Has, handlers_in, PutsBoth};
+ghost use Rattle.scoop_record.specs.Keeper.{IsPutError, IsTheOne, stored_of, Damaged};
+ghost use Rattle.scoop_record.specs.Reading.{IsStored};
+
+use crate::images::{ReadError, image, pending_row, read_image};
+use crate::keeper::KeeperError;
+use crate::refusal::refusal;
+use scoop_handler::HandlerState;
+use scoop_message::{HandlerId, OutOfMemory};
+use sqlite::{Alter, Connection, Error, Row, Transaction, params};
+use std::alloc::Global;
+
+/// The rows with the handler's image: none or one.
+fn rows_of_handler<S: Alter>(tx: &mut Transaction<'_, S>, handler: u32) -> Result<Vec<Row>, Error>
+    requires { IsSound (state S.Store tx.old.conn.now) → IsRecord (state S.Store tx.old.conn.now).now }
+    ensures same_reference { tx.new.conn.ghost_name ≡ tx.old.conn.ghost_name }
+    ensures rows { HasCleanDisk (state S.Store tx.new.conn.now) → IfOk result (λ rows. IsUnchanged (state S.Store tx.old.conn.now) (state S.Store tx.new.conn.now)
+        × (length rows.items ≤ 1 → rows.items ≡ map (λ v. v ∷ []) (option_to_list (value_at ((state S.Store tx.old.conn.now).now.trees 1) handler)))) }
+    ensures kept { HasCleanDisk (state S.Store tx.new.conn.now) → KeepsCommit (state S.Store tx.old.conn.now) (state S.Store tx.new.conn.now) }
+    ensures survives { Survives (state S.Store tx.old.conn.now) (state S.Store tx.new.conn.now) (λ _. ⊥) }
+{
+    tx.query_all("SELECT image FROM handlers WHERE h = ?1", params![handler])
+}
+
+/// The rows with the handler's pending entries: none or one.
+fn rows_of_pending<S: Alter>(tx: &mut Transaction<'_, S>, handler: u32) -> Result<Vec<Row>, Error>
+    requires { IsSound (state S.Store tx.old.conn.now) → IsRecord (state S.Store tx.old.conn.now).now }
+    ensures same_reference { tx.new.conn.ghost_name ≡ tx.old.conn.ghost_name }
+    ensures rows { HasCleanDisk (state S.Store tx.new.conn.now) → IfOk result (λ rows. IsUnchanged (state S.Store tx.old.conn.now) (state S.Store tx.new.conn.now)
+        × (length rows.items ≤ 1 → rows.items ≡ map (λ v. v ∷ []) (option_to_list (value_at ((state S.Store tx.old.conn.now).now.trees 3) handler)))) }
+    ensures kept { HasCleanDisk (state S.Store tx.new.conn.now) → KeepsCommit (state S.Store tx.old.conn.now) (state S.Store tx.new.conn.now) }
+    ensures survives { Survives (state S.Store tx.old.conn.now) (state S.Store tx.new.conn.now) (λ _. ⊥) }
+{
+    tx.query_all("SELECT entries FROM pending WHERE h = ?1", params![handler])
+}
+
+/// The image is there for the handler, in the transaction.
+fn put_image<S: Alter>(
+    tx: &mut Transaction<'_, S>,
+    handler: u32,
+    image: &[u8],
+) -> Result<usize, Error>
+    requires { IsSound (state S.Store tx.old.conn.now) → IsRecord (state S.Store tx.old.conn.now).now }
+    ensures same_reference { tx.new.conn.ghost_name ≡ tx.old.conn.ghost_name }
+    ensures put { HasCleanDisk (state S.Store tx.new.conn.now) → OnOk result (Puts (state S.Store tx.old.conn.now).now (state S.Store tx.new.conn.now).now 1 handler (Blob image.now)
+        × Shows (state S.Store tx.old.conn.now) (state S.Store tx.new.conn.now) (state S.Store tx.new.conn.now).now (state S.Store tx.old.conn.now).committed true) }
+    ensures kept { HasCleanDisk (state S.Store tx.new.conn.now) → KeepsCommit (state S.Store tx.old.conn.now) (state S.Store tx.new.conn.now) }
+    ensures survives { Survives (state S.Store tx.old.conn.now) (state S.Store tx.new.conn.now) (λ _. ⊥) }
+{
+    tx.execute(
+        "INSERT INTO handlers (h, image) VALUES (?1, ?2) ON CONFLICT (h) DO UPDATE SET image = excluded.image",
+        params![handler, image],
+    )
+}
+
+/// The pending entries are there for the handler, in the transaction.
+fn put_entries<S: Alter>(
+    tx: &mut Transaction<'_, S>,
+    handler: u32,
+    entries: &[u8],
+) -> Result<usize, Error>
+    requires { IsSound (state S.Store tx.old.conn.now) → IsRecord (state S.Store tx.old.conn.now).now }
+    ensures same_reference { tx.new.conn.ghost_name ≡ tx.old.conn.ghost_name }
+    ensures put { HasCleanDisk (state S.Store tx.new.conn.now) → OnOk result (Puts (state S.Store tx.old.conn.now).now (state S.Store tx.new.conn.now).now 3 handler (Blob entries.now)
+        × Shows (state S.Store tx.old.conn.now) (state S.Store tx.new.conn.now) (state S.Store tx.new.conn.now).now (state S.Store tx.old.conn.now).committed true) }
+    ensures kept { HasCleanDisk (state S.Store tx.new.conn.now) → KeepsCommit (state S.Store tx.old.conn.now) (state S.Store tx.new.conn.now) }
+    ensures survives { Survives (state S.Store tx.old.conn.now) (state S.Store tx.new.conn.now) (λ _. ⊥) }
+{
+    tx.execute(
+        "INSERT INTO pending (h, entries) VALUES (?1, ?2) ON CONFLICT (h) DO UPDATE SET entries = excluded.entries",
+        params![handler, entries],
+    )
+}
+
+/// The bytes in the row, if there is one.
+fn bytes_of(rows: &[Row]) -> Result<Option<Vec<u8>>, KeeperError>
+    ensures bytes { (stored : Option SqlValue) → (length rows.now ≤ 1 → rows.now ≡ map (λ v. v ∷ []) (option_to_list stored)) → IfOk result (λ found. stored ≡ option_map (λ b. Blob b.items) found) }
+    ensures named { IfErr result IsPutError }
+{
+    let row = match rows {
+        [] => return Ok(None),
+        [row] => row,
+        _ => return Err(KeeperError::Refused),
+    };
+    match row.get(0) {
+        Ok(bytes) => Ok(Some(bytes)),
+        Err(error) => Err(refusal(error)),
+    }
+}
+
+/// The state of the image and the entries, if there is an image.
+fn state_of(
+    alloc: Global,
+    handler: HandlerId,
+    image: Option<Vec<u8>>,
+    entries: Option<Vec<u8>>,
+) -> Result<Option<HandlerState>, KeeperError>
+    ensures loaded { IfOk result (λ found. IsTheOne (Has handler.0 (option_map (λ b. Blob b.items) image) (option_map (λ b. Blob b.items) entries)) (stored_of found)) }
+    ensures own { IfOk result (λ found. IfSome found (λ s. s.number ≡ handler)) }
+    ensures bad { result ≡ Err (KeeperError.BadImage handler) → IsTheOne (Has handler.0 (option_map (λ b. Blob b.items) image) (option_map (λ b. Blob b.items) entries)) Damaged }
+    ensures named { IfErr result (λ e. IsPutError e ⊎ (e ≡ KeeperError.BadImage handler)) }
+{
+    let Some(image) = image else {
+        return Ok(None);
+    };
+    let Some(entries) = entries else {
+        return Err(KeeperError::BadImage(handler));
+    };
+    match read_image(alloc, handler, image.as_slice(), entries.as_slice()) {
+        Ok(state) => Ok(Some(state)),
+        Err(ReadError::BadImage) => Err(KeeperError::BadImage(handler)),
+        Err(ReadError::OutOfMemory) => Err(KeeperError::OutOfMemory),
+    }
+}
+
+/// The image and the entries are stored, in the transaction.
+pub(crate) fn put_both<S: Alter>(
+    tx: &mut Transaction<'_, S>,
+    handler: u32,
+    image: &[u8],
+    entries: &[u8],
+) -> Result<(), KeeperError>
+    requires { IsSound (state S.Store tx.old.conn.now) → IsRecord (state S.Store tx.old.conn.now).now }
+    ensures same_reference { tx.new.conn.ghost_name ≡ tx.old.conn.ghost_name }
+    ensures put { HasCleanDisk (state S.Store tx.new.conn.now) → OnOk result (PutsBoth (state S.Store tx.old.conn.now).now (state S.Store tx.new.conn.now).now handler image.now entries.now
+        × Shows (state S.Store tx.old.conn.now) (state S.Store tx.new.conn.now) (state S.Store tx.new.conn.now).now (state S.Store tx.old.conn.now).committed true) }
+    ensures kept { HasCleanDisk (state S.Store tx.new.conn.now) → KeepsCommit (state S.Store tx.old.conn.now) (state S.Store tx.new.conn.now) }
+    ensures named { IfErr result IsPutError }
+    ensures survives { Survives (state S.Store tx.old.conn.now) (state S.Store tx.new.conn.now) (λ _. ⊥) }
+{
+    if let Err(error) = put_image(tx, handler, image) {
+        return Err(refusal(error));
+    }
+    match put_entries(tx, handler, entries) {
+        Ok(_) => Ok(()),
+        Err(error) => Err(refusal(error)),
+    }
+}
+
+/// The image and the entries are stored and committed.
+pub(crate) fn write_state<S: Alter>(
+    conn: &mut Connection<S>,
+    handler: u32,
+    image: &[u8],
+    entries: &[u8],
+) -> Result<(), KeeperError>
+    requires mode { conn.old.in_transaction ≡ false }
+    requires ready { IsReady (state S.Store conn.old) }
+    ensures mode { conn.new.in_transaction ≡ false }
+    ensures ready { IsReady (state S.Store conn.new) }
+    ensures sound { IsSound (state S.Store conn.new) → IsSound (state S.Store conn.old) }
+    ensures written { IsSound (state S.Store conn.new) → OnOk result (PutsBoth (state S.Store conn.old).now (state S.Store conn.new).now handler image.now entries.now) }
+    ensures refused { IsSound (state S.Store conn.new) → OnErr result ((state S.Store conn.new).now ≡ (state S.Store conn.old).now) }
+    ensures named { IfErr result IsPutError }
+    ensures survives { Survives (state S.Store conn.old) (state S.Store conn.new) (λ trees. (db : Database) × PutsBoth (state S.Store conn.old).now db handler image.now entries.now × (trees ≡ db.trees)) }
+{
+    let mut tx = conn.transaction();
+    put_both(&mut tx, handler, image, entries)?;
+    match tx.commit() {
+        Ok(()) => Ok(()),
+        Err(error) => Err(refusal(error)),
+    }
+}
+
+/// The handler's state, in the transaction.
+fn find_state<S: Alter>(
+    alloc: Global,
+    tx: &mut Transaction<'_, S>,
+    handler: HandlerId,
+) -> Result<Option<HandlerState>, KeeperError>
+    requires { IsSound (state S.Store tx.old.conn.now) → IsRecord (state S.Store tx.old.conn.now).now }
+    ensures same_reference { tx.new.conn.ghost_name ≡ tx.old.conn.ghost_name }
+    ensures loaded { HasCleanDisk (state S.Store tx.new.conn.now) → IfOk result (λ found. IsTheOne (handlers_in (state S.Store tx.old.conn.now).now.trees handler.0) (stored_of found)) }
+    ensures own { IfOk result (λ found. IfSome found (λ s. s.number ≡ handler)) }
+    ensures bad { HasCleanDisk (state S.Store tx.new.conn.now) → result ≡ Err (KeeperError.BadImage handler) → IsTheOne (handlers_in (state S.Store tx.old.conn.now).now.trees handler.0) Damaged }
+    ensures kept { HasCleanDisk (state S.Store tx.new.conn.now) → KeepsCommit (state S.Store tx.old.conn.now) (state S.Store tx.new.conn.now) }
+    ensures named { IfErr result (λ e. IsPutError e ⊎ (e ≡ KeeperError.BadImage handler)) }
+    ensures survives { Survives (state S.Store tx.old.conn.now) (state S.Store tx.new.conn.now) (λ _. ⊥) }
+{
+    let images = match rows_of_handler(tx, handler.0) {
+        Ok(rows) => rows,
+        Err(error) => return Err(refusal(error)),
+    };
+    let entries = match rows_of_pending(tx, handler.0) {
+        Ok(rows) => rows,
+        Err(error) => return Err(refusal(error)),
+    };
+    let image = bytes_of(images.as_slice())?;
+    let entries = bytes_of(entries.as_slice())?;
+    state_of(alloc, handler, image, entries)
+}
+
+/// The handler's stored state, read in one transaction.
+pub(crate) fn load<S: Alter>(
+    alloc: Global,
+    conn: &mut Connection<S>,
+    handler: HandlerId,
+) -> Result<Option<HandlerState>, KeeperError>
+    requires mode { conn.old.in_transaction ≡ false }
+    requires ready { IsReady (state S.Store conn.old) }
+    ensures mode { conn.new.in_transaction ≡ false }
+    ensures ready { IsReady (state S.Store conn.new) }
+    ensures sound { IsSound (state S.Store conn.new) → IsSound (state S.Store conn.old) }
+    ensures same { IsSound (state S.Store conn.new) → (state S.Store conn.new).now ≡ (state S.Store conn.old).now }
+    ensures loaded { IsSound (state S.Store conn.new) → IfOk result (λ found. IsTheOne (handlers_in (state S.Store conn.old).now.trees handler.0) (stored_of found)) }
+    ensures own { IfOk result (λ found. IfSome found (λ s. s.number ≡ handler)) }
+    ensures bad { IsSound (state S.Store conn.new) → result ≡ Err (KeeperError.BadImage handler) → IsTheOne (handlers_in (state S.Store conn.old).now.trees handler.0) Damaged }
+    ensures named { IfErr result (λ e. IsPutError e ⊎ (e ≡ KeeperError.BadImage handler)) }
+    ensures survives { Survives (state S.Store conn.old) (state S.Store conn.new) (λ _. ⊥) }
+{
+    let mut tx = conn.transaction();
+    find_state(alloc, &mut tx, handler)
+}
+
+/// The image of the state, and the row of its pending entries.
+pub(crate) fn images_of(alloc: Global, it: &HandlerState) -> Result<(Vec<u8>, Vec<u8>), OutOfMemory>
+    ensures { IfOk result (λ rows. IsStored it.now.number rows.0.items rows.1.items it.now) }
+{
+    let _number = it.handler();
+    let bytes = image(alloc, it)?;
+    let row = pending_row(alloc, it)?;
+    Ok((bytes, row))
+}

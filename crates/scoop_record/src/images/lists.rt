@@ -1,0 +1,53 @@
+//! The lists of an image, each read from the front of some bytes into cells.
+
+ghost use Rattle.std.specs.Prelude.{◌≤◌};
+ghost use Rattle.scoop_record.specs.Reading.{ReadsEntries, ReadsMarks};
+
+use crate::images::parts::mark_from;
+use scoop_frame::entry_from;
+use scoop_handler::Mark;
+use scoop_message::Entry;
+use scoop_message::limits::{MAX_CLIENTS, MAX_PENDING};
+
+/// Reads the marks that begin the bytes, behind their count. Answers how many there are and how many
+/// bytes they take.
+pub(crate) fn marks_from(bytes: &[u8], cells: &mut [Mark; MAX_CLIENTS]) -> Option<(usize, usize)>
+    ensures { ReadsMarks bytes.now cells.new result }
+{
+    let [count, ..] = bytes else {
+        return None;
+    };
+    let count = usize::from(*count);
+    if count > MAX_CLIENTS {
+        return None;
+    }
+    let mut at = 1;
+    for i in 0..count {
+        let Some((mark, len)) = mark_from(&bytes[at..]) else {
+            return None;
+        };
+        cells[i] = mark;
+        at += len;
+    }
+    Some((count, at))
+}
+
+/// Reads so many entries that begin the bytes. Answers how many bytes they take.
+pub(crate) fn entries_from(
+    bytes: &[u8],
+    count: usize,
+    cells: &mut [Entry; MAX_PENDING],
+) -> Option<usize>
+    requires { count ≤ MAX_PENDING }
+    ensures { ReadsEntries count bytes.now cells.new result }
+{
+    let mut at = 0;
+    for i in 0..count {
+        let Some((entry, len)) = entry_from(&bytes[at..]) else {
+            return None;
+        };
+        cells[i] = entry;
+        at += len;
+    }
+    Some(at)
+}

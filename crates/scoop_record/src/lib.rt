@@ -1,0 +1,25 @@
+//! Stored states of handlers, and stored incarnations of clients.
+#![tactic(auto)]
+
+mod adopt;
+mod clients;
+mod create;
+mod failing;
+mod handlers;
+mod images;
+mod keeper;
+mod memory;
+mod migrate;
+mod refusal;
+mod schema;
+mod store;
+mod version;
+
+pub use failing::FailingKeeper;
+pub use images::{ReadError, image, pending_row, read_image, read_image_with_entries};
+pub use keeper::{Keeper, KeeperError};
+pub use memory::MemoryKeeper;
+pub use store::Store;
+
+#[cfg(test)]
+mod tests;

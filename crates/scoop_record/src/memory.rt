@@ -1,0 +1,110 @@
+//! A keeper in memory.
+
+ghost use Rattle.std.specs.Prelude.{◌≡◌, ◌⊎◌, ℕ, Option, None, Some, [], IfSome, IfOk, IfErr, OnOk, OnErr};
+
+use crate::keeper::{Keeper, KeeperError};
+use scoop_handler::HandlerState;
+use scoop_message::{ClientId, HandlerId, OutOfMemory};
+use std::alloc::Global;
+use std::collections::BTreeMap;
+use std::marker::Model;
+
+/// Keeps copies of the states in memory, and is always honest.
+#[derive(Drop)]
+pub struct MemoryKeeper {
+    states: BTreeMap<u32, HandlerState>,
+    incarnations: BTreeMap<u32, u32>,
+}
+
+impl Model for MemoryKeeper {
+    ghost use Rattle.std.specs.Prelude.{◌≡◌, ℕ, IfSome};
+    ghost use Rattle.scoop_record.specs.Memory.{MemoryRecord, memory_record, state_at};
+
+    ghost Value = { MemoryRecord };
+
+    ghost view = { λ k. memory_record k.states.entries k.incarnations.entries };
+
+    ghost invariant = { λ k. (handler : ℕ) → IfSome (state_at (memory_record k.states.entries k.incarnations.entries) handler) (λ s. s.number.0 ≡ handler) };
+}
+
+impl MemoryKeeper {
+    ghost use Rattle.scoop_record.specs.Memory.{memory_record, incarnation_at};
+    ghost use Rattle.scoop_record.specs.Keeper.{Sets};
+
+    /// A keeper with nothing stored.
+    pub fn new(alloc: Global) -> MemoryKeeper
+        ensures { result ≡ memory_record [] [] }
+    {
+        MemoryKeeper {
+            states: BTreeMap::new(alloc),
+            incarnations: BTreeMap::new(alloc),
+        }
+    }
+
+    /// The keeper with this stored incarnation of the client. `OutOfMemory` is the one refusal.
+    pub fn with_incarnation(
+        mut self,
+        client: ClientId,
+        inc: u32,
+    ) -> Result<MemoryKeeper, OutOfMemory>
+        ensures stored { IfOk result (λ keeper. Sets (incarnation_at self) (incarnation_at keeper) client.0 inc) }
+        ensures states { IfOk result (λ keeper. keeper.states ≡ self.states) }
+    {
+        self.incarnations.insert(client.0, inc)?;
+        Ok(self)
+    }
+}
+
+impl Keeper for MemoryKeeper {
+    ghost use Rattle.scoop_record.specs.Memory.{Has, state_at, incarnation_at};
+    ghost use Rattle.scoop_record.specs.Keeper.{Stored, stored_of, IsTheOne, Stays, Keeps, IsSame, Sets, next_of, last_incarnation};
+
+    ghost handlers = { Has };
+
+    ghost incarnations = { incarnation_at };
+
+    ghost is_honest = { λ _. Unit {0} };
+
+    fn put_handler(&mut self, state: &HandlerState) -> Result<(), KeeperError>
+        ensures stored { OnOk result (Keeps (Has self.old) (Has self.new) state.now) }
+        ensures incarnations { self.new.incarnations ≡ self.old.incarnations }
+        ensures refused { OnErr result (self.new ≡ self.old) }
+        ensures named { IfErr result (λ e. e ≡ KeeperError.OutOfMemory) }
+    {
+        let copy = state.copy()?;
+        match self.states.insert(state.handler().0, copy) {
+            Ok(_) => Ok(()),
+            Err(_) => Err(KeeperError::OutOfMemory),
+        }
+    }
+
+    fn load_handler(&mut self, handler: HandlerId) -> Result<Option<HandlerState>, KeeperError>
+        ensures loaded { IfOk result (λ found. found ≡ state_at self.old handler.0) }
+        ensures own { IfOk result (λ found. IfSome found (λ s. s.number ≡ handler)) }
+        ensures named { IfErr result (λ e. e ≡ KeeperError.OutOfMemory) }
+        ensures same { self.new ≡ self.old }
+    {
+        match self.states.get(&handler.0) {
+            Some(state) => Ok(Some(state.copy()?)),
+            None => Ok(None),
+        }
+    }
+
+    fn next_incarnation(&mut self, client: ClientId) -> Result<u32, KeeperError>
+        ensures next { IfOk result (λ inc. inc ≡ next_of (incarnation_at self.old client.0)) }
+        ensures stored { IfOk result (Sets (incarnation_at self.old) (incarnation_at self.new) client.0) }
+        ensures states { self.new.states ≡ self.old.states }
+        ensures spent { result ≡ Err KeeperError.IncarnationsSpent → incarnation_at self.old client.0 ≡ Some last_incarnation }
+        ensures refused { OnErr result (self.new ≡ self.old) }
+        ensures named { IfErr result (λ e. (e ≡ KeeperError.OutOfMemory) ⊎ (e ≡ KeeperError.IncarnationsSpent)) }
+    {
+        let stored = self.incarnations.get(&client.0).copied().unwrap_or(0);
+        let Some(next) = stored.checked_add(1) else {
+            return Err(KeeperError::IncarnationsSpent);
+        };
+        match self.incarnations.insert(client.0, next) {
+            Ok(_) => Ok(next),
+            Err(_) => Err(KeeperError::OutOfMemory),
+        }
+    }
+}

@@ -1,0 +1,197 @@
+//! A record of version 1 becomes one of version 2.
+
+ghost use Rattle.std.specs.Prelude.{◌≡◌, map, pos, Some, All, ◌<◌, true, false, IsTrue, IfOk, IfErr, OnOk, OnErr, IsPermutation};
+ghost use Rattle.std.specs.List.{AllZip};
+ghost use Rattle.sqlite.specs.Effect.{Database};
+ghost use Rattle.sqlite.specs.Held.{state};
+ghost use Rattle.sqlite.specs.State.{HasCleanDisk, IsUnchanged, KeepsCommit, Shows, Survives};
+ghost use Rattle.sqlite.specs.declared.types.Value.TheVariants.{Int};
+ghost use Rattle.sqlite_value.specs.Order.{column};
+ghost use Rattle.scoop_handler.specs.State.{IsState};
+ghost use Rattle.scoop_record.specs.Range.{InRange};
+ghost use Rattle.scoop_record.specs.Store.{IsSound, IsRecord, IsFirstRecord, Saves};
+ghost use Rattle.scoop_record.specs.Tables.{value_at, Puts};
+ghost use Rattle.scoop_record.specs.Keeper.{IsPutError, IsAdoptError};
+ghost use Rattle.scoop_record.specs.Migrate.{keyed_value, SavesAll, Migrates, IsFirstRow, IsRising};
+
+use crate::create::create_pending;
+use crate::handlers::{images_of, put_both};
+use crate::images::{ReadError, read_image_with_entries};
+use crate::keeper::KeeperError;
+use crate::refusal::refusal;
+use scoop_handler::HandlerState;
+use scoop_message::HandlerId;
+use sqlite::{Alter, Connection, Error, Row, Transaction, params};
+use std::alloc::Global;
+
+/// Each handler's number and image, by number.
+fn rows_of_handlers<S: Alter>(tx: &mut Transaction<'_, S>) -> Result<Vec<Row>, Error>
+    requires { IsSound (state S.Store tx.old.conn.now) → IsRecord (state S.Store tx.old.conn.now).now }
+    ensures same_reference { tx.new.conn.ghost_name ≡ tx.old.conn.ghost_name }
+    ensures rows { HasCleanDisk (state S.Store tx.new.conn.now) → IfOk result (λ rows. IsUnchanged (state S.Store tx.old.conn.now) (state S.Store tx.new.conn.now)
+        × IsPermutation (map keyed_value ((state S.Store tx.old.conn.now).now.trees 1)) rows.items) }
+    ensures kept { HasCleanDisk (state S.Store tx.new.conn.now) → KeepsCommit (state S.Store tx.old.conn.now) (state S.Store tx.new.conn.now) }
+    ensures survives { Survives (state S.Store tx.old.conn.now) (state S.Store tx.new.conn.now) (λ _. ⊥) }
+{
+    tx.query_all("SELECT h, image FROM handlers ORDER BY h", &[])
+}
+
+/// The version becomes this one, where there is one.
+fn raise_version<S: Alter>(tx: &mut Transaction<'_, S>, version: u32) -> Result<usize, Error>
+    requires { IsSound (state S.Store tx.old.conn.now) → IsRecord (state S.Store tx.old.conn.now).now × (value_at ((state S.Store tx.old.conn.now).now.trees 0) 1 ≡ Some (Int (pos 1))) }
+    ensures same_reference { tx.new.conn.ghost_name ≡ tx.old.conn.ghost_name }
+    ensures put { HasCleanDisk (state S.Store tx.new.conn.now) → OnOk result (Puts (state S.Store tx.old.conn.now).now (state S.Store tx.new.conn.now).now 0 1 (Int (pos version))
+        × Shows (state S.Store tx.old.conn.now) (state S.Store tx.new.conn.now) (state S.Store tx.new.conn.now).now (state S.Store tx.old.conn.now).committed true) }
+    ensures kept { HasCleanDisk (state S.Store tx.new.conn.now) → KeepsCommit (state S.Store tx.old.conn.now) (state S.Store tx.new.conn.now) }
+    ensures survives { Survives (state S.Store tx.old.conn.now) (state S.Store tx.new.conn.now) (λ _. ⊥) }
+{
+    tx.execute(
+        "UPDATE meta SET version = ?1 WHERE id = 1",
+        params![version],
+    )
+}
+
+/// The state is stored in both tables.
+fn put_state<S: Alter>(
+    alloc: Global,
+    tx: &mut Transaction<'_, S>,
+    it: &HandlerState,
+) -> Result<(), KeeperError>
+    requires { IsSound (state S.Store tx.old.conn.now) → IsRecord (state S.Store tx.old.conn.now).now }
+    ensures same_reference { tx.new.conn.ghost_name ≡ tx.old.conn.ghost_name }
+    ensures put { HasCleanDisk (state S.Store tx.new.conn.now) → OnOk result (IsState it.now × InRange it.now × Saves (state S.Store tx.old.conn.now).now (state S.Store tx.new.conn.now).now it.now
+        × Shows (state S.Store tx.old.conn.now) (state S.Store tx.new.conn.now) (state S.Store tx.new.conn.now).now (state S.Store tx.old.conn.now).committed true) }
+    ensures kept { HasCleanDisk (state S.Store tx.new.conn.now) → KeepsCommit (state S.Store tx.old.conn.now) (state S.Store tx.new.conn.now) }
+    ensures named { IfErr result IsPutError }
+    ensures survives { Survives (state S.Store tx.old.conn.now) (state S.Store tx.new.conn.now) (λ _. ⊥) }
+{
+    let Ok((bytes, row)) = images_of(alloc, it) else {
+        return Err(KeeperError::OutOfMemory);
+    };
+    put_both(tx, it.handler().0, bytes.as_slice(), row.as_slice())
+}
+
+/// The states are stored in turn.
+fn put_states<S: Alter>(
+    alloc: Global,
+    tx: &mut Transaction<'_, S>,
+    all: &[HandlerState],
+) -> Result<(), KeeperError>
+    requires { IsSound (state S.Store tx.old.conn.now) → IsRecord (state S.Store tx.old.conn.now).now }
+    ensures same_reference { tx.new.conn.ghost_name ≡ tx.old.conn.ghost_name }
+    ensures put { IsSound (state S.Store tx.new.conn.now) → OnOk result (SavesAll (state S.Store tx.old.conn.now).now (state S.Store tx.new.conn.now).now all.now) }
+    ensures kept { HasCleanDisk (state S.Store tx.new.conn.now) → KeepsCommit (state S.Store tx.old.conn.now) (state S.Store tx.new.conn.now) }
+    ensures named { IfErr result IsPutError }
+    ensures survives { Survives (state S.Store tx.old.conn.now) (state S.Store tx.new.conn.now) (λ _. ⊥) }
+{
+    let [it, more @ ..] = all else {
+        return Ok(());
+    };
+    put_state(alloc, tx, it)?;
+    put_states(alloc, tx, more)
+}
+
+/// The tables of version 1 become those of version 2, in the transaction.
+fn migrate_in<S: Alter>(alloc: Global, tx: &mut Transaction<'_, S>) -> Result<(), KeeperError>
+    requires { IsSound (state S.Store tx.old.conn.now) → IsFirstRecord (state S.Store tx.old.conn.now).now × (value_at ((state S.Store tx.old.conn.now).now.trees 0) 1 ≡ Some (Int (pos 1))) }
+    ensures same_reference { tx.new.conn.ghost_name ≡ tx.old.conn.ghost_name }
+    ensures migrated { HasCleanDisk (state S.Store tx.new.conn.now) → OnOk result (Migrates (state S.Store tx.old.conn.now).now (state S.Store tx.new.conn.now).now) }
+    ensures inside { HasCleanDisk (state S.Store tx.new.conn.now) → OnOk result (IsTrue (state S.Store tx.new.conn.now).is_open × IsTrue (state S.Store tx.new.conn.now).in_transaction) }
+    ensures kept { HasCleanDisk (state S.Store tx.new.conn.now) → KeepsCommit (state S.Store tx.old.conn.now) (state S.Store tx.new.conn.now) }
+    ensures named { IfErr result IsAdoptError }
+    ensures survives { Survives (state S.Store tx.old.conn.now) (state S.Store tx.new.conn.now) (λ _. ⊥) }
+{
+    if let Err(error) = create_pending(tx) {
+        return Err(refusal(error));
+    }
+    let rows = match rows_of_handlers(tx) {
+        Ok(rows) => rows,
+        Err(error) => return Err(refusal(error)),
+    };
+    let all = states_of(alloc, rows.as_slice())?;
+    put_states(alloc, tx, all.as_slice())?;
+    match raise_version(tx, 2) {
+        Ok(_) => Ok(()),
+        Err(error) => Err(refusal(error)),
+    }
+}
+
+/// The tables of version 1 become those of version 2, in one transaction.
+pub(crate) fn migrate<S: Alter>(alloc: Global, conn: &mut Connection<S>) -> Result<(), KeeperError>
+    requires mode { conn.old.in_transaction ≡ false }
+    requires first { IsSound (state S.Store conn.old) → IsFirstRecord (state S.Store conn.old).now × (value_at ((state S.Store conn.old).now.trees 0) 1 ≡ Some (Int (pos 1))) }
+    requires settled { IsSound (state S.Store conn.old) → (state S.Store conn.old).now ≡ (state S.Store conn.old).committed }
+    ensures mode { conn.new.in_transaction ≡ false }
+    ensures sound { IsSound (state S.Store conn.new) → IsSound (state S.Store conn.old) }
+    ensures migrated { IsSound (state S.Store conn.new) → OnOk result (Migrates (state S.Store conn.old).now (state S.Store conn.new).now × ((state S.Store conn.new).now ≡ (state S.Store conn.new).committed)) }
+    ensures refused { IsSound (state S.Store conn.new) → OnErr result ((state S.Store conn.new).now ≡ (state S.Store conn.old).now) }
+    ensures named { IfErr result IsAdoptError }
+    ensures survives { Survives (state S.Store conn.old) (state S.Store conn.new) (λ trees. IsTrue (state S.Store conn.old).is_open × (db : Database) × Migrates (state S.Store conn.old).now db × (trees ≡ db.trees)) }
+{
+    let mut tx = conn.transaction();
+    migrate_in(alloc, &mut tx)?;
+    match tx.commit() {
+        Ok(()) => Ok(()),
+        Err(error) => Err(refusal(error)),
+    }
+}
+
+/// The handler's number in the row.
+fn handler_in(row: &Row) -> Result<HandlerId, KeeperError>
+    ensures number { IfOk result (λ handler. column row.now 0 ≡ Int (pos handler.0)) }
+    ensures named { IfErr result IsAdoptError }
+{
+    let number: i64 = match row.get(0) {
+        Ok(number) => number,
+        Err(error) => return Err(refusal(error)),
+    };
+    match u32::try_from(number) {
+        Ok(handler) => Ok(HandlerId(handler)),
+        Err(_) => Err(KeeperError::WrongSchema),
+    }
+}
+
+/// The state whose image is in the row.
+fn state_in_row(alloc: Global, row: &Row) -> Result<HandlerState, KeeperError>
+    ensures state { IfOk result (IsFirstRow row.now) }
+    ensures named { IfErr result IsAdoptError }
+{
+    let handler = handler_in(row)?;
+    let bytes: Vec<u8> = match row.get(1) {
+        Ok(bytes) => bytes,
+        Err(error) => return Err(refusal(error)),
+    };
+    match read_image_with_entries(alloc, handler, bytes.as_slice()) {
+        Ok(state) => Ok(state),
+        Err(ReadError::BadImage) => Err(KeeperError::BadImage(handler)),
+        Err(ReadError::OutOfMemory) => Err(KeeperError::OutOfMemory),
+    }
+}
+
+fn are_below(all: &[HandlerState], it: &HandlerState) -> bool
+    ensures { IsTrue result → All (λ below. below.number.0 < it.now.number.0) all.now }
+{
+    all.iter().all(|below| below.handler().0 < it.handler().0)
+}
+
+/// The states whose images are in the rows, whose keys rise.
+fn states_of(alloc: Global, rows: &[Row]) -> Result<Vec<HandlerState>, KeeperError>
+    ensures read { IfOk result (λ all. AllZip IsFirstRow rows.now all.items) }
+    ensures rises { IfOk result (λ all. IsRising all.items) }
+    ensures named { IfErr result IsAdoptError }
+{
+    for row in rows {
+        handler_in(row)?;
+    }
+    let mut all: Vec<HandlerState> = Vec::new(alloc);
+    for row in rows {
+        let state = state_in_row(alloc, row)?;
+        if !are_below(all.as_slice(), &state) {
+            return Err(KeeperError::Refused);
+        }
+        if all.push(state).is_err() {
+            return Err(KeeperError::OutOfMemory);
+        }
+    }
+    Ok(all)
+}

@@ -1,0 +1,152 @@
+//! A keeper over the tables of a database.
+
+ghost use Rattle.std.specs.Prelude.{◌≡◌, ◌⊎◌, IsTrue, IfOk, IfErr, OnOk, OnErr, Some};
+ghost use Rattle.scoop_record.specs.Tables.{no_schema};
+
+use crate::adopt::take_tables;
+use crate::create::make_tables;
+use crate::keeper::{Keeper, KeeperError};
+use crate::{clients, handlers};
+use scoop_handler::HandlerState;
+use scoop_message::{ClientId, HandlerId};
+use sqlite::{Alter, Connection};
+use sqlite_schema::schema::Schema;
+use std::alloc::Global;
+use std::marker::Model;
+
+/// Keeps states and incarnations in the tables of a database. Contracts see it as its connection.
+#[derive(Drop)]
+pub struct Store<S: Alter + Drop> {
+    conn: Connection<S>,
+    alloc: Global,
+}
+
+impl<S: Alter + Drop> Model for Store<S> {
+    ghost use Rattle.sqlite.specs.Held.{Held, held_code};
+
+    ghost Value = { Held S };
+
+    ghost coded = { held_code S.code };
+
+    ghost use Rattle.scoop_record.specs.Store.{IsIdle};
+
+    ghost view = { λ s. s.conn };
+
+    ghost invariant = { λ s. IsIdle S.Store s.conn };
+}
+
+/// The version of the tables.
+pub const VERSION: u32 = 2;
+
+fn is_blank(schema: &Schema) -> bool
+    ensures { IsTrue result → schema.now ≡ no_schema }
+{
+    schema.tables.as_slice().is_empty()
+        && schema.indexes.as_slice().is_empty()
+        && schema.views.as_slice().is_empty()
+}
+
+impl<S: Alter + Drop> Store<S> {
+    ghost use Rattle.sqlite.specs.Effect.{Database};
+    ghost use Rattle.sqlite.specs.Held.{state};
+    ghost use Rattle.sqlite.specs.State.{Survives};
+    ghost use Rattle.scoop_record.specs.Keeper.{IsPutError, IsAdoptError};
+    ghost use Rattle.scoop_record.specs.Migrate.{Migrates, Adopts};
+    ghost use Rattle.scoop_record.specs.Store.{IsSound, IsNewRecord};
+
+    /// Makes the tables in a database that has none, in one transaction.
+    ///
+    /// Refused: `Refused` where the database has a table or the connection is in a transaction, and
+    /// where a text is refused; `OutOfMemory`.
+    pub fn create(alloc: Global, mut conn: Connection<S>) -> Result<Store<S>, KeeperError>
+        ensures made { IfOk result (λ store. IsSound (state S.Store store) → IsNewRecord (state S.Store store).now VERSION) }
+        ensures sound { IfOk result (λ store. IsSound (state S.Store store) → IsSound (state S.Store conn)) }
+        ensures named { IfErr result IsPutError }
+        ensures survives { IfOk result (λ store. Survives (state S.Store conn) (state S.Store store) (λ trees. (db : Database) × IsNewRecord db VERSION × (trees ≡ db.trees))) }
+    {
+        if !conn.is_autocommit() || !is_blank(conn.schema()) {
+            return Err(KeeperError::Refused);
+        }
+        make_tables(&mut conn, VERSION)?;
+        Ok(Store { conn, alloc })
+    }
+
+    /// Takes a database that has the tables. Tables of version 1 become those of version 2, in one
+    /// transaction.
+    ///
+    /// Refused with the database as it was: `WrongSchema` where there is no version or another one, or
+    /// a number in a table of version 1 is no handler's; `BadImage` for the lowest handler whose image
+    /// of version 1 is no state's; `Refused` where the connection is in a transaction, the tables are
+    /// not those of their version, or a text is refused; `OutOfMemory`.
+    pub fn adopt(alloc: Global, mut conn: Connection<S>) -> Result<Store<S>, KeeperError>
+        ensures adopted { IfOk result (λ store. IsSound (state S.Store store) → Adopts (state S.Store conn).now (state S.Store store).now) }
+        ensures sound { IfOk result (λ store. IsSound (state S.Store store) → IsSound (state S.Store conn)) }
+        ensures named { IfErr result IsAdoptError }
+        ensures survives { IfOk result (λ store. Survives (state S.Store conn) (state S.Store store) (λ trees. (db : Database) × Migrates (state S.Store conn).now db × (trees ≡ db.trees))) }
+    {
+        if !conn.is_autocommit() {
+            return Err(KeeperError::Refused);
+        }
+        take_tables(alloc, &mut conn)?;
+        Ok(Store { conn, alloc })
+    }
+
+    /// The connection behind the store.
+    pub fn into_connection(self) -> Connection<S>
+        ensures { result ≡ self }
+    {
+        self.conn
+    }
+}
+
+impl<S: Alter + Drop> Keeper for Store<S> {
+    ghost use Rattle.sqlite.specs.Held.{state as seen};
+    ghost use Rattle.sqlite.specs.Effect.{Database};
+    ghost use Rattle.sqlite.specs.State.{Survives};
+    ghost use Rattle.scoop_record.specs.Keeper.{Keeps, Stays, IsSame, Sets, IsPutError, next_of, last_incarnation};
+    ghost use Rattle.scoop_record.specs.Store.{handlers_in, incs_in, IsSound, Advances, Saves};
+
+    ghost handlers = { λ s. handlers_in (seen S.Store s).now.trees };
+
+    ghost incarnations = { λ s. incs_in (seen S.Store s).now.trees };
+
+    ghost is_honest = { λ s. IsSound (seen S.Store s) };
+
+    fn put_handler(&mut self, state: &HandlerState) -> Result<(), KeeperError>
+        ensures stored { IsSound (seen S.Store self.new) → OnOk result (Keeps (handlers_in (seen S.Store self.old).now.trees) (handlers_in (seen S.Store self.new).now.trees) state.now) }
+        ensures incarnations { IsSound (seen S.Store self.new) → IsSame (incs_in (seen S.Store self.old).now.trees) (incs_in (seen S.Store self.new).now.trees) }
+        ensures refused { IsSound (seen S.Store self.new) → OnErr result (Stays (handlers_in (seen S.Store self.old).now.trees) (handlers_in (seen S.Store self.new).now.trees)) }
+        ensures named { IfErr result IsPutError }
+        ensures honest { IsSound (seen S.Store self.new) → IsSound (seen S.Store self.old) }
+        // A crash leaves what it could leave before the call, or the state for its handler.
+        ensures survives { Survives (seen S.Store self.old) (seen S.Store self.new) (λ trees. (db : Database) × Saves (seen S.Store self.old).now db state.now × (trees ≡ db.trees)) }
+    {
+        let Ok((bytes, row)) = handlers::images_of(self.alloc, state) else {
+            return Err(KeeperError::OutOfMemory);
+        };
+        handlers::write_state(
+            &mut self.conn,
+            state.handler().0,
+            bytes.as_slice(),
+            row.as_slice(),
+        )
+    }
+
+    fn load_handler(&mut self, handler: HandlerId) -> Result<Option<HandlerState>, KeeperError> {
+        handlers::load(self.alloc, &mut self.conn, handler)
+    }
+
+    fn next_incarnation(&mut self, client: ClientId) -> Result<u32, KeeperError>
+        ensures next { IsSound (seen S.Store self.new) → IfOk result (λ inc. inc ≡ next_of (incs_in (seen S.Store self.old).now.trees client.0)) }
+        ensures stored { IsSound (seen S.Store self.new) → IfOk result (Sets (incs_in (seen S.Store self.old).now.trees) (incs_in (seen S.Store self.new).now.trees) client.0) }
+        ensures spent { IsSound (seen S.Store self.new) → result ≡ Err KeeperError.IncarnationsSpent → incs_in (seen S.Store self.old).now.trees client.0 ≡ Some last_incarnation }
+        ensures refused { IsSound (seen S.Store self.new) → OnErr result (IsSame (incs_in (seen S.Store self.old).now.trees) (incs_in (seen S.Store self.new).now.trees)) }
+        ensures named { IfErr result (λ e. IsPutError e ⊎ (e ≡ KeeperError.IncarnationsSpent)) }
+        ensures handlers { IsSound (seen S.Store self.new) → Stays (handlers_in (seen S.Store self.old).now.trees) (handlers_in (seen S.Store self.new).now.trees) }
+        ensures honest { IsSound (seen S.Store self.new) → IsSound (seen S.Store self.old) }
+        // A crash leaves what it could leave before the call, or the next incarnation.
+        ensures survives { Survives (seen S.Store self.old) (seen S.Store self.new) (λ trees. (db : Database) × Advances (seen S.Store self.old).now db client.0 × (trees ≡ db.trees)) }
+    {
+        clients::advance(&mut self.conn, client.0)
+    }
+}

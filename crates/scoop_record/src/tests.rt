@@ -1,0 +1,4 @@
+//! The record's tests.
+
+mod images;
+mod keepers;

@@ -1,0 +1,5 @@
+mod Same
+mod Beginnings
+pub mod Events
+pub mod Keys
+pub mod Order

@@ -1,0 +1,10 @@
+pub mod Lists
+pub mod Joint
+pub mod Sets
+pub mod Opened
+pub mod Holding
+pub mod Facts
+pub mod Handlers
+pub mod Clients
+pub mod Commands
+pub mod Runs

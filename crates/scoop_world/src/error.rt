@@ -1,0 +1,58 @@
+//! Why a world doesn't open, and why an event doesn't happen.
+
+use scoop_client::ClientError;
+use scoop_message::{ClientId, HandlerId};
+use thiserror::Error;
+
+/// Why an event is refused, in the order in which it is tested. A refused event changes nothing. Printed as
+/// its name, which for a client's refusal is the client's.
+#[derive(Clone, Copy, Debug, PartialEq, Eq, Error)]
+pub enum WorldError {
+    /// No message has this place in the list of sent messages, which is counted from 1.
+    #[error("NoSuchMessage")]
+    NoSuchMessage,
+    /// The client, handler or node isn't in the world.
+    #[error("NoSuchParty")]
+    NoSuchParty,
+    /// The handler has no entry that may begin, or no job is out.
+    #[error("NothingToRun")]
+    NothingToRun,
+    /// The client refuses the command.
+    #[error("{0}")]
+    ClientRefused(ClientError),
+    /// The client's stored incarnation is the highest there is.
+    #[error("IncarnationsSpent")]
+    IncarnationsSpent,
+    /// A growth of memory was refused.
+    #[error("OutOfMemory")]
+    OutOfMemory,
+}
+
+/// Why a world doesn't open, in the order in which it is tested. Printed as its name.
+#[derive(Clone, Copy, Debug, PartialEq, Eq, Error)]
+pub enum WorldOpenError {
+    /// No handler is placed.
+    #[error("NoHandlers")]
+    NoHandlers,
+    /// More than 64 handlers are placed.
+    #[error("TooManyHandlers")]
+    TooManyHandlers,
+    /// This handler stands at the first place that repeats an earlier one.
+    #[error("Repeated")]
+    Repeated(HandlerId),
+    /// This handler is the first whose object isn't of the class that is placed with it.
+    #[error("WrongClass")]
+    WrongClass(HandlerId),
+    /// There are more than 64 clients.
+    #[error("TooManyClients")]
+    TooManyClients,
+    /// This client stands at the first place that repeats an earlier one.
+    #[error("RepeatedClient")]
+    RepeatedClient(ClientId),
+    /// A client's stored incarnation is the highest there is.
+    #[error("IncarnationsSpent")]
+    IncarnationsSpent,
+    /// A growth of memory was refused.
+    #[error("OutOfMemory")]
+    OutOfMemory,
+}
