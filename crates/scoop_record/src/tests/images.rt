@@ -1,3 +1,5 @@
+//! Images of the worked state, whole, cut and changed.
+
 use crate::*;
 use linked_list_allocator::LocalHeap;
 use scoop_message::HandlerId;
@@ -42,7 +44,7 @@ fn cut_and_longer_bytes_are_no_image(rt: HostRuntime) {
 }
 
 #[test]
-fn what_no_handler_has_is_no_image(rt: HostRuntime) {
+fn what_no_handler_has_is_no_image(rt: HostRuntime) -> Result<(), Fail> {
     let bad = Some(ReadError::BadImage);
     let changed = [
         (0, 1), // the other version
@@ -61,9 +63,10 @@ fn what_no_handler_has_is_no_image(rt: HostRuntime) {
     ];
     for (at, byte) in changed {
         let mut image = IMAGE;
-        image[at] = byte;
+        *image.get_mut(at).ok_or("a byte of the image")? = byte;
         assert_eq!(rt; fault(rt.alloc(), &image, &PENDING), bad, "{at}");
     }
+    Ok(())
 }
 
 #[test]

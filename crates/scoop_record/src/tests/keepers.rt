@@ -1,13 +1,12 @@
+//! Keepers in memory and over a database.
+
 use super::images::PENDING;
 use crate::*;
 use scoop_handler::HandlerState;
 use scoop_message::{ClientId, HandlerId};
-use sqlite::{Connection, FileStore, Files, MemStore, Options};
-use sqlite_disk::{Disk, Fuse, Memory};
+use sqlite::{Connection, MemStore};
 use std::alloc::Global;
 use std::test::Fail;
-
-type Stopped = Fuse<Memory>;
 
 // The state of a handler with this one word, whom nobody has greeted.
 fn kept(alloc: Global, word: u8) -> Result<HandlerState, Fail> {
@@ -23,75 +22,6 @@ fn kept(alloc: Global, word: u8) -> Result<HandlerState, Fail> {
 fn word<K: Keeper>(keeper: &mut K) -> Result<u64, Fail> {
     let state = keeper.load_handler(HandlerId(1))?.ok_or("a state")?;
     Ok(state.words().get(0).ok_or("a word")?)
-}
-
-fn again(alloc: Global, file: &Memory, calls: u64) -> Result<Stopped, Fail> {
-    let mut copy = Memory::new(alloc);
-    copy.write_at(0, file.bytes())?;
-    copy.sync()?;
-    Ok(Fuse::new(copy, calls))
-}
-
-fn copies(alloc: Global, files: &Files<Stopped>, calls: u64) -> Result<Files<Stopped>, Fail> {
-    Ok(Files {
-        log: again(alloc, files.log.inner(), calls)?,
-        db: again(alloc, files.db.inner(), u64::MAX)?,
-    })
-}
-
-fn opened(
-    alloc: Global,
-    files: Files<Stopped>,
-) -> Result<Connection<FileStore<Stopped>>, Files<Stopped>> {
-    match Connection::open_files(alloc, files, Options::new(1)) {
-        Ok(conn) => Ok(conn),
-        Err((_, left)) => Err(left.into_files()),
-    }
-}
-
-// The files of a store that has a state.
-fn first_files(alloc: Global) -> Result<Files<Stopped>, Fail> {
-    let blank = Files {
-        log: Fuse::new(Memory::new(alloc), u64::MAX),
-        db: Fuse::new(Memory::new(alloc), u64::MAX),
-    };
-    let conn = opened(alloc, blank).ok().ok_or("opened")?;
-    let mut store = Store::create(alloc, conn)?;
-    store.put_handler(&kept(alloc, 5)?)?;
-    Ok(store.into_connection().into_store().close())
-}
-
-// A put over a disk that stops at a call: whether it was put, and the files.
-fn stopped_put(alloc: Global, files: Files<Stopped>) -> Result<(bool, Files<Stopped>), Fail> {
-    let conn = match opened(alloc, files) {
-        Ok(conn) => conn,
-        Err(left) => return Ok((false, left)),
-    };
-    let mut store = Store::adopt(alloc, conn)?;
-    let put = store.put_handler(&kept(alloc, 7)?).is_ok();
-    Ok((put, store.into_connection().into_store().close()))
-}
-
-// Whether a put that is stopped at a call was put, and the word that is found afterwards.
-fn found_after(alloc: Global, made: &Files<Stopped>, calls: u64) -> Result<(bool, u64), Fail> {
-    let (put, left) = stopped_put(alloc, copies(alloc, made, calls)?)?;
-    let conn = opened(alloc, copies(alloc, &left, u64::MAX)?)
-        .ok()
-        .ok_or("opened again")?;
-    let mut store = Store::adopt(alloc, conn)?;
-    Ok((put, word(&mut store)?))
-}
-
-#[test]
-fn a_stopped_put_leaves_the_state_before_or_its_own(rt: HostRuntime) -> Result<(), Fail> {
-    let made = first_files(rt.alloc())?;
-    assert_eq!(rt; found_after(rt.alloc(), &made, 50)?, (false, 5));
-    assert_eq!(rt; found_after(rt.alloc(), &made, 200)?, (true, 7));
-    for calls in [58, 64] {
-        let (put, found) = found_after(rt.alloc(), &made, calls)?;
-        assert!(rt; found == 7 || found == 5 && !put);
-    }
-    Ok(())
 }
 
 #[test]
