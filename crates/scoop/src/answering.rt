@@ -4,80 +4,108 @@ ghost use Rattle.std.specs.Prelude.{◌≡◌, Some};
 ghost use Rattle.scoop_demo.specs.Classes.{class_named};
 
 use crate::failure::Failure;
+use crate::storing::{FiledStore, adopt, close, create};
 use clap::ArgMatches;
 use scoop_demo::{
-    AccountObject, CellObject, CounterObject, ExchangeObject, answer_run, demo_class,
+    AccountObject, CellObject, CounterObject, ExchangeObject, answer_run, demo_class, open_handler,
 };
-use scoop_handler::Handler;
 use scoop_message::{HandlerId, OutOfMemory};
 use scoop_object::{Behaviour, Boxed};
+use scoop_record::{Keeper, MemoryKeeper};
 use std::io;
 use std::io::BufWriter;
 
-// What the command line asks for, beside the object.
+// What the command line asks for, beside the class and the keeper.
 #[derive(Clone, Copy)]
 struct Options {
     handler: HandlerId,
+    word: u64,
     shows_words: bool,
 }
 
-/// Answers the datagrams of standard input with an object of the class that is asked for.
-pub fn answer<R: Input + Print + AllocGlobal>(
+/// Answers the datagrams of standard input with an object of the class that is asked for, over the keeper
+/// that is asked for.
+pub fn answer(rt: &HostRuntime, given: &ArgMatches<'_>) -> Result<(), Failure> {
+    if let Some(path) = given.get_str("new") {
+        return answer_over_file(rt, given, create(rt, path)?);
+    }
+    if let Some(path) = given.get_str("store") {
+        return answer_over_file(rt, given, adopt(rt, path)?);
+    }
+    answer_over(rt, given, &mut MemoryKeeper::new(rt.alloc()))
+}
+
+// The same over a store in a file, which is closed behind it.
+fn answer_over_file(
+    rt: &HostRuntime,
+    given: &ArgMatches<'_>,
+    mut store: FiledStore,
+) -> Result<(), Failure> {
+    let answered = answer_over(rt, given, &mut store);
+    let closed = close(store);
+    answered?;
+    Ok(closed?)
+}
+
+// The same over this keeper.
+fn answer_over<K: Keeper, R: Input + Print + AllocGlobal>(
     rt: &R,
     given: &ArgMatches<'_>,
+    keeper: &mut K,
 ) -> Result<(), Failure> {
     let options = Options {
         handler: HandlerId(given.get_one::<u32>("handler").unwrap_or(1)),
+        word: given.get_one::<u64>("word").unwrap_or(0),
         shows_words: given.get_flag("words"),
     };
-    let word = given.get_one::<u64>("word").unwrap_or(0);
     match given.get_str("class") {
-        Some("counter") => answer_as_counter(rt, &options, word),
-        Some("account") => answer_as_account(rt, &options, word),
-        Some("exchange") => answer_as_exchange(rt, &options, word),
-        _ => answer_as_cell(rt, &options, word),
+        Some("counter") => answer_as_counter(rt, keeper, &options),
+        Some("account") => answer_as_account(rt, keeper, &options),
+        Some("exchange") => answer_as_exchange(rt, keeper, &options),
+        _ => answer_as_cell(rt, keeper, &options),
     }
 }
 
-fn answer_as_cell<R: Input + Print + AllocGlobal>(
+fn answer_as_cell<K: Keeper, R: Input + Print + AllocGlobal>(
     rt: &R,
+    keeper: &mut K,
     options: &Options,
-    word: u64,
 ) -> Result<(), Failure> {
-    let cell = Box::new(rt.alloc(), CellObject::new(word))?;
-    answer_with(rt, options, "cell", Boxed::new(cell))
+    let cell = Box::new(rt.alloc(), CellObject::new(options.word))?;
+    answer_with(rt, keeper, options, "cell", Boxed::new(cell))
 }
 
-fn answer_as_counter<R: Input + Print + AllocGlobal>(
+fn answer_as_counter<K: Keeper, R: Input + Print + AllocGlobal>(
     rt: &R,
+    keeper: &mut K,
     options: &Options,
-    word: u64,
 ) -> Result<(), Failure> {
-    let counter = Box::new(rt.alloc(), CounterObject::new(word))?;
-    answer_with(rt, options, "counter", Boxed::new(counter))
+    let counter = Box::new(rt.alloc(), CounterObject::new(options.word))?;
+    answer_with(rt, keeper, options, "counter", Boxed::new(counter))
 }
 
-fn answer_as_account<R: Input + Print + AllocGlobal>(
+fn answer_as_account<K: Keeper, R: Input + Print + AllocGlobal>(
     rt: &R,
+    keeper: &mut K,
     options: &Options,
-    word: u64,
 ) -> Result<(), Failure> {
-    let account = Box::new(rt.alloc(), AccountObject::new(word))?;
-    answer_with(rt, options, "account", Boxed::new(account))
+    let account = Box::new(rt.alloc(), AccountObject::new(options.word))?;
+    answer_with(rt, keeper, options, "account", Boxed::new(account))
 }
 
-fn answer_as_exchange<R: Input + Print + AllocGlobal>(
+fn answer_as_exchange<K: Keeper, R: Input + Print + AllocGlobal>(
     rt: &R,
+    keeper: &mut K,
     options: &Options,
-    word: u64,
 ) -> Result<(), Failure> {
-    let exchange = Box::new(rt.alloc(), ExchangeObject::new(word, 0))?;
-    answer_with(rt, options, "exchange", Boxed::new(exchange))
+    let exchange = Box::new(rt.alloc(), ExchangeObject::new(options.word, 0))?;
+    answer_with(rt, keeper, options, "exchange", Boxed::new(exchange))
 }
 
 // Answers the datagrams with an object of the class of that name.
-fn answer_with<B: Behaviour, R: Input + Print + AllocGlobal>(
+fn answer_with<B: Behaviour, K: Keeper, R: Input + Print + AllocGlobal>(
     rt: &R,
+    keeper: &mut K,
     options: &Options,
     class_name: &str,
     object: B,
@@ -87,11 +115,14 @@ fn answer_with<B: Behaviour, R: Input + Print + AllocGlobal>(
     let Some(class) = demo_class(rt.alloc(), class_name)? else {
         unreachable!()
     };
-    let mut handler = match Handler::new(rt.alloc(), options.handler, class, object) {
-        Ok(handler) => handler,
-        Err(_) => unreachable!(),
-    };
+    let mut handler = open_handler(rt.alloc(), keeper, options.handler, class, object)?;
     let mut output = BufWriter::new(rt.alloc(), io::writer(rt)).map_err(|_| OutOfMemory)?;
-    answer_run(&mut handler, options.shows_words, rt.reader(), &mut output)?;
+    answer_run(
+        &mut handler,
+        keeper,
+        options.shows_words,
+        rt.reader(),
+        &mut output,
+    )?;
     Ok(())
 }

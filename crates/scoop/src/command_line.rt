@@ -25,7 +25,21 @@ pub fn command<'a>(alloc: Global) -> Result<Command<'a>, AllocError> {
         .propagate_version(true)
         .subcommand_required(true)
         .arg_required_else_help(true)
-        .subcommand(answer_command(alloc)?)
+        .subcommand(answer_command(alloc)?)?
+        .subcommand(world_command(alloc))
+}
+
+fn world_command<'a>(alloc: Global) -> Command<'a> {
+    Command::new(alloc, "world")
+        .about("Plays a script of standard input, and prints its events and histories")
+        .long_about(
+            "Plays a script: its first lines place handlers (`handler NODE H CLASS W..`) and let clients join \
+            (`client C` or `client C B`), and each further line is an event (`reserve C H..`, `call C H OP A..`, \
+            `query C H OP A..`, `end C`, `giveup C`, `tick C H`, `take I`, `trip C H`, `begin H`, `finish H`, \
+            `run H`, `restart client C`, `restart node N`). Empty lines and lines that begin with `#` are \
+            skipped. Each event prints what it did, and the end what happened: the common list of blocks, what \
+            opened and what ran at each handler, and what each client accepted.",
+        )
 }
 
 // The names of the classes.
@@ -38,11 +52,14 @@ fn answer_command<'a>(alloc: Global) -> Result<Command<'a>, AllocError> {
             "Runs one handler with one object, and gives it the datagrams of standard input. Each line is one \
             datagram in hex digits of either case; spaces are skipped. Each is answered with one line: the reply \
             in hex digits, or `none` and what the handler did, or `refused` and why the datagram is no frame. \
-            What clients have logged is run as soon as it may run.",
+            What clients have logged is run as soon as it may run. With a file, each state is stored there \
+            before the reply is printed, and the handler begins with the state that is stored.",
         )
         .arg(handler_option(alloc))?
         .arg(class_option(alloc))?
         .arg(word_option(alloc))?
+        .arg(new_option(alloc)?)?
+        .arg(store_option(alloc))?
         .arg(words_flag(alloc))
 }
 
@@ -74,6 +91,23 @@ fn word_option<'a>(alloc: Global) -> Arg<'a> {
         .action(ArgAction::Set)
         .value_parser(value_parser!(u64))
         .default_value("0")
+}
+
+fn new_option<'a>(alloc: Global) -> Result<Arg<'a>, AllocError> {
+    Arg::new(alloc, "new")
+        .long("new")
+        .value_name("FILE")
+        .help("Makes a store in this file, and keeps the handler's state there")
+        .action(ArgAction::Set)
+        .conflicts_with("store")
+}
+
+fn store_option<'a>(alloc: Global) -> Arg<'a> {
+    Arg::new(alloc, "store")
+        .long("store")
+        .value_name("FILE")
+        .help("Keeps the handler's state in the store that is in this file")
+        .action(ArgAction::Set)
 }
 
 fn words_flag<'a>(alloc: Global) -> Arg<'a> {

@@ -4,6 +4,7 @@ use clap::Error;
 use clap::error::ErrorKind;
 use scoop_demo::RunError;
 use scoop_message::OutOfMemory;
+use scoop_record::KeeperError;
 use std::alloc::{AllocError, AllocFailed};
 
 /// Why the program ends early.
@@ -52,6 +53,12 @@ fn report_command_line<R: Print + Eprint>(rt: &R, error: &Error) -> u8 {
 impl From<RunError> for Failure {
     fn from(error: RunError) -> Failure {
         Failure::Run(error)
+    }
+}
+
+impl From<KeeperError> for Failure {
+    fn from(refusal: KeeperError) -> Failure {
+        Failure::Run(RunError::from(refusal))
     }
 }
 

@@ -4,12 +4,14 @@
 mod answering;
 mod command_line;
 mod failure;
+mod playing;
+mod storing;
 
 use answering::answer;
 use command_line::{command, words};
 use failure::Failure;
+use playing::play;
 use std::process::ExitCode;
-use std::rt::Runtime;
 
 fn main(rt: HostRuntime) -> ExitCode {
     match scoop(&rt) {
@@ -19,11 +21,12 @@ fn main(rt: HostRuntime) -> ExitCode {
 }
 
 // Reads the command line and runs what it asks for.
-fn scoop<R: Runtime + AllocGlobal>(rt: &R) -> Result<(), Failure> {
+fn scoop(rt: &HostRuntime) -> Result<(), Failure> {
     let words = words(rt)?;
     let matches = command(rt.alloc())?.try_get_matches_from(words.as_slice())?;
     match matches.subcommand() {
         Some(("answer", given)) => answer(rt, given),
+        Some(("world", _)) => play(rt),
         _ => Ok(()),
     }
 }

@@ -60,13 +60,17 @@ waits_for h n (Call r) = None
 waits_for h n (Query r) = Some (h, n)
 waits_for h n End = None
 
+-- the entry is logged with this number
+abbrev pub with_logged : ClientState → HandlerId → Entry → ℕ → ClientState
+with_logged c h e n = with_lines c (at_line h (with_entry e) c.lines) (waits_for h n e)
+
 -- the number 2^32-1 is kept for the End
 abbrev pub log_line : ClientState → HandlerId → Entry → Option LineState → Outcome
 log_line c h e None = Err (NotReserved h)
 log_line c h e (Some l) =
     if is_full l then Err (WindowFull h)
     else if nat_le (2 ^ 32 - 2) (logged l) then Err Spent
-    else Ok (with_lines c (at_line h (with_entry e) c.lines) (waits_for h (logged l + 1) e))
+    else Ok (with_logged c h e (logged l + 1))
 
 abbrev pub log_unless : ClientState → HandlerId → Entry → Option (HandlerId × ℕ) → Outcome
 log_unless c h e (Some w) = Err (Waiting w.0)
@@ -84,9 +88,12 @@ log c h e GivingUp = Err NoBlock
 -- ---- end
 
 -- an End is logged at every reserved handler
+abbrev pub with_ends : ClientState → ClientState
+with_ends c = with_lines c (map with_end c.lines) None
+
 abbrev pub end_unless_full : ClientState → Option HandlerId → Outcome
 end_unless_full c (Some h) = Err (WindowFull h)
-end_unless_full c None = Ok (with_lines c (map with_end c.lines) None)
+end_unless_full c None = Ok (with_ends c)
 
 abbrev pub end_unless_waiting : ClientState → Option (HandlerId × ℕ) → Outcome
 end_unless_waiting c (Some w) = Err (Waiting w.0)
@@ -157,3 +164,8 @@ AnswersAlways outcome (Err e) c d = (outcome ≡ Err e) × (d ≡ c)
 
 abbrev pub CommandedAlways : Command → Result Unit ClientError → ClientState → ClientState → Type 0
 CommandedAlways x result c d = AnswersAlways (command c x) result c d
+
+-- what a test of a command tells: that it would be taken, want of memory apart, or why it would be refused
+abbrev pub Foretells : Outcome → Result Unit ClientError → Type 0
+Foretells outcome (Ok u) = IsOk outcome
+Foretells outcome (Err e) = outcome ≡ Err e

@@ -1,7 +1,9 @@
 //! A client's commands.
 
-ghost use Rattle.std.specs.Prelude.{◌≡◌};
-ghost use Rattle.scoop_client.specs.Commands.{Commanded, CommandedAlways, AnswersAlways, log, waits_for};
+ghost use Rattle.std.specs.Prelude.{◌≡◌, ◌+◌, ◌<◌, ◌^◌, IfOk, IfErr, IfSome, OnOk, Ok, Err, None, false};
+ghost use Rattle.scoop_message.specs.declared.request.Entry.{Entry as LoggedEntry};
+ghost use Rattle.scoop_client.specs.Commands.{Commanded, CommandedAlways, AnswersAlways, Foretells, command, log, waits_for, with_block, with_ends, with_logged};
+ghost use Rattle.scoop_client.specs.Line.{HasRoom, is_ended, line_of, lowest_full};
 ghost use Rattle.scoop_client.specs.Commands.Command.{Reserve, DoCall, DoQuery, DoEnd, GiveUp};
 ghost use Rattle.scoop_client.specs.State.{phase_of};
 
@@ -30,6 +32,28 @@ impl<A: Allocator + Clone> Client<A> {
     pub fn reserve(&mut self, handlers: &[HandlerId]) -> Result<(), ClientError>
         ensures { Commanded (Reserve handlers.now) result self.old self.new }
     {
+        let reservation = match self.next_reservation(handlers) {
+            Ok(reservation) => reservation,
+            Err(error) => return Err(error),
+        };
+        let Ok(lines) = fresh_lines(self.handlers.allocator(), handlers) else {
+            return Err(ClientError::OutOfMemory);
+        };
+        self.last += 1;
+        self.reservation = Some(reservation);
+        self.lines = lines;
+        self.waits = None;
+        Ok(())
+    }
+}
+
+impl<A: Allocator> Client<A> {
+    // The reservation of the next block, or why none may begin over these handlers.
+    fn next_reservation(&self, handlers: &[HandlerId]) -> Result<Reservation, ClientError>
+        ensures begins { IfOk result (λ r. command self.now (Reserve handlers.now) ≡ Ok (with_block self.now handlers.now r)) }
+        ensures number { IfOk result (λ _. self.now.last + 1 < 2 ^ 32) }
+        ensures refused { IfErr result (λ e. command self.now (Reserve handlers.now) ≡ Err e) }
+    {
         match self.phase() {
             Phase::Greeting => return Err(ClientError::NotGreeted),
             Phase::Idle => {}
@@ -43,40 +67,29 @@ impl<A: Allocator + Clone> Client<A> {
             inc: self.inc,
             num: self.last + 1,
         };
-        let reservation = match Reservation::start(block, handlers, &self.handlers) {
-            Ok(reservation) => reservation,
-            Err(error) => return Err(ClientError::Reserve(error)),
-        };
-        let Ok(lines) = fresh_lines(self.handlers.allocator(), handlers) else {
-            return Err(ClientError::OutOfMemory);
-        };
-        self.last = block.num;
-        self.reservation = Some(reservation);
-        self.lines = lines;
-        self.waits = None;
-        Ok(())
+        match Reservation::start(block, handlers, &self.handlers) {
+            Ok(reservation) => Ok(reservation),
+            Err(error) => Err(ClientError::Reserve(error)),
+        }
     }
-}
 
-impl<A: Allocator> Client<A> {
-    /// Logs a call at a handler. Refused, in this order, with `NotGreeted`, `NoBlock` unless the
-    /// client is running, `Waiting`, `NotReserved`, `WindowFull` and `Spent`. Its memory was taken
-    /// by `reserve`.
-    pub fn call(&mut self, handler: HandlerId, request: Request) -> Result<(), ClientError>
-        ensures { CommandedAlways (DoCall handler request) result self.old self.new }
+    /// Whether a block over these handlers may begin now: what `reserve` would say, want of memory
+    /// apart. Takes no memory.
+    pub fn may_reserve(&self, handlers: &[HandlerId]) -> Result<(), ClientError>
+        ensures { Foretells (command self.now (Reserve handlers.now)) result }
     {
-        self.log(handler, Entry::Call(request))
+        match self.next_reservation(handlers) {
+            Ok(_) => Ok(()),
+            Err(error) => Err(error),
+        }
     }
 
-    /// Logs a query at a handler, whose answer the client then waits for. Refused as `call` is.
-    pub fn query(&mut self, handler: HandlerId, request: Request) -> Result<(), ClientError>
-        ensures { CommandedAlways (DoQuery handler request) result self.old self.new }
-    {
-        self.log(handler, Entry::Query(request))
-    }
-
-    fn log(&mut self, handler: HandlerId, entry: Entry) -> Result<(), ClientError>
-        ensures { AnswersAlways (log self.old handler entry (phase_of self.old)) result self.old self.new }
+    // The number of the last entry that was logged at a handler, or why none may be logged there.
+    fn last_logged(&self, handler: HandlerId) -> Result<u32, ClientError>
+        ensures logs { (entry : LoggedEntry) → IfOk result (λ last. log self.now handler entry (phase_of self.now) ≡ Ok (with_logged self.now handler entry (last + 1))) }
+        ensures number { IfOk result (λ last. last + 1 < 2 ^ 32) }
+        ensures room { OnOk result (IfSome (line_of handler self.now.lines) HasRoom) }
+        ensures refused { (entry : LoggedEntry) → IfErr result (λ e. log self.now handler entry (phase_of self.now) ≡ Err e) }
     {
         match self.phase() {
             Phase::Greeting => return Err(ClientError::NotGreeted),
@@ -96,6 +109,42 @@ impl<A: Allocator> Client<A> {
         if last >= u32::MAX - 1 {
             return Err(ClientError::Spent);
         }
+        Ok(last)
+    }
+
+    /// Whether a call or a query may be logged at a handler now: what `call` and `query` would say.
+    pub fn may_log(&self, handler: HandlerId) -> Result<(), ClientError>
+        ensures { (entry : LoggedEntry) → Foretells (log self.now handler entry (phase_of self.now)) result }
+    {
+        match self.last_logged(handler) {
+            Ok(_) => Ok(()),
+            Err(error) => Err(error),
+        }
+    }
+
+    /// Logs a call at a handler. Refused, in this order, with `NotGreeted`, `NoBlock` unless the
+    /// client is running, `Waiting`, `NotReserved`, `WindowFull` and `Spent`. Its memory was taken
+    /// by `reserve`.
+    pub fn call(&mut self, handler: HandlerId, request: Request) -> Result<(), ClientError>
+        ensures { CommandedAlways (DoCall handler request) result self.old self.new }
+    {
+        self.log(handler, Entry::Call(request))
+    }
+
+    /// Logs a query at a handler, whose answer the client then waits for. Refused as `call` is.
+    pub fn query(&mut self, handler: HandlerId, request: Request) -> Result<(), ClientError>
+        ensures { CommandedAlways (DoQuery handler request) result self.old self.new }
+    {
+        self.log(handler, Entry::Query(request))
+    }
+
+    fn log(&mut self, handler: HandlerId, entry: Entry) -> Result<(), ClientError>
+        ensures { AnswersAlways (log self.old handler entry (phase_of self.old)) result self.old self.new }
+    {
+        let last = match self.last_logged(handler) {
+            Ok(last) => last,
+            Err(error) => return Err(error),
+        };
         log_at(&mut self.lines, handler, entry);
         self.waits = waits_for(handler, last + 1, &entry);
         Ok(())
@@ -106,6 +155,20 @@ impl<A: Allocator> Client<A> {
     /// lowest such handler. Its memory was taken by `reserve`.
     pub fn end(&mut self) -> Result<(), ClientError>
         ensures { CommandedAlways DoEnd result self.old self.new }
+    {
+        if let Err(error) = self.may_end() {
+            return Err(error);
+        }
+        end_all(&mut self.lines);
+        Ok(())
+    }
+
+    /// Whether the block may end now: what `end` would say.
+    pub fn may_end(&self) -> Result<(), ClientError>
+        ensures told { Foretells (command self.now DoEnd) result }
+        ensures ends { OnOk result (command self.now DoEnd ≡ Ok (with_ends self.now)) }
+        ensures room { OnOk result (lowest_full self.now.lines ≡ None) }
+        ensures goes_on { OnOk result (is_ended self.now.lines ≡ false) }
     {
         match self.phase() {
             Phase::Greeting => return Err(ClientError::NotGreeted),
@@ -118,7 +181,6 @@ impl<A: Allocator> Client<A> {
         if let Some(handler) = lowest_full(&self.lines) {
             return Err(ClientError::WindowFull(handler));
         }
-        end_all(&mut self.lines);
         Ok(())
     }
 

@@ -4,4 +4,10 @@ mod InputLemmas
 mod HexLemmas
 mod AnswerLemmas
 mod RunningLemmas
+mod StoringLemmas
 mod RunLemmas
+mod ClassLemmas
+mod PartyLemmas
+mod WordLemmas
+mod NumberLemmas
+mod ScriptLemmas

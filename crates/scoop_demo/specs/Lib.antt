@@ -1,8 +1,17 @@
+pub mod OpenErrorText
 pub mod Text
 pub mod Line
 pub mod Input
 pub mod Hex
 pub mod Answer
 pub mod Running
+pub mod Storing
 pub mod Run
 pub mod Classes
+pub mod ScriptWords
+pub mod ScriptNumber
+pub mod ScriptKind
+pub mod ScriptLine
+pub mod LineFault
+pub mod NoteText
+pub mod Script

@@ -11,6 +11,7 @@ use Rattle.scoop_frame.specs.Text.{error_text}
 use Rattle.scoop_handler.specs.declared.note.Heard.{Heard}
 use Rattle.scoop_handler.specs.declared.note.Note.{Note}
 use Rattle.scoop_handler.specs.Core.{Core}
+use Rattle.scoop_handler.specs.State.{HandlerState}
 use Rattle.scoop_handler.specs.Text.{note_text}
 use Rattle.scoop_demo.specs.declared.fault.InputFault.{InputFault}
 use Rattle.scoop_demo.specs.declared.fault.InputFault.TheVariants.{ReadFault}
@@ -19,7 +20,8 @@ use Rattle.scoop_demo.specs.declared.fault.RunError.TheVariants.{Input, Write, O
 use Rattle.scoop_demo.specs.Line.{lines_of, limit_fault}
 use Rattle.scoop_demo.specs.Hex.{hex_fault, StandsFor}
 use Rattle.scoop_demo.specs.Answer.{IsRefused, IsHeard, WantsMemory}
-use Rattle.scoop_demo.specs.Running.{RunsBehind}
+use Rattle.scoop_demo.specs.Running.{RunsBehind, RunsPast}
+use Rattle.scoop_demo.specs.Storing.{IsTo, IsStoreError}
 
 -- ---- one line
 
@@ -57,6 +59,13 @@ Prints old datagram new note text = PrintsRefused old datagram new note text ⊎
 pub record PrintsOnly (old : Core) (datagram : List ℕ) (new : Core) (note : Option Note) (text : List ℕ) : Type 0 where
   pub same : (c : Core) (n : Option Note) (t : List ℕ) → Prints old datagram c n t → (c ≡ new) × (n ≡ note) × (t ≡ text)
 
+-- why a datagram has no answer: its message takes memory that was refused, and nothing has changed; or its
+-- handler has heard it, but its state was not stored
+pub data FailsToAnswer (old : Core) (datagram : List ℕ) (new : Core) : RunError → Type 0 where
+  no_memory : WantsMemory old datagram → new ≡ old → FailsToAnswer old datagram new OutOfMemory
+  not_stored : {e : RunError} → IsStoreError e → IsTo old.state.number datagram → (note : Option Note) (text : List ℕ) → Prints old datagram new note text
+      → PrintsOnly old datagram new note text → FailsToAnswer old datagram new e
+
 -- the line of this number has no fault, the handler has heard its datagram, and this is the answer
 pub record HearsLine (number : ℕ) (old : Core) (line : List ℕ) (new : Core) (note : Option Note) (text : List ℕ) : Type 0 where
   pub faultless : fault_of number line ≡ None
@@ -72,20 +81,34 @@ pub record AnswersLine (number : ℕ) (old : Core) (line : List ℕ) (new : Core
   pub hears : HearsLine number old line heard note text
   pub runs : RunsBehind note heard new
 
--- this is the answer, and the writer has gained it and a newline
-pub record WritesAnswer (number : ℕ) (old : Core) (line : List ℕ) (new : Core) (before after : Option (List ℕ)) : Type 0 where
+-- what is said of a keeper, once these lines have led from one state to another
+abbrev pub Keeping : Type 1
+Keeping = List (List ℕ) → HandlerState → HandlerState → Type 0
+
+-- this is the answer, the writer has gained it and a newline, and the state is kept
+pub record WritesAnswer (number : ℕ) (old : Core) (line : List ℕ) (new : Core) (kept : Keeping) (before after : Option (List ℕ)) : Type 0 where
   pub text : List ℕ
   pub answers : AnswersLine number old line new text
   pub writes : Appends before after (text ++ 10 ∷ [])
+  pub keeps : kept (line ∷ []) old.state new.state
 
--- why a line within the limits has no answer: its digits have a fault, or its datagram takes memory that was
--- refused, and nothing has changed; or the output failed, and the handler has heard the datagram but not run
-pub data StopsInLine (number : ℕ) (old : Core) (line : List ℕ) (new : Core) (before after : Option (List ℕ)) : RunError → Type 0 where
-  in_digits : {fault : InputFault} → fault_of number line ≡ Some fault → new ≡ old → Keeps before after
-      → StopsInLine number old line new before after (Input number fault)
-  in_memory : (datagram : List ℕ) → fault_of number line ≡ None → StandsFor line datagram → WantsMemory old datagram → new ≡ old → Keeps before after
-      → StopsInLine number old line new before after OutOfMemory
-  in_output : (note : Option Note) (text : List ℕ) → HearsLine number old line new note text → StopsInLine number old line new before after Write
+-- why the line of this number, which is within the limits, was not answered to the end
+pub data StopsInLine (number : ℕ) (old : Core) (line : List ℕ) (new : Core) (kept : Keeping) (before after : Option (List ℕ)) : RunError → Type 0 where
+  -- its digits have a fault, and nothing has changed
+  in_digits : {fault : InputFault} → fault_of number line ≡ Some fault → new ≡ old → Keeps before after → kept [] old.state new.state
+      → StopsInLine number old line new kept before after (Input number fault)
+  -- its datagram takes memory that was refused, and nothing has changed
+  in_memory : (datagram : List ℕ) → fault_of number line ≡ None → StandsFor line datagram → WantsMemory old datagram → new ≡ old → Keeps before after → kept [] old.state new.state
+      → StopsInLine number old line new kept before after OutOfMemory
+  -- the handler has heard the datagram, but its state was not stored, and nothing is written
+  in_store : {e : RunError} → IsStoreError e → (note : Option Note) (text : List ℕ) → HearsLine number old line new note text → Keeps before after
+      → kept [] old.state old.state → StopsInLine number old line new kept before after e
+  -- the state is stored, but the output failed, and the handler has not run
+  in_output : (note : Option Note) (text : List ℕ) → HearsLine number old line new note text → kept (line ∷ []) old.state new.state
+      → StopsInLine number old line new kept before after Write
+  -- the answer is written, but the state after one of the entries that have run was not stored
+  in_run : {e : RunError} → IsStoreError e → (heard last : Core) (note : Option Note) (text : List ℕ) → HearsLine number old line heard note text → RunsPast heard last new
+      → Appends before after (text ++ 10 ∷ []) → kept (line ∷ []) old.state last.state → StopsInLine number old line new kept before after e
 
 -- ---- several lines
 
@@ -117,13 +140,14 @@ words_line true words = words_text words ++ 10 ∷ []
 abbrev pub BeginsWithLines : Option (List ℕ) → List (List ℕ) → Type 0
 BeginsWithLines input lines = IfSome input (λ bytes. (rest : List (List ℕ)) × (lines_of bytes ≡ lines ++ rest))
 
--- the handler has answered all lines of the input, and the writer has gained the answers and what is shown
--- behind them
-pub record AnswersAll (input : Option (List ℕ)) (old new : Core) (shown : List ℕ) (before after : Option (List ℕ)) : Type 0 where
+-- the handler has answered all lines of the input, its state is kept, and the writer has gained the answers and
+-- what is shown behind them
+pub record AnswersAll (input : Option (List ℕ)) (old new : Core) (kept : Keeping) (shown : List ℕ) (before after : Option (List ℕ)) : Type 0 where
   pub lines : List (List ℕ)
   pub text : List ℕ
   pub answers : AnswersLines 1 old lines new text
   pub writes : Appends before after (text ++ shown)
+  pub keeps : kept lines old.state new.state
   pub all : IfSome input (λ bytes. lines_of bytes ≡ lines)
   pub only : (other : Core) (other_text : List ℕ) → AnswersLines 1 old lines other other_text → (other ≡ new) × (other_text ≡ text)
 
@@ -136,13 +160,24 @@ pub data StopsBehind (input : Option (List ℕ)) (lines : List (List ℕ)) (c : 
   no_memory : (line datagram : List ℕ) → fault_of (length lines + 1) line ≡ None → StandsFor line datagram → WantsMemory c datagram
       → BeginsWithLines input (lines ++ line ∷ []) → StopsBehind input lines c OutOfMemory
 
--- a run that stopped early: the handler has answered the lines before that one, and the writer has gained
--- their answers and no more. Where the output failed, some of the answers may be lost, and the handler may have
--- heard one more line, for which it has not run
-pub data StopsEarly (input : Option (List ℕ)) (old new : Core) (before after : Option (List ℕ)) : RunError → Type 0 where
-  at_line : {e : RunError} (lines : List (List ℕ)) (text : List ℕ) → AnswersLines 1 old lines new text → Appends before after text
-      → StopsBehind input lines new e → StopsEarly input old new before after e
-  at_output : (lines : List (List ℕ)) (text : List ℕ) → AnswersLines 1 old lines new text → BeginsWithLines input lines
-      → StopsEarly input old new before after Write
+-- a run that stopped early
+pub data StopsEarly (input : Option (List ℕ)) (old new : Core) (kept : Keeping) (before after : Option (List ℕ)) : RunError → Type 0 where
+  -- the lines before that one are answered and no more, the writer has gained the answers and no more, and the
+  -- state is kept
+  at_line : {e : RunError} (lines : List (List ℕ)) (text : List ℕ) → AnswersLines 1 old lines new text → Appends before after text → kept lines old.state new.state
+      → StopsBehind input lines new e → StopsEarly input old new kept before after e
+  -- the output failed between two lines: some of the answers may be lost
+  at_output : (lines : List (List ℕ)) (text : List ℕ) → AnswersLines 1 old lines new text → kept lines old.state new.state → BeginsWithLines input lines
+      → StopsEarly input old new kept before after Write
+  -- or at the answer to one more line: the handler has heard that, which is stored, and has not run for it
   at_answer : (lines : List (List ℕ)) (text : List ℕ) (mid : Core) (line : List ℕ) (note : Option Note) (answer : List ℕ) → AnswersLines 1 old lines mid text
-      → HearsLine (length lines + 1) mid line new note answer → BeginsWithLines input (lines ++ line ∷ []) → StopsEarly input old new before after Write
+      → HearsLine (length lines + 1) mid line new note answer → kept (lines ++ line ∷ []) old.state new.state → BeginsWithLines input (lines ++ line ∷ [])
+      → StopsEarly input old new kept before after Write
+  -- the handler has heard one more line, but its state was not stored: the writer has gained the answers before
+  at_store : {e : RunError} (lines : List (List ℕ)) (text : List ℕ) (mid : Core) (line : List ℕ) (note : Option Note) (answer : List ℕ) → IsStoreError e
+      → AnswersLines 1 old lines mid text → Appends before after text → kept lines old.state mid.state → HearsLine (length lines + 1) mid line new note answer
+      → BeginsWithLines input (lines ++ line ∷ []) → StopsEarly input old new kept before after e
+  -- one more line is answered, but the state after one of the entries that ran for it was not stored
+  at_run : {e : RunError} (lines : List (List ℕ)) (text : List ℕ) (mid : Core) (line : List ℕ) (heard last : Core) (note : Option Note) (answer : List ℕ) → IsStoreError e
+      → AnswersLines 1 old lines mid text → HearsLine (length lines + 1) mid line heard note answer → Appends before after (text ++ (answer ++ 10 ∷ []))
+      → RunsPast heard last new → kept (lines ++ line ∷ []) old.state last.state → BeginsWithLines input (lines ++ line ∷ []) → StopsEarly input old new kept before after e

@@ -4,7 +4,7 @@ use Rattle.scoop_handler.specs.declared.note.Note.{Note}
 use Rattle.scoop_handler.specs.declared.note.Note.TheVariants.{Greeted, Granted, Held, Opened, Freed, Took, Known, Dropped}
 use Rattle.scoop_handler.specs.declared.ran.Ran.{Ran}
 use Rattle.scoop_handler.specs.Core.{Core}
-use Rattle.scoop_handler.specs.Running.{RunsOut}
+use Rattle.scoop_handler.specs.Running.{Task, RunsOut, ready, finished}
 
 -- something may have become ready to run by a message with this note
 abbrev pub runs_after : Note → Bool
@@ -30,3 +30,15 @@ RunsDry old new = (rs : List Ran) × RunsOut old rs new
 pub data RunsBehind (note : Option Note) (heard new : Core) : Type 0 where
   runs : IsTrue (runs_next note) → RunsDry heard new → RunsBehind note heard new
   rests : IsFalse (runs_next note) → new ≡ heard → RunsBehind note heard new
+
+-- some entries have run, one after another
+pub data RunsSome : Core → Core → Type 0 where
+  none : (c : Core) → RunsSome c c
+  then_one : (c d : Core) (t : Task) → RunsSome c d → ready d ≡ Some t → RunsSome c (finished t d)
+
+-- some entries have run, and one more
+pub record RunsPast (heard last new : Core) : Type 0 where
+  pub some : RunsSome heard last
+  pub task : Task
+  pub is_ready : ready last ≡ Some task
+  pub next : new ≡ finished task last

@@ -1,10 +1,13 @@
 -- What is printed of an error, and the status with which the program ends.
 use Rattle.std.specs.Prelude.{ℕ, List, ◌++◌, codes}
 use Rattle.std.specs.Fmt.{decimal}
+use Rattle.scoop_record.specs.Text.{error_text as keeper_text}
 use Rattle.scoop_demo.specs.declared.fault.InputFault.{InputFault}
 use Rattle.scoop_demo.specs.declared.fault.InputFault.TheVariants.{LineTooLong, TooManyLines, ReadFault, NotHex, OddDigits}
+use Rattle.scoop_demo.specs.declared.fault.InputFault.TheVariants.{UnknownLine, WrongNumberOfWords, NotANumber, NoSuchClass, TooLateForParty, CannotOpen, TooManyArguments, TooManyHandlers}
+use Rattle.scoop_demo.specs.OpenErrorText.{open_error_name}
 use Rattle.scoop_demo.specs.declared.fault.RunError.{RunError}
-use Rattle.scoop_demo.specs.declared.fault.RunError.TheVariants.{Input, Write, OutOfMemory}
+use Rattle.scoop_demo.specs.declared.fault.RunError.TheVariants.{Input, Write, OutOfMemory, Store, WrongClass}
 
 abbrev pub fault_text : InputFault → List ℕ
 fault_text LineTooLong = codes "line too long"
@@ -12,14 +15,26 @@ fault_text TooManyLines = codes "too many lines"
 fault_text ReadFault = codes "read fault"
 fault_text NotHex = codes "not hex"
 fault_text OddDigits = codes "odd digits"
+fault_text UnknownLine = codes "unknown line"
+fault_text WrongNumberOfWords = codes "wrong number of words"
+fault_text NotANumber = codes "not a number"
+fault_text NoSuchClass = codes "no such class"
+fault_text TooLateForParty = codes "too late for a party"
+fault_text (CannotOpen error) = codes "cannot open the world: " ++ open_error_name error
+fault_text TooManyArguments = codes "too many arguments"
+fault_text TooManyHandlers = codes "too many handlers"
 
 abbrev pub error_text : RunError → List ℕ
 error_text (Input line fault) = codes "line " ++ decimal line ++ codes ": " ++ fault_text fault
 error_text Write = codes "write fault"
 error_text OutOfMemory = codes "out of memory"
+error_text (Store refusal) = codes "store: " ++ keeper_text refusal
+error_text (WrongClass handler) = codes "store: WrongClass " ++ decimal handler.0
 
--- 1 at a fault of the input, 3 where output or memory failed
+-- 1 at a fault of the input, 3 where output, memory or the store failed
 abbrev pub status_of : RunError → ℕ
 status_of (Input line fault) = 1
 status_of Write = 3
 status_of OutOfMemory = 3
+status_of (Store refusal) = 3
+status_of (WrongClass handler) = 3

@@ -1,16 +1,19 @@
 //! One handler that answers datagrams.
 
-ghost use Rattle.std.specs.Prelude.{◌≡◌, ◌≢◌, IfOk, IsErr, OnErr};
-ghost use Rattle.scoop_demo.specs.Answer.{AnswersDatagram, WantsMemory, ConfirmsHolder, MovesHolder, LeavesState, IsShort, line_of, note_of};
-ghost use Rattle.scoop_demo.specs.Running.{RunsDry, runs_after, runs_next};
-ghost use Rattle.scoop_demo.specs.Run.{PrintsOnly};
+ghost use Rattle.std.specs.Prelude.{◌≡◌, ◌≢◌, IfOk, IfErr, OnOk, OnErr};
+ghost use Rattle.scoop_record.specs.Keeper.{IsSame, Stays};
+ghost use Rattle.scoop_demo.specs.Answer.{AnswersDatagram, ConfirmsHolder, MovesHolder, LeavesState, IsShort, line_of, note_of};
+ghost use Rattle.scoop_demo.specs.Running.{runs_after, runs_next};
+ghost use Rattle.scoop_demo.specs.Run.{FailsToAnswer, PrintsOnly};
+ghost use Rattle.scoop_demo.specs.Storing.{IsTo, StoresIf};
 
+use crate::fault::RunError;
+use crate::keeping::hear_stored;
 use scoop_frame::{FrameError, decode, encode};
 use scoop_handler::{Handler, Heard, Note};
-use scoop_message::OutOfMemory;
 use scoop_message::limits::BUFFER_LEN;
 use scoop_object::Behaviour;
-use std::alloc::Allocator;
+use scoop_record::Keeper;
 
 /// What a handler did with a datagram.
 #[derive(Clone, Copy, Debug, PartialEq, Eq)]
@@ -42,22 +45,29 @@ fn runs_after(note: Note) -> bool
     matches!(note, Note::Greeted | Note::Took(_) | Note::Known)
 }
 
-/// Gives a datagram to a handler. The frame of the reply, in the version of the datagram, is written to
-/// the front of the buffer.
+/// Gives a datagram to a handler, and stores its state where the datagram is the frame of a message to it.
+/// The frame of the reply, in the version of the datagram, is written to the front of the buffer.
 ///
-/// `OutOfMemory` comes only where the message makes the handler keep more than before, and changes
-/// nothing.
-pub fn answer_one<B: Behaviour, A: Allocator + Copy>(
-    handler: &mut Handler<B, A>,
+/// `OutOfMemory` comes where the message makes the handler keep more than before, and changes nothing; or,
+/// as `Store` with `Refused`, where the handler has heard the message and its state isn't stored.
+pub fn answer_one<B: Behaviour, K: Keeper>(
+    handler: &mut Handler<B>,
+    keeper: &mut K,
     datagram: &[u8],
     out: &mut [u8; BUFFER_LEN],
-) -> Result<Answered, OutOfMemory>
+) -> Result<Answered, RunError>
     ensures ok { IfOk result (λ answered.
         AnswersDatagram handler.old datagram.now handler.new answered out.old out.new) }
     ensures only { IfOk result (λ answered.
         PrintsOnly handler.old datagram.now handler.new (note_of answered) (line_of answered out.new)) }
-    ensures err { OnErr result (handler.new ≡ handler.old) }
-    ensures memory { IsErr result → WantsMemory handler.old datagram.now }
+    ensures err { IfErr result (FailsToAnswer handler.old datagram.now handler.new) }
+
+    // What the keeper has.
+    ensures stored { K.is_honest keeper.new → OnOk result (StoresIf (IsTo handler.old.state.number datagram.now)
+        handler.old.state handler.new.state (K.handlers keeper.old) (K.handlers keeper.new)) }
+    ensures refused { K.is_honest keeper.new → OnErr result (Stays (K.handlers keeper.old) (K.handlers keeper.new)) }
+    ensures incarnations { K.is_honest keeper.new → IsSame (K.incarnations keeper.old) (K.incarnations keeper.new) }
+    ensures honest { K.is_honest keeper.new → K.is_honest keeper.old }
 
     // What follows for those who only lock.
     ensures confirms { IfOk result (λ answered. ConfirmsHolder answered out.new handler.new) }
@@ -71,16 +81,12 @@ pub fn answer_one<B: Behaviour, A: Allocator + Copy>(
         Ok(read) => read,
         Err(error) => return Ok(Answered::RefusedFrame(error)),
     };
-    let Heard { reply, note } = handler.hear(&message)?;
+    let Heard { reply, note } = match hear_stored(handler, keeper, &message) {
+        Ok(heard) => heard,
+        Err(error) => return Err(error),
+    };
     match reply {
         Some(reply) => Ok(Answered::Reply(encode(version, &reply, out), note)),
         None => Ok(Answered::Silent(note)),
     }
-}
-
-/// Runs what a handler's private queues hold until nothing can run.
-pub fn run_out<B: Behaviour, A: Allocator>(handler: &mut Handler<B, A>)
-    ensures { RunsDry handler.old handler.new }
-{
-    while handler.run().is_some() {}
 }

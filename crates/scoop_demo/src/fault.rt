@@ -1,8 +1,11 @@
 //! What ends a run over the lines of an input.
 
 ghost use Rattle.std.specs.Prelude.{◌≡◌};
+ghost use Rattle.scoop_demo.specs.OpenErrorText.{open_error_name};
 
-use scoop_message::OutOfMemory;
+use scoop_message::{HandlerId, OutOfMemory};
+use scoop_record::KeeperError;
+use scoop_world::WorldOpenError;
 use std::error::Error;
 use std::fmt;
 
@@ -19,6 +22,22 @@ pub enum InputFault {
     NotHex,
     /// The line has an odd number of hex digits.
     OddDigits,
+    /// The line's first words say nothing that is known.
+    UnknownLine,
+    /// The line has fewer or more words than its kind has.
+    WrongNumberOfWords,
+    /// A word that is to be a number isn't one, or is out of its range.
+    NotANumber,
+    /// A word names no class.
+    NoSuchClass,
+    /// The line places a handler or lets a client join behind an event.
+    TooLateForParty,
+    /// The handlers and clients of the lines before open no world.
+    CannotOpen(WorldOpenError),
+    /// A request has more than four arguments.
+    TooManyArguments,
+    /// More than nine handlers are named.
+    TooManyHandlers,
 }
 
 impl fmt::Display for InputFault {
@@ -34,11 +53,37 @@ impl fmt::Display for InputFault {
             InputFault::ReadFault => "read fault",
             InputFault::NotHex => "not hex",
             InputFault::OddDigits => "odd digits",
+            InputFault::UnknownLine => "unknown line",
+            InputFault::WrongNumberOfWords => "wrong number of words",
+            InputFault::NotANumber => "not a number",
+            InputFault::NoSuchClass => "no such class",
+            InputFault::TooLateForParty => "too late for a party",
+            InputFault::CannotOpen(error) => {
+                return write!(f, "cannot open the world: {}", open_error_name(*error));
+            }
+            InputFault::TooManyArguments => "too many arguments",
+            InputFault::TooManyHandlers => "too many handlers",
         })
     }
 }
 
 impl Error for InputFault {}
+
+// The name of an error, which its derived text has too, but without a contract.
+fn open_error_name(error: WorldOpenError) -> &'static str
+    ensures { result.now ≡ open_error_name error }
+{
+    match error {
+        WorldOpenError::NoHandlers => "NoHandlers",
+        WorldOpenError::TooManyHandlers => "TooManyHandlers",
+        WorldOpenError::Repeated(_) => "Repeated",
+        WorldOpenError::WrongClass(_) => "WrongClass",
+        WorldOpenError::TooManyClients => "TooManyClients",
+        WorldOpenError::RepeatedClient(_) => "RepeatedClient",
+        WorldOpenError::IncarnationsSpent => "IncarnationsSpent",
+        WorldOpenError::OutOfMemory => "OutOfMemory",
+    }
+}
 
 /// Why a run over the lines of an input ended early.
 #[derive(Clone, Copy, Debug, PartialEq, Eq)]
@@ -49,6 +94,10 @@ pub enum RunError {
     Write,
     /// A growth of memory was refused.
     OutOfMemory,
+    /// The keeper refused.
+    Store(KeeperError),
+    /// The words that are stored for the handler don't fit the class of its object.
+    WrongClass(HandlerId),
 }
 
 impl RunError {
@@ -60,7 +109,10 @@ impl RunError {
     {
         match self {
             RunError::Input { .. } => 1,
-            RunError::Write | RunError::OutOfMemory => 3,
+            RunError::Write
+            | RunError::OutOfMemory
+            | RunError::Store(_)
+            | RunError::WrongClass(_) => 3,
         }
     }
 }
@@ -76,6 +128,8 @@ impl fmt::Display for RunError {
             RunError::Input { line, fault } => write!(f, "line {line}: {fault}"),
             RunError::Write => f.write_str("write fault"),
             RunError::OutOfMemory => f.write_str("out of memory"),
+            RunError::Store(refusal) => write!(f, "store: {refusal}"),
+            RunError::WrongClass(handler) => write!(f, "store: WrongClass {handler}"),
         }
     }
 }
@@ -90,5 +144,19 @@ impl From<OutOfMemory> for RunError {
 
     fn from(_: OutOfMemory) -> RunError {
         RunError::OutOfMemory
+    }
+}
+
+impl From<KeeperError> for RunError {
+    ghost use Rattle.std.specs.Prelude.{◌≡◌};
+    ghost use Rattle.scoop_demo.specs.Storing.{error_of};
+
+    ghost from_gives = { λ refusal e. e ≡ error_of refusal };
+
+    fn from(refusal: KeeperError) -> RunError {
+        match refusal {
+            KeeperError::OutOfMemory => RunError::OutOfMemory,
+            _ => RunError::Store(refusal),
+        }
     }
 }

@@ -2,14 +2,17 @@
 
 ghost use Rattle.std.specs.Prelude.{◌≡◌, ◌≤◌, ◌∷◌, ◌++◌, [], length, None, IfErr, OnOk};
 ghost use Rattle.std.specs.Io.KnownBytes.{Appends, Keeps};
+ghost use Rattle.scoop_record.specs.Keeper.{IsSame};
 ghost use Rattle.hex.specs.Hex.{encode_lower};
 ghost use Rattle.scoop_demo.specs.Line.{limit_fault};
 ghost use Rattle.scoop_demo.specs.Answer.{IsShort, line_of};
+ghost use Rattle.scoop_demo.specs.Storing.{Stores};
 ghost use Rattle.scoop_demo.specs.Run.{AnswersAll, StopsEarly, WritesAnswer, StopsInLine, words_text, words_line, numbers_text};
 
-use crate::answer::{Answered, answer_one, run_out};
+use crate::answer::{Answered, answer_one};
 use crate::datagram::{MAX_DATAGRAM_LEN, read_datagram};
 use crate::fault::RunError;
+use crate::keeping::run_out;
 use crate::lines::Lines;
 use crate::source::Line;
 use arrayvec::ArrayVec;
@@ -17,7 +20,7 @@ use scoop_handler::Handler;
 use scoop_message::Words;
 use scoop_message::limits::{BUFFER_LEN, MAX_FRAME};
 use scoop_object::Behaviour;
-use std::alloc::Allocator;
+use scoop_record::Keeper;
 use std::io;
 use std::io::{Read, Write};
 
@@ -27,21 +30,27 @@ use std::io::{Read, Write};
 /// made something ready. After the last line the object's words are shown, if asked for: `words` and the
 /// words in decimal.
 ///
-/// The error names the first line that has a fault, or says that the output failed or that the handler
-/// wanted memory. The answers to earlier lines stand, and no words are shown. The writer is flushed before
-/// each read of the input, which may wait for the user, and at the end.
-pub fn answer_run<B: Behaviour, A: Allocator + Copy, R: Read + Drop, W: Write>(
-    handler: &mut Handler<B, A>,
+/// The keeper gets the handler's state with each message to the handler, before the answer is written, and
+/// after each entry that has run. Nothing is stored for what is no frame or is to another handler.
+///
+/// The error names the first line that has a fault, or says that the output failed, that the keeper refused or
+/// that memory was wanted. The answers to earlier lines stand, and no words are shown. The writer is flushed
+/// before each read of the input, which may wait for the user, and at the end.
+pub fn answer_run<B: Behaviour, K: Keeper, R: Read + Drop, W: Write>(
+    handler: &mut Handler<B>,
+    keeper: &mut K,
     shows_words: bool,
     reader: R,
     writer: &mut W,
 ) -> Result<(), RunError>
-    ensures ok { OnOk result (AnswersAll (R.remaining reader) handler.old handler.new
+    ensures ok { OnOk result (AnswersAll (R.remaining reader) handler.old handler.new (Stores (K.is_honest keeper.new) (K.handlers keeper.old) (K.handlers keeper.new))
         (words_line shows_words handler.new.state.words) (W.contents writer.old) (W.contents writer.new)) }
-    ensures err { IfErr result (StopsEarly (R.remaining reader) handler.old handler.new
+    ensures err { IfErr result (StopsEarly (R.remaining reader) handler.old handler.new (Stores (K.is_honest keeper.new) (K.handlers keeper.old) (K.handlers keeper.new))
         (W.contents writer.old) (W.contents writer.new)) }
+    ensures incarnations { K.is_honest keeper.new → IsSame (K.incarnations keeper.old) (K.incarnations keeper.new) }
+    ensures honest { K.is_honest keeper.new → K.is_honest keeper.old }
 {
-    let answered = answer_all(handler, shows_words, reader, writer);
+    let answered = answer_all(handler, keeper, shows_words, reader, writer);
     let flushed = writer.flush();
     match answered {
         Ok(()) if flushed.is_err() => Err(RunError::Write),
@@ -50,18 +59,21 @@ pub fn answer_run<B: Behaviour, A: Allocator + Copy, R: Read + Drop, W: Write>(
 }
 
 // Answers the lines of an input, and shows the words.
-fn answer_all<B: Behaviour, A: Allocator + Copy, R: Read + Drop, W: Write>(
-    handler: &mut Handler<B, A>,
+fn answer_all<B: Behaviour, K: Keeper, R: Read + Drop, W: Write>(
+    handler: &mut Handler<B>,
+    keeper: &mut K,
     shows_words: bool,
     reader: R,
     writer: &mut W,
 ) -> Result<(), RunError>
-    ensures ok { OnOk result (AnswersAll (R.remaining reader) handler.old handler.new
+    ensures ok { OnOk result (AnswersAll (R.remaining reader) handler.old handler.new (Stores (K.is_honest keeper.new) (K.handlers keeper.old) (K.handlers keeper.new))
         (words_line shows_words handler.new.state.words) (W.contents writer.old) (W.contents writer.new)) }
-    ensures err { IfErr result (StopsEarly (R.remaining reader) handler.old handler.new
+    ensures err { IfErr result (StopsEarly (R.remaining reader) handler.old handler.new (Stores (K.is_honest keeper.new) (K.handlers keeper.old) (K.handlers keeper.new))
         (W.contents writer.old) (W.contents writer.new)) }
+    ensures incarnations { K.is_honest keeper.new → IsSame (K.incarnations keeper.old) (K.incarnations keeper.new) }
+    ensures honest { K.is_honest keeper.new → K.is_honest keeper.old }
 {
-    match answer_lines(handler, reader, writer) {
+    match answer_lines(handler, keeper, reader, writer) {
         Ok(()) => {}
         Err(error) => return Err(error),
     }
@@ -75,15 +87,18 @@ fn answer_all<B: Behaviour, A: Allocator + Copy, R: Read + Drop, W: Write>(
 }
 
 // Answers the lines of an input until one has a fault.
-fn answer_lines<B: Behaviour, A: Allocator + Copy, R: Read + Drop, W: Write>(
-    handler: &mut Handler<B, A>,
+fn answer_lines<B: Behaviour, K: Keeper, R: Read + Drop, W: Write>(
+    handler: &mut Handler<B>,
+    keeper: &mut K,
     reader: R,
     writer: &mut W,
 ) -> Result<(), RunError>
-    ensures ok { OnOk result (AnswersAll (R.remaining reader) handler.old handler.new []
+    ensures ok { OnOk result (AnswersAll (R.remaining reader) handler.old handler.new (Stores (K.is_honest keeper.new) (K.handlers keeper.old) (K.handlers keeper.new)) []
         (W.contents writer.old) (W.contents writer.new)) }
-    ensures err { IfErr result (StopsEarly (R.remaining reader) handler.old handler.new
+    ensures err { IfErr result (StopsEarly (R.remaining reader) handler.old handler.new (Stores (K.is_honest keeper.new) (K.handlers keeper.old) (K.handlers keeper.new))
         (W.contents writer.old) (W.contents writer.new)) }
+    ensures incarnations { K.is_honest keeper.new → IsSame (K.incarnations keeper.old) (K.incarnations keeper.new) }
+    ensures honest { K.is_honest keeper.new → K.is_honest keeper.old }
 {
     let mut lines = Lines::new(reader);
     let mut line = ArrayVec::new();
@@ -93,7 +108,7 @@ fn answer_lines<B: Behaviour, A: Allocator + Copy, R: Read + Drop, W: Write>(
             Ok(false) => return Ok(()),
             Err(error) => return Err(error),
         }
-        match answer_line(handler, lines.number(), &mut line, writer) {
+        match answer_line(handler, keeper, lines.number(), &mut line, writer) {
             Ok(()) => {}
             Err(error) => return Err(error),
         }
@@ -101,15 +116,20 @@ fn answer_lines<B: Behaviour, A: Allocator + Copy, R: Read + Drop, W: Write>(
 }
 
 // Answers the datagram of the line of this number, which is within the limits, and runs the handler.
-fn answer_line<B: Behaviour, A: Allocator + Copy, W: Write>(
-    handler: &mut Handler<B, A>,
+fn answer_line<B: Behaviour, K: Keeper, W: Write>(
+    handler: &mut Handler<B>,
+    keeper: &mut K,
     number: u32,
     line: &mut Line,
     writer: &mut W,
 ) -> Result<(), RunError>
     requires { limit_fault number line.old.items ≡ None }
-    ensures ok { OnOk result (WritesAnswer number handler.old line.old.items handler.new (W.contents writer.old) (W.contents writer.new)) }
-    ensures err { IfErr result (StopsInLine number handler.old line.old.items handler.new (W.contents writer.old) (W.contents writer.new)) }
+    ensures ok { OnOk result (WritesAnswer number handler.old line.old.items handler.new (Stores (K.is_honest keeper.new) (K.handlers keeper.old) (K.handlers keeper.new))
+        (W.contents writer.old) (W.contents writer.new)) }
+    ensures err { IfErr result (StopsInLine number handler.old line.old.items handler.new (Stores (K.is_honest keeper.new) (K.handlers keeper.old) (K.handlers keeper.new))
+        (W.contents writer.old) (W.contents writer.new)) }
+    ensures incarnations { K.is_honest keeper.new → IsSame (K.incarnations keeper.old) (K.incarnations keeper.new) }
+    ensures honest { K.is_honest keeper.new → K.is_honest keeper.old }
 {
     let mut buffer = [0; MAX_DATAGRAM_LEN];
     let datagram = match read_datagram(line, &mut buffer) {
@@ -122,16 +142,16 @@ fn answer_line<B: Behaviour, A: Allocator + Copy, W: Write>(
         }
     };
     let mut out = [0; BUFFER_LEN];
-    let answered = match answer_one(handler, datagram, &mut out) {
+    let answered = match answer_one(handler, keeper, datagram, &mut out) {
         Ok(answered) => answered,
-        Err(_) => return Err(RunError::OutOfMemory),
+        Err(error) => return Err(error),
     };
     match print_answer(answered, &out, writer) {
         Ok(()) => {}
         Err(_) => return Err(RunError::Write),
     }
     if answered.runs_next() {
-        run_out(handler);
+        return run_out(handler, keeper);
     }
     Ok(())
 }

@@ -1,14 +1,15 @@
 use super::*;
-use linked_list_allocator::LocalHeap;
-use scoop_handler::Handler;
 use scoop_message::{HandlerId, Words};
 use scoop_object::{Behaviour, Boxed, Table};
-use std::alloc::{Allocator, Global};
+use scoop_record::{Keeper, KeeperError, MemoryKeeper};
+use std::alloc::Global;
 use std::cell::Cell;
 use std::io;
 use std::io::{ErrorKind, Read, Write};
 use std::process::Abort;
 use std::test::Fail;
+
+mod stored;
 
 const LOCK: &str = "53510103 00000001 00000007 00000001 00000001 00000000 0000\n";
 
@@ -35,32 +36,32 @@ struct Case<'a> {
     output: &'a str,
 }
 
-// How a run of handler 1 with an object of that class ends, and what it writes.
-fn run_of<B: Behaviour, A: Allocator + Copy>(
+// How a run of handler 1 with an object of that class ends, over what a keeper has, and what it writes.
+fn run_of<B: Behaviour, K: Keeper>(
     rt: &impl Abort,
-    (alloc, heap): (Global, A),
+    alloc: Global,
+    keeper: &mut K,
     (class, object): (&str, B),
     input: &[u8],
 ) -> Result<(Result<(), RunError>, Vec<u8>), Fail> {
     let class = demo_class(alloc, class)?.expect(rt, "it has a name");
     let mut output = Vec::new(alloc);
-    match Handler::new(heap, HandlerId(1), class, object) {
-        Ok(mut handler) => {
-            let ended = answer_run(&mut handler, true, input, &mut output);
-            Ok((ended, output))
-        }
-        Err(_) => panic!(rt; "it is of its class"),
-    }
+    let ended = match open_handler(alloc, keeper, HandlerId(1), class, object) {
+        Ok(mut handler) => answer_run(&mut handler, keeper, true, input, &mut output),
+        Err(error) => Err(error),
+    };
+    Ok((ended, output))
 }
 
 // Runs handler 1 with an object of that class over an input.
-fn runs<B: Behaviour, A: Allocator + Copy>(
+fn runs<B: Behaviour>(
     rt: &impl Abort,
-    heaps: (Global, A),
+    alloc: Global,
     object: (&str, B),
     case: Case<'_>,
 ) -> Result<(), Fail> {
-    let (ended, output) = run_of(rt, heaps, object, case.input.as_bytes())?;
+    let mut keeper = MemoryKeeper::new(alloc);
+    let (ended, output) = run_of(rt, alloc, &mut keeper, object, case.input.as_bytes())?;
     assert_eq!(rt; ended, case.ended);
     assert_eq!(rt; output.as_slice(), case.output.as_bytes());
     Ok(())
@@ -69,7 +70,7 @@ fn runs<B: Behaviour, A: Allocator + Copy>(
 // The same with a cell that holds 0.
 fn runs_cell(rt: &impl Abort, alloc: Global, case: Case<'_>) -> Result<(), Fail> {
     let cell = Boxed::new(Box::new(alloc, CellObject::new(0))?);
-    runs(rt, (alloc, alloc), ("cell", cell), case)
+    runs(rt, alloc, ("cell", cell), case)
 }
 
 fn fault(line: u32, fault: InputFault) -> Result<(), RunError> {
@@ -154,22 +155,7 @@ fn answers_a_withdrawal_that_is_refused(rt: HostRuntime) -> Result<(), Fail> {
         ended: Ok(()),
         output: &output,
     };
-    runs(&rt, (alloc, alloc), ("account", account), case)
-}
-
-#[test]
-fn tells_want_of_memory(rt: HostRuntime) -> Result<(), Fail> {
-    let alloc = rt.alloc();
-    let heap = LocalHeap::new(alloc, 16)?;
-    let exchange = Boxed::new(Box::new(alloc, ExchangeObject::new(0, 0))?);
-    let input = format!(in alloc; "{LOCK}{HELLO}{LOCK}")?;
-    let ended = Err(RunError::OutOfMemory);
-    let case = Case {
-        input: &input,
-        ended,
-        output: "none Dropped Ungreeted\n",
-    };
-    runs(&rt, (alloc, &heap), ("exchange", exchange), case)
+    runs(&rt, alloc, ("account", account), case)
 }
 
 #[test]
@@ -265,8 +251,9 @@ fn answers_all<R: Read + Drop, W: Write>(
 ) -> Result<Result<(), RunError>, Fail> {
     let class = demo_class(alloc, "cell")?.expect(rt, "it has a name");
     let cell = Table::new(class.copy()?, Words::of(&[0])?)?;
-    match Handler::new(alloc, HandlerId(1), class, cell) {
-        Ok(mut handler) => Ok(answer_run(&mut handler, true, reader, writer)),
+    let mut keeper = MemoryKeeper::new(alloc);
+    match open_handler(alloc, &mut keeper, HandlerId(1), class, cell) {
+        Ok(mut handler) => Ok(answer_run(&mut handler, &mut keeper, true, reader, writer)),
         Err(_) => panic!(rt; "it is of its class"),
     }
 }
@@ -397,6 +384,17 @@ fn errors_have_a_text_and_a_status(rt: HostRuntime) -> Result<(), Fail> {
     for (error, text) in [
         (RunError::Write, "write fault"),
         (RunError::OutOfMemory, "out of memory"),
+        (RunError::from(KeeperError::OutOfMemory), "out of memory"),
+        (RunError::from(KeeperError::Refused), "store: Refused"),
+        (
+            RunError::from(KeeperError::BadImage(HandlerId(1))),
+            "store: BadImage 1",
+        ),
+        (
+            RunError::from(KeeperError::WrongSchema),
+            "store: WrongSchema",
+        ),
+        (RunError::WrongClass(HandlerId(1)), "store: WrongClass 1"),
     ] {
         assert_eq!(rt; format!(in rt.alloc(); "{error}")?.as_str(), text);
         assert_eq!(rt; error.status(), 3);

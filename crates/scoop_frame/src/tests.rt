@@ -3,6 +3,7 @@ ghost use Rattle.std.specs.Prelude.{◌<◌, ◌≤◌, length};
 use super::*;
 use scoop_message::limits::BUFFER_LEN;
 use scoop_message::{Answer, Args, Block, ClientId, Entries, Entry, HandlerId, Message, Request};
+use std::process::Abort;
 use std::test::Fail;
 
 const HANDLER: HandlerId = HandlerId(1);
@@ -87,109 +88,167 @@ fn prefixes_are_refused(version: Version, message: &Message) -> bool {
     decode(&buffer[..len]) == Ok((version, *message))
 }
 
+/// The kind of a message without a body.
+#[derive(Clone, Copy)]
+enum Kind {
+    Hello,
+    Welcome,
+    Lock,
+    Locked,
+    Busy,
+    Open,
+    Opened,
+    Unlock,
+    Unlocked,
+}
+
+fn plain(kind: Kind) -> Message {
+    match kind {
+        Kind::Hello => Message::Hello(HANDLER, CLIENT, 1),
+        Kind::Welcome => Message::Welcome(HANDLER, CLIENT, 1),
+        Kind::Lock => Message::Lock(HANDLER, BLOCK),
+        Kind::Locked => Message::Locked(HANDLER, BLOCK),
+        Kind::Busy => Message::Busy(HANDLER, BLOCK),
+        Kind::Open => Message::Open(HANDLER, BLOCK),
+        Kind::Opened => Message::Opened(HANDLER, BLOCK),
+        Kind::Unlock => Message::Unlock(HANDLER, BLOCK),
+        Kind::Unlocked => Message::Unlocked(HANDLER, BLOCK),
+    }
+}
+
+fn frames_plain(rt: &impl Abort, kind: Kind, byte: u8) {
+    let framed = is_framed(Version::One, &plain(kind), byte, b"\0\0\0\0\0\0");
+    assert!(rt; framed, "{byte}");
+}
+
+fn frames_count(rt: &impl Abort, version: Version, count: u32, rest: &[u8]) {
+    let message = Message::Logged(HANDLER, BLOCK, count);
+    assert!(rt; is_framed(version, &message, 11, rest), "{count}");
+}
+
 #[test]
 fn messages_have_their_frames(rt: HostRuntime) {
-    let hello = Message::Hello(HANDLER, CLIENT, 1);
-    let welcome = Message::Welcome(HANDLER, CLIENT, 1);
+    let (hello, welcome) = (plain(Kind::Hello), plain(Kind::Welcome));
     assert!(rt; is_frame(Version::One, &hello, &HELLO));
     assert!(rt; is_frame(Version::One, &welcome, &with_byte(HELLO, 3, 2)));
     let kinds = [
-        (Message::Lock(HANDLER, BLOCK), 3),
-        (Message::Locked(HANDLER, BLOCK), 4),
-        (Message::Open(HANDLER, BLOCK), 6),
-        (Message::Opened(HANDLER, BLOCK), 7),
-        (Message::Unlock(HANDLER, BLOCK), 8),
-        (Message::Unlocked(HANDLER, BLOCK), 9),
+        (Kind::Lock, 3),
+        (Kind::Locked, 4),
+        (Kind::Open, 6),
+        (Kind::Opened, 7),
+        (Kind::Unlock, 8),
+        (Kind::Unlocked, 9),
     ];
-    for (message, kind) in kinds {
-        let framed = is_framed(Version::One, &message, kind, b"\0\0\0\0\0\0");
-        assert!(rt; framed, "{message:?}");
-    }
-    let counts = [
-        (Version::One, 1, b"\0\0\0\x01\0\0"),
-        (Version::One, 3, b"\0\0\0\x03\0\0"),
-        (Version::Two, 2, b"\0\0\0\x02\0\0"),
-        (Version::Two, 3, b"\0\0\0\x03\0\0"),
-    ];
-    for (version, count, rest) in counts {
-        let message = Message::Logged(HANDLER, BLOCK, count);
-        assert!(rt; is_framed(version, &message, 11, rest), "{message:?}");
+    for (kind, byte) in kinds {
+        frames_plain(&rt, kind, byte);
     }
 }
 
 #[test]
-fn entries_and_answers_are_framed(rt: HostRuntime) -> Result<(), Fail> {
-    let set = Entry::Call(Request {
-        op: 1,
-        args: Args::of(&[5])?,
-    });
-    let get = Entry::Query(Request {
-        op: 2,
-        args: Args::of(&[])?,
-    });
-    let logs = [
-        (
-            Version::One,
-            1,
-            Entries::of(&[set])?,
-            b"\0\0\0\x01\0\x0c\x01\0\x01\x01\0\0\0\0\0\0\0\x05".as_slice(),
-        ),
-        (
-            Version::One,
-            2,
-            Entries::of(&[get])?,
-            b"\0\0\0\x02\0\x04\x02\0\x02\0",
-        ),
-        (
-            Version::One,
-            3,
-            Entries::of(&[Entry::End])?,
-            b"\0\0\0\x03\0\x01\x03",
-        ),
-        (
-            Version::Two,
-            1,
-            Entries::of(&[set, get])?,
-            b"\0\0\0\x01\0\x11\x02\x01\0\x01\x01\0\0\0\0\0\0\0\x05\x02\0\x02\0",
-        ),
-        (
-            Version::Two,
-            2,
-            Entries::of(&[get, Entry::End])?,
-            b"\0\0\0\x02\0\x06\x02\x02\0\x02\0\x03",
-        ),
-    ];
-    for (version, number, entries, rest) in logs {
-        let message = Message::Log(HANDLER, BLOCK, number, entries);
-        assert!(rt; is_framed(version, &message, 10, rest), "{message:?}");
+fn counts_have_their_frames(rt: HostRuntime) {
+    frames_count(&rt, Version::One, 1, b"\0\0\0\x01\0\0");
+    frames_count(&rt, Version::One, 3, b"\0\0\0\x03\0\0");
+    frames_count(&rt, Version::Two, 2, b"\0\0\0\x02\0\0");
+    frames_count(&rt, Version::Two, 3, b"\0\0\0\x03\0\0");
+}
+
+fn set() -> Option<Entry> {
+    let args = Args::of(&[5]).ok()?;
+    Some(Entry::Call(Request { op: 1, args }))
+}
+
+fn get() -> Option<Entry> {
+    let args = Args::of(&[]).ok()?;
+    Some(Entry::Query(Request { op: 2, args }))
+}
+
+/// The entries of a Log.
+#[derive(Clone, Copy)]
+enum Given {
+    Set,
+    Get,
+    End,
+    SetAndGet,
+    GetAndEnd,
+}
+
+fn entries(given: Given) -> Option<Entries> {
+    match given {
+        Given::Set => Entries::of(&[set()?]).ok(),
+        Given::Get => Entries::of(&[get()?]).ok(),
+        Given::End => Entries::of(&[Entry::End]).ok(),
+        Given::SetAndGet => Entries::of(&[set()?, get()?]).ok(),
+        Given::GetAndEnd => Entries::of(&[get()?, Entry::End]).ok(),
     }
+}
+
+fn frames_log(rt: &impl Abort, version: Version, number: u32, given: Given, rest: &[u8]) {
+    let Some(entries) = entries(given) else {
+        panic!(rt; "no entries");
+    };
+    let message = Message::Log(HANDLER, BLOCK, number, entries);
+    assert!(rt; is_framed(version, &message, 10, rest), "{message:?}");
+}
+
+#[test]
+fn entries_are_framed(rt: HostRuntime) {
+    let rest = b"\0\0\0\x01\0\x0c\x01\0\x01\x01\0\0\0\0\0\0\0\x05";
+    frames_log(&rt, Version::One, 1, Given::Set, rest);
+    let rest = b"\0\0\0\x02\0\x04\x02\0\x02\0";
+    frames_log(&rt, Version::One, 2, Given::Get, rest);
+    let rest = b"\0\0\0\x03\0\x01\x03";
+    frames_log(&rt, Version::One, 3, Given::End, rest);
+    let rest = b"\0\0\0\x01\0\x11\x02\x01\0\x01\x01\0\0\0\0\0\0\0\x05\x02\0\x02\0";
+    frames_log(&rt, Version::Two, 1, Given::SetAndGet, rest);
+    let rest = b"\0\0\0\x02\0\x06\x02\x02\0\x02\0\x03";
+    frames_log(&rt, Version::Two, 2, Given::GetAndEnd, rest);
+}
+
+#[test]
+fn answers_are_framed(rt: HostRuntime) {
     let answer = Message::Answer(HANDLER, BLOCK, 2, Answer::Value(5));
     let rest = b"\0\0\0\x02\0\x09\x01\0\0\0\0\0\0\0\x05";
-    assert!(rt;
-        is_framed(Version::One, &answer, 12, rest) && is_framed(Version::Two, &answer, 12, rest)
-    );
-    Ok(())
+    assert!(rt; is_framed(Version::One, &answer, 12, rest));
+    assert!(rt; is_framed(Version::Two, &answer, 12, rest));
+}
+
+fn told(bytes: &[u8]) -> Option<FrameError> {
+    decode(bytes).err()
+}
+
+fn is_told(rt: &impl Abort, bytes: &[u8], fault: FrameError) {
+    assert_eq!(rt; told(bytes), Some(fault));
+}
+
+fn is_told_of(rt: &impl Abort, frame: [u8; 26], at: usize, byte: u8, fault: FrameError)
+    requires { at < 26 }
+{
+    is_told(rt, &with_byte(frame, at, byte), fault);
+}
+
+#[test]
+fn frames_are_whole(rt: HostRuntime) {
+    let locked = decode(&LOCK);
+    assert_eq!(rt; locked, Ok((Version::One, Message::Lock(HANDLER, BLOCK))));
+    is_told(&rt, &[], FrameError::Short);
+    is_told(&rt, &LOCK[..25], FrameError::Short);
 }
 
 #[test]
 fn the_first_fault_is_told(rt: HostRuntime) {
-    let locked = decode(&LOCK);
-    assert_eq!(rt; locked, Ok((Version::One, Message::Lock(HANDLER, BLOCK))));
-    assert_eq!(rt; decode(&[]), Err(FrameError::Short));
-    assert_eq!(rt; decode(&LOCK[..25]), Err(FrameError::Short));
-    assert_eq!(rt; decode(&[0xff; BUFFER_LEN]), Err(FrameError::BadMagic));
-    let changed = [
-        (LOCK, 1, 0x52, FrameError::BadMagic),
-        (LOCK, 2, 9, FrameError::BadVersion(9)),
-        (with_byte(LOCK, 3, 13), 2, 9, FrameError::BadVersion(9)),
-        (LOCK, 3, 13, FrameError::BadKind(13)),
-        (LOCK, 25, 1, FrameError::LengthWrong),
-        (LOCK, 23, 1, FrameError::FieldNotZero),
-        (HELLO, 15, 0, FrameError::FieldZero),
-    ];
-    for (frame, at, byte, fault) in changed {
-        assert_eq!(rt; decode(&with_byte(frame, at, byte)), Err(fault));
-    }
+    is_told(&rt, &[0xff; BUFFER_LEN], FrameError::BadMagic);
+    is_told_of(&rt, LOCK, 1, 0x52, FrameError::BadMagic);
+    is_told_of(&rt, LOCK, 2, 9, FrameError::BadVersion(9));
+    is_told_of(&rt, with_byte(LOCK, 3, 13), 2, 9, FrameError::BadVersion(9));
+    is_told_of(&rt, LOCK, 3, 13, FrameError::BadKind(13));
+    is_told_of(&rt, LOCK, 25, 1, FrameError::LengthWrong);
+    is_told_of(&rt, LOCK, 23, 1, FrameError::FieldNotZero);
+    is_told_of(&rt, HELLO, 15, 0, FrameError::FieldZero);
+}
+
+fn has_bad_body(rt: &impl Abort, version: u8, kind: u8, rest: &[u8]) {
+    let refused = is_refused(version, kind, rest, FrameError::BadBody);
+    assert!(rt; refused, "{rest:?}");
 }
 
 #[test]
@@ -220,84 +279,157 @@ fn bodies_are_whole(rt: HostRuntime) {
         (1, 12, b"\0\0\0\x01\0\x08\x01\0\0\0\0\0\0\0"), // a value without its last byte
     ];
     for (version, kind, rest) in cases {
-        assert!(rt;
-            is_refused(version, kind, rest, FrameError::BadBody),
-            "{rest:?}"
-        );
+        has_bad_body(&rt, version, kind, rest);
     }
 }
 
+fn is_not_cut(rt: &impl Abort, message: &Message) {
+    assert!(rt; prefixes_are_refused(Version::One, message), "{message:?}");
+    assert!(rt; prefixes_are_refused(Version::Two, message), "{message:?}");
+}
+
+// A Log of as many calls of four arguments as these are.
+fn calls(count: usize) -> Option<Message> {
+    let args = Args::of(&[1, 2, 3, u64::MAX]).ok()?;
+    let call = Entry::Call(Request { op: 1, args });
+    let entries = Entries::of(&[call; 4][..count.min(4)]).ok()?;
+    Some(Message::Log(HANDLER, BLOCK, 1, entries))
+}
+
 #[test]
-fn a_cut_frame_is_refused(rt: HostRuntime) -> Result<(), Fail> {
-    let call = Entry::Call(Request {
-        op: 1,
-        args: Args::of(&[1, 2, 3, u64::MAX])?,
-    });
-    let one = Message::Log(HANDLER, BLOCK, 1, Entries::of(&[call])?);
-    let four = Message::Log(HANDLER, BLOCK, 1, Entries::of(&[call; 4])?);
+fn a_cut_frame_is_refused(rt: HostRuntime) {
     let kinds = [
-        Message::Hello(HANDLER, CLIENT, 1),
-        Message::Welcome(HANDLER, CLIENT, 1),
-        Message::Lock(HANDLER, BLOCK),
-        Message::Locked(HANDLER, BLOCK),
-        Message::Busy(HANDLER, BLOCK),
-        Message::Open(HANDLER, BLOCK),
-        Message::Opened(HANDLER, BLOCK),
-        Message::Unlock(HANDLER, BLOCK),
-        Message::Unlocked(HANDLER, BLOCK),
-        one,
-        Message::Logged(HANDLER, BLOCK, 1),
-        Message::Answer(HANDLER, BLOCK, 1, Answer::Value(5)),
+        Kind::Hello,
+        Kind::Welcome,
+        Kind::Lock,
+        Kind::Locked,
+        Kind::Busy,
+        Kind::Open,
+        Kind::Opened,
+        Kind::Unlock,
+        Kind::Unlocked,
     ];
-    for message in kinds {
-        assert!(rt; prefixes_are_refused(Version::One, &message), "{message:?}");
-        assert!(rt; prefixes_are_refused(Version::Two, &message), "{message:?}");
+    for kind in kinds {
+        is_not_cut(&rt, &plain(kind));
     }
-    assert!(rt; prefixes_are_refused(Version::Two, &four));
-    assert!(rt; !Version::One.carries(&four));
-    let mut buffer = [0; BUFFER_LEN];
-    assert!(rt; one.fits() && four.fits());
-    assert!(rt; Version::One.carries(&one) && Version::Two.carries(&four));
-    assert_eq!(rt; encode(Version::One, &one, &mut buffer), 62);
-    assert_eq!(rt; encode(Version::Two, &four, &mut buffer), 171);
-    assert_eq!(rt; reframed(Version::Two, &four), Ok((Version::Two, four)));
-    assert!(rt; !same_frame(Version::One, &one, Version::Two, &four));
-    Ok(())
+    is_not_cut(&rt, &Message::Logged(HANDLER, BLOCK, 1));
+    is_not_cut(&rt, &Message::Answer(HANDLER, BLOCK, 1, Answer::Value(5)));
+    let Some(one) = calls(1) else {
+        panic!(rt; "no message");
+    };
+    is_not_cut(&rt, &one);
+}
+
+// How long the message's frame is, if there is one.
+fn length(version: Version, message: &Message) -> Option<usize> {
+    if !message.fits() || !version.carries(message) {
+        return None;
+    }
+    Some(encode(version, message, &mut [0; BUFFER_LEN]))
+}
+
+fn comes_back(version: Version, message: &Message) -> bool {
+    message.fits()
+        && version.carries(message)
+        && reframed(version, message) == Ok((version, *message))
 }
 
 #[test]
-fn entries_and_answers_are_bytes(rt: HostRuntime) -> Result<(), Fail> {
-    let entry = Entry::Query(Request {
-        op: 0x0102,
-        args: Args::of(&[1, 2, 3, u64::MAX])?,
-    });
-    let mut buffer = [0; MAX_ENTRY];
-    assert_eq!(rt; entry_to(&entry, &mut buffer), 36);
-    assert_eq!(rt; &buffer[..5], [2, 1, 2, 4, 0].as_slice());
-    assert_eq!(rt; entry_from(&buffer), Some((entry, 36)));
-    assert_eq!(rt; entry_from(&buffer[..35]), None);
+fn four_entries_are_carried_by_the_second_version(rt: HostRuntime) {
+    let (Some(one), Some(four)) = (calls(1), calls(4)) else {
+        panic!(rt; "no messages");
+    };
+    assert!(rt; prefixes_are_refused(Version::Two, &four));
     assert_eq!(rt;
-        entry_from(&[1, 0, 1, 0, 9]),
-        Some((
-            Entry::Call(Request {
-                op: 1,
-                args: Args::of(&[])?
-            }),
-            4
-        ))
+        (length(Version::One, &one), length(Version::One, &four)),
+        (Some(62), None)
     );
+    assert_eq!(rt; length(Version::Two, &four), Some(171));
+    assert!(rt; comes_back(Version::Two, &four));
+}
+
+fn have_same_frame(one: &Message, four: &Message) -> Option<bool> {
+    if !one.fits() || !Version::One.carries(one) || !four.fits() || !Version::Two.carries(four) {
+        return None;
+    }
+    Some(same_frame(Version::One, one, Version::Two, four))
+}
+
+#[test]
+fn frames_differ(rt: HostRuntime) {
+    let (Some(one), Some(four)) = (calls(1), calls(4)) else {
+        panic!(rt; "no messages");
+    };
+    assert_eq!(rt; have_same_frame(&one, &four), Some(false));
+}
+
+// The first bytes that are written of an entry, and how many are.
+fn entry_bytes(entry: &Entry) -> ([u8; 5], usize) {
     let mut buffer = [0xee; MAX_ENTRY];
-    assert_eq!(rt; entry_to(&Entry::End, &mut buffer), 1);
-    assert_eq!(rt; &buffer[..2], [3, 0xee].as_slice());
+    let len = entry_to(entry, &mut buffer);
+    ([buffer[0], buffer[1], buffer[2], buffer[3], buffer[4]], len)
+}
+
+// The entry that is read from its bytes, all but the last few of which are there.
+fn entry_again(entry: &Entry, cut: usize) -> Option<(Entry, usize)> {
+    let mut buffer = [0; MAX_ENTRY];
+    let len = entry_to(entry, &mut buffer);
+    entry_from(&buffer[..len.saturating_sub(cut)])
+}
+
+fn long_query() -> Option<Entry> {
+    let args = Args::of(&[1, 2, 3, u64::MAX]).ok()?;
+    Some(Entry::Query(Request { op: 0x0102, args }))
+}
+
+fn reads_entry(rt: &impl Abort, bytes: &[u8], wanted: Option<(Entry, usize)>) {
+    assert_eq!(rt; entry_from(bytes), wanted);
+}
+
+fn short_call() -> Option<(Entry, usize)> {
+    let args = Args::of(&[]).ok()?;
+    Some((Entry::Call(Request { op: 1, args }), 4))
+}
+
+#[test]
+fn entries_are_bytes(rt: HostRuntime) {
+    let Some(query) = long_query() else {
+        panic!(rt; "no entry");
+    };
+    assert_eq!(rt; entry_bytes(&query), ([2, 1, 2, 4, 0], 36));
+    assert_eq!(rt; entry_again(&query, 0), Some((query, 36)));
+    assert_eq!(rt; entry_again(&query, 1), None);
+    assert_eq!(rt; entry_bytes(&Entry::End), ([3, 0xee, 0xee, 0xee, 0xee], 1));
+    reads_entry(&rt, &[1, 0, 1, 0, 9], short_call());
+}
+
+// The first bytes that are written of an answer, and how many are.
+fn answer_bytes(answer: &Answer) -> ([u8; 2], usize) {
     let mut buffer = [0xee; MAX_ANSWER];
-    assert_eq!(rt; answer_to(&Answer::Refused, &mut buffer), 1);
-    assert_eq!(rt; &buffer[..2], [0, 0xee].as_slice());
-    assert_eq!(rt; answer_from(&buffer), Some((Answer::Refused, 1)));
-    assert_eq!(rt; answer_to(&Answer::Value(5), &mut buffer), 9);
-    assert_eq!(rt; answer_from(&buffer), Some((Answer::Value(5), 9)));
-    assert_eq!(rt; answer_from(&buffer[..8]), None);
+    let len = answer_to(answer, &mut buffer);
+    ([buffer[0], buffer[1]], len)
+}
+
+fn answer_again(answer: &Answer, cut: usize) -> Option<(Answer, usize)> {
+    let mut buffer = [0; MAX_ANSWER];
+    let len = answer_to(answer, &mut buffer);
+    answer_from(&buffer[..len.saturating_sub(cut)])
+}
+
+#[test]
+fn answers_are_bytes(rt: HostRuntime) {
+    assert_eq!(rt; answer_bytes(&Answer::Refused), ([0, 0xee], 1));
+    assert_eq!(rt; answer_bytes(&Answer::Value(5)), ([1, 0], 9));
+    assert_eq!(rt;
+        answer_again(&Answer::Refused, 0),
+        Some((Answer::Refused, 1))
+    );
+    assert_eq!(rt;
+        answer_again(&Answer::Value(5), 0),
+        Some((Answer::Value(5), 9))
+    );
+    assert_eq!(rt; answer_again(&Answer::Value(5), 1), None);
     assert_eq!(rt; answer_from(&[2]), None);
-    Ok(())
 }
 
 #[test]

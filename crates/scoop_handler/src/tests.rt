@@ -4,11 +4,11 @@ mod hearing;
 mod keeping;
 mod running;
 
-use crate::{Handler, Heard, Note};
+use crate::{Handler, HandlerState, Heard, Job, Note, Reason};
 use scoop_message::{
     Answer, Args, Block, ClientId, Entries, Entry, HandlerId, Message, Request, Words,
 };
-use scoop_object::{Class, OpRow, Table, Term, Write, Writes};
+use scoop_object::{Behaviour, Class, OpRow, Table, Term, Write, Writes};
 use std::alloc::{Allocator, Global};
 use std::process::Abort;
 use std::test::Fail;
@@ -22,6 +22,51 @@ const SET: u16 = 1;
 
 /// Adds the argument to the word.
 const ADD: u16 = 2;
+
+/// What a client of a row asks.
+#[derive(Clone, Copy)]
+enum Act {
+    Hello,
+    Lock,
+    Open,
+    Unlock,
+    /// Logs entries from this number on.
+    Log(u32, Does, Does),
+}
+
+/// An entry of a row.
+#[derive(Clone, Copy)]
+enum Does {
+    Set(u64),
+    Add(u64),
+    /// A query that adds.
+    Ask(u64),
+    End,
+    /// No entry.
+    Nothing,
+}
+
+/// What the handler of a row answers and notes.
+#[derive(Clone, Copy)]
+enum Said {
+    Greeted,
+    Granted,
+    Busy,
+    Opened,
+    Freed,
+    /// What was asked for stands already.
+    Known,
+    /// The entries up to this number were taken now.
+    Took(u32),
+    /// The entries up to this number were taken before.
+    Again(u32),
+    /// The query of this number had this answer before.
+    Answered(u32, u64),
+    Dropped(Reason),
+}
+
+/// What the block of a client, an incarnation and a number asks, and what it hears.
+type Row = (Act, u32, u32, u32, Said);
 
 fn block(client: u32, inc: u32, num: u32) -> Block {
     Block {
@@ -67,80 +112,190 @@ fn fresh<A: Allocator + Copy>(alloc: A, global: Global) -> Result<Handler<Table,
     }
 }
 
-fn request(op: u16, argument: u64) -> Result<Request, Fail> {
-    Ok(Request {
-        op,
-        args: Args::of(&[argument])?,
-    })
+fn request(op: u16, argument: u64) -> Option<Request> {
+    let args = Args::of(&[argument]).ok()?;
+    Some(Request { op, args })
 }
 
-fn call(op: u16, argument: u64) -> Result<Entry, Fail> {
-    Ok(Entry::Call(request(op, argument)?))
-}
-
-fn query(op: u16, argument: u64) -> Result<Entry, Fail> {
-    Ok(Entry::Query(request(op, argument)?))
-}
-
-fn log(block: Block, number: u32, entries: &[Entry]) -> Result<Message, Fail> {
-    Ok(Message::Log(HERE, block, number, Entries::of(entries)?))
-}
-
-/// What is answered where the block's entries up to this number were taken.
-fn took(block: Block, last: u32) -> Heard {
-    Heard::replied(Message::Logged(HERE, block, last), Note::Took(last))
-}
-
-/// The block greets, locks and opens, and unlocks for the next one.
-fn opens<A: Allocator + Copy>(handler: &mut Handler<Table, A>, block: Block) -> Result<(), Fail> {
-    let messages = [
-        Message::Hello(HERE, block.client, block.inc),
-        Message::Lock(HERE, block),
-        Message::Open(HERE, block),
-        Message::Unlock(HERE, block),
-    ];
-    for message in &messages {
-        handler.hear(message)?;
+fn entry(does: Does) -> Option<Entry> {
+    match does {
+        Does::Set(value) => request(SET, value).map(Entry::Call),
+        Does::Add(value) => request(ADD, value).map(Entry::Call),
+        Does::Ask(value) => request(ADD, value).map(Entry::Query),
+        Does::End | Does::Nothing => Some(Entry::End),
     }
-    Ok(())
 }
 
-/// A handler at which these blocks have opened.
-fn opened(alloc: Global, blocks: &[Block]) -> Result<Handler<Table>, Fail> {
+fn entries(first: Does, second: Does) -> Option<Entries> {
+    let first = entry(first)?;
+    if matches!(second, Does::Nothing) {
+        return Entries::of(&[first]).ok();
+    }
+    Entries::of(&[first, entry(second)?]).ok()
+}
+
+fn log(from: Block, number: u32, first: Does, second: Does) -> Option<Message> {
+    Some(Message::Log(HERE, from, number, entries(first, second)?))
+}
+
+fn message(act: Act, from: Block) -> Option<Message> {
+    match act {
+        Act::Hello => Some(Message::Hello(HERE, from.client, from.inc)),
+        Act::Lock => Some(Message::Lock(HERE, from)),
+        Act::Open => Some(Message::Open(HERE, from)),
+        Act::Unlock => Some(Message::Unlock(HERE, from)),
+        Act::Log(number, first, second) => log(from, number, first, second),
+    }
+}
+
+/// The reply that says that what is asked for stands.
+fn confirms(act: Act, from: Block) -> Message {
+    match act {
+        Act::Hello => Message::Welcome(HERE, from.client, from.inc),
+        Act::Lock => Message::Locked(HERE, from),
+        Act::Open => Message::Opened(HERE, from),
+        Act::Unlock => Message::Unlocked(HERE, from),
+        Act::Log(number, _, _) => Message::Logged(HERE, from, number),
+    }
+}
+
+fn heard(act: Act, from: Block, said: Said) -> Heard {
+    let confirmed = confirms(act, from);
+    match said {
+        Said::Greeted => Heard::replied(confirmed, Note::Greeted),
+        Said::Granted => Heard::replied(confirmed, Note::Granted),
+        Said::Busy => Heard::replied(Message::Busy(HERE, from), Note::Held),
+        Said::Opened => Heard::replied(confirmed, Note::Opened(from)),
+        Said::Freed => Heard::replied(confirmed, Note::Freed),
+        Said::Known => Heard::replied(confirmed, Note::Known),
+        Said::Took(last) => Heard::replied(Message::Logged(HERE, from, last), Note::Took(last)),
+        Said::Again(last) => Heard::replied(Message::Logged(HERE, from, last), Note::Known),
+        Said::Answered(number, value) => Heard::replied(
+            Message::Answer(HERE, from, number, Answer::Value(value)),
+            Note::Known,
+        ),
+        Said::Dropped(why) => Heard::dropped(why),
+    }
+}
+
+/// The handler hears a message, and answers so.
+fn answers<A: Allocator + Copy>(
+    rt: &impl Abort,
+    handler: &mut Handler<Table, A>,
+    message: &Message,
+    answer: Heard,
+) {
+    assert_eq!(rt; handler.hear(message), Ok(answer), "to {message:?}");
+}
+
+/// The handler hears what is asked in a row, and answers so.
+fn hears_one<A: Allocator + Copy>(rt: &impl Abort, handler: &mut Handler<Table, A>, row: Row) {
+    let (act, client, inc, num, said) = row;
+    let from = block(client, inc, num);
+    let Some(message) = message(act, from) else {
+        panic!(rt; "no such message");
+    };
+    answers(rt, handler, &message, heard(act, from, said));
+}
+
+/// The handler hears what is asked in each row, and answers so.
+fn hears<A: Allocator + Copy>(rt: &impl Abort, handler: &mut Handler<Table, A>, rows: &[Row]) {
+    for row in rows {
+        hears_one(rt, handler, *row);
+    }
+}
+
+/// The block locks and opens, and unlocks for the next one.
+fn opens<A: Allocator + Copy>(
+    rt: &impl Abort,
+    handler: &mut Handler<Table, A>,
+    client: u32,
+    num: u32,
+) {
+    hears_one(rt, handler, (Act::Lock, client, 1, num, Said::Granted));
+    hears_one(rt, handler, (Act::Open, client, 1, num, Said::Opened));
+    hears_one(rt, handler, (Act::Unlock, client, 1, num, Said::Freed));
+}
+
+/// A handler at which the first blocks of these clients have opened.
+fn opened(rt: &impl Abort, alloc: Global, clients: &[u32]) -> Result<Handler<Table>, Fail> {
     let mut handler = fresh(alloc, alloc)?;
-    for block in blocks {
-        opens(&mut handler, *block)?;
+    for client in clients {
+        hears_one(rt, &mut handler, (Act::Hello, *client, 1, 0, Said::Greeted));
+        opens(rt, &mut handler, *client, 1);
     }
     Ok(handler)
 }
 
-/// The handler hears each message, and answers so.
-fn hears<A: Allocator + Copy>(
-    rt: &impl Abort,
-    handler: &mut Handler<Table, A>,
-    cases: &[(Message, Heard)],
-) -> Result<(), Fail> {
-    for (message, answer) in cases {
-        assert_eq!(rt; handler.hear(message)?, *answer, "to {message:?}");
+/// The block, the number and the answer of the entry that the handler runs next.
+fn ran<B: Behaviour, A: Allocator>(
+    handler: &mut Handler<B, A>,
+) -> Option<(Block, u32, Option<Answer>)> {
+    match handler.run() {
+        Some(ran) => Some((ran.block, ran.number, ran.answer)),
+        None => None,
     }
-    Ok(())
 }
 
-/// The handler runs entries of the block, with these numbers and answers.
+fn runs_one<A: Allocator>(
+    rt: &impl Abort,
+    handler: &mut Handler<Table, A>,
+    from: Block,
+    number: u32,
+    value: Option<u64>,
+) {
+    let answer = match value {
+        Some(value) => Some(Answer::Value(value)),
+        None => None,
+    };
+    assert_eq!(rt; ran(handler), Some((from, number, answer)));
+}
+
+/// The handler runs entries of the client's first block, with these numbers and answers.
 fn runs<A: Allocator>(
     rt: &impl Abort,
     handler: &mut Handler<Table, A>,
-    block: Block,
-    expected: &[(u32, Option<Answer>)],
-) -> Result<(), Fail> {
-    for (number, answer) in expected {
-        let Some(ran) = handler.run() else {
-            return Err("nothing has run".into());
-        };
-        assert_eq!(rt;
-            (ran.block, ran.number, ran.answer),
-            (block, *number, *answer)
-        );
+    client: u32,
+    expected: &[(u32, Option<u64>)],
+) {
+    for (number, value) in expected {
+        runs_one(rt, handler, block(client, 1, 1), *number, *value);
     }
-    Ok(())
+}
+
+/// The handler's object has this word.
+fn has_word<A: Allocator>(rt: &impl Abort, handler: &Handler<Table, A>, word: u64) {
+    let words = handler.words();
+    assert_eq!(rt; words.as_slice(), [word].as_slice());
+}
+
+/// The handler has nothing to run, and its object has this word.
+fn rests<A: Allocator>(rt: &impl Abort, handler: &mut Handler<Table, A>, word: u64) {
+    assert_eq!(rt; ran(handler), None);
+    has_word(rt, handler, word);
+}
+
+fn restart<B: Behaviour, A: Allocator>(
+    class: Class,
+    object: B,
+    state: HandlerState<A>,
+) -> Option<Handler<B, A>> {
+    Handler::restart(class, object, state).ok()
+}
+
+/// A handler with another's state, and an object that is made anew.
+fn restarted(alloc: Global, before: &Handler<Table>) -> Result<Handler<Table>, Fail> {
+    let (class, object) = (class(alloc)?, object(alloc)?);
+    match restart(class, object, before.copy()?) {
+        Some(handler) => Ok(handler),
+        None => Err("wrong class".into()),
+    }
+}
+
+/// The handler's next job, with which its object leaves.
+fn taken(handler: &mut Handler<Table>) -> Result<Job<Table>, Fail> {
+    match handler.begin() {
+        Some(job) => Ok(job),
+        None => Err("no job".into()),
+    }
 }

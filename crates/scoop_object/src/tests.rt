@@ -1,7 +1,9 @@
+ghost use Rattle.std.specs.Prelude.{◌≤◌};
+
 use super::*;
 use linked_list_allocator::LocalHeap;
 use scoop_message::{Answer, Args, OutOfMemory, Request, Words};
-use std::alloc::Global;
+use std::alloc::{Allocator, Global};
 use std::process::Abort;
 use std::test::Fail;
 
@@ -19,56 +21,102 @@ fn write(word: u8, base: Term, plus: Term, minus: Term) -> Write {
 }
 
 /// A row without a test.
-fn row(op: u16, writes: &[Write], answer: Term) -> Result<OpRow, Fail> {
-    Ok(OpRow {
+fn row(op: u16, writes: &[Write], answer: Term) -> Option<OpRow> {
+    let writes = Writes::of(writes).ok()?;
+    Some(OpRow {
         op,
         test: None,
-        writes: Writes::of(writes)?,
+        writes,
         answer,
     })
 }
 
+/// A row that withdraws what is there.
+fn withdraw() -> Option<OpRow> {
+    let all = write(0, Term::Word(0), ZERO, Term::Arg(0));
+    let row = row(2, &[all], Term::Word(0))?;
+    Some(OpRow {
+        test: Some((Term::Arg(0), Term::Word(0))),
+        ..row
+    })
+}
+
 /// An account: deposit, withdraw what is there, balance.
-fn account() -> Result<[OpRow; 3], Fail> {
+fn account() -> Option<[OpRow; 3]> {
     let deposit = write(0, Term::Word(0), Term::Arg(0), ZERO);
-    let withdraw = write(0, Term::Word(0), ZERO, Term::Arg(0));
-    let enough = Some((Term::Arg(0), Term::Word(0)));
-    Ok([
-        row(1, &[deposit], Term::Word(0))?,
-        OpRow {
-            test: enough,
-            ..row(2, &[withdraw], Term::Word(0))?
-        },
-        row(3, &[], Term::Word(0))?,
-    ])
+    let deposit = row(1, &[deposit], Term::Word(0))?;
+    let balance = row(3, &[], Term::Word(0))?;
+    Some([deposit, withdraw()?, balance])
 }
 
 /// A counter: add.
-fn counter() -> Result<[OpRow; 1], Fail> {
+fn counter() -> Option<OpRow> {
     let add = write(0, Term::Word(0), Term::Arg(0), ZERO);
-    Ok([row(1, &[add], Term::Word(0))?])
+    row(1, &[add], Term::Word(0))
 }
 
 /// An exchange: put, which answers what was there.
-fn exchange() -> Result<[OpRow; 1], Fail> {
+fn exchange() -> Option<OpRow> {
     let put = write(0, Term::Arg(0), ZERO, ZERO);
     let keep = write(1, Term::Word(0), ZERO, ZERO);
-    Ok([row(1, &[put, keep], Term::Word(1))?])
+    row(1, &[put, keep], Term::Word(1))
+}
+
+fn built(alloc: Global, words: u8, rows: &[OpRow]) -> Option<Class>
+    requires some { 1 ≤ words }
+    requires few { words ≤ 16 }
+{
+    Class::build(alloc, words, rows).ok()
+}
+
+fn table(class: Class, words: &[u64]) -> Option<Table> {
+    let words = Words::of(words).ok()?;
+    Table::new(class, words).ok()
+}
+
+fn account_of(alloc: Global, balance: u64) -> Option<Table> {
+    table(built(alloc, 1, &account()?)?, &[balance])
+}
+
+fn counter_of(alloc: Global, count: u64) -> Option<Table> {
+    table(built(alloc, 1, &[counter()?])?, &[count])
+}
+
+fn exchange_of(alloc: Global, word: u64) -> Option<Table> {
+    table(built(alloc, 2, &[exchange()?])?, &[word, 0])
 }
 
 type Step<'a> = (u16, &'a [u64], Answer, &'a [u64]);
 
-/// Runs requests of an operation with arguments, and compares the answers and the words.
-fn runs<B: Behaviour>(rt: &impl Abort, object: &mut B, steps: &[Step]) -> Result<(), Fail> {
-    for (op, args, answer, words) in steps {
-        let request = Request {
-            op: *op,
-            args: Args::of(args)?,
-        };
-        assert_eq!(rt; object.apply(&request), *answer, "op {op}");
-        assert_eq!(rt; object.words().as_slice(), *words, "op {op}");
+fn request(op: u16, args: &[u64]) -> Option<Request> {
+    let args = Args::of(args).ok()?;
+    Some(Request { op, args })
+}
+
+fn answer<B: Behaviour>(object: &mut B, op: u16, args: &[u64]) -> Option<Answer> {
+    let request = request(op, args)?;
+    Some(object.apply(&request))
+}
+
+fn has_words<B: Behaviour>(rt: &impl Abort, object: &B, wanted: &[u64]) {
+    let words = object.words();
+    assert_eq!(rt; words.as_slice(), wanted);
+}
+
+/// Runs a request of an operation with arguments, and compares the answer and the words.
+fn runs_one<B: Behaviour>(rt: &impl Abort, object: &mut B, step: Step) {
+    let (op, args, wanted, words) = step;
+    assert_eq!(rt; answer(object, op, args), Some(wanted), "op {op}");
+    has_words(rt, object, words);
+}
+
+fn runs<B: Behaviour>(rt: &impl Abort, object: Option<B>, steps: &[Step]) {
+    let Some(mut object) = object else {
+        panic!(rt; "no object");
+    };
+    for step in steps {
+        runs_one(rt, &mut object, *step);
     }
-    Ok(())
 }
 
 const ACCOUNT: [Step; 6] = [
@@ -88,20 +136,10 @@ const EXCHANGE: [Step; 2] = [
 ];
 
 #[test]
-fn tables_run_their_rows(rt: HostRuntime) -> Result<(), Fail> {
-    let alloc = rt.alloc();
-    let accounts = Class::build(alloc, 1, &account()?)?;
-    let again = accounts.copy()?;
-    let balance = Words::of(&[100])?;
-    runs(&rt, &mut Table::new(accounts, balance)?, &ACCOUNT)?;
-    runs(&rt, &mut Table::new(again, balance)?, &ACCOUNT)?;
-    let counters = Class::build(alloc, 1, &counter()?)?;
-    let full = Words::of(&[FULL])?;
-    runs(&rt, &mut Table::new(counters, full)?, &COUNTER)?;
-    let exchanges = Class::build(alloc, 2, &exchange()?)?;
-    let four = Words::of(&[4, 0])?;
-    runs(&rt, &mut Table::new(exchanges, four)?, &EXCHANGE)?;
-    Ok(())
+fn tables_run_their_rows(rt: HostRuntime) {
+    runs(&rt, account_of(rt.alloc(), 100), &ACCOUNT);
+    runs(&rt, counter_of(rt.alloc(), FULL), &COUNTER);
+    runs(&rt, exchange_of(rt.alloc(), 4), &EXCHANGE);
 }
 
 /// An object of a class without operations, as a type of its own.
@@ -143,144 +181,290 @@ impl Object for Stone {
     }
 }
 
+// What refuses words to the object.
+fn restored<B: Behaviour>(object: &mut B, words: &[u64]) -> Option<Result<(), WrongWords>> {
+    let words = Words::of(words).ok()?;
+    Some(object.restore(words))
+}
+
+fn restores<B: Behaviour>(rt: &impl Abort, object: &mut B) {
+    assert_eq!(rt; restored(object, &[8, 9]), Some(Err(WrongWords)));
+    has_words(rt, object, &[7]);
+    assert_eq!(rt; restored(object, &[8]), Some(Ok(())));
+    has_words(rt, object, &[8]);
+}
+
+fn is_of<B: Behaviour>(rt: &impl Abort, object: &B, class: Option<Class>, wanted: bool) {
+    let Some(class) = class else {
+        panic!(rt; "no class");
+    };
+    assert_eq!(rt; object.has_class(&class), wanted);
+}
+
+fn counters(alloc: Global) -> Option<Class> {
+    built(alloc, 1, &[counter()?])
+}
+
 /// The calls of an object of one word whose class has no operations.
-fn lies<B: Behaviour>(rt: &impl Abort, alloc: Global, object: &mut B) -> Result<(), Fail> {
-    runs(rt, object, &[(1, &[], Answer::Refused, &[7])])?;
-    assert_eq!(rt; object.restore(Words::of(&[8, 9])?), Err(WrongWords));
-    assert_eq!(rt; object.words(), Words::of(&[7])?);
-    assert_eq!(rt; object.restore(Words::of(&[8])?), Ok(()));
-    assert_eq!(rt; object.words(), Words::of(&[8])?);
-    assert!(rt; object.has_class(&Class::build(alloc, 1, &[])?));
-    assert!(rt; !object.has_class(&Class::build(alloc, 2, &[])?));
-    assert!(rt; !object.has_class(&Class::build(alloc, 1, &counter()?)?));
+fn lies<B: Behaviour>(rt: &impl Abort, alloc: Global, object: &mut B) {
+    runs_one(rt, object, (1, &[], Answer::Refused, &[7]));
+    restores(rt, object);
+    is_of(rt, object, built(alloc, 1, &[]), true);
+    is_of(rt, object, built(alloc, 2, &[]), false);
+    is_of(rt, object, counters(alloc), false);
+}
+
+// A table of one word without operations.
+fn still(alloc: Global, words: &[u64]) -> Option<Table> {
+    table(built(alloc, 1, &[])?, words)
+}
+
+#[test]
+fn tables_are_objects(rt: HostRuntime) {
+    let Some(mut table) = still(rt.alloc(), &[7]) else {
+        panic!(rt; "no table");
+    };
+    lies(&rt, rt.alloc(), &mut table);
+    assert!(rt; still(rt.alloc(), &[7, 8]).is_none());
+}
+
+#[test]
+fn boxes_are_objects(rt: HostRuntime) -> Result<(), Fail> {
+    let stone: Box<dyn Object + Send> = Box::new(rt.alloc(), Stone { weight: 7 })?;
+    lies(&rt, rt.alloc(), &mut Boxed::new(stone));
     Ok(())
 }
 
 #[test]
-fn tables_and_boxes_are_objects(rt: HostRuntime) -> Result<(), Fail> {
-    let alloc = rt.alloc();
-    let class = Class::build(alloc, 1, &[])?;
-    assert_eq!(rt;
-        Table::new(class.copy()?, Words::of(&[7, 8])?).err(),
-        Some(WrongWords)
-    );
+fn equal_objects_answer_alike(rt: HostRuntime) -> Result<(), Fail> {
+    let class = Class::build(rt.alloc(), 1, &[])?;
     let mut table = Table::new(class, Words::of(&[7])?)?;
-    let stone: Box<dyn Object + Send> = Box::new(alloc, Stone { weight: 7 })?;
+    let stone: Box<dyn Object + Send> = Box::new(rt.alloc(), Stone { weight: 7 })?;
     let mut boxed = Boxed::new(stone);
     let request = Request {
         op: 1,
         args: Args::of(&[])?,
     };
-    assert_eq!(rt;
-        apply_both(&mut table, &mut boxed, &request),
-        (Answer::Refused, Answer::Refused)
-    );
-    lies(&rt, alloc, &mut table)?;
-    lies(&rt, alloc, &mut boxed)?;
+    let answers = apply_both(&mut table, &mut boxed, &request);
+    assert_eq!(rt; answers, (Answer::Refused, Answer::Refused));
     Ok(())
 }
 
-#[test]
-fn rows_of_a_class_are_tested_in_order(rt: HostRuntime) -> Result<(), Fail> {
-    let alloc = rt.alloc();
+/// A row of a class with one word.
+#[derive(Clone, Copy)]
+enum Kind {
+    Good,
+    /// Its write's term is a word that the class lacks.
+    TermBeyond,
+    /// Its write is to such a word.
+    WriteBeyond,
+    /// Its answer is such a word.
+    AnswerBeyond,
+    /// Its test has such a word.
+    TestBeyond,
+    /// Its write's term is an argument that no request has.
+    ArgBeyond,
+    /// It writes its word twice.
+    Twice,
+}
+
+fn row_of(kind: Kind) -> Option<OpRow> {
     let set = write(0, Term::Arg(3), ZERO, ZERO);
-    let word = write(0, Term::Word(1), ZERO, ZERO);
-    let beside = write(1, ZERO, ZERO, ZERO);
-    let arg = write(0, ZERO, ZERO, Term::Arg(4));
-    let good = row(1, &[set], Term::Word(0))?;
-    let bad_arg = row(1, &[arg], ZERO)?;
-    let bad_test = OpRow {
-        test: Some((ZERO, Term::Word(1))),
-        ..good
-    };
-    let twice = row(1, &[set, set], ZERO)?;
-    let built: [(&[OpRow], ClassError); 10] = [
-        (&[good; 33], ClassError::TooManyOps),
-        (&[row(1, &[word], ZERO)?], ClassError::WordOutOfRange),
-        (&[row(1, &[beside], ZERO)?], ClassError::WordOutOfRange),
-        (&[row(1, &[], Term::Word(1))?], ClassError::WordOutOfRange),
-        (&[bad_arg, bad_test], ClassError::WordOutOfRange),
-        (&[bad_arg], ClassError::ArgOutOfRange),
-        (&[good, good, bad_arg], ClassError::ArgOutOfRange),
-        (&[good, good], ClassError::RepeatedOp),
-        (&[twice, good], ClassError::RepeatedOp),
-        (&[twice], ClassError::RepeatedWrite),
-    ];
-    for (rows, error) in built {
-        assert_eq!(rt; Class::build(alloc, 1, rows).err(), Some(error));
+    match kind {
+        Kind::Good => row(1, &[set], Term::Word(0)),
+        Kind::TermBeyond => row(1, &[write(0, Term::Word(1), ZERO, ZERO)], ZERO),
+        Kind::WriteBeyond => row(1, &[write(1, ZERO, ZERO, ZERO)], ZERO),
+        Kind::AnswerBeyond => row(1, &[], Term::Word(1)),
+        Kind::TestBeyond => beyond(),
+        Kind::ArgBeyond => row(1, &[write(0, ZERO, ZERO, Term::Arg(4))], ZERO),
+        Kind::Twice => row(1, &[set, set], ZERO),
     }
-    Ok(())
+}
+
+fn beyond() -> Option<OpRow> {
+    let row = row(1, &[], ZERO)?;
+    Some(OpRow {
+        test: Some((ZERO, Term::Word(1))),
+        ..row
+    })
+}
+
+fn rows_of(alloc: Global, kinds: &[Kind]) -> Option<Vec<OpRow>> {
+    let mut rows = Vec::new(alloc);
+    for kind in kinds {
+        rows.push(row_of(*kind)?).ok()?;
+    }
+    Some(rows)
+}
+
+// What refuses a class of one word with these rows.
+fn class_refusal(alloc: Global, kinds: &[Kind]) -> Option<ClassError> {
+    Class::build(alloc, 1, &rows_of(alloc, kinds)?).err()
+}
+
+const REFUSED: [(&[Kind], ClassError); 10] = [
+    (&[Kind::Good; 33], ClassError::TooManyOps),
+    (&[Kind::TermBeyond], ClassError::WordOutOfRange),
+    (&[Kind::WriteBeyond], ClassError::WordOutOfRange),
+    (&[Kind::AnswerBeyond], ClassError::WordOutOfRange),
+    (
+        &[Kind::ArgBeyond, Kind::TestBeyond],
+        ClassError::WordOutOfRange,
+    ),
+    (&[Kind::ArgBeyond], ClassError::ArgOutOfRange),
+    (
+        &[Kind::Good, Kind::Good, Kind::ArgBeyond],
+        ClassError::ArgOutOfRange,
+    ),
+    (&[Kind::Good, Kind::Good], ClassError::RepeatedOp),
+    (&[Kind::Twice, Kind::Good], ClassError::RepeatedOp),
+    (&[Kind::Twice], ClassError::RepeatedWrite),
+];
+
+fn is_refused(rt: &impl Abort, alloc: Global, kinds: &[Kind], refusal: ClassError) {
+    assert_eq!(rt; class_refusal(alloc, kinds), Some(refusal));
 }
 
 #[test]
-fn limits_are_reached(rt: HostRuntime) -> Result<(), Fail> {
-    let alloc = rt.alloc();
+fn rows_of_a_class_are_tested_in_order(rt: HostRuntime) {
+    for (kinds, refusal) in &REFUSED {
+        is_refused(&rt, rt.alloc(), kinds, *refusal);
+    }
+}
+
+// Writes to this many words, 17 at the most.
+fn writes_of(count: usize) -> Result<Writes, TooManyWrites> {
     let mut writes = [write(0, ZERO, ZERO, ZERO); 17];
-    let mut rows = [row(0, &[], ZERO)?; 33];
     for i in 0..17u8 {
         writes[usize::from(i)].word = i;
     }
+    Writes::of(&writes[..count.min(17)])
+}
+
+// How many writes there are, and the last two places.
+fn last_of(writes: &Writes) -> (usize, Option<Write>, Option<Write>) {
+    (writes.len(), writes.get(15), writes.get(16))
+}
+
+#[test]
+fn sixteen_writes_are_most(rt: HostRuntime) -> Result<(), Fail> {
+    assert_eq!(rt; writes_of(17).err(), Some(TooManyWrites));
+    let most = writes_of(16)?;
+    assert_eq!(rt;
+        last_of(&most),
+        (16, Some(write(15, ZERO, ZERO, ZERO)), None)
+    );
+    let none = writes_of(0)?;
+    assert!(rt; none.is_empty() && most != none);
+    Ok(())
+}
+
+// The operations of a class, 33 at the most, of which the first writes 16 words.
+fn operations(alloc: Global, words: u8, count: usize) -> Option<Result<Class, ClassError>>
+    requires some { 1 ≤ words }
+    requires few { words ≤ 16 }
+{
+    let mut rows = [row(0, &[], ZERO)?; 33];
     for i in 0..33u16 {
         rows[usize::from(i)].op = i;
     }
-    assert_eq!(rt; Writes::of(&writes).err(), Some(TooManyWrites));
-    let most = Writes::of(&writes[..16])?;
-    assert_eq!(rt;
-        (most.len(), most.get(15), most.get(16)),
-        (16, Some(writes[15]), None)
-    );
-    assert!(rt; Writes::of(&[])?.is_empty() && most != Writes::of(&[])?);
-    rows[0].writes = most;
+    rows[0].writes = writes_of(16).ok()?;
     rows[0].answer = Term::Arg(3);
-    let class = Class::build(alloc, 16, &rows[..32])?;
-    assert_eq!(rt; (class.words(), class.rows().len()), (16, 32));
-    assert_eq!(rt;
-        Class::build(alloc, 15, &rows[..32]).err(),
-        Some(ClassError::WordOutOfRange)
-    );
-    assert_eq!(rt;
-        Class::build(alloc, 16, &rows).err(),
-        Some(ClassError::TooManyOps)
-    );
-    Ok(())
+    Some(Class::build(alloc, words, &rows[..count.min(33)]))
+}
+
+// How many words and rows a class has, or what refuses it.
+fn size(alloc: Global, words: u8, count: usize) -> Option<Result<(usize, usize), ClassError>>
+    requires some { 1 ≤ words }
+    requires few { words ≤ 16 }
+{
+    match operations(alloc, words, count)? {
+        Ok(class) => Some(Ok((class.words(), class.rows().len()))),
+        Err(error) => Some(Err(error)),
+    }
+}
+
+#[test]
+fn limits_are_reached(rt: HostRuntime) {
+    let few = Some(Err(ClassError::WordOutOfRange));
+    let many = Some(Err(ClassError::TooManyOps));
+    assert_eq!(rt; size(rt.alloc(), 16, 32), Some(Ok((16, 32))));
+    assert_eq!(rt; size(rt.alloc(), 15, 32), few);
+    assert_eq!(rt; size(rt.alloc(), 16, 33), many);
+}
+
+fn is_same(rt: &impl Abort, class: &Class, other: Option<Class>, wanted: bool) {
+    let Some(other) = other else {
+        panic!(rt; "no class");
+    };
+    assert_eq!(rt; class.same(&other), wanted);
+}
+
+fn is_class(rt: &impl Abort, class: &Class, words: u8, rows: &[OpRow], wanted: bool) {
+    assert_eq!(rt; class.is(words, rows), wanted);
 }
 
 #[test]
 fn classes_are_the_same_by_words_and_rows_in_order(rt: HostRuntime) -> Result<(), Fail> {
-    let alloc = rt.alloc();
-    let [deposit, withdraw, balance] = account()?;
-    let class = Class::build(alloc, 1, &[deposit, withdraw, balance])?;
-    assert!(rt; class.same(&class.copy()?));
-    assert!(rt; class.is(1, &[deposit, withdraw, balance]));
-    assert!(rt; !class.is(2, &[deposit, withdraw, balance]));
-    assert!(rt; !class.is(1, &[withdraw, deposit, balance]));
-    assert!(rt; !class.is(1, &[deposit, withdraw]));
-    assert!(rt; !class.same(&Class::build(alloc, 1, &counter()?)?));
+    let Some(rows) = account() else {
+        return Err("no rows".into());
+    };
+    let class = Class::build(rt.alloc(), 1, &rows)?;
+    is_same(&rt, &class, class.copy().ok(), true);
+    is_same(&rt, &class, counters(rt.alloc()), false);
+    is_class(&rt, &class, 1, &rows, true);
+    is_class(&rt, &class, 2, &rows, false);
+    is_class(&rt, &class, 1, &[rows[1], rows[0], rows[2]], false);
+    is_class(&rt, &class, 1, &rows[..2], false);
     Ok(())
 }
 
+/// How far a class with little memory comes.
+#[derive(Clone, Copy, Debug, PartialEq, Eq)]
+enum Grown {
+    Nowhere,
+    Built,
+    Copied,
+}
+
+fn grows<A: Allocator + Copy>(rt: &impl Abort, alloc: A, rows: &[OpRow]) -> Grown {
+    let class = match Class::build(alloc, 1, rows) {
+        Ok(class) => class,
+        Err(error) => {
+            assert_eq!(rt; error, ClassError::OutOfMemory);
+            return Grown::Nowhere;
+        }
+    };
+    assert!(rt; class.is(1, rows));
+    match class.copy() {
+        Ok(copy) => {
+            assert!(rt; copy.is(1, rows));
+            Grown::Copied
+        }
+        Err(OutOfMemory) => Grown::Built,
+    }
+}
+
+fn grown_in(rt: &impl Abort, alloc: Global, size: usize) -> Result<Grown, Fail> {
+    let Some(rows) = account() else {
+        return Err("no rows".into());
+    };
+    let heap = LocalHeap::new(alloc, size)?;
+    Ok(grows(rt, &heap, &rows))
+}
+
+/// In larger and larger memory a class is refused, then its copy alone, then nothing.
 #[test]
 fn growths_may_be_refused(rt: HostRuntime) -> Result<(), Fail> {
-    let rows = account()?;
-    let whole = Class::build(rt.alloc(), 1, &rows)?;
-    let mut build_refused = false;
-    let mut copy_refused = false;
+    let mut last = Grown::Nowhere;
+    let mut changes = 0u32;
     for quarters in 0..32 {
-        let heap = LocalHeap::new(rt.alloc(), 64 + 256 * quarters)?;
-        let built = Class::build(&heap, 1, &rows);
-        if let Ok(class) = &built {
-            let copied = class.copy();
-            assert!(rt; class.same(&whole));
-            if let Ok(again) = &copied {
-                assert!(rt; again.same(&whole) && build_refused && copy_refused);
-                return Ok(());
-            }
-            assert_eq!(rt; copied.err(), Some(OutOfMemory));
-            copy_refused = true;
-        } else {
-            assert_eq!(rt; built.err(), Some(ClassError::OutOfMemory));
-            build_refused = true;
+        let next = grown_in(&rt, rt.alloc(), 64 + 256 * quarters)?;
+        if next != last {
+            changes = changes.saturating_add(1);
         }
+        last = next;
     }
-    panic!(rt; "no heap was large enough")
+    assert_eq!(rt; (changes, last), (2, Grown::Copied));
+    Ok(())
 }

@@ -5,7 +5,8 @@ use super::*;
 use linked_list_allocator::LocalHeap;
 use scoop_message::limits::{MAX_PENDING, MAX_QUEUES};
 use scoop_message::{Args, Block, ClientId, Entries, Entry, OutOfMemory, Request};
-use std::alloc::Allocator;
+use std::alloc::{Allocator, Global};
+use std::process::Abort;
 use std::test::Fail;
 
 fn block(num: u32) -> Block {
@@ -16,15 +17,32 @@ fn block(num: u32) -> Block {
     }
 }
 
-fn call(op: u16) -> Result<Entry, Fail> {
-    Ok(Entry::Call(Request {
-        op,
-        args: Args::of(&[])?,
-    }))
+fn call(op: u16) -> Option<Entry> {
+    let args = Args::of(&[]).ok()?;
+    Some(Entry::Call(Request { op, args }))
 }
 
-fn four_calls() -> Result<Entries, Fail> {
-    Ok(Entries::of(&[call(1)?, call(2)?, call(3)?, call(4)?])?)
+/// Entries that are put together.
+#[derive(Clone, Copy)]
+enum Given {
+    One,
+    Four,
+    End,
+    OneAndEnd,
+}
+
+fn four_calls() -> Option<Entries> {
+    Entries::of(&[call(1)?, call(2)?, call(3)?, call(4)?]).ok()
+}
+
+fn entries(given: Given) -> Option<Entries> {
+    let one = call(1)?;
+    match given {
+        Given::One => Entries::of(&[one]).ok(),
+        Given::Four => four_calls(),
+        Given::End => Entries::of(&[Entry::End]).ok(),
+        Given::OneAndEnd => Entries::of(&[one, Entry::End]).ok(),
+    }
 }
 
 // Whether the first number at a place is small.
@@ -63,66 +81,151 @@ fn put<A: Allocator>(
     queues.put_all(block, entries.as_slice())
 }
 
-#[test]
-fn opens_64_queues(rt: HostRuntime) -> Result<(), Fail> {
-    let mut queues = QueueOfQueues::new(rt.alloc());
-    assert_eq!(rt; queues.list_len(), 0);
-    assert_eq!(rt; queues.front(), None);
-    assert_eq!(rt; queues.head(0), None);
-    for num in 1..64 {
-        queues.open(block(num))?;
-        assert_eq!(rt; queues.open(block(1)), Err(OpenQueueError::AlreadyThere));
+// What refuses entries to the queue of the block of a number.
+fn put_refusal<A: Allocator>(
+    queues: &mut QueueOfQueues<A>,
+    num: u32,
+    given: Given,
+) -> Option<PutError> {
+    match entries(given) {
+        Some(entries) => put(queues, block(num), &entries).err(),
+        None => Some(PutError::OutOfMemory),
     }
-    queues.open(block(64))?;
-    for num in [1, 64, 65] {
-        assert_eq!(rt; queues.open(block(num)), Err(OpenQueueError::QueueFull));
-    }
-    assert_eq!(rt; queues.list_len(), MAX_QUEUES);
+}
+
+// What refuses a queue to the block of a number.
+fn open_refusal<A: Allocator + Copy>(
+    queues: &mut QueueOfQueues<A>,
+    num: u32,
+) -> Option<OpenQueueError> {
+    queues.open(block(num)).err()
+}
+
+fn opens<A: Allocator + Copy>(
+    rt: &impl Abort,
+    queues: &mut QueueOfQueues<A>,
+    num: u32,
+    refusal: Option<OpenQueueError>,
+) {
+    assert_eq!(rt; open_refusal(queues, num), refusal, "{num}");
+}
+
+fn has_count<A: Allocator>(rt: &impl Abort, queues: &QueueOfQueues<A>, count: usize) {
+    assert_eq!(rt; queues.list_len(), count);
+}
+
+fn is_first(rt: &impl Abort, queues: &QueueOfQueues, wanted: Option<(Block, u32, Entry)>) {
+    assert_eq!(rt; queues.front(), wanted);
+}
+
+fn has_head(rt: &impl Abort, queues: &QueueOfQueues, i: usize, wanted: Option<Head>) {
+    assert_eq!(rt; queues.head(i), wanted);
+}
+
+// What refuses a queue without entries.
+fn refusal(queues: &mut QueueOfQueues, head: Head) -> Option<AppendError> {
+    queues.append(head, &[]).err()
+}
+
+// The last of 64 queues is this block's, and no queue of it can be appended.
+fn is_full_with(rt: &impl Abort, queues: &mut QueueOfQueues, last: Block) {
     let fresh = Head {
-        block: block(64),
+        block: last,
         first: 1,
         state: QueueState::Open,
     };
-    assert_eq!(rt; queues.head(63), Some(fresh));
-    assert_eq!(rt; queues.append(fresh, &[]), Err(AppendError::QueueFull));
-    Ok(())
+    has_head(rt, queues, 63, Some(fresh));
+    assert_eq!(rt; refusal(queues, fresh), Some(AppendError::QueueFull));
 }
 
 #[test]
-fn puts_64_entries(rt: HostRuntime) -> Result<(), Fail> {
+fn opens_64_queues(rt: HostRuntime) {
     let mut queues = QueueOfQueues::new(rt.alloc());
-    let one = Entries::of(&[call(1)?])?;
-    let four = four_calls()?;
-    let end = Entries::of(&[call(5)?, Entry::End])?;
-    assert_eq!(rt; put(&mut queues, block(1), &one), Err(PutError::NotThere));
-    queues.open(block(1))?;
-    queues.open(block(2))?;
-    for _round in 0..15 {
-        put(&mut queues, block(1), &four)?;
-        put(&mut queues, block(2), &four)?;
+    has_count(&rt, &queues, 0);
+    is_first(&rt, &queues, None);
+    has_head(&rt, &queues, 0, None);
+    for num in 1..64 {
+        opens(&rt, &mut queues, num, None);
+        opens(&rt, &mut queues, 1, Some(OpenQueueError::AlreadyThere));
     }
-    put(&mut queues, block(1), &one)?;
-    assert_eq!(rt;
-        put(&mut queues, block(1), &four),
-        Err(PutError::PendingFull)
+    opens(&rt, &mut queues, 64, None);
+    for num in [1, 64, 65] {
+        opens(&rt, &mut queues, num, Some(OpenQueueError::QueueFull));
+    }
+    has_count(&rt, &queues, MAX_QUEUES);
+    is_full_with(&rt, &mut queues, block(64));
+}
+
+// What is put at a block, what refuses it, and how many entries the block has then.
+type Row = (u32, Given, Option<PutError>, usize);
+
+fn has_pending(rt: &impl Abort, queues: &QueueOfQueues, num: u32, pending: usize) {
+    assert_eq!(rt; queues.pending_len(block(num)), pending, "{num}");
+}
+
+fn puts_one(rt: &impl Abort, queues: &mut QueueOfQueues, row: Row) {
+    let (num, given, refusal, pending) = row;
+    assert_eq!(rt; put_refusal(queues, num, given), refusal, "{num} {pending}");
+    has_pending(rt, queues, num, pending);
+}
+
+fn puts(rt: &impl Abort, queues: &mut QueueOfQueues, rows: &[Row]) {
+    for row in rows {
+        puts_one(rt, queues, *row);
+    }
+}
+
+// A queue of the block with 60 entries.
+fn fills(rt: &impl Abort, queues: &mut QueueOfQueues, num: u32) {
+    opens(rt, queues, num, None);
+    for round in 1..16 {
+        puts_one(rt, queues, (num, Given::Four, None, 4 * round));
+    }
+}
+
+fn is_cut(rt: &impl Abort, queues: &mut QueueOfQueues, num: u32, was_open: bool) {
+    assert_eq!(rt; queues.cut(block(num)), was_open, "{num}");
+}
+
+fn is_at(rt: &impl Abort, queues: &QueueOfQueues, i: usize, j: usize, entry: Option<Entry>) {
+    assert_eq!(rt; queues.entry(i, j), entry, "{i} {j}");
+}
+
+#[test]
+fn puts_64_entries(rt: HostRuntime) {
+    let mut queues = QueueOfQueues::new(rt.alloc());
+    puts_one(
+        &rt,
+        &mut queues,
+        (1, Given::One, Some(PutError::NotThere), 0),
     );
-    assert_eq!(rt; queues.pending_len(block(1)), 61);
-    put(&mut queues, block(1), &end)?;
-    assert_eq!(rt; put(&mut queues, block(1), &one), Err(PutError::Ended));
-    put(&mut queues, block(2), &four)?;
-    assert_eq!(rt; queues.pending_len(block(2)), MAX_PENDING);
-    assert_eq!(rt;
-        put(&mut queues, block(2), &one),
-        Err(PutError::PendingFull)
-    );
-    assert!(rt; queues.cut(block(2)));
-    assert_eq!(rt; put(&mut queues, block(2), &one), Err(PutError::Ended));
-    assert!(rt; !queues.cut(block(1)) && !queues.cut(block(2)) && !queues.cut(block(3)));
-    assert_eq!(rt; queues.entry(0, 62), Some(Entry::End));
-    assert_eq!(rt; queues.entry(0, 63), None);
-    assert_eq!(rt; queues.entry(2, 0), None);
-    assert_eq!(rt; queues.pending_len(block(3)), 0);
-    Ok(())
+    fills(&rt, &mut queues, 1);
+    fills(&rt, &mut queues, 2);
+    let rows = [
+        (1, Given::One, None, 61),
+        (1, Given::Four, Some(PutError::PendingFull), 61),
+        (1, Given::OneAndEnd, None, 63),
+        (1, Given::One, Some(PutError::Ended), 63),
+        (2, Given::Four, None, MAX_PENDING),
+        (2, Given::One, Some(PutError::PendingFull), 64),
+    ];
+    puts(&rt, &mut queues, &rows);
+    is_at(&rt, &queues, 0, 62, Some(Entry::End));
+    is_at(&rt, &queues, 0, 63, None);
+    is_at(&rt, &queues, 2, 0, None);
+}
+
+#[test]
+fn open_queues_are_cut(rt: HostRuntime) {
+    let mut queues = QueueOfQueues::new(rt.alloc());
+    fills(&rt, &mut queues, 1);
+    fills(&rt, &mut queues, 2);
+    puts_one(&rt, &mut queues, (1, Given::End, None, 61));
+    is_cut(&rt, &mut queues, 2, true);
+    puts_one(&rt, &mut queues, (2, Given::One, Some(PutError::Ended), 60));
+    is_cut(&rt, &mut queues, 1, false);
+    is_cut(&rt, &mut queues, 2, false);
+    is_cut(&rt, &mut queues, 3, false);
 }
 
 /// A step of a script, at the block of a number.
@@ -135,12 +238,46 @@ enum Step {
     Take,
 }
 
+fn takes(rt: &impl Abort, queues: &mut QueueOfQueues) {
+    let first = queues.front();
+    assert_eq!(rt; queues.advance(), first);
+}
+
+fn puts_more(rt: &impl Abort, queues: &mut QueueOfQueues, num: u32, given: Given) {
+    assert_eq!(rt; put_refusal(queues, num, given), None, "{num}");
+}
+
+fn does(rt: &impl Abort, queues: &mut QueueOfQueues, step: Step) {
+    match step {
+        Step::Open(num) => opens(rt, queues, num, None),
+        Step::Put(num) => puts_more(rt, queues, num, Given::One),
+        Step::End(num) => puts_more(rt, queues, num, Given::End),
+        Step::Cut(num) => is_cut(rt, queues, num, true),
+        Step::Take => takes(rt, queues),
+    }
+}
+
+// The block and the number of the front.
+fn front(queues: &QueueOfQueues) -> Option<(u32, u32)> {
+    match queues.front() {
+        Some((of, number, _)) => Some((of.num, number)),
+        None => None,
+    }
+}
+
+// A step with the block and the number of the front behind it, and the number of queues.
+type Turn = (Step, Option<(u32, u32)>, usize);
+
+fn goes_on(rt: &impl Abort, queues: &mut QueueOfQueues, turn: Turn) {
+    let (step, wanted, count) = turn;
+    does(rt, queues, step);
+    assert_eq!(rt; front(queues), wanted, "{step:?}");
+    has_count(rt, queues, count);
+}
+
 #[test]
-fn waits_and_goes_on_in_order(rt: HostRuntime) -> Result<(), Fail> {
+fn waits_and_goes_on_in_order(rt: HostRuntime) {
     let mut queues = QueueOfQueues::new(rt.alloc());
-    let one = Entries::of(&[call(1)?])?;
-    let end = Entries::of(&[Entry::End])?;
-    // Each step with the block and the number of the front behind it, and the number of queues.
     let script = [
         (Step::Open(1), None, 1),
         (Step::Open(2), None, 2),
@@ -163,22 +300,30 @@ fn waits_and_goes_on_in_order(rt: HostRuntime) -> Result<(), Fail> {
         (Step::Take, None, 1),
         (Step::Cut(1), None, 0),
     ];
-    for (step, front, count) in script {
-        match step {
-            Step::Open(num) => queues.open(block(num))?,
-            Step::Put(num) => put(&mut queues, block(num), &one)?,
-            Step::End(num) => put(&mut queues, block(num), &end)?,
-            Step::Cut(num) => assert!(rt; queues.cut(block(num)), "{step:?}"),
-            Step::Take => {
-                let first = queues.front();
-                assert_eq!(rt; queues.advance(), first, "{step:?}");
-            }
-        }
-        let found = queues.front().map(|(of, number, _)| (of.num, number));
-        assert_eq!(rt; found, front, "{step:?}");
-        assert_eq!(rt; queues.list_len(), count, "{step:?}");
+    for turn in script {
+        goes_on(&rt, &mut queues, turn);
     }
-    Ok(())
+}
+
+// What is appended: the block's number, the first number and the state, and of 65 calls and two Ends
+// behind them the places of the entries.
+type Whole = (u32, u32, QueueState, usize, usize);
+
+// What refuses a whole queue.
+fn append_refusal(queues: &mut QueueOfQueues, whole: Whole) -> Option<AppendError> {
+    let (num, first, state, from, to) = whole;
+    let Some(call) = call(1) else {
+        return Some(AppendError::OutOfMemory);
+    };
+    let mut entries = [call; 67];
+    entries[65] = Entry::End;
+    entries[66] = Entry::End;
+    let head = Head {
+        block: block(num),
+        first,
+        state,
+    };
+    queues.append(head, part(&entries, from, to)).err()
 }
 
 // The entries from one place to another.
@@ -190,120 +335,180 @@ fn part(entries: &[Entry], from: usize, to: usize) -> &[Entry] {
     }
 }
 
+fn appends(
+    rt: &impl Abort,
+    queues: &mut QueueOfQueues,
+    whole: Whole,
+    refusal: Option<AppendError>,
+) {
+    assert_eq!(rt; append_refusal(queues, whole), refusal, "{whole:?}");
+}
+
+/// A first number and a state that don't go with the entries.
 #[test]
-fn appends_whole_queues(rt: HostRuntime) -> Result<(), Fail> {
+fn refuses_to_append(rt: HostRuntime) {
     let mut queues = QueueOfQueues::new(rt.alloc());
-    let call = call(1)?;
-    let mut entries = [call; 67];
-    entries[65] = Entry::End;
-    entries[66] = Entry::End;
-    // A first number and a state that don't go with the entries between two places.
     let bad = [
-        (0, QueueState::Open, 0, 0),
-        (1, QueueState::Open, 0, 65),
-        (u32::MAX, QueueState::Open, 0, 1),
-        (u32::MAX, QueueState::Ended, 64, 66),
-        (1, QueueState::Open, 65, 66),
-        (1, QueueState::Ended, 0, 0),
-        (1, QueueState::Ended, 0, 1),
-        (1, QueueState::Ended, 65, 67),
-        (1, QueueState::Cut, 0, 0),
-        (1, QueueState::Cut, 64, 66),
+        (1, 0, QueueState::Open, 0, 0),
+        (1, 1, QueueState::Open, 0, 65),
+        (1, u32::MAX, QueueState::Open, 0, 1),
+        (1, u32::MAX, QueueState::Ended, 64, 66),
+        (1, 1, QueueState::Open, 65, 66),
+        (1, 1, QueueState::Ended, 0, 0),
+        (1, 1, QueueState::Ended, 0, 1),
+        (1, 1, QueueState::Ended, 65, 67),
+        (1, 1, QueueState::Cut, 0, 0),
+        (1, 1, QueueState::Cut, 64, 66),
     ];
-    for (first, state, from, to) in bad {
-        let head = Head {
-            block: block(1),
-            first,
-            state,
-        };
-        let found = queues.append(head, part(&entries, from, to));
-        assert_eq!(rt; found, Err(AppendError::BadQueue), "{head:?}");
+    for whole in bad {
+        appends(&rt, &mut queues, whole, Some(AppendError::BadQueue));
     }
-    assert_eq!(rt; queues.list_len(), 0);
+    has_count(&rt, &queues, 0);
+}
+
+// The block's number and the entry's that are taken next, and whether it is an End.
+fn next(queues: &mut QueueOfQueues) -> Option<(u32, u32, bool)> {
+    match queues.advance() {
+        Some((of, number, entry)) => Some((of.num, number, entry.is_end())),
+        None => None,
+    }
+}
+
+fn takes_entry(rt: &impl Abort, queues: &mut QueueOfQueues, taken: (u32, u32, bool)) {
+    assert_eq!(rt; next(queues), Some(taken));
+}
+
+#[test]
+fn appends_whole_queues(rt: HostRuntime) {
+    let mut queues = QueueOfQueues::new(rt.alloc());
     let good = [
         (1, u32::MAX, QueueState::Ended, 65, 66),
         (2, u32::MAX, QueueState::Cut, 0, 1),
         (3, 7, QueueState::Cut, 0, 64),
         (4, u32::MAX, QueueState::Open, 0, 0),
     ];
-    for (num, first, state, from, to) in good {
-        let head = Head {
-            block: block(num),
-            first,
-            state,
-        };
-        queues.append(head, part(&entries, from, to))?;
-        let again = queues.append(head, part(&entries, from, to));
-        assert_eq!(rt; again, Err(AppendError::AlreadyThere));
+    for whole in good {
+        appends(&rt, &mut queues, whole, None);
+        appends(&rt, &mut queues, whole, Some(AppendError::AlreadyThere));
     }
-    for taken in [(1, u32::MAX, true), (2, u32::MAX, false), (3, 7, false)] {
-        let first = queues.advance();
-        let found = first.map(|(of, number, entry)| (of.num, number, entry.is_end()));
-        assert_eq!(rt; found, Some(taken));
-    }
-    assert_eq!(rt; queues.pending_len(block(3)), 63);
-    assert_eq!(rt; queues.list_len(), 2);
-    Ok(())
+    takes_entry(&rt, &mut queues, (1, u32::MAX, true));
+    takes_entry(&rt, &mut queues, (2, u32::MAX, false));
+    takes_entry(&rt, &mut queues, (3, 7, false));
+    has_pending(&rt, &queues, 3, 63);
+    has_count(&rt, &queues, 2);
+}
+
+fn are_same(rt: &impl Abort, left: &QueueOfQueues, right: &QueueOfQueues, wanted: bool) {
+    assert_eq!(rt; left.same(right), wanted);
+    assert_eq!(rt; right.same(left), wanted);
+}
+
+fn copied(queues: &QueueOfQueues) -> Result<QueueOfQueues, Fail> {
+    Ok(queues.copy()?)
 }
 
 #[test]
 fn a_copy_is_the_same(rt: HostRuntime) -> Result<(), Fail> {
     let mut queues = QueueOfQueues::new(rt.alloc());
-    for num in 1..4 {
-        queues.open(block(num))?;
-        put(&mut queues, block(num), &four_calls()?)?;
+    for num in [1, 2, 3] {
+        opens(&rt, &mut queues, num, None);
+        puts_one(&rt, &mut queues, (num, Given::Four, None, 4));
     }
-    let mut copy = queues.copy()?;
-    assert!(rt; copy.same(&queues) && queues.same(&copy));
-    copy.advance();
-    assert!(rt; !copy.same(&queues));
-    queues.advance();
-    assert!(rt; copy.same(&queues));
-    copy.cut(block(3));
-    assert!(rt; !copy.same(&queues));
+    let mut copy = copied(&queues)?;
+    are_same(&rt, &copy, &queues, true);
+    takes(&rt, &mut copy);
+    are_same(&rt, &copy, &queues, false);
+    takes(&rt, &mut queues);
+    are_same(&rt, &copy, &queues, true);
+    is_cut(&rt, &mut copy, 3, true);
+    are_same(&rt, &copy, &queues, false);
     Ok(())
+}
+
+// Whether memory for a queue is refused, which then isn't there.
+fn refuses_queue<A: Allocator + Copy>(
+    rt: &impl Abort,
+    queues: &mut QueueOfQueues<A>,
+    num: u32,
+) -> bool {
+    let count = queues.list_len();
+    let refusal = open_refusal(queues, num);
+    if refusal.is_none() {
+        return false;
+    }
+    assert_eq!(rt; refusal, Some(OpenQueueError::OutOfMemory));
+    has_count(rt, queues, count);
+    true
+}
+
+// Whether memory for entries of the first queue is refused, which then aren't there.
+fn refuses_entries<A: Allocator>(rt: &impl Abort, queues: &mut QueueOfQueues<A>) -> bool {
+    let pending = queues.pending_len(block(1));
+    if queues.list_len() == 0 || put_refusal(queues, 1, Given::Four).is_none() {
+        return false;
+    }
+    assert_eq!(rt; queues.pending_len(block(1)), pending);
+    true
+}
+
+// What refuses a queue of four entries.
+fn whole_refusal<A: Allocator + Copy>(queues: &mut QueueOfQueues<A>) -> Option<AppendError> {
+    let head = Head {
+        block: block(9),
+        first: 1,
+        state: QueueState::Open,
+    };
+    match four_calls() {
+        Some(four) => queues.append(head, four.as_slice()).err(),
+        None => Some(AppendError::BadQueue),
+    }
+}
+
+// Whether memory for a whole queue is refused, which then isn't there.
+fn refuses_whole<A: Allocator + Copy>(rt: &impl Abort, queues: &mut QueueOfQueues<A>) -> bool {
+    let count = queues.list_len();
+    let refusal = whole_refusal(queues);
+    if refusal.is_none() {
+        return false;
+    }
+    assert_eq!(rt; refusal, Some(AppendError::OutOfMemory));
+    has_count(rt, queues, count);
+    true
+}
+
+// Whether memory for a copy is refused.
+fn refuses_copy<A: Allocator + Copy>(rt: &impl Abort, queues: &QueueOfQueues<A>) -> bool {
+    match queues.copy() {
+        Ok(copy) => {
+            assert!(rt; copy.same(queues));
+            false
+        }
+        Err(OutOfMemory) => true,
+    }
+}
+
+// Whether this much memory is too little for queues, entries and copies.
+fn is_refused(rt: &impl Abort, alloc: Global, size: usize) -> Result<bool, Fail> {
+    let heap = LocalHeap::new(alloc, size)?;
+    let mut queues = QueueOfQueues::new(&heap);
+    let mut refused = false;
+    for num in 1..9 {
+        refused = refuses_queue(rt, &mut queues, num) || refused;
+    }
+    for _round in 0..16 {
+        refused = refuses_entries(rt, &mut queues) || refused;
+    }
+    refused = refuses_whole(rt, &mut queues) || refused;
+    Ok(refuses_copy(rt, &queues) || refused)
 }
 
 /// However little memory there is: a refused call changes nothing.
 #[test]
 fn refused_memory(rt: HostRuntime) -> Result<(), Fail> {
-    let four = four_calls()?;
     let mut refused = 0;
-    for size in 0..40 {
-        let heap = LocalHeap::new(rt.alloc(), 512 * size)?;
-        let mut queues = QueueOfQueues::new(&heap);
-        for num in 1..9 {
-            let count = queues.list_len();
-            if let Err(error) = queues.open(block(num)) {
-                assert_eq!(rt; error, OpenQueueError::OutOfMemory);
-                assert_eq!(rt; queues.list_len(), count);
-                refused = size;
-            }
-        }
-        for _round in 0..16 {
-            let pending = queues.pending_len(block(1));
-            if queues.list_len() > 0 && put(&mut queues, block(1), &four).is_err() {
-                assert_eq!(rt; queues.pending_len(block(1)), pending);
-                refused = size;
-            }
-        }
-        let head = Head {
-            block: block(9),
-            first: 1,
-            state: QueueState::Open,
-        };
-        let count = queues.list_len();
-        if let Err(error) = queues.append(head, four.as_slice()) {
-            assert_eq!(rt; error, AppendError::OutOfMemory);
-            assert_eq!(rt; queues.list_len(), count);
-            refused = size;
-        }
-        match queues.copy() {
-            Ok(copy) => assert!(rt; copy.same(&queues)),
-            Err(error) => {
-                assert_eq!(rt; error, OutOfMemory);
-                refused = size;
-            }
+    for count in 0..40 {
+        if is_refused(&rt, rt.alloc(), 512 * count)? {
+            refused = count;
         }
     }
     assert!(rt; refused > 0 && refused < 39, "{refused}");

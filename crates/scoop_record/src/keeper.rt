@@ -4,26 +4,40 @@ ghost use Rattle.std.specs.Prelude.{◌≡◌, ◌⊎◌, ℕ, Option, Some, Non
 
 use scoop_handler::HandlerState;
 use scoop_message::{ClientId, HandlerId, OutOfMemory};
+use std::fmt;
 use thiserror::Error;
 
-/// Why a keeper refuses. A call that is refused has changed nothing.
+/// Why a keeper refuses. A call that is refused has changed nothing. Printed as its name, with the number
+/// of the handler whose image is bad.
 #[derive(Clone, Copy, Debug, Drop, PartialEq, Eq, Error)]
 pub enum KeeperError {
     /// A growth of memory was refused.
-    #[error("OutOfMemory")]
     OutOfMemory,
     /// The keeper's medium refused.
-    #[error("Refused")]
     Refused,
     /// What is stored for this handler is no state of it.
-    #[error("BadImage {}", .0.0)]
     BadImage(HandlerId),
     /// The client's stored incarnation is the last one.
-    #[error("IncarnationsSpent")]
     IncarnationsSpent,
     /// The database has no version of the tables that is known, or a number that is no handler's.
-    #[error("WrongSchema")]
     WrongSchema,
+}
+
+impl fmt::Display for KeeperError {
+    ghost use Rattle.std.specs.Prelude.{Some};
+    ghost use Rattle.scoop_record.specs.Text.{error_text};
+
+    ghost output = { λ e. Some (error_text e) };
+
+    fn fmt<W: fmt::Write>(&self, f: &mut fmt::Formatter<W>) -> fmt::Result {
+        match self {
+            KeeperError::OutOfMemory => f.write_str("OutOfMemory"),
+            KeeperError::Refused => f.write_str("Refused"),
+            KeeperError::BadImage(handler) => write!(f, "BadImage {handler}"),
+            KeeperError::IncarnationsSpent => f.write_str("IncarnationsSpent"),
+            KeeperError::WrongSchema => f.write_str("WrongSchema"),
+        }
+    }
 }
 
 impl From<OutOfMemory> for KeeperError {

@@ -38,7 +38,7 @@ impl<S: Alter + Drop> Model for Store<S> {
 /// The version of the tables.
 pub const VERSION: u32 = 2;
 
-fn is_blank(schema: &Schema) -> bool
+pub(crate) fn is_blank(schema: &Schema) -> bool
     ensures { IsTrue result → schema.now ≡ no_schema }
 {
     schema.tables.as_slice().is_empty()

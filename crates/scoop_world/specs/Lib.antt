@@ -1,6 +1,10 @@
 pub mod World
 pub mod Step
-pub mod Reach
 pub mod Safe
+pub mod Opening
+pub mod OpenRefusal
+pub mod Reach
+pub mod Kept
+pub mod Answers
 pub mod Paper
 pub mod Examples

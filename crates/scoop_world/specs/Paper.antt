@@ -1,6 +1,6 @@
 -- The rules of SCOOP themselves, with no messages and a joint reservation in one step, and the configuration of
 -- these rules that a world stands for.
-use Rattle.std.specs.Prelude.{◌≡◌, ℕ, ◌+◌, ◌-◌, ◌<◌, ◌≤◌, ⊤, nat_le, Bool, true, false, not, ◌&&◌, ◌||◌, if◌then◌else◌, List, [], ◌∷◌, ◌++◌, length, map, filter, flat_map, take, drop, Option, Some, None, Ok, Err}
+use Rattle.std.specs.Prelude.{◌≡◌, ℕ, ◌+◌, ◌-◌, ◌<◌, ◌≤◌, ⊤, nat_le, Bool, true, false, not, ◌&&◌, ◌||◌, if◌then◌else◌, List, [], ◌∷◌, ◌++◌, length, map, filter, flat_map, take, drop, Option, Some, None, Ok, Err, Result}
 use Rattle.std.specs.List.{list_any}
 use Rattle.std.specs.Option.{option_map_or}
 use Rattle.scoop_message.specs.declared.name.Block.{Block}
@@ -26,6 +26,7 @@ use Rattle.scoop_world.specs.declared.event.Event.{Event}
 use Rattle.scoop_world.specs.declared.event.Event.TheVariants.{Do, Tick, Take, Begin, Finish, ClientRestart, NodeRestart}
 use Rattle.scoop_world.specs.declared.note.WorldNote.{WorldNote}
 use Rattle.scoop_world.specs.declared.note.WorldNote.TheVariants as note
+use Rattle.scoop_world.specs.declared.error.WorldError.{WorldError}
 use Rattle.scoop_world.specs.World.{World, Party, site_of, party_of, ran_at, has_block, set_of, log_of, sent_at, is_succeeded, received}
 use Rattle.scoop_world.specs.Step.{newest_block, step}
 use Rattle.scoop_world.specs.Safe.{entries_of}
@@ -302,3 +303,29 @@ FollowsRules v e = elim (step v e) [ Ok r ↦ Follows v e r.0 r.1 | Err x ↦ �
 -- nothing was reserved yet, and nothing has run
 abbrev pub empty_configuration : (ClientId → ℕ) → Configuration
 empty_configuration inc = record { queues = λ h. []; ran = λ h. []; separated = []; inc = inc }
+
+-- ---- events one after another
+
+-- the moves of the events before the first that is refused
+abbrev pub moves_in : World → List Event → List Move
+moves_in v [] = []
+moves_in v (e ∷ es) = elim (step v e) [ Ok r ↦ moves_of v r.0 e r.1 ++ moves_in r.0 es | Err x ↦ [] ]
+
+-- what the moves make of a configuration
+abbrev pub replayed : Objects → List Move → Configuration → Configuration
+replayed o [] g = g
+replayed o (m ∷ ms) g = replayed o ms (moved o m g)
+
+-- from the configuration in which the clients have their incarnations and nothing was reserved, the moves of the
+-- events lead by the rules to the one that the last world stands for
+abbrev pub RunsByRules : World → List Event → World → Type 0
+RunsByRules v es w = Leads (objects_of v) (empty_configuration (inc_of v)) (moves_in v es) (configuration_of w)
+
+-- the moves of the events lead by the rules from the configuration that the one world stands for to that of the other
+abbrev pub LeadsByRules : World → List Event → World → Type 0
+LeadsByRules v es w = Leads (objects_of v) (configuration_of v) (moves_in v es) (configuration_of w)
+
+-- so do those of all events, or of those before the first that is refused
+abbrev pub FollowsRun : World → List Event → Result ℕ (ℕ × WorldError) → World → Type 0
+FollowsRun v es (Ok n) w = LeadsByRules v es w
+FollowsRun v es (Err stop) w = LeadsByRules v (take stop.0 es) w

@@ -4,6 +4,7 @@ use Rattle.scoop_world.specs.declared.event.Event.{Event}
 use Rattle.scoop_world.specs.declared.error.WorldError.{WorldError}
 use Rattle.scoop_world.specs.World.{World}
 use Rattle.scoop_world.specs.Step.{Stepped, Placement, Newcomer, step, opening}
+use Rattle.scoop_world.specs.Opening.{MayOpen}
 
 -- the world after the events before the first that is refused, and how many those are, with the refusal if
 -- there is one
@@ -35,5 +36,6 @@ Leads v es w = run v es ≡ (w, Ok (length es))
 pub record IsReached (w : World) : Type 0 where
   pub placements : List Placement
   pub newcomers : List Newcomer
+  pub opens : MayOpen placements newcomers
   pub events : List Event
   pub leads : Leads (opening placements newcomers) events w

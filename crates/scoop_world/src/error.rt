@@ -1,7 +1,10 @@
 //! Why a world doesn't open, and why an event doesn't happen.
 
+ghost use Rattle.std.specs.Prelude.{◌≡◌};
+
 use scoop_client::ClientError;
-use scoop_message::{ClientId, HandlerId};
+use scoop_message::{ClientId, HandlerId, OutOfMemory};
+use std::alloc::{AllocError, AllocFailed};
 use thiserror::Error;
 
 /// Why an event is refused, in the order in which it is tested. A refused event changes nothing. Printed as
@@ -55,4 +58,54 @@ pub enum WorldOpenError {
     /// A growth of memory was refused.
     #[error("OutOfMemory")]
     OutOfMemory,
+}
+
+impl From<OutOfMemory> for WorldError {
+    ghost use Rattle.scoop_world.specs.declared.error.WorldError.TheVariants as variants;
+
+    ghost from_gives = { λ _ e. e ≡ variants.OutOfMemory };
+
+    fn from(_: OutOfMemory) -> WorldError {
+        WorldError::OutOfMemory
+    }
+}
+
+impl From<AllocError> for WorldError {
+    ghost use Rattle.scoop_world.specs.declared.error.WorldError.TheVariants as variants;
+
+    ghost from_gives = { λ _ e. e ≡ variants.OutOfMemory };
+
+    fn from(_: AllocError) -> WorldError {
+        WorldError::OutOfMemory
+    }
+}
+
+impl From<OutOfMemory> for WorldOpenError {
+    ghost use Rattle.scoop_world.specs.declared.error.WorldOpenError.TheVariants as variants;
+
+    ghost from_gives = { λ _ e. e ≡ variants.OutOfMemory };
+
+    fn from(_: OutOfMemory) -> WorldOpenError {
+        WorldOpenError::OutOfMemory
+    }
+}
+
+impl From<AllocError> for WorldOpenError {
+    ghost use Rattle.scoop_world.specs.declared.error.WorldOpenError.TheVariants as variants;
+
+    ghost from_gives = { λ _ e. e ≡ variants.OutOfMemory };
+
+    fn from(_: AllocError) -> WorldOpenError {
+        WorldOpenError::OutOfMemory
+    }
+}
+
+impl<T: Drop> From<AllocFailed<T>> for WorldOpenError {
+    ghost use Rattle.scoop_world.specs.declared.error.WorldOpenError.TheVariants as variants;
+
+    ghost from_gives = { λ _ e. e ≡ variants.OutOfMemory };
+
+    fn from(_: AllocFailed<T>) -> WorldOpenError {
+        WorldOpenError::OutOfMemory
+    }
 }

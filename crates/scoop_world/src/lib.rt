@@ -7,11 +7,19 @@
 mod error;
 mod event;
 mod examples;
+mod following;
 mod handlers;
 mod law;
+mod logs;
 mod note;
 mod opening;
+mod parts;
+mod party;
+mod placing;
 mod runs;
+mod safety;
+mod site;
+mod world;
 
 pub use error::{WorldError, WorldOpenError};
 pub use event::{Command, Event};
@@ -19,8 +27,15 @@ pub use examples::{
     gives_up, last_incarnation, one_cell, opens_at_one, repeated_query, runs_once, runs_what_came,
     three_clients, waits_for_the_first,
 };
+pub use following::{follows_rules, opens_empty, replays, runs_by_rules};
 pub use handlers::{HandlerList, MAX_NAMED_HANDLERS, TooManyHandlers};
 pub use law::{same_event, same_note};
 pub use note::WorldNote;
 pub use opening::opens_safe;
-pub use runs::{handlers_stay, in_order, joint_once, opened_in_joint};
+pub use placing::Placement;
+pub use runs::{handlers_sound, handlers_stay, in_order, opened_in_joint};
+pub use safety::reached_safe;
+pub use world::World;
+
+#[cfg(test)]
+mod tests;

@@ -8,12 +8,9 @@ ghost use Rattle.scoop_world.specs.declared.event.Event.{Event as WorldEvent};
 ghost use Rattle.scoop_world.specs.Step.{Placement, Newcomer, opening};
 ghost use Rattle.scoop_world.specs.Reach.{steps};
 ghost use Rattle.scoop_world.specs.World.{World, handlers_of, has_block};
-ghost use Rattle.scoop_world.specs.Safe.{NoRepeats, InOrder};
-
-/// No block stands twice in the common list.
-pub fn joint_once()
-    ensures { (placements : List Placement) (newcomers : List Newcomer) (events : List WorldEvent) → NoRepeats (steps (opening placements newcomers) events).joint }
-{}
+ghost use Rattle.scoop_world.specs.Opening.{MayOpen};
+ghost use Rattle.scoop_world.specs.Safe.{InOrder};
+ghost use Rattle.scoop_handler.specs.Core.{IsCore};
 
 /// The handlers of a block stay those that its reserve named, whatever happens.
 pub fn handlers_stay()
@@ -29,4 +26,10 @@ pub fn opened_in_joint()
 /// block stands twice.
 pub fn in_order()
     ensures { (placements : List Placement) (newcomers : List Newcomer) (events : List WorldEvent) → InOrder (steps (opening placements newcomers) events) }
+{}
+
+/// The state of every handler meets the conditions of a state, with the count of words of its class, and a job is
+/// out only of an entry that is pending.
+pub fn handlers_sound()
+    ensures { (placements : List Placement) (newcomers : List Newcomer) (events : List WorldEvent) → MayOpen placements newcomers → AllByRecursion (λ s. IsCore s.core) (steps (opening placements newcomers) events).sites }
 {}

@@ -1,97 +1,136 @@
 use super::*;
-use std::test::Fail;
+use std::alloc::Global;
+use std::process::Abort;
+
+// A lane over which six datagrams were put.
+fn put_six(alloc: Global, drop_every: u64, double_every: u64, room: usize) -> Option<Lane> {
+    let script = Script {
+        drop_every,
+        double_every,
+        fail_at: 1,
+    };
+    let mut lane = Lane::new(alloc, script, room).ok()?;
+    for byte in 1..=6u8 {
+        lane.put(&[byte]);
+    }
+    Some(lane)
+}
+
+// The length and the first byte of the datagram that is taken.
+fn taken(lane: &mut Lane) -> Option<(usize, u8)> {
+    let mut buffer = [0; BUFFER_LEN];
+    let len = lane.take(&mut buffer)?;
+    Some((len, buffer[0]))
+}
 
 // Empties a lane, and compares the first bytes of its datagrams with these.
 fn holds(lane: &mut Lane, wanted: &[u8]) -> bool {
-    let mut buffer = [0; BUFFER_LEN];
     for byte in wanted {
-        if lane.take(&mut buffer).is_none() || buffer[0] != *byte {
+        if taken(lane) != Some((1, *byte)) {
             return false;
         }
     }
-    lane.take(&mut buffer).is_none()
+    taken(lane).is_none()
+}
+
+/// How many puts are dropped and doubled, and the datagrams of six puts where there is room for all.
+type Row<'a> = (u64, u64, &'a [u8]);
+
+const ROWS: [Row; 9] = [
+    (0, 0, &[1, 2, 3, 4, 5, 6]),
+    (0, 2, &[1, 2, 2, 3, 4, 4, 5, 6, 6]),
+    (0, 1, &[1, 1, 2, 2, 3, 3, 4, 4, 5, 5, 6, 6]),
+    (3, 0, &[1, 2, 4, 5]),
+    (3, 2, &[1, 2, 2, 4, 4, 5]),
+    (3, 1, &[1, 1, 2, 2, 4, 4, 5, 5]),
+    (1, 0, &[]),
+    (1, 2, &[]),
+    (1, 1, &[]),
+];
+
+fn follows(rt: &impl Abort, alloc: Global, row: Row, room: usize) {
+    let (drop_every, double_every, all) = row;
+    let Some(mut lane) = put_six(alloc, drop_every, double_every, room) else {
+        panic!(rt; "no lane");
+    };
+    let found = holds(&mut lane, &all[..all.len().min(room)]);
+    assert!(rt; found, "{drop_every} {double_every} {room}");
 }
 
 #[test]
-fn puts_are_dropped_and_doubled_by_the_script(rt: HostRuntime) -> Result<(), Fail> {
-    // The datagrams of six puts, where there is room for all.
-    let rows = [
-        (0, 0, [1, 2, 3, 4, 5, 6].as_slice()),
-        (0, 2, [1, 2, 2, 3, 4, 4, 5, 6, 6].as_slice()),
-        (0, 1, [1, 1, 2, 2, 3, 3, 4, 4, 5, 5, 6, 6].as_slice()),
-        (3, 0, [1, 2, 4, 5].as_slice()),
-        (3, 2, [1, 2, 2, 4, 4, 5].as_slice()),
-        (3, 1, [1, 1, 2, 2, 4, 4, 5, 5].as_slice()),
-        (1, 0, [].as_slice()),
-        (1, 2, [].as_slice()),
-        (1, 1, [].as_slice()),
-    ];
-    for (drop_every, double_every, all) in rows {
+fn puts_are_dropped_and_doubled_by_the_script(rt: HostRuntime) {
+    for row in &ROWS {
         for room in [0, 1, 2, 3, 12] {
-            let script = Script {
-                drop_every,
-                double_every,
-                fail_at: 1,
-            };
-            let mut lane = Lane::new(rt.alloc(), script, room)?;
-            for byte in 1..=6u8 {
-                lane.put(&[byte]);
-            }
-            let found = holds(&mut lane, &all[..all.len().min(room)]);
-            assert!(rt; found, "{drop_every} {double_every} {room}");
+            follows(&rt, rt.alloc(), *row, room);
         }
     }
-    Ok(())
+}
+
+fn plain(rt: &impl Abort, alloc: Global, room: usize) -> Lane {
+    match Lane::new(alloc, Script::default(), room) {
+        Ok(lane) => lane,
+        Err(OutOfMemory) => panic!(rt; "no lane"),
+    }
+}
+
+fn takes(rt: &impl Abort, lane: &mut Lane, wanted: Option<(usize, u8)>) {
+    assert_eq!(rt; taken(lane), wanted);
 }
 
 #[test]
-fn room_that_is_given_back_is_used_again(rt: HostRuntime) -> Result<(), Fail> {
-    let mut lane = Lane::new(rt.alloc(), Script::default(), 1)?;
-    for byte in [1, 2] {
-        lane.put(&[byte]);
-    }
-    assert!(rt; holds(&mut lane, &[1]));
+fn room_that_is_given_back_is_used_again(rt: HostRuntime) {
+    let mut lane = plain(&rt, rt.alloc(), 1);
+    lane.put(&[1]);
+    lane.put(&[2]);
+    takes(&rt, &mut lane, Some((1, 1)));
+    takes(&rt, &mut lane, None);
     lane.put(&[3]);
-    assert!(rt; holds(&mut lane, &[3]));
-    Ok(())
+    takes(&rt, &mut lane, Some((1, 3)));
+    takes(&rt, &mut lane, None);
+}
+
+fn carries(rt: &impl Abort, lane: &mut Lane, bytes: &[u8], kept: usize) {
+    lane.put(bytes);
+    assert_eq!(rt; taken(lane).map(|found| found.0), Some(kept));
 }
 
 #[test]
-fn a_long_datagram_is_cut(rt: HostRuntime) -> Result<(), Fail> {
-    let mut lane = Lane::new(rt.alloc(), Script::default(), 8)?;
-    let mut buffer = [0; BUFFER_LEN];
-    let bytes = [5; 300];
-    for (len, kept) in [
-        (0, 0),
-        (1, 1),
-        (191, 191),
-        (192, 192),
-        (193, 192),
-        (300, 192),
-    ] {
-        lane.put(&bytes[..len]);
-        assert_eq!(rt; lane.take(&mut buffer), Some(kept));
-    }
-    assert_eq!(rt; lane.take(&mut buffer), None);
-    Ok(())
+fn a_long_datagram_is_cut(rt: HostRuntime) {
+    let mut lane = plain(&rt, rt.alloc(), 8);
+    carries(&rt, &mut lane, &[], 0);
+    carries(&rt, &mut lane, &[5], 1);
+    carries(&rt, &mut lane, &[5; 191], 191);
+    carries(&rt, &mut lane, &[5; 192], 192);
+    carries(&rt, &mut lane, &[5; 193], 192);
+    carries(&rt, &mut lane, &[5; 300], 192);
+    takes(&rt, &mut lane, None);
 }
 
-#[test]
-fn the_count_of_puts_stops(rt: HostRuntime) -> Result<(), Fail> {
-    let script = Script {
-        drop_every: u64::MAX,
-        ..Script::default()
-    };
-    let mut lane = Lane::new(rt.alloc(), script, 8)?;
+// A lane that drops the last put that can be counted, and is two puts before it.
+fn near_the_end(rt: &impl Abort, alloc: Global) -> Lane {
+    let mut lane = plain(rt, alloc, 8);
+    lane.script.drop_every = u64::MAX;
     lane.puts = u64::MAX - 2;
-    for byte in 1..=3u8 {
-        lane.put(&[byte]);
-    }
-    assert_eq!(rt; lane.puts, u64::MAX);
-    assert!(rt; holds(&mut lane, &[1]));
-    assert_eq!(rt;
-        Lane::new(rt.alloc(), script, usize::MAX).err(),
-        Some(OutOfMemory)
-    );
-    Ok(())
+    lane
+}
+
+fn has_puts(rt: &impl Abort, lane: &Lane, puts: u64) {
+    assert_eq!(rt; lane.puts, puts);
+}
+
+#[test]
+fn the_count_of_puts_stops(rt: HostRuntime) {
+    let mut lane = near_the_end(&rt, rt.alloc());
+    lane.put(&[1]);
+    lane.put(&[2]);
+    lane.put(&[3]);
+    has_puts(&rt, &lane, u64::MAX);
+    takes(&rt, &mut lane, Some((1, 1)));
+    takes(&rt, &mut lane, None);
+}
+
+#[test]
+fn a_lane_without_end_has_no_memory(rt: HostRuntime) {
+    let refused = Lane::new(rt.alloc(), Script::default(), usize::MAX).err();
+    assert_eq!(rt; refused, Some(OutOfMemory));
 }

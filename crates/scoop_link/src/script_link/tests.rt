@@ -1,79 +1,86 @@
 use super::*;
-use crate::tests::{CLIENT, carry};
-use std::test::Fail;
+use crate::tests::{CLIENT, fails, gets, gets_fault, has_faults, sends};
+use std::alloc::Global;
+use std::process::Abort;
+
+// Two ends, of which the first has this script.
+fn ends(rt: &impl Abort, alloc: Global, script: Script) -> (ScriptLink, ScriptLink) {
+    match ScriptLink::pair(alloc, script, Script::default(), 16) {
+        Ok(ends) => ends,
+        Err(OutOfMemory) => panic!(rt; "no links"),
+    }
+}
 
 #[test]
-fn each_end_sends_by_its_own_script(rt: HostRuntime) -> Result<(), Fail> {
+fn each_end_sends_by_its_own_script(rt: HostRuntime) {
     let lossy = Script {
         drop_every: 3,
         double_every: 5,
         fail_at: 0,
     };
-    let (mut end, mut other) = ScriptLink::pair(rt.alloc(), lossy, Script::default(), 16)?;
-    let mut buffer = [0; BUFFER_LEN];
+    let (mut end, mut other) = ends(&rt, rt.alloc(), lossy);
     for byte in 1..=15u8 {
-        assert_eq!(rt; end.send(CLIENT, &[byte]), Ok(()));
+        sends(&rt, &mut end, CLIENT, &[byte]);
     }
     for wanted in [1, 2, 4, 5, 5, 7, 8, 10, 10, 11, 13, 14] {
-        assert_eq!(rt; other.receive(&mut buffer), Ok(Some(1)));
-        assert_eq!(rt; buffer[0], wanted);
+        gets(&rt, &mut other, Some((1, wanted)));
     }
-    assert_eq!(rt; other.receive(&mut buffer), Ok(None));
+    gets(&rt, &mut other, None);
     for byte in 1..=3u8 {
-        assert_eq!(rt;
-            carry(&mut other, &mut end, &[byte], &mut buffer),
-            Ok(Some(1))
-        );
-        assert_eq!(rt; buffer[0], byte);
+        sends(&rt, &mut other, CLIENT, &[byte]);
+        gets(&rt, &mut end, Some((1, byte)));
     }
-    assert_eq!(rt; (end.faults(), other.faults()), (0, 0));
-    Ok(())
+    has_faults(&rt, &end, 0);
+    has_faults(&rt, &other, 0);
 }
 
 #[test]
-fn one_call_fails_and_does_nothing_else(rt: HostRuntime) -> Result<(), Fail> {
+fn one_call_fails_and_does_nothing_else(rt: HostRuntime) {
     let script = Script {
         fail_at: 4,
         ..Script::default()
     };
-    let (mut end, mut other) = ScriptLink::pair(rt.alloc(), script, Script::default(), 8)?;
-    let mut buffer = [0; BUFFER_LEN];
-    assert_eq!(rt; other.send(CLIENT, &[1]), Ok(()));
-    assert_eq!(rt; end.send(CLIENT, &[2]), Ok(()));
-    assert_eq!(rt; end.send(CLIENT, &[3]), Ok(()));
-    assert_eq!(rt; (end.receive(&mut buffer), buffer[0]), (Ok(Some(1)), 1));
-    assert_eq!(rt; end.faults(), 0);
-    assert_eq!(rt; end.send(CLIENT, &[4]), Err(LinkFault));
+    let (mut end, mut other) = ends(&rt, rt.alloc(), script);
+    sends(&rt, &mut other, CLIENT, &[1]);
+    sends(&rt, &mut end, CLIENT, &[2]);
+    sends(&rt, &mut end, CLIENT, &[3]);
+    gets(&rt, &mut end, Some((1, 1)));
+    has_faults(&rt, &end, 0);
+    fails(&rt, &mut end, CLIENT, &[4]);
     for _ in 0..4 {
-        assert_eq!(rt; end.receive(&mut buffer), Ok(None));
-        assert_eq!(rt; end.faults(), 1);
+        gets(&rt, &mut end, None);
+        has_faults(&rt, &end, 1);
     }
     for wanted in [2, 3] {
-        assert_eq!(rt;
-            (other.receive(&mut buffer), buffer[0]),
-            (Ok(Some(1)), wanted)
-        );
+        gets(&rt, &mut other, Some((1, wanted)));
     }
-    assert_eq!(rt; other.receive(&mut buffer), Ok(None));
-    assert_eq!(rt; other.faults(), 0);
-    Ok(())
+    gets(&rt, &mut other, None);
+    has_faults(&rt, &other, 0);
+}
+
+fn has_calls(rt: &impl Abort, end: &ScriptLink, calls: u64) {
+    assert_eq!(rt; end.calls, calls);
 }
 
 #[test]
-fn the_count_of_calls_stops(rt: HostRuntime) -> Result<(), Fail> {
+fn the_count_of_calls_stops(rt: HostRuntime) {
     let last = Script {
         fail_at: u64::MAX,
         ..Script::default()
     };
-    let (mut end, _other) = ScriptLink::pair(rt.alloc(), last, Script::default(), 8)?;
-    let mut buffer = [0; BUFFER_LEN];
+    let (mut end, _other) = ends(&rt, rt.alloc(), last);
     end.calls = u64::MAX - 1;
-    assert_eq!(rt; end.receive(&mut buffer), Err(LinkFault));
+    gets_fault(&rt, &mut end);
     for _ in 0..2 {
-        assert_eq!(rt; end.receive(&mut buffer), Ok(None));
-        assert_eq!(rt; (end.calls, end.faults()), (u64::MAX, 1));
+        gets(&rt, &mut end, None);
+        has_calls(&rt, &end, u64::MAX);
+        has_faults(&rt, &end, 1);
     }
-    let refused = ScriptLink::pair(rt.alloc(), last, last, usize::MAX).err();
+}
+
+#[test]
+fn ends_without_end_have_no_memory(rt: HostRuntime) {
+    let script = Script::default();
+    let refused = ScriptLink::pair(rt.alloc(), script, script, usize::MAX).err();
     assert_eq!(rt; refused, Some(OutOfMemory));
-    Ok(())
 }

@@ -1,6 +1,15 @@
 use super::*;
-use crate::tests::{CLIENT, HANDLER, carry};
+use crate::tests::{CLIENT, HANDLER, fails, gets, has_faults, sends};
+use std::alloc::Global;
+use std::process::Abort;
 use std::test::Fail;
+
+fn tape(rt: &impl Abort, alloc: Global, room: usize) -> TapeLink {
+    match TapeLink::new(alloc, room) {
+        Ok(tape) => tape,
+        Err(OutOfMemory) => panic!(rt; "no tape"),
+    }
+}
 
 // Whether the i-th datagram that was sent went to this party with these bytes.
 fn was_sent(tape: &TapeLink, i: usize, to: Party, bytes: &[u8]) -> bool {
@@ -10,52 +19,66 @@ fn was_sent(tape: &TapeLink, i: usize, to: Party, bytes: &[u8]) -> bool {
     }
 }
 
-#[test]
-fn a_tape_gives_what_it_was_fed_and_keeps_what_it_was_sent(rt: HostRuntime) -> Result<(), Fail> {
-    let mut tape = TapeLink::new(rt.alloc(), 8)?;
-    let mut other = TapeLink::new(rt.alloc(), 0)?;
-    let mut buffer = [0; BUFFER_LEN];
-    let long = [5; BUFFER_LEN + 8];
-    for bytes in [&long[..1], &long[..192], &long[..], &[6]] {
-        tape.feed(bytes)?;
-    }
-    for (left, len) in [(3, 1), (2, 192), (1, 192), (0, 1)] {
-        assert_eq!(rt; tape.receive(&mut buffer), Ok(Some(len)));
-        assert_eq!(rt; tape.to_come(), left);
-    }
-    assert_eq!(rt; (buffer[0], buffer[1]), (6, 5));
-    assert_eq!(rt; tape.send(HANDLER, &long), Ok(()));
-    for _ in 1..8 {
-        assert_eq!(rt;
-            carry(&mut tape, &mut other, &[1, 2], &mut buffer),
-            Ok(None)
-        );
-    }
-    for _ in 0..2 {
-        assert_eq!(rt; tape.send(CLIENT, &[3]), Err(LinkFault));
-    }
-    assert_eq!(rt; (tape.faults(), other.faults()), (2, 0));
-    assert!(rt; was_sent(&tape, 0, HANDLER, &long[..192]));
-    assert!(rt; was_sent(&tape, 7, CLIENT, &[1, 2]));
-    assert!(rt; tape.sent(8).is_none());
-    Ok(())
+fn has_sent(rt: &impl Abort, tape: &TapeLink, i: usize, to: Party, bytes: &[u8]) {
+    assert!(rt; was_sent(tape, i, to, bytes), "{i}");
+}
+
+fn has_not_sent(rt: &impl Abort, tape: &TapeLink, i: usize) {
+    assert!(rt; tape.sent(i).is_none());
+}
+
+fn feeds(rt: &impl Abort, tape: &mut TapeLink, bytes: &[u8], to_come: usize) {
+    assert!(rt; tape.feed(bytes).is_ok());
+    assert_eq!(rt; tape.to_come(), to_come);
 }
 
 #[test]
-fn a_tape_without_room_fails_until_its_count_is_full(rt: HostRuntime) -> Result<(), Fail> {
-    let mut tape = TapeLink::new(rt.alloc(), 0)?;
-    assert_eq!(rt; tape.send(CLIENT, &[1]), Err(LinkFault));
-    assert_eq!(rt; tape.faults(), 1);
-    tape.faults = u64::MAX - 1;
-    assert_eq!(rt; tape.send(CLIENT, &[1]), Err(LinkFault));
-    for _ in 0..2 {
-        assert_eq!(rt; tape.send(CLIENT, &[1]), Ok(()));
-        assert_eq!(rt; tape.faults(), u64::MAX);
+fn a_tape_gives_what_it_was_fed(rt: HostRuntime) {
+    let mut tape = tape(&rt, rt.alloc(), 8);
+    feeds(&rt, &mut tape, &[5], 1);
+    feeds(&rt, &mut tape, &[5; 192], 2);
+    feeds(&rt, &mut tape, &[5; 200], 3);
+    feeds(&rt, &mut tape, &[6], 4);
+    for wanted in [(1, 5), (192, 5), (192, 5), (1, 6)] {
+        gets(&rt, &mut tape, Some(wanted));
     }
-    assert!(rt; tape.sent(0).is_none());
+    gets(&rt, &mut tape, None);
+}
+
+#[test]
+fn a_tape_keeps_what_it_was_sent(rt: HostRuntime) {
+    let mut tape = tape(&rt, rt.alloc(), 8);
+    sends(&rt, &mut tape, HANDLER, &[5; 200]);
+    for _ in 1..8 {
+        sends(&rt, &mut tape, CLIENT, &[1, 2]);
+    }
+    for _ in 0..2 {
+        fails(&rt, &mut tape, CLIENT, &[3]);
+    }
+    has_faults(&rt, &tape, 2);
+    has_sent(&rt, &tape, 0, HANDLER, &[5; 192]);
+    has_sent(&rt, &tape, 7, CLIENT, &[1, 2]);
+    has_not_sent(&rt, &tape, 8);
+}
+
+#[test]
+fn a_tape_without_room_fails_until_its_count_is_full(rt: HostRuntime) {
+    let mut tape = tape(&rt, rt.alloc(), 0);
+    fails(&rt, &mut tape, CLIENT, &[1]);
+    has_faults(&rt, &tape, 1);
+    tape.faults = u64::MAX - 1;
+    fails(&rt, &mut tape, CLIENT, &[1]);
+    for _ in 0..2 {
+        sends(&rt, &mut tape, CLIENT, &[1]);
+        has_faults(&rt, &tape, u64::MAX);
+    }
+    has_not_sent(&rt, &tape, 0);
+}
+
+#[test]
+fn a_tape_without_end_has_no_memory(rt: HostRuntime) {
     assert_eq!(rt;
         TapeLink::new(rt.alloc(), usize::MAX).err(),
         Some(OutOfMemory)
     );
-    Ok(())
 }

@@ -3,7 +3,7 @@
 use crate::*;
 use linked_list_allocator::LocalHeap;
 use scoop_message::HandlerId;
-use std::alloc::Allocator;
+use std::alloc::{Allocator, Global};
 use std::test::Fail;
 
 const HANDLER: HandlerId = HandlerId(1);
@@ -80,5 +80,110 @@ fn want_of_memory_is_told(rt: HostRuntime) -> Result<(), Fail> {
         }
     }
     assert!(rt; refused > 0);
+    Ok(())
+}
+
+// The image of handler 1 that begins with so many words, all 0, no holder, and these parts behind them.
+fn image_of(alloc: Global, words: u8, parts: &[&[u8]]) -> Result<Vec<u8>, Fail> {
+    let mut bytes = Vec::from_slice(alloc, &[2, 0, 0, 0, 1, words])?;
+    for _ in 0..words {
+        bytes.extend_from_slice(&[0; 8])?;
+    }
+    bytes.push(0)?;
+    for part in parts {
+        bytes.extend_from_slice(part)?;
+    }
+    Ok(bytes)
+}
+
+// How many times these bytes, behind their count.
+fn counted(alloc: Global, count: u8, bytes: &[u8]) -> Result<Vec<u8>, Fail> {
+    let mut all = Vec::from_slice(alloc, &[count])?;
+    for _ in 0..count {
+        all.extend_from_slice(bytes)?;
+    }
+    Ok(all)
+}
+
+// So many marks, of clients 1, 2 and on, none with a block.
+fn marks_of(alloc: Global, count: u8) -> Result<Vec<u8>, Fail> {
+    let mut bytes = Vec::from_slice(alloc, &[count])?;
+    for i in 0..count {
+        bytes.extend_from_slice(&[0, 0, 0, i + 1, 0, 0, 0, 1, 0, 0, 0, 0, 3, 0, 0, 0, 0, 0, 0])?;
+    }
+    Ok(bytes)
+}
+
+// So many private queues, of blocks 1, 2 and on of client 7, which have an End each.
+fn queues_of(alloc: Global, count: u8) -> Result<Vec<u8>, Fail> {
+    let mut bytes = Vec::from_slice(alloc, &[count])?;
+    for i in 0..count {
+        bytes.extend_from_slice(&[0, 0, 0, 7, 0, 0, 0, 1, 0, 0, 0, i + 1, 2, 0, 0, 0, 1, 1])?;
+    }
+    Ok(bytes)
+}
+
+// What is said of such an image.
+fn told(
+    alloc: Global,
+    words: u8,
+    parts: &[&[u8]],
+    pending: &[u8],
+) -> Result<Option<ReadError>, Fail> {
+    let image = image_of(alloc, words, parts)?;
+    Ok(fault(alloc, &image, pending))
+}
+
+const BAD: Option<ReadError> = Some(ReadError::BadImage);
+
+#[test]
+fn words_and_marks_have_limits(rt: HostRuntime) -> Result<(), Fail> {
+    let alloc = rt.alloc();
+    assert_eq!(rt; told(alloc, 16, &[&[0, 0]], &[])?, None);
+    assert_eq!(rt; told(alloc, 17, &[&[0, 0]], &[])?, BAD);
+    for (count, error) in [(64, None), (65, BAD)] {
+        let marks = marks_of(alloc, count)?;
+        assert_eq!(rt; told(alloc, 1, &[&marks, &[0]], &[])?, error);
+    }
+    Ok(())
+}
+
+// The mark of client 7's block 65, which is over.
+const OVER: [u8; 20] = *b"\x01\0\0\0\x07\0\0\0\x01\0\0\0\x41\x03\0\0\0\0\0\0";
+
+#[test]
+fn private_queues_have_a_limit(rt: HostRuntime) -> Result<(), Fail> {
+    let alloc = rt.alloc();
+    for (count, error) in [(64, None), (65, BAD)] {
+        let queues = queues_of(alloc, count)?;
+        let ends = counted(alloc, count, &[3])?;
+        let ends = ends.get(1..).ok_or("the Ends")?;
+        assert_eq!(rt; told(alloc, 1, &[&OVER, &queues], ends)?, error);
+    }
+    Ok(())
+}
+
+// What is said of the image of client 7's block 1 with so many pending entries, all alike.
+fn told_of_pending(alloc: Global, count: u8, entry: &[u8]) -> Result<Option<ReadError>, Fail> {
+    let mark = [
+        1, 0, 0, 0, 7, 0, 0, 0, 1, 0, 0, 0, 1, 2, 0, 0, 0, count, 0, 0,
+    ];
+    let queue = [1, 0, 0, 0, 7, 0, 0, 0, 1, 0, 0, 0, 1, 1, 0, 0, 0, 1, count];
+    let entries = counted(alloc, count, entry)?;
+    let entries = entries.get(1..).ok_or("the entries")?;
+    told(alloc, 1, &[&mark, &queue], entries)
+}
+
+#[test]
+fn pending_entries_and_arguments_have_limits(rt: HostRuntime) -> Result<(), Fail> {
+    let alloc = rt.alloc();
+    assert_eq!(rt; told_of_pending(alloc, 64, &[1, 0, 1, 0])?, None);
+    assert_eq!(rt; told_of_pending(alloc, 65, &[1, 0, 1, 0])?, BAD);
+    let mut entry = [0; 44];
+    entry[0] = 1;
+    entry[3] = 4;
+    assert_eq!(rt; told_of_pending(alloc, 1, &entry[..36])?, None);
+    entry[3] = 5;
+    assert_eq!(rt; told_of_pending(alloc, 1, &entry)?, BAD);
     Ok(())
 }

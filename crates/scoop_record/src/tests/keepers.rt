@@ -1,15 +1,16 @@
 //! Keepers in memory and over a database.
 
 use super::images::PENDING;
+use crate::adopt::take_tables;
 use crate::*;
 use scoop_handler::HandlerState;
 use scoop_message::{ClientId, HandlerId};
-use sqlite::{Connection, MemStore};
+use sqlite::{Connection, MemStore, params};
 use std::alloc::Global;
 use std::test::Fail;
 
 // The state of a handler with this one word, whom nobody has greeted.
-fn kept(alloc: Global, word: u8) -> Result<HandlerState, Fail> {
+pub fn kept(alloc: Global, word: u8) -> Result<HandlerState, Fail> {
     let image = [2, 0, 0, 0, 1, 1, 0, 0, 0, 0, 0, 0, 0, word, 0, 0, 0];
     Ok(
         read_image(alloc, HandlerId(1), &image, &[])
@@ -19,7 +20,7 @@ fn kept(alloc: Global, word: u8) -> Result<HandlerState, Fail> {
 }
 
 // The one word of the state that is stored for the handler.
-fn word<K: Keeper>(keeper: &mut K) -> Result<u64, Fail> {
+pub fn word<K: Keeper>(keeper: &mut K) -> Result<u64, Fail> {
     let state = keeper.load_handler(HandlerId(1))?.ok_or("a state")?;
     Ok(state.words().get(0).ok_or("a word")?)
 }
@@ -73,29 +74,104 @@ fn first_version(alloc: Global, text: &str) -> Result<Connection<MemStore>, Fail
     Ok(conn)
 }
 
+// What this text finds for handler 1.
+fn bytes_by(conn: &mut Connection<MemStore>, text: &str) -> Result<Vec<u8>, Fail> {
+    let row = conn.query_row(text, params![1u32])?;
+    Ok(row.get(0)?)
+}
+
+// Handler 1 with the word 1, whom client 7's block 1 has sent the entries of two calls, which are pending.
+const OLD: &str =
+    "INSERT INTO handlers (h, image) VALUES (1, x'0100000001010000000000000000000100000007000000010000000102000000020000\
+    01000000070000000100000001010000000102010001010000000000000005010001010000000000000006')";
+
+const CUT: &str =
+    "INSERT INTO handlers (h, image) VALUES (1, x'0100000001010000000000000000000100000007000000010000000102000000020000\
+    010000000700000001000000010100000001020100010100000000000000050100010100000000000000')";
+
+// The same in version 2, without its entries.
+const IMAGE: [u8; 54] =
+    *b"\x02\0\0\0\x01\x01\0\0\0\0\0\0\0\0\0\x01\0\0\0\x07\0\0\0\x01\0\0\0\x01\x02\0\0\0\x02\0\0\x01\0\0\0\x07\0\0\0\x01\0\0\0\x01\x01\0\0\0\x01\x02";
+
 #[test]
 fn a_store_of_version_1_is_migrated(rt: HostRuntime) -> Result<(), Fail> {
-    let text =
-        "INSERT INTO handlers (h, image) VALUES (1, x'010000000101000000000000000500010000000700000001000000010200000002000001000000070000000100000001010000000102010001010000000000000005010001010000000000000006')";
-    let conn = first_version(rt.alloc(), text)?;
+    let conn = first_version(rt.alloc(), OLD)?;
     let mut store = Store::adopt(rt.alloc(), conn)?;
-    assert_eq!(rt; word(&mut store)?, 5);
-    let state = store.load_handler(HandlerId(1))?.ok_or("a state")?;
+    assert_eq!(rt; word(&mut store)?, 0);
+    let mut conn = store.into_connection();
+    let image = bytes_by(&mut conn, "SELECT image FROM handlers WHERE h = ?1")?;
+    assert_eq!(rt; image.as_slice(), IMAGE.as_slice());
+    let entries = bytes_by(&mut conn, "SELECT entries FROM pending WHERE h = ?1")?;
+    assert_eq!(rt; entries.as_slice(), PENDING.as_slice());
+    Ok(())
+}
+
+fn refusal_of(alloc: Global, conn: &mut Connection<MemStore>) -> Option<KeeperError> {
+    if !conn.is_autocommit() {
+        return None;
+    }
+    take_tables(alloc, conn).err()
+}
+
+// How an adoption is refused, and the version of the tables behind it.
+fn refused(conn: &mut Connection<MemStore>, alloc: Global) -> Result<(KeeperError, i64), Fail> {
+    let error = refusal_of(alloc, conn).ok_or("a refusal")?;
+    let row = conn.query_row("SELECT version FROM meta WHERE id = 1", &[])?;
+    Ok((error, row.get(0)?))
+}
+
+#[test]
+fn a_damaged_store_of_version_1_stays(rt: HostRuntime) -> Result<(), Fail> {
+    let bad = KeeperError::BadImage(HandlerId(1));
+    let mut conn = first_version(rt.alloc(), CUT)?;
+    assert_eq!(rt; refused(&mut conn, rt.alloc())?, (bad, 1));
+    // The lowest handler is named, and a number that is no handler's comes first.
+    conn.execute("INSERT INTO handlers (h, image) VALUES (0, x'')", &[])?;
+    let lowest = KeeperError::BadImage(HandlerId(0));
+    assert_eq!(rt; refused(&mut conn, rt.alloc())?, (lowest, 1));
+    conn.execute(
+        "INSERT INTO handlers (h, image) VALUES (4294967296, x'')",
+        &[],
+    )?;
     assert_eq!(rt;
-        pending_row(rt.alloc(), &state)?.as_slice(),
-        PENDING.as_slice()
+        refused(&mut conn, rt.alloc())?,
+        (KeeperError::WrongSchema, 1)
     );
     Ok(())
 }
 
 #[test]
-fn a_store_that_is_no_record_is_not_adopted(rt: HostRuntime) -> Result<(), Fail> {
-    let short = "INSERT INTO handlers (h, image) VALUES (1, x'01000000010100000000000000050000')";
-    let conn = first_version(rt.alloc(), short)?;
-    let error = Store::adopt(rt.alloc(), conn).err();
-    assert_eq!(rt; error, Some(KeeperError::BadImage(HandlerId(1))));
-    let conn = first_version(rt.alloc(), "UPDATE meta SET version = 3")?;
-    let error = Store::adopt(rt.alloc(), conn).err();
-    assert_eq!(rt; error, Some(KeeperError::WrongSchema));
+fn a_store_with_other_tables_is_not_adopted(rt: HostRuntime) -> Result<(), Fail> {
+    let mut conn = first_version(rt.alloc(), "UPDATE meta SET version = 3")?;
+    assert_eq!(rt;
+        refused(&mut conn, rt.alloc())?,
+        (KeeperError::WrongSchema, 3)
+    );
+    conn.execute("UPDATE meta SET version = 2", &[])?;
+    assert_eq!(rt; refused(&mut conn, rt.alloc())?, (KeeperError::Refused, 2));
+    conn.execute("UPDATE meta SET version = 1", &[])?;
+    conn.execute("CREATE TABLE pending (h INTEGER PRIMARY KEY)", &[])?;
+    assert_eq!(rt; refused(&mut conn, rt.alloc())?, (KeeperError::Refused, 1));
+    Ok(())
+}
+
+// The incarnation behind this one, over a store.
+fn next_behind(alloc: Global, stored: i64) -> Result<Result<u32, KeeperError>, Fail> {
+    let mut conn = Store::create(alloc, Connection::open_in_memory(alloc)?)?.into_connection();
+    conn.execute(
+        "INSERT INTO clients (c, inc) VALUES (7, ?1)",
+        params![stored],
+    )?;
+    let mut store = Store::adopt(alloc, conn)?;
+    Ok(store.next_incarnation(ClientId(7)))
+}
+
+#[test]
+fn what_is_no_incarnation_is_the_last_one(rt: HostRuntime) -> Result<(), Fail> {
+    let spent = Err(KeeperError::IncarnationsSpent);
+    assert_eq!(rt; next_behind(rt.alloc(), 4294967294)?, Ok(4294967295));
+    assert_eq!(rt; next_behind(rt.alloc(), 4294967295)?, spent);
+    assert_eq!(rt; next_behind(rt.alloc(), 4294967296)?, spent);
+    assert_eq!(rt; next_behind(rt.alloc(), -1)?, spent);
     Ok(())
 }

@@ -33,7 +33,7 @@ use Rattle.scoop_world.proofs.Order.Facts.{IsGranted, Tells, LocksAt, Reservatio
 
 -- ---- lists of handlers
 
-has_without : (h x : HandlerId) (hs : List HandlerId) → has (without h hs) x ≡ true → has hs x ≡ true
+pub has_without : (h x : HandlerId) (hs : List HandlerId) → has (without h hs) x ≡ true → has hs x ≡ true
 has_without h x [] e = e
 has_without h x (y ∷ ys) e =
     by_test (λ t. has (if not t then y ∷ without h ys else without h ys) x ≡ true → (same_handler y x || has ys x) ≡ true) (same_handler y h)
@@ -42,7 +42,7 @@ has_without h x (y ∷ ys) e =
     e
 
 -- what goes out of the list is the one handler
-is_gone_one : (h x : HandlerId) (hs : List HandlerId) → has hs x ≡ true → has (without h hs) x ≡ false → h ≡ x
+pub is_gone_one : (h x : HandlerId) (hs : List HandlerId) → has hs x ≡ true → has (without h hs) x ≡ false → h ≡ x
 is_gone_one h x [] e f = absurd (true≢false (sym e))
 is_gone_one h x (y ∷ ys) e f =
     by_test (λ t. same_handler y h ≡ t → has (if not t then y ∷ without h ys else without h ys) x ≡ false → h ≡ x) (same_handler y h)
@@ -57,7 +57,7 @@ is_gone_one h x (y ∷ ys) e f =
     (λ there r q. is_gone_one h x ys r q) e g)
     refl f
 
-none_in_empty : (hs : List HandlerId) (x : HandlerId) → is_empty hs ≡ true → has hs x ≡ false
+pub none_in_empty : (hs : List HandlerId) (x : HandlerId) → is_empty hs ≡ true → has hs x ≡ false
 none_in_empty [] x e = refl
 none_in_empty (y ∷ ys) x e = absurd (let l = eqb-true (length (y ∷ ys)) 0 e in omega (arith, l))
 
@@ -181,7 +181,7 @@ module _ (w : World) (c : ClientState) (fits : (r : ReservationState) → c.rese
       (λ over. record { id = k.id; inc = k.inc; last = k.last; reservation = λ r e. absurd (cc) })
       (λ on. k)
 
-  keeps_row : (m : Message) (d : ClientState) (note : ClientNote) → HeardRow c m d note → Tells w m → Keeps w c d
+  pub keeps_row : (m : Message) (d : ClientState) (note : ClientNote) → HeardRow c m d note → Tells w m → Keeps w c d
   keeps_row m d note (passed_over n) t = keeps_all
   keeps_row m d note (is_welcomed h left) t = record { id = refl; inc = refl; last = refl; reservation = fits }
   keeps_row m d note (takes_step n r has_one) t =

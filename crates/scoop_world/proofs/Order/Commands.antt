@@ -35,7 +35,7 @@ repeated_started : (r s : ReservationState) (o u : Option HandlerId) → unless_
 repeated_started r s None u e = unknown_started r s u e
 repeated_started r s (Some h) u e = absurd (cc)
 
-started_fresh : (b : Block) (hs known : List HandlerId) (s : ReservationState) → started b hs known ≡ Ok s → fresh b hs ≡ s
+pub started_fresh : (b : Block) (hs known : List HandlerId) (s : ReservationState) → started b hs known ≡ Ok s → fresh b hs ≡ s
 started_fresh b hs known s e =
     by_test (λ t. (if t then Err ReserveError.Empty else if nat_lt MAX_BLOCK_HANDLERS (length hs) then Err ReserveError.TooMany else unless_repeated (fresh b hs) (first_repeated hs) (first_unknown known hs)) ≡ Ok s → fresh b hs ≡ s) (length hs == 0)
     (λ none f. absurd (cc))
@@ -105,7 +105,7 @@ module _ (w : World) (p : Party) (x : Command) (d : ClientState) where
       }
 
 -- the next block has no handlers yet
-next_is_new : (w : World) (p : Party) → PartyFits w p → (o : Option (List HandlerId)) → handlers_of (client.next_block p.client) w ≡ o → handlers_of (client.next_block p.client) w ≡ None
+pub next_is_new : (w : World) (p : Party) → PartyFits w p → (o : Option (List HandlerId)) → handlers_of (client.next_block p.client) w ≡ o → handlers_of (client.next_block p.client) w ≡ None
 next_is_new w p f None e = e
 next_is_new w p f (Some hs) e =
     let u = f.newest (client.next_block p.client) hs refl e in
@@ -165,7 +165,7 @@ give_up_goes_on w p d o (gives_up r s locking has_one given) e f =
     some_is a b e = cc
 give_up_goes_on w p d o r e f = absurd (cc)
 
-goes_on : (w : World) (p : Party) (x : Command) (d : ClientState) → client.command p.client (core_command x) ≡ Ok d → PartyFits w p → GoesOn w p x d
+pub goes_on : (w : World) (p : Party) (x : Command) (d : ClientState) → client.command p.client (core_command x) ≡ Ok d → PartyFits w p → GoesOn w p x d
 goes_on w p (Reserve hs) d e f = reserve_goes_on w p hs d _ (command_row p.client (core_command (Reserve hs))) e f
 goes_on w p (Call h r) d e f = log_goes_on w p (Call h r) h _ d _ (command_row p.client (core_command (Call h r))) e f
 goes_on w p (Query h r) d e f = log_goes_on w p (Query h r) h _ d _ (command_row p.client (core_command (Query h r))) e f

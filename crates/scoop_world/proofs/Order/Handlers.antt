@@ -42,7 +42,7 @@ parties_more w v x same = all_more_of (PartyFits w) (PartyFits v) (party_more w 
 -- ---- the sites of a world, once one of them goes on
 
 module _ (w : World) (s old : Site) (here : site_of (number_of s) w ≡ Some old) (grows : MarksGrow old.core.state.marks s.core.state.marks) where
-  granted_set : (h : HandlerId) (b : Block) → IsGranted w h b → IsGrantedIn (find (is_site h) (set_site s w.sites)) b
+  pub granted_set : (h : HandlerId) (b : Block) → IsGranted w h b → IsGrantedIn (find (is_site h) (set_site s w.sites)) b
   granted_set h b g =
       by_site (λ o. IsGrantedIn o b) w s old h here
       (λ same.
@@ -243,7 +243,7 @@ granted_first h b x y xs ys same later g =
     cc_some : (p q : Site) → Some p ≡ Some q → p ≡ q
     cc_some p q e = cc
 
-state_anew : (js : List Block) (n : ℕ) (x : Site) → SiteFits js x → (reopened n x).core.state ≡ x.core.state
+pub state_anew : (js : List Block) (n : ℕ) (x : Site) → SiteFits js x → (reopened n x).core.state ≡ x.core.state
 state_anew js n x f = by_test (λ t. (if t then taken_anew x x.stored else x).core.state ≡ x.core.state) (x.node == n) (λ here. f.stored) (λ there. refl)
 
 fits_anew : (js : List Block) (n : ℕ) (x : Site) → SiteFits js x → SiteFits js (reopened n x)
@@ -257,7 +257,7 @@ fits_anew js n x f =
     })
     (λ there. f)
 
-granted_anew : (js : List Block) (n : ℕ) (h : HandlerId) (b : Block) (xs : List Site) → AllByRecursion (SiteFits js) xs → IsGrantedIn (find (is_site h) xs) b → IsGrantedIn (find (is_site h) (map (reopened n) xs)) b
+pub granted_anew : (js : List Block) (n : ℕ) (h : HandlerId) (b : Block) (xs : List Site) → AllByRecursion (SiteFits js) xs → IsGrantedIn (find (is_site h) xs) b → IsGrantedIn (find (is_site h) (map (reopened n) xs)) b
 granted_anew js n h b [] all g = g
 granted_anew js n h b (x ∷ xs) all g = granted_first h b x (reopened n x) xs (map (reopened n) xs) (state_anew js n x all.0) (granted_anew js n h b xs all.1) g
 

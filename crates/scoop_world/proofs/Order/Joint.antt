@@ -22,7 +22,7 @@ note_apart bs (Took n) d = d
 note_apart bs Known d = d
 note_apart bs (Dropped why) d = d
 
-joint_kept : (w : World) → AreApart w.joint → Changes (λ v. AreApart v.joint) w
+pub joint_kept : (w : World) → AreApart w.joint → Changes (λ v. AreApart v.joint) w
 joint_kept w d = record {
   commands = λ c p x e at is. d;
   sends = λ c p h s at here. d;

@@ -15,7 +15,7 @@ use Rattle.scoop_world.proofs.Order.Handlers.{sent_tells, hears_ordered, begins_
 use Rattle.scoop_world.proofs.Order.Clients.{sends_ordered, notices_ordered, restarts_ordered}
 use Rattle.scoop_world.proofs.Order.Commands.{commands_ordered}
 
-ordered_kept : (w : World) → Ordered w → Changes Ordered w
+pub ordered_kept : (w : World) → Ordered w → Changes Ordered w
 ordered_kept w o = record {
   commands = λ c p x d at is. commands_ordered w o p x d (all_found (PartyFits w) (is_party c) w.parties p o.parties at) is;
   sends = λ c p h s at here. sends_ordered w o p h (all_found (PartyFits w) (is_party c) w.parties p o.parties at);
@@ -35,7 +35,7 @@ parties_open : (hs : List HandlerId) (ps : List Placement) (all ns : List Newcom
 parties_open hs ps all [] = tt
 parties_open hs ps all (n ∷ ns) = (record { stored = refl; newest = λ b ks own e. absurd (cc); reservation = λ r e. absurd (cc) }, parties_open hs ps all ns)
 
-opens_ordered : (ps : List Placement) (ns : List Newcomer) → Ordered (opening ps ns)
+pub opens_ordered : (ps : List Placement) (ns : List Newcomer) → Ordered (opening ps ns)
 opens_ordered ps ns = record {
   messages = tt;
   sites = sites_open ps;

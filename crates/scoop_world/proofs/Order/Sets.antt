@@ -21,10 +21,10 @@ abbrev found : Block → List BlockLog → Option (List HandlerId)
 found b logs = option_map handlers_in (find (is_log_of b) logs)
 
 -- a change of a line that leaves its handler
-abbrev LeavesHandler : (HandlerLog → HandlerLog) → Type 0
+abbrev pub LeavesHandler : (HandlerLog → HandlerLog) → Type 0
 LeavesHandler f = (l : HandlerLog) → (f l).handler ≡ l.handler
 
-leaves_at : (h : HandlerId) (e : Entry) → LeavesHandler (with_entry_at h e)
+pub leaves_at : (h : HandlerId) (e : Entry) → LeavesHandler (with_entry_at h e)
 leaves_at h e l = by_test (λ t. (if t then with_entry e l else l).handler ≡ l.handler) (is_line_of h l) (λ here. refl) (λ there. refl)
 
 leaves_all : (f : HandlerLog → HandlerLog) → LeavesHandler f → (ls : List HandlerLog) → map (λ x. x.handler) (map f ls) ≡ map (λ x. x.handler) ls
@@ -37,7 +37,7 @@ changed_same c f keeps l =
     (λ here. (leaves_all f keeps l.lines, refl))
     (λ there. (refl, refl))
 
-found_changed : (b c : Block) (f : HandlerLog → HandlerLog) → LeavesHandler f → (logs : List BlockLog) → found b (map (changed_log c f) logs) ≡ found b logs
+pub found_changed : (b c : Block) (f : HandlerLog → HandlerLog) → LeavesHandler f → (logs : List BlockLog) → found b (map (changed_log c f) logs) ≡ found b logs
 found_changed b c f keeps [] = refl
 found_changed b c f keeps (l ∷ ls) =
     let m = changed_log c f l in

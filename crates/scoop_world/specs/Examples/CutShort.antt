@@ -14,8 +14,8 @@ use Rattle.scoop_world.specs.declared.note.WorldNote.TheVariants.{Sent, Handler,
 use Rattle.scoop_world.specs.World.{World, opened_at, ran_at}
 use Rattle.scoop_world.specs.Step.{step}
 use Rattle.scoop_world.specs.Reach.{run, steps}
-use Rattle.scoop_world.specs.Paper.{Separate, LogOne, RunOne, Restart, CutTo, Waiting, configuration_of, objects_of}
-use Rattle.scoop_world.specs.Examples.Parties.{handler, client, block, cells, trip, trips, reserve, set_to, runs, told, moves_in, replayed}
+use Rattle.scoop_world.specs.Paper.{Separate, LogOne, RunOne, Restart, CutTo, Waiting, configuration_of, objects_of, moves_in, replayed}
+use Rattle.scoop_world.specs.Examples.Parties.{handler, client, block, cells, trip, trips, reserve, set_to, runs, told}
 
 -- ---- between the openings at two handlers
 

@@ -14,6 +14,7 @@ use Rattle.scoop_world.specs.declared.note.WorldNote.TheVariants.{Sent, Handler,
 use Rattle.scoop_world.specs.World.{World, ran_at, party_of, site_of}
 use Rattle.scoop_world.specs.Step.{step}
 use Rattle.scoop_world.specs.Reach.{run, steps}
+use Rattle.scoop_world.specs.Paper.{Separate, LogOne, RunOne, configuration_of, objects_of, moves_in, replayed}
 use Rattle.scoop_world.specs.Examples.Parties.{handler, client, block, counting, add, trip, trips, reserve, told}
 
 abbrev pub world : World
@@ -50,3 +51,7 @@ pub record RunsOnce : Type 0 where
   pub ran : ran_at (handler 1) after ≡ query ∷ []
   pub accepted : option_map (λ p. p.accepted) (party_of (client 7) after) ≡ Some ((handler 1, block 7 1 1, 1, Value 1) ∷ [])
   pub words : option_map (λ s. s.core.state.words) (site_of (handler 1) after) ≡ Some (1 ∷ [])
+  pub moves :
+      moves_in world (asking ++ restarting ++ answering)
+      ≡ Separate (block 7 1 1) (handler 1 ∷ []) ∷ LogOne (block 7 1 1) (handler 1) (QueryEntry (add 1)) ∷ RunOne (handler 1) ∷ []
+  pub replays : (replayed (objects_of world) (moves_in world (asking ++ restarting ++ answering)) (configuration_of world)).ran (handler 1) ≡ query ∷ []

@@ -11,8 +11,8 @@ use Rattle.scoop_world.specs.declared.event.Event.TheVariants.{Do}
 use Rattle.scoop_world.specs.declared.note.WorldNote.TheVariants.{Done, Sent, Handler, Client, Began, Ran as RanNote}
 use Rattle.scoop_world.specs.World.{World, ran_at, opened_at}
 use Rattle.scoop_world.specs.Reach.{run, steps}
-use Rattle.scoop_world.specs.Paper.{Separate, LogOne, RunOne, configuration_of}
-use Rattle.scoop_world.specs.Examples.Parties.{handler, client, block, cells, trip, trips, reserve, set_to, runs, told, moves_in}
+use Rattle.scoop_world.specs.Paper.{Separate, LogOne, RunOne, configuration_of, moves_in}
+use Rattle.scoop_world.specs.Examples.Parties.{handler, client, block, cells, trip, trips, reserve, set_to, runs, told}
 
 abbrev pub world : World
 world = cells (1 ∷ []) (7 ∷ [])

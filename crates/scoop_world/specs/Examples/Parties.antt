@@ -15,7 +15,6 @@ use Rattle.scoop_world.specs.declared.note.WorldNote.{WorldNote}
 use Rattle.scoop_world.specs.declared.note.WorldNote.TheVariants as note
 use Rattle.scoop_world.specs.World.{World}
 use Rattle.scoop_world.specs.Step.{Placement, Newcomer, step, opening}
-use Rattle.scoop_world.specs.Paper.{Configuration, Objects, Move, moved, moves_of}
 
 -- operation 1 sets the word, and operation 2 gets it
 abbrev pub cell : ClassTable
@@ -113,12 +112,3 @@ told_clients notes = flat_map of_client notes
 
 abbrev pub told_handlers : List WorldNote → List Note
 told_handlers notes = flat_map of_handler notes
-
--- the moves of the rules that events make, up to the first that is refused
-abbrev pub moves_in : World → List Event → List Move
-moves_in w [] = []
-moves_in w (e ∷ es) = elim (step w e) [ Ok r ↦ moves_of w r.0 e r.1 ++ moves_in r.0 es | Err x ↦ [] ]
-
-abbrev pub replayed : Objects → List Move → Configuration → Configuration
-replayed o [] g = g
-replayed o (m ∷ ms) g = replayed o ms (moved o m g)

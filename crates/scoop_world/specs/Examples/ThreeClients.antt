@@ -5,8 +5,8 @@ use Rattle.scoop_client.specs.declared.phase.ClientNote.TheVariants.{Locked, Bus
 use Rattle.scoop_world.specs.declared.event.Event.{Event}
 use Rattle.scoop_world.specs.World.{World, opened_at}
 use Rattle.scoop_world.specs.Reach.{run, steps}
-use Rattle.scoop_world.specs.Paper.{Separate, Waiting, configuration_of, objects_of}
-use Rattle.scoop_world.specs.Examples.Parties.{handler, block, cells, trips, reserve, told, told_clients, moves_in, replayed}
+use Rattle.scoop_world.specs.Paper.{Separate, Waiting, configuration_of, objects_of, moves_in, replayed}
+use Rattle.scoop_world.specs.Examples.Parties.{handler, block, cells, trips, reserve, told, told_clients}
 
 abbrev pub world : World
 world = cells (1 ∷ 2 ∷ 3 ∷ []) (7 ∷ 8 ∷ 9 ∷ [])

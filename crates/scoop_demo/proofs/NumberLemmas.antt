@@ -1,0 +1,85 @@
+-- What decimal digits write.
+use Rattle.std.proofs.Common.{◌≡◌, ℕ, zero, suc, [], ◌∷◌, get_or, ◌<◌, ◌^◌, Bool, true, false, ◌&&◌, nat_lt, List, length, Err, refl, arith, rules, ◌++◌, Ok, sym, ap, append_assoc, append-nil}
+use Rattle.std.specs.List.{list_all}
+use Rattle.std.specs.Str.{IsUtf8}
+use Rattle.std.specs.Str.Parse.{digits_value, ParsesUnsigned}
+use Rattle.std.proofs.lemmas.Bool.Decides.{nat_tests}
+use Rattle.std.proofs.lemmas.Str.{IsUtf8-from_ascii}
+use Rattle.std.proofs.lemmas.Str.Parse.{IsDigitsTest, IsNumeralModel, numerals_by_value, parse_digits}
+use Rattle.scoop_demo.specs.declared.fault.InputFault.{InputFault}
+use Rattle.scoop_demo.specs.declared.fault.InputFault.TheVariants.{NotANumber}
+use Rattle.scoop_demo.specs.ScriptNumber.{Word, Read, ◌>>=◌, each_of, is_digit, is_decimal, number_below}
+
+digits_test : IsDigitsTest (λ ds. list_all is_digit ds ≡ true)
+digits_test = search rules
+
+digits_model : IsNumeralModel (λ ds. list_all is_digit ds ≡ true) (digits_value 10)
+digits_model = numerals_by_value _ digits_test
+
+at_least : (n limit : ℕ) → ¬ (n < limit) → nat_lt n limit ≡ false
+at_least n limit most = grind (arith, nat_tests)
+
+all_digits : (some digits : Bool) → (some && digits) ≡ true → digits ≡ true
+all_digits true digits is = is
+all_digits false digits is = cc
+
+pub decimal-digits : (word : List ℕ) → is_decimal word ≡ true → list_all is_digit word ≡ true
+decimal-digits word is = all_digits _ _ is
+
+pub decimal-some : (word : List ℕ) → is_decimal word ≡ true → 0 < length word
+decimal-some word is = grind (arith, nat_tests)
+
+-- where `parse` refuses a word of digits, the number is too large
+pub too_large : {E : Type 0} (word : List ℕ) (e : E) → ParsesUnsigned 64 10 word (Err e) → is_decimal word ≡ true → Err NotANumber ≡ number_below (2 ^ 64) word
+too_large word e h is =
+    let refused = parse_digits digits_model 64 word (Err e) h (decimal-digits word is) in
+    rw (is, at_least (digits_value 10 word) (2 ^ 64) (λ below. refused (decimal-some word is, below))) refl
+
+first_ascii : (d : ℕ) (others : Bool) → (is_digit d && others) ≡ true → d < 128
+first_ascii d others is = grind (arith, nat_tests)
+
+digits_ascii : (word : List ℕ) → list_all is_digit word ≡ true → (i : ℕ) → get_or word i 0 < 128
+digits_ascii [] is i = omega arith
+digits_ascii (d ∷ ds) is zero = first_ascii d (list_all is_digit ds) is
+digits_ascii (d ∷ ds) is (suc i) = digits_ascii ds (all_digits (is_digit d) (list_all is_digit ds) is) i
+
+pub decimal-utf8 : (word : List ℕ) → is_decimal word ≡ true → IsUtf8 word
+decimal-utf8 word is = IsUtf8-from_ascii word (digits_ascii word (decimal-digits word is))
+
+-- ---- words that are read alike
+
+-- what is read behind these
+abbrev pub behind : {A : Type 0} → List A → Read (List A) → Read (List A)
+behind front read = read >>= λ back. Ok (front ++ back)
+
+pub behind_none : {A : Type 0} (read : Read (List A)) → read ≡ behind [] read
+behind_none (Ok xs) = refl
+behind_none (Err fault) = refl
+
+-- one word more is read
+pub behind_more : {A : Type 0} (read : Word → Read A) (word : Word) (words : List Word) (front : List A) (x : A) → read word ≡ Ok x
+    → behind front (each_of read (word ∷ words)) ≡ behind (front ++ x ∷ []) (each_of read words)
+behind_more read word words front x is = rw is (pushed front x (each_of read words)) where
+  pushed : {A : Type 0} (front : List A) (x : A) (rest : Read (List A)) → behind front (rest >>= λ xs. Ok (x ∷ xs)) ≡ behind (front ++ x ∷ []) rest
+  pushed front x (Ok xs) = ap Ok (sym (append_assoc front (x ∷ []) xs))
+  pushed front x (Err fault) = refl
+
+-- a word can't be read
+pub behind_fault : {A : Type 0} (read : Word → Read A) (word : Word) (words : List Word) (front : List A) (fault : InputFault) → read word ≡ Err fault
+    → behind front (each_of read (word ∷ words)) ≡ Err fault
+behind_fault read word words front fault is = rw is refl
+
+-- all words are read
+pub behind_all : {A : Type 0} (front : List A) → behind front (Ok []) ≡ Ok front
+behind_all front = ap Ok (append-nil front)
+
+-- as many as there are words
+all_read : {A : Type 0} (r : Read A) (rest : Read (List A)) (xs : List A) (n : ℕ) → ((ys : List A) → rest ≡ Ok ys → length ys ≡ n)
+    → (r >>= λ y. rest >>= λ ys. Ok (y ∷ ys)) ≡ Ok xs → length xs ≡ suc n
+all_read (Ok x) (Ok ys) xs n counts is = let same : xs ≡ x ∷ ys = cc in rw same (ap suc (counts ys refl))
+all_read (Ok x) (Err fault) xs n counts is = cc
+all_read (Err fault) rest xs n counts is = cc
+
+pub length-each_of : {A : Type 0} (read : Word → Read A) (words : List Word) (xs : List A) → each_of read words ≡ Ok xs → length xs ≡ length words
+length-each_of read [] xs is = let same : xs ≡ [] = cc in rw same refl
+length-each_of read (word ∷ words) xs is = all_read (read word) (each_of read words) xs (length words) (length-each_of read words) is

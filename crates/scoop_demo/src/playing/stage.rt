@@ -1,0 +1,271 @@
+//! The parties of a script, and their world.
+
+ghost use Rattle.std.specs.Prelude.{◌≡◌, ◌≤◌, true, false, ◌||◌, not, length, None, IfErr, OnOk, is_some};
+ghost use Rattle.std.specs.List.{All};
+ghost use Rattle.std.specs.Result.{result_err};
+ghost use Rattle.scoop_message.specs.declared.limits.TheConstants.{MAX_ENTRIES};
+ghost use Rattle.scoop_demo.specs.ScriptWords.{words_of};
+ghost use Rattle.scoop_demo.specs.ScriptLine.{handler_line, client_line, event_line};
+ghost use Rattle.scoop_demo.specs.Script.{StopsAtLine, StopsOpening, StopsClosed, party_fault, words_fault, is_event, opens_at};
+
+use super::events::{Stop, play};
+use crate::fault::{InputFault, RunError};
+use crate::printing::{print_accepted, print_all_ran, print_blocks};
+use crate::script::{
+    EventKind, EventLine, LineError, LineKind, PlacedLine, is_blank, line_kind, read_client,
+    read_event, read_placement,
+};
+use scoop_message::limits::{MAX_CLIENTS, MAX_HANDLERS};
+use scoop_message::{ClientId, HandlerId, OutOfMemory};
+use scoop_object::Table;
+use scoop_record::MemoryKeeper;
+use scoop_world::{Placement, World, WorldOpenError};
+use std::alloc::Global;
+use std::io::Write;
+use std::{io, mem};
+
+/// The parties that the lines so far have named, and their world from the first event on.
+#[derive(Drop)]
+pub struct Stage {
+    alloc: Global,
+    keeper: MemoryKeeper,
+    placements: Vec<Placement<Table>>,
+    clients: Vec<(ClientId, u8)>,
+    handlers: Vec<HandlerId>,
+    names: Vec<ClientId>,
+    pub(super) world: Option<World<Table>>,
+    ghost batches: { All (λ c. (1 ≤ c.1) × (c.1 ≤ MAX_ENTRIES)) clients.items },
+}
+
+// The fault of the line of this number.
+fn fault_at(line: u32, fault: InputFault) -> RunError
+    ensures { result ≡ RunError.Input line fault }
+{
+    RunError::Input { line, fault }
+}
+
+impl Stage {
+    /// A stage without parties, whose world will open over this keeper.
+    pub fn new(alloc: Global, keeper: MemoryKeeper) -> Stage
+        ensures { is_some result.world ≡ false }
+    {
+        Stage {
+            alloc,
+            keeper,
+            placements: Vec::new(alloc),
+            clients: Vec::new(alloc),
+            handlers: Vec::new(alloc),
+            names: Vec::new(alloc),
+            world: None,
+        }
+    }
+
+    /// Plays the line of this number.
+    pub fn play_line<W: Write>(
+        &mut self,
+        number: u32,
+        line: &[u8],
+        writer: &mut W,
+    ) -> Result<(), RunError>
+        ensures ok { OnOk result (words_fault (is_some self.old.world) line.now ≡ None) }
+        ensures opened { OnOk result (is_some self.new.world ≡ (is_some self.old.world || is_event line.now)) }
+        ensures err { IfErr result (StopsAtLine number (opens_at (is_some self.old.world) line.now) (words_fault (is_some self.old.world) line.now)) }
+    {
+        if is_blank(line) {
+            return Ok(());
+        }
+        let Some((kind, words)) = line_kind(line) else {
+            return Err(fault_at(number, InputFault::UnknownLine));
+        };
+        match kind {
+            LineKind::Handler => self.place(number, words),
+            LineKind::Client => self.join(number, words),
+            LineKind::Event(kind) => self.play_event(number, kind, words, writer),
+        }
+    }
+
+    // Places a handler.
+    fn place(&mut self, number: u32, words: &[u8]) -> Result<(), RunError>
+        ensures ok { OnOk result (party_fault (is_some self.old.world) (result_err (handler_line (words_of words.now))) ≡ None) }
+        ensures same { is_some self.new.world ≡ is_some self.old.world }
+        ensures err { IfErr result (StopsAtLine number false (party_fault (is_some self.old.world) (result_err (handler_line (words_of words.now))))) }
+    {
+        if self.world.is_some() {
+            return Err(fault_at(number, InputFault::TooLateForParty));
+        }
+        let placed = match read_placement(self.alloc, words) {
+            Ok(placed) => placed,
+            Err(LineError::Fault(fault)) => return Err(fault_at(number, fault)),
+            Err(LineError::OutOfMemory) => return Err(RunError::OutOfMemory),
+        };
+        match self.add_placement(placed) {
+            Ok(()) => Ok(()),
+            Err(_) => Err(RunError::OutOfMemory),
+        }
+    }
+
+    // Keeps a handler that is placed. One past the limit stands for all that follow.
+    fn add_placement(&mut self, placed: PlacedLine) -> Result<(), OutOfMemory>
+        requires { length placed.words ≡ placed.class.words }
+        ensures { is_some self.new.world ≡ is_some self.old.world }
+    {
+        if self.placements.len() > MAX_HANDLERS {
+            return Ok(());
+        }
+        let PlacedLine {
+            node,
+            handler,
+            class,
+            words,
+        } = placed;
+        let Ok(object) = Table::new(class.copy()?, words) else {
+            unreachable!()
+        };
+        self.handlers.push(handler)?;
+        self.placements.push(Placement {
+            node,
+            handler,
+            class,
+            object,
+        })?;
+        Ok(())
+    }
+
+    // Lets a client join.
+    fn join(&mut self, number: u32, words: &[u8]) -> Result<(), RunError>
+        ensures ok { OnOk result (party_fault (is_some self.old.world) (result_err (client_line (words_of words.now))) ≡ None) }
+        ensures same { is_some self.new.world ≡ is_some self.old.world }
+        ensures err { IfErr result (StopsAtLine number false (party_fault (is_some self.old.world) (result_err (client_line (words_of words.now))))) }
+    {
+        if self.world.is_some() {
+            return Err(fault_at(number, InputFault::TooLateForParty));
+        }
+        let (client, batch) = match read_client(words) {
+            Ok(joining) => joining,
+            Err(fault) => return Err(fault_at(number, fault)),
+        };
+        match self.add_client(client, batch) {
+            Ok(()) => Ok(()),
+            Err(_) => Err(RunError::OutOfMemory),
+        }
+    }
+
+    // Keeps a client that joins. One past the limit stands for all that follow.
+    fn add_client(&mut self, client: ClientId, batch: u8) -> Result<(), OutOfMemory>
+        requires some { 1 ≤ batch }
+        requires limit { batch ≤ MAX_ENTRIES }
+        ensures { is_some self.new.world ≡ is_some self.old.world }
+    {
+        if self.clients.len() > MAX_CLIENTS {
+            return Ok(());
+        }
+        self.names.push(client)?;
+        self.clients.push((client, batch))?;
+        Ok(())
+    }
+
+    // Plays the line of an event. The first one opens the world before anything else.
+    fn play_event<W: Write>(
+        &mut self,
+        number: u32,
+        kind: EventKind,
+        words: &[u8],
+        writer: &mut W,
+    ) -> Result<(), RunError>
+        ensures ok { OnOk result (result_err (event_line kind (words_of words.now)) ≡ None) }
+        ensures opened { OnOk result (is_some self.new.world ≡ true) }
+        ensures err { IfErr result (StopsAtLine number (not (is_some self.old.world)) (result_err (event_line kind (words_of words.now)))) }
+    {
+        match self.open_by(number) {
+            Ok(()) => {}
+            Err(error) => return Err(error),
+        }
+        let event = match read_event(kind, words) {
+            Ok(event) => event,
+            Err(fault) => return Err(fault_at(number, fault)),
+        };
+        self.play_in_world(number, event, writer)
+    }
+
+    // Plays events in the world, which has opened.
+    fn play_in_world<W: Write>(
+        &mut self,
+        number: u32,
+        event: EventLine,
+        writer: &mut W,
+    ) -> Result<(), RunError>
+        requires { is_some self.old.world ≡ true }
+        ensures same { is_some self.new.world ≡ true }
+        ensures err { IfErr result (StopsAtLine number false None) }
+    {
+        match &mut self.world {
+            Some(world) => match play(world, event, writer) {
+                Ok(()) => Ok(()),
+                Err(Stop::Write) => Err(RunError::Write),
+                Err(Stop::OutOfMemory) => Err(RunError::OutOfMemory),
+            },
+            None => unreachable!(),
+        }
+    }
+
+    /// Opens the world, at the line of this number, where it hasn't opened yet.
+    pub fn open_by(&mut self, number: u32) -> Result<(), RunError>
+        ensures ok { OnOk result (is_some self.new.world ≡ true) }
+        ensures err { IfErr result (StopsClosed (is_some self.old.world) number) }
+    {
+        if self.world.is_some() {
+            return Ok(());
+        }
+        self.open(number)
+    }
+
+    // Opens the world, at the line of this number.
+    fn open(&mut self, number: u32) -> Result<(), RunError>
+        ensures ok { OnOk result (is_some self.new.world ≡ true) }
+        ensures err { IfErr result (StopsOpening number) }
+    {
+        let placements = mem::replace(&mut self.placements, Vec::new(self.alloc));
+        let keeper = mem::replace(&mut self.keeper, MemoryKeeper::new(self.alloc));
+        match World::open(self.alloc, placements, &self.clients, keeper) {
+            Ok(world) => {
+                self.world = Some(world);
+                Ok(())
+            }
+            Err(WorldOpenError::OutOfMemory) => Err(RunError::OutOfMemory),
+            Err(error) => Err(fault_at(number, InputFault::CannotOpen(error))),
+        }
+    }
+
+    /// Writes what has happened in the world, if it has opened: the common list, then each handler's and each
+    /// client's history in ascending order.
+    pub fn print_histories<W: Write>(&mut self, writer: &mut W) -> io::Result<()> {
+        let Some(world) = &self.world else {
+            return Ok(());
+        };
+        self.handlers.sort_unstable();
+        self.names.sort_unstable();
+        print_world(world, &self.handlers, &self.names, writer)
+    }
+}
+
+// Writes the histories of these handlers and clients.
+fn print_world<W: Write>(
+    world: &World<Table>,
+    handlers: &[HandlerId],
+    clients: &[ClientId],
+    writer: &mut W,
+) -> io::Result<()> {
+    writer.write_all(b"joint")?;
+    print_blocks(world.joint(), writer)?;
+    for handler in handlers {
+        write!(writer, "handler {handler} opened")?;
+        print_blocks(world.opened(*handler).unwrap_or(&[]), writer)?;
+        write!(writer, "handler {handler} ran")?;
+        print_all_ran(world.ran(*handler).unwrap_or(&[]), writer)?;
+    }
+    for client in clients {
+        write!(writer, "client {client} accepted")?;
+        print_accepted(world.accepted(*client).unwrap_or(&[]), writer)?;
+    }
+    Ok(())
+}

@@ -1,0 +1,113 @@
+//! What the first words of a line say that it is.
+
+ghost use Rattle.std.specs.Prelude.{◌≡◌, None, Some, MatchOption};
+ghost use Rattle.scoop_demo.specs.Classes.{same_text};
+ghost use Rattle.scoop_demo.specs.ScriptWords.{words_of};
+ghost use Rattle.scoop_demo.specs.ScriptKind.{kind_of, word_kind, event_kind, restart_kind};
+
+use super::words::next_word;
+
+/// What a line of a script is, by its first words.
+#[derive(Clone, Copy, Debug, PartialEq, Eq)]
+pub enum LineKind {
+    /// `handler`: a handler is placed.
+    Handler,
+    /// `client`: a client joins.
+    Client,
+    /// Something happens.
+    Event(EventKind),
+}
+
+/// What happens by a line of a script.
+#[derive(Clone, Copy, Debug, PartialEq, Eq)]
+pub enum EventKind {
+    Reserve,
+    Call,
+    Query,
+    End,
+    GiveUp,
+    Tick,
+    Take,
+    Begin,
+    Finish,
+    Run,
+    Trip,
+    RestartClient,
+    RestartNode,
+}
+
+/// What a line is, and what stands behind the words that say so. `None` where they say nothing that is
+/// known.
+pub fn line_kind(line: &[u8]) -> Option<(LineKind, &[u8])>
+    ensures { MatchOption result (kind_of (words_of line.now) ≡ None) (λ found. kind_of (words_of line.now) ≡ Some (found.0, words_of found.1.now)) }
+{
+    let (word, rest) = next_word(line)?;
+    if is(word, "restart") {
+        return restart_kind(rest);
+    }
+    let kind = word_kind(word)?;
+    Some((kind, rest))
+}
+
+// What restarts, by the word behind `restart`.
+fn restart_kind(line: &[u8]) -> Option<(LineKind, &[u8])>
+    ensures { MatchOption result (restart_kind (words_of line.now) ≡ None) (λ found. restart_kind (words_of line.now) ≡ Some (found.0, words_of found.1.now)) }
+{
+    let (word, rest) = next_word(line)?;
+    if is(word, "client") {
+        Some((LineKind::Event(EventKind::RestartClient), rest))
+    } else if is(word, "node") {
+        Some((LineKind::Event(EventKind::RestartNode), rest))
+    } else {
+        None
+    }
+}
+
+fn word_kind(word: &[u8]) -> Option<LineKind>
+    ensures { result ≡ word_kind word.now }
+{
+    if is(word, "handler") {
+        return Some(LineKind::Handler);
+    }
+    if is(word, "client") {
+        return Some(LineKind::Client);
+    }
+    let event = event_kind(word)?;
+    Some(LineKind::Event(event))
+}
+
+fn event_kind(word: &[u8]) -> Option<EventKind>
+    ensures { result ≡ event_kind word.now }
+{
+    if is(word, "reserve") {
+        Some(EventKind::Reserve)
+    } else if is(word, "call") {
+        Some(EventKind::Call)
+    } else if is(word, "query") {
+        Some(EventKind::Query)
+    } else if is(word, "end") {
+        Some(EventKind::End)
+    } else if is(word, "giveup") {
+        Some(EventKind::GiveUp)
+    } else if is(word, "tick") {
+        Some(EventKind::Tick)
+    } else if is(word, "take") {
+        Some(EventKind::Take)
+    } else if is(word, "begin") {
+        Some(EventKind::Begin)
+    } else if is(word, "finish") {
+        Some(EventKind::Finish)
+    } else if is(word, "run") {
+        Some(EventKind::Run)
+    } else if is(word, "trip") {
+        Some(EventKind::Trip)
+    } else {
+        None
+    }
+}
+
+fn is(word: &[u8], name: &str) -> bool
+    ensures { result ≡ same_text word.now name.now }
+{
+    word == name.as_bytes()
+}

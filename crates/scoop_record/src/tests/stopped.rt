@@ -1,0 +1,260 @@
+//! Stores over files that are stopped at a call of the disk, and opened again.
+
+use super::keepers::{kept, word};
+use crate::adopt::take_tables;
+use crate::create::make_tables;
+use crate::store::{VERSION, is_blank};
+use crate::*;
+use scoop_message::ClientId;
+use sqlite::{Connection, FileStore, Files, Options};
+use sqlite_disk::{Disk, Fuse, Memory};
+use std::alloc::Global;
+use std::process::Abort;
+use std::test::Fail;
+
+type Stopped = Fuse<Memory>;
+
+type Stoppable = Connection<FileStore<Stopped>>;
+
+type StoppableStore = Store<FileStore<Stopped>>;
+
+const CLIENT: ClientId = ClientId(7);
+
+// The first state, of handler 1 with the word 5, as it is stored in version 1.
+const FIRST_IMAGE: &str =
+    "INSERT INTO handlers (h, image) VALUES (1, x'0100000001010000000000000005000000')";
+
+// The call of a store that is stopped.
+#[derive(Clone, Copy)]
+enum Call {
+    Create,
+    Put,
+    Next,
+    Adopt,
+}
+
+// A file with these bytes that takes so many calls.
+fn file_with(alloc: Global, bytes: &[u8], calls: u64) -> Result<Stopped, Fail> {
+    let mut file = Memory::new(alloc);
+    file.write_at(0, bytes)?;
+    file.sync()?;
+    Ok(Fuse::new(file, calls))
+}
+
+// Files with the same bytes, whose log takes so many calls.
+fn copy_of(alloc: Global, files: &Files<Stopped>, calls: u64) -> Result<Files<Stopped>, Fail> {
+    Ok(Files {
+        log: file_with(alloc, files.log.inner().bytes(), calls)?,
+        db: file_with(alloc, files.db.inner().bytes(), u64::MAX)?,
+    })
+}
+
+fn open(alloc: Global, files: Files<Stopped>) -> Result<Stoppable, Files<Stopped>> {
+    if !files.may_be_used() {
+        return Err(files);
+    }
+    match Connection::open_files(alloc, files, Options::new(1)) {
+        Ok(conn) => Ok(conn),
+        Err((_, left)) => Err(left.into_files()),
+    }
+}
+
+fn opened(alloc: Global, files: Files<Stopped>) -> Result<Stoppable, Fail> {
+    Ok(open(alloc, files).ok().ok_or("opened")?)
+}
+
+// What the files hold once the connection is gone.
+fn left_by(conn: Stoppable) -> Files<Stopped> {
+    conn.into_store().close()
+}
+
+fn run_texts(conn: &mut Stoppable, texts: &[&str]) -> Result<(), Fail> {
+    for text in texts {
+        conn.execute(text, &[])?;
+    }
+    Ok(())
+}
+
+// Each call of a store stands alone here, so that the functions below don't carry what all of them say.
+fn created(alloc: Global, conn: Stoppable) -> Result<StoppableStore, Fail> {
+    Ok(Store::create(alloc, conn)?)
+}
+
+fn adopted(alloc: Global, conn: Stoppable) -> Option<StoppableStore> {
+    Store::adopt(alloc, conn).ok()
+}
+
+fn puts(alloc: Global, store: &mut StoppableStore, word: u8) -> Result<bool, Fail> {
+    let state = kept(alloc, word)?;
+    Ok(store.put_handler(&state).is_ok())
+}
+
+fn next(store: &mut StoppableStore) -> Option<u32> {
+    store.next_incarnation(CLIENT).ok()
+}
+
+fn connection(store: StoppableStore) -> Stoppable {
+    store.into_connection()
+}
+
+fn creates_in(conn: &mut Stoppable) -> bool {
+    conn.is_autocommit() && is_blank(conn.schema()) && make_tables(conn, VERSION).is_ok()
+}
+
+fn adopts_in(alloc: Global, conn: &mut Stoppable) -> bool {
+    conn.is_autocommit() && take_tables(alloc, conn).is_ok()
+}
+
+// Files with no tables; for what comes after a creation, a store with the word 5 and one incarnation; for a
+// migration, the same in version 1.
+fn files_before(alloc: Global, call: Call) -> Result<Files<Stopped>, Fail> {
+    let blank = Files {
+        log: file_with(alloc, &[], u64::MAX)?,
+        db: file_with(alloc, &[], u64::MAX)?,
+    };
+    let conn = opened(alloc, blank)?;
+    if matches!(call, Call::Create) {
+        return Ok(left_by(conn));
+    }
+    let mut store = created(alloc, conn)?;
+    puts(alloc, &mut store, 5)?;
+    next(&mut store);
+    let mut conn = connection(store);
+    if matches!(call, Call::Adopt) {
+        let texts = [
+            "DROP TABLE pending",
+            "UPDATE meta SET version = 1",
+            "DELETE FROM handlers",
+            FIRST_IMAGE,
+        ];
+        run_texts(&mut conn, &texts)?;
+    }
+    Ok(left_by(conn))
+}
+
+// Makes the call, and tells whether it succeeded. `None` where the store isn't open by then.
+fn called(
+    alloc: Global,
+    mut conn: Stoppable,
+    call: Call,
+) -> Result<Option<(bool, Stoppable)>, Fail> {
+    let done = match call {
+        Call::Create => creates_in(&mut conn),
+        Call::Adopt => adopts_in(alloc, &mut conn),
+        Call::Put | Call::Next => return called_on_store(alloc, conn, call),
+    };
+    Ok(Some((done, conn)))
+}
+
+fn called_on_store(
+    alloc: Global,
+    conn: Stoppable,
+    call: Call,
+) -> Result<Option<(bool, Stoppable)>, Fail> {
+    let Some(mut store) = adopted(alloc, conn) else {
+        return Ok(None);
+    };
+    let done = match call {
+        Call::Put => puts(alloc, &mut store, 6)?,
+        _ => next(&mut store).is_some(),
+    };
+    Ok(Some((done, connection(store))))
+}
+
+// Whether what is found in the files is what the call stores, and not what was there before it.
+fn has_it(alloc: Global, files: Files<Stopped>, call: Call) -> Result<bool, Fail> {
+    let conn = opened(alloc, files)?;
+    let Some(mut store) = adopted(alloc, conn) else {
+        return match call {
+            Call::Create => Ok(false),
+            _ => Err(Fail::new("no store")),
+        };
+    };
+    let found = match call {
+        Call::Create => return Ok(true),
+        Call::Put => (word(&mut store)?, 5, 6),
+        Call::Next => (u64::from(next(&mut store).ok_or("a number")?), 2, 3),
+        // Of either version the store is whole.
+        Call::Adopt => (word(&mut store)?, 0, 5),
+    };
+    if found.0 == found.2 {
+        return Ok(true);
+    }
+    if found.0 == found.1 {
+        return Ok(false);
+    }
+    Err(Fail::new("another state"))
+}
+
+// Stops the call after so many calls of the log's disk: whether it succeeded, and whether what it stores is
+// found afterwards. `None` where the files weren't open by then.
+fn stopped(
+    alloc: Global,
+    before: &Files<Stopped>,
+    call: Call,
+    calls: u64,
+) -> Result<Option<(bool, bool)>, Fail> {
+    let conn = match open(alloc, copy_of(alloc, before, calls)?) {
+        Ok(conn) => conn,
+        Err(_) => return Ok(None),
+    };
+    let (done, conn) = match called(alloc, conn, call)? {
+        Some(made) => made,
+        None => return Ok(None),
+    };
+    let left = left_by(conn);
+    let found = has_it(alloc, copy_of(alloc, &left, u64::MAX)?, call)?;
+    Ok(Some((done, found)))
+}
+
+// The first call of the log's disk that the call itself makes, by halves: before it, the files aren't open.
+fn begins_at(alloc: Global, before: &Files<Stopped>, call: Call) -> Result<u64, Fail> {
+    let mut low = 0u64;
+    let mut high = 256u64;
+    for _ in 0..8 {
+        let middle = low.midpoint(high);
+        if stopped(alloc, before, call, middle)?.is_some() {
+            high = middle;
+        } else {
+            low = middle;
+        }
+    }
+    Ok(high)
+}
+
+// Stops the call at each of its calls of the disk in turn, up to where it succeeds. What is found is what was
+// there before or what the call stores, and that it is where the call has succeeded.
+fn stops(rt: &impl Abort, alloc: Global, call: Call) -> Result<(), Fail> {
+    let before = files_before(alloc, call)?;
+    let first = begins_at(alloc, &before, call)?;
+    for more in 0..64u64 {
+        let calls = first.saturating_add(more);
+        let (done, found) = stopped(alloc, &before, call, calls)?.ok_or("open files")?;
+        assert!(rt; found || !done, "{more}");
+        if done {
+            assert!(rt; more > 0);
+            return Ok(());
+        }
+    }
+    panic!(rt; "it never succeeded")
+}
+
+#[test]
+fn a_stopped_creation_makes_all_tables_or_none(rt: HostRuntime) -> Result<(), Fail> {
+    stops(&rt, rt.alloc(), Call::Create)
+}
+
+#[test]
+fn a_stopped_put_leaves_a_whole_state(rt: HostRuntime) -> Result<(), Fail> {
+    stops(&rt, rt.alloc(), Call::Put)
+}
+
+#[test]
+fn a_stopped_rise_leaves_an_incarnation(rt: HostRuntime) -> Result<(), Fail> {
+    stops(&rt, rt.alloc(), Call::Next)
+}
+
+#[test]
+fn a_stopped_migration_leaves_one_version(rt: HostRuntime) -> Result<(), Fail> {
+    stops(&rt, rt.alloc(), Call::Adopt)
+}

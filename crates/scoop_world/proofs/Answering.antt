@@ -1,0 +1,9 @@
+pub mod Objects
+pub mod Kept
+pub mod Facts
+pub mod Handlers
+pub mod Lines
+pub mod Onward
+pub mod Once
+pub mod Clients
+pub mod Runs

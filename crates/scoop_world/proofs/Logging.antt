@@ -1,0 +1,13 @@
+pub mod Facts
+pub mod Logs
+pub mod Lines
+pub mod Clients
+pub mod Commands
+pub mod Steps
+pub mod Greetings
+pub mod Openings
+pub mod OpeningHandlers
+pub mod OpeningClients
+pub mod OpeningSteps
+pub mod Runs
+pub mod OpeningRuns

@@ -1,0 +1,48 @@
+use Rattle.std.proofs.Common.{◌≡◌, ℕ, ◌+◌, List, Option, Some, None, Ok, length, set, sym, ap, ◌∙◌, refl, subst}
+use Rattle.scoop_message.specs.declared.name.Block.{Block}
+use Rattle.scoop_message.specs.declared.name.HandlerId.{HandlerId}
+use Rattle.scoop_message.specs.declared.name.ClientId.{ClientId}
+use Rattle.scoop_message.specs.Message.{handler_of, client_of}
+use Rattle.scoop_handler.specs.State.{HandlerState}
+use Rattle.scoop_handler.specs.declared.ran.Ran.{Ran}
+use Rattle.scoop_handler.specs.Hearing.{hear}
+use Rattle.scoop_handler.specs.Running.{Task, ready, job_out, ran_of}
+use Rattle.scoop_handler.proofs.TableRows.{row}
+use Rattle.scoop_handler.proofs.TableLaws.{number-row}
+use Rattle.scoop_client.specs.Hearing.{heard}
+use Rattle.scoop_client.specs.declared.phase.ClientNote.{ClientNote}
+use Rattle.scoop_record.specs.Memory.{MemoryRecord, incarnation_at}
+use Rattle.scoop_record.specs.Keeper.{Sets}
+use Rattle.scoop_world.specs.declared.note.WorldNote.TheVariants as note
+use Rattle.scoop_world.specs.World.{World, Site, Party, number_of, id_of, is_site, is_party}
+use Rattle.scoop_world.specs.Step.{Stepped, heard_site, sent_or_silent}
+use Rattle.scoop_world.specs.Kept.{IsFirst, HasAll, Stores, StoresJob, after_job, began, logs_kept, world_kept}
+use Rattle.scoop_world.proofs.KeptPlaces.{has_party, has_site, has_same_site, has_incarnation, item_at, put_again}
+use Rattle.scoop_world.proofs.TakenEvents.{apart_sites, apart_parties, same_site, same_party, heard_all, noticed_there, begun_there, nothing_begins, finished_there, nothing_finishes, restarted_there, restart_refused, ticked, hears_ok, notices_ok, finishes_ok, from_began, none_began, from_ran, none_ran, some_is}
+use Rattle.scoop_world.proofs.parts.Parts.begin.Goals as goal
+use Rattle.scoop_world.proofs.parts.Parts.begin.Goals.{in-Some-begin, in-None}
+
+pub invariant_of-self : goal.invariant_of-self
+invariant_of-self g c =
+    let s = c.index_mut-site.result.now in
+    let first : IsFirst (is_site c.args.handler) c.self.inside.sites.items c.in-Some.at = subst (λ (xs : List Site). IsFirst (is_site c.args.handler) xs c.in-Some.at) c.deref.ensures.value c.in-Some.ensures in
+    let there = item_at c.self.inside.sites.items c.in-Some.at s first.within c.index_mut-site.ensures.value in
+    elim c.match-begin.branch [
+      | in-Some-begin w ↦ has_same_site c.self.inside.keeper c.self.inside.sites.items c.self.inside.parties.items c.in-Some.at s c.begin.new.self c.self.invariant there (ap number_of w.in-Some-begin.ensures.site) (ap (λ (x : Site). x.stored) w.in-Some-begin.ensures.site)
+      | in-None w ↦ has_same_site c.self.inside.keeper c.self.inside.sites.items c.self.inside.parties.items c.in-Some.at s c.begin.new.self c.self.invariant there (ap number_of w.in-None.ensures.nothing) (ap (λ (x : Site). x.stored) w.in-None.ensures.nothing)
+    ]
+
+pub returns : goal.returns
+returns g c =
+    let s = c.index_mut-site.result.now in
+    let first : IsFirst (is_site c.args.handler) c.self.inside.sites.items c.in-Some.at = subst (λ (xs : List Site). IsFirst (is_site c.args.handler) xs c.in-Some.at) c.deref.ensures.value c.in-Some.ensures in
+    elim c.match-begin.branch [
+      | in-Some-begin w ↦ (
+          let x = from_began (ready s.core) w.in-Some-begin.began (w.in-Some-begin.ensures.began) in
+          rw w.result-is (begun_there c.self.inside.sites.items c.self.inside.parties.items c.self.inside.sent.items c.self.inside.joint.keys (logs_kept c.self.inside.logs.entries) c.args.self.now c.self.view_is c.args.handler c.in-Some.at s c.begin.new.self x.0 c.requires first c.index_mut-site.ensures.value x.1 w.in-Some-begin.ensures.site
+          ∙ ap (λ (q : Block × ℕ). Ok (world_kept (set c.self.inside.sites.items c.in-Some.at c.begin.new.self) c.self.inside.parties.items c.self.inside.sent.items c.self.inside.joint.keys (logs_kept c.self.inside.logs.entries), note.Began q.0 q.1)) x.2))
+      | in-None w ↦ rw w.result-is (
+        nothing_begins c.self.inside.sites.items c.self.inside.parties.items c.self.inside.sent.items c.self.inside.joint.keys (logs_kept c.self.inside.logs.entries) c.args.self.now c.self.view_is c.args.handler c.in-Some.at s first c.index_mut-site.ensures.value (none_began (ready s.core) w.in-None.ensures.began),
+        same_site c.self.inside.sites.items c.self.inside.parties.items c.self.inside.sent.items c.self.inside.joint.keys (logs_kept c.self.inside.logs.entries) c.args.self.now c.self.view_is c.in-Some.at s c.begin.new.self c.index_mut-site.ensures.value w.in-None.ensures.nothing,
+      )
+    ]

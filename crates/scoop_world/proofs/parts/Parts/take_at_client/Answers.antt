@@ -1,0 +1,39 @@
+use Rattle.std.proofs.Common.{◌≡◌, ℕ, ◌+◌, List, Option, Some, None, Ok, length, set, sym, ap, ◌∙◌, refl, subst}
+use Rattle.scoop_message.specs.declared.name.Block.{Block}
+use Rattle.scoop_message.specs.declared.name.HandlerId.{HandlerId}
+use Rattle.scoop_message.specs.declared.name.ClientId.{ClientId}
+use Rattle.scoop_message.specs.Message.{handler_of, client_of}
+use Rattle.scoop_handler.specs.State.{HandlerState}
+use Rattle.scoop_handler.specs.declared.ran.Ran.{Ran}
+use Rattle.scoop_handler.specs.Hearing.{hear}
+use Rattle.scoop_handler.specs.Running.{Task, ready, job_out, ran_of}
+use Rattle.scoop_handler.proofs.TableRows.{row}
+use Rattle.scoop_handler.proofs.TableLaws.{number-row}
+use Rattle.scoop_client.specs.Hearing.{heard}
+use Rattle.scoop_client.specs.declared.phase.ClientNote.{ClientNote}
+use Rattle.scoop_record.specs.Memory.{MemoryRecord, incarnation_at}
+use Rattle.scoop_record.specs.Keeper.{Sets}
+use Rattle.scoop_world.specs.declared.note.WorldNote.TheVariants as note
+use Rattle.scoop_world.specs.World.{World, Site, Party, number_of, id_of, is_site, is_party}
+use Rattle.scoop_world.specs.Step.{Stepped, heard_site, sent_or_silent}
+use Rattle.scoop_world.specs.Kept.{IsFirst, HasAll, Stores, StoresJob, after_job, began, logs_kept, world_kept}
+use Rattle.scoop_world.proofs.KeptPlaces.{has_party, has_site, has_same_site, has_incarnation, item_at, put_again}
+use Rattle.scoop_world.proofs.TakenEvents.{apart_sites, apart_parties, same_site, same_party, heard_all, noticed_there, begun_there, nothing_begins, finished_there, nothing_finishes, restarted_there, restart_refused, ticked, hears_ok, notices_ok, finishes_ok, from_began, none_began, from_ran, none_ran, some_is}
+use Rattle.scoop_world.proofs.parts.Parts.take_at_client.Goals as goal
+use Rattle.scoop_world.proofs.parts.Parts.take_at_client.Goals.{in-Ok, in-Err}
+
+pub returns : goal.returns
+returns g c =
+    let p = c.index_mut-party.result.now in
+    let m = c.args.message.now in
+    let named : IsFirst (is_party (client_of m)) c.deref.result.now c.in-Some.at = subst (λ (x : ClientId). IsFirst (is_party x) c.deref.result.now c.in-Some.at) c.client.ensures c.in-Some.ensures in
+    let first : IsFirst (is_party (client_of m)) c.self.inside.parties.items c.in-Some.at = subst (λ (xs : List Party). IsFirst (is_party (client_of m)) xs c.in-Some.at) c.deref.ensures.value named in
+    elim c.match-hear.branch [
+      | in-Ok w ↦ rw w.result-is (
+          noticed_there c.self.inside.sites.items c.self.inside.parties.items c.self.inside.sent.items c.self.inside.joint.keys (logs_kept c.self.inside.logs.entries) c.args.self.now c.self.view_is m c.in-Some.at p c.hear.new.self c.requires first c.index_mut-party.ensures.value w.in-Ok.ensures.party c.hear.ensures.id
+          ∙ ap (λ (n : ClientNote). Ok (world_kept c.self.inside.sites.items (set c.self.inside.parties.items c.in-Some.at c.hear.new.self) c.self.inside.sent.items c.self.inside.joint.keys (logs_kept c.self.inside.logs.entries), note.Client n)) (sym w.in-Ok.ensures.note))
+      | in-Err w ↦ rw w.result-is (
+        notices_ok c.self.inside.sites.items c.self.inside.parties.items c.self.inside.sent.items c.self.inside.joint.keys (logs_kept c.self.inside.logs.entries) c.args.self.now c.self.view_is m c.in-Some.at p first c.index_mut-party.ensures.value,
+        same_party c.self.inside.sites.items c.self.inside.parties.items c.self.inside.sent.items c.self.inside.joint.keys (logs_kept c.self.inside.logs.entries) c.args.self.now c.self.view_is c.in-Some.at p c.hear.new.self c.index_mut-party.ensures.value w.in-Err.ensures.err,
+      )
+    ]

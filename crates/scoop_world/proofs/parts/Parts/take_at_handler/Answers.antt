@@ -1,0 +1,61 @@
+use Rattle.std.proofs.Common.{◌≡◌, ℕ, ◌+◌, List, Option, Some, None, Ok, length, set, sym, ap, ◌∙◌, refl, subst}
+use Rattle.scoop_message.specs.declared.name.Block.{Block}
+use Rattle.scoop_message.specs.declared.name.HandlerId.{HandlerId}
+use Rattle.scoop_message.specs.declared.name.ClientId.{ClientId}
+use Rattle.scoop_message.specs.Message.{handler_of, client_of}
+use Rattle.scoop_handler.specs.State.{HandlerState}
+use Rattle.scoop_handler.specs.declared.ran.Ran.{Ran}
+use Rattle.scoop_handler.specs.Hearing.{hear}
+use Rattle.scoop_handler.specs.Running.{Task, ready, job_out, ran_of}
+use Rattle.scoop_handler.proofs.TableRows.{row}
+use Rattle.scoop_handler.proofs.TableLaws.{number-row}
+use Rattle.scoop_client.specs.Hearing.{heard}
+use Rattle.scoop_client.specs.declared.phase.ClientNote.{ClientNote}
+use Rattle.scoop_record.specs.Memory.{MemoryRecord, incarnation_at}
+use Rattle.scoop_record.specs.Keeper.{Sets}
+use Rattle.scoop_world.specs.declared.note.WorldNote.TheVariants as note
+use Rattle.scoop_world.specs.World.{World, Site, Party, number_of, id_of, is_site, is_party}
+use Rattle.scoop_world.specs.Step.{Stepped, heard_site, sent_or_silent}
+use Rattle.scoop_world.specs.Kept.{IsFirst, HasAll, Stores, StoresJob, after_job, began, logs_kept, world_kept}
+use Rattle.scoop_world.proofs.KeptPlaces.{has_party, has_site, has_same_site, has_incarnation, item_at, put_again}
+use Rattle.scoop_world.proofs.TakenEvents.{apart_sites, apart_parties, same_site, same_party, heard_all, noticed_there, begun_there, nothing_begins, finished_there, nothing_finishes, restarted_there, restart_refused, ticked, hears_ok, notices_ok, finishes_ok, from_began, none_began, from_ran, none_ran, some_is}
+use Rattle.scoop_message.specs.declared.message.Message.{Message}
+use Rattle.scoop_world.proofs.parts.Parts.take_at_handler.Goals as goal
+
+pub returns-in_default-hear : goal.returns-in_default-hear
+returns-in_default-hear g c =
+    let s = c.index_mut-site.result.now in
+    let m = c.args.message.now in
+    let named : IsFirst (is_site (handler_of m)) c.deref.result.now c.in-Some.at = subst (λ (x : HandlerId). IsFirst (is_site x) c.deref.result.now c.in-Some.at) c.handler.ensures c.in-Some.ensures in
+    let first : IsFirst (is_site (handler_of m)) c.self.inside.sites.items c.in-Some.at = subst (λ (xs : List Site). IsFirst (is_site (handler_of m)) xs c.in-Some.at) c.deref.ensures.value named in (
+      hears_ok c.self.inside.sites.items c.self.inside.parties.items c.self.inside.sent.items c.self.inside.joint.keys (logs_kept c.self.inside.logs.entries) c.args.self.now c.self.view_is m c.in-Some.at s first c.index_mut-site.ensures.value,
+      ap (λ (ms : List Message). world_kept (set c.self.inside.sites.items c.in-Some.at c.hear.new.self) c.self.inside.parties.items ms c.reserve-2.new.self.keys (logs_kept c.self.inside.logs.entries)) c.in-Ok.ensures.items
+          ∙ ap (λ (bs : List Block). world_kept (set c.self.inside.sites.items c.in-Some.at c.hear.new.self) c.self.inside.parties.items c.self.inside.sent.items bs (logs_kept c.self.inside.logs.entries)) c.in-Ok-reserve.ensures.keys
+          ∙ same_site c.self.inside.sites.items c.self.inside.parties.items c.self.inside.sent.items c.self.inside.joint.keys (logs_kept c.self.inside.logs.entries) c.args.self.now c.self.view_is c.in-Some.at s c.hear.new.self c.index_mut-site.ensures.value c.in_default-hear.ensures.err,
+    )
+
+pub invariant_of-self-2 : goal.invariant_of-self-2
+invariant_of-self-2 g c =
+    let s = c.index_mut-site.result.now in
+    let t = c.hear.new.self in
+    let m = c.args.message.now in
+    let named : IsFirst (is_site (handler_of m)) c.deref.result.now c.in-Some.at = subst (λ (x : HandlerId). IsFirst (is_site x) c.deref.result.now c.in-Some.at) c.handler.ensures c.in-Some.ensures in
+    let first : IsFirst (is_site (handler_of m)) c.self.inside.sites.items c.in-Some.at = subst (λ (xs : List Site). IsFirst (is_site (handler_of m)) xs c.in-Some.at) c.deref.ensures.value named in
+    let there = item_at c.self.inside.sites.items c.in-Some.at s first.within c.index_mut-site.ensures.value in
+    let r = hear s.core.state m in
+    let changed : t ≡ heard_site s r = c.in-Ok-hear.ensures.site in
+    let number : number_of t ≡ number_of s = ap number_of changed ∙ number-row s.core.state m r (row s.core.state m) in
+    let stores : Stores c.self.inside.keeper c.hear.new.keeper t.stored = subst (λ (x : HandlerState). Stores c.self.inside.keeper c.hear.new.keeper x) (sym (ap (λ (x : Site). x.stored) changed)) c.in-Ok-hear.ensures.stored in
+    has_site c.self.inside.keeper c.hear.new.keeper c.self.inside.sites.items c.self.inside.parties.items c.in-Some.at s t c.self.invariant (apart_sites c.self.inside.sites.items c.self.inside.parties.items c.self.inside.sent.items c.self.inside.joint.keys (logs_kept c.self.inside.logs.entries) c.args.self.now c.self.view_is c.requires) there number (subst (λ (y : Site). y.stored.number ≡ number_of y) (sym changed) refl) stores
+
+pub returns : goal.returns
+returns g c =
+    let s = c.index_mut-site.result.now in
+    let m = c.args.message.now in
+    let named : IsFirst (is_site (handler_of m)) c.deref.result.now c.in-Some.at = subst (λ (x : HandlerId). IsFirst (is_site x) c.deref.result.now c.in-Some.at) c.handler.ensures c.in-Some.ensures in
+    let first : IsFirst (is_site (handler_of m)) c.self.inside.sites.items c.in-Some.at = subst (λ (xs : List Site). IsFirst (is_site (handler_of m)) xs c.in-Some.at) c.deref.ensures.value named in
+    let r = hear s.core.state m in
+    let changed = c.in-Ok-hear.ensures.site in
+    heard_all c.self.inside.sites.items c.self.inside.parties.items c.self.inside.sent.items c.self.inside.joint.keys (logs_kept c.self.inside.logs.entries) c.args.self.now c.self.view_is m c.in-Some.at s c.hear.new.self c.in-Ok-hear.heard c.reserve.new.self.items c.send-place.new.sent.items c.reserve-2.new.self.keys c.join.new.joint.keys c.send-place.result
+    c.requires first c.index_mut-site.ensures.value changed (ap number_of changed ∙ number-row s.core.state m r (row s.core.state m)) c.in-Ok-hear.ensures.heard
+    c.in-Ok.ensures.items c.send-place.ensures.sent c.in-Ok-reserve.ensures.keys c.join.ensures c.send-place.ensures.place

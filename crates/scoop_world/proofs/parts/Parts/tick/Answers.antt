@@ -1,0 +1,20 @@
+use Rattle.std.proofs.Common.{◌≡◌, ℕ, List, Option, Some, None, Ok, sym, ap, ◌∙◌, refl, subst}
+use Rattle.scoop_world.specs.World.{World, Site, Party, is_site, is_party}
+use Rattle.scoop_world.specs.Step.{Stepped, sent_or_silent}
+use Rattle.scoop_world.specs.Kept.{IsFirst, logs_kept, world_kept}
+use Rattle.scoop_world.proofs.TakenEvents.{ticked_all}
+use Rattle.scoop_world.proofs.parts.Parts.tick.Goals as goal
+use Rattle.scoop_world.proofs.parts.Parts.tick.Goals.{in-Some-send, in-None}
+
+pub returns : goal.returns
+returns g c =
+    let p = c.index-party.result.now in
+    let first : IsFirst (is_party c.args.client) c.self.inside.parties.items c.in-Some.at = subst (λ (xs : List Party). IsFirst (is_party c.args.client) xs c.in-Some.at) c.deref.ensures.value c.in-Some.ensures in
+    let there : IsFirst (is_site c.args.handler) c.self.inside.sites.items c.in-Some-site_at.field-0 = subst (λ (xs : List Site). IsFirst (is_site c.args.handler) xs c.in-Some-site_at.field-0) c.deref-2.ensures.value c.in-Some-site_at.ensures in
+    let made : Option ℕ → Stepped = λ o. Ok (world_kept c.self.inside.sites.items c.self.inside.parties.items c.send.new.sent.items c.self.inside.joint.keys (logs_kept c.self.inside.logs.entries), sent_or_silent o) in
+    let all = ticked_all c.self.inside.sites.items c.self.inside.parties.items c.self.inside.sent.items c.self.inside.joint.keys (logs_kept c.self.inside.logs.entries) c.args.self.now c.self.view_is c.args.client c.args.handler c.in-Some.at c.in-Some-site_at.field-0 p c.due-due.result c.reserve.new.self.items c.send.new.sent.items c.send.result
+    first c.index-party.ensures there c.due-due.ensures c.in-Ok.ensures.items c.send.ensures.sent c.send.ensures.place in
+    elim c.match-send.branch [
+      | in-Some-send w ↦ rw w.result-is (all ∙ ap made w.in-Some-send.is)
+      | in-None w ↦ rw w.result-is (all ∙ ap made w.in-None.is)
+    ]

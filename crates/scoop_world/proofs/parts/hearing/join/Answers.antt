@@ -1,0 +1,6 @@
+use Rattle.std.proofs.Common.{◌∙◌}
+use Rattle.scoop_world.proofs.LogLists.{inserted}
+use Rattle.scoop_world.proofs.parts.hearing.join.Goals as goal
+
+pub returns-in-Ok : goal.returns-in-Ok
+returns-in-Ok c = rw c.in-Opened.is (c.in-Ok.ensures.keys ∙ inserted c.in-Opened.block c.args.joint.now.keys)

@@ -1,0 +1,133 @@
+//! What clients have logged: for each block that was ever reserved its handlers, and what was logged for
+//! each of them.
+
+ghost use Rattle.std.specs.Prelude.{◌≡◌, ◌<◌, ◌++◌, [], ◌∷◌, None, false, map, MatchOption, IfOk, IfSome, OnOk};
+ghost use Rattle.std.specs.List.{All};
+ghost use Rattle.std.specs.Option.{option_map};
+ghost use Rattle.indexmap.specs.IndexMap.{IsUnique, index_map_len, spare};
+ghost use Rattle.scoop_message.specs.contracts.name.BlockPartialEq.TheImpl as on_block;
+ghost use Rattle.scoop_world.specs.World.{lines_of};
+ghost use Rattle.scoop_world.specs.Step.{fresh_log};
+ghost use Rattle.scoop_world.specs.Kept.{HasRoom, IsPlaceOf, entries_in, has_log, line_kept, block_log, logs_kept, with_entry_for};
+
+use indexmap::IndexMap;
+use scoop_message::{Block, Entry, HandlerId, OutOfMemory};
+use std::alloc::Global;
+use std::hash::{BuildHasherDefault, FoldHasher};
+
+/// What a block's client has logged for one handler.
+#[derive(Drop)]
+pub(crate) struct Line {
+    handler: HandlerId,
+    entries: Vec<Entry>,
+}
+
+/// The lines of each block, in the order in which the blocks were reserved.
+pub(crate) type Logs = IndexMap<Block, Vec<Line>, BuildHasherDefault<FoldHasher>, Global>;
+
+// A line with nothing logged.
+fn fresh_line(alloc: Global, handler: HandlerId) -> Line
+    ensures { line_kept result ≡ fresh_log handler }
+{
+    Line {
+        handler,
+        entries: Vec::new(alloc),
+    }
+}
+
+/// Lines with nothing logged for these handlers.
+pub(crate) fn fresh_lines(alloc: Global, handlers: &[HandlerId]) -> Result<Vec<Line>, OutOfMemory>
+    ensures { IfOk result (λ ls. map line_kept ls.items ≡ map fresh_log handlers.now) }
+{
+    let mut lines = Vec::new(alloc);
+    for handler in handlers {
+        lines.push(fresh_line(alloc, *handler))?;
+    }
+    Ok(lines)
+}
+
+/// The place of a block that was ever reserved.
+pub(crate) fn place_of(logs: &Logs, block: Block) -> Option<usize>
+    ensures place { MatchOption result (has_log block (logs_kept logs.now.entries) ≡ false) (IsPlaceOf block (logs_kept logs.now.entries)) }
+    ensures within { IfSome result (λ i. i < index_map_len logs.now) }
+    ensures unique { IsUnique on_block.eq-value.it logs.now }
+{
+    logs.get_index_of(&block)
+}
+
+/// Adds a block that was never reserved, as the last one. There is room for it.
+pub(crate) fn add(logs: &mut Logs, block: Block, lines: Vec<Line>)
+    requires new { has_log block (logs_kept logs.old.entries) ≡ false }
+    requires room { 0 < spare logs.old }
+    ensures { logs_kept logs.new.entries ≡ logs_kept logs.old.entries ++ block_log block lines.items ∷ [] }
+{
+    let Ok(_) = logs.insert(block, lines) else {
+        unreachable!()
+    };
+}
+
+// Makes room for one entry more on a line.
+fn make_room_at(line: &mut Line) -> Result<(), OutOfMemory>
+    ensures ok { OnOk result (HasRoom line.new) }
+    ensures same { line_kept line.new ≡ line_kept line.old }
+{
+    line.entries.reserve(1)?;
+    Ok(())
+}
+
+/// Makes room for one entry more on each line.
+pub(crate) fn make_room(lines: &mut [Line]) -> Result<(), OutOfMemory>
+    ensures ok { OnOk result (All HasRoom lines.new) }
+    ensures same { map line_kept lines.new ≡ map line_kept lines.old }
+{
+    for line in lines.iter_mut() {
+        make_room_at(line)?;
+    }
+    Ok(())
+}
+
+// Logs an entry, if this is a line for which it is meant. There is room for it.
+fn log_at(line: &mut Line, only: Option<HandlerId>, entry: &Entry)
+    requires { HasRoom line.old }
+    ensures { line_kept line.new ≡ with_entry_for only entry.now (line_kept line.old) }
+{
+    let meant = match only {
+        Some(handler) => line.handler == handler,
+        None => true,
+    };
+    if meant {
+        line.entries.push_reserved(*entry);
+    }
+}
+
+/// Logs an entry, for one of the handlers or for all. There is room for it on each line.
+pub(crate) fn log(lines: &mut [Line], only: Option<HandlerId>, entry: &Entry)
+    requires { All HasRoom lines.old }
+    ensures { map line_kept lines.new ≡ map (with_entry_for only entry.now) (map line_kept lines.old) }
+{
+    for line in lines.iter_mut() {
+        log_at(line, only, entry);
+    }
+}
+
+// What was logged for a handler.
+fn logged_in(lines: &[Line], handler: HandlerId) -> Option<&[Entry]>
+    ensures { option_map (λ es. es.now) result ≡ entries_in handler (map line_kept lines.now) }
+{
+    for line in lines {
+        if line.handler == handler {
+            return Some(&line.entries);
+        }
+    }
+    None
+}
+
+/// What the block's client has logged for a handler that the block has reserved.
+pub(crate) fn logged(logs: &Logs, block: Block, handler: HandlerId) -> Option<&[Entry]>
+    ensures { option_map (λ es. es.now) result ≡ entries_in handler (lines_of block (logs_kept logs.now.entries)) }
+{
+    match place_of(logs, block) {
+        Some(place) => logged_in(&logs[place], handler),
+        None => None,
+    }
+}

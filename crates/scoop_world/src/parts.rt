@@ -1,0 +1,140 @@
+//! What a world is made of.
+
+ghost use Rattle.std.specs.Prelude.{◌≡◌, ◌<◌, ◌-◌, [], None, find, length, slice_get, MatchOption};
+ghost use Rattle.std.specs.Option.{option_map};
+ghost use Rattle.scoop_world.specs.World.{is_site, is_party, logged_at, party_of, sent_at, site_of};
+ghost use Rattle.scoop_world.specs.Kept.{HasAll, IsFirst, world_kept};
+
+mod commanding;
+mod hearing;
+mod restarting;
+mod running;
+mod sending;
+
+use crate::logs::{Logs, logged};
+use crate::party::Party;
+use crate::site::Site;
+use indexmap::{IndexMap, IndexSet};
+use scoop_message::{Block, ClientId, Entry, HandlerId, Message};
+use scoop_object::Behaviour;
+use scoop_record::MemoryKeeper;
+use std::alloc::Global;
+use std::hash::{BuildHasherDefault, FoldHasher};
+use std::marker::Model;
+
+/// The blocks of the common list, each at its first opening anywhere.
+pub(crate) type Joint = IndexSet<Block, BuildHasherDefault<FoldHasher>, Global>;
+
+/// All parties, every message ever sent, and what has happened so far. The keeper has the state of each
+/// handler and the incarnation of each client.
+#[derive(Drop)]
+pub(crate) struct Parts<B: Behaviour> {
+    sites: Vec<Site<B>>,
+    parties: Vec<Party>,
+    sent: Vec<Message>,
+    joint: Joint,
+    logs: Logs,
+    keeper: MemoryKeeper,
+}
+
+impl<B: Behaviour> Model for Parts<B> {
+    ghost use Rattle.scoop_world.specs.World.{World as Whole};
+    ghost use Rattle.scoop_world.specs.Kept.{HasAll, logs_kept, world_kept};
+
+    ghost Value = { Whole };
+
+    ghost view = { λ p. world_kept p.sites.items p.parties.items p.sent.items p.joint.keys (logs_kept p.logs.entries) };
+
+    ghost invariant = { λ p. HasAll p.keeper p.sites.items p.parties.items };
+}
+
+/// The place of a handler.
+pub(crate) fn site_at<B: Behaviour>(sites: &[Site<B>], handler: HandlerId) -> Option<usize>
+    ensures { MatchOption result (find (is_site handler) sites.now ≡ None) (IsFirst (is_site handler) sites.now) }
+{
+    for (i, site) in sites.iter().enumerate() {
+        if site.number() == handler {
+            return Some(i);
+        }
+    }
+    None
+}
+
+/// The place of a client.
+pub(crate) fn party_at(parties: &[Party], client: ClientId) -> Option<usize>
+    ensures { MatchOption result (find (is_party client) parties.now ≡ None) (IsFirst (is_party client) parties.now) }
+{
+    for (i, party) in parties.iter().enumerate() {
+        if party.id() == client {
+            return Some(i);
+        }
+    }
+    None
+}
+
+impl<B: Behaviour> Parts<B> {
+    /// A world in which nothing has happened, with these parties. The keeper has their states and
+    /// incarnations.
+    pub(crate) fn new(
+        alloc: Global,
+        sites: Vec<Site<B>>,
+        parties: Vec<Party>,
+        keeper: MemoryKeeper,
+    ) -> Parts<B>
+        requires { HasAll keeper sites.items parties.items }
+        ensures { result ≡ world_kept sites.items parties.items [] [] [] }
+    {
+        Parts {
+            sites,
+            parties,
+            sent: Vec::new(alloc),
+            joint: IndexSet::new(alloc),
+            logs: IndexMap::new(alloc),
+            keeper,
+        }
+    }
+
+    /// The blocks of the common list.
+    pub(crate) fn joint(&self) -> &[Block]
+        ensures { result.now ≡ self.now.joint }
+    {
+        self.joint.as_slice()
+    }
+
+    /// The handler of this number.
+    pub(crate) fn site(&self, handler: HandlerId) -> Option<&Site<B>>
+        ensures { option_map (λ s. s.now) result ≡ site_of handler self.now }
+    {
+        match site_at(&self.sites, handler) {
+            Some(at) => Some(&self.sites[at]),
+            None => None,
+        }
+    }
+
+    /// The client of this number.
+    pub(crate) fn party(&self, client: ClientId) -> Option<&Party>
+        ensures { option_map (λ p. p.now) result ≡ party_of client self.now }
+    {
+        match party_at(&self.parties, client) {
+            Some(at) => Some(&self.parties[at]),
+            None => None,
+        }
+    }
+
+    /// What was logged for a handler that the block has reserved.
+    pub(crate) fn logged(&self, block: Block, handler: HandlerId) -> Option<&[Entry]>
+        ensures { option_map (λ es. es.now) result ≡ logged_at block handler self.now }
+    {
+        logged(&self.logs, block, handler)
+    }
+
+    /// The i-th message that was sent, i from 1.
+    pub(crate) fn sent(&self, i: usize) -> Option<&Message>
+        ensures { option_map (λ m. m.now) result ≡ sent_at i self.now }
+    {
+        if i == 0 {
+            return None;
+        }
+        self.sent.get(i - 1)
+    }
+}

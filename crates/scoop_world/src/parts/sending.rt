@@ -1,0 +1,57 @@
+//! A client sends what it owes.
+
+ghost use Rattle.std.specs.Prelude.{◌≡◌, ◌<◌, ◌+◌, ◌++◌, length, option_to_list, vec_len, vec_capacity};
+ghost use Rattle.std.specs.Option.{option_map};
+ghost use Rattle.scoop_world.specs.World.{party_of, site_of};
+ghost use Rattle.scoop_world.specs.Step.{tick_at};
+ghost use Rattle.scoop_world.specs.Answers.{Takes};
+
+use crate::error::WorldError;
+use crate::note::WorldNote;
+use crate::parts::{Parts, party_at, site_at};
+use scoop_message::{ClientId, Entry, HandlerId, Message, Request};
+use scoop_object::Behaviour;
+
+/// Appends a message, if there is one, and answers its place, counted from 1. There is room for it.
+pub(super) fn send(sent: &mut Vec<Message>, message: &Option<Message>) -> Option<usize>
+    requires { vec_len sent.old < vec_capacity sent.old }
+    ensures sent { sent.new.items ≡ sent.old.items ++ option_to_list message.now }
+    ensures place { result ≡ option_map (λ _. length sent.old.items + 1) message.now }
+{
+    // Names the types that a message holds, of which the prover has to be told here.
+    let _parts: Option<(Entry, Request)> = None;
+    match message {
+        Some(message) => {
+            sent.push_reserved(*message);
+            Some(sent.len())
+        }
+        None => None,
+    }
+}
+
+impl<B: Behaviour> Parts<B> {
+    /// The client sends the handler what it owes to it, if anything.
+    pub(crate) fn tick(
+        &mut self,
+        client: ClientId,
+        handler: HandlerId,
+    ) -> Result<WorldNote, WorldError>
+        ensures { Takes (tick_at self.old handler (party_of client self.old) (site_of handler self.old)) result self.old self.new }
+    {
+        let Some(at) = party_at(&self.parties, client) else {
+            return Err(WorldError::NoSuchParty);
+        };
+        let Some(_) = site_at(&self.sites, handler) else {
+            return Err(WorldError::NoSuchParty);
+        };
+        let Ok(()) = self.sent.reserve(1) else {
+            return Err(WorldError::OutOfMemory);
+        };
+        let party = &self.parties[at];
+        let due = party.due(handler);
+        match send(&mut self.sent, &due) {
+            Some(place) => Ok(WorldNote::Sent(place)),
+            None => Ok(WorldNote::Silent),
+        }
+    }
+}

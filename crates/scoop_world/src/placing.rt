@@ -1,0 +1,70 @@
+//! How a world opens.
+
+ghost use Rattle.std.specs.Prelude.{◌≡◌, IfErr, IfOk};
+ghost use Rattle.std.specs.List.{AllByRecursion};
+ghost use Rattle.scoop_record.specs.Memory.{incarnation_at};
+ghost use Rattle.scoop_world.specs.Step.{opening};
+ghost use Rattle.scoop_world.specs.Opening.{IsBatched, newcomers_of, placements_of};
+ghost use Rattle.scoop_world.specs.OpenRefusal.{IsUnopened};
+ghost use Rattle.scoop_world.specs.Safe.{Safe};
+
+mod joining;
+mod refusing;
+mod sites;
+
+use crate::error::WorldOpenError;
+use crate::parts::Parts;
+use crate::world::World;
+use joining::join_all;
+use refusing::refusal;
+use scoop_message::{ClientId, HandlerId};
+use scoop_object::{Behaviour, Class};
+use scoop_record::MemoryKeeper;
+use sites::{numbers, place_all, store_all};
+use std::alloc::Global;
+
+/// A handler as it is placed: its node, its number, and its object with the object's class.
+#[derive(Drop)]
+pub struct Placement<B: Behaviour> {
+    pub node: u32,
+    pub handler: HandlerId,
+    pub class: Class,
+    pub object: B,
+}
+
+impl<B: Behaviour> World<B> {
+    /// A world with these handlers and these clients, each of which puts at most so many entries into
+    /// one Log: 1 to 4. Every client knows all handlers, and greets in its next incarnation. Each
+    /// state and each incarnation is stored in the keeper.
+    ///
+    /// Refused, in this order: `NoHandlers`, `TooManyHandlers` above 64, `Repeated`, `WrongClass`,
+    /// `TooManyClients` above 64, `RepeatedClient`, `IncarnationsSpent`, `OutOfMemory`. Where memory is
+    /// refused before the incarnations are asked for, `OutOfMemory` comes though one of them is the last.
+    pub fn open(
+        alloc: Global,
+        placements: Vec<Placement<B>>,
+        clients: &[(ClientId, u8)],
+        mut keeper: MemoryKeeper,
+    ) -> Result<World<B>, WorldOpenError>
+        requires { AllByRecursion IsBatched clients.now }
+        ensures opens { IfOk result (λ w. w ≡ opening (placements_of B.words placements.items) (newcomers_of (incarnation_at keeper) clients.now)) }
+        ensures safe { IfOk result Safe }
+        ensures refused { IfErr result (IsUnopened B.class placements.items clients.now (incarnation_at keeper)) }
+    {
+        if let Some(error) = refusal(&placements, clients) {
+            return Err(error);
+        }
+        let handlers = numbers(alloc, &placements)?;
+        let sites = place_all(alloc, placements)?;
+        let parties = match join_all(alloc, clients, &handlers, &mut keeper) {
+            Ok(parties) => parties,
+            Err(error) => return Err(error),
+        };
+        let Ok(()) = store_all(&sites, &mut keeper) else {
+            return Err(WorldOpenError::OutOfMemory);
+        };
+        Ok(World {
+            parts: Parts::new(alloc, sites, parties, keeper),
+        })
+    }
+}

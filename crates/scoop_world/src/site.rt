@@ -1,0 +1,259 @@
+//! A handler in the world: where it stands, what has opened here, and what has run.
+
+ghost use Rattle.std.specs.Prelude.{◌≡◌, ◌<◌, ◌++◌, [], ◌∷◌, false, vec_len, vec_capacity, IfNone, IfOk, IsSome, OnOk, OnErr, OnSome};
+ghost use Rattle.std.specs.Option.{option_map};
+ghost use Rattle.scoop_handler.specs.Core.{IsCore, with_state};
+ghost use Rattle.scoop_handler.specs.Hearing.{hear};
+ghost use Rattle.scoop_handler.specs.Running.{MayReset, after, job_out, ran_of, ready};
+ghost use Rattle.scoop_world.specs.Kept.{Stores};
+
+use scoop_handler::{Done, Handler, HandlerState, Heard, Note, Ran};
+use scoop_message::{Block, Entry, HandlerId, Message, OutOfMemory, Request, Words};
+use scoop_object::Behaviour;
+use scoop_record::{Keeper, MemoryKeeper};
+use std::alloc::Global;
+use std::marker::Model;
+
+/// A handler with its node and what has happened here. The keeper has its state.
+#[derive(Drop)]
+pub(crate) struct Site<B: Behaviour> {
+    node: u32,
+    placed: Words,
+    handler: Handler<B>,
+    // The entry that has left, with what it does: that counts once it is finished.
+    job: Option<Done<B>>,
+    opened: Vec<Block>,
+    ran: Vec<Ran>,
+}
+
+impl<B: Behaviour> Model for Site<B> {
+    ghost use Rattle.std.specs.Prelude.{◌≡◌};
+    ghost use Rattle.scoop_handler.specs.Running.{job_out};
+    ghost use Rattle.scoop_world.specs.World.{Site as Place};
+    ghost use Rattle.scoop_world.specs.Kept.{site_kept};
+
+    ghost Value = { Place };
+
+    ghost view = { λ s. site_kept s.node s.placed s.handler s.opened.items s.ran.items };
+
+    ghost invariant = { λ s. s.job ≡ job_out s.handler };
+}
+
+// Stores a state.
+fn put_state(keeper: &mut MemoryKeeper, state: &HandlerState) -> Result<(), OutOfMemory>
+    ensures ok { OnOk result (Stores keeper.old keeper.new state.now) }
+    ensures err { OnErr result (keeper.new ≡ keeper.old) }
+{
+    match keeper.put_handler(state) {
+        Ok(()) => Ok(()),
+        Err(_) => Err(OutOfMemory),
+    }
+}
+
+// Stores the state of the handler.
+fn store<B: Behaviour>(keeper: &mut MemoryKeeper, handler: &Handler<B>) -> Result<(), OutOfMemory>
+    ensures ok { OnOk result (Stores keeper.old keeper.new handler.now.state) }
+    ensures err { OnErr result (keeper.new ≡ keeper.old) }
+{
+    let state = handler.copy()?;
+    put_state(keeper, &state)
+}
+
+// The handler takes an earlier state again.
+fn take_back<B: Behaviour>(handler: &mut Handler<B>, state: HandlerState)
+    requires { MayReset state handler.old }
+    ensures { handler.new ≡ with_state state handler.old }
+{
+    let Ok(()) = handler.reset(state) else {
+        unreachable!()
+    };
+}
+
+// Hears a message, and stores the new state. `OutOfMemory` changes nothing.
+fn hear_and_store<B: Behaviour>(
+    handler: &mut Handler<B>,
+    keeper: &mut MemoryKeeper,
+    message: &Message,
+) -> Result<Heard, OutOfMemory>
+    ensures heard { IfOk result (λ heard. heard ≡ (hear handler.old.state message.now).1) }
+    ensures state { OnOk result (handler.new ≡ with_state (hear handler.old.state message.now).0 handler.old) }
+    ensures stored { OnOk result (Stores keeper.old keeper.new (hear handler.old.state message.now).0) }
+    ensures job { job_out handler.new ≡ job_out handler.old }
+    ensures err { OnErr result (handler.new ≡ handler.old) }
+    ensures kept { OnErr result (keeper.new ≡ keeper.old) }
+{
+    // Says that the handler is sound.
+    let _number = handler.number();
+    let before = handler.copy()?;
+    let heard = handler.hear(message)?;
+    match store(keeper, handler) {
+        Ok(()) => Ok(heard),
+        Err(error) => {
+            take_back(handler, before);
+            Err(error)
+        }
+    }
+}
+
+// Puts down what has run. There is room for it.
+fn put_down(ran: &mut Vec<Ran>, new: &Ran)
+    requires { vec_len ran.old < vec_capacity ran.old }
+    ensures { ran.new.items ≡ ran.old.items ++ new.now ∷ [] }
+{
+    // Names the types that a `Ran` holds, of which the prover has to be told here.
+    let _parts: Option<(Entry, Request)> = None;
+    ran.push_reserved(*new);
+}
+
+// Stores the state after a job that is out.
+fn store_after<B: Behaviour>(
+    keeper: &mut MemoryKeeper,
+    handler: &Handler<B>,
+    done: &Done<B>,
+) -> Result<(), OutOfMemory>
+    ensures ok { OnOk result (Stores keeper.old keeper.new (after done.now handler.now.state)) }
+    ensures err { OnErr result (keeper.new ≡ keeper.old) }
+{
+    match handler.after_finish(done) {
+        Ok(state) => put_state(keeper, &state),
+        Err(_) => Err(OutOfMemory),
+    }
+}
+
+impl<B: Behaviour> Site<B> {
+    ghost use Rattle.scoop_world.specs.World.{number_of};
+    ghost use Rattle.scoop_world.specs.Step.{begun_site, heard_site};
+    ghost use Rattle.scoop_world.specs.Kept.{StoresJob, after_job, began, reopened_site, site_kept};
+
+    /// A handler at which nothing has happened, with the words of its object.
+    pub(crate) fn new(alloc: Global, node: u32, handler: Handler<B>) -> Site<B>
+        requires { handler.out ≡ false }
+        ensures { result ≡ site_kept node handler.state.words handler [] [] }
+    {
+        let placed = handler.words();
+        Site {
+            node,
+            placed,
+            handler,
+            job: None,
+            opened: Vec::new(alloc),
+            ran: Vec::new(alloc),
+        }
+    }
+
+    /// Stores its state.
+    pub(crate) fn store(&self, keeper: &mut MemoryKeeper) -> Result<(), OutOfMemory>
+        ensures ok { OnOk result (Stores keeper.old keeper.new self.now.stored) }
+        ensures err { OnErr result (keeper.new ≡ keeper.old) }
+    {
+        store(keeper, &self.handler)
+    }
+
+    /// Its number.
+    pub(crate) fn number(&self) -> HandlerId
+        ensures value { result ≡ number_of self.now }
+        ensures core { IsCore self.now.core }
+    {
+        self.handler.number()
+    }
+
+    /// The node on which it runs.
+    pub(crate) fn node(&self) -> u32
+        ensures { result ≡ self.now.node }
+    {
+        self.node
+    }
+
+    /// The blocks that have opened here, in their order.
+    pub(crate) fn opened(&self) -> &[Block]
+        ensures { result.now ≡ self.now.opened }
+    {
+        &self.opened
+    }
+
+    /// What has run here, in its order.
+    pub(crate) fn ran(&self) -> &[Ran]
+        ensures { result.now ≡ self.now.ran }
+    {
+        &self.ran
+    }
+
+    /// Hears a message, and stores the new state. `OutOfMemory` changes nothing.
+    pub(crate) fn hear(
+        &mut self,
+        keeper: &mut MemoryKeeper,
+        message: &Message,
+    ) -> Result<Heard, OutOfMemory>
+        ensures heard { IfOk result (λ heard. heard ≡ (hear self.old.core.state message.now).1) }
+        ensures site { OnOk result (self.new ≡ heard_site self.old (hear self.old.core.state message.now)) }
+        ensures stored { OnOk result (Stores keeper.old keeper.new (hear self.old.core.state message.now).0) }
+        ensures err { OnErr result (self.new ≡ self.old) }
+        ensures kept { OnErr result (keeper.new ≡ keeper.old) }
+    {
+        self.opened.reserve(1)?;
+        let heard = hear_and_store(&mut self.handler, keeper, message)?;
+        if let Note::Opened(block) = heard.note {
+            self.opened.push_reserved(block);
+        }
+        Ok(heard)
+    }
+
+    /// The next entry leaves to be run: its block and number.
+    pub(crate) fn begin(&mut self) -> Option<(Block, u32)>
+        ensures began { result ≡ option_map began (ready self.old.core) }
+        ensures site { OnSome result (self.new ≡ begun_site self.old) }
+        ensures nothing { IfNone result (self.new ≡ self.old) }
+    {
+        let job = self.handler.begin()?;
+        let began = (job.block(), job.number());
+        self.job = Some(job.work());
+        Some(began)
+    }
+
+    /// The entry that left has run: its object comes back, and the new state is stored. `None` where
+    /// no job is out. `OutOfMemory` changes nothing.
+    pub(crate) fn finish(&mut self, keeper: &mut MemoryKeeper) -> Result<Option<Ran>, OutOfMemory>
+        ensures ran { IfOk result (λ ran. ran ≡ option_map ran_of (job_out self.old.core)) }
+        ensures site { OnOk result (self.new ≡ after_job self.old (job_out self.old.core)) }
+        ensures out { OnErr result (IsSome (job_out self.old.core)) }
+        ensures stored { OnOk result (StoresJob (job_out self.old.core) keeper.old keeper.new self.new.stored) }
+        ensures err { OnErr result (self.new ≡ self.old) }
+        ensures kept { OnErr result (keeper.new ≡ keeper.old) }
+    {
+        let Some(done) = self.job.take() else {
+            return Ok(None);
+        };
+        if self.ran.reserve(1).is_err() {
+            self.job = Some(done);
+            return Err(OutOfMemory);
+        }
+        if store_after(keeper, &self.handler, &done).is_err() {
+            self.job = Some(done);
+            return Err(OutOfMemory);
+        }
+        let Ok(ran) = self.handler.finish(done) else {
+            unreachable!()
+        };
+        put_down(&mut self.ran, &ran);
+        Ok(Some(ran))
+    }
+
+    /// The node has restarted: the handler takes its stored state, with no job out.
+    pub(crate) fn reopen(&mut self, state: HandlerState)
+        requires { state ≡ self.old.stored }
+        ensures { self.new ≡ reopened_site self.old }
+    {
+        match self.job.take() {
+            Some(done) => {
+                let Ok(()) = self.handler.recall(done.into_object(), state) else {
+                    unreachable!()
+                };
+            }
+            None => {
+                let Ok(()) = self.handler.reset(state) else {
+                    unreachable!()
+                };
+            }
+        }
+    }
+}

@@ -1,0 +1,152 @@
+//! A world: all parties over a list of events.
+
+ghost use Rattle.std.specs.Prelude.{◌≡◌};
+ghost use Rattle.std.specs.Option.{option_map};
+ghost use Rattle.scoop_world.specs.World.{logged_at, party_of, sent_at, site_of};
+ghost use Rattle.scoop_world.specs.Step.{step};
+ghost use Rattle.scoop_world.specs.Reach.{IsReached};
+ghost use Rattle.scoop_world.specs.Answers.{Runs, Takes};
+ghost use Rattle.scoop_world.specs.Safe.{Safe};
+ghost use Rattle.scoop_world.specs.Paper.{FollowsRules, FollowsRun};
+
+use crate::error::WorldError;
+use crate::event::Event;
+use crate::note::WorldNote;
+use crate::parts::Parts;
+use scoop_handler::Ran;
+use scoop_message::{Answer, Block, ClientId, Entry, HandlerId, Message};
+use scoop_object::Behaviour;
+use std::marker::Model;
+
+/// All parties together, every message that was ever sent, and what has happened so far. Some events lead
+/// from a world that opens to this one.
+#[derive(Drop)]
+pub struct World<B: Behaviour> {
+    pub(crate) parts: Parts<B>,
+}
+
+impl<B: Behaviour> Model for World<B> {
+    ghost use Rattle.scoop_world.specs.World.{World as Whole};
+    ghost use Rattle.scoop_world.specs.Reach.{IsReached};
+
+    ghost Value = { Whole };
+
+    ghost view = { λ w. w.parts };
+
+    ghost invariant = { λ w. IsReached w.parts };
+}
+
+impl<B: Behaviour> World<B> {
+    /// One event. The cost doesn't grow with the number of events before it.
+    ///
+    /// Refused with nothing changed, in this order: `NoSuchMessage`, `NoSuchParty`, `NothingToRun`,
+    /// `ClientRefused`, `IncarnationsSpent`, `OutOfMemory`.
+    pub fn step(&mut self, event: Event) -> Result<WorldNote, WorldError>
+        ensures takes { Takes (step self.old event) result self.old self.new }
+        ensures reached { IsReached self.new }
+        ensures follows { FollowsRules self.old event }
+    {
+        happen(&mut self.parts, event)
+    }
+
+    // Some events lead to this world.
+    fn is_reached(&self)
+        ensures { IsReached self.now }
+    {
+        let _ = &self.parts;
+    }
+
+    /// The events one after another, up to the first that is refused: how many were taken, with the
+    /// refusal if there is one.
+    ///
+    /// Whatever messages are lost, repeated or delayed and whenever clients or nodes restart, every handler
+    /// has then taken the blocks that opened at it in the order of one common list, has run of each block a
+    /// beginning of what its client logged there, in order, each once, with no other block's request
+    /// between, and every answer that a client has accepted is the object's answer after exactly the requests
+    /// that ran before it. What has happened is a run of the written rules of SCOOP, in which a joint
+    /// reservation is one step.
+    pub fn run(&mut self, events: &[Event]) -> Result<usize, (usize, WorldError)>
+        ensures runs { Runs self.old events.now result self.new }
+        ensures safe { Safe self.new }
+        ensures follows { FollowsRun self.old events.now result self.new }
+    {
+        self.is_reached();
+        for (taken, event) in events.iter().enumerate() {
+            match self.step(*event) {
+                Ok(_) => {}
+                Err(error) => return Err((taken, error)),
+            }
+        }
+        Ok(events.len())
+    }
+
+    /// The common list: each block at its first opening anywhere.
+    pub fn joint(&self) -> &[Block]
+        ensures { result.now ≡ self.now.joint }
+    {
+        self.parts.joint()
+    }
+
+    /// The blocks that have opened at the handler, in their order. `None` for a handler that isn't
+    /// there.
+    pub fn opened(&self, handler: HandlerId) -> Option<&[Block]>
+        ensures { option_map (λ bs. bs.now) result ≡ option_map (λ s. s.opened) (site_of handler self.now) }
+    {
+        match self.parts.site(handler) {
+            Some(site) => Some(site.opened()),
+            None => None,
+        }
+    }
+
+    /// What the block's client has logged for the handler, in its order. `None` where the block never
+    /// reserved the handler.
+    pub fn logged(&self, block: Block, handler: HandlerId) -> Option<&[Entry]>
+        ensures { option_map (λ es. es.now) result ≡ logged_at block handler self.now }
+    {
+        self.parts.logged(block, handler)
+    }
+
+    /// What has run at the handler, in its order. `None` for a handler that isn't there.
+    pub fn ran(&self, handler: HandlerId) -> Option<&[Ran]>
+        ensures { option_map (λ rs. rs.now) result ≡ option_map (λ s. s.ran) (site_of handler self.now) }
+    {
+        match self.parts.site(handler) {
+            Some(site) => Some(site.ran()),
+            None => None,
+        }
+    }
+
+    /// The answers that the client has accepted over all its incarnations, in their order: handler,
+    /// block, the query's number, and the answer. `None` for a client that isn't there.
+    pub fn accepted(&self, client: ClientId) -> Option<&[(HandlerId, Block, u32, Answer)]>
+        ensures { option_map (λ xs. xs.now) result ≡ option_map (λ p. p.accepted) (party_of client self.now) }
+    {
+        match self.parts.party(client) {
+            Some(party) => Some(party.accepted()),
+            None => None,
+        }
+    }
+
+    /// The i-th message that was sent, i from 1.
+    pub fn sent(&self, i: usize) -> Option<&Message>
+        ensures { option_map (λ m. m.now) result ≡ sent_at i self.now }
+    {
+        self.parts.sent(i)
+    }
+}
+
+// One event.
+fn happen<B: Behaviour>(parts: &mut Parts<B>, event: Event) -> Result<WorldNote, WorldError>
+    requires { IsReached parts.old }
+    ensures { Takes (step parts.old event) result parts.old parts.new }
+{
+    match event {
+        Event::Do(client, command) => parts.command(client, &command),
+        Event::Tick(client, handler) => parts.tick(client, handler),
+        Event::Take(place) => parts.take(place),
+        Event::Begin(handler) => parts.begin(handler),
+        Event::Finish(handler) => parts.finish(handler),
+        Event::ClientRestart(client) => parts.restart_client(client),
+        Event::NodeRestart(node) => parts.restart_node(node),
+    }
+}
