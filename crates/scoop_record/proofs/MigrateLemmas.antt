@@ -154,11 +154,13 @@ carried_on a b c d handler one two three h = rw (one, two, three) h
 
 -- the whole migration
 pub migrated : (old db mid new : Database) (rows : List Row) (all : List HandlerState) → Makes old db first_schema record_schema 3 → IsPermutation (map keyed_value (db.trees 1)) rows → AllZip IsFirstRow rows all → IsRising all
-    → SavesAll db mid all → Puts mid new 0 1 (Int (pos 2)) → Migrates old new
-migrated old db mid new rows all makes same zip rising saves put =
+    → SavesAll db mid all → Puts mid new 0 1 (Int (pos 2)) → old.schema ≡ first_schema → value_at (old.trees 0) 1 ≡ Some (Int (pos 1)) → Migrates old new
+migrated old db mid new rows all makes same zip rising saves put was version =
     let images : db.trees 1 ≡ old.trees 1 = makes.others.1.0 in
     let clients : db.trees 2 ≡ old.trees 2 = makes.others.1.1.0 in
     record {
+      was = was;
+      old_version = version;
       schema = put.schema ∙ schema_stays db mid all saves ∙ makes.schema;
       version = put.there;
       handlers = λ handler. carried_on old.trees db.trees new.trees mid.trees handler (sym images) (put.trees 1 (λ e. omega (arith, e))) (put.trees 3 (λ e. omega (arith, e))) (states_kept db mid rows all same zip rising saves handler);

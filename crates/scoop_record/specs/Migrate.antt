@@ -10,7 +10,7 @@ use Rattle.scoop_handler.specs.State.{IsState}
 use Rattle.scoop_record.specs.Range.{InRange}
 use Rattle.scoop_record.specs.Reading.{IsStoredWithEntries}
 use Rattle.scoop_record.specs.Keeper.{Stored, Missing, Holds, Damaged, stored_of, IsTheOne}
-use Rattle.scoop_record.specs.Tables.{record_schema, value_at}
+use Rattle.scoop_record.specs.Tables.{first_schema, record_schema, value_at}
 use Rattle.scoop_record.specs.Store.{handlers_in, incs_in, Saves}
 
 -- in the handler's row stands the image of the state, with its entries
@@ -60,8 +60,10 @@ pub record IsCarried (old new : Stored → Type 0) : Type 0 where
   pub before : IsTheOne old (stored_of found)
   pub after : new (stored_of found)
 
--- each state and each incarnation is as it was
+-- a record of version 1 became one of version 2, in which each state and each incarnation is as it was
 pub record Migrates (old new : Database) : Type 0 where
+  pub was : old.schema ≡ first_schema
+  pub old_version : value_at (old.trees 0) 1 ≡ Some (Int (pos 1))
   pub schema : new.schema ≡ record_schema
   pub version : value_at (new.trees 0) 1 ≡ Some (Int (pos 2))
   pub handlers : (handler : ℕ) → IsCarried (first_handlers_in old.trees handler) (handlers_in new.trees handler)

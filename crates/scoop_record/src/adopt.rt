@@ -1,12 +1,12 @@
 //! A database that has the tables of a record is taken.
 
-ghost use Rattle.std.specs.Prelude.{◌≡◌, false, IfErr, OnOk, OnErr};
+ghost use Rattle.std.specs.Prelude.{◌≡◌, IsTrue, false, IfErr, OnOk, OnErr};
 ghost use Rattle.sqlite.specs.Effect.{Database};
 ghost use Rattle.sqlite.specs.Held.{state};
 ghost use Rattle.sqlite.specs.State.{Survives};
 ghost use Rattle.scoop_record.specs.Keeper.{IsAdoptError};
 ghost use Rattle.scoop_record.specs.Migrate.{Migrates, Adopts};
-ghost use Rattle.scoop_record.specs.Store.{IsSound, IsReady};
+ghost use Rattle.scoop_record.specs.Store.{IsSound, IsReady, IsIdle};
 
 use crate::keeper::KeeperError;
 use crate::migrate::migrate;
@@ -16,10 +16,7 @@ use sqlite::{Alter, Connection};
 use std::alloc::Global;
 
 /// The tables are those of version 2, or become them.
-pub(crate) fn take_tables<S: Alter>(
-    alloc: Global,
-    conn: &mut Connection<S>,
-) -> Result<(), KeeperError>
+fn take_tables<S: Alter>(alloc: Global, conn: &mut Connection<S>) -> Result<(), KeeperError>
     requires mode { conn.old.in_transaction ≡ false }
     requires settled { IsSound (state S.Store conn.old) → (state S.Store conn.old).now ≡ (state S.Store conn.old).committed }
     ensures mode { conn.new.in_transaction ≡ false }
@@ -43,4 +40,28 @@ pub(crate) fn take_tables<S: Alter>(
         return migrate(alloc, conn);
     }
     Err(KeeperError::Refused)
+}
+
+/// Takes a database that has the tables, those of version 1 becoming those of version 2 in one transaction:
+/// the same as `Store::adopt`, on a connection that stays the caller's, also where it is refused.
+///
+/// Refused with the database as it was: `WrongSchema` where there is no version or another one, or a number
+/// in a table of version 1 is no handler's; `BadImage` for the lowest handler whose image of version 1 is no
+/// state's; `Refused` where the connection is in a transaction, the tables are not those of their version,
+/// or a text is refused; `OutOfMemory`.
+pub fn adopt_tables<S: Alter>(alloc: Global, conn: &mut Connection<S>) -> Result<(), KeeperError>
+    ensures mode { conn.new.in_transaction ≡ conn.old.in_transaction }
+    ensures idle { OnOk result (IsIdle S.Store conn.new) }
+    ensures adopted { IsSound (state S.Store conn.new) → OnOk result (Adopts (state S.Store conn.old).now (state S.Store conn.new).now) }
+    ensures inside { IsTrue conn.old.in_transaction → (result ≡ Err KeeperError.Refused) × (conn.new ≡ conn.old) }
+    ensures refused { IsSound (state S.Store conn.new) → OnErr result ((state S.Store conn.new).now ≡ (state S.Store conn.old).now) }
+    ensures named { IfErr result IsAdoptError }
+    ensures sound { IsSound (state S.Store conn.new) → IsSound (state S.Store conn.old) }
+    // A crash leaves what it could leave before the call, or the whole record in version 2.
+    ensures survives { Survives (state S.Store conn.old) (state S.Store conn.new) (λ trees. (db : Database) × Migrates (state S.Store conn.old).now db × (trees ≡ db.trees)) }
+{
+    if !conn.is_autocommit() {
+        return Err(KeeperError::Refused);
+    }
+    take_tables(alloc, conn)
 }

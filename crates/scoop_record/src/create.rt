@@ -1,16 +1,18 @@
 //! The tables of the record are made.
 
-ghost use Rattle.std.specs.Prelude.{◌≡◌, ◌∷◌, [], pos, Some, None, IsTrue, IfOk, IfErr, OnOk, OnErr, true, false, ℕ};
+ghost use Rattle.std.specs.Prelude.{◌≡◌, ◌≢◌, ◌∷◌, [], pos, Some, None, IsTrue, IfOk, IfErr, OnOk, OnErr, true, false, ℕ};
 ghost use Rattle.sqlite.specs.Effect.{Database};
 ghost use Rattle.sqlite.specs.Held.{state};
 ghost use Rattle.sqlite.specs.State.{HasCleanDisk, KeepsCommit, Shows, Survives};
 ghost use Rattle.sqlite.specs.declared.types.Value.TheVariants.{Int};
 ghost use Rattle.scoop_record.specs.Tables.{no_schema, meta_schema, two_schema, first_schema, record_schema, value_at, Makes, Puts};
-ghost use Rattle.scoop_record.specs.Store.{IsSound, IsReady, IsNewRecord};
+ghost use Rattle.scoop_record.specs.Store.{IsSound, IsIdle, IsNewRecord};
 ghost use Rattle.scoop_record.specs.Keeper.{IsPutError};
 
 use crate::keeper::KeeperError;
 use crate::refusal::refusal;
+use crate::schema::is_blank;
+use crate::version::VERSION;
 use sqlite::{Alter, Connection, Error, Transaction, params};
 
 fn create_meta<S: Alter>(tx: &mut Transaction<'_, S>) -> Result<usize, Error>
@@ -100,10 +102,7 @@ fn make_all<S: Alter>(tx: &mut Transaction<'_, S>, version: u32) -> Result<(), E
 }
 
 /// The tables are made in one transaction.
-pub(crate) fn make_tables<S: Alter>(
-    conn: &mut Connection<S>,
-    version: u32,
-) -> Result<(), KeeperError>
+fn make_tables<S: Alter>(conn: &mut Connection<S>, version: u32) -> Result<(), KeeperError>
     requires mode { conn.old.in_transaction ≡ false }
     requires blank { IsSound (state S.Store conn.old) → ((state S.Store conn.old).now.schema ≡ no_schema) × ((state S.Store conn.old).now ≡ (state S.Store conn.old).committed) }
     ensures mode { conn.new.in_transaction ≡ false }
@@ -121,4 +120,28 @@ pub(crate) fn make_tables<S: Alter>(
         Ok(()) => Ok(()),
         Err(error) => Err(refusal(error)),
     }
+}
+
+/// Makes the tables in a database that has none, in one transaction: the same as `Store::create`, on a
+/// connection that stays the caller's, also where it is refused.
+///
+/// Refused with the database as it was: `Refused` where it has a table or the connection is in a
+/// transaction, and where a text is refused; `OutOfMemory`.
+pub fn create_tables<S: Alter>(conn: &mut Connection<S>) -> Result<(), KeeperError>
+    ensures mode { conn.new.in_transaction ≡ conn.old.in_transaction }
+    ensures idle { OnOk result (IsIdle S.Store conn.new) }
+    ensures made { IsSound (state S.Store conn.new) → OnOk result (IsNewRecord (state S.Store conn.new).now VERSION) }
+    ensures blank { OnOk result ((state S.Store conn.old).now.schema ≡ no_schema) }
+    ensures other { (state S.Store conn.old).now.schema ≢ no_schema → (result ≡ Err KeeperError.Refused) × (conn.new ≡ conn.old) }
+    ensures inside { IsTrue conn.old.in_transaction → (result ≡ Err KeeperError.Refused) × (conn.new ≡ conn.old) }
+    ensures refused { IsSound (state S.Store conn.new) → OnErr result ((state S.Store conn.new).now ≡ (state S.Store conn.old).now) }
+    ensures named { IfErr result IsPutError }
+    ensures sound { IsSound (state S.Store conn.new) → IsSound (state S.Store conn.old) }
+    // A crash leaves what it could leave before the call, or all tables of a new record.
+    ensures survives { Survives (state S.Store conn.old) (state S.Store conn.new) (λ trees. (db : Database) × IsNewRecord db VERSION × (trees ≡ db.trees)) }
+{
+    if !conn.is_autocommit() || !is_blank(conn.schema()) {
+        return Err(KeeperError::Refused);
+    }
+    make_tables(conn, VERSION)
 }

@@ -15,6 +15,8 @@ mod schema;
 mod store;
 mod version;
 
+pub use adopt::adopt_tables;
+pub use create::create_tables;
 pub use failing::FailingKeeper;
 pub use images::{ReadError, image, pending_row, read_image, read_image_with_entries};
 pub use keeper::{Keeper, KeeperError};

@@ -1,9 +1,9 @@
 //! Whether the tables of a database are those of a record.
 
-ghost use Rattle.std.specs.Prelude.{◌≡◌, ◌∷◌, [], IsTrue, true, false, Some};
+ghost use Rattle.std.specs.Prelude.{◌≡◌, ◌↔◌, ◌∷◌, [], IsTrue, true, false, Some};
 ghost use Rattle.sqlite.specs.declared.types.Value.TheVariants.{Null};
 ghost use Rattle.sqlite.specs.Collation.TheVariants.{Binary};
-ghost use Rattle.scoop_record.specs.Tables.{column_of, keyed_table, meta, handlers, clients, pending, first_schema, record_schema};
+ghost use Rattle.scoop_record.specs.Tables.{column_of, keyed_table, meta, handlers, clients, pending, no_schema, first_schema, record_schema};
 
 use sqlite::types::Value;
 use sqlite_schema::schema::{Column, Kind, Schema, Table};
@@ -113,6 +113,13 @@ fn are_first_tables(tables: &[Table]) -> bool
         return false;
     };
     is_meta(first) && is_handlers(second) && is_clients(third)
+}
+
+/// Whether there is no table, nor anything else that a schema has.
+pub(crate) fn is_blank(schema: &Schema) -> bool
+    ensures { IsTrue result ↔ (schema.now ≡ no_schema) }
+{
+    schema.tables.is_empty() && schema.indexes.is_empty() && schema.views.is_empty()
 }
 
 /// Whether the tables are those of version 1, and no other.

@@ -1,16 +1,16 @@
 //! A keeper over the tables of a database.
 
-ghost use Rattle.std.specs.Prelude.{◌≡◌, ◌⊎◌, IsTrue, IfOk, IfErr, OnOk, OnErr, Some};
+ghost use Rattle.std.specs.Prelude.{◌≡◌, ◌≢◌, ◌⊎◌, IsTrue, IfOk, IfErr, OnOk, OnErr, Some};
 ghost use Rattle.scoop_record.specs.Tables.{no_schema};
 
-use crate::adopt::take_tables;
-use crate::create::make_tables;
+use crate::adopt::adopt_tables;
+use crate::create::create_tables;
 use crate::keeper::{Keeper, KeeperError};
+use crate::version::VERSION;
 use crate::{clients, handlers};
 use scoop_handler::HandlerState;
 use scoop_message::{ClientId, HandlerId};
 use sqlite::{Alter, Connection};
-use sqlite_schema::schema::Schema;
 use std::alloc::Global;
 use std::marker::Model;
 
@@ -35,17 +35,6 @@ impl<S: Alter + Drop> Model for Store<S> {
     ghost invariant = { λ s. IsIdle S.Store s.conn };
 }
 
-/// The version of the tables.
-pub const VERSION: u32 = 2;
-
-pub(crate) fn is_blank(schema: &Schema) -> bool
-    ensures { IsTrue result → schema.now ≡ no_schema }
-{
-    schema.tables.as_slice().is_empty()
-        && schema.indexes.as_slice().is_empty()
-        && schema.views.as_slice().is_empty()
-}
-
 impl<S: Alter + Drop> Store<S> {
     ghost use Rattle.sqlite.specs.Effect.{Database};
     ghost use Rattle.sqlite.specs.Held.{state};
@@ -57,17 +46,17 @@ impl<S: Alter + Drop> Store<S> {
     /// Makes the tables in a database that has none, in one transaction.
     ///
     /// Refused: `Refused` where the database has a table or the connection is in a transaction, and
-    /// where a text is refused; `OutOfMemory`.
+    /// where a text is refused; `OutOfMemory`. The connection goes with the refusal: what it leaves is
+    /// said by [`create_tables`], which this calls.
     pub fn create(alloc: Global, mut conn: Connection<S>) -> Result<Store<S>, KeeperError>
         ensures made { IfOk result (λ store. IsSound (state S.Store store) → IsNewRecord (state S.Store store).now VERSION) }
+        ensures blank { OnOk result ((state S.Store conn).now.schema ≡ no_schema) }
+        ensures other { (state S.Store conn).now.schema ≢ no_schema → result ≡ Err KeeperError.Refused }
         ensures sound { IfOk result (λ store. IsSound (state S.Store store) → IsSound (state S.Store conn)) }
         ensures named { IfErr result IsPutError }
         ensures survives { IfOk result (λ store. Survives (state S.Store conn) (state S.Store store) (λ trees. (db : Database) × IsNewRecord db VERSION × (trees ≡ db.trees))) }
     {
-        if !conn.is_autocommit() || !is_blank(conn.schema()) {
-            return Err(KeeperError::Refused);
-        }
-        make_tables(&mut conn, VERSION)?;
+        create_tables(&mut conn)?;
         Ok(Store { conn, alloc })
     }
 
@@ -77,17 +66,15 @@ impl<S: Alter + Drop> Store<S> {
     /// Refused with the database as it was: `WrongSchema` where there is no version or another one, or
     /// a number in a table of version 1 is no handler's; `BadImage` for the lowest handler whose image
     /// of version 1 is no state's; `Refused` where the connection is in a transaction, the tables are
-    /// not those of their version, or a text is refused; `OutOfMemory`.
+    /// not those of their version, or a text is refused; `OutOfMemory`. The connection goes with the
+    /// refusal: what it leaves is said by [`adopt_tables`], which this calls.
     pub fn adopt(alloc: Global, mut conn: Connection<S>) -> Result<Store<S>, KeeperError>
         ensures adopted { IfOk result (λ store. IsSound (state S.Store store) → Adopts (state S.Store conn).now (state S.Store store).now) }
         ensures sound { IfOk result (λ store. IsSound (state S.Store store) → IsSound (state S.Store conn)) }
         ensures named { IfErr result IsAdoptError }
         ensures survives { IfOk result (λ store. Survives (state S.Store conn) (state S.Store store) (λ trees. (db : Database) × Migrates (state S.Store conn).now db × (trees ≡ db.trees))) }
     {
-        if !conn.is_autocommit() {
-            return Err(KeeperError::Refused);
-        }
-        take_tables(alloc, &mut conn)?;
+        adopt_tables(alloc, &mut conn)?;
         Ok(Store { conn, alloc })
     }
 

@@ -3,3 +3,4 @@
 mod images;
 mod keepers;
 mod stopped;
+mod tables;

@@ -13,6 +13,9 @@ use crate::keeper::KeeperError;
 use crate::refusal::refusal;
 use sqlite::{Alter, Connection, Error, ErrorCode, Row, Transaction};
 
+/// The version of the tables that a store makes and keeps.
+pub const VERSION: u32 = 2;
+
 /// The rows that stand for the version, under whatever schema.
 fn rows_of_meta<S: Alter>(tx: &mut Transaction<'_, S>) -> Result<Vec<Row>, Error>
     ensures same_reference { tx.new.conn.ghost_name ≡ tx.old.conn.ghost_name }

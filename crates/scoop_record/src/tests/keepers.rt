@@ -1,7 +1,6 @@
 //! Keepers in memory and over a database.
 
 use super::images::PENDING;
-use crate::adopt::take_tables;
 use crate::*;
 use scoop_handler::HandlerState;
 use scoop_message::{ClientId, HandlerId};
@@ -107,10 +106,7 @@ fn a_store_of_version_1_is_migrated(rt: HostRuntime) -> Result<(), Fail> {
 }
 
 fn refusal_of(alloc: Global, conn: &mut Connection<MemStore>) -> Option<KeeperError> {
-    if !conn.is_autocommit() {
-        return None;
-    }
-    take_tables(alloc, conn).err()
+    adopt_tables(alloc, conn).err()
 }
 
 // How an adoption is refused, and the version of the tables behind it.

@@ -1,9 +1,6 @@
 //! Stores over files that are stopped at a call of the disk, and opened again.
 
 use super::keepers::{kept, word};
-use crate::adopt::take_tables;
-use crate::create::make_tables;
-use crate::store::{VERSION, is_blank};
 use crate::*;
 use scoop_message::ClientId;
 use sqlite::{Connection, FileStore, Files, Options};
@@ -98,11 +95,11 @@ fn connection(store: StoppableStore) -> Stoppable {
 }
 
 fn creates_in(conn: &mut Stoppable) -> bool {
-    conn.is_autocommit() && is_blank(conn.schema()) && make_tables(conn, VERSION).is_ok()
+    create_tables(conn).is_ok()
 }
 
 fn adopts_in(alloc: Global, conn: &mut Stoppable) -> bool {
-    conn.is_autocommit() && take_tables(alloc, conn).is_ok()
+    adopt_tables(alloc, conn).is_ok()
 }
 
 // Files with no tables; for what comes after a creation, a store with the word 5 and one incarnation; for a

@@ -33,8 +33,13 @@ returns-in-Ok-raise_version-clause-migrated g c clean =
     let clean3 = clean_before saved after _ c.raise_version.ensures.survives clean in
     let clean2 = clean_before read saved _ c.put_states.ensures.survives clean3 in
     let clean1 = clean_before made read _ c.rows_of_handlers.ensures.survives clean2 in
+    let clean0 = clean_before before made _ c.create_pending.ensures.survives clean1 in
     let open3 = (c.in-Ok-raise_version.ensures.put clean).1.was_open in
+    let open2 = (c.put_states.ensures.kept clean3).was_open open3 in
+    let open1 = (c.rows_of_handlers.ensures.kept clean2).was_open open2 in
+    let open0 = (c.create_pending.ensures.kept clean1).was_open open1 in
+    let first = c.requires (clean0, open0) in
     let shown = c.in-Ok.ensures.rows clean2 in
     let saves = subst (λ (d : Database). SavesAll d saved.now c.as_slice-2.result.now) shown.0.0.now_is (c.in_ok-put_states.ensures.put (clean3, open3)) in
     migrated before.now made.now saved.now after.now c.as_slice.result.now c.as_slice-2.result.now (c.in_default.ensures.made clean1).0
-    (rw c.as_slice.ensures.value shown.1) (rw c.as_slice-2.ensures.value c.in_ok-all.ensures.read) (rw c.as_slice-2.ensures.value c.in_ok-all.ensures.rises) saves (c.in-Ok-raise_version.ensures.put clean).0
+    (rw c.as_slice.ensures.value shown.1) (rw c.as_slice-2.ensures.value c.in_ok-all.ensures.read) (rw c.as_slice-2.ensures.value c.in_ok-all.ensures.rises) saves (c.in-Ok-raise_version.ensures.put clean).0 first.0 first.1
