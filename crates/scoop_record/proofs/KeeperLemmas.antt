@@ -1,5 +1,5 @@
 -- What is loaded after a put, and what a keeper has after several calls.
-use Rattle.std.proofs.Common.{◌≡◌, ◌≢◌, ℕ, Option, Some, None, refl, sym, ap, ◌∙◌}
+use Rattle.std.proofs.Common.{◌≡◌, ℕ, Option, Some, None, refl, sym, ap, ◌∙◌}
 use Rattle.scoop_message.specs.declared.name.HandlerId.{HandlerId}
 use Rattle.scoop_handler.specs.State.{HandlerState}
 use Rattle.scoop_record.specs.Keeper.{Stored, Missing, Holds, stored_of, IsTheOne, Stays, Keeps, IsSame}

@@ -10,6 +10,7 @@ pub mod Stored
 pub mod KeeperLemmas
 pub mod MapLemmas
 pub mod MigrateLemmas
+pub mod NumberLemmas
 pub mod RowLemmas
 pub mod StatementLemmas
 pub mod StoredLemmas

@@ -1,5 +1,5 @@
 -- A record of version 1 that was migrated holds what it held.
-use Rattle.std.proofs.Common.{◌≡◌, ◌≢◌, inl, inr, ◌<◌, ℕ, pos, List, [], ◌∷◌, ◌++◌, All, map, Bool, true, false, find, Option, Some, None, option_map, refl, sym, ap, ◌∙◌, subst, arith, IsPermutation}
+use Rattle.std.proofs.Common.{◌≡◌, ◌≢◌, inl, inr, ◌<◌, ℕ, pos, List, [], ◌∷◌, ◌++◌, map, Bool, true, false, find, Option, Some, None, option_map, refl, sym, ap, ◌∙◌, subst, arith, IsPermutation}
 use Rattle.std.specs.List.{AllByRecursion, AllZip}
 use Rattle.std.proofs.lemmas.List.Sorted.{All-permutation, IsPermutation-sym}
 use Rattle.std.proofs.lemmas.List.Elements.{All-from_recursion, recursion_from_All}
@@ -59,7 +59,7 @@ own_stands old new (s ∷ more) it rising here (state, range, mid, first, rest) 
 ]
 
 -- the state of a row that is there
-state_of_row : (rows : List Row) (all : List HandlerState) → AllZip IsFirstRow rows all → (row : Row) → Has rows row → (it : HandlerState) × Has all it × IsFirstRow row it
+pub state_of_row : (rows : List Row) (all : List HandlerState) → AllZip IsFirstRow rows all → (row : Row) → Has rows row → (it : HandlerState) × Has all it × IsFirstRow row it
 state_of_row [] all zip row here = absurd here
 state_of_row (r ∷ rows) [] zip row here = absurd zip
 state_of_row (r ∷ rows) (it ∷ all) zip row here = elim here [
@@ -74,20 +74,20 @@ row_of_state [] (it ∷ all) zip P f = absurd zip
 row_of_state (r ∷ rows) [] zip P f = absurd zip
 row_of_state (r ∷ rows) (it ∷ all) zip P f = (f r it (inl refl) zip.0, row_of_state rows all zip.1 P (λ row s here is. f row s (inr here) is))
 
-has_mapped : {A B : Type 0} (f : A → B) (xs : List A) (x : A) → Has xs x → Has (map f xs) (f x)
+pub has_mapped : {A B : Type 0} (f : A → B) (xs : List A) (x : A) → Has xs x → Has (map f xs) (f x)
 has_mapped f [] x here = absurd here
 has_mapped f (y ∷ xs) x (inl same) = inl (ap f same)
 has_mapped f (y ∷ xs) x (inr later) = inr (has_mapped f xs x later)
 
-has_source : {A B : Type 0} (f : A → B) (xs : List A) (y : B) → Has (map f xs) y → (x : A) × Has xs x × (y ≡ f x)
+pub has_source : {A B : Type 0} (f : A → B) (xs : List A) (y : B) → Has (map f xs) y → (x : A) × Has xs x × (y ≡ f x)
 has_source f [] y here = absurd here
 has_source f (x ∷ xs) y (inl same) = (x, inl refl, same)
 has_source f (x ∷ xs) y (inr later) = let found = has_source f xs y later in (found.0, inr found.1, found.2)
 
-has_permuted : {X : Type 0} (xs ys : List X) (x : X) → IsPermutation xs ys → Has xs x → Has ys x
+pub has_permuted : {X : Type 0} (xs ys : List X) (x : X) → IsPermutation xs ys → Has xs x → Has ys x
 has_permuted xs ys x same here = all_has (Has ys) xs x (recursion_from_All (Has ys) xs (All-permutation (Has ys) ys xs (IsPermutation-sym xs ys same) (All-from_recursion (Has ys) ys (all_from (Has ys) ys (λ y at. at))))) here
 
-none_has : (p : Row → Bool) (rows : List Row) (r : Row) → find p rows ≡ None → Has rows r → p r ≡ true → ⊥
+pub none_has : (p : Row → Bool) (rows : List Row) (r : Row) → find p rows ≡ None → Has rows r → p r ≡ true → ⊥
 none_has p [] r none here is = here
 none_has p (x ∷ rows) r none here is = go (p x) refl none here (λ n later. none_has p rows r n later is)
   where
@@ -97,7 +97,7 @@ none_has p (x ∷ rows) r none here is = go (p x) refl none here (λ n later. no
     go false fails none (inr later) deeper = deeper (rw fails at none) later
 
 -- nothing is the one thing that a record of version 1 has for a handler without an image
-missing_one : (handler : ℕ) (value : Option Value) → value ≡ None → IsTheOne (FirstHas handler value) Missing
+pub missing_one : (handler : ℕ) (value : Option Value) → value ≡ None → IsTheOne (FirstHas handler value) Missing
 missing_one handler value is = record { there = is; only = only }
   where
     only : (other : Stored) → FirstHas handler value other → other ≡ Missing
@@ -119,8 +119,17 @@ held_one handler value bytes it is own stored unique = record { there = record {
         ap Holds (unique s (subst (λ b. IsStoredWithEntries it.number b s) same (subst (λ n. IsStoredWithEntries n h.bytes s) id h.stored)))
     only Damaged h = absurd (h.none it (record { number = own; bytes = bytes; there = is; stored = stored }))
 
-pos_same : (m n : ℕ) → Int (pos m) ≡ Int (pos n) → m ≡ n
+pub pos_same : (m n : ℕ) → Int (pos m) ≡ Int (pos n) → m ≡ n
 pos_same m n e = cc
+
+-- the state in the row that is found for a handler is the one thing that it has
+pub held_found : (handler : ℕ) (rows : List Row) (r : Row) (it : HandlerState) → find (has_rowid (pos handler)) rows ≡ Some r → IsFirstRow (keyed_value r) it
+    → (it.number.0 ≡ handler) × IsTheOne (FirstHas handler (value_at rows handler)) (Holds it)
+held_found handler rows r it some is =
+    let key : rowid r ≡ Int (pos it.number.0) = is.key in
+    let own : it.number.0 ≡ handler = pos_same it.number.0 handler (int_key handler (pos it.number.0) (rw key at (has_found (has_rowid (pos handler)) rows r some).1)) in
+    let value : value_at rows handler ≡ Some (Blob is.bytes) = ap (option_map (λ (x : Row). column x 2)) some ∙ ap Some is.there in
+    (own, held_one handler (value_at rows handler) is.bytes it value own is.stored is.only)
 
 -- what the migration writes is what was read
 module _ (db new : Database) (rows : List Row) (all : List HandlerState) (same : IsPermutation (map keyed_value (db.trees 1)) rows) (zip : AllZip IsFirstRow rows all) (rising : IsRising all) (saves : SavesAll db new all) where
@@ -138,14 +147,11 @@ module _ (db new : Database) (rows : List Row) (all : List HandlerState) (same :
       go (Some r) some =
           let stands = has_found (has_rowid (pos handler)) (db.trees 1) r some in
           let it = state_of_row rows all zip (keyed_value r) (has_permuted (map keyed_value (db.trees 1)) rows (keyed_value r) same (has_mapped keyed_value (db.trees 1) r stands.0)) in
-          let is = it.2 in
-          let key : rowid r ≡ Int (pos it.0.number.0) = is.key in
-          let own : it.0.number.0 ≡ handler = pos_same it.0.number.0 handler (int_key handler (pos it.0.number.0) (rw key at stands.1)) in
-          let value : value_at (db.trees 1) handler ≡ Some (Blob is.bytes) = ap (option_map (λ (r : Row). column r 2)) some ∙ ap Some is.there in
+          let held = held_found handler (db.trees 1) r it.0 some it.2 in
           record {
             found = Some it.0;
-            before = held_one handler (value_at (db.trees 1) handler) is.bytes it.0 value own is.stored is.only;
-            after = subst (λ n. handlers_in new.trees n (Holds it.0)) own (own_stands db new all it.0 rising it.1 saves);
+            before = held.1;
+            after = subst (λ n. handlers_in new.trees n (Holds it.0)) held.0 (own_stands db new all it.0 rising it.1 saves);
           }
 
 -- what there is for a handler in each version rests on the rows of these tables alone
@@ -172,17 +178,6 @@ zip_push [] [] row it zip is = (is, tt)
 zip_push [] (s ∷ all) row it zip is = absurd zip
 zip_push (r ∷ rows) [] row it zip is = absurd zip
 zip_push (r ∷ rows) (s ∷ all) row it zip is = (zip.0, zip_push rows all row it zip.1 is)
-
-below_push : (low : ℕ) (all : List HandlerState) (it : HandlerState) → AllByRecursion (λ (b : HandlerState). low < b.number.0) all → low < it.number.0 → AllByRecursion (λ (b : HandlerState). low < b.number.0) (all ++ it ∷ [])
-below_push low [] it below is = (is, tt)
-below_push low (s ∷ all) it below is = (below.0, below_push low all it below.1 is)
-
-rising_push_by : (all : List HandlerState) (it : HandlerState) → IsRising all → AllByRecursion (λ (b : HandlerState). b.number.0 < it.number.0) all → IsRising (all ++ it ∷ [])
-rising_push_by [] it rising above = (tt, tt)
-rising_push_by (s ∷ all) it rising above = (below_push s.number.0 all it rising.0 above.0, rising_push_by all it rising.1 above.1)
-
-pub rising_push : (all : List HandlerState) (it : HandlerState) → IsRising all → All (λ (b : HandlerState). b.number.0 < it.number.0) all → IsRising (all ++ it ∷ [])
-rising_push all it rising above = rising_push_by all it rising (recursion_from_All (λ (b : HandlerState). b.number.0 < it.number.0) all above)
 
 pub version_stays : (old new : Database) (all : List HandlerState) → SavesAll old new all → new.trees 0 ≡ old.trees 0
 version_stays old new [] same = ap (λ (d : Database). d.trees 0) same

@@ -1,5 +1,6 @@
 -- A record of version 1, and the record of version 2 that it becomes.
-use Rattle.std.specs.Prelude.{◌≡◌, ◌≢◌, ◌⊎◌, ◌<◌, ℕ, pos, List, [], ◌∷◌, Option, Some, None}
+use Rattle.std.specs.Prelude.{◌≡◌, ◌≢◌, ◌⊎◌, ◌<◌, ◌^◌, ℕ, pos, List, [], ◌∷◌, ◌++◌, Option, Some, None}
+use Rattle.std.specs.List.{AllByRecursion, AllZip}
 use Rattle.sqlite_value.specs.declared.value.Value.{Value}
 use Rattle.sqlite_value.specs.declared.value.Value.TheVariants.{Int, Blob}
 use Rattle.sqlite_value.specs.Order.{Row, column}
@@ -47,6 +48,37 @@ pub record IsFirstRow (row : Row) (s : HandlerState) : Type 0 where
   pub stored : IsStoredWithEntries s.number bytes s
   pub only : (t : HandlerState) → IsStoredWithEntries s.number bytes t → t ≡ s
 
+-- the number of the first row is below that of the second
+pub record IsKeyBelow (a b : Row) : Type 0 where
+  pub below : (m n : ℕ) → column a 0 ≡ Int (pos m) → column b 0 ≡ Int (pos n) → m < n
+
+-- the value is the number of a handler
+pub record IsNumber (value : Value) : Type 0 where
+  pub number : ℕ
+  pub small : number < 2 ^ 32
+  pub is : value ≡ Int (pos number)
+
+-- the rows' numbers are those of handlers, and rise
+pub record AreNumbered (rows : List Row) : Type 0 where
+  pub known : AllByRecursion (λ (row : Row). IsNumber (column row 0)) rows
+  pub rising : IsAscending IsKeyBelow rows
+
+-- the image in the handler's row is no state's
+pub record IsBadRow (handler : ℕ) (row : Row) : Type 0 where
+  pub key : column row 0 ≡ Int (pos handler)
+  pub none : (s : HandlerState) → IsFirstRowOf handler (Some (column row 1)) s → ⊥
+
+-- the first row whose image is no state's is that of the handler
+pub record IsFirstBad (rows : List Row) (handler : ℕ) : Type 0 where
+  pub numbered : AreNumbered rows
+  pub before : List Row
+  pub row : Row
+  pub after : List Row
+  pub split : rows ≡ before ++ row ∷ after
+  pub states : List HandlerState
+  pub read : AllZip IsFirstRow before states
+  pub bad : IsBadRow handler row
+
 -- the handlers' numbers rise, so none comes twice
 abbrev pub IsRising : List HandlerState → Type 0
 IsRising = IsAscending (λ a b. a.number.0 < b.number.0)
@@ -59,6 +91,15 @@ pub record IsCarried (old new : Stored → Type 0) : Type 0 where
   pub found : Option HandlerState
   pub before : IsTheOne old (stored_of found)
   pub after : new (stored_of found)
+
+-- In a record of version 1 each number is a handler's, and this is the lowest handler whose image is no
+-- state's.
+pub record IsLowestBad (db : Database) (handler : ℕ) : Type 0 where
+  pub schema : db.schema ≡ first_schema
+  pub version : value_at (db.trees 0) 1 ≡ Some (Int (pos 1))
+  pub numbers : AllByRecursion (λ (row : Row). IsNumber (rowid row)) (db.trees 1)
+  pub bad : IsTheOne (first_handlers_in db.trees handler) Damaged
+  pub below : (lower : ℕ) → lower < handler → (found : Option HandlerState) × IsTheOne (first_handlers_in db.trees lower) (stored_of found)
 
 -- a record of version 1 became one of version 2, in which each state and each incarnation is as it was
 pub record Migrates (old new : Database) : Type 0 where

@@ -1,6 +1,6 @@
 //! A record of version 1 becomes one of version 2.
 
-ghost use Rattle.std.specs.Prelude.{◌≡◌, map, pos, Some, All, ◌<◌, true, false, IsTrue, IfOk, IfErr, OnOk, OnErr, IsPermutation};
+ghost use Rattle.std.specs.Prelude.{◌≡◌, ◌⊎◌, map, pos, Some, true, false, IsTrue, IfOk, IfErr, OnOk, OnErr, IsPermutation};
 ghost use Rattle.std.specs.List.{AllZip};
 ghost use Rattle.sqlite.specs.Effect.{Database};
 ghost use Rattle.sqlite.specs.Held.{state};
@@ -12,7 +12,7 @@ ghost use Rattle.scoop_record.specs.Range.{InRange};
 ghost use Rattle.scoop_record.specs.Store.{IsSound, IsRecord, IsFirstRecord, Saves};
 ghost use Rattle.scoop_record.specs.Tables.{value_at, Puts};
 ghost use Rattle.scoop_record.specs.Keeper.{IsPutError, IsAdoptError};
-ghost use Rattle.scoop_record.specs.Migrate.{keyed_value, SavesAll, Migrates, IsFirstRow, IsRising};
+ghost use Rattle.scoop_record.specs.Migrate.{keyed_value, SavesAll, Migrates, IsFirstRow, IsRising, AreNumbered, IsBadRow, IsFirstBad, IsLowestBad};
 
 use crate::create::create_pending;
 use crate::handlers::{images_of, put_both};
@@ -98,6 +98,7 @@ fn migrate_in<S: Alter>(alloc: Global, tx: &mut Transaction<'_, S>) -> Result<()
     ensures migrated { HasCleanDisk (state S.Store tx.new.conn.now) → OnOk result (Migrates (state S.Store tx.old.conn.now).now (state S.Store tx.new.conn.now).now) }
     ensures inside { HasCleanDisk (state S.Store tx.new.conn.now) → OnOk result (IsTrue (state S.Store tx.new.conn.now).is_open × IsTrue (state S.Store tx.new.conn.now).in_transaction) }
     ensures kept { HasCleanDisk (state S.Store tx.new.conn.now) → KeepsCommit (state S.Store tx.old.conn.now) (state S.Store tx.new.conn.now) }
+    ensures bad { HasCleanDisk (state S.Store tx.new.conn.now) → (handler : HandlerId) → result ≡ Err (KeeperError.BadImage handler) → IsLowestBad (state S.Store tx.old.conn.now).now handler.0 }
     ensures named { IfErr result IsAdoptError }
     ensures survives { Survives (state S.Store tx.old.conn.now) (state S.Store tx.new.conn.now) (λ _. ⊥) }
 {
@@ -125,6 +126,7 @@ pub(crate) fn migrate<S: Alter>(alloc: Global, conn: &mut Connection<S>) -> Resu
     ensures sound { IsSound (state S.Store conn.new) → IsSound (state S.Store conn.old) }
     ensures migrated { IsSound (state S.Store conn.new) → OnOk result (Migrates (state S.Store conn.old).now (state S.Store conn.new).now × ((state S.Store conn.new).now ≡ (state S.Store conn.new).committed)) }
     ensures refused { IsSound (state S.Store conn.new) → OnErr result ((state S.Store conn.new).now ≡ (state S.Store conn.old).now) }
+    ensures bad { IsSound (state S.Store conn.new) → (handler : HandlerId) → result ≡ Err (KeeperError.BadImage handler) → IsLowestBad (state S.Store conn.old).now handler.0 }
     ensures named { IfErr result IsAdoptError }
     ensures survives { Survives (state S.Store conn.old) (state S.Store conn.new) (λ trees. IsTrue (state S.Store conn.old).is_open × (db : Database) × Migrates (state S.Store conn.old).now db × (trees ≡ db.trees)) }
 {
@@ -139,7 +141,7 @@ pub(crate) fn migrate<S: Alter>(alloc: Global, conn: &mut Connection<S>) -> Resu
 /// The handler's number in the row.
 fn handler_in(row: &Row) -> Result<HandlerId, KeeperError>
     ensures number { IfOk result (λ handler. column row.now 0 ≡ Int (pos handler.0)) }
-    ensures named { IfErr result IsAdoptError }
+    ensures named { IfErr result (λ e. IsPutError e ⊎ (e ≡ KeeperError.WrongSchema)) }
 {
     let number: i64 = match row.get(0) {
         Ok(number) => number,
@@ -151,9 +153,26 @@ fn handler_in(row: &Row) -> Result<HandlerId, KeeperError>
     }
 }
 
+/// Refused: `WrongSchema` where a number in the rows is no handler's.
+fn check_numbers(rows: &[Row]) -> Result<(), KeeperError>
+    ensures numbered { OnOk result (AreNumbered rows.now) }
+    ensures named { IfErr result (λ e. IsPutError e ⊎ (e ≡ KeeperError.WrongSchema)) }
+{
+    let mut low = 0u64;
+    for row in rows {
+        let handler = handler_in(row)?;
+        if u64::from(handler.0) < low {
+            return Err(KeeperError::Refused);
+        }
+        low = u64::from(handler.0) + 1;
+    }
+    Ok(())
+}
+
 /// The state whose image is in the row.
 fn state_in_row(alloc: Global, row: &Row) -> Result<HandlerState, KeeperError>
     ensures state { IfOk result (IsFirstRow row.now) }
+    ensures bad { (handler : HandlerId) → result ≡ Err (KeeperError.BadImage handler) → IsBadRow handler.0 row.now }
     ensures named { IfErr result IsAdoptError }
 {
     let handler = handler_in(row)?;
@@ -168,27 +187,17 @@ fn state_in_row(alloc: Global, row: &Row) -> Result<HandlerState, KeeperError>
     }
 }
 
-fn are_below(all: &[HandlerState], it: &HandlerState) -> bool
-    ensures { IsTrue result → All (λ below. below.number.0 < it.now.number.0) all.now }
-{
-    all.iter().all(|below| below.handler().0 < it.handler().0)
-}
-
-/// The states whose images are in the rows, whose keys rise.
+/// The states whose images are in the rows, whose numbers rise.
 fn states_of(alloc: Global, rows: &[Row]) -> Result<Vec<HandlerState>, KeeperError>
     ensures read { IfOk result (λ all. AllZip IsFirstRow rows.now all.items) }
     ensures rises { IfOk result (λ all. IsRising all.items) }
+    ensures bad { (handler : HandlerId) → result ≡ Err (KeeperError.BadImage handler) → IsFirstBad rows.now handler.0 }
     ensures named { IfErr result IsAdoptError }
 {
-    for row in rows {
-        handler_in(row)?;
-    }
+    check_numbers(rows)?;
     let mut all: Vec<HandlerState> = Vec::new(alloc);
     for row in rows {
         let state = state_in_row(alloc, row)?;
-        if !are_below(all.as_slice(), &state) {
-            return Err(KeeperError::Refused);
-        }
         if all.push(state).is_err() {
             return Err(KeeperError::OutOfMemory);
         }

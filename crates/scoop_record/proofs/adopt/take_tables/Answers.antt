@@ -2,7 +2,7 @@ use Rattle.std.proofs.Common.{◌≡◌, Some, pos, subst, sym, ap, arith, ◌�
 use Rattle.sqlite.specs.Effect.{Database}
 use Rattle.sqlite.specs.Held.{state}
 use Rattle.sqlite.proofs.StateLemmas.{survives_then}
-use Rattle.scoop_record.specs.Migrate.{Migrates}
+use Rattle.scoop_record.specs.Migrate.{IsLowestBad, Migrates}
 use Rattle.scoop_record.specs.Store.{IsSound, TellsVersion, number_of}
 use Rattle.scoop_record.proofs.StatementLemmas.{clean_before}
 use Rattle.scoop_record.specs.Tables.{first_schema, record_schema, value_at}
@@ -47,3 +47,9 @@ returns-then-is_record_schema-clause-adopted g c sound =
       version = ap (λ (d : Database). value_at (d.trees 0) 1) same ∙ version_stands _ (pos 2) (subst (λ n. Some n ≡ number_of (value_at (before.now.trees 0) 1)) two (rw c.in-Some.is at told));
       kept = inl same;
     }
+
+pub returns-then-is_first_schema-clause-bad : goal.returns-then-is_first_schema-clause-bad
+returns-then-is_first_schema-clause-bad g c sound handler is =
+    let read = c.migrate.ensures.sound sound in
+    let same = (c.version.ensures.same read).0 ∙ sym (c.requires.settled (c.version.ensures.sound read)) in
+    subst (λ (d : Database). IsLowestBad d handler.0) same (c.migrate.ensures.bad sound handler is)

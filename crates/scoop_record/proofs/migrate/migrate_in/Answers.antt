@@ -1,10 +1,11 @@
-use Rattle.std.proofs.Common.{pos, subst}
+use Rattle.std.proofs.Common.{pos, subst, sym, ap, Err}
 use Rattle.sqlite.specs.declared.types.Value.TheVariants.{Int}
 use Rattle.sqlite.specs.Effect.{Database}
 use Rattle.sqlite.specs.Held.{state}
 use Rattle.scoop_record.specs.Migrate.{SavesAll}
 use Rattle.scoop_record.proofs.StatementLemmas.{clean_before}
 use Rattle.scoop_record.proofs.MigrateLemmas.{version_before, migrated}
+use Rattle.scoop_record.proofs.NumberLemmas.{lowest_bad}
 use Rattle.scoop_record.proofs.migrate.migrate_in.Goals as goal
 
 pub raise_version-requires : goal.raise_version-requires
@@ -43,3 +44,16 @@ returns-in-Ok-raise_version-clause-migrated g c clean =
     let saves = subst (λ (d : Database). SavesAll d saved.now c.as_slice-2.result.now) shown.0.0.now_is (c.in_ok-put_states.ensures.put (clean3, open3)) in
     migrated before.now made.now saved.now after.now c.as_slice.result.now c.as_slice-2.result.now (c.in_default.ensures.made clean1).0
     (rw c.as_slice.ensures.value shown.1) (rw c.as_slice-2.ensures.value c.in_ok-all.ensures.read) (rw c.as_slice-2.ensures.value c.in_ok-all.ensures.rises) saves (c.in-Ok-raise_version.ensures.put clean).0 first.0 first.1
+
+pub returns-in_err-all-clause-bad : goal.returns-in_err-all-clause-bad
+returns-in_err-all-clause-bad g c clean2 handler is =
+    let before = state g.S.Store c.args.tx.now.conn.now in
+    let made = state g.S.Store c.create_pending.new.tx.conn.now in
+    let read = state g.S.Store c.rows_of_handlers.new.tx.conn.now in
+    let clean1 = clean_before made read _ c.rows_of_handlers.ensures.survives clean2 in
+    let clean0 = clean_before before made _ c.create_pending.ensures.survives clean1 in
+    let makes = c.in_default.ensures.made clean1 in
+    let first = c.requires (clean0, makes.1.was_open) in
+    let shown = c.in-Ok.ensures.rows clean2 in
+    let own = rw is at c.from_residual.ensures in
+    lowest_bad before.now made.now c.as_slice.result.now handler.0 makes.0 (rw c.as_slice.ensures.value shown.1) first.0 first.1 (c.in_err-all.ensures.bad handler (ap Err (sym own.1)))
