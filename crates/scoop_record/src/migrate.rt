@@ -153,7 +153,7 @@ fn handler_in(row: &Row) -> Result<HandlerId, KeeperError>
     }
 }
 
-/// Refused: `WrongSchema` where a number in the rows is no handler's.
+/// Refused: `WrongSchema` where a number in the rows is no handler's, `Refused` where they don't rise.
 fn check_numbers(rows: &[Row]) -> Result<(), KeeperError>
     ensures numbered { OnOk result (AreNumbered rows.now) }
     ensures named { IfErr result (λ e. IsPutError e ⊎ (e ≡ KeeperError.WrongSchema)) }

@@ -105,7 +105,8 @@ fn a_store_of_version_1_is_migrated(rt: HostRuntime) -> Result<(), Fail> {
     Ok(())
 }
 
-fn refusal_of(alloc: Global, conn: &mut Connection<MemStore>) -> Option<KeeperError> {
+// The call stands alone here, so that the tests don't carry what it says.
+pub fn refusal_of(alloc: Global, conn: &mut Connection<MemStore>) -> Option<KeeperError> {
     adopt_tables(alloc, conn).err()
 }
 

@@ -1,17 +1,13 @@
 //! Tables that are made and taken on a connection that stays the caller's.
 
+use super::keepers::refusal_of;
 use crate::*;
 use sqlite::{Connection, MemStore};
-use std::alloc::Global;
 use std::test::Fail;
 
-// Each call stands alone here, so that the tests don't carry what all of them say.
+// The call stands alone here, so that the tests don't carry what it says.
 fn makes(conn: &mut Connection<MemStore>) -> Option<KeeperError> {
     create_tables(conn).err()
-}
-
-fn takes(alloc: Global, conn: &mut Connection<MemStore>) -> Option<KeeperError> {
-    adopt_tables(alloc, conn).err()
 }
 
 fn runs(conn: &mut Connection<MemStore>, text: &str) -> bool {
@@ -32,7 +28,7 @@ fn tables_are_made_once(rt: HostRuntime) -> Result<(), Fail> {
     let mut conn = Connection::open_in_memory(rt.alloc())?;
     assert!(rt; makes(&mut conn).is_none());
     assert!(rt; version(&mut conn) == Some(2));
-    assert!(rt; takes(rt.alloc(), &mut conn).is_none());
+    assert!(rt; refusal_of(rt.alloc(), &mut conn).is_none());
     assert!(rt; makes(&mut conn) == Some(KeeperError::Refused));
     Ok(())
 }
@@ -63,9 +59,9 @@ fn tables_of_another_version_stay(rt: HostRuntime) -> Result<(), Fail> {
     let mut conn = Connection::open_in_memory(rt.alloc())?;
     assert!(rt; makes(&mut conn).is_none());
     assert!(rt; runs(&mut conn, "UPDATE meta SET version = 9"));
-    assert!(rt; takes(rt.alloc(), &mut conn) == Some(KeeperError::WrongSchema));
+    assert!(rt; refusal_of(rt.alloc(), &mut conn) == Some(KeeperError::WrongSchema));
     assert!(rt; version(&mut conn) == Some(9));
     assert!(rt; runs(&mut conn, "UPDATE meta SET version = 2"));
-    assert!(rt; takes(rt.alloc(), &mut conn).is_none());
+    assert!(rt; refusal_of(rt.alloc(), &mut conn).is_none());
     Ok(())
 }
