@@ -22,6 +22,7 @@ use Rattle.scoop_world.specs.declared.event.Command.TheVariants.{Reserve, Call, 
 use Rattle.scoop_world.specs.World.{World, Party, HandlerLog, is_line_of, is_party, party_of, has_block, lines_of, handlers_of, set_of, log_of, opened_at, is_succeeded}
 use Rattle.scoop_world.specs.Step.{core_command, newest_block, logs_after, commanded_world}
 use Rattle.scoop_world.specs.Paper.{LogOne, MovesLead, logged_to, has_open, waits, Seen, seen, has_end, queue_of, queue_at, inc_of, configuration_of, objects_of, command_moves}
+use Rattle.scoop_world.proofs.TakenOutcome.{ok_is}
 use Rattle.scoop_world.proofs.Events.{by_test}
 use Rattle.scoop_world.proofs.Keys.{id_found}
 use Rattle.scoop_world.proofs.Order.Facts.{PartyFits, all_found}
@@ -251,9 +252,6 @@ module _
         (λ h m. takes_more h m EndEntry (adds h)) none_waits)
 
 -- ---- any command
-
-ok_is : (a d : ClientState) → ◌≡◌ {A = client.Outcome} (Ok a) (Ok d) → a ≡ d
-ok_is a d e = cc
 
 module _ (w : World) (f : Following w) (c : ClientId) (p : Party) (at : party_of c w ≡ Some p) (d : ClientState) where
   log_row :
