@@ -59,7 +59,7 @@ pub data Move : Type 0 where
 
 -- ---- the moves
 
--- a map in which one handler, or one client, has another value
+-- a map once another value is put at one handler, or at one client
 abbrev pub put_at_handler : {A : Type 0} → HandlerId → A → (HandlerId → A) → HandlerId → A
 put_at_handler h a f x = if same_handler x h then a else f x
 

@@ -79,7 +79,7 @@ newly_locked_new w s m b i here tells new e =
     let found : Some g.site ≡ Some s = sym g.found ∙ here in
     let one : g.site ≡ s = cc in
     let r : IsReachedIn s.core.state.marks b = subst (λ (x : Site). IsReachedIn x.core.state.marks b) one g.reached in
-    let marks : Some r.mark ≡ Some new.mark = sym r.found ∙ new.found in
+    let marks : Some r.mark ≡ Some new.mark = sym {b = Some r.mark} r.found ∙ new.found in
     let alike : r.mark ≡ new.mark = cc in
     absurd_place r.mark.inc new.mark.inc r.mark.num new.mark.num b.inc b.num (ap (λ (k : Mark). k.inc) alike) (ap (λ (k : Mark). k.num) alike) r.upto.num new.inc new.num
   where
