@@ -69,6 +69,16 @@ module _ (w : World) (s old : Site) (here : site_of (number_of s) w ≡ Some old
 
 -- ---- a handler hears
 
+-- a block that is newly locked was not reached before
+reached_not_new : (s : Site) (m : Message) (b : Block) → IsReachedIn s.core.state.marks b → IsNewlyLocked s.core.state m b → ⊥
+reached_not_new s m b r new =
+    let marks : Some r.mark ≡ Some new.mark = sym r.found ∙ new.found in
+    let alike : r.mark ≡ new.mark = cc in
+    absurd_place r.mark.inc new.mark.inc r.mark.num new.mark.num b.inc b.num (ap (λ (k : Mark). k.inc) alike) (ap (λ (k : Mark). k.num) alike) r.upto.num new.inc new.num
+  where
+    absurd_place : (i j n k c d : ℕ) → i ≡ j → n ≡ k → (i ≡ c → d ≤ n) → j ≡ c → k < d → ⊥
+    absurd_place i j n k c d ij nk up jc kd = let le = up (ij ∙ jc) in omega (arith, le, nk, kd)
+
 newly_locked_new : (w : World) (s : Site) (m : Message) (b : Block) → Ordered w → site_of (number_of s) w ≡ Some s → Tells w m → IsNewlyLocked s.core.state m b → has_block w.joint b ≡ true → ⊥
 newly_locked_new w s m b i here tells new e =
     let names : IsNamed w (number_of s) b = subst (Tells w) new.asks tells in
@@ -79,12 +89,7 @@ newly_locked_new w s m b i here tells new e =
     let found : Some g.site ≡ Some s = sym g.found ∙ here in
     let one : g.site ≡ s = cc in
     let r : IsReachedIn s.core.state.marks b = subst (λ (x : Site). IsReachedIn x.core.state.marks b) one g.reached in
-    let marks : Some r.mark ≡ Some new.mark = sym {b = Some r.mark} r.found ∙ new.found in
-    let alike : r.mark ≡ new.mark = cc in
-    absurd_place r.mark.inc new.mark.inc r.mark.num new.mark.num b.inc b.num (ap (λ (k : Mark). k.inc) alike) (ap (λ (k : Mark). k.num) alike) r.upto.num new.inc new.num
-  where
-    absurd_place : (i j n k c d : ℕ) → i ≡ j → n ≡ k → (i ≡ c → d ≤ n) → j ≡ c → k < d → ⊥
-    absurd_place i j n k c d ij nk up jc kd = let le = up (ij ∙ jc) in omega (arith, le, nk, kd)
+    reached_not_new s m b r new
 
 -- what a reply tells
 reply_tells : (v : World) (s : Site) (o : Option Message) → site_of (number_of s) v ≡ Some s → TellsBack s.core.state o → (m : Message) → o ≡ Some m → Tells v m

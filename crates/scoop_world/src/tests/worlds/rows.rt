@@ -36,7 +36,7 @@ fn trips(rt: &impl Abort, world: &mut World<Table>, rows: &[(u32, u32, Heard)]) 
 }
 
 #[test]
-fn three_clients_share_three_cells(rt: HostRuntime) -> Result<(), Fail> {
+fn three_clients_share_cells(rt: HostRuntime) -> Result<(), Fail> {
     let mut world = world(&rt, rt.alloc(), &[1, 2, 3], &[7, 8, 9]);
     for client in [7, 8, 9] {
         greets(&rt, &mut world, client, &[1, 2, 3]);
