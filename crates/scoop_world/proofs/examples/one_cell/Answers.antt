@@ -1,4 +1,4 @@
-use Rattle.std.proofs.Common.{◌≡◌, ℕ, List, [], ◌∷◌, refl, arith}
+use Rattle.std.proofs.Common.{[], ◌∷◌, refl, arith}
 use Rattle.std.specs.Prelude.{zero, suc}
 use Rattle.scoop_world.specs.Opening.{MayOpen}
 use Rattle.scoop_world.specs.Safe.{NoRepeats}
