@@ -1,7 +1,6 @@
 -- A block that begins has no log yet.
-use Rattle.std.proofs.Common.{◌≡◌, ℕ, ◌+◌, ◌≤◌, Bool, true, false, ◌||◌, true≢false, List, [], ◌∷◌, find, slice_get, Option, Some, None, refl, sym, ap, ◌∙◌, subst, arith}
+use Rattle.std.proofs.Common.{◌≡◌, ℕ, true, false, ◌||◌, true≢false, List, [], ◌∷◌, find, slice_get, Some, refl, sym, ap, subst, arith}
 use Rattle.std.specs.Prelude.{Ok, if◌then◌else◌}
-use Rattle.std.specs.List.{list_any}
 use Rattle.std.specs.Option.{option_map}
 use Rattle.scoop_message.specs.declared.name.Block.{Block}
 use Rattle.scoop_message.specs.declared.name.HandlerId.{HandlerId}
@@ -9,10 +8,11 @@ use Rattle.scoop_client.specs.State.{ClientState}
 use Rattle.scoop_client.specs.Commands as client
 use Rattle.scoop_client.specs.Rows.{ReserveRow, begins_block}
 use Rattle.scoop_client.proofs.CommandRows.{command_row}
-use Rattle.scoop_world.specs.World.{World, Party, BlockLog, is_log_of, handlers_in, handlers_of}
+use Rattle.scoop_world.specs.World.{World, Party, BlockLog, is_log_of, handlers_in}
 use Rattle.scoop_world.specs.Step.{newest_block}
 use Rattle.scoop_world.specs.Reach.{IsReached}
 use Rattle.scoop_world.specs.Kept.{has_log}
+use Rattle.scoop_world.proofs.TakenOutcome.{ok_is}
 use Rattle.scoop_world.proofs.Events.{by_test}
 use Rattle.scoop_world.proofs.Reaching.{reached_ordered}
 use Rattle.scoop_world.proofs.Order.Facts.{PartyFits, all_at}
@@ -24,9 +24,6 @@ handlers_found b (l ∷ ls) e =
     by_test (λ t. (t || has_log b ls) ≡ true → (hs : List HandlerId) × (option_map handlers_in (if t then Some l else find (is_log_of b) ls) ≡ Some hs)) (is_log_of b l)
     (λ _ f. (handlers_in l, refl))
     (λ _ f. handlers_found b ls f) e
-
-ok_is : (a b : ClientState) → ◌≡◌ {A = client.Outcome} (Ok a) (Ok b) → a ≡ b
-ok_is a b e = cc
 
 begun_block : (c d : ClientState) (hs : List HandlerId) (o : client.Outcome) → ReserveRow c hs o → o ≡ Ok d → newest_block d ≡ client.next_block c
 begun_block c d hs o (begins_block r idle room begins) is = ap newest_block (sym (ok_is (client.with_block c hs r) d is))

@@ -79,6 +79,10 @@ pub by_site :
     → (number_of s ≡ h → P (Some s)) → ((number_of s ≡ h → ⊥) → P (site_of h w)) → P (find (is_site h) (set_site s w.sites))
 by_site P w s old h = by_key number_of same_handler handler_decides P s old w.sites h
 
+-- a site that is put in the place of its handler's is found there
+pub site_put : (w : World) (s old : Site) → site_of (number_of s) w ≡ Some old → find (is_site (number_of s)) (set_site s w.sites) ≡ Some s
+site_put w s old here = own_found number_of same_handler handler_decides s old w.sites here
+
 pub by_party :
     (P : Option Party → Type 0) (w : World) (p old : Party) (c : ClientId) → party_of (id_of p) w ≡ Some old
     → (id_of p ≡ c → P (Some p)) → ((id_of p ≡ c → ⊥) → P (party_of c w)) → P (find (is_party c) (set_party p w.parties))

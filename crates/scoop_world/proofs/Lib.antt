@@ -18,6 +18,7 @@ pub mod Headline
 mod Reaching
 mod KeptPlaces
 mod SitesMade
+mod TakenOutcome
 mod TakenCommands
 mod TakenEvents
 mod FreshBlocks

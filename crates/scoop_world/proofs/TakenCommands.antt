@@ -1,18 +1,17 @@
 -- What a world is once a client has taken a command, or has refused it.
-use Rattle.std.proofs.Common.{◌≡◌, ℕ, false, List, [], ◌∷◌, map, set, slice_get, Option, Some, None, refl, sym, ap, ◌∙◌, subst}
+use Rattle.std.proofs.Common.{◌≡◌, ℕ, false, List, [], map, set, slice_get, Option, Some, None, refl, sym, ap, ◌∙◌, subst}
 use Rattle.std.specs.Prelude.{Ok, Err, IsOk}
 use Rattle.std.proofs.lemmas.Option.{same_Some}
 use Rattle.scoop_message.specs.declared.name.Block.{Block}
 use Rattle.scoop_message.specs.declared.name.HandlerId.{HandlerId}
 use Rattle.scoop_message.specs.declared.request.Entry.{Entry}
 use Rattle.scoop_message.specs.declared.request.Entry.TheVariants.{End as EndEntry, Call as CallEntry, Query as QueryEntry}
-use Rattle.scoop_client.specs.State.{ClientState, phase_of}
+use Rattle.scoop_client.specs.State.{ClientState}
 use Rattle.scoop_client.specs.Commands as client
 use Rattle.scoop_client.specs.Rows.{LogRow, is_logged, EndRow, ends_block}
 use Rattle.scoop_client.proofs.CommandRows.{command_row}
 use Rattle.scoop_world.specs.declared.event.Command.{Command}
 use Rattle.scoop_world.specs.declared.event.Command.TheVariants.{Reserve, Call, Query, End, GiveUp}
-use Rattle.scoop_world.specs.declared.note.WorldNote.{WorldNote}
 use Rattle.scoop_world.specs.declared.note.WorldNote.TheVariants as note
 use Rattle.scoop_world.specs.declared.error.WorldError.{WorldError}
 use Rattle.scoop_world.specs.declared.error.WorldError.TheVariants.{NoSuchMessage, NoSuchParty, NothingToRun, ClientRefused, IncarnationsSpent, OutOfMemory}
@@ -21,12 +20,10 @@ use Rattle.scoop_world.specs.Step.{Stepped, core_command, newest_block, changed_
 use Rattle.scoop_world.specs.Reach.{IsReached}
 use Rattle.scoop_world.specs.Kept.{has_log, logged_by, with_entry_for}
 use Rattle.scoop_world.specs.Answers.{IsRefusal, IsRefused, RefusesLog, outcome_of}
+use Rattle.scoop_world.proofs.TakenOutcome.{ok_is}
 use Rattle.scoop_world.proofs.Reaching.{parties_apart}
 use Rattle.scoop_world.proofs.KeptPlaces.{party_set}
 use Rattle.scoop_world.proofs.LogLists.{none_changed}
-
-ok_is : (a b : ClientState) → ◌≡◌ {A = client.Outcome} (Ok a) (Ok b) → a ≡ b
-ok_is a b e = cc
 
 -- ---- a command that logs
 

@@ -59,12 +59,12 @@ pub data Move : Type 0 where
 
 -- ---- the moves
 
--- a map in which one handler, or one client, has another value
-abbrev pub at_handler : {A : Type 0} → HandlerId → A → (HandlerId → A) → HandlerId → A
-at_handler h a f x = if same_handler x h then a else f x
+-- a map once another value is put at one handler, or at one client
+abbrev pub put_at_handler : {A : Type 0} → HandlerId → A → (HandlerId → A) → HandlerId → A
+put_at_handler h a f x = if same_handler x h then a else f x
 
-abbrev pub at_client : {A : Type 0} → ClientId → A → (ClientId → A) → ClientId → A
-at_client c a f x = if same_client x c then a else f x
+abbrev pub put_at_client : {A : Type 0} → ClientId → A → (ClientId → A) → ClientId → A
+put_at_client c a f x = if same_client x c then a else f x
 
 abbrev pub is_of : Block → Waiting → Bool
 is_of b q = same_block q.block b
@@ -87,7 +87,7 @@ logged_to b e q =
     else q
 
 abbrev pub log_one : Block → HandlerId → Entry → Configuration → Configuration
-log_one b h e g = record g { queues = at_handler h (map (logged_to b e) (g.queues h)) g.queues }
+log_one b h e g = record g { queues = put_at_handler h (map (logged_to b e) (g.queues h)) g.queues }
 
 -- how many entries of the block have run
 abbrev pub count_of : Block → List Ran → ℕ
@@ -106,8 +106,8 @@ abbrev pub run_entries : Objects → HandlerId → Waiting → List Entry → Li
 run_entries o h q [] qs g = g
 run_entries o h q (e ∷ es) qs g =
     record g {
-      queues = at_handler h (rest_of q e es ++ qs) g.queues;
-      ran = at_handler h (g.ran h ++ next_ran (o.class h) (o.words h) (g.ran h) q.block e ∷ []) g.ran;
+      queues = put_at_handler h (rest_of q e es ++ qs) g.queues;
+      ran = put_at_handler h (g.ran h ++ next_ran (o.class h) (o.words h) (g.ran h) q.block e ∷ []) g.ran;
     }
 
 -- the first entry of the first queue runs
@@ -116,7 +116,7 @@ run_first o h [] g = g
 run_first o h (q ∷ qs) g = run_entries o h q q.entries qs g
 
 abbrev pub restart : ClientId → Configuration → Configuration
-restart c g = record g { inc = at_client c (g.inc c + 1) g.inc }
+restart c g = record g { inc = put_at_client c (g.inc c + 1) g.inc }
 
 -- what a cut leaves of a queue: nothing, where no entry is kept
 abbrev pub cut_queue : Block → List Entry → List Waiting
@@ -129,7 +129,7 @@ cut_waiting b k q = if is_of b q then cut_queue q.block (take k q.entries) else 
 
 -- of all that was ever logged for the block here, the first k entries are kept
 abbrev pub cut_to : Block → HandlerId → ℕ → Configuration → Configuration
-cut_to b h k g = record g { queues = at_handler h (flat_map (cut_waiting b (k - count_of b (g.ran h))) (g.queues h)) g.queues }
+cut_to b h k g = record g { queues = put_at_handler h (flat_map (cut_waiting b (k - count_of b (g.ran h))) (g.queues h)) g.queues }
 
 abbrev pub moved : Objects → Move → Configuration → Configuration
 moved o (Separate b hs) g = separate b hs g
@@ -163,9 +163,9 @@ May (Restart c) g = ⊤
 May (CutTo b h k) g = (b.inc < g.inc b.client) × (count_of b (g.ran h) ≤ k)
 
 -- the moves, each of which may be made, lead from one configuration to the other
-abbrev pub Leads : Objects → Configuration → List Move → Configuration → Type 0
-Leads o g [] end = g ≡ end
-Leads o g (m ∷ ms) end = May m g × Leads o (moved o m g) ms end
+abbrev pub MovesLead : Objects → Configuration → List Move → Configuration → Type 0
+MovesLead o g [] end = g ≡ end
+MovesLead o g (m ∷ ms) end = May m g × MovesLead o (moved o m g) ms end
 
 -- ---- what a world stands for
 
@@ -294,7 +294,7 @@ moves_of v w (NodeRestart n) told = []
 
 -- the event takes the configuration that the one world stands for to that of the other, by its moves
 abbrev pub Follows : World → Event → World → WorldNote → Type 0
-Follows v e w told = Leads (objects_of v) (configuration_of v) (moves_of v w e told) (configuration_of w)
+Follows v e w told = MovesLead (objects_of v) (configuration_of v) (moves_of v w e told) (configuration_of w)
 
 -- an event that isn't refused follows the rules
 abbrev pub FollowsRules : World → Event → Type 0
@@ -319,11 +319,11 @@ replayed o (m ∷ ms) g = replayed o ms (moved o m g)
 -- from the configuration in which the clients have their incarnations and nothing was reserved, the moves of the
 -- events lead by the rules to the one that the last world stands for
 abbrev pub RunsByRules : World → List Event → World → Type 0
-RunsByRules v es w = Leads (objects_of v) (empty_configuration (inc_of v)) (moves_in v es) (configuration_of w)
+RunsByRules v es w = MovesLead (objects_of v) (empty_configuration (inc_of v)) (moves_in v es) (configuration_of w)
 
 -- the moves of the events lead by the rules from the configuration that the one world stands for to that of the other
 abbrev pub LeadsByRules : World → List Event → World → Type 0
-LeadsByRules v es w = Leads (objects_of v) (configuration_of v) (moves_in v es) (configuration_of w)
+LeadsByRules v es w = MovesLead (objects_of v) (configuration_of v) (moves_in v es) (configuration_of w)
 
 -- so do those of all events, or of those before the first that is refused
 abbrev pub FollowsRun : World → List Event → Result ℕ (ℕ × WorldError) → World → Type 0

@@ -1,3 +1,4 @@
 //! The tests of worlds.
 
 mod data;
+mod worlds;

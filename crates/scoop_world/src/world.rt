@@ -37,7 +37,8 @@ impl<B: Behaviour> Model for World<B> {
 }
 
 impl<B: Behaviour> World<B> {
-    /// One event. The cost doesn't grow with the number of events before it.
+    /// One event. On average the cost doesn't grow with the number of events before it: what grows a list
+    /// copies it now and then.
     ///
     /// Refused with nothing changed, in this order: `NoSuchMessage`, `NoSuchParty`, `NothingToRun`,
     /// `ClientRefused`, `IncarnationsSpent`, `OutOfMemory`.
@@ -127,7 +128,7 @@ impl<B: Behaviour> World<B> {
         }
     }
 
-    /// The i-th message that was sent, i from 1.
+    /// The i-th message that was sent, i from 1. `None` for 0, and where so many weren't sent.
     pub fn sent(&self, i: usize) -> Option<&Message>
         ensures { option_map (λ m. m.now) result ≡ sent_at i self.now }
     {

@@ -1,5 +1,5 @@
 -- What a handler does keeps the answers right.
-use Rattle.std.proofs.Common.{◌≡◌, ℕ, ◌==◌, false, List, [], ◌∷◌, map, find, Option, Some, None, refl, sym, ap, ◌∙◌, subst}
+use Rattle.std.proofs.Common.{◌≡◌, ℕ, ◌==◌, List, [], ◌∷◌, map, find, Option, Some, None, refl, sym, ap, ◌∙◌, subst}
 use Rattle.std.specs.Prelude.{if◌then◌else◌}
 use Rattle.std.specs.List.{AllByRecursion}
 use Rattle.std.specs.Option.{option_map, option_map_or}
@@ -13,7 +13,7 @@ use Rattle.scoop_message.proofs.Same.{pair}
 use Rattle.scoop_object.specs.Class.{ClassTable}
 use Rattle.scoop_object.specs.Play.{entry_effect, play}
 use Rattle.scoop_handler.specs.declared.ran.Ran.{Ran}
-use Rattle.scoop_handler.specs.Core.{Core, core_of}
+use Rattle.scoop_handler.specs.Core.{Core}
 use Rattle.scoop_handler.specs.Hearing.{Hearing, hear}
 use Rattle.scoop_handler.specs.Running.{Task, task_of, ran_of, job_out}
 use Rattle.scoop_handler.specs.State.{HandlerState}
@@ -23,8 +23,9 @@ use Rattle.scoop_handler.proofs.After.{job-first, job-front}
 use Rattle.scoop_world.specs.World.{World, Site, number_of, is_site, site_of, set_site, ran_at}
 use Rattle.scoop_world.specs.Step.{heard_world, heard_site, with_site, begun_site, finished_site, reopened, reopened_world}
 use Rattle.scoop_world.specs.Safe.{entries_of, HasRun}
+use Rattle.scoop_world.specs.Kept.{reopened_site}
 use Rattle.scoop_world.proofs.Events.{by_test}
-use Rattle.scoop_world.proofs.Keys.{number_found, by_site}
+use Rattle.scoop_world.proofs.Keys.{number_found, by_site, site_put}
 use Rattle.scoop_world.proofs.Order.Facts.{SiteFits, Ordered, all_pushed, all_found, all_set_site}
 use Rattle.scoop_world.proofs.Answering.Objects.{play_pushed, answers_pushed}
 use Rattle.scoop_world.proofs.Answering.Kept.{KeepsRan, TellsRan, has_run_more, keeps-row, tells_ran-row, keeps_ran}
@@ -44,9 +45,6 @@ module _ (w : World) (s old : Site) (here : site_of (number_of s) w ≡ Some old
       more b n a (subst (λ o. HasRun (ran_of_site o) b n a) found r))
       (λ apart. r)
 
-  own_found : find (is_site (number_of s)) (set_site s w.sites) ≡ Some s
-  own_found = by_site (λ q. q ≡ Some s) w s old (number_of s) here (λ same. refl) (λ apart. absurd (apart refl))
-
   site_goes_on :
       (ms : List Message) (js : List Block) → Answering w → SiteAnswers s
       → ((v : World) → site_of (number_of s) v ≡ Some s → AllByRecursion (TellsAnswer v) w.sent → AllByRecursion (TellsAnswer v) ms)
@@ -54,7 +52,7 @@ module _ (w : World) (s old : Site) (here : site_of (number_of s) w ≡ Some old
   site_goes_on ms js i fits tells =
       let v : World = record w { sites = set_site s w.sites; sent = ms; joint = js } in
       record {
-        messages = tells v own_found (messages_more w v ran_stays w.sent i.messages);
+        messages = tells v (site_put w s old here) (messages_more w v ran_stays w.sent i.messages);
         sites = all_set_site SiteAnswers SiteAnswers s w.sites fits (λ x f. f) i.sites;
         parties = parties_answer_more w v ran_stays w.parties i.parties;
       }
@@ -138,14 +136,11 @@ ran_first h x y xs ys number ran later =
     (by_test (λ t. ran_of_site (if t then Some y else find (is_site h) ys) ≡ ran_of_site (if t then Some x else find (is_site h) xs)) (is_site h x) (λ first. ran) (λ other. later))
 
 module _ (js : List Block) (n : ℕ) where
-  abbrev taken_anew : Site → Site
-  taken_anew x = record x { core = core_of x.core.class x.stored false }
-
   number_anew : (x : Site) → SiteFits js x → number_of (reopened n x) ≡ number_of x
-  number_anew x f = by_test (λ t. number_of (if t then taken_anew x else x) ≡ number_of x) (x.node == n) (λ here. ap (λ (st : HandlerState). st.number) f.stored) (λ there. refl)
+  number_anew x f = by_test (λ t. number_of (if t then reopened_site x else x) ≡ number_of x) (x.node == n) (λ here. ap (λ (st : HandlerState). st.number) f.stored) (λ there. refl)
 
   ran_same : (x : Site) → (reopened n x).ran ≡ x.ran
-  ran_same x = by_test (λ t. (if t then taken_anew x else x).ran ≡ x.ran) (x.node == n) (λ here. refl) (λ there. refl)
+  ran_same x = by_test (λ t. (if t then reopened_site x else x).ran ≡ x.ran) (x.node == n) (λ here. refl) (λ there. refl)
 
   pub ran_anew : (h : HandlerId) (xs : List Site) → AllByRecursion (SiteFits js) xs → ran_of_site (find (is_site h) (map (reopened n) xs)) ≡ ran_of_site (find (is_site h) xs)
   ran_anew h [] all = refl
@@ -153,7 +148,7 @@ module _ (js : List Block) (n : ℕ) where
 
   answers_anew : (x : Site) → SiteFits js x → SiteAnswers x → SiteAnswers (reopened n x)
   answers_anew x f g =
-      by_test (λ t. SiteAnswers (if t then taken_anew x else x)) (x.node == n)
+      by_test (λ t. SiteAnswers (if t then reopened_site x else x)) (x.node == n)
       (λ here. record {
         words = ap (λ (st : HandlerState). st.words) f.stored ∙ g.words;
         answers = g.answers;

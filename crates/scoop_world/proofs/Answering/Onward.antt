@@ -20,6 +20,7 @@ use Rattle.scoop_world.specs.declared.event.Command.{Command}
 use Rattle.scoop_world.specs.declared.event.Command.TheVariants.{Reserve, Call, Query, End, GiveUp}
 use Rattle.scoop_world.specs.World.{Accepted}
 use Rattle.scoop_world.specs.Step.{core_command}
+use Rattle.scoop_world.proofs.TakenOutcome.{ok_is}
 use Rattle.scoop_world.proofs.Events.{by_test}
 use Rattle.scoop_world.proofs.Order.Holding.{Upto, upto_more}
 use Rattle.scoop_world.proofs.Answering.Facts.{acked_at, IsBehind}
@@ -52,9 +53,6 @@ behind_more c d a o b = record {
       let more = block.acked a.0 in
       omega (arith, low, more);
 }
-
-ok_is : (a b : ClientState) → ◌≡◌ {A = client.Outcome} (Ok a) (Ok b) → a ≡ b
-ok_is a b e = cc
 
 -- ---- the client stays in its block
 

@@ -27,6 +27,7 @@ use Rattle.scoop_world.specs.declared.event.Command.{Command}
 use Rattle.scoop_world.specs.declared.event.Command.TheVariants.{Reserve, Call, Query, End, GiveUp}
 use Rattle.scoop_world.specs.World.{World, Party, HandlerLog, id_of, is_party, log_of, lines_of, handlers_of}
 use Rattle.scoop_world.specs.Step.{core_command, newest_block, logs_after, commanded_world}
+use Rattle.scoop_world.proofs.TakenOutcome.{ok_is}
 use Rattle.scoop_world.proofs.Events.{by_test}
 use Rattle.scoop_world.proofs.Order.Facts.{PartyFits, all_more_of, all_set_party}
 use Rattle.scoop_world.proofs.Order.Commands.{next_is_new, started_fresh}
@@ -290,9 +291,6 @@ give_up_logs w p r s f held given =
     some_is a b e = cc
 
 -- ---- any command
-
-ok_is : (a b : ClientState) → ◌≡◌ {A = client.Outcome} (Ok a) (Ok b) → a ≡ b
-ok_is a b e = cc
 
 module _ (w : World) (p : Party) (d : ClientState) (fits : PartyFits w p) (f : PartyLogs w p) where
   reserve_row : (hs : List HandlerId) (o : client.Outcome) → ReserveRow p.client hs o → o ≡ Ok d → Logs w p (Reserve hs) d

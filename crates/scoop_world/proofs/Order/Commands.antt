@@ -20,6 +20,7 @@ use Rattle.scoop_world.specs.declared.event.Command.{Command}
 use Rattle.scoop_world.specs.declared.event.Command.TheVariants.{Reserve, Call, Query, End, GiveUp}
 use Rattle.scoop_world.specs.World.{World, Party, id_of, is_party, handlers_of}
 use Rattle.scoop_world.specs.Step.{core_command, newest_block, commanded_world}
+use Rattle.scoop_world.proofs.TakenOutcome.{ok_is}
 use Rattle.scoop_world.proofs.Events.{by_test}
 use Rattle.scoop_world.proofs.Order.Sets.{handlers_after, handlers_before, handlers_fresh}
 use Rattle.scoop_world.proofs.Order.Holding.{Upto, upto_itself, upto_more}
@@ -111,9 +112,6 @@ next_is_new w p f (Some hs) e =
     let u = f.newest (client.next_block p.client) hs refl e in
     let le = u.num refl in
     absurd (omega (arith, le))
-
-ok_is : (a b : ClientState) → ◌≡◌ {A = client.Outcome} (Ok a) (Ok b) → a ≡ b
-ok_is a b e = cc
 
 reserve_goes_on : (w : World) (p : Party) (hs : List HandlerId) (d : ClientState) (o : client.Outcome) → ReserveRow p.client hs o → o ≡ Ok d → PartyFits w p → GoesOn w p (Reserve hs) d
 reserve_goes_on w p hs d o (begins_block r idle room begins) e f =

@@ -1,5 +1,5 @@
 -- What a handler does keeps the order.
-use Rattle.std.proofs.Common.{◌≡◌, ℕ, ◌-◌, ◌==◌, true, false, List, [], ◌∷◌, ◌++◌, map, find, slice_get, Option, Some, None, refl, sym, ap, ◌∙◌, subst, ⊎_elim, arith, append-nil}
+use Rattle.std.proofs.Common.{◌≡◌, ℕ, ◌-◌, ◌==◌, true, List, [], ◌∷◌, ◌++◌, map, find, slice_get, Option, Some, None, refl, sym, ap, ◌∙◌, subst, ⊎_elim, arith, append-nil}
 use Rattle.std.specs.Prelude.{if◌then◌else◌, ◌<◌, ◌≤◌, option_to_list}
 use Rattle.std.specs.List.{AllByRecursion}
 use Rattle.scoop_message.specs.declared.name.Block.{Block}
@@ -12,7 +12,7 @@ use Rattle.scoop_handler.specs.declared.note.Note.TheVariants.{Greeted, Granted,
 use Rattle.scoop_handler.specs.declared.mark.Mark.{Mark}
 use Rattle.scoop_handler.specs.Growing.{MarksGrow}
 use Rattle.scoop_handler.specs.State.{HandlerState}
-use Rattle.scoop_handler.specs.Core.{core_of, with_state}
+use Rattle.scoop_handler.specs.Core.{with_state}
 use Rattle.scoop_handler.specs.Hearing.{Hearing, hear}
 use Rattle.scoop_handler.specs.Running.{Task, ran_of}
 use Rattle.scoop_handler.proofs.TableRows.{row}
@@ -22,8 +22,9 @@ use Rattle.scoop_reserve.specs.Handlers.{has}
 use Rattle.scoop_world.specs.World.{World, Site, number_of, is_site, site_of, set_site, has_block, sent_at}
 use Rattle.scoop_world.specs.Step.{joined, newly_opened, heard_world, with_site, begun_site, finished_site, reopened, reopened_world}
 use Rattle.scoop_world.specs.Safe.{IsSubsequence}
+use Rattle.scoop_world.specs.Kept.{reopened_site}
 use Rattle.scoop_world.proofs.Events.{by_test}
-use Rattle.scoop_world.proofs.Keys.{number_found, by_site}
+use Rattle.scoop_world.proofs.Keys.{number_found, by_site, site_put}
 use Rattle.scoop_world.proofs.Order.Lists.{with_block, joined_has, joined_more, joined_last, joined_next}
 use Rattle.scoop_world.proofs.Order.Holding.{IsReachedIn, IsHeldIn, HeldHolds, IsNewlyLocked, TellsBack, Hears, hears_row, held_ran, reached_more}
 use Rattle.scoop_world.proofs.Order.Facts.{IsGrantedIn, IsGranted, IsNamed, IsGrantedAtAll, Tells, SiteFits, PartyFits, Ordered, Extends, all_more, tells_more, party_more, all_more_of, all_pushed, all_at, all_found, all_set_site}
@@ -51,9 +52,6 @@ module _ (w : World) (s old : Site) (here : site_of (number_of s) w ≡ Some old
       record { site = s; found = refl; reached = reached_more old.core.state.marks s.core.state.marks b grows (subst (λ (x : Site). IsReachedIn x.core.state.marks b) one g.reached) })
       (λ apart. g)
 
-  own_found : find (is_site (number_of s)) (set_site s w.sites) ≡ Some s
-  own_found = by_site (λ q. q ≡ Some s) w s old (number_of s) here (λ same. refl) (λ apart. absurd (apart refl))
-
   -- nothing opens
   pub site_moves :
       (ms : List Message) → Ordered w → SiteFits w.joint s
@@ -63,13 +61,23 @@ module _ (w : World) (s old : Site) (here : site_of (number_of s) w ≡ Some old
       let v : World = record w { sites = set_site s w.sites; sent = ms } in
       let x : Extends w v = record { granted = granted_set; sets = λ b hs e. e } in
       record {
-        messages = tells v own_found (all_more_of (Tells w) (Tells v) (tells_more w v x) w.sent i.messages);
+        messages = tells v (site_put w s old here) (all_more_of (Tells w) (Tells v) (tells_more w v x) w.sent i.messages);
         sites = all_set_site (SiteFits w.joint) (SiteFits w.joint) s w.sites fits (λ y f. f) i.sites;
         parties = parties_more w v x refl i.parties;
         joint = λ b e. all_more w v x b (i.joint b e);
       }
 
 -- ---- a handler hears
+
+-- a block that is newly locked was not reached before
+reached_not_new : (s : Site) (m : Message) (b : Block) → IsReachedIn s.core.state.marks b → IsNewlyLocked s.core.state m b → ⊥
+reached_not_new s m b r new =
+    let marks : Some r.mark ≡ Some new.mark = sym r.found ∙ new.found in
+    let alike : r.mark ≡ new.mark = cc in
+    absurd_place r.mark.inc new.mark.inc r.mark.num new.mark.num b.inc b.num (ap (λ (k : Mark). k.inc) alike) (ap (λ (k : Mark). k.num) alike) r.upto.num new.inc new.num
+  where
+    absurd_place : (i j n k c d : ℕ) → i ≡ j → n ≡ k → (i ≡ c → d ≤ n) → j ≡ c → k < d → ⊥
+    absurd_place i j n k c d ij nk up jc kd = let le = up (ij ∙ jc) in omega (arith, le, nk, kd)
 
 newly_locked_new : (w : World) (s : Site) (m : Message) (b : Block) → Ordered w → site_of (number_of s) w ≡ Some s → Tells w m → IsNewlyLocked s.core.state m b → has_block w.joint b ≡ true → ⊥
 newly_locked_new w s m b i here tells new e =
@@ -81,12 +89,7 @@ newly_locked_new w s m b i here tells new e =
     let found : Some g.site ≡ Some s = sym g.found ∙ here in
     let one : g.site ≡ s = cc in
     let r : IsReachedIn s.core.state.marks b = subst (λ (x : Site). IsReachedIn x.core.state.marks b) one g.reached in
-    let marks : Some r.mark ≡ Some new.mark = sym r.found ∙ new.found in
-    let alike : r.mark ≡ new.mark = cc in
-    absurd_place r.mark.inc new.mark.inc r.mark.num new.mark.num b.inc b.num (ap (λ (k : Mark). k.inc) alike) (ap (λ (k : Mark). k.num) alike) r.upto.num new.inc new.num
-  where
-    absurd_place : (i j n k c d : ℕ) → i ≡ j → n ≡ k → (i ≡ c → d ≤ n) → j ≡ c → k < d → ⊥
-    absurd_place i j n k c d ij nk up jc kd = let le = up (ij ∙ jc) in omega (arith, le, nk, kd)
+    reached_not_new s m b r new
 
 -- what a reply tells
 reply_tells : (v : World) (s : Site) (o : Option Message) → site_of (number_of s) v ≡ Some s → TellsBack s.core.state o → (m : Message) → o ≡ Some m → Tells v m
@@ -162,7 +165,7 @@ module _ (w : World) (s : Site) (m : Message) (i : Ordered w) (found : site_of (
       let v : World = world_with w s now.0 now.1.reply (b ∷ []) in
       let x : Extends w v = record { granted = granted_set w t s still_here grows; sets = λ _ _ f. f } in
       record {
-        messages = replies (b ∷ []) v (own_found w t s still_here grows) (all_more_of (Tells w) (Tells v) (tells_more w v x) w.sent i.messages);
+        messages = replies (b ∷ []) v (site_put w t s still_here) (all_more_of (Tells w) (Tells v) (tells_more w v x) w.sent i.messages);
         sites = all_set_site (SiteFits w.joint) (SiteFits (with_block w.joint b)) t w.sites
             (record {
               stored = refl;
@@ -227,9 +230,6 @@ module _ (w : World) (o : Ordered w) (h : HandlerId) (s : Site) (found : site_of
 
 -- ---- a node restarts
 
-abbrev taken_anew : Site → HandlerState → Site
-taken_anew x st = record x { core = core_of x.core.class st false }
-
 granted_first : (h : HandlerId) (b : Block) (x y : Site) (xs ys : List Site) → y.core.state ≡ x.core.state → (IsGrantedIn (find (is_site h) xs) b → IsGrantedIn (find (is_site h) ys) b)
     → IsGrantedIn (find (is_site h) (x ∷ xs)) b → IsGrantedIn (find (is_site h) (y ∷ ys)) b
 granted_first h b x y xs ys same later g =
@@ -244,11 +244,11 @@ granted_first h b x y xs ys same later g =
     cc_some p q e = cc
 
 pub state_anew : (js : List Block) (n : ℕ) (x : Site) → SiteFits js x → (reopened n x).core.state ≡ x.core.state
-state_anew js n x f = by_test (λ t. (if t then taken_anew x x.stored else x).core.state ≡ x.core.state) (x.node == n) (λ here. f.stored) (λ there. refl)
+state_anew js n x f = by_test (λ t. (if t then reopened_site x else x).core.state ≡ x.core.state) (x.node == n) (λ here. f.stored) (λ there. refl)
 
 fits_anew : (js : List Block) (n : ℕ) (x : Site) → SiteFits js x → SiteFits js (reopened n x)
 fits_anew js n x f =
-    by_test (λ t. SiteFits js (if t then taken_anew x x.stored else x)) (x.node == n)
+    by_test (λ t. SiteFits js (if t then reopened_site x else x)) (x.node == n)
     (λ here. record {
       stored = refl;
       holds = subst HeldHolds (sym f.stored) f.holds;

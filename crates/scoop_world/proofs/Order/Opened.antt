@@ -1,5 +1,5 @@
 -- Whatever opened at a handler stands in the common list.
-use Rattle.std.proofs.Common.{◌≡◌, Bool, true, false, ℕ, List, [], ◌∷◌, ◌++◌, map, find, Some, subst, ⊎_elim, ◌==◌, append-nil}
+use Rattle.std.proofs.Common.{◌≡◌, true, false, ℕ, List, [], ◌∷◌, ◌++◌, map, subst, ⊎_elim, ◌==◌, append-nil}
 use Rattle.std.specs.Prelude.{if◌then◌else◌}
 use Rattle.std.specs.List.{AllByRecursion}
 use Rattle.scoop_message.specs.declared.name.Block.{Block}
@@ -13,6 +13,7 @@ use Rattle.scoop_world.specs.World.{World, Site, has_block, number_of, is_site, 
 use Rattle.scoop_world.specs.Step.{Placement, Newcomer, joined, newly_opened, heard_site, begun_site, finished_site, reopened, new_site, opening}
 use Rattle.scoop_world.specs.Reach.{steps}
 use Rattle.scoop_world.proofs.Events.{by_test, Changes, steps_kept}
+use Rattle.scoop_world.proofs.Order.Facts.{all_found}
 use Rattle.scoop_world.proofs.Order.Lists.{with_block, in_pushed, joined_keeps, joined_there}
 
 -- what opened here is in the list
@@ -63,13 +64,6 @@ reopened_all js n (x ∷ xs) all = (
   reopened_all js n xs all.1,
 )
 
-found_all : {A : Type 0} (P : A → Type 0) (test : A → Bool) (xs : List A) (a : A) → AllByRecursion P xs → find test xs ≡ Some a → P a
-found_all P test [] a all e = absurd (cc)
-found_all P test (x ∷ xs) a all e =
-    by_test (λ t. (if t then Some x else find test xs) ≡ Some a → P a) (test x)
-    (λ here f. let p : x ≡ a = cc in subst P p all.0)
-    (λ there f. found_all P test xs a all.1 f) e
-
 opened_kept : (w : World) → AllOpenedIn w → Changes AllOpenedIn w
 opened_kept w all = record {
   commands = λ c p x d at is. all;
@@ -77,11 +71,11 @@ opened_kept w all = record {
   hears = λ i m s was goes here.
       let told = (hear s.core.state m).1.note in
       set_all w.joint (joined w.joint (newly_opened told)) (heard_site s (hear s.core.state m)) w.sites
-      (note_opens w.joint s.opened told (found_all (OpenedIn w.joint) (is_site (handler_of m)) w.sites s all here))
+      (note_opens w.joint s.opened told (all_found (OpenedIn w.joint) (is_site (handler_of m)) w.sites s all here))
       (note_keeps w.joint told) all;
   notices = λ i m p was goes at. all;
-  begins = λ h s t here is. set_all w.joint w.joint (begun_site s) w.sites (found_all (OpenedIn w.joint) (is_site h) w.sites s all here) (λ x e. e) all;
-  finishes = λ h s t here is. set_all w.joint w.joint (finished_site s t) w.sites (found_all (OpenedIn w.joint) (is_site h) w.sites s all here) (λ x e. e) all;
+  begins = λ h s t here is. set_all w.joint w.joint (begun_site s) w.sites (all_found (OpenedIn w.joint) (is_site h) w.sites s all here) (λ x e. e) all;
+  finishes = λ h s t here is. set_all w.joint w.joint (finished_site s t) w.sites (all_found (OpenedIn w.joint) (is_site h) w.sites s all here) (λ x e. e) all;
   restarts = λ c p at room. all;
   reopens = λ n. reopened_all w.joint n w.sites all;
 }

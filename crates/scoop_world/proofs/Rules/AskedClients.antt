@@ -32,6 +32,7 @@ use Rattle.scoop_world.specs.declared.event.Command.TheVariants.{Reserve, Call, 
 use Rattle.scoop_world.specs.World.{World, Party, id_of, is_party, log_of, handlers_of, ran_at, set_party}
 use Rattle.scoop_world.specs.Step.{core_command, newest_block, commanded_world, with_party, heard_party, restarted_party}
 use Rattle.scoop_world.specs.Paper.{count_of}
+use Rattle.scoop_world.proofs.TakenOutcome.{ok_is}
 use Rattle.scoop_world.proofs.Events.{by_test}
 use Rattle.scoop_world.proofs.Order.Facts.{PartyFits, all_set_party}
 use Rattle.scoop_world.proofs.Order.Commands.{next_is_new, started_fresh}
@@ -167,9 +168,6 @@ module _ (w : World) (p : Party) (x : Command) (d : ClientState) where
         true≢false (sym ((client_decides (id_of y) d.id).1 (sym mine)) ∙ other))))
         (λ h. omega arith) y.client.waits (f.asked r held);
   }
-
-ok_is : (a b : ClientState) → ◌≡◌ {A = client.Outcome} (Ok a) (Ok b) → a ≡ b
-ok_is a b e = cc
 
 module _ (w : World) (p : Party) (d : ClientState) (fits : PartyFits w p) (logs : PartyLogs w p) (f : PartyAsked w p) where
   abbrev c : ClientState

@@ -14,7 +14,7 @@ use Rattle.scoop_queue.specs.declared.state.QueueState.TheVariants.{Open, Ended,
 use Rattle.scoop_queue.proofs.Lookup.{same_block-sym}
 use Rattle.scoop_reserve.specs.Handlers.{has}
 use Rattle.scoop_world.specs.World.{World, Site, has_block, set_of, log_of, ran_at, is_newer_welcome, is_succeeded, received, greatest_count}
-use Rattle.scoop_world.specs.Paper.{Waiting, Configuration, Objects, CutTo, Leads, at_handler, cut_to, cut_queue, cut_waiting, count_of, has_ended, Seen, seen, has_end, is_cut_off, queue_of, queue_at, inc_of, configuration_of, is_cut_by, greeting_cuts}
+use Rattle.scoop_world.specs.Paper.{Waiting, Configuration, Objects, CutTo, MovesLead, put_at_handler, cut_to, cut_queue, cut_waiting, count_of, has_ended, Seen, seen, has_end, is_cut_off, queue_of, queue_at, inc_of, configuration_of, is_cut_by, greeting_cuts}
 use Rattle.scoop_world.proofs.Events.{by_test}
 use Rattle.scoop_world.proofs.Order.Lists.{AreApart, same_block_is, same_block_itself}
 use Rattle.scoop_world.proofs.Tape.Slots.{blocks_of}
@@ -93,7 +93,7 @@ greet_one b log c r over true false true more =
 module _ (o : Objects) (v w : World) (h : HandlerId) (may : (b : Block) → is_cut_by v w h b ≡ true → (b.inc < inc_of v b.client) × (count_of b (ran_at h v) ≤ received b h v)) where
   -- the world's configuration with these queues at the handler
   abbrev with_queues : (Block → List Waiting) → Configuration
-  with_queues f = record { queues = at_handler h (flat_map f v.joint) (configuration_of v).queues; ran = λ x. ran_at x v; separated = v.joint; inc = inc_of v }
+  with_queues f = record { queues = put_at_handler h (flat_map f v.joint) (configuration_of v).queues; ran = λ x. ran_at x v; separated = v.joint; inc = inc_of v }
 
   abbrev left_of : Block → ℕ
   left_of b = received b h v - count_of b (ran_at h v)
@@ -163,13 +163,13 @@ module _ (o : Objects) (v w : World) (h : HandlerId) (may : (b : Block) → is_c
       (λ _ other. refl) refl
 
   pub cuts : (bs : List Block) → AreApart bs → (f : Block → List Waiting) → ((y : Block) → AreOwn y (f y)) → (end : Configuration) → with_queues (cut_all bs f) ≡ end
-      → Leads o (with_queues f) (map (λ b. CutTo b h (received b h v)) (filter (is_cut_by v w h) bs)) end
+      → MovesLead o (with_queues f) (map (λ b. CutTo b h (received b h v)) (filter (is_cut_by v w h) bs)) end
   cuts [] d f own end e = e
   cuts (b ∷ bs) d f own end e =
-      by_test (λ t. is_cut_by v w h b ≡ t → Leads o (with_queues f) (map (λ x. CutTo x h (received x h v)) (if t then b ∷ filter (is_cut_by v w h) bs else filter (is_cut_by v w h) bs)) end) (is_cut_by v w h b)
+      by_test (λ t. is_cut_by v w h b ≡ t → MovesLead o (with_queues f) (map (λ x. CutTo x h (received x h v)) (if t then b ∷ filter (is_cut_by v w h) bs else filter (is_cut_by v w h) bs)) end) (is_cut_by v w h b)
       (λ _ is. (
         may b is,
-        subst (λ g. Leads o g (map (λ x. CutTo x h (received x h v)) (filter (is_cut_by v w h) bs)) end) (sym (cut_step b f own))
+        subst (λ g. MovesLead o g (map (λ x. CutTo x h (received x h v)) (filter (is_cut_by v w h) bs)) end) (sym (cut_step b f own))
             (cuts bs d.1 (cut_once b f) (own_once b f own) end (same_queues (cut_all bs (cut_once b f)) (cut_all (b ∷ bs) f) (λ y _. sym (cut_all_first b bs f is d.0 y)) ∙ e)),
       ))
       (λ _ not_so. cuts bs d.1 f own end (same_queues (cut_all bs f) (cut_all (b ∷ bs) f) (λ y _. sym (cut_all_not b bs f not_so y)) ∙ e)) refl
@@ -271,7 +271,7 @@ module _ (v : World) (sites : List Site) (same_ran : (j : HandlerId) → ran_in 
         (λ _ other. sym (queues_same (queue_at greeted_world x) (queue_at v x) v.joint (λ b m. other_place b x (λ same. true≢false (sym ((handler_decides x h).1 same) ∙ other))))) refl)
         (λ x. sym (same_ran x)) refl (λ d. refl)
 
-    pub greets_follows : Leads o (configuration_of v) (greeting_cuts v greeted_world h) (configuration_of greeted_world)
+    pub greets_follows : MovesLead o (configuration_of v) (greeting_cuts v greeted_world h) (configuration_of greeted_world)
     greets_follows =
-        subst (λ g. Leads o g (greeting_cuts v greeted_world h) (configuration_of greeted_world)) begins
+        subst (λ g. MovesLead o g (greeting_cuts v greeted_world h) (configuration_of greeted_world)) begins
         (cuts o v greeted_world h may v.joint ready.once (queue_at v h) (own_queue_at v h) (configuration_of greeted_world) ends)

@@ -15,7 +15,7 @@ use Rattle.scoop_world.specs.declared.event.Event.TheVariants.{Take}
 use Rattle.scoop_world.specs.declared.note.WorldNote.TheVariants as note
 use Rattle.scoop_world.specs.World.{World, Site, number_of, site_of, set_site, ran_at, has_block, set_of, sent_at}
 use Rattle.scoop_world.specs.Step.{heard_site, heard_world, place_of}
-use Rattle.scoop_world.specs.Paper.{Separate, Leads, Follows, configuration_of, objects_of, late_cuts, greeting_cuts, note_moves, message_moves}
+use Rattle.scoop_world.specs.Paper.{Separate, MovesLead, Follows, configuration_of, objects_of, late_cuts, greeting_cuts, note_moves, message_moves}
 use Rattle.scoop_world.proofs.Events.{by_test}
 use Rattle.scoop_world.proofs.Keys.{number_found, by_site}
 use Rattle.scoop_world.proofs.Rules.Ready.{Ready}
@@ -37,20 +37,20 @@ module _ (w : World) (ready : Ready w) (s : Site) (here : site_of (number_of s) 
 
   row_follows :
       (i : ℕ) (m : Message) (h : Hearing) → Row s.core.state m h → sent_at i w ≡ Some m
-      → Leads (objects_of w) (configuration_of w) (note_moves w (heard_world w s h) (handler_of m) h.1.note) (configuration_of (heard_world w s h))
+      → MovesLead (objects_of w) (configuration_of w) (note_moves w (heard_world w s h) (handler_of m) h.1.note) (configuration_of (heard_world w s h))
   row_follows i m h (first_greeting x c inc at none room) was =
       let q : Hearing = greeted_first s.core.state c inc in
-      subst (λ k. Leads (objects_of w) (configuration_of w) (greeting_cuts w (heard_world w s q) k) (configuration_of (heard_world w s q))) (sym at)
+      subst (λ k. MovesLead (objects_of w) (configuration_of w) (greeting_cuts w (heard_world w s q) k) (configuration_of (heard_world w s q))) (sym at)
       (greets_follows w (set_site (heard_site s q) w.sites) (same_ran (Hello x c inc) q (first_greeting x c inc at none room)) (number_of s) c inc (objects_of w) ready (ready.hellos i x c inc was))
   row_follows i m h (newer_greeting x c inc k at found newer) was =
       let q : Hearing = greeted_newer s.core.state c inc k in
-      subst (λ j. Leads (objects_of w) (configuration_of w) (greeting_cuts w (heard_world w s q) j) (configuration_of (heard_world w s q))) (sym at)
+      subst (λ j. MovesLead (objects_of w) (configuration_of w) (greeting_cuts w (heard_world w s q) j) (configuration_of (heard_world w s q))) (sym at)
       (greets_follows w (set_site (heard_site s q) w.sites) (same_ran (Hello x c inc) q (newer_greeting x c inc k at found newer)) (number_of s) c inc (objects_of w) ready (ready.hellos i x c inc was))
   row_follows i m h (open_granted x b k at heard same held room) was =
       let q : Hearing = opened_here s.core.state b k in
       let r : Row s.core.state (Open x b) q = open_granted x b k at heard same held room in
       let quiet = quiet-row w s here ready (Open x b) q r (λ e. cc) in
-      by_test (λ t. Leads (objects_of w) (configuration_of w) (if t then [] else Separate b (set_of b w) ∷ late_cuts w b) (configuration_of (heard_world w s q))) (has_block w.joint b)
+      by_test (λ t. MovesLead (objects_of w) (configuration_of w) (if t then [] else Separate b (set_of b w) ∷ late_cuts w b) (configuration_of (heard_world w s q))) (has_block w.joint b)
       (λ old. later_opening w (set_site (heard_site s q) w.sites) q.1.reply (same_ran (Open x b) q r) quiet b old)
       (λ new. first_opening w (set_site (heard_site s q) w.sites) q.1.reply (same_ran (Open x b) q r) quiet b (objects_of w) ready new)
   row_follows i m h r was = quiet_row m h r (λ e. absurd (let f = e in cc))
@@ -61,5 +61,5 @@ pub hears_follows :
 hears_follows w ready i m s was found =
     let here : site_of (number_of s) w ≡ Some s = subst (λ j. site_of j w ≡ Some s) (sym (number_found (handler_of m) w s found)) found in
     let h = hear s.core.state m in
-    subst (λ o. Leads (objects_of w) (configuration_of w) (message_moves w (heard_world w s h) o (note.Handler h.1.note (place_of w h.1.reply))) (configuration_of (heard_world w s h))) (sym was)
+    subst (λ o. MovesLead (objects_of w) (configuration_of w) (message_moves w (heard_world w s h) o (note.Handler h.1.note (place_of w h.1.reply))) (configuration_of (heard_world w s h))) (sym was)
     (row_follows w ready s here i m h (row s.core.state m) was)

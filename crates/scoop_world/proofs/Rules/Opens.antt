@@ -11,7 +11,7 @@ use Rattle.scoop_message.proofs.Same.{handler_decides}
 use Rattle.scoop_reserve.specs.Handlers.{has}
 use Rattle.scoop_world.specs.World.{World, Site, has_block, set_of, ran_at, opened_at, is_succeeded}
 use Rattle.scoop_world.specs.Step.{joined}
-use Rattle.scoop_world.specs.Paper.{Waiting, Configuration, Objects, Separate, CutTo, Leads, at_handler, separate, cut_to, cut_queue, cut_waiting, new_queue, count_of, Seen, seen, queue_of, queue_at, inc_of, configuration_of, late_cuts}
+use Rattle.scoop_world.specs.Paper.{Waiting, Configuration, Objects, Separate, CutTo, MovesLead, put_at_handler, separate, cut_to, cut_queue, cut_waiting, new_queue, count_of, Seen, seen, queue_of, queue_at, inc_of, configuration_of, late_cuts}
 use Rattle.scoop_world.proofs.Events.{by_test}
 use Rattle.scoop_world.proofs.Order.Lists.{same_block_is, same_block_itself}
 use Rattle.scoop_world.proofs.Rules.Lists.{same_configuration, queues_same, queues_last, cut_over, cut_other, own_queue_at}
@@ -62,7 +62,7 @@ module _ (o : Objects) (w : World) (js : List Block) (b : Block) (new : has_bloc
 
   -- the block has no queue at one handler more
   abbrev without_at : HandlerId → (HandlerId → List Waiting) → HandlerId → List Waiting
-  without_at h last = at_handler h [] last
+  without_at h last = put_at_handler h [] last
 
   cut_step : (h : HandlerId) (last : HandlerId → List Waiting) → IsNewOrNone last → cut_to b h 0 (with_last w js last) ≡ with_last w js (without_at h last)
   cut_step h last is =
@@ -115,13 +115,13 @@ module _ (o : Objects) (w : World) (js : List Block) (b : Block) (new : has_bloc
       (λ _ other. refl) refl
 
   late : (hs : List HandlerId) (last : HandlerId → List Waiting) → IsNewOrNone last → (end : Configuration) → with_last w js (cut_where hs last) ≡ end
-      → Leads o (with_last w js last) (map (λ h. CutTo b h 0) (filter (λ h. is_succeeded b h w) hs)) end
+      → MovesLead o (with_last w js last) (map (λ h. CutTo b h 0) (filter (λ h. is_succeeded b h w) hs)) end
   late [] last is end e = e
   late (h ∷ hs) last is end e =
-      by_test (λ t. is_succeeded b h w ≡ t → Leads o (with_last w js last) (map (λ j. CutTo b j 0) (if t then h ∷ filter (λ j. is_succeeded b j w) hs else filter (λ j. is_succeeded b j w) hs)) end) (is_succeeded b h w)
+      by_test (λ t. is_succeeded b h w ≡ t → MovesLead o (with_last w js last) (map (λ j. CutTo b j 0) (if t then h ∷ filter (λ j. is_succeeded b j w) hs else filter (λ j. is_succeeded b j w) hs)) end) (is_succeeded b h w)
       (λ _ newer. (
         (below h newer, let n = none h in omega (arith, n)),
-        subst (λ g. Leads o g (map (λ j. CutTo b j 0) (filter (λ j. is_succeeded b j w) hs)) end) (sym (cut_step h last is))
+        subst (λ g. MovesLead o g (map (λ j. CutTo b j 0) (filter (λ j. is_succeeded b j w) hs)) end) (sym (cut_step h last is))
             (late hs (without_at h last) (still_new h last is) end
             (same_configuration (with_last w js (cut_where hs (without_at h last))) (with_last w js (cut_where (h ∷ hs) last)) (λ x. ap (λ qs. flat_map (queue_at w x) w.joint ++ qs) (sym (cut_where_first h hs last newer x))) (λ x. refl) refl (λ c. refl) ∙ e)),
       ))
@@ -191,10 +191,10 @@ module _ (w : World) (sites : List Site) (m : Option Message) (same_ran : (j : H
         ∙ ap (flat_map (queue_at opened_world x)) (sym longer))
         (λ x. sym (same_ran x)) (sym longer) (λ c. refl)
 
-    pub first_opening : Leads o (configuration_of w) (Separate b (set_of b w) ∷ late_cuts w b) (configuration_of opened_world)
+    pub first_opening : MovesLead o (configuration_of w) (Separate b (set_of b w) ∷ late_cuts w b) (configuration_of opened_world)
     first_opening = (
       new,
-      subst (λ g. Leads o g (late_cuts w b) (configuration_of opened_world)) begins
+      subst (λ g. MovesLead o g (late_cuts w b) (configuration_of opened_world)) begins
           (late o w js b new (λ h. ready.below b h) (λ h. ap (λ (s : Seen). s.count) (looks h)) (set_of b w) at_each
           (λ x. by_test (λ t. ((if t then new_queue b ∷ [] else []) ≡ []) ⊎ ((if t then new_queue b ∷ [] else []) ≡ new_queue b ∷ [])) (has (set_of b w) x) (λ _. inr refl) (λ _. inl refl))
           (configuration_of opened_world)

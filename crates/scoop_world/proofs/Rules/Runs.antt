@@ -27,7 +27,7 @@ use Rattle.scoop_reserve.specs.Handlers.{has}
 use Rattle.scoop_world.specs.World.{World, Site, number_of, site_of, ran_at, opened_at, has_block, set_of, log_of, is_succeeded, received}
 use Rattle.scoop_world.specs.Step.{with_site, finished_site}
 use Rattle.scoop_world.specs.Safe.{entries_of, IsSubsequence}
-use Rattle.scoop_world.specs.Paper.{Waiting, Configuration, Objects, RunOne, Leads, at_handler, count_of, has_ended, next_ran, rest_of, run_entries, run_first, has_entry, Seen, seen, has_end, no_class, state_of, queue_of, queue_at, configuration_of, objects_of}
+use Rattle.scoop_world.specs.Paper.{Waiting, Configuration, Objects, RunOne, MovesLead, put_at_handler, count_of, has_ended, next_ran, rest_of, run_entries, run_first, has_entry, Seen, seen, has_end, no_class, state_of, queue_of, queue_at, configuration_of, objects_of}
 use Rattle.scoop_world.proofs.Events.{by_test}
 use Rattle.scoop_world.proofs.Keys.{number_found, by_site}
 use Rattle.scoop_world.proofs.Order.Lists.{AreApart, same_block_is, same_block_itself}
@@ -88,8 +88,8 @@ queues_around f js xs ys b qs e none at = ap (flat_map f) e ∙ flat_map-append 
 
 first_runs :
     (o : Objects) (h : HandlerId) (g k : Configuration) (q : Waiting) (x : Entry) (es : List Entry) (qs : List Waiting) → q.entries ≡ x ∷ es → g.queues h ≡ q ∷ qs
-    → record g { queues = at_handler h (rest_of q x es ++ qs) g.queues; ran = at_handler h (g.ran h ++ next_ran (o.class h) (o.words h) (g.ran h) q.block x ∷ []) g.ran } ≡ k
-    → Leads o g (RunOne h ∷ []) k
+    → record g { queues = put_at_handler h (rest_of q x es ++ qs) g.queues; ran = put_at_handler h (g.ran h ++ next_ran (o.class h) (o.words h) (g.ran h) q.block x ∷ []) g.ran } ≡ k
+    → MovesLead o g (RunOne h ∷ []) k
 first_runs o h g k q x es qs entries first e = (
   ap has_entry first ∙ ap (λ ys. nat_le 1 (length ys)) entries ∙ some x es,
   ap (λ rs. run_first o h rs g) first ∙ ap (λ ys. run_entries o h q ys qs g) entries ∙ e,
@@ -286,19 +286,19 @@ module _ (w : World) (h : HandlerId) (s : Site) (t : Task) (found : site_of h w 
     is_not_here : (j : HandlerId) → same_handler j h ≡ false → j ≡ h → ⊥
     is_not_here j e same = true≢false (sym ((handler_decides j h).1 same) ∙ e)
 
-    queues_after : (j : HandlerId) → at_handler h (rest_of q t.entry first.later ++ later) (configuration_of w).queues j ≡ flat_map (queue_at ran_world j) w.joint
+    queues_after : (j : HandlerId) → put_at_handler h (rest_of q t.entry first.later ++ later) (configuration_of w).queues j ≡ flat_map (queue_at ran_world j) w.joint
     queues_after j =
         by_test (λ y. same_handler j h ≡ y → (if y then rest_of q t.entry first.later ++ later else flat_map (queue_at w j) w.joint) ≡ flat_map (queue_at ran_world j) w.joint) (same_handler j h)
         (λ _ is. queues_here ∙ ap (λ k. flat_map (queue_at ran_world k) w.joint) (sym (is_here j is)))
         (λ _ is. sym (queues_same (queue_at ran_world j) (queue_at w j) w.joint (λ b m. other_place j b (is_not_here j is)))) refl
 
-    ran_after : (j : HandlerId) → at_handler h (ran_at h w ++ next_ran ((objects_of w).class h) ((objects_of w).words h) (ran_at h w) t.block t.entry ∷ []) (configuration_of w).ran j ≡ ran_at j ran_world
+    ran_after : (j : HandlerId) → put_at_handler h (ran_at h w ++ next_ran ((objects_of w).class h) ((objects_of w).words h) (ran_at h w) t.block t.entry ∷ []) (configuration_of w).ran j ≡ ran_at j ran_world
     ran_after j =
         by_test (λ y. same_handler j h ≡ y → (if y then ran_at h w ++ next_ran ((objects_of w).class h) ((objects_of w).words h) (ran_at h w) t.block t.entry ∷ [] else ran_at j w) ≡ ran_at j ran_world) (same_handler j h)
         (λ _ is. ap (λ r. ran_at h w ++ r ∷ []) same_ran ∙ sym ran_here ∙ ap (λ k. ran_at k ran_world) (sym (is_here j is)))
         (λ _ is. sym (ran_elsewhere j (is_not_here j is))) refl
 
-    pub run_follows : Leads (objects_of w) (configuration_of w) (RunOne h ∷ []) (configuration_of ran_world)
+    pub run_follows : MovesLead (objects_of w) (configuration_of w) (RunOne h ∷ []) (configuration_of ran_world)
     run_follows =
         first_runs (objects_of w) h (configuration_of w) (configuration_of ran_world) q t.entry first.later later refl
         (queues_around (queue_at w h) w.joint around.before around.behind t.block (q ∷ []) stands around.empty own_now)

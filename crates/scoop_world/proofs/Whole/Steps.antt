@@ -1,5 +1,5 @@
 -- Every event keeps what is so of the sites, and it is so of a world that opens.
-use Rattle.std.proofs.Common.{◌≡◌, ℕ, ◌-◌, ◌==◌, ◌<◌, Bool, true, false, true≢false, List, [], ◌∷◌, map, slice_get, Option, Some, None, refl, sym, ap, ◌∙◌, subst, arith}
+use Rattle.std.proofs.Common.{◌≡◌, ℕ, ◌-◌, ◌==◌, ◌<◌, Bool, true, false, true≢false, List, [], ◌∷◌, map, Option, Some, None, refl, sym, ap, ◌∙◌, subst, arith}
 use Rattle.std.specs.Prelude.{if◌then◌else◌}
 use Rattle.std.specs.List.{AllByRecursion}
 use Rattle.scoop_message.specs.declared.name.Block.{Block}
@@ -32,8 +32,9 @@ use Rattle.scoop_world.specs.Step.{Placement, Newcomer, new_site, opening, comma
 use Rattle.scoop_world.proofs.Events.{Changes, by_test}
 use Rattle.scoop_world.proofs.Keys.{number_found}
 use Rattle.scoop_world.proofs.Stands.{Stands}
-use Rattle.scoop_world.proofs.Order.Facts.{SiteFits, Ordered, all_at, all_found, all_more_of}
+use Rattle.scoop_world.proofs.Order.Facts.{SiteFits, Ordered, all_found, all_more_of}
 use Rattle.scoop_world.proofs.Sound.Facts.{Sound}
+use Rattle.scoop_world.proofs.Sound.Steps.{sent_all}
 use Rattle.scoop_world.proofs.Logging.Facts.{Carries, Logging, grown_same}
 use Rattle.scoop_world.proofs.Logging.Commands.{commanded_grown}
 use Rattle.scoop_world.proofs.Tape.Slots.{slots_run}
@@ -46,13 +47,6 @@ use Rattle.scoop_world.proofs.Whole.Rows.{SlotsWhole, slots_whole-row}
 use Rattle.scoop_world.proofs.Whole.Facts.{SiteTaped, Taped, site_more}
 
 -- ---- messages
-
--- what is so of every message that was sent
-sent_all : (P : Message → Type 0) (w : World) (i : ℕ) (m : Message) → sent_at i w ≡ Some m → AllByRecursion P w.sent → P m
-sent_all P w i m was all =
-    by_test (λ t. (if t then None else slice_get w.sent (i - 1)) ≡ Some m → P m) (i == 0)
-    (λ zero_place e. absurd (cc))
-    (λ place e. all_at P w.sent (i - 1) m e all) was
 
 -- what a client sends goes to a handler
 owed_goes : (h : HandlerId) (r : ReservationState) (m : Message) (stage : Stage) → due_in r h stage ≡ Some m → is_for_handler m ≡ true
@@ -126,7 +120,7 @@ module _ (w : World) (sound : Sound w) (logged : Logging w) (i : Taped w) (k : �
 
   stands : StandsIfLog (logs_at w s) m
   stands h b n es e =
-      let carried : Stands (log_of b h w) n es = subst (Carries w) e (sent_all (Carries w) w k m was logged.messages) in
+      let carried : Stands (log_of b h w) n es = subst (Carries w) e (sent_all w k m was (Carries w) logged.messages) in
       let at : h ≡ number_of s = sym (place ∙ ap handler_of e) in
       subst (λ j. Stands (log_of b j w) n es) at carried
 
@@ -142,7 +136,7 @@ module _ (w : World) (sound : Sound w) (logged : Logging w) (i : Taped w) (k : �
   others_hear x other f =
       site_more w then_world x
       (alike_elsewhere (number_of x) w.sent now.1.reply (λ reply e from.
-      let to : handler_of reply ≡ handler_of m = (replies-row s.core.state m now its_row (sent_all HasEntries w k m was sound.messages) reply e).handler in
+      let to : handler_of reply ≡ handler_of m = (replies-row s.core.state m now its_row (sent_all w k m was HasEntries sound.messages) reply e).handler in
       let same : number_of x ≡ number_of after = sym from ∙ to ∙ sym place ∙ sym same_number in
       true≢false (sym ((handler_decides (number_of x) (number_of after)).1 same) ∙ other)))
       (grown_same w then_world refl) f

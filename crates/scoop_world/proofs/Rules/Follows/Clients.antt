@@ -18,7 +18,7 @@ use Rattle.scoop_world.specs.declared.event.Command.{Command}
 use Rattle.scoop_world.specs.declared.event.Command.TheVariants.{Reserve, GiveUp}
 use Rattle.scoop_world.specs.World.{World, Party, id_of, is_party, party_of, set_party, sent_at, has_block, set_of, log_of}
 use Rattle.scoop_world.specs.Step.{core_command, newest_block, commanded_world, with_party, heard_party, restarted_party}
-use Rattle.scoop_world.specs.Paper.{Objects, Restart, Leads, at_client, restart, seen, queue_of, queue_at, inc_of, configuration_of}
+use Rattle.scoop_world.specs.Paper.{Objects, Restart, MovesLead, put_at_client, restart, seen, queue_of, queue_at, inc_of, configuration_of}
 use Rattle.scoop_world.proofs.Events.{by_test}
 use Rattle.scoop_world.proofs.Keys.{id_found, by_party}
 use Rattle.scoop_world.proofs.Order.Facts.{PartyFits, Ordered, all_found}
@@ -42,10 +42,10 @@ module _ (w : World) (c : ClientId) (p q : Party) (at : party_of c w ≡ Some p)
   inc_there = ap inc_in at
 
   -- the incarnations, where the one client has another
-  pub inc_set : (d : ClientId) → at_client c q.client.inc (inc_of w) d ≡ inc_in (find (is_party d) (set_party q w.parties))
+  pub inc_set : (d : ClientId) → put_at_client c q.client.inc (inc_of w) d ≡ inc_in (find (is_party d) (set_party q w.parties))
   inc_set d =
       let mine : id_of q ≡ c = own ∙ id_found c w p at in
-      by_party (λ o. at_client c q.client.inc (inc_of w) d ≡ inc_in o) w q p d own_place
+      by_party (λ o. put_at_client c q.client.inc (inc_of w) d ≡ inc_in o) w q p d own_place
       (λ is. ap (λ t. if t then q.client.inc else inc_of w d) ((client_decides d c).1 (sym is ∙ mine)))
       (λ apart.
       by_test (λ t. same_client d c ≡ t → (if t then q.client.inc else inc_of w d) ≡ inc_of w d) (same_client d c)
@@ -72,13 +72,13 @@ notice_same w o i m p was at =
     party_same w (client_of m) p (heard_party p (heard p.client m)) at kept.id kept.inc
 
 pub restart_follows :
-    (w : World) (o : Ordered w) (g : Objects) (c : ClientId) (p : Party) → party_of c w ≡ Some p → Leads g (configuration_of w) (Restart c ∷ []) (configuration_of (with_party w (restarted_party p)))
+    (w : World) (o : Ordered w) (g : Objects) (c : ClientId) (p : Party) → party_of c w ≡ Some p → MovesLead g (configuration_of w) (Restart c ∷ []) (configuration_of (with_party w (restarted_party p)))
 restart_follows w o g c p at =
     let q : Party = restarted_party p in
     let stored = (all_found (PartyFits w) (is_party c) w.parties p o.parties at).stored in (
       tt,
       same_configuration (restart c (configuration_of w)) (configuration_of (with_party w q)) (λ h. refl) (λ h. refl) refl
-          (λ d. ap (λ n. at_client c (n + 1) (inc_of w) d) (inc_there w c p q at refl ∙ stored) ∙ inc_set w c p q at refl d),
+          (λ d. ap (λ n. put_at_client c (n + 1) (inc_of w) d) (inc_there w c p q at refl ∙ stored) ∙ inc_set w c p q at refl d),
     )
 
 -- ---- a reserve, and a block given up

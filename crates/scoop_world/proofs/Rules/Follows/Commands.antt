@@ -21,7 +21,8 @@ use Rattle.scoop_world.specs.declared.event.Command.{Command}
 use Rattle.scoop_world.specs.declared.event.Command.TheVariants.{Reserve, Call, Query, End, GiveUp}
 use Rattle.scoop_world.specs.World.{World, Party, HandlerLog, is_line_of, is_party, party_of, has_block, lines_of, handlers_of, set_of, log_of, opened_at, is_succeeded}
 use Rattle.scoop_world.specs.Step.{core_command, newest_block, logs_after, commanded_world}
-use Rattle.scoop_world.specs.Paper.{LogOne, Leads, logged_to, has_open, waits, Seen, seen, has_end, queue_of, queue_at, inc_of, configuration_of, objects_of, command_moves}
+use Rattle.scoop_world.specs.Paper.{LogOne, MovesLead, logged_to, has_open, waits, Seen, seen, has_end, queue_of, queue_at, inc_of, configuration_of, objects_of, command_moves}
+use Rattle.scoop_world.proofs.TakenOutcome.{ok_is}
 use Rattle.scoop_world.proofs.Events.{by_test}
 use Rattle.scoop_world.proofs.Keys.{id_found}
 use Rattle.scoop_world.proofs.Order.Facts.{PartyFits, all_found}
@@ -219,7 +220,7 @@ module _
 
     pub one_leads :
         (k : HandlerId) (e : Entry) → has (set_of b w) k ≡ true → ((h : HandlerId) → added x h ≡ (if same_handler h k then e ∷ [] else []))
-        → Leads (objects_of w) (configuration_of w) (LogOne b k e ∷ []) (configuration_of after)
+        → MovesLead (objects_of w) (configuration_of w) (LogOne b k e ∷ []) (configuration_of after)
     one_leads k e m adds = (
       (its_inc, takes_more k m e (here k (itself k)), none_waits),
       one_at_all b e k (configuration_of w)
@@ -243,23 +244,20 @@ module _
             (λ _ so. absurd (true≢false (sym (ap (λ y. has (k ∷ []) y) ((handler_decides h k).0 so) ∙ ap (λ t. t || false) (itself k)) ∙ off)))
             (λ _ so. refl) refl
 
-    pub end_leads : ((h : HandlerId) → added x h ≡ EndEntry ∷ []) → Leads (objects_of w) (configuration_of w) (map (λ h. LogOne b h EndEntry) (set_of b w)) (configuration_of after)
+    pub end_leads : ((h : HandlerId) → added x h ≡ EndEntry ∷ []) → MovesLead (objects_of w) (configuration_of w) (map (λ h. LogOne b h EndEntry) (set_of b w)) (configuration_of after)
     end_leads adds =
-        subst (λ g. Leads (objects_of w) (configuration_of w) (map (λ h. LogOne b h EndEntry) (set_of b w)) g)
+        subst (λ g. MovesLead (objects_of w) (configuration_of w) (map (λ h. LogOne b h EndEntry) (set_of b w)) g)
         (all_logged (set_of b w) EndEntry (λ h m. (m, adds h)) (λ h off. inl off))
         (logs_lead (objects_of w) b EndEntry refl (set_of b w) (subst AreDistinct (sym set_is) (f.sets b r.handlers named)) (configuration_of w) its_inc
         (λ h m. takes_more h m EndEntry (adds h)) none_waits)
 
 -- ---- any command
 
-ok_is : (a d : ClientState) → ◌≡◌ {A = client.Outcome} (Ok a) (Ok d) → a ≡ d
-ok_is a d e = cc
-
 module _ (w : World) (f : Following w) (c : ClientId) (p : Party) (at : party_of c w ≡ Some p) (d : ClientState) where
   log_row :
       (x : Command) (k : HandlerId) (e : Entry) (o : client.Outcome) → ((h : HandlerId) → added x h ≡ (if same_handler h k then e ∷ [] else []))
       → client.command p.client (core_command x) ≡ Ok d → LogRow p.client k e o → o ≡ Ok d
-      → Leads (objects_of w) (configuration_of w) (LogOne (newest_block p.client) k e ∷ []) (configuration_of (commanded_world w p x d))
+      → MovesLead (objects_of w) (configuration_of w) (LogOne (newest_block p.client) k e ∷ []) (configuration_of (commanded_world w p x d))
   log_row x k e o adds is (is_logged l running free line room more) done =
       let run = running_is p.client running in
       let same : newest_block d ≡ newest_block p.client = sym (ap newest_block (ok_is _ d done)) in
@@ -269,13 +267,13 @@ module _ (w : World) (f : Following w) (c : ClientId) (p : Party) (at : party_of
   log_row x k e o adds is r done = absurd (cc)
 
   end_row : (o : client.Outcome) → client.command p.client (core_command End) ≡ Ok d → EndRow p.client o → o ≡ Ok d
-      → Leads (objects_of w) (configuration_of w) (map (λ h. LogOne (newest_block p.client) h EndEntry) (set_of (newest_block p.client) w)) (configuration_of (commanded_world w p End d))
+      → MovesLead (objects_of w) (configuration_of w) (map (λ h. LogOne (newest_block p.client) h EndEntry) (set_of (newest_block p.client) w)) (configuration_of (commanded_world w p End d))
   end_row o is (ends_block running free room) done =
       end_leads w f c p at End d is (running_is p.client running) free (sym (ap newest_block (ok_is _ d done))) (λ h. refl)
   end_row o is r done = absurd (cc)
 
   pub command_follows : (x : Command) → client.command p.client (core_command x) ≡ Ok d
-      → Leads (objects_of w) (configuration_of w) (command_moves w (newest_block p.client) x) (configuration_of (commanded_world w p x d))
+      → MovesLead (objects_of w) (configuration_of w) (command_moves w (newest_block p.client) x) (configuration_of (commanded_world w p x d))
   command_follows (Reserve hs) is = reserve_same w f.ordered c p hs d at is
   command_follows (Call h r) is = log_row (Call h r) h (CallEntry r) _ (λ j. refl) is (command_row p.client (core_command (Call h r))) is
   command_follows (Query h r) is = log_row (Query h r) h (QueryEntry r) _ (λ j. refl) is (command_row p.client (core_command (Query h r))) is

@@ -17,7 +17,7 @@ use Rattle.scoop_world.specs.declared.note.WorldNote.TheVariants as note
 use Rattle.scoop_world.specs.declared.error.WorldError.TheVariants.{NoSuchParty, IncarnationsSpent}
 use Rattle.scoop_world.specs.World.{World, Site, Party, site_of, party_of, sent_at}
 use Rattle.scoop_world.specs.Step.{Stepped, core_command, commanded, commanded_world, do_at, tick_at, taken_by_handler, heard_party, taken_by_client, taken, with_party, begins, begin_at, finishes, finish_at, restarted_party, restart_client, reopened_world, restart_node}
-use Rattle.scoop_world.specs.Paper.{Leads, Follows, FollowsRules, configuration_of, objects_of, client_moves, message_moves}
+use Rattle.scoop_world.specs.Paper.{MovesLead, Follows, FollowsRules, configuration_of, objects_of, client_moves, message_moves}
 use Rattle.scoop_world.proofs.Events.{by_test}
 use Rattle.scoop_world.proofs.Whole.Steps.{due_goes}
 use Rattle.scoop_world.proofs.Rules.Messages.{plain_quiet, request_plain}
@@ -38,7 +38,7 @@ module _ (w : World) (f : Following w) where
   commanded_follows : (c : ClientId) (p : Party) (x : Command) (o : Outcome) → party_of c w ≡ Some p → command p.client (core_command x) ≡ o → FollowsTo w (Do c x) (commanded w p x o)
   commanded_follows c p x (Err e) at is = tt
   commanded_follows c p x (Ok d) at is =
-      subst (λ q. Leads (objects_of w) (configuration_of w) (client_moves w x q) (configuration_of (commanded_world w p x d))) (sym at) (command_follows w f c p at d x is)
+      subst (λ q. MovesLead (objects_of w) (configuration_of w) (client_moves w x q) (configuration_of (commanded_world w p x d))) (sym at) (command_follows w f c p at d x is)
 
   do_follows : (c : ClientId) (x : Command) (o : Option Party) → party_of c w ≡ o → FollowsTo w (Do c x) (do_at w x o)
   do_follows c x None at = tt
@@ -58,7 +58,7 @@ module _ (w : World) (f : Following w) where
   notice_follows i m None was at = tt
   notice_follows i m (Some p) was at =
       let after : World = with_party w (heard_party p (heard p.client m)) in
-      subst (λ q. Leads (objects_of w) (configuration_of w) (message_moves w after q (note.Client (heard p.client m).1)) (configuration_of after)) (sym was) (notice_same w f.ordered i m p was at)
+      subst (λ q. MovesLead (objects_of w) (configuration_of w) (message_moves w after q (note.Client (heard p.client m).1)) (configuration_of after)) (sym was) (notice_same w f.ordered i m p was at)
 
   take_follows : (i : ℕ) (o : Option Message) → sent_at i w ≡ o → FollowsTo w (Take i) (taken w o)
   take_follows i None was = tt

@@ -14,7 +14,7 @@ use Rattle.scoop_queue.specs.declared.state.QueueState.TheVariants.{Open, Ended}
 use Rattle.scoop_queue.specs.Queue.{is_open}
 use Rattle.scoop_reserve.specs.Handlers.{has}
 use Rattle.scoop_world.specs.World.{has_block}
-use Rattle.scoop_world.specs.Paper.{Waiting, Configuration, Objects, LogOne, Leads, is_of, logged_to, log_one, has_open, waits, Seen, has_end, queue_of}
+use Rattle.scoop_world.specs.Paper.{Waiting, Configuration, Objects, LogOne, MovesLead, is_of, logged_to, log_one, has_open, waits, Seen, has_end, queue_of}
 use Rattle.scoop_world.proofs.Events.{by_test}
 use Rattle.scoop_world.proofs.Order.Lists.{same_block_is, same_block_itself}
 use Rattle.scoop_world.proofs.Rules.Lists.{same_configuration}
@@ -55,11 +55,11 @@ waits_logged b e no_query (q ∷ qs) = λ i. one i || waits_logged b e no_query 
 module _ (o : Objects) (b : Block) (e : Entry) (no_query : is_query e ≡ false) where
   pub logs_lead :
       (hs : List HandlerId) → AreDistinct hs → (g : Configuration) → g.inc b.client ≡ b.inc → ((h : HandlerId) → has hs h ≡ true → has_open b (g.queues h) ≡ true)
-      → ((x : HandlerId) → waits b (g.queues x) ≡ false) → Leads o g (map (λ h. LogOne b h e) hs) (logged_at_all b e hs g)
+      → ((x : HandlerId) → waits b (g.queues x) ≡ false) → MovesLead o g (map (λ h. LogOne b h e) hs) (logged_at_all b e hs g)
   logs_lead [] apart g inc there none = refl
   logs_lead (h ∷ hs) apart g inc there none = (
     (inc, there h (ap (λ t. t || has hs h) ((handler_decides h h).1 refl)), none),
-    subst (λ k. Leads o (log_one b h e g) (map (λ x. LogOne b x e) hs) k) ends
+    subst (λ k. MovesLead o (log_one b h e g) (map (λ x. LogOne b x e) hs) k) ends
         (logs_lead hs apart.1 (log_one b h e g) inc still_there
         (λ x. by_test (λ t. waits b (if t then map (logged_to b e) (g.queues h) else g.queues x) ≡ false) (same_handler x h) (λ here. waits_logged b e no_query (g.queues h) ∙ none h) (λ off. none x))),
   )

@@ -14,7 +14,7 @@ use Rattle.scoop_world.specs.Step.{Stepped, Placement, Newcomer, step, new_site,
 use Rattle.scoop_world.specs.Opening.{MayOpen}
 use Rattle.scoop_world.specs.Reach.{Run, next, run_after, steps, IsReached}
 use Rattle.scoop_world.specs.Reach as reach
-use Rattle.scoop_world.specs.Paper.{Configuration, Objects, Move, Leads, moved, configuration_of, objects_of, no_class, inc_of, empty_configuration, FollowsRules, moves_of, moves_in, replayed, RunsByRules, LeadsByRules}
+use Rattle.scoop_world.specs.Paper.{Configuration, Objects, Move, MovesLead, moved, configuration_of, objects_of, no_class, inc_of, empty_configuration, FollowsRules, moves_of, moves_in, replayed, RunsByRules, LeadsByRules}
 use Rattle.scoop_world.proofs.Events.{Changes, by_test}
 use Rattle.scoop_world.proofs.Events as events
 use Rattle.scoop_world.proofs.Order.Facts.{Ordered}
@@ -28,12 +28,12 @@ follows_rules w e r = event_follows w (reached_following w r) e
 
 -- ---- moves one after another
 
-pub leads_both : (o : Objects) (g k end : Configuration) (ms ns : List Move) → Leads o g ms k → Leads o k ns end → Leads o g (ms ++ ns) end
-leads_both o g k end [] ns first then_on = subst (λ c. Leads o c ns end) (sym first) then_on
+pub leads_both : (o : Objects) (g k end : Configuration) (ms ns : List Move) → MovesLead o g ms k → MovesLead o k ns end → MovesLead o g (ms ++ ns) end
+leads_both o g k end [] ns first then_on = subst (λ c. MovesLead o c ns end) (sym first) then_on
 leads_both o g k end (m ∷ ms) ns first then_on = (first.0, leads_both o (moved o m g) k end ms ns first.1 then_on)
 
 -- the moves that lead from one configuration to another make the other of it
-pub leads_replayed : (o : Objects) (g end : Configuration) (ms : List Move) → Leads o g ms end → replayed o ms g ≡ end
+pub leads_replayed : (o : Objects) (g end : Configuration) (ms : List Move) → MovesLead o g ms end → replayed o ms g ≡ end
 leads_replayed o g end [] l = l
 leads_replayed o g end (m ∷ ms) l = leads_replayed o (moved o m g) end ms l.1
 
@@ -79,16 +79,16 @@ objects_kept o w ordered i = record {
 
 module _ (o : Objects) where
   after_one :
-      (n : ℕ) (w : World) (e : Event) (es : List Event) → HasObjects o w → ((v : World) → Kept v → HasObjects o v → Leads o (configuration_of v) (moves_in v es) (configuration_of (run_after (n + 1) v es).0))
+      (n : ℕ) (w : World) (e : Event) (es : List Event) → HasObjects o w → ((v : World) → Kept v → HasObjects o v → MovesLead o (configuration_of v) (moves_in v es) (configuration_of (run_after (n + 1) v es).0))
       → (s : Stepped) → FollowsTo w e s → events.Kept Kept s → events.Kept (HasObjects o) s
-      → Leads o (configuration_of w) (elim s [ Ok r ↦ moves_of w r.0 e r.1 ++ moves_in r.0 es | Err x ↦ [] ]) (configuration_of (next n w (λ v. run_after (n + 1) v es) s).0)
+      → MovesLead o (configuration_of w) (elim s [ Ok r ↦ moves_of w r.0 e r.1 ++ moves_in r.0 es | Err x ↦ [] ]) (configuration_of (next n w (λ v. run_after (n + 1) v es) s).0)
   after_one n w e es same later (Ok r) follows kept objects =
       leads_both o (configuration_of w) (configuration_of r.0) (configuration_of (run_after (n + 1) r.0 es).0) (moves_of w r.0 e r.1) (moves_in r.0 es)
-      (subst (λ k. Leads k (configuration_of w) (moves_of w r.0 e r.1) (configuration_of r.0)) same follows)
+      (subst (λ k. MovesLead k (configuration_of w) (moves_of w r.0 e r.1) (configuration_of r.0)) same follows)
       (later r.0 kept objects)
   after_one n w e es same later (Err x) follows kept objects = refl
 
-  pub events_lead : (n : ℕ) (w : World) (es : List Event) → Kept w → HasObjects o w → Leads o (configuration_of w) (moves_in w es) (configuration_of (run_after n w es).0)
+  pub events_lead : (n : ℕ) (w : World) (es : List Event) → Kept w → HasObjects o w → MovesLead o (configuration_of w) (moves_in w es) (configuration_of (run_after n w es).0)
   events_lead n w [] kept same = refl
   events_lead n w (e ∷ es) kept same =
       after_one n w e es same (λ v k s. events_lead (n + 1) v es k s) (step w e) (event_follows w (kept_following w kept) e) (events.event_kept Kept w (all_kept w kept) e)
@@ -97,7 +97,7 @@ module _ (o : Objects) where
 -- so it goes on from a reached world, where events lead to another
 pub reached_runs : (v w : World) (es : List Event) → IsReached v → reach.Leads v es w → LeadsByRules v es w
 reached_runs v w es r leads =
-    subst (λ x. Leads (objects_of v) (configuration_of v) (moves_in v es) (configuration_of x)) (ap (λ (x : Run). x.0) leads) (events_lead (objects_of v) 0 v es (reached_kept v r) refl)
+    subst (λ x. MovesLead (objects_of v) (configuration_of v) (moves_in v es) (configuration_of x)) (ap (λ (x : Run). x.0) leads) (events_lead (objects_of v) 0 v es (reached_kept v r) refl)
 
 -- ---- from an opening world
 
@@ -115,7 +115,7 @@ opens_empty ps ns = same_configuration (configuration_of (opening ps ns)) (empty
 pub runs_by_rules : (ps : List Placement) (ns : List Newcomer) (es : List Event) → MayOpen ps ns → RunsByRules (opening ps ns) es (steps (opening ps ns) es)
 runs_by_rules ps ns es may =
     let v : World = opening ps ns in
-    subst (λ g. Leads (objects_of v) g (moves_in v es) (configuration_of (steps v es))) (opens_empty ps ns) (events_lead (objects_of v) 0 v es (opens_kept ps ns may) refl)
+    subst (λ g. MovesLead (objects_of v) g (moves_in v es) (configuration_of (steps v es))) (opens_empty ps ns) (events_lead (objects_of v) 0 v es (opens_kept ps ns may) refl)
 
 -- the moves of the events, played one after another, make what the world stands for
 pub replays : (ps : List Placement) (ns : List Newcomer) (es : List Event) → MayOpen ps ns

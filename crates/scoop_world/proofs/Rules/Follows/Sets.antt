@@ -20,6 +20,7 @@ use Rattle.scoop_world.specs.declared.event.Command.{Command}
 use Rattle.scoop_world.specs.declared.event.Command.TheVariants.{Reserve, Call, Query, End, GiveUp}
 use Rattle.scoop_world.specs.World.{World, Party, is_party, handlers_of}
 use Rattle.scoop_world.specs.Step.{Placement, Newcomer, core_command, newest_block, with_entry, with_entry_at, commanded_world, opening}
+use Rattle.scoop_world.proofs.TakenOutcome.{ok_is}
 use Rattle.scoop_world.proofs.Events.{Changes, by_test}
 use Rattle.scoop_world.proofs.Order.Facts.{PartyFits, Ordered, all_found}
 use Rattle.scoop_world.proofs.Order.Sets.{leaves_at, found_changed, handlers_before, handlers_fresh}
@@ -76,9 +77,6 @@ started_distinct b hs known s e =
 
 abbrev pub Sets : World → Type 0
 Sets w = (b : Block) (hs : List HandlerId) → handlers_of b w ≡ Some hs → AreDistinct hs
-
-ok_is : (a d : ClientState) → ◌≡◌ {A = client.Outcome} (Ok a) (Ok d) → a ≡ d
-ok_is a d e = cc
 
 module _ (w : World) (i : Sets w) (p : Party) (d : ClientState) (fits : PartyFits w p) where
   reserve_sets : (ks : List HandlerId) (o : client.Outcome) → ReserveRow p.client ks o → o ≡ Ok d → Sets (commanded_world w p (Reserve ks) d)
