@@ -28,13 +28,13 @@ abbrev pub error_text : RunError → List ℕ
 error_text (Input line fault) = codes "line " ++ decimal line ++ codes ": " ++ fault_text fault
 error_text Write = codes "write fault"
 error_text OutOfMemory = codes "out of memory"
-error_text (Store refusal) = codes "store: " ++ keeper_text refusal
+error_text (Store why) = codes "store: " ++ keeper_text why
 error_text (WrongClass handler) = codes "store: WrongClass " ++ decimal handler.0
 
 -- 1 at a fault of the input, 3 where output, memory or the store failed
 abbrev pub status_of : RunError → ℕ
-status_of (Input line fault) = 1
+status_of (Input _ _) = 1
 status_of Write = 3
 status_of OutOfMemory = 3
-status_of (Store refusal) = 3
-status_of (WrongClass handler) = 3
+status_of (Store _) = 3
+status_of (WrongClass _) = 3
