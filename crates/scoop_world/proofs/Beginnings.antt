@@ -10,7 +10,7 @@ all_made : {A B : Type 0} (f : A → B) (P : B → Type 0) → ((a : A) → P (f
 all_made f P p [] = tt
 all_made f P p (x ∷ xs) = (p x, all_made f P p xs)
 
-no_repeats : {A : Type 0} → NoRepeats {A = A} []
+pub no_repeats : {A : Type 0} → NoRepeats {A = A} []
 no_repeats i j x e f = absurd (cc)
 
 nothing_before : (front back : List Block) (b : Block) → [] ≡ front ++ b ∷ back → ⊥

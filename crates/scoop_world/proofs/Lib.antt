@@ -25,3 +25,4 @@ mod FreshBlocks
 mod Repeats
 mod Joins
 mod OpenedWorlds
+mod OpenedExamples

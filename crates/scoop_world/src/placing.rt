@@ -1,11 +1,12 @@
 //! How a world opens.
 
-ghost use Rattle.std.specs.Prelude.{◌≡◌, IfErr, IfOk};
+ghost use Rattle.std.specs.Prelude.{◌≡◌, IfErr, IfOk, OnOk};
 ghost use Rattle.std.specs.List.{AllByRecursion};
 ghost use Rattle.scoop_record.specs.Memory.{incarnation_at};
 ghost use Rattle.scoop_world.specs.Step.{opening};
-ghost use Rattle.scoop_world.specs.Opening.{IsBatched, newcomers_of, placements_of};
-ghost use Rattle.scoop_world.specs.OpenRefusal.{IsUnopened};
+ghost use Rattle.scoop_world.specs.Opening.{IsBatched, IsJoining, newcomers_of, placements_of};
+ghost use Rattle.scoop_world.specs.OpenRefusal.{IsUnopened, MayPlace};
+ghost use Rattle.scoop_world.specs.Paper.{configuration_of, empty_configuration, inc_of};
 ghost use Rattle.scoop_world.specs.Safe.{Safe};
 
 mod joining;
@@ -35,7 +36,8 @@ pub struct Placement<B: Behaviour> {
 impl<B: Behaviour> World<B> {
     /// A world with these handlers and these clients, each of which puts at most so many entries into
     /// one Log: 1 to 4. Every client knows all handlers, and greets in its next incarnation. Each
-    /// state and each incarnation is stored in the keeper.
+    /// state and each incarnation is stored in the keeper. Nothing has happened yet: the world is safe, and
+    /// stands for the configuration of the written rules in which nothing was reserved and nothing has run.
     ///
     /// Refused, in this order: `NoHandlers`, `TooManyHandlers` above 64, `Repeated`, `WrongClass`,
     /// `TooManyClients` above 64, `RepeatedClient`, `IncarnationsSpent`, `OutOfMemory`. Where memory is
@@ -49,6 +51,9 @@ impl<B: Behaviour> World<B> {
         requires { AllByRecursion IsBatched clients.now }
         ensures opens { IfOk result (λ w. w ≡ opening (placements_of B.words placements.items) (newcomers_of (incarnation_at keeper) clients.now)) }
         ensures safe { IfOk result Safe }
+        ensures empty { IfOk result (λ w. configuration_of w ≡ empty_configuration (inc_of w)) }
+        ensures placed { OnOk result (MayPlace B.class placements.items clients.now) }
+        ensures joining { OnOk result (AllByRecursion IsJoining (newcomers_of (incarnation_at keeper) clients.now)) }
         ensures refused { IfErr result (IsUnopened B.class placements.items clients.now (incarnation_at keeper)) }
     {
         if let Some(error) = refusal(&placements, clients) {

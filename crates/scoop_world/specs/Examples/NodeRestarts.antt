@@ -3,6 +3,7 @@ use Rattle.std.specs.Prelude.{◌≡◌, List, [], ◌∷◌, ◌++◌, Some, Ok
 use Rattle.std.specs.Option.{option_map}
 use Rattle.scoop_message.specs.declared.request.Entry.TheVariants.{Query as QueryEntry}
 use Rattle.scoop_message.specs.declared.request.Answer.TheVariants.{Value}
+use Rattle.scoop_queue.specs.declared.state.QueueState.TheVariants.{Open}
 use Rattle.scoop_handler.specs.declared.note.Note.TheVariants.{Known}
 use Rattle.scoop_handler.specs.declared.ran.Ran.{Ran}
 use Rattle.scoop_client.specs.declared.phase.ClientNote.TheVariants.{Accepted}
@@ -14,8 +15,8 @@ use Rattle.scoop_world.specs.declared.note.WorldNote.TheVariants.{Sent, Handler,
 use Rattle.scoop_world.specs.World.{World, ran_at, party_of, site_of}
 use Rattle.scoop_world.specs.Step.{step}
 use Rattle.scoop_world.specs.Reach.{run, steps}
-use Rattle.scoop_world.specs.Paper.{Separate, LogOne, RunOne, configuration_of, objects_of, moves_in, replayed}
-use Rattle.scoop_world.specs.Examples.Parties.{handler, client, block, counting, add, trip, trips, reserve, told}
+use Rattle.scoop_world.specs.Paper.{Configuration, Separate, LogOne, RunOne, Waiting, RunsByRules, configuration_of, objects_of, moves_in, replayed}
+use Rattle.scoop_world.specs.Examples.Parties.{CounterMayOpen, handler, client, block, counting, add, trip, trips, reserve, told}
 
 abbrev pub world : World
 world = counting (7 ∷ [])
@@ -40,8 +41,15 @@ query = record { block = block 7 1 1; number = 1; entry = QueryEntry (add 1); an
 abbrev pub after : World
 after = steps world (asking ++ restarting ++ answering)
 
+abbrev pub replay : Configuration
+replay = replayed (objects_of world) (moves_in world (asking ++ restarting ++ answering)) (configuration_of world)
+
+abbrev pub empty : Waiting
+empty = record { block = block 7 1 1; entries = []; state = Open }
+
 -- the query runs once, and is answered
 pub record RunsOnce : Type 0 where
+  pub opens : CounterMayOpen (7 ∷ [])
   pub all_taken : (run world (asking ++ restarting ++ answering)).1 ≡ Ok 25
   pub no_job : step (steps world (asking ++ restarting)) (Finish (handler 1)) ≡ Err NothingToRun
   pub notes :
@@ -54,4 +62,7 @@ pub record RunsOnce : Type 0 where
   pub moves :
       moves_in world (asking ++ restarting ++ answering)
       ≡ Separate (block 7 1 1) (handler 1 ∷ []) ∷ LogOne (block 7 1 1) (handler 1) (QueryEntry (add 1)) ∷ RunOne (handler 1) ∷ []
-  pub replays : (replayed (objects_of world) (moves_in world (asking ++ restarting ++ answering)) (configuration_of world)).ran (handler 1) ≡ query ∷ []
+  pub by_rules : RunsByRules world (asking ++ restarting ++ answering) after
+  pub queues : (configuration_of after).queues (handler 1) ≡ empty ∷ []
+  pub ran_replayed : replay.ran (handler 1) ≡ query ∷ []
+  pub queues_replayed : replay.queues (handler 1) ≡ empty ∷ []

@@ -10,10 +10,9 @@ use Rattle.scoop_world.specs.declared.event.Event.{Event}
 use Rattle.scoop_world.specs.declared.event.Event.TheVariants.{Do}
 use Rattle.scoop_world.specs.declared.note.WorldNote.TheVariants.{Done, Sent, Handler, Client, Began, Ran as RanNote}
 use Rattle.scoop_world.specs.World.{World, ran_at, opened_at}
-use Rattle.scoop_world.specs.Opening.{MayOpen}
 use Rattle.scoop_world.specs.Reach.{run, steps}
-use Rattle.scoop_world.specs.Paper.{Separate, LogOne, RunOne, configuration_of, moves_in}
-use Rattle.scoop_world.specs.Examples.Parties.{handler, client, block, cell, placed, joins, cells, trip, trips, reserve, set_to, runs, told}
+use Rattle.scoop_world.specs.Paper.{Separate, LogOne, RunOne, RunsByRules, configuration_of, moves_in}
+use Rattle.scoop_world.specs.Examples.Parties.{CellsMayOpen, handler, client, block, cells, trip, trips, reserve, set_to, runs, told}
 
 abbrev pub world : World
 world = cells (1 ∷ []) (7 ∷ [])
@@ -31,7 +30,7 @@ abbrev pub second : Ran
 second = record { block = block 7 1 1; number = 2; entry = EndEntry; answer = None }
 
 pub record OneCell : Type 0 where
-  pub opens : MayOpen (placed cell 0 1 ∷ []) (joins 7 ∷ [])
+  pub opens : CellsMayOpen (1 ∷ []) (7 ∷ [])
   pub all_taken : (run world events).1 ≡ Ok 25
   pub notes :
       told world events
@@ -48,4 +47,5 @@ pub record OneCell : Type 0 where
       moves_in world events
       ≡ Separate (block 7 1 1) (handler 1 ∷ []) ∷ LogOne (block 7 1 1) (handler 1) (CallEntry (set_to 5)) ∷ RunOne (handler 1)
       ∷ LogOne (block 7 1 1) (handler 1) EndEntry ∷ RunOne (handler 1) ∷ []
+  pub by_rules : RunsByRules world events (steps world events)
   pub queues : (configuration_of (steps world events)).queues (handler 1) ≡ []

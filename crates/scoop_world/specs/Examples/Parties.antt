@@ -15,6 +15,7 @@ use Rattle.scoop_world.specs.declared.note.WorldNote.{WorldNote}
 use Rattle.scoop_world.specs.declared.note.WorldNote.TheVariants as note
 use Rattle.scoop_world.specs.World.{World}
 use Rattle.scoop_world.specs.Step.{Placement, Newcomer, step, opening}
+use Rattle.scoop_world.specs.Opening.{MayOpen}
 
 -- operation 1 sets the word, and operation 2 gets it
 abbrev pub cell : ClassTable
@@ -54,9 +55,15 @@ joins c = record { id = client c; batch = 1; stored = 0 }
 abbrev pub cells : List ℕ → List ℕ → World
 cells hs cs = opening (map (placed cell 0) hs) (map joins cs)
 
+abbrev pub CellsMayOpen : List ℕ → List ℕ → Type 0
+CellsMayOpen hs cs = MayOpen (map (placed cell 0) hs) (map joins cs)
+
 -- handler 1 with a counter of 0, and clients
 abbrev pub counting : List ℕ → World
 counting cs = opening (placed counter 0 1 ∷ []) (map joins cs)
+
+abbrev pub CounterMayOpen : List ℕ → Type 0
+CounterMayOpen cs = MayOpen (placed counter 0 1 ∷ []) (map joins cs)
 
 -- one client sends what it owes, as the i-th message, which is taken, and so is the reply
 abbrev pub trip : ℕ → ℕ × ℕ → List Event

@@ -5,8 +5,8 @@ use Rattle.scoop_client.specs.declared.phase.ClientNote.TheVariants.{Locked, Bus
 use Rattle.scoop_world.specs.declared.event.Event.{Event}
 use Rattle.scoop_world.specs.World.{World, opened_at}
 use Rattle.scoop_world.specs.Reach.{run, steps}
-use Rattle.scoop_world.specs.Paper.{Separate, Waiting, configuration_of, objects_of, moves_in, replayed}
-use Rattle.scoop_world.specs.Examples.Parties.{handler, block, cells, trips, reserve, told, told_clients}
+use Rattle.scoop_world.specs.Paper.{Configuration, Separate, Waiting, RunsByRules, configuration_of, objects_of, moves_in, replayed}
+use Rattle.scoop_world.specs.Examples.Parties.{CellsMayOpen, handler, block, cells, trips, reserve, told, told_clients}
 
 abbrev pub world : World
 world = cells (1 ∷ 2 ∷ 3 ∷ []) (7 ∷ 8 ∷ 9 ∷ [])
@@ -25,10 +25,14 @@ blocks =
 abbrev pub after : World
 after = steps world (greetings ++ blocks)
 
+abbrev pub replay : Configuration
+replay = replayed (objects_of world) (moves_in world (greetings ++ blocks)) (configuration_of world)
+
 abbrev pub empty : ℕ → Waiting
 empty c = record { block = block c 1 1; entries = []; state = Open }
 
 pub record ThreeClients : Type 0 where
+  pub opens : CellsMayOpen (1 ∷ 2 ∷ 3 ∷ []) (7 ∷ 8 ∷ 9 ∷ [])
   pub all_taken : (run world (greetings ++ blocks)).1 ≡ Ok 84
   pub notes :
       told_clients (told (steps world greetings) blocks)
@@ -43,5 +47,10 @@ pub record ThreeClients : Type 0 where
       moves_in world (greetings ++ blocks)
       ≡ Separate (block 8 1 1) (handler 2 ∷ handler 3 ∷ []) ∷ Separate (block 7 1 1) (handler 1 ∷ handler 2 ∷ [])
       ∷ Separate (block 9 1 1) (handler 3 ∷ handler 1 ∷ []) ∷ []
-  pub queues : (configuration_of after).queues (handler 1) ≡ empty 7 ∷ empty 9 ∷ []
-  pub replays : (replayed (objects_of world) (moves_in world (greetings ++ blocks)) (configuration_of world)).queues (handler 1) ≡ empty 7 ∷ empty 9 ∷ []
+  pub by_rules : RunsByRules world (greetings ++ blocks) after
+  pub first_queues : (configuration_of after).queues (handler 1) ≡ empty 7 ∷ empty 9 ∷ []
+  pub second_queues : (configuration_of after).queues (handler 2) ≡ empty 8 ∷ empty 7 ∷ []
+  pub third_queues : (configuration_of after).queues (handler 3) ≡ empty 8 ∷ empty 9 ∷ []
+  pub first_replayed : replay.queues (handler 1) ≡ empty 7 ∷ empty 9 ∷ []
+  pub second_replayed : replay.queues (handler 2) ≡ empty 8 ∷ empty 7 ∷ []
+  pub third_replayed : replay.queues (handler 3) ≡ empty 8 ∷ empty 9 ∷ []

@@ -1,25 +1,19 @@
-use Rattle.std.proofs.Common.{[], ◌∷◌, refl, arith}
-use Rattle.std.specs.Prelude.{zero, suc}
-use Rattle.scoop_world.specs.Opening.{MayOpen}
-use Rattle.scoop_world.specs.Safe.{NoRepeats}
-use Rattle.scoop_world.specs.Examples.Parties.{handler, client, cell, placed, joins}
+use Rattle.std.proofs.Common.{[], ◌∷◌, map, refl}
+use Rattle.scoop_world.specs.Examples.OneCell.{events}
+use Rattle.scoop_world.specs.Examples.Parties.{cell, placed, joins}
+use Rattle.scoop_world.proofs.OpenedExamples.{one_cell_opens}
+use Rattle.scoop_world.proofs.Rules.Follows.Runs.{runs_by_rules}
 use Rattle.scoop_world.proofs.examples.one_cell.Goals as goal
 
-alone : {A : Type 0} (a : A) → NoRepeats (a ∷ [])
-alone a zero zero x e f = refl
-alone a zero (suc j) x e f = absurd (cc)
-alone a (suc i) j x e f = absurd (cc)
-
-opens : MayOpen (placed cell 0 1 ∷ []) (joins 7 ∷ [])
-opens = record {
-  some = omega arith;
-  few = omega arith;
-  apart = alone (handler 1);
-  placed = (record { words = record { some = omega arith; few = omega arith }; class = refl }, tt);
-  few_clients = omega arith;
-  clients_apart = alone (client 7);
-  joining = (record { some = omega arith; limit = omega arith; next = omega arith }, tt);
-}
-
 pub returns : goal.returns
-returns c = record { opens = opens; all_taken = refl; notes = refl; joint = refl; opened = refl; ran = refl; moves = refl; queues = refl }
+returns c = record {
+  opens = one_cell_opens;
+  all_taken = refl;
+  notes = refl;
+  joint = refl;
+  opened = refl;
+  ran = refl;
+  moves = refl;
+  by_rules = runs_by_rules (map (placed cell 0) (1 ∷ [])) (map joins (7 ∷ [])) events one_cell_opens;
+  queues = refl;
+}

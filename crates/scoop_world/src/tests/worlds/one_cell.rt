@@ -179,5 +179,10 @@ fn a_repeated_query_runs_once(rt: HostRuntime) -> Result<(), Fail> {
     plays(&rt, &mut world, &rows);
     let query = Entry::Query(get().expect(&rt, "a request"));
     has_ran(&rt, &world, 1, Some(&[ran(1, query, Some(0))]));
+    has_sent(&rt, &world, 10, Some(Message::Logged(ONE, first(7), 1)));
+    for place in [11, 12] {
+        let answer = Message::Answer(ONE, first(7), 1, Answer::Value(0));
+        has_sent(&rt, &world, place, Some(answer));
+    }
     Ok(())
 }

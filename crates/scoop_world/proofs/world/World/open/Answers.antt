@@ -6,9 +6,11 @@ use Rattle.scoop_world.specs.Step.{new_party}
 use Rattle.scoop_world.specs.Opening.{newcomers_of, placements_of}
 use Rattle.scoop_world.specs.OpenRefusal.{MayPlace, handlers_of}
 use Rattle.scoop_world.specs.Kept.{HasState}
+use Rattle.scoop_world.specs.Paper.{configuration_of, empty_configuration, inc_of}
 use Rattle.scoop_world.proofs.OpenedWorlds.{numbers_apart, states_own, may_open, opened_is, unopened, all_stored}
 use Rattle.scoop_world.proofs.Reaching.{reached_opening}
 use Rattle.scoop_world.proofs.Headline.{reached_safe}
+use Rattle.scoop_world.proofs.Rules.Follows.Runs.{opens_empty}
 use Rattle.scoop_world.proofs.world.World.open.Goals as goal
 
 pub returns-in-Err-clause-refused : goal.returns-in-Err-clause-refused
@@ -65,3 +67,15 @@ returns-clause-safe g c =
     let may : MayPlace g.B.Behaviour.class ps cs = subst (λ xs. MayPlace g.B.Behaviour.class xs cs) c.deref.ensures.value c.in_default.ensures.none in
     reached_safe c.new.result
     (subst IsReached (sym (returns-clause-opens g c)) (reached_opening (placements_of words ps) (newcomers_of stored cs) (may_open words g.B.Behaviour.class ps cs stored may c.in_ok-sites.ensures.placed c.in-Ok.ensures.joining)))
+
+pub returns-clause-empty : goal.returns-clause-empty
+returns-clause-empty g c =
+    let ps = placements_of g.B.Behaviour.words c.args.placements.items in
+    let ns = newcomers_of (incarnation_at c.args.keeper) c.args.clients.now in
+    subst (λ w. configuration_of w ≡ empty_configuration (inc_of w)) (sym (returns-clause-opens g c)) (opens_empty ps ns)
+
+pub returns-clause-placed : goal.returns-clause-placed
+returns-clause-placed g c = subst (λ xs. MayPlace g.B.Behaviour.class xs c.args.clients.now) c.deref.ensures.value c.in_default.ensures.none
+
+pub returns-clause-joining : goal.returns-clause-joining
+returns-clause-joining g c = c.in-Ok.ensures.joining
