@@ -31,6 +31,3 @@ pub use script::{
     read_event, read_placement,
 };
 pub use source::{Line, MAX_LINE_LEN, MAX_READS};
-
-#[cfg(test)]
-mod tests;

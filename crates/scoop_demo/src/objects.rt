@@ -19,9 +19,6 @@ use scoop_message::OutOfMemory;
 use scoop_object::{Class, ClassError, OpRow};
 use std::alloc::Allocator;
 
-#[cfg(test)]
-mod tests;
-
 /// The class of that name: `cell`, `counter`, `account` or `exchange`. `None` where there is none.
 pub fn demo_class<A: Allocator>(alloc: A, name: &str) -> Result<Option<Class<A>>, OutOfMemory>
     ensures { IfOk result (λ class. class ≡ class_named name.now) }

@@ -10,6 +10,3 @@ pub use event::{EventLine, read_event};
 pub use kind::{EventKind, LineKind, line_kind};
 pub use party::{LineError, PlacedLine, read_client, read_placement};
 pub use words::is_blank;
-
-#[cfg(test)]
-mod tests;

@@ -36,6 +36,3 @@ pub use placing::Placement;
 pub use runs::{handlers_sound, handlers_stay, in_order, opened_in_joint};
 pub use safety::reached_safe;
 pub use world::World;
-
-#[cfg(test)]
-mod tests;

@@ -11,7 +11,6 @@ mod refusing;
 mod restarting;
 mod rows;
 
-use crate::{Command, Event, HandlerList, Placement, World, WorldError, WorldNote, WorldOpenError};
 use scoop_client::ClientNote;
 use scoop_handler::{Note, Ran, Reason};
 use scoop_message::{
@@ -19,6 +18,9 @@ use scoop_message::{
 };
 use scoop_object::{Class, OpRow, Table, Term, Write, Writes};
 use scoop_record::MemoryKeeper;
+use scoop_world::{
+    Command, Event, HandlerList, Placement, World, WorldError, WorldNote, WorldOpenError,
+};
 use std::alloc::Global;
 use std::process::Abort;
 

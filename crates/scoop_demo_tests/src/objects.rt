@@ -1,5 +1,5 @@
-use super::*;
 use linked_list_allocator::LocalHeap;
+use scoop_demo::*;
 use scoop_message::{Answer, Args, Request, Words};
 use scoop_object::{Behaviour, Boxed, Object, Table, WrongWords};
 use std::alloc::Global;

@@ -3,7 +3,7 @@
 //! A line of a text is a line of a script, and behind `> ` stands what it writes, parted by `; `. The last
 //! lines, which write the histories, have nothing before that.
 
-use crate::*;
+use scoop_demo::*;
 use scoop_message::ClientId;
 use scoop_record::MemoryKeeper;
 use scoop_world::WorldOpenError;

@@ -1,7 +1,7 @@
 //! Scripts that reach limits.
 
 use super::{played, plays};
-use crate::*;
+use scoop_demo::*;
 use scoop_record::MemoryKeeper;
 use std::alloc::Global;
 use std::process::Abort;

@@ -1,5 +1,5 @@
-use super::*;
-use crate::fault::InputFault;
+use scoop_demo::fault::InputFault;
+use scoop_demo::*;
 use scoop_message::{Args, ClientId, HandlerId, Request, Words};
 use scoop_world::{Command, Event, HandlerList};
 use std::alloc::Global;

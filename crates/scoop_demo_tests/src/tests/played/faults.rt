@@ -2,7 +2,7 @@
 
 use super::played;
 use crate::tests::{Newlines, Screen, User};
-use crate::*;
+use scoop_demo::*;
 use scoop_record::MemoryKeeper;
 use std::alloc::Global;
 use std::cell::Cell;

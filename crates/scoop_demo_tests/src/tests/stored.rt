@@ -1,7 +1,7 @@
 //! Runs over keepers: what is stored, what comes back, and what a refusal leaves.
 
 use super::{HELLO, LOCK, OPENED, OPENING, run_of};
-use crate::*;
+use scoop_demo::*;
 use scoop_message::HandlerId;
 use scoop_object::Boxed;
 use scoop_record::{FailingKeeper, Keeper, KeeperError, MemoryKeeper, Store};

@@ -1,10 +1,10 @@
 //! Events that are refused, and runs of events.
 
 use super::{Act, Told, event, first, greets, has_joint, opens, plays, world};
-use crate::{Event, World, WorldError};
 use scoop_client::{ClientError, ClientNote};
 use scoop_message::HandlerId;
 use scoop_object::Table;
+use scoop_world::{Event, World, WorldError};
 use std::alloc::Global;
 use std::process::Abort;
 use std::test::Fail;

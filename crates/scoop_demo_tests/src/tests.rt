@@ -1,4 +1,4 @@
-use super::*;
+use scoop_demo::*;
 use scoop_message::{HandlerId, Words};
 use scoop_object::{Behaviour, Boxed, Table};
 use scoop_record::{Keeper, KeeperError, MemoryKeeper};

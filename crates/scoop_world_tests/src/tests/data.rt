@@ -1,12 +1,12 @@
 //! What events, notes and refusals are, and how refusals are printed.
 
-use crate::{
-    Command, Event, HandlerList, TooManyHandlers, WorldError, WorldNote, WorldOpenError,
-    same_event, same_note,
-};
 use scoop_client::{ClientError, ClientNote};
 use scoop_handler::{Note, Ran, Reason};
 use scoop_message::{Answer, Args, Block, ClientId, Entry, HandlerId, Request};
+use scoop_world::{
+    Command, Event, HandlerList, TooManyHandlers, WorldError, WorldNote, WorldOpenError,
+    same_event, same_note,
+};
 use std::test::Fail;
 
 const ONE: HandlerId = HandlerId(1);

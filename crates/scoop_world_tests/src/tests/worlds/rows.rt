@@ -1,11 +1,11 @@
 //! Several clients at several cells.
 
 use super::{Act, Told, first, greets, has_joint, has_opened, plays, plays_one, world};
-use crate::{World, WorldError};
 use scoop_client::{ClientError, ClientNote};
 use scoop_handler::{Note, Reason};
 use scoop_message::HandlerId;
 use scoop_object::Table;
+use scoop_world::{World, WorldError};
 use std::process::Abort;
 use std::test::Fail;
 

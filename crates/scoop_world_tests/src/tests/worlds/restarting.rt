@@ -1,11 +1,11 @@
 //! Restarts of clients and nodes.
 
 use super::{Act, Told, first, greets, has_joint, has_opened, plays, world};
-use crate::{World, WorldError};
 use scoop_client::ClientNote;
 use scoop_handler::{Note, Reason};
 use scoop_message::{Answer, HandlerId};
 use scoop_object::Table;
+use scoop_world::{World, WorldError};
 use std::alloc::Global;
 use std::process::Abort;
 use std::test::Fail;

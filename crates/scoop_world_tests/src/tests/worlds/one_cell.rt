@@ -1,11 +1,11 @@
 //! One block at one cell, and what is read of it.
 
 use super::{Act, Told, first, get, greets, has_joint, has_opened, plays, ran, set, world};
-use crate::{World, WorldError};
 use scoop_client::{ClientError, ClientNote};
 use scoop_handler::{Note, Ran};
 use scoop_message::{Answer, Block, ClientId, Entry, HandlerId, Message};
 use scoop_object::Table;
+use scoop_world::{World, WorldError};
 use std::alloc::Global;
 use std::process::Abort;
 use std::test::Fail;

@@ -1,8 +1,8 @@
 //! How worlds open, and why they don't.
 
 use super::{STRANGE, opens};
-use crate::WorldOpenError;
 use scoop_message::{ClientId, HandlerId};
+use scoop_world::WorldOpenError;
 use std::alloc::Global;
 use std::process::Abort;
 use std::test::Fail;
