@@ -10,6 +10,7 @@ pub mod Stands
 pub mod Order
 pub mod Sound
 pub mod Logging
+pub mod Knowing
 pub mod Answering
 pub mod Tape
 pub mod Whole

@@ -4,6 +4,7 @@ pub mod Safe
 pub mod Opening
 pub mod OpenRefusal
 pub mod Reach
+pub mod Named
 pub mod Kept
 pub mod Answers
 pub mod Paper

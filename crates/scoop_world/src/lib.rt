@@ -9,6 +9,7 @@ mod event;
 mod examples;
 mod following;
 mod handlers;
+mod incarnations;
 mod law;
 mod logs;
 mod note;
@@ -29,6 +30,7 @@ pub use examples::{
 };
 pub use following::{follows_rules, opens_empty, replays, runs_by_rules};
 pub use handlers::{HandlerList, MAX_NAMED_HANDLERS, TooManyHandlers};
+pub use incarnations::named_incarnations_known;
 pub use law::{same_event, same_note};
 pub use note::WorldNote;
 pub use opening::opens_safe;
