@@ -15,6 +15,7 @@ pub mod Answering
 pub mod Tape
 pub mod Whole
 pub mod Rules
+pub mod Arriving
 pub mod Headline
 mod Reaching
 mod KeptPlaces

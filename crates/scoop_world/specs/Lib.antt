@@ -5,6 +5,7 @@ pub mod Opening
 pub mod OpenRefusal
 pub mod Reach
 pub mod Named
+pub mod Received
 pub mod Kept
 pub mod Answers
 pub mod Paper

@@ -9,7 +9,6 @@ mod event;
 mod examples;
 mod following;
 mod handlers;
-mod incarnations;
 mod law;
 mod logs;
 mod note;
@@ -20,6 +19,7 @@ mod placing;
 mod runs;
 mod safety;
 mod site;
+mod telling;
 mod world;
 
 pub use error::{WorldError, WorldOpenError};
@@ -30,13 +30,13 @@ pub use examples::{
 };
 pub use following::{follows_rules, opens_empty, replays, runs_by_rules};
 pub use handlers::{HandlerList, MAX_NAMED_HANDLERS, TooManyHandlers};
-pub use incarnations::named_incarnations_known;
 pub use law::{same_event, same_note};
 pub use note::WorldNote;
 pub use opening::opens_safe;
 pub use placing::Placement;
 pub use runs::{handlers_sound, handlers_stay, in_order, opened_in_joint};
 pub use safety::reached_safe;
+pub use telling::{logged_is_received, named_incarnations_known};
 pub use world::World;
 
 #[cfg(test)]
