@@ -10,10 +10,12 @@ pub mod Stands
 pub mod Order
 pub mod Sound
 pub mod Logging
+pub mod Knowing
 pub mod Answering
 pub mod Tape
 pub mod Whole
 pub mod Rules
+pub mod Arriving
 pub mod Headline
 mod Reaching
 mod KeptPlaces

@@ -134,6 +134,10 @@ known w r =
 pub reached_ordered : (w : World) → IsReached w → Ordered w
 reached_ordered w r = (known w r).ordered
 
+-- the handlers are those that were placed
+pub sites_placed : (w : World) (r : IsReached w) → map number_of w.sites ≡ map (λ (p : Placement). p.handler) r.placements
+sites_placed w r = (known w r).numbers
+
 pub sites_apart : (w : World) → IsReached w → NoRepeats (map number_of w.sites)
 sites_apart w r = subst NoRepeats (sym (known w r).numbers) r.opens.apart
 

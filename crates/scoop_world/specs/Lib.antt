@@ -4,6 +4,8 @@ pub mod Safe
 pub mod Opening
 pub mod OpenRefusal
 pub mod Reach
+pub mod Named
+pub mod Received
 pub mod Kept
 pub mod Answers
 pub mod Paper

@@ -19,6 +19,7 @@ mod placing;
 mod runs;
 mod safety;
 mod site;
+mod telling;
 mod world;
 
 pub use error::{WorldError, WorldOpenError};
@@ -35,4 +36,5 @@ pub use opening::opens_safe;
 pub use placing::Placement;
 pub use runs::{handlers_sound, handlers_stay, in_order, opened_in_joint};
 pub use safety::reached_safe;
+pub use telling::{logged_is_received, named_incarnations_known};
 pub use world::World;

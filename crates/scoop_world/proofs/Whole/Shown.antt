@@ -23,7 +23,7 @@ use Rattle.scoop_world.proofs.Whole.Rows.{SlotsWhole}
 -- ---- what is numbered for a slot
 
 -- the entries of what is numbered
-told_entries : (rs : List Ran) (b : Block) (n : ℕ) (es : List Entry) → map untold rs ≡ numbered b n es → entries_of rs ≡ es
+pub told_entries : (rs : List Ran) (b : Block) (n : ℕ) (es : List Entry) → map untold rs ≡ numbered b n es → entries_of rs ≡ es
 told_entries [] b n [] e = refl
 told_entries [] b n (x ∷ xs) e = absurd (cc)
 told_entries (r ∷ rs) b n [] e = absurd (cc)
