@@ -24,6 +24,3 @@ pub use keeper::{Keeper, KeeperError};
 pub use memory::MemoryKeeper;
 pub use sound::memory_is_sound;
 pub use store::Store;
-
-#[cfg(test)]
-mod tests;

@@ -1,9 +1,9 @@
 //! Keepers in memory and over a database.
 
 use super::images::PENDING;
-use crate::*;
 use scoop_handler::HandlerState;
 use scoop_message::{ClientId, HandlerId};
+use scoop_record::*;
 use sqlite::{Alter, Connection, MemStore, params};
 use std::alloc::Global;
 use std::test::Fail;

@@ -1,7 +1,7 @@
 //! Tables that are made and taken on a connection that stays the caller's.
 
 use super::keepers::refusal_of;
-use crate::*;
+use scoop_record::*;
 use sqlite::{Alter, Connection, MemStore};
 use std::test::Fail;
 

@@ -4,8 +4,8 @@
 use super::images::PENDING;
 use super::keepers::{IMAGE, OLD, bytes_by, kept, word};
 use super::tables::version;
-use crate::*;
 use scoop_message::ClientId;
+use scoop_record::*;
 use sqlite::{Connection, FileStore, Files, Options};
 use sqlite_disk::{Disk, Fuse, Memory};
 use std::alloc::Global;
