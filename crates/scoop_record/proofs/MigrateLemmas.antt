@@ -9,7 +9,7 @@ use Rattle.sqlite_value.specs.Order.{Row, column}
 use Rattle.sqlite_trees.specs.Tree.{Trees, rowid, has_rowid}
 use Rattle.sqlite_rules.specs.Lists.{Has}
 use Rattle.sqlite_rules.proofs.ListLemmas.{all_from, all_has, has_found}
-use Rattle.sqlite.specs.Effect.{Database}
+use Rattle.sqlite.specs.Effect.{Database, IsDatabase}
 use Rattle.scoop_handler.specs.State.{HandlerState, IsState}
 use Rattle.scoop_record.specs.Range.{InRange}
 use Rattle.scoop_record.specs.Image.{image, pending_row}
@@ -160,14 +160,15 @@ carried_on a b c d handler one two three h = rw (one, two, three) h
 
 -- the whole migration
 pub migrated : (old db mid new : Database) (rows : List Row) (all : List HandlerState) → Makes old db first_schema record_schema 3 → IsPermutation (map keyed_value (db.trees 1)) rows → AllZip IsFirstRow rows all → IsRising all
-    → SavesAll db mid all → Puts mid new 0 1 (Int (pos 2)) → old.schema ≡ first_schema → value_at (old.trees 0) 1 ≡ Some (Int (pos 1)) → Migrates old new
-migrated old db mid new rows all makes same zip rising saves put was version =
+    → SavesAll db mid all → Puts mid new 0 1 (Int (pos 2)) → IsDatabase new → old.schema ≡ first_schema → value_at (old.trees 0) 1 ≡ Some (Int (pos 1)) → Migrates old new
+migrated old db mid new rows all makes same zip rising saves put whole was version =
     let images : db.trees 1 ≡ old.trees 1 = makes.others.1.0 in
     let clients : db.trees 2 ≡ old.trees 2 = makes.others.1.1.0 in
     record {
       was = was;
       old_version = version;
       schema = put.schema ∙ schema_stays db mid all saves ∙ makes.schema;
+      whole = whole;
       version = put.there;
       handlers = λ handler. carried_on old.trees db.trees new.trees mid.trees handler (sym images) (put.trees 1 (λ e. omega (arith, e))) (put.trees 3 (λ e. omega (arith, e))) (states_kept db mid rows all same zip rising saves handler);
       incarnations = λ client. ap (λ rows. option_map inc_in (value_at rows client)) (put.trees 2 (λ e. omega (arith, e))) ∙ incs_stay db mid all client saves ∙ ap (λ rows. option_map inc_in (value_at rows client)) clients;

@@ -6,13 +6,13 @@ use Rattle.std.specs.Option.{option_to_list}
 use Rattle.sqlite_value.specs.declared.value.Value.{Value}
 use Rattle.sqlite_value.specs.declared.value.Value.TheVariants.{Null, Int}
 use Rattle.sqlite_value.specs.Order.{Row, column}
-use Rattle.sqlite_trees.specs.Tree.{rowid, has_rowid}
+use Rattle.sqlite_trees.specs.Tree.{rowid, has_rowid, put_row}
 use Rattle.sqlite_schema.specs.declared.command.Command.TheVariants.{Select, CreateTable}
 use Rattle.sqlite_schema.specs.declared.schema.Table.{Table}
 use Rattle.sqlite_catalog.specs.Change.{created, next_tree, KeepsRows}
 use Rattle.sqlite.specs.Compile.{table_defined_by}
 use Rattle.sqlite.specs.Does.{Tally, lacks_sequence}
-use Rattle.sqlite.specs.Effect.{Database}
+use Rattle.sqlite.specs.Effect.{Database, IsDatabase}
 use Rattle.sqlite_schema.specs.declared.schema.Kind.{Kind}
 use Rattle.sqlite_schema.specs.declared.schema.Schema.{Schema}
 use Rattle.sqlite_sql.specs.Term.{Term, col, eval_all, holds}
@@ -25,7 +25,7 @@ use Rattle.sqlite_schema.specs.declared.command.Returning.{Returning}
 use Rattle.sqlite_resolve.specs.declared.compiled.Compiled.{Compiled}
 use Rattle.sqlite.specs.State.{State, HasCleanDisk, Survives, IsRolledBack, Shows, ExecutesInside, ShowsRows, Writes, FailsToShow, RunsCommand, mode_of, Executes, Shown, FailsToQuery, IsTooLate, IsNotRun, IsUnchanged, KeepsCommit}
 use Rattle.sqlite.proofs.Callers.{IsPlain, command_of, statement_of, runs_as, reads_as}
-use Rattle.scoop_record.specs.Tables.{keyed_table, record_schema, value_at, Puts, Makes}
+use Rattle.scoop_record.specs.Tables.{keyed_table, record_schema, row_of, value_at, Puts, Makes}
 use Rattle.scoop_record.proofs.TableLemmas.{query_of, key_is, first_key_is, all_images, tests_key, looked_up, all_answered}
 use Rattle.scoop_record.specs.Migrate.{keyed_value}
 use Rattle.scoop_record.proofs.RowLemmas.{find_own}
@@ -184,14 +184,15 @@ makes sql before table old new (Ok count) clean ready is plain uncounted ended r
 pub puts_version : (sql : List ℕ) (version : ℕ) (old new : State) (r : Result ℕ Error) → command_of (understood record_schema sql) ≡ insert_version → IsPlain (understood record_schema sql)
     → HasCleanDisk old → (IsSound old → old.now.schema ≡ record_schema)
     → (old.in_transaction ≡ false → IsErr r) → (IsTrue old.in_transaction → ExecutesInside 0 sql (Int (pos version) ∷ []) old new r)
-    → OnOk r (Puts old.now new.now 0 1 (Int (pos version)) × Shows old new new.now old.committed true)
+    → OnOk r ((Puts old.now new.now 0 1 (Int (pos version)) × IsDatabase new.now × (old.now.trees 0 ≡ [] → new.now.trees 0 ≡ row_of 1 (Int (pos version)) ∷ [])) × Shows old new new.now old.committed true)
 puts_version sql version old new (Err e) is plain clean ready ended runs = tt
 puts_version sql version old new (Ok count) is plain clean ready ended runs = elim (cases_Bool old.in_transaction) [
   | inl inside ↦
       let ran = runs inside in
       let has = ready (clean, ran.1.was_open) in
       let w = runs_as sql (Int (pos version) ∷ []) old new record_schema has insert_version is plain count ran.0 in
-      (does_version old.step_limit (mode_of old) version old.now new.now has (statement_of sql (understood record_schema sql)) w.tally w.changed, ran.1)
+      let does = does_version old.step_limit (mode_of old) version old.now new.now has (statement_of sql (understood record_schema sql)) w.tally w.changed in
+      ((does.0, w.sound, λ none. does.1 ∙ ap (put_row (row_of 1 (Int (pos version)))) none), ran.1)
   | inr outside ↦ absurd (let e = ended outside in cc)
 ]
 
@@ -211,13 +212,13 @@ shows_all sql old new rows has is plain h =
 pub raises_version : (sql : List ℕ) (version : ℕ) (before : Value) (old new : State) (r : Result ℕ Error) → command_of (understood record_schema sql) ≡ raise → IsPlain (understood record_schema sql)
     → HasCleanDisk old → (IsSound old → (old.now.schema ≡ record_schema) × (value_at (old.now.trees 0) 1 ≡ Some before))
     → (old.in_transaction ≡ false → IsErr r) → (IsTrue old.in_transaction → ExecutesInside 0 sql (Int (pos version) ∷ []) old new r)
-    → OnOk r (Puts old.now new.now 0 1 (Int (pos version)) × Shows old new new.now old.committed true)
+    → OnOk r ((Puts old.now new.now 0 1 (Int (pos version)) × IsDatabase new.now) × Shows old new new.now old.committed true)
 raises_version sql version before old new (Err e) is plain clean ready ended runs = tt
 raises_version sql version before old new (Ok count) is plain clean ready ended runs = elim (cases_Bool old.in_transaction) [
   | inl inside ↦
       let ran = runs inside in
       let has = ready (clean, ran.1.was_open) in
       let w = runs_as sql (Int (pos version) ∷ []) old new record_schema has.0 raise is plain count ran.0 in
-      (does_raise old.step_limit (mode_of old) version old.now new.now before has.0 has.1 (statement_of sql (understood record_schema sql)) w.tally w.changed, ran.1)
+      ((does_raise old.step_limit (mode_of old) version old.now new.now before has.0 has.1 (statement_of sql (understood record_schema sql)) w.tally w.changed, w.sound), ran.1)
   | inr outside ↦ absurd (let e = ended outside in cc)
 ]

@@ -255,7 +255,7 @@ insert_version = Insert 0 (Values (lit (Int (pos 1)) ∷ lit Null ∷ col 0 0 �
 
 -- what the INSERT of the version has made of the database
 pub does_version : (limit : Option ℕ) (mode : Mode) (version : ℕ) (db after : Database) → db.schema ≡ record_schema
-    → (text : List ℕ) (tally : Tally) → Does limit mode (Int (pos version) ∷ []) db text None insert_version (Ok (tally, after)) → Puts db after 0 1 (Int (pos version))
+    → (text : List ℕ) (tally : Tally) → Does limit mode (Int (pos version) ∷ []) db text None insert_version (Ok (tally, after)) → Puts db after 0 1 (Int (pos version)) × (after.trees 0 ≡ put_row (row_of 1 (Int (pos version))) (db.trees 0))
 does_version limit mode version db after has text tally h =
     let given : Row = Int (pos version) ∷ [] in
     let done = went (subst (λ s. Does limit mode given (record db { schema = s }) text None insert_version (Ok (tally, after))) has h) in
@@ -269,7 +269,7 @@ does_version limit mode version db after has text tally h =
     let rows : write.0 0 ≡ put_row (row_of 1 (Int (pos version))) (db.trees 0) =
     step.rows ∙ ap (λ all. edited db.trees (edit_of db.trees (meta 0) [] Chosen 0 all)) sourced.1.1 ∙ rw (cast_int (pos 1), cast_null, cast_int (pos version)) refl in
     let put = put_over (codes "meta") (codes "id") (codes "version") Integer 0 refl limit mode 1 (Int (pos version)) (cast_int (pos version)) db.trees write.0 (db.trees 0) rows (λ other apart. refl) (λ t apart. step.others t apart tt) in
-    rw (now, trees) (record { schema = sym has; there = put.there; others = put.others; trees = put.trees })
+    rw (now, trees) (record { schema = sym has; there = put.there; others = put.others; trees = put.trees }, rows)
 
 abbrev pub raise : Command
 raise = Update 0 (record { lets = []; body = query_of 0 first_key_is (col 1 0 ∷ col 1 0 ∷ lit Null ∷ col 0 0 ∷ []) })

@@ -5,7 +5,7 @@ use Rattle.sqlite_value.specs.declared.value.Value.{Value}
 use Rattle.sqlite_value.specs.declared.value.Value.TheVariants.{Int, Blob}
 use Rattle.sqlite_value.specs.Order.{Row, column}
 use Rattle.sqlite_trees.specs.Tree.{Trees, IsAscending, rowid}
-use Rattle.sqlite.specs.Effect.{Database}
+use Rattle.sqlite.specs.Effect.{Database, IsDatabase}
 use Rattle.scoop_handler.specs.State.{HandlerState}
 use Rattle.scoop_handler.specs.State.{IsState}
 use Rattle.scoop_record.specs.Range.{InRange}
@@ -101,11 +101,13 @@ pub record IsLowestBad (db : Database) (handler : ℕ) : Type 0 where
   pub bad : IsTheOne (first_handlers_in db.trees handler) Damaged
   pub below : (lower : ℕ) → lower < handler → (found : Option HandlerState) × IsTheOne (first_handlers_in db.trees lower) (stored_of found)
 
--- a record of version 1 became one of version 2, in which each state and each incarnation is as it was
+-- a record of version 1 became one of version 2, in which each state and each incarnation is as it was: an
+-- open of its trees finds its tables
 pub record Migrates (old new : Database) : Type 0 where
   pub was : old.schema ≡ first_schema
   pub old_version : value_at (old.trees 0) 1 ≡ Some (Int (pos 1))
   pub schema : new.schema ≡ record_schema
+  pub whole : IsDatabase new
   pub version : value_at (new.trees 0) 1 ≡ Some (Int (pos 2))
   pub handlers : (handler : ℕ) → IsCarried (first_handlers_in old.trees handler) (handlers_in new.trees handler)
   pub incarnations : (client : ℕ) → incs_in new.trees client ≡ incs_in old.trees client

@@ -1,9 +1,9 @@
 -- What a record over a database shows.
-use Rattle.std.specs.Prelude.{◌≡◌, ◌≢◌, ◌⊎◌, ℕ, ℤ, min, pos, negsuc, false, List, [], Option, Some, None, option_map, IsTrue}
+use Rattle.std.specs.Prelude.{◌≡◌, ◌≢◌, ◌⊎◌, ℕ, ℤ, min, pos, negsuc, false, List, [], ◌∷◌, Option, Some, None, option_map, IsTrue}
 use Rattle.sqlite_value.specs.declared.value.Value.{Value}
 use Rattle.sqlite_value.specs.declared.value.Value.TheVariants.{Null, Int, Real, Text, Blob}
 use Rattle.sqlite_trees.specs.Tree.{Trees}
-use Rattle.sqlite.specs.Effect.{Database}
+use Rattle.sqlite.specs.Effect.{Database, IsDatabase}
 use Rattle.sqlite.specs.Store.{Ghosts}
 use Rattle.sqlite.specs.Held.{Held, state}
 use Rattle.sqlite.specs.State.{State, HasCleanDisk}
@@ -11,7 +11,7 @@ use Rattle.scoop_handler.specs.State.{HandlerState}
 use Rattle.scoop_record.specs.Image.{image, pending_row}
 use Rattle.scoop_record.specs.Reading.{IsStored}
 use Rattle.scoop_record.specs.Keeper.{Stored, Missing, Holds, Damaged, last_incarnation, next_of}
-use Rattle.scoop_record.specs.Tables.{first_schema, record_schema, value_at, Puts}
+use Rattle.scoop_record.specs.Tables.{first_schema, record_schema, row_of, value_at, Puts}
 
 -- what is no incarnation counts as the last one, after which none comes
 abbrev pub inc_in : Value → ℕ
@@ -91,10 +91,12 @@ Saves old new s = PutsBoth old new s.number.0 (image s) (pending_row s)
 abbrev pub IsIdle : {S : Type 0} → Ghosts S → Held S → Type 0
 IsIdle g h = (h.in_transaction ≡ false) × IsReady (state g h)
 
--- a record that holds nothing yet, of this version
+-- a record that holds nothing yet, of this version: an open of its trees finds its tables
 pub record IsNewRecord (db : Database) (version : ℕ) : Type 0 where
   pub sound : IsRecord db
+  pub whole : IsDatabase db
   pub version_is : value_at (db.trees 0) 1 ≡ Some (Int (pos version))
+  pub alone : db.trees 0 ≡ row_of 1 (Int (pos version)) ∷ []
   pub handlers : db.trees 1 ≡ []
   pub clients : db.trees 2 ≡ []
   pub pending : db.trees 3 ≡ []

@@ -1,6 +1,6 @@
 //! The rows of the clients.
 
-ghost use Rattle.std.specs.Prelude.{◌≡◌, ◌≤◌, length, [], ◌∷◌, map, pos, Some, IsTrue, IfOk, IfErr, OnOk, OnErr, false, true, Option, option_map, ◌⊎◌};
+ghost use Rattle.std.specs.Prelude.{◌≡◌, ◌≤◌, length, [], ◌∷◌, map, pos, Some, IfOk, IfErr, OnOk, OnErr, false, true, Option, option_map, ◌⊎◌};
 ghost use Rattle.std.specs.Option.{option_to_list};
 ghost use Rattle.sqlite.specs.Effect.{Database};
 ghost use Rattle.sqlite.specs.Held.{state};

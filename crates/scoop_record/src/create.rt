@@ -1,11 +1,11 @@
 //! The tables of the record are made.
 
-ghost use Rattle.std.specs.Prelude.{◌≡◌, ◌≢◌, ◌∷◌, [], pos, Some, None, IsTrue, IfOk, IfErr, OnOk, OnErr, true, false, ℕ};
-ghost use Rattle.sqlite.specs.Effect.{Database};
+ghost use Rattle.std.specs.Prelude.{◌≡◌, ◌≢◌, ◌∷◌, [], pos, IsTrue, IfErr, OnOk, OnErr, true, false};
+ghost use Rattle.sqlite.specs.Effect.{Database, IsDatabase};
 ghost use Rattle.sqlite.specs.Held.{state};
 ghost use Rattle.sqlite.specs.State.{HasCleanDisk, KeepsCommit, Shows, Survives};
 ghost use Rattle.sqlite.specs.declared.types.Value.TheVariants.{Int};
-ghost use Rattle.scoop_record.specs.Tables.{no_schema, meta_schema, two_schema, first_schema, record_schema, value_at, Makes, Puts};
+ghost use Rattle.scoop_record.specs.Tables.{no_schema, meta_schema, two_schema, first_schema, record_schema, row_of, Makes, Puts};
 ghost use Rattle.scoop_record.specs.Store.{IsSound, IsIdle, IsNewRecord};
 ghost use Rattle.scoop_record.specs.Keeper.{IsPutError};
 
@@ -74,7 +74,9 @@ pub(crate) fn create_pending<S: Alter>(tx: &mut Transaction<'_, S>) -> Result<us
 fn put_version<S: Alter>(tx: &mut Transaction<'_, S>, version: u32) -> Result<usize, Error>
     requires { IsSound (state S.Store tx.old.conn.now) → (state S.Store tx.old.conn.now).now.schema ≡ record_schema }
     ensures same_reference { tx.new.conn.ghost_name ≡ tx.old.conn.ghost_name }
-    ensures put { HasCleanDisk (state S.Store tx.new.conn.now) → OnOk result (Puts (state S.Store tx.old.conn.now).now (state S.Store tx.new.conn.now).now 0 1 (Int (pos version))
+    ensures put { HasCleanDisk (state S.Store tx.new.conn.now) → OnOk result ((Puts (state S.Store tx.old.conn.now).now (state S.Store tx.new.conn.now).now 0 1 (Int (pos version))
+        × IsDatabase (state S.Store tx.new.conn.now).now
+        × ((state S.Store tx.old.conn.now).now.trees 0 ≡ [] → (state S.Store tx.new.conn.now).now.trees 0 ≡ row_of 1 (Int (pos version)) ∷ []))
         × Shows (state S.Store tx.old.conn.now) (state S.Store tx.new.conn.now) (state S.Store tx.new.conn.now).now (state S.Store tx.old.conn.now).committed true) }
     ensures kept { HasCleanDisk (state S.Store tx.new.conn.now) → KeepsCommit (state S.Store tx.old.conn.now) (state S.Store tx.new.conn.now) }
     ensures survives { Survives (state S.Store tx.old.conn.now) (state S.Store tx.new.conn.now) (λ _. ⊥) }

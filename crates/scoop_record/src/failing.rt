@@ -1,6 +1,6 @@
 //! A keeper that fails.
 
-ghost use Rattle.std.specs.Prelude.{◌≡◌, ◌+◌, ◌≢◌, ◌⊎◌, ℕ, Option, Some, IsTrue, IsFalse, IfSome, IfOk, IfErr, OnOk, OnErr};
+ghost use Rattle.std.specs.Prelude.{◌≡◌, ◌+◌, ◌≢◌, ◌⊎◌, Some, IsTrue, IsFalse, IfSome, IfOk, IfErr, OnOk, OnErr};
 ghost use Rattle.scoop_record.specs.Failing.{failing};
 
 use crate::keeper::{Keeper, KeeperError};
@@ -56,7 +56,7 @@ impl<K: Keeper> FailingKeeper<K> {
 }
 
 impl<K: Keeper> Keeper for FailingKeeper<K> {
-    ghost use Rattle.scoop_record.specs.Keeper.{Stored, Damaged, stored_of, IsTheOne, Stays, Keeps, IsSame, Sets, next_of, last_incarnation, IsPutError};
+    ghost use Rattle.scoop_record.specs.Keeper.{Damaged, stored_of, IsTheOne, Stays, Keeps, IsSame, Sets, next_of, last_incarnation, IsPutError};
 
     ghost handlers = { λ f. K.handlers f.keeper };
 

@@ -1,12 +1,12 @@
 //! The rows of the handlers.
 
-ghost use Rattle.std.specs.Prelude.{◌≡◌, ◌≤◌, length, [], ◌∷◌, map, pos, Some, IsTrue, IfSome, IfOk, IfErr, OnOk, OnErr, false, true, Option, option_map, ◌⊎◌};
+ghost use Rattle.std.specs.Prelude.{◌≡◌, ◌≤◌, length, [], ◌∷◌, map, IfSome, IfOk, IfErr, OnOk, OnErr, false, true, Option, option_map, ◌⊎◌};
 ghost use Rattle.std.specs.Option.{option_to_list};
 ghost use Rattle.sqlite.specs.Effect.{Database};
 ghost use Rattle.sqlite.specs.Held.{state};
 ghost use Rattle.sqlite.specs.State.{HasCleanDisk, IsUnchanged, KeepsCommit, Shows, Survives};
 ghost use Rattle.sqlite.specs.declared.types.Value.{Value as SqlValue};
-ghost use Rattle.sqlite.specs.declared.types.Value.TheVariants.{Int, Blob};
+ghost use Rattle.sqlite.specs.declared.types.Value.TheVariants.{Blob};
 ghost use Rattle.scoop_record.specs.Tables.{value_at, Puts};
 ghost use Rattle.scoop_record.specs.Store.{IsRecord, IsSound, IsReady, Has, handlers_in, PutsBoth};
 ghost use Rattle.scoop_record.specs.Keeper.{IsPutError, IsTheOne, stored_of, Damaged};

@@ -1,6 +1,6 @@
 //! What keeps the states of handlers and the incarnations of clients.
 
-ghost use Rattle.std.specs.Prelude.{◌≡◌, ◌⊎◌, ℕ, Option, Some, None, IfSome, IfOk, IfErr, OnOk, OnErr};
+ghost use Rattle.std.specs.Prelude.{◌≡◌, ◌⊎◌, ℕ, Option, Some, IfSome, IfOk, IfErr, OnOk, OnErr};
 
 use scoop_handler::HandlerState;
 use scoop_message::{ClientId, HandlerId, OutOfMemory};

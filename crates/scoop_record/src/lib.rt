@@ -12,6 +12,7 @@ mod memory;
 mod migrate;
 mod refusal;
 mod schema;
+mod sound;
 mod store;
 mod version;
 
@@ -21,7 +22,5 @@ pub use failing::FailingKeeper;
 pub use images::{ReadError, image, pending_row, read_image, read_image_with_entries};
 pub use keeper::{Keeper, KeeperError};
 pub use memory::MemoryKeeper;
+pub use sound::memory_is_sound;
 pub use store::Store;
-
-#[cfg(test)]
-mod tests;

@@ -1,6 +1,6 @@
 //! A keeper in memory.
 
-ghost use Rattle.std.specs.Prelude.{◌≡◌, ◌⊎◌, ℕ, Option, None, Some, [], IfSome, IfOk, IfErr, OnOk, OnErr};
+ghost use Rattle.std.specs.Prelude.{◌≡◌, ◌⊎◌, ℕ, Some, [], IfSome, IfOk, IfErr, OnOk, OnErr};
 
 use crate::keeper::{Keeper, KeeperError};
 use scoop_handler::HandlerState;
@@ -57,7 +57,7 @@ impl MemoryKeeper {
 
 impl Keeper for MemoryKeeper {
     ghost use Rattle.scoop_record.specs.Memory.{Has, state_at, incarnation_at};
-    ghost use Rattle.scoop_record.specs.Keeper.{Stored, stored_of, IsTheOne, Stays, Keeps, IsSame, Sets, next_of, last_incarnation};
+    ghost use Rattle.scoop_record.specs.Keeper.{Keeps, Sets, next_of, last_incarnation};
 
     ghost handlers = { Has };
 

@@ -2,7 +2,7 @@
 
 ghost use Rattle.std.specs.Prelude.{◌≡◌, ◌⊎◌, map, pos, Some, true, false, IsTrue, IfOk, IfErr, OnOk, OnErr, IsPermutation};
 ghost use Rattle.std.specs.List.{AllZip};
-ghost use Rattle.sqlite.specs.Effect.{Database};
+ghost use Rattle.sqlite.specs.Effect.{Database, IsDatabase};
 ghost use Rattle.sqlite.specs.Held.{state};
 ghost use Rattle.sqlite.specs.State.{HasCleanDisk, IsUnchanged, KeepsCommit, Shows, Survives};
 ghost use Rattle.sqlite.specs.declared.types.Value.TheVariants.{Int};
@@ -40,7 +40,7 @@ fn rows_of_handlers<S: Alter>(tx: &mut Transaction<'_, S>) -> Result<Vec<Row>, E
 fn raise_version<S: Alter>(tx: &mut Transaction<'_, S>, version: u32) -> Result<usize, Error>
     requires { IsSound (state S.Store tx.old.conn.now) → IsRecord (state S.Store tx.old.conn.now).now × (value_at ((state S.Store tx.old.conn.now).now.trees 0) 1 ≡ Some (Int (pos 1))) }
     ensures same_reference { tx.new.conn.ghost_name ≡ tx.old.conn.ghost_name }
-    ensures put { HasCleanDisk (state S.Store tx.new.conn.now) → OnOk result (Puts (state S.Store tx.old.conn.now).now (state S.Store tx.new.conn.now).now 0 1 (Int (pos version))
+    ensures put { HasCleanDisk (state S.Store tx.new.conn.now) → OnOk result ((Puts (state S.Store tx.old.conn.now).now (state S.Store tx.new.conn.now).now 0 1 (Int (pos version)) × IsDatabase (state S.Store tx.new.conn.now).now)
         × Shows (state S.Store tx.old.conn.now) (state S.Store tx.new.conn.now) (state S.Store tx.new.conn.now).now (state S.Store tx.old.conn.now).committed true) }
     ensures kept { HasCleanDisk (state S.Store tx.new.conn.now) → KeepsCommit (state S.Store tx.old.conn.now) (state S.Store tx.new.conn.now) }
     ensures survives { Survives (state S.Store tx.old.conn.now) (state S.Store tx.new.conn.now) (λ _. ⊥) }

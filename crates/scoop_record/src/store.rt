@@ -1,6 +1,6 @@
 //! A keeper over the tables of a database.
 
-ghost use Rattle.std.specs.Prelude.{◌≡◌, ◌≢◌, ◌⊎◌, IsTrue, IfOk, IfErr, OnOk, OnErr, Some};
+ghost use Rattle.std.specs.Prelude.{◌≡◌, ◌≢◌, ◌⊎◌, IfOk, IfErr, IfSome, OnOk, OnErr, Some};
 ghost use Rattle.scoop_record.specs.Tables.{no_schema};
 
 use crate::adopt::adopt_tables;
@@ -90,7 +90,7 @@ impl<S: Alter + Drop> Keeper for Store<S> {
     ghost use Rattle.sqlite.specs.Held.{state as seen};
     ghost use Rattle.sqlite.specs.Effect.{Database};
     ghost use Rattle.sqlite.specs.State.{Survives};
-    ghost use Rattle.scoop_record.specs.Keeper.{Keeps, Stays, IsSame, Sets, IsPutError, next_of, last_incarnation};
+    ghost use Rattle.scoop_record.specs.Keeper.{Damaged, Keeps, Stays, IsSame, IsTheOne, Sets, IsPutError, next_of, last_incarnation, stored_of};
     ghost use Rattle.scoop_record.specs.Store.{handlers_in, incs_in, IsSound, Advances, Saves};
 
     ghost handlers = { λ s. handlers_in (seen S.Store s).now.trees };
@@ -119,7 +119,18 @@ impl<S: Alter + Drop> Keeper for Store<S> {
         )
     }
 
-    fn load_handler(&mut self, handler: HandlerId) -> Result<Option<HandlerState>, KeeperError> {
+    fn load_handler(&mut self, handler: HandlerId) -> Result<Option<HandlerState>, KeeperError>
+        ensures loaded { IsSound (seen S.Store self.new) → IfOk result (λ found. IsTheOne (handlers_in (seen S.Store self.old).now.trees handler.0) (stored_of found)) }
+        ensures own { IfOk result (λ found. IfSome found (λ s. s.number ≡ handler)) }
+        ensures bad { IsSound (seen S.Store self.new) → result ≡ Err (KeeperError.BadImage handler) → IsTheOne (handlers_in (seen S.Store self.old).now.trees handler.0) Damaged }
+        ensures named { IfErr result (λ e. IsPutError e ⊎ (e ≡ KeeperError.BadImage handler)) }
+        ensures handlers { IsSound (seen S.Store self.new) → Stays (handlers_in (seen S.Store self.old).now.trees) (handlers_in (seen S.Store self.new).now.trees) }
+        ensures incarnations { IsSound (seen S.Store self.new) → IsSame (incs_in (seen S.Store self.old).now.trees) (incs_in (seen S.Store self.new).now.trees) }
+        ensures honest { IsSound (seen S.Store self.new) → IsSound (seen S.Store self.old) }
+        // The whole database is as it was, and a crash leaves what it could leave before the call.
+        ensures same { IsSound (seen S.Store self.new) → (seen S.Store self.new).now ≡ (seen S.Store self.old).now }
+        ensures survives { Survives (seen S.Store self.old) (seen S.Store self.new) (λ _. ⊥) }
+    {
         handlers::load(self.alloc, &mut self.conn, handler)
     }
 

@@ -1,6 +1,6 @@
 //! Images to states.
 
-ghost use Rattle.std.specs.Prelude.{◌≡◌, length, IfOk, IfErr};
+ghost use Rattle.std.specs.Prelude.{◌≡◌, IfOk, IfErr};
 ghost use Rattle.scoop_handler.specs.State.{HandlerState as State};
 ghost use Rattle.scoop_record.specs.Reading.{AreNoQueues, AreNoneWithEntries, AreQueues, AreWithEntries, HasNoQueue, IfHasQueue, IsStored, IsStoredWithEntries};
 

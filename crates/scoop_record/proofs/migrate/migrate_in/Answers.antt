@@ -43,7 +43,7 @@ returns-in-Ok-raise_version-clause-migrated g c clean =
     let shown = c.in-Ok.ensures.rows clean2 in
     let saves = subst (λ (d : Database). SavesAll d saved.now c.as_slice-2.result.now) shown.0.0.now_is (c.in_ok-put_states.ensures.put (clean3, open3)) in
     migrated before.now made.now saved.now after.now c.as_slice.result.now c.as_slice-2.result.now (c.in_default.ensures.made clean1).0
-    (rw c.as_slice.ensures.value shown.1) (rw c.as_slice-2.ensures.value c.in_ok-all.ensures.read) (rw c.as_slice-2.ensures.value c.in_ok-all.ensures.rises) saves (c.in-Ok-raise_version.ensures.put clean).0 first.0 first.1
+    (rw c.as_slice.ensures.value shown.1) (rw c.as_slice-2.ensures.value c.in_ok-all.ensures.read) (rw c.as_slice-2.ensures.value c.in_ok-all.ensures.rises) saves (c.in-Ok-raise_version.ensures.put clean).0.0 (c.in-Ok-raise_version.ensures.put clean).0.1 first.0 first.1
 
 pub returns-in_err-all-clause-bad : goal.returns-in_err-all-clause-bad
 returns-in_err-all-clause-bad g c clean2 handler is =

@@ -1,10 +1,10 @@
 //! Keepers in memory and over a database.
 
 use super::images::PENDING;
-use crate::*;
 use scoop_handler::HandlerState;
 use scoop_message::{ClientId, HandlerId};
-use sqlite::{Connection, MemStore, params};
+use scoop_record::*;
+use sqlite::{Alter, Connection, MemStore, params};
 use std::alloc::Global;
 use std::test::Fail;
 
@@ -74,13 +74,13 @@ fn first_version(alloc: Global, text: &str) -> Result<Connection<MemStore>, Fail
 }
 
 // What this text finds for handler 1.
-fn bytes_by(conn: &mut Connection<MemStore>, text: &str) -> Result<Vec<u8>, Fail> {
+pub fn bytes_by<S: Alter>(conn: &mut Connection<S>, text: &str) -> Result<Vec<u8>, Fail> {
     let row = conn.query_row(text, params![1u32])?;
     Ok(row.get(0)?)
 }
 
-// Handler 1 with the word 1, whom client 7's block 1 has sent the entries of two calls, which are pending.
-const OLD: &str =
+// Handler 1 with the word 0, whom client 7's block 1 has sent the entries of two calls, which are pending.
+pub const OLD: &str =
     "INSERT INTO handlers (h, image) VALUES (1, x'0100000001010000000000000000000100000007000000010000000102000000020000\
     01000000070000000100000001010000000102010001010000000000000005010001010000000000000006')";
 
@@ -89,7 +89,7 @@ const CUT: &str =
     010000000700000001000000010100000001020100010100000000000000050100010100000000000000')";
 
 // The same in version 2, without its entries.
-const IMAGE: [u8; 54] =
+pub const IMAGE: [u8; 54] =
     *b"\x02\0\0\0\x01\x01\0\0\0\0\0\0\0\0\0\x01\0\0\0\x07\0\0\0\x01\0\0\0\x01\x02\0\0\0\x02\0\0\x01\0\0\0\x07\0\0\0\x01\0\0\0\x01\x01\0\0\0\x01\x02";
 
 #[test]
@@ -134,6 +134,37 @@ fn a_damaged_store_of_version_1_stays(rt: HostRuntime) -> Result<(), Fail> {
         refused(&mut conn, rt.alloc())?,
         (KeeperError::WrongSchema, 1)
     );
+    Ok(())
+}
+
+#[test]
+fn a_negative_number_is_no_handlers(rt: HostRuntime) -> Result<(), Fail> {
+    let mut conn = first_version(
+        rt.alloc(),
+        "INSERT INTO handlers (h, image) VALUES (-1, x'')",
+    )?;
+    assert!(rt; refused(&mut conn, rt.alloc())? == (KeeperError::WrongSchema, 1));
+    Ok(())
+}
+
+// How a load of handler 1 is refused behind this text.
+fn load_behind(alloc: Global, text: &str) -> Result<Option<KeeperError>, Fail> {
+    let mut conn = Store::create(alloc, Connection::open_in_memory(alloc)?)?.into_connection();
+    conn.execute(text, &[])?;
+    let mut store = Store::adopt(alloc, conn)?;
+    Ok(store.load_handler(HandlerId(1)).err())
+}
+
+// The image of handler 1 with the word 5, whom nobody has greeted.
+const LONE: &str =
+    "INSERT INTO handlers (h, image) VALUES (1, x'0200000001010000000000000005000000')";
+
+#[test]
+fn an_image_without_its_entries_is_bad(rt: HostRuntime) -> Result<(), Fail> {
+    let bad = Some(KeeperError::BadImage(HandlerId(1)));
+    assert!(rt; load_behind(rt.alloc(), LONE)? == bad);
+    let entries = "INSERT INTO pending (h, entries) VALUES (1, x'')";
+    assert!(rt; load_behind(rt.alloc(), entries)?.is_none());
     Ok(())
 }
 

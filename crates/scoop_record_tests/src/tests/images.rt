@@ -1,8 +1,8 @@
 //! Images of the worked state, whole, cut and changed.
 
-use crate::*;
 use linked_list_allocator::LocalHeap;
 use scoop_message::HandlerId;
+use scoop_record::*;
 use std::alloc::{Allocator, Global};
 use std::test::Fail;
 

@@ -1,8 +1,11 @@
-//! Stores over files that are stopped at a call of the disk, and opened again.
+//! Stores over files that are stopped at a call of the disk, and opened again. Each write of the log is
+//! stopped; the file itself is written only at a checkpoint, which none of these reach.
 
-use super::keepers::{kept, word};
-use crate::*;
+use super::images::PENDING;
+use super::keepers::{IMAGE, OLD, bytes_by, kept, word};
+use super::tables::version;
 use scoop_message::ClientId;
+use scoop_record::*;
 use sqlite::{Connection, FileStore, Files, Options};
 use sqlite_disk::{Disk, Fuse, Memory};
 use std::alloc::Global;
@@ -16,10 +19,6 @@ type Stoppable = Connection<FileStore<Stopped>>;
 type StoppableStore = Store<FileStore<Stopped>>;
 
 const CLIENT: ClientId = ClientId(7);
-
-// The first state, of handler 1 with the word 5, as it is stored in version 1.
-const FIRST_IMAGE: &str =
-    "INSERT INTO handlers (h, image) VALUES (1, x'0100000001010000000000000005000000')";
 
 // The call of a store that is stopped.
 #[derive(Clone, Copy)]
@@ -103,7 +102,7 @@ fn adopts_in(alloc: Global, conn: &mut Stoppable) -> bool {
 }
 
 // Files with no tables; for what comes after a creation, a store with the word 5 and one incarnation; for a
-// migration, the same in version 1.
+// migration, one of version 1 whose handler has pending entries.
 fn files_before(alloc: Global, call: Call) -> Result<Files<Stopped>, Fail> {
     let blank = Files {
         log: file_with(alloc, &[], u64::MAX)?,
@@ -122,7 +121,7 @@ fn files_before(alloc: Global, call: Call) -> Result<Files<Stopped>, Fail> {
             "DROP TABLE pending",
             "UPDATE meta SET version = 1",
             "DELETE FROM handlers",
-            FIRST_IMAGE,
+            OLD,
         ];
         run_texts(&mut conn, &texts)?;
     }
@@ -158,29 +157,52 @@ fn called_on_store(
     Ok(Some((done, connection(store))))
 }
 
-// Whether what is found in the files is what the call stores, and not what was there before it.
-fn has_it(alloc: Global, files: Files<Stopped>, call: Call) -> Result<bool, Fail> {
-    let conn = opened(alloc, files)?;
-    let Some(mut store) = adopted(alloc, conn) else {
-        return match call {
-            Call::Create => Ok(false),
-            _ => Err(Fail::new("no store")),
-        };
-    };
-    let found = match call {
-        Call::Create => return Ok(true),
-        Call::Put => (word(&mut store)?, 5, 6),
-        Call::Next => (u64::from(next(&mut store).ok_or("a number")?), 2, 3),
-        // Of either version the store is whole.
-        Call::Adopt => (word(&mut store)?, 0, 5),
-    };
-    if found.0 == found.2 {
+// All tables, or none: where no record is taken, one is made.
+fn has_tables(alloc: Global, conn: &mut Stoppable) -> Result<bool, Fail> {
+    if adopts_in(alloc, conn) {
         return Ok(true);
     }
-    if found.0 == found.1 {
+    if creates_in(conn) {
         return Ok(false);
     }
-    Err(Fail::new("another state"))
+    Err(Fail::new("some of the tables"))
+}
+
+// Version 2, or version 1, of which an adoption still makes the same of version 2.
+fn has_version(alloc: Global, conn: &mut Stoppable) -> Result<bool, Fail> {
+    let before = version(conn).ok_or("a version")?;
+    if !adopts_in(alloc, conn) || version(conn) != Some(2) {
+        return Err(Fail::new("no record"));
+    }
+    let image = bytes_by(conn, "SELECT image FROM handlers WHERE h = ?1")?;
+    let entries = bytes_by(conn, "SELECT entries FROM pending WHERE h = ?1")?;
+    if image.as_slice() != IMAGE.as_slice() || entries.as_slice() != PENDING.as_slice() {
+        return Err(Fail::new("another state"));
+    }
+    Ok(before == 2)
+}
+
+// The word or the incarnation that the call stores, or the one before it.
+fn has_number(alloc: Global, conn: Stoppable, call: Call) -> Result<bool, Fail> {
+    let mut store = adopted(alloc, conn).ok_or("a store")?;
+    let (found, old, new) = match call {
+        Call::Put => (word(&mut store)?, 5, 6),
+        _ => (u64::from(next(&mut store).ok_or("a number")?), 2, 3),
+    };
+    if found != old && found != new {
+        return Err(Fail::new("another state"));
+    }
+    Ok(found == new)
+}
+
+// Whether what is found in the files is what the call stores, and not what was there before it.
+fn has_it(alloc: Global, files: Files<Stopped>, call: Call) -> Result<bool, Fail> {
+    let mut conn = opened(alloc, files)?;
+    match call {
+        Call::Create => has_tables(alloc, &mut conn),
+        Call::Adopt => has_version(alloc, &mut conn),
+        Call::Put | Call::Next => has_number(alloc, conn, call),
+    }
 }
 
 // Stops the call after so many calls of the log's disk: whether it succeeded, and whether what it stores is
