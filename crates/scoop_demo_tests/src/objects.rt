@@ -1,6 +1,6 @@
 use linked_list_allocator::LocalHeap;
 use scoop_demo::*;
-use scoop_message::{Answer, Args, Request, Words};
+use scoop_message::{Answer, Args, OutOfMemory, Request, Words};
 use scoop_object::{Behaviour, Boxed, Object, Table, WrongWords};
 use std::alloc::Global;
 use std::process::Abort;

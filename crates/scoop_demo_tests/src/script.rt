@@ -1,4 +1,3 @@
-use scoop_demo::fault::InputFault;
 use scoop_demo::*;
 use scoop_message::{Args, ClientId, HandlerId, Request, Words};
 use scoop_world::{Command, Event, HandlerList};
