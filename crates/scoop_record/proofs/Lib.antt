@@ -14,6 +14,7 @@ pub mod NumberLemmas
 pub mod RowLemmas
 pub mod StatementLemmas
 pub mod StoredLemmas
+pub mod StoringLemmas
 pub mod TableLemmas
 pub mod Texts
 pub mod UpsertLemmas

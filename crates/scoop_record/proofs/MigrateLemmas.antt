@@ -16,11 +16,11 @@ use Rattle.scoop_record.specs.Image.{image, pending_row}
 use Rattle.scoop_record.specs.Reading.{IsStored, IsStoredWithEntries}
 use Rattle.scoop_record.specs.Keeper.{Stored, Missing, Holds, Damaged, IsTheOne}
 use Rattle.scoop_record.specs.Tables.{first_schema, record_schema, value_at, Puts, Makes}
-use Rattle.scoop_record.specs.Store.{handlers_in, incs_in, inc_in}
-use Rattle.scoop_record.specs.Migrate.{FirstHas, first_handlers_in, SavesAll, IsFirstRow, IsRising, keyed_value, IsCarried, Migrates}
+use Rattle.scoop_record.specs.Store.{handlers_in, Saves}
+use Rattle.scoop_record.specs.Migrate.{FirstHas, first_handlers_in, SavesAll, IsFirstRow, IsRising, keyed_value, IsNumber, AreHandlers, IsCarried, Migrates}
 use Rattle.scoop_record.proofs.RowLemmas.{find_own}
 use Rattle.scoop_record.proofs.TableLemmas.{int_key}
-use Rattle.scoop_record.proofs.MapLemmas.{saved, saved_incs, stays}
+use Rattle.scoop_record.proofs.MapLemmas.{saved, stays}
 use Rattle.scoop_record.proofs.StoredLemmas.{same_id, missing_there}
 
 -- a state has its own rows
@@ -35,11 +35,11 @@ others_stay old new (s ∷ more) handler apart (state, range, mid, first, rest) 
     let step = saved old mid s (image s) (pending_row s) (own_rows s state range) first in
     others_stay mid new more handler apart.1 rest v ((step.others handler (λ e. apart.0 (sym e)) v).0 h)
 
-incs_stay : (old new : Database) (all : List HandlerState) (client : ℕ) → SavesAll old new all → incs_in new.trees client ≡ incs_in old.trees client
-incs_stay old new [] client same = ap (λ (d : Database). incs_in d.trees client) same
-incs_stay old new (s ∷ more) client (state, range, mid, first, rest) = incs_stay mid new more client rest ∙ (saved_incs old mid s.number.0 (image s) (pending_row s) first).each client
+pub saves_push : (old mid new : Database) (all : List HandlerState) (it : HandlerState) → SavesAll old mid all → IsState it → InRange it → Saves mid new it → SavesAll old new (all ++ it ∷ [])
+saves_push old mid new [] it same state range saves = (state, range, new, subst (λ (d : Database). Saves d new it) same saves, refl)
+saves_push old mid new (s ∷ more) it (state, range, half, first, rest) own_state own_range saves = (state, range, half, first, saves_push half mid new more it rest own_state own_range saves)
 
-schema_stays : (old new : Database) (all : List HandlerState) → SavesAll old new all → new.schema ≡ old.schema
+pub schema_stays : (old new : Database) (all : List HandlerState) → SavesAll old new all → new.schema ≡ old.schema
 schema_stays old new [] same = ap (λ (d : Database). d.schema) same
 schema_stays old new (s ∷ more) (state, range, mid, (half, first, second), rest) = schema_stays mid new more rest ∙ second.schema ∙ first.schema
 
@@ -154,9 +154,20 @@ module _ (db new : Database) (rows : List Row) (all : List HandlerState) (same :
             after = subst (λ n. handlers_in new.trees n (Holds it.0)) held.0 (own_stands db new all it.0 rising it.1 saves);
           }
 
+  -- each number in the table is that of a state
+  pub numbers_known : AreHandlers (db.trees 1)
+  numbers_known = all_from (λ (r : Row). IsNumber (rowid r)) (db.trees 1) (λ r here.
+      let it = state_of_row rows all zip (keyed_value r) (has_permuted (map keyed_value (db.trees 1)) rows (keyed_value r) same (has_mapped keyed_value (db.trees 1) r here)) in
+      record { number = it.0.number.0; small = it.2.stored.range.parts.number; is = it.2.key })
+
 -- what there is for a handler in each version rests on the rows of these tables alone
 carried_on : (a b c d : Trees) (handler : ℕ) → a 1 ≡ b 1 → c 1 ≡ d 1 → c 3 ≡ d 3 → IsCarried (first_handlers_in b handler) (handlers_in d handler) → IsCarried (first_handlers_in a handler) (handlers_in c handler)
 carried_on a b c d handler one two three h = rw (one, two, three) h
+
+-- the other tables stay while the states are stored
+tree_stays : (old new : Database) (all : List HandlerState) (tree : ℕ) → tree ≢ 1 → tree ≢ 3 → SavesAll old new all → new.trees tree ≡ old.trees tree
+tree_stays old new [] tree one three same = ap (λ (d : Database). d.trees tree) same
+tree_stays old new (it ∷ more) tree one three (state, range, mid, (half, first, second), rest) = tree_stays mid new more tree one three rest ∙ second.trees tree three ∙ first.trees tree one
 
 -- the whole migration
 pub migrated : (old db mid new : Database) (rows : List Row) (all : List HandlerState) → Makes old db first_schema record_schema 3 → IsPermutation (map keyed_value (db.trees 1)) rows → AllZip IsFirstRow rows all → IsRising all
@@ -167,11 +178,12 @@ migrated old db mid new rows all makes same zip rising saves put whole was versi
     record {
       was = was;
       old_version = version;
+      numbers = subst AreHandlers images (numbers_known db mid rows all same zip rising saves);
       schema = put.schema ∙ schema_stays db mid all saves ∙ makes.schema;
       whole = whole;
       version = put.there;
       handlers = λ handler. carried_on old.trees db.trees new.trees mid.trees handler (sym images) (put.trees 1 (λ e. omega (arith, e))) (put.trees 3 (λ e. omega (arith, e))) (states_kept db mid rows all same zip rising saves handler);
-      incarnations = λ client. ap (λ rows. option_map inc_in (value_at rows client)) (put.trees 2 (λ e. omega (arith, e))) ∙ incs_stay db mid all client saves ∙ ap (λ rows. option_map inc_in (value_at rows client)) clients;
+      clients = put.trees 2 (λ e. omega (arith, e)) ∙ tree_stays db mid all 2 (λ e. omega (arith, e)) (λ e. omega (arith, e)) saves ∙ clients;
     }
 
 pub zip_push : (rows : List Row) (all : List HandlerState) (row : Row) (it : HandlerState) → AllZip IsFirstRow rows all → IsFirstRow row it → AllZip IsFirstRow (rows ++ row ∷ []) (all ++ it ∷ [])
@@ -180,12 +192,8 @@ zip_push [] (s ∷ all) row it zip is = absurd zip
 zip_push (r ∷ rows) [] row it zip is = absurd zip
 zip_push (r ∷ rows) (s ∷ all) row it zip is = (zip.0, zip_push rows all row it zip.1 is)
 
-pub version_stays : (old new : Database) (all : List HandlerState) → SavesAll old new all → new.trees 0 ≡ old.trees 0
-version_stays old new [] same = ap (λ (d : Database). d.trees 0) same
-version_stays old new (it ∷ more) (state, range, mid, (half, first, second), rest) = version_stays mid new more rest ∙ second.trees 0 (λ e. omega (arith, e)) ∙ first.trees 0 (λ e. omega (arith, e))
-
 -- the version stands while the states are stored
 pub version_before : (old db mid : Database) (all : List HandlerState) (version : Value) → Makes old db first_schema record_schema 3 → SavesAll db mid all → value_at (old.trees 0) 1 ≡ Some version
     → (mid.schema ≡ record_schema) × (value_at (mid.trees 0) 1 ≡ Some version)
 version_before old db mid all version makes saves there =
-    (schema_stays db mid all saves ∙ makes.schema, ap (λ rows. value_at rows 1) (version_stays db mid all saves ∙ makes.others.0) ∙ there)
+    (schema_stays db mid all saves ∙ makes.schema, ap (λ rows. value_at rows 1) (tree_stays db mid all 0 (λ e. omega (arith, e)) (λ e. omega (arith, e)) saves ∙ makes.others.0) ∙ there)

@@ -1,5 +1,5 @@
 -- The rows of a record of version 1, by their numbers.
-use Rattle.std.proofs.Common.{◌≡◌, ◌≢◌, inl, inr, ◌<◌, ◌≤◌, ◌+◌, ◌^◌, ℕ, pos, List, [], ◌∷◌, ◌++◌, take, drop, map, find, Option, Some, None, option_map, refl, sym, ap, ◌∙◌, subst, arith, IsPermutation, append_assoc, take-append-drop}
+use Rattle.std.proofs.Common.{◌≡◌, ◌≢◌, inl, inr, ◌<◌, ◌≤◌, ◌+◌, ◌^◌, ℕ, zero, suc, pos, List, [], ◌∷◌, ◌++◌, take, drop, map, find, Option, Some, None, option_map, refl, sym, ap, ◌∙◌, subst, arith, IsPermutation, append_assoc, take-append-drop}
 use Rattle.std.specs.List.{AllByRecursion, AllZip}
 use Rattle.std.proofs.lemmas.List.Sorted.{IsPermutation-sym}
 use Rattle.sqlite_value.specs.declared.value.Value.{Value}
@@ -12,7 +12,7 @@ use Rattle.sqlite.specs.Effect.{Database}
 use Rattle.scoop_handler.specs.State.{HandlerState}
 use Rattle.scoop_record.specs.Keeper.{Stored, Missing, Holds, Damaged, stored_of, IsTheOne}
 use Rattle.scoop_record.specs.Tables.{first_schema, record_schema, value_at, Makes}
-use Rattle.scoop_record.specs.Migrate.{FirstHas, first_handlers_in, IsFirstRowOf, IsFirstRow, IsRising, keyed_value, IsKeyBelow, IsNumber, AreNumbered, IsBadRow, IsFirstBad, IsLowestBad}
+use Rattle.scoop_record.specs.Migrate.{FirstHas, first_handlers_in, IsFirstRowOf, IsFirstRow, IsRising, keyed_value, IsKeyBelow, IsNumber, AreNumbers, AreNumbered, AreHandlers, HasOtherNumber, IsBadRow, IsFirstBad, IsLowestBad}
 use Rattle.scoop_record.proofs.RowLemmas.{find_own}
 use Rattle.scoop_record.proofs.TableLemmas.{int_key}
 use Rattle.scoop_record.proofs.MigrateLemmas.{has_mapped, has_source, has_permuted, held_found, missing_one, none_has, pos_same, state_of_row}
@@ -34,6 +34,20 @@ none_under = record { numbered = record { known = tt; rising = tt }; under = tt 
 all_push : (P : Row → Type 0) (rows : List Row) (row : Row) → AllByRecursion P rows → P row → AllByRecursion P (rows ++ row ∷ [])
 all_push P [] row all is = (is, tt)
 all_push P (r ∷ rows) row all is = (all.0, all_push P rows row all.1 is)
+
+all_last : (P : Row → Type 0) (rows : List Row) (row : Row) → AllByRecursion P (rows ++ row ∷ []) → P row
+all_last P [] row all = all.0
+all_last P (r ∷ rows) row all = all_last P rows row all.1
+
+all_take : (P : Row → Type 0) (n : ℕ) (rows : List Row) → AllByRecursion P rows → AllByRecursion P (take n rows)
+all_take P zero rows all = tt
+all_take P (suc n) [] all = tt
+all_take P (suc n) (r ∷ rows) all = (all.0, all_take P n rows all.1)
+
+-- the number of the row behind those that were read
+pub number_at : (rows : List Row) (at : ℕ) (row : Row) → take (at + 1) rows ≡ take at rows ++ row ∷ [] → AreNumbers rows → IsNumber (column row 0)
+number_at rows at row next all =
+    all_last (λ (x : Row). IsNumber (column x 0)) (take at rows) row (subst (AllByRecursion (λ (x : Row). IsNumber (column x 0))) next (all_take (λ (x : Row). IsNumber (column x 0)) (at + 1) rows all))
 
 under_more : (low high : ℕ) (rows : List Row) → low ≤ high → AllByRecursion (IsUnder low) rows → AllByRecursion (IsUnder high) rows
 under_more low high [] le all = tt
@@ -161,7 +175,12 @@ module _ (db : Database) (rows : List Row) (same : IsPermutation (map keyed_valu
           let it = state_of_row bad.before bad.states bad.read (keyed_value r) earlier in
           (Some it.0, (held_found lower (db.trees 1) r it.0 some it.2).1)
 
-  all_numbers : AreNumbered rows → AllByRecursion (λ (row : Row). IsNumber (rowid row)) (db.trees 1)
+  listed_numbers : AreHandlers (db.trees 1) → AreNumbers rows
+  listed_numbers all = all_from (λ (x : Row). IsNumber (column x 0)) rows (λ row here.
+      let source = has_source keyed_value (db.trees 1) row (has_permuted rows (map keyed_value (db.trees 1)) row (IsPermutation-sym (map keyed_value (db.trees 1)) rows same) here) in
+      subst (λ (x : Row). IsNumber (column x 0)) (sym source.2) (all_has (λ (x : Row). IsNumber (rowid x)) (db.trees 1) source.0 all source.1))
+
+  all_numbers : AreNumbered rows → AreHandlers (db.trees 1)
   all_numbers numbered = all_from (λ (row : Row). IsNumber (rowid row)) (db.trees 1) (λ r here. all_has (λ (x : Row). IsNumber (column x 0)) rows (keyed_value r) numbered.known (listed r here))
 
 -- the images were listed once the fourth table was made
@@ -172,7 +191,18 @@ lowest_bad old db rows handler makes same was version bad =
     record {
       schema = was;
       version = version;
-      numbers = subst (AllByRecursion (λ (row : Row). IsNumber (rowid row))) images (all_numbers db rows same bad.numbered);
+      numbers = subst AreHandlers images (all_numbers db rows same bad.numbered);
       bad = subst (λ (xs : List Row). IsTheOne (FirstHas handler (value_at xs handler)) Damaged) images (bad_there db rows same handler bad);
       below = λ lower lt. subst (λ (xs : List Row). (found : Option HandlerState) × IsTheOne (FirstHas lower (value_at xs lower)) (stored_of found)) images (good_below db rows same handler bad lower lt);
+    }
+
+-- a number of the listed rows that is no handler's stands in the table
+pub other_number : (old db : Database) (rows : List Row) → Makes old db first_schema record_schema 3 → IsPermutation (map keyed_value (db.trees 1)) rows → old.schema ≡ first_schema
+    → value_at (old.trees 0) 1 ≡ Some (Int (pos 1)) → (AreNumbers rows → ⊥) → HasOtherNumber old
+other_number old db rows makes same was version wrong =
+    let images : db.trees 1 ≡ old.trees 1 = makes.others.1.0 in
+    record {
+      schema = was;
+      version = version;
+      numbers = λ all. wrong (listed_numbers db rows same (subst AreHandlers (sym images) all));
     }

@@ -1,5 +1,5 @@
 -- A record of version 1, and the record of version 2 that it becomes.
-use Rattle.std.specs.Prelude.{◌≡◌, ◌≢◌, ◌⊎◌, ◌<◌, ◌^◌, ℕ, pos, List, [], ◌∷◌, ◌++◌, Option, Some, None}
+use Rattle.std.specs.Prelude.{◌≡◌, ◌≢◌, ◌⊎◌, ◌<◌, ◌^◌, ℕ, ℤ, pos, List, [], ◌∷◌, ◌++◌, Option, Some, None}
 use Rattle.std.specs.List.{AllByRecursion, AllZip}
 use Rattle.sqlite_value.specs.declared.value.Value.{Value}
 use Rattle.sqlite_value.specs.declared.value.Value.TheVariants.{Int, Blob}
@@ -12,7 +12,7 @@ use Rattle.scoop_record.specs.Range.{InRange}
 use Rattle.scoop_record.specs.Reading.{IsStoredWithEntries}
 use Rattle.scoop_record.specs.Keeper.{Stored, Missing, Holds, Damaged, stored_of, IsTheOne}
 use Rattle.scoop_record.specs.Tables.{first_schema, record_schema, value_at}
-use Rattle.scoop_record.specs.Store.{handlers_in, incs_in, Saves}
+use Rattle.scoop_record.specs.Store.{handlers_in, number_of, Saves}
 
 -- in the handler's row stands the image of the state, with its entries
 pub record IsFirstRowOf (handler : ℕ) (value : Option Value) (s : HandlerState) : Type 0 where
@@ -58,9 +58,13 @@ pub record IsNumber (value : Value) : Type 0 where
   pub small : number < 2 ^ 32
   pub is : value ≡ Int (pos number)
 
+-- the numbers that the rows begin with are those of handlers
+abbrev pub AreNumbers : List Row → Type 0
+AreNumbers rows = AllByRecursion (λ (row : Row). IsNumber (column row 0)) rows
+
 -- the rows' numbers are those of handlers, and rise
 pub record AreNumbered (rows : List Row) : Type 0 where
-  pub known : AllByRecursion (λ (row : Row). IsNumber (column row 0)) rows
+  pub known : AreNumbers rows
   pub rising : IsAscending IsKeyBelow rows
 
 -- the image in the handler's row is no state's
@@ -92,25 +96,44 @@ pub record IsCarried (old new : Stored → Type 0) : Type 0 where
   pub before : IsTheOne old (stored_of found)
   pub after : new (stored_of found)
 
+-- the numbers in the table of the images are those of handlers
+abbrev pub AreHandlers : List Row → Type 0
+AreHandlers rows = AllByRecursion (λ (row : Row). IsNumber (rowid row)) rows
+
 -- In a record of version 1 each number is a handler's, and this is the lowest handler whose image is no
 -- state's.
 pub record IsLowestBad (db : Database) (handler : ℕ) : Type 0 where
   pub schema : db.schema ≡ first_schema
   pub version : value_at (db.trees 0) 1 ≡ Some (Int (pos 1))
-  pub numbers : AllByRecursion (λ (row : Row). IsNumber (rowid row)) (db.trees 1)
+  pub numbers : AreHandlers (db.trees 1)
   pub bad : IsTheOne (first_handlers_in db.trees handler) Damaged
   pub below : (lower : ℕ) → lower < handler → (found : Option HandlerState) × IsTheOne (first_handlers_in db.trees lower) (stored_of found)
 
--- a record of version 1 became one of version 2, in which each state and each incarnation is as it was: an
--- open of its trees finds its tables
+-- in a record of version 1, a number is no handler's
+pub record HasOtherNumber (db : Database) : Type 0 where
+  pub schema : db.schema ≡ first_schema
+  pub version : value_at (db.trees 0) 1 ≡ Some (Int (pos 1))
+  pub numbers : AreHandlers (db.trees 1) → ⊥
+
+-- there is no version, or neither of the two
+abbrev pub IsOtherVersion : Option ℤ → Type 0
+IsOtherVersion found = (found ≢ Some (pos 1)) × (found ≢ Some (pos 2))
+
+-- the tables of a record are of no version that is read
+abbrev pub IsWrongSchema : Database → Type 0
+IsWrongSchema db = IsOtherVersion (number_of (value_at (db.trees 0) 1)) ⊎ HasOtherNumber db
+
+-- a record of version 1, whose numbers are those of handlers, became one of version 2, in which each state
+-- and the table of the incarnations are as they were: an open of its trees finds its tables
 pub record Migrates (old new : Database) : Type 0 where
   pub was : old.schema ≡ first_schema
   pub old_version : value_at (old.trees 0) 1 ≡ Some (Int (pos 1))
+  pub numbers : AreHandlers (old.trees 1)
   pub schema : new.schema ≡ record_schema
   pub whole : IsDatabase new
   pub version : value_at (new.trees 0) 1 ≡ Some (Int (pos 2))
   pub handlers : (handler : ℕ) → IsCarried (first_handlers_in old.trees handler) (handlers_in new.trees handler)
-  pub incarnations : (client : ℕ) → incs_in new.trees client ≡ incs_in old.trees client
+  pub clients : new.trees 2 ≡ old.trees 2
 
 -- a record of version 2 stays, and one of version 1 becomes one
 pub record Adopts (old new : Database) : Type 0 where

@@ -5,8 +5,8 @@ ghost use Rattle.sqlite.specs.Effect.{Database};
 ghost use Rattle.sqlite.specs.Held.{state};
 ghost use Rattle.sqlite.specs.State.{Survives};
 ghost use Rattle.scoop_record.specs.Keeper.{IsAdoptError};
-ghost use Rattle.scoop_record.specs.Migrate.{Migrates, Adopts, IsLowestBad};
-ghost use Rattle.scoop_record.specs.Store.{IsSound, IsReady, IsIdle};
+ghost use Rattle.scoop_record.specs.Migrate.{Migrates, Adopts, IsLowestBad, IsWrongSchema};
+ghost use Rattle.scoop_record.specs.Store.{IsSound, IsReady, IsIdle, IsLaidOut};
 
 use crate::keeper::KeeperError;
 use crate::migrate::migrate;
@@ -26,6 +26,7 @@ fn take_tables<S: Alter>(alloc: Global, conn: &mut Connection<S>) -> Result<(), 
     ensures adopted { IsSound (state S.Store conn.new) → OnOk result (Adopts (state S.Store conn.old).now (state S.Store conn.new).now) }
     ensures refused { IsSound (state S.Store conn.new) → OnErr result ((state S.Store conn.new).now ≡ (state S.Store conn.old).now) }
     ensures bad { IsSound (state S.Store conn.new) → (handler : HandlerId) → result ≡ Err (KeeperError.BadImage handler) → IsLowestBad (state S.Store conn.old).now handler.0 }
+    ensures wrong { IsSound (state S.Store conn.new) → result ≡ Err KeeperError.WrongSchema → IsLaidOut (state S.Store conn.old).now → IsWrongSchema (state S.Store conn.old).now }
     ensures named { IfErr result IsAdoptError }
     ensures survives { Survives (state S.Store conn.old) (state S.Store conn.new) (λ trees. (db : Database) × Migrates (state S.Store conn.old).now db × (trees ≡ db.trees)) }
 {
@@ -58,6 +59,7 @@ pub fn adopt_tables<S: Alter>(alloc: Global, conn: &mut Connection<S>) -> Result
     ensures inside { IsTrue conn.old.in_transaction → (result ≡ Err KeeperError.Refused) × (conn.new ≡ conn.old) }
     ensures refused { IsSound (state S.Store conn.new) → OnErr result ((state S.Store conn.new).now ≡ (state S.Store conn.old).now) }
     ensures bad { IsSound (state S.Store conn.new) → (handler : HandlerId) → result ≡ Err (KeeperError.BadImage handler) → IsLowestBad (state S.Store conn.old).now handler.0 }
+    ensures wrong { IsSound (state S.Store conn.new) → result ≡ Err KeeperError.WrongSchema → IsLaidOut (state S.Store conn.old).now → IsWrongSchema (state S.Store conn.old).now }
     ensures named { IfErr result IsAdoptError }
     ensures sound { IsSound (state S.Store conn.new) → IsSound (state S.Store conn.old) }
     // A crash leaves what it could leave before the call, or the whole record in version 2.

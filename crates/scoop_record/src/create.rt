@@ -132,7 +132,7 @@ fn make_tables<S: Alter>(conn: &mut Connection<S>, version: u32) -> Result<(), K
 pub fn create_tables<S: Alter>(conn: &mut Connection<S>) -> Result<(), KeeperError>
     ensures mode { conn.new.in_transaction ≡ conn.old.in_transaction }
     ensures idle { OnOk result (IsIdle S.Store conn.new) }
-    ensures made { IsSound (state S.Store conn.new) → OnOk result (IsNewRecord (state S.Store conn.new).now VERSION) }
+    ensures made { IsSound (state S.Store conn.new) → OnOk result (IsNewRecord (state S.Store conn.new).now 2) }
     ensures blank { OnOk result ((state S.Store conn.old).now.schema ≡ no_schema) }
     ensures other { (state S.Store conn.old).now.schema ≢ no_schema → (result ≡ Err KeeperError.Refused) × (conn.new ≡ conn.old) }
     ensures inside { IsTrue conn.old.in_transaction → (result ≡ Err KeeperError.Refused) × (conn.new ≡ conn.old) }
@@ -140,7 +140,7 @@ pub fn create_tables<S: Alter>(conn: &mut Connection<S>) -> Result<(), KeeperErr
     ensures named { IfErr result IsPutError }
     ensures sound { IsSound (state S.Store conn.new) → IsSound (state S.Store conn.old) }
     // A crash leaves what it could leave before the call, or all tables of a new record.
-    ensures survives { Survives (state S.Store conn.old) (state S.Store conn.new) (λ trees. (db : Database) × IsNewRecord db VERSION × (trees ≡ db.trees)) }
+    ensures survives { Survives (state S.Store conn.old) (state S.Store conn.new) (λ trees. (db : Database) × IsNewRecord db 2 × (trees ≡ db.trees)) }
 {
     if !conn.is_autocommit() || !is_blank(conn.schema()) {
         return Err(KeeperError::Refused);

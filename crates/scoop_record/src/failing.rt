@@ -65,7 +65,7 @@ impl<K: Keeper> Keeper for FailingKeeper<K> {
     ghost is_honest = { λ f. K.is_honest f.keeper };
 
     fn put_handler(&mut self, state: &HandlerState) -> Result<(), KeeperError>
-        ensures passes { self.old.left ≢ 0 → self.old.left ≡ self.new.left + 1 }
+        ensures passes { self.old.left ≢ 0 → (self.old.left ≡ self.new.left + 1) × K.put_gives self.old.keeper state.now result self.new.keeper }
         ensures refuses { self.old.left ≡ 0 → (result ≡ Err KeeperError.Refused) × (self.new ≡ self.old) }
         ensures stored { K.is_honest self.new.keeper → OnOk result (Keeps (K.handlers self.old.keeper) (K.handlers self.new.keeper) state.now) }
         ensures incarnations { K.is_honest self.new.keeper → IsSame (K.incarnations self.old.keeper) (K.incarnations self.new.keeper) }
@@ -80,7 +80,7 @@ impl<K: Keeper> Keeper for FailingKeeper<K> {
     }
 
     fn load_handler(&mut self, handler: HandlerId) -> Result<Option<HandlerState>, KeeperError>
-        ensures passes { self.old.left ≢ 0 → self.old.left ≡ self.new.left + 1 }
+        ensures passes { self.old.left ≢ 0 → (self.old.left ≡ self.new.left + 1) × K.load_gives self.old.keeper handler result self.new.keeper }
         ensures refuses { self.old.left ≡ 0 → (result ≡ Err KeeperError.Refused) × (self.new ≡ self.old) }
         ensures loaded { K.is_honest self.new.keeper → IfOk result (λ found. IsTheOne (K.handlers self.old.keeper handler.0) (stored_of found)) }
         ensures own { IfOk result (λ found. IfSome found (λ s. s.number ≡ handler)) }
@@ -97,7 +97,7 @@ impl<K: Keeper> Keeper for FailingKeeper<K> {
     }
 
     fn next_incarnation(&mut self, client: ClientId) -> Result<u32, KeeperError>
-        ensures passes { self.old.left ≢ 0 → self.old.left ≡ self.new.left + 1 }
+        ensures passes { self.old.left ≢ 0 → (self.old.left ≡ self.new.left + 1) × K.next_gives self.old.keeper client result self.new.keeper }
         ensures refuses { self.old.left ≡ 0 → (result ≡ Err KeeperError.Refused) × (self.new ≡ self.old) }
         ensures next { K.is_honest self.new.keeper → IfOk result (λ inc. inc ≡ next_of (K.incarnations self.old.keeper client.0)) }
         ensures stored { K.is_honest self.new.keeper → IfOk result (Sets (K.incarnations self.old.keeper) (K.incarnations self.new.keeper) client.0) }

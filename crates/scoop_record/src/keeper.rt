@@ -1,6 +1,6 @@
 //! What keeps the states of handlers and the incarnations of clients.
 
-ghost use Rattle.std.specs.Prelude.{◌≡◌, ◌⊎◌, ℕ, Option, Some, IfSome, IfOk, IfErr, OnOk, OnErr};
+ghost use Rattle.std.specs.Prelude.{◌≡◌, ◌⊎◌, ⊤, ℕ, Option, Result, Some, IfSome, IfOk, IfErr, OnOk, OnErr};
 
 use scoop_handler::HandlerState;
 use scoop_message::{ClientId, HandlerId, OutOfMemory};
@@ -53,6 +53,10 @@ impl From<OutOfMemory> for KeeperError {
 /// Keeps the states of handlers and the incarnations of clients. Contracts see it as what it has for
 /// each handler and for each client.
 pub trait Keeper: Drop {
+    ghost use Rattle.scoop_handler.specs.State.{HandlerState};
+    ghost use Rattle.scoop_message.specs.declared.name.HandlerId.{HandlerId};
+    ghost use Rattle.scoop_message.specs.declared.name.ClientId.{ClientId};
+    ghost use Rattle.scoop_record.specs.declared.keeper.KeeperError.{KeeperError};
     ghost use Rattle.scoop_record.specs.Keeper.{Stored, Damaged, stored_of, IsTheOne, Stays, Keeps, IsSame, Sets, next_of, last_incarnation, IsPutError};
 
     // What there is for each handler, by its number.
@@ -64,6 +68,14 @@ pub trait Keeper: Drop {
     // Nobody else has written the medium, and what was written is what is read.
     ghost is_honest: { Self → Type 0 };
 
+    // What each call relates: the keeper before it, what was asked, the answer, and the keeper after it. A
+    // keeper that passes calls on tells by them that they were made.
+    ghost put_gives: { Self → HandlerState → Result (Unit {0}) KeeperError → Self → Type 0 } = { λ _ _ _ _. ⊤ };
+
+    ghost load_gives: { Self → HandlerId → Result (Option HandlerState) KeeperError → Self → Type 0 } = { λ _ _ _ _. ⊤ };
+
+    ghost next_gives: { Self → ClientId → Result ℕ KeeperError → Self → Type 0 } = { λ _ _ _ _. ⊤ };
+
     /// Stores the state for its handler.
     ///
     /// Refused with nothing changed: `OutOfMemory`, `Refused`.
@@ -72,7 +84,8 @@ pub trait Keeper: Drop {
         ensures incarnations { is_honest self.new → IsSame (incarnations self.old) (incarnations self.new) }
         ensures refused { is_honest self.new → OnErr result (Stays (handlers self.old) (handlers self.new)) }
         ensures named { IfErr result IsPutError }
-        ensures honest { is_honest self.new → is_honest self.old };
+        ensures honest { is_honest self.new → is_honest self.old }
+        ensures gives { put_gives self.old state.now result self.new };
 
     /// The state that is stored for the handler, `None` where there is none.
     ///
@@ -84,7 +97,8 @@ pub trait Keeper: Drop {
         ensures named { IfErr result (λ e. IsPutError e ⊎ (e ≡ KeeperError.BadImage handler)) }
         ensures handlers { is_honest self.new → Stays (handlers self.old) (handlers self.new) }
         ensures incarnations { is_honest self.new → IsSame (incarnations self.old) (incarnations self.new) }
-        ensures honest { is_honest self.new → is_honest self.old };
+        ensures honest { is_honest self.new → is_honest self.old }
+        ensures gives { load_gives self.old handler result self.new };
 
     /// One more than the client's stored incarnation, 1 where there is none: stored before it is answered.
     ///
@@ -97,5 +111,6 @@ pub trait Keeper: Drop {
         ensures refused { is_honest self.new → OnErr result (IsSame (incarnations self.old) (incarnations self.new)) }
         ensures named { IfErr result (λ e. IsPutError e ⊎ (e ≡ KeeperError.IncarnationsSpent)) }
         ensures handlers { is_honest self.new → Stays (handlers self.old) (handlers self.new) }
-        ensures honest { is_honest self.new → is_honest self.old };
+        ensures honest { is_honest self.new → is_honest self.old }
+        ensures gives { next_gives self.old client result self.new };
 }

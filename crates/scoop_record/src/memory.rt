@@ -1,6 +1,6 @@
 //! A keeper in memory.
 
-ghost use Rattle.std.specs.Prelude.{◌≡◌, ◌⊎◌, ℕ, Some, [], IfSome, IfOk, IfErr, OnOk, OnErr};
+ghost use Rattle.std.specs.Prelude.{◌≡◌, ◌↔◌, ◌⊎◌, ℕ, Some, [], IfSome, IfOk, IfErr, OnOk, OnErr};
 
 use crate::keeper::{Keeper, KeeperError};
 use scoop_handler::HandlerState;
@@ -94,7 +94,7 @@ impl Keeper for MemoryKeeper {
         ensures next { IfOk result (λ inc. inc ≡ next_of (incarnation_at self.old client.0)) }
         ensures stored { IfOk result (Sets (incarnation_at self.old) (incarnation_at self.new) client.0) }
         ensures states { self.new.states ≡ self.old.states }
-        ensures spent { result ≡ Err KeeperError.IncarnationsSpent → incarnation_at self.old client.0 ≡ Some last_incarnation }
+        ensures spent { (result ≡ Err KeeperError.IncarnationsSpent) ↔ (incarnation_at self.old client.0 ≡ Some last_incarnation) }
         ensures refused { OnErr result (self.new ≡ self.old) }
         ensures named { IfErr result (λ e. (e ≡ KeeperError.OutOfMemory) ⊎ (e ≡ KeeperError.IncarnationsSpent)) }
     {

@@ -12,7 +12,7 @@ ghost use Rattle.scoop_record.specs.Range.{InRange};
 ghost use Rattle.scoop_record.specs.Store.{IsSound, IsRecord, IsFirstRecord, Saves};
 ghost use Rattle.scoop_record.specs.Tables.{value_at, Puts};
 ghost use Rattle.scoop_record.specs.Keeper.{IsPutError, IsAdoptError};
-ghost use Rattle.scoop_record.specs.Migrate.{keyed_value, SavesAll, Migrates, IsFirstRow, IsRising, AreNumbered, IsBadRow, IsFirstBad, IsLowestBad};
+ghost use Rattle.scoop_record.specs.Migrate.{keyed_value, SavesAll, Migrates, IsFirstRow, IsRising, IsNumber, AreNumbers, AreNumbered, IsBadRow, IsFirstBad, IsLowestBad, HasOtherNumber};
 
 use crate::create::create_pending;
 use crate::handlers::{images_of, put_both};
@@ -84,11 +84,10 @@ fn put_states<S: Alter>(
     ensures named { IfErr result IsPutError }
     ensures survives { Survives (state S.Store tx.old.conn.now) (state S.Store tx.new.conn.now) (λ _. ⊥) }
 {
-    let [it, more @ ..] = all else {
-        return Ok(());
-    };
-    put_state(alloc, tx, it)?;
-    put_states(alloc, tx, more)
+    for it in all {
+        put_state(alloc, tx, it)?;
+    }
+    Ok(())
 }
 
 /// The tables of version 1 become those of version 2, in the transaction.
@@ -99,6 +98,7 @@ fn migrate_in<S: Alter>(alloc: Global, tx: &mut Transaction<'_, S>) -> Result<()
     ensures inside { HasCleanDisk (state S.Store tx.new.conn.now) → OnOk result (IsTrue (state S.Store tx.new.conn.now).is_open × IsTrue (state S.Store tx.new.conn.now).in_transaction) }
     ensures kept { HasCleanDisk (state S.Store tx.new.conn.now) → KeepsCommit (state S.Store tx.old.conn.now) (state S.Store tx.new.conn.now) }
     ensures bad { HasCleanDisk (state S.Store tx.new.conn.now) → (handler : HandlerId) → result ≡ Err (KeeperError.BadImage handler) → IsLowestBad (state S.Store tx.old.conn.now).now handler.0 }
+    ensures wrong { HasCleanDisk (state S.Store tx.new.conn.now) → result ≡ Err KeeperError.WrongSchema → HasOtherNumber (state S.Store tx.old.conn.now).now }
     ensures named { IfErr result IsAdoptError }
     ensures survives { Survives (state S.Store tx.old.conn.now) (state S.Store tx.new.conn.now) (λ _. ⊥) }
 {
@@ -127,6 +127,7 @@ pub(crate) fn migrate<S: Alter>(alloc: Global, conn: &mut Connection<S>) -> Resu
     ensures migrated { IsSound (state S.Store conn.new) → OnOk result (Migrates (state S.Store conn.old).now (state S.Store conn.new).now × ((state S.Store conn.new).now ≡ (state S.Store conn.new).committed)) }
     ensures refused { IsSound (state S.Store conn.new) → OnErr result ((state S.Store conn.new).now ≡ (state S.Store conn.old).now) }
     ensures bad { IsSound (state S.Store conn.new) → (handler : HandlerId) → result ≡ Err (KeeperError.BadImage handler) → IsLowestBad (state S.Store conn.old).now handler.0 }
+    ensures wrong { IsSound (state S.Store conn.new) → result ≡ Err KeeperError.WrongSchema → HasOtherNumber (state S.Store conn.old).now }
     ensures named { IfErr result IsAdoptError }
     ensures survives { Survives (state S.Store conn.old) (state S.Store conn.new) (λ trees. IsTrue (state S.Store conn.old).is_open × (db : Database) × Migrates (state S.Store conn.old).now db × (trees ≡ db.trees)) }
 {
@@ -141,6 +142,7 @@ pub(crate) fn migrate<S: Alter>(alloc: Global, conn: &mut Connection<S>) -> Resu
 /// The handler's number in the row.
 fn handler_in(row: &Row) -> Result<HandlerId, KeeperError>
     ensures number { IfOk result (λ handler. column row.now 0 ≡ Int (pos handler.0)) }
+    ensures wrong { result ≡ Err KeeperError.WrongSchema → IsNumber (column row.now 0) → ⊥ }
     ensures named { IfErr result (λ e. IsPutError e ⊎ (e ≡ KeeperError.WrongSchema)) }
 {
     let number: i64 = match row.get(0) {
@@ -156,6 +158,7 @@ fn handler_in(row: &Row) -> Result<HandlerId, KeeperError>
 /// Refused: `WrongSchema` where a number in the rows is no handler's, `Refused` where they don't rise.
 fn check_numbers(rows: &[Row]) -> Result<(), KeeperError>
     ensures numbered { OnOk result (AreNumbered rows.now) }
+    ensures wrong { result ≡ Err KeeperError.WrongSchema → AreNumbers rows.now → ⊥ }
     ensures named { IfErr result (λ e. IsPutError e ⊎ (e ≡ KeeperError.WrongSchema)) }
 {
     let mut low = 0u64;
@@ -173,6 +176,7 @@ fn check_numbers(rows: &[Row]) -> Result<(), KeeperError>
 fn state_in_row(alloc: Global, row: &Row) -> Result<HandlerState, KeeperError>
     ensures state { IfOk result (IsFirstRow row.now) }
     ensures bad { (handler : HandlerId) → result ≡ Err (KeeperError.BadImage handler) → IsBadRow handler.0 row.now }
+    ensures wrong { result ≡ Err KeeperError.WrongSchema → IsNumber (column row.now 0) → ⊥ }
     ensures named { IfErr result IsAdoptError }
 {
     let handler = handler_in(row)?;
@@ -192,6 +196,7 @@ fn states_of(alloc: Global, rows: &[Row]) -> Result<Vec<HandlerState>, KeeperErr
     ensures read { IfOk result (λ all. AllZip IsFirstRow rows.now all.items) }
     ensures rises { IfOk result (λ all. IsRising all.items) }
     ensures bad { (handler : HandlerId) → result ≡ Err (KeeperError.BadImage handler) → IsFirstBad rows.now handler.0 }
+    ensures wrong { result ≡ Err KeeperError.WrongSchema → AreNumbers rows.now → ⊥ }
     ensures named { IfErr result IsAdoptError }
 {
     check_numbers(rows)?;

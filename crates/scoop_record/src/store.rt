@@ -1,12 +1,11 @@
 //! A keeper over the tables of a database.
 
-ghost use Rattle.std.specs.Prelude.{◌≡◌, ◌≢◌, ◌⊎◌, IfOk, IfErr, IfSome, OnOk, OnErr, Some};
+ghost use Rattle.std.specs.Prelude.{◌≡◌, ◌≢◌, ◌⊎◌, IsTrue, IfOk, IfErr, IfSome, OnOk, OnErr, Some};
 ghost use Rattle.scoop_record.specs.Tables.{no_schema};
 
 use crate::adopt::adopt_tables;
 use crate::create::create_tables;
 use crate::keeper::{Keeper, KeeperError};
-use crate::version::VERSION;
 use crate::{clients, handlers};
 use scoop_handler::HandlerState;
 use scoop_message::{ClientId, HandlerId};
@@ -37,11 +36,11 @@ impl<S: Alter + Drop> Model for Store<S> {
 
 impl<S: Alter + Drop> Store<S> {
     ghost use Rattle.sqlite.specs.Effect.{Database};
-    ghost use Rattle.sqlite.specs.Held.{state};
+    ghost use Rattle.sqlite.specs.Held.{Held, state};
     ghost use Rattle.sqlite.specs.State.{Survives};
     ghost use Rattle.scoop_record.specs.Keeper.{IsPutError, IsAdoptError};
-    ghost use Rattle.scoop_record.specs.Migrate.{Migrates, Adopts};
-    ghost use Rattle.scoop_record.specs.Store.{IsSound, IsNewRecord};
+    ghost use Rattle.scoop_record.specs.Migrate.{Migrates, Adopts, IsLowestBad, IsWrongSchema};
+    ghost use Rattle.scoop_record.specs.Store.{IsSound, IsLaidOut, IsNewRecord};
 
     /// Makes the tables in a database that has none, in one transaction.
     ///
@@ -49,12 +48,13 @@ impl<S: Alter + Drop> Store<S> {
     /// where a text is refused; `OutOfMemory`. The connection goes with the refusal: what it leaves is
     /// said by [`create_tables`], which this calls.
     pub fn create(alloc: Global, mut conn: Connection<S>) -> Result<Store<S>, KeeperError>
-        ensures made { IfOk result (λ store. IsSound (state S.Store store) → IsNewRecord (state S.Store store).now VERSION) }
+        ensures made { IfOk result (λ store. IsSound (state S.Store store) → IsNewRecord (state S.Store store).now 2) }
         ensures blank { OnOk result ((state S.Store conn).now.schema ≡ no_schema) }
         ensures other { (state S.Store conn).now.schema ≢ no_schema → result ≡ Err KeeperError.Refused }
+        ensures inside { IsTrue conn.in_transaction → result ≡ Err KeeperError.Refused }
         ensures sound { IfOk result (λ store. IsSound (state S.Store store) → IsSound (state S.Store conn)) }
         ensures named { IfErr result IsPutError }
-        ensures survives { IfOk result (λ store. Survives (state S.Store conn) (state S.Store store) (λ trees. (db : Database) × IsNewRecord db VERSION × (trees ≡ db.trees))) }
+        ensures survives { IfOk result (λ store. Survives (state S.Store conn) (state S.Store store) (λ trees. (db : Database) × IsNewRecord db 2 × (trees ≡ db.trees))) }
     {
         create_tables(&mut conn)?;
         Ok(Store { conn, alloc })
@@ -71,6 +71,10 @@ impl<S: Alter + Drop> Store<S> {
     pub fn adopt(alloc: Global, mut conn: Connection<S>) -> Result<Store<S>, KeeperError>
         ensures adopted { IfOk result (λ store. IsSound (state S.Store store) → Adopts (state S.Store conn).now (state S.Store store).now) }
         ensures sound { IfOk result (λ store. IsSound (state S.Store store) → IsSound (state S.Store conn)) }
+        ensures inside { IsTrue conn.in_transaction → result ≡ Err KeeperError.Refused }
+        // What a refusal tells of the database, over storage that is honest at every moment, as memory is.
+        ensures bad { ((held : Held S) → IsSound (state S.Store held)) → (handler : HandlerId) → result ≡ Err (KeeperError.BadImage handler) → IsLowestBad (state S.Store conn).now handler.0 }
+        ensures wrong { ((held : Held S) → IsSound (state S.Store held)) → result ≡ Err KeeperError.WrongSchema → IsLaidOut (state S.Store conn).now → IsWrongSchema (state S.Store conn).now }
         ensures named { IfErr result IsAdoptError }
         ensures survives { IfOk result (λ store. Survives (state S.Store conn) (state S.Store store) (λ trees. (db : Database) × Migrates (state S.Store conn).now db × (trees ≡ db.trees))) }
     {

@@ -2,7 +2,7 @@ use Rattle.std.proofs.Common.{◌≡◌, Some, pos, subst, sym, ap, arith, ◌�
 use Rattle.sqlite.specs.Effect.{Database}
 use Rattle.sqlite.specs.Held.{state}
 use Rattle.sqlite.proofs.StateLemmas.{survives_then}
-use Rattle.scoop_record.specs.Migrate.{IsLowestBad, Migrates}
+use Rattle.scoop_record.specs.Migrate.{HasOtherNumber, IsLowestBad, Migrates}
 use Rattle.scoop_record.specs.Store.{IsSound, TellsVersion, number_of}
 use Rattle.scoop_record.proofs.StatementLemmas.{clean_before}
 use Rattle.scoop_record.specs.Tables.{first_schema, record_schema, value_at}
@@ -53,3 +53,24 @@ returns-then-is_first_schema-clause-bad g c sound handler is =
     let read = c.migrate.ensures.sound sound in
     let same = (c.version.ensures.same read).0 ∙ sym (c.requires.settled (c.version.ensures.sound read)) in
     subst (λ (d : Database). IsLowestBad d handler.0) same (c.migrate.ensures.bad sound handler is)
+
+pub returns-then-is_first_schema-clause-wrong : goal.returns-then-is_first_schema-clause-wrong
+returns-then-is_first_schema-clause-wrong g c sound is laid =
+    let read = c.migrate.ensures.sound sound in
+    let same = (c.version.ensures.same read).0 ∙ sym (c.requires.settled (c.version.ensures.sound read)) in
+    inr (subst HasOtherNumber same (c.migrate.ensures.wrong sound is))
+
+pub returns-in_default-clause-wrong : goal.returns-in_default-clause-wrong
+unfolding TellsVersion
+returns-in_default-clause-wrong g c sound is laid =
+    let told = rw c.in_default.is at (c.in_ok-found.ensures.version sound laid) in
+    inl (λ e. absurd (let f = told ∙ e in cc), λ e. absurd (let f = told ∙ e in cc))
+
+pub returns-then-found-ne2-clause-wrong : goal.returns-then-found-ne2-clause-wrong
+unfolding TellsVersion
+returns-then-found-ne2-clause-wrong g c sound is laid =
+    let told = rw c.in-Some.is at (c.in_ok-found.ensures.version sound laid) in
+    inl (
+      λ e. let f = told ∙ e in let one : c.in-Some.found ≡ pos 1 = cc in absurd (grind (arith, ints)),
+      λ e. let f = told ∙ e in let two : c.in-Some.found ≡ pos 2 = cc in absurd (grind (arith, ints)),
+    )

@@ -5,7 +5,7 @@ use Rattle.sqlite.specs.Held.{state}
 use Rattle.scoop_record.specs.Migrate.{SavesAll}
 use Rattle.scoop_record.proofs.StatementLemmas.{clean_before}
 use Rattle.scoop_record.proofs.MigrateLemmas.{version_before, migrated}
-use Rattle.scoop_record.proofs.NumberLemmas.{lowest_bad}
+use Rattle.scoop_record.proofs.NumberLemmas.{lowest_bad, other_number}
 use Rattle.scoop_record.proofs.migrate.migrate_in.Goals as goal
 
 pub raise_version-requires : goal.raise_version-requires
@@ -57,3 +57,16 @@ returns-in_err-all-clause-bad g c clean2 handler is =
     let shown = c.in-Ok.ensures.rows clean2 in
     let own = rw is at c.from_residual.ensures in
     lowest_bad before.now made.now c.as_slice.result.now handler.0 makes.0 (rw c.as_slice.ensures.value shown.1) first.0 first.1 (c.in_err-all.ensures.bad handler (ap Err (sym own.1)))
+
+pub returns-in_err-all-clause-wrong : goal.returns-in_err-all-clause-wrong
+returns-in_err-all-clause-wrong g c clean2 is =
+    let before = state g.S.Store c.args.tx.now.conn.now in
+    let made = state g.S.Store c.create_pending.new.tx.conn.now in
+    let read = state g.S.Store c.rows_of_handlers.new.tx.conn.now in
+    let clean1 = clean_before made read _ c.rows_of_handlers.ensures.survives clean2 in
+    let clean0 = clean_before before made _ c.create_pending.ensures.survives clean1 in
+    let makes = c.in_default.ensures.made clean1 in
+    let first = c.requires (clean0, makes.1.was_open) in
+    let shown = c.in-Ok.ensures.rows clean2 in
+    let own = rw is at c.from_residual.ensures in
+    other_number before.now made.now c.as_slice.result.now makes.0 (rw c.as_slice.ensures.value shown.1) first.0 first.1 (c.in_err-all.ensures.wrong (ap Err (sym own.1)))

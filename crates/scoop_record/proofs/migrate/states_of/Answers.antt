@@ -2,7 +2,7 @@ use Rattle.std.proofs.Common.{◌≡◌, ◌∷◌, ◌++◌, ◌+◌, [], take,
 use Rattle.std.proofs.lemmas.List.{take_more}
 use Rattle.std.proofs.lemmas.Grind.{common_steps}
 use Rattle.scoop_record.proofs.MigrateLemmas.{zip_push}
-use Rattle.scoop_record.proofs.NumberLemmas.{first_bad, states_rise}
+use Rattle.scoop_record.proofs.NumberLemmas.{first_bad, number_at, states_rise}
 use Rattle.scoop_record.proofs.migrate.states_of.Goals as goal
 
 pub loop-row-preserved : goal.loop-row-preserved
@@ -22,3 +22,8 @@ pub returns-clause-rises : goal.returns-clause-rises
 returns-clause-rises c =
     let whole : take c.loop-row.row-index c.args.rows.now ≡ c.args.rows.now = grind (arith, common_steps) in
     states_rise c.args.rows.now c.loop-row.all.items (rw whole at c.loop-row.invariant) c.in_ok-check_numbers.ensures.numbered.rising
+
+pub returns-in_err-state-clause-wrong : goal.returns-in_err-state-clause-wrong
+returns-in_err-state-clause-wrong c is numbers =
+    let own = rw is at c.from_residual-in_err-state.ensures in
+    c.in_err-state.ensures.wrong (ap Err (sym own.1)) (number_at c.args.rows.now c.loop-row.row-index c.row-item.result (grind (arith, common_steps, take_more)) numbers)
