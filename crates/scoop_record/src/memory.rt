@@ -65,6 +65,13 @@ impl Keeper for MemoryKeeper {
 
     ghost is_honest = { λ _. Unit {0} };
 
+    // Memory refuses nothing else, also behind a keeper that passes calls on.
+    ghost put_gives = { λ _ _ result _. IfErr result (λ e. e ≡ KeeperError.OutOfMemory) };
+
+    ghost load_gives = { λ _ _ result _. IfErr result (λ e. e ≡ KeeperError.OutOfMemory) };
+
+    ghost next_gives = { λ _ _ result _. IfErr result (λ e. (e ≡ KeeperError.OutOfMemory) ⊎ (e ≡ KeeperError.IncarnationsSpent)) };
+
     fn put_handler(&mut self, state: &HandlerState) -> Result<(), KeeperError>
         ensures stored { OnOk result (Keeps (Has self.old) (Has self.new) state.now) }
         ensures incarnations { self.new.incarnations ≡ self.old.incarnations }

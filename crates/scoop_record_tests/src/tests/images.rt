@@ -31,6 +31,29 @@ fn an_image_is_read_and_written(rt: HostRuntime) -> Result<(), Fail> {
     Ok(())
 }
 
+// The same in version 1, in which each private queue is followed by its entries.
+const OLD_IMAGE: [u8; 78] =
+    *b"\x01\0\0\0\x01\x01\0\0\0\0\0\0\0\0\0\x01\0\0\0\x07\0\0\0\x01\0\0\0\x01\x02\0\0\0\x02\0\0\x01\0\0\0\x07\0\0\0\x01\0\0\0\x01\x01\0\0\0\x01\x02\x01\0\x01\x01\0\0\0\0\0\0\0\x05\x01\0\x01\x01\0\0\0\0\0\0\0\x06";
+
+fn old_fault(alloc: Global, handler: HandlerId, bytes: &[u8]) -> Option<ReadError> {
+    read_image_with_entries(alloc, handler, bytes).err()
+}
+
+#[test]
+fn an_image_of_version_1_is_read(rt: HostRuntime) -> Result<(), Fail> {
+    let alloc = rt.alloc();
+    let state = read_image_with_entries(alloc, HANDLER, &OLD_IMAGE)?;
+    assert_eq!(rt; image(alloc, &state)?.as_slice(), IMAGE.as_slice());
+    assert_eq!(rt; pending_row(alloc, &state)?.as_slice(), PENDING.as_slice());
+    let mut longer = [0; 79];
+    longer[..78].copy_from_slice(&OLD_IMAGE);
+    assert_eq!(rt; old_fault(alloc, HANDLER, &longer), BAD);
+    assert_eq!(rt; old_fault(alloc, HANDLER, &OLD_IMAGE[..77]), BAD);
+    assert_eq!(rt; old_fault(alloc, HandlerId(2), &OLD_IMAGE), BAD);
+    assert_eq!(rt; old_fault(alloc, HANDLER, &IMAGE), BAD);
+    Ok(())
+}
+
 #[test]
 fn cut_and_longer_bytes_are_no_image(rt: HostRuntime) {
     let bad = Some(ReadError::BadImage);
@@ -139,6 +162,8 @@ const BAD: Option<ReadError> = Some(ReadError::BadImage);
 #[test]
 fn words_and_marks_have_limits(rt: HostRuntime) -> Result<(), Fail> {
     let alloc = rt.alloc();
+    assert_eq!(rt; told(alloc, 0, &[&[0, 0]], &[])?, BAD);
+    assert_eq!(rt; told(alloc, 1, &[&[0, 0]], &[])?, None);
     assert_eq!(rt; told(alloc, 16, &[&[0, 0]], &[])?, None);
     assert_eq!(rt; told(alloc, 17, &[&[0, 0]], &[])?, BAD);
     for (count, error) in [(64, None), (65, BAD)] {
@@ -148,8 +173,8 @@ fn words_and_marks_have_limits(rt: HostRuntime) -> Result<(), Fail> {
     Ok(())
 }
 
-// The mark of client 7's block 65, which is over.
-const OVER: [u8; 20] = *b"\x01\0\0\0\x07\0\0\0\x01\0\0\0\x41\x03\0\0\0\0\0\0";
+// The mark of client 7's block 66, which is over.
+const OVER: [u8; 20] = *b"\x01\0\0\0\x07\0\0\0\x01\0\0\0\x42\x03\0\0\0\0\0\0";
 
 #[test]
 fn private_queues_have_a_limit(rt: HostRuntime) -> Result<(), Fail> {

@@ -18,6 +18,17 @@ pub fn kept(alloc: Global, word: u8) -> Result<HandlerState, Fail> {
     )
 }
 
+// The state of a handler with this one word and two pending entries.
+pub fn waiting(alloc: Global, word: u8) -> Result<HandlerState, Fail> {
+    let mut image = IMAGE;
+    image[13] = word;
+    Ok(
+        read_image(alloc, HandlerId(1), &image, &PENDING)
+            .ok()
+            .ok_or("an image")?,
+    )
+}
+
 // The one word of the state that is stored for the handler.
 pub fn word<K: Keeper>(keeper: &mut K) -> Result<u64, Fail> {
     let state = keeper.load_handler(HandlerId(1))?.ok_or("a state")?;
@@ -60,6 +71,21 @@ fn a_store_keeps_the_last_state(rt: HostRuntime) -> Result<(), Fail> {
     assert_eq!(rt; word(&mut store)?, 7);
     let again = Store::create(rt.alloc(), store.into_connection()).err();
     assert_eq!(rt; again, Some(KeeperError::Refused));
+    Ok(())
+}
+
+#[test]
+fn a_put_replaces_the_pending_entries(rt: HostRuntime) -> Result<(), Fail> {
+    let text = "SELECT entries FROM pending WHERE h = ?1";
+    let conn = Connection::open_in_memory(rt.alloc())?;
+    let mut store = Store::create(rt.alloc(), conn)?;
+    store.put_handler(&waiting(rt.alloc(), 5)?)?;
+    let mut conn = store.into_connection();
+    assert_eq!(rt; bytes_by(&mut conn, text)?.as_slice(), PENDING.as_slice());
+    let mut store = Store::adopt(rt.alloc(), conn)?;
+    store.put_handler(&kept(rt.alloc(), 6)?)?;
+    assert_eq!(rt; word(&mut store)?, 6);
+    assert!(rt; bytes_by(&mut store.into_connection(), text)?.is_empty());
     Ok(())
 }
 
