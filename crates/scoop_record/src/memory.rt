@@ -56,6 +56,7 @@ impl MemoryKeeper {
 }
 
 impl Keeper for MemoryKeeper {
+    ghost use Rattle.scoop_record.specs.declared.keeper.KeeperError.{KeeperError};
     ghost use Rattle.scoop_record.specs.Memory.{Has, state_at, incarnation_at};
     ghost use Rattle.scoop_record.specs.Keeper.{Keeps, Sets, next_of, last_incarnation};
 
