@@ -1,17 +1,21 @@
 //! `scoop answer`: one handler, and the datagrams of standard input.
 
-ghost use Rattle.std.specs.Prelude.{◌≡◌, Some};
+ghost use Rattle.std.specs.Prelude.{◌≡◌, Some, Err, IfOk};
 ghost use Rattle.scoop_demo.specs.Classes.{class_named};
+ghost use Rattle.scoop_demo.specs.Storing.{HasUnfitWords, OpensOver};
 
 use crate::failure::Failure;
 use crate::storing::{FiledStore, adopt, close, create};
 use clap::ArgMatches;
 use scoop_demo::{
-    AccountObject, CellObject, CounterObject, ExchangeObject, answer_run, demo_class, open_handler,
+    AccountObject, CellObject, CounterObject, ExchangeObject, RunError, answer_run, demo_class,
+    open_handler,
 };
+use scoop_handler::Handler;
 use scoop_message::{HandlerId, OutOfMemory};
 use scoop_object::{Behaviour, Boxed};
 use scoop_record::{Keeper, MemoryKeeper};
+use std::alloc::Global;
 use std::io;
 use std::io::BufWriter;
 
@@ -112,10 +116,7 @@ fn answer_with<B: Behaviour, K: Keeper, R: Input + Print + AllocGlobal>(
 ) -> Result<(), Failure>
     requires { class_named class_name.now ≡ Some (B.class object) }
 {
-    let Some(class) = demo_class(rt.alloc(), class_name)? else {
-        unreachable!()
-    };
-    let mut handler = open_handler(rt.alloc(), keeper, options.handler, class, object)?;
+    let mut handler = open_named(rt.alloc(), keeper, options.handler, class_name, object)?;
     let mut output = BufWriter::new(rt.alloc(), io::writer(rt)).map_err(|_| OutOfMemory)?;
     answer_run(
         &mut handler,
@@ -125,4 +126,23 @@ fn answer_with<B: Behaviour, K: Keeper, R: Input + Print + AllocGlobal>(
         &mut output,
     )?;
     Ok(())
+}
+
+// The handler over what the keeper has for it, with an object of the class of that name. As the object has
+// the class, `WrongClass` comes only where the stored words are not as many as the class has.
+fn open_named<B: Behaviour, K: Keeper>(
+    alloc: Global,
+    keeper: &mut K,
+    number: HandlerId,
+    class_name: &str,
+    object: B,
+) -> Result<Handler<B>, RunError>
+    requires { class_named class_name.now ≡ Some (B.class object) }
+    ensures opened { K.is_honest keeper.new → IfOk result (OpensOver (K.handlers keeper.old number.0) number (B.class object) (B.words object)) }
+    ensures misfit { K.is_honest keeper.new → result ≡ Err (RunError.WrongClass number) → HasUnfitWords (K.handlers keeper.old number.0) (B.class object) }
+{
+    let Some(class) = demo_class(alloc, class_name)? else {
+        unreachable!()
+    };
+    open_handler(alloc, keeper, number, class, object)
 }

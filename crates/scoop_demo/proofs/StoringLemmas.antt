@@ -1,7 +1,8 @@
 -- What a keeper has along a run.
-use Rattle.std.proofs.Common.{◌≡◌, ◌≢◌, ◌∙◌, ℕ, false, IsTrue, List, [], ◌∷◌, ◌++◌, Option, Some, None, Result, Ok, Err, is_some, refl, sym, ap, subst, inl, inr}
+use Rattle.std.proofs.Common.{◌≡◌, ◌≢◌, ◌⊎◌, ◌∙◌, ℕ, false, IsTrue, List, [], ◌∷◌, ◌++◌, length, Option, Some, None, Result, Ok, Err, is_some, refl, sym, ap, subst, inl, inr}
 use Rattle.std.specs.Option.{option_map}
 use Rattle.std.proofs.Common.{arith}
+use Rattle.std.proofs.lemmas.Bool.{cases_eq}
 use Rattle.std.proofs.lemmas.Bool.Decides.{nat_tests}
 use Rattle.scoop_message.specs.declared.name.HandlerId.{HandlerId}
 use Rattle.scoop_message.specs.declared.message.Message.{Message}
@@ -16,10 +17,11 @@ use Rattle.scoop_handler.specs.declared.ran.Ran.{Ran}
 use Rattle.scoop_handler.specs.State.{HandlerState}
 use Rattle.scoop_handler.specs.Core.{Core}
 use Rattle.scoop_handler.specs.Hearing.{Hearing, hear, dropped, if_here}
-use Rattle.scoop_handler.specs.Running.{Task, ready, ran_of, finished, run}
+use Rattle.scoop_handler.specs.Running.{FitsClass, Task, ready, ran_of, finished, run}
 use Rattle.scoop_handler.proofs.TableRows.{split, handler_from_same, row}
 use Rattle.scoop_handler.proofs.TableLaws.{number-row}
-use Rattle.scoop_record.specs.Keeper.{Stored, Holds, Keeps, Stays}
+use Rattle.scoop_object.specs.Class.{ClassTable}
+use Rattle.scoop_record.specs.Keeper.{Stored, Holds, IsTheOne, Keeps, Stays}
 use Rattle.scoop_record.proofs.KeeperLemmas.{stays_same, stays_stays, stays_keeps, keeps_stays, keeps_keeps}
 use Rattle.scoop_demo.specs.Answer.{IsHeard}
 use Rattle.scoop_demo.specs.Hex.{StandsFor, digits_of}
@@ -27,7 +29,7 @@ use Rattle.scoop_demo.specs.Run.{Keeping, Prints, FailsToAnswer, text_of}
 use Rattle.scoop_demo.specs.Running.{RunsSome, RunsPast, runs_after, runs_next}
 use Rattle.scoop_demo.specs.Running.RunsSome.{then_one}
 use Rattle.scoop_demo.specs.declared.fault.RunError.{RunError}
-use Rattle.scoop_demo.specs.Storing.{FailsToHear, IsTo, SomeIsTo, StoresIf, Stores, Follows}
+use Rattle.scoop_demo.specs.Storing.{FailsToHear, IsTo, Misfits, SomeIsTo, StoresIf, Stores, Follows}
 use Rattle.scoop_demo.specs.Storing.StoresIf.{stored, unstored}
 use Rattle.scoop_demo.specs.Storing.FailsToHear.{no_memory, not_stored}
 use Rattle.scoop_demo.specs.Run.FailsToAnswer.{no_memory as no_answer, not_stored as answer_not_stored}
@@ -236,3 +238,13 @@ stores_follows P first mid last a b c p (stored again number k) f = stored p (f.
       let behind = f.others other apart_mid v in
       (λ x. behind.0 (before.0 x), λ x. before.1 (behind.1 x));
 })
+
+-- ---- what is opened
+
+-- why a state isn't taken with an object, where both together aren't what the class takes
+pub misfits : (has : Stored → Type 0) (class own : ClassTable) (s : HandlerState) → IsTheOne has (Holds s) → ¬ ((own ≡ class) × FitsClass class s) → Misfits has class own
+misfits has class own s is_stored refused = by (cases_eq (length s.words) class.words)
+  where
+    by : FitsClass class s ⊎ ¬ FitsClass class s → Misfits has class own
+    by (inl fits) = inl (λ same. refused (same, fits))
+    by (inr unfit) = inr (record { state = s; is_stored = is_stored; unfit = unfit })

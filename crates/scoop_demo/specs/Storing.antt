@@ -10,6 +10,7 @@ use Rattle.scoop_handler.specs.Core.{Core, core_of, with_state}
 use Rattle.scoop_handler.specs.declared.note.Heard.{Heard}
 use Rattle.scoop_handler.specs.Hearing.{hear}
 use Rattle.scoop_handler.specs.Memory.{TakesMemory}
+use Rattle.scoop_handler.specs.Running.{FitsClass}
 use Rattle.scoop_object.specs.Class.{ClassTable}
 use Rattle.scoop_record.specs.declared.keeper.KeeperError.{KeeperError}
 use Rattle.scoop_record.specs.declared.keeper.KeeperError.TheVariants as keeper
@@ -72,7 +73,18 @@ pub data FailsToHear (old : Core) (m : Message) (new : Core) : RunError → Type
       → handler_of m ≡ old.state.number → FailsToHear old m new e
 
 -- the handler of this number, with an object that has these words, over what a keeper has for it: its state
--- with no job out, or a new one where there is none
+-- with no job out, where its words are as many as the class has, or a new one where there is none
 pub data OpensOver (has : Stored → Type 0) (number : HandlerId) (class : ClassTable) (words : List ℕ) (c : Core) : Type 0 where
   anew : IsTheOne has Missing → c ≡ core_of class (new_state number words) false → OpensOver has number class words c
-  again : (s : HandlerState) → IsTheOne has (Holds s) → s.number ≡ number → c ≡ core_of class s false → OpensOver has number class words c
+  again : (s : HandlerState) → IsTheOne has (Holds s) → s.number ≡ number → FitsClass class s → c ≡ core_of class s false → OpensOver has number class words c
+
+-- what a keeper has for a handler is a state whose words are not as many as the class has
+pub record HasUnfitWords (has : Stored → Type 0) (class : ClassTable) : Type 0 where
+  pub state : HandlerState
+  pub is_stored : IsTheOne has (Holds state)
+  pub unfit : ¬ FitsClass class state
+
+-- why a handler of a class isn't opened with an object of its own class, over what a keeper has for it: that is
+-- another class, or the stored words are not as many as the class has
+abbrev pub Misfits : (has : Stored → Type 0) (class own : ClassTable) → Type 0
+Misfits has class own = (own ≢ class) ⊎ HasUnfitWords has class

@@ -6,10 +6,9 @@ ghost use Rattle.scoop_handler.specs.Core.{with_state};
 ghost use Rattle.scoop_handler.specs.Hearing.{hear};
 ghost use Rattle.scoop_handler.specs.Locking.{ConfirmsOnlyHolder, DroppedChangesNothing, HolderMoves};
 ghost use Rattle.scoop_handler.specs.Replies.{RepliesTo};
-ghost use Rattle.scoop_handler.specs.Running.{FitsClass};
-ghost use Rattle.scoop_record.specs.Keeper.{Damaged, Holds, IsSame, IsTheOne, Keeps, Stays};
+ghost use Rattle.scoop_record.specs.Keeper.{Damaged, IsSame, IsTheOne, Keeps, Stays};
 ghost use Rattle.scoop_demo.specs.Running.{RunsDry, RunsPast};
-ghost use Rattle.scoop_demo.specs.Storing.{FailsToHear, Follows, IsStoreError, OpensOver, StoresIf};
+ghost use Rattle.scoop_demo.specs.Storing.{FailsToHear, Follows, IsStoreError, Misfits, OpensOver, StoresIf};
 
 use crate::fault::RunError;
 use scoop_handler::{Handler, Heard};
@@ -34,6 +33,8 @@ pub fn open_handler<B: Behaviour, K: Keeper>(
 ) -> Result<Handler<B>, RunError>
     ensures opened { K.is_honest keeper.new → IfOk result (OpensOver (K.handlers keeper.old number.0) number class (B.words object)) }
     ensures own { IfOk result (λ handler. (handler.state.number ≡ number) × (handler.class ≡ class)) }
+    ensures fits { OnOk result (B.class object ≡ class) }
+    ensures misfit { K.is_honest keeper.new → result ≡ Err (RunError.WrongClass number) → Misfits (K.handlers keeper.old number.0) class (B.class object) }
     ensures bad { K.is_honest keeper.new → result ≡ Err (RunError.Store (KeeperError.BadImage number)) → IsTheOne (K.handlers keeper.old number.0) Damaged }
     ensures named { IfErr result (λ e. IsStoreError e ⊎ ((e ≡ RunError.Store (KeeperError.BadImage number)) ⊎ (e ≡ RunError.WrongClass number))) }
     ensures handlers { K.is_honest keeper.new → Stays (K.handlers keeper.old) (K.handlers keeper.new) }
