@@ -2,5 +2,6 @@
 
 mod images;
 mod keepers;
+mod numbers;
 mod stopped;
 mod tables;

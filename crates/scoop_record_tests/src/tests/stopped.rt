@@ -1,5 +1,5 @@
-//! Stores over files that are stopped at a call of the disk, and opened again. Each write of the log is
-//! stopped; the file itself is written only at a checkpoint, which none of these reach.
+//! Stores over files that are stopped at a call of the disk, and opened again. Each call of the log is stopped,
+//! without and with a checkpoint, and each call of the database file, which is written only at a checkpoint.
 
 use super::images::PENDING;
 use super::keepers::{IMAGE, OLD, bytes_by, kept, word};
@@ -29,6 +29,15 @@ enum Call {
     Adopt,
 }
 
+// Where it is stopped: at the log's calls, or at those of the log or of the database file where the call begins
+// with a checkpoint.
+#[derive(Clone, Copy)]
+enum Part {
+    Log,
+    LogAtCheckpoint,
+    File,
+}
+
 // A file with these bytes that takes so many calls.
 fn file_with(alloc: Global, bytes: &[u8], calls: u64) -> Result<Stopped, Fail> {
     let mut file = Memory::new(alloc);
@@ -37,26 +46,47 @@ fn file_with(alloc: Global, bytes: &[u8], calls: u64) -> Result<Stopped, Fail> {
     Ok(Fuse::new(file, calls))
 }
 
-// Files with the same bytes, whose log takes so many calls.
-fn copy_of(alloc: Global, files: &Files<Stopped>, calls: u64) -> Result<Files<Stopped>, Fail> {
+// Files with the same bytes, of which that part takes so many calls.
+fn copy_of(
+    alloc: Global,
+    files: &Files<Stopped>,
+    part: Part,
+    calls: u64,
+) -> Result<Files<Stopped>, Fail> {
+    let (log, db) = match part {
+        Part::Log | Part::LogAtCheckpoint => (calls, u64::MAX),
+        Part::File => (u64::MAX, calls),
+    };
     Ok(Files {
-        log: file_with(alloc, files.log.inner().bytes(), calls)?,
-        db: file_with(alloc, files.db.inner().bytes(), u64::MAX)?,
+        log: file_with(alloc, files.log.inner().bytes(), log)?,
+        db: file_with(alloc, files.db.inner().bytes(), db)?,
     })
 }
 
-fn open(alloc: Global, files: Files<Stopped>) -> Result<Stoppable, Files<Stopped>> {
+// With a checkpoint where a transaction first writes to a log that isn't empty, or with none.
+fn options_of(part: Part) -> Options {
+    match part {
+        Part::Log => Options::new(1),
+        Part::LogAtCheckpoint | Part::File => Options {
+            checkpoint_frames: 1,
+            ..Options::new(1)
+        },
+    }
+}
+
+fn open(alloc: Global, files: Files<Stopped>, part: Part) -> Result<Stoppable, Files<Stopped>> {
     if !files.may_be_used() {
         return Err(files);
     }
-    match Connection::open_files(alloc, files, Options::new(1)) {
+    match Connection::open_files(alloc, files, options_of(part)) {
         Ok(conn) => Ok(conn),
         Err((_, left)) => Err(left.into_files()),
     }
 }
 
+// Without a checkpoint.
 fn opened(alloc: Global, files: Files<Stopped>) -> Result<Stoppable, Fail> {
-    Ok(open(alloc, files).ok().ok_or("opened")?)
+    Ok(open(alloc, files, Part::Log).ok().ok_or("opened")?)
 }
 
 // What the files hold once the connection is gone.
@@ -102,14 +132,21 @@ fn adopts_in(alloc: Global, conn: &mut Stoppable) -> bool {
 }
 
 // Files with no tables; for what comes after a creation, a store with the word 5 and one incarnation; for a
-// migration, one of version 1 whose handler has pending entries.
-fn files_before(alloc: Global, call: Call) -> Result<Files<Stopped>, Fail> {
+// migration, one of version 1 whose handler has pending entries. Where there is to be a checkpoint, the log isn't
+// empty: before a creation, it has a table that came and went.
+fn files_before(alloc: Global, call: Call, part: Part) -> Result<Files<Stopped>, Fail> {
     let blank = Files {
         log: file_with(alloc, &[], u64::MAX)?,
         db: file_with(alloc, &[], u64::MAX)?,
     };
-    let conn = opened(alloc, blank)?;
+    let mut conn = opened(alloc, blank)?;
     if matches!(call, Call::Create) {
+        if !matches!(part, Part::Log) {
+            run_texts(
+                &mut conn,
+                &["CREATE TABLE t (a INTEGER) STRICT", "DROP TABLE t"],
+            )?;
+        }
         return Ok(left_by(conn));
     }
     let mut store = created(alloc, conn)?;
@@ -205,15 +242,16 @@ fn has_it(alloc: Global, files: Files<Stopped>, call: Call) -> Result<bool, Fail
     }
 }
 
-// Stops the call after so many calls of the log's disk: whether it succeeded, and whether what it stores is
-// found afterwards. `None` where the files weren't open by then.
+// Stops the call after so many calls of that part: whether it succeeded, and whether what it stores is found
+// afterwards. `None` where the files weren't open by then.
 fn stopped(
     alloc: Global,
     before: &Files<Stopped>,
     call: Call,
+    part: Part,
     calls: u64,
 ) -> Result<Option<(bool, bool)>, Fail> {
-    let conn = match open(alloc, copy_of(alloc, before, calls)?) {
+    let conn = match open(alloc, copy_of(alloc, before, part, calls)?, part) {
         Ok(conn) => conn,
         Err(_) => return Ok(None),
     };
@@ -222,17 +260,17 @@ fn stopped(
         None => return Ok(None),
     };
     let left = left_by(conn);
-    let found = has_it(alloc, copy_of(alloc, &left, u64::MAX)?, call)?;
+    let found = has_it(alloc, copy_of(alloc, &left, part, u64::MAX)?, call)?;
     Ok(Some((done, found)))
 }
 
-// The first call of the log's disk that the call itself makes, by halves: before it, the files aren't open.
-fn begins_at(alloc: Global, before: &Files<Stopped>, call: Call) -> Result<u64, Fail> {
+// The first of that part's calls that the call itself makes, by halves: before it, the files aren't open.
+fn begins_at(alloc: Global, before: &Files<Stopped>, call: Call, part: Part) -> Result<u64, Fail> {
     let mut low = 0u64;
     let mut high = 256u64;
     for _ in 0..8 {
         let middle = low.midpoint(high);
-        if stopped(alloc, before, call, middle)?.is_some() {
+        if stopped(alloc, before, call, part, middle)?.is_some() {
             high = middle;
         } else {
             low = middle;
@@ -241,16 +279,17 @@ fn begins_at(alloc: Global, before: &Files<Stopped>, call: Call) -> Result<u64, 
     Ok(high)
 }
 
-// Stops the call at each of its calls of the disk in turn, up to where it succeeds. What is found is what was
-// there before or what the call stores, and that it is where the call has succeeded.
-fn stops(rt: &impl Abort, alloc: Global, call: Call) -> Result<(), Fail> {
-    let before = files_before(alloc, call)?;
-    let first = begins_at(alloc, &before, call)?;
+// Stops the call at each of that part's calls in turn, up to where it succeeds. What is found is what was there
+// before or what the call stores, and that it is where the call has succeeded.
+fn stops(rt: &impl Abort, alloc: Global, call: Call, part: Part) -> Result<(), Fail> {
+    let before = files_before(alloc, call, part)?;
+    let first = begins_at(alloc, &before, call, part)?;
     for more in 0..64u64 {
         let calls = first.saturating_add(more);
-        let (done, found) = stopped(alloc, &before, call, calls)?.ok_or("open files")?;
+        let (done, found) = stopped(alloc, &before, call, part, calls)?.ok_or("open files")?;
         assert!(rt; found || !done, "{more}");
         if done {
+            // With no checkpoint, a call makes none of the database file.
             assert!(rt; more > 0);
             return Ok(());
         }
@@ -258,22 +297,29 @@ fn stops(rt: &impl Abort, alloc: Global, call: Call) -> Result<(), Fail> {
     panic!(rt; "it never succeeded")
 }
 
+// The same at each part.
+fn stops_everywhere(rt: &impl Abort, alloc: Global, call: Call) -> Result<(), Fail> {
+    stops(rt, alloc, call, Part::Log)?;
+    stops(rt, alloc, call, Part::LogAtCheckpoint)?;
+    stops(rt, alloc, call, Part::File)
+}
+
 #[test]
 fn a_stopped_creation_makes_all_tables_or_none(rt: HostRuntime) -> Result<(), Fail> {
-    stops(&rt, rt.alloc(), Call::Create)
+    stops_everywhere(&rt, rt.alloc(), Call::Create)
 }
 
 #[test]
 fn a_stopped_put_leaves_a_whole_state(rt: HostRuntime) -> Result<(), Fail> {
-    stops(&rt, rt.alloc(), Call::Put)
+    stops_everywhere(&rt, rt.alloc(), Call::Put)
 }
 
 #[test]
 fn a_stopped_rise_leaves_an_incarnation(rt: HostRuntime) -> Result<(), Fail> {
-    stops(&rt, rt.alloc(), Call::Next)
+    stops_everywhere(&rt, rt.alloc(), Call::Next)
 }
 
 #[test]
 fn a_stopped_migration_leaves_one_version(rt: HostRuntime) -> Result<(), Fail> {
-    stops(&rt, rt.alloc(), Call::Adopt)
+    stops_everywhere(&rt, rt.alloc(), Call::Adopt)
 }
