@@ -2,12 +2,13 @@
 //! without and with a checkpoint, and each call of the database file, which is written only at a checkpoint.
 
 use super::images::PENDING;
-use super::keepers::{IMAGE, OLD, bytes_by, kept, word};
+use super::keepers::{IMAGE, OLD, bytes_by, kept, waiting, word};
 use super::tables::version;
+use scoop_handler::HandlerState;
 use scoop_message::ClientId;
 use scoop_record::*;
 use sqlite::{Connection, FileStore, Files, Options};
-use sqlite_disk::{Disk, Fuse, Memory};
+use sqlite_disk::{Crash, Disk, Fuse, Memory};
 use std::alloc::Global;
 use std::process::Abort;
 use std::test::Fail;
@@ -110,9 +111,8 @@ fn adopted(alloc: Global, conn: Stoppable) -> Option<StoppableStore> {
     Store::adopt(alloc, conn).ok()
 }
 
-fn puts(alloc: Global, store: &mut StoppableStore, word: u8) -> Result<bool, Fail> {
-    let state = kept(alloc, word)?;
-    Ok(store.put_handler(&state).is_ok())
+fn puts(store: &mut StoppableStore, state: &HandlerState) -> bool {
+    store.put_handler(state).is_ok()
 }
 
 fn next(store: &mut StoppableStore) -> Option<u32> {
@@ -131,7 +131,7 @@ fn adopts_in(alloc: Global, conn: &mut Stoppable) -> bool {
     adopt_tables(alloc, conn).is_ok()
 }
 
-// Files with no tables; for what comes after a creation, a store with the word 5 and one incarnation; for a
+// Files with no tables; for what comes after a creation, a store with the word 5, nothing pending and one incarnation; for a
 // migration, one of version 1 whose handler has pending entries. Where there is to be a checkpoint, the log isn't
 // empty: before a creation, it has a table that came and went.
 fn files_before(alloc: Global, call: Call, part: Part) -> Result<Files<Stopped>, Fail> {
@@ -150,7 +150,7 @@ fn files_before(alloc: Global, call: Call, part: Part) -> Result<Files<Stopped>,
         return Ok(left_by(conn));
     }
     let mut store = created(alloc, conn)?;
-    puts(alloc, &mut store, 5)?;
+    puts(&mut store, &kept(alloc, 5)?);
     next(&mut store);
     let mut conn = connection(store);
     if matches!(call, Call::Adopt) {
@@ -188,7 +188,7 @@ fn called_on_store(
         return Ok(None);
     };
     let done = match call {
-        Call::Put => puts(alloc, &mut store, 6)?,
+        Call::Put => puts(&mut store, &waiting(alloc, 6)?),
         _ => next(&mut store).is_some(),
     };
     Ok(Some((done, connection(store))))
@@ -242,6 +242,16 @@ fn has_it(alloc: Global, files: Files<Stopped>, call: Call) -> Result<bool, Fail
     }
 }
 
+// Whether what the call stores is found in the files as they were written, and as a crash leaves them, which
+// loses all that wasn't synced.
+fn is_found(alloc: Global, mut left: Files<Stopped>, call: Call, part: Part) -> Result<bool, Fail> {
+    let written = has_it(alloc, copy_of(alloc, &left, part, u64::MAX)?, call)?;
+    left.log.crash();
+    left.db.crash();
+    let synced = has_it(alloc, copy_of(alloc, &left, part, u64::MAX)?, call)?;
+    Ok(written && synced)
+}
+
 // Stops the call after so many calls of that part: whether it succeeded, and whether what it stores is found
 // afterwards. `None` where the files weren't open by then.
 fn stopped(
@@ -259,8 +269,7 @@ fn stopped(
         Some(made) => made,
         None => return Ok(None),
     };
-    let left = left_by(conn);
-    let found = has_it(alloc, copy_of(alloc, &left, part, u64::MAX)?, call)?;
+    let found = is_found(alloc, left_by(conn), call, part)?;
     Ok(Some((done, found)))
 }
 
