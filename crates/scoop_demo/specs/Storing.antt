@@ -84,7 +84,7 @@ pub record HasUnfitWords (has : Stored → Type 0) (class : ClassTable) : Type 0
   pub is_stored : IsTheOne has (Holds state)
   pub unfit : ¬ FitsClass class state
 
--- why a handler of this class isn't opened with an object over what a keeper has for it: the object's own class
--- is another one, or the stored words are not as many as the class has
+-- why no handler of a class is opened over what a keeper has for it: the object, whose class is its own, hasn't
+-- that class, or the stored words are not as many as that class has
 abbrev pub Misfits : (has : Stored → Type 0) (class own : ClassTable) → Type 0
 Misfits has class own = (own ≢ class) ⊎ HasUnfitWords has class

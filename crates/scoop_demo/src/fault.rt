@@ -96,7 +96,7 @@ pub enum RunError {
     OutOfMemory,
     /// The keeper refused.
     Store(KeeperError),
-    /// The words that are stored for the handler don't fit the class of its object.
+    /// The object hasn't the handler's class, or the stored words are not as many as the class has.
     WrongClass(HandlerId),
 }
 
