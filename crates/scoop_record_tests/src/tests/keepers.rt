@@ -29,10 +29,15 @@ pub fn waiting(alloc: Global, word: u8) -> Result<HandlerState, Fail> {
     )
 }
 
-// The one word of the state that is stored for the handler.
-pub fn word<K: Keeper>(keeper: &mut K) -> Result<u64, Fail> {
-    let state = keeper.load_handler(HandlerId(1))?.ok_or("a state")?;
+// The one word of a state.
+pub fn word_of(state: &HandlerState) -> Result<u64, Fail> {
     Ok(state.words().get(0).ok_or("a word")?)
+}
+
+// The one word of the state that is stored for the handler.
+fn word<K: Keeper>(keeper: &mut K) -> Result<u64, Fail> {
+    let state = keeper.load_handler(HandlerId(1))?.ok_or("a state")?;
+    word_of(&state)
 }
 
 #[test]

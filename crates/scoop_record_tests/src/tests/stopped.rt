@@ -2,10 +2,10 @@
 //! without and with a checkpoint, and each call of the database file, which is written only at a checkpoint.
 
 use super::images::PENDING;
-use super::keepers::{IMAGE, OLD, bytes_by, kept, waiting, word};
+use super::keepers::{IMAGE, OLD, bytes_by, kept, waiting, word_of};
 use super::tables::version;
 use scoop_handler::HandlerState;
-use scoop_message::ClientId;
+use scoop_message::{ClientId, HandlerId};
 use scoop_record::*;
 use sqlite::{Connection, FileStore, Files, Options};
 use sqlite_disk::{Crash, Disk, Fuse, Memory};
@@ -131,9 +131,9 @@ fn adopts_in(alloc: Global, conn: &mut Stoppable) -> bool {
     adopt_tables(alloc, conn).is_ok()
 }
 
-// Files with no tables; for what comes after a creation, a store with the word 5, nothing pending and one incarnation; for a
-// migration, one of version 1 whose handler has pending entries. Where there is to be a checkpoint, the log isn't
-// empty: before a creation, it has a table that came and went.
+// Files with no tables; for what comes after a creation, a store with the word 5, nothing pending and one
+// incarnation; for a migration, one of version 1 whose handler has pending entries. Where there is to be a
+// checkpoint, the log isn't empty: before a creation, it has a table that came and went.
 fn files_before(alloc: Global, call: Call, part: Part) -> Result<Files<Stopped>, Fail> {
     let blank = Files {
         log: file_with(alloc, &[], u64::MAX)?,
@@ -219,12 +219,32 @@ fn has_version(alloc: Global, conn: &mut Stoppable) -> Result<bool, Fail> {
     Ok(before == 2)
 }
 
+// The store goes with what is read of it, so that no way out of the functions below has one to drop.
+fn loaded_in(mut store: StoppableStore) -> Option<HandlerState> {
+    match store.load_handler(HandlerId(1)) {
+        Ok(found) => found,
+        Err(_) => None,
+    }
+}
+
+fn next_in(mut store: StoppableStore) -> Option<u32> {
+    next(&mut store)
+}
+
+fn number_in(store: StoppableStore, call: Call) -> Result<u64, Fail> {
+    match call {
+        Call::Put => word_of(&loaded_in(store).ok_or("a state")?),
+        _ => Ok(u64::from(next_in(store).ok_or("a number")?)),
+    }
+}
+
 // The word or the incarnation that the call stores, or the one before it.
 fn has_number(alloc: Global, conn: Stoppable, call: Call) -> Result<bool, Fail> {
-    let mut store = adopted(alloc, conn).ok_or("a store")?;
-    let (found, old, new) = match call {
-        Call::Put => (word(&mut store)?, 5, 6),
-        _ => (u64::from(next(&mut store).ok_or("a number")?), 2, 3),
+    let store = adopted(alloc, conn).ok_or("a store")?;
+    let found = number_in(store, call)?;
+    let (old, new) = match call {
+        Call::Put => (5, 6),
+        _ => (2, 3),
     };
     if found != old && found != new {
         return Err(Fail::new("another state"));
