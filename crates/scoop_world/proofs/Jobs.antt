@@ -1,5 +1,5 @@
 -- Hearing leaves the job that is out.
-use Rattle.std.proofs.Common.{◌≡◌, ℕ, Bool, true, false, List, Option, Some, None, refl, sym, ap, ◌∙◌, subst, length}
+use Rattle.std.proofs.Common.{◌≡◌, ℕ, Bool, true, false, List, Option, Some, None, refl, sym, ap, ◌∙◌}
 use Rattle.std.specs.Prelude.{is_some}
 use Rattle.std.specs.Option.{option_map}
 use Rattle.scoop_message.specs.declared.name.Block.{Block}
@@ -10,10 +10,9 @@ use Rattle.scoop_queue.specs.Queue.{front}
 use Rattle.scoop_handler.specs.State.{HandlerState}
 use Rattle.scoop_handler.specs.Core.{Core, IsCore, with_state}
 use Rattle.scoop_handler.specs.Hearing.{hear}
-use Rattle.scoop_handler.specs.Running.{Task, MayReset, task_with, first_task, job_out}
+use Rattle.scoop_handler.specs.Running.{MayReset, task_with, first_task, job_out}
 use Rattle.scoop_handler.proofs.TableRows.{row}
 use Rattle.scoop_handler.proofs.TableLaws.{number-row, words-row, front-row}
-use Rattle.scoop_world.proofs.Events.{by_test}
 
 -- the first task stays, where there is one
 first_stays :

@@ -1,5 +1,5 @@
 -- The place of a handler or a client among all, and what the keeper has once one of them changes.
-use Rattle.std.proofs.Common.{◌≡◌, ℕ, zero, suc, ◌+◌, ◌<◌, Bool, true, false, true≢false, List, [], ◌∷◌, map, find, length, drop, get_or, set, slice_get, Option, Some, None, refl, sym, ap, ◌∙◌, subst, arith}
+use Rattle.std.proofs.Common.{◌≡◌, ℕ, zero, suc, ◌+◌, ◌<◌, Bool, true, false, List, [], ◌∷◌, map, find, length, drop, get_or, set, slice_get, Option, Some, None, refl, sym, ap, ◌∙◌, subst, arith}
 use Rattle.std.specs.Prelude.{if◌then◌else◌}
 use Rattle.std.specs.Bool.{Decides}
 use Rattle.std.specs.List.{AllByRecursion}
@@ -11,8 +11,8 @@ use Rattle.scoop_message.specs.declared.name.ClientId.{ClientId}
 use Rattle.scoop_message.specs.Message.{same_client, same_handler}
 use Rattle.scoop_message.proofs.Same.{handler_decides, client_decides}
 use Rattle.scoop_handler.specs.State.{HandlerState}
-use Rattle.scoop_record.specs.Keeper.{Stored, Holds, Keeps, Sets, stored_of}
-use Rattle.scoop_record.specs.Memory.{MemoryRecord, Has, state_at, incarnation_at}
+use Rattle.scoop_record.specs.Keeper.{Holds, Sets, stored_of}
+use Rattle.scoop_record.specs.Memory.{MemoryRecord, state_at, incarnation_at}
 use Rattle.scoop_world.specs.World.{Site, Party, number_of, id_of, set_site, set_party}
 use Rattle.scoop_world.specs.Safe.{NoRepeats}
 use Rattle.scoop_world.specs.Kept.{IsFirst, Stores, HasState, HasIncarnation, HasAll}

@@ -1,7 +1,6 @@
 -- Which block of a client is its newest, once it has heard a message.
-use Rattle.std.proofs.Common.{◌≡◌, Bool, true, false, List, ◌++◌, [], append-nil, refl, sym, ap, ◌∙◌}
+use Rattle.std.proofs.Common.{◌≡◌, refl}
 use Rattle.std.specs.Prelude.{if◌then◌else◌}
-use Rattle.scoop_message.specs.declared.name.Block.{Block}
 use Rattle.scoop_message.specs.declared.message.Message.{Message}
 use Rattle.scoop_reserve.specs.declared.stage.Step.{Step}
 use Rattle.scoop_reserve.specs.declared.stage.Step.TheVariants as step
@@ -9,14 +8,12 @@ use Rattle.scoop_reserve.specs.State.{ReservationState}
 use Rattle.scoop_reserve.specs.Hearing.{is_gone}
 use Rattle.scoop_reserve.specs.Hearing as reservation
 use Rattle.scoop_client.specs.declared.phase.ClientNote.{ClientNote}
-use Rattle.scoop_client.specs.declared.phase.ClientNote.TheVariants.{Welcomed, Locked, Busy, Opened, Unlocked, Acknowledged, Accepted as AcceptedNote, Ignored}
 use Rattle.scoop_client.specs.State.{ClientState, with_lines, with_reservation, idle}
 use Rattle.scoop_client.specs.Line.{all_over, acknowledged, at_line}
 use Rattle.scoop_client.specs.Hearing.{heard, stepped, settled, after_step, up_to}
 use Rattle.scoop_client.specs.Rows.{HeardRow, passed_over, is_welcomed, takes_step, is_acknowledged, is_accepted}
 use Rattle.scoop_client.proofs.Rows.{heard_row}
-use Rattle.scoop_world.specs.World.{Accepted}
-use Rattle.scoop_world.specs.Step.{newest_block, newly_accepted}
+use Rattle.scoop_world.specs.Step.{newest_block}
 use Rattle.scoop_world.proofs.Events.{by_test}
 
 stepped_newest : (c : ClientState) (s : ReservationState) → newest_block (stepped c s) ≡ newest_block c

@@ -11,7 +11,7 @@ use Rattle.scoop_record.specs.Memory.{MemoryRecord}
 use Rattle.scoop_world.specs.declared.error.WorldOpenError.{WorldOpenError}
 use Rattle.scoop_world.specs.declared.error.WorldOpenError.TheVariants.{IncarnationsSpent, OutOfMemory}
 use Rattle.scoop_world.specs.declared.placing.Placement.{Placement as Placed}
-use Rattle.scoop_world.specs.World.{World, Site, Party, number_of}
+use Rattle.scoop_world.specs.World.{Site, Party, number_of}
 use Rattle.scoop_world.specs.Step.{Placement, Newcomer, new_site, new_party, opening}
 use Rattle.scoop_world.specs.Safe.{NoRepeats}
 use Rattle.scoop_world.specs.Opening.{IsPlaced, IsJoining, MayOpen, placement_of, placements_of, newcomer_of, newcomers_of}

@@ -1,5 +1,5 @@
 -- What a world is once a client has taken a command, or has refused it.
-use Rattle.std.proofs.Common.{◌≡◌, ℕ, false, List, [], map, set, slice_get, Option, Some, None, refl, sym, ap, ◌∙◌, subst}
+use Rattle.std.proofs.Common.{◌≡◌, ℕ, false, List, map, set, slice_get, Option, Some, None, refl, sym, ap, ◌∙◌, subst}
 use Rattle.std.specs.Prelude.{Ok, Err, IsOk}
 use Rattle.std.proofs.lemmas.Option.{same_Some}
 use Rattle.scoop_message.specs.declared.name.Block.{Block}

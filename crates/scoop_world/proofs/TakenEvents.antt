@@ -1,5 +1,5 @@
 -- What a world is once an event has happened to one of its parts.
-use Rattle.std.proofs.Common.{◌≡◌, ℕ, ◌+◌, ◌<◌, ◌==◌, ◌-◌, ◌^◌, true, false, List, [], ◌∷◌, ◌++◌, map, length, find, set, get_or, slice_get, Option, Some, None, refl, sym, ap, ◌∙◌, subst}
+use Rattle.std.proofs.Common.{◌≡◌, ℕ, ◌+◌, ◌<◌, ◌==◌, ◌-◌, ◌^◌, true, false, List, [], ◌∷◌, ◌++◌, map, length, set, get_or, slice_get, Option, Some, None, refl, sym, ap, ◌∙◌, subst}
 use Rattle.std.specs.Prelude.{Ok, Err, IsOk, option_to_list, if◌then◌else◌}
 use Rattle.std.specs.Result.{is_ok}
 use Rattle.scoop_message.specs.declared.name.Block.{Block}
@@ -11,17 +11,16 @@ use Rattle.std.specs.Option.{option_map, IsSome}
 use Rattle.std.proofs.lemmas.Option.{same_Some}
 use Rattle.scoop_handler.specs.declared.ran.Ran.{Ran}
 use Rattle.scoop_handler.specs.declared.note.Heard.{Heard}
-use Rattle.scoop_handler.specs.Hearing.{Hearing, hear}
+use Rattle.scoop_handler.specs.Hearing.{hear}
 use Rattle.scoop_handler.specs.Running.{Task, ready, job_out, ran_of}
 use Rattle.scoop_client.specs.Due.{due}
-use Rattle.scoop_client.specs.Hearing.{Notice, heard}
+use Rattle.scoop_client.specs.Hearing.{heard}
 use Rattle.scoop_world.specs.declared.event.Command.{Command}
-use Rattle.scoop_world.specs.declared.note.WorldNote.{WorldNote}
 use Rattle.scoop_world.specs.declared.note.WorldNote.TheVariants as note
 use Rattle.scoop_world.specs.declared.error.WorldError.{WorldError}
 use Rattle.scoop_world.specs.declared.error.WorldError.TheVariants.{NoSuchMessage, NoSuchParty, NothingToRun, ClientRefused, IncarnationsSpent, OutOfMemory}
 use Rattle.scoop_world.specs.World.{World, Site, Party, BlockLog, number_of, id_of, is_site, is_party, site_of, party_of, set_site, set_party}
-use Rattle.scoop_world.specs.Step.{Stepped, sent_or_silent, tick_at, newest_block, logs_after, do_at, newly_opened, joined, heard_site, heard_world, at_handler, taken_by_handler, place_of, heard_party, taken_by_client, at_client, with_site, with_party, begun_site, begins, begin_at, finished_site, finishes, finish_at, restarted_party, restart_client, reopened, restart_node}
+use Rattle.scoop_world.specs.Step.{Stepped, sent_or_silent, tick_at, newest_block, logs_after, do_at, newly_opened, joined, heard_site, taken_by_handler, heard_party, taken_by_client, with_party, begun_site, begins, begin_at, finished_site, finishes, finish_at, restarted_party, restart_client, reopened, restart_node}
 use Rattle.scoop_world.specs.Reach.{IsReached}
 use Rattle.scoop_world.specs.Safe.{NoRepeats}
 use Rattle.scoop_world.specs.Kept.{IsFirst, HasState, HasAll, began, on_node, world_kept}

@@ -3,7 +3,7 @@ use Rattle.std.proofs.Common.{List, ap, subst}
 use Rattle.scoop_world.specs.World.{World}
 use Rattle.scoop_world.specs.Step.{Placement, Newcomer, opening}
 use Rattle.scoop_world.specs.Opening.{MayOpen}
-use Rattle.scoop_world.specs.Reach.{Run, steps, IsReached}
+use Rattle.scoop_world.specs.Reach.{Run, IsReached}
 use Rattle.scoop_world.proofs.Events.{Changes, steps_kept}
 use Rattle.scoop_world.proofs.Order.Joint.{joint_kept}
 use Rattle.scoop_world.proofs.Order.Lists.{AreApart}

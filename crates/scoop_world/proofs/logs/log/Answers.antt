@@ -1,4 +1,4 @@
-use Rattle.std.proofs.Common.{◌≡◌, sym, subst, arith}
+use Rattle.std.proofs.Common.{sym, subst, arith}
 use Rattle.scoop_world.specs.Kept.{HasRoom, line_kept, with_entry_for}
 use Rattle.scoop_world.proofs.SeenLists.{seen_changed, left_same, next_same}
 use Rattle.scoop_world.proofs.logs.log.Goals as goal

@@ -1,4 +1,4 @@
-use Rattle.std.proofs.Common.{◌≡◌, false, sym, refl, subst}
+use Rattle.std.proofs.Common.{◌≡◌, false, refl, subst}
 use Rattle.scoop_message.specs.declared.name.Block.{Block}
 use Rattle.scoop_world.specs.Step.{newest_block}
 use Rattle.scoop_world.specs.Kept.{has_log, logs_kept, with_entry_for, IsPlaceOf}

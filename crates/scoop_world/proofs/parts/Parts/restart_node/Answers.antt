@@ -1,4 +1,4 @@
-use Rattle.std.proofs.Common.{◌≡◌, ℕ, ◌≤◌, List, [], ◌++◌, map, take, drop, length, sym, ap, ◌∙◌, subst, arith, append-nil}
+use Rattle.std.proofs.Common.{◌≡◌, ◌≤◌, List, ◌++◌, map, take, drop, length, sym, ap, ◌∙◌, subst, arith, append-nil}
 use Rattle.std.proofs.lemmas.List.{take_all, drop_all, length-map}
 use Rattle.scoop_record.specs.Memory.{MemoryRecord}
 use Rattle.scoop_world.specs.World.{Site}

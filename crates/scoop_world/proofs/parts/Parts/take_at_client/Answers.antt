@@ -1,24 +1,11 @@
-use Rattle.std.proofs.Common.{◌≡◌, ℕ, ◌+◌, List, Option, Some, None, Ok, length, set, sym, ap, ◌∙◌, refl, subst}
-use Rattle.scoop_message.specs.declared.name.Block.{Block}
-use Rattle.scoop_message.specs.declared.name.HandlerId.{HandlerId}
+use Rattle.std.proofs.Common.{List, Ok, set, sym, ap, ◌∙◌, subst}
 use Rattle.scoop_message.specs.declared.name.ClientId.{ClientId}
-use Rattle.scoop_message.specs.Message.{handler_of, client_of}
-use Rattle.scoop_handler.specs.State.{HandlerState}
-use Rattle.scoop_handler.specs.declared.ran.Ran.{Ran}
-use Rattle.scoop_handler.specs.Hearing.{hear}
-use Rattle.scoop_handler.specs.Running.{Task, ready, job_out, ran_of}
-use Rattle.scoop_handler.proofs.TableRows.{row}
-use Rattle.scoop_handler.proofs.TableLaws.{number-row}
-use Rattle.scoop_client.specs.Hearing.{heard}
+use Rattle.scoop_message.specs.Message.{client_of}
 use Rattle.scoop_client.specs.declared.phase.ClientNote.{ClientNote}
-use Rattle.scoop_record.specs.Memory.{MemoryRecord, incarnation_at}
-use Rattle.scoop_record.specs.Keeper.{Sets}
 use Rattle.scoop_world.specs.declared.note.WorldNote.TheVariants as note
-use Rattle.scoop_world.specs.World.{World, Site, Party, number_of, id_of, is_site, is_party}
-use Rattle.scoop_world.specs.Step.{Stepped, heard_site, sent_or_silent}
-use Rattle.scoop_world.specs.Kept.{IsFirst, HasAll, Stores, StoresJob, after_job, began, logs_kept, world_kept}
-use Rattle.scoop_world.proofs.KeptPlaces.{has_party, has_site, has_same_site, has_incarnation, item_at, put_again}
-use Rattle.scoop_world.proofs.TakenEvents.{apart_sites, apart_parties, same_site, same_party, heard_all, noticed_there, begun_there, nothing_begins, finished_there, nothing_finishes, restarted_there, restart_refused, ticked, hears_ok, notices_ok, finishes_ok, from_began, none_began, from_ran, none_ran, some_is}
+use Rattle.scoop_world.specs.World.{Party, is_party}
+use Rattle.scoop_world.specs.Kept.{IsFirst, logs_kept, world_kept}
+use Rattle.scoop_world.proofs.TakenEvents.{same_party, noticed_there, notices_ok}
 use Rattle.scoop_world.proofs.parts.Parts.take_at_client.Goals as goal
 use Rattle.scoop_world.proofs.parts.Parts.take_at_client.Goals.{in-Ok, in-Err}
 

@@ -1,5 +1,5 @@
-use Rattle.std.proofs.Common.{◌≡◌, ℕ, List, Option, Some, None, Ok, sym, ap, ◌∙◌, refl, subst}
-use Rattle.scoop_world.specs.World.{World, Site, Party, is_site, is_party}
+use Rattle.std.proofs.Common.{ℕ, List, Option, Ok, ap, ◌∙◌, subst}
+use Rattle.scoop_world.specs.World.{Site, Party, is_site, is_party}
 use Rattle.scoop_world.specs.Step.{Stepped, sent_or_silent}
 use Rattle.scoop_world.specs.Kept.{IsFirst, logs_kept, world_kept}
 use Rattle.scoop_world.proofs.TakenEvents.{ticked_all}

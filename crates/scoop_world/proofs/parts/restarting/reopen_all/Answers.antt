@@ -1,4 +1,4 @@
-use Rattle.std.proofs.Common.{◌≡◌, ◌+◌, ◌<◌, ◌≤◌, List, ◌++◌, map, take, drop, length, get_or, set, sym, ap, ◌∙◌, arith, append-nil}
+use Rattle.std.proofs.Common.{◌≤◌, List, ◌++◌, map, drop, length, set, sym, ap, ◌∙◌, arith, append-nil}
 use Rattle.std.proofs.lemmas.List.{get_or-map, take_all, drop_all, length-set}
 use Rattle.std.proofs.lemmas.List.Edits.{map_over_more}
 use Rattle.scoop_world.specs.World.{Site}

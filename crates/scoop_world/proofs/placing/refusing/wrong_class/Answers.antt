@@ -1,4 +1,4 @@
-use Rattle.std.proofs.Common.{◌≡◌, ◌<◌, length, take, refl, true≢false, true, false, sym, ◌∙◌, arith}
+use Rattle.std.proofs.Common.{refl, true≢false, sym, ◌∙◌, arith}
 use Rattle.scoop_world.proofs.KeptPlaces.{item_at}
 use Rattle.scoop_world.proofs.placing.refusing.wrong_class.Goals as goal
 

@@ -1,4 +1,4 @@
-use Rattle.std.proofs.Common.{◌≡◌, sym, ap, subst}
+use Rattle.std.proofs.Common.{◌≡◌, ap, subst}
 use Rattle.scoop_world.specs.World.{Site}
 use Rattle.scoop_handler.specs.Core.{Core}
 use Rattle.scoop_handler.specs.Hearing.{hear}

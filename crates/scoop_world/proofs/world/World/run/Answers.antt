@@ -1,11 +1,10 @@
-use Rattle.std.proofs.Common.{◌≡◌, ◌+◌, ◌<◌, ◌≤◌, List, [], ◌∷◌, ◌++◌, Option, Some, length, take, sym, ap, ◌∙◌, subst, refl, arith}
+use Rattle.std.proofs.Common.{◌≡◌, ◌+◌, List, [], ◌∷◌, ◌++◌, Option, take, sym, ap, ◌∙◌, subst, refl, arith}
 use Rattle.std.specs.Prelude.{IfSome}
 use Rattle.std.proofs.lemmas.List.{take_all, take_more}
 use Rattle.scoop_world.specs.declared.event.Event.{Event}
 use Rattle.scoop_world.specs.World.{World}
 use Rattle.scoop_world.specs.Step.{step}
-use Rattle.scoop_world.specs.Reach.{Leads, IsReached}
-use Rattle.scoop_world.specs.Safe.{Safe}
+use Rattle.scoop_world.specs.Reach.{Leads}
 use Rattle.scoop_world.specs.Answers.{IsRefused}
 use Rattle.scoop_world.specs.Paper.{LeadsByRules}
 use Rattle.scoop_world.proofs.KeptPlaces.{item_at}
