@@ -73,7 +73,7 @@ pub data FailsToHear (old : Core) (m : Message) (new : Core) : RunError → Type
       → handler_of m ≡ old.state.number → FailsToHear old m new e
 
 -- the handler of this number, with an object that has these words, over what a keeper has for it: its state
--- with no job out, where its words are as many as the class has, or a new one where there is none
+-- with no job out, whose words are as many as the class has; or a new one where there is none
 pub data OpensOver (has : Stored → Type 0) (number : HandlerId) (class : ClassTable) (words : List ℕ) (c : Core) : Type 0 where
   anew : IsTheOne has Missing → c ≡ core_of class (new_state number words) false → OpensOver has number class words c
   again : (s : HandlerState) → IsTheOne has (Holds s) → s.number ≡ number → FitsClass class s → c ≡ core_of class s false → OpensOver has number class words c
@@ -84,7 +84,7 @@ pub record HasUnfitWords (has : Stored → Type 0) (class : ClassTable) : Type 0
   pub is_stored : IsTheOne has (Holds state)
   pub unfit : ¬ FitsClass class state
 
--- why no handler of a class is opened over what a keeper has for it: the object, whose class is its own, hasn't
--- that class, or the stored words are not as many as that class has
+-- why no handler of a class is opened over what a keeper has for it: the object's own class is another one, or the
+-- stored words are not as many as the class has
 abbrev pub Misfits : (has : Stored → Type 0) (class own : ClassTable) → Type 0
 Misfits has class own = (own ≢ class) ⊎ HasUnfitWords has class

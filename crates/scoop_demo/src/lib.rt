@@ -1,8 +1,8 @@
 //! What the program `scoop` does with its input.
 //!
 //! A handler answers the datagrams of an input, one in hex digits on each line, with one line for each, and
-//! its state is kept before it is told.
-//! Beside it stand the demo classes, and for each of them an object of a type of its own.
+//! its state is stored before the answer is written. A script is played in a world of handlers and clients.
+//! Beside them stand the demo classes, and for each of them an object of a type of its own.
 #![tactic(auto)]
 
 mod answer;

@@ -34,8 +34,8 @@ use std::io::{Read, Write};
 /// after each entry that has run. Nothing is stored for what is no frame or is to another handler.
 ///
 /// The error names the first line that has a fault, or says that the output failed, that the keeper refused or
-/// that memory was wanted. The answers to earlier lines stand, and no words are shown. The writer is flushed
-/// before each read of the input, which may wait for the user, and at the end.
+/// that memory was wanted. Unless the output failed, the answers to earlier lines stand; no words are shown. The
+/// writer is flushed before each read of the input, which may wait for the user, and at the end.
 pub fn answer_run<B: Behaviour, K: Keeper, R: Read + Drop, W: Write>(
     handler: &mut Handler<B>,
     keeper: &mut K,

@@ -19,6 +19,15 @@ module _ {X : Type 0} where
   all_more P [] x all p = (p, tt)
   all_more P (y ∷ ys) x all p = (all.0, all_more P ys x all.1 p)
 
+  pub all_last : (P : X → Type 0) (xs : List X) (x : X) → AllByRecursion P (xs ++ x ∷ []) → P x
+  all_last P [] x all = all.0
+  all_last P (y ∷ ys) x all = all_last P ys x all.1
+
+  pub all_take : (P : X → Type 0) (n : ℕ) (xs : List X) → AllByRecursion P xs → AllByRecursion P (take n xs)
+  all_take P zero xs all = tt
+  all_take P (suc n) [] all = tt
+  all_take P (suc n) (x ∷ xs) all = (all.0, all_take P n xs all.1)
+
   pub all_both : (P Q : X → Type 0) (xs : List X) → AllByRecursion P xs → AllByRecursion Q xs → AllByRecursion (λ x. P x × Q x) xs
   all_both P Q [] p q = tt
   all_both P Q (x ∷ xs) p q = ((p.0, q.0), all_both P Q xs p.1 q.1)

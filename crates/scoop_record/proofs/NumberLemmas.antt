@@ -1,5 +1,5 @@
 -- The rows of a record of version 1, by their numbers.
-use Rattle.std.proofs.Common.{◌≡◌, ◌≢◌, inl, inr, ◌<◌, ◌≤◌, ◌+◌, ◌^◌, ℕ, zero, suc, pos, List, [], ◌∷◌, ◌++◌, take, drop, map, find, Option, Some, None, option_map, refl, sym, ap, ◌∙◌, subst, arith, IsPermutation, append_assoc, take-append-drop}
+use Rattle.std.proofs.Common.{◌≡◌, ◌≢◌, inl, inr, ◌<◌, ◌≤◌, ◌+◌, ◌^◌, ℕ, pos, List, [], ◌∷◌, ◌++◌, take, drop, map, find, Option, Some, None, option_map, refl, sym, ap, ◌∙◌, subst, arith, IsPermutation, append_assoc, take-append-drop}
 use Rattle.std.specs.List.{AllByRecursion, AllZip}
 use Rattle.std.proofs.lemmas.List.Sorted.{IsPermutation-sym}
 use Rattle.sqlite_value.specs.declared.value.Value.{Value}
@@ -13,6 +13,7 @@ use Rattle.scoop_handler.specs.State.{HandlerState}
 use Rattle.scoop_record.specs.Keeper.{Stored, Missing, Holds, Damaged, stored_of, IsTheOne}
 use Rattle.scoop_record.specs.Tables.{first_schema, record_schema, value_at, Makes}
 use Rattle.scoop_record.specs.Migrate.{FirstHas, first_handlers_in, IsFirstRowOf, IsFirstRow, IsRising, keyed_value, IsKeyBelow, IsNumber, AreNumbers, AreNumbered, AreHandlers, HasOtherNumber, IsBadRow, IsFirstBad, IsLowestBad}
+use Rattle.scoop_record.proofs.Lists.{all_last, all_more, all_take}
 use Rattle.scoop_record.proofs.RowLemmas.{find_own}
 use Rattle.scoop_record.proofs.TableLemmas.{int_key}
 use Rattle.scoop_record.proofs.MigrateLemmas.{has_mapped, has_source, has_permuted, held_found, missing_one, none_has, pos_same, state_of_row}
@@ -31,19 +32,6 @@ pub record AreUnder (low : ℕ) (rows : List Row) : Type 0 where
 pub none_under : AreUnder 0 []
 none_under = record { numbered = record { known = tt; rising = tt }; under = tt }
 
-all_push : (P : Row → Type 0) (rows : List Row) (row : Row) → AllByRecursion P rows → P row → AllByRecursion P (rows ++ row ∷ [])
-all_push P [] row all is = (is, tt)
-all_push P (r ∷ rows) row all is = (all.0, all_push P rows row all.1 is)
-
-all_last : (P : Row → Type 0) (rows : List Row) (row : Row) → AllByRecursion P (rows ++ row ∷ []) → P row
-all_last P [] row all = all.0
-all_last P (r ∷ rows) row all = all_last P rows row all.1
-
-all_take : (P : Row → Type 0) (n : ℕ) (rows : List Row) → AllByRecursion P rows → AllByRecursion P (take n rows)
-all_take P zero rows all = tt
-all_take P (suc n) [] all = tt
-all_take P (suc n) (r ∷ rows) all = (all.0, all_take P n rows all.1)
-
 -- the number of the row behind those that were read
 pub number_at : (rows : List Row) (at : ℕ) (row : Row) → take (at + 1) rows ≡ take at rows ++ row ∷ [] → AreNumbers rows → IsNumber (column row 0)
 number_at rows at row next all =
@@ -60,15 +48,15 @@ rising_push : (low : ℕ) (rows : List Row) (row : Row) (number : ℕ) → IsAsc
 rising_push low [] row number rising under is le = (tt, tt)
 rising_push low (r ∷ rows) row number rising under is le =
     let last : IsKeyBelow r row = record { below = λ m n first second. omega (arith, under.0.under m first, number_is row number n is second, le) } in
-    (all_push (IsKeyBelow r) rows row rising.0 last, rising_push low rows row number rising.1 under.1 is le)
+    (all_more (IsKeyBelow r) rows row rising.0 last, rising_push low rows row number rising.1 under.1 is le)
 
 pub under_push : (low : ℕ) (rows : List Row) (row : Row) (number : ℕ) → AreUnder low rows → column row 0 ≡ Int (pos number) → number < 2 ^ 32 → low ≤ number → AreUnder (number + 1) (rows ++ row ∷ [])
 under_push low rows row number all is small le = record {
   numbered = record {
-    known = all_push (λ (r : Row). IsNumber (column r 0)) rows row all.numbered.known (record { number = number; small = small; is = is });
+    known = all_more (λ (r : Row). IsNumber (column r 0)) rows row all.numbered.known (record { number = number; small = small; is = is });
     rising = rising_push low rows row number all.numbered.rising all.under is le;
   };
-  under = all_push (IsUnder (number + 1)) rows row (under_more low (number + 1) rows (omega (arith, le)) all.under) (record { under = λ n other. omega (arith, number_is row number n is other) });
+  under = all_more (IsUnder (number + 1)) rows row (under_more low (number + 1) rows (omega (arith, le)) all.under) (record { under = λ n other. omega (arith, number_is row number n is other) });
 }
 
 -- ---- states of rows whose numbers rise

@@ -12,7 +12,7 @@ use Rattle.scoop_record.specs.Range.{InRange}
 use Rattle.scoop_record.specs.Reading.{IsStoredWithEntries}
 use Rattle.scoop_record.specs.Keeper.{Stored, Missing, Holds, Damaged, stored_of, IsTheOne}
 use Rattle.scoop_record.specs.Tables.{first_schema, record_schema, value_at}
-use Rattle.scoop_record.specs.Store.{handlers_in, number_of, Saves}
+use Rattle.scoop_record.specs.Store.{handlers_in, version_in, Saves}
 
 -- in the handler's row stands the image of the state, with its entries
 pub record IsFirstRowOf (handler : ℕ) (value : Option Value) (s : HandlerState) : Type 0 where
@@ -115,13 +115,14 @@ pub record HasOtherNumber (db : Database) : Type 0 where
   pub version : value_at (db.trees 0) 1 ≡ Some (Int (pos 1))
   pub numbers : AreHandlers (db.trees 1) → ⊥
 
--- there is no version, or neither of the two
+-- there is no version, or one that is neither 1 nor 2
 abbrev pub IsOtherVersion : Option ℤ → Type 0
 IsOtherVersion found = (found ≢ Some (pos 1)) × (found ≢ Some (pos 2))
 
--- the tables of a record are of no version that is read
+-- why the tables of a record are not taken: they have no version or an unknown one, or in version 1 a number is
+-- no handler's
 abbrev pub IsWrongSchema : Database → Type 0
-IsWrongSchema db = IsOtherVersion (number_of (value_at (db.trees 0) 1)) ⊎ HasOtherNumber db
+IsWrongSchema db = IsOtherVersion (version_in db.trees) ⊎ HasOtherNumber db
 
 -- a record of version 1, whose numbers are those of handlers, became one of version 2, in which each state
 -- and the table of the incarnations are as they were: an open of its trees finds its tables

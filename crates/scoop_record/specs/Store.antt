@@ -63,9 +63,12 @@ abbrev pub number_of : Option Value → Option ℤ
 number_of (Some (Int n)) = Some n
 number_of _ = None
 
+abbrev pub version_in : Trees → Option ℤ
+version_in trees = number_of (value_at (trees 0) 1)
+
 -- what the query of the version finds, where there are the tables of a record
 unfoldable pub TellsVersion : Database → Option ℤ → Type 0
-TellsVersion db found = IsLaidOut db → found ≡ number_of (value_at (db.trees 0) 1)
+TellsVersion db found = IsLaidOut db → found ≡ version_in db.trees
 
 -- the disk has been honest, and no failure of it has shut the connection
 abbrev pub IsSound : State → Type 0

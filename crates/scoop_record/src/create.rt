@@ -127,8 +127,8 @@ fn make_tables<S: Alter>(conn: &mut Connection<S>, version: u32) -> Result<(), K
 /// Makes the tables in a database that has none, in one transaction: the same as `Store::create`, on a
 /// connection that stays the caller's, also where it is refused.
 ///
-/// Refused with the database as it was: `Refused` where it has a table or the connection is in a
-/// transaction, and where a text is refused; `OutOfMemory`.
+/// Refused with the database as it was: `Refused` where it has anything in its schema or the connection
+/// is in a transaction, and where a text is refused; `OutOfMemory`.
 pub fn create_tables<S: Alter>(conn: &mut Connection<S>) -> Result<(), KeeperError>
     ensures mode { conn.new.in_transaction ≡ conn.old.in_transaction }
     ensures idle { OnOk result (IsIdle S.Store conn.new) }

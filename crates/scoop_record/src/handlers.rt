@@ -226,6 +226,7 @@ pub(crate) fn load<S: Alter>(
 pub(crate) fn images_of(alloc: Global, it: &HandlerState) -> Result<(Vec<u8>, Vec<u8>), OutOfMemory>
     ensures { IfOk result (λ rows. IsStored it.now.number rows.0.items rows.1.items it.now) }
 {
+    // Says that it is a state.
     let _number = it.handler();
     let bytes = image(alloc, it)?;
     let row = pending_row(alloc, it)?;

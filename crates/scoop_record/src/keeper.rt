@@ -68,8 +68,8 @@ pub trait Keeper: Drop {
     // Nobody else has written the medium, and what was written is what is read.
     ghost is_honest: { Self → Type 0 };
 
-    // What each call relates: the keeper before it, what was asked, the answer, and the keeper after it. A
-    // keeper that passes calls on tells by them that they were made.
+    // What a call tells beside the clauses below, of the keeper before it, what was asked, the answer and the keeper
+    // after it: nothing, where a keeper doesn't say. A keeper over any other shows these only by making the call.
     ghost put_gives: { Self → HandlerState → Result (Unit {0}) KeeperError → Self → Type 0 } = { λ _ _ _ _. ⊤ };
 
     ghost load_gives: { Self → HandlerId → Result (Option HandlerState) KeeperError → Self → Type 0 } = { λ _ _ _ _. ⊤ };

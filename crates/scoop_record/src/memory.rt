@@ -1,6 +1,6 @@
 //! A keeper in memory.
 
-ghost use Rattle.std.specs.Prelude.{◌≡◌, ◌↔◌, ◌⊎◌, ℕ, Some, [], IfSome, IfOk, IfErr, OnOk, OnErr};
+ghost use Rattle.std.specs.Prelude.{◌≡◌, ◌↔◌, ◌⊎◌, ℕ, Some, Err, [], IfSome, IfOk, IfErr, OnOk, OnErr};
 
 use crate::keeper::{Keeper, KeeperError};
 use scoop_handler::HandlerState;
@@ -66,12 +66,14 @@ impl Keeper for MemoryKeeper {
 
     ghost is_honest = { λ _. Unit {0} };
 
-    // Memory refuses nothing else, also behind a keeper that passes calls on.
+    // Memory refuses for want of memory alone, and an incarnation exactly where the last one is stored: told here
+    // too, so that it is known behind a keeper that passes calls on.
     ghost put_gives = { λ _ _ result _. IfErr result (λ e. e ≡ KeeperError.OutOfMemory) };
 
     ghost load_gives = { λ _ _ result _. IfErr result (λ e. e ≡ KeeperError.OutOfMemory) };
 
-    ghost next_gives = { λ _ _ result _. IfErr result (λ e. (e ≡ KeeperError.OutOfMemory) ⊎ (e ≡ KeeperError.IncarnationsSpent)) };
+    ghost next_gives = { λ k client result _. IfErr result (λ e. (e ≡ KeeperError.OutOfMemory) ⊎ (e ≡ KeeperError.IncarnationsSpent))
+        × ((result ≡ Err KeeperError.IncarnationsSpent) ↔ (incarnation_at k client.0 ≡ Some last_incarnation)) };
 
     fn put_handler(&mut self, state: &HandlerState) -> Result<(), KeeperError>
         ensures stored { OnOk result (Keeps (Has self.old) (Has self.new) state.now) }

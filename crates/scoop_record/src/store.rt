@@ -44,9 +44,9 @@ impl<S: Alter + Drop> Store<S> {
 
     /// Makes the tables in a database that has none, in one transaction.
     ///
-    /// Refused: `Refused` where the database has a table or the connection is in a transaction, and
-    /// where a text is refused; `OutOfMemory`. The connection goes with the refusal: what it leaves is
-    /// said by [`create_tables`], which this calls.
+    /// Refused: `Refused` where the database has anything in its schema or the connection is in a
+    /// transaction, and where a text is refused; `OutOfMemory`. The connection goes with the refusal: what
+    /// it leaves is said by [`create_tables`], which this calls.
     pub fn create(alloc: Global, mut conn: Connection<S>) -> Result<Store<S>, KeeperError>
         ensures made { IfOk result (λ store. IsSound (state S.Store store) → IsNewRecord (state S.Store store).now 2) }
         ensures blank { OnOk result ((state S.Store conn).now.schema ≡ no_schema) }
@@ -72,7 +72,8 @@ impl<S: Alter + Drop> Store<S> {
         ensures adopted { IfOk result (λ store. IsSound (state S.Store store) → Adopts (state S.Store conn).now (state S.Store store).now) }
         ensures sound { IfOk result (λ store. IsSound (state S.Store store) → IsSound (state S.Store conn)) }
         ensures inside { IsTrue conn.in_transaction → result ≡ Err KeeperError.Refused }
-        // What a refusal tells of the database, over storage that is honest at every moment, as memory is.
+        // The connection goes with a refusal, so these ask for storage that is honest at every moment, as memory
+        // is. Of a file they say nothing: there `adopt_tables` tells why.
         ensures bad { ((held : Held S) → IsSound (state S.Store held)) → (handler : HandlerId) → result ≡ Err (KeeperError.BadImage handler) → IsLowestBad (state S.Store conn).now handler.0 }
         ensures wrong { ((held : Held S) → IsSound (state S.Store held)) → result ≡ Err KeeperError.WrongSchema → IsLaidOut (state S.Store conn).now → IsWrongSchema (state S.Store conn).now }
         ensures named { IfErr result IsAdoptError }

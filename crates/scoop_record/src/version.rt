@@ -13,7 +13,7 @@ use crate::keeper::KeeperError;
 use crate::refusal::refusal;
 use sqlite::{Alter, Connection, Error, ErrorCode, Row, Transaction};
 
-/// The version of the tables that a store makes and keeps.
+/// The version of the tables that a store makes. Contracts name the number itself, so no other may stand here.
 pub const VERSION: u32 = 2;
 
 /// The rows that stand for the version, under whatever schema.

@@ -9,7 +9,7 @@ use std::test::Fail;
 const HANDLER: HandlerId = HandlerId(1);
 
 // Handler 1: one word, no holder, client 7's block 1 open with two entries received, which are pending.
-const IMAGE: [u8; 54] =
+pub const IMAGE: [u8; 54] =
     *b"\x02\0\0\0\x01\x01\0\0\0\0\0\0\0\0\0\x01\0\0\0\x07\0\0\0\x01\0\0\0\x01\x02\0\0\0\x02\0\0\x01\0\0\0\x07\0\0\0\x01\0\0\0\x01\x01\0\0\0\x01\x02";
 
 pub const PENDING: [u8; 24] = *b"\x01\0\x01\x01\0\0\0\0\0\0\0\x05\x01\0\x01\x01\0\0\0\0\0\0\0\x06";

@@ -1,6 +1,6 @@
 //! Keepers in memory and over a database.
 
-use super::images::PENDING;
+use super::images::{IMAGE, PENDING};
 use scoop_handler::HandlerState;
 use scoop_message::{ClientId, HandlerId};
 use scoop_record::*;
@@ -118,10 +118,6 @@ pub const OLD: &str =
 const CUT: &str =
     "INSERT INTO handlers (h, image) VALUES (1, x'0100000001010000000000000000000100000007000000010000000102000000020000\
     010000000700000001000000010100000001020100010100000000000000050100010100000000000000')";
-
-// The same in version 2, without its entries.
-pub const IMAGE: [u8; 54] =
-    *b"\x02\0\0\0\x01\x01\0\0\0\0\0\0\0\0\0\x01\0\0\0\x07\0\0\0\x01\0\0\0\x01\x02\0\0\0\x02\0\0\x01\0\0\0\x07\0\0\0\x01\0\0\0\x01\x01\0\0\0\x01\x02";
 
 #[test]
 fn a_store_of_version_1_is_migrated(rt: HostRuntime) -> Result<(), Fail> {

@@ -196,6 +196,7 @@ fn no_queue_is_above_the_last_block(rt: HostRuntime) -> Result<(), Fail> {
         ((TOP, TOP - 1), (TOP, TOP), BAD),
         ((TOP, 0), (TOP - 1, TOP), None),
         ((TOP - 1, TOP), (TOP, 0), BAD),
+        ((0, 0), (0, 0), None),
         ((0, 0), (TOP, TOP), BAD),
     ];
     for ((inc, num), (queue_inc, queue_num), error) in rows {
@@ -208,7 +209,7 @@ fn no_queue_is_above_the_last_block(rt: HostRuntime) -> Result<(), Fail> {
         assert_eq!(rt;
             told_of(rt.alloc(), mark, queue, 0)?,
             error,
-            "{num} {queue_num}"
+            "{inc} {num} {queue_inc} {queue_num}"
         );
     }
     Ok(())

@@ -1,8 +1,8 @@
 //! Stores over files that are stopped at a call of the disk, and opened again. Each call of the log is stopped,
 //! without and with a checkpoint, and each call of the database file, which is written only at a checkpoint.
 
-use super::images::PENDING;
-use super::keepers::{IMAGE, OLD, bytes_by, kept, waiting, word_of};
+use super::images::{IMAGE, PENDING};
+use super::keepers::{OLD, bytes_by, kept, waiting, word_of};
 use super::tables::version;
 use scoop_handler::HandlerState;
 use scoop_message::{ClientId, HandlerId};
@@ -219,7 +219,7 @@ fn has_version(alloc: Global, conn: &mut Stoppable) -> Result<bool, Fail> {
     Ok(before == 2)
 }
 
-// The store goes with what is read of it, so that no way out of the functions below has one to drop.
+// These take the store, so that it is dropped in here and not at each way out of the functions below.
 fn loaded_in(mut store: StoppableStore) -> Option<HandlerState> {
     match store.load_handler(HandlerId(1)) {
         Ok(found) => found,
@@ -318,7 +318,7 @@ fn stops(rt: &impl Abort, alloc: Global, call: Call, part: Part) -> Result<(), F
         let (done, found) = stopped(alloc, &before, call, part, calls)?.ok_or("open files")?;
         assert!(rt; found || !done, "{more}");
         if done {
-            // With no checkpoint, a call makes none of the database file.
+            // Else the call made no call of this part: of the database file it makes none without a checkpoint.
             assert!(rt; more > 0);
             return Ok(());
         }
