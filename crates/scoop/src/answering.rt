@@ -52,7 +52,7 @@ fn answer_over_file(
 }
 
 // The same over this keeper.
-fn answer_over<K: Keeper, R: Input + Print + AllocGlobal>(
+fn answer_over<K: Keeper<Global>, R: Input + Print + AllocGlobal>(
     rt: &R,
     given: &ArgMatches<'_>,
     keeper: &mut K,
@@ -70,7 +70,7 @@ fn answer_over<K: Keeper, R: Input + Print + AllocGlobal>(
     }
 }
 
-fn answer_as_cell<K: Keeper, R: Input + Print + AllocGlobal>(
+fn answer_as_cell<K: Keeper<Global>, R: Input + Print + AllocGlobal>(
     rt: &R,
     keeper: &mut K,
     options: &Options,
@@ -79,7 +79,7 @@ fn answer_as_cell<K: Keeper, R: Input + Print + AllocGlobal>(
     answer_with(rt, keeper, options, "cell", Boxed::new(cell))
 }
 
-fn answer_as_counter<K: Keeper, R: Input + Print + AllocGlobal>(
+fn answer_as_counter<K: Keeper<Global>, R: Input + Print + AllocGlobal>(
     rt: &R,
     keeper: &mut K,
     options: &Options,
@@ -88,7 +88,7 @@ fn answer_as_counter<K: Keeper, R: Input + Print + AllocGlobal>(
     answer_with(rt, keeper, options, "counter", Boxed::new(counter))
 }
 
-fn answer_as_account<K: Keeper, R: Input + Print + AllocGlobal>(
+fn answer_as_account<K: Keeper<Global>, R: Input + Print + AllocGlobal>(
     rt: &R,
     keeper: &mut K,
     options: &Options,
@@ -97,7 +97,7 @@ fn answer_as_account<K: Keeper, R: Input + Print + AllocGlobal>(
     answer_with(rt, keeper, options, "account", Boxed::new(account))
 }
 
-fn answer_as_exchange<K: Keeper, R: Input + Print + AllocGlobal>(
+fn answer_as_exchange<K: Keeper<Global>, R: Input + Print + AllocGlobal>(
     rt: &R,
     keeper: &mut K,
     options: &Options,
@@ -107,7 +107,7 @@ fn answer_as_exchange<K: Keeper, R: Input + Print + AllocGlobal>(
 }
 
 // Answers the datagrams with an object of the class of that name.
-fn answer_with<B: Behaviour, K: Keeper, R: Input + Print + AllocGlobal>(
+fn answer_with<B: Behaviour, K: Keeper<Global>, R: Input + Print + AllocGlobal>(
     rt: &R,
     keeper: &mut K,
     options: &Options,
@@ -130,7 +130,7 @@ fn answer_with<B: Behaviour, K: Keeper, R: Input + Print + AllocGlobal>(
 
 // The handler over what the keeper has for it, with an object of the class of that name. As the object has
 // the class, `WrongClass` comes only where the stored words are not as many as the class has.
-fn open_named<B: Behaviour, K: Keeper>(
+fn open_named<B: Behaviour, K: Keeper<Global>>(
     alloc: Global,
     keeper: &mut K,
     number: HandlerId,

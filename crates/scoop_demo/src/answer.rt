@@ -14,6 +14,7 @@ use scoop_handler::{Handler, Heard, Note};
 use scoop_message::limits::BUFFER_LEN;
 use scoop_object::Behaviour;
 use scoop_record::Keeper;
+use std::alloc::Global;
 
 /// What a handler did with a datagram.
 #[derive(Clone, Copy, Debug, PartialEq, Eq)]
@@ -50,7 +51,7 @@ fn runs_after(note: Note) -> bool
 ///
 /// `OutOfMemory` comes where the message makes the handler keep more than before, and changes nothing; or,
 /// as `Store` with `Refused`, where the handler has heard the message and its state isn't stored.
-pub fn answer_one<B: Behaviour, K: Keeper>(
+pub fn answer_one<B: Behaviour, K: Keeper<Global>>(
     handler: &mut Handler<B>,
     keeper: &mut K,
     datagram: &[u8],

@@ -24,7 +24,7 @@ use std::alloc::Global;
 /// Refused: `Store` and `OutOfMemory` where the keeper refuses to load, with `BadImage` where what is stored
 /// is no state of the handler; `WrongClass` where the object hasn't the class, or the stored words are not as
 /// many as the class has.
-pub fn open_handler<B: Behaviour, K: Keeper>(
+pub fn open_handler<B: Behaviour, K: Keeper<Global>>(
     alloc: Global,
     keeper: &mut K,
     number: HandlerId,
@@ -58,7 +58,10 @@ pub fn open_handler<B: Behaviour, K: Keeper>(
 }
 
 // Stores the state of a handler.
-fn store<B: Behaviour, K: Keeper>(handler: &Handler<B>, keeper: &mut K) -> Result<(), RunError>
+fn store<B: Behaviour, K: Keeper<Global>>(
+    handler: &Handler<B>,
+    keeper: &mut K,
+) -> Result<(), RunError>
     ensures stored { K.is_honest keeper.new → OnOk result (Keeps (K.handlers keeper.old) (K.handlers keeper.new) handler.now.state) }
     ensures refused { K.is_honest keeper.new → OnErr result (Stays (K.handlers keeper.old) (K.handlers keeper.new)) }
     ensures named { IfErr result IsStoreError }
@@ -83,7 +86,7 @@ fn names<B: Behaviour>(message: &Message, handler: &Handler<B>) -> bool
 }
 
 /// Lets a handler hear a message, and stores its state where the message is to it.
-pub(crate) fn hear_stored<B: Behaviour, K: Keeper>(
+pub(crate) fn hear_stored<B: Behaviour, K: Keeper<Global>>(
     handler: &mut Handler<B>,
     keeper: &mut K,
     message: &Message,
@@ -118,7 +121,7 @@ pub(crate) fn hear_stored<B: Behaviour, K: Keeper>(
 /// Runs what a handler's private queues hold until nothing can run, and stores the state after each entry.
 ///
 /// `Store` with `Refused` and `OutOfMemory` come where a state isn't stored; nothing runs afterwards.
-pub fn run_out<B: Behaviour, K: Keeper>(
+pub fn run_out<B: Behaviour, K: Keeper<Global>>(
     handler: &mut Handler<B>,
     keeper: &mut K,
 ) -> Result<(), RunError>

@@ -21,6 +21,7 @@ use scoop_message::Words;
 use scoop_message::limits::{BUFFER_LEN, MAX_FRAME};
 use scoop_object::Behaviour;
 use scoop_record::Keeper;
+use std::alloc::Global;
 use std::io;
 use std::io::{Read, Write};
 
@@ -36,7 +37,7 @@ use std::io::{Read, Write};
 /// The error names the first line that has a fault, or says that the output failed, that the keeper refused or
 /// that memory was wanted. Unless the output failed, the answers to earlier lines stand; no words are shown. The
 /// writer is flushed before each read of the input, which may wait for the user, and at the end.
-pub fn answer_run<B: Behaviour, K: Keeper, R: Read + Drop, W: Write>(
+pub fn answer_run<B: Behaviour, K: Keeper<Global>, R: Read + Drop, W: Write>(
     handler: &mut Handler<B>,
     keeper: &mut K,
     shows_words: bool,
@@ -59,7 +60,7 @@ pub fn answer_run<B: Behaviour, K: Keeper, R: Read + Drop, W: Write>(
 }
 
 // Answers the lines of an input, and shows the words.
-fn answer_all<B: Behaviour, K: Keeper, R: Read + Drop, W: Write>(
+fn answer_all<B: Behaviour, K: Keeper<Global>, R: Read + Drop, W: Write>(
     handler: &mut Handler<B>,
     keeper: &mut K,
     shows_words: bool,
@@ -87,7 +88,7 @@ fn answer_all<B: Behaviour, K: Keeper, R: Read + Drop, W: Write>(
 }
 
 // Answers the lines of an input until one has a fault.
-fn answer_lines<B: Behaviour, K: Keeper, R: Read + Drop, W: Write>(
+fn answer_lines<B: Behaviour, K: Keeper<Global>, R: Read + Drop, W: Write>(
     handler: &mut Handler<B>,
     keeper: &mut K,
     reader: R,
@@ -116,7 +117,7 @@ fn answer_lines<B: Behaviour, K: Keeper, R: Read + Drop, W: Write>(
 }
 
 // Answers the datagram of the line of this number, which is within the limits, and runs the handler.
-fn answer_line<B: Behaviour, K: Keeper, W: Write>(
+fn answer_line<B: Behaviour, K: Keeper<Global>, W: Write>(
     handler: &mut Handler<B>,
     keeper: &mut K,
     number: u32,

@@ -38,7 +38,7 @@ struct Case<'a> {
 }
 
 // How a run of handler 1 with an object of that class ends, over what a keeper has, and what it writes.
-fn run_of<B: Behaviour, K: Keeper>(
+fn run_of<B: Behaviour, K: Keeper<Global>>(
     rt: &impl Abort,
     alloc: Global,
     keeper: &mut K,

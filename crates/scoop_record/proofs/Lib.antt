@@ -9,6 +9,7 @@ pub mod WithEntries
 pub mod Stored
 pub mod KeeperLemmas
 pub mod MapLemmas
+pub mod MemoryLemmas
 pub mod MigrateLemmas
 pub mod NumberLemmas
 pub mod RowLemmas

@@ -6,16 +6,17 @@ ghost use Rattle.scoop_record.specs.Failing.{failing};
 use crate::keeper::{Keeper, KeeperError};
 use scoop_handler::HandlerState;
 use scoop_message::{ClientId, HandlerId};
+use std::alloc::Allocator;
 use std::marker::Model;
 
 /// A keeper that passes on a number of calls, and refuses every later one.
 #[derive(Drop)]
-pub struct FailingKeeper<K: Keeper> {
+pub struct FailingKeeper<K> {
     keeper: K,
     left: u64,
 }
 
-impl<K: Keeper> Model for FailingKeeper<K> {
+impl<K> Model for FailingKeeper<K> {
     ghost use Rattle.scoop_record.specs.Failing.{FailingRecord, failing};
 
     ghost Value = { FailingRecord K };
@@ -23,7 +24,7 @@ impl<K: Keeper> Model for FailingKeeper<K> {
     ghost view = { λ f. failing f.keeper f.left };
 }
 
-impl<K: Keeper> FailingKeeper<K> {
+impl<K: Drop> FailingKeeper<K> {
     /// A keeper that passes on `calls` calls, and answers `Refused` to every later one.
     pub fn new(keeper: K, calls: u64) -> FailingKeeper<K>
         ensures { result ≡ failing keeper calls }
@@ -55,7 +56,7 @@ impl<K: Keeper> FailingKeeper<K> {
     }
 }
 
-impl<K: Keeper> Keeper for FailingKeeper<K> {
+impl<A: Allocator, K: Keeper<A>> Keeper<A> for FailingKeeper<K> {
     ghost use Rattle.scoop_record.specs.Keeper.{Damaged, stored_of, IsTheOne, Stays, Keeps, IsSame, Sets, next_of, last_incarnation, IsPutError};
 
     ghost handlers = { λ f. K.handlers f.keeper };
@@ -64,7 +65,7 @@ impl<K: Keeper> Keeper for FailingKeeper<K> {
 
     ghost is_honest = { λ f. K.is_honest f.keeper };
 
-    fn put_handler(&mut self, state: &HandlerState) -> Result<(), KeeperError>
+    fn put_handler(&mut self, state: &HandlerState<A>) -> Result<(), KeeperError>
         ensures passes { self.old.left ≢ 0 → (self.old.left ≡ self.new.left + 1) × K.put_gives self.old.keeper state.now result self.new.keeper }
         ensures refuses { self.old.left ≡ 0 → (result ≡ Err KeeperError.Refused) × (self.new ≡ self.old) }
         ensures stored { K.is_honest self.new.keeper → OnOk result (Keeps (K.handlers self.old.keeper) (K.handlers self.new.keeper) state.now) }
@@ -79,7 +80,7 @@ impl<K: Keeper> Keeper for FailingKeeper<K> {
         self.keeper.put_handler(state)
     }
 
-    fn load_handler(&mut self, handler: HandlerId) -> Result<Option<HandlerState>, KeeperError>
+    fn load_handler(&mut self, handler: HandlerId) -> Result<Option<HandlerState<A>>, KeeperError>
         ensures passes { self.old.left ≢ 0 → (self.old.left ≡ self.new.left + 1) × K.load_gives self.old.keeper handler result self.new.keeper }
         ensures refuses { self.old.left ≡ 0 → (result ≡ Err KeeperError.Refused) × (self.new ≡ self.old) }
         ensures loaded { K.is_honest self.new.keeper → IfOk result (λ found. IsTheOne (K.handlers self.old.keeper handler.0) (stored_of found)) }

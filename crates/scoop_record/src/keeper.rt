@@ -4,6 +4,7 @@ ghost use Rattle.std.specs.Prelude.{◌≡◌, ◌⊎◌, ⊤, ℕ, Option, Resu
 
 use scoop_handler::HandlerState;
 use scoop_message::{ClientId, HandlerId, OutOfMemory};
+use std::alloc::Allocator;
 use std::fmt;
 use thiserror::Error;
 
@@ -50,9 +51,9 @@ impl From<OutOfMemory> for KeeperError {
     }
 }
 
-/// Keeps the states of handlers and the incarnations of clients. Contracts see it as what it has for
-/// each handler and for each client.
-pub trait Keeper: Drop {
+/// Keeps the states of handlers, which are kept with this allocator, and the incarnations of clients.
+/// Contracts see it as what it has for each handler and for each client.
+pub trait Keeper<A: Allocator>: Drop {
     ghost use Rattle.scoop_handler.specs.State.{HandlerState};
     ghost use Rattle.scoop_message.specs.declared.name.HandlerId.{HandlerId};
     ghost use Rattle.scoop_message.specs.declared.name.ClientId.{ClientId};
@@ -79,7 +80,7 @@ pub trait Keeper: Drop {
     /// Stores the state for its handler.
     ///
     /// Refused with nothing changed: `OutOfMemory`, `Refused`.
-    fn put_handler(&mut self, state: &HandlerState) -> Result<(), KeeperError>
+    fn put_handler(&mut self, state: &HandlerState<A>) -> Result<(), KeeperError>
         ensures stored { is_honest self.new → OnOk result (Keeps (handlers self.old) (handlers self.new) state.now) }
         ensures incarnations { is_honest self.new → IsSame (incarnations self.old) (incarnations self.new) }
         ensures refused { is_honest self.new → OnErr result (Stays (handlers self.old) (handlers self.new)) }
@@ -90,7 +91,7 @@ pub trait Keeper: Drop {
     /// The state that is stored for the handler, `None` where there is none.
     ///
     /// Refused: `OutOfMemory`, `Refused`, `BadImage` where what is stored is no state of the handler.
-    fn load_handler(&mut self, handler: HandlerId) -> Result<Option<HandlerState>, KeeperError>
+    fn load_handler(&mut self, handler: HandlerId) -> Result<Option<HandlerState<A>>, KeeperError>
         ensures loaded { is_honest self.new → IfOk result (λ found. IsTheOne (handlers self.old handler.0) (stored_of found)) }
         ensures own { IfOk result (λ found. IfSome found (λ s. s.number ≡ handler)) }
         ensures bad { is_honest self.new → result ≡ Err (KeeperError.BadImage handler) → IsTheOne (handlers self.old handler.0) Damaged }

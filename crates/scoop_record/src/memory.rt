@@ -5,18 +5,18 @@ ghost use Rattle.std.specs.Prelude.{◌≡◌, ◌↔◌, ◌⊎◌, ℕ, Some, 
 use crate::keeper::{Keeper, KeeperError};
 use scoop_handler::HandlerState;
 use scoop_message::{ClientId, HandlerId, OutOfMemory};
-use std::alloc::Global;
+use std::alloc::{Allocator, Global};
 use std::collections::BTreeMap;
 use std::marker::Model;
 
 /// Keeps copies of the states in memory, and is always honest.
 #[derive(Drop)]
-pub struct MemoryKeeper {
-    states: BTreeMap<u32, HandlerState>,
-    incarnations: BTreeMap<u32, u32>,
+pub struct MemoryKeeper<A: Allocator = Global> {
+    states: BTreeMap<u32, HandlerState<A>, A>,
+    incarnations: BTreeMap<u32, u32, A>,
 }
 
-impl Model for MemoryKeeper {
+impl<A: Allocator> Model for MemoryKeeper<A> {
     ghost use Rattle.std.specs.Prelude.{◌≡◌, ℕ, IfSome};
     ghost use Rattle.scoop_record.specs.Memory.{MemoryRecord, memory_record, state_at};
 
@@ -27,12 +27,12 @@ impl Model for MemoryKeeper {
     ghost invariant = { λ k. (handler : ℕ) → IfSome (state_at (memory_record k.states.entries k.incarnations.entries) handler) (λ s. s.number.0 ≡ handler) };
 }
 
-impl MemoryKeeper {
+impl<A: Allocator + Copy> MemoryKeeper<A> {
     ghost use Rattle.scoop_record.specs.Memory.{memory_record, incarnation_at};
     ghost use Rattle.scoop_record.specs.Keeper.{Sets};
 
     /// A keeper with nothing stored.
-    pub fn new(alloc: Global) -> MemoryKeeper
+    pub fn new(alloc: A) -> MemoryKeeper<A>
         ensures { result ≡ memory_record [] [] }
     {
         MemoryKeeper {
@@ -46,7 +46,7 @@ impl MemoryKeeper {
         mut self,
         client: ClientId,
         inc: u32,
-    ) -> Result<MemoryKeeper, OutOfMemory>
+    ) -> Result<MemoryKeeper<A>, OutOfMemory>
         ensures stored { IfOk result (λ keeper. Sets (incarnation_at self) (incarnation_at keeper) client.0 inc) }
         ensures states { IfOk result (λ keeper. keeper.states ≡ self.states) }
     {
@@ -55,7 +55,7 @@ impl MemoryKeeper {
     }
 }
 
-impl Keeper for MemoryKeeper {
+impl<A: Allocator + Copy> Keeper<A> for MemoryKeeper<A> {
     ghost use Rattle.scoop_record.specs.declared.keeper.KeeperError.{KeeperError};
     ghost use Rattle.scoop_record.specs.Memory.{Has, state_at, incarnation_at};
     ghost use Rattle.scoop_record.specs.Keeper.{Keeps, Sets, next_of, last_incarnation};
@@ -75,7 +75,7 @@ impl Keeper for MemoryKeeper {
     ghost next_gives = { λ k client result _. IfErr result (λ e. (e ≡ KeeperError.OutOfMemory) ⊎ (e ≡ KeeperError.IncarnationsSpent))
         × ((result ≡ Err KeeperError.IncarnationsSpent) ↔ (incarnation_at k client.0 ≡ Some last_incarnation)) };
 
-    fn put_handler(&mut self, state: &HandlerState) -> Result<(), KeeperError>
+    fn put_handler(&mut self, state: &HandlerState<A>) -> Result<(), KeeperError>
         ensures stored { OnOk result (Keeps (Has self.old) (Has self.new) state.now) }
         ensures incarnations { self.new.incarnations ≡ self.old.incarnations }
         ensures refused { OnErr result (self.new ≡ self.old) }
@@ -88,7 +88,7 @@ impl Keeper for MemoryKeeper {
         }
     }
 
-    fn load_handler(&mut self, handler: HandlerId) -> Result<Option<HandlerState>, KeeperError>
+    fn load_handler(&mut self, handler: HandlerId) -> Result<Option<HandlerState<A>>, KeeperError>
         ensures loaded { IfOk result (λ found. found ≡ state_at self.old handler.0) }
         ensures own { IfOk result (λ found. IfSome found (λ s. s.number ≡ handler)) }
         ensures named { IfErr result (λ e. e ≡ KeeperError.OutOfMemory) }

@@ -91,7 +91,7 @@ impl<S: Alter + Drop> Store<S> {
     }
 }
 
-impl<S: Alter + Drop> Keeper for Store<S> {
+impl<S: Alter + Drop> Keeper<Global> for Store<S> {
     ghost use Rattle.sqlite.specs.Held.{state as seen};
     ghost use Rattle.sqlite.specs.Effect.{Database};
     ghost use Rattle.sqlite.specs.State.{Survives};

@@ -3,5 +3,6 @@
 mod images;
 mod keepers;
 mod numbers;
+mod refusals;
 mod stopped;
 mod tables;

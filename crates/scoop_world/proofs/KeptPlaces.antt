@@ -179,3 +179,9 @@ pub all_by_place : {A : Type 0} (P : A → Type 0) (xs : List A) → AllByRecurs
 all_by_place P [] all k d within = absurd (omega arith)
 all_by_place P (x ∷ xs) all zero d within = all.0
 all_by_place P (x ∷ xs) all (suc k) d within = all_by_place P xs all.1 k d (omega arith)
+
+-- what stands at a place
+pub read_at : {A : Type 0} (xs : List A) (i : ℕ) → i < length xs → (x : A) × (x ≡ get_or xs i x)
+read_at [] i within = absurd (omega arith)
+read_at (x ∷ xs) zero within = (x, refl)
+read_at (x ∷ xs) (suc i) within = read_at xs i (omega arith)

@@ -3,7 +3,6 @@ use Rattle.std.proofs.Common.{◌≡◌, ℕ, zero, suc, ◌+◌, ◌<◌, ◌�
 use Rattle.std.specs.List.{AllByRecursion, IsDistinct, list_any, position_or_len}
 use Rattle.std.specs.Map.{keys_of, values_of}
 use Rattle.std.specs.Prelude.{Vec, if◌then◌else◌}
-use Rattle.std.specs.declared.alloc.Global.{Global}
 use Rattle.std.proofs.lemmas.Bool.{ltb-true, ltb-false}
 use Rattle.std.proofs.lemmas.Bool.Decides.{same_from_decides}
 use Rattle.std.proofs.lemmas.List.{length-map}
@@ -18,8 +17,8 @@ use Rattle.scoop_world.specs.World.{HandlerLog, BlockLog, has_block, is_log_of, 
 use Rattle.scoop_world.specs.Step.{changed_log, joined}
 use Rattle.scoop_world.specs.Kept.{has_log, line_kept, block_log, log_kept, logs_kept, IsPlaceOf}
 
-abbrev Entries : Type 0
-Entries = List (Block × Vec Line Global)
+abbrev Entries : Type 0 → Type 0
+Entries A = List (Block × Vec (Line A) A)
 
 abbrev same_key : Block → Block → Bool
 same_key = on_block.eq-value.it
@@ -39,7 +38,7 @@ inserted b bs = ap (λ t. if t then bs else bs ++ b ∷ []) (any_flipped b bs)
 -- ---- where a block's log stands
 
 -- the first key that passes is that of the block's log
-place-first : (b : Block) (e : Block × Vec Line Global) (es : Entries) (n : ℕ) → position_or_len (same_key b) (keys_of (e ∷ es)) ≡ n
+place-first : {A : Type 0} → (b : Block) (e : Block × Vec (Line A) A) (es : Entries A) (n : ℕ) → position_or_len (same_key b) (keys_of (e ∷ es)) ≡ n
     → ((m : ℕ) → position_or_len (same_key b) (keys_of es) ≡ m → suc m ≡ n → IsPlaceOf b (logs_kept es) m) → IsPlaceOf b (logs_kept (e ∷ es)) n
 place-first b e es n is rest = by (same_key b e.0) refl
   where
@@ -51,11 +50,11 @@ place-first b e es n is rest = by (same_key b e.0) refl
         let next : suc m ≡ n = omega (arith, later) in
         subst (IsPlaceOf b (logs_kept (e ∷ es))) next (flipped e.0 b ∙ other, rest m refl next)
 
-place-position : (b : Block) (es : Entries) (n : ℕ) → position_or_len (same_key b) (keys_of es) ≡ n → n < length es → IsPlaceOf b (logs_kept es) n
+place-position : {A : Type 0} → (b : Block) (es : Entries A) (n : ℕ) → position_or_len (same_key b) (keys_of es) ≡ n → n < length es → IsPlaceOf b (logs_kept es) n
 place-position b [] n is within = absurd (omega arith)
 place-position b (e ∷ es) n is within = place-first b e es n is (λ m at next. place-position b es m at (omega (arith, next, within)))
 
-none-first : (b : Block) (e : Block × Vec Line Global) (es : Entries) → length (e ∷ es) ≤ position_or_len (same_key b) (keys_of (e ∷ es))
+none-first : {A : Type 0} → (b : Block) (e : Block × Vec (Line A) A) (es : Entries A) → length (e ∷ es) ≤ position_or_len (same_key b) (keys_of (e ∷ es))
     → (length es ≤ position_or_len (same_key b) (keys_of es) → has_log b (logs_kept es) ≡ false) → has_log b (logs_kept (e ∷ es)) ≡ false
 none-first b e es past rest = by (same_key b e.0) refl
   where
@@ -66,24 +65,24 @@ none-first b e es past rest = by (same_key b e.0) refl
         let is : is_log_of b (log_kept e) ≡ false = flipped e.0 b ∙ other in
         rw is (rest (omega (arith, later)))
 
-none-position : (b : Block) (es : Entries) → length es ≤ position_or_len (same_key b) (keys_of es) → has_log b (logs_kept es) ≡ false
+none-position : {A : Type 0} → (b : Block) (es : Entries A) → length es ≤ position_or_len (same_key b) (keys_of es) → has_log b (logs_kept es) ≡ false
 none-position b [] past = refl
 none-position b (e ∷ es) past = none-first b e es past (none-position b es)
 
-pub place-found : (b : Block) (es : Entries) (r : Option ℕ) → r ≡ position (same_key b) (keys_of es) → MatchOption r (has_log b (logs_kept es) ≡ false) (IsPlaceOf b (logs_kept es))
-place-found b es r is = by (nat_lt (position_or_len (same_key b) (keys_of es)) (length (keys_of es))) refl
+pub place-found : {A : Type 0} → (b : Block) (es : Entries A) (r : Option ℕ) → r ≡ position (same_key b) (keys_of es) → MatchOption r (has_log b (logs_kept es) ≡ false) (IsPlaceOf b (logs_kept es))
+place-found {A} b es r is = by (nat_lt (position_or_len (same_key b) (keys_of es)) (length (keys_of es))) refl
   where
     by : (t : Bool) → nat_lt (position_or_len (same_key b) (keys_of es)) (length (keys_of es)) ≡ t → MatchOption r (has_log b (logs_kept es) ≡ false) (IsPlaceOf b (logs_kept es))
     by true inside =
         let n = position_or_len (same_key b) (keys_of es) in
         let at : r ≡ Some n = is ∙ ap (λ t. cond t (Some n) None) inside in
-        let within : n < length es = omega (arith, ltb-true _ _ inside, length-map es (λ (e : Block × Vec Line Global). e.0)) in
+        let within : n < length es = omega (arith, ltb-true _ _ inside, length-map es (λ (e : Block × Vec (Line A) A). e.0)) in
         let Q : Option ℕ → Type 0 = λ o. MatchOption o (has_log b (logs_kept es) ≡ false) (IsPlaceOf b (logs_kept es)) in
         subst Q (sym at) (place-position b es n refl within)
     by false outside =
         let n = position_or_len (same_key b) (keys_of es) in
         let none : r ≡ None = is ∙ ap (λ t. cond t (Some n) None) outside in
-        let past : length es ≤ n = omega (arith, ltb-false _ _ outside, length-map es (λ (e : Block × Vec Line Global). e.0)) in
+        let past : length es ≤ n = omega (arith, ltb-false _ _ outside, length-map es (λ (e : Block × Vec (Line A) A). e.0)) in
         let Q : Option ℕ → Type 0 = λ o. MatchOption o (has_log b (logs_kept es) ≡ false) (IsPlaceOf b (logs_kept es)) in
         subst Q (sym none) (none-position b es past)
 
@@ -107,7 +106,7 @@ none_changed b f (l ∷ ls) none =
     rw (p.0) (ap (λ xs. l ∷ xs) (none_changed b f ls p.1))
 
 -- a block without a log gets the last one
-pub kept-insert : (b : Block) (v : Vec Line Global) (es : Entries) → has_log b (logs_kept es) ≡ false
+pub kept-insert : {A : Type 0} → (b : Block) (v : Vec (Line A) A) (es : Entries A) → has_log b (logs_kept es) ≡ false
     → logs_kept (insert_entry same_key es b v) ≡ logs_kept es ++ block_log b v.items ∷ []
 kept-insert b v [] none = refl
 kept-insert b v (e ∷ es) none =
@@ -117,7 +116,7 @@ kept-insert b v (e ∷ es) none =
 
 -- ---- the log of a block
 
-pub lines-place : (b : Block) (p : Vec Line Global) (es : Entries) (i : ℕ) → IsPlaceOf b (logs_kept es) i → slice_get (values_of es) i ≡ Some p → lines_of b (logs_kept es) ≡ map line_kept p.items
+pub lines-place : {A : Type 0} → (b : Block) (p : Vec (Line A) A) (es : Entries A) (i : ℕ) → IsPlaceOf b (logs_kept es) i → slice_get (values_of es) i ≡ Some p → lines_of b (logs_kept es) ≡ map line_kept p.items
 lines-place b p [] i place is = absurd place
 lines-place b p (e ∷ es) zero place is =
     let here : e.1 ≡ p = cc in
@@ -125,7 +124,7 @@ lines-place b p (e ∷ es) zero place is =
 lines-place b p (e ∷ es) (suc i) place is = rw (place.0) (lines-place b p es i place.1 is)
 
 -- no other entry is of this block
-others-stay : (b : Block) (f : HandlerLog → HandlerLog) (k : Block) (es : Entries) → k ≡ b → AllByRecursion (λ y. same_key k y ≡ false) (keys_of es) → map (changed_log b f) (logs_kept es) ≡ logs_kept es
+others-stay : {A : Type 0} → (b : Block) (f : HandlerLog → HandlerLog) (k : Block) (es : Entries A) → k ≡ b → AllByRecursion (λ y. same_key k y ≡ false) (keys_of es) → map (changed_log b f) (logs_kept es) ≡ logs_kept es
 others-stay b f k [] is apart = refl
 others-stay b f k (e ∷ es) is apart =
     let other : same_block e.0 b ≡ false = flipped e.0 b ∙ (ap (λ c. same_key c e.0) (sym is) ∙ apart.0) in
@@ -140,7 +139,7 @@ unfolding IsDistinct
 rest_apart k ks d = d.1
 
 -- a write of a value at the block's place
-pub kept-set : (b : Block) (f : HandlerLog → HandlerLog) (p v : Vec Line Global) (es : Entries) (i : ℕ) → IsDistinct same_key (keys_of es)
+pub kept-set : {A : Type 0} → (b : Block) (f : HandlerLog → HandlerLog) (p v : Vec (Line A) A) (es : Entries A) (i : ℕ) → IsDistinct same_key (keys_of es)
     → IsPlaceOf b (logs_kept es) i → slice_get (values_of es) i ≡ Some p → map line_kept v.items ≡ map f (map line_kept p.items)
     → logs_kept (set_value_at es i v) ≡ map (changed_log b f) (logs_kept es)
 kept-set b f p v [] i apart place is becomes = absurd place
@@ -153,7 +152,7 @@ kept-set b f p v (e ∷ es) (suc i) apart place is becomes =
     rw (place.0) (ap (λ ls. log_kept e ∷ ls) (kept-set b f p v es i (rest_apart e.0 (keys_of es) apart) place.1 is becomes))
 
 -- a write of lines that are seen as they were
-pub kept-same : (p v : Vec Line Global) (es : Entries) (i : ℕ) → slice_get (values_of es) i ≡ Some p → map line_kept v.items ≡ map line_kept p.items → logs_kept (set_value_at es i v) ≡ logs_kept es
+pub kept-same : {A : Type 0} → (p v : Vec (Line A) A) (es : Entries A) (i : ℕ) → slice_get (values_of es) i ≡ Some p → map line_kept v.items ≡ map line_kept p.items → logs_kept (set_value_at es i v) ≡ logs_kept es
 kept-same p v [] i is same = refl
 kept-same p v (e ∷ es) zero is same =
     let here : e.1 ≡ p = cc in

@@ -2,7 +2,6 @@
 use Rattle.std.specs.Prelude.{◌≡◌, ℕ, zero, suc, ◌<◌, ◌==◌, Bool, true, false, if◌then◌else◌, List, [], ◌∷◌, map, find, length, slice_get, Option, Some, None, Vec, vec_len, vec_capacity}
 use Rattle.std.specs.List.{AllByRecursion, list_any}
 use Rattle.std.specs.Option.{option_map}
-use Rattle.std.specs.declared.alloc.Global.{Global}
 use Rattle.scoop_message.specs.declared.name.Block.{Block}
 use Rattle.scoop_message.specs.declared.name.HandlerId.{HandlerId}
 use Rattle.scoop_message.specs.declared.request.Entry.{Entry}
@@ -63,16 +62,16 @@ party_kept newest client accepted = record { client = client; stored = newest.in
 
 -- ---- what was logged
 
-abbrev pub line_kept : Line → HandlerLog
+abbrev pub line_kept : {A : Type 0} → Line A → HandlerLog
 line_kept l = record { handler = l.handler; entries = l.entries.items }
 
-abbrev pub block_log : Block → List Line → BlockLog
+abbrev pub block_log : {A : Type 0} → Block → List (Line A) → BlockLog
 block_log b ls = record { block = b; lines = map line_kept ls }
 
-abbrev pub log_kept : Block × Vec Line Global → BlockLog
+abbrev pub log_kept : {A : Type 0} → Block × Vec (Line A) A → BlockLog
 log_kept e = block_log e.0 e.1.items
 
-abbrev pub logs_kept : List (Block × Vec Line Global) → List BlockLog
+abbrev pub logs_kept : {A : Type 0} → List (Block × Vec (Line A) A) → List BlockLog
 logs_kept es = map log_kept es
 
 -- a block has its log
@@ -90,7 +89,7 @@ abbrev pub entries_in : HandlerId → List HandlerLog → Option (List Entry)
 entries_in h ls = option_map (λ l. l.entries) (find (is_line_of h) ls)
 
 -- the line has room for an entry
-pub record HasRoom (l : Line) : Type 0 where
+pub record HasRoom {A : Type 0} (l : Line A) : Type 0 where
   pub room : vec_len l.entries < vec_capacity l.entries
 
 -- an entry is meant for one handler, or for all

@@ -12,21 +12,21 @@ ghost use Rattle.scoop_world.specs.Kept.{HasRoom, IsPlaceOf, entries_in, has_log
 
 use indexmap::IndexMap;
 use scoop_message::{Block, Entry, HandlerId, OutOfMemory};
-use std::alloc::Global;
+use std::alloc::Allocator;
 use std::hash::{BuildHasherDefault, FoldHasher};
 
 /// What a block's client has logged for one handler.
 #[derive(Drop)]
-pub(crate) struct Line {
+pub(crate) struct Line<A: Allocator> {
     handler: HandlerId,
-    entries: Vec<Entry>,
+    entries: Vec<Entry, A>,
 }
 
 /// The lines of each block, in the order in which the blocks were reserved.
-pub(crate) type Logs = IndexMap<Block, Vec<Line>, BuildHasherDefault<FoldHasher>, Global>;
+pub(crate) type Logs<A> = IndexMap<Block, Vec<Line<A>, A>, BuildHasherDefault<FoldHasher>, A>;
 
 // A line with nothing logged.
-fn fresh_line(alloc: Global, handler: HandlerId) -> Line
+fn fresh_line<A: Allocator + Copy>(alloc: A, handler: HandlerId) -> Line<A>
     ensures { line_kept result ≡ fresh_log handler }
 {
     Line {
@@ -36,7 +36,10 @@ fn fresh_line(alloc: Global, handler: HandlerId) -> Line
 }
 
 /// Lines with nothing logged for these handlers.
-pub(crate) fn fresh_lines(alloc: Global, handlers: &[HandlerId]) -> Result<Vec<Line>, OutOfMemory>
+pub(crate) fn fresh_lines<A: Allocator + Copy>(
+    alloc: A,
+    handlers: &[HandlerId],
+) -> Result<Vec<Line<A>, A>, OutOfMemory>
     ensures { IfOk result (λ ls. map line_kept ls.items ≡ map fresh_log handlers.now) }
 {
     let mut lines = Vec::new(alloc);
@@ -47,7 +50,7 @@ pub(crate) fn fresh_lines(alloc: Global, handlers: &[HandlerId]) -> Result<Vec<L
 }
 
 /// The place of a block that was ever reserved.
-pub(crate) fn place_of(logs: &Logs, block: Block) -> Option<usize>
+pub(crate) fn place_of<A: Allocator + Copy>(logs: &Logs<A>, block: Block) -> Option<usize>
     ensures place { MatchOption result (has_log block (logs_kept logs.now.entries) ≡ false) (IsPlaceOf block (logs_kept logs.now.entries)) }
     ensures within { IfSome result (λ i. i < index_map_len logs.now) }
     ensures unique { IsUnique on_block.eq-value.it logs.now }
@@ -56,7 +59,7 @@ pub(crate) fn place_of(logs: &Logs, block: Block) -> Option<usize>
 }
 
 /// Adds a block that was never reserved, as the last one. There is room for it.
-pub(crate) fn add(logs: &mut Logs, block: Block, lines: Vec<Line>)
+pub(crate) fn add<A: Allocator + Copy>(logs: &mut Logs<A>, block: Block, lines: Vec<Line<A>, A>)
     requires new { has_log block (logs_kept logs.old.entries) ≡ false }
     requires room { 0 < spare logs.old }
     ensures { logs_kept logs.new.entries ≡ logs_kept logs.old.entries ++ block_log block lines.items ∷ [] }
@@ -67,7 +70,7 @@ pub(crate) fn add(logs: &mut Logs, block: Block, lines: Vec<Line>)
 }
 
 // Makes room for one entry more on a line.
-fn make_room_at(line: &mut Line) -> Result<(), OutOfMemory>
+fn make_room_at<A: Allocator + Copy>(line: &mut Line<A>) -> Result<(), OutOfMemory>
     ensures ok { OnOk result (HasRoom line.new) }
     ensures same { line_kept line.new ≡ line_kept line.old }
 {
@@ -76,7 +79,7 @@ fn make_room_at(line: &mut Line) -> Result<(), OutOfMemory>
 }
 
 /// Makes room for one entry more on each line.
-pub(crate) fn make_room(lines: &mut [Line]) -> Result<(), OutOfMemory>
+pub(crate) fn make_room<A: Allocator + Copy>(lines: &mut [Line<A>]) -> Result<(), OutOfMemory>
     ensures ok { OnOk result (All HasRoom lines.new) }
     ensures same { map line_kept lines.new ≡ map line_kept lines.old }
 {
@@ -87,7 +90,7 @@ pub(crate) fn make_room(lines: &mut [Line]) -> Result<(), OutOfMemory>
 }
 
 // Logs an entry, if this is a line for which it is meant. There is room for it.
-fn log_at(line: &mut Line, only: Option<HandlerId>, entry: &Entry)
+fn log_at<A: Allocator + Copy>(line: &mut Line<A>, only: Option<HandlerId>, entry: &Entry)
     requires { HasRoom line.old }
     ensures { line_kept line.new ≡ with_entry_for only entry.now (line_kept line.old) }
 {
@@ -101,7 +104,11 @@ fn log_at(line: &mut Line, only: Option<HandlerId>, entry: &Entry)
 }
 
 /// Logs an entry, for one of the handlers or for all. There is room for it on each line.
-pub(crate) fn log(lines: &mut [Line], only: Option<HandlerId>, entry: &Entry)
+pub(crate) fn log<A: Allocator + Copy>(
+    lines: &mut [Line<A>],
+    only: Option<HandlerId>,
+    entry: &Entry,
+)
     requires { All HasRoom lines.old }
     ensures { map line_kept lines.new ≡ map (with_entry_for only entry.now) (map line_kept lines.old) }
 {
@@ -111,7 +118,7 @@ pub(crate) fn log(lines: &mut [Line], only: Option<HandlerId>, entry: &Entry)
 }
 
 // What was logged for a handler.
-fn logged_in(lines: &[Line], handler: HandlerId) -> Option<&[Entry]>
+fn logged_in<A: Allocator + Copy>(lines: &[Line<A>], handler: HandlerId) -> Option<&[Entry]>
     ensures { option_map (λ es. es.now) result ≡ entries_in handler (map line_kept lines.now) }
 {
     for line in lines {
@@ -123,7 +130,11 @@ fn logged_in(lines: &[Line], handler: HandlerId) -> Option<&[Entry]>
 }
 
 /// What the block's client has logged for a handler that the block has reserved.
-pub(crate) fn logged(logs: &Logs, block: Block, handler: HandlerId) -> Option<&[Entry]>
+pub(crate) fn logged<A: Allocator + Copy>(
+    logs: &Logs<A>,
+    block: Block,
+    handler: HandlerId,
+) -> Option<&[Entry]>
     ensures { option_map (λ es. es.now) result ≡ entries_in handler (lines_of block (logs_kept logs.now.entries)) }
 {
     match place_of(logs, block) {

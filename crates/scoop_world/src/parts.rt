@@ -18,26 +18,26 @@ use indexmap::{IndexMap, IndexSet};
 use scoop_message::{Block, ClientId, Entry, HandlerId, Message};
 use scoop_object::Behaviour;
 use scoop_record::MemoryKeeper;
-use std::alloc::Global;
+use std::alloc::Allocator;
 use std::hash::{BuildHasherDefault, FoldHasher};
 use std::marker::Model;
 
 /// The blocks of the common list, each at its first opening anywhere.
-pub(crate) type Joint = IndexSet<Block, BuildHasherDefault<FoldHasher>, Global>;
+pub(crate) type Joint<A> = IndexSet<Block, BuildHasherDefault<FoldHasher>, A>;
 
 /// All parties, every message ever sent, and what has happened so far. The keeper has the state of each
 /// handler and the incarnation of each client.
 #[derive(Drop)]
-pub(crate) struct Parts<B: Behaviour> {
-    sites: Vec<Site<B>>,
-    parties: Vec<Party>,
-    sent: Vec<Message>,
-    joint: Joint,
-    logs: Logs,
-    keeper: MemoryKeeper,
+pub(crate) struct Parts<B: Behaviour, A: Allocator> {
+    sites: Vec<Site<B, A>, A>,
+    parties: Vec<Party<A>, A>,
+    sent: Vec<Message, A>,
+    joint: Joint<A>,
+    logs: Logs<A>,
+    keeper: MemoryKeeper<A>,
 }
 
-impl<B: Behaviour> Model for Parts<B> {
+impl<B: Behaviour, A: Allocator> Model for Parts<B, A> {
     ghost use Rattle.scoop_world.specs.World.{World as Whole};
     ghost use Rattle.scoop_world.specs.Kept.{HasAll, logs_kept, world_kept};
 
@@ -49,7 +49,10 @@ impl<B: Behaviour> Model for Parts<B> {
 }
 
 /// The place of a handler.
-pub(crate) fn site_at<B: Behaviour>(sites: &[Site<B>], handler: HandlerId) -> Option<usize>
+pub(crate) fn site_at<B: Behaviour, A: Allocator + Copy>(
+    sites: &[Site<B, A>],
+    handler: HandlerId,
+) -> Option<usize>
     ensures { MatchOption result (find (is_site handler) sites.now ≡ None) (IsFirst (is_site handler) sites.now) }
 {
     for (i, site) in sites.iter().enumerate() {
@@ -61,7 +64,7 @@ pub(crate) fn site_at<B: Behaviour>(sites: &[Site<B>], handler: HandlerId) -> Op
 }
 
 /// The place of a client.
-pub(crate) fn party_at(parties: &[Party], client: ClientId) -> Option<usize>
+pub(crate) fn party_at<A: Allocator + Copy>(parties: &[Party<A>], client: ClientId) -> Option<usize>
     ensures { MatchOption result (find (is_party client) parties.now ≡ None) (IsFirst (is_party client) parties.now) }
 {
     for (i, party) in parties.iter().enumerate() {
@@ -72,15 +75,15 @@ pub(crate) fn party_at(parties: &[Party], client: ClientId) -> Option<usize>
     None
 }
 
-impl<B: Behaviour> Parts<B> {
+impl<B: Behaviour, A: Allocator + Copy> Parts<B, A> {
     /// A world in which nothing has happened, with these parties. The keeper has their states and
     /// incarnations.
     pub(crate) fn new(
-        alloc: Global,
-        sites: Vec<Site<B>>,
-        parties: Vec<Party>,
-        keeper: MemoryKeeper,
-    ) -> Parts<B>
+        alloc: A,
+        sites: Vec<Site<B, A>, A>,
+        parties: Vec<Party<A>, A>,
+        keeper: MemoryKeeper<A>,
+    ) -> Parts<B, A>
         requires { HasAll keeper sites.items parties.items }
         ensures { result ≡ world_kept sites.items parties.items [] [] [] }
     {
@@ -102,7 +105,7 @@ impl<B: Behaviour> Parts<B> {
     }
 
     /// The handler of this number.
-    pub(crate) fn site(&self, handler: HandlerId) -> Option<&Site<B>>
+    pub(crate) fn site(&self, handler: HandlerId) -> Option<&Site<B, A>>
         ensures { option_map (λ s. s.now) result ≡ site_of handler self.now }
     {
         match site_at(&self.sites, handler) {
@@ -112,7 +115,7 @@ impl<B: Behaviour> Parts<B> {
     }
 
     /// The client of this number.
-    pub(crate) fn party(&self, client: ClientId) -> Option<&Party>
+    pub(crate) fn party(&self, client: ClientId) -> Option<&Party<A>>
         ensures { option_map (λ p. p.now) result ≡ party_of client self.now }
     {
         match party_at(&self.parties, client) {

@@ -16,20 +16,20 @@ use scoop_client::{Client, ClientError, ClientNote};
 use scoop_message::limits::MAX_ENTRIES;
 use scoop_message::{Answer, Block, ClientId, HandlerId, Message, OutOfMemory};
 use scoop_record::{Keeper, MemoryKeeper};
-use std::alloc::Global;
+use std::alloc::Allocator;
 use std::marker::Model;
 
 /// A client with the answers that it has accepted, over all its incarnations. The keeper has its
 /// incarnation.
 #[derive(Drop)]
-pub(crate) struct Party {
+pub(crate) struct Party<A: Allocator> {
     // The newest block that the client began, of number 0 where this incarnation has begun none.
     newest: Block,
-    client: Client,
-    accepted: Vec<(HandlerId, Block, u32, Answer)>,
+    client: Client<A>,
+    accepted: Vec<(HandlerId, Block, u32, Answer), A>,
 }
 
-impl Model for Party {
+impl<A: Allocator> Model for Party<A> {
     ghost use Rattle.std.specs.Prelude.{◌≡◌};
     ghost use Rattle.scoop_world.specs.World.{Party as Member};
     ghost use Rattle.scoop_world.specs.Step.{newest_block};
@@ -63,7 +63,11 @@ fn refused_or_full(test: Result<(), ClientError>) -> WorldError
 }
 
 // Puts down an answer that is accepted by this note. There is room for it.
-fn accept(accepted: &mut Vec<(HandlerId, Block, u32, Answer)>, block: Block, note: ClientNote)
+fn accept<A: Allocator + Copy>(
+    accepted: &mut Vec<(HandlerId, Block, u32, Answer), A>,
+    block: Block,
+    note: ClientNote,
+)
     requires { vec_len accepted.old < vec_capacity accepted.old }
     ensures { accepted.new.items ≡ accepted.old.items ++ newly_accepted block note }
 {
@@ -72,7 +76,7 @@ fn accept(accepted: &mut Vec<(HandlerId, Block, u32, Answer)>, block: Block, not
     }
 }
 
-impl Party {
+impl<A: Allocator + Copy> Party<A> {
     ghost use Rattle.scoop_client.specs.State.{block_named};
     ghost use Rattle.scoop_client.specs.Beginning.{greeting};
     ghost use Rattle.scoop_world.specs.World.{id_of};
@@ -82,12 +86,12 @@ impl Party {
 
     /// A client that begins in this incarnation, which is stored.
     pub(crate) fn new(
-        alloc: Global,
+        alloc: A,
         id: ClientId,
         inc: u32,
         handlers: &[HandlerId],
         batch: u8,
-    ) -> Result<Party, OutOfMemory>
+    ) -> Result<Party<A>, OutOfMemory>
         requires inc { 1 ≤ inc }
         requires some { 1 ≤ batch }
         requires limit { batch ≤ MAX_ENTRIES }
@@ -202,7 +206,7 @@ impl Party {
 
     /// Restarts with its next incarnation, which is stored, and greets again. A refusal changes
     /// nothing: `IncarnationsSpent`, `OutOfMemory`.
-    pub(crate) fn restart(&mut self, keeper: &mut MemoryKeeper) -> Result<u32, WorldError>
+    pub(crate) fn restart(&mut self, keeper: &mut MemoryKeeper<A>) -> Result<u32, WorldError>
         requires { incarnation_at keeper.old (id_of self.old).0 ≡ Some self.old.stored }
         ensures next { IfOk result (λ inc. inc ≡ self.old.stored + 1) }
         ensures unspent { OnOk result (self.old.stored == 2 ^ 32 - 1 ≡ false) }

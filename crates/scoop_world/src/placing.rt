@@ -22,7 +22,7 @@ use scoop_message::{ClientId, HandlerId};
 use scoop_object::{Behaviour, Class};
 use scoop_record::MemoryKeeper;
 use sites::{numbers, place_all, store_all};
-use std::alloc::Global;
+use std::alloc::Allocator;
 
 /// A handler as it is placed: its node, its number, and its object with the object's class.
 #[derive(Drop)]
@@ -33,7 +33,7 @@ pub struct Placement<B: Behaviour> {
     pub object: B,
 }
 
-impl<B: Behaviour> World<B> {
+impl<B: Behaviour, A: Allocator + Copy> World<B, A> {
     /// A world with these handlers and these clients, each of which puts at most so many entries into
     /// one Log: 1 to 4. Every client knows all handlers, and greets in its next incarnation. Each
     /// state and each incarnation is stored in the keeper. Nothing has happened yet: the world is safe, and
@@ -43,11 +43,11 @@ impl<B: Behaviour> World<B> {
     /// `TooManyClients` above 64, `RepeatedClient`, `IncarnationsSpent`, `OutOfMemory`. Where memory is
     /// refused before the incarnations are asked for, `OutOfMemory` comes though one of them is the last.
     pub fn open(
-        alloc: Global,
+        alloc: A,
         placements: Vec<Placement<B>>,
         clients: &[(ClientId, u8)],
-        mut keeper: MemoryKeeper,
-    ) -> Result<World<B>, WorldOpenError>
+        mut keeper: MemoryKeeper<A>,
+    ) -> Result<World<B, A>, WorldOpenError>
         requires { AllByRecursion IsBatched clients.now }
         ensures opens { IfOk result (λ w. w ≡ opening (placements_of B.words placements.items) (newcomers_of (incarnation_at keeper) clients.now)) }
         ensures safe { IfOk result Safe }

@@ -11,22 +11,22 @@ use scoop_handler::{Done, Handler, HandlerState, Heard, Note, Ran};
 use scoop_message::{Block, Entry, HandlerId, Message, OutOfMemory, Request, Words};
 use scoop_object::Behaviour;
 use scoop_record::{Keeper, MemoryKeeper};
-use std::alloc::Global;
+use std::alloc::Allocator;
 use std::marker::Model;
 
 /// A handler with its node and what has happened here. The keeper has its state.
 #[derive(Drop)]
-pub(crate) struct Site<B: Behaviour> {
+pub(crate) struct Site<B: Behaviour, A: Allocator> {
     node: u32,
     placed: Words,
-    handler: Handler<B>,
+    handler: Handler<B, A>,
     // The entry that has left, with what it does: that counts once it is finished.
     job: Option<Done<B>>,
-    opened: Vec<Block>,
-    ran: Vec<Ran>,
+    opened: Vec<Block, A>,
+    ran: Vec<Ran, A>,
 }
 
-impl<B: Behaviour> Model for Site<B> {
+impl<B: Behaviour, A: Allocator> Model for Site<B, A> {
     ghost use Rattle.std.specs.Prelude.{◌≡◌};
     ghost use Rattle.scoop_handler.specs.Running.{job_out};
     ghost use Rattle.scoop_world.specs.World.{Site as Place};
@@ -40,7 +40,10 @@ impl<B: Behaviour> Model for Site<B> {
 }
 
 // Stores a state.
-fn put_state(keeper: &mut MemoryKeeper, state: &HandlerState) -> Result<(), OutOfMemory>
+fn put_state<A: Allocator + Copy>(
+    keeper: &mut MemoryKeeper<A>,
+    state: &HandlerState<A>,
+) -> Result<(), OutOfMemory>
     ensures ok { OnOk result (Stores keeper.old keeper.new state.now) }
     ensures err { OnErr result (keeper.new ≡ keeper.old) }
 {
@@ -51,7 +54,10 @@ fn put_state(keeper: &mut MemoryKeeper, state: &HandlerState) -> Result<(), OutO
 }
 
 // Stores the state of the handler.
-fn store<B: Behaviour>(keeper: &mut MemoryKeeper, handler: &Handler<B>) -> Result<(), OutOfMemory>
+fn store<B: Behaviour, A: Allocator + Copy>(
+    keeper: &mut MemoryKeeper<A>,
+    handler: &Handler<B, A>,
+) -> Result<(), OutOfMemory>
     ensures ok { OnOk result (Stores keeper.old keeper.new handler.now.state) }
     ensures err { OnErr result (keeper.new ≡ keeper.old) }
 {
@@ -60,7 +66,7 @@ fn store<B: Behaviour>(keeper: &mut MemoryKeeper, handler: &Handler<B>) -> Resul
 }
 
 // The handler takes an earlier state again.
-fn take_back<B: Behaviour>(handler: &mut Handler<B>, state: HandlerState)
+fn take_back<B: Behaviour, A: Allocator + Copy>(handler: &mut Handler<B, A>, state: HandlerState<A>)
     requires { MayReset state handler.old }
     ensures { handler.new ≡ with_state state handler.old }
 {
@@ -70,9 +76,9 @@ fn take_back<B: Behaviour>(handler: &mut Handler<B>, state: HandlerState)
 }
 
 // Hears a message, and stores the new state. `OutOfMemory` changes nothing.
-fn hear_and_store<B: Behaviour>(
-    handler: &mut Handler<B>,
-    keeper: &mut MemoryKeeper,
+fn hear_and_store<B: Behaviour, A: Allocator + Copy>(
+    handler: &mut Handler<B, A>,
+    keeper: &mut MemoryKeeper<A>,
     message: &Message,
 ) -> Result<Heard, OutOfMemory>
     ensures heard { IfOk result (λ heard. heard ≡ (hear handler.old.state message.now).1) }
@@ -96,7 +102,7 @@ fn hear_and_store<B: Behaviour>(
 }
 
 // Puts down what has run. There is room for it.
-fn put_down(ran: &mut Vec<Ran>, new: &Ran)
+fn put_down<A: Allocator + Copy>(ran: &mut Vec<Ran, A>, new: &Ran)
     requires { vec_len ran.old < vec_capacity ran.old }
     ensures { ran.new.items ≡ ran.old.items ++ new.now ∷ [] }
 {
@@ -106,9 +112,9 @@ fn put_down(ran: &mut Vec<Ran>, new: &Ran)
 }
 
 // Stores the state after a job that is out.
-fn store_after<B: Behaviour>(
-    keeper: &mut MemoryKeeper,
-    handler: &Handler<B>,
+fn store_after<B: Behaviour, A: Allocator + Copy>(
+    keeper: &mut MemoryKeeper<A>,
+    handler: &Handler<B, A>,
     done: &Done<B>,
 ) -> Result<(), OutOfMemory>
     ensures ok { OnOk result (Stores keeper.old keeper.new (after done.now handler.now.state)) }
@@ -120,13 +126,13 @@ fn store_after<B: Behaviour>(
     }
 }
 
-impl<B: Behaviour> Site<B> {
+impl<B: Behaviour, A: Allocator + Copy> Site<B, A> {
     ghost use Rattle.scoop_world.specs.World.{number_of};
     ghost use Rattle.scoop_world.specs.Step.{begun_site, heard_site};
     ghost use Rattle.scoop_world.specs.Kept.{StoresJob, after_job, began, reopened_site, site_kept};
 
     /// A handler at which nothing has happened, with the words of its object.
-    pub(crate) fn new(alloc: Global, node: u32, handler: Handler<B>) -> Site<B>
+    pub(crate) fn new(alloc: A, node: u32, handler: Handler<B, A>) -> Site<B, A>
         requires { handler.out ≡ false }
         ensures { result ≡ site_kept node handler.state.words handler [] [] }
     {
@@ -142,7 +148,7 @@ impl<B: Behaviour> Site<B> {
     }
 
     /// Stores its state.
-    pub(crate) fn store(&self, keeper: &mut MemoryKeeper) -> Result<(), OutOfMemory>
+    pub(crate) fn store(&self, keeper: &mut MemoryKeeper<A>) -> Result<(), OutOfMemory>
         ensures ok { OnOk result (Stores keeper.old keeper.new self.now.stored) }
         ensures err { OnErr result (keeper.new ≡ keeper.old) }
     {
@@ -181,7 +187,7 @@ impl<B: Behaviour> Site<B> {
     /// Hears a message, and stores the new state. `OutOfMemory` changes nothing.
     pub(crate) fn hear(
         &mut self,
-        keeper: &mut MemoryKeeper,
+        keeper: &mut MemoryKeeper<A>,
         message: &Message,
     ) -> Result<Heard, OutOfMemory>
         ensures heard { IfOk result (λ heard. heard ≡ (hear self.old.core.state message.now).1) }
@@ -212,7 +218,10 @@ impl<B: Behaviour> Site<B> {
 
     /// The entry that left has run: its object comes back, and the new state is stored. `None` where
     /// no job is out. `OutOfMemory` changes nothing.
-    pub(crate) fn finish(&mut self, keeper: &mut MemoryKeeper) -> Result<Option<Ran>, OutOfMemory>
+    pub(crate) fn finish(
+        &mut self,
+        keeper: &mut MemoryKeeper<A>,
+    ) -> Result<Option<Ran>, OutOfMemory>
         ensures ran { IfOk result (λ ran. ran ≡ option_map ran_of (job_out self.old.core)) }
         ensures site { OnOk result (self.new ≡ after_job self.old (job_out self.old.core)) }
         ensures out { OnErr result (IsSome (job_out self.old.core)) }
@@ -239,7 +248,7 @@ impl<B: Behaviour> Site<B> {
     }
 
     /// The node has restarted: the handler takes its stored state, with no job out.
-    pub(crate) fn reopen(&mut self, state: HandlerState)
+    pub(crate) fn reopen(&mut self, state: HandlerState<A>)
         requires { state ≡ self.old.stored }
         ensures { self.new ≡ reopened_site self.old }
     {

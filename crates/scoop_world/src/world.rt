@@ -16,16 +16,17 @@ use crate::parts::Parts;
 use scoop_handler::Ran;
 use scoop_message::{Answer, Block, ClientId, Entry, HandlerId, Message};
 use scoop_object::Behaviour;
+use std::alloc::{Allocator, Global};
 use std::marker::Model;
 
 /// All parties together, every message that was ever sent, and what has happened so far. Some events lead
 /// from a world that opens to this one.
 #[derive(Drop)]
-pub struct World<B: Behaviour> {
-    pub(crate) parts: Parts<B>,
+pub struct World<B: Behaviour, A: Allocator = Global> {
+    pub(crate) parts: Parts<B, A>,
 }
 
-impl<B: Behaviour> Model for World<B> {
+impl<B: Behaviour, A: Allocator> Model for World<B, A> {
     ghost use Rattle.scoop_world.specs.World.{World as Whole};
     ghost use Rattle.scoop_world.specs.Reach.{IsReached};
 
@@ -36,7 +37,7 @@ impl<B: Behaviour> Model for World<B> {
     ghost invariant = { λ w. IsReached w.parts };
 }
 
-impl<B: Behaviour> World<B> {
+impl<B: Behaviour, A: Allocator + Copy> World<B, A> {
     /// One event. On average the cost doesn't grow with the number of events before it: what grows a list
     /// copies it now and then.
     ///
@@ -137,7 +138,10 @@ impl<B: Behaviour> World<B> {
 }
 
 // One event.
-fn happen<B: Behaviour>(parts: &mut Parts<B>, event: Event) -> Result<WorldNote, WorldError>
+fn happen<B: Behaviour, A: Allocator + Copy>(
+    parts: &mut Parts<B, A>,
+    event: Event,
+) -> Result<WorldNote, WorldError>
     requires { IsReached parts.old }
     ensures { Takes (step parts.old event) result parts.old parts.new }
 {

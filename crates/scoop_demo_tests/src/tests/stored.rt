@@ -15,7 +15,7 @@ const WELCOME: &str = "5351010200000001000000070000000100000000000000000000\n";
 const LOCKED: &str = "5351010400000001000000070000000100000001000000000000\n";
 
 // How a run with a cell ends, and what it writes.
-fn run_cell<K: Keeper>(
+fn run_cell<K: Keeper<Global>>(
     rt: &impl Abort,
     alloc: Global,
     keeper: &mut K,
@@ -26,7 +26,7 @@ fn run_cell<K: Keeper>(
 }
 
 // Runs a cell over an input, and holds what it writes against this.
-fn writes<K: Keeper>(
+fn writes<K: Keeper<Global>>(
     rt: &impl Abort,
     alloc: Global,
     keeper: &mut K,

@@ -35,7 +35,7 @@ pub fn word_of(state: &HandlerState) -> Result<u64, Fail> {
 }
 
 // The one word of the state that is stored for the handler.
-fn word<K: Keeper>(keeper: &mut K) -> Result<u64, Fail> {
+fn word<K: Keeper<Global>>(keeper: &mut K) -> Result<u64, Fail> {
     let state = keeper.load_handler(HandlerId(1))?.ok_or("a state")?;
     word_of(&state)
 }

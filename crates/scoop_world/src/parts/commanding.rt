@@ -17,12 +17,12 @@ use crate::parts::{Parts, party_at};
 use crate::party::Party;
 use scoop_message::{ClientId, Entry, HandlerId, OutOfMemory};
 use scoop_object::Behaviour;
-use std::alloc::Global;
+use std::alloc::Allocator;
 
 // The client takes a command by which an entry is logged, for one handler or for all.
-fn log_by(
-    party: &mut Party,
-    lines: &mut Vec<Line>,
+fn log_by<A: Allocator + Copy>(
+    party: &mut Party<A>,
+    lines: &mut Vec<Line<A>, A>,
     command: &Command,
     only: Option<HandlerId>,
     entry: &Entry,
@@ -43,11 +43,11 @@ fn log_by(
 }
 
 // Room for a new block and its lines.
-fn room_for(
-    alloc: Global,
-    logs: &mut Logs,
+fn room_for<A: Allocator + Copy>(
+    alloc: A,
+    logs: &mut Logs<A>,
     handlers: &HandlerList,
-) -> Result<Vec<Line>, OutOfMemory>
+) -> Result<Vec<Line<A>, A>, OutOfMemory>
     ensures lines { IfOk result (λ ls. map line_kept ls.items ≡ map fresh_log handlers.now) }
     ensures room { OnOk result (0 < spare logs.new) }
     ensures logs { logs.new.entries ≡ logs.old.entries }
@@ -56,7 +56,7 @@ fn room_for(
     fresh_lines(alloc, handlers.as_slice())
 }
 
-impl<B: Behaviour> Parts<B> {
+impl<B: Behaviour, A: Allocator + Copy> Parts<B, A> {
     /// The client takes the command, and what it logs is logged.
     pub(crate) fn command(
         &mut self,

@@ -15,9 +15,10 @@ use crate::parts::{Joint, Parts, party_at, site_at};
 use scoop_handler::Note;
 use scoop_message::Message;
 use scoop_object::Behaviour;
+use std::alloc::Allocator;
 
 // A block that has opened joins the common list at its first opening. There is room for it.
-fn join(joint: &mut Joint, note: Note)
+fn join<A: Allocator + Copy>(joint: &mut Joint<A>, note: Note)
     requires { 0 < spare joint.old }
     ensures { joint.new.keys ≡ joined joint.old.keys (newly_opened note) }
 {
@@ -28,7 +29,7 @@ fn join(joint: &mut Joint, note: Note)
     }
 }
 
-impl<B: Behaviour> Parts<B> {
+impl<B: Behaviour, A: Allocator + Copy> Parts<B, A> {
     /// The message at this place, counted from 1, comes to its receiver.
     pub(crate) fn take(&mut self, place: usize) -> Result<WorldNote, WorldError>
         requires { IsReached self.old }

@@ -16,21 +16,21 @@ use scoop_handler::HandlerState;
 use scoop_message::{ClientId, OutOfMemory};
 use scoop_object::Behaviour;
 use scoop_record::{Keeper, MemoryKeeper};
-use std::alloc::Global;
+use std::alloc::Allocator;
 
 // Whether a handler stands on the node.
-fn any_on<B: Behaviour>(sites: &[Site<B>], node: u32) -> bool
+fn any_on<B: Behaviour, A: Allocator + Copy>(sites: &[Site<B, A>], node: u32) -> bool
     ensures { result ≡ list_any (on_node node) sites.now }
 {
     sites.iter().any(|site| site.node() == node)
 }
 
 // The stored state of the handler, if it stands on this node.
-fn load<B: Behaviour>(
-    site: &Site<B>,
+fn load<B: Behaviour, A: Allocator + Copy>(
+    site: &Site<B, A>,
     node: u32,
-    keeper: &mut MemoryKeeper,
-) -> Result<Option<HandlerState>, OutOfMemory>
+    keeper: &mut MemoryKeeper<A>,
+) -> Result<Option<HandlerState<A>>, OutOfMemory>
     requires { HasState keeper.old site.now }
     ensures found { IfOk result (λ found. found ≡ stored_on node site.now) }
     ensures keeper { keeper.new ≡ keeper.old }
@@ -45,12 +45,12 @@ fn load<B: Behaviour>(
 }
 
 // The stored states of the handlers that stand on this node, each at its handler's place.
-fn load_all<B: Behaviour>(
-    alloc: Global,
-    sites: &[Site<B>],
+fn load_all<B: Behaviour, A: Allocator + Copy>(
+    alloc: A,
+    sites: &[Site<B, A>],
     node: u32,
-    keeper: &mut MemoryKeeper,
-) -> Result<Vec<Option<HandlerState>>, OutOfMemory>
+    keeper: &mut MemoryKeeper<A>,
+) -> Result<Vec<Option<HandlerState<A>>, A>, OutOfMemory>
     requires { AllByRecursion (HasState keeper.old) sites.now }
     ensures found { IfOk result (λ states. states.items ≡ map (stored_on node) sites.now) }
     ensures keeper { keeper.new ≡ keeper.old }
@@ -64,7 +64,11 @@ fn load_all<B: Behaviour>(
 }
 
 // The handler takes its stored state, if there is one here.
-fn reopen_with<B: Behaviour>(site: &mut Site<B>, node: u32, found: Option<HandlerState>)
+fn reopen_with<B: Behaviour, A: Allocator + Copy>(
+    site: &mut Site<B, A>,
+    node: u32,
+    found: Option<HandlerState<A>>,
+)
     requires { found ≡ stored_on node site.old }
     ensures { site.new ≡ reopened node site.old }
 {
@@ -74,7 +78,11 @@ fn reopen_with<B: Behaviour>(site: &mut Site<B>, node: u32, found: Option<Handle
 }
 
 // Each handler takes its stored state, if there is one here.
-fn reopen_all<B: Behaviour>(sites: &mut [Site<B>], node: u32, states: Vec<Option<HandlerState>>)
+fn reopen_all<B: Behaviour, A: Allocator + Copy>(
+    sites: &mut [Site<B, A>],
+    node: u32,
+    states: Vec<Option<HandlerState<A>>, A>,
+)
     requires { states.items ≡ map (stored_on node) sites.old }
     ensures { sites.new ≡ map (reopened node) sites.old }
 {
@@ -87,7 +95,7 @@ fn reopen_all<B: Behaviour>(sites: &mut [Site<B>], node: u32, states: Vec<Option
     }
 }
 
-impl<B: Behaviour> Parts<B> {
+impl<B: Behaviour, A: Allocator + Copy> Parts<B, A> {
     /// The client restarts with its next incarnation.
     pub(crate) fn restart_client(&mut self, client: ClientId) -> Result<WorldNote, WorldError>
         requires { IsReached self.old }

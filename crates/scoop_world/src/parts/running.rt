@@ -10,8 +10,9 @@ use crate::note::WorldNote;
 use crate::parts::{Parts, site_at};
 use scoop_message::HandlerId;
 use scoop_object::Behaviour;
+use std::alloc::Allocator;
 
-impl<B: Behaviour> Parts<B> {
+impl<B: Behaviour, A: Allocator + Copy> Parts<B, A> {
     /// The handler's next entry leaves to be run.
     pub(crate) fn begin(&mut self, handler: HandlerId) -> Result<WorldNote, WorldError>
         requires { IsReached self.old }

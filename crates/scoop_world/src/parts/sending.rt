@@ -11,9 +11,13 @@ use crate::note::WorldNote;
 use crate::parts::{Parts, party_at, site_at};
 use scoop_message::{ClientId, Entry, HandlerId, Message, Request};
 use scoop_object::Behaviour;
+use std::alloc::Allocator;
 
 /// Appends a message, if there is one, and answers its place, counted from 1. There is room for it.
-pub(super) fn send(sent: &mut Vec<Message>, message: &Option<Message>) -> Option<usize>
+pub(super) fn send<A: Allocator + Copy>(
+    sent: &mut Vec<Message, A>,
+    message: &Option<Message>,
+) -> Option<usize>
     requires { vec_len sent.old < vec_capacity sent.old }
     ensures sent { sent.new.items ≡ sent.old.items ++ option_to_list message.now }
     ensures place { result ≡ option_map (λ _. length sent.old.items + 1) message.now }
@@ -29,7 +33,7 @@ pub(super) fn send(sent: &mut Vec<Message>, message: &Option<Message>) -> Option
     }
 }
 
-impl<B: Behaviour> Parts<B> {
+impl<B: Behaviour, A: Allocator + Copy> Parts<B, A> {
     /// The client sends the handler what it owes to it, if anything.
     pub(crate) fn tick(
         &mut self,

@@ -13,15 +13,15 @@ use crate::error::WorldOpenError;
 use crate::party::Party;
 use scoop_message::{ClientId, HandlerId};
 use scoop_record::{Keeper, KeeperError, MemoryKeeper};
-use std::alloc::Global;
+use std::alloc::Allocator;
 
 // One client in its next incarnation, which is stored.
-fn join(
-    alloc: Global,
+fn join<A: Allocator + Copy>(
+    alloc: A,
     client: &(ClientId, u8),
     handlers: &[HandlerId],
-    keeper: &mut MemoryKeeper,
-) -> Result<Party, WorldOpenError>
+    keeper: &mut MemoryKeeper<A>,
+) -> Result<Party<A>, WorldOpenError>
     requires { IsBatched client.now }
     ensures party { IfOk result (λ p. p ≡ new_party handlers.now (newcomer_of (incarnation_at keeper.old) client.now)) }
     ensures joining { OnOk result (IsJoining (newcomer_of (incarnation_at keeper.old) client.now)) }
@@ -39,12 +39,12 @@ fn join(
 }
 
 /// The clients, each in its next incarnation, which is stored.
-pub(crate) fn join_all(
-    alloc: Global,
+pub(crate) fn join_all<A: Allocator + Copy>(
+    alloc: A,
     clients: &[(ClientId, u8)],
     handlers: &[HandlerId],
-    keeper: &mut MemoryKeeper,
-) -> Result<Vec<Party>, WorldOpenError>
+    keeper: &mut MemoryKeeper<A>,
+) -> Result<Vec<Party<A>, A>, WorldOpenError>
     requires batched { All IsBatched clients.now }
     requires apart { NoRepeats (map (λ c. c.0) clients.now) }
     ensures parties { IfOk result (λ ps. ps.items ≡ map (new_party handlers.now) (newcomers_of (incarnation_at keeper.old) clients.now)) }

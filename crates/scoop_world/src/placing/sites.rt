@@ -14,13 +14,13 @@ use scoop_handler::Handler;
 use scoop_message::{HandlerId, OutOfMemory};
 use scoop_object::Behaviour;
 use scoop_record::MemoryKeeper;
-use std::alloc::Global;
+use std::alloc::Allocator;
 
 // The numbers of the handlers, in their order.
-pub(crate) fn numbers<B: Behaviour>(
-    alloc: Global,
+pub(crate) fn numbers<B: Behaviour, A: Allocator + Copy>(
+    alloc: A,
     placements: &[Placement<B>],
-) -> Result<Vec<HandlerId>, OutOfMemory>
+) -> Result<Vec<HandlerId, A>, OutOfMemory>
     ensures { IfOk result (λ hs. hs.items ≡ map (λ p. p.handler) placements.now) }
 {
     let mut handlers = Vec::new(alloc);
@@ -31,7 +31,7 @@ pub(crate) fn numbers<B: Behaviour>(
 }
 
 // The handler as it is placed. Its object has the class.
-fn place<B: Behaviour>(alloc: Global, placement: Placement<B>) -> Site<B>
+fn place<B: Behaviour, A: Allocator + Copy>(alloc: A, placement: Placement<B>) -> Site<B, A>
     requires { B.class placement.object ≡ placement.class }
     ensures site { result ≡ new_site (placement_of B.words placement) }
     ensures placed { IsPlaced (placement_of B.words placement) }
@@ -51,10 +51,10 @@ fn place<B: Behaviour>(alloc: Global, placement: Placement<B>) -> Site<B>
 }
 
 /// The handlers as they are placed.
-pub(crate) fn place_all<B: Behaviour>(
-    alloc: Global,
+pub(crate) fn place_all<B: Behaviour, A: Allocator + Copy>(
+    alloc: A,
     placements: Vec<Placement<B>>,
-) -> Result<Vec<Site<B>>, OutOfMemory>
+) -> Result<Vec<Site<B, A>, A>, OutOfMemory>
     requires { AllByRecursion (λ p. B.class p.object ≡ p.class) placements.items }
     ensures sites { IfOk result (λ ss. ss.items ≡ map new_site (placements_of B.words placements.items)) }
     ensures placed { OnOk result (AllByRecursion IsPlaced (placements_of B.words placements.items)) }
@@ -68,9 +68,9 @@ pub(crate) fn place_all<B: Behaviour>(
 }
 
 /// Stores the state of each handler.
-pub(crate) fn store_all<B: Behaviour>(
-    sites: &[Site<B>],
-    keeper: &mut MemoryKeeper,
+pub(crate) fn store_all<B: Behaviour, A: Allocator + Copy>(
+    sites: &[Site<B, A>],
+    keeper: &mut MemoryKeeper<A>,
 ) -> Result<(), OutOfMemory>
     requires apart { NoRepeats (map number_of sites.now) }
     requires own { AllByRecursion (λ s. s.stored.number ≡ number_of s) sites.now }

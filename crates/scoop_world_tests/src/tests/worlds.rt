@@ -5,6 +5,7 @@ ghost use Rattle.std.specs.Prelude.{◌≤◌};
 ghost use Rattle.std.specs.List.{All};
 ghost use Rattle.scoop_message.specs.declared.limits.TheConstants.{MAX_ENTRIES};
 
+mod growths;
 mod one_cell;
 mod opening;
 mod refusing;
@@ -21,7 +22,7 @@ use scoop_record::MemoryKeeper;
 use scoop_world::{
     Command, Event, HandlerList, Placement, World, WorldError, WorldNote, WorldOpenError,
 };
-use std::alloc::Global;
+use std::alloc::{Allocator, Global};
 use std::process::Abort;
 
 /// Makes the word the argument.
@@ -163,12 +164,12 @@ impl Joining {
         Ok(())
     }
 
-    fn open(
+    fn open<A: Allocator + Copy>(
         &self,
-        alloc: Global,
+        alloc: A,
         placements: Vec<Placement<Table>>,
-        keeper: MemoryKeeper,
-    ) -> Result<World<Table>, WorldOpenError> {
+        keeper: MemoryKeeper<A>,
+    ) -> Result<World<Table, A>, WorldOpenError> {
         World::open(alloc, placements, &self.clients, keeper)
     }
 }

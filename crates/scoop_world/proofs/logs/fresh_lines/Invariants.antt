@@ -5,4 +5,4 @@ use Rattle.scoop_world.specs.Kept.{line_kept}
 use Rattle.scoop_world.proofs.logs.fresh_lines.Given as goal
 
 abbrev pub invariant-loop-handler : goal.invariant-loop-handler
-invariant-loop-handler l = map line_kept l.lines.items ≡ map fresh_log (take l.handler-index l.handlers)
+invariant-loop-handler g l = map line_kept l.lines.items ≡ map fresh_log (take l.handler-index l.handlers)

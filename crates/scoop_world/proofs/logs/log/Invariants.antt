@@ -4,7 +4,7 @@ use Rattle.scoop_world.specs.Kept.{line_kept, with_entry_for}
 use Rattle.scoop_world.proofs.logs.log.Given as goal
 
 abbrev pub invariant-loop-line : goal.invariant-loop-line
-invariant-loop-line l = record {
+invariant-loop-line g l = record {
   done : map line_kept l.lines ≡ map (with_entry_for l.only l.entry) (take l.line-index (map line_kept l.fn.lines)) ++ drop l.line-index (map line_kept l.fn.lines);
   rest : drop l.line-index l.lines ≡ drop l.line-index l.fn.lines;
 }

@@ -5,11 +5,11 @@ use Rattle.scoop_world.proofs.LogLists.{lines-place, no_lines}
 use Rattle.scoop_world.proofs.logs.logged.Goals as goal
 
 pub returns-in-Some : goal.returns-in-Some
-returns-in-Some c =
+returns-in-Some g c =
     let h = c.args.handler in
     c.logged_in.ensures
-    ∙ ap (λ (ls : List Line). entries_in h (map line_kept ls)) c.deref.ensures.value
+    ∙ ap (λ (ls : List (Line g.row.A.Denot)). entries_in h (map line_kept ls)) c.deref.ensures.value
     ∙ ap (entries_in h) (sym (lines-place c.args.block c.index.result.now c.args.logs.now.entries c.in-Some.place c.in-Some.ensures.place c.index.ensures))
 
 pub returns-in-None : goal.returns-in-None
-returns-in-None c = sym (ap (entries_in c.args.handler) (no_lines c.args.block (logs_kept c.args.logs.now.entries) c.in-None.ensures.place))
+returns-in-None g c = sym (ap (entries_in c.args.handler) (no_lines c.args.block (logs_kept c.args.logs.now.entries) c.in-None.ensures.place))

@@ -5,7 +5,7 @@ use Rattle.scoop_world.specs.Kept.{HasRoom, line_kept}
 use Rattle.scoop_world.proofs.logs.make_room.Given as goal
 
 abbrev pub invariant-loop-line : goal.invariant-loop-line
-invariant-loop-line l = record {
+invariant-loop-line g l = record {
   room : All HasRoom (take l.line-index l.lines);
   same : map line_kept l.lines ≡ map line_kept l.fn.lines;
 }

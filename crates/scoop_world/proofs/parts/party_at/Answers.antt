@@ -5,16 +5,16 @@ use Rattle.scoop_world.proofs.KeptPlaces.{first_here, none_here}
 use Rattle.scoop_world.proofs.parts.party_at.Goals as goal
 
 pub returns-then-eq : goal.returns-then-eq
-returns-then-eq c =
+returns-then-eq g c =
     let x = c.index-parties-i.result in
     let here : is_party c.args.client (get_or c.args.parties.now c.loop-i.i x) ≡ true = rw (← c.index-parties-i.is, ← c.id.ensures) (sym c.eq.ensures ∙ c.if-eq.true) in
     first_here (is_party c.args.client) c.args.parties.now c.loop-i.i x (omega arith) c.loop-i.invariant here
 
 pub loop-i-preserved : goal.loop-i-preserved
-loop-i-preserved c =
+loop-i-preserved g c =
     let x = c.index-parties-i.result in
     let off : is_party c.args.client (get_or c.args.parties.now c.loop-i.i x) ≡ false = rw (← c.index-parties-i.is, ← c.id.ensures) (sym c.eq.ensures ∙ c.if-eq.false) in
     none_here (is_party c.args.client) c.args.parties.now c.loop-i.i x (omega arith) c.loop-i.invariant off
 
 pub returns : goal.returns
-returns c = sym c.loop-i.invariant ∙ ap (find (is_party c.args.client)) (drop_all c.loop-i.i c.args.parties.now (omega arith))
+returns g c = sym c.loop-i.invariant ∙ ap (find (is_party c.args.client)) (drop_all c.loop-i.i c.args.parties.now (omega arith))

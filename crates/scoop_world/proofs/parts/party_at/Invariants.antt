@@ -4,4 +4,4 @@ use Rattle.scoop_world.specs.World.{is_party}
 use Rattle.scoop_world.proofs.parts.party_at.Given as goal
 
 abbrev pub invariant-loop-i : goal.invariant-loop-i
-invariant-loop-i l = find (is_party l.client) (drop l.i l.parties) ≡ find (is_party l.client) l.parties
+invariant-loop-i g l = find (is_party l.client) (drop l.i l.parties) ≡ find (is_party l.client) l.parties

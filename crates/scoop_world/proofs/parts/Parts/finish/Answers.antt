@@ -54,3 +54,12 @@ returns g c =
             same_site c.self.inside.sites.items c.self.inside.parties.items c.self.inside.sent.items c.self.inside.joint.keys (logs_kept c.self.inside.logs.entries) c.args.self.now c.self.view_is c.in-Some.at s c.finish.new.self c.index_mut-site.ensures.value (c.in-Ok.ensures.site ∙ ap (after_job s) none),
           ))
     ]
+
+pub invariant_of-self : goal.invariant_of-self
+invariant_of-self g c =
+    let s = c.index_mut-site.result.now in
+    let t = c.finish.new.self in
+    let first : IsFirst (is_site c.args.handler) c.self.inside.sites.items c.in-Some.at = subst (λ (xs : List Site). IsFirst (is_site c.args.handler) xs c.in-Some.at) c.deref.ensures.value c.in-Some.ensures in
+    let there = item_at c.self.inside.sites.items c.in-Some.at s first.within c.index_mut-site.ensures.value in
+    let same : t ≡ s = c.in_default-finish.ensures.err in
+    subst (λ (k : MemoryRecord). HasAll k (set c.self.inside.sites.items c.in-Some.at t) c.self.inside.parties.items) (sym c.in_default-finish.ensures.kept) (has_same_site c.self.inside.keeper c.self.inside.sites.items c.self.inside.parties.items c.in-Some.at s t c.self.invariant there (ap number_of same) (ap (λ (x : Site). x.stored) same))

@@ -49,3 +49,8 @@ returns g c =
           c.requires.within c.index_mut-party.ensures.value w.in-Err-log_by.ensures.taken.0 w.in-Err-log_by.ensures.taken.1
           (kept-same c.index_mut-lines.result.now c.log_by.new.lines es c.in-Some.place c.index_mut-lines.ensures.value w.in-Err-log_by.ensures.kept))
     ]
+
+pub invariant_of-self : goal.invariant_of-self
+invariant_of-self g c =
+    has_party c.self.inside.keeper c.self.inside.sites.items c.self.inside.parties.items c.args.at c.index_mut-party.result.now c.command.new.self c.self.invariant
+    (party_there c.self.inside.sites.items c.self.inside.parties.items c.self.inside.sent.items c.self.inside.joint.keys (logs_kept c.self.inside.logs.entries) c.args.self.now c.self.view_is c.args.at c.index_mut-party.result.now c.requires.within c.index_mut-party.ensures.value) c.command.ensures.id c.command.ensures.stored

@@ -1,3 +1,4 @@
+use Rattle.scoop_world.proofs.KeptPlaces.{has_party}
 use Rattle.std.proofs.Common.{◌≡◌, List, ◌++◌, [], ◌∷◌, false, map, sym, ap, ◌∙◌, refl, subst}
 use Rattle.scoop_message.specs.declared.name.Block.{Block}
 use Rattle.scoop_world.specs.declared.event.Command.TheVariants.{Reserve}
@@ -38,3 +39,18 @@ returns g c =
     ∙ ap (λ (b : Block). logs ++ new b (map fresh_log c.args.handlers.now) ∷ []) c.newest.ensures in
     command_taken c.self.inside.sites.items c.self.inside.parties.items c.self.inside.sent.items c.self.inside.joint.keys (logs_kept c.self.inside.logs.entries) c.args.self.now c.self.view_is c.args.at c.index_mut-party.result.now c.command.new.self (Reserve c.args.handlers.now) (logs_kept c.add.new.logs.entries)
     c.requires.reached c.requires.within c.index_mut-party.ensures.value c.in-Ok-command.ensures.taken.0 c.in-Ok-command.ensures.taken.1 c.command.ensures.id made
+
+pub invariant_of-self : goal.invariant_of-self
+invariant_of-self g c =
+    has_party c.self.inside.keeper c.self.inside.sites.items c.self.inside.parties.items c.args.at c.index_mut-party.result.now c.index_mut-party.result.now c.self.invariant
+    (party_there c.self.inside.sites.items c.self.inside.parties.items c.self.inside.sent.items c.self.inside.joint.keys (logs_kept c.self.inside.logs.entries) c.args.self.now c.self.view_is c.args.at c.index_mut-party.result.now c.requires.within c.index_mut-party.ensures.value) refl refl
+
+pub invariant_of-self-in-Err : goal.invariant_of-self-in-Err
+invariant_of-self-in-Err g c =
+    has_party c.self.inside.keeper c.self.inside.sites.items c.self.inside.parties.items c.args.at c.index_mut-party.result.now c.command.new.self c.self.invariant
+    (party_there c.self.inside.sites.items c.self.inside.parties.items c.self.inside.sent.items c.self.inside.joint.keys (logs_kept c.self.inside.logs.entries) c.args.self.now c.self.view_is c.args.at c.index_mut-party.result.now c.requires.within c.index_mut-party.ensures.value) c.command.ensures.id c.command.ensures.stored
+
+pub invariant_of-self-2 : goal.invariant_of-self-2
+invariant_of-self-2 g c =
+    has_party c.self.inside.keeper c.self.inside.sites.items c.self.inside.parties.items c.args.at c.index_mut-party.result.now c.command.new.self c.self.invariant
+    (party_there c.self.inside.sites.items c.self.inside.parties.items c.self.inside.sent.items c.self.inside.joint.keys (logs_kept c.self.inside.logs.entries) c.args.self.now c.self.view_is c.args.at c.index_mut-party.result.now c.requires.within c.index_mut-party.ensures.value) c.command.ensures.id c.command.ensures.stored

@@ -1,9 +1,10 @@
+use Rattle.scoop_world.proofs.Order.Facts.{all_at}
 use Rattle.std.proofs.Common.{◌≡◌, ℕ, ◌+◌, List, Ok, set, sym, ap, ◌∙◌, subst}
 use Rattle.scoop_record.specs.Memory.{MemoryRecord, incarnation_at}
 use Rattle.scoop_record.specs.Keeper.{Sets}
 use Rattle.scoop_world.specs.declared.note.WorldNote.TheVariants as note
 use Rattle.scoop_world.specs.World.{Party, id_of, is_party}
-use Rattle.scoop_world.specs.Kept.{IsFirst, HasAll, logs_kept, world_kept}
+use Rattle.scoop_world.specs.Kept.{IsFirst, HasAll, logs_kept, world_kept, HasIncarnation}
 use Rattle.scoop_world.proofs.KeptPlaces.{has_party, has_incarnation, item_at}
 use Rattle.scoop_world.proofs.TakenEvents.{apart_parties, same_party, restarted_there, restart_refused}
 use Rattle.scoop_world.proofs.parts.Parts.restart_client.Goals as goal
@@ -36,3 +37,10 @@ returns g c =
         same_party c.self.inside.sites.items c.self.inside.parties.items c.self.inside.sent.items c.self.inside.joint.keys (logs_kept c.self.inside.logs.entries) c.args.self.now c.self.view_is c.in-Some.at p c.restart.new.self c.index_mut-party.ensures.value w.in-Err.ensures.err,
       )
     ]
+
+pub restart-requires : goal.restart-requires
+restart-requires g c =
+    let p = c.index_mut-party.result.now in
+    let first : IsFirst (is_party c.args.client) c.self.inside.parties.items c.in-Some.at = subst (λ (xs : List Party). IsFirst (is_party c.args.client) xs c.in-Some.at) c.deref.ensures.value c.in-Some.ensures in
+    let has : HasIncarnation c.self.inside.keeper p = all_at (HasIncarnation c.self.inside.keeper) c.self.inside.parties.items c.in-Some.at p (item_at c.self.inside.parties.items c.in-Some.at p first.within c.index_mut-party.ensures.value) c.self.invariant.incarnations in
+    has.incarnation

@@ -1,10 +1,12 @@
-use Rattle.std.proofs.Common.{◌≡◌, ◌≤◌, List, ◌++◌, map, take, drop, length, sym, ap, ◌∙◌, subst, arith, append-nil}
+use Rattle.scoop_world.specs.declared.note.WorldNote.TheVariants.{Reopened}
+use Rattle.std.specs.List.{list_any}
+use Rattle.std.proofs.Common.{◌≡◌, ◌≤◌, List, ◌++◌, map, take, drop, length, sym, ap, ◌∙◌, subst, arith, append-nil, Ok, true}
 use Rattle.std.proofs.lemmas.List.{take_all, drop_all, length-map}
 use Rattle.scoop_record.specs.Memory.{MemoryRecord}
 use Rattle.scoop_world.specs.World.{Site}
-use Rattle.scoop_world.specs.Step.{reopened}
-use Rattle.scoop_world.specs.Kept.{HasAll, logs_kept}
-use Rattle.scoop_world.proofs.TakenEvents.{has_reopened}
+use Rattle.scoop_world.specs.Step.{reopened, Stepped}
+use Rattle.scoop_world.specs.Kept.{HasAll, logs_kept, on_node, world_kept}
+use Rattle.scoop_world.proofs.TakenEvents.{has_reopened, node_restarted}
 use Rattle.scoop_world.proofs.parts.Parts.restart_node.Goals as goal
 
 pub invariant_of-self-2 : goal.invariant_of-self-2
@@ -22,3 +24,20 @@ invariant_of-self-2 g c =
     ap (λ (zs : List Site). take n (xs ++ zs)) (drop_all (length xs) ys all) ∙ ap (take n) (append-nil xs) ∙ take_all n xs le ∙ are in
     subst (λ (k : MemoryRecord). HasAll k (take n (xs ++ drop (length xs) ys)) c.self.inside.parties.items) (sym c.load_all.ensures.keeper)
     (subst (λ (ss : List Site). HasAll c.self.inside.keeper ss c.self.inside.parties.items) (sym whole) (has_reopened c.self.inside.sites.items c.self.inside.parties.items c.self.inside.sent.items c.self.inside.joint.keys (logs_kept c.self.inside.logs.entries) c.args.self.now c.self.view_is c.self.inside.keeper c.args.node c.requires c.self.invariant))
+
+pub returns : goal.returns
+returns g c =
+    let ys = c.self.inside.sites.items in
+    let xs = c.reopen_all.new.sites in
+    let f = reopened c.args.node in
+    let n = c.self.inside.sites.len in
+    let are : xs ≡ map f ys = c.reopen_all.ensures ∙ ap (map f) c.deref_mut.ensures.value in
+    let long : length xs ≡ length ys = ap length are ∙ length-map ys f in
+    let size : length ys ≡ n = ap length (sym c.deref_mut.ensures.value) ∙ c.deref_mut.ensures.len in
+    let le : length xs ≤ n = omega (arith, long, size) in
+    let all : length ys ≤ length xs = omega (arith, long) in
+    let whole : take n (xs ++ drop (length xs) ys) ≡ map f ys =
+    ap (λ (zs : List Site). take n (xs ++ zs)) (drop_all (length xs) ys all) ∙ ap (take n) (append-nil xs) ∙ take_all n xs le ∙ are in
+    let there : list_any (on_node c.args.node) ys ≡ true = ap (list_any (on_node c.args.node)) (sym c.deref.ensures.value) ∙ sym c.any_on.ensures ∙ c.if-not-any_on.false in
+    let made : List Site → Stepped = λ ss. Ok (world_kept ss c.self.inside.parties.items c.self.inside.sent.items c.self.inside.joint.keys (logs_kept c.self.inside.logs.entries), Reopened) in
+    node_restarted c.self.inside.sites.items c.self.inside.parties.items c.self.inside.sent.items c.self.inside.joint.keys (logs_kept c.self.inside.logs.entries) c.args.self.now c.self.view_is c.args.node there ∙ ap made (sym whole)

@@ -1,3 +1,4 @@
+use Rattle.scoop_record.specs.Memory.{MemoryRecord}
 use Rattle.std.proofs.Common.{◌≡◌, List, set, sym, ap, ◌∙◌, refl, subst}
 use Rattle.scoop_message.specs.declared.name.Block.{Block}
 use Rattle.scoop_message.specs.declared.name.HandlerId.{HandlerId}
@@ -8,8 +9,8 @@ use Rattle.scoop_handler.proofs.TableRows.{row}
 use Rattle.scoop_handler.proofs.TableLaws.{number-row}
 use Rattle.scoop_world.specs.World.{Site, number_of, is_site}
 use Rattle.scoop_world.specs.Step.{heard_site}
-use Rattle.scoop_world.specs.Kept.{IsFirst, Stores, logs_kept, world_kept}
-use Rattle.scoop_world.proofs.KeptPlaces.{has_site, item_at}
+use Rattle.scoop_world.specs.Kept.{IsFirst, Stores, logs_kept, world_kept, HasAll}
+use Rattle.scoop_world.proofs.KeptPlaces.{has_site, item_at, has_same_site, read_at}
 use Rattle.scoop_world.proofs.TakenEvents.{apart_sites, same_site, heard_all, hears_ok}
 use Rattle.scoop_message.specs.declared.message.Message.{Message}
 use Rattle.scoop_world.proofs.parts.Parts.take_at_handler.Goals as goal
@@ -51,3 +52,36 @@ returns g c =
     heard_all c.self.inside.sites.items c.self.inside.parties.items c.self.inside.sent.items c.self.inside.joint.keys (logs_kept c.self.inside.logs.entries) c.args.self.now c.self.view_is m c.in-Some.at s c.hear.new.self c.in-Ok-hear.heard c.reserve.new.self.items c.send-place.new.sent.items c.reserve-2.new.self.keys c.join.new.joint.keys c.send-place.result
     c.requires first c.index_mut-site.ensures.value changed (ap number_of changed ∙ number-row s.core.state m r (row s.core.state m)) c.in-Ok-hear.ensures.heard
     c.in-Ok.ensures.items c.send-place.ensures.sent c.in-Ok-reserve.ensures.keys c.join.ensures c.send-place.ensures.place
+
+pub returns-in_default-reserve : goal.returns-in_default-reserve
+returns-in_default-reserve g c =
+    let m = c.args.message.now in
+    let named : IsFirst (is_site (handler_of m)) c.deref.result.now c.in-Some.at = subst (λ (x : HandlerId). IsFirst (is_site x) c.deref.result.now c.in-Some.at) c.handler.ensures c.in-Some.ensures in
+    let first : IsFirst (is_site (handler_of m)) c.self.inside.sites.items c.in-Some.at = subst (λ (xs : List Site). IsFirst (is_site (handler_of m)) xs c.in-Some.at) c.deref.ensures.value named in
+    let s = read_at c.self.inside.sites.items c.in-Some.at first.within in
+    let before = hears_ok c.self.inside.sites.items c.self.inside.parties.items c.self.inside.sent.items c.self.inside.joint.keys (logs_kept c.self.inside.logs.entries) c.args.self.now c.self.view_is m c.in-Some.at s.0 first s.1 in
+    (before, ap (λ (ms : List Message). world_kept c.self.inside.sites.items c.self.inside.parties.items ms c.self.inside.joint.keys (logs_kept c.self.inside.logs.entries)) c.in_default-reserve.ensures.items ∙ c.self.view_is)
+
+pub returns-in_default-reserve-2 : goal.returns-in_default-reserve-2
+returns-in_default-reserve-2 g c =
+    let m = c.args.message.now in
+    let named : IsFirst (is_site (handler_of m)) c.deref.result.now c.in-Some.at = subst (λ (x : HandlerId). IsFirst (is_site x) c.deref.result.now c.in-Some.at) c.handler.ensures c.in-Some.ensures in
+    let first : IsFirst (is_site (handler_of m)) c.self.inside.sites.items c.in-Some.at = subst (λ (xs : List Site). IsFirst (is_site (handler_of m)) xs c.in-Some.at) c.deref.ensures.value named in
+    let s = read_at c.self.inside.sites.items c.in-Some.at first.within in
+    let before = hears_ok c.self.inside.sites.items c.self.inside.parties.items c.self.inside.sent.items c.self.inside.joint.keys (logs_kept c.self.inside.logs.entries) c.args.self.now c.self.view_is m c.in-Some.at s.0 first s.1 in (
+      before,
+      ap (λ (ms : List Message). world_kept c.self.inside.sites.items c.self.inside.parties.items ms c.reserve-2.new.self.keys (logs_kept c.self.inside.logs.entries)) c.in-Ok.ensures.items
+          ∙ ap (λ (bs : List Block). world_kept c.self.inside.sites.items c.self.inside.parties.items c.self.inside.sent.items bs (logs_kept c.self.inside.logs.entries)) c.in_default-reserve-2.ensures.keys
+          ∙ c.self.view_is,
+    )
+
+pub invariant_of-self-in_default-hear : goal.invariant_of-self-in_default-hear
+invariant_of-self-in_default-hear g c =
+    let s = c.index_mut-site.result.now in
+    let t = c.hear.new.self in
+    let m = c.args.message.now in
+    let named : IsFirst (is_site (handler_of m)) c.deref.result.now c.in-Some.at = subst (λ (x : HandlerId). IsFirst (is_site x) c.deref.result.now c.in-Some.at) c.handler.ensures c.in-Some.ensures in
+    let first : IsFirst (is_site (handler_of m)) c.self.inside.sites.items c.in-Some.at = subst (λ (xs : List Site). IsFirst (is_site (handler_of m)) xs c.in-Some.at) c.deref.ensures.value named in
+    let there = item_at c.self.inside.sites.items c.in-Some.at s first.within c.index_mut-site.ensures.value in
+    let same : t ≡ s = c.in_default-hear.ensures.err in
+    subst (λ (k : MemoryRecord). HasAll k (set c.self.inside.sites.items c.in-Some.at t) c.self.inside.parties.items) (sym c.in_default-hear.ensures.kept) (has_same_site c.self.inside.keeper c.self.inside.sites.items c.self.inside.parties.items c.in-Some.at s t c.self.invariant there (ap number_of same) (ap (λ (x : Site). x.stored) same))

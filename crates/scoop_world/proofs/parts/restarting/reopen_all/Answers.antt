@@ -1,5 +1,5 @@
-use Rattle.std.proofs.Common.{◌≤◌, List, ◌++◌, map, drop, length, set, sym, ap, ◌∙◌, arith, append-nil}
-use Rattle.std.proofs.lemmas.List.{get_or-map, take_all, drop_all, length-set}
+use Rattle.std.proofs.Common.{◌≤◌, List, ◌++◌, map, drop, length, set, sym, ap, ◌∙◌, arith, append-nil, refl}
+use Rattle.std.proofs.lemmas.List.{get_or-map, take_all, drop_all, length-set, length-map}
 use Rattle.std.proofs.lemmas.List.Edits.{map_over_more}
 use Rattle.scoop_world.specs.World.{Site}
 use Rattle.scoop_world.specs.Step.{reopened}
@@ -42,3 +42,11 @@ returns g c =
     ∙ ap (λ (xs : List Site). map f xs ++ drop i old) (take_all i old past)
     ∙ ap (λ (ys : List Site). map f old ++ ys) (drop_all i old past)
     ∙ append-nil (map f old)
+
+pub loop-i-init : goal.loop-i-init
+loop-i-init g c = record {
+  states = c.requires;
+  size = ap length c.requires ∙ length-map c.args.sites.now (stored_on c.args.node);
+  done = refl;
+  rest = refl;
+}

@@ -6,11 +6,11 @@ use Rattle.scoop_world.proofs.Newest.{heard_newest}
 use Rattle.scoop_world.proofs.party.Party.hear.Goals as goal
 
 pub invariant_of-self-2 : goal.invariant_of-self-2
-invariant_of-self-2 c =
+invariant_of-self-2 g c =
     ap (λ (n : Notice). newest_block n.0) (sym c.hear-note.ensures.value) ∙ heard_newest c.self.inside.client c.args.message.now ∙ c.self.invariant
 
 pub returns-clause-id : goal.returns-clause-id
-returns-clause-id c =
+returns-clause-id g c =
     let same : newest_block c.hear-note.new.self ≡ newest_block c.self.inside.client =
     ap (λ (n : Notice). newest_block n.0) (sym c.hear-note.ensures.value) ∙ heard_newest c.self.inside.client c.args.message.now in
     rw (← c.self.view_is) (ap (λ (b : Block). b.client) same)

@@ -13,7 +13,7 @@ use Rattle.scoop_world.proofs.Joins.{Joined, joined_more, all_stored, not_joined
 use Rattle.scoop_world.proofs.placing.joining.join_all.Goals as goal
 
 pub returns-in_err-party-clause-refused : goal.returns-in_err-party-clause-refused
-returns-in_err-party-clause-refused c =
+returns-in_err-party-clause-refused g c =
     let cs = c.args.clients.now in
     let i = c.loop-client.client-index in
     let none : ClientId × ℕ = (record { 0 = 0 }, 0) in
@@ -22,7 +22,7 @@ returns-in_err-party-clause-refused c =
     (rw is c.in_err-party.ensures.refused))
 
 pub loop-client-preserved : goal.loop-client-preserved
-loop-client-preserved c =
+loop-client-preserved g c =
     let hs = c.args.handlers.now in
     let before = c.args.keeper.now in
     let cs = c.args.clients.now in
@@ -35,7 +35,7 @@ loop-client-preserved c =
     c.in_ok-party.ensures.party c.in_ok-party.ensures.joining c.in_ok-party.ensures.stored c.in_ok-party.ensures.states)
 
 pub returns-clause-stored : goal.returns-clause-stored
-returns-clause-stored c =
+returns-clause-stored g c =
     let so = c.loop-client.invariant in
     let hs = c.args.handlers.now in
     let cs = c.args.clients.now in
@@ -44,3 +44,6 @@ returns-clause-stored c =
     let k = c.loop-client.keeper in
     subst (AllByRecursion (HasIncarnation k)) (ap (λ xs. map (new_party hs) (newcomers_of s xs)) (sym (take_all i cs c.loop-client-test.false)) ∙ sym so.parties)
     (all_stored hs s k cs (λ j d at. let within = slice_get_within cs j d at in so.next j d (omega (arith, within, c.loop-client-test.false)) at))
+
+pub join-requires : goal.join-requires
+join-requires g c = c.requires.batched c.loop-client.client-index (record { 0 = 0 }, 0) c.loop-client-test.true

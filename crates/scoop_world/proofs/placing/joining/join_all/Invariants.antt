@@ -3,4 +3,4 @@ use Rattle.scoop_world.proofs.Joins.{Joined}
 use Rattle.scoop_world.proofs.placing.joining.join_all.Given as goal
 
 abbrev pub invariant-loop-client : goal.invariant-loop-client
-invariant-loop-client l = Joined l.fn.handlers l.fn.keeper l.clients l.client-index l.parties.items l.keeper
+invariant-loop-client g l = Joined l.fn.handlers l.fn.keeper l.clients l.client-index l.parties.items l.keeper

@@ -1,9 +1,10 @@
+use Rattle.scoop_world.proofs.KeptPlaces.{all_by_place}
 use Rattle.std.proofs.Common.{◌≡◌, map, sym, ap, ◌∙◌, subst}
 use Rattle.std.specs.List.{AllByRecursion}
 use Rattle.scoop_record.specs.Memory.{incarnation_at}
 use Rattle.scoop_world.specs.Reach.{IsReached}
 use Rattle.scoop_world.specs.Step.{new_party}
-use Rattle.scoop_world.specs.Opening.{newcomers_of, placements_of}
+use Rattle.scoop_world.specs.Opening.{newcomers_of, placements_of, IsBatched}
 use Rattle.scoop_world.specs.OpenRefusal.{MayPlace, handlers_of}
 use Rattle.scoop_world.specs.Kept.{HasState}
 use Rattle.scoop_world.specs.Paper.{configuration_of, empty_configuration, inc_of}
@@ -79,3 +80,6 @@ returns-clause-placed g c = subst (λ xs. MayPlace g.B.Behaviour.class xs c.args
 
 pub returns-clause-joining : goal.returns-clause-joining
 returns-clause-joining g c = c.in-Ok.ensures.joining
+
+pub join_all-requires-clause-batched : goal.join_all-requires-clause-batched
+join_all-requires-clause-batched g c = λ k d within. all_by_place IsBatched c.args.clients.now c.requires k d within

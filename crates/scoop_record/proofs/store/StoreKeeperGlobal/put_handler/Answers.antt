@@ -2,7 +2,7 @@ use Rattle.std.proofs.Common.{ap}
 use Rattle.sqlite.specs.Held.{state}
 use Rattle.scoop_message.specs.declared.name.HandlerId.{HandlerId}
 use Rattle.scoop_record.proofs.MapLemmas.{saved_if}
-use Rattle.scoop_record.proofs.store.StoreKeeper.put_handler.Goals as goal
+use Rattle.scoop_record.proofs.store.StoreKeeperGlobal.put_handler.Goals as goal
 
 pub returns-clause-stored : goal.returns-clause-stored
 returns-clause-stored g c sound =

@@ -1,0 +1,60 @@
+//! An allocator that refuses one growth, for tests.
+#![tactic(auto)]
+
+use std::alloc::{AllocError, Allocator};
+use std::cell::Cell;
+
+/// An allocator that refuses one growth, and passes every other call on. It is lent to what grows by it.
+pub struct Refusing<B: Allocator> {
+    inner: B,
+    // How many growths are left up to the one that is refused, 0 once it was.
+    left: Cell<u64>,
+}
+
+impl<B: Allocator> Refusing<B> {
+    /// Refuses the growth of this number, counted from 1. None is refused under 0.
+    pub fn new(inner: B, number: u64) -> Refusing<B> {
+        Refusing {
+            inner,
+            left: Cell::new(number),
+        }
+    }
+
+    /// Refuses the growth of this number from now on, and none under 0.
+    pub fn refuse(&self, number: u64) {
+        self.left.set(number);
+    }
+
+    /// Whether it has refused, or refuses none.
+    pub fn has_refused(&self) -> bool {
+        self.left.get() == 0
+    }
+}
+
+impl<B: Allocator> Drop for Refusing<B> {
+    fn drop(self) {
+        let Self { inner: _, left: _ } = self;
+    }
+}
+
+// Counts a growth, and tells whether it is the one that is refused.
+fn refuses(left: &Cell<u64>) -> bool {
+    let now = left.get();
+    left.set(now.saturating_sub(1));
+    now == 1
+}
+
+unsafe impl<B: Allocator> Allocator for Refusing<B> {
+    ghost dealloc_token = { λ heap ty ptr. B.dealloc_token heap.inner ty ptr };
+
+    fn allocate(&self, size: usize, align: usize) -> Result<*mut u8, AllocError> {
+        if refuses(&self.left) {
+            return Err(AllocError);
+        }
+        self.inner.allocate(size, align)
+    }
+
+    unsafe fn deallocate(&self, ptr: *mut u8, size: usize, align: usize) {
+        self.inner.deallocate(ptr, size, align);
+    }
+}
