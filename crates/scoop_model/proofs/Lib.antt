@@ -13,6 +13,7 @@ pub mod Knowing
 pub mod Answering
 pub mod Tape
 pub mod Whole
+pub mod Locking
 pub mod Standing
 pub mod Ready
 pub mod Arriving

@@ -32,8 +32,7 @@ use Rattle.scoop_model.specs.Step.{with_sent}
 use Rattle.scoop_model.proofs.Basics.{by_test}
 use Rattle.scoop_model.proofs.Keys.{by_party, id_found}
 use Rattle.scoop_model.proofs.Order.Facts.{IsNamed, PartyFits, Ordered, all_found}
-use Rattle.scoop_model.proofs.Order.Clients.{is_gone_one, none_in_empty}
-use Rattle.scoop_model.proofs.Order.Commands.{started_fresh}
+use Rattle.scoop_model.proofs.Locking.{heard_locks, command_locks}
 use Rattle.scoop_model.proofs.Sound.Owed.{OwedRow, asks, opens, unlocks, gives_back, owed_row}
 use Rattle.scoop_model.proofs.Logging.Facts.{Logging}
 use Rattle.scoop_model.proofs.Logging.Openings.{IsGivenUp, IsOpenedAtAll, Openings, is_open_of}
@@ -127,12 +126,6 @@ module _
 -- ---- a client hears
 
 module _ (w : World) (c : ClientId) (p : Party) (at : party_of c w ≡ Some p) (i : (r : ReservationState) → p.client.reservation ≡ Some r → ReservationStands w r) where
-  abbrev AllStand : ClientState → Type 0
-  AllStand d = (s : ReservationState) → d.reservation ≡ Some s → ReservationStands w s
-
-  idle_stands : (d : ClientState) → AllStand (idle d)
-  idle_stands d s e = absurd (cc)
-
   locking_giving : Locking ≡ GivingBack → ⊥
   locking_giving e = cc
 
@@ -141,89 +134,10 @@ module _ (w : World) (c : ClientId) (p : Party) (at : party_of c w ≡ Some p) (
   told_stands r held is h t =
       ⊎_elim (λ (on : StandsAt w h r.block). on) (λ (g : IsGivenUp w r.block). absurd (locking_giving (sym is ∙ g.left c p at r held refl))) (t.stands h r.block refl)
 
-  -- one more handler isn't left
-  one_more : (r : ReservationState) → p.client.reservation ≡ Some r → r.stage ≡ Locking → (h : HandlerId) → LockedStands w (Locked h r.block) → (x : HandlerId) → has r.handlers x ≡ true → has (without h r.left) x ≡ false → StandsAt w x r.block
-  one_more r held is h t x member gone =
-      by_test (λ u. has r.left x ≡ u → StandsAt w x r.block) (has r.left x)
-      (λ _ left. subst (λ j. StandsAt w j r.block) (is_gone_one h x r.left left gone) (told_stands r held is h t))
-      (λ _ off. (subst (StageStands w r) is (i r held).stage) x member off) refl
+  pub heard_stands :
+      (m : Message) (d : ClientState) (note : ClientNote) → HeardRow p.client m d note → LockedStands w m → (s : ReservationState) → d.reservation ≡ Some s
+      → ReservationStands w s
+  heard_stands m d note heard t = heard_locks (StandsAt w) p.client i m d note heard (λ r held is h same. told_stands r held is h (subst (LockedStands w) same t))
 
-  step_stands : (r : ReservationState) → p.client.reservation ≡ Some r → (m : Message) (s : ReservationState) (st : Step) → StepRow r m s st → LockedStands w m → ReservationStands w s
-  step_stands r held m s st (steps_over n) t = i r held
-  step_stands r held m s st (one_is_locked h is low rest) t = record { stage = one_more r held is h t }
-  step_stands r held m s st (all_are_locked h is low all) t = record { stage = λ x member. one_more r held is h t x member (none_in_empty (without h r.left) x all) }
-  step_stands r held m s st (is_busy h is low) t = i r held
-  step_stands r held m s st (one_is_opened h is left rest) t = record { stage = subst (StageStands w r) is (i r held).stage }
-  step_stands r held m s st (all_are_opened h is left all) t = record { stage = tt }
-  step_stands r held m s st (is_unlocked h is left) t = record { stage = tt }
-  step_stands r held m s st (is_given_back h is left) t = record { stage = tt }
-
-  stepped_stands : (s : ReservationState) → ReservationStands w s → AllStand (stepped p.client s)
-  stepped_stands s f =
-      by_test (λ t. AllStand (if t then idle p.client else with_reservation p.client s)) (is_gone s)
-      (λ over. idle_stands p.client)
-      (λ on q e. subst (ReservationStands w) (some_is s q e) f)
-    where
-      some_is : (a b : ReservationState) → Some a ≡ Some b → a ≡ b
-      some_is a b e = cc
-
-  after_stands : (s : ReservationState) (st : Step) → ReservationStands w s → AllStand (after_step p.client s st).0
-  after_stands s (step.Locked h) f = stepped_stands s f
-  after_stands s (step.Busy h) f = stepped_stands s f
-  after_stands s (step.Opened h) f = stepped_stands s f
-  after_stands s (step.Unlocked h) f = stepped_stands s f
-  after_stands s step.Ignored f = i
-
-  pub heard_stands : (m : Message) (d : ClientState) (note : ClientNote) → HeardRow p.client m d note → LockedStands w m → AllStand d
-  heard_stands m d note (passed_over n) t = i
-  heard_stands m d note (is_welcomed h left) t = i
-  heard_stands m d note (takes_step n r held) t =
-      after_stands (reservation.heard r n).0 (reservation.heard r n).1 (step_stands r held n (reservation.heard r n).0 (reservation.heard r n).1 (step_row r n) t)
-  heard_stands m d note (is_acknowledged h n r l held opened line new_count) t =
-      let e : ClientState = with_lines p.client (at_line h (acknowledged (up_to h n p.client.waits)) p.client.lines) p.client.waits in
-      by_test (λ t. AllStand (if t then idle e else e)) (all_over e.lines) (λ over. idle_stands e) (λ on. i)
-  heard_stands m d note (is_accepted h n a r held opened waits) t = i
-
-  -- ---- a command
-
-  module _ (d : ClientState) where
-    made : (e : ClientState) → ◌≡◌ {A = client.Outcome} (Ok e) (Ok d) → AllStand e → AllStand d
-    made e is f = let same : e ≡ d = cc in subst AllStand same f
-
-    reserve_stands : (hs : List HandlerId) (q : client.Outcome) → ReserveRow p.client hs q → q ≡ Ok d → AllStand d
-    reserve_stands hs q (begins_block r at_idle room begins) e =
-        made (client.with_block p.client hs r) e
-        (λ s held. subst (ReservationStands w) (started_fresh (client.next_block p.client) hs p.client.handlers r begins ∙ some_is r s held)
-        (record { stage = λ h member gone. absurd (true≢false (sym member ∙ gone)) }))
-      where
-        some_is : (a b : ReservationState) → Some a ≡ Some b → a ≡ b
-        some_is a b e = cc
-    reserve_stands hs q r e = absurd (cc)
-
-    log_stands : (h : HandlerId) (n : Entry) (q : client.Outcome) → LogRow p.client h n q → q ≡ Ok d → AllStand d
-    log_stands h n q (is_logged l running free line room more) e = made _ e i
-    log_stands h n q r e = absurd (cc)
-
-    end_stands : (q : client.Outcome) → EndRow p.client q → q ≡ Ok d → AllStand d
-    end_stands q (ends_block running free room) e = made _ e i
-    end_stands q r e = absurd (cc)
-
-    given_stands : (r s : ReservationState) (stage : Stage) → given_up_in r stage ≡ Ok s → ReservationStands w s
-    given_stands r s Locking e = let given : at_stage r GivingBack (asked r.handlers r.left) ≡ s = cc in subst (ReservationStands w) given (record { stage = tt })
-    given_stands r s Opening e = absurd (cc)
-    given_stands r s Unlocking e = absurd (cc)
-    given_stands r s GivingBack e = absurd (cc)
-
-    give_up_stands : (q : client.Outcome) → GiveUpRow p.client q → q ≡ Ok d → AllStand d
-    give_up_stands q (gives_up r s locking held given) e = made (with_reservation p.client s) e (λ y is. subst (ReservationStands w) (some_is s y is) (given_stands r s r.stage given))
-      where
-        some_is : (a b : ReservationState) → Some a ≡ Some b → a ≡ b
-        some_is a b e = cc
-    give_up_stands q r e = absurd (cc)
-
-    pub command_stands : (x : client.Command) → client.command p.client x ≡ Ok d → AllStand d
-    command_stands (client.Reserve hs) e = reserve_stands hs _ (command_row p.client (client.Reserve hs)) e
-    command_stands (client.DoCall h r) e = log_stands h _ _ (command_row p.client (client.DoCall h r)) e
-    command_stands (client.DoQuery h r) e = log_stands h _ _ (command_row p.client (client.DoQuery h r)) e
-    command_stands client.DoEnd e = end_stands _ (command_row p.client client.DoEnd) e
-    command_stands client.GiveUp e = give_up_stands _ (command_row p.client client.GiveUp) e
+  pub command_stands : (d : ClientState) (x : client.Command) → client.command p.client x ≡ Ok d → (s : ReservationState) → d.reservation ≡ Some s → ReservationStands w s
+  command_stands d x e = command_locks (StandsAt w) p.client i d x e

@@ -17,6 +17,7 @@ use Rattle.scoop_handler.specs.Growing.{MarksGrow}
 use Rattle.scoop_handler.specs.Marks.{mark_of}
 use Rattle.scoop_model.specs.World.{World, Site, Party, has_block, handlers_of, party_of, sent_at, site_of}
 use Rattle.scoop_model.proofs.Basics.{by_test}
+use Rattle.scoop_model.proofs.Locking.{Locks, HasLocks, locks_more}
 use Rattle.scoop_model.proofs.Order.Holding.{IsHeldIn, reached_more}
 use Rattle.scoop_model.proofs.Order.Facts.{all_more_of, all_pushed}
 use Rattle.scoop_model.proofs.Logging.Openings.{IsGivenUp, Onto, is_open_of}
@@ -58,13 +59,10 @@ HasOpen w b = list_any (is_open_of b) w.sent ≡ true
 
 -- while a reservation locks, its block stands at those of its handlers that are not left, and then at all
 abbrev pub StageStands : World → ReservationState → Stage → Type 0
-StageStands w r Locking = (h : HandlerId) → has r.handlers h ≡ true → has r.left h ≡ false → StandsAt w h r.block
-StageStands w r Opening = (h : HandlerId) → has r.handlers h ≡ true → StandsAt w h r.block
-StageStands w r Unlocking = ⊤
-StageStands w r GivingUp = ⊤
+StageStands w r stage = Locks (StandsAt w) r stage
 
-pub record ReservationStands (w : World) (r : ReservationState) : Type 0 where
-  pub stage : StageStands w r r.stage
+abbrev pub ReservationStands : World → ReservationState → Type 0
+ReservationStands w r = HasLocks (StandsAt w) r
 
 pub record Standing (w : World) : Type 0 where
   pub locked : AllByRecursion (LockedStands w) w.sent
@@ -171,13 +169,7 @@ module _ (v w : World) (x : StandsOn v w) (i : Standing v) where
 
   -- a reservation of the new world
   pub reservation_on : (r : ReservationState) → ((h : HandlerId) → StandsAt v h r.block → StandsAt w h r.block) → ReservationStands v r → ReservationStands w r
-  reservation_on r on f = record { stage = mapped r.stage f.stage }
-    where
-      mapped : (stage : Stage) → StageStands v r stage → StageStands w r stage
-      mapped Locking g = λ h member gone. on h (g h member gone)
-      mapped Opening g = λ h member. on h (g h member)
-      mapped Unlocking g = tt
-      mapped GivingUp g = tt
+  reservation_on r on f = locks_more (StandsAt v) (StandsAt w) r on f
 
   -- one message may be new
   pub standing_more :
