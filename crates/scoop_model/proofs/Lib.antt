@@ -17,5 +17,7 @@ pub mod Locking
 pub mod Standing
 pub mod Ready
 pub mod Arriving
+pub mod Granting
+pub mod Told
 pub mod Headline
 pub mod OpenedExamples
