@@ -19,5 +19,6 @@ pub mod Ready
 pub mod Arriving
 pub mod Granting
 pub mod Told
+pub mod Grants
 pub mod Headline
 pub mod OpenedExamples

@@ -1,10 +1,12 @@
 //! What holds of every world that can be reached: functions with nothing in them but a clause.
 
+mod holding;
 mod opening;
 mod running;
 mod safety;
 mod telling;
 
+pub use holding::{granted_once, held_until_opened};
 pub use opening::opens_safe;
 pub use running::{handlers_sound, handlers_stay, in_order, opened_in_joint};
 pub use safety::reached_safe;

@@ -69,8 +69,8 @@ module _ (w : World) (s old : Site) (here : site_of (number_of s) w ≡ Some old
 -- ---- a handler hears
 
 -- a block that is newly locked was not reached before
-reached_not_new : (s : Site) (m : Message) (b : Block) → IsReachedIn s.core.state.marks b → IsNewlyLocked s.core.state m b → ⊥
-reached_not_new s m b r new =
+pub reached_not_new : (s : Site) (m : Message) (now : Hearing) (b : Block) → IsReachedIn s.core.state.marks b → IsNewlyLocked s.core.state m now b → ⊥
+reached_not_new s m now b r new =
     let marks : Some r.mark ≡ Some new.mark = sym r.found ∙ new.found in
     let alike : r.mark ≡ new.mark = cc in
     absurd_place r.mark.inc new.mark.inc r.mark.num new.mark.num b.inc b.num (ap (λ (k : Mark). k.inc) alike) (ap (λ (k : Mark). k.num) alike) r.upto.num new.inc new.num
@@ -78,8 +78,10 @@ reached_not_new s m b r new =
     absurd_place : (i j n k c d : ℕ) → i ≡ j → n ≡ k → (i ≡ c → d ≤ n) → j ≡ c → k < d → ⊥
     absurd_place i j n k c d ij nk up jc kd = let le = up (ij ∙ jc) in omega (arith, le, nk, kd)
 
-newly_locked_new : (w : World) (s : Site) (m : Message) (b : Block) → Ordered w → site_of (number_of s) w ≡ Some s → Tells w m → IsNewlyLocked s.core.state m b → has_block w.joint b ≡ true → ⊥
-newly_locked_new w s m b i here tells new e =
+newly_locked_new :
+    (w : World) (s : Site) (m : Message) (now : Hearing) (b : Block) → Ordered w → site_of (number_of s) w ≡ Some s → Tells w m → IsNewlyLocked s.core.state m now b
+    → has_block w.joint b ≡ true → ⊥
+newly_locked_new w s m now b i here tells new e =
     let names : IsNamed w (number_of s) b = subst (Tells w) new.asks tells in
     let all = i.joint b e in
     let both : Some names.handlers ≡ Some all.handlers = sym names.set ∙ all.set in
@@ -88,7 +90,7 @@ newly_locked_new w s m b i here tells new e =
     let found : Some g.site ≡ Some s = sym g.found ∙ here in
     let one : g.site ≡ s = cc in
     let r : IsReachedIn s.core.state.marks b = subst (λ (x : Site). IsReachedIn x.core.state.marks b) one g.reached in
-    reached_not_new s m b r new
+    reached_not_new s m now b r new
 
 -- what a reply tells
 reply_tells : (v : World) (s : Site) (o : Option Message) → site_of (number_of s) v ≡ Some s → TellsBack s.core.state o → (m : Message) → o ≡ Some m → Tells v m
@@ -148,7 +150,7 @@ module _ (w : World) (s : Site) (m : Message) (i : Ordered w) (found : site_of (
         subst (λ xs. IsSubsequence (xs ++ b ∷ []) w.joint) (sym (append-nil s.opened)) (
         ⊎_elim
         (λ (was : IsHeldIn s.core.state.marks b). fits.next b was in_joint)
-        (λ (new : IsNewlyLocked s.core.state m b). absurd (newly_locked_new w s m b i here tells new in_joint))
+        (λ (new : IsNewlyLocked s.core.state m now b). absurd (newly_locked_new w s m now b i here tells new in_joint))
         (heard.locks b held));
     left = subst (λ xs. IsSubsequence xs w.joint) (sym (append-nil s.opened)) fits.left;
   }

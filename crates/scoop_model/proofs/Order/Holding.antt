@@ -10,7 +10,7 @@ use Rattle.scoop_message.specs.Message.{same_client}
 use Rattle.scoop_handler.specs.declared.mark.Mark.{Mark}
 use Rattle.scoop_handler.specs.declared.mark.Stage.{Stage}
 use Rattle.scoop_handler.specs.declared.mark.Stage.TheVariants.{Held as AtHeld, Open as AtOpen, Shut as AtShut}
-use Rattle.scoop_handler.specs.declared.note.Note.TheVariants.{Opened as OpenedNote}
+use Rattle.scoop_handler.specs.declared.note.Note.TheVariants.{Granted, Opened as OpenedNote}
 use Rattle.scoop_handler.specs.declared.ran.Ran.{Ran}
 use Rattle.scoop_handler.specs.Marks.{is_held, fresh_mark, opened_mark, with_received, without_hold, mark_of, set_mark, add_mark}
 use Rattle.scoop_handler.specs.State.{HandlerState}
@@ -141,9 +141,10 @@ held_ran r marks b h = go (mark_of b.client marks) refl (sym (mark_of-after r b.
 
 -- ---- what hearing does to the lock
 
--- the block asks for the lock, and was never granted it
-pub record IsNewlyLocked (s : HandlerState) (m : Message) (b : Block) : Type 0 where
+-- the block asks for the lock, and is granted it, which it never was before
+pub record IsNewlyLocked (s : HandlerState) (m : Message) (h : Hearing) (b : Block) : Type 0 where
   pub asks : m ≡ Lock s.number b
+  pub note : h.1.note ≡ Granted
   pub mark : Mark
   pub found : mark_of b.client s.marks ≡ Some mark
   pub inc : mark.inc ≡ b.inc
@@ -219,12 +220,12 @@ holds-row s m h (log_taken x b n es k here at next goes_on room) all = λ y held
     all y (held_left (with_received _ _ k) k s.marks y (own_place b k s.marks at.heard.found) (λ e. open_not_held (sym at.stage ∙ e)) held).held
 holds-row s m h r all = all
 
-locks-row : (s : HandlerState) (m : Message) (h : Hearing) → Row s m h → (y : Block) → IsHeldIn h.0.marks y → IsHeldIn s.marks y ⊎ IsNewlyLocked s m y
+locks-row : (s : HandlerState) (m : Message) (h : Hearing) → Row s m h → (y : Block) → IsHeldIn h.0.marks y → IsHeldIn s.marks y ⊎ IsNewlyLocked s m h y
 locks-row s m h (first_greeting x c inc here none room) = λ y held. inl (held_added (greeting_mark c inc) s.marks y none shut_not_held held)
 locks-row s m h (newer_greeting x c inc k here found newer) = λ y held. inl (held_left (greeting_mark c inc) k s.marks y found shut_not_held held).held
 locks-row s m h (lock_granted x b k here at new free clear) = λ y held.
     ⊎_elim
-    (λ (own : IsOwn (fresh_mark b AtHeld) y). inr (subst (IsNewlyLocked s (Lock x b)) (own_is b y AtHeld own) (record { asks = ap (λ z. Lock z b) here; mark = k; found = at.found; inc = at.inc; num = new })))
+    (λ (own : IsOwn (fresh_mark b AtHeld) y). inr (subst (IsNewlyLocked s (Lock x b) _) (own_is b y AtHeld own) (record { asks = ap (λ z. Lock z b) here; note = refl; mark = k; found = at.found; inc = at.inc; num = new })))
     (λ (other : IsOther (fresh_mark b AtHeld) s.marks y). inl other.held)
     (held_set (fresh_mark b AtHeld) k s.marks y at.found held)
 locks-row s m h (open_granted x b k here at same was room) = λ y held. inl (held_left (opened_mark k) k s.marks y (own_place b k s.marks at.found) open_not_held held).held
@@ -274,7 +275,7 @@ tells-row s m h r = tt
 
 pub record Hears (s : HandlerState) (m : Message) (h : Hearing) : Type 0 where
   pub holds : HeldHolds s → HeldHolds h.0
-  pub locks : (b : Block) → IsHeldIn h.0.marks b → IsHeldIn s.marks b ⊎ IsNewlyLocked s m b
+  pub locks : (b : Block) → IsHeldIn h.0.marks b → IsHeldIn s.marks b ⊎ IsNewlyLocked s m h b
   pub opens : (b : Block) → h.1.note ≡ OpenedNote b → IsNewlyOpened s m h b
   pub tells : TellsBack h.0 h.1.reply
 
