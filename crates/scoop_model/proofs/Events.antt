@@ -35,7 +35,9 @@ heard_by s m = hear s.core.state m
 
 -- each way in which an event changes a world gives the property
 pub record Happens (Q : Event → World → WorldNote → Type 0) (w : World) : Type 0 where
-  pub commands : (c : ClientId) (p : Party) (x : Command) (d : ClientState) → party_of c w ≡ Some p → command p.client (core_command x) ≡ Ok d → Q (Do c x) (commanded_world w p x d) note.Done
+  pub commands :
+      (c : ClientId) (p : Party) (x : Command) (d : ClientState) → party_of c w ≡ Some p → command p.client (core_command x) ≡ Ok d
+      → Q (Do c x) (commanded_world w p x d) note.Done
   pub sends :
       (c : ClientId) (p : Party) (h : HandlerId) (s : Site) → party_of c w ≡ Some p → site_of h w ≡ Some s
       → Q (Tick c h) (with_sent w (due p.client h)) (sent_or_silent (place_of w (due p.client h)))
@@ -45,13 +47,21 @@ pub record Happens (Q : Event → World → WorldNote → Type 0) (w : World) : 
   pub notices :
       (i : ℕ) (m : Message) (p : Party) → sent_at i w ≡ Some m → is_for_handler m ≡ false → party_of (client_of m) w ≡ Some p
       → Q (Take i) (with_party w (heard_party p (heard p.client m))) (note.Client (heard p.client m).1)
-  pub begins : (h : HandlerId) (s : Site) (t : Task) → site_of h w ≡ Some s → ready s.core ≡ Some t → Q (Begin h) (with_site w (begun_site s)) (note.Began t.block t.number)
-  pub finishes : (h : HandlerId) (s : Site) (t : Task) → site_of h w ≡ Some s → job_out s.core ≡ Some t → Q (Finish h) (with_site w (finished_site s t)) (note.Ran (ran_of t))
-  pub restarts : (c : ClientId) (p : Party) → party_of c w ≡ Some p → (p.stored == 2 ^ 32 - 1) ≡ false → Q (ClientRestart c) (with_party w (restarted_party p)) (note.Restarted (p.stored + 1))
+  pub begins :
+      (h : HandlerId) (s : Site) (t : Task) → site_of h w ≡ Some s → ready s.core ≡ Some t
+      → Q (Begin h) (with_site w (begun_site s)) (note.Began t.block t.number)
+  pub finishes :
+      (h : HandlerId) (s : Site) (t : Task) → site_of h w ≡ Some s → job_out s.core ≡ Some t
+      → Q (Finish h) (with_site w (finished_site s t)) (note.Ran (ran_of t))
+  pub restarts :
+      (c : ClientId) (p : Party) → party_of c w ≡ Some p → (p.stored == 2 ^ 32 - 1) ≡ false
+      → Q (ClientRestart c) (with_party w (restarted_party p)) (note.Restarted (p.stored + 1))
   pub reopens : (n : ℕ) → Q (NodeRestart n) (reopened_world w n) note.Reopened
 
 module _ (Q : Event → World → WorldNote → Type 0) (w : World) (all : Happens Q w) where
-  command_happens : (c : ClientId) (p : Party) (x : Command) (o : Outcome) → party_of c w ≡ Some p → command p.client (core_command x) ≡ o → Gives (Q (Do c x)) (commanded w p x o)
+  command_happens :
+      (c : ClientId) (p : Party) (x : Command) (o : Outcome) → party_of c w ≡ Some p → command p.client (core_command x) ≡ o
+      → Gives (Q (Do c x)) (commanded w p x o)
   command_happens c p x (Err e) at is = tt
   command_happens c p x (Ok d) at is = all.commands c p x d at is
 
@@ -59,7 +69,8 @@ module _ (Q : Event → World → WorldNote → Type 0) (w : World) (all : Happe
   do_happens c x None at = tt
   do_happens c x (Some p) at = command_happens c p x (command p.client (core_command x)) at refl
 
-  tick_happens : (c : ClientId) (h : HandlerId) (o : Option Party) (t : Option Site) → party_of c w ≡ o → site_of h w ≡ t → Gives (Q (Tick c h)) (tick_at w h o t)
+  tick_happens :
+      (c : ClientId) (h : HandlerId) (o : Option Party) (t : Option Site) → party_of c w ≡ o → site_of h w ≡ t → Gives (Q (Tick c h)) (tick_at w h o t)
   tick_happens c h None t at here = tt
   tick_happens c h (Some p) None at here = tt
   tick_happens c h (Some p) (Some s) at here = all.sends c p h s at here
@@ -134,9 +145,13 @@ Kept P o = Gives (λ v told. P v) o
 
 -- each way in which a world changes gives the property
 pub record Changes (P : World → Type 0) (w : World) : Type 0 where
-  pub commands : (c : ClientId) (p : Party) (x : Command) (d : ClientState) → party_of c w ≡ Some p → command p.client (core_command x) ≡ Ok d → P (commanded_world w p x d)
+  pub commands :
+      (c : ClientId) (p : Party) (x : Command) (d : ClientState) → party_of c w ≡ Some p → command p.client (core_command x) ≡ Ok d
+      → P (commanded_world w p x d)
   pub sends : (c : ClientId) (p : Party) (h : HandlerId) (s : Site) → party_of c w ≡ Some p → site_of h w ≡ Some s → P (with_sent w (due p.client h))
-  pub hears : (i : ℕ) (m : Message) (s : Site) → sent_at i w ≡ Some m → is_for_handler m ≡ true → site_of (handler_of m) w ≡ Some s → P (heard_world w s (hear s.core.state m))
+  pub hears :
+      (i : ℕ) (m : Message) (s : Site) → sent_at i w ≡ Some m → is_for_handler m ≡ true → site_of (handler_of m) w ≡ Some s
+      → P (heard_world w s (hear s.core.state m))
   pub notices :
       (i : ℕ) (m : Message) (p : Party) → sent_at i w ≡ Some m → is_for_handler m ≡ false → party_of (client_of m) w ≡ Some p
       → P (with_party w (heard_party p (heard p.client m)))

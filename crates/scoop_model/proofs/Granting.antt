@@ -1,6 +1,6 @@
 -- A block is opened only once each of its handlers has told that it granted the lock. What every event keeps of that:
 -- while a reservation locks, a Locked was sent by each of its handlers that isn't left, and then by all.
-use Rattle.std.proofs.Common.{◌≡◌, ℕ, ◌+◌, ◌-◌, ◌==◌, List, [], ◌∷◌, ◌++◌, map, find, slice_get, Option, Some, None, refl, sym, ap, ◌∙◌, subst, append-nil}
+use Rattle.std.proofs.Common.{◌≡◌, ℕ, ◌+◌, ◌-◌, ◌==◌, List, ◌++◌, map, find, slice_get, Option, Some, None, refl, sym, ap, ◌∙◌, subst, append-nil}
 use Rattle.std.specs.Prelude.{if◌then◌else◌, option_to_list, Contains}
 use Rattle.std.specs.List.{AllByRecursion}
 use Rattle.std.proofs.lemmas.List.Elements.{Contains-append_left}
@@ -76,7 +76,9 @@ module _ (v w : World) (x : Onward v w) where
 no_open_sent : (w : World) (m n : Message) → m ≡ n → ((h : HandlerId) (b : Block) → m ≡ Open h b → ⊥) → TellsGranted w n
 no_open_sent w m n same none = record { granted = λ h b is. absurd (none h b (same ∙ is)) }
 
-module _ (w : World) (c : ClientId) (p : Party) (fits : PartyFits w p) (i : (r : ReservationState) → p.client.reservation ≡ Some r → ReservationGranted w r) (h : HandlerId) where
+module _
+    (w : World) (c : ClientId) (p : Party) (fits : PartyFits w p) (i : (r : ReservationState) → p.client.reservation ≡ Some r → ReservationGranted w r)
+    (h : HandlerId) where
   owed_granted : (r : ReservationState) → p.client.reservation ≡ Some r → (m : Message) → OwedRow r h m → TellsGranted w m
   owed_granted r held m (asks at low) = record { granted = λ x b e. absurd (cc) }
   owed_granted r held m (opens at is) = record {

@@ -1,7 +1,7 @@
 -- The lock over a whole list of events: a handler grants it to a block at most once, and a block that opens was the
 -- holder from its grant on. One event is looked at first: a block that is held behind it was held before, or was
 -- granted by it; and a client's mark that has reached a block stays at it or past it. Then by induction over the events.
-use Rattle.std.proofs.Common.{◌≡◌, ◌⊎◌, inl, inr, ℕ, zero, suc, ◌+◌, ◌==◌, ◌<◌, ◌≤◌, true, false, nat_lt, List, [], ◌∷◌, map, find, length, take, get_or, slice_get, Option, Some, None, refl, sym, ap, ◌∙◌, subst, ⊎_elim, arith}
+use Rattle.std.proofs.Common.{◌≡◌, ◌⊎◌, inl, inr, ℕ, zero, suc, ◌+◌, ◌==◌, ◌<◌, ◌≤◌, true, nat_lt, List, [], ◌∷◌, map, find, length, take, get_or, slice_get, Option, Some, None, refl, sym, ap, ◌∙◌, subst, ⊎_elim, arith}
 use Rattle.std.specs.Prelude.{if◌then◌else◌, Ok, Err}
 use Rattle.std.specs.List.{AllByRecursion}
 use Rattle.std.specs.Option.{option_map_or}
@@ -17,7 +17,7 @@ use Rattle.scoop_handler.specs.declared.mark.Mark.{Mark}
 use Rattle.scoop_handler.specs.declared.mark.Stage.TheVariants.{Held as AtHeld}
 use Rattle.scoop_handler.specs.declared.note.Note.{Note}
 use Rattle.scoop_handler.specs.declared.note.Note.TheVariants.{Granted, Opened}
-use Rattle.scoop_handler.specs.Marks.{mark_of, fresh_mark}
+use Rattle.scoop_handler.specs.Marks.{fresh_mark}
 use Rattle.scoop_handler.specs.State.{HandlerState}
 use Rattle.scoop_handler.specs.Hearing.{Hearing, hear}
 use Rattle.scoop_handler.specs.Running.{ran_of}
@@ -31,8 +31,7 @@ use Rattle.scoop_model.specs.declared.event.Event.TheVariants.{Take, Begin, Fini
 use Rattle.scoop_model.specs.declared.note.WorldNote.{WorldNote}
 use Rattle.scoop_model.specs.declared.note.WorldNote.TheVariants.{Handler}
 use Rattle.scoop_model.specs.World.{World, Site, number_of, is_site, site_of, party_of, set_site, sent_at}
-use Rattle.scoop_model.specs.Step.{Stepped, Placement, Newcomer, new_site, opening, step, taken, taken_by_handler, taken_by_client, heard_site, heard_world, begun_site, finished_site, reopened, reopened_world, with_site, place_of}
-use Rattle.scoop_model.specs.Opening.{MayOpen}
+use Rattle.scoop_model.specs.Step.{Stepped, Placement, Newcomer, new_site, opening, step, taken, taken_by_handler, taken_by_client, heard_site, heard_world, begun_site, finished_site, reopened, with_site, place_of}
 use Rattle.scoop_model.specs.Reach.{Run, next, run_after, Leads}
 use Rattle.scoop_model.specs.Grants.{world_after, holder_at, IsGrant, IsOpening, GrantsAt, OpensAt, HoldsSinceGrant}
 use Rattle.scoop_model.proofs.Basics.{by_test}
@@ -291,7 +290,9 @@ module _ (ps : List Placement) (ns : List Newcomer) (es : List Event) (w : World
   -- ---- a block that is held
 
   -- the event just before granted it the lock
-  just_granted : (h : HandlerId) (b : Block) (k : ℕ) (e : Event) → slice_get es k ≡ Some e → IsGrant (world_after v es k) e h b → HeldAt (world_after v es (suc k)) h b → HoldsSinceGrant v es (suc k) h b
+  just_granted :
+      (h : HandlerId) (b : Block) (k : ℕ) (e : Event) → slice_get es k ≡ Some e → IsGrant (world_after v es k) e h b → HeldAt (world_after v es (suc k)) h b
+      → HoldsSinceGrant v es (suc k) h b
   just_granted h b k e there grant held = record {
     at = k;
     before = omega arith;

@@ -1,6 +1,6 @@
 -- A fact of handlers and blocks that each Locked brings, and that lasts: a reservation that locks has it at each of its
 -- handlers that isn't left, and one that opens has it at all. What a client does keeps that.
-use Rattle.std.proofs.Common.{◌≡◌, true, false, true≢false, List, Option, Some, None, refl, sym, ◌∙◌, subst}
+use Rattle.std.proofs.Common.{◌≡◌, true, false, true≢false, List, Some, refl, sym, ◌∙◌, subst}
 use Rattle.std.specs.Prelude.{⊤, if◌then◌else◌, Ok}
 use Rattle.scoop_message.specs.declared.name.Block.{Block}
 use Rattle.scoop_message.specs.declared.name.HandlerId.{HandlerId}
@@ -71,7 +71,8 @@ module _ (G : HandlerId → Block → Type 0) (c : ClientState) (i : (r : Reserv
   step_locks : (r : ReservationState) → c.reservation ≡ Some r → (m : Message) (s : ReservationState) (st : Step) → StepRow r m s st → Tells m → HasLocks G s
   step_locks r held m s st (steps_over n) t = i r held
   step_locks r held m s st (one_is_locked h is low rest) t = record { stage = one_more r held is h t }
-  step_locks r held m s st (all_are_locked h is low all) t = record { stage = λ x member. one_more r held is h t x member (none_in_empty (without h r.left) x all) }
+  step_locks r held m s st (all_are_locked h is low all) t =
+      record { stage = λ x member. one_more r held is h t x member (none_in_empty (without h r.left) x all) }
   step_locks r held m s st (is_busy h is low) t = i r held
   step_locks r held m s st (one_is_opened h is left rest) t = record { stage = subst (Locks G r) is (i r held).stage }
   step_locks r held m s st (all_are_opened h is left all) t = record { stage = tt }
@@ -110,7 +111,8 @@ module _ (G : HandlerId → Block → Type 0) (c : ClientState) (i : (r : Reserv
     reserve_locks : (hs : List HandlerId) (q : client.Outcome) → ReserveRow c hs q → q ≡ Ok d → AllLock d
     reserve_locks hs q (begins_block r at_idle room begins) e =
         made (client.with_block c hs r) e
-        (λ s held. subst (HasLocks G) (started_fresh (client.next_block c) hs c.handlers r begins ∙ some_is r s held) (record { stage = λ h member gone. absurd (true≢false (sym member ∙ gone)) }))
+        (λ s held.
+        subst (HasLocks G) (started_fresh (client.next_block c) hs c.handlers r begins ∙ some_is r s held) (record { stage = λ h member gone. absurd (true≢false (sym member ∙ gone)) }))
     reserve_locks hs q r e = absurd (cc)
 
     log_locks : (h : HandlerId) (n : Entry) (q : client.Outcome) → LogRow c h n q → q ≡ Ok d → AllLock d
@@ -128,7 +130,8 @@ module _ (G : HandlerId → Block → Type 0) (c : ClientState) (i : (r : Reserv
     given_locks r s GivingBack e = absurd (cc)
 
     give_up_locks : (q : client.Outcome) → GiveUpRow c q → q ≡ Ok d → AllLock d
-    give_up_locks q (gives_up r s locking held given) e = made (with_reservation c s) e (λ y is. subst (HasLocks G) (some_is s y is) (given_locks r s r.stage given))
+    give_up_locks q (gives_up r s locking held given) e =
+        made (with_reservation c s) e (λ y is. subst (HasLocks G) (some_is s y is) (given_locks r s r.stage given))
     give_up_locks q r e = absurd (cc)
 
     pub command_locks : (x : client.Command) → client.command c x ≡ Ok d → AllLock d

@@ -1,5 +1,6 @@
--- What each message that was ever sent tells for good, by what every event keeps.
-use Rattle.std.proofs.Common.{◌≡◌, ◌⊎◌, inl, inr, ℕ, zero, suc, ◌+◌, ◌-◌, ◌<◌, ◌||◌, true, false, true≢false, nat_lt, List, [], ◌∷◌, ◌++◌, length, slice_get, Option, Some, None, refl, sym, ap, ◌∙◌, subst, ⊎_elim, arith, append_assoc}
+-- What each message that was ever sent tells for good, by what every event keeps. The layers have these facts in the form
+-- in which they are kept; here each is said as the theorem says it, for every message of a world that is reached.
+use Rattle.std.proofs.Common.{◌≡◌, inl, inr, ℕ, zero, suc, ◌+◌, ◌-◌, ◌<◌, ◌||◌, true, false, true≢false, nat_lt, List, [], ◌∷◌, ◌++◌, length, slice_get, Option, Some, None, refl, sym, ap, ◌∙◌, subst, ⊎_elim, arith, append_assoc}
 use Rattle.std.specs.Prelude.{Contains}
 use Rattle.std.specs.List.{AllByRecursion, list_any}
 use Rattle.std.specs.Option.{option_map_or}
@@ -10,16 +11,16 @@ use Rattle.scoop_message.specs.declared.name.ClientId.{ClientId}
 use Rattle.scoop_message.specs.declared.name.HandlerId.{HandlerId}
 use Rattle.scoop_message.specs.declared.request.Entry.{Entry}
 use Rattle.scoop_message.specs.declared.message.Message.{Message}
-use Rattle.scoop_message.specs.declared.message.Message.TheVariants.{Hello, Welcome, Locked, Open, Opened, Unlock, Log, Answer}
+use Rattle.scoop_message.specs.declared.message.Message.TheVariants.{Open}
 use Rattle.scoop_handler.specs.declared.mark.Mark.{Mark}
 use Rattle.scoop_handler.specs.declared.mark.Stage.{Stage}
 use Rattle.scoop_handler.specs.declared.mark.Stage.TheVariants.{Held as AtHeld, Open as AtOpen, Shut as AtShut}
-use Rattle.scoop_handler.specs.Marks.{mark_of, block_of}
+use Rattle.scoop_handler.specs.Marks.{block_of}
 use Rattle.scoop_handler.proofs.MarkLists.{mark_of-client, All-mark_of}
 use Rattle.scoop_model.specs.World.{World, Site, Party, is_site, is_party, party_of, inc_of, has_block, log_of}
 use Rattle.scoop_model.specs.Reach.{IsReached}
-use Rattle.scoop_model.specs.Told.{stored_of, TellsStored, TellsGreeted, HasGreeted, IsOver, HoldsOpenedOrOver, TellsHeld, TellsGranted, TellsOpened, HasOpenedAtAll, IsLeft, TellsUnlocked, AreOfLog, TellsLogged, TellsRan}
-use Rattle.scoop_model.proofs.Basics.{by_test, first_false}
+use Rattle.scoop_model.specs.Told.{stored_of, TellsStored, TellsGreeted, HoldsOpenedOrOver, TellsHeld, TellsGranted, TellsOpened, HasOpenedAtAll, IsLeft, TellsUnlocked, AreOfLog, TellsLogged, TellsRan}
+use Rattle.scoop_model.proofs.Basics.{by_test}
 use Rattle.scoop_model.proofs.Stands.{Stands}
 use Rattle.scoop_model.proofs.Order.Facts.{IsGranted, Tells, SiteFits, PartyFits, all_at, all_found, all_more_of}
 use Rattle.scoop_model.proofs.Order.Lists.{same_block_itself}
@@ -97,7 +98,8 @@ module _ (w : World) (f : Facts w) where
     own_held inc num AtOpen is =
         let client : mark.client ≡ b.client = mark_of-client b.client site.core.state.marks mark g.reached.found in
         let own : block_of mark ≡ b = λ i. record { client = client i; inc = inc i; num = num i } in
-        let opens = All-mark_of _ b.client site.core.state.marks mark (all_found (SiteOpened w) (is_site h) w.sites site f.openings.sites g.found).marks g.reached.found in
+        let opens =
+        All-mark_of _ b.client site.core.state.marks mark (all_found (SiteOpened w) (is_site h) w.sites site f.openings.sites g.found).marks g.reached.found in
         record { site = site; found = g.found; is = inr (inl (subst (λ y. has_block site.opened y ≡ true) own (opens.opened is))) }
     own_held inc num AtShut is = record {
       site = site;

@@ -1,4 +1,6 @@
--- What a handler does keeps the answers right.
+-- What a handler does keeps the answers right. Where an entry runs, its answer is the object's at the words that the
+-- entries before it have made, and the mark keeps it if it is a query's of the mark's block; an Answer that is replied is
+-- the one that is kept. Hearing runs nothing, and a restarted node has the words that were stored with what ran.
 use Rattle.std.proofs.Common.{◌≡◌, ℕ, ◌==◌, List, [], ◌∷◌, map, find, Option, Some, None, refl, sym, ap, ◌∙◌, subst}
 use Rattle.std.specs.Prelude.{if◌then◌else◌}
 use Rattle.std.specs.List.{AllByRecursion}
@@ -35,8 +37,11 @@ use Rattle.scoop_model.proofs.Answering.Facts.{TellsAnswer, SiteAnswers, Answeri
 abbrev ran_of_site : Option Site → List Ran
 ran_of_site o = option_map_or (λ s. s.ran) o []
 
-module _ (w : World) (s old : Site) (here : site_of (number_of s) w ≡ Some old) (more : (b : Block) (n : ℕ) (a : ObjectAnswer) → HasRun old.ran b n a → HasRun s.ran b n a) where
-  ran_stays : (h : HandlerId) (b : Block) (n : ℕ) (a : ObjectAnswer) → HasRun (ran_at h w) b n a → HasRun (ran_of_site (find (is_site h) (set_site s w.sites))) b n a
+module _
+    (w : World) (s old : Site) (here : site_of (number_of s) w ≡ Some old)
+    (more : (b : Block) (n : ℕ) (a : ObjectAnswer) → HasRun old.ran b n a → HasRun s.ran b n a) where
+  ran_stays :
+      (h : HandlerId) (b : Block) (n : ℕ) (a : ObjectAnswer) → HasRun (ran_at h w) b n a → HasRun (ran_of_site (find (is_site h) (set_site s w.sites))) b n a
   ran_stays h b n a r =
       by_site (λ o. HasRun (ran_of_site o) b n a) w s old h here
       (λ same.
@@ -59,7 +64,8 @@ module _ (w : World) (s old : Site) (here : site_of (number_of s) w ≡ Some old
 -- ---- a handler hears
 
 -- what a reply tells
-reply_tells : (v : World) (h : HandlerId) (rs : List Ran) (o : Option Message) → ran_at h v ≡ rs → TellsRan rs h o → (m : Message) → o ≡ Some m → TellsAnswer v m
+reply_tells :
+    (v : World) (h : HandlerId) (rs : List Ran) (o : Option Message) → ran_at h v ≡ rs → TellsRan rs h o → (m : Message) → o ≡ Some m → TellsAnswer v m
 reply_tells v h rs None at t m e = absurd (cc)
 reply_tells v h rs (Some r) at t m e = let same : r ≡ m = cc in subst (TellsAnswer v) same (told r t)
   where
@@ -128,7 +134,9 @@ module _ (w : World) (i : Answering w) (h : HandlerId) (s : Site) (found : site_
 
 -- ---- a node restarts
 
-ran_first : (h : HandlerId) (x y : Site) (xs ys : List Site) → number_of y ≡ number_of x → y.ran ≡ x.ran → ran_of_site (find (is_site h) ys) ≡ ran_of_site (find (is_site h) xs)
+ran_first :
+    (h : HandlerId) (x y : Site) (xs ys : List Site) → number_of y ≡ number_of x → y.ran ≡ x.ran
+    → ran_of_site (find (is_site h) ys) ≡ ran_of_site (find (is_site h) xs)
     → ran_of_site (find (is_site h) (y ∷ ys)) ≡ ran_of_site (find (is_site h) (x ∷ xs))
 ran_first h x y xs ys number ran later =
     subst (λ k. ran_of_site (if same_handler k h then Some y else find (is_site h) ys) ≡ ran_of_site (find (is_site h) (x ∷ xs))) (sym number)
@@ -136,12 +144,16 @@ ran_first h x y xs ys number ran later =
 
 module _ (js : List Block) (n : ℕ) where
   number_anew : (x : Site) → SiteFits js x → number_of (reopened n x) ≡ number_of x
-  number_anew x f = by_test (λ t. number_of (if t then reopened_site x else x) ≡ number_of x) (x.node == n) (λ here. ap (λ (st : HandlerState). st.number) f.stored) (λ there. refl)
+  number_anew x f =
+      by_test (λ t. number_of (if t then reopened_site x else x) ≡ number_of x) (x.node == n) (λ here. ap (λ (st : HandlerState). st.number) f.stored)
+      (λ there. refl)
 
   ran_same : (x : Site) → (reopened n x).ran ≡ x.ran
   ran_same x = by_test (λ t. (if t then reopened_site x else x).ran ≡ x.ran) (x.node == n) (λ here. refl) (λ there. refl)
 
-  pub ran_anew : (h : HandlerId) (xs : List Site) → AllByRecursion (SiteFits js) xs → ran_of_site (find (is_site h) (map (reopened n) xs)) ≡ ran_of_site (find (is_site h) xs)
+  pub ran_anew :
+      (h : HandlerId) (xs : List Site) → AllByRecursion (SiteFits js) xs
+      → ran_of_site (find (is_site h) (map (reopened n) xs)) ≡ ran_of_site (find (is_site h) xs)
   ran_anew h [] all = refl
   ran_anew h (x ∷ xs) all = ran_first h x (reopened n x) xs (map (reopened n) xs) (number_anew x all.0) (ran_same x) (ran_anew h xs all.1)
 

@@ -161,7 +161,9 @@ module _ (w v : World) (x : Onto w v) where
       (grown b h)
 
 -- no Open is among the new messages
-pub none_pushed : (b : Block) (ms : List Message) (o : Option Message) → list_any (is_open_of b) ms ≡ false → ((m : Message) → o ≡ Some m → is_open_of b m ≡ false) → list_any (is_open_of b) (ms ++ option_to_list o) ≡ false
+pub none_pushed :
+    (b : Block) (ms : List Message) (o : Option Message) → list_any (is_open_of b) ms ≡ false → ((m : Message) → o ≡ Some m → is_open_of b m ≡ false)
+    → list_any (is_open_of b) (ms ++ option_to_list o) ≡ false
 none_pushed b [] None none new = refl
 none_pushed b [] (Some m) none new = ap (λ t. t || false) (new m refl)
 none_pushed b (x ∷ xs) o none new =

@@ -66,7 +66,8 @@ pub record SiteFits (js : List Block) (s : Site) : Type 0 where
 
 -- while a reservation locks, those of its handlers that are not left have granted it their locks, and then all have
 abbrev pub LocksAt : World → ReservationState → Stage → Type 0
-LocksAt w r Locking = ((h : HandlerId) → has r.left h ≡ true → has r.handlers h ≡ true) × ((h : HandlerId) → has r.handlers h ≡ true → has r.left h ≡ false → IsGranted w h r.block)
+LocksAt w r Locking =
+    ((h : HandlerId) → has r.left h ≡ true → has r.handlers h ≡ true) × ((h : HandlerId) → has r.handlers h ≡ true → has r.left h ≡ false → IsGranted w h r.block)
 LocksAt w r Opening = (h : HandlerId) → has r.handlers h ≡ true → IsGranted w h r.block
 LocksAt w r Unlocking = ⊤
 LocksAt w r GivingUp = ⊤
@@ -134,7 +135,9 @@ pub all_more_of : {A : Type 0} (P Q : A → Type 0) → ((a : A) → P a → Q a
 all_more_of P Q f [] all = tt
 all_more_of P Q f (x ∷ xs) all = (f x all.0, all_more_of P Q f xs all.1)
 
-pub all_pushed : {A : Type 0} (P : A → Type 0) (xs : List A) (o : Option A) → AllByRecursion P xs → ((a : A) → o ≡ Some a → P a) → AllByRecursion P (xs ++ option_to_list o)
+pub all_pushed :
+    {A : Type 0} (P : A → Type 0) (xs : List A) (o : Option A) → AllByRecursion P xs → ((a : A) → o ≡ Some a → P a)
+    → AllByRecursion P (xs ++ option_to_list o)
 all_pushed P [] None all one = tt
 all_pushed P [] (Some a) all one = (one a refl, tt)
 all_pushed P (x ∷ xs) o all one = (all.0, all_pushed P xs o all.1 one)
@@ -151,14 +154,17 @@ all_found P test (x ∷ xs) a all e =
     (λ here f. let p : x ≡ a = cc in subst P p all.0)
     (λ there f. all_found P test xs a all.1 f) e
 
-pub all_set_site : (P Q : Site → Type 0) (s : Site) (sites : List Site) → Q s → ((x : Site) → P x → Q x) → AllByRecursion P sites → AllByRecursion Q (set_site s sites)
+pub all_set_site :
+    (P Q : Site → Type 0) (s : Site) (sites : List Site) → Q s → ((x : Site) → P x → Q x) → AllByRecursion P sites → AllByRecursion Q (set_site s sites)
 all_set_site P Q s [] own others all = tt
 all_set_site P Q s (x ∷ xs) own others all = (
   by_test (λ t. Q (if t then s else x)) (is_site (number_of s) x) (λ here. own) (λ there. others x all.0),
   all_set_site P Q s xs own others all.1,
 )
 
-pub all_set_party : (P Q : Party → Type 0) (p : Party) (parties : List Party) → Q p → ((x : Party) → is_party (id_of p) x ≡ false → P x → Q x) → AllByRecursion P parties → AllByRecursion Q (set_party p parties)
+pub all_set_party :
+    (P Q : Party → Type 0) (p : Party) (parties : List Party) → Q p → ((x : Party) → is_party (id_of p) x ≡ false → P x → Q x) → AllByRecursion P parties
+    → AllByRecursion Q (set_party p parties)
 all_set_party P Q p [] own others all = tt
 all_set_party P Q p (x ∷ xs) own others all = (
   by_test (λ t. Q (if t then p else x)) (is_party (id_of p) x) (λ here. own) (λ there. others x there all.0),

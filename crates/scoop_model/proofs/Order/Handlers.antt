@@ -1,4 +1,6 @@
--- What a handler does keeps the order.
+-- What a handler does keeps the order. Where a block opens, it was held; if it is in the common list already, what has
+-- opened here stands before it there; if not, it is put at that list's end, behind all of them. A lock is granted only where
+-- the mark hasn't reached the block, so never for a block of the common list, which was granted at each of its handlers.
 use Rattle.std.proofs.Common.{◌≡◌, ℕ, ◌-◌, ◌==◌, true, List, [], ◌∷◌, ◌++◌, map, find, slice_get, Option, Some, None, refl, sym, ap, ◌∙◌, subst, ⊎_elim, arith, append-nil}
 use Rattle.std.specs.Prelude.{if◌then◌else◌, ◌<◌, ◌≤◌, option_to_list}
 use Rattle.std.specs.List.{AllByRecursion}
@@ -79,7 +81,8 @@ reached_not_new s m now b r new =
     absurd_place i j n k c d ij nk up jc kd = let le = up (ij ∙ jc) in omega (arith, le, nk, kd)
 
 newly_locked_new :
-    (w : World) (s : Site) (m : Message) (now : Hearing) (b : Block) → Ordered w → site_of (number_of s) w ≡ Some s → Tells w m → IsNewlyLocked s.core.state m now b
+    (w : World) (s : Site) (m : Message) (now : Hearing) (b : Block) → Ordered w → site_of (number_of s) w ≡ Some s → Tells w m
+    → IsNewlyLocked s.core.state m now b
     → has_block w.joint b ≡ true → ⊥
 newly_locked_new w s m now b i here tells new e =
     let names : IsNamed w (number_of s) b = subst (Tells w) new.asks tells in
@@ -139,7 +142,9 @@ module _ (w : World) (s : Site) (m : Message) (i : Ordered w) (found : site_of (
   grows = grows-row s.core.state m now (row s.core.state m)
 
   -- the messages, once the reply is among them
-  replies : (new : List Block) (v : World) → site_of now.0.number v ≡ Some (site_with s now.0 new) → AllByRecursion (Tells v) w.sent → AllByRecursion (Tells v) (w.sent ++ option_to_list now.1.reply)
+  replies :
+      (new : List Block) (v : World) → site_of now.0.number v ≡ Some (site_with s now.0 new) → AllByRecursion (Tells v) w.sent
+      → AllByRecursion (Tells v) (w.sent ++ option_to_list now.1.reply)
   replies new v there all = all_pushed (Tells v) w.sent now.1.reply all (reply_tells v (site_with s now.0 new) now.1.reply there heard.tells)
 
   quiet_fits : SiteFits w.joint (site_with s now.0 [])
@@ -199,7 +204,9 @@ module _ (w : World) (s : Site) (m : Message) (i : Ordered w) (found : site_of (
   by_note Known e = quiet
   by_note (Dropped why) e = quiet
 
-pub hears_ordered : (w : World) → Ordered w → (i : ℕ) (m : Message) (s : Site) → sent_at i w ≡ Some m → site_of (handler_of m) w ≡ Some s → Ordered (heard_world w s (hear s.core.state m))
+pub hears_ordered :
+    (w : World) → Ordered w → (i : ℕ) (m : Message) (s : Site) → sent_at i w ≡ Some m → site_of (handler_of m) w ≡ Some s
+    → Ordered (heard_world w s (hear s.core.state m))
 hears_ordered w o i m s was found = by_note w s m o found (sent_tells w i m was o.messages) (hear s.core.state m).1.note refl
 
 -- ---- an entry runs
@@ -214,7 +221,8 @@ module _ (w : World) (o : Ordered w) (h : HandlerId) (s : Site) (found : site_of
   pub begins_ordered : Ordered (with_site w (begun_site s))
   begins_ordered =
       let f = site_fits in
-      site_moves w (begun_site s) s place (MarksGrow-same s.core.state.marks) w.sent o (record { stored = f.stored; holds = f.holds; next = f.next; left = f.left }) (λ v there all. all)
+      site_moves w (begun_site s) s place (MarksGrow-same s.core.state.marks) w.sent o (record { stored = f.stored; holds = f.holds; next = f.next; left = f.left })
+      (λ v there all. all)
 
   pub finishes_ordered : (t : Task) → Ordered (with_site w (finished_site s t))
   finishes_ordered t =
@@ -231,7 +239,9 @@ module _ (w : World) (o : Ordered w) (h : HandlerId) (s : Site) (found : site_of
 
 -- ---- a node restarts
 
-granted_first : (h : HandlerId) (b : Block) (x y : Site) (xs ys : List Site) → y.core.state ≡ x.core.state → (IsGrantedIn (find (is_site h) xs) b → IsGrantedIn (find (is_site h) ys) b)
+granted_first :
+    (h : HandlerId) (b : Block) (x y : Site) (xs ys : List Site) → y.core.state ≡ x.core.state
+    → (IsGrantedIn (find (is_site h) xs) b → IsGrantedIn (find (is_site h) ys) b)
     → IsGrantedIn (find (is_site h) (x ∷ xs)) b → IsGrantedIn (find (is_site h) (y ∷ ys)) b
 granted_first h b x y xs ys same later g =
     let k : number_of y ≡ number_of x = ap (λ (st : HandlerState). st.number) same in
@@ -258,7 +268,9 @@ fits_anew js n x f =
     })
     (λ there. f)
 
-pub granted_anew : (js : List Block) (n : ℕ) (h : HandlerId) (b : Block) (xs : List Site) → AllByRecursion (SiteFits js) xs → IsGrantedIn (find (is_site h) xs) b → IsGrantedIn (find (is_site h) (map (reopened n) xs)) b
+pub granted_anew :
+    (js : List Block) (n : ℕ) (h : HandlerId) (b : Block) (xs : List Site) → AllByRecursion (SiteFits js) xs → IsGrantedIn (find (is_site h) xs) b
+    → IsGrantedIn (find (is_site h) (map (reopened n) xs)) b
 granted_anew js n h b [] all g = g
 granted_anew js n h b (x ∷ xs) all g = granted_first h b x (reopened n x) xs (map (reopened n) xs) (state_anew js n x all.0) (granted_anew js n h b xs all.1) g
 

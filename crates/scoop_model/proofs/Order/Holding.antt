@@ -1,4 +1,6 @@
--- What a handler's marks tell: which block holds its lock, and which blocks it has granted.
+-- What a handler's marks tell: which block holds its lock, and which blocks it has granted. A mark is at one block of its
+-- client and only grows: a block is *reached* where the mark is at it or past it, which stays; it is *held* where the mark
+-- is at it and held, which begins with the row that grants the lock and ends with the one that opens or frees.
 use Rattle.std.proofs.Common.{◌≡◌, ◌⊎◌, inl, inr, ℕ, ◌<◌, ◌≤◌, true, false, true≢false, List, map, Option, Some, None, refl, sym, ap, ◌∙◌, subst, ⊎_elim, arith}
 use Rattle.std.specs.Prelude.{if◌then◌else◌, ⊤}
 use Rattle.std.specs.Option.{option_map}
@@ -110,11 +112,14 @@ held_set k old marks b found h =
     }))
 
 -- a mark that isn't held leaves those of other clients
-held_left : (k old : Mark) (marks : List Mark) (b : Block) → mark_of k.client marks ≡ Some old → (k.stage ≡ AtHeld → ⊥) → IsHeldIn (set_mark k marks) b → IsOther k marks b
+held_left :
+    (k old : Mark) (marks : List Mark) (b : Block) → mark_of k.client marks ≡ Some old → (k.stage ≡ AtHeld → ⊥) → IsHeldIn (set_mark k marks) b
+    → IsOther k marks b
 held_left k old marks b found off h =
     ⊎_elim (λ (own : IsOwn k b). absurd (off own.stage)) (λ (other : IsOther k marks b). other) (held_set k old marks b found h)
 
-held_added : (k : Mark) (marks : List Mark) (b : Block) → mark_of k.client marks ≡ None → (k.stage ≡ AtHeld → ⊥) → IsHeldIn (add_mark k marks) b → IsHeldIn marks b
+held_added :
+    (k : Mark) (marks : List Mark) (b : Block) → mark_of k.client marks ≡ None → (k.stage ≡ AtHeld → ⊥) → IsHeldIn (add_mark k marks) b → IsHeldIn marks b
 held_added k marks b none off h =
     by_test (λ t. IsHeldIn marks b) (same_client k.client b.client)
     (λ e.
@@ -210,7 +215,8 @@ holds-row s m h (lock_granted x b k here at new free clear) all = λ y held.
   where
     nobody : (o : Option Block) (y : Block) → o ≡ None → o ≡ Some y → ⊥
     nobody o y e f = cc
-holds-row s m h (open_granted x b k here at same was room) all = λ y held. all y (held_left (opened_mark k) k s.marks y (own_place b k s.marks at.found) open_not_held held).held
+holds-row s m h (open_granted x b k here at same was room) all =
+    λ y held. all y (held_left (opened_mark k) k s.marks y (own_place b k s.marks at.found) open_not_held held).held
 holds-row s m h (unlock_new x b k here at new clear) all = λ y held. all y (held_left (fresh_mark b AtShut) k s.marks y at.found shut_not_held held).held
 holds-row s m h (unlock_holder x b k here at same holds) all = λ y held.
     let other = held_left (without_hold k) k s.marks y (own_place b k s.marks at.found) (freed_not_held k.stage) held in
@@ -228,9 +234,11 @@ locks-row s m h (lock_granted x b k here at new free clear) = λ y held.
     (λ (own : IsOwn (fresh_mark b AtHeld) y). inr (subst (IsNewlyLocked s (Lock x b) _) (own_is b y AtHeld own) (record { asks = ap (λ z. Lock z b) here; note = refl; mark = k; found = at.found; inc = at.inc; num = new })))
     (λ (other : IsOther (fresh_mark b AtHeld) s.marks y). inl other.held)
     (held_set (fresh_mark b AtHeld) k s.marks y at.found held)
-locks-row s m h (open_granted x b k here at same was room) = λ y held. inl (held_left (opened_mark k) k s.marks y (own_place b k s.marks at.found) open_not_held held).held
+locks-row s m h (open_granted x b k here at same was room) =
+    λ y held. inl (held_left (opened_mark k) k s.marks y (own_place b k s.marks at.found) open_not_held held).held
 locks-row s m h (unlock_new x b k here at new clear) = λ y held. inl (held_left (fresh_mark b AtShut) k s.marks y at.found shut_not_held held).held
-locks-row s m h (unlock_holder x b k here at same holds) = λ y held. inl (held_left (without_hold k) k s.marks y (own_place b k s.marks at.found) (freed_not_held k.stage) held).held
+locks-row s m h (unlock_holder x b k here at same holds) =
+    λ y held. inl (held_left (without_hold k) k s.marks y (own_place b k s.marks at.found) (freed_not_held k.stage) held).held
 locks-row s m h (log_taken x b n es k here at next goes_on room) = λ y held.
     inl (held_left (with_received _ _ k) k s.marks y (own_place b k s.marks at.heard.found) (λ e. open_not_held (sym at.stage ∙ e)) held).held
 locks-row s m h r = λ y held. inl held

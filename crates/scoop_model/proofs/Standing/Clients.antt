@@ -1,35 +1,26 @@
--- What a client does leaves each block standing where it stood.
-use Rattle.std.proofs.Common.{◌≡◌, ◌⊎◌, inl, ◌+◌, true, false, true≢false, List, find, Option, Some, None, refl, sym, ap, ◌∙◌, subst, ⊎_elim, append-nil}
-use Rattle.std.specs.Prelude.{if◌then◌else◌, Ok}
+-- What a client does leaves each block standing where it stood, since it changes no handler. What is to be shown is that
+-- an Open is sent only of a block that stands at all of its handlers: the reservation that is opening has heard a Locked
+-- from each, and a block that was told to be locked stands there or was given up.
+use Rattle.std.proofs.Common.{◌≡◌, ◌⊎◌, inl, ◌+◌, true, true≢false, List, find, Option, Some, None, refl, sym, ap, ◌∙◌, subst, ⊎_elim, append-nil}
+use Rattle.std.specs.Prelude.{Ok}
 use Rattle.std.specs.Option.{option_map}
 use Rattle.scoop_message.specs.declared.name.Block.{Block}
 use Rattle.scoop_message.specs.declared.name.ClientId.{ClientId}
 use Rattle.scoop_message.specs.declared.name.HandlerId.{HandlerId}
-use Rattle.scoop_message.specs.declared.request.Entry.{Entry}
 use Rattle.scoop_message.specs.declared.message.Message.{Message}
 use Rattle.scoop_message.specs.declared.message.Message.TheVariants.{Hello, Locked, Log}
 use Rattle.scoop_message.proofs.Same.{block_decides}
-use Rattle.scoop_reserve.specs.declared.stage.Stage.{Stage}
-use Rattle.scoop_reserve.specs.declared.stage.Stage.TheVariants.{Locking, Opening, Unlocking, GivingUp as GivingBack}
-use Rattle.scoop_reserve.specs.declared.stage.Step.{Step}
-use Rattle.scoop_reserve.specs.declared.stage.Step.TheVariants as step
-use Rattle.scoop_reserve.specs.Handlers.{asked, has, without}
-use Rattle.scoop_reserve.specs.State.{ReservationState, at_stage}
-use Rattle.scoop_reserve.specs.Hearing.{given_up_in, is_gone}
-use Rattle.scoop_reserve.specs.Hearing as reservation
-use Rattle.scoop_reserve.proofs.Rows.{HeardRow as StepRow, passed_over as steps_over, one_is_locked, all_are_locked, is_busy, one_is_opened, all_are_opened, is_unlocked, is_given_back, heard_row as step_row}
+use Rattle.scoop_reserve.specs.declared.stage.Stage.TheVariants.{Locking, Opening, GivingUp as GivingBack}
+use Rattle.scoop_reserve.specs.State.{ReservationState}
 use Rattle.scoop_client.specs.declared.phase.ClientNote.{ClientNote}
-use Rattle.scoop_client.specs.Line.{acknowledged, all_over, at_line, first_entries}
-use Rattle.scoop_client.specs.State.{ClientState, idle, with_lines, with_reservation}
+use Rattle.scoop_client.specs.Line.{first_entries}
+use Rattle.scoop_client.specs.State.{ClientState}
 use Rattle.scoop_client.specs.Due.{due}
-use Rattle.scoop_client.specs.Hearing.{after_step, stepped, up_to}
 use Rattle.scoop_client.specs.Commands as client
-use Rattle.scoop_client.specs.Rows.{DueRow, owes_nothing, greets, reserves, logs, HeardRow, passed_over, is_welcomed, takes_step, is_acknowledged, is_accepted, ReserveRow, begins_block, LogRow, is_logged, EndRow, ends_block, GiveUpRow, gives_up}
+use Rattle.scoop_client.specs.Rows.{DueRow, owes_nothing, greets, reserves, logs, HeardRow}
 use Rattle.scoop_client.proofs.DueRows.{due_row}
-use Rattle.scoop_client.proofs.CommandRows.{command_row}
 use Rattle.scoop_model.specs.World.{World, Party, BlockLog, handlers_in, handlers_of, id_of, is_log_of, is_party, log_of, party_of, set_party}
 use Rattle.scoop_model.specs.Step.{with_sent}
-use Rattle.scoop_model.proofs.Basics.{by_test}
 use Rattle.scoop_model.proofs.Keys.{by_party, id_found}
 use Rattle.scoop_model.proofs.Order.Facts.{IsNamed, PartyFits, Ordered, all_found}
 use Rattle.scoop_model.proofs.Locking.{heard_locks, command_locks}
@@ -59,7 +50,9 @@ owed_no_lock r h m (opens at is) x b e = cc
 owed_no_lock r h m (unlocks at is) x b e = cc
 owed_no_lock r h m (gives_back at is) x b e = cc
 
-module _ (w : World) (o : Ordered w) (l : Logging w) (openings : Openings w) (i : Standing w) (c : ClientId) (p : Party) (at : party_of c w ≡ Some p) (h : HandlerId) where
+module _
+    (w : World) (o : Ordered w) (l : Logging w) (openings : Openings w) (i : Standing w) (c : ClientId) (p : Party) (at : party_of c w ≡ Some p)
+    (h : HandlerId) where
   abbrev sent_on : World
   sent_on = with_sent w (due p.client h)
 
@@ -125,19 +118,25 @@ module _
 
 -- ---- a client hears
 
-module _ (w : World) (c : ClientId) (p : Party) (at : party_of c w ≡ Some p) (i : (r : ReservationState) → p.client.reservation ≡ Some r → ReservationStands w r) where
+module _
+    (w : World) (c : ClientId) (p : Party) (at : party_of c w ≡ Some p)
+    (i : (r : ReservationState) → p.client.reservation ≡ Some r → ReservationStands w r) where
   locking_giving : Locking ≡ GivingBack → ⊥
   locking_giving e = cc
 
   -- the block of a reservation that locks was not given up
-  told_stands : (r : ReservationState) → p.client.reservation ≡ Some r → r.stage ≡ Locking → (h : HandlerId) → LockedStands w (Locked h r.block) → StandsAt w h r.block
+  told_stands :
+      (r : ReservationState) → p.client.reservation ≡ Some r → r.stage ≡ Locking → (h : HandlerId) → LockedStands w (Locked h r.block) → StandsAt w h r.block
   told_stands r held is h t =
-      ⊎_elim (λ (on : StandsAt w h r.block). on) (λ (g : IsGivenUp w r.block). absurd (locking_giving (sym is ∙ g.left c p at r held refl))) (t.stands h r.block refl)
+      ⊎_elim (λ (on : StandsAt w h r.block). on)
+      (λ (g : IsGivenUp w r.block). absurd (locking_giving (sym is ∙ g.left c p at r held refl))) (t.stands h r.block refl)
 
   pub heard_stands :
       (m : Message) (d : ClientState) (note : ClientNote) → HeardRow p.client m d note → LockedStands w m → (s : ReservationState) → d.reservation ≡ Some s
       → ReservationStands w s
-  heard_stands m d note heard t = heard_locks (StandsAt w) p.client i m d note heard (λ r held is h same. told_stands r held is h (subst (LockedStands w) same t))
+  heard_stands m d note heard t =
+      heard_locks (StandsAt w) p.client i m d note heard (λ r held is h same. told_stands r held is h (subst (LockedStands w) same t))
 
-  pub command_stands : (d : ClientState) (x : client.Command) → client.command p.client x ≡ Ok d → (s : ReservationState) → d.reservation ≡ Some s → ReservationStands w s
+  pub command_stands :
+      (d : ClientState) (x : client.Command) → client.command p.client x ≡ Ok d → (s : ReservationState) → d.reservation ≡ Some s → ReservationStands w s
   command_stands d x e = command_locks (StandsAt w) p.client i d x e

@@ -1,7 +1,7 @@
 -- A block that opened somewhere stands at each of its handlers: it has opened there, holds the lock there, or is past
 -- there for good. What every event keeps of that, over what messages tell.
 use Rattle.std.proofs.Common.{◌≡◌, ◌⊎◌, inl, inr, ℕ, zero, suc, ◌-◌, ◌==◌, ◌<◌, ◌||◌, true, false, true≢false, List, [], ◌∷◌, ◌++◌, slice_get, Option, Some, None, refl, sym, ap, ◌∙◌, subst, ⊎_elim, arith}
-use Rattle.std.specs.Prelude.{⊤, if◌then◌else◌, option_to_list}
+use Rattle.std.specs.Prelude.{if◌then◌else◌, option_to_list}
 use Rattle.std.specs.List.{AllByRecursion, list_any}
 use Rattle.scoop_message.specs.declared.name.Block.{Block}
 use Rattle.scoop_message.specs.declared.name.ClientId.{ClientId}
@@ -83,7 +83,8 @@ pub past_more : (old new : List Mark) (b : Block) → MarksGrow old new → IsPa
 past_more old new b grows p =
     let k = p.mark in
     let newer = p.newer in
-    let r = reached_more old new (record { client = b.client; inc = k.inc; num = k.num }) grows (record { mark = k; found = p.found; upto = record { inc = omega arith; num = λ e. omega arith } }) in
+    let r =
+    reached_more old new (record { client = b.client; inc = k.inc; num = k.num }) grows (record { mark = k; found = p.found; upto = record { inc = omega arith; num = λ e. omega arith } }) in
     let up = r.upto.inc in
     record { mark = r.mark; found = r.found; newer = omega (arith, newer, up) }
 
@@ -105,7 +106,9 @@ pub record IsNewOpen (b : Block) (o : Option Message) : Type 0 where
   pub is : o ≡ Some message
   pub opens : is_open_of b message ≡ true
 
-any_pushed : (b : Block) (ms : List Message) (o : Option Message) → list_any (is_open_of b) (ms ++ option_to_list o) ≡ true → (list_any (is_open_of b) ms ≡ true) ⊎ IsNewOpen b o
+any_pushed :
+    (b : Block) (ms : List Message) (o : Option Message) → list_any (is_open_of b) (ms ++ option_to_list o) ≡ true
+    → (list_any (is_open_of b) ms ≡ true) ⊎ IsNewOpen b o
 any_pushed b [] None e = absurd (true≢false (sym e))
 any_pushed b [] (Some m) e =
     by_test (λ t. is_open_of b m ≡ t → (t || false) ≡ true → (false ≡ true) ⊎ IsNewOpen b (Some m)) (is_open_of b m)
@@ -126,7 +129,8 @@ open_sent w k m b was opens =
     any_at : (ms : List Message) (j : ℕ) → slice_get ms j ≡ Some m → list_any (is_open_of b) ms ≡ true
     any_at [] j e = absurd (cc)
     any_at (x ∷ xs) zero e = let same : x ≡ m = cc in ap (λ t. t || list_any (is_open_of b) xs) (subst (λ y. is_open_of b y ≡ true) (sym same) opens)
-    any_at (x ∷ xs) (suc j) e = let rest = any_at xs j e in by_test (λ t. (t || list_any (is_open_of b) xs) ≡ true) (is_open_of b x) (λ here. refl) (λ there. rest)
+    any_at (x ∷ xs) (suc j) e =
+        let rest = any_at xs j e in by_test (λ t. (t || list_any (is_open_of b) xs) ≡ true) (is_open_of b x) (λ here. refl) (λ there. rest)
 
 module _ (v w : World) (x : StandsOn v w) (i : Standing v) where
   pub locked_more : (m : Message) → LockedStands v m → LockedStands w m
@@ -158,7 +162,9 @@ module _ (v w : World) (x : StandsOn v w) (i : Standing v) where
   opening_giving : Opening ≡ GivingUp → ⊥
   opening_giving e = cc
 
-  pub stage_more : (c : ClientId) (p : Party) → party_of c v ≡ Some p → (r : ReservationState) → p.client.reservation ≡ Some r → (stage : Stage) → r.stage ≡ stage → StageStands v r stage → StageStands w r stage
+  pub stage_more :
+      (c : ClientId) (p : Party) → party_of c v ≡ Some p → (r : ReservationState) → p.client.reservation ≡ Some r → (stage : Stage) → r.stage ≡ stage
+      → StageStands v r stage → StageStands w r stage
   stage_more c p at r held Locking is f = λ h member gone. not_given r (λ g. locking_giving (sym is ∙ g.left c p at r held refl)) h (f h member gone)
   stage_more c p at r held Opening is f = λ h member. not_given r (λ g. opening_giving (sym is ∙ g.left c p at r held refl)) h (f h member)
   stage_more c p at r held Unlocking is f = tt
