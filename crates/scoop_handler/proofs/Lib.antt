@@ -5,6 +5,7 @@ pub mod Beside
 pub mod States
 pub mod Fronts
 pub mod TableRows
+pub mod OneRow
 pub mod TableLaws
 pub mod After
 pub mod Taking
