@@ -3,7 +3,7 @@ use Rattle.std.proofs.Common.{◌≡◌, ◌≢◌, ◌↔◌, ℕ, ◌+◌, ◌
 use Rattle.std.specs.Prelude.{is_none, Ok}
 use Rattle.std.proofs.lemmas.Bool.{eqb-true, eq-eqb}
 use Rattle.std.proofs.lemmas.Bool.Decides.{nat_tests}
-use Rattle.scoop_message.specs.declared.limits.TheConstants.{MAX_CLIENTS, MAX_QUEUES}
+use Rattle.scoop_message.specs.declared.limits.TheConstants.{MAX_MARKS, MAX_QUEUES}
 use Rattle.scoop_message.specs.declared.name.Block.{Block}
 use Rattle.scoop_message.specs.declared.name.ClientId.{ClientId}
 use Rattle.scoop_message.specs.declared.name.HandlerId.{HandlerId}
@@ -234,9 +234,9 @@ module _ (s : HandlerState) where
   row_gives m n (not_for_handlers x is) = to_clients m is
   row_gives m n (wrong_handler x is apart) = to_another m is apart
   row_gives m n (too_many_clients h c inc here none full) =
-      here_gives h _ n here (ap (hear_hello s c inc) none ∙ chosen (length s.marks == MAX_CLIENTS) _ _ (eq-eqb (length s.marks) MAX_CLIENTS full))
+      here_gives h _ n here (ap (hear_hello s c inc) none ∙ chosen (length s.marks == MAX_MARKS) _ _ (eq-eqb (length s.marks) MAX_MARKS full))
   row_gives m n (first_greeting h c inc here none room) =
-      here_gives h _ n here (ap (hear_hello s c inc) none ∙ passed (length s.marks == MAX_CLIENTS) _ _ (apart_numbers (length s.marks) MAX_CLIENTS room))
+      here_gives h _ n here (ap (hear_hello s c inc) none ∙ passed (length s.marks == MAX_MARKS) _ _ (apart_numbers (length s.marks) MAX_MARKS room))
   row_gives m n (newer_greeting h c inc k here found newer) =
       here_gives h _ n here (ap (hear_hello s c inc) found ∙ chosen (nat_lt k.inc inc) _ _ (is_below k.inc inc newer))
   row_gives m n (same_greeting h c inc k here found same) =

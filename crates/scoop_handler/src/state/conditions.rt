@@ -1,5 +1,5 @@
-//! Whether parts are those of a handler's state. There are at most 64 marks and 64 private queues, so they
-//! are searched from the front.
+//! Whether parts are those of a handler's state. There are at most `MAX_MARKS` marks and
+//! `MAX_QUEUES` private queues, so they are searched from the front.
 
 ghost use Rattle.std.specs.Prelude.{◌≡◌, ◌↔◌, ◌+◌, List, length, IsTrue, IfSome, slice_get};
 ghost use Rattle.std.specs.List.{AllByRecursion};
@@ -10,7 +10,7 @@ ghost use Rattle.scoop_handler.specs.State.{state_of, FitsMark, HasMark, HasQueu
 
 use crate::mark::{Mark, Stage};
 use crate::marks::find_mark;
-use scoop_message::limits::MAX_CLIENTS;
+use scoop_message::limits::MAX_MARKS;
 use scoop_message::{Block, Words};
 use scoop_queue::{Head, QueueOfQueues, QueueState};
 use std::alloc::Allocator;
@@ -157,7 +157,7 @@ pub(crate) fn is_state<A: Allocator>(
 {
     let _words = words.len();
     let _queues = queues.list_len();
-    marks.len() <= MAX_CLIENTS
+    marks.len() <= MAX_MARKS
         && is_ascending(marks)
         && is_under_way(holder, marks)
         && fit(marks, holder, queues)
