@@ -1,4 +1,5 @@
 pub mod MarkLists
+pub mod MarkPlaces
 pub mod QueuePlaces
 pub mod Same
 pub mod Beside

@@ -28,6 +28,7 @@ fn is_ascending(marks: &[Mark]) -> bool
 
 // Whether the holder is its client's newest block, and that is held or open.
 fn is_under_way(holder: Option<Block>, marks: &[Mark]) -> bool
+    requires { IsAscending marks.now }
     ensures { IsTrue result ↔ HolderIsUnderWay holder marks.now }
 {
     let Some(block) = holder else {
@@ -121,6 +122,7 @@ fn fits_mark(head: Head, next: u64, mark: Mark) -> bool
 
 // Whether the private queue at a place, if there is one, fits its client's mark.
 fn has_mark<A: Allocator>(marks: &[Mark], queues: &QueueOfQueues<A>, i: usize) -> bool
+    requires { IsAscending marks.now }
     ensures { IsTrue result ↔ IfSome (slice_get queues.now i) (HasMark marks.now) }
 {
     let Some(head) = queues.head(i) else {
@@ -136,6 +138,7 @@ fn has_mark<A: Allocator>(marks: &[Mark], queues: &QueueOfQueues<A>, i: usize) -
 
 // Whether each private queue fits its client's mark.
 fn have_marks<A: Allocator>(marks: &[Mark], queues: &QueueOfQueues<A>) -> bool
+    requires { IsAscending marks.now }
     ensures { IsTrue result ↔ AllByRecursion (HasMark marks.now) queues.now }
 {
     for i in 0..queues.list_len() {
