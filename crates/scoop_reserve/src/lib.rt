@@ -10,6 +10,7 @@ mod handlers;
 mod reservation;
 mod set;
 mod stage;
+pub mod theorems;
 
 pub use error::{ReserveError, TooLate};
 pub use handlers::{first_repeated, has};

@@ -1,6 +1,6 @@
 use Rattle.std.proofs.Common.{◌-◌, length, sym, ◌∙◌, arith}
-use Rattle.scoop_queue.proofs.Ends.{ends-last}
-use Rattle.scoop_queue.proofs.ending.ends.Goals as goal
+use Rattle.scoop_message.proofs.LastEntry.{ends-last}
+use Rattle.scoop_message.proofs.entries.ends.Goals as goal
 
 pub returns-in-len1-up : goal.returns-in-len1-up
 returns-in-len1-up c =
