@@ -8,6 +8,8 @@
 mod datagram;
 mod lane;
 mod link;
+mod pace;
+mod paced_link;
 mod party;
 mod script;
 mod script_link;
@@ -17,11 +19,12 @@ mod udp_link;
 pub use datagram::Datagram;
 pub use lane::Lane;
 pub use link::{Link, LinkFault};
+pub use paced_link::PacedLink;
 pub use party::Party;
 pub use script::Script;
 pub use script_link::ScriptLink;
 pub use tape_link::TapeLink;
-pub use udp_link::{OpenLinkError, Peers, UdpLink};
+pub use udp_link::{Addresses, OpenLinkError, Peers, UdpLink};
 
 #[cfg(test)]
 mod tests;
