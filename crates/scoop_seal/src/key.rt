@@ -75,3 +75,6 @@ impl Key {
         &self.bytes
     }
 }
+
+#[cfg(test)]
+mod tests;

@@ -14,6 +14,3 @@ pub use key::{Key, KeyError};
 pub use mac::hmac;
 pub use sealed_link::SealedLink;
 pub use tag::{MOST_BYTES, TAG_LEN};
-
-#[cfg(test)]
-mod tests;

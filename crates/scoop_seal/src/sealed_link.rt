@@ -155,3 +155,6 @@ impl<L: Link> Link for SealedLink<L> {
         self.count()
     }
 }
+
+#[cfg(test)]
+mod tests;

@@ -1,5 +1,5 @@
 use Rattle.std.proofs.Common.{◌∙◌}
-use Rattle.scoop_seal.proofs.Opening.{so_far-more, opens_then}
+use Rattle.scoop_seal.proofs.Opening.{so_far-more}
 use Rattle.scoop_seal.proofs.sealed_link.SealedLinkLink.receive.Goals as goal
 
 pub loop-preserved : goal.loop-preserved
