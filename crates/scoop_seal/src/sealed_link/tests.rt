@@ -94,14 +94,20 @@ fn each_bit_matters(rt: HostRuntime) -> Result<(), Fail> {
     Ok(())
 }
 
+// Feeds so many of the first bytes.
+fn feed_front(tape: &mut TapeLink, datagram: &[u8; 42], len: usize) -> Result<(), Fail> {
+    tape.feed(&datagram[..len.min(42)])?;
+    Ok(())
+}
+
 #[test]
 fn forged_datagrams_are_refused_and_the_link_goes_on(rt: HostRuntime) -> Result<(), Fail> {
     let datagram = sealed_with(&KEY);
     let mut tape = TapeLink::new(rt.alloc(), 0)?;
     tape.feed(&sealed_with(&OTHER_KEY))?;
     tape.feed(&BYTES)?;
-    tape.feed(&datagram[..41])?;
-    tape.feed(&datagram[..15])?;
+    feed_front(&mut tape, &datagram, 41)?;
+    feed_front(&mut tape, &datagram, 15)?;
     tape.feed(&[])?;
     tape.feed(&[3; 192])?;
     tape.feed(&datagram)?;
