@@ -1,8 +1,9 @@
 //! Links: ways to send and receive datagrams, none of which is sure to arrive.
 //!
-//! `Link` is what every link keeps. `UdpLink` carries datagrams over UDP on this machine. The others
-//! are for tests: the two ends of a `ScriptLink` share lanes that drop and double by a script, and a
-//! `TapeLink` gives what it was fed and keeps what it was sent. No send and no receive takes memory.
+//! `Link` is what every link keeps. `UdpLink` carries datagrams over UDP, and `PacedLink` holds repeated
+//! ones back while an earlier one may be on its way. The others are for tests: the two ends of a
+//! `ScriptLink` share lanes that drop and double by a script, and a `TapeLink` gives what it was fed and
+//! keeps what it was sent. No send and no receive takes memory.
 #![tactic(auto)]
 
 mod datagram;

@@ -32,7 +32,7 @@ pub struct Peers<'a> {
 
 /// Which address is one's own, and where other parties are reached: by IPv4 or IPv6. What one's own address
 /// can't reach, as one of the other family, is a fault of each send to it.
-#[derive(Clone, Copy)]
+#[derive(Clone, Copy, Debug)]
 pub struct Addresses<'a> {
     /// The address that receives.
     pub own: SocketAddr,
