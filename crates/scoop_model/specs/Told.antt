@@ -1,5 +1,5 @@
 -- What each message that was ever sent tells, for good: of greetings, locks, openings, logs and answers.
-use Rattle.std.specs.Prelude.{◌≡◌, ◌⊎◌, ℕ, ◌+◌, ◌-◌, ◌<◌, ◌≤◌, true, List, slice_get, Some, Contains}
+use Rattle.std.specs.Prelude.{◌≡◌, ◌⊎◌, ℕ, ◌+◌, ◌-◌, ◌≤◌, true, List, slice_get, Some, Contains}
 use Rattle.std.specs.Option.{option_map_or}
 use Rattle.scoop_message.specs.declared.name.Block.{Block}
 use Rattle.scoop_message.specs.declared.name.ClientId.{ClientId}
@@ -11,6 +11,7 @@ use Rattle.scoop_message.specs.declared.message.Message.TheVariants.{Hello, Welc
 use Rattle.scoop_handler.specs.declared.mark.Mark.{Mark}
 use Rattle.scoop_handler.specs.declared.mark.Stage.TheVariants.{Shut}
 use Rattle.scoop_handler.specs.Marks.{mark_of}
+use Rattle.scoop_handler.specs.Rows.{IsPast}
 use Rattle.scoop_reserve.specs.declared.stage.Stage.TheVariants.{GivingUp}
 use Rattle.scoop_reserve.specs.Handlers.{has}
 use Rattle.scoop_reserve.specs.State.{ReservationState}
@@ -50,10 +51,6 @@ pub record WasGrantedAtAll (w : World) (b : Block) : Type 0 where
   pub handlers : List HandlerId
   pub set : handlers_of b w ≡ Some handlers
   pub granted : (h : HandlerId) → has handlers h ≡ true → WasGranted w h b
-
--- the mark is past the block: of a newer block of its client
-abbrev pub IsPast : Block → Mark → Type 0
-IsPast b k = (b.inc < k.inc) ⊎ ((k.inc ≡ b.inc) × (b.num < k.num))
 
 -- the mark is shut for the block, or past it
 pub record IsOver (marks : List Mark) (b : Block) : Type 0 where

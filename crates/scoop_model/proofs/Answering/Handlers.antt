@@ -9,7 +9,7 @@ use Rattle.scoop_message.specs.declared.name.Block.{Block}
 use Rattle.scoop_message.specs.declared.name.HandlerId.{HandlerId}
 use Rattle.scoop_message.specs.declared.request.Answer.{Answer as ObjectAnswer}
 use Rattle.scoop_message.specs.declared.message.Message.{Message}
-use Rattle.scoop_message.specs.declared.message.Message.TheVariants.{Hello, Welcome, Lock, Locked, Busy, Open, Opened, Unlock, Unlocked, Log, Logged, Answer}
+use Rattle.scoop_message.specs.declared.message.Message.TheVariants.{Answer}
 use Rattle.scoop_message.specs.Message.{same_handler}
 use Rattle.scoop_message.proofs.Same.{pair}
 use Rattle.scoop_object.specs.Class.{ClassTable}
@@ -71,17 +71,7 @@ reply_tells v h rs (Some r) at t m e = let same : r ≡ m = cc in subst (TellsAn
   where
     told : (r : Message) → TellsRan rs h (Some r) → TellsAnswer v r
     told (Answer x b n a) t = subst (λ j. HasRun (ran_at j v) b n a) (sym t.0) (subst (λ xs. HasRun xs b n a) (sym at) t.1)
-    told (Hello x c inc) t = tt
-    told (Welcome x c inc) t = tt
-    told (Lock x b) t = tt
-    told (Locked x b) t = tt
-    told (Busy x b) t = tt
-    told (Open x b) t = tt
-    told (Opened x b) t = tt
-    told (Unlock x b) t = tt
-    told (Unlocked x b) t = tt
-    told (Log x b n es) t = tt
-    told (Logged x b n) t = tt
+    told m t = tt
 
 -- the task of a job that is out has the class of its handler, and the words that these are
 job_object : (c : Core) (t : Task) {words : List ℕ} → job_out c ≡ Some t → c.state.words ≡ words → pair t.class t.words ≡ pair c.class words

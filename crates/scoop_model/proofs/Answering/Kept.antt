@@ -8,7 +8,7 @@ use Rattle.scoop_message.specs.declared.name.Block.{Block}
 use Rattle.scoop_message.specs.declared.name.HandlerId.{HandlerId}
 use Rattle.scoop_message.specs.declared.request.Answer.{Answer as ObjectAnswer}
 use Rattle.scoop_message.specs.declared.message.Message.{Message}
-use Rattle.scoop_message.specs.declared.message.Message.TheVariants.{Hello, Welcome, Lock, Locked, Busy, Open, Opened, Unlock, Unlocked, Log, Logged, Answer}
+use Rattle.scoop_message.specs.declared.message.Message.TheVariants.{Answer}
 use Rattle.scoop_message.specs.Entries.{last_number}
 use Rattle.scoop_message.specs.Entry.{is_query}
 use Rattle.scoop_message.specs.Message.{same_block}
@@ -51,18 +51,8 @@ keeps_none rs b stage = record { has = λ n a e. absurd (cc) }
 -- an Answer is of this handler, and tells what ran
 abbrev pub TellsRan : List Ran → HandlerId → Option Message → Type 0
 TellsRan rs h None = ⊤
-TellsRan rs h (Some (Hello x c inc)) = ⊤
-TellsRan rs h (Some (Welcome x c inc)) = ⊤
-TellsRan rs h (Some (Lock x b)) = ⊤
-TellsRan rs h (Some (Locked x b)) = ⊤
-TellsRan rs h (Some (Busy x b)) = ⊤
-TellsRan rs h (Some (Open x b)) = ⊤
-TellsRan rs h (Some (Opened x b)) = ⊤
-TellsRan rs h (Some (Unlock x b)) = ⊤
-TellsRan rs h (Some (Unlocked x b)) = ⊤
-TellsRan rs h (Some (Log x b n es)) = ⊤
-TellsRan rs h (Some (Logged x b n)) = ⊤
 TellsRan rs h (Some (Answer x b n a)) = (x ≡ h) × HasRun rs b n a
+TellsRan rs h (Some m) = ⊤
 
 module _ (rs : List Ran) (s : HandlerState) (all : AllByRecursion (KeepsRan rs) s.marks) where
   -- the mark of a block that is heard

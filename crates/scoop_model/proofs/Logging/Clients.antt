@@ -9,7 +9,7 @@ use Rattle.scoop_message.specs.declared.name.Block.{Block}
 use Rattle.scoop_message.specs.declared.name.HandlerId.{HandlerId}
 use Rattle.scoop_message.specs.declared.request.Entry.{Entry}
 use Rattle.scoop_message.specs.declared.message.Message.{Message}
-use Rattle.scoop_message.specs.declared.message.Message.TheVariants.{Hello, Welcome, Lock, Locked, Busy, Open, Opened, Unlock, Unlocked, Log, Logged, Answer}
+use Rattle.scoop_message.specs.declared.message.Message.TheVariants.{Hello, Log}
 use Rattle.scoop_message.specs.Entries.{EndOnlyLast}
 use Rattle.scoop_message.specs.Message.{same_handler}
 use Rattle.scoop_message.proofs.Same.{handler_decides}
@@ -41,17 +41,7 @@ use Rattle.scoop_model.proofs.Logging.Lines.{by_line, handlers_at, handlers_at_l
 module _ (v w : World) where
   pub carries_more : Grown v w → (m : Message) → Carries v m → Carries w m
   carries_more grown (Log h b n es) s = let x = grown b h in subst (λ log. Stands log n es) x.1 (stands_more (log_of b h v) x.0 n es s)
-  carries_more grown (Hello h c inc) s = tt
-  carries_more grown (Welcome h c inc) s = tt
-  carries_more grown (Lock h b) s = tt
-  carries_more grown (Locked h b) s = tt
-  carries_more grown (Busy h b) s = tt
-  carries_more grown (Open h b) s = tt
-  carries_more grown (Opened h b) s = tt
-  carries_more grown (Unlock h b) s = tt
-  carries_more grown (Unlocked h b) s = tt
-  carries_more grown (Logged h b n) s = tt
-  carries_more grown (Answer h b n a) s = tt
+  carries_more grown m s = tt
 
   -- the log of this block stays
   abbrev pub SameLogs : Block → Type 0

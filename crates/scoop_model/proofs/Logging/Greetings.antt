@@ -56,16 +56,7 @@ IsGreeted w h c inc = IsGranted w h (block_named c inc 0)
 abbrev pub Greets : World → Message → Type 0
 Greets w (Hello h c inc) = inc ≤ inc_of w c
 Greets w (Welcome h c inc) = IsGreeted w h c inc
-Greets w (Lock h b) = ⊤
-Greets w (Locked h b) = ⊤
-Greets w (Busy h b) = ⊤
-Greets w (Open h b) = ⊤
-Greets w (Opened h b) = ⊤
-Greets w (Unlock h b) = ⊤
-Greets w (Unlocked h b) = ⊤
-Greets w (Log h b n es) = ⊤
-Greets w (Logged h b n) = ⊤
-Greets w (Answer h b n a) = ⊤
+Greets w m = ⊤
 
 -- the mark's incarnation isn't above its client's
 pub record IsMarkUpto (bound : ClientId → ℕ) (k : Mark) : Type 0 where
@@ -88,16 +79,7 @@ module _ (v w : World) (x : Onward v w) where
   greets_more : (m : Message) → Greets v m → Greets w m
   greets_more (Hello h c inc) g = omega (arith, g, x.incs c)
   greets_more (Welcome h c inc) g = x.granted h (block_named c inc 0) g
-  greets_more (Lock h b) g = tt
-  greets_more (Locked h b) g = tt
-  greets_more (Busy h b) g = tt
-  greets_more (Open h b) g = tt
-  greets_more (Opened h b) g = tt
-  greets_more (Unlock h b) g = tt
-  greets_more (Unlocked h b) g = tt
-  greets_more (Log h b n es) g = tt
-  greets_more (Logged h b n) g = tt
-  greets_more (Answer h b n a) g = tt
+  greets_more m g = tt
 
   marks_more : (marks : List Mark) → AllByRecursion (IsMarkUpto (inc_of v)) marks → AllByRecursion (IsMarkUpto (inc_of w)) marks
   marks_more marks all = all_more_of (IsMarkUpto (inc_of v)) (IsMarkUpto (inc_of w)) (λ k u. record { upto = omega (arith, u.upto, x.incs k.client) }) marks all
@@ -206,16 +188,7 @@ abbrev GreetsBack : HandlerState → Option Message → Type 0
 GreetsBack s None = ⊤
 GreetsBack s (Some (Hello x c inc)) = ⊥
 GreetsBack s (Some (Welcome x c inc)) = (x ≡ s.number) × IsReachedIn s.marks (block_named c inc 0)
-GreetsBack s (Some (Lock x b)) = ⊤
-GreetsBack s (Some (Locked x b)) = ⊤
-GreetsBack s (Some (Busy x b)) = ⊤
-GreetsBack s (Some (Open x b)) = ⊤
-GreetsBack s (Some (Opened x b)) = ⊤
-GreetsBack s (Some (Unlock x b)) = ⊤
-GreetsBack s (Some (Unlocked x b)) = ⊤
-GreetsBack s (Some (Log x b n es)) = ⊤
-GreetsBack s (Some (Logged x b n)) = ⊤
-GreetsBack s (Some (Answer x b n a)) = ⊤
+GreetsBack s (Some m) = ⊤
 
 reached_at : (marks : List Mark) (c : ClientId) (inc : ℕ) (k : Mark) → mark_of c marks ≡ Some k → k.inc ≡ inc → IsReachedIn marks (block_named c inc 0)
 reached_at marks c inc k found same = record { mark = k; found = found; upto = record { inc = omega (arith, same); num = λ e. omega arith } }
@@ -236,16 +209,7 @@ back_greets v s (Some n) here t m e = let same : n ≡ m = cc in subst (Greets v
     told : (n : Message) → GreetsBack s.core.state (Some n) → Greets v n
     told (Hello h c inc) t = absurd t
     told (Welcome h c inc) t = subst (λ j. IsGreeted v j c inc) (sym t.0) (record { site = s; found = here; reached = t.1 })
-    told (Lock h b) t = tt
-    told (Locked h b) t = tt
-    told (Busy h b) t = tt
-    told (Open h b) t = tt
-    told (Opened h b) t = tt
-    told (Unlock h b) t = tt
-    told (Unlocked h b) t = tt
-    told (Log h b n es) t = tt
-    told (Logged h b n) t = tt
-    told (Answer h b n a) t = tt
+    told m t = tt
 
 hello_upto : (w : World) (m : Message) → Greets w m → HelloUpto (inc_of w) m
 hello_upto w m g h c inc same = subst (Greets w) same g

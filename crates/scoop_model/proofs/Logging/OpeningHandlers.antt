@@ -90,18 +90,11 @@ module _ (bs new : List Block) (more : (b : Block) → has_block bs b ≡ true �
   -- an Opened is of a block that has opened here, and no Open, Unlock or Log is a reply
   abbrev ShowsBack : HandlerState → Option Message → Type 0
   ShowsBack s None = ⊤
-  ShowsBack s (Some (Hello x c inc)) = ⊤
-  ShowsBack s (Some (Welcome x c inc)) = ⊤
-  ShowsBack s (Some (Lock x b)) = ⊤
-  ShowsBack s (Some (Locked x b)) = ⊤
-  ShowsBack s (Some (Busy x b)) = ⊤
   ShowsBack s (Some (Open x b)) = ⊥
   ShowsBack s (Some (Opened x b)) = (x ≡ s.number) × (has_block new b ≡ true)
   ShowsBack s (Some (Unlock x b)) = ⊥
-  ShowsBack s (Some (Unlocked x b)) = ⊤
   ShowsBack s (Some (Log x b n es)) = ⊥
-  ShowsBack s (Some (Logged x b n)) = ⊤
-  ShowsBack s (Some (Answer x b n a)) = ⊤
+  ShowsBack s (Some m) = ⊤
 
   back-row :
       (s : HandlerState) (m : Message) (h : Hearing) → Row s m h → ((b : Block) → h.1.note ≡ OpenedNote b → has_block new b ≡ true)

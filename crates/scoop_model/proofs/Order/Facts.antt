@@ -7,7 +7,7 @@ use Rattle.std.specs.Option.{option_map}
 use Rattle.scoop_message.specs.declared.name.Block.{Block}
 use Rattle.scoop_message.specs.declared.name.HandlerId.{HandlerId}
 use Rattle.scoop_message.specs.declared.message.Message.{Message}
-use Rattle.scoop_message.specs.declared.message.Message.TheVariants.{Hello, Welcome, Lock, Locked, Busy, Open, Opened, Unlock, Unlocked, Log, Logged, Answer}
+use Rattle.scoop_message.specs.declared.message.Message.TheVariants.{Lock, Locked, Open}
 use Rattle.scoop_reserve.specs.declared.stage.Stage.{Stage}
 use Rattle.scoop_reserve.specs.declared.stage.Stage.TheVariants.{Locking, Opening, Unlocking, GivingUp}
 use Rattle.scoop_reserve.specs.Handlers.{has}
@@ -42,18 +42,10 @@ pub record IsGrantedAtAll (w : World) (b : Block) : Type 0 where
 
 -- what a message that was sent tells for good
 abbrev pub Tells : World → Message → Type 0
-Tells w (Hello h c inc) = ⊤
-Tells w (Welcome h c inc) = ⊤
 Tells w (Lock h b) = IsNamed w h b
 Tells w (Locked h b) = IsGranted w h b
-Tells w (Busy h b) = ⊤
 Tells w (Open h b) = IsGrantedAtAll w b
-Tells w (Opened h b) = ⊤
-Tells w (Unlock h b) = ⊤
-Tells w (Unlocked h b) = ⊤
-Tells w (Log h b n es) = ⊤
-Tells w (Logged h b n) = ⊤
-Tells w (Answer h b n a) = ⊤
+Tells w m = ⊤
 
 -- ---- handlers and clients
 
@@ -99,18 +91,10 @@ module _ (v w : World) (x : Extends v w) where
   all_more b g = record { handlers = g.handlers; set = x.sets b g.handlers g.set; granted = λ h e. x.granted h b (g.granted h e) }
 
   pub tells_more : (m : Message) → Tells v m → Tells w m
-  tells_more (Hello h c inc) t = tt
-  tells_more (Welcome h c inc) t = tt
   tells_more (Lock h b) t = record { handlers = t.handlers; set = x.sets b t.handlers t.set; member = t.member }
   tells_more (Locked h b) t = x.granted h b t
-  tells_more (Busy h b) t = tt
   tells_more (Open h b) t = all_more b t
-  tells_more (Opened h b) t = tt
-  tells_more (Unlock h b) t = tt
-  tells_more (Unlocked h b) t = tt
-  tells_more (Log h b n es) t = tt
-  tells_more (Logged h b n) t = tt
-  tells_more (Answer h b n a) t = tt
+  tells_more m t = tt
 
   locks_more : (r : ReservationState) (stage : Stage) → LocksAt v r stage → LocksAt w r stage
   locks_more r Locking l = (l.0, λ h e f. x.granted h r.block (l.1 h e f))

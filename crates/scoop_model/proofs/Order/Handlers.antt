@@ -7,7 +7,7 @@ use Rattle.std.specs.List.{AllByRecursion}
 use Rattle.scoop_message.specs.declared.name.Block.{Block}
 use Rattle.scoop_message.specs.declared.name.HandlerId.{HandlerId}
 use Rattle.scoop_message.specs.declared.message.Message.{Message}
-use Rattle.scoop_message.specs.declared.message.Message.TheVariants.{Hello, Welcome, Lock, Locked, Busy, Open, Opened, Unlock, Unlocked, Log, Logged, Answer}
+use Rattle.scoop_message.specs.declared.message.Message.TheVariants.{Lock, Locked, Open}
 use Rattle.scoop_message.specs.Message.{handler_of, same_handler}
 use Rattle.scoop_handler.specs.declared.note.Note.{Note}
 use Rattle.scoop_handler.specs.declared.note.Note.TheVariants.{Greeted, Granted, Held, Opened as OpenedNote, Freed, Took, Known, Dropped}
@@ -101,18 +101,10 @@ reply_tells v s None here t m e = absurd (cc)
 reply_tells v s (Some n) here t m e = let same : n ≡ m = cc in subst (Tells v) same (told n t)
   where
     told : (n : Message) → TellsBack s.core.state (Some n) → Tells v n
-    told (Hello h c inc) t = tt
-    told (Welcome h c inc) t = tt
     told (Lock h b) t = absurd t
     told (Locked h b) t = subst (λ j. IsGranted v j b) (sym t.0) (record { site = s; found = here; reached = t.1 })
-    told (Busy h b) t = tt
     told (Open h b) t = absurd t
-    told (Opened h b) t = tt
-    told (Unlock h b) t = tt
-    told (Unlocked h b) t = tt
-    told (Log h b n es) t = tt
-    told (Logged h b n) t = tt
-    told (Answer h b n a) t = tt
+    told m t = tt
 
 -- the site with another state, and what has newly opened
 abbrev site_with : Site → HandlerState → List Block → Site

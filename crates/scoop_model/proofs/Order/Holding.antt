@@ -7,7 +7,7 @@ use Rattle.std.specs.Option.{option_map}
 use Rattle.scoop_message.specs.declared.name.Block.{Block}
 use Rattle.scoop_message.specs.declared.name.ClientId.{ClientId}
 use Rattle.scoop_message.specs.declared.message.Message.{Message}
-use Rattle.scoop_message.specs.declared.message.Message.TheVariants.{Hello, Welcome, Lock, Locked, Busy, Open, Opened, Unlock, Unlocked, Log, Logged, Answer}
+use Rattle.scoop_message.specs.declared.message.Message.TheVariants.{Hello, Lock, Locked, Open, Unlock, Log}
 use Rattle.scoop_message.specs.Message.{same_client}
 use Rattle.scoop_handler.specs.declared.mark.Mark.{Mark}
 use Rattle.scoop_handler.specs.declared.mark.Stage.{Stage}
@@ -165,17 +165,12 @@ pub record IsNewlyOpened (s : HandlerState) (m : Message) (h : Hearing) (b : Blo
 abbrev pub TellsBack : HandlerState → Option Message → Type 0
 TellsBack s None = ⊤
 TellsBack s (Some (Hello x c inc)) = ⊥
-TellsBack s (Some (Welcome x c inc)) = ⊤
 TellsBack s (Some (Lock x b)) = ⊥
 TellsBack s (Some (Locked x b)) = (x ≡ s.number) × IsReachedIn s.marks b
-TellsBack s (Some (Busy x b)) = ⊤
 TellsBack s (Some (Open x b)) = ⊥
-TellsBack s (Some (Opened x b)) = ⊤
 TellsBack s (Some (Unlock x b)) = ⊥
-TellsBack s (Some (Unlocked x b)) = ⊤
 TellsBack s (Some (Log x b n es)) = ⊥
-TellsBack s (Some (Logged x b n)) = ⊤
-TellsBack s (Some (Answer x b n a)) = ⊤
+TellsBack s (Some m) = ⊤
 
 open_not_held : AtOpen ≡ AtHeld → ⊥
 open_not_held e = cc

@@ -52,17 +52,7 @@ at_log s bs b k all at = record {
 abbrev CountsBack : HandlerState → List Block → Option Message → Type 0
 CountsBack s bs None = ⊤
 CountsBack s bs (Some (Logged x y n)) = TellsOpened s bs x y
-CountsBack s bs (Some (Hello x c inc)) = ⊤
-CountsBack s bs (Some (Welcome x c inc)) = ⊤
-CountsBack s bs (Some (Lock x y)) = ⊤
-CountsBack s bs (Some (Locked x y)) = ⊤
-CountsBack s bs (Some (Busy x y)) = ⊤
-CountsBack s bs (Some (Open x y)) = ⊤
-CountsBack s bs (Some (Opened x y)) = ⊤
-CountsBack s bs (Some (Unlock x y)) = ⊤
-CountsBack s bs (Some (Unlocked x y)) = ⊤
-CountsBack s bs (Some (Log x y n es)) = ⊤
-CountsBack s bs (Some (Answer x y n a)) = ⊤
+CountsBack s bs (Some m) = ⊤
 
 back-row : (s : HandlerState) (bs : List Block) (m : Message) (h : Hearing) → Row s m h → AllByRecursion (IsMarkOpened bs) s.marks → CountsBack s bs h.1.reply
 back-row s bs m h (log_again x b n es k here at upto none) all = at_log s bs b k all at
