@@ -7,13 +7,13 @@ use Rattle.scoop_message.specs.Message.{same_handler, same_client}
 use Rattle.scoop_message.proofs.Same.{handler_decides, client_decides}
 use Rattle.scoop_handler.specs.declared.ran.Ran.{Ran}
 use Rattle.scoop_model.specs.World.{World, Site, Accepted, number_of, is_site, is_party, ran_at}
-use Rattle.scoop_model.specs.Safe.{Safe, IsSubsequence, Tape, RightAnswers, HasRun, IsAnswered, AcceptsRight}
+use Rattle.scoop_model.specs.Safe.{Safe, IsSubsequence, Tape, WholeBeforeNext, RightAnswers, HasRun, IsAnswered, AcceptsRight}
 use Rattle.scoop_model.proofs.Keys.{key_found}
 use Rattle.scoop_model.proofs.Order.Facts.{all_found, all_more_of}
 use Rattle.scoop_weave.specs.System.{LocalHandler, LocalClient, System, number_in, id_in, handler_in, client_in}
 use Rattle.scoop_weave.specs.Moves.{LocalMove}
 use Rattle.scoop_weave.specs.Histories.{ran_by, accepted_by, site_by, party_by, world_by}
-use Rattle.scoop_weave.specs.Promises.{HandlerPromise, ClientPromise, Promises}
+use Rattle.scoop_weave.specs.Promises.{HandlerPromise, IsTrulyAnswered, ClientPromise, Promises}
 use Rattle.scoop_weave.proofs.Lists.{find_through}
 use Rattle.scoop_weave.proofs.Worlds.{site_there, party_there}
 
@@ -29,6 +29,8 @@ module _ (ms : List LocalMove) (now : System) (safe : Safe (world_by ms now)) wh
       subst (λ k. HandlerPromise ms k s) own (record {
         in_order = all_found (λ s. IsSubsequence s.opened w.joint) (is_site h) w.sites site safe.in_order.common there;
         in_turn = (all_found (Tape w) (is_site h) w.sites site safe.tapes there).in_turn;
+        beginnings = (all_found (Tape w) (is_site h) w.sites site safe.tapes there).beginnings;
+        whole = all_found (WholeBeforeNext w) (is_site h) w.sites site safe.whole there;
         answers = all_found RightAnswers (is_site h) w.sites site safe.answers there;
       })
 
@@ -52,9 +54,13 @@ module _ (ms : List LocalMove) (now : System) (safe : Safe (world_by ms now)) wh
       let own = key_found id_in same_client client_decides c now.clients d here in
       let right = all_found (AcceptsRight w) (is_party c) w.parties (party_by ms d) safe.accepted (party_there ms now c d here) in
       subst (λ k. ClientPromise ms k) own (record {
-        accepted = all_more_of (IsAnswered w (party_by ms d)) (λ a. HasRun (ran_by a.0 ms) a.1 a.2 a.3)
-            (λ a f. has_run a (handler_in a.0 now) refl (subst (λ rs. HasRun rs a.1 a.2 a.3) (ran_there a.0 (handler_in a.0 now) refl f.ran.ran) f.ran))
+        accepted = all_more_of (IsAnswered w (party_by ms d)) (IsTrulyAnswered ms (id_in d))
+            (λ a f. record {
+              own = f.own;
+              ran = has_run a (handler_in a.0 now) refl (subst (λ rs. HasRun rs a.1 a.2 a.3) (ran_there a.0 (handler_in a.0 now) refl f.ran.ran) f.ran);
+            })
             (accepted_by (id_in d) ms) right.answered;
+        once = right.once;
       })
 
   pub promised : Promises ms now
