@@ -147,11 +147,23 @@ names_shown hs w numbers m n = record {
     some_site : (x y : Site) → Some x ≡ Some y → x ≡ y
     some_site x y e = cc
 
-pub names_known : (w : World) → IsReached w → AllByRecursion (NamesKnown w) w.sent
-names_known w r =
+-- what is known in a world that is reached
+reached_knowing : (w : World) (r : IsReached w) → Knowing (map (λ (p : Placement). p.handler) r.placements) w
+reached_knowing w r =
     let hs = map (λ (p : Placement). p.handler) r.placements in
     let v : World = opening r.placements r.newcomers in
     let opens : All hs v =
     (((opens_ordered r.placements r.newcomers, opens_sound r.placements r.newcomers r.opens), opens_greetings r.placements r.newcomers), record { messages = tt; parties = parties_open hs v.sites r.newcomers }) in
     let i : All hs w = subst (All hs) (ap (λ (x : Run). x.0) r.leads) (steps_kept (All hs) (all_kept hs) v r.events opens) in
-    all_more_of (Names hs w.sites) (NamesKnown w) (names_shown hs w (sites_placed w r)) w.sent i.1.messages
+    i.1
+
+pub names_known : (w : World) → IsReached w → AllByRecursion (NamesKnown w) w.sent
+names_known w r =
+    let hs = map (λ (p : Placement). p.handler) r.placements in
+    all_more_of (Names hs w.sites) (NamesKnown w) (names_shown hs w (sites_placed w r)) w.sent (reached_knowing w r).messages
+
+-- each client knows the handlers that were placed
+pub clients_know : (w : World) (r : IsReached w) → AllByRecursion (λ p. p.client.handlers ≡ map number_of w.sites) w.parties
+clients_know w r =
+    let hs = map (λ (p : Placement). p.handler) r.placements in
+    all_more_of (PartyKnown hs w.sites) (λ p. p.client.handlers ≡ map number_of w.sites) (λ p k. k.handlers ∙ sym (sites_placed w r)) w.parties (reached_knowing w r).parties
