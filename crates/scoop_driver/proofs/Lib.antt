@@ -1,0 +1,3 @@
+pub mod StepLists
+pub mod Sends
+pub mod Turns
