@@ -1,3 +1,6 @@
 pub mod StepLists
 pub mod Sends
 pub mod Turns
+pub mod Moves
+pub mod Refusals
+pub mod Calling

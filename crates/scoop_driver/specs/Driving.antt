@@ -1,10 +1,9 @@
 -- A driver's steps as moves of its client: what it was told, whom it sent what was due, and what it heard. A driver's
 -- own steps tell more: the versions and bytes that were sent and received.
-use Rattle.std.specs.Prelude.{◌≡◌, ◌+◌, ⊤, List, [], ◌∷◌, ◌++◌, take, Option, Some, None, Ok}
+use Rattle.std.specs.Prelude.{◌≡◌, ◌+◌, ⊤, List, [], ◌∷◌, ◌++◌, take, Option, Ok}
 use Rattle.scoop_message.specs.declared.name.HandlerId.{HandlerId}
 use Rattle.scoop_message.specs.declared.message.Message.{Message}
 use Rattle.scoop_client.specs.State.{ClientState}
-use Rattle.scoop_client.specs.Hearing.{heard}
 use Rattle.scoop_client.specs.Commands.{Command, command}
 use Rattle.scoop_driver.specs.declared.step.Step.{Step}
 use Rattle.scoop_driver.specs.declared.step.Step.TheVariants.{Gave, Turned, Broke}
@@ -22,13 +21,9 @@ CanStep c (Gives x d) = command c x ≡ Ok d
 CanStep c (Turns got) = ⊤
 CanStep c (Breaks hs) = (rest : List HandlerId) × (hs ++ rest ≡ c.handlers)
 
-abbrev pub client_with : ClientState → Option Message → ClientState
-client_with c None = c
-client_with c (Some m) = (heard c m).0
-
 abbrev pub client_after : ClientState → DriverStep → ClientState
 client_after c (Gives x d) = d
-client_after c (Turns got) = client_with c got
+client_after c (Turns got) = driver.after_message c got
 client_after c (Breaks hs) = c
 
 -- ---- one after another

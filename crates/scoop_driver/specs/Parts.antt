@@ -1,7 +1,8 @@
 -- The parts of a driver's calls.
-use Rattle.std.specs.Prelude.{◌≡◌, ℕ, ◌+◌, ⊤, Bool, true, false, List, [], ◌∷◌, Contains, OnOk, Option, Result, Ok, Err}
+use Rattle.std.specs.Prelude.{◌≡◌, ℕ, ◌+◌, ⊤, Bool, true, false, List, [], ◌∷◌, Contains, OnOk, Option, Some, None, Result, Ok, Err}
 use Rattle.scoop_message.specs.declared.name.HandlerId.{HandlerId}
 use Rattle.scoop_message.specs.declared.request.Answer.{Answer}
+use Rattle.scoop_client.specs.declared.phase.ClientNote.{ClientNote}
 use Rattle.scoop_client.specs.declared.phase.ClientNote.TheVariants.{Accepted}
 use Rattle.scoop_client.specs.declared.phase.Phase.{Phase}
 use Rattle.scoop_client.specs.declared.error.ClientError.{ClientError}
@@ -66,6 +67,11 @@ Logged x turns (Err e) old new = Called {T = Unit {0}} x turns (Err e) old new
 abbrev pub AnswerComes : ClientState → List Step → HandlerId → Result Answer DriverError → Type 0
 AnswerComes c steps h (Ok a) = (n : ℕ) × Contains (notes_by c steps) (Accepted h n a)
 AnswerComes c steps h (Err e) = ⊤
+
+-- the note tells of this answer from the handler
+abbrev pub IsAcceptedFrom : HandlerId → Option ClientNote → Option Answer → Type 0
+IsAcceptedFrom h note None = ⊤
+IsAcceptedFrom h note (Some a) = (n : ℕ) × (note ≡ Some (Accepted h n a))
 
 -- turns until an answer of the handler is accepted
 abbrev pub Answered : HandlerId → ℕ → Result Answer DriverError → Seen → Seen → Type 0

@@ -3,7 +3,7 @@
 ghost use Rattle.std.specs.Prelude.{◌≡◌, ◌⊎◌};
 ghost use Rattle.scoop_client.specs.Commands.{Foretells, Commanded, command as taken};
 ghost use Rattle.scoop_driver.specs.Steps.{core_command};
-ghost use Rattle.scoop_driver.specs.Parts.{Gives, Given, Offered, Reached, Logged, Answered, IsReserve};
+ghost use Rattle.scoop_driver.specs.Parts.{Gives, Given, Offered, Reached, Logged, Answered, IsAcceptedFrom, IsReserve};
 
 use crate::diary::Diary;
 use crate::driver::Driver;
@@ -34,7 +34,8 @@ fn may_take<A: Allocator>(client: &Client<A>, command: &Command) -> Result<(), C
 {
     match command {
         Command::Reserve(handlers) => client.may_reserve(handlers.as_slice()),
-        Command::Call(handler, _) | Command::Query(handler, _) => client.may_log(*handler),
+        Command::Call(handler, _) => client.may_log(*handler),
+        Command::Query(handler, _) => client.may_log(*handler),
         Command::End => client.may_end(),
         Command::GiveUp => may_give_up(client),
     }
@@ -45,7 +46,8 @@ fn take<A: Allocator + Clone>(
     client: &mut Client<A>,
     command: &Command,
 ) -> Result<(), ClientError>
-    ensures { Commanded (core_command command.now) result client.old client.new }
+    ensures takes { Commanded (core_command command.now) result client.old client.new }
+    ensures memory { result ≡ Err ClientError.OutOfMemory → IsReserve command.now }
 {
     match *command {
         Command::Reserve(handlers) => client.reserve(handlers.as_slice()),
@@ -78,6 +80,16 @@ fn give<D: Diary<A>, A: Allocator + Clone>(
     }
     diary.gave(client, *command);
     Ok(())
+}
+
+// The answer that was accepted from this handler, if the note tells of one.
+fn accepted_from(handler: HandlerId, note: Option<ClientNote>) -> Option<Answer>
+    ensures { IsAcceptedFrom handler note result }
+{
+    match note {
+        Some(ClientNote::Accepted(from, _, answer)) if from == handler => Some(answer),
+        _ => None,
+    }
 }
 
 impl<L: Link, D: Diary<A>, A: Allocator + Clone> Driver<L, D, A> {
@@ -134,7 +146,7 @@ impl<L: Link, D: Diary<A>, A: Allocator> Driver<L, D, A> {
         ensures does { Reached phase turns result self.old.seen self.new.seen }
         ensures turns { self.new.turns ≡ self.old.turns }
     {
-        for _ in 0..turns {
+        for taken in 0..turns {
             if self.client.phase() == phase {
                 return Ok(());
             }
@@ -159,15 +171,13 @@ impl<L: Link, D: Diary<A>, A: Allocator> Driver<L, D, A> {
         ensures does { Answered handler turns result self.old.seen self.new.seen }
         ensures turns { self.new.turns ≡ self.old.turns }
     {
-        for _ in 0..turns {
-            match self.turn() {
-                Ok(Some(ClientNote::Accepted(from, _, answer))) => {
-                    if from == handler {
-                        return Ok(answer);
-                    }
-                }
-                Ok(_) => {}
+        for taken in 0..turns {
+            let note = match self.turn() {
+                Ok(note) => note,
                 Err(error) => return Err(error),
+            };
+            if let Some(answer) = accepted_from(handler, note) {
+                return Ok(answer);
             }
         }
         Err(DriverError::TurnsOver)
