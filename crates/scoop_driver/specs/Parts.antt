@@ -70,8 +70,8 @@ AnswerComes c steps h (Err e) = ⊤
 
 -- the note tells of this answer from the handler
 abbrev pub IsAcceptedFrom : HandlerId → Option ClientNote → Option Answer → Type 0
-IsAcceptedFrom h note None = ⊤
-IsAcceptedFrom h note (Some a) = (n : ℕ) × (note ≡ Some (Accepted h n a))
+IsAcceptedFrom h told None = ⊤
+IsAcceptedFrom h told (Some a) = (n : ℕ) × (told ≡ Some (Accepted h n a))
 
 -- turns until an answer of the handler is accepted
 abbrev pub Answered : HandlerId → ℕ → Result Answer DriverError → Seen → Seen → Type 0
