@@ -5,10 +5,12 @@ use Rattle.std.specs.Prelude.{Contains, OnOk}
 use Rattle.std.proofs.lemmas.List.Elements.{Contains-append_right, Contains-push}
 use Rattle.scoop_message.specs.declared.name.HandlerId.{HandlerId}
 use Rattle.scoop_message.specs.declared.request.Answer.{Answer}
+use Rattle.scoop_message.specs.declared.request.Request.{Request}
 use Rattle.scoop_link.specs.Link.{Told}
 use Rattle.scoop_client.specs.declared.phase.ClientNote.{ClientNote}
 use Rattle.scoop_client.specs.declared.phase.ClientNote.TheVariants.{Accepted}
 use Rattle.scoop_client.specs.declared.phase.Phase.{Phase}
+use Rattle.scoop_client.specs.declared.phase.Phase.TheVariants.{Running}
 use Rattle.scoop_client.specs.declared.error.ClientError.{ClientError}
 use Rattle.scoop_client.specs.declared.error.ClientError.TheVariants.{OutOfMemory}
 use Rattle.scoop_client.specs.State.{ClientState, phase_of}
@@ -17,6 +19,7 @@ use Rattle.scoop_client.specs.Commands as client
 use Rattle.scoop_driver.specs.declared.error.DriverError.{DriverError}
 use Rattle.scoop_driver.specs.declared.error.DriverError.TheVariants.{Client, TurnsOver, LinkFault, ConditionFailed}
 use Rattle.scoop_driver.specs.declared.step.Command.{Command}
+use Rattle.scoop_driver.specs.declared.step.Command.TheVariants as given
 use Rattle.scoop_driver.specs.declared.step.Received.{Received}
 use Rattle.scoop_driver.specs.declared.step.Received.TheVariants.{Nothing, Frame, NoFrame, Fault}
 use Rattle.scoop_driver.specs.declared.step.Step.{Step}
@@ -24,9 +27,11 @@ use Rattle.scoop_driver.specs.declared.step.Step.TheVariants.{Gave, Turned, Brok
 use Rattle.scoop_driver.specs.Steps.{after_command, commands_by, core_command, faults_at, faults_in, notes_by, note_at, turns_in, walk}
 use Rattle.scoop_driver.specs.State.{Seen, Goes}
 use Rattle.scoop_driver.specs.Turning.{TakesTurn, TurnAnswers, StepAnswers}
-use Rattle.scoop_driver.specs.Calls.{GivesCommands, StopsBefore, EndsAtFault, TellsFault, TakesTurns, Does, IsTakeable}
-use Rattle.scoop_driver.specs.Parts.{RefusesWith, Offered, Reached, LogsWith, Logged, Answered, IsAcceptedFrom}
+use Rattle.scoop_driver.specs.Calls.{GivesCommands, StopsBefore, EndsAtFault, TellsFault, TakesTurns, Does, Called, Queried, QueryAnswers, RunsNext, IsTakeable, IsRefusal}
+use Rattle.scoop_driver.specs.Parts.{RefusesWith, Offered, Reached, LogsWith, Logged, Answered, AnswerComes, IsAcceptedFrom}
 use Rattle.scoop_driver.proofs.StepLists.{goes_nothing, goes_on, commands_by-append, faults_in-append, turns_in-append, notes_by-append}
+use Rattle.scoop_driver.proofs.Refusals.{query_waits, reserve_refuses, give_up_refuses}
+use Rattle.scoop_driver.proofs.Blocks.{runs_next, accepted_waits}
 
 -- ---- turns alone
 
@@ -351,3 +356,86 @@ pub answered_not : (h : HandlerId) (n bound : ℕ) (e : DriverError) (s t u : Se
 answered_not h n bound e s t u below so_far turn =
     let all = turning_stops [] n bound e s t u below so_far (tt {0}) turn in
     (all.0, does_err (Unit {0}) Answer [] bound e all.0 s u all.1, tt)
+
+-- ---- the calls
+
+-- a command alone
+pub given_does : (x : Command) (s t : Seen) → Goes (Gave x ∷ []) s t → Does {T = Unit {0}} (core_command x ∷ []) 0 (Ok (tt {0})) (Gave x ∷ []) s t
+given_does x s t goes = record { goes = goes; commands = refl; faults = refl; bound = omega arith }
+
+-- a refusal that comes before any turn
+pub refused_now : (x : client.Command) (bound : ℕ) (e : ClientError) (s t : Seen) → IsRefusal (client.command s.client x) e → t ≡ s
+    → (steps : List Step) × Does {T = Unit {0}} (x ∷ []) bound (Err (Client e)) steps s t
+refused_now x bound e s t refuses same = refused_same x 0 bound (Client e) s s t (omega arith) (turning_none s) (refuses, same)
+
+-- a command, and then turns up to a phase
+pub given_reached : (x : Command) (phase : Phase) (turns : ℕ) (r : Result (Unit {0}) DriverError) (s t u : Seen) → Goes (Gave x ∷ []) s t → Reached phase turns r t u → Called (core_command x) turns r s u
+given_reached x phase turns r s t u goes (ys, does, there) =
+    (Gave x ∷ ys, does_on (tt {0}) r (core_command x ∷ []) 0 turns turns (Gave x ∷ []) ys s t u (given_does x s t goes) (zero-add turns) does)
+
+pub logged_reached : (x : client.Command) (phase : Phase) (left turns : ℕ) (r : Result (Unit {0}) DriverError) (s t u : Seen) → Logged x turns (Ok left) s t → Reached phase left r t u → Called x turns r s u
+logged_reached x phase left turns r s t u (xs, logs) (ys, does, there) =
+    (xs ++ ys, does_on left r (x ∷ []) turns left turns xs ys s t u logs.does logs.rest does)
+
+pub reached_there : (phase : Phase) (turns : ℕ) (r : Result (Unit {0}) DriverError) (s t : Seen) → Reached phase turns r s t → OnOk r (phase_of t.client ≡ phase)
+reached_there phase turns r s t (ys, does, there) = there
+
+runs_where : (hs : List HandlerId) (turns : ℕ) (r : Result (Unit {0}) DriverError) (c : ClientState) (ys : List Step) (s t : Seen) → client.command c (client.Reserve hs) ≡ Ok s.client
+    → Does [] turns r ys s t → OnOk r (phase_of t.client ≡ Running) → OnOk r (RunsNext c t.client)
+runs_where hs turns (Ok u) c ys s t taken does there = runs_next hs ys c s.client t.client taken does.commands does.goes.client there
+runs_where hs turns (Err e) c ys s t taken does there = there
+
+-- a reserve that answers Ok leaves the next block running
+pub reserve_runs : (x : Command) (hs : List HandlerId) (turns : ℕ) (r : Result (Unit {0}) DriverError) (s t u : Seen) → core_command x ≡ client.Reserve hs
+    → Goes (Gave x ∷ []) s t → Reached Running turns r t u → OnOk r (RunsNext s.client u.client)
+reserve_runs x hs turns r s t u is goes (ys, does, there) =
+    runs_where hs turns r s.client ys t u (subst (λ y. client.command s.client y ≡ Ok t.client) is (given_is x s t goes)) does there
+
+query_answers : (h : HandlerId) (q : Request) (r : Result Answer DriverError) (left : ℕ) (xs ys : List Step) (s t u : Seen) → t.client ≡ walk s.client xs → commands_by xs ≡ client.DoQuery h q ∷ []
+    → (n : ℕ) × (t.client.waits ≡ Some (h, n)) → Does [] left r ys t u → AnswerComes t.client ys h r → QueryAnswers s.client (xs ++ ys) h q r
+query_answers h q (Ok a) left xs ys s t u is asks (n, waits) does (k, there) =
+    let asked : t.client.waits ≡ Some (h, k) = accepted_waits ys t.client h k a does.commands there in
+    record {
+      asking = xs;
+      waiting = ys;
+      are = refl;
+      asks = asks;
+      silent = does.commands;
+      number = k;
+      waits = subst (λ (c : ClientState). c.waits ≡ Some (h, k)) is asked;
+      accepted = subst (λ c. Contains (notes_by c ys) (Accepted h k a)) is there;
+    }
+query_answers h q (Err e) left xs ys s t u is asks waits does there = tt
+
+pub queried_answered : (h : HandlerId) (q : Request) (left turns : ℕ) (r : Result Answer DriverError) (s t u : Seen) → Logged (client.DoQuery h q) turns (Ok left) s t → Answered h left r t u → Queried h q turns r s u
+queried_answered h q left turns r s t u (xs, logs) (ys, does, comes) = (
+  xs ++ ys,
+  does_on left r (client.DoQuery h q ∷ []) turns left turns xs ys s t u logs.does logs.rest does,
+  query_answers h q r left xs ys s t u logs.does.goes.client logs.does.commands (query_waits logs.from t.client h q logs.taken) does comes,
+)
+
+pub queried_not : (h : HandlerId) (q : Request) (turns : ℕ) (e : DriverError) (s t : Seen) → Called {T = Unit {0}} (client.DoQuery h q) turns (Err e) s t → Queried h q turns (Err e) s t
+queried_not h q turns e s t (xs, does) = (xs, does_err (Unit {0}) Answer (client.DoQuery h q ∷ []) turns e xs s t does, tt)
+
+-- a call that was logged
+pub called_logged : (x : client.Command) (left turns : ℕ) (s t : Seen) → Logged x turns (Ok left) s t → Called x turns (Ok (tt {0})) s t
+called_logged x left turns s t (xs, logs) =
+    (xs, record { goes = logs.does.goes; commands = logs.does.commands; faults = logs.does.faults; bound = logs.does.bound })
+
+-- a reserve of handlers that are handed over as a list
+pub reserve_reached : (x : Command) (hs : List HandlerId) (n turns : ℕ) (r : Result (Unit {0}) DriverError) (s t u : Seen) → core_command x ≡ client.Reserve hs → n ≡ turns
+    → Goes (Gave x ∷ []) s t → Reached Running n r t u → Called (client.Reserve hs) turns r s u
+reserve_reached x hs n turns r s t u is same goes reached =
+    subst (λ y. Called y turns r s u) is (subst (λ k. Called (core_command x) k r s u) same (given_reached x Running n r s t u goes reached))
+
+pub reserve_refused : (x : Command) (hs : List HandlerId) (turns : ℕ) (e : ClientError) (s t : Seen) → core_command x ≡ client.Reserve hs
+    → client.IsRefused (client.command s.client (core_command x)) e × (t ≡ s) → Called {T = Unit {0}} (client.Reserve hs) turns (Err (Client e)) s t
+reserve_refused x hs turns e s t is (refused, same) =
+    refused_now (client.Reserve hs) turns e s t
+    (reserve_refuses s.client hs e (subst (λ y. client.IsRefused (client.command s.client y) e) is refused)) same
+
+pub gave_up : (s t : Seen) → Goes (Gave given.GiveUp ∷ []) s t → Called client.GiveUp 0 (Ok (tt {0})) s t
+gave_up s t goes = (Gave given.GiveUp ∷ [], given_does given.GiveUp s t goes)
+
+pub not_given_up : (e : ClientError) (s t : Seen) → client.IsRefused (client.command s.client client.GiveUp) e × (t ≡ s) → Called {T = Unit {0}} client.GiveUp 0 (Err (Client e)) s t
+not_given_up e s t (refused, same) = refused_now client.GiveUp 0 e s t (give_up_refuses s.client e refused) same

@@ -3,4 +3,5 @@ pub mod Sends
 pub mod Turns
 pub mod Moves
 pub mod Refusals
+pub mod Blocks
 pub mod Calling

@@ -41,9 +41,12 @@ give_up_refusal c o e (give_up_without_block b) is = (let same : e ≡ NoBlock =
 give_up_refusal c o e (give_up_too_late b) is = (let same : e ≡ TooLate = cc in rw same refl)
 give_up_refusal c o e (gives_up r s l h g) is = cc
 
+not_ok : {P : Type 0} → false ≡ true → P
+not_ok is = cc
+
 takeable : (o : Outcome) → IsOk o → IsTakeable o
 takeable (Ok d) h = tt
-takeable (Err e) h = absurd h
+takeable (Err e) h = not_ok h
 
 -- what refuses by the table and as the last of all is a refusal, where a full window is none
 refusal_of : (o : Outcome) → ((e : ClientError) → o ≡ Err e → IsRefusal o e) → (e : ClientError) → IsRefused o e → IsRefusal o e
@@ -67,22 +70,22 @@ give_up_refuses c e h = refusal_of (command c GiveUp) (λ x is. give_up_refusal 
 -- ---- what a reserve that is taken says
 
 few : (b : Bool) (n : ℕ) (rest : Result ReservationState ReserveError) → nat_lt MAX_BLOCK_HANDLERS n ≡ b → IsOk (if b then Err TooMany else rest) → n ≤ MAX_BLOCK_HANDLERS
-few true n rest is h = absurd h
+few true n rest is h = not_ok h
 few false n rest is h = grind (arith, nat_tests, is)
 
 few_or_none : (b : Bool) (n : ℕ) (rest : Result ReservationState ReserveError) → IsOk (if b then Err Empty else if nat_lt MAX_BLOCK_HANDLERS n then Err TooMany else rest) → n ≤ MAX_BLOCK_HANDLERS
-few_or_none true n rest h = absurd h
+few_or_none true n rest h = not_ok h
 few_or_none false n rest h = few (nat_lt MAX_BLOCK_HANDLERS n) n rest refl h
 
 few_started : (c : ClientState) (hs : List HandlerId) (r : ReservationState) → started (next_block c) hs c.handlers ≡ Ok r → length hs ≤ MAX_BLOCK_HANDLERS
 few_started c hs r is =
-    few_or_none (length hs == 0) (length hs) (unless_repeated (fresh (next_block c) hs) (first_repeated hs) (first_unknown c.handlers hs)) (subst IsOk (sym is) (tt {0}))
+    few_or_none (length hs == 0) (length hs) (unless_repeated (fresh (next_block c) hs) (first_repeated hs) (first_unknown c.handlers hs)) (subst IsOk (sym is) refl)
 
 few_taken : (c : ClientState) (hs : List HandlerId) (o : Outcome) → ReserveRow c hs o → IsOk o → length hs ≤ MAX_BLOCK_HANDLERS
-few_taken c hs o (reserve_ungreeted g) h = absurd h
-few_taken c hs o (reserve_busy b) h = absurd h
-few_taken c hs o (reserve_spent i s) h = absurd h
-few_taken c hs o (reserve_refused x i f s) h = absurd h
+few_taken c hs o (reserve_ungreeted g) h = not_ok h
+few_taken c hs o (reserve_busy b) h = not_ok h
+few_taken c hs o (reserve_spent i s) h = not_ok h
+few_taken c hs o (reserve_refused x i f s) h = not_ok h
 few_taken c hs o (begins_block r i f s) h = few_started c hs r s
 
 pub few_reserved : (c : ClientState) (hs : List HandlerId) → IsOk (command c (Reserve hs)) → length hs ≤ MAX_BLOCK_HANDLERS

@@ -111,12 +111,13 @@ impl<L: Link, D: Diary<A>, A: Allocator + Clone> Driver<L, D, A> {
         ensures runs { OnOk result (RunsNext self.old.seen.client self.new.seen.client) }
         ensures turns { self.new.turns ≡ self.old.turns }
     {
+        let turns = self.turns;
         match self.client.may_reserve(handlers) {
             Ok(()) => {}
             Err(error) => return Err(DriverError::Client(error)),
         }
         match self.give(&Command::Reserve(BlockHandlers::of(handlers))) {
-            Ok(()) => self.turns_until(Phase::Running, self.turns),
+            Ok(()) => self.turns_until(Phase::Running, turns),
             Err(error) => Err(DriverError::Client(error)),
         }
     }
