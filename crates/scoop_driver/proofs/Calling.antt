@@ -184,7 +184,7 @@ turning_done v n bound s t within (xs, so_far) = (
 
 -- ---- an error ends any call in the same way
 
-faults_as : (T U : Type 0) (e : DriverError) (steps : List Step) → TellsFault {T = T} (Err e) steps → TellsFault {T = U} (Err e) steps
+pub faults_as : (T U : Type 0) (e : DriverError) (steps : List Step) → TellsFault {T = T} (Err e) steps → TellsFault {T = U} (Err e) steps
 faults_as T U (Client x) steps h = h
 faults_as T U TurnsOver steps h = h
 faults_as T U LinkFault steps h = h
@@ -211,7 +211,7 @@ nothing_left : {X : Type 0} (xs ys : List X) → [] ≡ xs ++ ys → (xs ≡ [])
 nothing_left [] ys is = (refl, sym is)
 nothing_left (x ∷ xs) ys is = cc
 
-faults_on : {T : Type 0} (r : Result T DriverError) (xs ys : List Step) → faults_in xs ≡ 0 → TellsFault r ys → TellsFault r (xs ++ ys)
+pub faults_on : {T : Type 0} (r : Result T DriverError) (xs ys : List Step) → faults_in xs ≡ 0 → TellsFault r ys → TellsFault r (xs ++ ys)
 faults_on (Ok v) xs ys none h = faults_in-append xs ys ∙ (ap (λ k. k + faults_in ys) none ∙ (zero-add (faults_in ys) ∙ h))
 faults_on (Err (Client e)) xs ys none h = faults_in-append xs ys ∙ (ap (λ k. k + faults_in ys) none ∙ (zero-add (faults_in ys) ∙ h))
 faults_on (Err TurnsOver) xs ys none h = faults_in-append xs ys ∙ (ap (λ k. k + faults_in ys) none ∙ (zero-add (faults_in ys) ∙ h))

@@ -5,3 +5,4 @@ pub mod Moves
 pub mod Refusals
 pub mod Blocks
 pub mod Calling
+pub mod Waits

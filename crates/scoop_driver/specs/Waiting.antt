@@ -77,6 +77,20 @@ pub record StoppedIn (xs : List Command) (e : DriverError) (steps : List Step) (
   pub gives : commands_by earlier ≡ done
   pub stops : GivesCommands {T = Unit {0}} (next ∷ []) (Err e) last new
 
+-- the calls of the body, or the first of them
+abbrev pub BodyGives : List (HandlerId × Request) → Result (Unit {0}) DriverError → List Step → Seen → Type 0
+BodyGives body (Ok u) steps new = commands_by steps ≡ calls body
+BodyGives body (Err e) steps new = StoppedIn (calls body) e steps new
+
+pub record LogsBody (body : List (HandlerId × Request)) (turns : ℕ) (r : Result (Unit {0}) DriverError) (steps : List Step) (old new : Seen) : Type 0 where
+  pub goes : Goes steps old new
+  pub faults : TellsFault r steps
+  pub bound : turns_in steps ≤ length body * turns
+  pub gives : BodyGives body r steps new
+
+abbrev pub LoggedBody : List (HandlerId × Request) → ℕ → Result (Unit {0}) DriverError → Seen → Seen → Type 0
+LoggedBody body turns r old new = (steps : List Step) × LogsBody body turns r steps old new
+
 -- a tested block that broke off in what remained
 pub record StoppedBehind (w : Wish) (held : Bool) (e : DriverError) (c : ClientState) (steps : List Step) (new : Seen) : Type 0 where
   pub testing : List Step
