@@ -1,38 +1,35 @@
 -- A client keeps its block, and what it waits for, while it hears.
-use Rattle.std.proofs.Common.{◌≡◌, ℕ, ◌+◌, ◌==◌, ◌-◌, ◌^◌, ◌⊎◌, List, [], ◌∷◌, ◌++◌, length, Option, Some, None, Result, Ok, Err, Bool, true, false, ◌<◌, arith, refl, ap, sym, ◌∙◌, subst, inl, inr}
+use Rattle.std.proofs.Common.{◌≡◌, ℕ, ◌==◌, ◌⊎◌, List, [], ◌∷◌, length, Option, Some, None, Result, Ok, Err, Bool, true, false, arith, refl, ap, sym, ◌∙◌, subst, inl, inr}
 use Rattle.std.proofs.lemmas.List.Elements.{Contains-push_cases, Contains-append_cases}
-use Rattle.std.specs.Prelude.{if◌then◌else◌, nat_lt, OnOk, Contains}
+use Rattle.std.specs.Prelude.{if◌then◌else◌, nat_lt, Contains}
 use Rattle.scoop_message.specs.declared.limits.TheConstants.{MAX_BLOCK_HANDLERS}
 use Rattle.scoop_message.specs.declared.name.HandlerId.{HandlerId}
 use Rattle.scoop_message.specs.declared.name.Block.{Block}
 use Rattle.scoop_message.specs.declared.request.Answer.{Answer as ObjectAnswer}
 use Rattle.scoop_message.specs.declared.message.Message.{Message}
-use Rattle.scoop_reserve.specs.declared.stage.Stage.{Stage}
 use Rattle.scoop_reserve.specs.declared.stage.Step.{Step as Taken}
 use Rattle.scoop_reserve.specs.declared.stage.Step.TheVariants as step
 use Rattle.scoop_reserve.specs.declared.error.ReserveError.{ReserveError}
 use Rattle.scoop_reserve.specs.declared.error.ReserveError.TheVariants.{Empty, TooMany}
 use Rattle.scoop_reserve.specs.Handlers.{is_empty, first_repeated, first_unknown}
 use Rattle.scoop_reserve.specs.State.{ReservationState}
-use Rattle.scoop_reserve.specs.Starting.{started, unless_repeated, unless_unknown, fresh}
+use Rattle.scoop_reserve.specs.Starting.{started, unless_repeated, fresh}
 use Rattle.scoop_reserve.specs.Hearing.{is_gone}
 use Rattle.scoop_reserve.specs.Hearing as reservation
 use Rattle.scoop_reserve.proofs.Rows as reserved
 use Rattle.scoop_client.specs.declared.phase.ClientNote.{ClientNote}
 use Rattle.scoop_client.specs.declared.phase.ClientNote.TheVariants.{Welcomed, Locked, Busy, Opened, Unlocked, Acknowledged, Accepted, Ignored}
-use Rattle.scoop_client.specs.declared.phase.Phase.{Phase}
-use Rattle.scoop_client.specs.declared.phase.Phase.TheVariants.{Greeting, Idle, Running}
+use Rattle.scoop_client.specs.declared.phase.Phase.TheVariants.{Greeting, Running}
 use Rattle.scoop_client.specs.Line.{LineState, all_over, acknowledged, at_line}
 use Rattle.scoop_client.specs.State.{ClientState, phase_of, phase_of_block, block_of, idle, with_lines, with_reservation}
-use Rattle.scoop_client.specs.Hearing.{heard, after_step, stepped, settled, up_to}
+use Rattle.scoop_client.specs.Hearing.{heard, after_step, stepped, up_to}
 use Rattle.scoop_client.specs.Commands.{Outcome, Reserve, command, next_block}
 use Rattle.scoop_client.specs.Rows.{HeardRow, passed_over, is_welcomed, takes_step, is_acknowledged, is_accepted, ReserveRow, reserve_ungreeted, reserve_busy, reserve_spent, reserve_refused, begins_block}
 use Rattle.scoop_client.proofs.Rows.{heard_row}
 use Rattle.scoop_client.proofs.CommandRows.{command_row}
-use Rattle.scoop_driver.specs.declared.step.Received.{Received}
 use Rattle.scoop_driver.specs.declared.step.Step.{Step}
 use Rattle.scoop_driver.specs.declared.step.Step.TheVariants.{Gave, Turned, Broke}
-use Rattle.scoop_driver.specs.Steps.{after, after_message, commands_by, message_in, note_of, notes_by, walk}
+use Rattle.scoop_driver.specs.Steps.{after_message, commands_by, message_in, note_of, notes_by, walk}
 use Rattle.scoop_driver.specs.Calls.{RunsNext}
 
 -- ---- what a message leaves

@@ -1,12 +1,11 @@
 -- What the calls do, from what their turns and commands do.
-use Rattle.std.proofs.Common.{◌≡◌, ℕ, zero, suc, ◌+◌, ◌-◌, ◌<◌, ◌≤◌, Bool, true, false, List, [], ◌∷◌, ◌++◌, Option, Some, None, Result, Ok, Err, refl, ap, sym, ◌∙◌, subst, arith, append_assoc, add-zero, zero-add, add_assoc}
+use Rattle.std.proofs.Common.{◌≡◌, ℕ, ◌+◌, ◌<◌, ◌≤◌, Bool, true, false, List, [], ◌∷◌, ◌++◌, Option, Some, None, Result, Ok, Err, refl, ap, sym, ◌∙◌, subst, arith, append_assoc, add-zero, zero-add}
 use Rattle.std.proofs.lemmas.List.{append-nil}
 use Rattle.std.specs.Prelude.{Contains, OnOk}
-use Rattle.std.proofs.lemmas.List.Elements.{Contains-append_right, Contains-push}
+use Rattle.std.proofs.lemmas.List.Elements.{Contains-push}
 use Rattle.scoop_message.specs.declared.name.HandlerId.{HandlerId}
 use Rattle.scoop_message.specs.declared.request.Answer.{Answer}
 use Rattle.scoop_message.specs.declared.request.Request.{Request}
-use Rattle.scoop_link.specs.Link.{Told}
 use Rattle.scoop_client.specs.declared.phase.ClientNote.{ClientNote}
 use Rattle.scoop_client.specs.declared.phase.ClientNote.TheVariants.{Accepted}
 use Rattle.scoop_client.specs.declared.phase.Phase.{Phase}
@@ -24,11 +23,11 @@ use Rattle.scoop_driver.specs.declared.step.Received.{Received}
 use Rattle.scoop_driver.specs.declared.step.Received.TheVariants.{Nothing, Frame, NoFrame, Fault}
 use Rattle.scoop_driver.specs.declared.step.Step.{Step}
 use Rattle.scoop_driver.specs.declared.step.Step.TheVariants.{Gave, Turned, Broke}
-use Rattle.scoop_driver.specs.Steps.{after_command, commands_by, core_command, faults_at, faults_in, notes_by, note_at, turns_in, walk}
+use Rattle.scoop_driver.specs.Steps.{after_command, commands_by, core_command, faults_at, faults_in, notes_by, turns_in, walk}
 use Rattle.scoop_driver.specs.State.{Seen, Goes}
 use Rattle.scoop_driver.specs.Turning.{TakesTurn, TurnAnswers, StepAnswers}
-use Rattle.scoop_driver.specs.Calls.{GivesCommands, StopsBefore, EndsAtFault, TellsFault, TakesTurns, Does, Called, Queried, QueryAnswers, RunsNext, IsTakeable, IsRefusal}
-use Rattle.scoop_driver.specs.Parts.{RefusesWith, Offered, Reached, LogsWith, Logged, Answered, AnswerComes, IsAcceptedFrom}
+use Rattle.scoop_driver.specs.Calls.{GivesCommands, StopsBefore, TellsFault, TakesTurns, Does, Called, Queried, QueryAnswers, RunsNext, IsTakeable, IsRefusal}
+use Rattle.scoop_driver.specs.Parts.{RefusesWith, Offered, Reached, Logged, Answered, AnswerComes, IsAcceptedFrom}
 use Rattle.scoop_driver.proofs.StepLists.{goes_nothing, goes_on, commands_by-append, faults_in-append, turns_in-append, notes_by-append}
 use Rattle.scoop_driver.proofs.Refusals.{query_waits, reserve_refuses, give_up_refuses}
 use Rattle.scoop_driver.proofs.Blocks.{runs_next, accepted_waits}

@@ -1,5 +1,5 @@
 -- A driver's steps are moves of its client.
-use Rattle.std.proofs.Common.{◌≡◌, ◌+◌, List, [], ◌∷◌, ◌++◌, take, drop, Result, Ok, Err, refl}
+use Rattle.std.proofs.Common.{◌≡◌, ◌+◌, List, [], ◌∷◌, drop, Ok, Err, refl}
 use Rattle.std.proofs.lemmas.List.{take-append-drop}
 use Rattle.scoop_client.specs.State.{ClientState}
 use Rattle.scoop_client.specs.Commands as client

@@ -1,10 +1,9 @@
 -- Which refusals a command may get.
-use Rattle.std.proofs.Common.{◌≡◌, ℕ, ◌+◌, ◌==◌, ◌<◌, ◌≤◌, Bool, true, false, List, [], ◌∷◌, length, Option, Some, None, Result, Ok, Err, refl, ap, sym, ◌∙◌, subst, arith}
-use Rattle.std.specs.Prelude.{if◌then◌else◌, nat_lt, nat_le, IsOk}
+use Rattle.std.proofs.Common.{◌≡◌, ℕ, ◌+◌, ◌==◌, ◌≤◌, Bool, true, false, List, length, Option, Some, None, Result, Ok, Err, refl, ap, sym, ◌∙◌, subst, arith}
+use Rattle.std.specs.Prelude.{if◌then◌else◌, nat_lt, IsOk}
 use Rattle.std.proofs.lemmas.Bool.Decides.{nat_tests}
 use Rattle.scoop_message.specs.declared.limits.TheConstants.{MAX_BLOCK_HANDLERS}
 use Rattle.scoop_message.specs.declared.name.HandlerId.{HandlerId}
-use Rattle.scoop_message.specs.declared.name.Block.{Block}
 use Rattle.scoop_message.specs.declared.request.Entry.{Entry}
 use Rattle.scoop_message.specs.declared.request.Entry.TheVariants.{Call as Called, Query as Asked}
 use Rattle.scoop_message.specs.declared.request.Request.{Request}
@@ -12,7 +11,7 @@ use Rattle.scoop_reserve.specs.declared.error.ReserveError.{ReserveError}
 use Rattle.scoop_reserve.specs.declared.error.ReserveError.TheVariants.{Empty, TooMany}
 use Rattle.scoop_reserve.specs.State.{ReservationState}
 use Rattle.scoop_reserve.specs.Handlers.{first_repeated, first_unknown}
-use Rattle.scoop_reserve.specs.Starting.{started, unless_repeated, unless_unknown, fresh}
+use Rattle.scoop_reserve.specs.Starting.{started, unless_repeated, fresh}
 use Rattle.scoop_client.specs.declared.error.ClientError.{ClientError}
 use Rattle.scoop_client.specs.declared.error.ClientError.TheVariants.{NotGreeted, NotIdle, NoBlock, Waiting, NotReserved, WindowFull, TooLate, Spent, Reserve as NotReservable, OutOfMemory}
 use Rattle.scoop_client.specs.Line.{logged}

@@ -1,6 +1,6 @@
 -- What a turn sends and receives.
-use Rattle.std.proofs.Common.{◌≡◌, ℕ, ◌+◌, ◌<◌, ◌≤◌, ◌==◌, ◌^◌, Bool, true, false, List, [], ◌∷◌, ◌++◌, length, take, get_or, Option, Some, None, Result, Ok, Err, refl, ap, sym, ◌∙◌, subst, arith, append_assoc}
-use Rattle.std.specs.Prelude.{if◌then◌else◌, slice_get, ⊤}
+use Rattle.std.proofs.Common.{◌≡◌, ℕ, ◌+◌, ◌<◌, ◌≤◌, ◌==◌, Bool, true, false, List, [], ◌∷◌, ◌++◌, length, take, get_or, Option, Some, None, Err, refl, ap, sym, ◌∙◌, subst, arith}
+use Rattle.std.specs.Prelude.{if◌then◌else◌, ⊤}
 use Rattle.std.proofs.lemmas.Bool.Decides.{Decides-eqb, nat_tests}
 use Rattle.std.proofs.lemmas.List.{append-nil, take_more, take_all, take_at}
 use Rattle.std.proofs.lemmas.Option.{slice_get-get_or}
@@ -26,7 +26,7 @@ use Rattle.scoop_client.specs.Due.{due}
 use Rattle.scoop_client.specs.Rows.{DueRow, owes_nothing, greets, reserves, logs}
 use Rattle.scoop_client.proofs.Batches.{is_batch}
 use Rattle.scoop_client.proofs.DueRows.{due_row}
-use Rattle.scoop_driver.specs.Steps.{version_for, with_due, dues, all_due, IsDueAt, IsNoFrame}
+use Rattle.scoop_driver.specs.Steps.{version_for, with_due, dues, all_due, IsNoFrame}
 use Rattle.scoop_driver.specs.declared.step.Received.TheVariants.{NoFrame}
 use Rattle.scoop_driver.specs.Turning.{SentDue, Receives}
 

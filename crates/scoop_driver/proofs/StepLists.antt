@@ -1,5 +1,5 @@
 -- Lists of steps, one after the other.
-use Rattle.std.proofs.Common.{◌≡◌, ℕ, ◌+◌, List, [], ◌∷◌, ◌++◌, Option, Some, None, Result, Ok, Err, refl, ap, sym, ◌∙◌, append_assoc, add_assoc, add-zero, zero-add}
+use Rattle.std.proofs.Common.{◌≡◌, ℕ, ◌+◌, List, [], ◌∷◌, ◌++◌, Option, Some, None, Ok, Err, refl, ap, sym, ◌∙◌, append_assoc, add_assoc, add-zero, zero-add}
 use Rattle.std.proofs.lemmas.List.{append-nil}
 use Rattle.scoop_link.specs.Link.{Told, Exchanges}
 use Rattle.scoop_link.proofs.Exchanges.{exchanges_nothing, exchanges-append}
@@ -8,7 +8,7 @@ use Rattle.scoop_client.specs.Commands as client
 use Rattle.scoop_driver.specs.declared.step.Command.{Command}
 use Rattle.scoop_driver.specs.declared.step.Step.{Step}
 use Rattle.scoop_driver.specs.declared.step.Step.TheVariants.{Gave}
-use Rattle.scoop_driver.specs.Steps.{AllCan, Can, walk, after, after_command, sent_at, sent_by, taken_at, taken_by, faults_at, faults_in, turns_at, turns_in, command_at, commands_by, note_at, notes_by, noted, core_command}
+use Rattle.scoop_driver.specs.Steps.{AllCan, walk, after, after_command, sent_at, sent_by, taken_at, taken_by, faults_at, faults_in, turns_at, turns_in, command_at, commands_by, note_at, notes_by, noted, core_command}
 use Rattle.scoop_driver.specs.State.{Seen, Goes}
 
 pub walk-append : (xs ys : List Step) (c : ClientState) → walk c (xs ++ ys) ≡ walk (walk c xs) ys

@@ -1,9 +1,9 @@
 -- What one turn does, from what it sends and receives.
-use Rattle.std.proofs.Common.{◌≡◌, ℕ, ◌+◌, List, [], ◌∷◌, ◌++◌, Option, Some, None, Result, Ok, Err, refl, ap, sym, ◌∙◌, subst, take, add-zero, zero-add}
+use Rattle.std.proofs.Common.{◌≡◌, ℕ, ◌+◌, List, [], ◌∷◌, ◌++◌, Option, Some, None, Result, Ok, Err, refl, ap, sym, ◌∙◌, subst, take, add-zero}
 use Rattle.std.proofs.lemmas.List.{append-nil}
 use Rattle.scoop_message.specs.declared.message.Message.{Message}
 use Rattle.scoop_link.specs.Link.{Told, Exchanges}
-use Rattle.scoop_link.proofs.Exchanges.{exchanges_nothing, exchanges-append}
+use Rattle.scoop_link.proofs.Exchanges.{exchanges-append}
 use Rattle.scoop_client.specs.declared.phase.ClientNote.{ClientNote}
 use Rattle.scoop_client.specs.declared.error.ClientError.TheVariants.{OutOfMemory}
 use Rattle.scoop_client.specs.State.{ClientState}

@@ -1,7 +1,6 @@
 -- What a wait does, from what its blocks do.
-use Rattle.std.proofs.Common.{◌≡◌, ℕ, zero, suc, ◌+◌, ◌-◌, ◌*◌, ◌<◌, ◌≤◌, Bool, true, false, List, [], ◌∷◌, ◌++◌, length, drop, get_or, Option, Some, None, Result, Ok, Err, refl, ap, sym, ◌∙◌, subst, inl, inr, arith, append_assoc, add-one, zero-add}
+use Rattle.std.proofs.Common.{◌≡◌, ℕ, suc, ◌+◌, ◌-◌, ◌*◌, ◌<◌, ◌≤◌, Bool, true, false, List, [], ◌∷◌, ◌++◌, length, drop, get_or, Result, Ok, Err, refl, ap, sym, ◌∙◌, subst, inl, inr, arith, append_assoc, add-one, zero-add}
 use Rattle.std.proofs.Math.Nat.{mul-le-mul_right}
-use Rattle.std.specs.Prelude.{if◌then◌else◌}
 use Rattle.std.proofs.lemmas.List.{append-nil, drop_more}
 use Rattle.scoop_message.specs.declared.name.HandlerId.{HandlerId}
 use Rattle.scoop_message.specs.declared.request.Answer.{Answer}
@@ -15,7 +14,7 @@ use Rattle.scoop_driver.specs.declared.step.Step.{Step}
 use Rattle.scoop_driver.specs.Steps.{walk, commands_by, faults_in, turns_in}
 use Rattle.scoop_driver.specs.State.{Seen, Goes}
 use Rattle.scoop_driver.specs.Calls.{TakesTurns, TellsFault, Does, Called, Queried, IsAnswered, RunsNext}
-use Rattle.scoop_driver.specs.Waiting.{Wish, Tested, Done, StoppedIn, StoppedBehind, BrokeOff, BreaksOff, Tried, LoggedBody, Failures, Waits, WaitGives, calls, calls_in_block, remainder, test_of, holds}
+use Rattle.scoop_driver.specs.Waiting.{Wish, Tested, Done, StoppedIn, BrokeOff, BreaksOff, Tried, LoggedBody, Failures, Waits, WaitGives, calls, calls_in_block, remainder, holds}
 use Rattle.scoop_driver.proofs.StepLists.{goes_nothing, goes_on, commands_by-append, faults_in-append, turns_in-append}
 use Rattle.scoop_driver.proofs.Calling.{faults_as, faults_on}
 

@@ -1,10 +1,9 @@
 -- What a driver's calls do and answer.
-use Rattle.std.specs.Prelude.{◌≡◌, ℕ, ◌≤◌, ⊤, List, [], ◌∷◌, ◌++◌, Contains, Option, Some, None, Result, Ok, Err}
+use Rattle.std.specs.Prelude.{◌≡◌, ℕ, ◌≤◌, ⊤, List, [], ◌∷◌, ◌++◌, Contains, Some, Result, Ok, Err}
 use Rattle.scoop_message.specs.declared.name.HandlerId.{HandlerId}
 use Rattle.scoop_message.specs.declared.request.Answer.{Answer}
 use Rattle.scoop_message.specs.declared.request.Request.{Request}
 use Rattle.scoop_client.specs.declared.phase.ClientNote.TheVariants.{Accepted}
-use Rattle.scoop_client.specs.declared.phase.Phase.{Phase}
 use Rattle.scoop_client.specs.declared.phase.Phase.TheVariants.{Running}
 use Rattle.scoop_client.specs.declared.error.ClientError.{ClientError}
 use Rattle.scoop_client.specs.declared.error.ClientError.TheVariants.{NotGreeted, NotIdle, NoBlock, Waiting, NotReserved, WindowFull, TooLate, Spent, Reserve as NotReservable, OutOfMemory}

@@ -10,5 +10,4 @@ ghost use Rattle.scoop_driver.specs.Driving.{AreMoves};
 /// client. Says so, and does nothing.
 pub fn steps_are_moves()
     ensures { (c : ClientState) (steps : List Made) → AllCan c steps → AreMoves c steps }
-{
-}
+{}

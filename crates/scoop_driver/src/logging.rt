@@ -42,10 +42,7 @@ fn may_take<A: Allocator>(client: &Client<A>, command: &Command) -> Result<(), C
 }
 
 // The client takes a command, or refuses it.
-fn take<A: Allocator + Clone>(
-    client: &mut Client<A>,
-    command: &Command,
-) -> Result<(), ClientError>
+fn take<A: Allocator + Clone>(client: &mut Client<A>, command: &Command) -> Result<(), ClientError>
     ensures takes { Commanded (core_command command.now) result client.old client.new }
     ensures memory { result ≡ Err ClientError.OutOfMemory → IsReserve command.now }
 {

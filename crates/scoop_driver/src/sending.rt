@@ -28,10 +28,7 @@ fn version_for(batch: u8) -> Version
 
 // Sends what is due to each of the client's handlers, in order, or tells the place of the handler the send
 // to which failed.
-fn send_due<L: Link, A: Allocator>(
-    client: &Client<A>,
-    link: &mut L,
-) -> Result<(), usize>
+fn send_due<L: Link, A: Allocator>(client: &Client<A>, link: &mut L) -> Result<(), usize>
     ensures sends { SentDue result client.now (L.told link.old) (L.told link.new) }
     ensures faults { L.fault_count link.new ≡ L.fault_count link.old + send_faults result }
 {

@@ -1,4 +1,4 @@
-use Rattle.scoop_driver.proofs.Turns.{turned_not, turned_broken}
+use Rattle.scoop_driver.proofs.Turns.{turned_not}
 use Rattle.scoop_driver.proofs.sending.take_turn.Goals as goal
 
 pub returns-then-is_err-clause-does : goal.returns-then-is_err-clause-does

@@ -1,4 +1,4 @@
-use Rattle.std.proofs.Common.{◌∙◌, sym}
+use Rattle.std.proofs.Common.{◌∙◌}
 use Rattle.scoop_driver.proofs.Calling.{turning_more, answered_from, answered_not}
 use Rattle.scoop_driver.proofs.driver.Driver.answer_of.Goals as goal
 

@@ -1,7 +1,6 @@
-use Rattle.std.proofs.Common.{◌≡◌, ◌∙◌, refl, [], length, drop, sym}
-use Rattle.std.proofs.lemmas.List.{drop_all}
+use Rattle.std.proofs.Common.{◌∙◌, refl}
 use Rattle.scoop_driver.specs.Waiting.{calls}
-use Rattle.scoop_driver.proofs.Waits.{logging_none, logging_item, logging_more, logged_not, logged_all}
+use Rattle.scoop_driver.proofs.Waits.{logging_none, logging_item, logging_more, logged_not}
 use Rattle.scoop_driver.proofs.driver.Driver.call_all.Goals as goal
 
 pub loop-entry-init : goal.loop-entry-init

@@ -1,4 +1,4 @@
-use Rattle.std.proofs.Common.{◌≡◌, ◌+◌, ◌-◌, ◌∙◌, ◌≤◌, ◌<◌, ap, sym, subst, arith, [], ◌∷◌, ℕ}
+use Rattle.std.proofs.Common.{◌≡◌, ◌-◌, ◌∙◌, ap, subst, arith, [], ◌∷◌}
 use Rattle.scoop_driver.specs.Steps.{core_command}
 use Rattle.scoop_driver.specs.State.{DriverState}
 use Rattle.scoop_driver.proofs.Calling.{Turning, turning_more, turning_same, turning_stops, turning_over, logged_after, refused_same, offered_true, offered_false}

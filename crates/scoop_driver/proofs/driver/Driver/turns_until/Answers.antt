@@ -1,5 +1,5 @@
-use Rattle.std.proofs.Common.{[], ◌∙◌, sym}
-use Rattle.scoop_driver.proofs.Calling.{turning_none, turning_more, turning_stops, turning_done, turning_over}
+use Rattle.std.proofs.Common.{[], ◌∙◌}
+use Rattle.scoop_driver.proofs.Calling.{turning_more, turning_stops}
 use Rattle.scoop_driver.proofs.driver.Driver.turns_until.Goals as goal
 
 pub loop-taken-preserved : goal.loop-taken-preserved

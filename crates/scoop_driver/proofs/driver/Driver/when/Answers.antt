@@ -1,6 +1,6 @@
-use Rattle.std.proofs.Common.{◌≡◌, ◌∙◌, true, false, arith}
+use Rattle.std.proofs.Common.{◌∙◌, true, false}
 use Rattle.scoop_driver.specs.Waiting.{wish}
-use Rattle.scoop_driver.proofs.Waits.{failing_more, tried_is, waits_done, waits_broke, waits_failed}
+use Rattle.scoop_driver.proofs.Waits.{failing_more, tried_is, waits_done, waits_broke}
 use Rattle.scoop_driver.proofs.driver.Driver.when.Goals as goal
 
 pub loop-tried-preserved : goal.loop-tried-preserved
