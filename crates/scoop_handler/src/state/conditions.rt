@@ -129,6 +129,7 @@ fn has_mark<A: Allocator>(marks: &[Mark], queues: &QueueOfQueues<A>, i: usize) -
         return true;
     };
     let pending = queues.pending_len(head.block);
+    // For the prover: the private queues are sound.
     let _list = queues.list_len();
     match find_mark(marks, head.block.client) {
         Some(mark) => fits_mark(head, u64::from(head.first) + pending as u64, mark),
@@ -158,6 +159,7 @@ pub(crate) fn is_state<A: Allocator>(
 ) -> bool
     ensures { (number : HandlerId) → IsTrue result ↔ IsState (state_of number holder marks.now queues.now words.now) }
 {
+    // For the prover: what is true of all words and of all private queues.
     let _words = words.len();
     let _queues = queues.list_len();
     marks.len() <= MAX_MARKS
