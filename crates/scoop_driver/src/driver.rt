@@ -80,14 +80,17 @@ impl<L: Link, D: Diary<A>, A: Allocator> Driver<L, D, A> {
 
     /// Its link.
     pub fn link(&self) -> &L
-        ensures { result.now ≡ self.now.link }
+        ensures link { result.now ≡ self.now.link }
+        ensures told { self.now.seen.told ≡ L.told result.now }
+        ensures faults { self.now.seen.faults ≡ L.fault_count result.now }
     {
         &self.link
     }
 
     /// Its diary.
     pub fn diary(&self) -> &D
-        ensures { result.now ≡ self.now.diary }
+        ensures diary { result.now ≡ self.now.diary }
+        ensures steps { self.now.seen.diary ≡ D.steps result.now }
     {
         &self.diary
     }
