@@ -27,13 +27,17 @@ impl<A: Allocator> Model for Pass<A> {
 }
 
 // Puts down an event with its reply. There is room for it.
-fn put_down<A: Allocator + Copy>(events: &mut Vec<(Event, Reply), A>, event: Event, reply: Reply)
+fn put_down<A: Allocator + Copy>(
+    events: &mut Vec<(Event, Reply), A>,
+    event: &Event,
+    reply: &Reply,
+)
     requires { vec_len events.old < vec_capacity events.old }
-    ensures { events.new.items ≡ events.old.items ++ (event, reply) ∷ [] }
+    ensures { events.new.items ≡ events.old.items ++ (event.now, reply.now) ∷ [] }
 {
     // Names the types that a reply holds, of which the prover has to be told here.
     let _parts: Option<(Entry, Request)> = None;
-    events.push_reserved((event, reply));
+    events.push_reserved((*event, *reply));
 }
 
 impl<A: Allocator + Copy> Pass<A> {

@@ -1,13 +1,13 @@
 //! What happens at a book's handlers, and is entered.
 
-ghost use Rattle.std.specs.Prelude.{◌≡◌, ◌≢◌, ◌||◌, ℕ, IfOk, IfErr, OnOk, OnErr, IfSome};
+ghost use Rattle.std.specs.Prelude.{◌≡◌, ◌≢◌, ◌⊎◌, ◌||◌, ℕ, IfOk, IfErr, OnOk, OnErr, IfSome};
 ghost use Rattle.std.specs.Option.{option_map};
 ghost use Rattle.scoop_handler.specs.Running.{job_out, ran_of, ready};
-ghost use Rattle.scoop_record.specs.Keeper.{IsSame, Stays as KeeperStays};
+ghost use Rattle.scoop_record.specs.Keeper.{IsPutError, IsSame, Stays as KeeperStays};
 ghost use Rattle.scoop_book.specs.Moves.{handler_at, handler_in, leaves};
-ghost use Rattle.scoop_book.specs.Books.{Gains, IsBook, IsRefused, IsUnfinished, KeepsNew, MayHappen, Stays, IsHear, HasReply, fails, fails_to_finish};
+ghost use Rattle.scoop_book.specs.Books.{Gains, IsBook, IsRefused, IsUnfinished, KeepsNew, MayHappen, Stays, IsHear, HasReply, fails, fails_to_finish, refusal_of};
 
-use crate::book::{Book, enter, local_at};
+use crate::book::{Book, enter};
 use crate::error::{BookError, FinishError, FinishRefusal};
 use crate::event::{Event, Reply};
 use scoop_handler::{Done, Job, Ran};
@@ -15,6 +15,43 @@ use scoop_message::HandlerId;
 use scoop_object::Behaviour;
 use scoop_record::{JobRefusal, Keeper, KeeperError};
 use std::alloc::Allocator;
+
+// Why an event isn't entered, by what the keeper says of the new state; and whether it is the last one.
+fn put_refused(failed: &mut bool, error: KeeperError) -> BookError
+    requires { IsPutError error }
+    ensures named { (result ≡ BookError.StoreRefused) ⊎ (result ≡ BookError.OutOfMemory) }
+    ensures failed { failed.new ≡ (failed.old || fails result) }
+{
+    match error {
+        KeeperError::OutOfMemory => BookError::OutOfMemory,
+        _ => {
+            *failed = true;
+            BookError::StoreRefused
+        }
+    }
+}
+
+// Why a job isn't finished, by what the handler and its keeper say; and whether it is the last one.
+fn job_refused(failed: &mut bool, cause: JobRefusal) -> FinishRefusal
+    ensures cause { result ≡ refusal_of cause }
+    ensures failed { failed.new ≡ (failed.old || fails_to_finish result) }
+{
+    match cause {
+        JobRefusal::Stranger => FinishRefusal::Stranger,
+        JobRefusal::OutOfMemory => FinishRefusal::OutOfMemory,
+        JobRefusal::Refused => {
+            *failed = true;
+            FinishRefusal::StoreRefused
+        }
+    }
+}
+
+// The reply to a Finish.
+fn finished(ran: &Ran) -> Reply
+    ensures { result ≡ Reply.Finished ran.now }
+{
+    Reply::Finished(*ran)
+}
 
 fn refused<B: Behaviour>(cause: FinishRefusal, done: Done<B>) -> FinishError<B>
     ensures cause { result.cause ≡ cause }
@@ -43,7 +80,7 @@ impl<B: Behaviour, K: Keeper<A>, A: Allocator + Copy> Book<B, K, A> {
         ensures honest { K.is_honest self.new.keeper → K.is_honest self.old.keeper }
         ensures sound { IsBook K.handlers K.is_honest self.new }
     {
-        let Event::Hear(message) = event else {
+        let Event::Hear(message) = &event else {
             unreachable!()
         };
         if self.failed {
@@ -52,25 +89,19 @@ impl<B: Behaviour, K: Keeper<A>, A: Allocator + Copy> Book<B, K, A> {
         if self.history.len() >= self.limit {
             return Err(BookError::HistoryFull);
         }
-        let Some(at) = local_at(&self.locals, message.handler()) else {
+        let Some(at) = self.handlers.place(message.handler()) else {
             return Err(BookError::UnknownHandler);
         };
         if self.history.reserve(1).is_err() {
             return Err(BookError::OutOfMemory);
         }
-        let local = &mut self.locals[at];
-        match local.hear(&mut self.keeper, &message) {
-            Ok(heard) => {
-                let reply = Reply::Heard(heard);
-                enter(&mut self.history, pass, event, reply);
-                Ok(reply)
-            }
-            Err(KeeperError::OutOfMemory) => Err(BookError::OutOfMemory),
-            Err(_) => {
-                self.failed = true;
-                Err(BookError::StoreRefused)
-            }
-        }
+        let heard = match self.handlers.hear(at, message) {
+            Ok(heard) => heard,
+            Err(error) => return Err(put_refused(&mut self.failed, error)),
+        };
+        let reply = Reply::Heard(heard);
+        enter(&mut self.history, pass, &event, &reply);
+        Ok(reply)
     }
 
     /// The handler's next entry leaves to be run, for the pass of this number. `None` exactly where the
@@ -95,24 +126,19 @@ impl<B: Behaviour, K: Keeper<A>, A: Allocator + Copy> Book<B, K, A> {
         if self.history.len() >= self.limit {
             return Err(BookError::HistoryFull);
         }
-        let Some(at) = local_at(&self.locals, handler) else {
+        let Some(at) = self.handlers.place(handler) else {
             return Err(BookError::UnknownHandler);
         };
         if self.history.reserve(1).is_err() {
             return Err(BookError::OutOfMemory);
         }
-        let local = &mut self.locals[at];
-        let job = local.begin();
+        let job = self.handlers.begin(at, handler);
         let began = match &job {
             Some(job) => Some((job.block(), job.number())),
             None => None,
         };
-        enter(
-            &mut self.history,
-            pass,
-            Event::Begin(handler),
-            Reply::Began(began),
-        );
+        let reply = Reply::Began(began);
+        enter(&mut self.history, pass, &Event::Begin(handler), &reply);
         Ok(job)
     }
 
@@ -144,35 +170,22 @@ impl<B: Behaviour, K: Keeper<A>, A: Allocator + Copy> Book<B, K, A> {
             return Err(refused(FinishRefusal::HistoryFull, done));
         }
         let handler = done.handler();
-        let Some(at) = local_at(&self.locals, handler) else {
+        let Some(at) = self.handlers.place(handler) else {
             return Err(refused(FinishRefusal::UnknownHandler, done));
         };
         if self.history.reserve(1).is_err() {
-            let cause = self.locals[at].no_room_to_finish(&done);
+            let cause = self.handlers.no_room_to_finish(at, &done);
             return Err(refused(cause, done));
         }
-        let local = &mut self.locals[at];
-        match local.finish(&mut self.keeper, done) {
-            Ok(ran) => {
-                enter(
-                    &mut self.history,
-                    pass,
-                    Event::Finish(handler),
-                    Reply::Finished(ran),
-                );
-                Ok(ran)
-            }
+        let ran = match self.handlers.finish(at, done) {
+            Ok(ran) => ran,
             Err(error) => {
-                let cause = match error.cause {
-                    JobRefusal::Stranger => FinishRefusal::Stranger,
-                    JobRefusal::OutOfMemory => FinishRefusal::OutOfMemory,
-                    JobRefusal::Refused => {
-                        self.failed = true;
-                        FinishRefusal::StoreRefused
-                    }
-                };
-                Err(refused(cause, error.done))
+                let cause = job_refused(&mut self.failed, error.cause);
+                return Err(refused(cause, error.done));
             }
-        }
+        };
+        let reply = finished(&ran);
+        enter(&mut self.history, pass, &Event::Finish(handler), &reply);
+        Ok(ran)
     }
 }

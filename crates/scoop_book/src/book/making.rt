@@ -9,6 +9,7 @@ ghost use Rattle.scoop_book.specs.Opening.{AllOpen, IsUnopened};
 
 use crate::book::Book;
 use crate::error::OpenError;
+use crate::handlers::Handlers;
 use crate::opening::{open_all, refusal};
 use scoop_message::HandlerId;
 use scoop_message::limits::MAX_HISTORY;
@@ -68,11 +69,10 @@ impl<B: Behaviour, K: Keeper<A>, A: Allocator + Copy> Book<B, K, A> {
         };
         Ok(Book {
             opening,
-            locals,
+            handlers: Handlers::new(locals, keeper),
             history: Vec::new(alloc),
             limit,
             failed: false,
-            keeper,
         })
     }
 }
