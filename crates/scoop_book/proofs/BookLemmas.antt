@@ -1,6 +1,6 @@
 -- What is so of the handlers of a book after a move, and of a book after one more entry.
-use Rattle.std.proofs.Common.{◌≡◌, ℕ, zero, suc, ◌+◌, ◌<◌, ◌≤◌, Bool, true, false, true≢false, List, [], ◌∷◌, ◌++◌, map, length, set, get_or, slice_get, Option, Some, None, Result, Ok, Err, refl, sym, ap, ◌∙◌, subst, arith, length-append}
-use Rattle.std.specs.Prelude.{⊤, IfSome, IfOk, IfErr, OnOk, OnErr}
+use Rattle.std.proofs.Common.{◌≡◌, ◌⊎◌, ⊎_elim, ◌||◌, ℕ, zero, suc, ◌+◌, ◌<◌, ◌≤◌, Bool, true, false, true≢false, List, [], ◌∷◌, ◌++◌, map, length, set, get_or, slice_get, Option, Some, None, Result, Ok, Err, refl, sym, ap, ◌∙◌, subst, arith, length-append}
+use Rattle.std.specs.Prelude.{◌≢◌, ◌↔◌, ⊤, IfSome, IfOk, IfErr, OnOk, OnErr}
 use Rattle.std.specs.List.{AllByRecursion}
 use Rattle.scoop_message.specs.declared.name.HandlerId.{HandlerId}
 use Rattle.scoop_message.specs.Message.{same_handler}
@@ -21,9 +21,15 @@ use Rattle.scoop_book.specs.declared.event.Event.TheVariants.{Hear, Begin, Finis
 use Rattle.scoop_book.specs.declared.event.Reply.{Reply}
 use Rattle.scoop_book.specs.declared.event.Reply.TheVariants.{Heard, Began, Finished}
 use Rattle.scoop_book.specs.Moves.{LocalHandler, Entry, number_in, is_handler, handler_in, with_handler, handler_at, after_hearing, after_finish, HandlerMoves, Moves, Replays, NoRepeats}
-use Rattle.scoop_book.specs.Books.{BookValue, IsBook, HasStored, KeepsNew}
+use Rattle.scoop_record.specs.declared.running.JobRefusal.{JobRefusal}
+use Rattle.scoop_record.specs.declared.running.JobRefusal.TheVariants as jobs
+use Rattle.scoop_book.specs.declared.error.BookError.{BookError}
+use Rattle.scoop_book.specs.declared.error.BookError.TheVariants.{StoreRefused, OutOfMemory}
+use Rattle.scoop_book.specs.declared.error.FinishRefusal.{FinishRefusal}
+use Rattle.scoop_book.specs.declared.error.FinishRefusal.TheVariants as unfinished
+use Rattle.scoop_book.specs.Books.{BookValue, IsBook, HasStored, KeepsNew, Gains, MayHappen, IsRefused, IsStranger, MayFinish, IsUnfinished, fails_to_finish, refusal_of}
 use Rattle.scoop_book.specs.Kept.{IsFirst, IsHeld, HandlersValue, handlers_kept, book_kept}
-use Rattle.scoop_book.proofs.Places.{item_at, put_again, key_found, own_found, set_newer, key_at, all_newer, all_set_at, all_at}
+use Rattle.scoop_book.proofs.Places.{item_at, some_at, put_again, key_found, own_found, set_newer, key_at, all_newer, all_set_at, all_at}
 
 -- a replay goes on by a move
 pub replays_more : (hs : List LocalHandler) (es : List Entry) (e : Entry) (ks ls : List LocalHandler) → Replays hs es ks → Moves e.1 e.2 ks ls → Replays hs (es ++ e ∷ []) ls
@@ -228,3 +234,97 @@ pub refused_there : {K E : Type 0} (hs : List LocalHandler) (k : K) (v : Handler
     → (P : E → LocalHandler → Type 0) (r : Result Ran E) → IfErr r (λ e. P e old) → IfErr r (λ e. IfSome (slice_get v.handlers i) (P e))
 refused_there hs k v view h i old first is P (Ok x) p = tt
 refused_there hs k v view h i old first is P (Err e) p = if_there {K = _} (λ _ _ _. ⊤) (λ _. ⊤) hs k v view h i old first is (P e) p
+
+-- ---- a book
+
+pub entered : (es xs fs : List Entry) (pass : ℕ) (event : Event) (reply told : Reply) → fs ≡ xs ++ (pass, event, told) ∷ [] → xs ≡ es → told ≡ reply → fs ≡ es ++ (pass, event, reply) ∷ []
+entered es xs fs pass event reply told put items same =
+    put ∙ ap (λ (ys : List Entry). ys ++ (pass, event, told) ∷ []) items ∙ ap (λ (r : Reply). es ++ (pass, event, r) ∷ []) same
+
+module _ {K : Type 0} (opening : List LocalHandler) (v : HandlersValue K) (es : List Entry) (limit : ℕ) (failed : Bool) (b : BookValue K) (view : book_kept opening v.handlers es limit failed v.keeper ≡ b) where
+  pub keeper_is : v.keeper ≡ b.keeper
+  keeper_is = ap (λ (x : BookValue K). x.keeper) view
+
+  pub failed_is : failed ≡ b.failed
+  failed_is = ap (λ (x : BookValue K). x.failed) view
+
+  pub may_happen : (h : HandlerId) (i : ℕ) → failed ≡ false → length es < limit → IsFirst (is_handler h) v.handlers i → MayHappen b h
+  may_happen h i works room first =
+      let s = some_at v.handlers i first.within in
+      subst (λ (x : BookValue K). MayHappen x h) view (record { enter = record { works = works; room = room }; handler = s.0; here = first.found ∙ s.1 })
+
+  -- one more entry
+  module _ (w : HandlersValue K) (fs : List Entry) (pass : ℕ) (event : Event) (reply : Reply) (moves : Moves event reply v.handlers w.handlers) (entered : fs ≡ es ++ (pass, event, reply) ∷ []) where
+    pub gains : Gains pass event reply b (book_kept opening w.handlers fs limit failed w.keeper)
+    gains =
+        subst (λ (x : BookValue K). Gains pass event reply x (book_kept opening w.handlers fs limit failed w.keeper)) view
+        (record { moves = moves; history = entered; opening = refl; limit = refl; failed = refl })
+
+    pub book_more : (has : K → ℕ → Stored → Type 0) (is_honest : K → Type 0) → Replays opening es v.handlers → length es < limit → IsHeld has is_honest w → IsBook has is_honest (book_kept opening w.handlers fs limit failed w.keeper)
+    book_more has is_honest replays room held =
+        let longer : length fs ≡ length es + 1 = ap length entered ∙ length-append es ((pass, event, reply) ∷ []) in
+        record {
+          replays = subst (λ (xs : List Entry). Replays opening xs w.handlers) (sym entered) (replays_more opening es (pass, event, reply) v.handlers w.handlers replays moves);
+          apart = held.apart;
+          room = omega (arith, longer, room);
+          kept = held.kept;
+        }
+
+  -- none
+  pub book_same : (has : K → ℕ → Stored → Type 0) (is_honest : K → Type 0) (w : HandlersValue K) (fs : List Entry) (fails : Bool) → IsBook has is_honest (book_kept opening v.handlers es limit failed v.keeper) → w.handlers ≡ v.handlers → fs ≡ es → IsHeld has is_honest w
+      → IsBook has is_honest (book_kept opening w.handlers fs limit fails w.keeper)
+  book_same has is_honest w fs fails book same entries held = record {
+    replays = subst (λ (xs : List Entry). Replays opening xs w.handlers) (sym entries) (subst (λ (ks : List LocalHandler). Replays opening es ks) (sym same) book.replays);
+    apart = held.apart;
+    room = subst (λ (xs : List Entry). length xs ≤ limit) (sym entries) book.room;
+    kept = held.kept;
+  }
+
+-- a refusal that comes only where the event may happen
+pub put_refusal : {K : Type 0} (b : BookValue K) (h : HandlerId) (e : BookError) → (e ≡ StoreRefused) ⊎ (e ≡ OutOfMemory) → MayHappen b h → IsRefused b h e
+put_refusal b h e which may = ⊎_elim (λ is. subst (IsRefused b h) (sym is) may) (λ is. subst (IsRefused b h) (sym is) may) which
+
+not_failed : (failed : Bool) (e : FinishRefusal) → (e ≡ unfinished.Stranger) ⊎ (e ≡ unfinished.OutOfMemory) → failed ≡ (failed || fails_to_finish e)
+not_failed failed e which = ⊎_elim (λ is. sym (ap (λ x. failed || fails_to_finish x) is ∙ or_false failed)) (λ is. sym (ap (λ x. failed || fails_to_finish x) is ∙ or_false failed)) which
+  where
+    or_false : (t : Bool) → (t || false) ≡ t
+    or_false true = refl
+    or_false false = refl
+
+pub still_works : {K : Type 0} (b : BookValue K) (failed : Bool) (e f : FinishRefusal) → failed ≡ b.failed → e ≡ f → (f ≡ unfinished.Stranger) ⊎ (f ≡ unfinished.OutOfMemory) → failed ≡ (b.failed || fails_to_finish e)
+still_works b failed e f same is which = subst (λ x. x ≡ (b.failed || fails_to_finish e)) (sym same) (subst (λ x. b.failed ≡ (b.failed || fails_to_finish x)) (sym is) (not_failed b.failed f which))
+
+-- why a job isn't finished, where its event may happen: what is out at the handler at this place tells
+module _ {K : Type 0} (b : BookValue K) (done : Task) (hs : List LocalHandler) (i : ℕ) (same : hs ≡ b.handlers) (first : IsFirst (is_handler done.handler) hs i) (may : MayHappen b done.handler) where
+  here_is : (s : LocalHandler) → handler_in done.handler b.handlers ≡ Some s → slice_get hs i ≡ Some s
+  here_is s found = sym first.found ∙ ap (handler_in done.handler) same ∙ found
+
+  is_stranger : IfSome (slice_get hs i) (λ s. job_out s.core ≢ Some done) → IsStranger b done
+  is_stranger other = record {
+    enter = may.enter;
+    handler = may.handler;
+    here = may.here;
+    other = subst (λ o. IfSome o (λ s. job_out s.core ≢ Some done)) (here_is may.handler may.here) other;
+  }
+
+  no_stranger : IfSome (slice_get hs i) (λ s. job_out s.core ≢ Some done → ⊥) → MayFinish b done
+  no_stranger own = record {
+    happens = may;
+    own = λ st. subst (λ o. IfSome o (λ s. job_out s.core ≢ Some done → ⊥)) (here_is st.handler st.here) own st.other;
+  }
+
+  if_only : {P Q : LocalHandler → Type 0} (o : Option LocalHandler) → ((s : LocalHandler) → P s → Q s) → IfSome o P → IfSome o Q
+  if_only None f p = tt
+  if_only (Some s) f p = f s p
+
+  pub room_refusal : (e : FinishRefusal) → IfSome (slice_get hs i) (λ s. (e ≡ unfinished.Stranger) ↔ (job_out s.core ≢ Some done)) → (e ≡ unfinished.Stranger) ⊎ (e ≡ unfinished.OutOfMemory) → IsUnfinished b done e
+  room_refusal e tells which =
+      ⊎_elim
+      (λ (is : e ≡ unfinished.Stranger). subst (IsUnfinished b done) (sym is) (is_stranger (if_only (slice_get hs i) (λ s t. t.0 is) tells)))
+      (λ (is : e ≡ unfinished.OutOfMemory). subst (IsUnfinished b done) (sym is) (no_stranger (if_only (slice_get hs i) (λ s t other. let no : e ≡ unfinished.Stranger = t.1 other in let clash : unfinished.OutOfMemory ≡ unfinished.Stranger = sym is ∙ no in cc) tells)))
+      which
+
+  pub job_refusal : (e : JobRefusal) → IfSome (slice_get hs i) (λ s. (e ≡ jobs.Stranger) ↔ (job_out s.core ≢ Some done)) → IsUnfinished b done (refusal_of e)
+  job_refusal jobs.Stranger tells = is_stranger (if_only (slice_get hs i) (λ s t. t.0 refl) tells)
+  job_refusal jobs.Refused tells = no_stranger (if_only (slice_get hs i) (λ s t other. let no : jobs.Refused ≡ jobs.Stranger = t.1 other in cc) tells)
+  job_refusal jobs.OutOfMemory tells = no_stranger (if_only (slice_get hs i) (λ s t other. let no : jobs.OutOfMemory ≡ jobs.Stranger = t.1 other in cc) tells)

@@ -11,7 +11,7 @@ use crate::book::{Book, enter};
 use crate::error::{BookError, FinishError, FinishRefusal};
 use crate::event::{Event, Reply};
 use scoop_handler::{Done, Job, Ran};
-use scoop_message::HandlerId;
+use scoop_message::{Block, HandlerId};
 use scoop_object::Behaviour;
 use scoop_record::{JobRefusal, Keeper, KeeperError};
 use std::alloc::Allocator;
@@ -43,6 +43,16 @@ fn job_refused(failed: &mut bool, cause: JobRefusal) -> FinishRefusal
             *failed = true;
             FinishRefusal::StoreRefused
         }
+    }
+}
+
+// The block and the number of the entry that has left, if any.
+fn entry_left<B: Behaviour>(job: &Option<Job<B>>) -> Option<(Block, u32)>
+    ensures { result ≡ option_map leaves job.now }
+{
+    match job {
+        Some(job) => Some((job.block(), job.number())),
+        None => None,
     }
 }
 
@@ -92,9 +102,9 @@ impl<B: Behaviour, K: Keeper<A>, A: Allocator + Copy> Book<B, K, A> {
         let Some(at) = self.handlers.place(message.handler()) else {
             return Err(BookError::UnknownHandler);
         };
-        if self.history.reserve(1).is_err() {
+        let Ok(()) = self.history.reserve(1) else {
             return Err(BookError::OutOfMemory);
-        }
+        };
         let heard = match self.handlers.hear(at, message) {
             Ok(heard) => heard,
             Err(error) => return Err(put_refused(&mut self.failed, error)),
@@ -129,15 +139,11 @@ impl<B: Behaviour, K: Keeper<A>, A: Allocator + Copy> Book<B, K, A> {
         let Some(at) = self.handlers.place(handler) else {
             return Err(BookError::UnknownHandler);
         };
-        if self.history.reserve(1).is_err() {
+        let Ok(()) = self.history.reserve(1) else {
             return Err(BookError::OutOfMemory);
-        }
-        let job = self.handlers.begin(at, handler);
-        let began = match &job {
-            Some(job) => Some((job.block(), job.number())),
-            None => None,
         };
-        let reply = Reply::Began(began);
+        let job = self.handlers.begin(at, handler);
+        let reply = Reply::Began(entry_left(&job));
         enter(&mut self.history, pass, &Event::Begin(handler), &reply);
         Ok(job)
     }
@@ -173,10 +179,10 @@ impl<B: Behaviour, K: Keeper<A>, A: Allocator + Copy> Book<B, K, A> {
         let Some(at) = self.handlers.place(handler) else {
             return Err(refused(FinishRefusal::UnknownHandler, done));
         };
-        if self.history.reserve(1).is_err() {
+        let Ok(()) = self.history.reserve(1) else {
             let cause = self.handlers.no_room_to_finish(at, &done);
             return Err(refused(cause, done));
-        }
+        };
         let ran = match self.handlers.finish(at, done) {
             Ok(ran) => ran,
             Err(error) => {
