@@ -5,6 +5,9 @@ ghost use Rattle.std.specs.Prelude.{◌≡◌, ◌<◌, ◌++◌, ◌∷◌, [],
 mod entering;
 mod making;
 
+pub(crate) use entering::{entry_left, finished};
+
+use crate::closing::Closed;
 use crate::event::{Event, Reply};
 use crate::handlers::Handlers;
 use crate::opening::Opening;
@@ -67,6 +70,13 @@ impl<B: Behaviour, K: Keeper<A>, A: Allocator + Copy> Book<B, K, A> {
         &self.history
     }
 
+    /// The handlers as they opened.
+    pub(crate) fn opening(&self) -> &[Opening<A>]
+        ensures { result.now ≡ self.now.opening }
+    {
+        &self.opening
+    }
+
     /// The words of the handler's object, or those with which it left. `None` for a handler that isn't here.
     pub fn words(&self, handler: HandlerId) -> Option<Words>
         ensures { result ≡ option_map (λ s. s.core.state.words) (handler_in handler self.now.handlers) }
@@ -81,5 +91,18 @@ impl<B: Behaviour, K: Keeper<A>, A: Allocator + Copy> Book<B, K, A> {
     {
         let Book { handlers, .. } = self;
         handlers.into_keeper()
+    }
+
+    /// What is left of it once it is closed.
+    pub(crate) fn into_closed(self) -> Closed<K, A>
+        ensures history { result.history.items ≡ self.history }
+        ensures keeper { result.keeper ≡ self.keeper }
+        ensures sound { IsBook K.handlers K.is_honest self }
+    {
+        let Book {
+            handlers, history, ..
+        } = self;
+        let keeper = handlers.into_keeper();
+        Closed { history, keeper }
     }
 }

@@ -46,8 +46,8 @@ fn job_refused(failed: &mut bool, cause: JobRefusal) -> FinishRefusal
     }
 }
 
-// The block and the number of the entry that has left, if any.
-fn entry_left<B: Behaviour>(job: &Option<Job<B>>) -> Option<(Block, u32)>
+/// The block and the number of the entry that has left, if any.
+pub(crate) fn entry_left<B: Behaviour>(job: &Option<Job<B>>) -> Option<(Block, u32)>
     ensures { result ≡ option_map leaves job.now }
 {
     match job {
@@ -56,8 +56,8 @@ fn entry_left<B: Behaviour>(job: &Option<Job<B>>) -> Option<(Block, u32)>
     }
 }
 
-// The reply to a Finish.
-fn finished(ran: &Ran) -> Reply
+/// The reply to a Finish.
+pub(crate) fn finished(ran: &Ran) -> Reply
     ensures { result ≡ Reply.Finished ran.now }
 {
     Reply::Finished(*ran)
@@ -88,6 +88,7 @@ impl<B: Behaviour, K: Keeper<A>, A: Allocator + Copy> Book<B, K, A> {
         ensures failed { IfErr result (λ e. self.new.failed ≡ (self.old.failed || fails e)) }
         ensures kept { K.is_honest self.new.keeper → OnErr result (KeeperStays (K.handlers self.old.keeper) (K.handlers self.new.keeper)) }
         ensures honest { K.is_honest self.new.keeper → K.is_honest self.old.keeper }
+        ensures was { IsBook K.handlers K.is_honest self.old }
         ensures sound { IsBook K.handlers K.is_honest self.new }
     {
         let Event::Hear(message) = &event else {
@@ -128,6 +129,7 @@ impl<B: Behaviour, K: Keeper<A>, A: Allocator + Copy> Book<B, K, A> {
         ensures unasked { IfErr result (λ e. e ≢ BookError.StoreRefused) }
         ensures stays { OnErr result (Stays self.old self.new) }
         ensures failed { self.new.failed ≡ self.old.failed }
+        ensures was { IsBook K.handlers K.is_honest self.old }
         ensures sound { IsBook K.handlers K.is_honest self.new }
     {
         if self.failed {
@@ -167,6 +169,7 @@ impl<B: Behaviour, K: Keeper<A>, A: Allocator + Copy> Book<B, K, A> {
         ensures failed { IfErr result (λ e. self.new.failed ≡ (self.old.failed || fails_to_finish e.cause)) }
         ensures kept { K.is_honest self.new.keeper → OnErr result (KeeperStays (K.handlers self.old.keeper) (K.handlers self.new.keeper)) }
         ensures honest { K.is_honest self.new.keeper → K.is_honest self.old.keeper }
+        ensures was { IsBook K.handlers K.is_honest self.old }
         ensures sound { IsBook K.handlers K.is_honest self.new }
     {
         if self.failed {
