@@ -227,7 +227,6 @@ taken_all s xs t y none = taken_front s xs t y ∙ ap (λ ys. xs ++ ys) (no_item
     no_items [] e = refl
     no_items (y ∷ ys) e = absurd (omega (arith, e))
 
-
 -- ---- a list whose items are told by their places
 
 get_front : {A : Type 0} (xs : List A) (x : A) (n : ℕ) → n < length xs → slice_get (xs ++ x ∷ []) n ≡ slice_get xs n

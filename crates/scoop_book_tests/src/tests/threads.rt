@@ -129,11 +129,13 @@ fn a_node_has_a_pass(rt: HostRuntime) -> Result<(), Fail> {
     Ok(())
 }
 
-/// The same over a store in a file, and then opened again over it.
-fn in_a_file(rt: &HostRuntime, path: &str) -> Result<(), Fail> {
-    let alloc = rt.alloc();
-    let store: FiledStore = Store::create(alloc, Connection::open(rt, path)?)?;
-    let (node, mut passes) = opened(alloc, store, 2).ok_or("cells")??;
+/// The same events over this keeper, which is handed back. The passes may be given in any order.
+fn thousand<K: Keeper<Global> + Send, R: Threads + Wait + Sync + Abort>(
+    rt: &R,
+    alloc: Global,
+    keeper: K,
+) -> Result<K, Fail> {
+    let (node, mut passes) = opened(alloc, keeper, 2).ok_or("cells")??;
     let second = passes.pop().ok_or("second")?;
     let first = passes.pop().ok_or("first")?;
     let (first, second) = both_work(rt, &node, first, second);
@@ -144,25 +146,37 @@ fn in_a_file(rt: &HostRuntime, path: &str) -> Result<(), Fail> {
         return Err("not closed".into());
     };
     assert_eq!(rt; closed.history.len(), 1000);
-    let (node, _) = opened(alloc, closed.keeper, 1).ok_or("cells")??;
-    drop(node);
-    let mut store: FiledStore = Store::adopt(alloc, Connection::open(rt, path)?)?;
-    for handler in [1, 2] {
-        let stored = store.load_handler(HandlerId(handler))?;
-        let words = stored.ok_or("a stored state")?.words();
-        assert_eq!(rt; words.get(0), Some(165));
-    }
-    Ok(())
+    Ok(closed.keeper)
 }
 
+/// A store in a new file.
+fn store_at(rt: &HostRuntime, path: &str) -> Result<FiledStore, Fail> {
+    Ok(Store::create(rt.alloc(), Connection::open(rt, path)?)?)
+}
+
+/// The word that the file has for a handler.
+fn word_at(rt: &HostRuntime, path: &str, handler: u32) -> Result<Option<u64>, Fail> {
+    let mut store: FiledStore = Store::adopt(rt.alloc(), Connection::open(rt, path)?)?;
+    let stored = store.load_handler(HandlerId(handler))?;
+    Ok(stored.ok_or("a stored state")?.words().get(0))
+}
+
+/// The same over a store in a file.
 #[test]
 fn a_node_keeps_its_record_in_a_file(rt: HostRuntime) -> Result<(), Fail> {
     let alloc = rt.alloc();
     let name = format!(in alloc; "scoop-book-{}", process::id(rt.process()))?;
     let dir = env::temp_dir(&rt)?.join(alloc, name.as_str())?;
     fs::create_dir(&rt, &dir)?;
-    let path = dir.join(alloc, "record")?;
-    let done = in_a_file(&rt, path.to_str().ok_or("a path")?);
+    let record = dir.join(alloc, "record")?;
+    let path = record.to_str().ok_or("a path")?;
+    let store = thousand(&rt, alloc, store_at(&rt, path)?)?;
+    let again: Result<(Node<Table, FiledStore>, Vec<Pass>), OpenError> =
+        opened(alloc, store, 1).ok_or("cells")?;
+    assert!(rt; again.is_ok());
+    drop(again);
+    assert_eq!(rt; word_at(&rt, path, 1)?, Some(165));
+    assert_eq!(rt; word_at(&rt, path, 2)?, Some(165));
     fs::remove_dir_all(&rt, &dir)?;
-    done
+    Ok(())
 }
