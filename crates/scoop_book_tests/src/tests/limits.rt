@@ -41,10 +41,12 @@ fn a_book_hears_and_runs(rt: HostRuntime) -> Result<(), Fail> {
     assert!(rt; book.words(HandlerId(3)).is_none());
     let history = book.history();
     assert_eq!(rt; history.len(), 7);
-    assert_eq!(rt; (history[4].0, history[4].1), (5, Event::Begin(ONE)));
-    assert!(rt; history[4].2 == Reply::Began(Some((block(7), 1))));
-    assert!(rt; history[5].2 == Reply::Began(None));
-    assert_eq!(rt; (history[6].0, history[6].1), (6, Event::Finish(ONE)));
+    let begun = history.get(4).ok_or("begun")?;
+    assert_eq!(rt; (begun.0, begun.1), (5, Event::Begin(ONE)));
+    assert!(rt; begun.2 == Reply::Began(Some((block(7), 1))));
+    assert!(rt; history.get(5).ok_or("idle")?.2 == Reply::Began(None));
+    let finished = history.get(6).ok_or("finished")?;
+    assert_eq!(rt; (finished.0, finished.1), (6, Event::Finish(ONE)));
     Ok(())
 }
 

@@ -1,7 +1,7 @@
 //! Two threads at one node, and how it is closed.
 
 use super::{cells, hello, lock, log, open};
-use scoop_book::{CloseRefusal, Node, OpenError, Pass};
+use scoop_book::{CloseRefusal, Event, Node, OpenError, Pass, Reply};
 use scoop_message::HandlerId;
 use scoop_object::Table;
 use scoop_record::{Keeper, MemoryKeeper, Store};
@@ -73,14 +73,8 @@ fn opened<K: Keeper<Global>>(
 }
 
 /// How many entries are of this pass.
-fn entries_of(history: &[(u32, scoop_book::Event, scoop_book::Reply)], number: u32) -> usize {
-    let mut count = 0;
-    for i in 0..history.len() {
-        if history[i].0 == number {
-            count = i + 1 - (i - count);
-        }
-    }
-    count
+fn entries_of(history: &[(u32, Event, Reply)], number: u32) -> usize {
+    history.iter().filter(|entry| entry.0 == number).count()
 }
 
 #[test]

@@ -19,7 +19,7 @@ returns-in_default-reserve-clause-kept g c honest =
 
 pub invariant_of-self-in-Err : goal.invariant_of-self-in-Err
 invariant_of-self-in-Err g c =
-    book_same c.self.inside.opening.items c.self.inside.handlers c.self.inside.history.items c.self.inside.limit c.self.inside.failed c.args.self.now c.self.view_is g.K.Keeper.handlers g.K.Keeper.is_honest c.hear.new.self c.reserve.new.self.items c.put_refused.new.failed c.self.invariant c.in-Err.ensures.err c.reserve.ensures.items c.hear.ensures.held
+    book_same c.self.inside.opening.items c.self.inside.handlers c.self.inside.history.items c.self.inside.limit c.self.inside.failed c.args.self.now c.self.view_is g.K.Keeper.handlers g.K.Keeper.is_honest c.hear.new.self c.reserve.new.self.items _ c.self.invariant c.in-Err.ensures.err c.reserve.ensures.items c.hear.ensures.held
 
 pub returns-in-Err-clause-incarnations : goal.returns-in-Err-clause-incarnations
 returns-in-Err-clause-incarnations g c honest =
@@ -36,7 +36,7 @@ returns-in-Err-clause-kept g c honest =
 
 pub returns-in-Err-clause-sound : goal.returns-in-Err-clause-sound
 returns-in-Err-clause-sound g c =
-    book_same c.self.inside.opening.items c.self.inside.handlers c.self.inside.history.items c.self.inside.limit c.self.inside.failed c.args.self.now c.self.view_is g.K.Keeper.handlers g.K.Keeper.is_honest c.hear.new.self c.reserve.new.self.items c.put_refused.new.failed c.self.invariant c.in-Err.ensures.err c.reserve.ensures.items c.hear.ensures.held
+    book_same c.self.inside.opening.items c.self.inside.handlers c.self.inside.history.items c.self.inside.limit c.self.inside.failed c.args.self.now c.self.view_is g.K.Keeper.handlers g.K.Keeper.is_honest c.hear.new.self c.reserve.new.self.items _ c.self.invariant c.in-Err.ensures.err c.reserve.ensures.items c.hear.ensures.held
 
 pub returns-clause-incarnations : goal.returns-clause-incarnations
 returns-clause-incarnations g c honest =
