@@ -9,8 +9,8 @@ use Rattle.scoop_handler.specs.declared.ran.Ran.{Ran}
 use Rattle.scoop_handler.specs.Text as handler
 use Rattle.scoop_client.specs.declared.phase.ClientNote.{ClientNote}
 use Rattle.scoop_client.specs.declared.phase.ClientNote.TheVariants as client
-use Rattle.scoop_world.specs.declared.note.WorldNote.{WorldNote}
-use Rattle.scoop_world.specs.declared.note.WorldNote.TheVariants as note
+use Rattle.scoop_model.specs.declared.note.WorldNote.{WorldNote}
+use Rattle.scoop_model.specs.declared.note.WorldNote.TheVariants as note
 
 -- the name of a message's kind
 abbrev pub kind_text : Message → List ℕ

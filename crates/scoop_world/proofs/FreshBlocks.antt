@@ -8,14 +8,13 @@ use Rattle.scoop_client.specs.State.{ClientState}
 use Rattle.scoop_client.specs.Commands as client
 use Rattle.scoop_client.specs.Rows.{ReserveRow, begins_block}
 use Rattle.scoop_client.proofs.CommandRows.{command_row}
-use Rattle.scoop_world.specs.World.{World, Party, BlockLog, is_log_of, handlers_in}
-use Rattle.scoop_world.specs.Step.{newest_block}
-use Rattle.scoop_world.specs.Reach.{IsReached}
+use Rattle.scoop_model.specs.World.{World, Party, BlockLog, is_log_of, handlers_in}
+use Rattle.scoop_model.specs.Step.{newest_block}
+use Rattle.scoop_model.specs.Reach.{IsReached}
 use Rattle.scoop_world.specs.Kept.{has_log}
-use Rattle.scoop_world.proofs.TakenOutcome.{ok_is}
-use Rattle.scoop_world.proofs.Events.{by_test}
-use Rattle.scoop_world.proofs.Reaching.{reached_ordered}
-use Rattle.scoop_world.proofs.Order.Facts.{PartyFits, all_at}
+use Rattle.scoop_model.proofs.Basics.{ok_is, by_test}
+use Rattle.scoop_model.proofs.Reaching.{reached_ordered}
+use Rattle.scoop_model.proofs.Order.Facts.{PartyFits, all_at}
 
 -- a block that has a log has handlers
 handlers_found : (b : Block) (logs : List BlockLog) → has_log b logs ≡ true → (hs : List HandlerId) × (option_map handlers_in (find (is_log_of b) logs) ≡ Some hs)

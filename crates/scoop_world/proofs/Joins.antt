@@ -13,12 +13,13 @@ use Rattle.scoop_record.specs.Memory.{MemoryRecord, incarnation_at}
 use Rattle.scoop_record.proofs.Lists.{all_more}
 use Rattle.scoop_world.specs.declared.error.WorldOpenError.{WorldOpenError}
 use Rattle.scoop_world.specs.declared.error.WorldOpenError.TheVariants.{OutOfMemory, IncarnationsSpent}
-use Rattle.scoop_world.specs.World.{Party}
-use Rattle.scoop_world.specs.Step.{Newcomer, new_party}
-use Rattle.scoop_world.specs.Opening.{IsJoining, newcomer_of, newcomers_of}
-use Rattle.scoop_world.specs.Safe.{NoRepeats}
+use Rattle.scoop_model.specs.World.{Party}
+use Rattle.scoop_model.specs.Step.{Newcomer, new_party}
+use Rattle.scoop_model.specs.Opening.{IsJoining}
+use Rattle.scoop_world.specs.Placing.{newcomer_of, newcomers_of}
+use Rattle.scoop_model.specs.Safe.{NoRepeats}
 use Rattle.scoop_world.specs.Kept.{HasIncarnation}
-use Rattle.scoop_world.proofs.Events.{by_test}
+use Rattle.scoop_model.proofs.Basics.{by_test}
 
 -- a client before any place has its next incarnation, and a client from there on the one that it had
 pub record Joined (hs : List HandlerId) (before : MemoryRecord) (cs : List (ClientId × ℕ)) (i : ℕ) (ps : List Party) (k : MemoryRecord) : Type 0 where

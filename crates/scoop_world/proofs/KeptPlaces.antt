@@ -13,11 +13,11 @@ use Rattle.scoop_message.proofs.Same.{handler_decides, client_decides}
 use Rattle.scoop_handler.specs.State.{HandlerState}
 use Rattle.scoop_record.specs.Keeper.{Holds, Sets, stored_of}
 use Rattle.scoop_record.specs.Memory.{MemoryRecord, state_at, incarnation_at}
-use Rattle.scoop_world.specs.World.{Site, Party, number_of, id_of, set_site, set_party}
-use Rattle.scoop_world.specs.Safe.{NoRepeats}
+use Rattle.scoop_model.specs.World.{Site, Party, number_of, id_of, set_site, set_party}
+use Rattle.scoop_model.specs.Safe.{NoRepeats}
 use Rattle.scoop_world.specs.Kept.{IsFirst, Stores, HasState, HasIncarnation, HasAll}
-use Rattle.scoop_world.proofs.Events.{by_test}
-use Rattle.scoop_world.proofs.Order.Facts.{all_at}
+use Rattle.scoop_model.proofs.Basics.{by_test}
+use Rattle.scoop_model.proofs.Order.Facts.{all_at}
 
 -- ---- the first that passes a test
 

@@ -13,8 +13,8 @@ use Rattle.scoop_message.specs.declared.name.Block.{Block}
 use Rattle.scoop_message.specs.Message.{same_block}
 use Rattle.scoop_message.proofs.Same.{block_decides}
 use Rattle.scoop_world.specs.declared.logs.Line.{Line}
-use Rattle.scoop_world.specs.World.{HandlerLog, BlockLog, has_block, is_log_of, lines_of}
-use Rattle.scoop_world.specs.Step.{changed_log, joined}
+use Rattle.scoop_model.specs.World.{HandlerLog, BlockLog, has_block, is_log_of, lines_of}
+use Rattle.scoop_model.specs.Step.{changed_log, joined}
 use Rattle.scoop_world.specs.Kept.{has_log, line_kept, block_log, log_kept, logs_kept, IsPlaceOf}
 
 abbrev Entries : Type 0 → Type 0

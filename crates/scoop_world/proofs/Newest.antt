@@ -13,8 +13,8 @@ use Rattle.scoop_client.specs.Line.{all_over, acknowledged, at_line}
 use Rattle.scoop_client.specs.Hearing.{heard, stepped, settled, after_step, up_to}
 use Rattle.scoop_client.specs.Rows.{HeardRow, passed_over, is_welcomed, takes_step, is_acknowledged, is_accepted}
 use Rattle.scoop_client.proofs.Rows.{heard_row}
-use Rattle.scoop_world.specs.Step.{newest_block}
-use Rattle.scoop_world.proofs.Events.{by_test}
+use Rattle.scoop_model.specs.Step.{newest_block}
+use Rattle.scoop_model.proofs.Basics.{by_test}
 
 stepped_newest : (c : ClientState) (s : ReservationState) → newest_block (stepped c s) ≡ newest_block c
 stepped_newest c s = by_test (λ t. newest_block (if t then idle c else with_reservation c s) ≡ newest_block c) (is_gone s) (λ over. refl) (λ on. refl)

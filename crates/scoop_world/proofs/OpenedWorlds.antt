@@ -11,10 +11,11 @@ use Rattle.scoop_record.specs.Memory.{MemoryRecord}
 use Rattle.scoop_world.specs.declared.error.WorldOpenError.{WorldOpenError}
 use Rattle.scoop_world.specs.declared.error.WorldOpenError.TheVariants.{IncarnationsSpent, OutOfMemory}
 use Rattle.scoop_world.specs.declared.placing.Placement.{Placement as Placed}
-use Rattle.scoop_world.specs.World.{Site, Party, number_of}
-use Rattle.scoop_world.specs.Step.{Placement, Newcomer, new_site, new_party, opening}
-use Rattle.scoop_world.specs.Safe.{NoRepeats}
-use Rattle.scoop_world.specs.Opening.{IsPlaced, IsJoining, MayOpen, placement_of, placements_of, newcomer_of, newcomers_of}
+use Rattle.scoop_model.specs.World.{Site, Party, number_of}
+use Rattle.scoop_model.specs.Step.{Placement, Newcomer, new_site, new_party, opening}
+use Rattle.scoop_model.specs.Safe.{NoRepeats}
+use Rattle.scoop_model.specs.Opening.{IsPlaced, IsJoining, MayOpen}
+use Rattle.scoop_world.specs.Placing.{placement_of, placements_of, newcomer_of, newcomers_of}
 use Rattle.scoop_world.specs.OpenRefusal.{MayPlace, IsUnopened, handlers_of, clients_of}
 use Rattle.scoop_world.specs.Kept.{world_kept, HasIncarnation, HasState, HasAll}
 use Rattle.scoop_world.proofs.KeptPlaces.{incarnations_stay}

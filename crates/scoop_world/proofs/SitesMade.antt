@@ -10,12 +10,12 @@ use Rattle.scoop_message.specs.declared.name.HandlerId.{HandlerId}
 use Rattle.scoop_handler.specs.State.{HandlerState}
 use Rattle.scoop_record.specs.Keeper.{stored_of, Holds}
 use Rattle.scoop_record.specs.Memory.{MemoryRecord, state_at}
-use Rattle.scoop_world.specs.World.{Site, number_of}
-use Rattle.scoop_world.specs.Step.{Placement, new_site}
-use Rattle.scoop_world.specs.Safe.{NoRepeats}
+use Rattle.scoop_model.specs.World.{Site, number_of}
+use Rattle.scoop_model.specs.Step.{Placement, new_site}
+use Rattle.scoop_model.specs.Safe.{NoRepeats}
 use Rattle.scoop_world.specs.Kept.{Stores, HasState}
 use Rattle.scoop_world.proofs.KeptPlaces.{item_at}
-use Rattle.scoop_world.proofs.Order.Facts.{all_at}
+use Rattle.scoop_model.proofs.Order.Facts.{all_at}
 
 -- ---- a vector that is used up
 

@@ -10,18 +10,18 @@ use Rattle.scoop_client.specs.State.{ClientState}
 use Rattle.scoop_client.specs.Commands as client
 use Rattle.scoop_client.specs.Rows.{LogRow, is_logged, EndRow, ends_block}
 use Rattle.scoop_client.proofs.CommandRows.{command_row}
-use Rattle.scoop_world.specs.declared.event.Command.{Command}
-use Rattle.scoop_world.specs.declared.event.Command.TheVariants.{Reserve, Call, Query, End, GiveUp}
-use Rattle.scoop_world.specs.declared.note.WorldNote.TheVariants as note
-use Rattle.scoop_world.specs.declared.error.WorldError.{WorldError}
-use Rattle.scoop_world.specs.declared.error.WorldError.TheVariants.{NoSuchMessage, NoSuchParty, NothingToRun, ClientRefused, IncarnationsSpent, OutOfMemory}
-use Rattle.scoop_world.specs.World.{World, Party, BlockLog, id_of, set_party}
-use Rattle.scoop_world.specs.Step.{Stepped, core_command, newest_block, changed_log, logs_after, commanded_world, commanded, do_at}
-use Rattle.scoop_world.specs.Reach.{IsReached}
+use Rattle.scoop_model.specs.declared.event.Command.{Command}
+use Rattle.scoop_model.specs.declared.event.Command.TheVariants.{Reserve, Call, Query, End, GiveUp}
+use Rattle.scoop_model.specs.declared.note.WorldNote.TheVariants as note
+use Rattle.scoop_model.specs.declared.error.WorldError.{WorldError}
+use Rattle.scoop_model.specs.declared.error.WorldError.TheVariants.{NoSuchMessage, NoSuchParty, NothingToRun, ClientRefused, IncarnationsSpent, OutOfMemory}
+use Rattle.scoop_model.specs.World.{World, Party, BlockLog, id_of, set_party}
+use Rattle.scoop_model.specs.Step.{Stepped, core_command, newest_block, changed_log, logs_after, commanded_world, commanded, do_at}
+use Rattle.scoop_model.specs.Reach.{IsReached}
 use Rattle.scoop_world.specs.Kept.{has_log, logged_by, with_entry_for}
 use Rattle.scoop_world.specs.Answers.{IsRefusal, IsRefused, RefusesLog, outcome_of}
-use Rattle.scoop_world.proofs.TakenOutcome.{ok_is}
-use Rattle.scoop_world.proofs.Reaching.{parties_apart}
+use Rattle.scoop_model.proofs.Basics.{ok_is}
+use Rattle.scoop_model.proofs.Reaching.{parties_apart}
 use Rattle.scoop_world.proofs.KeptPlaces.{party_set}
 use Rattle.scoop_world.proofs.LogLists.{none_changed}
 

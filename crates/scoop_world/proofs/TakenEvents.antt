@@ -15,23 +15,23 @@ use Rattle.scoop_handler.specs.Hearing.{hear}
 use Rattle.scoop_handler.specs.Running.{Task, ready, job_out, ran_of}
 use Rattle.scoop_client.specs.Due.{due}
 use Rattle.scoop_client.specs.Hearing.{heard}
-use Rattle.scoop_world.specs.declared.event.Command.{Command}
-use Rattle.scoop_world.specs.declared.note.WorldNote.TheVariants as note
-use Rattle.scoop_world.specs.declared.error.WorldError.{WorldError}
-use Rattle.scoop_world.specs.declared.error.WorldError.TheVariants.{NoSuchMessage, NoSuchParty, NothingToRun, ClientRefused, IncarnationsSpent, OutOfMemory}
-use Rattle.scoop_world.specs.World.{World, Site, Party, BlockLog, number_of, id_of, is_site, is_party, site_of, party_of, set_site, set_party}
-use Rattle.scoop_world.specs.Step.{Stepped, sent_or_silent, tick_at, newest_block, logs_after, do_at, newly_opened, joined, heard_site, taken_by_handler, heard_party, taken_by_client, with_party, begun_site, begins, begin_at, finished_site, finishes, finish_at, restarted_party, restart_client, reopened, restart_node}
-use Rattle.scoop_world.specs.Reach.{IsReached}
-use Rattle.scoop_world.specs.Safe.{NoRepeats}
+use Rattle.scoop_model.specs.declared.event.Command.{Command}
+use Rattle.scoop_model.specs.declared.note.WorldNote.TheVariants as note
+use Rattle.scoop_model.specs.declared.error.WorldError.{WorldError}
+use Rattle.scoop_model.specs.declared.error.WorldError.TheVariants.{NoSuchMessage, NoSuchParty, NothingToRun, ClientRefused, IncarnationsSpent, OutOfMemory}
+use Rattle.scoop_model.specs.World.{World, Site, Party, BlockLog, number_of, id_of, is_site, is_party, site_of, party_of, set_site, set_party}
+use Rattle.scoop_model.specs.Step.{Stepped, sent_or_silent, tick_at, newest_block, logs_after, do_at, newly_opened, joined, heard_site, taken_by_handler, heard_party, taken_by_client, with_party, begun_site, begins, begin_at, finished_site, finishes, finish_at, restarted_party, restart_client, reopened, restart_node}
+use Rattle.scoop_model.specs.Reach.{IsReached}
+use Rattle.scoop_model.specs.Safe.{NoRepeats}
 use Rattle.scoop_world.specs.Kept.{IsFirst, HasState, HasAll, began, on_node, world_kept}
 use Rattle.scoop_world.specs.Answers.{IsRefusal, IsRefused, IsRestartRefusal, outcome_of}
 use Rattle.scoop_record.specs.Memory.{MemoryRecord, state_at}
 use Rattle.scoop_handler.specs.State.{HandlerState}
 use Rattle.scoop_handler.specs.Core.{core_of}
 use Rattle.std.specs.List.{AllByRecursion, list_any}
-use Rattle.scoop_world.proofs.Events.{by_test}
-use Rattle.scoop_world.proofs.Order.Facts.{SiteFits}
-use Rattle.scoop_world.proofs.Reaching.{sites_apart, parties_apart, reached_ordered}
+use Rattle.scoop_model.proofs.Basics.{by_test}
+use Rattle.scoop_model.proofs.Order.Facts.{SiteFits}
+use Rattle.scoop_model.proofs.Reaching.{sites_apart, parties_apart, reached_ordered}
 use Rattle.scoop_world.proofs.KeptPlaces.{item_at, some_at, put_again, site_set, party_set}
 use Rattle.scoop_world.proofs.TakenCommands.{taken_command, refused_command}
 

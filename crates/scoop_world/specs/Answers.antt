@@ -4,14 +4,14 @@ use Rattle.scoop_message.specs.declared.name.HandlerId.{HandlerId}
 use Rattle.scoop_message.specs.declared.request.Entry.{Entry}
 use Rattle.scoop_client.specs.State.{ClientState, phase_of}
 use Rattle.scoop_client.specs.Commands.{Outcome, command, log, DoEnd}
-use Rattle.scoop_world.specs.declared.event.Command.{Command}
-use Rattle.scoop_world.specs.declared.event.Event.{Event}
-use Rattle.scoop_world.specs.declared.note.WorldNote.{WorldNote}
-use Rattle.scoop_world.specs.declared.error.WorldError.{WorldError}
-use Rattle.scoop_world.specs.declared.error.WorldError.TheVariants.{NoSuchMessage, NoSuchParty, NothingToRun, ClientRefused, IncarnationsSpent, OutOfMemory}
-use Rattle.scoop_world.specs.World.{World, Party}
-use Rattle.scoop_world.specs.Step.{Stepped, core_command, step}
-use Rattle.scoop_world.specs.Reach.{Leads}
+use Rattle.scoop_model.specs.declared.event.Command.{Command}
+use Rattle.scoop_model.specs.declared.event.Event.{Event}
+use Rattle.scoop_model.specs.declared.note.WorldNote.{WorldNote}
+use Rattle.scoop_model.specs.declared.error.WorldError.{WorldError}
+use Rattle.scoop_model.specs.declared.error.WorldError.TheVariants.{NoSuchMessage, NoSuchParty, NothingToRun, ClientRefused, IncarnationsSpent, OutOfMemory}
+use Rattle.scoop_model.specs.World.{World, Party}
+use Rattle.scoop_model.specs.Step.{Stepped, core_command, step}
+use Rattle.scoop_model.specs.Reach.{Leads}
 
 -- ---- a client's command
 

@@ -14,11 +14,11 @@ use Rattle.scoop_handler.specs.Running.{Task}
 use Rattle.scoop_client.specs.State.{ClientState}
 use Rattle.scoop_record.specs.Keeper.{Keeps}
 use Rattle.scoop_record.specs.Memory.{MemoryRecord, Has, state_at, incarnation_at}
-use Rattle.scoop_world.specs.declared.event.Command.{Command}
-use Rattle.scoop_world.specs.declared.event.Command.TheVariants.{Reserve, Call, Query, End, GiveUp}
+use Rattle.scoop_model.specs.declared.event.Command.{Command}
+use Rattle.scoop_model.specs.declared.event.Command.TheVariants.{Reserve, Call, Query, End, GiveUp}
 use Rattle.scoop_world.specs.declared.logs.Line.{Line}
-use Rattle.scoop_world.specs.World.{World, Site, Party, Accepted, HandlerLog, BlockLog, number_of, id_of, is_log_of, is_line_of}
-use Rattle.scoop_world.specs.Step.{with_entry, finished_site}
+use Rattle.scoop_model.specs.World.{World, Site, Party, Accepted, HandlerLog, BlockLog, number_of, id_of, is_log_of, is_line_of}
+use Rattle.scoop_model.specs.Step.{with_entry, finished_site}
 
 -- all parts of a world
 abbrev pub world_kept : List Site → List Party → List Message → List Block → List BlockLog → World
@@ -34,10 +34,6 @@ pub record IsFirst {A : Type 0} (test : A → Bool) (xs : List A) (i : ℕ) : Ty
 -- a handler, whose stored state is the one that it has
 abbrev pub site_kept : ℕ → List ℕ → Core → List Block → List Ran → Site
 site_kept node placed core opened ran = record { node = node; placed = placed; core = core; stored = core.state; opened = opened; ran = ran }
-
--- with the stored state, and no job out
-abbrev pub reopened_site : Site → Site
-reopened_site s = record s { core = core_of s.core.class s.stored false }
 
 -- the handler stands on the node
 abbrev pub on_node : ℕ → Site → Bool

@@ -1,12 +1,4 @@
-pub mod World
-pub mod Step
-pub mod Safe
-pub mod Opening
+pub mod Placing
 pub mod OpenRefusal
-pub mod Reach
-pub mod Named
-pub mod Received
 pub mod Kept
 pub mod Answers
-pub mod Paper
-pub mod Examples

@@ -9,7 +9,7 @@ use Rattle.scoop_record.specs.Keeper.{last_incarnation}
 use Rattle.scoop_world.specs.declared.error.WorldOpenError.{WorldOpenError}
 use Rattle.scoop_world.specs.declared.error.WorldOpenError.TheVariants.{NoHandlers, TooManyHandlers, Repeated, WrongClass, TooManyClients, RepeatedClient, IncarnationsSpent, OutOfMemory}
 use Rattle.scoop_world.specs.declared.placing.Placement.{Placement}
-use Rattle.scoop_world.specs.Safe.{NoRepeats}
+use Rattle.scoop_model.specs.Safe.{NoRepeats}
 
 -- the element stands at the first place that repeats an earlier one
 pub record IsFirstRepeat {A : Type 0} (xs : List A) (x : A) : Type 0 where

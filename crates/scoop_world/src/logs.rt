@@ -6,8 +6,8 @@ ghost use Rattle.std.specs.List.{All};
 ghost use Rattle.std.specs.Option.{option_map};
 ghost use Rattle.indexmap.specs.IndexMap.{IsUnique, index_map_len, spare};
 ghost use Rattle.scoop_message.specs.contracts.name.BlockPartialEq.TheImpl as on_block;
-ghost use Rattle.scoop_world.specs.World.{lines_of};
-ghost use Rattle.scoop_world.specs.Step.{fresh_log};
+ghost use Rattle.scoop_model.specs.World.{lines_of};
+ghost use Rattle.scoop_model.specs.Step.{fresh_log};
 ghost use Rattle.scoop_world.specs.Kept.{HasRoom, IsPlaceOf, entries_in, has_log, line_kept, block_log, logs_kept, with_entry_for};
 
 use indexmap::IndexMap;

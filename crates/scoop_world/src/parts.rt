@@ -2,7 +2,7 @@
 
 ghost use Rattle.std.specs.Prelude.{◌≡◌, ◌<◌, ◌-◌, [], None, find, length, slice_get, MatchOption};
 ghost use Rattle.std.specs.Option.{option_map};
-ghost use Rattle.scoop_world.specs.World.{is_site, is_party, logged_at, party_of, sent_at, site_of};
+ghost use Rattle.scoop_model.specs.World.{is_site, is_party, logged_at, party_of, sent_at, site_of};
 ghost use Rattle.scoop_world.specs.Kept.{HasAll, IsFirst, world_kept};
 
 mod commanding;
@@ -38,7 +38,7 @@ pub(crate) struct Parts<B: Behaviour, A: Allocator> {
 }
 
 impl<B: Behaviour, A: Allocator> Model for Parts<B, A> {
-    ghost use Rattle.scoop_world.specs.World.{World as Whole};
+    ghost use Rattle.scoop_model.specs.World.{World as Whole};
     ghost use Rattle.scoop_world.specs.Kept.{HasAll, logs_kept, world_kept};
 
     ghost Value = { Whole };

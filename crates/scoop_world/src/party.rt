@@ -7,14 +7,12 @@ ghost use Rattle.scoop_record.specs.Keeper.{Sets};
 ghost use Rattle.scoop_record.specs.Memory.{incarnation_at};
 ghost use Rattle.scoop_client.specs.Commands.{Foretells, IsRefused as IsClientRefusal, Outcome};
 ghost use Rattle.scoop_world.specs.Answers.{IsRefusal};
-ghost use Rattle.scoop_world.specs.Step.{newly_accepted};
+ghost use Rattle.scoop_model.specs.Step.{newly_accepted};
 
-use crate::error::WorldError;
-use crate::event::Command;
-use crate::handlers::HandlerList;
 use scoop_client::{Client, ClientError, ClientNote};
 use scoop_message::limits::MAX_ENTRIES;
 use scoop_message::{Answer, Block, ClientId, HandlerId, Message, OutOfMemory};
+use scoop_model::{Command, HandlerList, WorldError};
 use scoop_record::{Keeper, MemoryKeeper};
 use std::alloc::Allocator;
 use std::marker::Model;
@@ -31,8 +29,8 @@ pub(crate) struct Party<A: Allocator> {
 
 impl<A: Allocator> Model for Party<A> {
     ghost use Rattle.std.specs.Prelude.{◌≡◌};
-    ghost use Rattle.scoop_world.specs.World.{Party as Member};
-    ghost use Rattle.scoop_world.specs.Step.{newest_block};
+    ghost use Rattle.scoop_model.specs.World.{Party as Member};
+    ghost use Rattle.scoop_model.specs.Step.{newest_block};
     ghost use Rattle.scoop_world.specs.Kept.{party_kept};
 
     ghost Value = { Member };
@@ -79,8 +77,8 @@ fn accept<A: Allocator + Copy>(
 impl<A: Allocator + Copy> Party<A> {
     ghost use Rattle.scoop_client.specs.State.{block_named};
     ghost use Rattle.scoop_client.specs.Beginning.{greeting};
-    ghost use Rattle.scoop_world.specs.World.{id_of};
-    ghost use Rattle.scoop_world.specs.Step.{heard_party, newest_block, restarted_party};
+    ghost use Rattle.scoop_model.specs.World.{id_of};
+    ghost use Rattle.scoop_model.specs.Step.{heard_party, newest_block, restarted_party};
     ghost use Rattle.scoop_world.specs.Answers.{Commands, IsRestartRefusal, RefusesLog, outcome_of};
     ghost use Rattle.scoop_world.specs.Kept.{party_kept};
 

@@ -1,28 +1,7 @@
-//! How a world opens.
+//! The handlers with which a world opens.
 
-ghost use Rattle.std.specs.Prelude.{◌≡◌, IfErr, IfOk, OnOk};
-ghost use Rattle.std.specs.List.{AllByRecursion};
-ghost use Rattle.scoop_record.specs.Memory.{incarnation_at};
-ghost use Rattle.scoop_world.specs.Step.{opening};
-ghost use Rattle.scoop_world.specs.Opening.{IsBatched, IsJoining, newcomers_of, placements_of};
-ghost use Rattle.scoop_world.specs.OpenRefusal.{IsUnopened, MayPlace};
-ghost use Rattle.scoop_world.specs.Paper.{configuration_of, empty_configuration, inc_of};
-ghost use Rattle.scoop_world.specs.Safe.{Safe};
-
-mod joining;
-mod refusing;
-mod sites;
-
-use crate::error::WorldOpenError;
-use crate::parts::Parts;
-use crate::world::World;
-use joining::join_all;
-use refusing::refusal;
-use scoop_message::{ClientId, HandlerId};
+use scoop_message::HandlerId;
 use scoop_object::{Behaviour, Class};
-use scoop_record::MemoryKeeper;
-use sites::{numbers, place_all, store_all};
-use std::alloc::Allocator;
 
 /// A handler as it is placed: its node, its number, and its object with the object's class.
 #[derive(Drop)]
@@ -31,45 +10,4 @@ pub struct Placement<B: Behaviour> {
     pub handler: HandlerId,
     pub class: Class,
     pub object: B,
-}
-
-impl<B: Behaviour, A: Allocator + Copy> World<B, A> {
-    /// A world with these handlers and these clients, each of which puts at most so many entries into
-    /// one Log: 1 to 4. Every client knows all handlers, and greets in its next incarnation. Each
-    /// state and each incarnation is stored in the keeper. Nothing has happened yet: the world is safe, and
-    /// stands for the configuration of the written rules in which nothing was reserved and nothing has run.
-    ///
-    /// Refused, in this order: `NoHandlers`, `TooManyHandlers` above 64, `Repeated`, `WrongClass`,
-    /// `TooManyClients` above 64, `RepeatedClient`, `IncarnationsSpent`, `OutOfMemory`. Where memory is
-    /// refused before the incarnations are asked for, `OutOfMemory` comes though one of them is the last.
-    pub fn open(
-        alloc: A,
-        placements: Vec<Placement<B>>,
-        clients: &[(ClientId, u8)],
-        mut keeper: MemoryKeeper<A>,
-    ) -> Result<World<B, A>, WorldOpenError>
-        requires { AllByRecursion IsBatched clients.now }
-        ensures opens { IfOk result (λ w. w ≡ opening (placements_of B.words placements.items) (newcomers_of (incarnation_at keeper) clients.now)) }
-        ensures safe { IfOk result Safe }
-        ensures empty { IfOk result (λ w. configuration_of w ≡ empty_configuration (inc_of w)) }
-        ensures placed { OnOk result (MayPlace B.class placements.items clients.now) }
-        ensures joining { OnOk result (AllByRecursion IsJoining (newcomers_of (incarnation_at keeper) clients.now)) }
-        ensures refused { IfErr result (IsUnopened B.class placements.items clients.now (incarnation_at keeper)) }
-    {
-        if let Some(error) = refusal(&placements, clients) {
-            return Err(error);
-        }
-        let handlers = numbers(alloc, &placements)?;
-        let sites = place_all(alloc, placements)?;
-        let parties = match join_all(alloc, clients, &handlers, &mut keeper) {
-            Ok(parties) => parties,
-            Err(error) => return Err(error),
-        };
-        let Ok(()) = store_all(&sites, &mut keeper) else {
-            return Err(WorldOpenError::OutOfMemory);
-        };
-        Ok(World {
-            parts: Parts::new(alloc, sites, parties, keeper),
-        })
-    }
 }

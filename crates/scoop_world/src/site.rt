@@ -29,7 +29,7 @@ pub(crate) struct Site<B: Behaviour, A: Allocator> {
 impl<B: Behaviour, A: Allocator> Model for Site<B, A> {
     ghost use Rattle.std.specs.Prelude.{◌≡◌};
     ghost use Rattle.scoop_handler.specs.Running.{job_out};
-    ghost use Rattle.scoop_world.specs.World.{Site as Place};
+    ghost use Rattle.scoop_model.specs.World.{Site as Place};
     ghost use Rattle.scoop_world.specs.Kept.{site_kept};
 
     ghost Value = { Place };
@@ -127,9 +127,10 @@ fn store_after<B: Behaviour, A: Allocator + Copy>(
 }
 
 impl<B: Behaviour, A: Allocator + Copy> Site<B, A> {
-    ghost use Rattle.scoop_world.specs.World.{number_of};
-    ghost use Rattle.scoop_world.specs.Step.{begun_site, heard_site};
-    ghost use Rattle.scoop_world.specs.Kept.{StoresJob, after_job, began, reopened_site, site_kept};
+    ghost use Rattle.scoop_model.specs.World.{number_of};
+    ghost use Rattle.scoop_model.specs.Step.{begun_site, heard_site};
+    ghost use Rattle.scoop_world.specs.Kept.{StoresJob, after_job, began, site_kept};
+    ghost use Rattle.scoop_model.specs.Step.{reopened_site};
 
     /// A handler at which nothing has happened, with the words of its object.
     pub(crate) fn new(alloc: A, node: u32, handler: Handler<B, A>) -> Site<B, A>

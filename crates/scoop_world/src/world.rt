@@ -2,19 +2,16 @@
 
 ghost use Rattle.std.specs.Prelude.{◌≡◌};
 ghost use Rattle.std.specs.Option.{option_map};
-ghost use Rattle.scoop_world.specs.World.{logged_at, party_of, sent_at, site_of};
-ghost use Rattle.scoop_world.specs.Step.{step};
-ghost use Rattle.scoop_world.specs.Reach.{IsReached};
-ghost use Rattle.scoop_world.specs.Answers.{Runs, Takes};
-ghost use Rattle.scoop_world.specs.Safe.{Safe};
-ghost use Rattle.scoop_world.specs.Paper.{FollowsRules, FollowsRun};
+ghost use Rattle.scoop_model.specs.World.{logged_at, party_of, sent_at, site_of};
+ghost use Rattle.scoop_model.specs.Step.{step};
+ghost use Rattle.scoop_model.specs.Reach.{IsReached};
+ghost use Rattle.scoop_world.specs.Answers.{Takes};
+ghost use Rattle.scoop_rules.specs.Paper.{FollowsRules};
 
-use crate::error::WorldError;
-use crate::event::Event;
-use crate::note::WorldNote;
 use crate::parts::Parts;
 use scoop_handler::Ran;
 use scoop_message::{Answer, Block, ClientId, Entry, HandlerId, Message};
+use scoop_model::{Event, WorldError, WorldNote};
 use scoop_object::Behaviour;
 use std::alloc::{Allocator, Global};
 use std::marker::Model;
@@ -27,8 +24,8 @@ pub struct World<B: Behaviour, A: Allocator = Global> {
 }
 
 impl<B: Behaviour, A: Allocator> Model for World<B, A> {
-    ghost use Rattle.scoop_world.specs.World.{World as Whole};
-    ghost use Rattle.scoop_world.specs.Reach.{IsReached};
+    ghost use Rattle.scoop_model.specs.World.{World as Whole};
+    ghost use Rattle.scoop_model.specs.Reach.{IsReached};
 
     ghost Value = { Whole };
 
@@ -49,37 +46,6 @@ impl<B: Behaviour, A: Allocator + Copy> World<B, A> {
         ensures follows { FollowsRules self.old event }
     {
         happen(&mut self.parts, event)
-    }
-
-    // Some events lead to this world.
-    fn is_reached(&self)
-        ensures { IsReached self.now }
-    {
-        let _ = &self.parts;
-    }
-
-    /// The events one after another, up to the first that is refused: how many were taken, with the
-    /// refusal if there is one.
-    ///
-    /// Whatever messages are lost, repeated or delayed and whenever clients or nodes restart, every handler
-    /// has then taken the blocks that opened at it in the order of one common list, has run of each block a
-    /// beginning of what its client logged there, in order, each once, with no other block's request
-    /// between, and every answer that a client has accepted is the object's answer after exactly the requests
-    /// that ran before it. What has happened is a run of the written rules of SCOOP, in which a joint
-    /// reservation is one step.
-    pub fn run(&mut self, events: &[Event]) -> Result<usize, (usize, WorldError)>
-        ensures runs { Runs self.old events.now result self.new }
-        ensures safe { Safe self.new }
-        ensures follows { FollowsRun self.old events.now result self.new }
-    {
-        self.is_reached();
-        for (taken, event) in events.iter().enumerate() {
-            match self.step(*event) {
-                Ok(_) => {}
-                Err(error) => return Err((taken, error)),
-            }
-        }
-        Ok(events.len())
     }
 
     /// The common list: each block at its first opening anywhere.

@@ -2,20 +2,17 @@
 
 ghost use Rattle.std.specs.Prelude.{◌≡◌, ◌<◌, Some, length, map, slice_get, IfOk, OnErr, OnOk};
 ghost use Rattle.indexmap.specs.IndexMap.{spare};
-ghost use Rattle.scoop_world.specs.World.{id_of, party_of};
-ghost use Rattle.scoop_world.specs.Step.{do_at, fresh_log};
-ghost use Rattle.scoop_world.specs.Reach.{IsReached};
+ghost use Rattle.scoop_model.specs.World.{id_of, party_of};
+ghost use Rattle.scoop_model.specs.Step.{do_at, fresh_log};
+ghost use Rattle.scoop_model.specs.Reach.{IsReached};
 ghost use Rattle.scoop_world.specs.Kept.{line_kept, logged_by, with_entry_for};
 ghost use Rattle.scoop_world.specs.Answers.{Commands, Takes, outcome_of};
 
-use crate::error::WorldError;
-use crate::event::Command;
-use crate::handlers::HandlerList;
 use crate::logs::{Line, Logs, add, fresh_lines, log, make_room, place_of};
-use crate::note::WorldNote;
 use crate::parts::{Parts, party_at};
 use crate::party::Party;
 use scoop_message::{ClientId, Entry, HandlerId, OutOfMemory};
+use scoop_model::{Command, HandlerList, WorldError, WorldNote};
 use scoop_object::Behaviour;
 use std::alloc::Allocator;
 

@@ -3,17 +3,16 @@
 ghost use Rattle.std.specs.Prelude.{◌≡◌, ◌<◌};
 ghost use Rattle.indexmap.specs.IndexSet.{spare};
 ghost use Rattle.scoop_message.specs.Message.{client_of, handler_of};
-ghost use Rattle.scoop_world.specs.World.{party_of, sent_at, site_of};
-ghost use Rattle.scoop_world.specs.Step.{joined, newly_opened, taken, taken_by_client, taken_by_handler};
-ghost use Rattle.scoop_world.specs.Reach.{IsReached};
+ghost use Rattle.scoop_model.specs.World.{party_of, sent_at, site_of};
+ghost use Rattle.scoop_model.specs.Step.{joined, newly_opened, taken, taken_by_client, taken_by_handler};
+ghost use Rattle.scoop_model.specs.Reach.{IsReached};
 ghost use Rattle.scoop_world.specs.Answers.{Takes};
 
-use crate::error::WorldError;
-use crate::note::WorldNote;
 use crate::parts::sending::send;
 use crate::parts::{Joint, Parts, party_at, site_at};
 use scoop_handler::Note;
 use scoop_message::Message;
+use scoop_model::{WorldError, WorldNote};
 use scoop_object::Behaviour;
 use std::alloc::Allocator;
 

@@ -2,18 +2,17 @@
 
 ghost use Rattle.std.specs.Prelude.{◌≡◌, ◌==◌, length, map, IfOk, OnErr, OnOk};
 ghost use Rattle.std.specs.List.{AllByRecursion, list_any};
-ghost use Rattle.scoop_world.specs.World.{party_of};
-ghost use Rattle.scoop_world.specs.Step.{reopened, restart_client, restart_node};
-ghost use Rattle.scoop_world.specs.Reach.{IsReached};
+ghost use Rattle.scoop_model.specs.World.{party_of};
+ghost use Rattle.scoop_model.specs.Step.{reopened, restart_client, restart_node};
+ghost use Rattle.scoop_model.specs.Reach.{IsReached};
 ghost use Rattle.scoop_world.specs.Kept.{HasState, on_node, stored_on};
 ghost use Rattle.scoop_world.specs.Answers.{Takes};
 
-use crate::error::WorldError;
-use crate::note::WorldNote;
 use crate::parts::{Parts, party_at};
 use crate::site::Site;
 use scoop_handler::HandlerState;
 use scoop_message::{ClientId, OutOfMemory};
+use scoop_model::{WorldError, WorldNote};
 use scoop_object::Behaviour;
 use scoop_record::{Keeper, MemoryKeeper};
 use std::alloc::Allocator;

@@ -1,14 +1,13 @@
 //! Entries run.
 
-ghost use Rattle.scoop_world.specs.World.{site_of};
-ghost use Rattle.scoop_world.specs.Step.{begin_at, finish_at};
-ghost use Rattle.scoop_world.specs.Reach.{IsReached};
+ghost use Rattle.scoop_model.specs.World.{site_of};
+ghost use Rattle.scoop_model.specs.Step.{begin_at, finish_at};
+ghost use Rattle.scoop_model.specs.Reach.{IsReached};
 ghost use Rattle.scoop_world.specs.Answers.{Takes};
 
-use crate::error::WorldError;
-use crate::note::WorldNote;
 use crate::parts::{Parts, site_at};
 use scoop_message::HandlerId;
+use scoop_model::{WorldError, WorldNote};
 use scoop_object::Behaviour;
 use std::alloc::Allocator;
 

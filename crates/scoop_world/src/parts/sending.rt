@@ -2,14 +2,13 @@
 
 ghost use Rattle.std.specs.Prelude.{◌≡◌, ◌<◌, ◌+◌, ◌++◌, length, option_to_list, vec_len, vec_capacity};
 ghost use Rattle.std.specs.Option.{option_map};
-ghost use Rattle.scoop_world.specs.World.{party_of, site_of};
-ghost use Rattle.scoop_world.specs.Step.{tick_at};
+ghost use Rattle.scoop_model.specs.World.{party_of, site_of};
+ghost use Rattle.scoop_model.specs.Step.{tick_at};
 ghost use Rattle.scoop_world.specs.Answers.{Takes};
 
-use crate::error::WorldError;
-use crate::note::WorldNote;
 use crate::parts::{Parts, party_at, site_at};
 use scoop_message::{ClientId, Entry, HandlerId, Message, Request};
+use scoop_model::{WorldError, WorldNote};
 use scoop_object::Behaviour;
 use std::alloc::Allocator;
 

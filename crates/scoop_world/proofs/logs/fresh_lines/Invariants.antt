@@ -1,6 +1,6 @@
 -- A line for each handler so far.
 use Rattle.std.proofs.Common.{◌≡◌, map, take}
-use Rattle.scoop_world.specs.Step.{fresh_log}
+use Rattle.scoop_model.specs.Step.{fresh_log}
 use Rattle.scoop_world.specs.Kept.{line_kept}
 use Rattle.scoop_world.proofs.logs.fresh_lines.Given as goal
 

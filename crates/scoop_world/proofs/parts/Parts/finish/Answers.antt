@@ -2,8 +2,8 @@ use Rattle.std.proofs.Common.{◌≡◌, List, Option, Some, Ok, set, sym, ap, �
 use Rattle.scoop_handler.specs.declared.ran.Ran.{Ran}
 use Rattle.scoop_handler.specs.Running.{Task, job_out}
 use Rattle.scoop_record.specs.Memory.{MemoryRecord}
-use Rattle.scoop_world.specs.declared.note.WorldNote.TheVariants as note
-use Rattle.scoop_world.specs.World.{Site, number_of, is_site}
+use Rattle.scoop_model.specs.declared.note.WorldNote.TheVariants as note
+use Rattle.scoop_model.specs.World.{Site, number_of, is_site}
 use Rattle.scoop_world.specs.Kept.{IsFirst, HasAll, Stores, StoresJob, after_job, logs_kept, world_kept}
 use Rattle.scoop_world.proofs.KeptPlaces.{has_site, has_same_site, item_at}
 use Rattle.scoop_world.proofs.TakenEvents.{apart_sites, same_site, finished_there, nothing_finishes, finishes_ok, from_ran, none_ran, some_is}

@@ -1,6 +1,6 @@
 use Rattle.std.proofs.Common.{◌≡◌, false, refl, subst}
 use Rattle.scoop_message.specs.declared.name.Block.{Block}
-use Rattle.scoop_world.specs.Step.{newest_block}
+use Rattle.scoop_model.specs.Step.{newest_block}
 use Rattle.scoop_world.specs.Kept.{has_log, logs_kept, with_entry_for, IsPlaceOf}
 use Rattle.scoop_world.proofs.KeptPlaces.{has_party}
 use Rattle.scoop_world.proofs.LogLists.{kept-set, kept-same}

@@ -1,10 +1,10 @@
 use Rattle.scoop_world.proofs.KeptPlaces.{has_party}
 use Rattle.std.proofs.Common.{◌≡◌, List, ◌++◌, [], ◌∷◌, false, map, sym, ap, ◌∙◌, refl, subst}
 use Rattle.scoop_message.specs.declared.name.Block.{Block}
-use Rattle.scoop_world.specs.declared.event.Command.TheVariants.{Reserve}
-use Rattle.scoop_world.specs.World.{World, BlockLog, HandlerLog}
-use Rattle.scoop_world.specs.Step.{newest_block, fresh_log}
-use Rattle.scoop_world.specs.Reach.{IsReached}
+use Rattle.scoop_model.specs.declared.event.Command.TheVariants.{Reserve}
+use Rattle.scoop_model.specs.World.{World, BlockLog, HandlerLog}
+use Rattle.scoop_model.specs.Step.{newest_block, fresh_log}
+use Rattle.scoop_model.specs.Reach.{IsReached}
 use Rattle.scoop_world.specs.Kept.{has_log, logs_kept, block_log, world_kept}
 use Rattle.scoop_world.proofs.FreshBlocks.{begun_is_new}
 use Rattle.scoop_world.proofs.TakenEvents.{command_taken, command_refused, party_there}

@@ -1,9 +1,9 @@
-use Rattle.scoop_world.proofs.Order.Facts.{all_at}
+use Rattle.scoop_model.proofs.Order.Facts.{all_at}
 use Rattle.std.proofs.Common.{◌≡◌, ℕ, ◌+◌, List, Ok, set, sym, ap, ◌∙◌, subst}
 use Rattle.scoop_record.specs.Memory.{MemoryRecord, incarnation_at}
 use Rattle.scoop_record.specs.Keeper.{Sets}
-use Rattle.scoop_world.specs.declared.note.WorldNote.TheVariants as note
-use Rattle.scoop_world.specs.World.{Party, id_of, is_party}
+use Rattle.scoop_model.specs.declared.note.WorldNote.TheVariants as note
+use Rattle.scoop_model.specs.World.{Party, id_of, is_party}
 use Rattle.scoop_world.specs.Kept.{IsFirst, HasAll, logs_kept, world_kept, HasIncarnation}
 use Rattle.scoop_world.proofs.KeptPlaces.{has_party, has_incarnation, item_at}
 use Rattle.scoop_world.proofs.TakenEvents.{apart_parties, same_party, restarted_there, restart_refused}

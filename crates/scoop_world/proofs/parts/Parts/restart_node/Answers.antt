@@ -1,10 +1,10 @@
-use Rattle.scoop_world.specs.declared.note.WorldNote.TheVariants.{Reopened}
+use Rattle.scoop_model.specs.declared.note.WorldNote.TheVariants.{Reopened}
 use Rattle.std.specs.List.{list_any}
 use Rattle.std.proofs.Common.{◌≡◌, ◌≤◌, List, ◌++◌, map, take, drop, length, sym, ap, ◌∙◌, subst, arith, append-nil, Ok, true}
 use Rattle.std.proofs.lemmas.List.{take_all, drop_all, length-map}
 use Rattle.scoop_record.specs.Memory.{MemoryRecord}
-use Rattle.scoop_world.specs.World.{Site}
-use Rattle.scoop_world.specs.Step.{reopened, Stepped}
+use Rattle.scoop_model.specs.World.{Site}
+use Rattle.scoop_model.specs.Step.{reopened, Stepped}
 use Rattle.scoop_world.specs.Kept.{HasAll, logs_kept, on_node, world_kept}
 use Rattle.scoop_world.proofs.TakenEvents.{has_reopened, node_restarted}
 use Rattle.scoop_world.proofs.parts.Parts.restart_node.Goals as goal

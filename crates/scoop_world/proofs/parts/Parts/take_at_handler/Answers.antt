@@ -7,8 +7,8 @@ use Rattle.scoop_handler.specs.State.{HandlerState}
 use Rattle.scoop_handler.specs.Hearing.{hear}
 use Rattle.scoop_handler.proofs.TableRows.{row}
 use Rattle.scoop_handler.proofs.TableLaws.{number-row}
-use Rattle.scoop_world.specs.World.{Site, number_of, is_site}
-use Rattle.scoop_world.specs.Step.{heard_site}
+use Rattle.scoop_model.specs.World.{Site, number_of, is_site}
+use Rattle.scoop_model.specs.Step.{heard_site}
 use Rattle.scoop_world.specs.Kept.{IsFirst, Stores, logs_kept, world_kept, HasAll}
 use Rattle.scoop_world.proofs.KeptPlaces.{has_site, item_at, has_same_site, read_at}
 use Rattle.scoop_world.proofs.TakenEvents.{apart_sites, same_site, heard_all, hears_ok}

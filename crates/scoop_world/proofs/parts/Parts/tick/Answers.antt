@@ -1,10 +1,10 @@
 use Rattle.scoop_message.specs.declared.name.HandlerId.{HandlerId}
 use Rattle.scoop_message.specs.declared.message.Message.{Message}
 use Rattle.scoop_world.proofs.KeptPlaces.{read_at}
-use Rattle.scoop_world.specs.declared.error.WorldError.TheVariants.{NoSuchParty}
+use Rattle.scoop_model.specs.declared.error.WorldError.TheVariants.{NoSuchParty}
 use Rattle.std.proofs.Common.{◌≡◌, ℕ, List, Option, Some, None, Ok, Err, refl, find, sym, ap, ◌∙◌, subst}
-use Rattle.scoop_world.specs.World.{Site, Party, is_site, is_party, World, site_of, party_of}
-use Rattle.scoop_world.specs.Step.{Stepped, sent_or_silent, tick_at}
+use Rattle.scoop_model.specs.World.{Site, Party, is_site, is_party, World, site_of, party_of}
+use Rattle.scoop_model.specs.Step.{Stepped, sent_or_silent, tick_at}
 use Rattle.scoop_world.specs.Kept.{IsFirst, logs_kept, world_kept}
 use Rattle.scoop_world.proofs.TakenEvents.{ticked_all, tick_ok}
 use Rattle.scoop_world.proofs.parts.Parts.tick.Goals as goal

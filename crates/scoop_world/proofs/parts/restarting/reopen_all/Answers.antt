@@ -1,8 +1,8 @@
 use Rattle.std.proofs.Common.{◌≤◌, List, ◌++◌, map, drop, length, set, sym, ap, ◌∙◌, arith, append-nil, refl}
 use Rattle.std.proofs.lemmas.List.{get_or-map, take_all, drop_all, length-set, length-map}
 use Rattle.std.proofs.lemmas.List.Edits.{map_over_more}
-use Rattle.scoop_world.specs.World.{Site}
-use Rattle.scoop_world.specs.Step.{reopened}
+use Rattle.scoop_model.specs.World.{Site}
+use Rattle.scoop_model.specs.Step.{reopened}
 use Rattle.scoop_world.specs.Kept.{stored_on}
 use Rattle.scoop_world.proofs.SeenLists.{left_same, next_same}
 use Rattle.scoop_world.proofs.parts.restarting.reopen_all.Goals as goal

@@ -1,6 +1,6 @@
 -- The handlers so far have their stored states again, and the others are as they were.
 use Rattle.std.proofs.Common.{◌≡◌, ◌++◌, map, take, drop, length}
-use Rattle.scoop_world.specs.Step.{reopened}
+use Rattle.scoop_model.specs.Step.{reopened}
 use Rattle.scoop_world.specs.Kept.{stored_on}
 use Rattle.scoop_world.proofs.parts.restarting.reopen_all.Given as goal
 

@@ -1,7 +1,7 @@
 use Rattle.std.proofs.Common.{◌≡◌, sym, ap, ◌∙◌}
 use Rattle.scoop_message.specs.declared.name.Block.{Block}
 use Rattle.scoop_client.specs.Hearing.{Notice}
-use Rattle.scoop_world.specs.Step.{newest_block}
+use Rattle.scoop_model.specs.Step.{newest_block}
 use Rattle.scoop_world.proofs.Newest.{heard_newest}
 use Rattle.scoop_world.proofs.party.Party.hear.Goals as goal
 

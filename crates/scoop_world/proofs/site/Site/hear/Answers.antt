@@ -1,5 +1,5 @@
 use Rattle.std.proofs.Common.{◌≡◌, ap, subst}
-use Rattle.scoop_world.specs.World.{Site}
+use Rattle.scoop_model.specs.World.{Site}
 use Rattle.scoop_handler.specs.Core.{Core}
 use Rattle.scoop_handler.specs.Hearing.{hear}
 use Rattle.scoop_world.specs.Kept.{Stores}

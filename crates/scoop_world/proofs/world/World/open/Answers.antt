@@ -2,16 +2,17 @@ use Rattle.scoop_world.proofs.KeptPlaces.{all_by_place}
 use Rattle.std.proofs.Common.{◌≡◌, map, sym, ap, ◌∙◌, subst}
 use Rattle.std.specs.List.{AllByRecursion}
 use Rattle.scoop_record.specs.Memory.{incarnation_at}
-use Rattle.scoop_world.specs.Reach.{IsReached}
-use Rattle.scoop_world.specs.Step.{new_party}
-use Rattle.scoop_world.specs.Opening.{newcomers_of, placements_of, IsBatched}
+use Rattle.scoop_model.specs.Reach.{IsReached}
+use Rattle.scoop_model.specs.Step.{new_party}
+use Rattle.scoop_world.specs.Placing.{newcomers_of, placements_of, IsBatched}
 use Rattle.scoop_world.specs.OpenRefusal.{MayPlace, handlers_of}
 use Rattle.scoop_world.specs.Kept.{HasState}
-use Rattle.scoop_world.specs.Paper.{configuration_of, empty_configuration, inc_of}
+use Rattle.scoop_rules.specs.Paper.{configuration_of, empty_configuration}
+use Rattle.scoop_model.specs.World.{inc_of}
 use Rattle.scoop_world.proofs.OpenedWorlds.{numbers_apart, states_own, may_open, opened_is, unopened, all_stored}
-use Rattle.scoop_world.proofs.Reaching.{reached_opening}
-use Rattle.scoop_world.proofs.Headline.{reached_safe}
-use Rattle.scoop_world.proofs.Rules.Follows.Runs.{opens_empty}
+use Rattle.scoop_model.proofs.Reaching.{reached_opening}
+use Rattle.scoop_model.proofs.Headline.{reached_safe}
+use Rattle.scoop_rules.proofs.Follows.Runs.{opens_empty}
 use Rattle.scoop_world.proofs.world.World.open.Goals as goal
 
 pub returns-in-Err-clause-refused : goal.returns-in-Err-clause-refused

@@ -1,16 +1,16 @@
 use Rattle.std.proofs.Common.{◌≡◌, ◌+◌, List, [], ◌∷◌, ◌++◌, Option, take, sym, ap, ◌∙◌, subst, refl, arith}
 use Rattle.std.specs.Prelude.{IfSome}
 use Rattle.std.proofs.lemmas.List.{take_all, take_more}
-use Rattle.scoop_world.specs.declared.event.Event.{Event}
-use Rattle.scoop_world.specs.World.{World}
-use Rattle.scoop_world.specs.Step.{step}
-use Rattle.scoop_world.specs.Reach.{Leads}
+use Rattle.scoop_model.specs.declared.event.Event.{Event}
+use Rattle.scoop_model.specs.World.{World}
+use Rattle.scoop_model.specs.Step.{step}
+use Rattle.scoop_model.specs.Reach.{Leads}
 use Rattle.scoop_world.specs.Answers.{IsRefused}
-use Rattle.scoop_world.specs.Paper.{LeadsByRules}
+use Rattle.scoop_rules.specs.Paper.{LeadsByRules}
 use Rattle.scoop_world.proofs.KeptPlaces.{item_at}
-use Rattle.scoop_world.proofs.Reaching.{leads_next}
-use Rattle.scoop_world.proofs.Headline.{reached_safe}
-use Rattle.scoop_world.proofs.Rules.Follows.Runs.{reached_runs}
+use Rattle.scoop_model.proofs.Reaching.{leads_next}
+use Rattle.scoop_model.proofs.Headline.{reached_safe}
+use Rattle.scoop_rules.proofs.Follows.Runs.{reached_runs}
 use Rattle.scoop_world.proofs.world.World.run.Goals as goal
 
 pub returns-in-Err-clause-runs : goal.returns-in-Err-clause-runs

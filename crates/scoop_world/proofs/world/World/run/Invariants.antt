@@ -1,6 +1,6 @@
 -- The events so far lead to the world.
 use Rattle.std.proofs.Common.{take}
-use Rattle.scoop_world.specs.Reach.{Leads, IsReached}
+use Rattle.scoop_model.specs.Reach.{Leads, IsReached}
 use Rattle.scoop_world.proofs.world.World.run.Given as goal
 
 abbrev pub invariant-loop-taken : goal.invariant-loop-taken

@@ -1,8 +1,8 @@
 use Rattle.std.proofs.Common.{subst}
-use Rattle.scoop_world.specs.World.{World}
-use Rattle.scoop_world.specs.Paper.{FollowsRules}
-use Rattle.scoop_world.proofs.Reaching.{reached_takes}
-use Rattle.scoop_world.proofs.Rules.Follows.Runs.{follows_rules}
+use Rattle.scoop_model.specs.World.{World}
+use Rattle.scoop_rules.specs.Paper.{FollowsRules}
+use Rattle.scoop_world.proofs.Reached.{reached_takes}
+use Rattle.scoop_rules.proofs.Follows.Runs.{follows_rules}
 use Rattle.scoop_world.proofs.world.World.step.Goals as goal
 
 pub invariant_of-self : goal.invariant_of-self

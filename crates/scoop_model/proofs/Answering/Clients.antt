@@ -1,0 +1,176 @@
+-- What a client does keeps the answers right, and accepts each once.
+use Rattle.std.proofs.Common.{◌≡◌, ℕ, ◌+◌, ◌<◌, Bool, true, false, List, [], ◌∷◌, ◌++◌, map, Option, Some, None, refl, sym, ap, ◌∙◌, subst, arith, append-nil}
+use Rattle.std.specs.Prelude.{if◌then◌else◌, Ok}
+use Rattle.std.specs.List.{AllByRecursion}
+use Rattle.std.specs.Option.{option_map_or}
+use Rattle.scoop_message.specs.declared.name.Block.{Block}
+use Rattle.scoop_message.specs.declared.name.HandlerId.{HandlerId}
+use Rattle.scoop_message.specs.declared.request.Answer.{Answer as ObjectAnswer}
+use Rattle.scoop_message.specs.declared.message.Message.{Message}
+use Rattle.scoop_message.specs.declared.message.Message.TheVariants.{Hello, Lock, Open, Unlock, Log}
+use Rattle.scoop_reserve.specs.declared.stage.Stage.{Stage}
+use Rattle.scoop_reserve.specs.declared.stage.Stage.TheVariants.{Locking, Opening, Unlocking, GivingUp as GivingBack}
+use Rattle.scoop_reserve.specs.declared.stage.Step.{Step}
+use Rattle.scoop_reserve.specs.declared.stage.Step.TheVariants as step
+use Rattle.scoop_reserve.specs.Handlers.{has, is_lowest}
+use Rattle.scoop_reserve.specs.State.{ReservationState}
+use Rattle.scoop_reserve.specs.Due.{due_in}
+use Rattle.scoop_reserve.specs.Hearing as reservation
+use Rattle.scoop_client.specs.declared.phase.ClientNote.{ClientNote}
+use Rattle.scoop_client.specs.Line.{LineState, logged, acknowledged, first_entries, line_of, at_line}
+use Rattle.scoop_client.specs.State.{ClientState, with_lines}
+use Rattle.scoop_client.specs.Due.{due}
+use Rattle.scoop_client.specs.Hearing.{after_step, heard}
+use Rattle.scoop_client.specs.Commands as client
+use Rattle.scoop_client.specs.Rows.{DueRow, owes_nothing, greets, reserves, logs, HeardRow, passed_over, is_welcomed, takes_step, is_acknowledged, is_accepted}
+use Rattle.scoop_client.proofs.DueRows.{due_row}
+use Rattle.scoop_client.proofs.Rows.{heard_row}
+use Rattle.scoop_model.specs.declared.event.Command.{Command}
+use Rattle.scoop_model.specs.World.{World, Party, Accepted, BlockLog, set_party, ran_at}
+use Rattle.scoop_model.specs.Step.{newest_block, core_command, commanded_world, with_sent, with_party, newly_accepted, heard_party, restarted_party}
+use Rattle.scoop_model.specs.Safe.{NoRepeats, HasRun, query_of}
+use Rattle.scoop_model.proofs.Order.Holding.{upto_itself}
+use Rattle.scoop_model.proofs.Order.Facts.{PartyFits, all_more_of, all_pushed, all_set_party}
+use Rattle.scoop_model.proofs.Logging.Facts.{PartyLogs}
+use Rattle.scoop_model.proofs.Answering.Facts.{acked_at, TellsAnswer, IsBehind, AcceptedFits, PartyAnswers, Answering, messages_more, party_answers_more}
+use Rattle.scoop_model.proofs.Answering.Lines.{acked_there, acknowledged_raises, acknowledged_all}
+use Rattle.scoop_model.proofs.Answering.Onward.{Onward, behind_more, onward_heard, onward_commanded}
+use Rattle.scoop_model.proofs.Answering.Once.{once_more}
+
+-- ---- what a client owes is no answer
+
+owed : (w : World) (b : Bool) (n m : Message) → (if b then Some n else None) ≡ Some m → TellsAnswer w n → TellsAnswer w m
+owed w true n m e t = let same : n ≡ m = cc in subst (TellsAnswer w) same t
+owed w false n m e t = absurd (cc)
+
+module _ (w : World) (h : HandlerId) (m : Message) where
+  due_tells : (r : ReservationState) (stage : Stage) → due_in r h stage ≡ Some m → TellsAnswer w m
+  due_tells r Locking e = owed w (is_lowest h r.left) (Lock h r.block) m e tt
+  due_tells r Opening e = owed w (has r.left h) (Open h r.block) m e tt
+  due_tells r Unlocking e = owed w (has r.left h) (Unlock h r.block) m e tt
+  due_tells r GivingBack e = owed w (has r.left h) (Unlock h r.block) m e tt
+
+  owed_tells : (c : ClientState) (o : Option Message) → DueRow c h o → o ≡ Some m → TellsAnswer w m
+  owed_tells c o owes_nothing e = absurd (cc)
+  owed_tells c o (greets left) e = let same : Hello h c.id c.inc ≡ m = cc in subst (TellsAnswer w) same tt
+  owed_tells c o (reserves r n greeted held owes) e = due_tells r r.stage (owes ∙ e)
+  owed_tells c o (logs r l greeted held free opened line some) e =
+      let same : Log l.handler r.block (l.acked + 1) (first_entries c.batch l.unacked) ≡ m = cc in subst (TellsAnswer w) same tt
+
+pub sends_answering : (w : World) → Answering w → (p : Party) (h : HandlerId) → Answering (with_sent w (due p.client h))
+sends_answering w i p h =
+    let v : World = with_sent w (due p.client h) in
+    record {
+      messages = all_pushed (TellsAnswer v) w.sent (due p.client h) (messages_more w v (λ x b n a ran. ran) w.sent i.messages) (λ m e. owed_tells v h m p.client (due p.client h) (due_row p.client h) e);
+      sites = i.sites;
+      parties = all_more_of (PartyAnswers w) (PartyAnswers v) (party_answers_more w v (λ x b n a ran. ran)) w.parties i.parties;
+    }
+
+-- ---- a client goes on
+
+abbrev party_with : Party → ClientState → List Accepted → Party
+party_with p d new = record p { client = d; accepted = p.accepted ++ new }
+
+accepted_more : (w : World) (p q : Party) (a : Accepted) → Onward p.client q.client → AcceptedFits w p a → AcceptedFits w q a
+accepted_more w p q a on f = record {
+  answered = record { own = f.answered.own ∙ sym on.id; ran = f.answered.ran };
+  behind = behind_more p.client q.client a on f.behind;
+}
+
+-- nothing is accepted
+goes_on : (w : World) (p q : Party) → Onward p.client q.client → q.accepted ≡ p.accepted → PartyAnswers w p → PartyAnswers w q
+goes_on w p q on same f = record {
+  accepted = subst (AllByRecursion (AcceptedFits w q)) (sym same) (all_more_of (AcceptedFits w p) (AcceptedFits w q) (λ a. accepted_more w p q a on) p.accepted f.accepted);
+  once = subst (λ xs. NoRepeats (map query_of xs)) (sym same) f.once;
+}
+
+-- a world in which a party has gone on, with other logs or the same
+party_moves : (w : World) (p q : Party) (ls : List BlockLog) → Answering w → PartyAnswers w q → Answering (record w { parties = set_party q w.parties; logs = ls })
+party_moves w p q ls i f =
+    let v : World = record w { parties = set_party q w.parties; logs = ls } in
+    record {
+      messages = messages_more w v (λ h b n a ran. ran) w.sent i.messages;
+      sites = i.sites;
+      parties = all_set_party (PartyAnswers w) (PartyAnswers v) q w.parties (party_answers_more w v (λ h b n a ran. ran) q f) (λ x other. party_answers_more w v (λ h b n a ran. ran) x) i.parties;
+    }
+
+-- ---- a client hears
+
+-- the answer to the query that waits lies ahead of all that was accepted, and then behind the client
+module _ (w : World) (p : Party) (h : HandlerId) (n : ℕ) (a : ObjectAnswer) (r : ReservationState) where
+  abbrev now : ClientState
+  now = with_lines p.client (at_line h (acknowledged n) p.client.lines) None
+
+  abbrev new : Accepted
+  new = (h, newest_block p.client, n, a)
+
+  module _ (held : p.client.reservation ≡ Some r) (line : LineState) (found : line_of h p.client.lines ≡ Some line) (last : n ≡ logged line) (waiting : line.acked < n) where
+    new_behind : IsBehind now new
+    new_behind = record {
+      upto = upto_itself p.client.inc p.client.last;
+      acked = λ s is inc num.
+          let all = acked_there (acknowledged n) (acknowledged_raises n) h p.client.lines line found ∙ acknowledged_all n line last in
+          omega (arith, all);
+    }
+
+    -- none of them is the same query
+    none_same : (x : Accepted) → AcceptedFits w p x → query_of x ≡ query_of new → ⊥
+    none_same x f e =
+        let b : x.1 ≡ newest_block p.client = ap (λ (q : HandlerId × Block × ℕ). q.1) e in
+        let low = f.behind.acked r held (ap (λ (y : Block). y.inc) b) (ap (λ (y : Block). y.num) b) in
+        let there : acked_at x.0 p.client.lines ≡ line.acked = ap (λ (q : HandlerId × Block × ℕ). acked_at q.0 p.client.lines) e ∙ ap (λ o. option_map_or (λ (l : LineState). l.acked) o 0) found in
+        let number : x.2 ≡ n = ap (λ (q : HandlerId × Block × ℕ). q.2) e in
+        omega (arith, low, there, number, waiting)
+
+    accepts : Onward p.client now → HasRun (ran_at h w) (newest_block p.client) n a → PartyAnswers w p → PartyAnswers w (party_with p now (new ∷ []))
+    accepts on ran f =
+        let q : Party = party_with p now (new ∷ []) in
+        record {
+          accepted = all_pushed (AcceptedFits w q) p.accepted (Some new)
+              (all_more_of (AcceptedFits w p) (AcceptedFits w q) (λ x. accepted_more w p q x on) p.accepted f.accepted)
+              (λ x e. let same : new ≡ x = cc in subst (AcceptedFits w q) same (record { answered = record { own = refl; ran = ran }; behind = new_behind }));
+          once = once_more query_of p.accepted new f.once (all_more_of (AcceptedFits w p) (λ x. query_of x ≡ query_of new → ⊥) none_same p.accepted f.accepted);
+        }
+
+-- what a step of the reservation tells is no answer
+step_accepts : (b : Block) (c : ClientState) (s : ReservationState) (st : Step) → newly_accepted b (after_step c s st).1 ≡ []
+step_accepts b c s (step.Locked h) = refl
+step_accepts b c s (step.Busy h) = refl
+step_accepts b c s (step.Opened h) = refl
+step_accepts b c s (step.Unlocked h) = refl
+step_accepts b c s step.Ignored = refl
+
+module _ (w : World) (p : Party) (logging : PartyLogs w p) (f : PartyAnswers w p) where
+  quiet : (d : ClientState) (ys : List Accepted) → Onward p.client d → ys ≡ [] → PartyAnswers w (party_with p d ys)
+  quiet d ys on none = goes_on w p (party_with p d ys) on (ap (λ xs. p.accepted ++ xs) none ∙ append-nil p.accepted) f
+
+  heard_fits : (m : Message) (d : ClientState) (note : ClientNote) → HeardRow p.client m d note → Onward p.client d → TellsAnswer w m → PartyAnswers w (party_with p d (newly_accepted (newest_block p.client) note))
+  heard_fits m d note (passed_over n) on t = quiet d [] on refl
+  heard_fits m d note (is_welcomed h left) on t = quiet d [] on refl
+  heard_fits m d note (takes_step n r held) on t = quiet d _ on (step_accepts (newest_block p.client) p.client (reservation.heard r n).0 (reservation.heard r n).1)
+  heard_fits m d note (is_acknowledged h n r l held opened line new_count) on t = quiet d [] on refl
+  heard_fits m d note (is_accepted h n a r held opened waits) on t =
+      let block = logging.block r held in
+      let query = block.waits h n waits in
+      accepts w p h n a r held query.line query.found query.query.number query.query.waiting on (subst (λ b. HasRun (ran_at h w) b n a) block.block t) f
+
+pub notices_answering : (w : World) → Answering w → (m : Message) (p : Party) → TellsAnswer w m → PartyLogs w p → PartyAnswers w p → Answering (with_party w (heard_party p (heard p.client m)))
+notices_answering w i m p tells logging f =
+    let now = heard p.client m in
+    let row = heard_row p.client m in
+    party_moves w p (heard_party p now) w.logs i (heard_fits w p logging f m now.0 now.1 row (onward_heard p.client m now.0 now.1 row) tells)
+
+-- ---- a client takes a command, or restarts
+
+pub commands_answering : (w : World) → Answering w → (p : Party) (x : Command) (d : ClientState) → PartyAnswers w p → client.command p.client (core_command x) ≡ Ok d → Answering (commanded_world w p x d)
+commands_answering w i p x d f e = party_moves w p (record p { client = d }) _ i (goes_on w p (record p { client = d }) (onward_commanded p.client x d e) refl f)
+
+pub restarts_answering : (w : World) → Answering w → (p : Party) → PartyFits w p → PartyAnswers w p → Answering (with_party w (restarted_party p))
+restarts_answering w i p fits f =
+    let stored = fits.stored in
+    let on : Onward p.client (restarted_party p).client = record {
+      id = refl;
+      upto = record { inc = omega (arith, stored); num = λ same. absurd (omega (arith, stored, same)) };
+      same = λ inc last r held. absurd (cc);
+    } in
+    party_moves w p (restarted_party p) w.logs i (goes_on w p (restarted_party p) on refl f)

@@ -1,0 +1,100 @@
+-- What every event keeps of answers: the words that an object has come to, the answers that are kept and sent, and
+-- those that clients have accepted.
+use Rattle.std.proofs.Common.{◌≡◌, ℕ, ◌≤◌, List, map, Some}
+use Rattle.std.specs.Prelude.{⊤}
+use Rattle.std.specs.List.{AllByRecursion}
+use Rattle.std.specs.Option.{option_map_or}
+use Rattle.scoop_message.specs.declared.name.Block.{Block}
+use Rattle.scoop_message.specs.declared.name.HandlerId.{HandlerId}
+use Rattle.scoop_message.specs.declared.request.Answer.{Answer as ObjectAnswer}
+use Rattle.scoop_message.specs.declared.message.Message.{Message}
+use Rattle.scoop_message.specs.declared.message.Message.TheVariants.{Hello, Welcome, Lock, Locked, Busy, Open, Opened, Unlock, Unlocked, Log, Logged, Answer}
+use Rattle.scoop_object.specs.Play.{play}
+use Rattle.scoop_reserve.specs.State.{ReservationState}
+use Rattle.scoop_client.specs.Line.{LineState, line_of}
+use Rattle.scoop_client.specs.State.{ClientState}
+use Rattle.scoop_model.specs.World.{World, Site, Party, Accepted, ran_at}
+use Rattle.scoop_model.specs.Safe.{NoRepeats, entries_of, HasRun, IsAnswered, query_of}
+use Rattle.scoop_model.proofs.Order.Holding.{Upto}
+use Rattle.scoop_model.proofs.Order.Facts.{all_more_of}
+use Rattle.scoop_model.proofs.Answering.Objects.{AnswersFrom}
+use Rattle.scoop_model.proofs.Answering.Kept.{KeepsRan}
+
+-- an Answer that was sent tells what ran
+abbrev pub TellsAnswer : World → Message → Type 0
+TellsAnswer w (Hello h c inc) = ⊤
+TellsAnswer w (Welcome h c inc) = ⊤
+TellsAnswer w (Lock h b) = ⊤
+TellsAnswer w (Locked h b) = ⊤
+TellsAnswer w (Busy h b) = ⊤
+TellsAnswer w (Open h b) = ⊤
+TellsAnswer w (Opened h b) = ⊤
+TellsAnswer w (Unlock h b) = ⊤
+TellsAnswer w (Unlocked h b) = ⊤
+TellsAnswer w (Log h b n es) = ⊤
+TellsAnswer w (Logged h b n) = ⊤
+TellsAnswer w (Answer h b n a) = HasRun (ran_at h w) b n a
+
+-- the object has played the entries that ran, and each answer that ran or is kept is its own
+pub record SiteAnswers (s : Site) : Type 0 where
+  pub words : s.core.state.words ≡ play s.core.class s.placed (entries_of s.ran)
+  pub answers : AnswersFrom s.core.class s.placed s.ran
+  pub kept : AllByRecursion (KeepsRan s.ran) s.core.state.marks
+
+-- how many entries are acknowledged at the handler, none where it has no line
+abbrev pub acked_at : HandlerId → List LineState → ℕ
+acked_at h ls = option_map_or (λ l. l.acked) (line_of h ls) 0
+
+-- the query lies behind the client: in the block that the client has, it is acknowledged
+pub record IsBehind (c : ClientState) (a : Accepted) : Type 0 where
+  pub upto : Upto a.1.inc a.1.num c.inc c.last
+  pub acked : (r : ReservationState) → c.reservation ≡ Some r → a.1.inc ≡ c.inc → a.1.num ≡ c.last → a.2 ≤ acked_at a.0 c.lines
+
+pub record AcceptedFits (w : World) (p : Party) (a : Accepted) : Type 0 where
+  pub answered : IsAnswered w p a
+  pub behind : IsBehind p.client a
+
+pub record PartyAnswers (w : World) (p : Party) : Type 0 where
+  pub accepted : AllByRecursion (AcceptedFits w p) p.accepted
+  pub once : NoRepeats (map query_of p.accepted)
+
+pub record Answering (w : World) : Type 0 where
+  pub messages : AllByRecursion (TellsAnswer w) w.sent
+  pub sites : AllByRecursion SiteAnswers w.sites
+  pub parties : AllByRecursion (PartyAnswers w) w.parties
+
+-- ---- what goes on
+
+-- whatever ran in v has run in w
+abbrev pub RanStays : World → World → Type 0
+RanStays v w = (h : HandlerId) (b : Block) (n : ℕ) (a : ObjectAnswer) → HasRun (ran_at h v) b n a → HasRun (ran_at h w) b n a
+
+module _ (v w : World) (stays : RanStays v w) where
+  pub tells_answer_more : (m : Message) → TellsAnswer v m → TellsAnswer w m
+  tells_answer_more (Hello h c inc) t = tt
+  tells_answer_more (Welcome h c inc) t = tt
+  tells_answer_more (Lock h b) t = tt
+  tells_answer_more (Locked h b) t = tt
+  tells_answer_more (Busy h b) t = tt
+  tells_answer_more (Open h b) t = tt
+  tells_answer_more (Opened h b) t = tt
+  tells_answer_more (Unlock h b) t = tt
+  tells_answer_more (Unlocked h b) t = tt
+  tells_answer_more (Log h b n es) t = tt
+  tells_answer_more (Logged h b n) t = tt
+  tells_answer_more (Answer h b n a) t = stays h b n a t
+
+  pub messages_more : (ms : List Message) → AllByRecursion (TellsAnswer v) ms → AllByRecursion (TellsAnswer w) ms
+  messages_more = all_more_of (TellsAnswer v) (TellsAnswer w) tells_answer_more
+
+  -- the client stays
+  pub party_answers_more : (p : Party) → PartyAnswers v p → PartyAnswers w p
+  party_answers_more p f = record {
+    accepted = all_more_of (AcceptedFits v p) (AcceptedFits w p)
+        (λ a g. record { answered = record { own = g.answered.own; ran = stays a.0 a.1 a.2 a.3 g.answered.ran }; behind = g.behind })
+        p.accepted f.accepted;
+    once = f.once;
+  }
+
+  pub parties_answer_more : (ps : List Party) → AllByRecursion (PartyAnswers v) ps → AllByRecursion (PartyAnswers w) ps
+  parties_answer_more = all_more_of (PartyAnswers v) (PartyAnswers w) party_answers_more

@@ -1,0 +1,29 @@
+-- A world that opens is safe.
+use Rattle.std.proofs.Common.{◌≡◌, List, [], ◌∷◌, ◌++◌, map, refl}
+use Rattle.std.specs.List.{AllByRecursion}
+use Rattle.scoop_message.specs.declared.name.Block.{Block}
+use Rattle.scoop_model.specs.World.{World}
+use Rattle.scoop_model.specs.Step.{Placement, Newcomer, new_site, new_party, opening}
+use Rattle.scoop_model.specs.Safe.{Safe, nothing, IsSubsequence, Tape, WholeBeforeNext, RightAnswers, AcceptsRight, NoRepeats}
+
+all_made : {A B : Type 0} (f : A → B) (P : B → Type 0) → ((a : A) → P (f a)) → (xs : List A) → AllByRecursion P (map f xs)
+all_made f P p [] = tt
+all_made f P p (x ∷ xs) = (p x, all_made f P p xs)
+
+pub no_repeats : {A : Type 0} → NoRepeats {A = A} []
+no_repeats i j x e f = absurd (cc)
+
+nothing_before : (front back : List Block) (b : Block) → [] ≡ front ++ b ∷ back → ⊥
+nothing_before [] back b e = cc
+nothing_before (x ∷ front) back b e = cc
+
+pub opens_safe : (placements : List Placement) (newcomers : List Newcomer) → Safe (opening placements newcomers)
+opens_safe ps ns =
+    let w : World = opening ps ns in
+    record {
+      in_order = record { once = no_repeats; common = all_made new_site (λ s. IsSubsequence s.opened []) (λ p. nothing) ps };
+      tapes = all_made new_site (Tape w) (λ p. record { in_turn = refl; beginnings = tt }) ps;
+      whole = all_made new_site (WholeBeforeNext w) (λ p front between back b later e some. absurd (some refl)) ps;
+      answers = all_made new_site RightAnswers (λ p k r e. absurd (cc)) ps;
+      accepted = all_made (new_party (map (λ p. p.handler) ps)) (AcceptsRight w) (λ n. record { answered = tt; once = no_repeats }) ns;
+    }

@@ -1,0 +1,58 @@
+-- What every event keeps of incarnations: where a message names a block, and where a client has one, each of the
+-- handlers has been greeted by the block's incarnation.
+use Rattle.std.proofs.Common.{◌≡◌, ℕ, true, false, List, find, Some}
+use Rattle.std.specs.List.{AllByRecursion}
+use Rattle.scoop_message.specs.declared.name.Block.{Block}
+use Rattle.scoop_message.specs.declared.name.ClientId.{ClientId}
+use Rattle.scoop_message.specs.declared.name.HandlerId.{HandlerId}
+use Rattle.scoop_message.specs.declared.message.Message.{Message}
+use Rattle.scoop_reserve.specs.Handlers.{has}
+use Rattle.scoop_reserve.specs.State.{ReservationState}
+use Rattle.scoop_handler.specs.Replies.{named_block}
+use Rattle.scoop_client.specs.State.{ClientState, block_named}
+use Rattle.scoop_model.specs.World.{World, Site, Party, is_site}
+use Rattle.scoop_model.proofs.Order.Facts.{IsGrantedIn}
+
+-- the handler's mark of the client is at the incarnation or past it
+abbrev pub HasGreeted : List Site → HandlerId → ClientId → ℕ → Type 0
+HasGreeted ss h c inc = IsGrantedIn (find (is_site h) ss) (block_named c inc 0)
+
+-- so it is at each of these handlers
+abbrev pub IsKnown : List HandlerId → List Site → Block → Type 0
+IsKnown hs ss b = (h : HandlerId) → has hs h ≡ true → HasGreeted ss h b.client b.inc
+
+abbrev pub Names : List HandlerId → List Site → Message → Type 0
+Names hs ss m = (b : Block) → named_block m ≡ Some b → IsKnown hs ss b
+
+-- these are the client's handlers, those that have welcomed it know its incarnation, and all know its block's
+pub record ClientKnown (hs : List HandlerId) (ss : List Site) (c : ClientState) : Type 0 where
+  pub handlers : c.handlers ≡ hs
+  pub greeted : (h : HandlerId) → has hs h ≡ true → has c.left h ≡ false → HasGreeted ss h c.id c.inc
+  pub block : (r : ReservationState) → c.reservation ≡ Some r → IsKnown hs ss r.block
+
+abbrev pub PartyKnown : List HandlerId → List Site → Party → Type 0
+PartyKnown hs ss p = ClientKnown hs ss p.client
+
+pub record Knowing (hs : List HandlerId) (w : World) : Type 0 where
+  pub messages : AllByRecursion (Names hs w.sites) w.sent
+  pub parties : AllByRecursion (PartyKnown hs w.sites) w.parties
+
+-- ---- what goes on
+
+-- what a handler has granted stays so
+abbrev pub Remember : List Site → List Site → Type 0
+Remember ss ts = (h : HandlerId) (b : Block) → IsGrantedIn (find (is_site h) ss) b → IsGrantedIn (find (is_site h) ts) b
+
+module _ (hs : List HandlerId) (ss ts : List Site) (more : Remember ss ts) where
+  pub known_more : (b : Block) → IsKnown hs ss b → IsKnown hs ts b
+  known_more b k = λ h e. more h (block_named b.client b.inc 0) (k h e)
+
+  pub names_more : (m : Message) → Names hs ss m → Names hs ts m
+  names_more m n = λ b e. known_more b (n b e)
+
+  pub party_more : (p : Party) → PartyKnown hs ss p → PartyKnown hs ts p
+  party_more p k = record {
+    handlers = k.handlers;
+    greeted = λ h e f. more h (block_named p.client.id p.client.inc 0) (k.greeted h e f);
+    block = λ r e. known_more r.block (k.block r e);
+  }

@@ -1,0 +1,150 @@
+-- Whatever happens, where a message names a block, every handler knows the block's incarnation.
+use Rattle.std.proofs.Common.{◌≡◌, true, true≢false, List, [], ◌∷◌, map, find, Some, refl, sym, ap, ◌∙◌, subst}
+use Rattle.std.specs.Prelude.{if◌then◌else◌, ◌||◌}
+use Rattle.std.specs.List.{AllByRecursion}
+use Rattle.scoop_message.specs.declared.name.HandlerId.{HandlerId}
+use Rattle.scoop_message.specs.declared.message.Message.{Message}
+use Rattle.scoop_message.specs.Message.{client_of, handler_of}
+use Rattle.scoop_reserve.specs.Handlers.{has}
+use Rattle.scoop_handler.specs.Replies.{HasEntries}
+use Rattle.scoop_handler.specs.Growing.{MarksGrow}
+use Rattle.scoop_handler.specs.Hearing.{Hearing, hear}
+use Rattle.scoop_handler.specs.Running.{ran_of}
+use Rattle.scoop_handler.proofs.TableRows.{row}
+use Rattle.scoop_handler.proofs.TableLaws.{grows-row, number-row, replies-row}
+use Rattle.scoop_handler.proofs.After.{MarksGrow-after, MarksGrow-same}
+use Rattle.scoop_client.specs.Due.{due}
+use Rattle.scoop_client.specs.Hearing.{heard}
+use Rattle.scoop_client.proofs.DueRows.{due_row}
+use Rattle.scoop_client.proofs.Rows.{heard_row}
+use Rattle.scoop_model.specs.World.{World, Site, Party, number_of, is_party, is_site, sent_at, set_party, set_site, site_of}
+use Rattle.scoop_model.specs.Step.{Placement, Newcomer, core_command, new_party, opening, begun_site, finished_site, heard_party, heard_site, heard_world, reopened, restarted_party}
+use Rattle.scoop_model.specs.Reach.{Run, IsReached}
+use Rattle.scoop_model.specs.Named.{IsMarked, NamesKnown}
+use Rattle.scoop_model.proofs.Events.{Changes, steps_kept}
+use Rattle.scoop_model.proofs.Basics.{by_test}
+use Rattle.scoop_model.proofs.Order.Facts.{Ordered, all_found, all_more_of, all_pushed, all_set_party}
+use Rattle.scoop_model.proofs.Order.Handlers.{granted_anew, granted_set}
+use Rattle.scoop_model.proofs.Order.Runs.{opens_ordered}
+use Rattle.scoop_model.proofs.Sound.Facts.{Sound}
+use Rattle.scoop_model.proofs.Sound.Runs.{InOrderAndSound, both_kept, ordered_sound_kept}
+use Rattle.scoop_model.proofs.Sound.Steps.{opens_sound, sent_all}
+use Rattle.scoop_model.proofs.Logging.Greetings.{Greetings, Greets, greetings_kept, opens_greetings, place}
+use Rattle.scoop_model.proofs.Reaching.{sites_placed}
+use Rattle.scoop_model.proofs.Knowing.Facts.{Names, PartyKnown, Knowing, Remember, names_more, party_more}
+use Rattle.scoop_model.proofs.Knowing.Clients.{command_known, due_names, heard_known}
+
+module _ (hs : List HandlerId) where
+  -- the sites go on, and these messages are sent by now
+  sites_known : (w v : World) → Knowing hs w → Remember w.sites v.sites → v.parties ≡ w.parties → AllByRecursion (Names hs v.sites) v.sent → Knowing hs v
+  sites_known w v i more same messages = record {
+    messages = messages;
+    parties = subst (AllByRecursion (PartyKnown hs v.sites)) (sym same) (all_more_of (PartyKnown hs w.sites) (PartyKnown hs v.sites) (party_more hs w.sites v.sites more) w.parties i.parties);
+  }
+
+  old_names : (w v : World) → Knowing hs w → Remember w.sites v.sites → AllByRecursion (Names hs v.sites) w.sent
+  old_names w v i more = all_more_of (Names hs w.sites) (Names hs v.sites) (names_more hs w.sites v.sites more) w.sent i.messages
+
+  -- one site goes on, and nothing is sent
+  site_known : (w : World) (s old : Site) → Knowing hs w → site_of (number_of s) w ≡ Some old → MarksGrow old.core.state.marks s.core.state.marks → Knowing hs (record w { sites = set_site s w.sites })
+  site_known w s old i here grows =
+      let v : World = record w { sites = set_site s w.sites } in
+      let more = granted_set w s old here grows in
+      sites_known w v i more refl (old_names w v i more)
+
+  -- one client is another by now, and nothing is sent
+  set_known : (w : World) (p : Party) → Knowing hs w → PartyKnown hs w.sites p → AllByRecursion (PartyKnown hs w.sites) (set_party p w.parties)
+  set_known w p i own = all_set_party (PartyKnown hs w.sites) (PartyKnown hs w.sites) p w.parties own (λ y other k. k) i.parties
+
+  hears_known : (w : World) → Sound w → Knowing hs w → (k : _) (m : Message) (s : Site) → sent_at k w ≡ Some m → site_of (handler_of m) w ≡ Some s → Knowing hs (heard_world w s (hear s.core.state m))
+  hears_known w sound i k m s was found =
+      let now : Hearing = hear s.core.state m in
+      let by = row s.core.state m in
+      let t : Site = heard_site s now in
+      let v : World = heard_world w s now in
+      let here : site_of (number_of t) w ≡ Some s = subst (λ j. site_of j w ≡ Some s) (sym (number-row s.core.state m now by)) (place w (handler_of m) s found) in
+      let more = granted_set w t s here (grows-row s.core.state m now by) in
+      let named : Names hs v.sites m = names_more hs w.sites v.sites more m (sent_all w k m was (Names hs w.sites) i.messages) in
+      let replies = replies-row s.core.state m now by (sent_all w k m was HasEntries sound.messages) in
+      sites_known w v i more refl
+      (all_pushed (Names hs v.sites) w.sent now.1.reply (old_names w v i more) (λ reply e b f. named b (sym (replies reply e).block ∙ f)))
+
+  pub knowing_kept : (w : World) → Ordered w → Sound w → Greetings w → Knowing hs w → Changes (Knowing hs) w
+  knowing_kept w o sound g i = record {
+    commands = λ c p x d at is. record {
+      messages = i.messages;
+      parties = set_known w (record p { client = d }) i (command_known hs w.sites p.client d (all_found (PartyKnown hs w.sites) (is_party c) w.parties p i.parties at) (core_command x) is);
+    };
+    sends = λ c p h s at here. record {
+      messages = all_pushed (Names hs w.sites) w.sent (due p.client h) i.messages
+          (due_names hs w.sites p.client h (due p.client h) (due_row p.client h) (all_found (PartyKnown hs w.sites) (is_party c) w.parties p i.parties at));
+      parties = i.parties;
+    };
+    hears = λ k m s was goes here. hears_known w sound i k m s was here;
+    notices = λ k m p was goes at. (
+        let now = heard p.client m in
+        record {
+          messages = i.messages;
+          parties = set_known w (heard_party p now) i
+              (heard_known hs w p.client m now.0 now.1 (heard_row p.client m) (sent_all w k m was (Greets w) g.messages) (all_found (PartyKnown hs w.sites) (is_party (client_of m)) w.parties p i.parties at));
+        });
+    begins = λ h s t here is. site_known w (begun_site s) s i (place w h s here) (MarksGrow-same s.core.state.marks);
+    finishes = λ h s t here is. site_known w (finished_site s t) s i (place w h s here) (MarksGrow-after (ran_of t) s.core.state.marks);
+    restarts = λ c p at room. (
+        let k = all_found (PartyKnown hs w.sites) (is_party c) w.parties p i.parties at in
+        record {
+          messages = i.messages;
+          parties = set_known w (restarted_party p) i (record {
+            handlers = k.handlers;
+            greeted = λ h e f. absurd (true≢false (sym e ∙ (ap (λ ks. has ks h) (sym k.handlers) ∙ f)));
+            block = λ r e. absurd (cc);
+          });
+        });
+    reopens = λ n. (
+        let v : World = record w { sites = map (reopened n) w.sites } in
+        let more : Remember w.sites v.sites = λ h b. granted_anew w.joint n h b w.sites o.sites in
+        sites_known w v i more refl (old_names w v i more));
+  }
+
+  parties_open : (ss : List Site) (ns : List Newcomer) → AllByRecursion (PartyKnown hs ss) (map (new_party hs) ns)
+  parties_open ss [] = tt
+  parties_open ss (n ∷ ns) = (record { handlers = refl; greeted = λ h e f. absurd (true≢false (sym e ∙ f)); block = λ r e. absurd (cc) }, parties_open ss ns)
+
+  -- in order, sound, as greeted, and known
+  abbrev All : World → Type 0
+  All w = (InOrderAndSound w × Greetings w) × Knowing hs w
+
+  all_kept : (w : World) → All w → Changes All w
+  all_kept w i =
+      both_kept (λ v. InOrderAndSound v × Greetings v) (Knowing hs) w
+      (both_kept InOrderAndSound Greetings w (ordered_sound_kept w i.0.0) (greetings_kept w i.0.0.0 i.0.1))
+      (knowing_kept w i.0.0.0 i.0.0.1 i.0.1 i.1)
+
+-- ---- what it shows
+
+-- the handlers of the world are those that were placed
+found_has : (h : HandlerId) (ss : List Site) (s : Site) → find (is_site h) ss ≡ Some s → has (map number_of ss) h ≡ true
+found_has h [] s e = absurd (cc)
+found_has h (x ∷ xs) s e =
+    by_test (λ t. (if t then Some x else find (is_site h) xs) ≡ Some s → (t || has (map number_of xs) h) ≡ true) (is_site h x) (λ here f. refl) (λ there f. found_has h xs s f) e
+
+names_shown : (hs : List HandlerId) (w : World) → map number_of w.sites ≡ hs → (m : Message) → Names hs w.sites m → NamesKnown w m
+names_shown hs w numbers m n = record {
+  known = λ b e. record {
+    marked = λ h s found.
+        let g = n b e h (ap (λ ks. has ks h) (sym numbers) ∙ found_has h w.sites s found) in
+        let one : g.site ≡ s = some_site g.site s (sym g.found ∙ found) in
+        subst (λ (x : Site). IsMarked b x.core.state.marks) one (record { mark = g.reached.mark; found = g.reached.found; inc = g.reached.upto.inc });
+  };
+}
+  where
+    some_site : (x y : Site) → Some x ≡ Some y → x ≡ y
+    some_site x y e = cc
+
+pub names_known : (w : World) → IsReached w → AllByRecursion (NamesKnown w) w.sent
+names_known w r =
+    let hs = map (λ (p : Placement). p.handler) r.placements in
+    let v : World = opening r.placements r.newcomers in
+    let opens : All hs v = (((opens_ordered r.placements r.newcomers, opens_sound r.placements r.newcomers r.opens), opens_greetings r.placements r.newcomers), record { messages = tt; parties = parties_open hs v.sites r.newcomers }) in
+    let i : All hs w = subst (All hs) (ap (λ (x : Run). x.0) r.leads) (steps_kept (All hs) (all_kept hs) v r.events opens) in
+    all_more_of (Names hs w.sites) (NamesKnown w) (names_shown hs w (sites_placed w r)) w.sent i.1.messages

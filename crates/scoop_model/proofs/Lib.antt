@@ -1,0 +1,20 @@
+pub mod Basics
+mod Same
+mod Beginnings
+pub mod Events
+pub mod Keys
+pub mod Sites
+pub mod Stands
+pub mod Reaching
+pub mod Order
+pub mod Sound
+pub mod Logging
+pub mod Knowing
+pub mod Answering
+pub mod Tape
+pub mod Whole
+pub mod Standing
+pub mod Ready
+pub mod Arriving
+pub mod Headline
+pub mod OpenedExamples

@@ -1,0 +1,96 @@
+-- What every event keeps of what clients logged: what a Log carries stands in its block's log, and a client's line at
+-- a handler holds the end of that log, the part that isn't acknowledged.
+use Rattle.std.proofs.Common.{◌≡◌, ℕ, ◌<◌, false, List, [], ◌∷◌, ◌++◌, length, map, Some, sym, ap, ◌∙◌, append_assoc, append-nil}
+use Rattle.std.specs.Prelude.{⊤}
+use Rattle.std.specs.List.{AllByRecursion}
+use Rattle.scoop_message.specs.declared.name.Block.{Block}
+use Rattle.scoop_message.specs.declared.name.HandlerId.{HandlerId}
+use Rattle.scoop_message.specs.declared.request.Entry.{Entry}
+use Rattle.scoop_message.specs.declared.request.Entry.TheVariants.{Query as QueryEntry}
+use Rattle.scoop_message.specs.declared.request.Request.{Request}
+use Rattle.scoop_message.specs.declared.message.Message.{Message}
+use Rattle.scoop_message.specs.declared.message.Message.TheVariants.{Hello, Welcome, Lock, Locked, Busy, Open, Opened, Unlock, Unlocked, Log, Logged, Answer}
+use Rattle.scoop_message.specs.Entries.{EndOnlyLast, ends}
+use Rattle.scoop_reserve.specs.State.{ReservationState}
+use Rattle.scoop_reserve.specs.Hearing.{is_open}
+use Rattle.scoop_client.specs.Line.{LineState, IsNumberable, logged, line_of}
+use Rattle.scoop_client.specs.State.{ClientState}
+use Rattle.scoop_model.specs.World.{World, Party, log_of}
+use Rattle.scoop_model.specs.Step.{newest_block}
+use Rattle.scoop_model.proofs.Stands.{Stands}
+
+-- ---- messages
+
+-- a Log carries entries that stand in the block's log for its handler
+abbrev pub Carries : World → Message → Type 0
+Carries w (Log h b n es) = Stands (log_of b h w) n es
+Carries w (Hello h c inc) = ⊤
+Carries w (Welcome h c inc) = ⊤
+Carries w (Lock h b) = ⊤
+Carries w (Locked h b) = ⊤
+Carries w (Busy h b) = ⊤
+Carries w (Open h b) = ⊤
+Carries w (Opened h b) = ⊤
+Carries w (Unlock h b) = ⊤
+Carries w (Unlocked h b) = ⊤
+Carries w (Logged h b n) = ⊤
+Carries w (Answer h b n a) = ⊤
+
+-- ---- clients
+
+-- a line holds what comes in the log behind the entries that are acknowledged
+pub record LineFits (log : List Entry) (l : LineState) : Type 0 where
+  pub acknowledged : List Entry
+  pub all : acknowledged ++ l.unacked ≡ log
+  pub count : l.acked ≡ length acknowledged
+  pub ended : l.ended ≡ ends log
+  pub numbers : IsNumberable l.acked l.ended l.unacked
+
+-- the query of this number is the log's last entry, and isn't acknowledged
+pub record IsLastQuery (log : List Entry) (l : LineState) (n : ℕ) : Type 0 where
+  pub before : List Entry
+  pub request : Request
+  pub last : before ++ QueryEntry request ∷ [] ≡ log
+  pub number : n ≡ logged l
+  pub waiting : l.acked < n
+
+-- the client has a line for the handler, whose last entry is the query of this number
+pub record WaitsAt (w : World) (c : ClientState) (b : Block) (h : HandlerId) (n : ℕ) : Type 0 where
+  pub line : LineState
+  pub found : line_of h c.lines ≡ Some line
+  pub query : IsLastQuery (log_of b h w) line n
+
+-- the lines of the client's block: one for each of its handlers, and nothing is logged before all are opened
+pub record LinesFit (w : World) (c : ClientState) (r : ReservationState) : Type 0 where
+  pub block : r.block ≡ newest_block c
+  pub handlers : map (λ l. l.handler) c.lines ≡ r.handlers
+  pub lines : (h : HandlerId) (l : LineState) → line_of h c.lines ≡ Some l → LineFits (log_of r.block h w) l
+  pub waits : (h : HandlerId) (n : ℕ) → c.waits ≡ Some (h, n) → WaitsAt w c r.block h n
+  pub unlogged : is_open r ≡ false → (h : HandlerId) → log_of r.block h w ≡ []
+
+pub record PartyLogs (w : World) (p : Party) : Type 0 where
+  pub block : (r : ReservationState) → p.client.reservation ≡ Some r → LinesFit w p.client r
+
+-- ---- all of it
+
+-- no log has an entry behind an End
+pub record Logging (w : World) : Type 0 where
+  pub messages : AllByRecursion (Carries w) w.sent
+  pub logs : (b : Block) (h : HandlerId) → EndOnlyLast (log_of b h w)
+  pub parties : AllByRecursion (PartyLogs w) w.parties
+
+-- ---- logs only grow, at their end
+
+abbrev pub Grown : World → World → Type 0
+Grown v w = (b : Block) (h : HandlerId) → (more : List Entry) × (log_of b h v ++ more ≡ log_of b h w)
+
+pub grown_same : (v w : World) → v.logs ≡ w.logs → Grown v w
+grown_same v w same b h = ([], append-nil (log_of b h v) ∙ ap (λ ls. log_of b h (record v { logs = ls })) same)
+
+pub stands_more : (log more : List Entry) (n : ℕ) (es : List Entry) → Stands log n es → Stands (log ++ more) n es
+stands_more log more n es s = record {
+  before = s.before;
+  behind = s.behind ++ more;
+  all = sym (append_assoc (s.before ++ es) s.behind more) ∙ ap (λ xs. xs ++ more) s.all;
+  number = s.number;
+}

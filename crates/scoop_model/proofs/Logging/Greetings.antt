@@ -1,0 +1,380 @@
+-- Who greets whom: a client greets in no incarnation above its own, no handler's mark is above its client's incarnation,
+-- and a handler that has welcomed an incarnation has a mark that isn't below it.
+use Rattle.std.proofs.Common.{◌≡◌, ℕ, ◌+◌, ◌<◌, ◌≤◌, ◌&&◌, ◌||◌, true, false, true≢false, nat_lt, Bool, List, [], ◌∷◌, map, find, Option, Some, None, refl, sym, ap, ◌∙◌, subst, arith}
+use Rattle.std.specs.Prelude.{⊤}
+use Rattle.std.specs.List.{AllByRecursion, list_any}
+use Rattle.std.specs.Option.{option_map_or}
+use Rattle.std.proofs.lemmas.Bool.Decides.{nat_tests}
+use Rattle.scoop_message.specs.declared.name.Block.{Block}
+use Rattle.scoop_message.specs.declared.name.ClientId.{ClientId}
+use Rattle.scoop_message.specs.declared.name.HandlerId.{HandlerId}
+use Rattle.scoop_message.specs.declared.message.Message.{Message}
+use Rattle.scoop_message.specs.declared.message.Message.TheVariants.{Hello, Welcome, Lock, Locked, Busy, Open, Opened, Unlock, Unlocked, Log, Logged, Answer}
+use Rattle.scoop_message.specs.Message.{client_of, handler_of, same_client, same_handler}
+use Rattle.scoop_message.proofs.Same.{client_decides, handler_decides}
+use Rattle.scoop_handler.specs.declared.mark.Mark.{Mark}
+use Rattle.scoop_handler.specs.declared.mark.Stage.{Stage}
+use Rattle.scoop_handler.specs.declared.mark.Stage.TheVariants.{Held as AtHeld, Shut as AtShut}
+use Rattle.scoop_handler.specs.declared.ran.Ran.{Ran}
+use Rattle.scoop_handler.specs.Marks.{fresh_mark, opened_mark, with_received, without_hold, mark_of, set_mark}
+use Rattle.scoop_handler.specs.State.{HandlerState}
+use Rattle.scoop_handler.specs.Growing.{MarksGrow}
+use Rattle.scoop_handler.specs.Hearing.{Hearing, IsHeardAt, greeting_mark, hear}
+use Rattle.scoop_handler.specs.Running.{mark_after, ran_of}
+use Rattle.scoop_handler.specs.Rows.{Row, first_greeting, newer_greeting, same_greeting, lock_granted, open_granted, unlock_new, unlock_holder, log_taken}
+use Rattle.scoop_handler.proofs.MarkLists.{mark_of-client, mark_of-add_mark_own, mark_of-set_mark_own, All-mark_of, All-set_mark, All-add_mark}
+use Rattle.scoop_handler.proofs.TableRows.{row}
+use Rattle.scoop_handler.proofs.TableLaws.{grows-row, number-row}
+use Rattle.scoop_handler.proofs.After.{MarksGrow-after, MarksGrow-same}
+use Rattle.scoop_client.specs.Line.{first_entries}
+use Rattle.scoop_client.specs.State.{block_named}
+use Rattle.scoop_client.specs.Due.{due}
+use Rattle.scoop_client.specs.Hearing.{heard}
+use Rattle.scoop_client.specs.Rows.{DueRow, owes_nothing, greets, reserves, logs}
+use Rattle.scoop_client.proofs.DueRows.{due_row}
+use Rattle.scoop_client.proofs.Rows.{heard_row}
+use Rattle.scoop_model.specs.World.{World, Site, Party, number_of, id_of, is_party, is_site, is_succeeded, is_newer_welcome, party_of, sent_at, set_party, set_site, site_of, inc_of}
+use Rattle.scoop_model.specs.Step.{Placement, Newcomer, new_site, opening, commanded_world, with_sent, heard_site, heard_world, heard_party, begun_site, finished_site, restarted_party, reopened, reopened_world, with_party, with_site}
+use Rattle.scoop_model.proofs.Events.{Changes}
+use Rattle.scoop_model.proofs.Basics.{by_test}
+use Rattle.scoop_model.proofs.Keys.{by_party, by_site, id_found, number_found}
+use Rattle.scoop_reserve.specs.State.{ReservationState}
+use Rattle.scoop_model.proofs.Sound.Owed.{OwedRow, asks, opens, unlocks, gives_back, owed_row}
+use Rattle.scoop_model.proofs.Sound.Steps.{sent_all}
+use Rattle.scoop_model.proofs.Order.Holding.{IsReachedIn}
+use Rattle.scoop_model.proofs.Order.Facts.{IsGranted, IsGrantedIn, PartyFits, SiteFits, Ordered, all_found, all_more_of, all_pushed, all_set_site}
+use Rattle.scoop_model.proofs.Order.Handlers.{granted_set, granted_anew, sent_tells, state_anew}
+use Rattle.scoop_model.proofs.Order.Clients.{keeps_row}
+use Rattle.scoop_model.proofs.Order.Commands.{goes_on}
+
+-- ---- what is true
+
+-- the handler's mark of the client is at the incarnation or past it, as at a first block of that incarnation
+abbrev pub IsGreeted : World → HandlerId → ClientId → ℕ → Type 0
+IsGreeted w h c inc = IsGranted w h (block_named c inc 0)
+
+abbrev pub Greets : World → Message → Type 0
+Greets w (Hello h c inc) = inc ≤ inc_of w c
+Greets w (Welcome h c inc) = IsGreeted w h c inc
+Greets w (Lock h b) = ⊤
+Greets w (Locked h b) = ⊤
+Greets w (Busy h b) = ⊤
+Greets w (Open h b) = ⊤
+Greets w (Opened h b) = ⊤
+Greets w (Unlock h b) = ⊤
+Greets w (Unlocked h b) = ⊤
+Greets w (Log h b n es) = ⊤
+Greets w (Logged h b n) = ⊤
+Greets w (Answer h b n a) = ⊤
+
+-- the mark's incarnation isn't above its client's
+pub record IsMarkUpto (bound : ClientId → ℕ) (k : Mark) : Type 0 where
+  pub upto : k.inc ≤ bound k.client
+
+abbrev pub MarksUpto : World → Site → Type 0
+MarksUpto w s = AllByRecursion (IsMarkUpto (inc_of w)) s.core.state.marks
+
+pub record Greetings (w : World) : Type 0 where
+  pub messages : AllByRecursion (Greets w) w.sent
+  pub marks : AllByRecursion (MarksUpto w) w.sites
+
+-- ---- what goes on
+
+record Onward (v w : World) : Type 0 where
+  pub incs : (c : ClientId) → inc_of v c ≤ inc_of w c
+  pub granted : (h : HandlerId) (b : Block) → IsGranted v h b → IsGranted w h b
+
+module _ (v w : World) (x : Onward v w) where
+  greets_more : (m : Message) → Greets v m → Greets w m
+  greets_more (Hello h c inc) g = omega (arith, g, x.incs c)
+  greets_more (Welcome h c inc) g = x.granted h (block_named c inc 0) g
+  greets_more (Lock h b) g = tt
+  greets_more (Locked h b) g = tt
+  greets_more (Busy h b) g = tt
+  greets_more (Open h b) g = tt
+  greets_more (Opened h b) g = tt
+  greets_more (Unlock h b) g = tt
+  greets_more (Unlocked h b) g = tt
+  greets_more (Log h b n es) g = tt
+  greets_more (Logged h b n) g = tt
+  greets_more (Answer h b n a) g = tt
+
+  marks_more : (marks : List Mark) → AllByRecursion (IsMarkUpto (inc_of v)) marks → AllByRecursion (IsMarkUpto (inc_of w)) marks
+  marks_more marks all = all_more_of (IsMarkUpto (inc_of v)) (IsMarkUpto (inc_of w)) (λ k u. record { upto = omega (arith, u.upto, x.incs k.client) }) marks all
+
+  greetings_more : AllByRecursion (Greets v) w.sent → AllByRecursion (MarksUpto v) w.sites → Greetings w
+  greetings_more messages sites = record {
+    messages = all_more_of (Greets v) (Greets w) greets_more w.sent messages;
+    marks = all_more_of (MarksUpto v) (MarksUpto w) (λ s all. marks_more s.core.state.marks all) w.sites sites;
+  }
+
+-- ---- clients
+
+pub inc_there : (w : World) (c : ClientId) (p : Party) → party_of c w ≡ Some p → inc_of w (id_of p) ≡ p.client.inc
+inc_there w c p at = ap (inc_of w) (id_found c w p at) ∙ ap (λ o. option_map_or (λ q. q.client.inc) o 0) at
+
+-- one client's incarnation grows, or stays
+inc_set :
+    (w : World) (c : ClientId) (p q : Party) → party_of c w ≡ Some p → id_of q ≡ id_of p → p.client.inc ≤ q.client.inc
+    → (d : ClientId) → inc_of w d ≤ option_map_or (λ (y : Party). y.client.inc) (find (is_party d) (set_party q w.parties)) 0
+inc_set w c p q at same le d =
+    let own : c ≡ id_of q = sym (id_found c w p at) ∙ sym same in
+    by_party (λ o. inc_of w d ≤ option_map_or (λ (y : Party). y.client.inc) o 0) w q p d (subst (λ j. party_of j w ≡ Some p) own at)
+    (λ is.
+    let there : party_of d w ≡ Some p = ap (λ j. party_of j w) (sym is ∙ sym own) ∙ at in
+    subst (λ o. option_map_or (λ (y : Party). y.client.inc) o 0 ≤ q.client.inc) (sym there) le)
+    (λ apart. omega arith)
+
+owed_greets : (w : World) (r : ReservationState) (h : HandlerId) (m : Message) → OwedRow r h m → Greets w m
+owed_greets w r h m (asks at low) = tt
+owed_greets w r h m (opens at is) = tt
+owed_greets w r h m (unlocks at is) = tt
+owed_greets w r h m (gives_back at is) = tt
+
+due_greets : (w : World) (c : ClientId) (p : Party) (h : HandlerId) (o : Option Message) → party_of c w ≡ Some p → DueRow p.client h o → (m : Message) → o ≡ Some m → Greets w m
+due_greets w c p h o at owes_nothing m e = absurd (cc)
+due_greets w c p h o at (greets left) m e =
+    let same : Hello h p.client.id p.client.inc ≡ m = cc in
+    let is = inc_there w c p at in
+    subst (Greets w) same (omega (arith, is))
+due_greets w c p h o at (reserves r n greeted has_one owes) m e = owed_greets w r h m (owed_row r h m (owes ∙ e))
+due_greets w c p h o at (logs r l greeted has_one free opened line some) m e =
+    let same : Log l.handler r.block (l.acked + 1) (first_entries p.client.batch l.unacked) ≡ m = cc in
+    subst (Greets w) same tt
+
+-- one client's incarnation grows, or stays, and nothing is sent
+party_greets :
+    (w v : World) (c : ClientId) (p q : Party) → Greetings w → party_of c w ≡ Some p → id_of q ≡ id_of p → p.client.inc ≤ q.client.inc
+    → v.sites ≡ w.sites → v.sent ≡ w.sent → v.parties ≡ set_party q w.parties → Greetings v
+party_greets w v c p q i at same le sites sent parties =
+    greetings_more w v
+    (record {
+      incs = λ d. subst (λ ps. inc_of w d ≤ option_map_or (λ (y : Party). y.client.inc) (find (is_party d) ps) 0) (sym parties) (inc_set w c p q at same le d);
+      granted = λ h b g. subst (λ ss. IsGrantedIn (find (is_site h) ss) b) (sym sites) g;
+    })
+    (subst (λ ms. AllByRecursion (Greets w) ms) (sym sent) i.messages)
+    (subst (λ ss. AllByRecursion (MarksUpto w) ss) (sym sites) i.marks)
+
+-- ---- a handler hears
+
+heard_mark : (bound : ClientId → ℕ) (marks : List Mark) (c : ClientId) (k : Mark) → AllByRecursion (IsMarkUpto bound) marks → mark_of c marks ≡ Some k → IsMarkUpto bound k
+heard_mark bound marks c k all found = All-mark_of (IsMarkUpto bound) c marks k all found
+
+-- a new mark in the place of the client's, in the same incarnation
+block_mark : (bound : ClientId → ℕ) (s : HandlerState) (b : Block) (k : Mark) (stage : Stage) → AllByRecursion (IsMarkUpto bound) s.marks → IsHeardAt s b k → IsMarkUpto bound (fresh_mark b stage)
+block_mark bound s b k stage all at =
+    let u = (heard_mark bound s.marks b.client k all at.found).upto in
+    let own = ap bound (mark_of-client b.client s.marks k at.found) in
+    let inc = at.inc in
+    record { upto = omega (arith, u, own, inc) }
+
+set_upto : (bound : ClientId → ℕ) (k : Mark) (marks : List Mark) → IsMarkUpto bound k → AllByRecursion (IsMarkUpto bound) marks → AllByRecursion (IsMarkUpto bound) (set_mark k marks)
+set_upto bound k marks own all = All-set_mark (IsMarkUpto bound) (IsMarkUpto bound) k marks own (λ x apart u. u) all
+
+-- a Hello is of an incarnation within the bound
+abbrev HelloUpto : (ClientId → ℕ) → Message → Type 0
+HelloUpto bound m = (h : HandlerId) (c : ClientId) (inc : ℕ) → m ≡ Hello h c inc → inc ≤ bound c
+
+upto-row : (bound : ClientId → ℕ) (s : HandlerState) (m : Message) (h : Hearing) → Row s m h → HelloUpto bound m → AllByRecursion (IsMarkUpto bound) s.marks → AllByRecursion (IsMarkUpto bound) h.0.marks
+upto-row bound s m h (first_greeting x c inc here none room) hello all = All-add_mark (IsMarkUpto bound) (IsMarkUpto bound) (greeting_mark c inc) s.marks (record { upto = hello x c inc refl }) (λ y u. u) all
+upto-row bound s m h (newer_greeting x c inc k here found newer) hello all = set_upto bound (greeting_mark c inc) s.marks (record { upto = hello x c inc refl }) all
+upto-row bound s m h (lock_granted x b k here at new free clear) hello all = set_upto bound (fresh_mark b AtHeld) s.marks (block_mark bound s b k AtHeld all at) all
+upto-row bound s m h (open_granted x b k here at same held room) hello all = set_upto bound (opened_mark k) s.marks (record { upto = (heard_mark bound s.marks b.client k all at.found).upto }) all
+upto-row bound s m h (unlock_new x b k here at new clear) hello all = set_upto bound (fresh_mark b AtShut) s.marks (block_mark bound s b k AtShut all at) all
+upto-row bound s m h (unlock_holder x b k here at same holds) hello all = set_upto bound (without_hold k) s.marks (record { upto = (heard_mark bound s.marks b.client k all at.found).upto }) all
+upto-row bound s m h (log_taken x b n es k here at next goes_on room) hello all = set_upto bound (with_received _ _ k) s.marks (record { upto = (heard_mark bound s.marks b.client k all at.heard.found).upto }) all
+upto-row bound s m h r hello all = all
+
+-- a Welcome is of an incarnation that the handler's mark has reached, and no reply is a Hello
+abbrev GreetsBack : HandlerState → Option Message → Type 0
+GreetsBack s None = ⊤
+GreetsBack s (Some (Hello x c inc)) = ⊥
+GreetsBack s (Some (Welcome x c inc)) = (x ≡ s.number) × IsReachedIn s.marks (block_named c inc 0)
+GreetsBack s (Some (Lock x b)) = ⊤
+GreetsBack s (Some (Locked x b)) = ⊤
+GreetsBack s (Some (Busy x b)) = ⊤
+GreetsBack s (Some (Open x b)) = ⊤
+GreetsBack s (Some (Opened x b)) = ⊤
+GreetsBack s (Some (Unlock x b)) = ⊤
+GreetsBack s (Some (Unlocked x b)) = ⊤
+GreetsBack s (Some (Log x b n es)) = ⊤
+GreetsBack s (Some (Logged x b n)) = ⊤
+GreetsBack s (Some (Answer x b n a)) = ⊤
+
+reached_at : (marks : List Mark) (c : ClientId) (inc : ℕ) (k : Mark) → mark_of c marks ≡ Some k → k.inc ≡ inc → IsReachedIn marks (block_named c inc 0)
+reached_at marks c inc k found same = record { mark = k; found = found; upto = record { inc = omega (arith, same); num = λ e. omega arith } }
+
+back-row : (s : HandlerState) (m : Message) (h : Hearing) → Row s m h → GreetsBack h.0 h.1.reply
+back-row s m h (first_greeting x c inc here none room) = (refl, reached_at _ c inc (greeting_mark c inc) (mark_of-add_mark_own (greeting_mark c inc) s.marks none) refl)
+back-row s m h (newer_greeting x c inc k here found newer) = (refl, reached_at _ c inc (greeting_mark c inc) (mark_of-set_mark_own (greeting_mark c inc) k s.marks found) refl)
+back-row s m h (same_greeting x c inc k here found same) = (refl, reached_at s.marks c inc k found same)
+back-row s m h r = tt
+
+back_greets : (v : World) (s : Site) (o : Option Message) → site_of (number_of s) v ≡ Some s → GreetsBack s.core.state o → (m : Message) → o ≡ Some m → Greets v m
+back_greets v s None here t m e = absurd (cc)
+back_greets v s (Some n) here t m e = let same : n ≡ m = cc in subst (Greets v) same (told n t)
+  where
+    told : (n : Message) → GreetsBack s.core.state (Some n) → Greets v n
+    told (Hello h c inc) t = absurd t
+    told (Welcome h c inc) t = subst (λ j. IsGreeted v j c inc) (sym t.0) (record { site = s; found = here; reached = t.1 })
+    told (Lock h b) t = tt
+    told (Locked h b) t = tt
+    told (Busy h b) t = tt
+    told (Open h b) t = tt
+    told (Opened h b) t = tt
+    told (Unlock h b) t = tt
+    told (Unlocked h b) t = tt
+    told (Log h b n es) t = tt
+    told (Logged h b n) t = tt
+    told (Answer h b n a) t = tt
+
+hello_upto : (w : World) (m : Message) → Greets w m → HelloUpto (inc_of w) m
+hello_upto w m g h c inc same = subst (Greets w) same g
+
+-- one handler's marks go on
+module _ (w v : World) (i : Greetings w) (s old : Site) (here : site_of (number_of s) w ≡ Some old) (grows : MarksGrow old.core.state.marks s.core.state.marks) (parties : v.parties ≡ w.parties) (sites : v.sites ≡ set_site s w.sites) where
+  site_onward : Onward w v
+  site_onward = record {
+    incs = λ d. subst (λ ps. inc_of w d ≤ option_map_or (λ (y : Party). y.client.inc) (find (is_party d) ps) 0) (sym parties) (omega arith);
+    granted = λ h b g. subst (λ ss. IsGrantedIn (find (is_site h) ss) b) (sym sites) (granted_set w s old here grows h b g);
+  }
+
+  site_greets : MarksUpto w s → AllByRecursion (Greets v) v.sent → Greetings v
+  site_greets upto messages = record {
+    messages = messages;
+    marks = all_more_of (MarksUpto w) (MarksUpto v) (λ x all. marks_more w v site_onward x.core.state.marks all) v.sites
+        (subst (λ ss. AllByRecursion (MarksUpto w) ss) (sym sites) (all_set_site (MarksUpto w) (MarksUpto w) s w.sites upto (λ x all. all) i.marks));
+  }
+
+  old_greets : AllByRecursion (Greets v) w.sent
+  old_greets = all_more_of (Greets w) (Greets v) (greets_more w v site_onward) w.sent i.messages
+
+-- the site that is found for a handler is that of its own number
+pub place : (w : World) (h : HandlerId) (s : Site) → site_of h w ≡ Some s → site_of (number_of s) w ≡ Some s
+place w h s found = subst (λ j. site_of j w ≡ Some s) (sym (number_found h w s found)) found
+
+hears_greets : (w : World) → Greetings w → (k : ℕ) (m : Message) (s : Site) → sent_at k w ≡ Some m → site_of (handler_of m) w ≡ Some s → Greetings (heard_world w s (hear s.core.state m))
+hears_greets w i k m s was found =
+    let now : Hearing = hear s.core.state m in
+    let by = row s.core.state m in
+    let t : Site = heard_site s now in
+    let v : World = heard_world w s now in
+    let here : site_of (number_of t) w ≡ Some s = subst (λ j. site_of j w ≡ Some s) (sym (number-row s.core.state m now by)) (place w (handler_of m) s found) in
+    let grows = grows-row s.core.state m now by in
+    let there : site_of (number_of t) v ≡ Some t = by_site (λ q. q ≡ Some t) w t s (number_of t) here (λ same. refl) (λ apart. absurd (apart refl)) in
+    let was_greeted = sent_all w k m was (Greets w) i.messages in
+    site_greets w v i t s here grows refl refl
+    (upto-row (inc_of w) s.core.state m now by (hello_upto w m was_greeted) (all_found (MarksUpto w) (is_site (handler_of m)) w.sites s i.marks found))
+    (all_pushed (Greets v) w.sent now.1.reply (old_greets w v i t s here grows refl refl) (back_greets v t now.1.reply there (back-row s.core.state m now by)))
+
+-- ---- an entry runs, and a node restarts
+
+after_upto : (bound : ClientId → ℕ) (r : Ran) (marks : List Mark) → AllByRecursion (IsMarkUpto bound) marks → AllByRecursion (IsMarkUpto bound) (map (mark_after r) marks)
+after_upto bound r [] all = tt
+after_upto bound r (k ∷ ks) all = (record { upto = all.0.upto }, after_upto bound r ks all.1)
+
+upto_anew : (w : World) (n : ℕ) (sites : List Site) → AllByRecursion (SiteFits w.joint) sites → AllByRecursion (MarksUpto w) sites → AllByRecursion (MarksUpto w) (map (reopened n) sites)
+upto_anew w n [] fits all = tt
+upto_anew w n (s ∷ ss) fits all = (subst (λ (x : HandlerState). AllByRecursion (IsMarkUpto (inc_of w)) x.marks) (sym (state_anew w.joint n s fits.0)) all.0, upto_anew w n ss fits.1 all.1)
+
+-- ---- a client that was succeeded
+
+-- the handler has a mark of the block's client in a newer incarnation
+pub record IsPassed (w : World) (h : HandlerId) (b : Block) : Type 0 where
+  pub site : Site
+  pub found : site_of h w ≡ Some site
+  pub mark : Mark
+  pub marked : mark_of b.client site.core.state.marks ≡ Some mark
+  pub newer : b.inc < mark.inc
+
+both_true : (t u : Bool) → (t && u) ≡ true → (t ≡ true) × (u ≡ true)
+both_true true u e = (refl, e)
+both_true false u e = absurd (true≢false (sym e))
+
+welcome_passes : (w : World) (h : HandlerId) (b : Block) (m : Message) → Greets w m → is_newer_welcome h b m ≡ true → IsPassed w h b
+welcome_passes w h b (Welcome x c inc) g e =
+    let one = both_true (same_handler x h) _ e in
+    let two = both_true (same_client c b.client) (nat_lt b.inc inc) one.1 in
+    let at : x ≡ h = (handler_decides x h).0 one.0 in
+    let own : c ≡ b.client = (client_decides c b.client).0 two.0 in
+    let r = g.reached in
+    let up = r.upto.inc in
+    let lt : b.inc < inc = grind (arith, nat_tests) in
+    record {
+      site = g.site;
+      found = ap (λ j. site_of j w) (sym at) ∙ g.found;
+      mark = r.mark;
+      marked = ap (λ d. mark_of d g.site.core.state.marks) (sym own) ∙ r.found;
+      newer = omega (arith, up, lt);
+    }
+welcome_passes w h b (Hello x c inc) g e = absurd (true≢false (sym e))
+welcome_passes w h b (Lock x y) g e = absurd (true≢false (sym e))
+welcome_passes w h b (Locked x y) g e = absurd (true≢false (sym e))
+welcome_passes w h b (Busy x y) g e = absurd (true≢false (sym e))
+welcome_passes w h b (Open x y) g e = absurd (true≢false (sym e))
+welcome_passes w h b (Opened x y) g e = absurd (true≢false (sym e))
+welcome_passes w h b (Unlock x y) g e = absurd (true≢false (sym e))
+welcome_passes w h b (Unlocked x y) g e = absurd (true≢false (sym e))
+welcome_passes w h b (Log x y n es) g e = absurd (true≢false (sym e))
+welcome_passes w h b (Logged x y n) g e = absurd (true≢false (sym e))
+welcome_passes w h b (Answer x y n a) g e = absurd (true≢false (sym e))
+
+any_passes : (w : World) (h : HandlerId) (b : Block) (ms : List Message) → AllByRecursion (Greets w) ms → list_any (is_newer_welcome h b) ms ≡ true → IsPassed w h b
+any_passes w h b [] all e = absurd (true≢false (sym e))
+any_passes w h b (m ∷ ms) all e =
+    by_test (λ t. is_newer_welcome h b m ≡ t → (t || list_any (is_newer_welcome h b) ms) ≡ true → IsPassed w h b) (is_newer_welcome h b m)
+    (λ _ is f. welcome_passes w h b m all.0 is)
+    (λ _ is f. any_passes w h b ms all.1 f) refl e
+
+-- where a newer incarnation was welcomed, the handler's mark is of one
+pub succeeded_passed : (w : World) → Greetings w → (b : Block) (h : HandlerId) → is_succeeded b h w ≡ true → IsPassed w h b
+succeeded_passed w i b h e = any_passes w h b w.sent i.messages e
+
+-- and so is the client itself
+pub succeeded_inc : (w : World) → Greetings w → (b : Block) (h : HandlerId) → is_succeeded b h w ≡ true → b.inc < inc_of w b.client
+succeeded_inc w i b h e =
+    let p = succeeded_passed w i b h e in
+    let marks = p.site.core.state.marks in
+    let u = (All-mark_of (IsMarkUpto (inc_of w)) b.client marks p.mark (all_found (MarksUpto w) (is_site h) w.sites p.site i.marks p.found) p.marked).upto in
+    let own = ap (inc_of w) (mark_of-client b.client marks p.mark p.marked) in
+    let lt = p.newer in
+    omega (arith, u, own, lt)
+
+-- ---- all of it
+
+pub greetings_kept : (w : World) → Ordered w → Greetings w → Changes Greetings w
+greetings_kept w o i = record {
+  commands = λ c p x d at is. (
+      let g = goes_on w p x d is (all_found (PartyFits w) (is_party c) w.parties p o.parties at) in
+      party_greets w (commanded_world w p x d) c p (record p { client = d }) i at g.id (let e = g.inc in omega (arith, e)) refl refl refl);
+  sends = λ c p h s at here. record {
+    messages = all_pushed (Greets (with_sent w (due p.client h))) w.sent (due p.client h)
+        (all_more_of (Greets w) (Greets (with_sent w (due p.client h))) (greets_more w (with_sent w (due p.client h)) (record { incs = λ d. omega arith; granted = λ j b g. g })) w.sent i.messages)
+        (λ m e. greets_more w (with_sent w (due p.client h)) (record { incs = λ d. omega arith; granted = λ j b g. g }) m (due_greets w c p h (due p.client h) at (due_row p.client h) m e));
+    marks = i.marks;
+  };
+  hears = λ k m s was goes here. hears_greets w i k m s was here;
+  notices = λ k m p was goes at. (
+      let kept = keeps_row w p.client (all_found (PartyFits w) (is_party (client_of m)) w.parties p o.parties at).reservation m (heard p.client m).0 (heard p.client m).1 (heard_row p.client m) (sent_tells w k m was o.messages) in
+      party_greets w (with_party w (heard_party p (heard p.client m))) (client_of m) p (heard_party p (heard p.client m)) i at kept.id (let e = kept.inc in omega (arith, e)) refl refl refl);
+  begins = λ h s t here is.
+      site_greets w (with_site w (begun_site s)) i (begun_site s) s (place w h s here) (MarksGrow-same s.core.state.marks) refl refl
+      (all_found (MarksUpto w) (is_site h) w.sites s i.marks here)
+      (old_greets w (with_site w (begun_site s)) i (begun_site s) s (place w h s here) (MarksGrow-same s.core.state.marks) refl refl);
+  finishes = λ h s t here is.
+      site_greets w (with_site w (finished_site s t)) i (finished_site s t) s (place w h s here) (MarksGrow-after (ran_of t) s.core.state.marks) refl refl
+      (after_upto (inc_of w) (ran_of t) s.core.state.marks (all_found (MarksUpto w) (is_site h) w.sites s i.marks here))
+      (old_greets w (with_site w (finished_site s t)) i (finished_site s t) s (place w h s here) (MarksGrow-after (ran_of t) s.core.state.marks) refl refl);
+  restarts = λ c p at room. (
+      let stored = (all_found (PartyFits w) (is_party c) w.parties p o.parties at).stored in
+      party_greets w (with_party w (restarted_party p)) c p (restarted_party p) i at refl (omega (arith, stored)) refl refl refl);
+  reopens = λ n.
+      greetings_more w (reopened_world w n) (record { incs = λ d. omega arith; granted = λ h b. granted_anew w.joint n h b w.sites o.sites }) i.messages (upto_anew w n w.sites o.sites i.marks);
+}
+
+no_marks : (w : World) (ps : List Placement) → AllByRecursion (MarksUpto w) (map new_site ps)
+no_marks w [] = tt
+no_marks w (p ∷ ps) = (tt, no_marks w ps)
+
+pub opens_greetings : (ps : List Placement) (ns : List Newcomer) → Greetings (opening ps ns)
+opens_greetings ps ns = record { messages = tt; marks = no_marks (opening ps ns) ps }

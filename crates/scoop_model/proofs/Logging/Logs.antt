@@ -1,0 +1,204 @@
+-- What a command adds to the logs: entries behind those of its client's block, and nothing to the other blocks.
+use Rattle.std.proofs.Common.{◌≡◌, ◌⊎◌, inl, inr, true≢false, List, [], ◌∷◌, ◌++◌, map, find, Option, Some, None, refl, sym, ap, ◌∙◌, subst, append-nil}
+use Rattle.std.specs.Prelude.{if◌then◌else◌, unwrap_or}
+use Rattle.std.specs.Option.{option_map, option_map_or}
+use Rattle.scoop_message.specs.declared.name.Block.{Block}
+use Rattle.scoop_message.specs.declared.name.HandlerId.{HandlerId}
+use Rattle.scoop_message.specs.declared.request.Entry.{Entry}
+use Rattle.scoop_message.specs.declared.request.Entry.TheVariants.{End as EndEntry, Call as CallEntry, Query as QueryEntry}
+use Rattle.scoop_message.specs.Entries.{EndOnlyLast}
+use Rattle.scoop_message.specs.Message.{same_handler, same_block}
+use Rattle.scoop_message.proofs.Same.{handler_decides, block_decides}
+use Rattle.scoop_model.specs.declared.event.Command.{Command}
+use Rattle.scoop_model.specs.declared.event.Command.TheVariants.{Reserve, Call, Query, End, GiveUp}
+use Rattle.scoop_model.specs.World.{HandlerLog, BlockLog, is_log_of, is_line_of, handlers_in, lines_of}
+use Rattle.scoop_model.specs.Step.{fresh_log, with_entry, with_entry_at, changed_log, logs_after}
+use Rattle.scoop_model.proofs.Basics.{by_test}
+use Rattle.scoop_model.proofs.Keys.{key_found}
+use Rattle.scoop_model.proofs.Order.Sets.{LeavesHandler, leaves_at}
+
+-- what the block's client logged for the handler, among these logs
+abbrev pub log_in : Block → HandlerId → List BlockLog → List Entry
+log_in b h logs = unwrap_or (option_map (λ l. l.entries) (find (is_line_of h) (lines_of b logs))) []
+
+-- the entries that a command logs at a handler of its client's block
+abbrev pub added : Command → HandlerId → List Entry
+added (Reserve hs) h = []
+added (Call k r) h = if same_handler h k then CallEntry r ∷ [] else []
+added (Query k r) h = if same_handler h k then QueryEntry r ∷ [] else []
+added End h = EndEntry ∷ []
+added GiveUp h = []
+
+-- ---- a change of one block's lines
+
+-- the change puts these entries behind those of the handler
+abbrev Adds : (HandlerLog → HandlerLog) → HandlerId → List Entry → Type 0
+Adds f h es = (l : HandlerLog) → l.handler ≡ h → (f l).entries ≡ l.entries ++ es
+
+adds_at : (k : HandlerId) (e : Entry) (h : HandlerId) → Adds (with_entry_at k e) h (if same_handler h k then e ∷ [] else [])
+adds_at k e h l own =
+    subst (λ j. (with_entry_at k e l).entries ≡ l.entries ++ (if same_handler j k then e ∷ [] else [])) own
+    (by_test (λ t. (if t then with_entry e l else l).entries ≡ l.entries ++ (if t then e ∷ [] else [])) (same_handler l.handler k)
+    (λ here. refl)
+    (λ there. sym (append-nil l.entries)))
+
+line_changed : (h : HandlerId) (f : HandlerLog → HandlerLog) → LeavesHandler f → (ls : List HandlerLog) → find (is_line_of h) (map f ls) ≡ option_map f (find (is_line_of h) ls)
+line_changed h f keeps [] = refl
+line_changed h f keeps (l ∷ ls) =
+    let rest = find (is_line_of h) (map f ls) in
+    subst (λ j. (if same_handler j h then Some (f l) else rest) ≡ option_map f (if is_line_of h l then Some l else find (is_line_of h) ls)) (sym (keeps l))
+    (by_test (λ t. (if t then Some (f l) else rest) ≡ option_map f (if t then Some l else find (is_line_of h) ls)) (is_line_of h l)
+    (λ here. refl)
+    (λ there. line_changed h f keeps ls))
+
+abbrev lines_in : Option BlockLog → List HandlerLog
+lines_in o = option_map_or (λ l. l.lines) o []
+
+lines_here : (b : Block) (f : HandlerLog → HandlerLog) (logs : List BlockLog) → lines_of b (map (changed_log b f) logs) ≡ map f (lines_of b logs)
+lines_here b f [] = refl
+lines_here b f (l ∷ ls) =
+    let rest = find (is_log_of b) (map (changed_log b f) ls) in
+    let m : BlockLog = record { block = l.block; lines = map f l.lines } in
+    by_test
+    (λ t. is_log_of b l ≡ t
+    → lines_in (if is_log_of b (if t then m else l) then Some (if t then m else l) else rest) ≡ map f (lines_in (if t then Some l else find (is_log_of b) ls)))
+    (is_log_of b l)
+    (λ here is. ap (λ u. lines_in (if u then Some m else rest)) is)
+    (λ there is. ap (λ u. lines_in (if u then Some l else rest)) is ∙ lines_here b f ls) refl
+
+lines_other : (c b : Block) (f : HandlerLog → HandlerLog) (logs : List BlockLog) → (c ≡ b → ⊥) → lines_of b (map (changed_log c f) logs) ≡ lines_of b logs
+lines_other c b f [] apart = refl
+lines_other c b f (l ∷ ls) apart =
+    let rest = find (is_log_of b) (map (changed_log c f) ls) in
+    let m : BlockLog = record { block = l.block; lines = map f l.lines } in
+    by_test
+    (λ t. is_log_of c l ≡ t
+    → lines_in (if is_log_of b (if t then m else l) then Some (if t then m else l) else rest) ≡ lines_in (if is_log_of b l then Some l else find (is_log_of b) ls))
+    (is_log_of c l)
+    (λ here is.
+    by_test (λ u. is_log_of b l ≡ u → lines_in (if u then Some m else rest) ≡ lines_in (if u then Some l else find (is_log_of b) ls)) (is_log_of b l)
+    (λ both so. absurd (apart (sym ((block_decides l.block c).0 is) ∙ (block_decides l.block b).0 so)))
+    (λ one so. lines_other c b f ls apart) refl)
+    (λ there is.
+    by_test (λ u. lines_in (if u then Some l else rest) ≡ lines_in (if u then Some l else find (is_log_of b) ls)) (is_log_of b l)
+    (λ both. refl)
+    (λ one. lines_other c b f ls apart)) refl
+
+-- ---- what a change makes of a log
+
+abbrev entries_in : Option HandlerLog → List Entry
+entries_in o = unwrap_or (option_map (λ l. l.entries) o) []
+
+-- the block has a line for the handler
+pub record HasLine (b : Block) (h : HandlerId) (logs : List BlockLog) : Type 0 where
+  pub line : HandlerLog
+  pub found : find (is_line_of h) (lines_of b logs) ≡ Some line
+
+-- the entries come behind those that were there
+abbrev pub GrowsBy : Block → HandlerId → List BlockLog → List BlockLog → List Entry → Type 0
+GrowsBy b h old new es = log_in b h new ≡ log_in b h old ++ es
+
+changed_here : (b : Block) (h : HandlerId) (f : HandlerLog → HandlerLog) (es : List Entry) (logs : List BlockLog) → LeavesHandler f → Adds f h es → HasLine b h logs → GrowsBy b h logs (map (changed_log b f) logs) es
+changed_here b h f es logs keeps adds has =
+    let l = has.line in
+    let own = key_found (λ (x : HandlerLog). x.handler) same_handler handler_decides h (lines_of b logs) l has.found in
+    ap (λ ls. entries_in (find (is_line_of h) ls)) (lines_here b f logs)
+    ∙ ap entries_in (line_changed h f keeps (lines_of b logs) ∙ ap (option_map f) has.found)
+    ∙ adds l own
+    ∙ ap (λ o. entries_in o ++ es) (sym has.found)
+
+changed_nowhere : (b : Block) (h : HandlerId) (f : HandlerLog → HandlerLog) (logs : List BlockLog) → LeavesHandler f → find (is_line_of h) (lines_of b logs) ≡ None → log_in b h (map (changed_log b f) logs) ≡ log_in b h logs
+changed_nowhere b h f logs keeps none =
+    ap (λ ls. entries_in (find (is_line_of h) ls)) (lines_here b f logs)
+    ∙ ap entries_in (line_changed h f keeps (lines_of b logs) ∙ ap (option_map f) none)
+    ∙ ap entries_in (sym none)
+
+changed_other : (c b : Block) (h : HandlerId) (f : HandlerLog → HandlerLog) (logs : List BlockLog) → (c ≡ b → ⊥) → log_in b h (map (changed_log c f) logs) ≡ log_in b h logs
+changed_other c b h f logs apart = ap (λ ls. entries_in (find (is_line_of h) ls)) (lines_other c b f logs apart)
+
+-- ---- a reserve
+
+fresh_empty : (h : HandlerId) (hs : List HandlerId) → entries_in (find (is_line_of h) (map fresh_log hs)) ≡ []
+fresh_empty h [] = refl
+fresh_empty h (k ∷ ks) = by_test (λ t. entries_in (if t then Some (fresh_log k) else find (is_line_of h) (map fresh_log ks)) ≡ []) (same_handler k h) (λ here. refl) (λ there. fresh_empty h ks)
+
+-- a new block has logged nothing
+pub reserved_same : (hs : List HandlerId) (c b : Block) (h : HandlerId) (logs : List BlockLog) → log_in b h (logs_after (Reserve hs) c logs) ≡ log_in b h logs
+reserved_same hs c b h [] =
+    by_test (λ t. entries_in (find (is_line_of h) (lines_in (if t then Some (record { block = c; lines = map fresh_log hs }) else None))) ≡ []) (same_block c b)
+    (λ here. fresh_empty h hs)
+    (λ there. refl)
+reserved_same hs c b h (l ∷ ls) =
+    by_test (λ t. entries_in (find (is_line_of h) (lines_in (if t then Some l else find (is_log_of b) (logs_after (Reserve hs) c ls)))) ≡ entries_in (find (is_line_of h) (lines_in (if t then Some l else find (is_log_of b) ls)))) (is_log_of b l)
+    (λ here. refl)
+    (λ there. reserved_same hs c b h ls)
+
+-- a block that was never reserved has no log
+pub unreserved_empty : (b : Block) (h : HandlerId) (logs : List BlockLog) → option_map handlers_in (find (is_log_of b) logs) ≡ None → log_in b h logs ≡ []
+unreserved_empty b h logs none = from (find (is_log_of b) logs) none
+  where
+    from : (o : Option BlockLog) → option_map handlers_in o ≡ None → entries_in (find (is_line_of h) (lines_in o)) ≡ []
+    from None e = refl
+    from (Some l) e = absurd (cc)
+
+-- a block's lines are of the handlers that its reserve named
+pub named_lines : (b : Block) (logs : List BlockLog) (hs : List HandlerId) → option_map handlers_in (find (is_log_of b) logs) ≡ Some hs → map (λ (x : HandlerLog). x.handler) (lines_of b logs) ≡ hs
+named_lines b logs hs named = from (find (is_log_of b) logs) named
+  where
+    from : (o : Option BlockLog) → option_map handlers_in o ≡ Some hs → map (λ (x : HandlerLog). x.handler) (lines_in o) ≡ hs
+    from None e = absurd (cc)
+    from (Some l) e = cc
+
+-- ---- a command
+
+-- the log of another block stays
+pub log_other : (x : Command) (c b : Block) (h : HandlerId) (logs : List BlockLog) → (c ≡ b → ⊥) → log_in b h (logs_after x c logs) ≡ log_in b h logs
+log_other (Reserve hs) c b h logs apart = reserved_same hs c b h logs
+log_other (Call k r) c b h logs apart = changed_other c b h (with_entry_at k (CallEntry r)) logs apart
+log_other (Query k r) c b h logs apart = changed_other c b h (with_entry_at k (QueryEntry r)) logs apart
+log_other End c b h logs apart = changed_other c b h (with_entry EndEntry) logs apart
+log_other GiveUp c b h logs apart = refl
+
+-- the block's log has the command's entries behind its own
+pub log_here : (x : Command) (b : Block) (h : HandlerId) (logs : List BlockLog) → HasLine b h logs → GrowsBy b h logs (logs_after x b logs) (added x h)
+log_here (Reserve hs) b h logs has = reserved_same hs b b h logs ∙ sym (append-nil (log_in b h logs))
+log_here (Call k r) b h logs has = changed_here b h (with_entry_at k (CallEntry r)) (added (Call k r) h) logs (leaves_at k (CallEntry r)) (adds_at k (CallEntry r) h) has
+log_here (Query k r) b h logs has = changed_here b h (with_entry_at k (QueryEntry r)) (added (Query k r) h) logs (leaves_at k (QueryEntry r)) (adds_at k (QueryEntry r) h) has
+log_here End b h logs has = changed_here b h (with_entry EndEntry) (EndEntry ∷ []) logs (λ l. refl) (λ l own. refl) has
+log_here GiveUp b h logs has = sym (append-nil (log_in b h logs))
+
+-- a handler without a line has no log
+log_nowhere : (x : Command) (b : Block) (h : HandlerId) (logs : List BlockLog) → find (is_line_of h) (lines_of b logs) ≡ None → log_in b h (logs_after x b logs) ≡ log_in b h logs
+log_nowhere (Reserve hs) b h logs none = reserved_same hs b b h logs
+log_nowhere (Call k r) b h logs none = changed_nowhere b h (with_entry_at k (CallEntry r)) logs (leaves_at k (CallEntry r)) none
+log_nowhere (Query k r) b h logs none = changed_nowhere b h (with_entry_at k (QueryEntry r)) logs (leaves_at k (QueryEntry r)) none
+log_nowhere End b h logs none = changed_nowhere b h (with_entry EndEntry) logs (λ l. refl) none
+log_nowhere GiveUp b h logs none = refl
+
+-- the block's line at the handler has the command's entries behind its own
+pub record IsAdded (x : Command) (c b : Block) (h : HandlerId) (logs : List BlockLog) : Type 0 where
+  pub block : c ≡ b
+  pub line : HasLine b h logs
+  pub grows : GrowsBy b h logs (logs_after x c logs) (added x h)
+
+-- none of a command's entries but the last is an End
+pub added_last : (x : Command) (h : HandlerId) → EndOnlyLast (added x h)
+added_last (Reserve hs) h = refl
+added_last (Call k r) h = by_test (λ t. EndOnlyLast (if t then CallEntry r ∷ [] else [])) (same_handler h k) (λ here. refl) (λ there. refl)
+added_last (Query k r) h = by_test (λ t. EndOnlyLast (if t then QueryEntry r ∷ [] else [])) (same_handler h k) (λ here. refl) (λ there. refl)
+added_last End h = refl
+added_last GiveUp h = refl
+
+-- any log stays, or has the command's entries behind its own
+pub log_after : (x : Command) (c b : Block) (h : HandlerId) (logs : List BlockLog) → (log_in b h (logs_after x c logs) ≡ log_in b h logs) ⊎ IsAdded x c b h logs
+log_after x c b h logs =
+    by_test (λ t. same_block c b ≡ t → (log_in b h (logs_after x c logs) ≡ log_in b h logs) ⊎ IsAdded x c b h logs) (same_block c b)
+    (λ _ is.
+    let same : c ≡ b = (block_decides c b).0 is in
+    subst (λ d. (log_in b h (logs_after x d logs) ≡ log_in b h logs) ⊎ IsAdded x d b h logs) (sym same) (at_line (find (is_line_of h) (lines_of b logs)) refl))
+    (λ _ is. inl (log_other x c b h logs (λ same. true≢false (sym ((block_decides c b).1 same) ∙ is))))
+    refl
+  where
+    at_line : (o : Option HandlerLog) → find (is_line_of h) (lines_of b logs) ≡ o → (log_in b h (logs_after x b logs) ≡ log_in b h logs) ⊎ IsAdded x b b h logs
+    at_line None none = inl (log_nowhere x b h logs none)
+    at_line (Some l) is = let has : HasLine b h logs = record { line = l; found = is } in inr (record { block = refl; line = has; grows = log_here x b h logs has })

@@ -1,0 +1,310 @@
+-- What a handler does keeps what is told of openings.
+use Rattle.std.proofs.Common.{◌≡◌, inl, ℕ, ◌==◌, ◌||◌, true, false, true≢false, IsFalse, List, [], ◌∷◌, ◌++◌, map, find, Option, Some, None, refl, sym, ap, ◌∙◌, subst, ⊎_elim, append-nil}
+use Rattle.std.specs.Prelude.{if◌then◌else◌, ⊤, option_to_list}
+use Rattle.std.specs.List.{AllByRecursion}
+use Rattle.std.specs.Option.{option_map_or}
+use Rattle.scoop_message.specs.declared.name.Block.{Block}
+use Rattle.scoop_message.specs.declared.name.HandlerId.{HandlerId}
+use Rattle.scoop_message.specs.declared.message.Message.{Message}
+use Rattle.scoop_message.specs.declared.message.Message.TheVariants.{Hello, Welcome, Lock, Locked, Busy, Open, Opened, Unlock, Unlocked, Log, Logged, Answer}
+use Rattle.scoop_message.specs.Message.{handler_of, is_for_handler, same_block, same_handler}
+use Rattle.scoop_handler.specs.declared.mark.Mark.{Mark}
+use Rattle.scoop_handler.specs.declared.mark.Stage.{Stage}
+use Rattle.scoop_handler.specs.declared.mark.Stage.TheVariants.{Held as AtHeld, Open as AtOpen, Shut as AtShut}
+use Rattle.scoop_handler.specs.declared.note.Note.{Note}
+use Rattle.scoop_handler.specs.declared.note.Note.TheVariants.{Greeted, Granted, Held, Opened as OpenedNote, Freed, Took, Known, Dropped}
+use Rattle.scoop_handler.specs.declared.ran.Ran.{Ran}
+use Rattle.scoop_handler.specs.Marks.{block_of, fresh_mark, is_held, opened_mark, set_mark, with_received, without_hold}
+use Rattle.scoop_handler.specs.State.{HandlerState}
+use Rattle.scoop_handler.specs.Core.{core_of}
+use Rattle.scoop_handler.specs.Hearing.{Hearing, greeting_mark, hear}
+use Rattle.scoop_handler.specs.Running.{Task, mark_after, ran_of}
+use Rattle.scoop_handler.specs.Replies.{HasEntries}
+use Rattle.scoop_handler.specs.Rows.{Row, first_greeting, newer_greeting, lock_granted, open_granted, open_again, unlock_new, unlock_holder, log_taken}
+use Rattle.scoop_handler.proofs.MarkLists.{All-mark_of, All-set_mark, All-add_mark}
+use Rattle.scoop_handler.proofs.TableRows.{row}
+use Rattle.scoop_handler.proofs.TableLaws.{block_of-same, number-row, replies-row}
+use Rattle.scoop_model.specs.World.{World, Site, number_of, has_block, is_site, opened_at, sent_at, set_site, site_of}
+use Rattle.scoop_model.specs.Step.{newly_opened, heard_site, heard_world, with_site, begun_site, finished_site, reopened, reopened_world}
+use Rattle.scoop_model.proofs.Basics.{by_test}
+use Rattle.scoop_model.proofs.Keys.{by_site}
+use Rattle.scoop_model.proofs.Order.Lists.{in_last, in_pushed}
+use Rattle.scoop_model.proofs.Order.Holding.{hears_row}
+use Rattle.scoop_model.proofs.Order.Facts.{IsNamed, SiteFits, all_found, all_more_of, all_pushed, all_set_site}
+use Rattle.scoop_model.proofs.Order.Handlers.{state_anew}
+use Rattle.scoop_model.proofs.Sound.Facts.{Sound}
+use Rattle.scoop_model.proofs.Sound.Steps.{sent_all}
+use Rattle.scoop_model.proofs.Logging.Greetings.{place}
+use Rattle.scoop_model.proofs.Logging.Openings.{IsOpenedAt, IsMarkOpened, SiteOpened, Shows, Onto, Openings, is_open_of, logs_more, named_more, none_pushed, reservation_more, shows_more, site_more}
+
+-- ---- the marks
+
+module _ (bs new : List Block) (more : (b : Block) → has_block bs b ≡ true → has_block new b ≡ true) where
+  -- a mark of a block that has opened, at the same block and stage
+  mark_stays : (k x : Mark) → block_of x ≡ block_of k → (x.stage ≡ AtOpen → k.stage ≡ AtOpen) → IsMarkOpened bs k → IsMarkOpened new x
+  mark_stays k x same stage o = record { opened = λ e. subst (λ b. has_block new b ≡ true) (sym same) (more (block_of k) (o.opened (stage e))) }
+
+  others_stay : (x : Mark) → IsMarkOpened bs x → IsMarkOpened new x
+  others_stay x = mark_stays x x refl (λ e. e)
+
+  not_open : (k : Mark) → (k.stage ≡ AtOpen → ⊥) → IsMarkOpened new k
+  not_open k shut = record { opened = λ e. absurd (shut e) }
+
+  set_opened : (k : Mark) (marks : List Mark) → IsMarkOpened new k → AllByRecursion (IsMarkOpened bs) marks → AllByRecursion (IsMarkOpened new) (set_mark k marks)
+  set_opened k marks own all = All-set_mark (IsMarkOpened bs) (IsMarkOpened new) k marks own (λ x apart. others_stay x) all
+
+  shut_not_open : AtShut ≡ AtOpen → ⊥
+  shut_not_open e = cc
+
+  held_not_open : AtHeld ≡ AtOpen → ⊥
+  held_not_open e = cc
+
+  was_open : (stage : Stage) → (if is_held stage then AtShut else stage) ≡ AtOpen → stage ≡ AtOpen
+  was_open AtHeld e = absurd (shut_not_open e)
+  was_open AtOpen e = refl
+  was_open AtShut e = e
+
+  -- the blocks of open marks have opened, where that of a new one has
+  pub marks-row : (s : HandlerState) (m : Message) (h : Hearing) → Row s m h → ((b : Block) → h.1.note ≡ OpenedNote b → has_block new b ≡ true) → AllByRecursion (IsMarkOpened bs) s.marks → AllByRecursion (IsMarkOpened new) h.0.marks
+  marks-row s m h (first_greeting x c inc here none room) opens all = All-add_mark (IsMarkOpened bs) (IsMarkOpened new) (greeting_mark c inc) s.marks (not_open (greeting_mark c inc) shut_not_open) others_stay all
+  marks-row s m h (newer_greeting x c inc k here found newer) opens all = set_opened (greeting_mark c inc) s.marks (not_open (greeting_mark c inc) shut_not_open) all
+  marks-row s m h (lock_granted x b k here at newer free clear) opens all = set_opened (fresh_mark b AtHeld) s.marks (not_open (fresh_mark b AtHeld) held_not_open) all
+  marks-row s m h (open_granted x b k here at same was room) opens all =
+      set_opened (opened_mark k) s.marks (record { opened = λ e. subst (λ y. has_block new y ≡ true) (sym (block_of-same s b k at same)) (opens b refl) }) all
+  marks-row s m h (unlock_new x b k here at newer clear) opens all = set_opened (fresh_mark b AtShut) s.marks (not_open (fresh_mark b AtShut) shut_not_open) all
+  marks-row s m h (unlock_holder x b k here at same holds) opens all =
+      set_opened (without_hold k) s.marks (mark_stays k (without_hold k) refl (was_open k.stage) (All-mark_of (IsMarkOpened bs) b.client s.marks k all at.found)) all
+  marks-row s m h (log_taken x b n es k here at next goes_on room) opens all =
+      let old = All-mark_of (IsMarkOpened bs) b.client s.marks k all at.heard.found in
+      set_opened (with_received _ _ k) s.marks (mark_stays k (with_received _ _ k) refl (λ e. e) old) all
+  marks-row s m h r opens all = all_more_of (IsMarkOpened bs) (IsMarkOpened new) others_stay s.marks all
+
+  -- an Opened is of a block that has opened here, and no Open, Unlock or Log is a reply
+  abbrev ShowsBack : HandlerState → Option Message → Type 0
+  ShowsBack s None = ⊤
+  ShowsBack s (Some (Hello x c inc)) = ⊤
+  ShowsBack s (Some (Welcome x c inc)) = ⊤
+  ShowsBack s (Some (Lock x b)) = ⊤
+  ShowsBack s (Some (Locked x b)) = ⊤
+  ShowsBack s (Some (Busy x b)) = ⊤
+  ShowsBack s (Some (Open x b)) = ⊥
+  ShowsBack s (Some (Opened x b)) = (x ≡ s.number) × (has_block new b ≡ true)
+  ShowsBack s (Some (Unlock x b)) = ⊥
+  ShowsBack s (Some (Unlocked x b)) = ⊤
+  ShowsBack s (Some (Log x b n es)) = ⊥
+  ShowsBack s (Some (Logged x b n)) = ⊤
+  ShowsBack s (Some (Answer x b n a)) = ⊤
+
+  back-row : (s : HandlerState) (m : Message) (h : Hearing) → Row s m h → ((b : Block) → h.1.note ≡ OpenedNote b → has_block new b ≡ true) → AllByRecursion (IsMarkOpened bs) s.marks → ShowsBack h.0 h.1.reply
+  back-row s m h (open_granted x b k here at same was room) opens all = (refl, opens b refl)
+  back-row s m h (open_again x b k here at same was) opens all =
+      (refl, more b (subst (λ y. has_block bs y ≡ true) (block_of-same s b k at same) ((All-mark_of (IsMarkOpened bs) b.client s.marks k all at.found).opened was)))
+  back-row s m h r opens all = tt
+
+  back_shows : (v : World) (s : Site) (o : Option Message) → site_of (number_of s) v ≡ Some s → s.opened ≡ new → ShowsBack s.core.state o → (m : Message) → o ≡ Some m → Shows v m
+  back_shows v s None here is t m e = absurd (cc)
+  back_shows v s (Some n) here is t m e = let same : n ≡ m = cc in subst (Shows v) same (told n t)
+    where
+      told : (n : Message) → ShowsBack s.core.state (Some n) → Shows v n
+      told (Hello h c inc) t = tt
+      told (Welcome h c inc) t = tt
+      told (Lock h b) t = tt
+      told (Locked h b) t = tt
+      told (Busy h b) t = tt
+      told (Open h b) t = absurd t
+      told (Opened h b) t =
+          ap (λ j. has_block (opened_at j v) b) t.0 ∙ ap (λ o. has_block (option_map_or (λ x. x.opened) o []) b) here ∙ ap (λ bs. has_block bs b) is ∙ t.1
+      told (Unlock h b) t = absurd t
+      told (Unlocked h b) t = tt
+      told (Log h b n es) t = absurd t
+      told (Logged h b n) t = tt
+      told (Answer h b n a) t = tt
+
+-- ---- the sites of a world, once one of them goes on
+
+abbrev pub OpenedMore : Site → Site → Type 0
+OpenedMore old s = (b : Block) → has_block old.opened b ≡ true → has_block s.opened b ≡ true
+
+opened_set :
+    (w : World) (s old : Site) → site_of (number_of s) w ≡ Some old → OpenedMore old s → (h : HandlerId) (b : Block) → IsOpenedAt w h b
+    → has_block (option_map_or (λ (x : Site). x.opened) (find (is_site h) (set_site s w.sites)) []) b ≡ true
+opened_set w s old here more h b o =
+    by_site (λ q. has_block (option_map_or (λ (x : Site). x.opened) q []) b ≡ true) w s old h here
+    (λ same. more b (ap (λ q. has_block (option_map_or (λ (x : Site). x.opened) q []) b) (sym here ∙ ap (λ j. site_of j w) same) ∙ o))
+    (λ apart. o)
+
+-- a reply is no Open
+no_open : (b : Block) (m : Message) → IsFalse (is_for_handler m) → is_open_of b m ≡ false
+no_open b (Open h y) back = absurd (true≢false back)
+no_open b m back = refl
+
+-- one handler goes on, and perhaps replies
+module _ (w : World) (i : Openings w) (s old : Site) (here : site_of (number_of s) w ≡ Some old) (more : OpenedMore old s) (o : Option Message) (js : List Block) (quiet : (b : Block) (m : Message) → o ≡ Some m → is_open_of b m ≡ false) where
+  abbrev after : World
+  after = record w { sites = set_site s w.sites; sent = w.sent ++ option_to_list o; joint = js }
+
+  site_onto : Onto w after
+  site_onto = record {
+    sets = λ b hs e. e;
+    opened = opened_set w s old here more;
+    given_up = λ b g. record { handlers = g.handlers; set = g.set; none = none_pushed b w.sent o g.none (quiet b); left = g.left };
+  }
+
+  site_goes_on : SiteOpened after s → ((m : Message) → o ≡ Some m → Shows after m) → Openings after
+  site_goes_on own new = record {
+    messages = all_pushed (Shows after) w.sent o (all_more_of (Shows w) (Shows after) (shows_more w after site_onto) w.sent i.messages) new;
+    logs = logs_more w after site_onto (λ b h. inl refl) i.logs;
+    sites = all_set_site (SiteOpened w) (SiteOpened after) s w.sites own (site_more w after site_onto) i.sites;
+    parties = λ c p at r held. reservation_more w after site_onto r (λ none. none_pushed r.block w.sent o none (quiet r.block)) (i.parties c p at r held);
+  }
+
+-- ---- a handler hears
+
+in_front : (bs new : List Block) (b : Block) → has_block bs b ≡ true → has_block (bs ++ new) b ≡ true
+in_front [] new b e = absurd (true≢false (sym e))
+in_front (y ∷ ys) new b e =
+    by_test (λ t. (t || has_block ys b) ≡ true → (t || has_block (ys ++ new) b) ≡ true) (same_block y b)
+    (λ same _. refl)
+    (λ other f. in_front ys new b f) e
+
+module _ (w : World) (sound : Sound w) (i : Openings w) (k : ℕ) (m : Message) (s : Site) (was : sent_at k w ≡ Some m) (found : site_of (handler_of m) w ≡ Some s) where
+  abbrev now : Hearing
+  now = hear s.core.state m
+
+  abbrev later : Site
+  later = heard_site s now
+
+  abbrev heard_after : World
+  heard_after = heard_world w s now
+
+  old_site : SiteOpened w s
+  old_site = all_found (SiteOpened w) (is_site (handler_of m)) w.sites s i.sites found
+
+  same_number : now.0.number ≡ s.core.state.number
+  same_number = number-row s.core.state m now (row s.core.state m)
+
+  still_here : site_of (number_of later) w ≡ Some s
+  still_here = subst (λ j. site_of j w ≡ Some s) (sym same_number) (place w (handler_of m) s found)
+
+  new_block : (b : Block) → now.1.note ≡ OpenedNote b → has_block later.opened b ≡ true
+  new_block b e = subst (λ n. has_block (s.opened ++ newly_opened n) b ≡ true) (sym e) (in_last s.opened b)
+
+  same_opened : (b : Block) → has_block (s.opened ++ []) b ≡ true → has_block s.opened b ≡ true
+  same_opened b has = subst (λ bs. has_block bs b ≡ true) (append-nil s.opened) has
+
+  by_note : (told : Note) → now.1.note ≡ told → (b : Block) → has_block (s.opened ++ newly_opened told) b ≡ true → IsNamed w (number_of s) b
+  by_note (OpenedNote y) e b has =
+      ⊎_elim
+      (λ (same : y ≡ b).
+      let asks = ((hears_row s.core.state m now (row s.core.state m)).opens y e).asks in
+      subst (λ z. IsNamed w (number_of s) z) same (subst (Shows w) asks (sent_all w k m was (Shows w) i.messages)))
+      (λ (old : has_block s.opened b ≡ true). old_site.named b old)
+      (in_pushed s.opened y b has)
+  by_note Greeted e b has = old_site.named b (same_opened b has)
+  by_note Granted e b has = old_site.named b (same_opened b has)
+  by_note Held e b has = old_site.named b (same_opened b has)
+  by_note Freed e b has = old_site.named b (same_opened b has)
+  by_note (Took n) e b has = old_site.named b (same_opened b has)
+  by_note Known e b has = old_site.named b (same_opened b has)
+  by_note (Dropped why) e b has = old_site.named b (same_opened b has)
+
+  pub reply_quiet : (b : Block) (reply : Message) → now.1.reply ≡ Some reply → is_open_of b reply ≡ false
+  reply_quiet b reply e = no_open b reply (replies-row s.core.state m now (row s.core.state m) (sent_all w k m was HasEntries sound.messages) reply e).to_client
+
+  more_opened : OpenedMore s later
+  more_opened b e = in_front s.opened (newly_opened now.1.note) b e
+
+  pub now_onto : Onto w heard_after
+  now_onto = site_onto w i later s still_here more_opened now.1.reply heard_after.joint reply_quiet
+
+  pub hears_openings : Openings heard_after
+  hears_openings =
+      site_goes_on w i later s still_here more_opened now.1.reply heard_after.joint reply_quiet
+      (record {
+        named = λ b has. named_more w heard_after now_onto (number_of later) b (subst (λ j. IsNamed w j b) (sym same_number) (by_note now.1.note refl b has));
+        marks = marks-row s.opened later.opened more_opened s.core.state m now (row s.core.state m) new_block old_site.marks;
+      })
+      (back_shows s.opened later.opened more_opened heard_after later now.1.reply there refl (back-row s.opened later.opened more_opened s.core.state m now (row s.core.state m) new_block old_site.marks))
+    where
+      there : site_of (number_of later) heard_after ≡ Some later
+      there = by_site (λ q. q ≡ Some later) w later s (number_of later) still_here (λ same. refl) (λ apart. absurd (apart refl))
+
+-- ---- an entry runs
+
+module _ (w : World) (i : Openings w) (h : HandlerId) (s : Site) (found : site_of h w ≡ Some s) where
+  nothing_sent : (b : Block) (m : Message) → None ≡ Some m → is_open_of b m ≡ false
+  nothing_sent b m e = absurd (cc)
+
+  own_site : SiteOpened w s
+  own_site = all_found (SiteOpened w) (is_site h) w.sites s i.sites found
+
+  -- the handler goes on with the blocks that opened at it
+  quiet_site : (t : Site) → number_of t ≡ number_of s → t.opened ≡ s.opened → AllByRecursion (IsMarkOpened s.opened) t.core.state.marks → Openings (with_site w t)
+  quiet_site t same opened marks =
+      let there : site_of (number_of t) w ≡ Some s = subst (λ j. site_of j w ≡ Some s) (sym same) (place w h s found) in
+      let more : OpenedMore s t = λ b e. ap (λ bs. has_block bs b) opened ∙ e in
+      subst (λ ms. Openings (record w { sites = set_site t w.sites; sent = ms })) (append-nil w.sent)
+      (site_goes_on w i t s there more None w.joint nothing_sent
+      (record {
+        named = λ b has.
+            named_more w (after w i t s there more None w.joint nothing_sent) (site_onto w i t s there more None w.joint nothing_sent) (number_of t) b
+            (subst (λ j. IsNamed w j b) (sym same) (own_site.named b (ap (λ bs. has_block bs b) (sym opened) ∙ has)));
+        marks = subst (λ bs. AllByRecursion (IsMarkOpened bs) t.core.state.marks) (sym opened) marks;
+      })
+      (λ m e. absurd (cc)))
+
+  pub begins_openings : Openings (with_site w (begun_site s))
+  begins_openings = quiet_site (begun_site s) refl refl own_site.marks
+
+  pub finishes_openings : (t : Task) → Openings (with_site w (finished_site s t))
+  finishes_openings t = quiet_site (finished_site s t) refl refl (after_opened (ran_of t) s.core.state.marks own_site.marks)
+    where
+      after_opened : (r : Ran) (marks : List Mark) → AllByRecursion (IsMarkOpened s.opened) marks → AllByRecursion (IsMarkOpened s.opened) (map (mark_after r) marks)
+      after_opened r [] all = tt
+      after_opened r (k ∷ ks) all = (record { opened = all.0.opened }, after_opened r ks all.1)
+
+-- ---- a node restarts
+
+pub same_list : (n : ℕ) (s : Site) → (reopened n s).opened ≡ s.opened
+same_list n s = by_test (λ t. (if t then record s { core = core_of s.core.class s.stored false } else s).opened ≡ s.opened) (s.node == n) (λ here. refl) (λ there. refl)
+
+pub opened_anew :
+    (js : List Block) (n : ℕ) (h : HandlerId) (sites : List Site) → AllByRecursion (SiteFits js) sites
+    → option_map_or (λ (s : Site). s.opened) (find (is_site h) (map (reopened n) sites)) [] ≡ option_map_or (λ (s : Site). s.opened) (find (is_site h) sites) []
+opened_anew js n h [] fits = refl
+opened_anew js n h (s ∷ ss) fits =
+    let rest = find (is_site h) (map (reopened n) ss) in
+    ap (λ j. option_map_or (λ (x : Site). x.opened) (if same_handler j h then Some (reopened n s) else rest) []) (ap (λ (st : HandlerState). st.number) (state_anew js n s fits.0))
+    ∙ by_test (λ t. option_map_or (λ (x : Site). x.opened) (if t then Some (reopened n s) else rest) [] ≡ option_map_or (λ (x : Site). x.opened) (if t then Some s else find (is_site h) ss) []) (is_site h s)
+    (λ here. same_list n s)
+    (λ there. opened_anew js n h ss fits.1)
+
+module _ (w : World) (fits : AllByRecursion (SiteFits w.joint) w.sites) (i : Openings w) (n : ℕ) where
+  pub anew_onto : Onto w (reopened_world w n)
+  anew_onto = record {
+    sets = λ b hs e. e;
+    opened = λ h b o. ap (λ bs. has_block bs b) (opened_anew w.joint n h w.sites fits) ∙ o;
+    given_up = λ b g. record { handlers = g.handlers; set = g.set; none = g.none; left = g.left };
+  }
+
+  site_anew : (s : Site) → SiteFits w.joint s → SiteOpened w s → SiteOpened (reopened_world w n) (reopened n s)
+  site_anew s f o =
+      let state = state_anew w.joint n s f in
+      record {
+        named = λ b has.
+            named_more w (reopened_world w n) anew_onto (number_of (reopened n s)) b
+            (subst (λ (st : HandlerState). IsNamed w st.number b) (sym state) (o.named b (ap (λ bs. has_block bs b) (sym (same_list n s)) ∙ has)));
+        marks = subst (λ bs. AllByRecursion (IsMarkOpened bs) (reopened n s).core.state.marks) (sym (same_list n s)) (subst (λ (st : HandlerState). AllByRecursion (IsMarkOpened s.opened) st.marks) (sym state) o.marks);
+      }
+
+  sites_anew : (sites : List Site) → AllByRecursion (SiteFits w.joint) sites → AllByRecursion (SiteOpened w) sites → AllByRecursion (SiteOpened (reopened_world w n)) (map (reopened n) sites)
+  sites_anew [] f o = tt
+  sites_anew (s ∷ ss) f o = (site_anew s f.0 o.0, sites_anew ss f.1 o.1)
+
+  pub reopens_openings : Openings (reopened_world w n)
+  reopens_openings = record {
+    messages = all_more_of (Shows w) (Shows (reopened_world w n)) (shows_more w (reopened_world w n) anew_onto) w.sent i.messages;
+    logs = logs_more w (reopened_world w n) anew_onto (λ b h. inl refl) i.logs;
+    sites = sites_anew w.sites fits i.sites;
+    parties = λ c p at r held. reservation_more w (reopened_world w n) anew_onto r (λ none. none) (i.parties c p at r held);
+  }

@@ -1,0 +1,96 @@
+-- The worlds of the computed examples may open.
+use Rattle.std.proofs.Common.{◌≡◌, ℕ, List, [], ◌∷◌, map, ap, refl, arith}
+use Rattle.scoop_message.specs.declared.name.ClientId.{ClientId}
+use Rattle.scoop_message.specs.declared.name.HandlerId.{HandlerId}
+use Rattle.scoop_model.specs.Step.{Placement, Newcomer}
+use Rattle.scoop_model.specs.Opening.{IsPlaced, IsJoining}
+use Rattle.scoop_model.specs.Safe.{NoRepeats}
+use Rattle.scoop_model.specs.Examples.Parties.{CellsMayOpen, CounterMayOpen, handler, client, cell, counter, placed, joins}
+use Rattle.scoop_model.proofs.Beginnings.{no_repeats}
+use Rattle.scoop_model.proofs.Answering.Once.{once_more}
+
+other_handler : (m n : ℕ) → (m ≡ n → ⊥) → handler m ≡ handler n → ⊥
+other_handler m n apart e = apart (ap (λ (h : HandlerId). h.0) e)
+
+other_client : (m n : ℕ) → (m ≡ n → ⊥) → client m ≡ client n → ⊥
+other_client m n apart e = apart (ap (λ (c : ClientId). c.0) e)
+
+abbrev HandlersApart : List Placement → Type 0
+HandlersApart ps = NoRepeats (map (λ (p : Placement). p.handler) ps)
+
+abbrev ClientsApart : List Newcomer → Type 0
+ClientsApart ns = NoRepeats (map (λ (n : Newcomer). n.id) ns)
+
+one_handler : (p : Placement) → HandlersApart (p ∷ [])
+one_handler p = once_more (λ (x : Placement). x.handler) [] p no_repeats tt
+
+two_handlers : HandlersApart (placed cell 0 1 ∷ placed cell 0 2 ∷ [])
+two_handlers =
+    once_more (λ (x : Placement). x.handler) (placed cell 0 1 ∷ []) (placed cell 0 2) (one_handler (placed cell 0 1)) (other_handler 1 2 (λ e. omega (arith, e)), tt)
+
+three_handlers : HandlersApart (placed cell 0 1 ∷ placed cell 0 2 ∷ placed cell 0 3 ∷ [])
+three_handlers =
+    once_more (λ (x : Placement). x.handler) (placed cell 0 1 ∷ placed cell 0 2 ∷ []) (placed cell 0 3) two_handlers
+    (other_handler 1 3 (λ e. omega (arith, e)), (other_handler 2 3 (λ e. omega (arith, e)), tt))
+
+one_client : (n : Newcomer) → ClientsApart (n ∷ [])
+one_client n = once_more (λ (x : Newcomer). x.id) [] n no_repeats tt
+
+three_clients : ClientsApart (joins 7 ∷ joins 8 ∷ joins 9 ∷ [])
+three_clients =
+    once_more (λ (x : Newcomer). x.id) (joins 7 ∷ joins 8 ∷ []) (joins 9)
+    (once_more (λ (x : Newcomer). x.id) (joins 7 ∷ []) (joins 8) (one_client (joins 7)) (other_client 7 8 (λ e. omega (arith, e)), tt))
+    (other_client 7 9 (λ e. omega (arith, e)), (other_client 8 9 (λ e. omega (arith, e)), tt))
+
+has_cell : (h : ℕ) → IsPlaced (placed cell 0 h)
+has_cell h = record { words = record { some = omega arith; few = omega arith }; class = refl }
+
+has_counter : (h : ℕ) → IsPlaced (placed counter 0 h)
+has_counter h = record { words = record { some = omega arith; few = omega arith }; class = refl }
+
+joining : (c : ℕ) → IsJoining (joins c)
+joining c = record { some = omega arith; limit = omega arith; next = omega arith }
+
+pub one_cell_opens : CellsMayOpen (1 ∷ []) (7 ∷ [])
+one_cell_opens = record {
+  some = omega arith;
+  few = omega arith;
+  apart = one_handler (placed cell 0 1);
+  placed = (has_cell 1, tt);
+  few_clients = omega arith;
+  clients_apart = one_client (joins 7);
+  joining = (joining 7, tt);
+}
+
+pub two_cells_open : CellsMayOpen (1 ∷ 2 ∷ []) (7 ∷ [])
+two_cells_open = record {
+  some = omega arith;
+  few = omega arith;
+  apart = two_handlers;
+  placed = (has_cell 1, (has_cell 2, tt));
+  few_clients = omega arith;
+  clients_apart = one_client (joins 7);
+  joining = (joining 7, tt);
+}
+
+pub three_cells_open : CellsMayOpen (1 ∷ 2 ∷ 3 ∷ []) (7 ∷ 8 ∷ 9 ∷ [])
+three_cells_open = record {
+  some = omega arith;
+  few = omega arith;
+  apart = three_handlers;
+  placed = (has_cell 1, (has_cell 2, (has_cell 3, tt)));
+  few_clients = omega arith;
+  clients_apart = three_clients;
+  joining = (joining 7, (joining 8, (joining 9, tt)));
+}
+
+pub counter_opens : CounterMayOpen (7 ∷ [])
+counter_opens = record {
+  some = omega arith;
+  few = omega arith;
+  apart = one_handler (placed counter 0 1);
+  placed = (has_counter 1, tt);
+  few_clients = omega arith;
+  clients_apart = one_client (joins 7);
+  joining = (joining 7, tt);
+}

@@ -1,0 +1,276 @@
+-- What a handler does keeps the order.
+use Rattle.std.proofs.Common.{◌≡◌, ℕ, ◌-◌, ◌==◌, true, List, [], ◌∷◌, ◌++◌, map, find, slice_get, Option, Some, None, refl, sym, ap, ◌∙◌, subst, ⊎_elim, arith, append-nil}
+use Rattle.std.specs.Prelude.{if◌then◌else◌, ◌<◌, ◌≤◌, option_to_list}
+use Rattle.std.specs.List.{AllByRecursion}
+use Rattle.scoop_message.specs.declared.name.Block.{Block}
+use Rattle.scoop_message.specs.declared.name.HandlerId.{HandlerId}
+use Rattle.scoop_message.specs.declared.message.Message.{Message}
+use Rattle.scoop_message.specs.declared.message.Message.TheVariants.{Hello, Welcome, Lock, Locked, Busy, Open, Opened, Unlock, Unlocked, Log, Logged, Answer}
+use Rattle.scoop_message.specs.Message.{handler_of, same_handler}
+use Rattle.scoop_handler.specs.declared.note.Note.{Note}
+use Rattle.scoop_handler.specs.declared.note.Note.TheVariants.{Greeted, Granted, Held, Opened as OpenedNote, Freed, Took, Known, Dropped}
+use Rattle.scoop_handler.specs.declared.mark.Mark.{Mark}
+use Rattle.scoop_handler.specs.Growing.{MarksGrow}
+use Rattle.scoop_handler.specs.State.{HandlerState}
+use Rattle.scoop_handler.specs.Core.{with_state}
+use Rattle.scoop_handler.specs.Hearing.{Hearing, hear}
+use Rattle.scoop_handler.specs.Running.{Task, ran_of}
+use Rattle.scoop_handler.proofs.TableRows.{row}
+use Rattle.scoop_handler.proofs.TableLaws.{grows-row, number-row}
+use Rattle.scoop_handler.proofs.After.{MarksGrow-after, MarksGrow-same}
+use Rattle.scoop_reserve.specs.Handlers.{has}
+use Rattle.scoop_model.specs.World.{World, Site, number_of, is_site, site_of, set_site, has_block, sent_at}
+use Rattle.scoop_model.specs.Step.{joined, newly_opened, heard_world, with_site, begun_site, finished_site, reopened, reopened_world, reopened_site}
+use Rattle.scoop_model.specs.Safe.{IsSubsequence}
+use Rattle.scoop_model.proofs.Basics.{by_test}
+use Rattle.scoop_model.proofs.Keys.{number_found, by_site, site_put}
+use Rattle.scoop_model.proofs.Order.Lists.{with_block, joined_has, joined_more, joined_last, joined_next}
+use Rattle.scoop_model.proofs.Order.Holding.{IsReachedIn, IsHeldIn, HeldHolds, IsNewlyLocked, TellsBack, Hears, hears_row, held_ran, reached_more}
+use Rattle.scoop_model.proofs.Order.Facts.{IsGrantedIn, IsGranted, IsNamed, IsGrantedAtAll, Tells, SiteFits, PartyFits, Ordered, Extends, all_more, tells_more, party_more, all_more_of, all_pushed, all_at, all_found, all_set_site}
+
+-- a message that was sent tells the truth
+pub sent_tells : (w : World) (i : ℕ) (m : Message) → sent_at i w ≡ Some m → AllByRecursion (Tells w) w.sent → Tells w m
+sent_tells w i m was all =
+    by_test (λ t. (if t then None else slice_get w.sent (i - 1)) ≡ Some m → Tells w m) (i == 0)
+    (λ zero_place e. absurd (cc))
+    (λ place e. all_at (Tells w) w.sent (i - 1) m e all) was
+
+-- the clients stay
+parties_more : (w v : World) → Extends w v → w.logs ≡ v.logs → AllByRecursion (PartyFits w) w.parties → AllByRecursion (PartyFits v) w.parties
+parties_more w v x same = all_more_of (PartyFits w) (PartyFits v) (party_more w v x same) w.parties
+
+-- ---- the sites of a world, once one of them goes on
+
+module _ (w : World) (s old : Site) (here : site_of (number_of s) w ≡ Some old) (grows : MarksGrow old.core.state.marks s.core.state.marks) where
+  pub granted_set : (h : HandlerId) (b : Block) → IsGranted w h b → IsGrantedIn (find (is_site h) (set_site s w.sites)) b
+  granted_set h b g =
+      by_site (λ o. IsGrantedIn o b) w s old h here
+      (λ same.
+      let found : Some g.site ≡ Some old = sym g.found ∙ (ap (λ j. site_of j w) (sym same) ∙ here) in
+      let one : g.site ≡ old = cc in
+      record { site = s; found = refl; reached = reached_more old.core.state.marks s.core.state.marks b grows (subst (λ (x : Site). IsReachedIn x.core.state.marks b) one g.reached) })
+      (λ apart. g)
+
+  -- nothing opens
+  pub site_moves :
+      (ms : List Message) → Ordered w → SiteFits w.joint s
+      → ((v : World) → site_of (number_of s) v ≡ Some s → AllByRecursion (Tells v) w.sent → AllByRecursion (Tells v) ms)
+      → Ordered (record w { sites = set_site s w.sites; sent = ms })
+  site_moves ms i fits tells =
+      let v : World = record w { sites = set_site s w.sites; sent = ms } in
+      let x : Extends w v = record { granted = granted_set; sets = λ b hs e. e } in
+      record {
+        messages = tells v (site_put w s old here) (all_more_of (Tells w) (Tells v) (tells_more w v x) w.sent i.messages);
+        sites = all_set_site (SiteFits w.joint) (SiteFits w.joint) s w.sites fits (λ y f. f) i.sites;
+        parties = parties_more w v x refl i.parties;
+        joint = λ b e. all_more w v x b (i.joint b e);
+      }
+
+-- ---- a handler hears
+
+-- a block that is newly locked was not reached before
+reached_not_new : (s : Site) (m : Message) (b : Block) → IsReachedIn s.core.state.marks b → IsNewlyLocked s.core.state m b → ⊥
+reached_not_new s m b r new =
+    let marks : Some r.mark ≡ Some new.mark = sym r.found ∙ new.found in
+    let alike : r.mark ≡ new.mark = cc in
+    absurd_place r.mark.inc new.mark.inc r.mark.num new.mark.num b.inc b.num (ap (λ (k : Mark). k.inc) alike) (ap (λ (k : Mark). k.num) alike) r.upto.num new.inc new.num
+  where
+    absurd_place : (i j n k c d : ℕ) → i ≡ j → n ≡ k → (i ≡ c → d ≤ n) → j ≡ c → k < d → ⊥
+    absurd_place i j n k c d ij nk up jc kd = let le = up (ij ∙ jc) in omega (arith, le, nk, kd)
+
+newly_locked_new : (w : World) (s : Site) (m : Message) (b : Block) → Ordered w → site_of (number_of s) w ≡ Some s → Tells w m → IsNewlyLocked s.core.state m b → has_block w.joint b ≡ true → ⊥
+newly_locked_new w s m b i here tells new e =
+    let names : IsNamed w (number_of s) b = subst (Tells w) new.asks tells in
+    let all = i.joint b e in
+    let both : Some names.handlers ≡ Some all.handlers = sym names.set ∙ all.set in
+    let same : names.handlers ≡ all.handlers = cc in
+    let g = all.granted (number_of s) (subst (λ hs. has hs (number_of s) ≡ true) same names.member) in
+    let found : Some g.site ≡ Some s = sym g.found ∙ here in
+    let one : g.site ≡ s = cc in
+    let r : IsReachedIn s.core.state.marks b = subst (λ (x : Site). IsReachedIn x.core.state.marks b) one g.reached in
+    reached_not_new s m b r new
+
+-- what a reply tells
+reply_tells : (v : World) (s : Site) (o : Option Message) → site_of (number_of s) v ≡ Some s → TellsBack s.core.state o → (m : Message) → o ≡ Some m → Tells v m
+reply_tells v s None here t m e = absurd (cc)
+reply_tells v s (Some n) here t m e = let same : n ≡ m = cc in subst (Tells v) same (told n t)
+  where
+    told : (n : Message) → TellsBack s.core.state (Some n) → Tells v n
+    told (Hello h c inc) t = tt
+    told (Welcome h c inc) t = tt
+    told (Lock h b) t = absurd t
+    told (Locked h b) t = subst (λ j. IsGranted v j b) (sym t.0) (record { site = s; found = here; reached = t.1 })
+    told (Busy h b) t = tt
+    told (Open h b) t = absurd t
+    told (Opened h b) t = tt
+    told (Unlock h b) t = tt
+    told (Unlocked h b) t = tt
+    told (Log h b n es) t = tt
+    told (Logged h b n) t = tt
+    told (Answer h b n a) t = tt
+
+-- the site with another state, and what has newly opened
+abbrev site_with : Site → HandlerState → List Block → Site
+site_with s st new = record s { core = with_state st s.core; stored = st; opened = s.opened ++ new }
+
+abbrev world_with : World → Site → HandlerState → Option Message → List Block → World
+world_with w s st reply new =
+    record w { sites = set_site (site_with s st new) w.sites; sent = w.sent ++ option_to_list reply; joint = joined w.joint new }
+
+module _ (w : World) (s : Site) (m : Message) (i : Ordered w) (found : site_of (handler_of m) w ≡ Some s) (tells : Tells w m) where
+  abbrev now : Hearing
+  now = hear s.core.state m
+
+  heard : Hears s.core.state m now
+  heard = hears_row s.core.state m now (row s.core.state m)
+
+  here : site_of (number_of s) w ≡ Some s
+  here = subst (λ j. site_of j w ≡ Some s) (sym (number_found (handler_of m) w s found)) found
+
+  still_here : site_of now.0.number w ≡ Some s
+  still_here = subst (λ j. site_of j w ≡ Some s) (sym (number-row s.core.state m now (row s.core.state m))) here
+
+  fits : SiteFits w.joint s
+  fits = all_found (SiteFits w.joint) (is_site (handler_of m)) w.sites s i.sites found
+
+  grows : MarksGrow s.core.state.marks now.0.marks
+  grows = grows-row s.core.state m now (row s.core.state m)
+
+  -- the messages, once the reply is among them
+  replies : (new : List Block) (v : World) → site_of now.0.number v ≡ Some (site_with s now.0 new) → AllByRecursion (Tells v) w.sent → AllByRecursion (Tells v) (w.sent ++ option_to_list now.1.reply)
+  replies new v there all = all_pushed (Tells v) w.sent now.1.reply all (reply_tells v (site_with s now.0 new) now.1.reply there heard.tells)
+
+  quiet_fits : SiteFits w.joint (site_with s now.0 [])
+  quiet_fits = record {
+    stored = refl;
+    holds = heard.holds fits.holds;
+    next = λ b held in_joint.
+        subst (λ xs. IsSubsequence (xs ++ b ∷ []) w.joint) (sym (append-nil s.opened)) (
+        ⊎_elim
+        (λ (was : IsHeldIn s.core.state.marks b). fits.next b was in_joint)
+        (λ (new : IsNewlyLocked s.core.state m b). absurd (newly_locked_new w s m b i here tells new in_joint))
+        (heard.locks b held));
+    left = subst (λ xs. IsSubsequence xs w.joint) (sym (append-nil s.opened)) fits.left;
+  }
+
+  quiet : Ordered (world_with w s now.0 now.1.reply [])
+  quiet = site_moves w (site_with s now.0 []) s still_here grows (w.sent ++ option_to_list now.1.reply) i quiet_fits (replies [])
+
+  opens : (b : Block) → now.1.note ≡ OpenedNote b → Ordered (world_with w s now.0 now.1.reply (b ∷ []))
+  opens b e =
+      let o = heard.opens b e in
+      let all : IsGrantedAtAll w b = subst (Tells w) o.asks tells in
+      let t : Site = site_with s now.0 (b ∷ []) in
+      let v : World = world_with w s now.0 now.1.reply (b ∷ []) in
+      let x : Extends w v = record { granted = granted_set w t s still_here grows; sets = λ _ _ f. f } in
+      record {
+        messages = replies (b ∷ []) v (site_put w t s still_here) (all_more_of (Tells w) (Tells v) (tells_more w v x) w.sent i.messages);
+        sites = all_set_site (SiteFits w.joint) (SiteFits (with_block w.joint b)) t w.sites
+            (record {
+              stored = refl;
+              holds = heard.holds fits.holds;
+              next = λ y held in_joint. absurd (o.none fits.holds y held);
+              left = joined_last w.joint b s.opened fits.left (fits.next b o.held);
+            })
+            (λ y f. record {
+              stored = f.stored;
+              holds = f.holds;
+              next = λ z held in_joint. joined_next w.joint b z y.opened f.left (f.next z held) in_joint;
+              left = joined_more w.joint b y.opened f.left;
+            })
+            i.sites;
+        parties = parties_more w v x refl i.parties;
+        joint = λ y in_joint.
+            ⊎_elim
+            (λ (p : b ≡ y). subst (IsGrantedAtAll v) p (all_more w v x b all))
+            (λ (p : has_block w.joint y ≡ true). all_more w v x y (i.joint y p))
+            (joined_has w.joint b y in_joint);
+      }
+
+  by_note : (told : Note) → now.1.note ≡ told → Ordered (world_with w s now.0 now.1.reply (newly_opened told))
+  by_note (OpenedNote b) e = opens b e
+  by_note Greeted e = quiet
+  by_note Granted e = quiet
+  by_note Held e = quiet
+  by_note Freed e = quiet
+  by_note (Took n) e = quiet
+  by_note Known e = quiet
+  by_note (Dropped why) e = quiet
+
+pub hears_ordered : (w : World) → Ordered w → (i : ℕ) (m : Message) (s : Site) → sent_at i w ≡ Some m → site_of (handler_of m) w ≡ Some s → Ordered (heard_world w s (hear s.core.state m))
+hears_ordered w o i m s was found = by_note w s m o found (sent_tells w i m was o.messages) (hear s.core.state m).1.note refl
+
+-- ---- an entry runs
+
+module _ (w : World) (o : Ordered w) (h : HandlerId) (s : Site) (found : site_of h w ≡ Some s) where
+  place : site_of (number_of s) w ≡ Some s
+  place = subst (λ j. site_of j w ≡ Some s) (sym (number_found h w s found)) found
+
+  site_fits : SiteFits w.joint s
+  site_fits = all_found (SiteFits w.joint) (is_site h) w.sites s o.sites found
+
+  pub begins_ordered : Ordered (with_site w (begun_site s))
+  begins_ordered =
+      let f = site_fits in
+      site_moves w (begun_site s) s place (MarksGrow-same s.core.state.marks) w.sent o (record { stored = f.stored; holds = f.holds; next = f.next; left = f.left }) (λ v there all. all)
+
+  pub finishes_ordered : (t : Task) → Ordered (with_site w (finished_site s t))
+  finishes_ordered t =
+      let f = site_fits in
+      let r = ran_of t in
+      site_moves w (finished_site s t) s place (MarksGrow-after r s.core.state.marks) w.sent o
+      (record {
+        stored = refl;
+        holds = λ b held. f.holds b (held_ran r s.core.state.marks b held);
+        next = λ b held in_joint. f.next b (held_ran r s.core.state.marks b held) in_joint;
+        left = f.left;
+      })
+      (λ v there all. all)
+
+-- ---- a node restarts
+
+granted_first : (h : HandlerId) (b : Block) (x y : Site) (xs ys : List Site) → y.core.state ≡ x.core.state → (IsGrantedIn (find (is_site h) xs) b → IsGrantedIn (find (is_site h) ys) b)
+    → IsGrantedIn (find (is_site h) (x ∷ xs)) b → IsGrantedIn (find (is_site h) (y ∷ ys)) b
+granted_first h b x y xs ys same later g =
+    let k : number_of y ≡ number_of x = ap (λ (st : HandlerState). st.number) same in
+    subst (λ n. IsGrantedIn (if same_handler n h then Some y else find (is_site h) ys) b) (sym k)
+    (by_test (λ t. IsGrantedIn (if t then Some x else find (is_site h) xs) b → IsGrantedIn (if t then Some y else find (is_site h) ys) b) (is_site h x)
+    (λ first g. let one : x ≡ g.site = cc_some x g.site g.found in
+    record { site = y; found = refl; reached = subst (λ (st : HandlerState). IsReachedIn st.marks b) (sym same) (subst (λ (z : Site). IsReachedIn z.core.state.marks b) (sym one) g.reached) })
+    (λ other g. later g) g)
+  where
+    cc_some : (p q : Site) → Some p ≡ Some q → p ≡ q
+    cc_some p q e = cc
+
+pub state_anew : (js : List Block) (n : ℕ) (x : Site) → SiteFits js x → (reopened n x).core.state ≡ x.core.state
+state_anew js n x f = by_test (λ t. (if t then reopened_site x else x).core.state ≡ x.core.state) (x.node == n) (λ here. f.stored) (λ there. refl)
+
+fits_anew : (js : List Block) (n : ℕ) (x : Site) → SiteFits js x → SiteFits js (reopened n x)
+fits_anew js n x f =
+    by_test (λ t. SiteFits js (if t then reopened_site x else x)) (x.node == n)
+    (λ here. record {
+      stored = refl;
+      holds = subst HeldHolds (sym f.stored) f.holds;
+      next = subst (λ (st : HandlerState). (b : Block) → IsHeldIn st.marks b → has_block js b ≡ true → IsSubsequence (x.opened ++ b ∷ []) js) (sym f.stored) f.next;
+      left = f.left;
+    })
+    (λ there. f)
+
+pub granted_anew : (js : List Block) (n : ℕ) (h : HandlerId) (b : Block) (xs : List Site) → AllByRecursion (SiteFits js) xs → IsGrantedIn (find (is_site h) xs) b → IsGrantedIn (find (is_site h) (map (reopened n) xs)) b
+granted_anew js n h b [] all g = g
+granted_anew js n h b (x ∷ xs) all g = granted_first h b x (reopened n x) xs (map (reopened n) xs) (state_anew js n x all.0) (granted_anew js n h b xs all.1) g
+
+all_anew : (js : List Block) (n : ℕ) (xs : List Site) → AllByRecursion (SiteFits js) xs → AllByRecursion (SiteFits js) (map (reopened n) xs)
+all_anew js n [] all = tt
+all_anew js n (x ∷ xs) all = (fits_anew js n x all.0, all_anew js n xs all.1)
+
+pub reopens_ordered : (w : World) → Ordered w → (n : ℕ) → Ordered (reopened_world w n)
+reopens_ordered w o n =
+    let v : World = reopened_world w n in
+    let x : Extends w v = record { granted = λ h b. granted_anew w.joint n h b w.sites o.sites; sets = λ b hs e. e } in
+    record {
+      messages = all_more_of (Tells w) (Tells v) (tells_more w v x) w.sent o.messages;
+      sites = all_anew w.joint n w.sites o.sites;
+      parties = parties_more w v x refl o.parties;
+      joint = λ b e. all_more w v x b (o.joint b e);
+    }

@@ -1,0 +1,4 @@
+pub mod Facts
+pub mod Counts
+pub mod Readiness
+pub mod Runs

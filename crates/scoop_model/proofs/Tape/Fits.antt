@@ -1,0 +1,142 @@
+-- How slots fit what a handler keeps, what opened there and what has run there.
+--
+-- How to carry this over the events of a world: keep, for each site, some slots with `SiteTape` (in Sites) over the logs
+-- of the site's handler. `heard_tape` gives the slots after a message that the handler hears, from the row that it comes
+-- to; it asks that the state is one and that the entries of a Log stand in its block's log. `finished_tape` gives those
+-- after an entry has run. The slots stay the same where a job goes out (`begun_tape`), where the node restarts with the
+-- stored state (`reopened_tape`), and where logs grow at their end (`grown_tape`). Then `site_tape_shown` gives what
+-- Safe calls the tape. What an open slot tells of its client's mark follows by `live_slots` (in Taking).
+use Rattle.std.proofs.Common.{◌≡◌, ℕ, ◌+◌, ◌-◌, ◌≤◌, List, [], ◌∷◌, ◌++◌, length, take, drop, Some, refl, sym, ap, ◌∙◌, subst, arith, length-append, append_assoc}
+use Rattle.std.specs.List.{AllByRecursion}
+use Rattle.std.proofs.lemmas.List.{take-append-drop, length-take-le}
+use Rattle.scoop_message.specs.declared.name.Block.{Block}
+use Rattle.scoop_message.specs.declared.request.Entry.{Entry}
+use Rattle.scoop_queue.specs.declared.state.QueueState.{QueueState}
+use Rattle.scoop_queue.specs.Queue.{PrivateQueue, opened, put_all, cut, front, advance}
+use Rattle.scoop_queue.specs.Sound.{AreApart}
+use Rattle.scoop_model.proofs.Stands.{Stands}
+use Rattle.scoop_model.proofs.Order.Facts.{all_more_of}
+use Rattle.scoop_model.proofs.Tape.Slots.{Slot, new_slot, slots_new, slots_put, put_in, slots_cut, slots_run, run_rest, queues_of, ran_of, blocks_of, InTurn, queues-new, ran-new, blocks-new, turn-new, queues-put, ran-put, blocks-put, turn-put, cut_in, cut_keeps, cut_rest, queues-cut, ran-cut, blocks-cut, turn-cut, Runs, slots-run, each_kept, each_run}
+
+-- the first list is a beginning of the second
+pub record IsBeginningOf (es log : List Entry) : Type 0 where
+  pub behind : List Entry
+  pub all : es ++ behind ≡ log
+
+-- what has run of the block, with what waits behind it, is a beginning of the block's log
+abbrev pub IsBegun : (Block → List Entry) → Slot → Type 0
+IsBegun log s = IsBeginningOf (s.ran ++ s.rest) (log s.block)
+
+pub record TapeFits (log : Block → List Entry) (qs : List PrivateQueue) (bs : List Block) (rs : List (Block × ℕ × Entry)) (ss : List Slot) : Type 0 where
+  pub opened : bs ≡ blocks_of ss
+  pub queues : qs ≡ queues_of ss
+  pub ran : rs ≡ ran_of ss
+  pub turn : InTurn ss
+  pub begun : AllByRecursion (IsBegun log) ss
+
+-- ---- logs grow at their end
+
+begun_more : (log more : Block → List Entry) → ((b : Block) → IsBeginningOf (log b) (more b)) → (s : Slot) → IsBegun log s → IsBegun more s
+begun_more log more grow s i =
+    let g = grow s.block in
+    record {
+      behind = i.behind ++ g.behind;
+      all = sym (append_assoc (s.ran ++ s.rest) i.behind g.behind) ∙ ap (λ es. es ++ g.behind) i.all ∙ g.all;
+    }
+
+pub tape_more :
+    (log more : Block → List Entry) → ((b : Block) → IsBeginningOf (log b) (more b)) → (qs : List PrivateQueue) (bs : List Block) (rs : List (Block × ℕ × Entry)) (ss : List Slot)
+    → TapeFits log qs bs rs ss → TapeFits more qs bs rs ss
+tape_more log more grow qs bs rs ss f = record {
+  opened = f.opened;
+  queues = f.queues;
+  ran = f.ran;
+  turn = f.turn;
+  begun = all_more_of (IsBegun log) (IsBegun more) (begun_more log more grow) ss f.begun;
+}
+
+-- ---- the changes of the private queues
+
+all_last : (P : Slot → Type 0) (ss : List Slot) (s : Slot) → AllByRecursion P ss → P s → AllByRecursion P (ss ++ s ∷ [])
+all_last P [] s all last = (last, tt)
+all_last P (x ∷ xs) s all last = (all.0, all_last P xs s all.1 last)
+
+module _ (log : Block → List Entry) (qs : List PrivateQueue) (bs : List Block) (rs : List (Block × ℕ × Entry)) (ss : List Slot) (f : TapeFits log qs bs rs ss) where
+  pub open_tape : (b : Block) → TapeFits log (opened b qs) (bs ++ b ∷ []) rs (slots_new b ss)
+  open_tape b = record {
+    opened = ap (λ xs. xs ++ b ∷ []) f.opened ∙ sym (blocks-new b ss);
+    queues = ap (opened b) f.queues ∙ sym (queues-new b ss);
+    ran = f.ran ∙ sym (ran-new b ss);
+    turn = turn-new b ss f.turn;
+    begun = all_last (IsBegun log) ss (new_slot b) f.begun (record { behind = log b; all = refl });
+  }
+
+  apart_slots : AreApart qs → AreApart (queues_of ss)
+  apart_slots apart = subst AreApart f.queues apart
+
+  cut_begun : (b : Block) (s : Slot) → IsBegun log s → IsBegun log (cut_in b s)
+  cut_begun b s i =
+      let k = cut_keeps b s in
+      let same : s.ran ++ s.rest ≡ (cut_in b s).ran ++ (cut_in b s).rest = λ j. sym k.ran j ++ sym (cut_rest b s) j in
+      record { behind = i.behind; all = ap (λ es. es ++ i.behind) (sym same) ∙ i.all ∙ ap log (sym k.block) }
+
+  pub cut_tape : (b : Block) → AreApart qs → TapeFits log (cut b qs) bs rs (slots_cut b ss)
+  cut_tape b apart = record {
+    opened = f.opened ∙ sym (blocks-cut b ss);
+    queues = ap (cut b) f.queues ∙ sym (queues-cut b ss (apart_slots apart));
+    ran = f.ran ∙ sym (ran-cut b ss);
+    turn = turn-cut b ss f.turn;
+    begun = each_kept (IsBegun log) (IsBegun log) (cut_in b) (cut_begun b) ss f.begun;
+  }
+
+  pub put_tape : (b : Block) (es : List Entry) → AreApart qs → AllByRecursion (λ s. IsBegun log (put_in b es s)) ss → TapeFits log (put_all b es qs) bs rs (slots_put b es ss)
+  put_tape b es apart begun = record {
+    opened = f.opened ∙ sym (blocks-put b es ss);
+    queues = ap (put_all b es) f.queues ∙ sym (queues-put b es ss (apart_slots apart));
+    ran = f.ran ∙ sym (ran-put b es ss);
+    turn = turn-put b es ss f.turn;
+    begun = each_kept (λ s. IsBegun log (put_in b es s)) (IsBegun log) (put_in b es) (λ s i. i) ss begun;
+  }
+
+  run_begun : (s : Slot) (t : QueueState) (es : List Entry) → s.rest ≡ es → IsBegun log s → IsBegun log (run_rest s t es)
+  run_begun s t [] is i = i
+  run_begun s t (e ∷ es) is i = record {
+    behind = i.behind;
+    all = ap (λ xs. xs ++ i.behind) (append_assoc s.ran (e ∷ []) es ∙ ap (λ xs. s.ran ++ xs) (sym is)) ∙ i.all;
+  }
+
+  -- the first entry of the first private queue runs
+  pub run_tape : (u : Block × ℕ × Entry) → front qs ≡ Some u → TapeFits log (advance qs) bs (rs ++ u ∷ []) (slots_run ss)
+  run_tape u e =
+      let r : Runs ss (slots_run ss) u = slots-run ss u f.turn (sym (ap front f.queues) ∙ e) in
+      record {
+        opened = f.opened ∙ sym r.blocks;
+        queues = ap advance f.queues ∙ sym r.queues;
+        ran = ap (λ xs. xs ++ u ∷ []) f.ran ∙ sym r.ran;
+        turn = r.turn;
+        begun = each_run (IsBegun log) (IsBegun log) (λ s i. i) (λ s t is i. run_begun s t s.rest refl i) ss f.begun;
+      }
+
+-- ---- entries that stand in a log, behind others
+
+same_beginning : (xs ys qs rs : List Entry) → xs ++ qs ≡ ys ++ rs → length xs ≡ length ys → qs ≡ rs
+same_beginning [] [] qs rs e l = e
+same_beginning [] (y ∷ ys) qs rs e l = absurd (omega arith)
+same_beginning (x ∷ xs) [] qs rs e l = absurd (omega arith)
+same_beginning (x ∷ xs) (y ∷ ys) qs rs e l = let tail : xs ++ qs ≡ ys ++ rs = cc in same_beginning xs ys qs rs tail (omega arith)
+
+-- so many entries were received, and of those that stand in the log from number n on the others are put behind them
+pub beginning_next :
+    (xs log : List Entry) (n : ℕ) (es : List Entry) → IsBeginningOf xs log → Stands log n es → n ≤ length xs + 1 → length xs + 1 ≤ n + length es
+    → IsBeginningOf (xs ++ drop (length xs + 1 - n) es) log
+beginning_next xs log n es i st from upto =
+    let j = length xs + 1 - n in
+    let start : n ≡ length st.before + 1 = st.number in
+    let few : j ≤ length es = omega (arith, from, upto) in
+    let parts : (st.before ++ take j es) ++ (drop j es ++ st.behind) ≡ log =
+    append_assoc st.before (take j es) (drop j es ++ st.behind)
+    ∙ ap (λ ys. st.before ++ ys) (sym (append_assoc (take j es) (drop j es) st.behind) ∙ ap (λ ys. ys ++ st.behind) (take-append-drop j es))
+    ∙ sym (append_assoc st.before es st.behind) ∙ st.all in
+    let long : length xs ≡ length (st.before ++ take j es) = omega (arith, from, upto, start, length-append st.before (take j es), length-take-le j es few) in
+    let left : i.behind ≡ drop j es ++ st.behind = same_beginning xs (st.before ++ take j es) i.behind (drop j es ++ st.behind) (i.all ∙ sym parts) long in
+    record { behind = st.behind; all = append_assoc xs (drop j es) st.behind ∙ ap (λ ys. xs ++ ys) (sym left) ∙ i.all }

@@ -1,0 +1,216 @@
+-- What has run at a handler, in the terms of the slots, is its tape: block after block in the order of their opening,
+-- a beginning of each block's log.
+use Rattle.std.proofs.Common.{◌≡◌, ℕ, suc, ◌+◌, Bool, true, false, ◌||◌, List, [], ◌∷◌, ◌++◌, length, map, filter, flat_map, take, slice_get, Some, refl, sym, ap, ◌∙◌, subst, arith, append_assoc, append-nil, true≢false}
+use Rattle.std.specs.Prelude.{if◌then◌else◌}
+use Rattle.std.specs.List.{AllByRecursion}
+use Rattle.std.proofs.Math.Seq.{take-append_seam}
+use Rattle.std.proofs.lemmas.List.{length-map}
+use Rattle.std.proofs.lemmas.List.Elements.{filter-append}
+use Rattle.scoop_message.specs.declared.name.Block.{Block}
+use Rattle.scoop_message.specs.declared.request.Entry.{Entry}
+use Rattle.scoop_message.specs.Message.{same_block}
+use Rattle.scoop_handler.specs.declared.ran.Ran.{Ran}
+use Rattle.scoop_queue.specs.Queue.{PrivateQueue}
+use Rattle.scoop_queue.proofs.Lookup.{same_block-sym}
+use Rattle.scoop_model.specs.World.{World, Site, has_block, number_of, log_of}
+use Rattle.scoop_model.specs.Safe.{NoRepeats, IsSubsequence, nothing, left_out, taken, untold, numbered, Tape}
+use Rattle.scoop_model.proofs.Basics.{by_test}
+use Rattle.scoop_model.proofs.Order.Lists.{AreApart, same_block_is, same_block_itself}
+use Rattle.scoop_model.proofs.Tape.Slots.{Slot, ran_in, ran_of, blocks_of}
+use Rattle.scoop_model.proofs.Tape.Fits.{IsBegun, TapeFits}
+
+-- ---- blocks that don't repeat
+
+block_at : (bs : List Block) (b : Block) → has_block bs b ≡ true → (k : ℕ) × (slice_get bs k ≡ Some b)
+block_at [] b e = absurd (true≢false (sym e))
+block_at (x ∷ xs) b e =
+    by_test (λ t. (t || has_block xs b) ≡ true → same_block x b ≡ t → (k : ℕ) × (slice_get (x ∷ xs) k ≡ Some b)) (same_block x b)
+    (λ same _ is. (0, ap Some (same_block_is x b is)))
+    (λ other f _. let later = block_at xs b f in (suc later.0, later.1)) e refl
+
+pub once_apart : (bs : List Block) → NoRepeats bs → AreApart bs
+once_apart [] once = tt
+once_apart (b ∷ bs) once = (
+  by_test (λ t. has_block bs b ≡ t → t ≡ false) (has_block bs b)
+      (λ there e. let p = block_at bs b e in absurd (not_zero p.0 (once 0 (suc p.0) b refl p.1)))
+      (λ nowhere e. refl) refl,
+  once_apart bs (λ i j x e f. let same = once (suc i) (suc j) x e f in omega (arith, same)),
+)
+  where
+    not_zero : (k : ℕ) → 0 ≡ suc k → ⊥
+    not_zero k e = omega (arith, e)
+
+-- what is left of a list without a block is without it
+pub left_without : {xs ys : List Block} → IsSubsequence xs ys → (b : Block) → has_block ys b ≡ false → has_block xs b ≡ false
+left_without nothing b e = refl
+left_without (left_out y xs ys s) b e = by_test (λ t. (t || has_block ys b) ≡ false → has_block xs b ≡ false) (same_block y b) (λ same f. absurd (true≢false f)) (λ other f. left_without s b f) e
+left_without (taken y xs ys s) b e = by_test (λ t. (t || has_block ys b) ≡ false → (t || has_block xs b) ≡ false) (same_block y b) (λ same f. absurd (true≢false f)) (λ other f. left_without s b f) e
+
+pub left_apart : {xs ys : List Block} → IsSubsequence xs ys → AreApart ys → AreApart xs
+left_apart nothing d = tt
+left_apart (left_out y xs ys s) d = left_apart s d.1
+left_apart (taken y xs ys s) d = (left_without s y d.0, left_apart s d.1)
+
+-- ---- parts of what ran
+
+abbrev of_block : Block → Ran → Bool
+of_block b r = same_block r.block b
+
+-- of all that ran, what is of the block
+abbrev pub part_of : List Ran → Block → List Ran
+part_of rs b = filter (of_block b) rs
+
+-- two parts, where what they tell are two parts
+record Split (rs : List Ran) (us vs : List (Block × ℕ × Entry)) : Type 0 where
+  first : List Ran
+  later : List Ran
+  all : first ++ later ≡ rs
+  first_told : map untold first ≡ us
+  later_told : map untold later ≡ vs
+
+split_next : (r : Ran) (u : Block × ℕ × Entry) (rs : List Ran) (us vs : List (Block × ℕ × Entry)) → untold r ≡ u → Split rs us vs → Split (r ∷ rs) (u ∷ us) vs
+split_next r u rs us vs head s = record {
+  first = r ∷ s.first;
+  later = s.later;
+  all = ap (λ xs. r ∷ xs) s.all;
+  first_told = λ i. head i ∷ s.first_told i;
+  later_told = s.later_told;
+}
+
+split_at : (rs : List Ran) (us vs : List (Block × ℕ × Entry)) → map untold rs ≡ us ++ vs → Split rs us vs
+split_at rs [] vs e = record { first = []; later = rs; all = refl; first_told = refl; later_told = e }
+split_at [] (u ∷ us) vs e = absurd (cc)
+split_at (r ∷ rs) (u ∷ us) vs e =
+    let head : untold r ≡ u = cc in
+    let tail : map untold rs ≡ us ++ vs = cc in
+    split_next r u rs us vs head (split_at rs us vs tail)
+
+-- what is numbered for a block is of that block
+all_of : (rs : List Ran) (b : Block) (n : ℕ) (es : List Entry) → map untold rs ≡ numbered b n es → part_of rs b ≡ rs
+all_of [] b n es e = refl
+all_of (r ∷ rs) b n [] e = absurd (cc)
+all_of (r ∷ rs) b n (x ∷ xs) e =
+    let head : untold r ≡ (b, n, x) = cc in
+    let tail : map untold rs ≡ numbered b (n + 1) xs = cc in
+    let block : r.block ≡ b = ap (λ (u : Block × ℕ × Entry). u.0) head in
+    let mine : of_block b r ≡ true = subst (λ c. same_block r.block c ≡ true) block (same_block_itself r.block) in
+    ap (λ t. if t then r ∷ part_of rs b else part_of rs b) mine ∙ ap (λ xs. r ∷ xs) (all_of rs b (n + 1) xs tail)
+
+-- and of no other
+none_of : (rs : List Ran) (b c : Block) (n : ℕ) (es : List Entry) → map untold rs ≡ numbered b n es → same_block b c ≡ false → part_of rs c ≡ []
+none_of [] b c n es e other = refl
+none_of (r ∷ rs) b c n [] e other = absurd (cc)
+none_of (r ∷ rs) b c n (x ∷ xs) e other =
+    let head : untold r ≡ (b, n, x) = cc in
+    let tail : map untold rs ≡ numbered b (n + 1) xs = cc in
+    let block : r.block ≡ b = ap (λ (u : Block × ℕ × Entry). u.0) head in
+    let apart : of_block c r ≡ false = subst (λ d. same_block d c ≡ false) (sym block) other in
+    ap (λ t. if t then r ∷ part_of rs c else part_of rs c) apart ∙ none_of rs b c (n + 1) xs tail other
+
+-- a block that isn't among the slots has run nothing
+pub none_ran : (rs : List Ran) (ss : List Slot) (b : Block) → map untold rs ≡ ran_of ss → has_block (blocks_of ss) b ≡ false → part_of rs b ≡ []
+none_ran rs [] b e none = none_told rs e
+  where
+    none_told : (rs : List Ran) → map untold rs ≡ [] → part_of rs b ≡ []
+    none_told [] e = refl
+    none_told (r ∷ rs) e = absurd (cc)
+none_ran rs (s ∷ ss) b e none =
+    let p = split_at rs (ran_in s) (ran_of ss) e in
+    by_test (λ t. (t || has_block (blocks_of ss) b) ≡ false → same_block s.block b ≡ t → part_of rs b ≡ []) (same_block s.block b)
+    (λ same f _. absurd (true≢false f))
+    (λ other f is.
+    ap (λ xs. part_of xs b) (sym p.all) ∙ filter-append (of_block b) p.first p.later
+    ∙ (λ i. none_of p.first s.block b 1 s.ran p.first_told is i ++ none_ran p.later ss b p.later_told f i)) none refl
+
+-- ---- in turn
+
+-- the parts of other blocks are those of the later part
+parts_later : (rs qs : List Ran) (s : Slot) (bs : List Block) → map untold rs ≡ ran_in s → has_block bs s.block ≡ false → flat_map (part_of (rs ++ qs)) bs ≡ flat_map (part_of qs) bs
+parts_later rs qs s [] e none = refl
+parts_later rs qs s (b ∷ bs) e none =
+    by_test (λ t. (t || has_block bs s.block) ≡ false → same_block b s.block ≡ t → flat_map (part_of (rs ++ qs)) (b ∷ bs) ≡ flat_map (part_of qs) (b ∷ bs)) (same_block b s.block)
+    (λ same f _. absurd (true≢false f))
+    (λ other f is. λ i. (filter-append (of_block b) rs qs ∙ ap (λ xs. xs ++ part_of qs b) (none_of rs s.block b 1 s.ran e (same_block-sym b s.block is))) i ++ parts_later rs qs s bs e f i) none refl
+
+-- the first block's part is the first part
+own_part :
+    (rs qs : List Ran) (s : Slot) (ss : List Slot) → map untold rs ≡ ran_in s → map untold qs ≡ ran_of ss → has_block (blocks_of ss) s.block ≡ false
+    → part_of (rs ++ qs) s.block ≡ rs
+own_part rs qs s ss first later apart =
+    filter-append (of_block s.block) rs qs ∙ (λ i. all_of rs s.block 1 s.ran first i ++ none_ran qs ss s.block later apart i) ∙ append-nil rs
+
+in_turn : (rs : List Ran) (ss : List Slot) → map untold rs ≡ ran_of ss → AreApart (blocks_of ss) → rs ≡ flat_map (part_of rs) (blocks_of ss)
+in_turn [] [] e apart = refl
+in_turn (r ∷ rs) [] e apart = absurd (cc)
+in_turn rs (s ∷ ss) e apart =
+    let p = split_at rs (ran_in s) (ran_of ss) e in
+    let here = own_part p.first p.later s ss p.first_told p.later_told apart.0 in
+    let behind : flat_map (part_of (p.first ++ p.later)) (blocks_of ss) ≡ p.later =
+    parts_later p.first p.later s (blocks_of ss) p.first_told apart.0 ∙ sym (in_turn p.later ss p.later_told apart.1) in
+    sym p.all ∙ sym (λ i. here i ++ behind i) ∙ ap (λ xs. flat_map (part_of xs) (blocks_of (s ∷ ss))) p.all
+
+-- ---- each slot's part
+
+-- what is so of each slot, none of which is of the block that is given
+all_others :
+    (P Q : Slot → Type 0) (b : Block) (ss : List Slot) → has_block (blocks_of ss) b ≡ false → ((t : Slot) → same_block t.block b ≡ false → P t → Q t)
+    → AllByRecursion P ss → AllByRecursion Q ss
+all_others P Q b [] none f all = tt
+all_others P Q b (t ∷ ts) none f all =
+    by_test (λ y. (y || has_block (blocks_of ts) b) ≡ false → same_block t.block b ≡ y → AllByRecursion Q (t ∷ ts)) (same_block t.block b)
+    (λ same e _. absurd (true≢false e))
+    (λ other e is. (f t is all.0, all_others P Q b ts e f all.1)) none refl
+
+-- what ran of a slot's block is what the slot tells
+abbrev pub IsPart : List Ran → Slot → Type 0
+IsPart rs t = map untold (part_of rs t.block) ≡ ran_in t
+
+pub slot_parts : (rs : List Ran) (ss : List Slot) → map untold rs ≡ ran_of ss → AreApart (blocks_of ss) → AllByRecursion (IsPart rs) ss
+slot_parts rs [] e apart = tt
+slot_parts rs (s ∷ ss) e apart =
+    let p = split_at rs (ran_in s) (ran_of ss) e in
+    subst (λ xs. AllByRecursion (IsPart xs) (s ∷ ss)) p.all (
+      ap (map untold) (own_part p.first p.later s ss p.first_told p.later_told apart.0) ∙ p.first_told,
+      all_others (IsPart p.later) (IsPart (p.first ++ p.later)) s.block ss apart.0
+          (λ t other is.
+          let same : part_of p.later t.block ≡ part_of (p.first ++ p.later) t.block =
+          sym (filter-append (of_block t.block) p.first p.later ∙ ap (λ xs. xs ++ part_of p.later t.block) (none_of p.first s.block t.block 1 s.ran p.first_told (same_block-sym t.block s.block other))) in
+          ap (map untold) (sym same) ∙ is)
+          (slot_parts p.later ss p.later_told apart.1),
+    )
+
+-- ---- beginnings
+
+-- what ran of the block are the first entries of the block's log
+abbrev IsFirst : (Block → List Entry) → List Ran → Block → Type 0
+IsFirst log rs b = map untold (part_of rs b) ≡ numbered b 1 (take (length (part_of rs b)) (log b))
+
+length-numbered : (b : Block) (n : ℕ) (es : List Entry) → length (numbered b n es) ≡ length es
+length-numbered b n [] = refl
+length-numbered b n (e ∷ es) = ap suc (length-numbered b (n + 1) es)
+
+pub length-part : (rs : List Ran) (t : Slot) → map untold rs ≡ ran_in t → length rs ≡ length t.ran
+length-part rs t told = sym (length-map rs untold) ∙ ap length told ∙ length-numbered t.block 1 t.ran
+
+first_entries : (log : Block → List Entry) (rs : List Ran) (t : Slot) → map untold rs ≡ ran_in t → IsBegun log t → map untold rs ≡ numbered t.block 1 (take (length rs) (log t.block))
+first_entries log rs t told i =
+    let starts : take (length t.ran) (log t.block) ≡ t.ran =
+    ap (take (length t.ran)) (sym (sym (append_assoc t.ran t.rest i.behind) ∙ i.all)) ∙ take-append_seam t.ran (t.rest ++ i.behind) in
+    told ∙ ap (numbered t.block 1) (sym (ap (λ n. take n (log t.block)) (length-part rs t told) ∙ starts))
+
+all_firsts : (log : Block → List Entry) (rs : List Ran) (ss : List Slot) → AllByRecursion (IsPart rs) ss → AllByRecursion (IsBegun log) ss → AllByRecursion (IsFirst log rs) (blocks_of ss)
+all_firsts log rs [] parts begun = tt
+all_firsts log rs (s ∷ ss) parts begun = (first_entries log (part_of rs s.block) s parts.0 begun.0, all_firsts log rs ss parts.1 begun.1)
+
+-- ---- the tape of a site
+
+pub tape_shown :
+    (w : World) (s : Site) (qs : List PrivateQueue) (ss : List Slot) → AreApart s.opened
+    → TapeFits (λ b. log_of b (number_of s) w) qs s.opened (map untold s.ran) ss → Tape w s
+tape_shown w s qs ss apart f =
+    let slots_apart : AreApart (blocks_of ss) = subst AreApart f.opened apart in
+    let log : Block → List Entry = λ b. log_of b (number_of s) w in
+    record {
+      in_turn = in_turn s.ran ss f.ran slots_apart ∙ ap (flat_map (part_of s.ran)) (sym f.opened);
+      beginnings = subst (AllByRecursion (IsFirst log s.ran)) (sym f.opened) (all_firsts log s.ran ss (slot_parts s.ran ss f.ran slots_apart) f.begun);
+    }

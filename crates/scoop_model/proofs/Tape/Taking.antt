@@ -1,0 +1,153 @@
+-- What each row of the table by which a handler hears does to its slots, and what an open slot tells of its client's
+-- mark.
+use Rattle.std.proofs.Common.{◌≡◌, ℕ, ◌+◌, ◌-◌, Bool, true, false, not, IsTrue, List, [], ◌∷◌, ◌++◌, length, drop, Option, Some, None, refl, sym, ap, ◌∙◌, subst, arith, length-append, append_assoc, append-nil, true≢false}
+use Rattle.std.specs.Prelude.{IsFalse, if◌then◌else◌}
+use Rattle.std.specs.List.{AllByRecursion}
+use Rattle.std.proofs.lemmas.Option.{same_Some}
+use Rattle.scoop_message.specs.declared.name.Block.{Block}
+use Rattle.scoop_message.specs.declared.name.HandlerId.{HandlerId}
+use Rattle.scoop_message.specs.declared.request.Entry.{Entry}
+use Rattle.scoop_message.specs.declared.message.Message.{Message}
+use Rattle.scoop_message.specs.declared.message.Message.TheVariants.{Log}
+use Rattle.scoop_message.specs.Message.{same_block}
+use Rattle.scoop_queue.specs.declared.state.QueueState.{QueueState}
+use Rattle.scoop_queue.specs.declared.state.QueueState.TheVariants.{Open as TakesMore}
+use Rattle.scoop_queue.specs.Queue.{PrivateQueue, put_all}
+use Rattle.scoop_queue.proofs.Lookup.{same_block-true, same_block-refl}
+use Rattle.scoop_queue.proofs.Ends.{both}
+use Rattle.scoop_handler.specs.declared.mark.Mark.{Mark}
+use Rattle.scoop_handler.specs.Marks.{block_of, is_open, mark_of}
+use Rattle.scoop_handler.specs.State.{HandlerState, IsState, FitsMark, FitsNewest, HasMark}
+use Rattle.scoop_handler.specs.Hearing.{Hearing, new_entries}
+use Rattle.scoop_handler.specs.Rows.{Row, IsLogAt, IsNext, newer_greeting, open_granted, log_taken}
+use Rattle.scoop_handler.proofs.MarkLists.{none_some}
+use Rattle.scoop_handler.proofs.TableLaws.{block_of-same}
+use Rattle.scoop_model.specs.Step.{newly_opened}
+use Rattle.scoop_model.proofs.Basics.{by_test}
+use Rattle.scoop_model.proofs.Stands.{Stands}
+use Rattle.scoop_model.proofs.Order.Facts.{all_more_of}
+use Rattle.scoop_model.proofs.Tape.Slots.{Slot, slot_of, slot_queue, queues_of, slots_new, slots_put, put_in, put_slot, slots_cut}
+use Rattle.scoop_model.proofs.Tape.Fits.{IsBeginningOf, IsBegun, TapeFits, open_tape, cut_tape, put_tape, beginning_next}
+
+-- the slots after a row
+abbrev pub slots_after : (s : HandlerState) (m : Message) (h : Hearing) → Row s m h → List Slot → List Slot
+slots_after s m h (newer_greeting x c inc k here found newer) ss = slots_cut (block_of k) ss
+slots_after s m h (open_granted x b k here at same held room) ss = slots_new b ss
+slots_after s m h (log_taken x b n es k here at next goes_on room) ss = slots_put b (new_entries n es k) ss
+slots_after s m h r ss = ss
+
+-- ---- the private queues, as those of their slots
+
+pub record InQueue (P : PrivateQueue → Type 0) (s : Slot) : Type 0 where
+  pub has : (t : QueueState) → s.state ≡ Some t → P (slot_queue s t)
+
+pub each_queue : (P : PrivateQueue → Type 0) (ss : List Slot) → AllByRecursion P (queues_of ss) → AllByRecursion (InQueue P) ss
+each_queue P [] all = tt
+each_queue P (s ∷ ss) all = at s.block s.ran s.rest s.state all (each_queue P ss)
+  where
+    at :
+        (b : Block) (ran rest : List Entry) (o : Option QueueState) → AllByRecursion P (queues_of (slot_of b ran rest o ∷ ss))
+        → (AllByRecursion P (queues_of ss) → AllByRecursion (InQueue P) ss) → AllByRecursion (InQueue P) (slot_of b ran rest o ∷ ss)
+    at b ran rest None all later = (record { has = λ t e. absurd (none_some e) }, later all)
+    at b ran rest (Some u) all later = (record { has = λ t e. subst (λ v. P (slot_queue (slot_of b ran rest (Some u)) v)) (same_Some u t e) all.0 }, later all.1)
+
+pub all_both : {A : Type 0} (P Q R : A → Type 0) → ((a : A) → P a → Q a → R a) → (xs : List A) → AllByRecursion P xs → AllByRecursion Q xs → AllByRecursion R xs
+all_both P Q R f [] p q = tt
+all_both P Q R f (x ∷ xs) p q = (f x p.0 q.0, all_both P Q R f xs p.1 q.1)
+
+-- ---- an open slot
+
+-- the slot's block is its client's newest, open and not ended, and all that was received of it is in the slot
+pub record IsLive (marks : List Mark) (s : Slot) : Type 0 where
+  pub mark : Mark
+  pub found : mark_of s.block.client marks ≡ Some mark
+  pub newest : block_of mark ≡ s.block
+  pub stage : IsTrue (is_open mark.stage)
+  pub running : IsFalse mark.ended
+  pub received : mark.received ≡ length (s.ran ++ s.rest)
+
+pub record IsLiveIfOpen (marks : List Mark) (s : Slot) : Type 0 where
+  pub live : s.state ≡ Some TakesMore → IsLive marks s
+
+-- entries that were received of the client's newest block
+received_in : (s : Slot) (t : QueueState) (k : Mark) → FitsNewest (slot_queue s t) k → k.received ≡ length (s.ran ++ s.rest)
+received_in s t k fits = let next = fits.received in omega (arith, next, length-append s.ran s.rest)
+
+live_slot : (marks : List Mark) (s : Slot) → InQueue (HasMark marks) s → IsLiveIfOpen marks s
+live_slot marks s has = record {
+  live = λ e.
+      let h = has.has TakesMore e in
+      let same : block_of h.mark ≡ s.block = by_test (λ t. same_block (block_of h.mark) s.block ≡ t → block_of h.mark ≡ s.block) (same_block (block_of h.mark) s.block)
+      (λ is _. same_block-true (block_of h.mark) s.block is)
+      (λ other _. absurd (true≢false (h.fits.older (λ is. true≢false (sym (subst (λ b. same_block (block_of h.mark) b ≡ true) is (same_block-refl (block_of h.mark))) ∙ other)))))
+      refl in
+      let fits = h.fits.newest same in
+      let goes_on = both (is_open h.mark.stage) (not h.mark.ended) (fits.unfinished refl) in
+      record {
+        mark = h.mark;
+        found = h.found;
+        newest = same;
+        stage = goes_on.0;
+        running = not_true h.mark.ended goes_on.1;
+        received = received_in s TakesMore h.mark fits;
+      };
+}
+  where
+    not_true : (t : Bool) → IsTrue (not t) → IsFalse t
+    not_true true h = absurd (true≢false (sym h))
+    not_true false h = refl
+
+pub live_slots : (s : HandlerState) (ss : List Slot) → IsState s → s.queues ≡ queues_of ss → AllByRecursion (IsLiveIfOpen s.marks) ss
+live_slots s ss is queues =
+    all_more_of (InQueue (HasMark s.marks)) (IsLiveIfOpen s.marks) (live_slot s.marks) ss
+    (each_queue (HasMark s.marks) ss (subst (AllByRecursion (HasMark s.marks)) queues is.marked))
+
+-- ---- a Log is taken
+
+module _ (log : Block → List Entry) (s : HandlerState) (b : Block) (n : ℕ) (es : List Entry) (k : Mark) (at : IsLogAt s b k) (next : IsNext k n es) (st : Stands (log b) n es) where
+  grown : (c : Block) (ran rest : List Entry) (u : QueueState) → b ≡ c → IsBegun log (slot_of c ran rest (Some u)) → HasMark s.marks (slot_queue (slot_of c ran rest (Some u)) u)
+      → IsBegun log (put_slot (new_entries n es k) (slot_of c ran rest (Some u)) u)
+  grown c ran rest u is i has =
+      let there : mark_of c.client s.marks ≡ Some k = subst (λ (d : Block). mark_of d.client s.marks ≡ Some k) is at.heard.found in
+      let one : has.mark ≡ k = same_Some has.mark k (sym has.found ∙ there) in
+      let fits = (subst (FitsMark (slot_queue (slot_of c ran rest (Some u)) u)) one has.fits).newest (block_of-same s b k at.heard at.num ∙ is) in
+      let count : k.received ≡ length (ran ++ rest) = received_in (slot_of c ran rest (Some u)) u k fits in
+      let gap = next.no_gap in
+      let new = next.new in
+      let more = beginning_next (ran ++ rest) (log c) n es i (subst (λ d. Stands (log d) n es) is st) (omega (arith, gap, count)) (omega (arith, new, count)) in
+      subst (λ xs. IsBeginningOf xs (log c)) (append_assoc ran rest (drop (length (ran ++ rest) + 1 - n) es) ∙ ap (λ j. ran ++ (rest ++ drop (j + 1 - n) es)) (sym count)) more
+
+  put_begun : (t : Slot) → IsBegun log t → InQueue (HasMark s.marks) t → IsBegun log (put_in b (new_entries n es k) t)
+  put_begun t i has = by t.block t.ran t.rest t.state i has
+    where
+      by : (c : Block) (ran rest : List Entry) (o : Option QueueState) → IsBegun log (slot_of c ran rest o) → InQueue (HasMark s.marks) (slot_of c ran rest o) → IsBegun log (put_in b (new_entries n es k) (slot_of c ran rest o))
+      by c ran rest None i has = i
+      by c ran rest (Some u) i has =
+          by_test (λ y. IsBegun log (if y then put_slot (new_entries n es k) (slot_of c ran rest (Some u)) u else slot_of c ran rest (Some u))) (same_block b c)
+          (λ same. grown c ran rest u (same_block-true b c same) i (has.has u refl))
+          (λ other. i)
+
+  take_tape : (bs : List Block) (rs : List (Block × ℕ × Entry)) (ss : List Slot) → IsState s → TapeFits log s.queues bs rs ss → TapeFits log (put_all b (new_entries n es k) s.queues) bs rs (slots_put b (new_entries n es k) ss)
+  take_tape bs rs ss is f =
+      put_tape log s.queues bs rs ss f b (new_entries n es k) is.queues.apart
+      (all_both (IsBegun log) (InQueue (HasMark s.marks)) (λ t. IsBegun log (put_in b (new_entries n es k) t)) put_begun ss f.begun
+      (each_queue (HasMark s.marks) ss (subst (AllByRecursion (HasMark s.marks)) f.queues is.marked)))
+
+-- ---- every row
+
+-- the entries of a Log stand in the log of its block
+abbrev pub StandsIfLog : (Block → List Entry) → Message → Type 0
+StandsIfLog log m = (h : HandlerId) (b : Block) (n : ℕ) (es : List Entry) → m ≡ Log h b n es → Stands (log b) n es
+
+same_opened :
+    (log : Block → List Entry) (qs : List PrivateQueue) (bs : List Block) (rs : List (Block × ℕ × Entry)) (ss : List Slot)
+    → TapeFits log qs bs rs ss → TapeFits log qs (bs ++ []) rs ss
+same_opened log qs bs rs ss f = subst (λ xs. TapeFits log qs xs rs ss) (sym (append-nil bs)) f
+
+pub row_tape :
+    (log : Block → List Entry) (s : HandlerState) (m : Message) (h : Hearing) (r : Row s m h) (bs : List Block) (rs : List (Block × ℕ × Entry)) (ss : List Slot)
+    → IsState s → StandsIfLog log m → TapeFits log s.queues bs rs ss → TapeFits log h.0.queues (bs ++ newly_opened h.1.note) rs (slots_after s m h r ss)
+row_tape log s m h (newer_greeting x c inc k here found newer) bs rs ss is st f = same_opened log _ bs rs _ (cut_tape log s.queues bs rs ss f (block_of k) is.queues.apart)
+row_tape log s m h (open_granted x b k here at same held room) bs rs ss is st f = open_tape log s.queues bs rs ss f b
+row_tape log s m h (log_taken x b n es k here at next goes_on room) bs rs ss is st f = same_opened log _ bs rs _ (take_tape log s b n es k at next (st x b n es refl) bs rs ss is f)
+row_tape log s m h r bs rs ss is st f = same_opened log s.queues bs rs ss f

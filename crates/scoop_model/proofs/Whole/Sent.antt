@@ -1,0 +1,127 @@
+-- What the messages sent so far tell of a handler, as one more is sent.
+use Rattle.std.proofs.Common.{◌≡◌, ℕ, ◌≤◌, ◌<◌, true, false, ◌||◌, true≢false, List, [], ◌∷◌, ◌++◌, Option, Some, None, refl, sym, ap, ◌∙◌, arith, append-nil}
+use Rattle.std.specs.Prelude.{max, nat_lt, ◌&&◌, if◌then◌else◌, option_to_list}
+use Rattle.std.specs.List.{list_any}
+use Rattle.std.proofs.lemmas.Bool.Decides.{nat_tests}
+use Rattle.std.proofs.lemmas.List.Folds.{list_any-append}
+use Rattle.scoop_message.specs.declared.name.Block.{Block}
+use Rattle.scoop_message.specs.declared.name.ClientId.{ClientId}
+use Rattle.scoop_message.specs.declared.name.HandlerId.{HandlerId}
+use Rattle.scoop_message.specs.declared.message.Message.{Message}
+use Rattle.scoop_message.specs.declared.message.Message.TheVariants.{Hello, Welcome, Lock, Locked, Busy, Open, Opened, Unlock, Unlocked, Log, Logged, Answer}
+use Rattle.scoop_message.specs.Message.{handler_of, is_for_handler, same_block, same_client, same_handler}
+use Rattle.scoop_message.proofs.Same.{block_decides, client_decides, handler_decides}
+use Rattle.scoop_model.specs.World.{is_newer_welcome, count_in, greatest_count}
+use Rattle.scoop_model.proofs.Basics.{by_test}
+
+-- ---- one message
+
+same_handler_itself : (h : HandlerId) → same_handler h h ≡ true
+same_handler_itself h = (handler_decides h h).1 refl
+
+-- a count is told of its own handler and block
+pub count_itself : (h : HandlerId) (b : Block) (n : ℕ) → count_in h b (Logged h b n) ≡ n
+count_itself h b n = ap (λ t. if t then n else 0) (ap (λ t. t && same_block b b) (same_handler_itself h) ∙ (block_decides b b).1 refl)
+
+-- and of no other
+pub count_other : (x h : HandlerId) (y b : Block) (n : ℕ) → (x ≡ h → y ≡ b → ⊥) → count_in h b (Logged x y n) ≡ 0
+count_other x h y b n apart =
+    by_test (λ t. same_handler x h ≡ t → (if t && same_block y b then n else 0) ≡ 0) (same_handler x h)
+    (λ _ here. by_test (λ t. same_block y b ≡ t → (if t then n else 0) ≡ 0) (same_block y b) (λ _ is. absurd (apart ((handler_decides x h).0 here) ((block_decides y b).0 is))) (λ _ is. refl) refl)
+    (λ _ there. refl) refl
+
+-- nor is one told by a message of another handler
+count_elsewhere : (h : HandlerId) (b : Block) (m : Message) → (handler_of m ≡ h → ⊥) → count_in h b m ≡ 0
+count_elsewhere h b (Logged x y n) apart = count_other x h y b n (λ e f. apart e)
+count_elsewhere h b (Hello x c inc) apart = refl
+count_elsewhere h b (Welcome x c inc) apart = refl
+count_elsewhere h b (Lock x y) apart = refl
+count_elsewhere h b (Locked x y) apart = refl
+count_elsewhere h b (Busy x y) apart = refl
+count_elsewhere h b (Open x y) apart = refl
+count_elsewhere h b (Opened x y) apart = refl
+count_elsewhere h b (Unlock x y) apart = refl
+count_elsewhere h b (Unlocked x y) apart = refl
+count_elsewhere h b (Log x y n es) apart = refl
+count_elsewhere h b (Answer x y n a) apart = refl
+
+-- or by one that goes to a handler
+count_of_client : (h : HandlerId) (b : Block) (m : Message) → is_for_handler m ≡ true → count_in h b m ≡ 0
+count_of_client h b (Hello x c inc) goes = refl
+count_of_client h b (Welcome x c inc) goes = refl
+count_of_client h b (Lock x y) goes = refl
+count_of_client h b (Locked x y) goes = refl
+count_of_client h b (Busy x y) goes = refl
+count_of_client h b (Open x y) goes = refl
+count_of_client h b (Opened x y) goes = refl
+count_of_client h b (Unlock x y) goes = refl
+count_of_client h b (Unlocked x y) goes = refl
+count_of_client h b (Log x y n es) goes = refl
+count_of_client h b (Logged x y n) goes = absurd (true≢false (sym goes))
+count_of_client h b (Answer x y n a) goes = refl
+
+-- a welcome to a newer incarnation
+newer_welcome : (h : HandlerId) (b : Block) (c : ClientId) (inc : ℕ) → b.client ≡ c → b.inc < inc → is_newer_welcome h b (Welcome h c inc) ≡ true
+newer_welcome h b c inc own newer =
+    ap (λ t. t && (same_client c b.client && nat_lt b.inc inc)) (same_handler_itself h)
+    ∙ (ap (λ t. t && nat_lt b.inc inc) ((client_decides c b.client).1 (sym own)) ∙ below newer)
+  where
+    below : b.inc < inc → nat_lt b.inc inc ≡ true
+    below e = grind (arith, nat_tests)
+
+-- ---- one message more
+
+greatest_pushed : (h : HandlerId) (b : Block) (ms : List Message) (m : Message) → greatest_count h b (ms ++ m ∷ []) ≡ max (greatest_count h b ms) (count_in h b m)
+greatest_pushed h b [] m = omega arith
+greatest_pushed h b (x ∷ xs) m = let later = greatest_pushed h b xs m in omega (arith, later)
+
+-- how many entries of the block the message tells, where there is one
+abbrev pub told_in : HandlerId → Block → Option Message → ℕ
+told_in h b None = 0
+told_in h b (Some m) = count_in h b m
+
+-- a count that isn't above the greatest one leaves it
+pub greatest_stays : (h : HandlerId) (b : Block) (ms : List Message) (o : Option Message) → told_in h b o ≤ greatest_count h b ms → greatest_count h b (ms ++ option_to_list o) ≡ greatest_count h b ms
+greatest_stays h b ms None le = ap (greatest_count h b) (append-nil ms)
+greatest_stays h b ms (Some m) le = let more = greatest_pushed h b ms m in omega (arith, more, le)
+
+-- and one that isn't below it is the greatest
+pub greatest_new : (h : HandlerId) (b : Block) (ms : List Message) (n : ℕ) → greatest_count h b ms ≤ n → greatest_count h b (ms ++ Logged h b n ∷ []) ≡ n
+greatest_new h b ms n le = let more = greatest_pushed h b ms (Logged h b n) in let own = count_itself h b n in omega (arith, more, own, le)
+
+-- the handler has welcomed a newer incarnation of the block's client
+abbrev pub IsGreeted : HandlerId → Block → List Message → Type 0
+IsGreeted h b ms = list_any (is_newer_welcome h b) ms ≡ true
+
+pub greeted_more : (h : HandlerId) (b : Block) (ms : List Message) (o : Option Message) → IsGreeted h b ms → IsGreeted h b (ms ++ option_to_list o)
+greeted_more h b ms o e = list_any-append (is_newer_welcome h b) ms (option_to_list o) ∙ ap (λ t. t || list_any (is_newer_welcome h b) (option_to_list o)) e
+
+pub greeted_last : (h : HandlerId) (b : Block) (ms : List Message) (c : ClientId) (inc : ℕ) → b.client ≡ c → b.inc < inc → IsGreeted h b (ms ++ Welcome h c inc ∷ [])
+greeted_last h b [] c inc own newer = ap (λ t. t || false) (newer_welcome h b c inc own newer)
+greeted_last h b (m ∷ ms) c inc own newer =
+    by_test (λ t. (t || list_any (is_newer_welcome h b) (ms ++ Welcome h c inc ∷ [])) ≡ true) (is_newer_welcome h b m) (λ first. refl) (λ later. greeted_last h b ms c inc own newer)
+
+-- ---- messages that tell a handler's counts as before
+
+pub record TellsAlike (h : HandlerId) (ms ns : List Message) : Type 0 where
+  pub greeted : (b : Block) → IsGreeted h b ms → IsGreeted h b ns
+  pub counted : (b : Block) → greatest_count h b ns ≡ greatest_count h b ms
+
+pub alike_same : (h : HandlerId) (ms : List Message) → TellsAlike h ms ms
+alike_same h ms = record { greeted = λ b e. e; counted = λ b. refl }
+
+pub alike_more : (h : HandlerId) (ms : List Message) (o : Option Message) → ((b : Block) → told_in h b o ≤ greatest_count h b ms) → TellsAlike h ms (ms ++ option_to_list o)
+alike_more h ms o le = record { greeted = λ b e. greeted_more h b ms o e; counted = λ b. greatest_stays h b ms o (le b) }
+
+none_told : (h : HandlerId) (ms : List Message) (o : Option Message) → ((b : Block) → told_in h b o ≡ 0) → TellsAlike h ms (ms ++ option_to_list o)
+none_told h ms o none = alike_more h ms o (λ b. let e = none b in omega (arith, e))
+
+-- what a client sends
+pub alike_from_client : (h : HandlerId) (ms : List Message) (o : Option Message) → ((m : Message) → o ≡ Some m → is_for_handler m ≡ true) → TellsAlike h ms (ms ++ option_to_list o)
+alike_from_client h ms None goes = none_told h ms None (λ b. refl)
+alike_from_client h ms (Some m) goes = none_told h ms (Some m) (λ b. count_of_client h b m (goes m refl))
+
+-- what another handler replies
+pub alike_elsewhere : (h : HandlerId) (ms : List Message) (o : Option Message) → ((m : Message) → o ≡ Some m → handler_of m ≡ h → ⊥) → TellsAlike h ms (ms ++ option_to_list o)
+alike_elsewhere h ms None apart = none_told h ms None (λ b. refl)
+alike_elsewhere h ms (Some m) apart = none_told h ms (Some m) (λ b. count_elsewhere h b m (apart m refl))

@@ -1,0 +1,312 @@
+-- A block whose private queue is gone has run to its End, or a newer incarnation of its client has greeted; and of each
+-- block as many entries were received as the greatest count tells. Every change of the slots keeps it.
+use Rattle.std.proofs.Common.{◌≡◌, ◌⊎◌, inl, inr, ◌+◌, ◌<◌, ◌≤◌, Bool, true, false, ◌||◌, ◌&&◌, ◌==◌, not, IsTrue, true≢false, List, [], ◌∷◌, ◌++◌, length, map, Option, Some, None, refl, sym, ap, ◌∙◌, subst, ⊎_elim, arith, length-append}
+use Rattle.std.specs.Prelude.{if◌then◌else◌}
+use Rattle.std.specs.List.{AllByRecursion}
+use Rattle.std.proofs.lemmas.Bool.{eqb-true}
+use Rattle.scoop_message.specs.declared.name.Block.{Block}
+use Rattle.scoop_message.specs.declared.name.HandlerId.{HandlerId}
+use Rattle.scoop_message.specs.declared.request.Entry.{Entry}
+use Rattle.scoop_message.specs.declared.message.Message.{Message}
+use Rattle.scoop_message.specs.Entry.{is_end}
+use Rattle.scoop_message.specs.Entries.{EndOnlyLast, ends}
+use Rattle.scoop_message.specs.Message.{same_block}
+use Rattle.scoop_queue.specs.declared.state.QueueState.{QueueState}
+use Rattle.scoop_queue.specs.declared.state.QueueState.TheVariants.{Open, Ended, Cut}
+use Rattle.scoop_queue.specs.Queue.{is_open, is_ended, is_cut, goes_with}
+use Rattle.scoop_queue.specs.Sound.{IsQueue}
+use Rattle.scoop_queue.proofs.Ends.{both, ends-append}
+use Rattle.scoop_handler.specs.declared.mark.Mark.{Mark}
+use Rattle.scoop_handler.specs.declared.ran.Ran.{Ran}
+use Rattle.scoop_handler.specs.Growing.{MarksGrow, Grows, IsNewer, IsFurther}
+use Rattle.scoop_handler.specs.Marks.{block_of, mark_of}
+use Rattle.scoop_handler.specs.State.{HasMark}
+use Rattle.scoop_handler.specs.Running.{mark_after}
+use Rattle.scoop_handler.proofs.After.{MarksGrow-after}
+use Rattle.scoop_handler.proofs.MarkLists.{mark_of-client}
+use Rattle.scoop_model.specs.World.{greatest_count}
+use Rattle.scoop_model.proofs.Basics.{by_test}
+use Rattle.scoop_model.proofs.Order.Holding.{IsReachedIn, Upto, reached_more}
+use Rattle.scoop_model.proofs.Order.Lists.{same_block_is}
+use Rattle.scoop_model.proofs.Tape.Taking.{InQueue, each_queue, all_both}
+use Rattle.scoop_model.proofs.Tape.Slots.{Slot, slot_of, new_slot, put_slot, put_in, slots_put, state_cut, cut_slot, cut_in, slots_cut, run_rest, slots_run, slot_queue, queues_of, each_kept, each_run}
+
+-- ---- what the marks tell of a block
+
+-- what comes behind all blocks of the block's incarnation
+abbrev next_incarnation : Block → Block
+next_incarnation b = record { client = b.client; inc = b.inc + 1; num = 0 }
+
+-- the client is in a newer incarnation than the block's
+abbrev pub IsPassed : List Mark → Block → Type 0
+IsPassed marks b = IsReachedIn marks (next_incarnation b)
+
+-- where the block is its client's newest, it has ended
+abbrev pub HasEnded : List Mark → Block → Type 0
+HasEnded marks b = (k : Mark) → mark_of b.client marks ≡ Some k → block_of k ≡ b → k.ended ≡ true
+
+mark_is : (o : Option Mark) (k x : Mark) → o ≡ Some k → o ≡ Some x → k ≡ x
+mark_is o k x e f = cc
+
+-- a block of an older incarnation isn't the client's newest
+passed_ended : (marks : List Mark) (b : Block) → IsPassed marks b → HasEnded marks b
+passed_ended marks b p k found own =
+    let same : p.mark ≡ k = mark_is (mark_of b.client marks) p.mark k p.found found in
+    let inc : k.inc ≡ b.inc = ap (λ (y : Block). y.inc) own in
+    let le : b.inc + 1 ≤ k.inc = subst (λ (y : Mark). b.inc + 1 ≤ y.inc) same p.upto.inc in
+    absurd (omega (arith, inc, le))
+
+pub passed_from : (marks : List Mark) (b : Block) (k : Mark) → mark_of b.client marks ≡ Some k → b.inc < k.inc → IsPassed marks b
+passed_from marks b k found newer = record { mark = k; found = found; upto = record { inc = omega (arith, newer); num = λ e. omega arith } }
+
+-- what has ended stays so, however the marks grow
+ended_more : (old new : List Mark) (b : Block) → MarksGrow old new → IsReachedIn old b → HasEnded old b → HasEnded new b
+ended_more old new b grows r has x found own =
+    let k = r.mark in
+    let g = grows b.client k r.found in
+    let same : g.0 ≡ x = mark_is (mark_of b.client new) g.0 x g.1 found in
+    ⊎_elim (λ (n : IsNewer k x). absurd (past k n r.upto)) (λ (f : IsFurther k x). f.ended (has k r.found (block_is k f r.found))) (subst (Grows k) same g.2)
+  where
+    inc : x.inc ≡ b.inc
+    inc = ap (λ (y : Block). y.inc) own
+
+    num : x.num ≡ b.num
+    num = ap (λ (y : Block). y.num) own
+
+    past : (k : Mark) → IsNewer k x → Upto b.inc b.num k.inc k.num → ⊥
+    past k n u =
+        let i = inc in
+        let j = num in
+        ⊎_elim
+        (λ (p : k.inc < x.inc). let le = u.inc in omega (arith, le, p, i))
+        (λ (p : (k.inc ≡ x.inc) × (k.num < x.num)). let le = u.num (p.0 ∙ i) in let lt = p.1 in omega (arith, le, lt, j))
+        n
+
+    block_is : (k : Mark) → IsFurther k x → mark_of b.client old ≡ Some k → block_of k ≡ b
+    block_is k f at i = record { client = mark_of-client b.client old k at i; inc = (f.inc ∙ inc) i; num = (f.num ∙ num) i }
+
+-- ---- one slot
+
+abbrev pub takes_more : Option QueueState → Bool
+takes_more None = false
+takes_more (Some t) = is_open t
+
+-- a block with no private queue left has nothing pending, and has ended or been succeeded
+pub record IsDone (marks : List Mark) (t : Slot) : Type 0 where
+  pub rest : t.rest ≡ []
+  pub whole : IsTrue (ends t.ran) ⊎ IsPassed marks t.block
+
+pub record SlotWhole (ms : List Message) (h : HandlerId) (marks : List Mark) (t : Slot) : Type 0 where
+  pub reached : IsReachedIn marks t.block
+  pub ended : takes_more t.state ≡ false → HasEnded marks t.block
+  pub gone : t.state ≡ None → IsDone marks t
+  pub received : greatest_count h t.block ms ≡ length t.ran + length t.rest
+
+pub slot_more :
+    (ms ns : List Message) (h : HandlerId) (old new : List Mark) (t : Slot) → MarksGrow old new → greatest_count h t.block ns ≡ greatest_count h t.block ms
+    → SlotWhole ms h old t → SlotWhole ns h new t
+slot_more ms ns h old new t grows same w = record {
+  reached = reached_more old new t.block grows w.reached;
+  ended = λ off. ended_more old new t.block grows w.reached (w.ended off);
+  gone = λ none. (
+      let d = w.gone none in
+      record { rest = d.rest; whole = ⊎_elim (λ (e : IsTrue (ends t.ran)). inl e) (λ (p : IsPassed old t.block). inr (reached_more old new (next_incarnation t.block) grows p)) d.whole });
+  received = same ∙ w.received;
+}
+
+-- ---- a block opens
+
+pub new_whole : (ms : List Message) (h : HandlerId) (marks : List Mark) (b : Block) → IsReachedIn marks b → greatest_count h b ms ≡ 0 → SlotWhole ms h marks (new_slot b)
+new_whole ms h marks b reached none = record {
+  reached = reached;
+  ended = λ off. absurd (true≢false off);
+  gone = λ none. absurd (cc);
+  received = none;
+}
+
+-- ---- a block's queue is cut
+
+cut_whole : (ms : List Message) (h : HandlerId) (marks : List Mark) (b : Block) (t : Slot) → IsPassed marks b → SlotWhole ms h marks t → SlotWhole ms h marks (cut_in b t)
+cut_whole ms h marks b t passed w = at t.block t.ran t.rest t.state w.reached w.ended w.gone w.received
+  where
+    at :
+        (c : Block) (ran rest : List Entry) (o : Option QueueState) → IsReachedIn marks c → (takes_more o ≡ false → HasEnded marks c)
+        → (o ≡ None → IsDone marks (slot_of c ran rest o)) → greatest_count h c ms ≡ length ran + length rest
+        → SlotWhole ms h marks (cut_in b (slot_of c ran rest o))
+    at c ran rest None reached ended gone received = record { reached = reached; ended = ended; gone = gone; received = received }
+    at c ran rest (Some q) reached ended gone received =
+        let s : Slot = slot_of c ran rest (Some q) in
+        by_test (λ y. same_block b c ≡ y → SlotWhole ms h marks (if y then cut_slot s q else s)) (same_block b c)
+        (λ _ is.
+        let over : IsPassed marks c = subst (IsPassed marks) (same_block_is b c is) passed in
+        record {
+          reached = reached;
+          ended = λ off. passed_ended marks c over;
+          gone = λ none. record { rest = left q rest none; whole = inr over };
+          received = received;
+        })
+        (λ _ is. record { reached = reached; ended = ended; gone = gone; received = received })
+        refl
+      where
+        left : (q : QueueState) (es : List Entry) → (if is_open q then state_cut es else Some q) ≡ None → es ≡ []
+        left Open [] e = refl
+        left Open (x ∷ xs) e = absurd (cc)
+        left Ended es e = absurd (cc)
+        left Cut es e = absurd (cc)
+
+pub slots_cut_whole :
+    (ms : List Message) (h : HandlerId) (marks : List Mark) (b : Block) (ss : List Slot) → IsPassed marks b → AllByRecursion (SlotWhole ms h marks) ss
+    → AllByRecursion (SlotWhole ms h marks) (slots_cut b ss)
+slots_cut_whole ms h marks b ss passed all = each_kept (SlotWhole ms h marks) (SlotWhole ms h marks) (cut_in b) (λ t w. cut_whole ms h marks b t passed w) ss all
+
+-- ---- entries are put
+
+-- what is so of a block as entries of it are taken
+pub record IsTaken (ms ns : List Message) (h : HandlerId) (old new : List Mark) (b : Block) (es : List Entry) : Type 0 where
+  pub grows : MarksGrow old new
+  pub mark : Mark
+  pub found : mark_of b.client old ≡ Some mark
+  pub newest : block_of mark ≡ b
+  pub running : mark.ended ≡ false
+  pub next : Mark
+  pub now : mark_of b.client new ≡ Some next
+  pub ended : ends es ≡ true → next.ended ≡ true
+  pub more : greatest_count h b ns ≡ greatest_count h b ms + length es
+  pub others : (x : Block) → same_block b x ≡ false → greatest_count h x ns ≡ greatest_count h x ms
+
+put_whole : (ms ns : List Message) (h : HandlerId) (old new : List Mark) (b : Block) (es : List Entry) → IsTaken ms ns h old new b es → (t : Slot) → SlotWhole ms h old t → SlotWhole ns h new (put_in b es t)
+put_whole ms ns h old new b es k t w = at t.block t.ran t.rest t.state w
+  where
+    -- the block has not ended
+    still_runs : (c : Block) → same_block b c ≡ true → HasEnded old c → ⊥
+    still_runs c is has = true≢false (sym (subst (HasEnded old) (sym (same_block_is b c is)) has k.mark k.found k.newest) ∙ k.running)
+
+    at :
+        (c : Block) (ran rest : List Entry) (o : Option QueueState) → SlotWhole ms h old (slot_of c ran rest o)
+        → SlotWhole ns h new (put_in b es (slot_of c ran rest o))
+    at c ran rest None w =
+        let s : Slot = slot_of c ran rest None in
+        by_test (λ y. same_block b c ≡ y → SlotWhole ns h new s) (same_block b c)
+        (λ _ is. absurd (still_runs c is (w.ended refl)))
+        (λ _ is. slot_more ms ns h old new s k.grows (k.others c is) w)
+        refl
+    at c ran rest (Some q) w =
+        let s : Slot = slot_of c ran rest (Some q) in
+        by_test (λ y. same_block b c ≡ y → SlotWhole ns h new (if y then put_slot es s q else s)) (same_block b c)
+        (λ _ is. own q is w)
+        (λ _ is. slot_more ms ns h old new s k.grows (k.others c is) w)
+        refl
+      where
+        own : (q : QueueState) → same_block b c ≡ true → SlotWhole ms h old (slot_of c ran rest (Some q)) → SlotWhole ns h new (put_slot es (slot_of c ran rest (Some q)) q)
+        own Ended is w = absurd (still_runs c is (w.ended refl))
+        own Cut is w = absurd (still_runs c is (w.ended refl))
+        own Open is w =
+            let one : b ≡ c = same_block_is b c is in
+            record {
+              reached = reached_more old new c k.grows w.reached;
+              ended = λ off.
+                  let last : ends es ≡ true = by_test (λ u. takes_more (Some (if u then Ended else Open)) ≡ false → u ≡ true) (ends es) (λ _ _. refl) (λ _ f. absurd (true≢false f)) off in
+                  subst (HasEnded new) one (λ x found own. subst (λ (y : Mark). y.ended ≡ true) (mark_is (mark_of b.client new) k.next x k.now found) (k.ended last));
+              gone = λ none. absurd (cc);
+              received =
+                  let count : greatest_count h c ns ≡ greatest_count h c ms + length es = subst (λ x. greatest_count h x ns ≡ greatest_count h x ms + length es) one k.more in
+                  let was = w.received in
+                  omega (arith, count, was, length-append rest es);
+            }
+
+pub slots_put_whole :
+    (ms ns : List Message) (h : HandlerId) (old new : List Mark) (b : Block) (es : List Entry) (ss : List Slot) → IsTaken ms ns h old new b es
+    → AllByRecursion (SlotWhole ms h old) ss → AllByRecursion (SlotWhole ns h new) (slots_put b es ss)
+slots_put_whole ms ns h old new b es ss k all = each_kept (SlotWhole ms h old) (SlotWhole ns h new) (put_in b es) (put_whole ms ns h old new b es k) ss all
+
+-- ---- the first entry runs
+
+-- an End that stands only last leaves nothing behind it
+end_last : (e : Entry) (es : List Entry) → EndOnlyLast (e ∷ es) → is_end e ≡ true → es ≡ []
+end_last e [] only is = refl
+end_last e (x ∷ xs) only is = absurd (true≢false (sym (both (not (is_end e)) _ only).0 ∙ ap not is))
+
+none_behind : (es : List Entry) → (length es == 0) ≡ true → es ≡ []
+none_behind [] e = refl
+none_behind (x ∷ xs) e = absurd (let l = eqb-true (length (x ∷ xs)) 0 e in omega (arith, l))
+
+or_cases : (t u : Bool) → (t || u) ≡ true → (t ≡ true) ⊎ (u ≡ true)
+or_cases true u e = inl refl
+or_cases false u e = inr e
+
+-- an entry goes ahead of others, in a queue that is as all are
+module _ (ms : List Message) (h : HandlerId) (old new : List Mark) (grows : MarksGrow old new) (c : Block) (ran : List Entry) (e : Entry) (es : List Entry) (q : QueueState) where
+  abbrev before : Slot
+  before = slot_of c ran (e ∷ es) (Some q)
+
+  abbrev behind : Bool → Slot
+  behind y = slot_of c (ran ++ e ∷ []) es (if y then None else Some q)
+
+  module _ (sound : IsQueue (slot_queue before q)) (has : HasMark old (slot_queue before q)) (w : SlotWhole ms h old before) where
+    -- an open queue's entries have no End among them
+    open_stays : q ≡ Open → goes_with q e es ≡ true → ⊥
+    open_stays is goes =
+        let ends_it : is_end e ≡ true =
+        ⊎_elim (λ (p : is_end e ≡ true). p) (λ (p : (is_cut q && length es == 0) ≡ true). absurd (true≢false (sym p ∙ ap (λ t. is_cut t && length es == 0) is)))
+        (or_cases (is_end e) (is_cut q && length es == 0) goes) in
+        true≢false (sym ends_it ∙ ap (λ xs. ends (e ∷ xs)) (sym (end_last e es sound.end ends_it)) ∙ sound.ended ∙ ap is_ended is)
+
+    goes_done : goes_with q e es ≡ true → IsDone new (behind true)
+    goes_done goes =
+        ⊎_elim
+        (λ (p : is_end e ≡ true). record { rest = end_last e es sound.end p; whole = inl (ends-append ran (e ∷ []) (omega arith) ∙ p) })
+        (λ (p : (is_cut q && length es == 0) ≡ true).
+        let b = both (is_cut q) (length es == 0) p in
+        record {
+          rest = none_behind es b.1;
+          whole = inr (reached_more old new (next_incarnation c) grows (passed_from old c has.mark has.found (has.fits.cut b.0)));
+        })
+        (or_cases (is_end e) (is_cut q && length es == 0) goes)
+
+    has_ended : (y : Bool) → goes_with q e es ≡ y → takes_more (if y then None else Some q) ≡ false → HasEnded old c
+    has_ended true goes off = by_state q refl
+      where
+        by_state : (t : QueueState) → q ≡ t → HasEnded old c
+        by_state Open is = absurd (open_stays is goes)
+        by_state Ended is = w.ended (ap is_open is)
+        by_state Cut is = w.ended (ap is_open is)
+    has_ended false goes off = w.ended off
+
+    runs_whole : (y : Bool) → goes_with q e es ≡ y → SlotWhole ms h new (behind y)
+    runs_whole y goes = record {
+      reached = reached_more old new c grows w.reached;
+      ended = λ off. ended_more old new c grows w.reached (has_ended y goes off);
+      gone = by_gone y goes;
+      received = w.received ∙ omega (arith, length-append ran (e ∷ []));
+    }
+      where
+        by_gone : (y : Bool) → goes_with q e es ≡ y → (behind y).state ≡ None → IsDone new (behind y)
+        by_gone true goes none = goes_done goes
+        by_gone false goes none = absurd (cc)
+
+run_whole :
+    (ms : List Message) (h : HandlerId) (old new : List Mark) → MarksGrow old new → (t : Slot) (q : QueueState) → t.state ≡ Some q → IsQueue (slot_queue t q) → HasMark old (slot_queue t q) → SlotWhole ms h old t
+    → SlotWhole ms h new (run_rest t q t.rest)
+run_whole ms h old new grows t q is sound has w = at t.block t.ran t.rest t.state is sound has w
+  where
+    at :
+        (c : Block) (ran rest : List Entry) (o : Option QueueState) → o ≡ Some q → IsQueue (slot_queue (slot_of c ran rest o) q)
+        → HasMark old (slot_queue (slot_of c ran rest o) q) → SlotWhole ms h old (slot_of c ran rest o)
+        → SlotWhole ms h new (run_rest (slot_of c ran rest o) q rest)
+    at c ran [] o is sound has w = slot_more ms ms h old new (slot_of c ran [] o) grows refl w
+    at c ran (e ∷ es) o is sound has w =
+        runs_whole ms h old new grows c ran e es q sound has (subst (λ (p : Option QueueState). SlotWhole ms h old (slot_of c ran (e ∷ es) p)) is w) (goes_with q e es) refl
+
+pub slots_run_whole :
+    (ms : List Message) (h : HandlerId) (marks : List Mark) (r : Ran) (ss : List Slot) → AllByRecursion IsQueue (queues_of ss) → AllByRecursion (HasMark marks) (queues_of ss)
+    → AllByRecursion (SlotWhole ms h marks) ss → AllByRecursion (SlotWhole ms h (map (mark_after r) marks)) (slots_run ss)
+slots_run_whole ms h marks r ss sound marked all =
+    let new : List Mark = map (mark_after r) marks in
+    let grows = MarksGrow-after r marks in
+    let Before : Slot → Type 0 = λ t. SlotWhole ms h marks t × InQueue IsQueue t × InQueue (HasMark marks) t in
+    each_run Before (SlotWhole ms h new)
+    (λ t p. slot_more ms ms h marks new t grows refl p.0)
+    (λ t q is p. run_whole ms h marks new grows t q is (p.1.has q is) (p.2.has q is) p.0)
+    ss
+    (all_both (SlotWhole ms h marks) (λ t. InQueue IsQueue t × InQueue (HasMark marks) t) Before (λ t w k. (w, k.0, k.1)) ss all
+    (all_both (InQueue IsQueue) (InQueue (HasMark marks)) (λ t. InQueue IsQueue t × InQueue (HasMark marks) t) (λ t a b. (a, b)) ss (each_queue IsQueue ss sound) (each_queue (HasMark marks) ss marked)))

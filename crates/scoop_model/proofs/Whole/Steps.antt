@@ -1,0 +1,225 @@
+-- Every event keeps what is so of the sites, and it is so of a world that opens.
+use Rattle.std.proofs.Common.{◌≡◌, ℕ, ◌==◌, ◌<◌, Bool, true, false, true≢false, List, [], ◌∷◌, map, Option, Some, None, refl, sym, ap, ◌∙◌, subst, arith}
+use Rattle.std.specs.Prelude.{if◌then◌else◌}
+use Rattle.std.specs.List.{AllByRecursion}
+use Rattle.scoop_message.specs.declared.name.Block.{Block}
+use Rattle.scoop_message.specs.declared.name.HandlerId.{HandlerId}
+use Rattle.scoop_message.specs.declared.message.Message.{Message}
+use Rattle.scoop_message.specs.declared.message.Message.TheVariants.{Hello, Lock, Open, Unlock, Log}
+use Rattle.scoop_message.specs.Message.{handler_of, is_for_handler}
+use Rattle.scoop_message.proofs.Same.{handler_decides}
+use Rattle.scoop_queue.specs.Sound.{IsQueue}
+use Rattle.scoop_reserve.specs.declared.stage.Stage.{Stage}
+use Rattle.scoop_reserve.specs.declared.stage.Stage.TheVariants.{Locking, Opening, Unlocking, GivingUp as GivingBack}
+use Rattle.scoop_reserve.specs.Handlers.{has, is_lowest}
+use Rattle.scoop_reserve.specs.State.{ReservationState}
+use Rattle.scoop_reserve.specs.Due.{due_in}
+use Rattle.scoop_handler.specs.State.{HandlerState, HasMark, IsState}
+use Rattle.scoop_handler.specs.Core.{IsCore, core_of}
+use Rattle.scoop_handler.specs.Hearing.{Hearing, hear}
+use Rattle.scoop_handler.specs.Replies.{HasEntries}
+use Rattle.scoop_handler.specs.Rows.{Row}
+use Rattle.scoop_handler.specs.Running.{Task, job_out, ran_of}
+use Rattle.scoop_handler.proofs.TableRows.{row}
+use Rattle.scoop_handler.proofs.TableLaws.{number-row, replies-row}
+use Rattle.scoop_client.specs.State.{ClientState}
+use Rattle.scoop_client.specs.Due.{due}
+use Rattle.scoop_client.specs.Hearing.{heard}
+use Rattle.scoop_client.specs.Rows.{DueRow, owes_nothing, greets, reserves, logs}
+use Rattle.scoop_client.proofs.DueRows.{due_row}
+use Rattle.scoop_model.specs.World.{World, Site, number_of, is_site, site_of, set_site, sent_at, log_of, greatest_count}
+use Rattle.scoop_model.specs.Step.{Placement, Newcomer, new_site, opening, commanded_world, with_sent, with_party, heard_party, restarted_party, heard_site, heard_world, with_site, begun_site, finished_site, reopened, reopened_world}
+use Rattle.scoop_model.proofs.Events.{Changes}
+use Rattle.scoop_model.proofs.Basics.{by_test}
+use Rattle.scoop_model.proofs.Keys.{number_found}
+use Rattle.scoop_model.proofs.Stands.{Stands}
+use Rattle.scoop_model.proofs.Order.Facts.{SiteFits, Ordered, all_found, all_more_of}
+use Rattle.scoop_model.proofs.Sound.Facts.{Sound}
+use Rattle.scoop_model.proofs.Sound.Steps.{sent_all}
+use Rattle.scoop_model.proofs.Logging.Facts.{Carries, Logging, grown_same}
+use Rattle.scoop_model.proofs.Logging.Commands.{commanded_grown}
+use Rattle.scoop_model.proofs.Tape.Slots.{slots_run}
+use Rattle.scoop_model.proofs.Tape.Taking.{StandsIfLog}
+use Rattle.scoop_model.proofs.Tape.Sites.{SiteTape, logs_at, slots_heard, placed_tape, heard_tape, finished_tape}
+use Rattle.scoop_model.proofs.Whole.Sent.{TellsAlike, alike_same, alike_from_client, alike_elsewhere}
+use Rattle.scoop_model.proofs.Whole.Marks.{MarksTold, marks_told-row, marks_told-after}
+use Rattle.scoop_model.proofs.Whole.Slots.{slots_run_whole}
+use Rattle.scoop_model.proofs.Whole.Rows.{SlotsWhole, slots_whole-row}
+use Rattle.scoop_model.proofs.Whole.Facts.{SiteTaped, Taped, site_more}
+
+-- ---- messages
+
+-- what a client sends goes to a handler
+owed_goes : (h : HandlerId) (r : ReservationState) (m : Message) (stage : Stage) → due_in r h stage ≡ Some m → is_for_handler m ≡ true
+owed_goes h r m stage e = by_stage stage e
+  where
+    owed : (t : Bool) (n : Message) → is_for_handler n ≡ true → (if t then Some n else None) ≡ Some m → is_for_handler m ≡ true
+    owed true n goes e = let same : n ≡ m = cc in subst (λ x. is_for_handler x ≡ true) same goes
+    owed false n goes e = absurd (cc)
+
+    by_stage : (stage : Stage) → due_in r h stage ≡ Some m → is_for_handler m ≡ true
+    by_stage Locking e = owed (is_lowest h r.left) (Lock h r.block) refl e
+    by_stage Opening e = owed (has r.left h) (Open h r.block) refl e
+    by_stage Unlocking e = owed (has r.left h) (Unlock h r.block) refl e
+    by_stage GivingBack e = owed (has r.left h) (Unlock h r.block) refl e
+
+due_row_goes : (c : ClientState) (h : HandlerId) (o : Option Message) → DueRow c h o → (m : Message) → o ≡ Some m → is_for_handler m ≡ true
+due_row_goes c h o owes_nothing m e = absurd (cc)
+due_row_goes c h o (greets left) m e = let same : Hello h c.id c.inc ≡ m = cc in subst (λ x. is_for_handler x ≡ true) same refl
+due_row_goes c h o (reserves r n greeted has_one owes) m e = owed_goes h r m r.stage (owes ∙ e)
+due_row_goes c h o (logs r l greeted has_one free opened line some) m e = sent_on e
+  where
+    sent_on : {k : HandlerId} {b : Block} {n : ℕ} {es : _} → Some (Log k b n es) ≡ Some m → is_for_handler m ≡ true
+    sent_on {k} {b} {n} {es} e = let same : Log k b n es ≡ m = cc in subst (λ x. is_for_handler x ≡ true) same refl
+
+pub due_goes : (c : ClientState) (h : HandlerId) (m : Message) → due c h ≡ Some m → is_for_handler m ≡ true
+due_goes c h m e = due_row_goes c h (due c h) (due_row c h) m e
+
+-- ---- sites
+
+-- one site changes, and the others are of other handlers
+all_set_others : (P Q : Site → Type 0) (s : Site) (sites : List Site) → Q s → ((x : Site) → is_site (number_of s) x ≡ false → P x → Q x) → AllByRecursion P sites → AllByRecursion Q (set_site s sites)
+all_set_others P Q s [] own others all = tt
+all_set_others P Q s (x ∷ xs) own others all = (
+  by_test (λ t. is_site (number_of s) x ≡ t → Q (if t then s else x)) (is_site (number_of s) x) (λ _ here. own) (λ _ there. others x there all.0) refl,
+  all_set_others P Q s xs own others all.1,
+)
+
+-- where nothing is sent or logged
+same_site : (v w : World) → v.sent ≡ w.sent → v.logs ≡ w.logs → (s : Site) → SiteTaped v s → SiteTaped w s
+same_site v w told logged s = site_more v w s (subst (TellsAlike (number_of s) v.sent) told (alike_same (number_of s) v.sent)) (grown_same v w logged)
+
+same_sites : (v w : World) → v.sent ≡ w.sent → v.logs ≡ w.logs → (sites : List Site) → AllByRecursion (SiteTaped v) sites → AllByRecursion (SiteTaped w) sites
+same_sites v w told logged sites all = all_more_of (SiteTaped v) (SiteTaped w) (same_site v w told logged) sites all
+
+-- ---- a handler hears
+
+module _ (w : World) (sound : Sound w) (logged : Logging w) (i : Taped w) (k : ℕ) (m : Message) (s : Site) (was : sent_at k w ≡ Some m) (here : site_of (handler_of m) w ≡ Some s) where
+  abbrev now : Hearing
+  now = hear s.core.state m
+
+  abbrev after : Site
+  after = heard_site s now
+
+  abbrev then_world : World
+  then_world = heard_world w s now
+
+  its_row : Row s.core.state m now
+  its_row = row s.core.state m
+
+  place : number_of s ≡ handler_of m
+  place = number_found (handler_of m) w s here
+
+  same_number : now.0.number ≡ number_of s
+  same_number = number-row s.core.state m now its_row
+
+  is_state : IsState s.core.state
+  is_state = (all_found (λ x. IsCore x.core) (is_site (handler_of m)) w.sites s sound.sites here).state
+
+  before : SiteTaped w s
+  before = all_found (SiteTaped w) (is_site (handler_of m)) w.sites s i here
+
+  stands : StandsIfLog (logs_at w s) m
+  stands h b n es e =
+      let carried : Stands (log_of b h w) n es = subst (Carries w) e (sent_all w k m was (Carries w) logged.messages) in
+      let at : h ≡ number_of s = sym (place ∙ ap handler_of e) in
+      subst (λ j. Stands (log_of b j w) n es) at carried
+
+  heard_taped : SiteTaped then_world after
+  heard_taped = record {
+    told = subst (λ h. MarksTold then_world.sent h now.0.marks) (sym same_number) (marks_told-row w.sent s.core.state m now its_row before.told);
+    slots = slots_heard s m before.slots;
+    tape = subst (λ h. SiteTape (λ b. log_of b h w) after (slots_heard s m before.slots)) (sym same_number) (heard_tape (logs_at w s) s before.slots before.tape m is_state stands);
+    whole = subst (λ h. SlotsWhole then_world.sent h now.0.marks (slots_heard s m before.slots)) (sym same_number) (slots_whole-row w.sent s.core.state m now (row s.core.state m) before.slots is_state before.told before.whole);
+  }
+
+  others_hear : (x : Site) → is_site (number_of after) x ≡ false → SiteTaped w x → SiteTaped then_world x
+  others_hear x other f =
+      site_more w then_world x
+      (alike_elsewhere (number_of x) w.sent now.1.reply (λ reply e from.
+      let to : handler_of reply ≡ handler_of m = (replies-row s.core.state m now its_row (sent_all w k m was HasEntries sound.messages) reply e).handler in
+      let same : number_of x ≡ number_of after = sym from ∙ to ∙ sym place ∙ sym same_number in
+      true≢false (sym ((handler_decides (number_of x) (number_of after)).1 same) ∙ other)))
+      (grown_same w then_world refl) f
+
+  hears_taped : Taped then_world
+  hears_taped = all_set_others (SiteTaped w) (SiteTaped then_world) after w.sites heard_taped others_hear i
+
+-- ---- an entry runs
+
+module _ (w : World) (sound : Sound w) (i : Taped w) (h : HandlerId) (s : Site) (here : site_of h w ≡ Some s) where
+  ready_site : SiteTaped w s
+  ready_site = all_found (SiteTaped w) (is_site h) w.sites s i here
+
+  begins_taped : Taped (with_site w (begun_site s))
+  begins_taped =
+      let v : World = with_site w (begun_site s) in
+      let f = ready_site in
+      all_set_others (SiteTaped w) (SiteTaped v) (begun_site s) w.sites
+      (record { told = f.told; slots = f.slots; tape = f.tape; whole = f.whole })
+      (λ x other. same_site w v refl refl x) i
+
+  finishes_taped : (t : Task) → job_out s.core ≡ Some t → Taped (with_site w (finished_site s t))
+  finishes_taped t out =
+      let v : World = with_site w (finished_site s t) in
+      let f = ready_site in
+      let marks = s.core.state.marks in
+      let is : IsState s.core.state = (all_found (λ x. IsCore x.core) (is_site h) w.sites s sound.sites here).state in
+      all_set_others (SiteTaped w) (SiteTaped v) (finished_site s t) w.sites
+      (record {
+        told = marks_told-after w.sent (number_of s) (ran_of t) marks f.told;
+        slots = slots_run f.slots;
+        tape = finished_tape (logs_at w s) s f.slots f.tape t out;
+        whole = slots_run_whole w.sent (number_of s) marks (ran_of t) f.slots (subst (AllByRecursion IsQueue) f.tape.queues is.queues.each) (subst (AllByRecursion (HasMark marks)) f.tape.queues is.marked) f.whole;
+      })
+      (λ x other. same_site w v refl refl x) i
+
+-- ---- a node restarts
+
+anew_taped : (w : World) (n : ℕ) (s : Site) → s.stored ≡ s.core.state → SiteTaped w s → SiteTaped (reopened_world w n) (reopened n s)
+anew_taped w n s stored f =
+    let v : World = reopened_world w n in
+    by_test (λ t. SiteTaped v (if t then record s { core = core_of s.core.class s.stored false } else s)) (s.node == n)
+    (λ here. subst (λ (x : HandlerState). SiteTaped v (record s { core = core_of s.core.class x false })) (sym stored) (record { told = f.told; slots = f.slots; tape = f.tape; whole = f.whole }))
+    (λ there. same_site w v refl refl s f)
+
+all_anew : (w : World) (n : ℕ) (sites : List Site) → AllByRecursion (SiteFits w.joint) sites → AllByRecursion (SiteTaped w) sites → AllByRecursion (SiteTaped (reopened_world w n)) (map (reopened n) sites)
+all_anew w n [] fits all = tt
+all_anew w n (s ∷ ss) fits all = (anew_taped w n s fits.0.stored all.0, all_anew w n ss fits.1 all.1)
+
+-- ---- every event
+
+pub taped_kept : (w : World) → Ordered w → Sound w → Logging w → Taped w → Changes Taped w
+taped_kept w o sound logged i = record {
+  commands = λ c p x d at is.
+      all_more_of (SiteTaped w) (SiteTaped (commanded_world w p x d)) (λ s. site_more w (commanded_world w p x d) s (alike_same (number_of s) w.sent) (commanded_grown w p x d)) w.sites i;
+  sends = λ c p h s at here.
+      let v : World = with_sent w (due p.client h) in
+      all_more_of (SiteTaped w) (SiteTaped v) (λ x. site_more w v x (alike_from_client (number_of x) w.sent (due p.client h) (due_goes p.client h)) (grown_same w v refl)) w.sites i;
+  hears = λ k m s was goes here. hears_taped w sound logged i k m s was here;
+  notices = λ k m p was goes at. same_sites w (with_party w (heard_party p (heard p.client m))) refl refl w.sites i;
+  begins = λ h s t here is. begins_taped w sound i h s here;
+  finishes = λ h s t here is. finishes_taped w sound i h s here t is;
+  restarts = λ c p at room. same_sites w (with_party w (restarted_party p)) refl refl w.sites i;
+  reopens = λ n. all_anew w n w.sites o.sites i;
+}
+
+-- ---- a world that opens
+
+sites_open : (w : World) → w.sent ≡ [] → (ps : List Placement) → AllByRecursion (SiteTaped w) (map new_site ps)
+sites_open w none [] = tt
+sites_open w none (p ∷ ps) = (
+  record {
+    told = record { each = tt; reached = λ b some. absurd (never (number_of (new_site p)) b some) };
+    slots = [];
+    tape = placed_tape (logs_at w (new_site p)) p;
+    whole = tt;
+  },
+  sites_open w none ps,
+)
+  where
+    never : (h : HandlerId) (b : Block) → 0 < greatest_count h b w.sent → ⊥
+    never h b some = let e : greatest_count h b w.sent ≡ 0 = ap (greatest_count h b) none in omega (arith, e, some)
+
+pub opens_taped : (ps : List Placement) (ns : List Newcomer) → Taped (opening ps ns)
+opens_taped ps ns = sites_open (opening ps ns) refl ps

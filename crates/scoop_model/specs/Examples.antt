@@ -1,0 +1,5 @@
+pub mod Parties
+pub mod Repeats
+pub mod GivingUp
+pub mod Waits
+pub mod LastIncarnation

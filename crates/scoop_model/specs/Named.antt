@@ -1,0 +1,23 @@
+-- What it takes that a message names a block.
+use Rattle.std.specs.Prelude.{◌≡◌, ◌≤◌, List, Some}
+use Rattle.scoop_message.specs.declared.name.Block.{Block}
+use Rattle.scoop_message.specs.declared.name.HandlerId.{HandlerId}
+use Rattle.scoop_message.specs.declared.message.Message.{Message}
+use Rattle.scoop_handler.specs.declared.mark.Mark.{Mark}
+use Rattle.scoop_handler.specs.Marks.{mark_of}
+use Rattle.scoop_handler.specs.Replies.{named_block}
+use Rattle.scoop_model.specs.World.{World, Site, site_of}
+
+-- the block's client has a mark, whose incarnation isn't below the block's
+pub record IsMarked (b : Block) (marks : List Mark) : Type 0 where
+  pub mark : Mark
+  pub found : mark_of b.client marks ≡ Some mark
+  pub inc : b.inc ≤ mark.inc
+
+-- every handler of the world was greeted by the block's incarnation of its client, or by a newer one
+pub record KnowsIncarnation (w : World) (b : Block) : Type 0 where
+  pub marked : (h : HandlerId) (s : Site) → site_of h w ≡ Some s → IsMarked b s.core.state.marks
+
+-- if the message names a block, its incarnation is known
+pub record NamesKnown (w : World) (m : Message) : Type 0 where
+  pub known : (b : Block) → named_block m ≡ Some b → KnowsIncarnation w b

@@ -1,0 +1,28 @@
+-- With which handlers and clients a world opens.
+use Rattle.std.specs.Prelude.{◌≡◌, ℕ, ◌-◌, ◌^◌, ◌≤◌, ◌<◌, List, length, map}
+use Rattle.std.specs.List.{AllByRecursion}
+use Rattle.scoop_message.specs.declared.limits.TheConstants.{MAX_HANDLERS, MAX_CLIENTS, MAX_ENTRIES}
+use Rattle.scoop_handler.specs.State.{AreWords}
+use Rattle.scoop_model.specs.Step.{Placement, Newcomer}
+use Rattle.scoop_model.specs.Safe.{NoRepeats}
+
+-- an object of the class that is placed with it
+pub record IsPlaced (p : Placement) : Type 0 where
+  pub words : AreWords p.words
+  pub class : length p.words ≡ p.class.words
+
+-- a Log carries one to four entries, and there is a next incarnation
+pub record IsJoining (n : Newcomer) : Type 0 where
+  pub some : 1 ≤ n.batch
+  pub limit : n.batch ≤ MAX_ENTRIES
+  pub next : n.stored < 2 ^ 32 - 1
+
+-- one to 64 handlers and at most 64 clients, each once
+pub record MayOpen (placements : List Placement) (newcomers : List Newcomer) : Type 0 where
+  pub some : 1 ≤ length placements
+  pub few : length placements ≤ MAX_HANDLERS
+  pub apart : NoRepeats (map (λ p. p.handler) placements)
+  pub placed : AllByRecursion IsPlaced placements
+  pub few_clients : length newcomers ≤ MAX_CLIENTS
+  pub clients_apart : NoRepeats (map (λ n. n.id) newcomers)
+  pub joining : AllByRecursion IsJoining newcomers

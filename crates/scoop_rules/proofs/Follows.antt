@@ -1,0 +1,10 @@
+pub mod Facts
+pub mod Clients
+pub mod Logging
+pub mod Commands
+pub mod Sets
+pub mod Sites
+pub mod Events
+pub mod Readiness
+pub mod Kept
+pub mod Runs

@@ -1,0 +1,147 @@
+-- One entry that is logged at several handlers of a block, each in a move of its own; and where a block's queue stands
+-- among the others.
+use Rattle.std.proofs.Common.{◌≡◌, ℕ, zero, suc, ◌≤◌, Bool, true, false, ◌&&◌, ◌||◌, true≢false, List, [], ◌∷◌, ◌++◌, length, map, flat_map, drop, refl, sym, ap, ◌∙◌, subst, arith}
+use Rattle.std.specs.Prelude.{if◌then◌else◌}
+use Rattle.std.specs.List.{list_any}
+use Rattle.std.proofs.lemmas.List.Folds.{list_any-append}
+use Rattle.scoop_message.specs.declared.name.Block.{Block}
+use Rattle.scoop_message.specs.declared.name.HandlerId.{HandlerId}
+use Rattle.scoop_message.specs.declared.request.Entry.{Entry}
+use Rattle.scoop_message.specs.Entry.{is_end, is_query}
+use Rattle.scoop_message.specs.Message.{same_block, same_handler}
+use Rattle.scoop_message.proofs.Same.{handler_decides}
+use Rattle.scoop_queue.specs.declared.state.QueueState.TheVariants.{Open, Ended}
+use Rattle.scoop_queue.specs.Queue.{is_open}
+use Rattle.scoop_reserve.specs.Handlers.{has}
+use Rattle.scoop_model.specs.World.{has_block, has_end}
+use Rattle.scoop_rules.specs.Paper.{Waiting, Configuration, Objects, LogOne, MovesLead, is_of, logged_to, log_one, has_open, waits, Seen, queue_of}
+use Rattle.scoop_model.proofs.Basics.{by_test}
+use Rattle.scoop_model.proofs.Order.Lists.{same_block_is, same_block_itself}
+use Rattle.scoop_rules.proofs.Lists.{same_configuration}
+use Rattle.scoop_rules.proofs.Follows.Facts.{AreDistinct}
+
+-- ---- the entry at each of the handlers
+
+abbrev pub logged_at_all : Block → Entry → List HandlerId → Configuration → Configuration
+logged_at_all b e hs g = record g { queues = λ x. if has hs x then map (logged_to b e) (g.queues x) else g.queues x }
+
+same_turned : (h x : HandlerId) → same_handler h x ≡ same_handler x h
+same_turned h x =
+    by_test (λ t. same_handler x h ≡ t → same_handler h x ≡ t) (same_handler x h)
+    (λ _ is. (handler_decides h x).1 (sym ((handler_decides x h).0 is)))
+    (λ _ is. by_test (λ u. same_handler h x ≡ u → u ≡ false) (same_handler h x) (λ _ also. absurd (true≢false (sym ((handler_decides x h).1 (sym ((handler_decides h x).0 also))) ∙ is))) (λ _ also. refl) refl) refl
+
+abbrev with_one_more : Entry → Waiting → Waiting
+with_one_more e q = record { block = q.block; entries = q.entries ++ e ∷ []; state = if is_end e then Ended else q.state }
+
+-- a query waits after the entry only where one did before, unless the entry is one
+waits_logged : (b : Block) (e : Entry) → is_query e ≡ false → (qs : List Waiting) → waits b (map (logged_to b e) qs) ≡ waits b qs
+waits_logged b e no_query [] = refl
+waits_logged b e no_query (q ∷ qs) = λ i. one i || waits_logged b e no_query qs i
+  where
+    or_nothing : (t : Bool) → (t || false) ≡ t
+    or_nothing true = refl
+    or_nothing false = refl
+
+    more : list_any is_query (q.entries ++ e ∷ []) ≡ list_any is_query q.entries
+    more = list_any-append is_query q.entries (e ∷ []) ∙ (λ i. list_any is_query q.entries || (no_query i || false)) ∙ or_nothing (list_any is_query q.entries)
+
+    one : (is_of b (logged_to b e q) && list_any is_query (logged_to b e q).entries) ≡ (is_of b q && list_any is_query q.entries)
+    one =
+        by_test (λ t. (is_of b (if t then with_one_more e q else q) && list_any is_query (if t then with_one_more e q else q).entries) ≡ (is_of b q && list_any is_query q.entries)) (is_of b q)
+        (λ own. ap (λ t. is_of b q && t) more)
+        (λ other. refl)
+
+module _ (o : Objects) (b : Block) (e : Entry) (no_query : is_query e ≡ false) where
+  pub logs_lead :
+      (hs : List HandlerId) → AreDistinct hs → (g : Configuration) → g.inc b.client ≡ b.inc → ((h : HandlerId) → has hs h ≡ true → has_open b (g.queues h) ≡ true)
+      → ((x : HandlerId) → waits b (g.queues x) ≡ false) → MovesLead o g (map (λ h. LogOne b h e) hs) (logged_at_all b e hs g)
+  logs_lead [] apart g inc there none = refl
+  logs_lead (h ∷ hs) apart g inc there none = (
+    (inc, there h (ap (λ t. t || has hs h) ((handler_decides h h).1 refl)), none),
+    subst (λ k. MovesLead o (log_one b h e g) (map (λ x. LogOne b x e) hs) k) ends
+        (logs_lead hs apart.1 (log_one b h e g) inc still_there
+        (λ x. by_test (λ t. waits b (if t then map (logged_to b e) (g.queues h) else g.queues x) ≡ false) (same_handler x h) (λ here. waits_logged b e no_query (g.queues h) ∙ none h) (λ off. none x))),
+  )
+    where
+      still_there : (x : HandlerId) → has hs x ≡ true → has_open b ((log_one b h e g).queues x) ≡ true
+      still_there x m =
+          by_test (λ t. same_handler x h ≡ t → has_open b (if t then map (logged_to b e) (g.queues h) else g.queues x) ≡ true) (same_handler x h)
+          (λ _ is. absurd (true≢false (sym m ∙ ap (has hs) ((handler_decides x h).0 is) ∙ apart.0)))
+          (λ _ is. there x (by_test (λ t. (t || has hs x) ≡ true) (same_handler h x) (λ here. refl) (λ off. m))) refl
+
+      at_each : (x : HandlerId) → (logged_at_all b e hs (log_one b h e g)).queues x ≡ (logged_at_all b e (h ∷ hs) g).queues x
+      at_each x =
+          by_test
+          (λ t. same_handler x h ≡ t
+          → (if has hs x then map (logged_to b e) (if t then map (logged_to b e) (g.queues h) else g.queues x) else (if t then map (logged_to b e) (g.queues h) else g.queues x))
+          ≡ (if t || has hs x then map (logged_to b e) (g.queues x) else g.queues x))
+          (same_handler x h)
+          (λ _ is.
+          let same : x ≡ h = (handler_decides x h).0 is in
+          ap (λ t. if t then map (logged_to b e) (map (logged_to b e) (g.queues h)) else map (logged_to b e) (g.queues h)) (ap (has hs) same ∙ apart.0)
+          ∙ ap (λ y. map (logged_to b e) (g.queues y)) (sym same))
+          (λ _ is. refl) refl
+          ∙ ap (λ t. if t || has hs x then map (logged_to b e) (g.queues x) else g.queues x) (sym (same_turned h x))
+
+      ends : logged_at_all b e hs (log_one b h e g) ≡ logged_at_all b e (h ∷ hs) g
+      ends = same_configuration (logged_at_all b e hs (log_one b h e g)) (logged_at_all b e (h ∷ hs) g) at_each (λ x. refl) refl (λ c. refl)
+
+-- the same at one handler
+pub one_at_all : (b : Block) (e : Entry) (h : HandlerId) (g : Configuration) → log_one b h e g ≡ logged_at_all b e (h ∷ []) g
+one_at_all b e h g =
+    same_configuration (log_one b h e g) (logged_at_all b e (h ∷ []) g)
+    (λ x.
+    by_test (λ t. same_handler x h ≡ t → (if t then map (logged_to b e) (g.queues h) else g.queues x) ≡ (if t || false then map (logged_to b e) (g.queues x) else g.queues x)) (same_handler x h)
+    (λ _ is. ap (λ y. map (logged_to b e) (g.queues y)) (sym ((handler_decides x h).0 is)))
+    (λ _ is. refl) refl
+    ∙ ap (λ t. if t || false then map (logged_to b e) (g.queues x) else g.queues x) (sym (same_turned h x)))
+    (λ x. refl) refl (λ c. refl)
+
+-- ---- a block's queue among the others
+
+pub open_among : (b : Block) (f : Block → List Waiting) (js : List Block) → has_block js b ≡ true → has_open b (f b) ≡ true → has_open b (flat_map f js) ≡ true
+open_among b f [] m there = absurd (true≢false (sym m))
+open_among b f (j ∷ js) m there =
+    list_any-append (λ q. is_of b q && is_open q.state) (f j) (flat_map f js)
+    ∙ by_test (λ t. same_block j b ≡ t → (t || has_block js b) ≡ true → (has_open b (f j) || has_open b (flat_map f js)) ≡ true) (same_block j b)
+    (λ _ is _. ap (λ t. t || has_open b (flat_map f js)) (ap (λ y. has_open b (f y)) (same_block_is j b is) ∙ there))
+    (λ _ is n. ap (λ t. has_open b (f j) || t) (open_among b f js n there) ∙ or_true (has_open b (f j))) refl m
+  where
+    or_true : (t : Bool) → (t || true) ≡ true
+    or_true true = refl
+    or_true false = refl
+
+-- ---- the queue of a block that is open
+
+-- nothing of the block is cut off, and its End isn't logged
+pub record IsOpen (s : Seen) : Type 0 where
+  pub newer : s.newer ≡ false
+  pub over : s.over ≡ false
+  pub no_end : has_end s.logged ≡ false
+  pub within : s.count ≤ length s.logged
+
+pub open_queue : (b : Block) (s : Seen) → IsOpen s → queue_of b s ≡ record { block = b; entries = drop s.count s.logged; state = Open } ∷ []
+open_queue b s is =
+    (λ i. queue_of b (record { logged = s.logged; count = s.count; over = is.over i; newer = is.newer i; received = s.received }))
+    ∙ (λ i. record { block = b; entries = drop s.count s.logged; state = if is.no_end i then Ended else Open } ∷ [])
+
+drop_pushed : (n : ℕ) (xs : List Entry) (e : Entry) → n ≤ length xs → drop n (xs ++ e ∷ []) ≡ drop n xs ++ e ∷ []
+drop_pushed zero xs e le = refl
+drop_pushed (suc n) [] e le = absurd (omega (arith, le))
+drop_pushed (suc n) (x ∷ xs) e le = drop_pushed n xs e (omega (arith, le))
+
+end_pushed : (xs : List Entry) (e : Entry) → has_end xs ≡ false → has_end (xs ++ e ∷ []) ≡ is_end e
+end_pushed xs e none = list_any-append is_end xs (e ∷ []) ∙ (λ i. none i || (is_end e || false)) ∙ or_nothing (is_end e)
+  where
+    or_nothing : (t : Bool) → (t || false) ≡ t
+    or_nothing true = refl
+    or_nothing false = refl
+
+-- one entry more is logged
+pub logged_queue : (b : Block) (s : Seen) (e : Entry) → IsOpen s → queue_of b (record s { logged = s.logged ++ e ∷ [] }) ≡ map (logged_to b e) (queue_of b s)
+logged_queue b s e is =
+    (λ i. queue_of b (record { logged = s.logged ++ e ∷ []; count = s.count; over = is.over i; newer = is.newer i; received = s.received }))
+    ∙ (λ i. record { block = b; entries = drop_pushed s.count s.logged e is.within i; state = if end_pushed s.logged e is.no_end i then Ended else Open } ∷ [])
+    ∙ sym (ap (map (logged_to b e)) (open_queue b s is)
+    ∙ ap (λ t. (if t then record { block = b; entries = drop s.count s.logged ++ e ∷ []; state = if is_end e then Ended else Open } else record { block = b; entries = drop s.count s.logged; state = Open }) ∷ []) (same_block_itself b))

@@ -1,0 +1,124 @@
+-- Whatever happens in a reached world follows the rules, and so a list of events from an opening world is a run of them.
+use Rattle.std.proofs.Common.{◌≡◌, ℕ, ◌+◌, ◌==◌, false, List, [], ◌∷◌, ◌++◌, map, find, Some, refl, sym, ap, ◌∙◌, subst}
+use Rattle.std.specs.Prelude.{if◌then◌else◌, Ok, Err}
+use Rattle.std.specs.Option.{option_map_or}
+use Rattle.scoop_message.specs.declared.name.HandlerId.{HandlerId}
+use Rattle.scoop_message.specs.Message.{handler_of}
+use Rattle.scoop_handler.specs.Core.{core_of}
+use Rattle.scoop_handler.specs.Hearing.{hear}
+use Rattle.scoop_handler.proofs.TableRows.{row}
+use Rattle.scoop_handler.proofs.TableLaws.{number-row}
+use Rattle.scoop_model.specs.declared.event.Event.{Event}
+use Rattle.scoop_model.specs.World.{World, Site, number_of, is_site, site_of, set_site, inc_of}
+use Rattle.scoop_model.specs.Step.{Stepped, Placement, Newcomer, step, new_site, opening, heard_site, begun_site, finished_site, reopened}
+use Rattle.scoop_model.specs.Opening.{MayOpen}
+use Rattle.scoop_model.specs.Reach.{Run, next, run_after, steps, IsReached}
+use Rattle.scoop_model.specs.Reach as reach
+use Rattle.scoop_rules.specs.Paper.{Configuration, Objects, Move, MovesLead, moved, configuration_of, objects_of, no_class, empty_configuration, FollowsRules, moves_of, moves_in, replayed, RunsByRules, LeadsByRules}
+use Rattle.scoop_model.proofs.Events.{Changes}
+use Rattle.scoop_model.proofs.Basics.{by_test}
+use Rattle.scoop_model.proofs.Events as events
+use Rattle.scoop_model.proofs.Order.Facts.{Ordered}
+use Rattle.scoop_rules.proofs.Lists.{same_configuration}
+use Rattle.scoop_model.proofs.Sites.{own_site, set_same, anew_same, states_anew}
+use Rattle.scoop_rules.proofs.Follows.Events.{FollowsTo, event_follows}
+use Rattle.scoop_rules.proofs.Follows.Kept.{Kept, all_kept, opens_kept, kept_following, reached_kept, reached_following}
+
+pub follows_rules : (w : World) (e : Event) → IsReached w → FollowsRules w e
+follows_rules w e r = event_follows w (reached_following w r) e
+
+-- ---- moves one after another
+
+pub leads_both : (o : Objects) (g k end : Configuration) (ms ns : List Move) → MovesLead o g ms k → MovesLead o k ns end → MovesLead o g (ms ++ ns) end
+leads_both o g k end [] ns first then_on = subst (λ c. MovesLead o c ns end) (sym first) then_on
+leads_both o g k end (m ∷ ms) ns first then_on = (first.0, leads_both o (moved o m g) k end ms ns first.1 then_on)
+
+-- the moves that lead from one configuration to another make the other of it
+pub leads_replayed : (o : Objects) (g end : Configuration) (ms : List Move) → MovesLead o g ms end → replayed o ms g ≡ end
+leads_replayed o g end [] l = l
+leads_replayed o g end (m ∷ ms) l = leads_replayed o (moved o m g) end ms l.1
+
+-- ---- the objects stay
+
+same_objects : (v w : World) → ((h : HandlerId) → (objects_of v).class h ≡ (objects_of w).class h) → ((h : HandlerId) → (objects_of v).words h ≡ (objects_of w).words h) → objects_of v ≡ objects_of w
+same_objects v w class words = λ i. record { class = λ h. class h i; words = λ h. words h i }
+
+site_objects :
+    (w : World) (s old : Site) → site_of (number_of s) w ≡ Some old → s.core.class ≡ old.core.class → s.placed ≡ old.placed → objects_of (record w { sites = set_site s w.sites }) ≡ objects_of w
+site_objects w s old here class placed =
+    same_objects (record w { sites = set_site s w.sites }) w (set_same (λ (x : Site). x.core.class) no_class w s old here class) (set_same (λ (x : Site). x.placed) [] w s old here placed)
+
+class_kept : (n : ℕ) (s : Site) → (reopened n s).core.class ≡ s.core.class
+class_kept n s = by_test (λ t. (if t then record s { core = core_of s.core.class s.stored false } else s).core.class ≡ s.core.class) (s.node == n) (λ here. refl) (λ there. refl)
+
+placed_kept : (n : ℕ) (s : Site) → (reopened n s).placed ≡ s.placed
+placed_kept n s = by_test (λ t. (if t then record s { core = core_of s.core.class s.stored false } else s).placed ≡ s.placed) (s.node == n) (λ here. refl) (λ there. refl)
+
+abbrev HasObjects : Objects → World → Type 0
+HasObjects o w = objects_of w ≡ o
+
+objects_kept : (o : Objects) (w : World) → Ordered w → HasObjects o w → Changes (HasObjects o) w
+objects_kept o w ordered i = record {
+  commands = λ c p x d at is. i;
+  sends = λ c p h s at here. i;
+  hears = λ k m s was goes here. (
+      let now = hear s.core.state m in
+      let number = number-row s.core.state m now (row s.core.state m) in
+      site_objects w (heard_site s now) s (subst (λ j. site_of j w ≡ Some s) (sym number) (own_site w (handler_of m) s here)) refl refl ∙ i);
+  notices = λ k m p was goes at. i;
+  begins = λ h s t here is. site_objects w (begun_site s) s (own_site w h s here) refl refl ∙ i;
+  finishes = λ h s t here is. site_objects w (finished_site s t) s (own_site w h s here) refl refl ∙ i;
+  restarts = λ c p at room. i;
+  reopens = λ n.
+      same_objects (record w { sites = map (reopened n) w.sites }) w
+      (λ h. anew_same (λ (x : Site). x.core.class) no_class class_kept n h w.sites (states_anew w ordered n))
+      (λ h. anew_same (λ (x : Site). x.placed) [] placed_kept n h w.sites (states_anew w ordered n))
+      ∙ i;
+}
+
+-- ---- events one after another
+
+module _ (o : Objects) where
+  after_one :
+      (n : ℕ) (w : World) (e : Event) (es : List Event) → HasObjects o w → ((v : World) → Kept v → HasObjects o v → MovesLead o (configuration_of v) (moves_in v es) (configuration_of (run_after (n + 1) v es).0))
+      → (s : Stepped) → FollowsTo w e s → events.Kept Kept s → events.Kept (HasObjects o) s
+      → MovesLead o (configuration_of w) (elim s [ Ok r ↦ moves_of w r.0 e r.1 ++ moves_in r.0 es | Err x ↦ [] ]) (configuration_of (next n w (λ v. run_after (n + 1) v es) s).0)
+  after_one n w e es same later (Ok r) follows kept objects =
+      leads_both o (configuration_of w) (configuration_of r.0) (configuration_of (run_after (n + 1) r.0 es).0) (moves_of w r.0 e r.1) (moves_in r.0 es)
+      (subst (λ k. MovesLead k (configuration_of w) (moves_of w r.0 e r.1) (configuration_of r.0)) same follows)
+      (later r.0 kept objects)
+  after_one n w e es same later (Err x) follows kept objects = refl
+
+  pub events_lead : (n : ℕ) (w : World) (es : List Event) → Kept w → HasObjects o w → MovesLead o (configuration_of w) (moves_in w es) (configuration_of (run_after n w es).0)
+  events_lead n w [] kept same = refl
+  events_lead n w (e ∷ es) kept same =
+      after_one n w e es same (λ v k s. events_lead (n + 1) v es k s) (step w e) (event_follows w (kept_following w kept) e) (events.event_kept Kept w (all_kept w kept) e)
+      (events.event_kept (HasObjects o) w (objects_kept o w (kept_following w kept).ordered same) e)
+
+-- so it goes on from a reached world, where events lead to another
+pub reached_runs : (v w : World) (es : List Event) → IsReached v → reach.Leads v es w → LeadsByRules v es w
+reached_runs v w es r leads =
+    subst (λ x. MovesLead (objects_of v) (configuration_of v) (moves_in v es) (configuration_of x)) (ap (λ (x : Run). x.0) leads) (events_lead (objects_of v) 0 v es (reached_kept v r) refl)
+
+-- ---- from an opening world
+
+none_ran : (h : HandlerId) (ps : List Placement) → option_map_or (λ (s : Site). s.ran) (find (is_site h) (map new_site ps)) [] ≡ []
+none_ran h [] = refl
+none_ran h (p ∷ ps) =
+    by_test (λ t. option_map_or (λ (s : Site). s.ran) (if t then Some (new_site p) else find (is_site h) (map new_site ps)) [] ≡ []) (is_site h (new_site p))
+    (λ here. refl)
+    (λ there. none_ran h ps)
+
+-- an opening world stands for the configuration in which nothing was reserved and nothing has run
+pub opens_empty : (ps : List Placement) (ns : List Newcomer) → configuration_of (opening ps ns) ≡ empty_configuration (inc_of (opening ps ns))
+opens_empty ps ns = same_configuration (configuration_of (opening ps ns)) (empty_configuration (inc_of (opening ps ns))) (λ h. refl) (λ h. none_ran h ps) refl (λ c. refl)
+
+pub runs_by_rules : (ps : List Placement) (ns : List Newcomer) (es : List Event) → MayOpen ps ns → RunsByRules (opening ps ns) es (steps (opening ps ns) es)
+runs_by_rules ps ns es may =
+    let v : World = opening ps ns in
+    subst (λ g. MovesLead (objects_of v) g (moves_in v es) (configuration_of (steps v es))) (opens_empty ps ns) (events_lead (objects_of v) 0 v es (opens_kept ps ns may) refl)
+
+-- the moves of the events, played one after another, make what the world stands for
+pub replays : (ps : List Placement) (ns : List Newcomer) (es : List Event) → MayOpen ps ns
+    → replayed (objects_of (opening ps ns)) (moves_in (opening ps ns) es) (empty_configuration (inc_of (opening ps ns))) ≡ configuration_of (steps (opening ps ns) es)
+replays ps ns es may = leads_replayed (objects_of (opening ps ns)) (empty_configuration (inc_of (opening ps ns))) (configuration_of (steps (opening ps ns) es)) (moves_in (opening ps ns) es) (runs_by_rules ps ns es may)

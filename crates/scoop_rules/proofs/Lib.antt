@@ -1,0 +1,14 @@
+pub mod Lists
+pub mod Seen
+pub mod Front
+pub mod Runs
+pub mod Messages
+pub mod Sends
+pub mod Opens
+pub mod Greets
+pub mod Asked
+pub mod AskedRan
+pub mod AskedClients
+pub mod AskedRuns
+pub mod Hears
+pub mod Follows

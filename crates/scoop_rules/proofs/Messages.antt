@@ -1,0 +1,136 @@
+-- Messages that leave the configuration that a world stands for.
+use Rattle.std.proofs.Common.{◌≡◌, ℕ, ◌≤◌, ◌<◌, Bool, true, false, ◌&&◌, ◌||◌, true≢false, List, [], ◌∷◌, ◌++◌, refl, sym, ap, ◌∙◌, subst, arith}
+use Rattle.std.specs.Prelude.{max, nat_lt, if◌then◌else◌}
+use Rattle.std.specs.List.{list_any}
+use Rattle.std.proofs.lemmas.Bool.Decides.{nat_tests}
+use Rattle.std.proofs.lemmas.List.Folds.{list_any-append}
+use Rattle.scoop_message.specs.declared.name.Block.{Block}
+use Rattle.scoop_message.specs.declared.name.ClientId.{ClientId}
+use Rattle.scoop_message.specs.declared.name.HandlerId.{HandlerId}
+use Rattle.scoop_message.specs.declared.request.Entry.{Entry}
+use Rattle.scoop_message.specs.declared.message.Message.{Message}
+use Rattle.scoop_message.specs.declared.message.Message.TheVariants.{Hello, Welcome, Lock, Locked, Busy, Open, Opened, Unlock, Unlocked, Log, Logged, Answer}
+use Rattle.scoop_message.specs.Message.{is_for_handler, same_block, same_client, same_handler}
+use Rattle.scoop_message.proofs.Same.{block_decides, client_decides, handler_decides}
+use Rattle.scoop_model.specs.World.{is_newer_welcome, count_in, greatest_count}
+use Rattle.scoop_rules.specs.Paper.{Seen, queue_of}
+use Rattle.scoop_model.proofs.Basics.{by_test}
+
+-- ---- what one message more tells
+
+max_none : (n : ℕ) → max n 0 ≡ n
+max_none n = omega arith
+
+pub greatest_more : (h : HandlerId) (b : Block) (ms : List Message) (m : Message) → greatest_count h b (ms ++ m ∷ []) ≡ max (greatest_count h b ms) (count_in h b m)
+greatest_more h b [] m = omega arith
+greatest_more h b (x ∷ xs) m = let later = greatest_more h b xs m in omega (arith, later)
+
+or_nothing : (t : Bool) → (t || false) ≡ t
+or_nothing true = refl
+or_nothing false = refl
+
+pub newer_more : (h : HandlerId) (b : Block) (ms : List Message) (m : Message) → list_any (is_newer_welcome h b) (ms ++ m ∷ []) ≡ (list_any (is_newer_welcome h b) ms || is_newer_welcome h b m)
+newer_more h b ms m = list_any-append (is_newer_welcome h b) ms (m ∷ []) ∙ ap (λ t. list_any (is_newer_welcome h b) ms || t) (or_nothing (is_newer_welcome h b m))
+
+-- ---- quiet messages
+
+-- a message that succeeds no block, and tells no more of a block that was succeeded
+pub record IsQuiet (ms : List Message) (m : Message) : Type 0 where
+  pub greets : (h : HandlerId) (b : Block) → is_newer_welcome h b m ≡ true → list_any (is_newer_welcome h b) ms ≡ true
+  pub tells : (h : HandlerId) (b : Block) → list_any (is_newer_welcome h b) ms ≡ true → count_in h b m ≤ greatest_count h b ms
+
+pub quiet_newer : (h : HandlerId) (b : Block) (ms : List Message) (m : Message) → IsQuiet ms m → list_any (is_newer_welcome h b) (ms ++ m ∷ []) ≡ list_any (is_newer_welcome h b) ms
+quiet_newer h b ms m q =
+    newer_more h b ms m
+    ∙ by_test (λ t. is_newer_welcome h b m ≡ t → (list_any (is_newer_welcome h b) ms || t) ≡ list_any (is_newer_welcome h b) ms) (is_newer_welcome h b m)
+    (λ _ e. let g = q.greets h b e in ap (λ t. t || true) g ∙ sym g)
+    (λ _ e. or_nothing (list_any (is_newer_welcome h b) ms)) refl
+
+-- a block that some messages show
+abbrev pub told_seen : HandlerId → Block → List Entry → ℕ → Bool → List Message → Seen
+told_seen h b log count over ms = record { logged = log; count = count; over = over; newer = list_any (is_newer_welcome h b) ms; received = greatest_count h b ms }
+
+-- what was received matters only of a block that was succeeded
+not_succeeded : (b : Block) (log : List Entry) (count : ℕ) (over newer : Bool) (n k : ℕ) → newer ≡ false
+    → queue_of b (record { logged = log; count = count; over = over; newer = newer; received = n }) ≡ queue_of b (record { logged = log; count = count; over = over; newer = newer; received = k })
+not_succeeded b log count over true n k e = absurd (true≢false e)
+not_succeeded b log count over false n k e = refl
+
+pub quiet_queue : (h : HandlerId) (b : Block) (log : List Entry) (count : ℕ) (over : Bool) (ms : List Message) (m : Message) → IsQuiet ms m
+    → queue_of b (told_seen h b log count over (ms ++ m ∷ [])) ≡ queue_of b (told_seen h b log count over ms)
+quiet_queue h b log count over ms m q =
+    ap (λ t. queue_of b (record { logged = log; count = count; over = over; newer = t; received = greatest_count h b (ms ++ m ∷ []) })) (quiet_newer h b ms m q)
+    ∙ by_test
+    (λ t. list_any (is_newer_welcome h b) ms ≡ t
+    → queue_of b (record { logged = log; count = count; over = over; newer = list_any (is_newer_welcome h b) ms; received = greatest_count h b (ms ++ m ∷ []) }) ≡ queue_of b (told_seen h b log count over ms))
+    (list_any (is_newer_welcome h b) ms)
+    (λ _ e.
+    let least = q.tells h b e in
+    let same : greatest_count h b (ms ++ m ∷ []) ≡ greatest_count h b ms = greatest_more h b ms m ∙ most (greatest_count h b ms) (count_in h b m) least in
+    ap (λ n. queue_of b (record { logged = log; count = count; over = over; newer = list_any (is_newer_welcome h b) ms; received = n })) same)
+    (λ _ e. not_succeeded b log count over (list_any (is_newer_welcome h b) ms) (greatest_count h b (ms ++ m ∷ [])) (greatest_count h b ms) e) refl
+  where
+    most : (j k : ℕ) → k ≤ j → max j k ≡ j
+    most j k le = omega (arith, le)
+
+-- a message that is neither a Welcome nor a count is quiet
+abbrev pub IsPlain : Message → Type 0
+IsPlain m = (h : HandlerId) (b : Block) → (is_newer_welcome h b m ≡ false) × (count_in h b m ≡ 0)
+
+pub plain_quiet : (ms : List Message) (m : Message) → IsPlain m → IsQuiet ms m
+plain_quiet ms m p = record {
+  greets = λ h b e. absurd (true≢false (sym e ∙ (p h b).0));
+  tells = λ h b e. let none = (p h b).1 in omega (arith, none);
+}
+
+-- what goes to a handler is plain
+pub request_plain : (m : Message) → is_for_handler m ≡ true → IsPlain m
+request_plain (Hello x c inc) goes = λ h b. (refl, refl)
+request_plain (Lock x y) goes = λ h b. (refl, refl)
+request_plain (Open x y) goes = λ h b. (refl, refl)
+request_plain (Unlock x y) goes = λ h b. (refl, refl)
+request_plain (Log x y n es) goes = λ h b. (refl, refl)
+request_plain (Welcome x c inc) goes = absurd (true≢false (sym goes))
+request_plain (Locked x y) goes = absurd (true≢false (sym goes))
+request_plain (Busy x y) goes = absurd (true≢false (sym goes))
+request_plain (Opened x y) goes = absurd (true≢false (sym goes))
+request_plain (Unlocked x y) goes = absurd (true≢false (sym goes))
+request_plain (Logged x y n) goes = absurd (true≢false (sym goes))
+request_plain (Answer x y n a) goes = absurd (true≢false (sym goes))
+
+-- both of two tests
+both_so : (t u : Bool) → (t && u) ≡ true → (t ≡ true) × (u ≡ true)
+both_so true u e = (refl, e)
+both_so false u e = absurd (true≢false (sym e))
+
+-- what a newer welcome says
+pub newer_welcome_says : (h x : HandlerId) (b : Block) (c : ClientId) (inc : ℕ) → is_newer_welcome h b (Welcome x c inc) ≡ true → (x ≡ h) × (b.client ≡ c) × (b.inc < inc)
+newer_welcome_says h x b c inc e =
+    let p = both_so (same_handler x h) (same_client c b.client && nat_lt b.inc inc) e in
+    let q = both_so (same_client c b.client) (nat_lt b.inc inc) p.1 in
+    ((handler_decides x h).0 p.0, sym ((client_decides c b.client).0 q.0), below b.inc inc q.1)
+  where
+    below : (i j : ℕ) → nat_lt i j ≡ true → i < j
+    below i j e = grind (arith, nat_tests)
+
+-- a welcome of an incarnation that was welcomed before
+pub welcome_quiet :
+    (ms : List Message) (x : HandlerId) (c : ClientId) (inc : ℕ) → ((b : Block) → b.client ≡ c → b.inc < inc → list_any (is_newer_welcome x b) ms ≡ true)
+    → IsQuiet ms (Welcome x c inc)
+welcome_quiet ms x c inc was = record {
+  greets = λ h b e. let s = newer_welcome_says h x b c inc e in subst (λ j. list_any (is_newer_welcome j b) ms ≡ true) s.0 (was b s.1 s.2);
+  tells = λ h b e. omega arith;
+}
+
+-- a count of a block that was not succeeded
+pub count_quiet : (ms : List Message) (x : HandlerId) (y : Block) (n : ℕ) → (list_any (is_newer_welcome x y) ms ≡ true → ⊥) → IsQuiet ms (Logged x y n)
+count_quiet ms x y n not_so = record {
+  greets = λ h b e. absurd (true≢false (sym e));
+  tells = λ h b e.
+      by_test (λ t. same_handler x h && same_block y b ≡ t → (if t then n else 0) ≤ greatest_count h b ms) (same_handler x h && same_block y b)
+      (λ _ is.
+      let p = both_so (same_handler x h) (same_block y b) is in
+      let there : list_any (is_newer_welcome x y) ms ≡ true = subst (λ z. list_any (is_newer_welcome x z) ms ≡ true) (sym ((block_decides y b).0 p.1)) (subst (λ j. list_any (is_newer_welcome j b) ms ≡ true) (sym ((handler_decides x h).0 p.0)) e) in
+      absurd (not_so there))
+      (λ _ is. omega arith) refl;
+}

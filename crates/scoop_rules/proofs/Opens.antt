@@ -1,0 +1,202 @@
+-- At its first opening anywhere a block is reserved in one step, and cut wherever it can't open any more.
+use Rattle.std.proofs.Common.{◌≡◌, ◌⊎◌, inl, inr, ℕ, zero, suc, ◌-◌, ◌<◌, Bool, true, false, ◌&&◌, ◌||◌, true≢false, List, [], ◌∷◌, ◌++◌, map, filter, flat_map, take, Option, refl, sym, ap, ◌∙◌, subst, ⊎_elim, arith, append-nil}
+use Rattle.std.specs.Prelude.{if◌then◌else◌}
+use Rattle.std.proofs.lemmas.Grind.{flat_map-append}
+use Rattle.scoop_message.specs.declared.name.Block.{Block}
+use Rattle.scoop_message.specs.declared.name.HandlerId.{HandlerId}
+use Rattle.scoop_message.specs.declared.request.Entry.{Entry}
+use Rattle.scoop_message.specs.declared.message.Message.{Message}
+use Rattle.scoop_message.specs.Message.{same_block, same_handler}
+use Rattle.scoop_message.proofs.Same.{handler_decides}
+use Rattle.scoop_reserve.specs.Handlers.{has}
+use Rattle.scoop_model.specs.World.{World, Site, has_block, set_of, ran_at, opened_at, is_succeeded, inc_of}
+use Rattle.scoop_model.specs.Step.{joined}
+use Rattle.scoop_rules.specs.Paper.{Waiting, Configuration, Objects, Separate, CutTo, MovesLead, put_at_handler, separate, cut_to, cut_queue, cut_waiting, new_queue, count_of, Seen, seen, queue_of, queue_at, configuration_of, late_cuts}
+use Rattle.scoop_model.proofs.Basics.{by_test}
+use Rattle.scoop_model.proofs.Order.Lists.{same_block_is, same_block_itself}
+use Rattle.scoop_rules.proofs.Lists.{same_configuration, queues_same, queues_last, cut_over, cut_other, own_queue_at}
+use Rattle.scoop_rules.proofs.Seen.{seen_none}
+use Rattle.scoop_rules.proofs.Front.{left_has}
+use Rattle.scoop_model.proofs.Ready.Facts.{HandlerReady, Ready}
+use Rattle.scoop_rules.proofs.Sends.{IsQuietIfSome, ran_in, with_news, same_queue, quiet_same}
+
+-- ---- tests of handlers
+
+handler_itself : (h : HandlerId) → same_handler h h ≡ true
+handler_itself h = (handler_decides h h).1 refl
+
+handlers_turned : (x h : HandlerId) → same_handler x h ≡ false → same_handler h x ≡ false
+handlers_turned x h e =
+    by_test (λ t. same_handler h x ≡ t → t ≡ false) (same_handler h x)
+    (λ _ is. absurd (true≢false (sym ((handler_decides x h).1 (sym ((handler_decides h x).0 is))) ∙ e))) (λ _ is. refl) refl
+
+-- ---- cuts of a queue that is new
+
+-- the queues as they stand, and one block's behind them
+abbrev with_last : World → List Block → (HandlerId → List Waiting) → Configuration
+with_last w js last = record { queues = λ x. flat_map (queue_at w x) w.joint ++ last x; ran = λ x. ran_at x w; separated = js; inc = inc_of w }
+
+other_than : (b y : Block) (js : List Block) → has_block js b ≡ false → has_block js y ≡ true → same_block y b ≡ false
+other_than b y js none m =
+    by_test (λ t. same_block y b ≡ t → t ≡ false) (same_block y b) (λ _ is. absurd (true≢false (sym m ∙ ap (has_block js) (same_block_is y b is) ∙ none))) (λ _ is. refl) refl
+
+cut_nothing : (n : ℕ) → take {A = Entry} n [] ≡ []
+cut_nothing zero = refl
+cut_nothing (suc n) = refl
+
+cut_new : (b : Block) (k : ℕ) → flat_map (cut_waiting b k) (new_queue b ∷ []) ≡ []
+cut_new b k = ap (λ t. (if t then cut_queue b (take k []) else new_queue b ∷ []) ++ []) (same_block_itself b) ∙ ap (λ es. cut_queue b es ++ []) (cut_nothing k)
+
+-- a cut of a block that isn't in the list
+cut_behind : (w : World) (h : HandlerId) (b : Block) (k : ℕ) (qs : List Waiting) → has_block w.joint b ≡ false
+    → flat_map (cut_waiting b k) (flat_map (queue_at w h) w.joint ++ qs) ≡ flat_map (queue_at w h) w.joint ++ flat_map (cut_waiting b k) qs
+cut_behind w h b k qs new =
+    flat_map-append (cut_waiting b k) (flat_map (queue_at w h) w.joint) qs
+    ∙ ap (λ ps. ps ++ flat_map (cut_waiting b k) qs)
+    (cut_over b k (queue_at w h) w.joint
+    ∙ queues_same (λ y. flat_map (cut_waiting b k) (queue_at w h y)) (queue_at w h) w.joint (λ y m. cut_other b y k (queue_at w h y) (other_than b y w.joint new m) (own_queue_at w h y)))
+
+module _ (o : Objects) (w : World) (js : List Block) (b : Block) (new : has_block w.joint b ≡ false) (below : (h : HandlerId) → is_succeeded b h w ≡ true → b.inc < inc_of w b.client) (none : (h : HandlerId) → count_of b (ran_at h w) ≡ 0) where
+  abbrev IsNewOrNone : (HandlerId → List Waiting) → Type 0
+  IsNewOrNone last = (x : HandlerId) → (last x ≡ []) ⊎ (last x ≡ new_queue b ∷ [])
+
+  -- the block has no queue at one handler more
+  abbrev without_at : HandlerId → (HandlerId → List Waiting) → HandlerId → List Waiting
+  without_at h last = put_at_handler h [] last
+
+  cut_step : (h : HandlerId) (last : HandlerId → List Waiting) → IsNewOrNone last → cut_to b h 0 (with_last w js last) ≡ with_last w js (without_at h last)
+  cut_step h last is =
+      same_configuration (cut_to b h 0 (with_last w js last)) (with_last w js (without_at h last))
+      (λ x.
+      let k = 0 - count_of b (ran_at h w) in
+      by_test
+      (λ t. same_handler x h ≡ t
+      → (if t then flat_map (cut_waiting b k) (flat_map (queue_at w h) w.joint ++ last h) else flat_map (queue_at w x) w.joint ++ last x) ≡ flat_map (queue_at w x) w.joint ++ (if t then [] else last x))
+      (same_handler x h)
+      (λ _ same.
+      cut_behind w h b k (last h) new
+      ∙ ap (λ qs. flat_map (queue_at w h) w.joint ++ qs)
+      (⊎_elim (λ (p : last h ≡ []). ap (flat_map (cut_waiting b k)) p) (λ (p : last h ≡ new_queue b ∷ []). ap (flat_map (cut_waiting b k)) p ∙ cut_new b k) (is h))
+      ∙ ap (λ j. flat_map (queue_at w j) w.joint ++ []) (sym ((handler_decides x h).0 same)))
+      (λ _ other. refl) refl)
+      (λ x. refl) refl (λ c. refl)
+
+  still_new : (h : HandlerId) (last : HandlerId → List Waiting) → IsNewOrNone last → IsNewOrNone (without_at h last)
+  still_new h last is x = by_test (λ t. ((if t then [] else last x) ≡ []) ⊎ ((if t then [] else last x) ≡ new_queue b ∷ [])) (same_handler x h) (λ _. inl refl) (λ _. is x)
+
+  abbrev cut_where : List HandlerId → (HandlerId → List Waiting) → HandlerId → List Waiting
+  cut_where hs last x = if has hs x && is_succeeded b x w then [] else last x
+
+  and_false : (t : Bool) (ps qs : List Waiting) → (if t && false then ps else qs) ≡ qs
+  and_false true ps qs = refl
+  and_false false ps qs = refl
+
+  cut_where_first : (h : HandlerId) (hs : List HandlerId) (last : HandlerId → List Waiting) → is_succeeded b h w ≡ true → (x : HandlerId) → cut_where (h ∷ hs) last x ≡ cut_where hs (without_at h last) x
+  cut_where_first h hs last newer x =
+      by_test
+      (λ t. same_handler h x ≡ t → (if (t || has hs x) && is_succeeded b x w then [] else last x) ≡ (if has hs x && is_succeeded b x w then [] else (if same_handler x h then [] else last x)))
+      (same_handler h x)
+      (λ _ same.
+      let one : h ≡ x = (handler_decides h x).0 same in
+      ap (λ t. if t then [] else last x) (subst (λ j. is_succeeded b j w ≡ true) one newer)
+      ∙ sym (ap (λ t. if has hs x && is_succeeded b x w then [] else (if t then [] else last x)) (subst (λ j. same_handler j h ≡ true) one (handler_itself h)) ∙ either (has hs x && is_succeeded b x w)))
+      (λ _ other. ap (λ t. if has hs x && is_succeeded b x w then [] else (if t then [] else last x)) (sym (handlers_turned h x other))) refl
+    where
+      either : (t : Bool) → (if t then [] else (if true then [] else last x)) ≡ []
+      either true = refl
+      either false = refl
+
+  cut_where_not : (h : HandlerId) (hs : List HandlerId) (last : HandlerId → List Waiting) → is_succeeded b h w ≡ false → (x : HandlerId) → cut_where (h ∷ hs) last x ≡ cut_where hs last x
+  cut_where_not h hs last older x =
+      by_test (λ t. same_handler h x ≡ t → (if (t || has hs x) && is_succeeded b x w then [] else last x) ≡ cut_where hs last x) (same_handler h x)
+      (λ _ same.
+      let not_so : is_succeeded b x w ≡ false = subst (λ j. is_succeeded b j w ≡ false) ((handler_decides h x).0 same) older in
+      ap (λ t. if t then [] else last x) not_so ∙ sym (ap (λ t. if has hs x && t then [] else last x) not_so ∙ and_false (has hs x) [] (last x)))
+      (λ _ other. refl) refl
+
+  late : (hs : List HandlerId) (last : HandlerId → List Waiting) → IsNewOrNone last → (end : Configuration) → with_last w js (cut_where hs last) ≡ end
+      → MovesLead o (with_last w js last) (map (λ h. CutTo b h 0) (filter (λ h. is_succeeded b h w) hs)) end
+  late [] last is end e = e
+  late (h ∷ hs) last is end e =
+      by_test (λ t. is_succeeded b h w ≡ t → MovesLead o (with_last w js last) (map (λ j. CutTo b j 0) (if t then h ∷ filter (λ j. is_succeeded b j w) hs else filter (λ j. is_succeeded b j w) hs)) end) (is_succeeded b h w)
+      (λ _ newer. (
+        (below h newer, let n = none h in omega (arith, n)),
+        subst (λ g. MovesLead o g (map (λ j. CutTo b j 0) (filter (λ j. is_succeeded b j w) hs)) end) (sym (cut_step h last is))
+            (late hs (without_at h last) (still_new h last is) end
+            (same_configuration (with_last w js (cut_where hs (without_at h last))) (with_last w js (cut_where (h ∷ hs) last)) (λ x. ap (λ qs. flat_map (queue_at w x) w.joint ++ qs) (sym (cut_where_first h hs last newer x))) (λ x. refl) refl (λ c. refl) ∙ e)),
+      ))
+      (λ _ older.
+      late hs last is end
+      (same_configuration (with_last w js (cut_where hs last)) (with_last w js (cut_where (h ∷ hs) last)) (λ x. ap (λ qs. flat_map (queue_at w x) w.joint ++ qs) (sym (cut_where_not h hs last older x))) (λ x. refl) refl (λ c. refl) ∙ e)) refl
+
+-- ---- an opening
+
+module _ (w : World) (sites : List Site) (m : Option Message) (same_ran : (j : HandlerId) → ran_in j sites ≡ ran_at j w) (quiet : IsQuietIfSome w.sent m) (b : Block) where
+  abbrev opened_world : World
+  opened_world = with_news w sites m same_ran quiet (joined w.joint (b ∷ []))
+
+  -- elsewhere it has opened before
+  pub later_opening : has_block w.joint b ≡ true → configuration_of w ≡ configuration_of opened_world
+  later_opening old =
+      quiet_same w sites m same_ran quiet
+      ∙ ap (λ js. configuration_of (with_news w sites m same_ran quiet js)) (sym (ap (λ t. if t then w.joint else w.joint ++ b ∷ []) old))
+
+  module _ (o : Objects) (ready : Ready w) (new : has_block w.joint b ≡ false) where
+    abbrev js : List Block
+    js = w.joint ++ b ∷ []
+
+    longer : joined w.joint (b ∷ []) ≡ js
+    longer = ap (λ t. if t then w.joint else w.joint ++ b ∷ []) new
+
+    not_opened : (x : HandlerId) → has_block (opened_at x w) b ≡ false
+    not_opened x =
+        by_test (λ t. has_block (opened_at x w) b ≡ t → t ≡ false) (has_block (opened_at x w) b)
+        (λ _ is. absurd (true≢false (sym (left_has (ready.handlers x).left b is) ∙ new))) (λ _ is. refl) refl
+
+    looks : (x : HandlerId) → seen b x w ≡ record { logged = []; count = 0; over = false; newer = is_succeeded b x w; received = 0 }
+    looks x =
+        let r : HandlerReady w x = ready.handlers x in
+        seen_none w x r.slots b r.ran (ap (λ bs. has_block bs b) (sym r.opened) ∙ not_opened x) (r.silent b (not_opened x))
+        ∙ ap (λ es. record { logged = es; count = 0; over = false; newer = is_succeeded b x w; received = 0 }) (ready.unlogged b x new)
+
+    abbrev at_each : HandlerId → List Waiting
+    at_each x = if has (set_of b w) x then new_queue b ∷ [] else []
+
+    fresh : (g : Bool) → queue_of b (record { logged = []; count = 0; over = false; newer = g; received = 0 }) ≡ (if g then [] else new_queue b ∷ [])
+    fresh true = refl
+    fresh false = refl
+
+    both_tests : (a g : Bool) → (if a && g then [] else (if a then new_queue b ∷ [] else [])) ≡ (if a then (if g then [] else new_queue b ∷ []) else [])
+    both_tests true g = refl
+    both_tests false g = refl
+
+    own_after : (x : HandlerId) → cut_where o w js b new (λ h. ready.below b h) (λ h. ap (λ (s : Seen). s.count) (looks h)) (set_of b w) at_each x ≡ queue_at opened_world x b
+    own_after x =
+        both_tests (has (set_of b w) x) (is_succeeded b x w)
+        ∙ ap (λ qs. if has (set_of b w) x then qs else []) (sym (ap (queue_of b) (looks x) ∙ fresh (is_succeeded b x w)))
+        ∙ sym (same_queue w sites m same_ran quiet (joined w.joint (b ∷ [])) x b)
+
+    begins : with_last w js at_each ≡ separate b (set_of b w) (configuration_of w)
+    begins =
+        same_configuration (with_last w js at_each) (separate b (set_of b w) (configuration_of w))
+        (λ x. by_test (λ t. flat_map (queue_at w x) w.joint ++ (if t then new_queue b ∷ [] else []) ≡ (if t then flat_map (queue_at w x) w.joint ++ new_queue b ∷ [] else flat_map (queue_at w x) w.joint)) (has (set_of b w) x) (λ _. refl) (λ _. append-nil (flat_map (queue_at w x) w.joint)))
+        (λ x. refl) refl (λ c. refl)
+
+    ends : with_last w js (λ x. queue_at opened_world x b) ≡ configuration_of opened_world
+    ends =
+        same_configuration (with_last w js (λ x. queue_at opened_world x b)) (configuration_of opened_world)
+        (λ x.
+        ap (λ qs. qs ++ queue_at opened_world x b) (sym (queues_same (queue_at opened_world x) (queue_at w x) w.joint (λ y _. same_queue w sites m same_ran quiet (joined w.joint (b ∷ [])) x y)))
+        ∙ sym (queues_last (queue_at opened_world x) w.joint b)
+        ∙ ap (flat_map (queue_at opened_world x)) (sym longer))
+        (λ x. sym (same_ran x)) (sym longer) (λ c. refl)
+
+    pub first_opening : MovesLead o (configuration_of w) (Separate b (set_of b w) ∷ late_cuts w b) (configuration_of opened_world)
+    first_opening = (
+      new,
+      subst (λ g. MovesLead o g (late_cuts w b) (configuration_of opened_world)) begins
+          (late o w js b new (λ h. ready.below b h) (λ h. ap (λ (s : Seen). s.count) (looks h)) (set_of b w) at_each
+          (λ x. by_test (λ t. ((if t then new_queue b ∷ [] else []) ≡ []) ⊎ ((if t then new_queue b ∷ [] else []) ≡ new_queue b ∷ [])) (has (set_of b w) x) (λ _. inr refl) (λ _. inl refl))
+          (configuration_of opened_world)
+          (same_configuration (with_last w js _) (with_last w js (λ x. queue_at opened_world x b)) (λ x. ap (λ qs. flat_map (queue_at w x) w.joint ++ qs) (own_after x)) (λ x. refl) refl (λ c. refl) ∙ ends)),
+    )

@@ -1,0 +1,305 @@
+-- An entry that runs is a run of the first entry of the first private queue.
+use Rattle.std.proofs.Common.{◌≡◌, ◌⊎◌, inl, inr, ℕ, ◌+◌, Bool, true, false, ◌&&◌, ◌||◌, nat_le, true≢false, List, [], ◌∷◌, ◌++◌, length, filter, flat_map, Option, Some, None, refl, sym, ap, ◌∙◌, subst, ⊎_elim, arith, length-append, append_assoc}
+use Rattle.std.specs.Prelude.{if◌then◌else◌}
+use Rattle.std.specs.List.{AllByRecursion}
+use Rattle.std.specs.Option.{option_map, option_map_or}
+use Rattle.std.proofs.lemmas.Bool.Decides.{nat_tests}
+use Rattle.std.proofs.lemmas.Grind.{flat_map-append}
+use Rattle.std.proofs.lemmas.List.Elements.{filter-append}
+use Rattle.std.proofs.lemmas.List.Folds.{list_any-append}
+use Rattle.std.proofs.lemmas.Option.{same_Some}
+use Rattle.scoop_message.specs.declared.name.Block.{Block}
+use Rattle.scoop_message.specs.declared.name.HandlerId.{HandlerId}
+use Rattle.scoop_message.specs.declared.request.Entry.{Entry}
+use Rattle.scoop_message.specs.Entry.{is_end}
+use Rattle.scoop_message.specs.Entries.{EndOnlyLast}
+use Rattle.scoop_message.specs.Message.{same_block, same_handler}
+use Rattle.scoop_message.proofs.Same.{handler_decides}
+use Rattle.scoop_object.specs.Class.{ClassTable}
+use Rattle.scoop_object.specs.Play.{entry_effect, play}
+use Rattle.scoop_queue.specs.Queue.{front}
+use Rattle.scoop_handler.specs.declared.ran.Ran.{Ran}
+use Rattle.scoop_handler.specs.Core.{Core}
+use Rattle.scoop_handler.specs.Running.{Task, job_out, task_of, ran_of as told_of}
+use Rattle.scoop_handler.proofs.MarkLists.{none_some}
+use Rattle.scoop_handler.proofs.After.{job-front, job-class, job-first}
+use Rattle.scoop_reserve.specs.Handlers.{has}
+use Rattle.scoop_model.specs.World.{World, Site, number_of, site_of, ran_at, opened_at, has_block, set_of, log_of, is_succeeded, received, has_end}
+use Rattle.scoop_model.specs.Step.{with_site, finished_site}
+use Rattle.scoop_model.specs.Safe.{entries_of, IsSubsequence}
+use Rattle.scoop_rules.specs.Paper.{Waiting, Configuration, Objects, RunOne, MovesLead, put_at_handler, count_of, has_ended, next_ran, rest_of, run_entries, run_first, has_entry, Seen, seen, no_class, state_of, queue_of, queue_at, configuration_of, objects_of}
+use Rattle.scoop_model.proofs.Basics.{by_test}
+use Rattle.scoop_model.proofs.Keys.{number_found, by_site}
+use Rattle.scoop_model.proofs.Order.Lists.{AreApart, same_block_is, same_block_itself}
+use Rattle.scoop_model.proofs.Tape.Slots.{Slot, blocks_of}
+use Rattle.scoop_model.proofs.Tape.Fits.{IsBegun}
+use Rattle.scoop_model.proofs.Tape.Shown.{left_apart}
+use Rattle.scoop_rules.proofs.Lists.{same_configuration, queues_same}
+use Rattle.scoop_rules.proofs.Seen.{IsSeen, HasFirst, slot_seen, all_seen, seen_none, none_before, none_queue, gone_queue, first_queue, ran_queue}
+use Rattle.scoop_rules.proofs.Front.{IsPlaced, Parted, parted}
+use Rattle.scoop_model.proofs.Ready.Facts.{IsOverIfGone, IsNamedAt, HandlerReady, Ready}
+
+-- ---- one more that ran
+
+pub count_pushed : (b : Block) (rs : List Ran) (r : Ran) → count_of b (rs ++ r ∷ []) ≡ count_of b rs + (if same_block r.block b then 1 else 0)
+count_pushed b rs r =
+    ap length (filter-append (λ x. same_block x.block b) rs (r ∷ [])) ∙ length-append (filter (λ x. same_block x.block b) rs) (filter (λ x. same_block x.block b) (r ∷ []))
+    ∙ by_test (λ t. count_of b rs + length (if t then r ∷ [] else []) ≡ count_of b rs + (if t then 1 else 0)) (same_block r.block b) (λ _. refl) (λ _. refl)
+
+or_nothing : (t : Bool) → (t || false) ≡ t
+or_nothing true = refl
+or_nothing false = refl
+
+pub ended_pushed : (b : Block) (rs : List Ran) (r : Ran) → has_ended b (rs ++ r ∷ []) ≡ (has_ended b rs || same_block r.block b && is_end r.entry)
+ended_pushed b rs r =
+    list_any-append (λ x. same_block x.block b && is_end x.entry) rs (r ∷ []) ∙ ap (λ t. has_ended b rs || t) (or_nothing (same_block r.block b && is_end r.entry))
+
+-- ---- the common list around a block
+
+has_middle : (b : Block) (xs ys : List Block) → has_block (xs ++ b ∷ ys) b ≡ true
+has_middle b [] ys = ap (λ t. t || has_block ys b) (same_block_itself b)
+has_middle b (x ∷ xs) ys = by_test (λ t. (t || has_block (xs ++ b ∷ ys) b) ≡ true) (same_block x b) (λ _. refl) (λ _. has_middle b xs ys)
+
+apart_from : (b y : Block) (bs : List Block) → has_block bs b ≡ false → has_block bs y ≡ true → same_block b y ≡ false
+apart_from b y bs none m =
+    by_test (λ t. same_block b y ≡ t → t ≡ false) (same_block b y) (λ _ is. absurd (true≢false (sym m ∙ ap (has_block bs) (sym (same_block_is b y is)) ∙ none))) (λ _ is. refl) refl
+
+-- in a list without repeats the blocks before and behind one are others
+before_apart : (b y : Block) (xs ys : List Block) → AreApart (xs ++ b ∷ ys) → has_block xs y ≡ true → same_block b y ≡ false
+before_apart b y [] ys d m = absurd (true≢false (sym m))
+before_apart b y (x ∷ xs) ys d m =
+    by_test (λ t. same_block x y ≡ t → (t || has_block xs y) ≡ true → same_block b y ≡ false) (same_block x y)
+    (λ _ is _. by_test (λ t. same_block b y ≡ t → t ≡ false) (same_block b y)
+    (λ _ also. absurd (true≢false (sym (has_middle b xs ys) ∙ ap (has_block (xs ++ b ∷ ys)) (same_block_is b y also ∙ sym (same_block_is x y is)) ∙ d.0)))
+    (λ _ also. refl) refl)
+    (λ _ is n. before_apart b y xs ys d.1 n) refl m
+
+behind_apart : (b y : Block) (xs ys : List Block) → AreApart (xs ++ b ∷ ys) → has_block ys y ≡ true → same_block b y ≡ false
+behind_apart b y [] ys d m = apart_from b y ys d.0 m
+behind_apart b y (x ∷ xs) ys d m = behind_apart b y xs ys d.1 m
+
+-- the queues of the list, by those before, of, and behind one block
+queues_around :
+    (f : Block → List Waiting) (js xs ys : List Block) (b : Block) (qs : List Waiting) → js ≡ xs ++ b ∷ ys → flat_map f xs ≡ [] → f b ≡ qs
+    → flat_map f js ≡ qs ++ flat_map f ys
+queues_around f js xs ys b qs e none at = ap (flat_map f) e ∙ flat_map-append f xs (b ∷ ys) ∙ (λ i. none i ++ (at i ++ flat_map f ys))
+
+-- ---- the run of a first queue that is known
+
+first_runs :
+    (o : Objects) (h : HandlerId) (g k : Configuration) (q : Waiting) (x : Entry) (es : List Entry) (qs : List Waiting) → q.entries ≡ x ∷ es → g.queues h ≡ q ∷ qs
+    → record g { queues = put_at_handler h (rest_of q x es ++ qs) g.queues; ran = put_at_handler h (g.ran h ++ next_ran (o.class h) (o.words h) (g.ran h) q.block x ∷ []) g.ran } ≡ k
+    → MovesLead o g (RunOne h ∷ []) k
+first_runs o h g k q x es qs entries first e = (
+  ap has_entry first ∙ ap (λ ys. nat_le 1 (length ys)) entries ∙ some x es,
+  ap (λ rs. run_first o h rs g) first ∙ ap (λ ys. run_entries o h q ys qs g) entries ∙ e,
+)
+  where
+    some : (y : Entry) (ys : List Entry) → nat_le 1 (length (y ∷ ys)) ≡ true
+    some y ys = grind (arith, nat_tests)
+
+-- ---- what a slot tells of its block's queue
+
+-- all that is known of a slot
+pub record SlotReady (w : World) (h : HandlerId) (t : Slot) : Type 0 where
+  pub seen : IsSeen w h t
+  pub begun : IsBegun (λ b. log_of b h w) t
+  pub gone : IsOverIfGone w h t
+  pub named : IsNamedAt w h t
+
+all_four :
+    (P Q R S T : Slot → Type 0) → ((t : Slot) → P t → Q t → R t → S t → T t) → (ss : List Slot) → AllByRecursion P ss → AllByRecursion Q ss → AllByRecursion R ss → AllByRecursion S ss
+    → AllByRecursion T ss
+all_four P Q R S T f [] p q r s = tt
+all_four P Q R S T f (t ∷ ts) p q r s = (f t p.0 q.0 r.0 s.0, all_four P Q R S T f ts p.1 q.1 r.1 s.1)
+
+module _ (w : World) (h : HandlerId) (ready : Ready w) where
+  abbrev here : HandlerReady w h
+  here = ready.handlers h
+
+  pub slots_left : IsSubsequence (blocks_of here.slots) w.joint
+  slots_left = subst (λ bs. IsSubsequence bs w.joint) here.opened here.left
+
+  pub slots_apart : AreApart (blocks_of here.slots)
+  slots_apart = left_apart slots_left ready.once
+
+  pub slots_ready : AllByRecursion (SlotReady w h) here.slots
+  slots_ready =
+      all_four (IsSeen w h) (IsBegun (λ b. log_of b h w)) (IsOverIfGone w h) (IsNamedAt w h) (SlotReady w h) (λ t a b c d. record { seen = a; begun = b; gone = c; named = d }) here.slots
+      (all_seen w h here.slots here.ran slots_apart here.begun here.told) here.begun here.gone here.named
+
+  if_nothing : (t : Bool) (qs : List Waiting) → qs ≡ [] → (if t then qs else []) ≡ []
+  if_nothing true qs e = e
+  if_nothing false qs e = refl
+
+  -- a slot whose private queue is gone has no queue
+  pub gone_at : (t : Slot) → SlotReady w h t → t.state ≡ None → queue_at w h t.block ≡ []
+  gone_at t r none =
+      if_nothing (has (set_of t.block w) h) (queue_of t.block (seen t.block h w))
+      (ap (queue_of t.block) r.seen.is ∙ gone_queue t.block t.ran t.rest r.seen.more (is_succeeded t.block h w) (r.gone.rest none) (r.gone.why none))
+
+  -- a block without a slot, whose client has been succeeded, has no queue
+  none_at : (b : Block) → has_block (opened_at h w) b ≡ false → is_succeeded b h w ≡ true → queue_at w h b ≡ []
+  none_at b none newer =
+      if_nothing (has (set_of b w) h) (queue_of b (seen b h w))
+      (ap (queue_of b) (seen_none w h here.slots b here.ran (ap (λ bs. has_block bs b) (sym here.opened) ∙ none) (here.silent b none))
+      ∙ ap (λ t. queue_of b (record { logged = log_of b h w; count = 0; over = false; newer = t; received = 0 })) newer
+      ∙ none_queue b (log_of b h w))
+
+  pub placed_at : (b : Block) → has_block w.joint b ≡ true → IsPlaced (queue_at w h) (blocks_of here.slots) w.joint b
+  placed_at b m =
+      by_test (λ t. has (set_of b w) h ≡ t → IsPlaced (queue_at w h) (blocks_of here.slots) w.joint b) (has (set_of b w) h)
+      (λ _ named. by_test (λ t. has_block (opened_at h w) b ≡ t → IsPlaced (queue_at w h) (blocks_of here.slots) w.joint b) (has_block (opened_at h w) b)
+      (λ _ is. inl (subst (λ bs. has_block bs b ≡ true) here.opened is))
+      (λ _ none. ⊎_elim
+      (λ (p : has_block (opened_at h w) b ≡ true). absurd (true≢false (sym p ∙ none)))
+      (λ (p : (is_succeeded b h w ≡ true) ⊎ IsSubsequence (opened_at h w ++ b ∷ []) w.joint). ⊎_elim
+      (λ (q : is_succeeded b h w ≡ true). inr (inl (none_at b none q)))
+      (λ (q : IsSubsequence (opened_at h w ++ b ∷ []) w.joint). inr (inr (subst (λ bs. IsSubsequence (bs ++ b ∷ []) w.joint) here.opened q))) p)
+      (here.placed b m named)) refl)
+      (λ _ other. inr (inl (ap (λ t. if t then queue_of b (seen b h w) else []) other))) refl
+
+-- the words that a job went out with are the handler's
+job_words : (c : Core) (t : Task) → job_out c ≡ Some t → t.words ≡ c.state.words
+job_words c t out = of (front c.state.queues) refl
+  where
+    of : (f : Option (Block × ℕ × Entry)) → front c.state.queues ≡ f → t.words ≡ c.state.words
+    of None none = absurd (none_some (sym (ap (option_map (task_of c)) none) ∙ job-first c t out))
+    of (Some f) some =
+        let same : task_of c f ≡ t = same_Some (task_of c f) t (sym (ap (option_map (task_of c)) some) ∙ job-first c t out) in
+        sym (ap (λ (x : Task). x.words) same)
+
+-- ---- the world once the entry has run
+
+module _ (w : World) (h : HandlerId) (s : Site) (t : Task) (found : site_of h w ≡ Some s) where
+  abbrev ran_world : World
+  ran_world = with_site w (finished_site s t)
+
+  own_place : site_of (number_of s) w ≡ Some s
+  own_place = subst (λ j. site_of j w ≡ Some s) (sym (number_found h w s found)) found
+
+  ran_before : ran_at h w ≡ s.ran
+  ran_before = ap (λ o. option_map_or (λ (x : Site). x.ran) o []) found
+
+  pub ran_here : ran_at h ran_world ≡ ran_at h w ++ told_of t ∷ []
+  ran_here =
+      by_site (λ o. option_map_or (λ (x : Site). x.ran) o [] ≡ ran_at h w ++ told_of t ∷ []) w (finished_site s t) s h own_place
+      (λ same. ap (λ rs. rs ++ told_of t ∷ []) (sym ran_before))
+      (λ apart. absurd (apart (number_found h w s found)))
+
+  pub ran_elsewhere : (j : HandlerId) → (j ≡ h → ⊥) → ran_at j ran_world ≡ ran_at j w
+  ran_elsewhere j apart =
+      by_site (λ o. option_map_or (λ (x : Site). x.ran) o [] ≡ ran_at j w) w (finished_site s t) s j own_place
+      (λ same. absurd (apart (sym same ∙ number_found h w s found)))
+      (λ other. refl)
+
+  other_block : (b : Block) → same_block t.block b ≡ false → queue_at ran_world h b ≡ queue_at w h b
+  other_block b other =
+      let count = ap (count_of b) ran_here ∙ count_pushed b (ran_at h w) (told_of t) ∙ ap (λ y. count_of b (ran_at h w) + (if y then 1 else 0)) other ∙ omega arith in
+      let over = ap (has_ended b) ran_here ∙ ended_pushed b (ran_at h w) (told_of t) ∙ ap (λ y. has_ended b (ran_at h w) || y && is_end t.entry) other ∙ or_nothing (has_ended b (ran_at h w)) in
+      λ i. if has (set_of b w) h then queue_of b (record { logged = log_of b h w; count = count i; over = over i; newer = is_succeeded b h w; received = received b h w }) else []
+
+  other_place : (j : HandlerId) (b : Block) → (j ≡ h → ⊥) → queue_at ran_world j b ≡ queue_at w j b
+  other_place j b apart =
+      let ran = ran_elsewhere j apart in
+      λ i. if has (set_of b w) j then queue_of b (record { logged = log_of b j w; count = count_of b (ran i); over = has_ended b (ran i); newer = is_succeeded b j w; received = received b j w }) else []
+
+  own_block :
+      (f : HasFirst (seen t.block h w) t.entry) → has (set_of t.block w) h ≡ true
+      → queue_at ran_world h t.block ≡ rest_of record { block = t.block; entries = t.entry ∷ f.later; state = state_of (seen t.block h w) } t.entry f.later
+  own_block f named =
+      let b = t.block in
+      let own = same_block_itself b in
+      let count = ap (count_of b) ran_here ∙ count_pushed b (ran_at h w) (told_of t) ∙ ap (λ y. count_of b (ran_at h w) + (if y then 1 else 0)) own in
+      let over = ap (has_ended b) ran_here ∙ ended_pushed b (ran_at h w) (told_of t) ∙ ap (λ y. has_ended b (ran_at h w) || y && is_end t.entry) own in
+      (λ i. if named i then queue_of b (record { logged = log_of b h w; count = count i; over = over i; newer = is_succeeded b h w; received = received b h w }) else [])
+      ∙ ran_queue b (seen b h w) t.entry f
+
+  module _ (ready : Ready w) (out : job_out s.core ≡ Some t) where
+    abbrev u : Block × ℕ × Entry
+    u = (t.block, t.number, t.entry)
+
+    around : Parted (queue_at w h) (SlotReady w h) u w.joint
+    around =
+        parted (queue_at w h) (SlotReady w h) u (gone_at w h ready) (ready.handlers h).slots w.joint (slots_left w h ready) ready.once (placed_at w h ready) (slots_ready w h ready)
+        (sym (ap front ((ready.handlers h).queues s found)) ∙ job-front s.core t out)
+
+    own_slot : around.slot.block ≡ t.block
+    own_slot = around.first.block
+
+    looks : seen t.block h w ≡ slot_seen around.slot.ran (t.entry ∷ around.first.later) around.has.seen.more (is_succeeded around.slot.block h w)
+    looks = ap (λ b. seen b h w) (sym own_slot) ∙ around.has.seen.is ∙ ap (λ es. slot_seen around.slot.ran es around.has.seen.more (is_succeeded around.slot.block h w)) around.first.rest
+
+    no_end : has_end around.slot.ran ≡ false
+    no_end =
+        let v = around.slot in
+        let all : v.ran ++ t.entry ∷ (around.first.later ++ around.has.begun.behind) ≡ log_of v.block h w =
+        sym (append_assoc v.ran (t.entry ∷ around.first.later) around.has.begun.behind) ∙ ap (λ es. (v.ran ++ es) ++ around.has.begun.behind) (sym around.first.rest) ∙ around.has.begun.all in
+        none_before v.ran t.entry (around.first.later ++ around.has.begun.behind) (subst EndOnlyLast (sym all) (ready.logs v.block h))
+
+    first : HasFirst (seen t.block h w) t.entry
+    first = subst (λ x. HasFirst x t.entry) (sym looks) (first_queue around.slot.ran t.entry around.first.later around.has.seen.more (is_succeeded around.slot.block h w) no_end)
+
+    named : has (set_of t.block w) h ≡ true
+    named = subst (λ b. has (set_of b w) h ≡ true) own_slot around.has.named.named
+
+    abbrev q : Waiting
+    q = record { block = t.block; entries = t.entry ∷ first.later; state = state_of (seen t.block h w) }
+
+    own_now : queue_at w h t.block ≡ q ∷ []
+    own_now = λ i. if named i then (if first.there i then [] else record { block = t.block; entries = first.entries i; state = state_of (seen t.block h w) } ∷ []) else []
+
+    stands : w.joint ≡ around.before ++ t.block ∷ around.behind
+    stands = around.here ∙ ap (λ b. around.before ++ b ∷ around.behind) own_slot
+
+    no_repeats : AreApart (around.before ++ t.block ∷ around.behind)
+    no_repeats = subst AreApart stands ready.once
+
+    number : count_of t.block (ran_at h w) + 1 ≡ t.number
+    number = ap (λ (x : Seen). x.count + 1) looks ∙ around.first.number
+
+    same_ran : next_ran ((objects_of w).class h) ((objects_of w).words h) (ran_at h w) t.block t.entry ≡ told_of t
+    same_ran =
+        let class : (objects_of w).class h ≡ s.core.class = ap (λ o. option_map_or (λ (x : Site). x.core.class) o no_class) found in
+        let placed : (objects_of w).words h ≡ s.placed = ap (λ o. option_map_or (λ (x : Site). x.placed) o []) found in
+        let words : play s.core.class s.placed (entries_of s.ran) ≡ t.words = sym (job_words s.core t out ∙ ready.words h s found) in
+        let told : (λ (x : ClassTable). entry_effect x (play x ((objects_of w).words h) (entries_of (ran_at h w))) t.entry) ((objects_of w).class h) ≡ entry_effect t.class t.words t.entry =
+        (λ i. entry_effect (class i) (play (class i) (placed i) (entries_of (ran_before i))) t.entry)
+        ∙ ap (λ x. entry_effect s.core.class x t.entry) words
+        ∙ ap (λ x. entry_effect x t.words t.entry) (sym (job-class s.core t out)) in
+        λ i. record { block = t.block; number = number i; entry = t.entry; answer = (told i).1 }
+
+    abbrev later : List Waiting
+    later = flat_map (queue_at w h) around.behind
+
+    queues_here : rest_of q t.entry first.later ++ later ≡ flat_map (queue_at ran_world h) w.joint
+    queues_here =
+        sym (
+        queues_around (queue_at ran_world h) w.joint around.before around.behind t.block (rest_of q t.entry first.later) stands
+        (queues_same (queue_at ran_world h) (queue_at w h) around.before (λ b m. other_block b (before_apart t.block b around.before around.behind no_repeats m)) ∙ around.empty)
+        (own_block first named)
+        ∙ ap (λ qs. rest_of q t.entry first.later ++ qs) (queues_same (queue_at ran_world h) (queue_at w h) around.behind (λ b m. other_block b (behind_apart t.block b around.before around.behind no_repeats m))))
+
+    is_here : (j : HandlerId) → same_handler j h ≡ true → j ≡ h
+    is_here j e = (handler_decides j h).0 e
+
+    is_not_here : (j : HandlerId) → same_handler j h ≡ false → j ≡ h → ⊥
+    is_not_here j e same = true≢false (sym ((handler_decides j h).1 same) ∙ e)
+
+    queues_after : (j : HandlerId) → put_at_handler h (rest_of q t.entry first.later ++ later) (configuration_of w).queues j ≡ flat_map (queue_at ran_world j) w.joint
+    queues_after j =
+        by_test (λ y. same_handler j h ≡ y → (if y then rest_of q t.entry first.later ++ later else flat_map (queue_at w j) w.joint) ≡ flat_map (queue_at ran_world j) w.joint) (same_handler j h)
+        (λ _ is. queues_here ∙ ap (λ k. flat_map (queue_at ran_world k) w.joint) (sym (is_here j is)))
+        (λ _ is. sym (queues_same (queue_at ran_world j) (queue_at w j) w.joint (λ b m. other_place j b (is_not_here j is)))) refl
+
+    ran_after : (j : HandlerId) → put_at_handler h (ran_at h w ++ next_ran ((objects_of w).class h) ((objects_of w).words h) (ran_at h w) t.block t.entry ∷ []) (configuration_of w).ran j ≡ ran_at j ran_world
+    ran_after j =
+        by_test (λ y. same_handler j h ≡ y → (if y then ran_at h w ++ next_ran ((objects_of w).class h) ((objects_of w).words h) (ran_at h w) t.block t.entry ∷ [] else ran_at j w) ≡ ran_at j ran_world) (same_handler j h)
+        (λ _ is. ap (λ r. ran_at h w ++ r ∷ []) same_ran ∙ sym ran_here ∙ ap (λ k. ran_at k ran_world) (sym (is_here j is)))
+        (λ _ is. sym (ran_elsewhere j (is_not_here j is))) refl
+
+    pub run_follows : MovesLead (objects_of w) (configuration_of w) (RunOne h ∷ []) (configuration_of ran_world)
+    run_follows =
+        first_runs (objects_of w) h (configuration_of w) (configuration_of ran_world) q t.entry first.later later refl
+        (queues_around (queue_at w h) w.joint around.before around.behind t.block (q ∷ []) stands around.empty own_now)
+        (same_configuration _ (configuration_of ran_world) queues_after ran_after refl (λ c. refl))

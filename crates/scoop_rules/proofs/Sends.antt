@@ -1,0 +1,90 @@
+-- A world with other sites and messages stands for the same configuration, where the same has run and the messages are
+-- quiet.
+use Rattle.std.proofs.Common.{◌≡◌, ℕ, ◌<◌, List, [], ◌++◌, find, Option, Some, None, refl, sym, ap, ◌∙◌, subst, arith, append-nil}
+use Rattle.std.specs.Prelude.{if◌then◌else◌, option_to_list}
+use Rattle.std.specs.Option.{option_map_or}
+use Rattle.scoop_message.specs.declared.name.Block.{Block}
+use Rattle.scoop_message.specs.declared.name.HandlerId.{HandlerId}
+use Rattle.scoop_message.specs.declared.message.Message.{Message}
+use Rattle.scoop_message.specs.declared.message.Message.TheVariants.{Welcome, Locked, Busy, Opened, Unlocked, Logged, Answer}
+use Rattle.scoop_handler.specs.declared.mark.Mark.{Mark}
+use Rattle.scoop_handler.specs.declared.note.Note.TheVariants.{Greeted}
+use Rattle.scoop_handler.specs.declared.ran.Ran.{Ran}
+use Rattle.scoop_handler.specs.Marks.{mark_of}
+use Rattle.scoop_handler.specs.Hearing.{Hearing}
+use Rattle.scoop_handler.specs.Rows.{Row, first_greeting, newer_greeting, same_greeting, lock_granted, lock_busy, lock_again, open_granted, open_again, unlock_new, unlock_holder, unlock_again, log_answered, log_again, log_taken}
+use Rattle.scoop_handler.proofs.MarkLists.{none_some}
+use Rattle.scoop_reserve.specs.Handlers.{has}
+use Rattle.scoop_model.specs.World.{World, Site, number_of, is_site, site_of, ran_at, set_of, log_of}
+use Rattle.scoop_rules.specs.Paper.{count_of, has_ended, queue_of, queue_at, configuration_of}
+use Rattle.scoop_rules.proofs.Lists.{same_configuration, queues_same}
+use Rattle.scoop_rules.proofs.Messages.{IsQuiet, IsPlain, told_seen, quiet_queue, plain_quiet, welcome_quiet, count_quiet}
+use Rattle.scoop_model.proofs.Ready.Facts.{Ready}
+
+-- what has run at a handler of these sites
+abbrev pub ran_in : HandlerId → List Site → List Ran
+ran_in j sites = option_map_or (λ s. s.ran) (find (is_site j) sites) []
+
+-- each message, if there is one, is quiet
+abbrev pub IsQuietIfSome : List Message → Option Message → Type 0
+IsQuietIfSome ms o = (m : Message) → o ≡ Some m → IsQuiet ms m
+
+module _ (w : World) (sites : List Site) (o : Option Message) (same_ran : (j : HandlerId) → ran_in j sites ≡ ran_at j w) (quiet : IsQuietIfSome w.sent o) where
+  -- the world with these sites and this common list, once the message is sent
+  abbrev pub with_news : List Block → World
+  with_news js = record w { sites = sites; sent = w.sent ++ option_to_list o; joint = js }
+
+  same_told : (h : HandlerId) (b : Block) (rs : List Ran) → queue_of b (told_seen h b (log_of b h w) (count_of b rs) (has_ended b rs) (w.sent ++ option_to_list o)) ≡ queue_of b (told_seen h b (log_of b h w) (count_of b rs) (has_ended b rs) w.sent)
+  same_told h b rs = of o quiet
+    where
+      of : (p : Option Message) → IsQuietIfSome w.sent p → queue_of b (told_seen h b (log_of b h w) (count_of b rs) (has_ended b rs) (w.sent ++ option_to_list p)) ≡ queue_of b (told_seen h b (log_of b h w) (count_of b rs) (has_ended b rs) w.sent)
+      of None q = ap (λ ms. queue_of b (told_seen h b (log_of b h w) (count_of b rs) (has_ended b rs) ms)) (append-nil w.sent)
+      of (Some m) q = quiet_queue h b (log_of b h w) (count_of b rs) (has_ended b rs) w.sent m (q m refl)
+
+  pub same_queue : (js : List Block) (h : HandlerId) (b : Block) → queue_at (with_news js) h b ≡ queue_at w h b
+  same_queue js h b =
+      (λ i. if has (set_of b w) h then queue_of b (told_seen h b (log_of b h w) (count_of b (same_ran h i)) (has_ended b (same_ran h i)) (w.sent ++ option_to_list o)) else [])
+      ∙ ap (λ qs. if has (set_of b w) h then qs else []) (same_told h b (ran_at h w))
+
+  pub quiet_same : configuration_of w ≡ configuration_of (with_news w.joint)
+  quiet_same =
+      same_configuration (configuration_of w) (configuration_of (with_news w.joint))
+      (λ h. sym (queues_same (queue_at (with_news w.joint) h) (queue_at w h) w.joint (λ b m. same_queue w.joint h b)))
+      (λ h. sym (same_ran h)) refl (λ c. refl)
+
+-- ---- what a handler replies
+
+module _ (w : World) (s : Site) (here : site_of (number_of s) w ≡ Some s) (ready : Ready w) where
+  plain_reply : (n : Message) → IsPlain n → IsQuietIfSome w.sent (Some n)
+  plain_reply n plain m e = let same : n ≡ m = cc in subst (IsQuiet w.sent) same (plain_quiet w.sent n plain)
+
+  -- a count of a block whose incarnation is the mark's
+  count_reply : (b : Block) (k : Mark) (n : ℕ) → mark_of b.client s.core.state.marks ≡ Some k → k.inc ≡ b.inc → IsQuietIfSome w.sent (Some (Logged (number_of s) b n))
+  count_reply b k n found inc m e =
+      let same : Logged (number_of s) b n ≡ m = cc in
+      subst (IsQuiet w.sent) same
+      (count_quiet w.sent (number_of s) b n (λ newer. let l = (ready.marks (number_of s) s here).ahead b k newer found in absurd_place l inc))
+    where
+      absurd_place : b.inc < k.inc → k.inc ≡ b.inc → ⊥
+      absurd_place l i = omega (arith, l, i)
+
+  -- every reply is quiet but that to a first greeting of an incarnation
+  pub quiet-row : (m : Message) (h : Hearing) → Row s.core.state m h → (h.1.note ≡ Greeted → ⊥) → IsQuietIfSome w.sent h.1.reply
+  quiet-row m h (first_greeting x c inc at none room) old = absurd (old refl)
+  quiet-row m h (newer_greeting x c inc k at found newer) old = absurd (old refl)
+  quiet-row m h (same_greeting x c inc k at found same) old = λ n e.
+      let is : Welcome (number_of s) c inc ≡ n = cc in
+      subst (IsQuiet w.sent) is
+      (welcome_quiet w.sent (number_of s) c inc (λ b own below. (ready.marks (number_of s) s here).greeted c k b found own (let i = same in omega (arith, below, i))))
+  quiet-row m h (lock_granted x b k at heard new free clear) old = plain_reply (Locked (number_of s) b) (λ j y. (refl, refl))
+  quiet-row m h (lock_busy x b k at heard new held) old = plain_reply (Busy (number_of s) b) (λ j y. (refl, refl))
+  quiet-row m h (lock_again x b k at heard same held) old = plain_reply (Locked (number_of s) b) (λ j y. (refl, refl))
+  quiet-row m h (open_granted x b k at heard same held room) old = plain_reply (Opened (number_of s) b) (λ j y. (refl, refl))
+  quiet-row m h (open_again x b k at heard same opened) old = plain_reply (Opened (number_of s) b) (λ j y. (refl, refl))
+  quiet-row m h (unlock_new x b k at heard new clear) old = plain_reply (Unlocked (number_of s) b) (λ j y. (refl, refl))
+  quiet-row m h (unlock_holder x b k at heard same holds) old = plain_reply (Unlocked (number_of s) b) (λ j y. (refl, refl))
+  quiet-row m h (unlock_again x b k at heard same other) old = plain_reply (Unlocked (number_of s) b) (λ j y. (refl, refl))
+  quiet-row m h (log_answered x b n es k a at heard upto kept) old = plain_reply (Answer (number_of s) b _ a) (λ j y. (refl, refl))
+  quiet-row m h (log_again x b n es k at heard upto none) old = count_reply b k _ heard.heard.found heard.heard.inc
+  quiet-row m h (log_taken x b n es k at heard next goes_on room) old = count_reply b k _ heard.heard.found heard.heard.inc
+  quiet-row m h r old = λ n e. absurd (none_some e)

@@ -1,0 +1,5 @@
+use Rattle.scoop_rules.proofs.Follows.Runs as runs
+use Rattle.scoop_rules.proofs.theorems.follows_rules.Goals as goal
+
+pub returns : goal.returns
+returns c = runs.follows_rules

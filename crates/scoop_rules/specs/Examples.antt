@@ -1,0 +1,4 @@
+pub mod OneCell
+pub mod ThreeClients
+pub mod CutShort
+pub mod NodeRestarts

@@ -1,0 +1,2 @@
+pub mod Paper
+pub mod Examples

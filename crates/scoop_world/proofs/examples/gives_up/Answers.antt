@@ -1,5 +1,0 @@
-use Rattle.std.proofs.Common.{refl}
-use Rattle.scoop_world.proofs.examples.gives_up.Goals as goal
-
-pub returns : goal.returns
-returns c = record { all_taken = refl; notes = refl; twice = refl; idle = refl }

@@ -1,5 +1,0 @@
-use Rattle.scoop_world.proofs.Rules.Follows.Runs as runs
-use Rattle.scoop_world.proofs.following.replays.Goals as goal
-
-pub returns : goal.returns
-returns c = runs.replays

@@ -1,0 +1,17 @@
+use Rattle.std.proofs.Common.{refl, true≢false, sym, ◌∙◌, arith}
+use Rattle.scoop_world.proofs.KeptPlaces.{item_at}
+use Rattle.scoop_world.proofs.opening.refusing.wrong_class.Goals as goal
+
+pub returns-then-not-has_class-clause-some : goal.returns-then-not-has_class-clause-some
+returns-then-not-has_class-clause-some g c =
+    let ps = c.args.placements.now in
+    let i = c.loop-placement.placement-index in
+    let p = c.placement-item.result in
+    record {
+      place = i;
+      placement = p;
+      there = item_at ps i p (omega arith) c.placement-item.is;
+      named = refl;
+      wrong = λ same. true≢false (sym (c.has_class.ensures.1 same) ∙ c.if-not-has_class.true);
+      right = c.loop-placement.invariant;
+    }

@@ -1,5 +1,0 @@
-use Rattle.scoop_world.proofs.Knowing.Runs.{names_known}
-use Rattle.scoop_world.proofs.telling.named_incarnations_known.Goals as goal
-
-pub returns : goal.returns
-returns c = names_known

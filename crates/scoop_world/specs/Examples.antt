@@ -1,9 +1,0 @@
-pub mod Parties
-pub mod OneCell
-pub mod ThreeClients
-pub mod CutShort
-pub mod NodeRestarts
-pub mod Repeats
-pub mod GivingUp
-pub mod Waits
-pub mod LastIncarnation
