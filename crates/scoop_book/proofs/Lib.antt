@@ -1,1 +1,6 @@
 pub mod Same
+pub mod Places
+pub mod BookLemmas
+pub mod OpeningLemmas
+pub mod Alls
+pub mod MadeBy

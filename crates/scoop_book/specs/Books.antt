@@ -4,6 +4,9 @@ use Rattle.std.specs.List.{AllByRecursion}
 use Rattle.scoop_message.specs.declared.name.HandlerId.{HandlerId}
 use Rattle.scoop_handler.specs.Running.{Task, job_out}
 use Rattle.scoop_record.specs.Keeper.{Stored, stored_of, Keeps}
+use Rattle.scoop_record.specs.declared.running.JobRefusal.{JobRefusal}
+use Rattle.scoop_record.specs.declared.running.JobRefusal.TheVariants as jobs
+use Rattle.scoop_record.specs.declared.running.JobRefusal.TheVariants.{Stranger, Refused}
 use Rattle.scoop_book.specs.declared.event.Event.{Event}
 use Rattle.scoop_book.specs.declared.event.Event.TheVariants.{Hear, Begin, Finish}
 use Rattle.scoop_book.specs.declared.event.Reply.{Reply}
@@ -130,3 +133,9 @@ fails_to_finish unfinished.UnknownHandler = false
 fails_to_finish unfinished.Stranger = false
 fails_to_finish unfinished.StoreRefused = true
 fails_to_finish unfinished.OutOfMemory = false
+
+-- by what the handler and its keeper say of a job
+abbrev pub refusal_of : JobRefusal → FinishRefusal
+refusal_of Stranger = unfinished.Stranger
+refusal_of Refused = unfinished.StoreRefused
+refusal_of jobs.OutOfMemory = unfinished.OutOfMemory

@@ -68,22 +68,22 @@ pub record MayOpen {B : Type 0} (class : B → ClassTable) (ps : List (Handed B)
   pub apart : NoRepeats (numbers_of ps)
 
 -- a state whose words don't fit the class is stored of the handler
-pub record HasMisfit {B : Type 0} (has : ℕ → Stored → Type 0) (p : Handed B) : Type 0 where
+pub record HasMisfit (has : ℕ → Stored → Type 0) (h : HandlerId) (class : ClassTable) : Type 0 where
   pub state : HandlerState
-  pub is : IsTheOne (has p.0.0) (Holds state)
-  pub misfits : FitsClass p.1 state → ⊥
+  pub is : IsTheOne (has h.0) (Holds state)
+  pub misfits : FitsClass class state → ⊥
 
--- why this handler doesn't open: want of memory, the keeper's medium, or what an honest keeper has of it
-abbrev pub IsLoadRefusal : {B : Type 0} → (ℕ → Stored → Type 0) → (honest : Type 0) → Handed B → OpenError → Type 0
-IsLoadRefusal has honest p NoPasses = ⊥
-IsLoadRefusal has honest p (WrongClass h) = (h ≡ p.0) × (honest → HasMisfit has p)
-IsLoadRefusal has honest p (Repeated h) = ⊥
-IsLoadRefusal has honest p (Keeper keeper.OutOfMemory) = ⊥
-IsLoadRefusal has honest p (Keeper keeper.Refused) = ⊤
-IsLoadRefusal has honest p (Keeper (keeper.BadImage h)) = (h ≡ p.0) × (honest → IsTheOne (has h.0) Damaged)
-IsLoadRefusal has honest p (Keeper keeper.IncarnationsSpent) = ⊥
-IsLoadRefusal has honest p (Keeper keeper.WrongSchema) = ⊥
-IsLoadRefusal has honest p OutOfMemory = ⊤
+-- why a handler doesn't open: want of memory, the keeper's medium, or what an honest keeper has of it
+abbrev pub IsLoadRefusal : (ℕ → Stored → Type 0) → (honest : Type 0) → HandlerId → ClassTable → OpenError → Type 0
+IsLoadRefusal has honest h class NoPasses = ⊥
+IsLoadRefusal has honest h class (WrongClass k) = (k ≡ h) × (honest → HasMisfit has h class)
+IsLoadRefusal has honest h class (Repeated k) = ⊥
+IsLoadRefusal has honest h class (Keeper keeper.OutOfMemory) = ⊥
+IsLoadRefusal has honest h class (Keeper keeper.Refused) = ⊤
+IsLoadRefusal has honest h class (Keeper (keeper.BadImage k)) = (k ≡ h) × (honest → IsTheOne (has h.0) Damaged)
+IsLoadRefusal has honest h class (Keeper keeper.IncarnationsSpent) = ⊥
+IsLoadRefusal has honest h class (Keeper keeper.WrongSchema) = ⊥
+IsLoadRefusal has honest h class OutOfMemory = ⊤
 
 -- why these handlers open no book, whatever is stored
 abbrev pub IsHandedWrongly : {B : Type 0} → (B → ClassTable) → List (Handed B) → OpenError → Type 0
@@ -93,11 +93,11 @@ IsHandedWrongly class ps (Repeated h) = AllByRecursion (IsOfClass class) ps × I
 IsHandedWrongly class ps (Keeper e) = ⊥
 IsHandedWrongly class ps OutOfMemory = ⊥
 
--- why one of them doesn't open, where nothing else is wrong
+-- why one of them doesn't open, where nothing else is wrong; want of memory is the last refusal
 pub record IsUnloaded {B : Type 0} (class : B → ClassTable) (has : ℕ → Stored → Type 0) (honest : Type 0) (ps : List (Handed B)) (e : OpenError) : Type 0 where
   pub may : MayOpen class ps
-  pub refused : Any (λ p. IsLoadRefusal has honest p e) ps
+  pub refused : (e ≡ OutOfMemory) ⊎ Any (λ p. IsLoadRefusal has honest p.0 p.1 e) ps
 
--- why no book opens; want of memory is the last refusal
+-- why no book opens
 abbrev pub IsUnopened : {B : Type 0} → (B → ClassTable) → (ℕ → Stored → Type 0) → Type 0 → List (Handed B) → OpenError → Type 0
-IsUnopened class has honest ps e = IsHandedWrongly class ps e ⊎ (IsUnloaded class has honest ps e ⊎ (MayOpen class ps × (e ≡ OutOfMemory)))
+IsUnopened class has honest ps e = IsHandedWrongly class ps e ⊎ IsUnloaded class has honest ps e

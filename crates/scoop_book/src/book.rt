@@ -1,14 +1,15 @@
 //! The handlers of a node over a keeper, with the history of what has happened at them.
 
-ghost use Rattle.std.specs.Prelude.{◌≡◌, ◌<◌, ◌++◌, ◌∷◌, [], ℕ, find, vec_len, vec_capacity, IfSome, IfNone, MatchOption, slice_get};
-ghost use Rattle.scoop_book.specs.Moves.{LocalHandler, is_handler};
-ghost use Rattle.scoop_book.specs.Kept.{IsFirst};
+ghost use Rattle.std.specs.Prelude.{◌≡◌, ◌<◌, ◌++◌, ◌∷◌, [], vec_len, vec_capacity};
 
 mod entering;
 mod making;
 
+pub(crate) use entering::{entry_left, finished};
+
+use crate::closing::Closed;
 use crate::event::{Event, Reply};
-use crate::local::Local;
+use crate::handlers::Handlers;
 use crate::opening::Opening;
 use scoop_message::{Entry, HandlerId, Request, Words};
 use scoop_object::Behaviour;
@@ -20,16 +21,13 @@ use std::marker::Model;
 /// states. The history replays: from the handlers as they opened, its entries lead one after another to the
 /// handlers as they are. The keeper, while it is honest, has of each handler its state after the last Hear or
 /// Finish, or what it had when the book opened.
-///
-/// A handler with no more entries than its history may have is closed by opening another book over the keeper.
 #[derive(Drop)]
 pub struct Book<B: Behaviour, K: Keeper<A>, A: Allocator = Global> {
     opening: Vec<Opening<A>, A>,
-    locals: Vec<Local<B, A>, A>,
+    handlers: Handlers<B, K, A>,
     history: Vec<(u32, Event, Reply), A>,
     limit: usize,
     failed: bool,
-    keeper: K,
 }
 
 impl<B: Behaviour, K: Keeper<A>, A: Allocator> Model for Book<B, K, A> {
@@ -38,39 +36,24 @@ impl<B: Behaviour, K: Keeper<A>, A: Allocator> Model for Book<B, K, A> {
 
     ghost Value = { BookValue K };
 
-    ghost view = { λ b. book_kept b.opening.items b.locals.items b.history.items b.limit b.failed b.keeper };
+    ghost view = { λ b. book_kept b.opening.items b.handlers.handlers b.history.items b.limit b.failed b.handlers.keeper };
 
-    ghost invariant = { λ b. IsBook K.handlers K.is_honest (book_kept b.opening.items b.locals.items b.history.items b.limit b.failed b.keeper) };
-}
-
-// The place of a handler.
-pub(crate) fn local_at<B: Behaviour, A: Allocator + Copy>(
-    locals: &[Local<B, A>],
-    handler: HandlerId,
-) -> Option<usize>
-    ensures { MatchOption result (find (is_handler handler) locals.now ≡ None) (IsFirst (is_handler handler) locals.now) }
-{
-    for (i, local) in locals.iter().enumerate() {
-        if local.number() == handler {
-            return Some(i);
-        }
-    }
-    None
+    ghost invariant = { λ b. IsBook K.handlers K.is_honest (book_kept b.opening.items b.handlers.handlers b.history.items b.limit b.failed b.handlers.keeper) };
 }
 
 // Enters what has happened. There is room for it.
-pub(crate) fn enter<A: Allocator + Copy>(
+fn enter<A: Allocator + Copy>(
     history: &mut Vec<(u32, Event, Reply), A>,
     pass: u32,
-    event: Event,
-    reply: Reply,
+    event: &Event,
+    reply: &Reply,
 )
     requires { vec_len history.old < vec_capacity history.old }
-    ensures { history.new.items ≡ history.old.items ++ (pass, event, reply) ∷ [] }
+    ensures { history.new.items ≡ history.old.items ++ (pass, event.now, reply.now) ∷ [] }
 {
     // Names the types that a reply holds, of which the prover has to be told here.
     let _parts: Option<(Entry, Request)> = None;
-    history.push_reserved((pass, event, reply));
+    history.push_reserved((pass, *event, *reply));
 }
 
 impl<B: Behaviour, K: Keeper<A>, A: Allocator + Copy> Book<B, K, A> {
@@ -87,14 +70,18 @@ impl<B: Behaviour, K: Keeper<A>, A: Allocator + Copy> Book<B, K, A> {
         &self.history
     }
 
+    /// The handlers as they opened.
+    pub(crate) fn opening(&self) -> &[Opening<A>]
+        ensures { result.now ≡ self.now.opening }
+    {
+        &self.opening
+    }
+
     /// The words of the handler's object, or those with which it left. `None` for a handler that isn't here.
     pub fn words(&self, handler: HandlerId) -> Option<Words>
         ensures { result ≡ option_map (λ s. s.core.state.words) (handler_in handler self.now.handlers) }
     {
-        match local_at(&self.locals, handler) {
-            Some(at) => Some(self.locals[at].words()),
-            None => None,
-        }
+        self.handlers.words(handler)
     }
 
     /// The keeper, as it stands.
@@ -102,7 +89,20 @@ impl<B: Behaviour, K: Keeper<A>, A: Allocator + Copy> Book<B, K, A> {
         ensures keeper { result ≡ self.keeper }
         ensures sound { IsBook K.handlers K.is_honest self }
     {
-        let Book { keeper, .. } = self;
-        keeper
+        let Book { handlers, .. } = self;
+        handlers.into_keeper()
+    }
+
+    /// What is left of it once it is closed.
+    pub(crate) fn into_closed(self) -> Closed<K, A>
+        ensures history { result.history.items ≡ self.history }
+        ensures keeper { result.keeper ≡ self.keeper }
+        ensures sound { IsBook K.handlers K.is_honest self }
+    {
+        let Book {
+            handlers, history, ..
+        } = self;
+        let keeper = handlers.into_keeper();
+        Closed { history, keeper }
     }
 }

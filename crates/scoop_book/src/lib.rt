@@ -10,6 +10,7 @@ mod book;
 mod closing;
 mod error;
 mod event;
+mod handlers;
 mod law;
 mod local;
 mod node;

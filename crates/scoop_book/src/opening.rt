@@ -1,6 +1,6 @@
 //! How handlers open with what a keeper has of them.
 
-ghost use Rattle.std.specs.Prelude.{◌≡◌, ◌⊎◌, tt, false, None, Some, IfNone, IfSome, IfOk, IfErr, OnOk};
+ghost use Rattle.std.specs.Prelude.{◌≡◌, ◌⊎◌, false, None, Some, IfNone, IfSome, IfOk, IfErr, OnOk};
 ghost use Rattle.std.specs.List.{AllByRecursion, Any, list_any};
 ghost use Rattle.scoop_message.specs.Message.{same_handler};
 ghost use Rattle.scoop_object.specs.Class.{ClassTable};
@@ -149,7 +149,7 @@ fn load<A: Allocator + Copy, K: Keeper<A>>(
 ) -> Result<Option<HandlerState<A>>, OpenError>
     ensures loaded { K.is_honest keeper.new → IfOk result (λ found. IsTheOne (K.handlers keeper.old number.0) (stored_of found)) }
     ensures own { IfOk result (λ found. IfSome found (λ s. s.number ≡ number)) }
-    ensures refused { IfErr result (λ e. (class : ClassTable) → IsLoadRefusal (K.handlers keeper.old) (K.is_honest keeper.new) (number, class, tt) e) }
+    ensures refused { IfErr result (λ e. (class : ClassTable) → IsLoadRefusal (K.handlers keeper.old) (K.is_honest keeper.new) number class e) }
     ensures handlers { K.is_honest keeper.new → Stays (K.handlers keeper.old) (K.handlers keeper.new) }
     ensures incarnations { K.is_honest keeper.new → IsSame (K.incarnations keeper.old) (K.incarnations keeper.new) }
     ensures honest { K.is_honest keeper.new → K.is_honest keeper.old }
@@ -217,7 +217,7 @@ fn open_one<B: Behaviour, A: Allocator + Copy, K: Keeper<A>>(
     requires { B.class handed.2 ≡ handed.1 }
     ensures opens { IfOk result (λ o. OpensAs B.words (K.handlers keeper.old) (K.is_honest keeper.new) handed o.0) }
     ensures kept { IfOk result (λ o. o.1 ≡ o.0) }
-    ensures refused { IfErr result (IsLoadRefusal (K.handlers keeper.old) (K.is_honest keeper.new) handed) }
+    ensures refused { IfErr result (IsLoadRefusal (K.handlers keeper.old) (K.is_honest keeper.new) handed.0 handed.1) }
     ensures handlers { K.is_honest keeper.new → Stays (K.handlers keeper.old) (K.handlers keeper.new) }
     ensures incarnations { K.is_honest keeper.new → IsSame (K.incarnations keeper.old) (K.incarnations keeper.new) }
     ensures honest { K.is_honest keeper.new → K.is_honest keeper.old }
@@ -241,7 +241,7 @@ pub(crate) fn open_all<B: Behaviour, A: Allocator + Copy, K: Keeper<A>>(
     requires { AllByRecursion (IsOfClass B.class) handlers.items }
     ensures opens { IfOk result (λ o. AllOpen B.words (K.handlers keeper.old) (K.is_honest keeper.new) handlers.items o.0.items) }
     ensures kept { IfOk result (λ o. o.1.items ≡ o.0.items) }
-    ensures refused { IfErr result (λ e. (e ≡ OpenError.OutOfMemory) ⊎ Any (λ p. IsLoadRefusal (K.handlers keeper.old) (K.is_honest keeper.new) p e) handlers.items) }
+    ensures refused { IfErr result (λ e. (e ≡ OpenError.OutOfMemory) ⊎ Any (λ p. IsLoadRefusal (K.handlers keeper.old) (K.is_honest keeper.new) p.0 p.1 e) handlers.items) }
     ensures handlers { K.is_honest keeper.new → Stays (K.handlers keeper.old) (K.handlers keeper.new) }
     ensures incarnations { K.is_honest keeper.new → IsSame (K.incarnations keeper.old) (K.incarnations keeper.new) }
     ensures honest { K.is_honest keeper.new → K.is_honest keeper.old }

@@ -1,10 +1,11 @@
 //! What one thread keeps of what it did at a node.
 
-ghost use Rattle.std.specs.Prelude.{◌≡◌, ◌<◌, ◌++◌, ◌∷◌, [], Some, IsTrue, vec_len, vec_capacity};
+ghost use Rattle.std.specs.Prelude.{◌≡◌, ◌<◌, ◌++◌, ◌∷◌, [], ℕ, Some, IfOk, IsTrue, length, slice_get, vec_len, vec_capacity};
+ghost use Rattle.scoop_book.specs.Passes.{fresh_pass};
 
 use crate::event::{Event, Reply};
-use crate::opening::{Opening, first_difference};
-use scoop_message::{Entry, Request};
+use crate::opening::{Opening, copy_all, first_difference};
+use scoop_message::{Entry, OutOfMemory, Request};
 use std::alloc::{Allocator, Global};
 use std::marker::Model;
 
@@ -12,9 +13,9 @@ use std::marker::Model;
 /// number 0, also keeps the handlers as they opened.
 #[derive(Drop)]
 pub struct Pass<A: Allocator = Global> {
-    number: u32,
-    opening: Option<Vec<Opening<A>, A>>,
-    events: Vec<(Event, Reply), A>,
+    pub(crate) number: u32,
+    pub(crate) opening: Option<Vec<Opening<A>, A>>,
+    pub(crate) events: Vec<(Event, Reply), A>,
 }
 
 impl<A: Allocator> Model for Pass<A> {
@@ -26,14 +27,43 @@ impl<A: Allocator> Model for Pass<A> {
     ghost view = { λ p. pass_value p.number (option_map (λ o. o.items) p.opening) p.events.items };
 }
 
-// Puts down an event with its reply. There is room for it.
-fn put_down<A: Allocator + Copy>(events: &mut Vec<(Event, Reply), A>, event: Event, reply: Reply)
+/// Puts down an event with its reply. There is room for it.
+pub(crate) fn put_down<A: Allocator + Copy>(
+    events: &mut Vec<(Event, Reply), A>,
+    event: &Event,
+    reply: &Reply,
+)
     requires { vec_len events.old < vec_capacity events.old }
-    ensures { events.new.items ≡ events.old.items ++ (event, reply) ∷ [] }
+    ensures { events.new.items ≡ events.old.items ++ (event.now, reply.now) ∷ [] }
 {
     // Names the types that a reply holds, of which the prover has to be told here.
     let _parts: Option<(Entry, Request)> = None;
-    events.push_reserved((event, reply));
+    events.push_reserved((*event, *reply));
+}
+
+/// The passes of a node that opens with these handlers.
+pub(crate) fn fresh_passes<A: Allocator + Copy>(
+    alloc: A,
+    count: u32,
+    opening: &[Opening<A>],
+) -> Result<Vec<Pass<A>, A>, OutOfMemory>
+    ensures count { IfOk result (λ ps. length ps.items ≡ count) }
+    ensures fresh { IfOk result (λ ps. (n : ℕ) → n < count → slice_get ps.items n ≡ Some (fresh_pass opening.now n)) }
+{
+    let mut passes = Vec::with_capacity(alloc, count as usize)?;
+    for number in 0..count {
+        let kept = if number == 0 {
+            Some(copy_all(alloc, opening)?)
+        } else {
+            None
+        };
+        passes.push_reserved(Pass {
+            number,
+            opening: kept,
+            events: Vec::new(alloc),
+        });
+    }
+    Ok(passes)
 }
 
 impl<A: Allocator + Copy> Pass<A> {
@@ -49,5 +79,15 @@ impl<A: Allocator + Copy> Pass<A> {
         ensures { result.now ≡ self.now.events }
     {
         &self.events
+    }
+
+    /// Whether it keeps these handlers as they opened.
+    pub(crate) fn keeps(&self, opening: &[Opening<A>]) -> bool
+        ensures { IsTrue result → self.now.opening ≡ Some opening.now }
+    {
+        match &self.opening {
+            Some(kept) => first_difference(kept, opening).is_none(),
+            None => false,
+        }
     }
 }

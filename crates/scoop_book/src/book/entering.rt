@@ -1,20 +1,67 @@
 //! What happens at a book's handlers, and is entered.
 
-ghost use Rattle.std.specs.Prelude.{◌≡◌, ◌≢◌, ◌||◌, ℕ, IfOk, IfErr, OnOk, OnErr, IfSome};
+ghost use Rattle.std.specs.Prelude.{◌≡◌, ◌≢◌, ◌⊎◌, ◌||◌, ℕ, IfOk, IfErr, OnOk, OnErr, IfSome};
 ghost use Rattle.std.specs.Option.{option_map};
 ghost use Rattle.scoop_handler.specs.Running.{job_out, ran_of, ready};
-ghost use Rattle.scoop_record.specs.Keeper.{IsSame, Stays as KeeperStays};
+ghost use Rattle.scoop_record.specs.Keeper.{IsPutError, IsSame, Stays as KeeperStays};
 ghost use Rattle.scoop_book.specs.Moves.{handler_at, handler_in, leaves};
-ghost use Rattle.scoop_book.specs.Books.{Gains, IsBook, IsRefused, IsUnfinished, KeepsNew, MayHappen, Stays, IsHear, HasReply, fails, fails_to_finish};
+ghost use Rattle.scoop_book.specs.Books.{Gains, IsBook, IsRefused, IsUnfinished, KeepsNew, MayHappen, Stays, IsHear, HasReply, fails, fails_to_finish, refusal_of};
 
-use crate::book::{Book, enter, local_at};
+use crate::book::{Book, enter};
 use crate::error::{BookError, FinishError, FinishRefusal};
 use crate::event::{Event, Reply};
 use scoop_handler::{Done, Job, Ran};
-use scoop_message::HandlerId;
+use scoop_message::{Block, HandlerId};
 use scoop_object::Behaviour;
 use scoop_record::{JobRefusal, Keeper, KeeperError};
 use std::alloc::Allocator;
+
+// Why an event isn't entered, by what the keeper says of the new state; and whether it is the last one.
+fn put_refused(failed: &mut bool, error: KeeperError) -> BookError
+    requires { IsPutError error }
+    ensures named { (result ≡ BookError.StoreRefused) ⊎ (result ≡ BookError.OutOfMemory) }
+    ensures failed { failed.new ≡ (failed.old || fails result) }
+{
+    match error {
+        KeeperError::OutOfMemory => BookError::OutOfMemory,
+        _ => {
+            *failed = true;
+            BookError::StoreRefused
+        }
+    }
+}
+
+// Why a job isn't finished, by what the handler and its keeper say; and whether it is the last one.
+fn job_refused(failed: &mut bool, cause: JobRefusal) -> FinishRefusal
+    ensures cause { result ≡ refusal_of cause }
+    ensures failed { failed.new ≡ (failed.old || fails_to_finish result) }
+{
+    match cause {
+        JobRefusal::Stranger => FinishRefusal::Stranger,
+        JobRefusal::OutOfMemory => FinishRefusal::OutOfMemory,
+        JobRefusal::Refused => {
+            *failed = true;
+            FinishRefusal::StoreRefused
+        }
+    }
+}
+
+/// The block and the number of the entry that has left, if any.
+pub(crate) fn entry_left<B: Behaviour>(job: &Option<Job<B>>) -> Option<(Block, u32)>
+    ensures { result ≡ option_map leaves job.now }
+{
+    match job {
+        Some(job) => Some((job.block(), job.number())),
+        None => None,
+    }
+}
+
+/// The reply to a Finish.
+pub(crate) fn finished(ran: &Ran) -> Reply
+    ensures { result ≡ Reply.Finished ran.now }
+{
+    Reply::Finished(*ran)
+}
 
 fn refused<B: Behaviour>(cause: FinishRefusal, done: Done<B>) -> FinishError<B>
     ensures cause { result.cause ≡ cause }
@@ -41,9 +88,10 @@ impl<B: Behaviour, K: Keeper<A>, A: Allocator + Copy> Book<B, K, A> {
         ensures failed { IfErr result (λ e. self.new.failed ≡ (self.old.failed || fails e)) }
         ensures kept { K.is_honest self.new.keeper → OnErr result (KeeperStays (K.handlers self.old.keeper) (K.handlers self.new.keeper)) }
         ensures honest { K.is_honest self.new.keeper → K.is_honest self.old.keeper }
+        ensures was { IsBook K.handlers K.is_honest self.old }
         ensures sound { IsBook K.handlers K.is_honest self.new }
     {
-        let Event::Hear(message) = event else {
+        let Event::Hear(message) = &event else {
             unreachable!()
         };
         if self.failed {
@@ -52,25 +100,19 @@ impl<B: Behaviour, K: Keeper<A>, A: Allocator + Copy> Book<B, K, A> {
         if self.history.len() >= self.limit {
             return Err(BookError::HistoryFull);
         }
-        let Some(at) = local_at(&self.locals, message.handler()) else {
+        let Some(at) = self.handlers.place(message.handler()) else {
             return Err(BookError::UnknownHandler);
         };
-        if self.history.reserve(1).is_err() {
+        let Ok(()) = self.history.reserve(1) else {
             return Err(BookError::OutOfMemory);
-        }
-        let local = &mut self.locals[at];
-        match local.hear(&mut self.keeper, &message) {
-            Ok(heard) => {
-                let reply = Reply::Heard(heard);
-                enter(&mut self.history, pass, event, reply);
-                Ok(reply)
-            }
-            Err(KeeperError::OutOfMemory) => Err(BookError::OutOfMemory),
-            Err(_) => {
-                self.failed = true;
-                Err(BookError::StoreRefused)
-            }
-        }
+        };
+        let heard = match self.handlers.hear(at, message) {
+            Ok(heard) => heard,
+            Err(error) => return Err(put_refused(&mut self.failed, error)),
+        };
+        let reply = Reply::Heard(heard);
+        enter(&mut self.history, pass, &event, &reply);
+        Ok(reply)
     }
 
     /// The handler's next entry leaves to be run, for the pass of this number. `None` exactly where the
@@ -87,6 +129,7 @@ impl<B: Behaviour, K: Keeper<A>, A: Allocator + Copy> Book<B, K, A> {
         ensures unasked { IfErr result (λ e. e ≢ BookError.StoreRefused) }
         ensures stays { OnErr result (Stays self.old self.new) }
         ensures failed { self.new.failed ≡ self.old.failed }
+        ensures was { IsBook K.handlers K.is_honest self.old }
         ensures sound { IsBook K.handlers K.is_honest self.new }
     {
         if self.failed {
@@ -95,24 +138,15 @@ impl<B: Behaviour, K: Keeper<A>, A: Allocator + Copy> Book<B, K, A> {
         if self.history.len() >= self.limit {
             return Err(BookError::HistoryFull);
         }
-        let Some(at) = local_at(&self.locals, handler) else {
+        let Some(at) = self.handlers.place(handler) else {
             return Err(BookError::UnknownHandler);
         };
-        if self.history.reserve(1).is_err() {
+        let Ok(()) = self.history.reserve(1) else {
             return Err(BookError::OutOfMemory);
-        }
-        let local = &mut self.locals[at];
-        let job = local.begin();
-        let began = match &job {
-            Some(job) => Some((job.block(), job.number())),
-            None => None,
         };
-        enter(
-            &mut self.history,
-            pass,
-            Event::Begin(handler),
-            Reply::Began(began),
-        );
+        let job = self.handlers.begin(at, handler);
+        let reply = Reply::Began(entry_left(&job));
+        enter(&mut self.history, pass, &Event::Begin(handler), &reply);
         Ok(job)
     }
 
@@ -135,6 +169,7 @@ impl<B: Behaviour, K: Keeper<A>, A: Allocator + Copy> Book<B, K, A> {
         ensures failed { IfErr result (λ e. self.new.failed ≡ (self.old.failed || fails_to_finish e.cause)) }
         ensures kept { K.is_honest self.new.keeper → OnErr result (KeeperStays (K.handlers self.old.keeper) (K.handlers self.new.keeper)) }
         ensures honest { K.is_honest self.new.keeper → K.is_honest self.old.keeper }
+        ensures was { IsBook K.handlers K.is_honest self.old }
         ensures sound { IsBook K.handlers K.is_honest self.new }
     {
         if self.failed {
@@ -144,35 +179,22 @@ impl<B: Behaviour, K: Keeper<A>, A: Allocator + Copy> Book<B, K, A> {
             return Err(refused(FinishRefusal::HistoryFull, done));
         }
         let handler = done.handler();
-        let Some(at) = local_at(&self.locals, handler) else {
+        let Some(at) = self.handlers.place(handler) else {
             return Err(refused(FinishRefusal::UnknownHandler, done));
         };
-        if self.history.reserve(1).is_err() {
-            let cause = self.locals[at].no_room_to_finish(&done);
+        let Ok(()) = self.history.reserve(1) else {
+            let cause = self.handlers.no_room_to_finish(at, &done);
             return Err(refused(cause, done));
-        }
-        let local = &mut self.locals[at];
-        match local.finish(&mut self.keeper, done) {
-            Ok(ran) => {
-                enter(
-                    &mut self.history,
-                    pass,
-                    Event::Finish(handler),
-                    Reply::Finished(ran),
-                );
-                Ok(ran)
-            }
+        };
+        let ran = match self.handlers.finish(at, done) {
+            Ok(ran) => ran,
             Err(error) => {
-                let cause = match error.cause {
-                    JobRefusal::Stranger => FinishRefusal::Stranger,
-                    JobRefusal::OutOfMemory => FinishRefusal::OutOfMemory,
-                    JobRefusal::Refused => {
-                        self.failed = true;
-                        FinishRefusal::StoreRefused
-                    }
-                };
-                Err(refused(cause, error.done))
+                let cause = job_refused(&mut self.failed, error.cause);
+                return Err(refused(cause, error.done));
             }
-        }
+        };
+        let reply = finished(&ran);
+        enter(&mut self.history, pass, &Event::Finish(handler), &reply);
+        Ok(ran)
     }
 }

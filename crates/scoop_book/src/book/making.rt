@@ -1,14 +1,15 @@
 //! How a book opens.
 
-ghost use Rattle.std.specs.Prelude.{◌≡◌, ◌≤◌, ℕ, [], false, length, IfOk, IfErr};
+ghost use Rattle.std.specs.Prelude.{◌≡◌, ◌≤◌, ℕ, [], false, length, IfOk, IfErr, OnOk};
 ghost use Rattle.scoop_message.specs.declared.limits.TheConstants.{MAX_HANDLERS, MAX_HISTORY};
 ghost use Rattle.scoop_record.specs.Keeper.{IsSame, Stays as KeeperStays};
 ghost use Rattle.scoop_book.specs.Books.{IsBook};
 ghost use Rattle.scoop_book.specs.Kept.{book_kept};
-ghost use Rattle.scoop_book.specs.Opening.{AllOpen, IsUnopened};
+ghost use Rattle.scoop_book.specs.Opening.{AllOpen, IsUnopened, MayOpen};
 
 use crate::book::Book;
 use crate::error::OpenError;
+use crate::handlers::Handlers;
 use crate::opening::{open_all, refusal};
 use scoop_message::HandlerId;
 use scoop_message::limits::MAX_HISTORY;
@@ -33,6 +34,7 @@ impl<B: Behaviour, K: Keeper<A>, A: Allocator + Copy> Book<B, K, A> {
         requires { length handlers.items ≤ MAX_HANDLERS }
         ensures made { IfOk result (λ b. b ≡ book_kept b.opening b.opening [] MAX_HISTORY false b.keeper) }
         ensures opens { IfOk result (λ b. AllOpen B.words (K.handlers keeper) (K.is_honest b.keeper) handlers.items b.opening) }
+        ensures may { OnOk result (MayOpen B.class handlers.items) }
         ensures sound { IfOk result (IsBook K.handlers K.is_honest) }
         ensures kept { IfOk result (λ b. K.is_honest b.keeper → KeeperStays (K.handlers keeper) (K.handlers b.keeper)) }
         ensures incarnations { IfOk result (λ b. K.is_honest b.keeper → IsSame (K.incarnations keeper) (K.incarnations b.keeper)) }
@@ -52,6 +54,7 @@ impl<B: Behaviour, K: Keeper<A>, A: Allocator + Copy> Book<B, K, A> {
     ) -> Result<Book<B, K, A>, OpenError>
         ensures made { IfOk result (λ b. b ≡ book_kept b.opening b.opening [] limit false b.keeper) }
         ensures opens { IfOk result (λ b. AllOpen B.words (K.handlers keeper) (K.is_honest b.keeper) handlers.items b.opening) }
+        ensures may { OnOk result (MayOpen B.class handlers.items) }
         ensures sound { IfOk result (IsBook K.handlers K.is_honest) }
         ensures kept { IfOk result (λ b. K.is_honest b.keeper → KeeperStays (K.handlers keeper) (K.handlers b.keeper)) }
         ensures incarnations { IfOk result (λ b. K.is_honest b.keeper → IsSame (K.incarnations keeper) (K.incarnations b.keeper)) }
@@ -68,11 +71,10 @@ impl<B: Behaviour, K: Keeper<A>, A: Allocator + Copy> Book<B, K, A> {
         };
         Ok(Book {
             opening,
-            locals,
+            handlers: Handlers::new(locals, keeper),
             history: Vec::new(alloc),
             limit,
             failed: false,
-            keeper,
         })
     }
 }
