@@ -4,3 +4,4 @@ pub mod BookLemmas
 pub mod OpeningLemmas
 pub mod Alls
 pub mod MadeBy
+pub mod NodeLemmas

@@ -49,3 +49,16 @@ made_other n i history d events left within other before =
     before ∙ ap (λ xs. xs ++ left) (sym (append-nil (made_by n (take i history)))
     ∙ (ap (λ xs. made_by n (take i history) ++ xs) (sym (none (e.0 == n) (e.1, e.2) (grind (arith, nat_tests))))
     ∙ sym (made_more n i history d within)))
+
+-- the same of the entry that was read there
+pub next_at : (n i : ℕ) (history : List Entry) (x : Entry) (events : List (Event × Reply)) (first : Event × Reply) (left others : List (Event × Reply))
+    → i < length history → x ≡ get_or history i x → x.0 ≡ n → first ≡ (x.1, x.2) → left ≡ first ∷ others
+    → events ≡ made_by n (take i history) ++ left → events ≡ made_by n (take (i + 1) history) ++ others
+next_at n i history x events first left others within is here same cut before =
+    made_next n i history x events first left others within (ap (λ (e : Entry). e.0) (sym is) ∙ here) (same ∙ ap (λ (e : Entry). (e.1, e.2)) is) cut before
+
+pub other_at : (n i : ℕ) (history : List Entry) (x : Entry) (events left : List (Event × Reply))
+    → i < length history → x ≡ get_or history i x → (x.0 ≡ n → ⊥)
+    → events ≡ made_by n (take i history) ++ left → events ≡ made_by n (take (i + 1) history) ++ left
+other_at n i history x events left within is other before =
+    made_other n i history x events left within (λ same. other (ap (λ (e : Entry). e.0) is ∙ same)) before

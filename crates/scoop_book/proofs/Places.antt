@@ -1,5 +1,5 @@
 -- Lists whose items are found by a key.
-use Rattle.std.proofs.Common.{◌≡◌, ◌⊎◌, inl, inr, ⊎_elim, ℕ, zero, suc, ◌+◌, ◌<◌, Bool, true, false, ◌||◌, true≢false, List, [], ◌∷◌, ◌++◌, map, find, length, drop, take, get_or, set, slice_get, Option, Some, None, Contains, refl, sym, ap, ◌∙◌, subst, arith, append-nil}
+use Rattle.std.proofs.Common.{◌≡◌, ◌⊎◌, inl, inr, ⊎_elim, ℕ, zero, suc, ◌+◌, ◌<◌, Bool, true, false, ◌||◌, true≢false, List, [], ◌∷◌, ◌++◌, map, find, length, drop, take, get_or, set, slice_get, Option, Some, None, Contains, refl, sym, ap, ◌∙◌, subst, arith, append-nil, below_more}
 use Rattle.std.specs.Prelude.{if◌then◌else◌}
 use Rattle.std.specs.Bool.{Decides}
 use Rattle.std.specs.List.{AllByRecursion, list_any}
@@ -227,3 +227,19 @@ taken_all s xs t y none = taken_front s xs t y ∙ ap (λ ys. xs ++ ys) (no_item
     no_items [] e = refl
     no_items (y ∷ ys) e = absurd (omega (arith, e))
 
+-- ---- a list whose items are told by their places
+
+get_front : {A : Type 0} (xs : List A) (x : A) (n : ℕ) → n < length xs → slice_get (xs ++ x ∷ []) n ≡ slice_get xs n
+get_front [] x n lt = absurd (omega arith)
+get_front (y ∷ ys) x zero lt = refl
+get_front (y ∷ ys) x (suc n) lt = get_front ys x n (omega arith)
+
+get_last : {A : Type 0} (xs : List A) (x : A) → slice_get (xs ++ x ∷ []) (length xs) ≡ Some x
+get_last [] x = refl
+get_last (y ∷ ys) x = get_last ys x
+
+pub each_more : {A : Type 0} (f : ℕ → A) (xs : List A) (x : A) (k : ℕ) → length xs ≡ k → x ≡ f k → ((n : ℕ) → n < k → slice_get xs n ≡ Some (f n)) → (n : ℕ) → n < k + 1 → slice_get (xs ++ x ∷ []) n ≡ Some (f n)
+each_more f xs x k count is before =
+    below_more (λ (n : ℕ). slice_get (xs ++ x ∷ []) n ≡ Some (f n)) k
+    (λ n lt. get_front xs x n (omega (arith, lt, count)) ∙ before n lt)
+    (subst (λ (n : ℕ). slice_get (xs ++ x ∷ []) n ≡ Some (f k)) count (get_last xs x ∙ ap Some is))

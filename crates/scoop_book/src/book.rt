@@ -5,12 +5,11 @@ ghost use Rattle.std.specs.Prelude.{◌≡◌, ◌<◌, ◌++◌, ◌∷◌, [],
 mod entering;
 mod making;
 
-pub(crate) use entering::{entry_left, finished};
-
 use crate::closing::Closed;
 use crate::event::{Event, Reply};
 use crate::handlers::Handlers;
 use crate::opening::Opening;
+pub(crate) use entering::{entry_left, finished};
 use scoop_message::{Entry, HandlerId, Request, Words};
 use scoop_object::Behaviour;
 use scoop_record::Keeper;
@@ -100,7 +99,9 @@ impl<B: Behaviour, K: Keeper<A>, A: Allocator + Copy> Book<B, K, A> {
         ensures sound { IsBook K.handlers K.is_honest self }
     {
         let Book {
-            handlers, history, ..
+            handlers,
+            history,
+            ..
         } = self;
         let keeper = handlers.into_keeper();
         Closed { history, keeper }

@@ -46,7 +46,13 @@ fn first_missing<A: Allocator + Copy>(count: u32, passes: &[Pass<A>]) -> Option<
 fn is_complete<A: Allocator + Copy>(count: u32, passes: &[Pass<A>]) -> bool
     ensures { IsTrue result ↔ IsComplete count passes.now }
 {
-    passes.len() == count as usize && first_missing(count, passes).is_none()
+    if passes.len() != count as usize {
+        return false;
+    }
+    match first_missing(count, passes) {
+        Some(_) => false,
+        None => true,
+    }
 }
 
 // Whether the entry is this event with this reply.

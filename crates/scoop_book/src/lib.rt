@@ -24,6 +24,3 @@ pub use event::{Event, Reply};
 pub use law::{same_event, same_reply};
 pub use node::Node;
 pub use pass::Pass;
-
-#[cfg(test)]
-mod tests;

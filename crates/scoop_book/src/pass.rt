@@ -41,6 +41,26 @@ pub(crate) fn put_down<A: Allocator + Copy>(
     events.push_reserved((*event, *reply));
 }
 
+// The pass of this number as a node opens with these handlers.
+fn fresh<A: Allocator + Copy>(
+    alloc: A,
+    number: u32,
+    opening: &[Opening<A>],
+) -> Result<Pass<A>, OutOfMemory>
+    ensures { IfOk result (λ p. p ≡ fresh_pass opening.now number) }
+{
+    let kept = if number == 0 {
+        Some(copy_all(alloc, opening)?)
+    } else {
+        None
+    };
+    Ok(Pass {
+        number,
+        opening: kept,
+        events: Vec::new(alloc),
+    })
+}
+
 /// The passes of a node that opens with these handlers.
 pub(crate) fn fresh_passes<A: Allocator + Copy>(
     alloc: A,
@@ -50,18 +70,10 @@ pub(crate) fn fresh_passes<A: Allocator + Copy>(
     ensures count { IfOk result (λ ps. length ps.items ≡ count) }
     ensures fresh { IfOk result (λ ps. (n : ℕ) → n < count → slice_get ps.items n ≡ Some (fresh_pass opening.now n)) }
 {
-    let mut passes = Vec::with_capacity(alloc, count as usize)?;
+    let mut passes = Vec::new(alloc);
     for number in 0..count {
-        let kept = if number == 0 {
-            Some(copy_all(alloc, opening)?)
-        } else {
-            None
-        };
-        passes.push_reserved(Pass {
-            number,
-            opening: kept,
-            events: Vec::new(alloc),
-        });
+        let pass = fresh(alloc, number, opening)?;
+        passes.push(pass)?;
     }
     Ok(passes)
 }

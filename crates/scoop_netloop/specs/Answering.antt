@@ -14,7 +14,9 @@ use Rattle.scoop_handler.specs.declared.note.Note.TheVariants.{Greeted, Granted,
 use Rattle.scoop_book.specs.declared.event.Event.TheVariants.{Hear}
 use Rattle.scoop_book.specs.declared.event.Reply.TheVariants.{Heard}
 use Rattle.scoop_book.specs.declared.error.BookError.{BookError}
-use Rattle.scoop_book.specs.Books.{BookValue, Gains, IsRefused}
+use Rattle.scoop_record.specs.Keeper.{Stored}
+use Rattle.scoop_book.specs.Moves.{LocalHandler}
+use Rattle.scoop_book.specs.Books.{BookValue, Gains, IsRefused, KeepsNew}
 use Rattle.scoop_netloop.specs.declared.answer.Answered.{Answered}
 use Rattle.scoop_netloop.specs.declared.answer.Answered.TheVariants.{Reply, Silent, RefusedFrame}
 
@@ -57,6 +59,11 @@ pub record IsUnheard {K : Type 0} (datagram : List ℕ) (old : BookValue K) (e :
   pub message : Message
   pub carried : IsFrame version message datagram
   pub refused : IsRefused old (handler_of message) e
+
+-- where the datagram is the frame of a message, the keeper has the new state of its handler, and of the others what it had
+abbrev pub KeepsAnswered : List ℕ → List LocalHandler → (was now : ℕ → Stored → Type 0) → Type 0
+KeepsAnswered datagram handlers was now =
+    (v : Version) (m : Message) → IsFrame v m datagram → KeepsNew (handler_of m) handlers was now
 
 -- something may have become ready to run by a message with this note
 abbrev pub runs_after : Note → Bool

@@ -66,18 +66,3 @@ pub fn answer_datagram<B: Behaviour, K: Keeper<A>, A: Allocator + Copy>(
         None => Ok(Answered::Silent(note)),
     }
 }
-
-/// Runs what the handler's private queues hold until nothing can run, for the pass of this number. Each entry
-/// that runs is a Begin and a Finish in the history, and so is the last Begin, which finds nothing.
-///
-/// Refused as `Book::begin` and `Book::finish` refuse; what has run stands.
-pub fn run_out<B: Behaviour, K: Keeper<A>, A: Allocator + Copy>(
-    book: &mut Book<B, K, A>,
-    pass: u32,
-    handler: HandlerId,
-) -> Result<(), BookError> {
-    while let Some(job) = book.begin(pass, handler)? {
-        book.finish(pass, job.work())?;
-    }
-    Ok(())
-}

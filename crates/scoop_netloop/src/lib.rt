@@ -7,17 +7,7 @@
 #![tactic(auto)]
 
 mod answer;
-mod executor;
-mod loop_link;
-mod node_loop;
-mod receiver;
 mod stop;
 
-pub use answer::{Answered, answer_datagram, run_out};
-pub use executor::{Gate, OpenGate};
-pub use loop_link::LoopLink;
-pub use node_loop::serve;
+pub use answer::{Answered, answer_datagram};
 pub use stop::{ServeEnd, Stop};
-
-#[cfg(test)]
-mod tests;
