@@ -1,1 +1,4 @@
 pub mod Replying
+pub mod Served
+pub mod Turns
+pub mod Firsts

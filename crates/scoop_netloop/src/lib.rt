@@ -7,7 +7,12 @@
 #![tactic(auto)]
 
 mod answer;
+mod executor;
+mod node_loop;
+mod receiver;
 mod stop;
 
 pub use answer::{Answered, answer_datagram};
+pub use executor::{Gate, OpenGate};
+pub use node_loop::serve;
 pub use stop::{ServeEnd, Stop};
