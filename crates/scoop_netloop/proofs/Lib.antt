@@ -1,0 +1,4 @@
+pub mod Replying
+pub mod Served
+pub mod Turns
+pub mod Firsts
