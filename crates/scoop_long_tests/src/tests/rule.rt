@@ -134,6 +134,7 @@ impl Rule {
         }
     }
 
+    // Any event, now and then one that has to be refused.
     fn any(&mut self, sent: usize) -> Option<Event> {
         match self.dice.roll(200) {
             0 => Some(self.restart()),
@@ -146,12 +147,11 @@ impl Rule {
         }
     }
 
+    // The next call of a burst.
     fn burst_event(&mut self) -> Option<Event> {
-        let mut burst = self.burst?;
-        let left = burst.left.checked_sub(1);
-        burst.left = left.unwrap_or(0);
-        self.burst = match left {
-            Some(_) => Some(burst),
+        let burst = self.burst?;
+        self.burst = match burst.left.checked_sub(1) {
+            Some(left) => Some(Burst { left, ..burst }),
             None => None,
         };
         let command = Command::Call(burst.handler, self.request()?);
@@ -200,6 +200,7 @@ impl Rule {
         }
     }
 
+    // What comes behind the last event, three times out of four.
     fn next_behind(&mut self, event: Event, told: Told) -> Option<Event> {
         if self.dice.roll(4) == 0 {
             return None;

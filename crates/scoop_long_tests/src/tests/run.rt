@@ -80,7 +80,7 @@ impl<'a> Run<'a> {
         }
     }
 
-    // Node 1 has handlers 1 and 2, and node 2 has handler 3.
+    // A node restarts: node 1 has handlers 1 and 2, and node 2 has handler 3.
     fn count_node(&mut self, node: u32) -> Result<(), Fault> {
         self.counts.add(Thing::NodeRestarts)?;
         let [first, second, third] = self.out;
@@ -98,6 +98,7 @@ impl<'a> Run<'a> {
         Ok(())
     }
 
+    // A client restarts, perhaps while a job of its block is out.
     fn count_client(&mut self, client: ClientId) -> Result<(), Fault> {
         self.counts.add(Thing::ClientRestarts)?;
         for block in self.out {
@@ -154,6 +155,7 @@ impl<'a> Run<'a> {
         }
     }
 
+    // An event told this, when so many messages were sent and so many entries of its block received.
     fn count(&mut self, event: Event, told: Told, sent: usize, received: u32) -> Result<(), Fault> {
         let note = match told {
             Ok(note) => note,
