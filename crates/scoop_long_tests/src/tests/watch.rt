@@ -153,16 +153,16 @@ impl Watch {
         self.see_joint(world)?;
         grown.sent = self.see_messages(world, 1)?;
         for site in &mut self.sites {
-            grown.opened += site.see_opened(&self.joint, world)?;
-            grown.ran += site.see_ran(world)?;
+            let (opened, ran) = (site.see_opened(&self.joint, world)?, site.see_ran(world)?);
+            grown.opened = grown.opened.saturating_add(opened);
+            grown.ran = grown.ran.saturating_add(ran);
         }
         for party in &mut self.parties {
-            grown.accepted += party.see_accepted(&self.sites, world)?;
+            let accepted = party.see_accepted(&self.sites, world)?;
+            grown.accepted = grown.accepted.saturating_add(accepted);
         }
-        holds(
-            self.joint.len() <= joint + grown.opened,
-            "a block joined that didn't open",
-        )?;
+        let joined = self.joint.len().saturating_sub(joint);
+        holds(joined <= grown.opened, "a block joined that didn't open")?;
         Ok(grown)
     }
 

@@ -2,7 +2,7 @@
 
 use super::data::{cell, class, get, set};
 use super::growths::{Calling, Heap, Trial, answered, growths, shown, tried};
-use scoop_message::{Block, ClientId, HandlerId};
+use scoop_message::{Block, ClientId, Entry, HandlerId, Request};
 use scoop_object::Table;
 use scoop_record::MemoryKeeper;
 use scoop_refusing::Refusing;
@@ -205,6 +205,8 @@ fn world_at<'a>(
     heap: Heap<'a>,
     acts: &[Act],
 ) -> Result<World<Table, Heap<'a>>, Fail> {
+    // Names the types that an event and its note hold, of which the prover has to be told here.
+    let _parts: Option<(Command, HandlerList, Entry, Request)> = None;
     let mut world = opens(heap, placements(alloc)?)?;
     for act in acts {
         let event = event(*act, sent_count(&world))?;
@@ -223,6 +225,8 @@ struct Happening<'a> {
 
 impl Calling for Happening<'_> {
     fn call(&mut self) -> Result<Option<String>, Fail> {
+        // Names the types that an event and its note hold, of which the prover has to be told here.
+        let _parts: Option<(Command, HandlerList, Entry, Request)> = None;
         let told = stepped(&mut self.world, self.event);
         answered(self.alloc, told, &WorldError::OutOfMemory)
     }
@@ -294,6 +298,8 @@ fn worlds_open(rt: HostRuntime) -> Result<(), Fail> {
 
 // The events of the story.
 fn events(alloc: Global) -> Result<Vec<Event>, Fail> {
+    // Names the types that an event and its note hold, of which the prover has to be told here.
+    let _parts: Option<(Command, HandlerList, Entry, Request)> = None;
     let heap = &Refusing::new(alloc, 0);
     let mut world = opens(heap, placements(alloc)?)?;
     let mut events = Vec::new(alloc);

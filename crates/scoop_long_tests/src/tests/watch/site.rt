@@ -64,6 +64,22 @@ fn logged_entry<A: Allocator + Copy>(
     }
 }
 
+// Whether the entry that has run is the one of its number that the block's client has logged.
+fn is_logged<A: Allocator + Copy>(world: &World<Table, A>, handler: HandlerId, ran: &Ran) -> bool {
+    match logged_entry(world, ran.block, handler, ran.number) {
+        Some(entry) => entry == ran.entry,
+        None => false,
+    }
+}
+
+fn put_down(list: &mut Vec<Ran>, ran: &Ran) -> Result<(), Fault> {
+    let _nested: Option<(Entry, Request)> = None;
+    match list.push(*ran) {
+        Ok(()) => Ok(()),
+        Err(_) => Err("no memory"),
+    }
+}
+
 fn opened_at<A: Allocator + Copy>(
     world: &World<Table, A>,
     handler: HandlerId,
@@ -154,18 +170,17 @@ impl Site {
     fn take_ran<A: Allocator + Copy>(
         &mut self,
         world: &World<Table, A>,
-        ran: Ran,
+        ran: &Ran,
     ) -> Result<(), Fault> {
-        let _nested: Option<(Entry, Request)> = None;
         self.turn_to(world, ran.block)?;
         self.done = self.done.saturating_add(1);
         holds(ran.number == self.done, "an entry runs out of order")?;
-        let entry = logged_entry(world, ran.block, self.handler, ran.number);
-        holds(entry == Some(ran.entry), "an entry runs that wasn't logged")?;
+        let logged = is_logged(world, self.handler, ran);
+        holds(logged, "an entry runs that wasn't logged")?;
         let (word, answer) = effect(self.handler, self.word, &ran.entry);
         holds(ran.answer == answer, "an answer is wrong")?;
         self.word = word;
-        self.ran.push(ran).map_err(|_| "no memory")
+        put_down(&mut self.ran, ran)
     }
 
     /// The block that has opened since, if any: how many.
@@ -190,7 +205,7 @@ impl Site {
         let Some(ran) = newest(&self.ran, ran_at(world, self.handler)?)? else {
             return Ok(0);
         };
-        self.take_ran(world, ran)?;
+        self.take_ran(world, &ran)?;
         Ok(1)
     }
 
@@ -204,7 +219,7 @@ impl Site {
             self.take_opened(joint, *block)?;
         }
         for ran in ran_at(world, self.handler)? {
-            self.take_ran(world, *ran)?;
+            self.take_ran(world, ran)?;
         }
         Ok(())
     }
