@@ -215,6 +215,14 @@ fn world_at<'a>(
     Ok(world)
 }
 
+fn happened<A: Allocator + Copy>(
+    alloc: Global,
+    world: &mut World<Table, A>,
+    event: Event,
+) -> Result<Option<String>, Fail> {
+    answered(alloc, stepped(world, event), &WorldError::OutOfMemory)
+}
+
 /// A world, and an event that happens in it.
 #[derive(Drop)]
 struct Happening<'a> {
@@ -225,10 +233,7 @@ struct Happening<'a> {
 
 impl Calling for Happening<'_> {
     fn call(&mut self) -> Result<Option<String>, Fail> {
-        // Names the types that an event and its note hold, of which the prover has to be told here.
-        let _parts: Option<(Command, HandlerList, Entry, Request)> = None;
-        let told = stepped(&mut self.world, self.event);
-        answered(self.alloc, told, &WorldError::OutOfMemory)
+        happened(self.alloc, &mut self.world, self.event)
     }
 
     fn text(&mut self) -> Result<String, Fail> {
