@@ -17,7 +17,7 @@ pub mod Whole
 pub mod Rules
 pub mod Arriving
 pub mod Headline
-mod Reaching
+pub mod Reaching
 mod KeptPlaces
 mod SitesMade
 mod TakenOutcome

@@ -1,0 +1,14 @@
+//! What a world can come to without a restart and without a lost message.
+
+ghost use Rattle.std.specs.Prelude.{◌≡◌, List};
+ghost use Rattle.std.specs.List.{AllByRecursion};
+ghost use Rattle.scoop_world.specs.declared.event.Event.{Event};
+ghost use Rattle.scoop_world.specs.World.{World};
+ghost use Rattle.scoop_world.specs.Reach.{IsReached};
+ghost use Rattle.scoop_calm.specs.Settling.{Settles, HasRunOut};
+
+/// From every world that can be reached some events, none of them refused, lead to one in which no job is out and
+/// none can go out: whatever can run runs.
+pub fn runs_out()
+    ensures { (w : World) → IsReached w → (events : List Event) × (v : World) × Settles w events v × AllByRecursion HasRunOut v.sites }
+{}
