@@ -1,4 +1,8 @@
 mod Totals
+mod Handlers
+mod Reserving
+mod LinesGo
+mod Clients
 mod Measures
 mod Engine
 mod Moves
