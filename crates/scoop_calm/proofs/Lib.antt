@@ -3,6 +3,9 @@ mod Handlers
 mod Reserving
 mod LinesGo
 mod Clients
+mod Members
+mod Marked
+mod MarkedRuns
 mod Measures
 mod Engine
 mod Moves
