@@ -6,6 +6,8 @@ mod Clients
 mod Members
 mod Marked
 mod MarkedRuns
+mod Leaving
+mod Attending
 mod Measures
 mod Engine
 mod Moves

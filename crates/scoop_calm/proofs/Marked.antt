@@ -106,19 +106,19 @@ pub record IsGiven (w : World) (m : Message) : Type 0 where
 abbrev pub RanReached : List Ran → List Mark → Type 0
 RanReached ran marks = (b : Block) → (IsReachedIn marks b → ⊥) → last_answer b ran None ≡ None
 
-none_at : (marks : List Mark) (b : Block) → mark_of b.client marks ≡ None → IsReachedIn marks b → ⊥
+pub none_at : (marks : List Mark) (b : Block) → mark_of b.client marks ≡ None → IsReachedIn marks b → ⊥
 none_at marks b none r = let both : None ≡ Some r.mark = sym none ∙ r.found in cc
 
-below_at : (marks : List Mark) (b : Block) (k : Mark) → mark_of b.client marks ≡ Some k → (Upto b.inc b.num k.inc k.num → ⊥) → IsReachedIn marks b → ⊥
+pub below_at : (marks : List Mark) (b : Block) (k : Mark) → mark_of b.client marks ≡ Some k → (Upto b.inc b.num k.inc k.num → ⊥) → IsReachedIn marks b → ⊥
 below_at marks b k found below r =
     let both : Some r.mark ≡ Some k = sym r.found ∙ found in
     let same : r.mark ≡ k = cc in
     below (subst (λ (y : Mark). Upto b.inc b.num y.inc y.num) same r.upto)
 
-older_inc : (b : Block) (k : Mark) → k.inc < b.inc → Upto b.inc b.num k.inc k.num → ⊥
+pub older_inc : (b : Block) (k : Mark) → k.inc < b.inc → Upto b.inc b.num k.inc k.num → ⊥
 older_inc b k older u = let le = u.inc in omega (arith, older, le)
 
-older_num : (b : Block) (k : Mark) → k.inc ≡ b.inc → k.num < b.num → Upto b.inc b.num k.inc k.num → ⊥
+pub older_num : (b : Block) (k : Mark) → k.inc ≡ b.inc → k.num < b.num → Upto b.inc b.num k.inc k.num → ⊥
 older_num b k inc older u = let le = u.num inc in omega (arith, older, le)
 
 held_not_shut : AtHeld ≡ AtShut → ⊥
