@@ -8,6 +8,7 @@ mod Marked
 mod MarkedRuns
 mod Leaving
 mod Attending
+mod AttendingClients
 mod Measures
 mod Engine
 mod Moves
