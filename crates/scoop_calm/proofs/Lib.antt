@@ -9,6 +9,7 @@ mod MarkedRuns
 mod Leaving
 mod Attending
 mod AttendingClients
+mod AttendingFacts
 mod Measures
 mod Engine
 mod Moves
