@@ -141,7 +141,7 @@ module _ (v w : World) (x : Onto v w) where
       (λ (rest : IsOver v h b ⊎ AtWork v h b). ⊎_elim (λ (o : IsOver v h b). inr (inl (x.over h b o))) (λ (a : AtWork v h b). x.work h b a) rest)
       a
 
-  attends_more : (m : Message) → Attends v m → Attends w m
+  pub attends_more : (m : Message) → Attends v m → Attends w m
   attends_more (Lock h b) a = attended_more h b a
   attends_more (Unlocked h b) a = x.released h b a
   attends_more (Log h b n es) a = x.released h b a

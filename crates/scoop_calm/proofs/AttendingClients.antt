@@ -237,7 +237,7 @@ ok_is : (c d : ClientState) → ◌≡◌ {A = Outcome} (Ok c) (Ok d) → c ≡ 
 ok_is c d e = cc
 
 module _ (w : World) (c : ClientState) (f : PartyAttends w c) where
-  log_attends : (h : HandlerId) (e : Entry) (waits : Option (HandlerId × ℕ)) → PartyAttends w (with_lines c (at_line h (with_entry e) c.lines) waits)
+  pub log_attends : (h : HandlerId) (e : Entry) (waits : Option (HandlerId × ℕ)) → PartyAttends w (with_lines c (at_line h (with_entry e) c.lines) waits)
   log_attends h e waits r held =
       let g = f r held in
       record {
@@ -246,7 +246,7 @@ module _ (w : World) (c : ClientState) (f : PartyAttends w c) where
         counts = by_line (λ x l. l.acked ≤ greatest_count x r.block w.sent) h (with_entry e) (λ l. refl) c.lines (λ l found. g.counts h l found) (λ x l apart found. g.counts x l found);
       }
 
-  end_attends : PartyAttends w (with_lines c (map with_end c.lines) None)
+  pub end_attends : PartyAttends w (with_lines c (map with_end c.lines) None)
   end_attends r held =
       let g = f r held in
       record {

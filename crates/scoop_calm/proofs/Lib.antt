@@ -10,6 +10,14 @@ mod Leaving
 mod Attending
 mod AttendingClients
 mod AttendingFacts
+mod AttendingCommands
+mod AttendingRuns
+mod Everything
+mod Room
+mod Talk
+mod Greeting
+mod AtMark
+mod Unlocking
 mod Measures
 mod Engine
 mod Moves
