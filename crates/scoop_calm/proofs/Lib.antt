@@ -18,6 +18,9 @@ mod Talk
 mod Greeting
 mod AtMark
 mod Unlocking
+mod OpenedAt
+mod Opening
+mod Ending
 mod Measures
 mod Engine
 mod Moves

@@ -1,5 +1,5 @@
 -- The events by which a world settles, and a world that has settled.
-use Rattle.std.specs.Prelude.{◌≡◌, ℕ, false, List, [], ◌∷◌, Some, None, Ok}
+use Rattle.std.specs.Prelude.{◌≡◌, ⊤, ℕ, false, List, [], ◌∷◌, Option, Some, None, Ok}
 use Rattle.std.specs.List.{AllByRecursion}
 use Rattle.scoop_message.specs.declared.name.Block.{Block}
 use Rattle.scoop_message.specs.declared.name.ClientId.{ClientId}
@@ -7,6 +7,9 @@ use Rattle.scoop_message.specs.declared.name.HandlerId.{HandlerId}
 use Rattle.scoop_queue.specs.Queue.{front}
 use Rattle.scoop_handler.specs.declared.note.Note.{Note}
 use Rattle.scoop_handler.specs.declared.ran.Ran.{Ran}
+use Rattle.scoop_reserve.specs.declared.stage.Stage.{Stage}
+use Rattle.scoop_reserve.specs.declared.stage.Stage.TheVariants.{Locking, Opening, Unlocking, GivingUp}
+use Rattle.scoop_reserve.specs.State.{ReservationState}
 use Rattle.scoop_client.specs.declared.phase.ClientNote.{ClientNote}
 use Rattle.scoop_client.specs.declared.phase.Phase.TheVariants.{Idle}
 use Rattle.scoop_client.specs.State.{phase_of}
@@ -57,3 +60,19 @@ pub record HasRunOut (s : Site) : Type 0 where
 -- every handler has welcomed the client
 pub record IsWelcome (p : Party) : Type 0 where
   pub left : p.client.left ≡ []
+
+-- no lock is left to be given back
+abbrev pub GaveBack : ReservationState → Stage → Type 0
+GaveBack r Locking = ⊤
+GaveBack r Opening = ⊤
+GaveBack r Unlocking = r.left ≡ []
+GaveBack r GivingUp = r.left ≡ []
+
+abbrev pub HasGivenBack : Option ReservationState → Type 0
+HasGivenBack None = ⊤
+HasGivenBack (Some r) = GaveBack r r.stage
+
+-- the client is welcomed everywhere, and has no lock left to give back
+pub record IsSettled (p : Party) : Type 0 where
+  pub welcome : IsWelcome p
+  pub back : HasGivenBack p.client.reservation

@@ -3,4 +3,4 @@
 
 mod settling;
 
-pub use settling::runs_out;
+pub use settling::{gives_back_locks, runs_out};
