@@ -21,6 +21,10 @@ mod Unlocking
 mod OpenedAt
 mod Opening
 mod Ending
+mod Counting
+mod Sending
+mod Logs
+mod Ahead
 mod Measures
 mod Engine
 mod Moves

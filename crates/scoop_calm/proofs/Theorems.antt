@@ -26,7 +26,7 @@ use Rattle.scoop_calm.proofs.Unlocking.{IsReleasing, unlocks, gives_back, unlock
 -- ---- one client
 
 module _ (w : World) (r : IsReached w) (e : Everything (map (λ (p : Placement). p.handler) r.placements) w) where
-  party_found : (p : Party) → Member p w.parties → party_of (id_of p) w ≡ Some p
+  pub party_found : (p : Party) → Member p w.parties → party_of (id_of p) w ≡ Some p
   party_found p m = member_found id_of same_client client_decides w.parties p (distinct id_of same_client client_decides w.parties (parties_apart w r)) m
 
   greets : (p : Party) → party_of (id_of p) w ≡ Some p → (hs : List HandlerId) → p.client.left ≡ hs → Filled hs → IsWelcome p ⊎ Useful w
@@ -47,7 +47,7 @@ module _ (w : World) (r : IsReached w) (e : Everything (map (λ (p : Placement).
   releases p at None is = inl tt
   releases p at (Some q) is = by_stage p at q is q.stage refl
 
-  settled_or : (p : Party) → Member p w.parties → IsSettled p ⊎ Useful w
+  pub settled_or : (p : Party) → Member p w.parties → IsSettled p ⊎ Useful w
   settled_or p m =
       let at = party_found p m in
       ⊎_elim

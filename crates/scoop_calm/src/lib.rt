@@ -3,4 +3,4 @@
 
 mod settling;
 
-pub use settling::{gives_back_locks, runs_out};
+pub use settling::{gives_back_locks, opens_and_ends, runs_out};

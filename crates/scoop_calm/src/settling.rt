@@ -5,7 +5,7 @@ ghost use Rattle.std.specs.List.{AllByRecursion};
 ghost use Rattle.scoop_world.specs.declared.event.Event.{Event};
 ghost use Rattle.scoop_world.specs.World.{World};
 ghost use Rattle.scoop_world.specs.Reach.{IsReached};
-ghost use Rattle.scoop_calm.specs.Settling.{Settles, HasRunOut, IsSettled};
+ghost use Rattle.scoop_calm.specs.Settling.{Settles, HasRunOut, IsSettled, IsAhead};
 
 /// From every world that can be reached some events, none of them refused, lead to one in which no job is out and
 /// none can go out: whatever can run runs.
@@ -18,4 +18,10 @@ pub fn runs_out()
 /// up.
 pub fn gives_back_locks()
     ensures { (w : World) → IsReached w → (events : List Event) × (v : World) × Settles w events v × AllByRecursion HasRunOut v.sites × AllByRecursion IsSettled v.parties }
+{}
+
+/// And further on to one in which besides each client that opens its block waits only for handlers that are full, and
+/// each block that is opened at all has ended, unless its client waits for an answer or has a window full.
+pub fn opens_and_ends()
+    ensures { (w : World) → IsReached w → (events : List Event) × (v : World) × Settles w events v × AllByRecursion HasRunOut v.sites × AllByRecursion (IsAhead v) v.parties }
 {}
