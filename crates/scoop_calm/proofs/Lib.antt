@@ -24,6 +24,7 @@ mod Ending
 mod Counting
 mod Sending
 mod Logs
+mod Queried
 mod Ahead
 mod Measures
 mod Engine

@@ -81,7 +81,7 @@ none_long (x ∷ xs) le = absurd (omega (arith, le))
 none_owed : (q : ReservationState) (h : HandlerId) → q.stage ≡ Unlocking → has q.left h ≡ false → owed.due q h ≡ None
 none_owed q h stage free = ap (owed.due_in q h) stage ∙ ap (λ t. if t then Some (Unlock h q.block) else None) free
 
-log_due : (c : ClientState) (q : ReservationState) (h : HandlerId) (l : LineState) → has c.left h ≡ false → c.reservation ≡ Some q → q.stage ≡ Unlocking → has q.left h ≡ false → line_of h c.lines ≡ Some l → (length l.unacked == 0) ≡ false
+pub log_due : (c : ClientState) (q : ReservationState) (h : HandlerId) (l : LineState) → has c.left h ≡ false → c.reservation ≡ Some q → q.stage ≡ Unlocking → has q.left h ≡ false → line_of h c.lines ≡ Some l → (length l.unacked == 0) ≡ false
     → due c h ≡ Some (Log h q.block (l.acked + 1) (first_entries c.batch l.unacked))
 log_due c q h l greeted held stage free line some =
     ap (λ t. if t then Some (Hello h c.id c.inc) else due_in_block c h c.reservation) greeted
@@ -116,10 +116,10 @@ module _ (w : World) (r : IsReached w) (e : Everything (map (λ (p : Placement).
   abbrev log : List Entry
   log = log_of q.block h w
 
-  fits : LineFits log l
+  pub fits : LineFits log l
   fits = (own_lines w r e p at q held).lines h l line
 
-  opened : has_block s.opened q.block ≡ true
+  pub opened : has_block s.opened q.block ≡ true
   opened =
       let there = (subst (StageOpened w q) stage (e.background.openings.parties (id_of p) p at q held).stage) h named in
       ap (λ o. has_block (option_map_or (λ (x : Site). x.opened) o []) q.block) (sym own.mark.found) ∙ there
@@ -127,33 +127,33 @@ module _ (w : World) (r : IsReached w) (e : Everything (map (λ (p : Placement).
   pub there_open : (k.num ≡ q.block.num) × (is_mark_open k.stage ≡ true)
   there_open = is_open_there w r e p at q held h own opened
 
-  own_block : block_of k ≡ q.block
+  pub own_block : block_of k ≡ q.block
   own_block =
       let client = own.mark.client ∙ sym (client_is w r e p at q held) in
       λ i. record { client = client i; inc = own.inc i; num = there_open.0 i }
 
-  received : greatest_count h q.block w.sent ≡ k.received
+  pub received : greatest_count h q.block w.sent ≡ k.received
   received =
       let tape = all_found (SiteTaped w) (is_site h) w.sites s e.background.taped own.mark.found in
       (λ i. greatest_count (sym own.mark.number i) (sym own_block i) w.sent) ∙ (All-mark_of (MarkTold w.sent (number_of s)) q.block.client s.core.state.marks k tape.told.each own.found).received
 
-  acked_le : l.acked ≤ k.received
+  pub acked_le : l.acked ≤ k.received
   acked_le = subst (λ (n : ℕ). l.acked ≤ n) received ((e.attending.parties (id_of p) p at q held).counts h l line)
 
-  log_long : length log ≡ logged l
+  pub log_long : length log ≡ logged l
   log_long =
       let count = fits.count in
       let all : length (fits.acknowledged ++ l.unacked) ≡ length log = ap length fits.all in
       let parts = length-append fits.acknowledged l.unacked in
       omega (arith, count, all, parts)
 
-  mark_fits : MarkFits w (number_of s) s.ran k
+  pub mark_fits : MarkFits w (number_of s) s.ran k
   mark_fits = All-mark_of (MarkFits w (number_of s) s.ran) q.block.client s.core.state.marks k (all_found (SiteMarked w) (is_site h) w.sites s e.background.marked.sites own.mark.found) own.found
 
   taken_all : mark_fits.taken.taken ++ mark_fits.taken.behind ≡ log
   taken_all = mark_fits.taken.all ∙ (λ i. log_of (own_block i) (own.mark.number i) w)
 
-  received_le : k.received ≤ logged l
+  pub received_le : k.received ≤ logged l
   received_le =
       let count = mark_fits.taken.count in
       let all : length (mark_fits.taken.taken ++ mark_fits.taken.behind) ≡ length log = ap length taken_all in
@@ -173,13 +173,13 @@ module _ (w : World) (r : IsReached w) (e : Everything (map (λ (p : Placement).
       let long = log_long in
       omega (arith, size, count, long)
 
-  last_le : last_number (l.acked + 1) es ≤ logged l
+  pub last_le : last_number (l.acked + 1) es ≤ logged l
   last_le =
       let batch = all_found (λ (x : Party). HasBatch x.client) (is_party (id_of p)) w.parties p e.background.sound.parties at in
       let one = (is_batch c.batch l.unacked batch.some some).all in
       omega (arith, one)
 
-  last_more : l.acked < last_number (l.acked + 1) es
+  pub last_more : l.acked < last_number (l.acked + 1) es
   last_more =
       let batch = all_found (λ (x : Party). HasBatch x.client) (is_party (id_of p)) w.parties p e.background.sound.parties at in
       let one = (is_batch c.batch l.unacked batch.some some).some in
