@@ -46,7 +46,7 @@ module _ (w : World) (r : IsReached w) (e : Everything (map (λ (p : Placement).
       by_test (λ t. (n == MAX_QUEUES) ≡ t → IsFull w h ⊎ Useful w) (n == MAX_QUEUES)
       (λ _ full. inl (record { site = m.site; found = m.found; full = eqb-true n MAX_QUEUES full }))
       (λ _ room.
-      inr (open_useful w r e p at q held stage h left (λ s here. let one : m.site ≡ s = some_is m.site s (sym m.found ∙ here) in subst (λ (x : Site). (length x.core.state.queues == MAX_QUEUES) ≡ false) one room)))
+      inr (open_useful w r e p at q held stage h left (λ s here _. let one : m.site ≡ s = some_is m.site s (sym m.found ∙ here) in subst (λ (x : Site). (length x.core.state.queues == MAX_QUEUES) ≡ false) one room)))
       refl
 
   opens_stage : (stage : Stage) → q.stage ≡ stage → HasOpened w q stage ⊎ Useful w

@@ -1,13 +1,13 @@
 -- Lists of handlers: which is the lowest, and what goes out of a list.
 use Rattle.std.proofs.Common.{◌≡◌, ◌⊎◌, inl, inr, ℕ, ◌+◌, ◌<◌, ◌≤◌, ◌==◌, ◌&&◌, ◌||◌, not, Bool, true, false, true≢false, nat_le, List, [], ◌∷◌, ◌++◌, length, filter, find, Option, Some, None, refl, sym, ap, ◌∙◌, subst, ⊎_elim, arith}
-use Rattle.std.specs.Prelude.{if◌then◌else◌}
+use Rattle.std.specs.Prelude.{⊤, if◌then◌else◌}
 use Rattle.std.specs.List.{list_any, list_all}
 use Rattle.std.proofs.lemmas.Bool.{eqb-true, eq-eqb}
 use Rattle.std.proofs.lemmas.Bool.Decides.{nat_tests}
 use Rattle.scoop_message.specs.declared.name.HandlerId.{HandlerId}
 use Rattle.scoop_message.specs.Message.{same_handler}
 use Rattle.scoop_message.proofs.Same.{handler_decides}
-use Rattle.scoop_reserve.specs.Handlers.{has, without, is_empty, is_lowest, asked, first_unknown}
+use Rattle.scoop_reserve.specs.Handlers.{has, without, is_empty, is_lowest, asked, first_unknown, first_repeated, first_repeated_after}
 use Rattle.scoop_world.proofs.Events.{by_test}
 
 pub itself : (h : HandlerId) → same_handler h h ≡ true
@@ -149,3 +149,42 @@ all_known known (x ∷ xs) e h m =
     (λ _ same g. subst (λ y. has known y ≡ true) ((handler_decides x h).0 same) is)
     (λ _ other g. all_known known xs f h g) refl m)
     (λ _ is f. absurd (cc)) refl e
+
+-- ---- lists without repeats
+
+abbrev pub NoTwice : List HandlerId → Type 0
+NoTwice [] = ⊤
+NoTwice (x ∷ xs) = (has xs x ≡ false) × NoTwice xs
+
+has_before : (xs ys : List HandlerId) (h : HandlerId) → has xs h ≡ true → has (xs ++ ys) h ≡ true
+has_before [] ys h e = absurd (true≢false (sym e))
+has_before (x ∷ xs) ys h e = by_test (λ t. (t || has xs h) ≡ true → (t || has (xs ++ ys) h) ≡ true) (same_handler x h) (λ _ _. refl) (λ _ f. has_before xs ys h f) e
+
+has_pushed : (xs : List HandlerId) (h : HandlerId) → has (xs ++ h ∷ []) h ≡ true
+has_pushed [] h = has_head h []
+has_pushed (x ∷ xs) h = by_test (λ t. (t || has (xs ++ h ∷ []) h) ≡ true) (same_handler x h) (λ _. refl) (λ _. has_pushed xs h)
+
+record Apart (seen hs : List HandlerId) : Type 0 where
+  once : NoTwice hs
+  new : (h : HandlerId) → has hs h ≡ true → has seen h ≡ false
+
+apart_after : (seen hs : List HandlerId) → first_repeated_after seen hs ≡ None → Apart seen hs
+apart_after seen [] e = record { once = tt; new = λ h m. absurd (true≢false (sym m)) }
+apart_after seen (x ∷ xs) e =
+    by_test (λ t. has seen x ≡ t → (if t then Some x else first_repeated_after (seen ++ x ∷ []) xs) ≡ None → Apart seen (x ∷ xs)) (has seen x)
+    (λ _ is f. absurd (cc))
+    (λ _ is f.
+    let rest = apart_after (seen ++ x ∷ []) xs f in
+    record {
+      once = (
+          by_test (λ t. has xs x ≡ t → t ≡ false) (has xs x) (λ _ there. absurd (true≢false (sym (has_pushed seen x) ∙ rest.new x there))) (λ _ there. refl) refl,
+          rest.once,
+        );
+      new = λ h m.
+          by_test (λ t. same_handler x h ≡ t → (t || has xs h) ≡ true → has seen h ≡ false) (same_handler x h)
+          (λ _ same _. subst (λ y. has seen y ≡ false) ((handler_decides x h).0 same) is)
+          (λ _ other g. by_test (λ t. has seen h ≡ t → t ≡ false) (has seen h) (λ _ there. absurd (true≢false (sym (has_before seen (x ∷ []) h there) ∙ rest.new h g))) (λ _ there. refl) refl) refl m;
+    }) refl e
+
+pub none_repeated : (hs : List HandlerId) → first_repeated hs ≡ None → NoTwice hs
+none_repeated hs e = (apart_after [] hs e).once

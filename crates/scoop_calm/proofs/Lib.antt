@@ -25,6 +25,8 @@ mod Counting
 mod Sending
 mod Logs
 mod Queried
+mod Waiting
+mod LogUseful
 mod Ahead
 mod Measures
 mod Engine

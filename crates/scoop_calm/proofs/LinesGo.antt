@@ -2,6 +2,7 @@
 -- query that isn't acknowledged is the one that waits.
 use Rattle.std.proofs.Common.{◌≡◌, ◌⊎◌, inl, inr, ℕ, zero, suc, ◌+◌, ◌-◌, ◌<◌, ◌≤◌, ◌==◌, ◌&&◌, ◌||◌, not, Bool, true, false, true≢false, min, List, [], ◌∷◌, ◌++◌, length, drop, map, find, slice_get, Option, Some, None, refl, sym, ap, ◌∙◌, subst, ⊎_elim, arith, length-append}
 use Rattle.std.specs.Prelude.{if◌then◌else◌}
+use Rattle.std.specs.List.{AllByRecursion}
 use Rattle.std.proofs.lemmas.Bool.Decides.{nat_tests}
 use Rattle.scoop_message.specs.declared.name.HandlerId.{HandlerId}
 use Rattle.scoop_message.specs.declared.request.Entry.{Entry}
@@ -22,6 +23,7 @@ pub record LinesGo (ls : List LineState) (waits : Option (HandlerId × ℕ)) : T
   pub going : all_over ls ≡ false
   pub waiting : (q : HandlerId × ℕ) → waits ≡ Some q → is_ended ls ≡ false
   pub awaited : (h : HandlerId) (l : LineState) → line_of h ls ≡ Some l → IsAwaited waits h l
+  pub alike : AllByRecursion (λ (l : LineState). l.ended ≡ is_ended ls) ls
 
 -- ---- lists of lines
 
@@ -47,10 +49,29 @@ ended_at_line k f same (l ∷ ls) =
     (λ here. ap (λ t. t || is_ended ls) (same l))
     (λ there. ap (λ t. l.ended || t) (ended_at_line k f same ls))
 
+all_at_line : (P Q : LineState → Type 0) (k : HandlerId) (f : LineState → LineState) → ((l : LineState) → P l → Q (f l)) → ((l : LineState) → P l → Q l) → (ls : List LineState) → AllByRecursion P ls → AllByRecursion Q (at_line k f ls)
+all_at_line P Q k f own other [] all = tt
+all_at_line P Q k f own other (l ∷ ls) all =
+    by_test (λ t. AllByRecursion Q (if t then f l ∷ ls else l ∷ at_line k f ls)) (same_handler l.handler k)
+    (λ here. (own l all.0, others ls all.1))
+    (λ there. (other l all.0, all_at_line P Q k f own other ls all.1))
+  where
+    others : (ls : List LineState) → AllByRecursion P ls → AllByRecursion Q ls
+    others [] all = tt
+    others (x ∷ xs) all = (other x all.0, others xs all.1)
+
 -- ---- a block begins
 
 none_at : (i : ℕ) (e : Entry) → slice_get [] i ≡ Some e → ⊥
 none_at i e f = cc
+
+all_fresh : (hs : List HandlerId) (t : Bool) → t ≡ false → AllByRecursion (λ (l : LineState). l.ended ≡ t) (map fresh_line hs)
+all_fresh [] t e = tt
+all_fresh (x ∷ xs) t e = (sym e, all_fresh xs t e)
+
+fresh_ended : (hs : List HandlerId) → is_ended (map fresh_line hs) ≡ false
+fresh_ended [] = refl
+fresh_ended (x ∷ xs) = fresh_ended xs
 
 pub fresh_go : (hs : List HandlerId) → 0 < length hs → LinesGo (map fresh_line hs) None
 fresh_go [] some = absurd (omega (arith, some))
@@ -59,6 +80,7 @@ fresh_go (x ∷ xs) some = record {
   going = refl;
   waiting = λ q e. absurd (cc);
   awaited = λ h l found i e at. absurd (none_at i e (ap (λ (y : LineState). slice_get y.unacked i) (fresh_found (x ∷ xs) h l found) ∙ at));
+  alike = all_fresh (x ∷ xs) (is_ended (map fresh_line (x ∷ xs))) (fresh_ended (x ∷ xs));
 }
 
 -- ---- an entry is logged
@@ -95,6 +117,9 @@ module _ (ls : List LineState) (k : HandlerId) (e : Entry) (going : is_ended ls 
         subst (λ (j : ℕ). now ≡ Some (k, l.acked + j + 1)) (sym new.0) (own l found (ap is_query new.1 ∙ query)))
         (get_before l.unacked e x i at))
         (λ h l apart found i x at query. absurd (none_waits None (h, l.acked + i + 1) refl (f.awaited h l found i x at query)));
+    alike =
+        let same = ended_at_line k (with_entry e) (λ l. refl) ls in
+        all_at_line (λ (l : LineState). l.ended ≡ is_ended ls) (λ (l : LineState). l.ended ≡ is_ended (at_line k (with_entry e) ls)) k (with_entry e) (λ l g. g ∙ sym same) (λ l g. g ∙ sym same) ls f.alike;
   }
 
 -- ---- an End more
@@ -113,8 +138,17 @@ ended_go ls f = record {
       (λ (old : slice_get l.unacked i ≡ Some x). absurd (none_waits None (h, l.acked + i + 1) refl (f.awaited h l found i x old query)))
       (λ (new : (i ≡ length l.unacked) × (End ≡ x)). absurd (true≢false (sym query ∙ sym (ap is_query new.1))))
       (get_before l.unacked End x i at));
+  alike = all_over_now ls (is_ended (map with_end ls)) (some_ended ls f.some);
 }
   where
+    all_over_now : (ls : List LineState) (t : Bool) → t ≡ true → AllByRecursion (λ (l : LineState). l.ended ≡ t) (map with_end ls)
+    all_over_now [] t e = tt
+    all_over_now (l ∷ ls) t e = (sym e, all_over_now ls t e)
+
+    some_ended : (ls : List LineState) → 0 < length ls → is_ended (map with_end ls) ≡ true
+    some_ended [] some = absurd (omega (arith, some))
+    some_ended (l ∷ ls) some = refl
+
     goes : (ls : List LineState) → 0 < length ls → all_over (map with_end ls) ≡ false
     goes [] some = absurd (omega (arith, some))
     goes (l ∷ ls) some = ap (λ t. t && all_over (map with_end ls)) (with_end_some l.unacked)
@@ -145,6 +179,9 @@ module _ (ls : List LineState) (h : HandlerId) (k : ℕ) (waits : Option (Handle
   same_ended : is_ended news ≡ is_ended ls
   same_ended = ended_at_line h (acknowledged k) (λ l. refl) ls
 
+  news_alike : AllByRecursion (λ (l : LineState). l.ended ≡ is_ended news) news
+  news_alike = all_at_line (λ (l : LineState). l.ended ≡ is_ended ls) (λ (l : LineState). l.ended ≡ is_ended news) h (acknowledged k) (λ l g. g ∙ sym same_ended) (λ l g. g ∙ sym same_ended) ls f.alike
+
   -- unless all is over now
   pub counted_go : all_over news ≡ false → LinesGo news waits
   counted_go going = record {
@@ -154,6 +191,7 @@ module _ (ls : List LineState) (h : HandlerId) (k : ℕ) (waits : Option (Handle
     awaited = by_line (IsAwaited waits) h (acknowledged k) (acknowledged_stays k) ls
         (λ l found. awaited_later waits h k l (f.awaited h l found))
         (λ x l apart found. f.awaited x l found);
+    alike = news_alike;
   }
 
   same_query : (x y : HandlerId) (m n : ℕ) → waits ≡ Some (x, m) → waits ≡ Some (y, n) → (x ≡ y) × (m ≡ n)
@@ -180,4 +218,5 @@ module _ (ls : List LineState) (h : HandlerId) (k : ℕ) (waits : Option (Handle
         let number = (same_query h h (l.acked + (j + i) + 1) k (f.awaited h l found (j + i) e (sym (get_drop j i l.unacked) ∙ at) query) own).1 in
         absurd (past_end l.unacked j i e (omega (arith, number)) at))
         (λ x l apart found i e at query. absurd (apart (sym (same_query x h (l.acked + i + 1) k (f.awaited x l found i e at query) own).0)));
+    alike = news_alike;
   }

@@ -135,7 +135,7 @@ module _ (w : World) (r : IsReached w) (e : Everything (map (λ (p : Placement).
       let own : block_of k ≡ q.block = λ i. record { client = client i; inc = o.inc i; num = num i } in
       (num, opened_open w s core.state tape q.block k o.found opened own)
 
-  can_open : (h : HandlerId) (o : OwnMark h) → StandsIn o.mark.site q.block → (length o.mark.site.core.state.queues == MAX_QUEUES) ≡ false → (o.mark.mark.num ≡ q.block.num) × CanOpen o.mark.site.core.state o.mark.mark
+  can_open : (h : HandlerId) (o : OwnMark h) → StandsIn o.mark.site q.block → (IsHeldIn o.mark.site.core.state.marks q.block → (length o.mark.site.core.state.queues == MAX_QUEUES) ≡ false) → (o.mark.mark.num ≡ q.block.num) × CanOpen o.mark.site.core.state o.mark.mark
   can_open h o stands room =
       let k = o.mark.mark in
       ⊎_elim
@@ -145,7 +145,7 @@ module _ (w : World) (r : IsReached w) (e : Everything (map (λ (p : Placement).
       (λ (x : IsHeldIn o.mark.site.core.state.marks q.block).
       let both : Some x.mark ≡ Some k = sym x.found ∙ o.found in
       let one : x.mark ≡ k = cc in
-      (subst (λ (y : Mark). y.num ≡ q.block.num) one x.num, inr (subst (λ (y : Mark). y.stage ≡ AtHeld) one x.stage, room)))
+      (subst (λ (y : Mark). y.num ≡ q.block.num) one x.num, inr (subst (λ (y : Mark). y.stage ≡ AtHeld) one x.stage, room x)))
       (λ (x : IsPastIn o.mark.site.core.state.marks q.block).
       let both : Some x.mark ≡ Some k = sym x.found ∙ o.found in
       let one : x.mark ≡ k = cc in
@@ -154,7 +154,7 @@ module _ (w : World) (r : IsReached w) (e : Everything (map (λ (p : Placement).
       absurd (omega (arith, newer, inc)))
       rest) stands
 
-  pub open_useful : q.stage ≡ Opening → (h : HandlerId) → has q.left h ≡ true → ((s : Site) → site_of h w ≡ Some s → (length s.core.state.queues == MAX_QUEUES) ≡ false) → Useful w
+  pub open_useful : q.stage ≡ Opening → (h : HandlerId) → has q.left h ≡ true → ((s : Site) → site_of h w ≡ Some s → IsHeldIn s.core.state.marks q.block → (length s.core.state.queues == MAX_QUEUES) ≡ false) → Useful w
   open_useful stage h left room =
       let fits = block_fits w r e p at q held in
       let named = fits.reserves.within h left in

@@ -22,7 +22,7 @@ use Rattle.scoop_reserve.specs.Hearing.{is_gone, given_up, given_up_in}
 use Rattle.scoop_reserve.proofs.Rows.{HeardRow, passed_over, one_is_locked, all_are_locked, is_busy, one_is_opened, all_are_opened, is_unlocked, is_given_back}
 use Rattle.scoop_world.proofs.Events.{by_test}
 use Rattle.scoop_world.proofs.Order.Clients.{has_without, is_gone_one}
-use Rattle.scoop_calm.proofs.Handlers.{Filled, none, some, filled, some_in, gone_without, lowest_has, lowest_below, Lowest, lowest_of, from_filter, in_asked, all_known}
+use Rattle.scoop_calm.proofs.Handlers.{Filled, none, some, filled, some_in, gone_without, lowest_has, lowest_below, Lowest, lowest_of, from_filter, in_asked, all_known, NoTwice, none_repeated}
 
 -- locks are got, or blocks opened
 pub data IsSettingOut : Stage → Type 0 where
@@ -32,6 +32,7 @@ pub data IsSettingOut : Stage → Type 0 where
 pub record Reserves (known : List HandlerId) (r : ReservationState) : Type 0 where
   pub known_all : (h : HandlerId) → has r.handlers h ≡ true → has known h ≡ true
   pub some : is_empty r.handlers ≡ false
+  pub apart : NoTwice r.handlers
   pub within : (h : HandlerId) → has r.left h ≡ true → has r.handlers h ≡ true
   pub stays : IsSettingOut r.stage → is_empty r.left ≡ false
   pub order : r.stage ≡ Locking → (x y : HandlerId) → has r.handlers x ≡ true → has r.left x ≡ false → has r.left y ≡ true → x.0 < y.0
@@ -48,12 +49,13 @@ unknown_none : (r s : ReservationState) (o : Option HandlerId) → unless_unknow
 unknown_none r s None e = refl
 unknown_none r s (Some h) e = absurd (cc)
 
-repeated_none : (r s : ReservationState) (o u : Option HandlerId) → unless_repeated r o u ≡ Ok s → u ≡ None
-repeated_none r s None u e = unknown_none r s u e
+repeated_none : (r s : ReservationState) (o u : Option HandlerId) → unless_repeated r o u ≡ Ok s → (o ≡ None) × (u ≡ None)
+repeated_none r s None u e = (refl, unknown_none r s u e)
 repeated_none r s (Some h) u e = absurd (cc)
 
 record Starts (hs known : List HandlerId) : Type 0 where
   none_unknown : first_unknown known hs ≡ None
+  none_again : first_repeated hs ≡ None
   one : is_empty hs ≡ false
 
 starts : (b : Block) (hs known : List HandlerId) (s : ReservationState) → started b hs known ≡ Ok s → Starts hs known
@@ -63,7 +65,7 @@ starts b hs known s e =
     (λ _ is f.
     by_test (λ t. (if t then Err error.TooMany else unless_repeated (fresh b hs) (first_repeated hs) (first_unknown known hs)) ≡ Ok s → Starts hs known) (nat_lt MAX_BLOCK_HANDLERS (length hs))
     (λ many g. absurd (cc))
-    (λ few g. record { none_unknown = repeated_none (fresh b hs) s (first_repeated hs) (first_unknown known hs) g; one = is }) f) refl e
+    (λ few g. let n = repeated_none (fresh b hs) s (first_repeated hs) (first_unknown known hs) g in record { none_unknown = n.1; none_again = n.0; one = is }) f) refl e
 
 pub fresh_reserves : (b : Block) (hs known : List HandlerId) (s : ReservationState) → started b hs known ≡ Ok s → Reserves known (fresh b hs) × (is_gone (fresh b hs) ≡ false)
 fresh_reserves b hs known s e =
@@ -71,6 +73,7 @@ fresh_reserves b hs known s e =
       record {
         known_all = all_known known hs f.none_unknown;
         some = f.one;
+        apart = none_repeated hs f.none_again;
         within = λ h m. m;
         stays = λ _. f.one;
         order = λ _ x y in_set gone there. absurd (true≢false (sym in_set ∙ gone));
@@ -90,6 +93,7 @@ step_reserves known r s m st (passed_over n) f = f
 step_reserves known r s m st (one_is_locked h at low more) f = record {
   known_all = f.known_all;
   some = f.some;
+  apart = f.apart;
   within = λ x e. f.within x (has_without h x r.left e);
   stays = λ _. more;
   order = λ _ x y in_set gone there.
@@ -104,6 +108,7 @@ step_reserves known r s m st (one_is_locked h at low more) f = record {
 step_reserves known r s m st (all_are_locked h at low none_left) f = record {
   known_all = f.known_all;
   some = f.some;
+  apart = f.apart;
   within = λ x e. e;
   stays = λ _. f.some;
   order = λ is x y in_set gone there. absurd (cc);
@@ -112,6 +117,7 @@ step_reserves known r s m st (is_busy h at low) f = f
 step_reserves known r s m st (one_is_opened h at is more) f = record {
   known_all = f.known_all;
   some = f.some;
+  apart = f.apart;
   within = λ x e. f.within x (has_without h x r.left e);
   stays = λ _. more;
   order = λ is x y in_set gone there. absurd (cc);
@@ -119,6 +125,7 @@ step_reserves known r s m st (one_is_opened h at is more) f = record {
 step_reserves known r s m st (all_are_opened h at is none_left) f = record {
   known_all = f.known_all;
   some = f.some;
+  apart = f.apart;
   within = λ x e. e;
   stays = λ _. f.some;
   order = λ is x y in_set gone there. absurd (cc);
@@ -126,6 +133,7 @@ step_reserves known r s m st (all_are_opened h at is none_left) f = record {
 step_reserves known r s m st (is_unlocked h at is) f = record {
   known_all = f.known_all;
   some = f.some;
+  apart = f.apart;
   within = λ x e. f.within x (has_without h x r.left e);
   stays = λ out. absurd (off_unlocking out);
   order = λ is x y in_set gone there. absurd (cc);
@@ -133,6 +141,7 @@ step_reserves known r s m st (is_unlocked h at is) f = record {
 step_reserves known r s m st (is_given_back h at is) f = record {
   known_all = f.known_all;
   some = f.some;
+  apart = f.apart;
   within = λ x e. f.within x (has_without h x r.left e);
   stays = λ out. absurd (off_giving out);
   order = λ is x y in_set gone there. absurd (cc);
@@ -160,6 +169,7 @@ given_reserves known r s Locking at e f =
       record {
         known_all = f.known_all;
         some = f.some;
+        apart = f.apart;
         within = λ x m. from_filter _ r.handlers x m;
         stays = λ out. absurd (off_giving out);
         order = λ is x y in_set gone there. absurd (cc);

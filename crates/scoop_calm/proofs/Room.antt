@@ -22,14 +22,11 @@ use Rattle.scoop_world.specs.Reach.{Run, steps, IsReached}
 use Rattle.scoop_world.proofs.Events.{Changes, by_test, steps_kept}
 use Rattle.scoop_world.proofs.Order.Clients.{is_gone_one}
 use Rattle.scoop_world.proofs.Logging.Greetings.{IsMarkUpto}
-use Rattle.scoop_calm.proofs.Handlers.{less_without}
+use Rattle.scoop_calm.proofs.Handlers.{NoTwice, less_without}
 use Rattle.scoop_calm.proofs.Marked.{MarkFits}
 
 -- ---- a list without repeats is no longer than one that has all its items
 
-abbrev NoTwice : List HandlerId → Type 0
-NoTwice [] = ⊤
-NoTwice (x ∷ xs) = (has xs x ≡ false) × NoTwice xs
 
 stays_without : (k x : HandlerId) (hs : List HandlerId) → has hs x ≡ true → (k ≡ x → ⊥) → has (without k hs) x ≡ true
 stays_without k x hs e apart = by_test (λ t. has (without k hs) x ≡ t → t ≡ true) (has (without k hs) x) (λ _ _. refl) (λ _ is. absurd (apart (is_gone_one k x hs e is))) refl
