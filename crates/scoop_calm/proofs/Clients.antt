@@ -44,6 +44,7 @@ pub record BlockFits (c : ClientState) (r : ReservationState) : Type 0 where
   pub reserves : Reserves c.handlers r
   pub on : is_gone r ≡ false
   pub lines : LinesGo c.lines c.waits
+  pub begun : 1 ≤ c.last
 
 pub record ClientFits (c : ClientState) : Type 0 where
   pub within : (h : HandlerId) → has c.left h ≡ true → has c.handlers h ≡ true
@@ -67,7 +68,7 @@ stepped_fits c r s held f g =
       quiet = λ e. absurd (cc);
       block = λ q e.
           let b = g.block r held in
-          record { welcome = b.welcome; reserves = subst (Reserves c.handlers) (some_is s q e) f; on = subst (λ y. is_gone y ≡ false) (some_is s q e) on; lines = b.lines };
+          record { welcome = b.welcome; reserves = subst (Reserves c.handlers) (some_is s q e) f; on = subst (λ y. is_gone y ≡ false) (some_is s q e) on; lines = b.lines; begun = b.begun };
     }) refl
 
 step_fits : (c : ClientState) (r s : ReservationState) (st : Step) → c.reservation ≡ Some r → Reserves c.handlers s → ClientFits c → ClientFits (after_step c s st).0
@@ -86,7 +87,7 @@ with_lines_fits : (c : ClientState) (ls : List LineState) (waits : Option (Handl
 with_lines_fits c ls waits r held g go = record {
   within = g.within;
   quiet = λ e. absurd (let f : None ≡ Some r = sym e ∙ held in cc);
-  block = λ q e. let b = g.block q e in record { welcome = b.welcome; reserves = b.reserves; on = b.on; lines = go };
+  block = λ q e. let b = g.block q e in record { welcome = b.welcome; reserves = b.reserves; on = b.on; lines = go; begun = b.begun };
 }
 
 row_fits : (c : ClientState) (m : Message) (d : ClientState) (note : ClientNote) → HeardRow c m d note → ClientFits c → ClientFits d
@@ -137,6 +138,7 @@ reserve_fits c d hs o (begins_block r at_idle room begins) e g =
             reserves = subst (Reserves c.handlers) one fits.0;
             on = subst (λ y. is_gone y ≡ false) one fits.1;
             lines = fresh_go hs (some_length hs fits.0.some);
+            begun = omega arith;
           };
     })
 reserve_fits c d hs o row e g = absurd (cc)
@@ -167,7 +169,7 @@ give_up_fits c d o (gives_up r s locking held given) e g =
     ok_fits (with_reservation c s) d e (record {
       within = g.within;
       quiet = λ n. absurd (cc);
-      block = λ q is. record { welcome = b.welcome; reserves = subst (Reserves c.handlers) (some_is s q is) f.0; on = subst (λ y. is_gone y ≡ false) (some_is s q is) f.1; lines = b.lines };
+      block = λ q is. record { welcome = b.welcome; reserves = subst (Reserves c.handlers) (some_is s q is) f.0; on = subst (λ y. is_gone y ≡ false) (some_is s q is) f.1; lines = b.lines; begun = b.begun };
     })
 give_up_fits c d o row e g = absurd (cc)
 

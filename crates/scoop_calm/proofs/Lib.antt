@@ -27,6 +27,8 @@ mod Logs
 mod Queried
 mod Waiting
 mod LogUseful
+mod Earliest
+mod RunningClients
 mod Ahead
 mod Measures
 mod Engine

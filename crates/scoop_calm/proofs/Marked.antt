@@ -25,6 +25,7 @@ use Rattle.scoop_handler.specs.Hearing.{Hearing, IsHeardAt, greeting_mark}
 use Rattle.scoop_handler.specs.Running.{mark_after}
 use Rattle.scoop_handler.specs.Rows.{Row, first_greeting, newer_greeting, lock_granted, open_granted, unlock_new, unlock_holder, log_taken}
 use Rattle.scoop_handler.proofs.MarkLists.{mark_of-client, All-mark_of, All-set_mark, All-add_mark}
+use Rattle.scoop_handler.proofs.TableLaws.{block_of-same}
 use Rattle.scoop_world.specs.World.{World, log_of, handlers_of}
 use Rattle.scoop_world.specs.Safe.{numbered, untold}
 use Rattle.scoop_world.proofs.Events.{by_test}
@@ -58,6 +59,7 @@ pub record MarkFits (w : World) (h : HandlerId) (ran : List Ran) (k : Mark) : Ty
   pub inc : 1 ≤ k.inc
   pub named : (k.num ≡ 0) ⊎ IsNamed w h (block_of k)
   pub locked : (k.stage ≡ AtShut) ⊎ Member (Lock h (block_of k)) w.sent
+  pub unlocked : k.stage ≡ AtShut → (k.num ≡ 0) ⊎ Member (Unlock h (block_of k)) w.sent
   pub taken : TakenAs (log_of (block_of k) h w) k
   pub kept : k.kept ≡ last_answer (block_of k) ran None
 
@@ -80,6 +82,7 @@ module _ (v w : World) (x : Further v w) where
         inc = f.inc;
         named = ⊎_elim (λ (e : k.num ≡ 0). inl e) (λ (n : IsNamed v h (block_of k)). inr (record { handlers = n.handlers; set = x.sets (block_of k) n.handlers n.set; member = n.member })) f.named;
         locked = ⊎_elim (λ (e : k.stage ≡ AtShut). inl e) (λ (m : Member (Lock h (block_of k)) v.sent). inr (x.sent (Lock h (block_of k)) m)) f.locked;
+        unlocked = λ at. ⊎_elim (λ (e : k.num ≡ 0). inl e) (λ (m : Member (Unlock h (block_of k)) v.sent). inr (x.sent (Unlock h (block_of k)) m)) (f.unlocked at);
         taken = record {
           taken = f.taken.taken;
           behind = f.taken.behind ++ g.0;
@@ -99,7 +102,7 @@ nothing_taken log b stage = record { taken = []; behind = log; all = refl; count
 pub record IsGiven (w : World) (m : Message) : Type 0 where
   pub hello : (h : HandlerId) (c : ClientId) (inc : ℕ) → m ≡ Hello h c inc → 1 ≤ inc
   pub lock : (h : HandlerId) (b : Block) → m ≡ Lock h b → IsNamed w h b × Member (Lock h b) w.sent
-  pub unlock : (h : HandlerId) (b : Block) → m ≡ Unlock h b → IsNamed w h b
+  pub unlock : (h : HandlerId) (b : Block) → m ≡ Unlock h b → IsNamed w h b × Member (Unlock h b) w.sent
   pub log : (h : HandlerId) (b : Block) (n : ℕ) (es : List Entry) → m ≡ Log h b n es → Stands (log_of b h w) n es × (0 < length es)
 
 -- nothing has run of a block that the marks have not reached
@@ -150,12 +153,13 @@ module _ (w : World) (s : HandlerState) (ran : List Ran) (reached : RanReached r
       inc = given.hello h c inc is;
       named = inl refl;
       locked = inl refl;
+      unlocked = λ at. inl refl;
       taken = nothing_taken _ (block_of (greeting_mark c inc)) AtShut;
       kept = sym (reached (block_of (greeting_mark c inc)) new);
     }
 
-    next_block : (b : Block) (k : Mark) (stage : Stage) → IsHeardAt s b k → k.num < b.num → IsNamed w s.number b → (stage ≡ AtShut) ⊎ Member (Lock s.number b) w.sent → Fits (fresh_mark b stage)
-    next_block b k stage at newer named locked =
+    next_block : (b : Block) (k : Mark) (stage : Stage) → IsHeardAt s b k → k.num < b.num → IsNamed w s.number b → (stage ≡ AtShut) ⊎ Member (Lock s.number b) w.sent → (stage ≡ AtShut → Member (Unlock s.number b) w.sent) → Fits (fresh_mark b stage)
+    next_block b k stage at newer named locked unlocked =
         let f = found_fits b.client k at.found in
         let one = f.inc in
         let same = at.inc in
@@ -163,6 +167,7 @@ module _ (w : World) (s : HandlerState) (ran : List Ran) (reached : RanReached r
           inc = omega (arith, one, same);
           named = inr named;
           locked = locked;
+          unlocked = λ at. inr (unlocked at);
           taken = nothing_taken _ b stage;
           kept = sym (reached b (below_at s.marks b k at.found (older_num b k at.inc newer)));
         }
@@ -177,17 +182,18 @@ marked-row w s ran m h (newer_greeting x c inc k here found newer) reached given
 marked-row w s ran m h (lock_granted x b k here at new free clear) reached given all =
     let g = given.lock x b refl in
     in_place w s ran reached all (fresh_mark b AtHeld)
-    (next_block w s ran reached all (Lock x b) given b k AtHeld at new (subst (λ j. IsNamed w j b) here g.0) (inr (subst (λ j. Member (Lock j b) w.sent) here g.1)))
+    (next_block w s ran reached all (Lock x b) given b k AtHeld at new (subst (λ j. IsNamed w j b) here g.0) (inr (subst (λ j. Member (Lock j b) w.sent) here g.1)) (λ shut. absurd (held_not_shut shut)))
 marked-row w s ran m h (open_granted x b k here at same was room) reached given all =
     let f = found_fits w s ran reached all b.client k at.found in
     in_place w s ran reached all (opened_mark k)
-    (record { inc = f.inc; named = f.named; locked = inr (has_lock w s ran reached all k (λ e. held_not_shut (sym was ∙ e)) f); taken = record { taken = f.taken.taken; behind = f.taken.behind; all = f.taken.all; count = f.taken.count; ended = f.taken.ended }; kept = f.kept })
+    (record { inc = f.inc; named = f.named; locked = inr (has_lock w s ran reached all k (λ e. held_not_shut (sym was ∙ e)) f); unlocked = λ shut. absurd (open_not_shut shut); taken = record { taken = f.taken.taken; behind = f.taken.behind; all = f.taken.all; count = f.taken.count; ended = f.taken.ended }; kept = f.kept })
 marked-row w s ran m h (unlock_new x b k here at new clear) reached given all =
-    in_place w s ran reached all (fresh_mark b AtShut) (next_block w s ran reached all (Unlock x b) given b k AtShut at new (subst (λ j. IsNamed w j b) here (given.unlock x b refl)) (inl refl))
+    let g = given.unlock x b refl in
+    in_place w s ran reached all (fresh_mark b AtShut) (next_block w s ran reached all (Unlock x b) given b k AtShut at new (subst (λ j. IsNamed w j b) here g.0) (inl refl) (λ _. subst (λ j. Member (Unlock j b) w.sent) here g.1))
 marked-row w s ran m h (unlock_holder x b k here at same holds) reached given all =
     let f = found_fits w s ran reached all b.client k at.found in
     in_place w s ran reached all (without_hold k)
-    (record { inc = f.inc; named = f.named; locked = freed_locked w s ran reached all k f; taken = record { taken = f.taken.taken; behind = f.taken.behind; all = f.taken.all; count = f.taken.count; ended = f.taken.ended }; kept = f.kept })
+    (record { inc = f.inc; named = f.named; locked = freed_locked w s ran reached all k f; unlocked = λ _. inr (subst (λ y. Member (Unlock s.number y) w.sent) (sym (block_of-same s b k at same)) (subst (λ j. Member (Unlock j b) w.sent) here (given.unlock x b refl).1)); taken = record { taken = f.taken.taken; behind = f.taken.behind; all = f.taken.all; count = f.taken.count; ended = f.taken.ended }; kept = f.kept })
 marked-row w s ran m h (log_taken x b n es k here at next goes_on room) reached given all =
     let f = found_fits w s ran reached all b.client k at.heard.found in
     let client = mark_of-client b.client s.marks k at.heard.found in
@@ -200,6 +206,7 @@ marked-row w s ran m h (log_taken x b n es k here at next goes_on room) reached 
       inc = f.inc;
       named = f.named;
       locked = f.locked;
+      unlocked = λ shut. absurd (open_not_shut (sym at.stage ∙ shut));
       taken = record {
         taken = st.before ++ es;
         behind = st.behind;
@@ -225,6 +232,7 @@ marked-after w h ran r (k ∷ ks) all =
         inc = f.inc;
         named = f.named;
         locked = f.locked;
+        unlocked = f.unlocked;
         taken = record { taken = f.taken.taken; behind = f.taken.behind; all = f.taken.all; count = f.taken.count; ended = f.taken.ended };
         kept = ap (next_answer (block_of k) r) f.kept ∙ sym (last_pushed (block_of k) ran r None);
       },

@@ -120,7 +120,7 @@ given_message w o sound l openings i k m was =
     record {
       hello = λ h c inc e. i.hellos h c inc (subst (λ n. Member n w.sent) e is);
       lock = λ h b e. (subst (Tells w) e (sent_tells w k m was o.messages), subst (λ n. Member n w.sent) e is);
-      unlock = λ h b e. (subst (Shows w) e (sent_all w k m was (Shows w) openings.messages)).0;
+      unlock = λ h b e. ((subst (Shows w) e (sent_all w k m was (Shows w) openings.messages)).0, subst (λ n. Member n w.sent) e is);
       log = λ h b n es e. (subst (Carries w) e (sent_all w k m was (Carries w) l.messages), (subst HasEntries e (sent_all w k m was HasEntries sound.messages)).0);
     }
 
