@@ -29,6 +29,11 @@ mod Waiting
 mod LogUseful
 mod Earliest
 mod RunningClients
+mod Blocks
+mod Queues
+mod Locking
+mod Leads
+mod NeverStuck
 mod Ahead
 mod Measures
 mod Engine
