@@ -123,8 +123,11 @@ module _ (w : World) (c : ClientState) (f : PartyAttends w c) where
       stepped_follows r (at_stage r Locking (without h r.left)) held refl
       (λ x a.
       let old : AskedAt r x Locking = subst (AskedAt r x) at a in
-      inr (old.0, inl (⊎_elim (λ (gone : has r.left x ≡ false). not_without h x r.left gone)
-      (λ (lowest : is_lowest x r.left ≡ true). subst (λ y. has (without h r.left) y ≡ false) (lowest_one h x r.left low lowest) (gone_without h r.left)) old.1)))
+      inr (
+        old.0,
+        inl (⊎_elim (λ (gone : has r.left x ≡ false). not_without h x r.left gone)
+            (λ (lowest : is_lowest x r.left ≡ true). subst (λ y. has (without h r.left) y ≡ false) (lowest_one h x r.left low lowest) (gone_without h r.left)) old.1),
+      ))
       (λ e. absurd (cc)) (λ gone x a. absurd (true≢false (sym gone)))
   step_follows m round r s st held (all_are_locked h at low none_left) t =
       stepped_follows r (at_stage r Opening r.handlers) held refl

@@ -150,7 +150,6 @@ owed_attends w c p r h m at held own f (opens stage is) = tt
 owed_attends w c p r h m at held own f (unlocks stage is) = tt
 owed_attends w c p r h m at held own f (gives_back stage is) = tt
 
-
 none_left : (t : Bool) (n : Message) → (if t then Some n else None) ≡ None → t ≡ false
 none_left true n e = absurd (cc)
 none_left false n e = refl

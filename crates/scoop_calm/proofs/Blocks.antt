@@ -44,7 +44,7 @@ use Rattle.scoop_world.proofs.Logging.Openings.{NoOpen, IsMarkOpened, SiteOpened
 use Rattle.scoop_world.proofs.Knowing.Facts.{PartyKnown}
 use Rattle.scoop_world.proofs.Rules.Front.{left_has}
 use Rattle.scoop_world.proofs.Whole.Facts.{SiteTaped}
-use Rattle.scoop_calm.specs.Settling.{HasRunOut, IsSettled, HasGivenBack, GaveBack}
+use Rattle.scoop_calm.proofs.Resting.{IsSettled, HasGivenBack, GaveBack}
 use Rattle.scoop_calm.proofs.Totals.{Member, each_or, all_member, distinct, member_found, found_member}
 use Rattle.scoop_calm.proofs.Handlers.{Filled, none, some, filled, has_head}
 use Rattle.scoop_calm.proofs.Reserving.{IsSettingOut, opens}
@@ -59,7 +59,7 @@ use Rattle.scoop_calm.proofs.Waiting.{IsIdleIn}
 use Rattle.scoop_calm.proofs.RunningClients.{run_useful}
 use Rattle.scoop_calm.proofs.Earliest.{Before, left_before, next_before, First, first_or, opened_queue, order_of, first_empty}
 use Rattle.scoop_calm.proofs.Everything.{Everything}
-use Rattle.scoop_calm.proofs.Theorems.{party_found}
+use Rattle.scoop_calm.proofs.Clearing.{party_found}
 
 -- ---- look-ups
 
@@ -211,4 +211,4 @@ module _ (w : World) (r : IsReached w) (e : Everything (map (λ (p : Placement).
       inr (run_useful w r e p at q held is back (λ h s here. idle s (found_site h s here)))
   by_stage p mp at q held room idle GivingUp is =
       let back : q.left ≡ [] = subst (GaveBack q) is (subst HasGivenBack held (all_member IsSettled w.parties p settled mp).back) in
-      absurd (true≢false (sym ((λ i. is_given_up_in (is i) && is_empty (back i)) ) ∙ (block_fits w r e p at q held).on))
+      absurd (true≢false (sym ((λ i. is_given_up_in (is i) && is_empty (back i))) ∙ (block_fits w r e p at q held).on))

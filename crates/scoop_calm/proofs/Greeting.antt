@@ -48,7 +48,6 @@ use Rattle.scoop_calm.proofs.Room.{has_room}
 use Rattle.scoop_calm.proofs.Talk.{Replies, asks_useful, site_there}
 use Rattle.scoop_calm.proofs.Everything.{Everything}
 
-
 -- ---- the handler
 
 hello_heard : (s : HandlerState) (c : ClientId) (inc : ℕ) (o : Option Mark) → (o ≡ None → (length s.marks == MAX_CLIENTS) ≡ false) → ((k : Mark) → o ≡ Some k → k.inc ≤ inc) → mark_of c s.marks ≡ o → Replies s (Hello s.number c inc) (Welcome s.number c inc)

@@ -177,9 +177,9 @@ apart_after seen (x ∷ xs) e =
     let rest = apart_after (seen ++ x ∷ []) xs f in
     record {
       once = (
-          by_test (λ t. has xs x ≡ t → t ≡ false) (has xs x) (λ _ there. absurd (true≢false (sym (has_pushed seen x) ∙ rest.new x there))) (λ _ there. refl) refl,
-          rest.once,
-        );
+        by_test (λ t. has xs x ≡ t → t ≡ false) (has xs x) (λ _ there. absurd (true≢false (sym (has_pushed seen x) ∙ rest.new x there))) (λ _ there. refl) refl,
+        rest.once,
+      );
       new = λ h m.
           by_test (λ t. same_handler x h ≡ t → (t || has xs h) ≡ true → has seen h ≡ false) (same_handler x h)
           (λ _ same _. subst (λ y. has seen y ≡ false) ((handler_decides x h).0 same) is)

@@ -34,10 +34,9 @@ mod Queues
 mod Locking
 mod Leads
 mod NeverStuck
-mod Ahead
 mod Measures
 mod Engine
 mod Moves
+mod Resting
 mod Running
-mod Facts
-mod Theorems
+mod Clearing

@@ -43,7 +43,7 @@ use Rattle.scoop_world.proofs.Order.Facts.{SiteFits, IsNamed, all_found}
 use Rattle.scoop_world.proofs.Logging.Greetings.{place}
 use Rattle.scoop_world.proofs.Logging.Openings.{NoOpen, IsOpenedAtAll, IsGivenUp, Shows, StageOpened}
 use Rattle.scoop_world.proofs.Rules.Front.{left_has}
-use Rattle.scoop_calm.specs.Settling.{IsSettled}
+use Rattle.scoop_calm.proofs.Resting.{IsSettled}
 use Rattle.scoop_calm.proofs.Totals.{Member, all_member, total}
 use Rattle.scoop_calm.proofs.Handlers.{Filled, none, some, filled, less_without, lowest_has, Lowest, lowest_of}
 use Rattle.scoop_calm.proofs.Reserving.{IsSettingOut, locks}

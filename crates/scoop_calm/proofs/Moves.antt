@@ -116,11 +116,11 @@ module _ (w : World) (reached : IsReached w) (p : Party) (s : Site) (m reply : M
     after = replied_world;
     reached =
         reached_more answered (Take (length asked.sent + 1)) (replied_world, note.Client d.1)
-            (reached_more asked (Take (length w.sent + 1)) (answered, note.Handler told (Some (length asked.sent + 1)))
-            (reached_more w (Tick (id_of p) (number_of s)) (asked, note.Sent (length w.sent + 1)) reached tick) take) notice;
+        (reached_more asked (Take (length w.sent + 1)) (answered, note.Handler told (Some (length asked.sent + 1)))
+        (reached_more w (Tick (id_of p) (number_of s)) (asked, note.Sent (length w.sent + 1)) reached tick) take) notice;
     less = less;
     goes = λ es u later. (
-        Tick (id_of p) (number_of s) ∷ Take (length w.sent + 1) ∷ Take (length asked.sent + 1) ∷ es,
-        settling.asks w asked answered replied_world u es (id_of p) (number_of s) (length w.sent + 1) (length asked.sent + 1) told d.1 tick take notice later,
-      );
+      Tick (id_of p) (number_of s) ∷ Take (length w.sent + 1) ∷ Take (length asked.sent + 1) ∷ es,
+      settling.asks w asked answered replied_world u es (id_of p) (number_of s) (length w.sent + 1) (length asked.sent + 1) told d.1 tick take notice later,
+    );
   }

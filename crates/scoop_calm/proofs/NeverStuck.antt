@@ -17,7 +17,8 @@ use Rattle.scoop_world.specs.World.{World, Site, Party, number_of, id_of}
 use Rattle.scoop_world.specs.Step.{Placement}
 use Rattle.scoop_world.specs.Reach.{IsReached, Leads}
 use Rattle.scoop_world.proofs.Order.Lists.{same_block_itself}
-use Rattle.scoop_calm.specs.Settling.{Settles, HasRunOut, IsSettled, IsIdle, IsFree, Calm}
+use Rattle.scoop_calm.specs.Settling.{Settles, IsIdle, IsFree, Calm}
+use Rattle.scoop_calm.proofs.Resting.{HasRunOut, IsSettled}
 use Rattle.scoop_calm.proofs.Totals.{Member, each_or, all_member}
 use Rattle.scoop_calm.proofs.Handlers.{filled}
 use Rattle.scoop_calm.proofs.Engine.{Useful, CanSettle, settles}
@@ -29,7 +30,7 @@ use Rattle.scoop_calm.proofs.Queues.{queues_or, all_locking_or, IsLockingOrNone,
 use Rattle.scoop_calm.proofs.Leads.{settles_leads}
 use Rattle.scoop_calm.proofs.Locking.{locking_useful}
 use Rattle.scoop_calm.proofs.Everything.{Everything, everything}
-use Rattle.scoop_calm.proofs.Theorems.{party_found, settled_or}
+use Rattle.scoop_calm.proofs.Clearing.{party_found, settled_or}
 
 -- the client has no block
 pub record HasNone (p : Party) : Type 0 where

@@ -26,7 +26,7 @@ use Rattle.scoop_world.proofs.Order.Facts.{SiteFits}
 use Rattle.scoop_world.proofs.Logging.Openings.{NoOpen, StageOpened}
 use Rattle.scoop_world.proofs.Rules.Front.{left_has}
 use Rattle.scoop_world.proofs.Whole.Facts.{SiteTaped}
-use Rattle.scoop_calm.specs.Settling.{HasRunOut, IsSettled}
+use Rattle.scoop_calm.proofs.Resting.{HasRunOut, IsSettled}
 use Rattle.scoop_calm.proofs.Totals.{Member, each_or, all_member}
 use Rattle.scoop_calm.proofs.Engine.{Useful}
 use Rattle.scoop_calm.proofs.Attending.{Goes}
@@ -36,7 +36,7 @@ use Rattle.scoop_calm.proofs.Earliest.{Before, left_before, next_before, First, 
 use Rattle.scoop_calm.proofs.Blocks.{any_member, Passing, passing, queue_there, queue_found, found_in, must_be_open, owner, Owner, no_open_mark, is_open_at, by_stage}
 use Rattle.scoop_queue.proofs.Found.{block-found}
 use Rattle.scoop_calm.proofs.Everything.{Everything}
-use Rattle.scoop_calm.proofs.Theorems.{party_found}
+use Rattle.scoop_calm.proofs.Clearing.{party_found}
 
 module _ (w : World) (r : IsReached w) (e : Everything (map (λ (p : Placement). p.handler) r.placements) w) (ran : AllByRecursion HasRunOut w.sites) (settled : AllByRecursion IsSettled w.parties) where
   -- the block has a private queue somewhere

@@ -27,7 +27,6 @@ use Rattle.scoop_calm.proofs.Marked.{MarkFits}
 
 -- ---- a list without repeats is no longer than one that has all its items
 
-
 stays_without : (k x : HandlerId) (hs : List HandlerId) → has hs x ≡ true → (k ≡ x → ⊥) → has (without k hs) x ≡ true
 stays_without k x hs e apart = by_test (λ t. has (without k hs) x ≡ t → t ≡ true) (has (without k hs) x) (λ _ _. refl) (λ _ is. absurd (apart (is_gone_one k x hs e is))) refl
 

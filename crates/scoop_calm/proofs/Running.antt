@@ -18,7 +18,7 @@ use Rattle.scoop_world.specs.Step.{with_site, begun_site, finished_site}
 use Rattle.scoop_world.specs.Reach.{IsReached}
 use Rattle.scoop_world.proofs.Events.{by_test}
 use Rattle.scoop_world.proofs.Reaching.{sites_apart}
-use Rattle.scoop_calm.specs.Settling.{HasRunOut}
+use Rattle.scoop_calm.proofs.Resting.{HasRunOut}
 use Rattle.scoop_calm.proofs.Totals.{Member, each_or, all_member, total, distinct, member_found}
 use Rattle.scoop_calm.proofs.Measures.{mark_room, site_room, queue_work, runs_left, site_work, Less, for_work, sites_total}
 use Rattle.scoop_calm.proofs.Engine.{Useful}

@@ -3,4 +3,4 @@
 
 mod settling;
 
-pub use settling::{gives_back_locks, never_stuck, opens_and_ends, runs_out};
+pub use settling::never_stuck;

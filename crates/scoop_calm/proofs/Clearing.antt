@@ -1,6 +1,5 @@
--- What a world can come to.
+-- A client greets where it isn't welcome yet, and gives back the locks that it is to give back.
 use Rattle.std.proofs.Common.{◌≡◌, ◌⊎◌, inl, inr, true, false, List, [], ◌∷◌, map, Option, Some, None, refl, sym, ap, ◌∙◌, subst, ⊎_elim}
-use Rattle.std.specs.List.{AllByRecursion}
 use Rattle.scoop_message.specs.declared.name.HandlerId.{HandlerId}
 use Rattle.scoop_message.specs.Message.{same_client}
 use Rattle.scoop_message.proofs.Same.{client_decides}
@@ -9,21 +8,17 @@ use Rattle.scoop_reserve.specs.declared.stage.Stage.TheVariants.{Locking, Openin
 use Rattle.scoop_reserve.specs.Handlers.{has}
 use Rattle.scoop_reserve.specs.State.{ReservationState}
 use Rattle.scoop_client.specs.State.{ClientState}
-use Rattle.scoop_world.specs.declared.event.Event.{Event}
 use Rattle.scoop_world.specs.World.{World, Party, id_of, party_of}
 use Rattle.scoop_world.specs.Step.{Placement}
 use Rattle.scoop_world.specs.Reach.{IsReached}
 use Rattle.scoop_world.proofs.Reaching.{parties_apart}
-use Rattle.scoop_calm.specs.Settling.{Settles, HasRunOut, IsWelcome, GaveBack, HasGivenBack, IsSettled}
-use Rattle.scoop_calm.proofs.Totals.{Member, each_or, distinct, member_found}
+use Rattle.scoop_calm.proofs.Resting.{IsWelcome, GaveBack, HasGivenBack, IsSettled}
+use Rattle.scoop_calm.proofs.Totals.{Member, distinct, member_found}
 use Rattle.scoop_calm.proofs.Handlers.{Filled, none, some, filled, has_head}
-use Rattle.scoop_calm.proofs.Engine.{Useful, CanSettle, settles}
-use Rattle.scoop_calm.proofs.Everything.{Everything, everything}
-use Rattle.scoop_calm.proofs.Running.{sites_run_out}
+use Rattle.scoop_calm.proofs.Engine.{Useful}
+use Rattle.scoop_calm.proofs.Everything.{Everything}
 use Rattle.scoop_calm.proofs.Greeting.{greet_useful}
 use Rattle.scoop_calm.proofs.Unlocking.{IsReleasing, unlocks, gives_back, unlock_useful}
-
--- ---- one client
 
 module _ (w : World) (r : IsReached w) (e : Everything (map (λ (p : Placement). p.handler) r.placements) w) where
   pub party_found : (p : Party) → Member p w.parties → party_of (id_of p) w ≡ Some p
@@ -55,30 +50,3 @@ module _ (w : World) (r : IsReached w) (e : Everything (map (λ (p : Placement).
       ⊎_elim (λ (back : HasGivenBack p.client.reservation). inl (record { welcome = welcome; back = back })) (λ (u : Useful w). inr u) (releases p at p.client.reservation refl))
       (λ (u : Useful w). inr u)
       (greets p at p.client.left refl (filled p.client.left))
-
--- ---- worlds
-
--- whatever can run runs
-pub runs_out : (w : World) → IsReached w → (events : List Event) × (v : World) × Settles w events v × AllByRecursion HasRunOut v.sites
-runs_out w r =
-    let c : CanSettle (λ (v : World). AllByRecursion HasRunOut v.sites) w =
-    settles (λ v. AllByRecursion HasRunOut v.sites) (λ v s. sites_run_out v s (everything v s).background.sound.sites) w r in
-    (c.events, c.after, c.settles, c.rest)
-
-abbrev Quiet : World → Type 0
-Quiet v = AllByRecursion HasRunOut v.sites × AllByRecursion IsSettled v.parties
-
-quiet_or : (w : World) → IsReached w → Quiet w ⊎ Useful w
-quiet_or w r =
-    let e = everything w r in
-    ⊎_elim
-    (λ (ran : AllByRecursion HasRunOut w.sites).
-    ⊎_elim (λ (all : AllByRecursion IsSettled w.parties). inl (ran, all)) (λ (u : Useful w). inr u) (each_or IsSettled (Useful w) w.parties (settled_or w r e)))
-    (λ (u : Useful w). inr u)
-    (sites_run_out w r e.background.sound.sites)
-
--- and every client is welcomed, and gives back the locks that it is to give back
-pub gives_back_locks : (w : World) → IsReached w → (events : List Event) × (v : World) × Settles w events v × AllByRecursion HasRunOut v.sites × AllByRecursion IsSettled v.parties
-gives_back_locks w r =
-    let c : CanSettle Quiet w = settles Quiet quiet_or w r in
-    (c.events, c.after, c.settles, c.rest.0, c.rest.1)
