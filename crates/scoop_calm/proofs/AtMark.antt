@@ -1,8 +1,6 @@
 -- A client's mark at a handler that has welcomed it: it is of the client's incarnation, and where its block is
 -- unfinished the client is at that block.
-use Rattle.std.proofs.Common.{◌≡◌, ◌⊎◌, inl, inr, ℕ, ◌+◌, ◌<◌, ◌≤◌, ◌&&◌, ◌||◌, not, Bool, true, false, true≢false, IsFalse, List, map, find, Option, Some, None, refl, sym, ap, ◌∙◌, subst, ⊎_elim, arith}
-use Rattle.std.specs.List.{AllByRecursion}
-use Rattle.scoop_message.specs.declared.name.Block.{Block}
+use Rattle.std.proofs.Common.{◌≡◌, ◌⊎◌, ◌<◌, ◌≤◌, ◌&&◌, ◌||◌, not, Bool, true, false, true≢false, IsFalse, map, Some, refl, sym, ap, ◌∙◌, subst, ⊎_elim, arith}
 use Rattle.scoop_message.specs.declared.name.HandlerId.{HandlerId}
 use Rattle.scoop_message.specs.declared.message.Message.TheVariants.{Lock}
 use Rattle.scoop_handler.specs.declared.mark.Mark.{Mark}
@@ -18,7 +16,6 @@ use Rattle.scoop_world.specs.World.{World, Site, Party, number_of, id_of, is_sit
 use Rattle.scoop_world.specs.Step.{Placement}
 use Rattle.scoop_world.specs.Reach.{IsReached}
 use Rattle.scoop_world.specs.Paper.{inc_of}
-use Rattle.scoop_world.proofs.Events.{by_test}
 use Rattle.scoop_world.proofs.Keys.{number_found}
 use Rattle.scoop_world.proofs.Order.Facts.{PartyFits, IsNamed, all_found}
 use Rattle.scoop_world.proofs.Logging.Greetings.{IsMarkUpto, MarksUpto, inc_there}
@@ -27,7 +24,7 @@ use Rattle.scoop_calm.proofs.Totals.{Member, all_member}
 use Rattle.scoop_calm.proofs.Marked.{MarkFits}
 use Rattle.scoop_calm.proofs.MarkedRuns.{SiteMarked}
 use Rattle.scoop_calm.proofs.Leaving.{IsOverIn}
-use Rattle.scoop_calm.proofs.Attending.{AtSite, IsOver, Goes, AtWork, Attended, Attends}
+use Rattle.scoop_calm.proofs.Attending.{IsOver, Goes, AtWork, Attended, Attends}
 use Rattle.scoop_calm.proofs.Everything.{Everything}
 
 pub record MarkAt (w : World) (p : Party) (h : HandlerId) : Type 0 where

@@ -1,40 +1,36 @@
 -- What a client hears, and what it commands, keeps that it attends to its block.
-use Rattle.std.proofs.Common.{◌≡◌, ◌⊎◌, inl, inr, ℕ, zero, suc, ◌+◌, ◌-◌, ◌<◌, ◌≤◌, ◌==◌, ◌&&◌, ◌||◌, not, min, Bool, true, false, true≢false, nat_le, List, [], ◌∷◌, ◌++◌, length, map, Option, Some, None, refl, sym, ap, ◌∙◌, subst, ⊎_elim, arith}
-use Rattle.std.specs.Prelude.{if◌then◌else◌, Ok, Err}
+use Rattle.std.proofs.Common.{◌≡◌, ◌⊎◌, inl, inr, ℕ, ◌-◌, ◌<◌, ◌≤◌, ◌&&◌, Bool, true, false, true≢false, nat_le, List, map, Option, Some, None, refl, sym, ap, ◌∙◌, subst, ⊎_elim, arith}
+use Rattle.std.specs.Prelude.{if◌then◌else◌, Ok}
 use Rattle.std.proofs.lemmas.Bool.Decides.{nat_tests}
 use Rattle.scoop_message.specs.declared.name.Block.{Block}
 use Rattle.scoop_message.specs.declared.name.HandlerId.{HandlerId}
 use Rattle.scoop_message.specs.declared.request.Entry.{Entry}
-use Rattle.scoop_message.specs.declared.request.Entry.TheVariants.{Call as CallEntry, Query as QueryEntry}
 use Rattle.scoop_message.specs.declared.request.Answer.{Answer as ObjectAnswer}
 use Rattle.scoop_message.specs.declared.message.Message.{Message}
 use Rattle.scoop_message.specs.declared.message.Message.TheVariants.{Logged, Answer}
 use Rattle.scoop_message.specs.Message.{same_handler}
 use Rattle.scoop_message.proofs.Same.{handler_decides}
-use Rattle.scoop_reserve.specs.declared.stage.Stage.{Stage}
 use Rattle.scoop_reserve.specs.declared.stage.Stage.TheVariants.{Locking, Opening, Unlocking, GivingUp}
 use Rattle.scoop_reserve.specs.declared.stage.Step.{Step}
-use Rattle.scoop_reserve.specs.declared.stage.Step.TheVariants as step
-use Rattle.scoop_reserve.specs.Handlers.{has, without, is_empty, is_lowest, asked}
+use Rattle.scoop_reserve.specs.Handlers.{has, without, is_empty, is_lowest}
 use Rattle.scoop_reserve.specs.State.{ReservationState, at_stage}
 use Rattle.scoop_reserve.specs.Hearing.{is_gone, given_up, given_up_in}
 use Rattle.scoop_reserve.specs.Hearing as reservation
 use Rattle.scoop_reserve.proofs.Rows.{HeardRow as StepRow, passed_over as steps_over, one_is_locked, all_are_locked, is_busy, one_is_opened, all_are_opened, is_unlocked, is_given_back, heard_row as step_row}
 use Rattle.scoop_client.specs.declared.phase.ClientNote.{ClientNote}
-use Rattle.scoop_client.specs.Line.{LineState, fresh_line, with_entry, with_end, newly, acknowledged, line_of, at_line, all_over}
+use Rattle.scoop_client.specs.Line.{LineState, with_entry, with_end, acknowledged, line_of, at_line, all_over}
 use Rattle.scoop_client.specs.State.{ClientState, with_lines, with_reservation, idle}
 use Rattle.scoop_client.specs.Hearing.{heard, stepped, after_step, up_to}
-use Rattle.scoop_client.specs.Commands.{Command, Outcome, command, Reserve, DoCall, DoQuery, DoEnd, GiveUp, with_block}
-use Rattle.scoop_client.specs.Rows.{HeardRow, passed_over, is_welcomed, takes_step, is_acknowledged, is_accepted, ReserveRow, begins_block, LogRow, is_logged, EndRow, ends_block, GiveUpRow, gives_up}
+use Rattle.scoop_client.specs.Commands.{Outcome}
+use Rattle.scoop_client.specs.Rows.{HeardRow, passed_over, is_welcomed, takes_step, is_acknowledged, is_accepted}
 use Rattle.scoop_client.proofs.Rows.{heard_row}
-use Rattle.scoop_client.proofs.CommandRows.{command_row}
 use Rattle.scoop_world.specs.World.{World, greatest_count}
 use Rattle.scoop_world.proofs.Events.{by_test}
 use Rattle.scoop_world.proofs.Order.Clients.{has_without, is_gone_one, none_in_empty}
 use Rattle.scoop_world.proofs.Logging.Facts.{LineFits, LinesFit}
-use Rattle.scoop_world.proofs.Logging.Lines.{handlers_at, by_line, by_all, handlers_at_line, fresh_found, fits_acknowledged}
+use Rattle.scoop_world.proofs.Logging.Lines.{handlers_at, by_line, by_all, handlers_at_line, fits_acknowledged}
 use Rattle.scoop_world.proofs.Logging.OpeningClients.{unlocking_is}
-use Rattle.scoop_calm.proofs.Handlers.{gone_without, lowest_has, lowest_below, in_asked}
+use Rattle.scoop_calm.proofs.Handlers.{gone_without, lowest_has, lowest_below}
 use Rattle.scoop_calm.proofs.Attending.{IsOver, IsReleased, AskedAt, Goes, Attends, ClientAttends, PartyAttends}
 use Rattle.scoop_world.specs.World.{log_of}
 

@@ -1,7 +1,6 @@
 -- What a client commands keeps that it attends to its block.
-use Rattle.std.proofs.Common.{◌≡◌, ◌⊎◌, inl, inr, ℕ, ◌<◌, ◌≤◌, ◌||◌, not, Bool, true, false, true≢false, List, map, Option, Some, None, refl, sym, ap, ◌∙◌, subst, ⊎_elim, arith}
-use Rattle.std.specs.Prelude.{if◌then◌else◌, Ok, Err}
-use Rattle.scoop_message.specs.declared.name.Block.{Block}
+use Rattle.std.proofs.Common.{◌≡◌, ◌⊎◌, inr, ◌||◌, not, Bool, true, false, true≢false, List, map, Some, None, refl, sym, ap, ◌∙◌, subst, ⊎_elim, arith}
+use Rattle.std.specs.Prelude.{if◌then◌else◌, Ok}
 use Rattle.scoop_message.specs.declared.name.HandlerId.{HandlerId}
 use Rattle.scoop_message.specs.declared.request.Entry.{Entry}
 use Rattle.scoop_message.specs.declared.request.Entry.TheVariants.{Call, Query}
@@ -10,20 +9,19 @@ use Rattle.scoop_reserve.specs.declared.stage.Stage.TheVariants.{Locking, Openin
 use Rattle.scoop_reserve.specs.Handlers.{has, is_empty, is_lowest, asked}
 use Rattle.scoop_reserve.specs.State.{ReservationState, at_stage}
 use Rattle.scoop_reserve.specs.Starting.{fresh}
-use Rattle.scoop_reserve.specs.Hearing.{given_up, given_up_in}
-use Rattle.scoop_client.specs.declared.phase.Phase.{Phase}
-use Rattle.scoop_client.specs.declared.phase.Phase.TheVariants.{Greeting, Idle, Locking as LockingPhase, Opening as OpeningPhase, Running, Ending, GivingUp as GivingUpPhase}
-use Rattle.scoop_client.specs.Line.{LineState, fresh_line, with_entry, with_end, line_of, at_line, is_ended}
+use Rattle.scoop_reserve.specs.Hearing.{given_up_in}
+use Rattle.scoop_client.specs.declared.phase.Phase.TheVariants.{Greeting, Idle}
+use Rattle.scoop_client.specs.Line.{LineState, with_entry, with_end, at_line, is_ended}
 use Rattle.scoop_client.specs.State.{ClientState, phase_of, phase_of_block, phase_at, with_lines, with_reservation}
 use Rattle.scoop_client.specs.Commands.{Command, Outcome, command, Reserve, DoCall, DoQuery, DoEnd, GiveUp, next_block, with_block}
 use Rattle.scoop_client.specs.Rows.{ReserveRow, begins_block, LogRow, is_logged, EndRow, ends_block, GiveUpRow, gives_up}
 use Rattle.scoop_client.proofs.CommandRows.{command_row}
-use Rattle.scoop_world.specs.World.{World, greatest_count}
+use Rattle.scoop_world.specs.World.{World}
 use Rattle.scoop_world.proofs.Events.{by_test}
 use Rattle.scoop_world.proofs.Order.Commands.{started_fresh}
-use Rattle.scoop_world.proofs.Logging.Lines.{by_line, by_all, fresh_found}
+use Rattle.scoop_world.proofs.Logging.Lines.{fresh_found}
 use Rattle.scoop_calm.proofs.Handlers.{in_asked}
-use Rattle.scoop_calm.proofs.Attending.{IsOver, IsReleased, AskedAt, Goes, ClientAttends, PartyAttends}
+use Rattle.scoop_calm.proofs.Attending.{AskedAt, ClientAttends, PartyAttends}
 use Rattle.scoop_calm.proofs.AttendingClients.{Follows, log_attends, end_attends}
 
 some_is : {A : Type 0} (a b : A) → Some a ≡ Some b → a ≡ b

@@ -1,13 +1,10 @@
 -- What a world tells a client that leaves its block, and what replies tell.
-use Rattle.std.proofs.Common.{◌≡◌, ◌≢◌, ◌⊎◌, inl, inr, ℕ, zero, suc, ◌+◌, ◌<◌, ◌≤◌, ◌==◌, ◌&&◌, ◌||◌, not, Bool, true, false, true≢false, List, [], ◌∷◌, ◌++◌, length, map, find, Option, Some, None, refl, sym, ap, ◌∙◌, subst, ⊎_elim, arith, length-append, append-nil}
+use Rattle.std.proofs.Common.{◌≡◌, ℕ, ◌<◌, ◌≤◌, ◌==◌, ◌&&◌, ◌||◌, not, Bool, true, false, true≢false, List, [], ◌∷◌, ◌++◌, length, Option, Some, None, refl, sym, ap, ◌∙◌, subst, arith, length-append, append-nil}
 use Rattle.std.specs.Prelude.{if◌then◌else◌, ⊤}
-use Rattle.std.specs.List.{AllByRecursion, list_any}
 use Rattle.std.proofs.lemmas.Bool.Decides.{nat_tests}
 use Rattle.scoop_message.specs.declared.name.Block.{Block}
-use Rattle.scoop_message.specs.declared.name.ClientId.{ClientId}
 use Rattle.scoop_message.specs.declared.name.HandlerId.{HandlerId}
 use Rattle.scoop_message.specs.declared.request.Entry.{Entry}
-use Rattle.scoop_message.specs.declared.request.Answer.{Answer as ObjectAnswer}
 use Rattle.scoop_message.specs.declared.message.Message.{Message}
 use Rattle.scoop_message.specs.declared.message.Message.TheVariants.{Hello, Welcome, Lock, Locked, Busy, Open, Opened, Unlock, Unlocked, Log, Logged, Answer}
 use Rattle.scoop_message.specs.Entries.{ends}
@@ -15,39 +12,32 @@ use Rattle.scoop_message.specs.Message.{same_handler}
 use Rattle.scoop_handler.specs.declared.mark.Mark.{Mark}
 use Rattle.scoop_handler.specs.declared.mark.Stage.{Stage as MarkStage}
 use Rattle.scoop_handler.specs.declared.mark.Stage.TheVariants.{Held as AtHeld, Open as AtOpen, Shut as AtShut}
-use Rattle.scoop_handler.specs.declared.ran.Ran.{Ran}
 use Rattle.scoop_handler.specs.Marks.{is_open, block_of, fresh_mark, mark_of}
-use Rattle.scoop_handler.specs.State.{HandlerState, IsState, is_holder, is_unfinished}
+use Rattle.scoop_handler.specs.State.{HandlerState, IsState, is_holder}
 use Rattle.scoop_handler.specs.Hearing.{Hearing, IsHeardAt}
 use Rattle.scoop_handler.specs.Rows.{Row, unlock_new, unlock_holder, unlock_again, log_answered, log_again, log_taken}
 use Rattle.scoop_handler.proofs.MarkLists.{All-mark_of, mark_of-set_mark_own}
 use Rattle.scoop_handler.proofs.States.{holder_is_newest}
 use Rattle.scoop_handler.proofs.TableRows.{holder_from_test}
 use Rattle.scoop_handler.proofs.TableLaws.{grows-row}
-use Rattle.scoop_reserve.specs.declared.stage.Stage.TheVariants.{GivingUp}
 use Rattle.scoop_reserve.specs.Handlers.{has}
 use Rattle.scoop_reserve.specs.State.{ReservationState}
 use Rattle.scoop_client.specs.Line.{LineState, is_over, line_of, all_over}
-use Rattle.scoop_world.specs.World.{World, Site, Party, number_of, is_site, site_of, party_of, has_block, log_of, greatest_count, ran_at}
-use Rattle.scoop_world.specs.Safe.{HasRun, numbered, untold}
+use Rattle.scoop_world.specs.World.{World, Site, number_of, is_site, has_block, log_of, greatest_count}
 use Rattle.scoop_world.proofs.Events.{by_test}
 use Rattle.scoop_world.proofs.Keys.{number_found}
-use Rattle.scoop_world.proofs.Order.Lists.{same_block_itself}
 use Rattle.scoop_world.proofs.Order.Holding.{IsReachedIn, upto_itself, reached_more}
 use Rattle.scoop_world.proofs.Order.Facts.{SiteFits, Ordered, all_found}
-use Rattle.scoop_world.proofs.Logging.Facts.{LineFits}
 use Rattle.scoop_world.proofs.Logging.Lines.{handlers_at}
-use Rattle.scoop_world.proofs.Logging.Openings.{NoOpen, IsMarkOpened, SiteOpened, ReservationOpened, StageOpened, Openings}
+use Rattle.scoop_world.proofs.Logging.Openings.{NoOpen, IsMarkOpened, SiteOpened, Openings}
 use Rattle.scoop_world.proofs.Rules.Front.{left_has}
-use Rattle.scoop_world.proofs.Rules.Standing.{HasOpen, Standing}
-use Rattle.scoop_world.proofs.Tape.Slots.{Slot, ran_in, ran_of}
+use Rattle.scoop_world.proofs.Rules.Standing.{Standing}
 use Rattle.scoop_world.proofs.Whole.Marks.{MarkTold}
-use Rattle.scoop_world.proofs.Whole.Slots.{SlotWhole}
 use Rattle.scoop_world.proofs.Whole.Facts.{SiteTaped, Taped}
-use Rattle.scoop_calm.proofs.Marked.{MarkFits, MarksFit, TakenAs}
+use Rattle.scoop_calm.proofs.Marked.{MarkFits}
 use Rattle.scoop_calm.proofs.MarkedRuns.{SiteMarked, Marked}
 use Rattle.scoop_calm.proofs.Leaving.{IsReleasedIn, IsOverIn}
-use Rattle.scoop_calm.proofs.Attending.{AtSite, IsOver, IsReleased}
+use Rattle.scoop_calm.proofs.Attending.{IsOver, IsReleased}
 use Rattle.scoop_calm.proofs.AttendingClients.{LinesTold}
 
 -- ---- a block without its lock is over, once nothing is open

@@ -1,6 +1,6 @@
 -- Whatever happens, clients attend to their blocks.
-use Rattle.std.proofs.Common.{◌≡◌, ◌⊎◌, inl, inr, ℕ, zero, suc, ◌+◌, ◌-◌, ◌^◌, ◌<◌, ◌≤◌, ◌==◌, Bool, true, false, true≢false, List, [], ◌∷◌, ◌++◌, length, map, find, Option, Some, None, refl, sym, ap, ◌∙◌, subst, ⊎_elim, arith}
-use Rattle.std.specs.Prelude.{if◌then◌else◌, ⊤, option_to_list}
+use Rattle.std.proofs.Common.{◌≡◌, ◌⊎◌, inl, inr, ℕ, ◌+◌, ◌<◌, ◌≤◌, Bool, true, false, List, [], ◌∷◌, ◌++◌, length, map, find, Option, Some, None, refl, sym, ap, ◌∙◌, subst, ⊎_elim, arith}
+use Rattle.std.specs.Prelude.{if◌then◌else◌, option_to_list}
 use Rattle.std.specs.List.{AllByRecursion}
 use Rattle.std.specs.Option.{option_map_or}
 use Rattle.std.proofs.lemmas.List.Elements.{All-contains, All-from_recursion}
@@ -14,29 +14,23 @@ use Rattle.scoop_message.specs.declared.message.Message.TheVariants.{Hello, Welc
 use Rattle.scoop_message.specs.Message.{handler_of, client_of}
 use Rattle.scoop_handler.specs.declared.ran.Ran.{Ran}
 use Rattle.scoop_handler.specs.Core.{IsCore}
-use Rattle.scoop_handler.specs.State.{HandlerState}
 use Rattle.scoop_handler.specs.Hearing.{Hearing, hear}
-use Rattle.scoop_handler.specs.Running.{Task}
 use Rattle.scoop_handler.proofs.TableRows.{row}
 use Rattle.scoop_handler.proofs.TableLaws.{number-row}
-use Rattle.scoop_reserve.specs.declared.stage.Stage.{Stage}
-use Rattle.scoop_reserve.specs.declared.stage.Stage.TheVariants.{GivingUp}
 use Rattle.scoop_reserve.specs.Handlers.{has}
 use Rattle.scoop_reserve.specs.State.{ReservationState}
-use Rattle.scoop_reserve.specs.Hearing.{is_open}
 use Rattle.scoop_reserve.specs.Due as reserve
-use Rattle.scoop_client.specs.Line.{LineState, first_entries, line_of}
-use Rattle.scoop_client.specs.State.{ClientState}
+use Rattle.scoop_client.specs.Line.{LineState, first_entries}
 use Rattle.scoop_client.specs.Due.{due}
 use Rattle.scoop_client.specs.Hearing.{heard}
 use Rattle.scoop_client.specs.Rows.{DueRow, owes_nothing, greets, reserves, logs}
 use Rattle.scoop_client.proofs.DueRows.{due_row}
 use Rattle.scoop_client.proofs.Rows.{heard_row}
 use Rattle.scoop_world.specs.World.{World, Site, Party, BlockLog, number_of, id_of, is_site, is_party, site_of, party_of, set_site, set_party, sent_at, greatest_count, ran_at}
-use Rattle.scoop_world.specs.Step.{Placement, Newcomer, new_party, opening, newest_block, core_command, commanded_world, with_sent, heard_site, heard_world, heard_party, with_site, with_party, begun_site, finished_site, restarted_party, reopened_world}
+use Rattle.scoop_world.specs.Step.{Placement, Newcomer, opening, newest_block, core_command, commanded_world, with_sent, heard_site, heard_world, heard_party, with_site, begun_site, finished_site, restarted_party, reopened_world}
 use Rattle.scoop_world.specs.Safe.{HasRun, numbered, untold}
 use Rattle.scoop_world.specs.Paper.{inc_of}
-use Rattle.scoop_world.proofs.Events.{Changes, by_test}
+use Rattle.scoop_world.proofs.Events.{Changes}
 use Rattle.scoop_world.proofs.Keys.{by_party, site_put, id_found, number_found}
 use Rattle.scoop_world.proofs.Sound.Owed.{OwedRow, asks, opens, unlocks, gives_back, owed_row}
 use Rattle.scoop_world.proofs.Sound.Facts.{Sound}
@@ -47,8 +41,8 @@ use Rattle.scoop_world.proofs.Order.Clients.{keeps_row}
 use Rattle.scoop_world.proofs.Order.Commands.{goes_on}
 use Rattle.scoop_world.proofs.Logging.Facts.{LinesFit, PartyLogs, Logging}
 use Rattle.scoop_world.proofs.Logging.Lines.{line_handler, found_has}
-use Rattle.scoop_world.proofs.Logging.Greetings.{inc_there, place}
-use Rattle.scoop_world.proofs.Logging.Openings.{NoOpen, ReservationOpened, StageOpened, Openings}
+use Rattle.scoop_world.proofs.Logging.Greetings.{place}
+use Rattle.scoop_world.proofs.Logging.Openings.{StageOpened, Openings}
 use Rattle.scoop_world.proofs.Logging.OpeningClients.{unlocking_is}
 use Rattle.scoop_world.proofs.Logging.OpeningSteps.{none_reserved}
 use Rattle.scoop_world.proofs.Answering.Facts.{TellsAnswer, Answering}
@@ -63,8 +57,8 @@ use Rattle.scoop_calm.proofs.Reserving.{Reserves}
 use Rattle.scoop_calm.proofs.Clients.{ClientFits, PartyFitsWell, AllFit}
 use Rattle.scoop_calm.proofs.MarkedRuns.{Marked}
 use Rattle.scoop_calm.proofs.Leaving.{IsReleasedIn, IsOverIn, over-row, released-row, over-after, released-after}
-use Rattle.scoop_calm.proofs.Attending.{AtSite, at_set, at_anew, IsOver, IsReleased, AskedAt, Goes, AtWork, Attended, Attends, ClientAttends, PartyAttends, Attending, Onto, attends_more, messages_more, client_more, counts_more, told_count, work_set, parties_set}
-use Rattle.scoop_calm.proofs.AttendingClients.{Follows, Around, heard_follows}
+use Rattle.scoop_calm.proofs.Attending.{at_set, at_anew, IsOver, IsReleased, AskedAt, Goes, Attended, Attends, PartyAttends, Attending, Onto, attends_more, messages_more, client_more, counts_more, told_count, work_set, parties_set}
+use Rattle.scoop_calm.proofs.AttendingClients.{Around, heard_follows}
 use Rattle.scoop_calm.proofs.AttendingCommands.{command_follows}
 use Rattle.scoop_calm.proofs.AttendingFacts.{over_given, over_ended, TellsReleased, IsLogTo, released-reply}
 

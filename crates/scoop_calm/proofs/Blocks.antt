@@ -1,35 +1,30 @@
 -- The earliest block that has a private queue gets on; and where none has one, every block that is past locking does.
-use Rattle.std.proofs.Common.{◌≡◌, ◌⊎◌, inl, inr, ℕ, ◌+◌, ◌<◌, ◌≤◌, ◌==◌, ◌&&◌, ◌||◌, not, Bool, true, false, true≢false, IsTrue, List, [], ◌∷◌, ◌++◌, length, map, find, Option, Some, None, refl, sym, ap, ◌∙◌, subst, ⊎_elim, arith}
+use Rattle.std.proofs.Common.{◌≡◌, ◌⊎◌, inl, inr, ◌≤◌, ◌==◌, ◌&&◌, ◌||◌, Bool, true, false, true≢false, List, [], ◌∷◌, length, map, find, Option, Some, None, refl, sym, ap, ◌∙◌, subst, ⊎_elim, arith}
 use Rattle.std.specs.Prelude.{if◌then◌else◌, is_some}
 use Rattle.std.specs.List.{list_any, AllByRecursion}
 use Rattle.std.specs.Option.{option_map_or}
-use Rattle.std.proofs.lemmas.Bool.Decides.{nat_tests}
 use Rattle.scoop_message.specs.declared.limits.TheConstants.{MAX_QUEUES}
 use Rattle.scoop_message.specs.declared.name.Block.{Block}
 use Rattle.scoop_message.specs.declared.name.ClientId.{ClientId}
 use Rattle.scoop_message.specs.declared.name.HandlerId.{HandlerId}
-use Rattle.scoop_message.specs.declared.request.Entry.{Entry}
 use Rattle.scoop_message.specs.Entries.{ends}
 use Rattle.scoop_message.specs.Message.{same_block, same_handler}
-use Rattle.scoop_message.proofs.Same.{handler_decides, block_decides}
+use Rattle.scoop_message.proofs.Same.{handler_decides}
 use Rattle.scoop_queue.specs.declared.state.QueueState.{QueueState}
 use Rattle.scoop_queue.specs.declared.state.QueueState.TheVariants.{Open, Ended, Cut}
-use Rattle.scoop_queue.specs.Queue.{PrivateQueue, is_open as takes_more, is_ended, is_cut, is_queue_of, queue_of, has_queue, front}
+use Rattle.scoop_queue.specs.Queue.{PrivateQueue, is_open as takes_more, is_ended, is_cut, is_queue_of, queue_of, has_queue}
 use Rattle.scoop_queue.specs.Sound.{IsQueue}
-use Rattle.scoop_queue.proofs.Found.{block-found}
 use Rattle.scoop_handler.specs.declared.mark.Mark.{Mark}
 use Rattle.scoop_handler.specs.declared.mark.Stage.{Stage as MarkStage}
 use Rattle.scoop_handler.specs.declared.mark.Stage.TheVariants.{Held as AtHeld, Open as AtOpen, Shut as AtShut}
-use Rattle.scoop_handler.specs.Core.{IsCore}
 use Rattle.scoop_handler.specs.Marks.{is_open, block_of, mark_of}
-use Rattle.scoop_handler.specs.State.{HandlerState, HasMark, FitsMark, is_holder, is_unfinished}
-use Rattle.scoop_handler.proofs.MarkLists.{All-mark_of, mark_of-client}
+use Rattle.scoop_handler.proofs.MarkLists.{All-mark_of}
 use Rattle.scoop_reserve.specs.declared.stage.Stage.{Stage}
 use Rattle.scoop_reserve.specs.declared.stage.Stage.TheVariants.{Locking, Opening, Unlocking, GivingUp}
 use Rattle.scoop_reserve.specs.Handlers.{has, is_empty}
-use Rattle.scoop_reserve.specs.Hearing.{is_gone, is_given_up_in}
+use Rattle.scoop_reserve.specs.Hearing.{is_given_up_in}
 use Rattle.scoop_reserve.specs.State.{ReservationState}
-use Rattle.scoop_world.specs.World.{World, Site, Party, number_of, id_of, is_site, site_of, party_of, has_block}
+use Rattle.scoop_world.specs.World.{World, Site, Party, number_of, id_of, site_of, party_of}
 use Rattle.scoop_world.specs.Step.{Placement}
 use Rattle.scoop_world.specs.Reach.{IsReached}
 use Rattle.scoop_world.specs.Paper.{inc_of}
@@ -38,26 +33,23 @@ use Rattle.scoop_world.proofs.Keys.{id_found}
 use Rattle.scoop_world.proofs.Reaching.{sites_apart, sites_placed}
 use Rattle.scoop_world.proofs.Order.Lists.{same_block_itself}
 use Rattle.scoop_world.proofs.Order.Holding.{IsHeldIn}
-use Rattle.scoop_world.proofs.Order.Facts.{SiteFits, all_found}
+use Rattle.scoop_world.proofs.Order.Facts.{SiteFits}
 use Rattle.scoop_world.proofs.Logging.Greetings.{IsMarkUpto, MarksUpto}
-use Rattle.scoop_world.proofs.Logging.Openings.{NoOpen, IsMarkOpened, SiteOpened, StageOpened}
+use Rattle.scoop_world.proofs.Logging.Openings.{NoOpen, IsMarkOpened, SiteOpened}
 use Rattle.scoop_world.proofs.Knowing.Facts.{PartyKnown}
 use Rattle.scoop_world.proofs.Rules.Front.{left_has}
-use Rattle.scoop_world.proofs.Whole.Facts.{SiteTaped}
 use Rattle.scoop_calm.proofs.Resting.{IsSettled, HasGivenBack, GaveBack}
-use Rattle.scoop_calm.proofs.Totals.{Member, each_or, all_member, distinct, member_found, found_member}
+use Rattle.scoop_calm.proofs.Totals.{Member, all_member, distinct, member_found, found_member}
 use Rattle.scoop_calm.proofs.Handlers.{Filled, none, some, filled, has_head}
 use Rattle.scoop_calm.proofs.Reserving.{IsSettingOut, opens}
 use Rattle.scoop_calm.proofs.Engine.{Useful}
 use Rattle.scoop_calm.proofs.Marked.{MarkFits}
 use Rattle.scoop_calm.proofs.MarkedRuns.{SiteMarked}
-use Rattle.scoop_calm.proofs.Attending.{Goes, AskedAt}
-use Rattle.scoop_calm.proofs.AtMark.{MarkAt, mark_at, at_work}
-use Rattle.scoop_calm.proofs.Unlocking.{block_fits, own_lines}
+use Rattle.scoop_calm.proofs.AtMark.{MarkAt, mark_at}
+use Rattle.scoop_calm.proofs.Unlocking.{block_fits}
 use Rattle.scoop_calm.proofs.Opening.{open_useful}
 use Rattle.scoop_calm.proofs.Waiting.{IsIdleIn}
 use Rattle.scoop_calm.proofs.RunningClients.{run_useful}
-use Rattle.scoop_calm.proofs.Earliest.{Before, left_before, next_before, First, first_or, opened_queue, order_of, first_empty}
 use Rattle.scoop_calm.proofs.Everything.{Everything}
 use Rattle.scoop_calm.proofs.Clearing.{party_found}
 

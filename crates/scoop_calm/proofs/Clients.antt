@@ -1,6 +1,6 @@
 -- What is so of every client: whom it greets, how its reservation stands, and what its lines have left.
-use Rattle.std.proofs.Common.{◌≡◌, ◌⊎◌, inl, inr, ℕ, ◌+◌, ◌-◌, ◌^◌, ◌<◌, ◌≤◌, ◌==◌, ◌&&◌, Bool, true, false, true≢false, List, [], ◌∷◌, length, map, Option, Some, None, refl, sym, ap, ◌∙◌, subst, ⊎_elim, arith}
-use Rattle.std.specs.Prelude.{if◌then◌else◌, Ok, Err}
+use Rattle.std.proofs.Common.{◌≡◌, ℕ, ◌+◌, ◌<◌, ◌≤◌, ◌==◌, true, false, true≢false, List, [], ◌∷◌, length, map, Option, Some, None, refl, sym, ◌∙◌, subst, arith}
+use Rattle.std.specs.Prelude.{if◌then◌else◌, Ok}
 use Rattle.std.specs.List.{AllByRecursion}
 use Rattle.std.proofs.lemmas.Bool.Decides.{nat_tests}
 use Rattle.scoop_message.specs.declared.name.HandlerId.{HandlerId}
@@ -9,7 +9,7 @@ use Rattle.scoop_message.specs.declared.request.Entry.TheVariants.{Call, Query}
 use Rattle.scoop_message.specs.declared.message.Message.{Message}
 use Rattle.scoop_message.specs.Entry.{is_query}
 use Rattle.scoop_message.specs.Message.{client_of}
-use Rattle.scoop_reserve.specs.Handlers.{has, without, is_empty}
+use Rattle.scoop_reserve.specs.Handlers.{has, is_empty}
 use Rattle.scoop_reserve.specs.State.{ReservationState}
 use Rattle.scoop_reserve.specs.Hearing.{is_gone}
 use Rattle.scoop_reserve.specs.Hearing as reservation
@@ -18,12 +18,10 @@ use Rattle.scoop_reserve.specs.declared.stage.Step.{Step}
 use Rattle.scoop_reserve.specs.declared.stage.Step.TheVariants as step
 use Rattle.scoop_reserve.proofs.Rows.{heard_row as step_row}
 use Rattle.scoop_client.specs.declared.phase.ClientNote.{ClientNote}
-use Rattle.scoop_client.specs.declared.phase.Phase.{Phase}
-use Rattle.scoop_client.specs.declared.phase.Phase.TheVariants.{Greeting, Idle, Locking, Opening, Running, Ending, GivingUp}
-use Rattle.scoop_client.specs.Line.{LineState, logged, with_entry, with_end, acknowledged, line_of, at_line, is_ended, all_over}
-use Rattle.scoop_client.specs.State.{ClientState, phase_of, phase_of_block, phase_at, with_left, with_lines, with_reservation, idle}
-use Rattle.scoop_client.specs.Beginning.{greeting}
-use Rattle.scoop_client.specs.Hearing.{heard, stepped, after_step, settled, up_to}
+use Rattle.scoop_client.specs.declared.phase.Phase.TheVariants.{Greeting, Idle}
+use Rattle.scoop_client.specs.Line.{LineState, logged, with_entry, with_end, acknowledged, at_line, all_over}
+use Rattle.scoop_client.specs.State.{ClientState, phase_of, phase_of_block, with_lines, with_reservation, idle}
+use Rattle.scoop_client.specs.Hearing.{heard, stepped, after_step, up_to}
 use Rattle.scoop_client.specs.Commands.{Command, Outcome, command, Reserve, DoCall, DoQuery, DoEnd, GiveUp, next_block, with_block, waits_for}
 use Rattle.scoop_client.specs.Rows.{HeardRow, passed_over, is_welcomed, takes_step, is_acknowledged, is_accepted, ReserveRow, begins_block, LogRow, is_logged, EndRow, ends_block, GiveUpRow, gives_up}
 use Rattle.scoop_client.proofs.Rows.{heard_row}
@@ -34,7 +32,7 @@ use Rattle.scoop_world.proofs.Events.{Changes, by_test}
 use Rattle.scoop_world.proofs.Order.Clients.{has_without}
 use Rattle.scoop_world.proofs.Order.Commands.{started_fresh}
 use Rattle.scoop_world.proofs.Order.Facts.{all_found, all_set_party}
-use Rattle.scoop_world.proofs.Logging.Commands.{IsRunning, running_is}
+use Rattle.scoop_world.proofs.Logging.Commands.{running_is}
 use Rattle.scoop_calm.proofs.Reserving.{Reserves, fresh_reserves, heard_reserves, give_up_reserves}
 use Rattle.scoop_calm.proofs.LinesGo.{LinesGo, fresh_go, logged_go, ended_go, counted_go, answered_go}
 

@@ -1,12 +1,12 @@
 -- What a client does with a count: it is passed over, or the client has less to do.
-use Rattle.std.proofs.Common.{◌≡◌, ◌⊎◌, inl, inr, ℕ, ◌+◌, ◌-◌, ◌<◌, ◌≤◌, ◌==◌, ◌&&◌, ◌||◌, min, Bool, true, false, true≢false, nat_le, nat_lt, List, [], ◌∷◌, length, drop, Option, Some, None, refl, sym, ap, ◌∙◌, subst, arith, length-drop}
+use Rattle.std.proofs.Common.{◌≡◌, ℕ, ◌+◌, ◌-◌, ◌<◌, ◌≤◌, ◌==◌, ◌&&◌, ◌||◌, Bool, true, false, true≢false, nat_le, nat_lt, List, [], ◌∷◌, length, drop, Option, Some, None, refl, sym, ap, ◌∙◌, arith, length-drop}
 use Rattle.std.specs.Prelude.{if◌then◌else◌}
 use Rattle.std.proofs.lemmas.Bool.Decides.{nat_tests}
 use Rattle.scoop_message.specs.declared.name.Block.{Block}
 use Rattle.scoop_message.specs.declared.name.HandlerId.{HandlerId}
 use Rattle.scoop_message.specs.declared.request.Answer.{Answer as ObjectAnswer}
 use Rattle.scoop_message.specs.declared.message.Message.TheVariants.{Logged, Answer}
-use Rattle.scoop_message.specs.Message.{same_block, same_handler}
+use Rattle.scoop_message.specs.Message.{same_handler}
 use Rattle.scoop_message.proofs.Same.{handler_decides}
 use Rattle.scoop_reserve.specs.Hearing.{is_open}
 use Rattle.scoop_reserve.specs.State.{ReservationState}

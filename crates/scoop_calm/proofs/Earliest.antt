@@ -1,18 +1,16 @@
 -- The earliest block of the common list that has a private queue is first wherever it has one.
-use Rattle.std.proofs.Common.{◌≡◌, ◌⊎◌, inl, inr, ℕ, zero, suc, ◌||◌, Bool, true, false, true≢false, List, [], ◌∷◌, ◌++◌, map, find, Option, Some, None, refl, sym, ap, ◌∙◌, subst, ⊎_elim}
-use Rattle.std.specs.Prelude.{if◌then◌else◌, is_some}
-use Rattle.std.specs.List.{list_any, AllByRecursion}
+use Rattle.std.proofs.Common.{◌≡◌, ◌⊎◌, inl, inr, ◌||◌, Bool, true, false, true≢false, List, [], ◌∷◌, ◌++◌, Option, Some, None, refl, sym, ap, ◌∙◌, subst, ⊎_elim}
 use Rattle.scoop_message.specs.declared.name.Block.{Block}
 use Rattle.scoop_message.specs.declared.request.Entry.{Entry}
 use Rattle.scoop_message.specs.Message.{same_block}
 use Rattle.scoop_queue.specs.Queue.{PrivateQueue, first_of, front}
 use Rattle.scoop_queue.specs.declared.state.QueueState.{QueueState}
-use Rattle.scoop_world.specs.World.{World, Site, has_block}
+use Rattle.scoop_world.specs.World.{has_block}
 use Rattle.scoop_world.specs.Safe.{IsSubsequence, nothing, left_out, taken}
 use Rattle.scoop_world.proofs.Events.{by_test}
 use Rattle.scoop_world.proofs.Order.Lists.{AreApart, same_block_is, same_block_itself}
 use Rattle.scoop_world.proofs.Rules.Front.{left_has}
-use Rattle.scoop_world.proofs.Tape.Slots.{Slot, slot_queue, queue_in, queue_at, queues_of, blocks_of}
+use Rattle.scoop_world.proofs.Tape.Slots.{Slot, slot_queue, queue_at, queues_of, blocks_of}
 use Rattle.scoop_calm.proofs.Totals.{Member}
 
 -- ---- which block comes before which

@@ -1,21 +1,18 @@
 -- A client that waits for no answer, and has room in its windows, can end its block.
-use Rattle.std.proofs.Common.{◌≡◌, ℕ, ◌+◌, ◌<◌, ◌≤◌, ◌||◌, Bool, true, false, true≢false, List, [], ◌∷◌, ◌++◌, length, map, Option, Some, None, refl, sym, ap, ◌∙◌, subst, arith, length-append}
+use Rattle.std.proofs.Common.{◌≡◌, ℕ, ◌+◌, ◌<◌, ◌||◌, Bool, true, false, true≢false, List, [], ◌∷◌, length, map, Some, None, refl, ap, ◌∙◌, arith, length-append}
 use Rattle.std.specs.Prelude.{if◌then◌else◌, Ok}
-use Rattle.std.specs.List.{AllByRecursion}
 use Rattle.scoop_message.specs.declared.request.Entry.TheVariants.{End as EndEntry}
 use Rattle.scoop_reserve.specs.declared.stage.Stage.TheVariants.{Unlocking}
 use Rattle.scoop_reserve.specs.Handlers.{is_empty}
 use Rattle.scoop_reserve.specs.State.{ReservationState}
-use Rattle.scoop_client.specs.declared.phase.Phase.TheVariants.{Greeting, Running, Ending}
+use Rattle.scoop_client.specs.declared.phase.Phase.TheVariants.{Greeting, Running}
 use Rattle.scoop_client.specs.Line.{LineState, with_end, is_ended, lowest_full}
 use Rattle.scoop_client.specs.State.{ClientState, phase_of, phase_of_block, phase_at}
 use Rattle.scoop_client.specs.Commands.{command, DoEnd, end_block, end_unless_waiting, end_unless_full, with_ends}
 use Rattle.scoop_world.specs.World.{World, Party, id_of, party_of}
 use Rattle.scoop_world.specs.Reach.{IsReached}
-use Rattle.scoop_world.proofs.Events.{by_test}
-use Rattle.scoop_calm.proofs.LinesGo.{LinesGo}
 use Rattle.scoop_calm.proofs.Clients.{BlockFits}
-use Rattle.scoop_calm.proofs.Measures.{client_work, block_work, stage_work, lines_work, line_work, wait_work, Less, for_clients, parties_total}
+use Rattle.scoop_calm.proofs.Measures.{client_work, block_work, stage_work, lines_work, line_work, wait_work, for_clients, parties_total}
 use Rattle.scoop_calm.proofs.Engine.{Useful}
 use Rattle.scoop_calm.proofs.Moves.{end_useful}
 

@@ -1,5 +1,5 @@
 -- From a world in which something useful can always be done, unless it rests, events lead to one that rests.
-use Rattle.std.proofs.Common.{◌≡◌, ◌⊎◌, inl, inr, ℕ, zero, suc, ◌<◌, ◌≤◌, List, [], ◌∷◌, refl, ⊎_elim, arith}
+use Rattle.std.proofs.Common.{◌⊎◌, ℕ, zero, suc, ◌<◌, ◌≤◌, List, [], ⊎_elim, arith}
 use Rattle.scoop_world.specs.declared.event.Event.{Event}
 use Rattle.scoop_world.specs.World.{World}
 use Rattle.scoop_world.specs.Reach.{IsReached}

@@ -1,11 +1,10 @@
 -- All that is so of every world that is reached.
-use Rattle.std.proofs.Common.{◌≡◌, true, false, true≢false, List, [], ◌∷◌, map, refl, sym, ap, ◌∙◌, subst}
+use Rattle.std.proofs.Common.{true≢false, List, [], ◌∷◌, map, refl, sym, ap, ◌∙◌, subst}
 use Rattle.scoop_message.specs.declared.name.HandlerId.{HandlerId}
 use Rattle.std.specs.List.{AllByRecursion}
 use Rattle.scoop_world.specs.World.{World, Site}
 use Rattle.scoop_world.specs.Step.{Placement, Newcomer, new_party, opening}
-use Rattle.scoop_world.specs.Opening.{MayOpen}
-use Rattle.scoop_world.specs.Reach.{Run, steps, IsReached}
+use Rattle.scoop_world.specs.Reach.{Run, IsReached}
 use Rattle.scoop_world.proofs.Events.{Changes, steps_kept}
 use Rattle.scoop_world.proofs.Sound.Runs.{both_kept}
 use Rattle.scoop_world.proofs.Order.Lists.{AreApart}

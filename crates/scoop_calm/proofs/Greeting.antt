@@ -1,48 +1,40 @@
 -- A client that a handler hasn't welcomed can greet it.
-use Rattle.std.proofs.Common.{◌≡◌, ◌⊎◌, inl, inr, ℕ, zero, suc, ◌+◌, ◌-◌, ◌<◌, ◌≤◌, ◌==◌, ◌&&◌, ◌||◌, not, Bool, true, false, true≢false, nat_lt, List, [], ◌∷◌, ◌++◌, length, map, filter, find, Option, Some, None, refl, sym, ap, ◌∙◌, subst, ⊎_elim, arith}
+use Rattle.std.proofs.Common.{◌≡◌, ℕ, ◌≤◌, ◌==◌, ◌&&◌, true, false, nat_lt, length, map, Option, Some, None, refl, sym, ap, ◌∙◌, arith}
 use Rattle.std.specs.Prelude.{if◌then◌else◌}
-use Rattle.std.specs.List.{AllByRecursion}
-use Rattle.std.specs.Option.{option_map_or}
 use Rattle.std.proofs.lemmas.Bool.Decides.{nat_tests}
-use Rattle.std.proofs.lemmas.Bool.{eqb-true, eq-eqb}
+use Rattle.std.proofs.lemmas.Bool.{eq-eqb}
 use Rattle.scoop_message.specs.declared.limits.TheConstants.{MAX_CLIENTS}
 use Rattle.scoop_message.specs.declared.name.ClientId.{ClientId}
 use Rattle.scoop_message.specs.declared.name.HandlerId.{HandlerId}
-use Rattle.scoop_message.specs.declared.message.Message.{Message}
 use Rattle.scoop_message.specs.declared.message.Message.TheVariants.{Hello, Welcome}
-use Rattle.scoop_message.specs.Message.{same_client, same_handler}
-use Rattle.scoop_message.proofs.Same.{handler_decides, client_decides}
+use Rattle.scoop_message.specs.Message.{same_client}
+use Rattle.scoop_message.proofs.Same.{client_decides}
 use Rattle.scoop_handler.specs.declared.mark.Mark.{Mark}
-use Rattle.scoop_handler.specs.declared.note.Note.{Note}
 use Rattle.scoop_handler.specs.declared.note.Note.TheVariants.{Greeted, Known}
 use Rattle.scoop_handler.specs.Marks.{mark_of}
-use Rattle.scoop_handler.specs.State.{HandlerState, IsAscending}
+use Rattle.scoop_handler.specs.State.{HandlerState}
 use Rattle.scoop_handler.specs.Core.{IsCore}
 use Rattle.scoop_handler.specs.declared.note.Reason.TheVariants.{WrongHandler, TooManyClients, Stale}
-use Rattle.scoop_handler.specs.Hearing.{Hearing, hear, hear_hello, dropped, known, greeted_first, greeted_newer, with_mark, with_incarnation, greeting_mark}
-use Rattle.scoop_handler.proofs.MarkLists.{All-mark_of, mark_of-client, client_from_same}
-use Rattle.scoop_handler.proofs.After.{All-found}
+use Rattle.scoop_handler.specs.Hearing.{hear_hello, dropped, known, greeted_first, greeted_newer, with_mark, with_incarnation, greeting_mark}
+use Rattle.scoop_handler.proofs.MarkLists.{All-mark_of, mark_of-client}
 use Rattle.scoop_reserve.specs.Handlers.{has, without}
 use Rattle.scoop_client.specs.declared.phase.ClientNote.TheVariants.{Welcomed}
 use Rattle.scoop_client.specs.State.{ClientState, with_left}
-use Rattle.scoop_client.specs.Due.{due, due_in_block}
-use Rattle.scoop_client.specs.Hearing.{Notice, heard, hear_welcome, ignored}
-use Rattle.scoop_world.specs.World.{World, Site, Party, number_of, id_of, is_site, is_party, site_of, party_of, set_party}
-use Rattle.scoop_world.specs.Step.{Placement, heard_party}
+use Rattle.scoop_client.specs.Due.{due_in_block}
+use Rattle.scoop_client.specs.Hearing.{heard, hear_welcome, ignored}
+use Rattle.scoop_world.specs.World.{World, Site, Party, number_of, id_of, is_site, is_party, site_of, party_of}
+use Rattle.scoop_world.specs.Step.{Placement}
 use Rattle.scoop_world.specs.Reach.{IsReached}
 use Rattle.scoop_world.specs.Paper.{inc_of}
 use Rattle.scoop_world.proofs.Events.{by_test}
 use Rattle.scoop_world.proofs.Keys.{number_found}
-use Rattle.scoop_world.proofs.Reaching.{sites_placed, parties_apart}
+use Rattle.scoop_world.proofs.Reaching.{sites_placed}
 use Rattle.scoop_world.proofs.Order.Facts.{all_found}
-use Rattle.scoop_world.proofs.Logging.Greetings.{IsMarkUpto, MarksUpto, Greetings, inc_there, place}
+use Rattle.scoop_world.proofs.Logging.Greetings.{IsMarkUpto, MarksUpto, inc_there, place}
 use Rattle.scoop_world.proofs.Knowing.Facts.{PartyKnown}
-use Rattle.scoop_calm.proofs.Totals.{Member, total, distinct, member_found, has_key}
 use Rattle.scoop_calm.proofs.Handlers.{itself, less_without}
 use Rattle.scoop_calm.proofs.Clients.{PartyFitsWell}
-use Rattle.scoop_calm.proofs.Marked.{MarkFits}
 use Rattle.scoop_calm.proofs.MarkedRuns.{SiteMarked}
-use Rattle.scoop_calm.proofs.Measures.{client_work, Less, for_clients, parties_total}
 use Rattle.scoop_calm.proofs.Engine.{Useful}
 use Rattle.scoop_calm.proofs.Room.{has_room}
 use Rattle.scoop_calm.proofs.Talk.{Replies, asks_useful, site_there}

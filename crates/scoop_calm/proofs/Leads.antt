@@ -1,5 +1,5 @@
 -- Events by which a world settles are a list of events, none of which is refused.
-use Rattle.std.proofs.Common.{◌≡◌, ℕ, ◌+◌, List, [], ◌∷◌, length, refl, sym, ap, ◌∙◌, subst, arith}
+use Rattle.std.proofs.Common.{◌≡◌, ℕ, ◌+◌, List, [], ◌∷◌, length, ap, ◌∙◌, arith}
 use Rattle.std.specs.Prelude.{Some, Ok}
 use Rattle.scoop_world.specs.declared.event.Event.{Event}
 use Rattle.scoop_world.specs.declared.event.Event.TheVariants.{Do, Tick, Take, Begin, Finish}

@@ -1,6 +1,6 @@
 -- What a handler keeps of a block that its client has left: the lock is given back, and nothing of it is unfinished.
 -- Both stay so, whatever comes.
-use Rattle.std.proofs.Common.{◌≡◌, ◌⊎◌, inl, inr, ℕ, ◌<◌, ◌≤◌, ◌&&◌, ◌||◌, not, Bool, true, false, true≢false, List, map, Option, Some, None, refl, sym, ap, ◌∙◌, subst, ⊎_elim, arith}
+use Rattle.std.proofs.Common.{◌≡◌, ◌&&◌, ◌||◌, not, Bool, true, false, true≢false, List, map, Option, Some, None, refl, sym, ap, ◌∙◌, subst, arith}
 use Rattle.std.specs.Prelude.{if◌then◌else◌}
 use Rattle.std.specs.Option.{option_map}
 use Rattle.scoop_message.specs.declared.name.Block.{Block}
@@ -10,16 +10,15 @@ use Rattle.scoop_message.specs.Entries.{last_number}
 use Rattle.scoop_message.specs.Message.{same_block, same_client}
 use Rattle.scoop_message.proofs.Same.{client_decides}
 use Rattle.scoop_handler.specs.declared.mark.Mark.{Mark}
-use Rattle.scoop_handler.specs.declared.mark.Stage.{Stage}
 use Rattle.scoop_handler.specs.declared.mark.Stage.TheVariants.{Held as AtHeld, Open as AtOpen, Shut as AtShut}
 use Rattle.scoop_handler.specs.declared.ran.Ran.{Ran}
-use Rattle.scoop_handler.specs.Marks.{is_held, is_open, block_of, fresh_mark, opened_mark, with_received, without_hold, mark_of, set_mark, add_mark}
+use Rattle.scoop_handler.specs.Marks.{is_open, block_of, fresh_mark, opened_mark, with_received, without_hold, mark_of, set_mark}
 use Rattle.scoop_handler.specs.State.{HandlerState, IsState, is_holder, is_unfinished}
-use Rattle.scoop_handler.specs.Hearing.{Hearing, IsHeardAt, greeting_mark, holder_without}
+use Rattle.scoop_handler.specs.Hearing.{Hearing, greeting_mark, holder_without}
 use Rattle.scoop_handler.specs.Running.{Task, mark_after, after, ran_of}
 use Rattle.scoop_handler.specs.Growing.{MarksGrow}
-use Rattle.scoop_handler.specs.Rows.{Row, IsLogAt, first_greeting, newer_greeting, lock_granted, open_granted, unlock_new, unlock_holder, log_taken}
-use Rattle.scoop_handler.proofs.MarkLists.{mark_of-client, mark_of-set_mark_own, mark_of-set_mark_other, mark_of-add_mark_other, client_from_same, same_client-refl}
+use Rattle.scoop_handler.specs.Rows.{Row, first_greeting, newer_greeting, lock_granted, open_granted, unlock_new, unlock_holder, log_taken}
+use Rattle.scoop_handler.proofs.MarkLists.{mark_of-client, mark_of-set_mark_own, mark_of-set_mark_other, mark_of-add_mark_other, client_from_same}
 use Rattle.scoop_handler.proofs.After.{mark_of-after, MarksGrow-after}
 use Rattle.scoop_handler.proofs.Beside.{apart_blocks}
 use Rattle.scoop_handler.proofs.States.{roomy}

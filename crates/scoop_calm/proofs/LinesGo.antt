@@ -1,18 +1,17 @@
 -- What is so of a client's lines while it has a block: something of the block is still to be acknowledged, and each
 -- query that isn't acknowledged is the one that waits.
-use Rattle.std.proofs.Common.{◌≡◌, ◌⊎◌, inl, inr, ℕ, zero, suc, ◌+◌, ◌-◌, ◌<◌, ◌≤◌, ◌==◌, ◌&&◌, ◌||◌, not, Bool, true, false, true≢false, min, List, [], ◌∷◌, ◌++◌, length, drop, map, find, slice_get, Option, Some, None, refl, sym, ap, ◌∙◌, subst, ⊎_elim, arith, length-append}
+use Rattle.std.proofs.Common.{◌≡◌, ◌⊎◌, inl, inr, ℕ, zero, suc, ◌+◌, ◌<◌, ◌≤◌, ◌==◌, ◌&&◌, ◌||◌, Bool, true, false, true≢false, List, [], ◌∷◌, ◌++◌, length, drop, map, slice_get, Option, Some, None, refl, sym, ap, ◌∙◌, subst, ⊎_elim, arith, length-append}
 use Rattle.std.specs.Prelude.{if◌then◌else◌}
 use Rattle.std.specs.List.{AllByRecursion}
 use Rattle.std.proofs.lemmas.Bool.Decides.{nat_tests}
 use Rattle.scoop_message.specs.declared.name.HandlerId.{HandlerId}
 use Rattle.scoop_message.specs.declared.request.Entry.{Entry}
-use Rattle.scoop_message.specs.declared.request.Entry.TheVariants.{Call, Query, End}
-use Rattle.scoop_message.specs.declared.request.Request.{Request}
+use Rattle.scoop_message.specs.declared.request.Entry.TheVariants.{End}
 use Rattle.scoop_message.specs.Entry.{is_query}
 use Rattle.scoop_message.specs.Message.{same_handler}
-use Rattle.scoop_client.specs.Line.{LineState, fresh_line, logged, with_entry, with_end, newly, acknowledged, is_over, line_of, at_line, is_ended, all_over}
+use Rattle.scoop_client.specs.Line.{LineState, fresh_line, with_entry, with_end, newly, acknowledged, line_of, at_line, is_ended, all_over}
 use Rattle.scoop_world.proofs.Events.{by_test}
-use Rattle.scoop_world.proofs.Logging.Lines.{StaysAt, by_line, by_all, fresh_found, line_handler}
+use Rattle.scoop_world.proofs.Logging.Lines.{StaysAt, by_line, by_all, fresh_found}
 
 -- each query of the line that isn't acknowledged is the one that waits
 abbrev pub IsAwaited : Option (HandlerId × ℕ) → HandlerId → LineState → Type 0

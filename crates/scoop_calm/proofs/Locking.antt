@@ -1,27 +1,24 @@
 -- Where every client is idle or locks, one of them gets the lock that it asks for: of those that hold locks, each asks
 -- for a higher one than it holds.
-use Rattle.std.proofs.Common.{◌≡◌, ◌⊎◌, inl, inr, ℕ, zero, suc, ◌+◌, ◌<◌, ◌≤◌, ◌==◌, ◌&&◌, ◌||◌, not, Bool, true, false, true≢false, nat_lt, List, [], ◌∷◌, length, map, Option, Some, None, refl, sym, ap, ◌∙◌, subst, ⊎_elim, arith}
+use Rattle.std.proofs.Common.{◌≡◌, ◌⊎◌, inl, inr, ℕ, zero, suc, ◌+◌, ◌<◌, ◌≤◌, ◌&&◌, ◌||◌, not, true, false, true≢false, nat_lt, List, [], ◌∷◌, length, map, Option, Some, None, refl, sym, ap, ◌∙◌, subst, ⊎_elim, arith}
 use Rattle.std.specs.Prelude.{if◌then◌else◌, is_none}
 use Rattle.std.specs.List.{AllByRecursion}
 use Rattle.std.specs.Option.{option_map_or}
 use Rattle.std.proofs.lemmas.Bool.Decides.{nat_tests}
 use Rattle.scoop_message.specs.declared.name.Block.{Block}
 use Rattle.scoop_message.specs.declared.name.HandlerId.{HandlerId}
-use Rattle.scoop_message.specs.declared.message.Message.{Message}
 use Rattle.scoop_message.specs.declared.message.Message.TheVariants.{Lock, Locked, Busy, Unlock}
-use Rattle.scoop_message.specs.Message.{same_block, same_handler}
-use Rattle.scoop_message.proofs.Same.{handler_decides}
+use Rattle.scoop_message.specs.Message.{same_block}
 use Rattle.scoop_handler.specs.declared.mark.Mark.{Mark}
 use Rattle.scoop_handler.specs.declared.mark.Stage.{Stage as MarkStage}
 use Rattle.scoop_handler.specs.declared.mark.Stage.TheVariants.{Held as AtHeld, Open as AtOpen, Shut as AtShut}
 use Rattle.scoop_handler.specs.declared.note.Note.TheVariants.{Granted, Held as HeldNote, Known}
 use Rattle.scoop_handler.specs.declared.note.Reason.TheVariants.{Stale}
 use Rattle.scoop_handler.specs.Core.{IsCore}
-use Rattle.scoop_handler.specs.Marks.{is_held, is_open, is_shut, block_of, fresh_mark, mark_of}
+use Rattle.scoop_handler.specs.Marks.{is_held, is_open, block_of, fresh_mark, mark_of}
 use Rattle.scoop_handler.specs.State.{HandlerState, HolderIsUnderWay, is_holder, is_unfinished}
 use Rattle.scoop_handler.specs.Hearing.{is_new, hear_lock, dropped, replied, known, granted, moved}
 use Rattle.scoop_handler.proofs.MarkLists.{All-mark_of, mark_of-client}
-use Rattle.scoop_reserve.specs.declared.stage.Stage.{Stage}
 use Rattle.scoop_reserve.specs.declared.stage.Stage.TheVariants.{Locking, Opening, GivingUp}
 use Rattle.scoop_reserve.specs.declared.stage.Step.{Step}
 use Rattle.scoop_reserve.specs.declared.stage.Step.TheVariants.{Locked as LockedStep}
@@ -38,21 +35,20 @@ use Rattle.scoop_world.specs.Reach.{IsReached}
 use Rattle.scoop_world.proofs.Events.{by_test}
 use Rattle.scoop_world.proofs.Keys.{number_found}
 use Rattle.scoop_world.proofs.Order.Lists.{same_block_itself}
-use Rattle.scoop_world.proofs.Order.Holding.{IsHeldIn}
 use Rattle.scoop_world.proofs.Order.Facts.{SiteFits, IsNamed, all_found}
 use Rattle.scoop_world.proofs.Logging.Greetings.{place}
 use Rattle.scoop_world.proofs.Logging.Openings.{NoOpen, IsOpenedAtAll, IsGivenUp, Shows, StageOpened}
 use Rattle.scoop_world.proofs.Rules.Front.{left_has}
 use Rattle.scoop_calm.proofs.Resting.{IsSettled}
 use Rattle.scoop_calm.proofs.Totals.{Member, all_member, total}
-use Rattle.scoop_calm.proofs.Handlers.{Filled, none, some, filled, less_without, lowest_has, Lowest, lowest_of}
+use Rattle.scoop_calm.proofs.Handlers.{Filled, none, some, filled, less_without, lowest_has, lowest_of}
 use Rattle.scoop_calm.proofs.Reserving.{IsSettingOut, locks}
 use Rattle.scoop_calm.proofs.Measures.{stage_work}
 use Rattle.scoop_calm.proofs.Engine.{Useful}
 use Rattle.scoop_calm.proofs.Marked.{MarkFits}
 use Rattle.scoop_calm.proofs.MarkedRuns.{SiteMarked}
 use Rattle.scoop_calm.proofs.Attending.{Goes, AskedAt}
-use Rattle.scoop_calm.proofs.AtMark.{MarkAt, at_work}
+use Rattle.scoop_calm.proofs.AtMark.{at_work}
 use Rattle.scoop_calm.proofs.Talk.{Replies, asks_useful, heard_of, stepped_id, stepped_less}
 use Rattle.scoop_calm.proofs.Unlocking.{due_reserved, block_fits, welcome, own_lines, newer_clear}
 use Rattle.scoop_calm.proofs.Opening.{OwnMark, beside, client_is}

@@ -1,14 +1,12 @@
 -- A client whose block is opened at all, and that has entries to send to a handler where nothing of it is pending, sends
 -- them, and gets on.
-use Rattle.std.proofs.Common.{◌≡◌, ◌⊎◌, inl, inr, ℕ, ◌+◌, ◌-◌, ◌^◌, ◌<◌, ◌≤◌, ◌==◌, ◌&&◌, Bool, true, false, true≢false, nat_le, nat_lt, List, [], ◌∷◌, length, map, find, Option, Some, None, refl, sym, ap, ◌∙◌, subst, ⊎_elim, arith}
+use Rattle.std.proofs.Common.{◌≡◌, inl, inr, ℕ, ◌+◌, ◌-◌, ◌<◌, ◌≤◌, ◌==◌, ◌&&◌, Bool, true, false, true≢false, nat_le, nat_lt, List, [], ◌∷◌, length, map, find, Option, Some, None, refl, sym, ap, ◌∙◌, subst, arith}
 use Rattle.std.specs.Prelude.{if◌then◌else◌}
-use Rattle.std.specs.List.{AllByRecursion}
 use Rattle.std.specs.Option.{option_map_or}
 use Rattle.std.proofs.lemmas.Bool.Decides.{nat_tests}
 use Rattle.scoop_message.specs.declared.name.Block.{Block}
 use Rattle.scoop_message.specs.declared.name.HandlerId.{HandlerId}
 use Rattle.scoop_message.specs.declared.request.Entry.{Entry}
-use Rattle.scoop_message.specs.declared.request.Answer.{Answer as ObjectAnswer}
 use Rattle.scoop_message.specs.declared.message.Message.TheVariants.{Log, Logged, Answer}
 use Rattle.scoop_message.specs.Entries.{ends, last_number}
 use Rattle.scoop_message.specs.Message.{same_handler}
@@ -19,7 +17,7 @@ use Rattle.scoop_handler.specs.declared.mark.Mark.{Mark}
 use Rattle.scoop_handler.specs.Core.{IsCore}
 use Rattle.scoop_handler.specs.Marks.{mark_of, set_mark, with_received}
 use Rattle.scoop_handler.specs.State.{HandlerState}
-use Rattle.scoop_handler.specs.Hearing.{Hearing, kept_answer, with_entries}
+use Rattle.scoop_handler.specs.Hearing.{kept_answer, with_entries}
 use Rattle.scoop_reserve.specs.declared.stage.Stage.TheVariants.{Unlocking}
 use Rattle.scoop_reserve.specs.Handlers.{has}
 use Rattle.scoop_reserve.specs.Hearing.{is_open, is_open_in}
@@ -35,11 +33,11 @@ use Rattle.scoop_world.proofs.Events.{by_test}
 use Rattle.scoop_world.proofs.Order.Facts.{all_found}
 use Rattle.scoop_world.proofs.Logging.Greetings.{place}
 use Rattle.scoop_calm.proofs.Totals.{Member, total}
-use Rattle.scoop_calm.proofs.Measures.{client_work, mark_room, site_room, Less, for_room, parties_total, sites_total}
+use Rattle.scoop_calm.proofs.Measures.{client_work, mark_room, site_room, for_room, parties_total, sites_total}
 use Rattle.scoop_calm.proofs.Engine.{Useful}
-use Rattle.scoop_calm.proofs.Moves.{replied_world, ask_useful}
+use Rattle.scoop_calm.proofs.Moves.{ask_useful}
 use Rattle.scoop_calm.proofs.Talk.{Replies, asks_useful}
-use Rattle.scoop_calm.proofs.Counting.{Counts, counted, answered}
+use Rattle.scoop_calm.proofs.Counting.{counted, answered}
 use Rattle.scoop_calm.proofs.Sending.{IsDue, LogReply, taken, counted_before, answered_before, log_reply, less_room}
 use Rattle.scoop_calm.proofs.Unlocking.{welcome, own_lines}
 use Rattle.scoop_calm.proofs.Opening.{OwnMark, beside, client_is}

@@ -1,26 +1,17 @@
 -- A client whose block is opened at all sends what it has logged, to a handler where nothing of the block is pending.
-use Rattle.std.proofs.Common.{◌≡◌, ◌⊎◌, inl, inr, ℕ, ◌+◌, ◌-◌, ◌^◌, ◌<◌, ◌≤◌, ◌==◌, ◌&&◌, ◌||◌, not, Bool, true, false, true≢false, nat_le, nat_lt, List, [], ◌∷◌, ◌++◌, length, map, find, Option, Some, None, refl, sym, ap, ◌∙◌, subst, ⊎_elim, arith, length-append, append-nil}
-use Rattle.std.specs.Prelude.{⊤, if◌then◌else◌}
-use Rattle.std.specs.List.{AllByRecursion}
+use Rattle.std.proofs.Common.{◌≡◌, ℕ, ◌+◌, ◌-◌, ◌^◌, ◌<◌, ◌≤◌, ◌==◌, ◌&&◌, not, Bool, true, false, true≢false, nat_lt, List, [], ◌∷◌, ◌++◌, length, map, Some, None, refl, sym, ap, ◌∙◌, subst, arith, length-append, append-nil}
+use Rattle.std.specs.Prelude.{if◌then◌else◌}
 use Rattle.std.specs.Option.{option_map_or}
 use Rattle.std.proofs.lemmas.Bool.Decides.{nat_tests}
-use Rattle.scoop_message.specs.declared.name.Block.{Block}
 use Rattle.scoop_message.specs.declared.name.HandlerId.{HandlerId}
 use Rattle.scoop_message.specs.declared.request.Entry.{Entry}
-use Rattle.scoop_message.specs.declared.request.Answer.{Answer as ObjectAnswer}
-use Rattle.scoop_message.specs.declared.message.Message.{Message}
-use Rattle.scoop_message.specs.declared.message.Message.TheVariants.{Hello, Unlock, Log, Logged, Answer}
+use Rattle.scoop_message.specs.declared.message.Message.TheVariants.{Hello, Unlock, Log}
 use Rattle.scoop_message.specs.Entry.{is_end}
 use Rattle.scoop_message.specs.Entries.{EndOnlyLast, end_only_last, ends, last_number}
-use Rattle.scoop_message.specs.Message.{same_handler}
-use Rattle.scoop_message.proofs.Same.{handler_decides}
 use Rattle.scoop_queue.specs.Queue.{pending}
 use Rattle.scoop_queue.proofs.Ends.{ends-append}
 use Rattle.scoop_handler.specs.declared.mark.Mark.{Mark}
-use Rattle.scoop_handler.specs.Core.{IsCore}
-use Rattle.scoop_handler.specs.Marks.{is_open as is_mark_open, block_of, mark_of, with_received}
-use Rattle.scoop_handler.specs.State.{HandlerState}
-use Rattle.scoop_handler.specs.Hearing.{Hearing, kept_answer, with_entries}
+use Rattle.scoop_handler.specs.Marks.{is_open as is_mark_open, block_of}
 use Rattle.scoop_handler.proofs.MarkLists.{All-mark_of}
 use Rattle.scoop_reserve.specs.declared.stage.Stage.TheVariants.{Unlocking}
 use Rattle.scoop_reserve.specs.Handlers.{has}
@@ -30,29 +21,22 @@ use Rattle.scoop_reserve.specs.Due as owed
 use Rattle.scoop_client.specs.Line.{LineState, logged, first_entries, line_of}
 use Rattle.scoop_client.specs.State.{ClientState}
 use Rattle.scoop_client.specs.Due.{due, due_in_block, due_after, due_line}
-use Rattle.scoop_client.specs.Hearing.{up_to}
 use Rattle.scoop_client.proofs.Batches.{is_batch}
-use Rattle.scoop_world.specs.World.{World, Site, Party, number_of, id_of, is_site, is_party, site_of, party_of, opened_at, has_block, log_of, greatest_count}
-use Rattle.scoop_world.specs.Step.{Placement, heard_site}
+use Rattle.scoop_world.specs.World.{World, Site, Party, number_of, id_of, is_site, is_party, party_of, has_block, log_of, greatest_count}
+use Rattle.scoop_world.specs.Step.{Placement}
 use Rattle.scoop_world.specs.Reach.{IsReached}
 use Rattle.scoop_world.proofs.Events.{by_test}
 use Rattle.scoop_world.proofs.Sound.Facts.{HasBatch}
 use Rattle.scoop_world.proofs.Order.Facts.{all_found}
-use Rattle.scoop_world.proofs.Logging.Facts.{LineFits, WaitsAt}
-use Rattle.scoop_world.proofs.Logging.Greetings.{place}
+use Rattle.scoop_world.proofs.Logging.Facts.{LineFits}
 use Rattle.scoop_world.proofs.Logging.Lines.{line_handler, first_of_all}
 use Rattle.scoop_world.proofs.Logging.Openings.{StageOpened}
 use Rattle.scoop_world.proofs.Whole.Marks.{MarkTold}
 use Rattle.scoop_world.proofs.Whole.Facts.{SiteTaped}
 use Rattle.scoop_calm.proofs.Marked.{MarkFits}
 use Rattle.scoop_calm.proofs.MarkedRuns.{SiteMarked}
-use Rattle.scoop_calm.proofs.Measures.{client_work, site_room, Less, for_clients, for_room, parties_total, sites_total}
-use Rattle.scoop_calm.proofs.Engine.{Useful}
-use Rattle.scoop_calm.proofs.Moves.{replied_world, ask_useful}
-use Rattle.scoop_calm.proofs.Talk.{Replies, asks_useful}
-use Rattle.scoop_calm.proofs.Counting.{Counts, counted, answered}
-use Rattle.scoop_calm.proofs.Sending.{IsDue, LogReply, taken, counted_before, answered_before, log_reply, less_room}
-use Rattle.scoop_calm.proofs.Unlocking.{block_fits, welcome, own_lines}
+use Rattle.scoop_calm.proofs.Sending.{IsDue}
+use Rattle.scoop_calm.proofs.Unlocking.{own_lines}
 use Rattle.scoop_calm.proofs.Opening.{OwnMark, beside, client_is, is_open_there}
 use Rattle.scoop_calm.proofs.Everything.{Everything}
 

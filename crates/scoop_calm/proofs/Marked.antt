@@ -1,6 +1,6 @@
 -- What is so of each mark that a handler keeps: its block was reserved, and asked for its lock if it got it, what was
 -- received of it is a beginning of its log, and the answer that is kept is that of its last query that has run.
-use Rattle.std.proofs.Common.{◌≡◌, ◌⊎◌, inl, inr, ℕ, ◌+◌, ◌-◌, ◌<◌, ◌≤◌, ◌&&◌, Bool, true, false, true≢false, List, [], ◌∷◌, ◌++◌, length, map, Option, Some, None, refl, sym, ap, ◌∙◌, subst, ⊎_elim, arith, length-append, append_assoc}
+use Rattle.std.proofs.Common.{◌≡◌, ◌⊎◌, inl, inr, ℕ, ◌+◌, ◌<◌, ◌≤◌, ◌&&◌, Bool, true, false, List, [], ◌∷◌, ◌++◌, length, map, Option, Some, None, refl, sym, ap, ◌∙◌, subst, ⊎_elim, arith, length-append, append_assoc}
 use Rattle.std.specs.Prelude.{if◌then◌else◌}
 use Rattle.std.specs.List.{AllByRecursion}
 use Rattle.std.specs.Option.{option_map}
@@ -13,7 +13,7 @@ use Rattle.scoop_message.specs.declared.message.Message.{Message}
 use Rattle.scoop_message.specs.declared.message.Message.TheVariants.{Hello, Lock, Unlock, Log}
 use Rattle.scoop_message.specs.Entry.{is_query}
 use Rattle.scoop_message.specs.Entries.{ends, last_number}
-use Rattle.scoop_message.specs.Message.{same_block, same_client}
+use Rattle.scoop_message.specs.Message.{same_block}
 use Rattle.scoop_queue.proofs.Ends.{ends-append}
 use Rattle.scoop_handler.specs.declared.mark.Mark.{Mark}
 use Rattle.scoop_handler.specs.declared.mark.Stage.{Stage}

@@ -1,15 +1,13 @@
 -- Whatever happens, handlers' marks are as they should be.
-use Rattle.std.proofs.Common.{◌≡◌, ◌⊎◌, inl, inr, ℕ, ◌+◌, ◌-◌, ◌<◌, ◌≤◌, ◌==◌, ◌^◌, Bool, true, false, true≢false, IsFalse, List, [], ◌∷◌, ◌++◌, length, map, Option, Some, None, refl, sym, ap, ◌∙◌, subst, ⊎_elim, arith, append-nil}
-use Rattle.std.specs.Prelude.{if◌then◌else◌, ⊤, option_to_list}
+use Rattle.std.proofs.Common.{◌≡◌, ℕ, ◌≤◌, ◌==◌, false, true≢false, IsFalse, List, [], ◌∷◌, ◌++◌, map, Option, Some, None, refl, sym, ◌∙◌, subst, ⊎_elim, arith, append-nil}
+use Rattle.std.specs.Prelude.{if◌then◌else◌, option_to_list}
 use Rattle.std.specs.List.{AllByRecursion}
 use Rattle.scoop_message.specs.declared.name.Block.{Block}
 use Rattle.scoop_message.specs.declared.name.ClientId.{ClientId}
 use Rattle.scoop_message.specs.declared.name.HandlerId.{HandlerId}
-use Rattle.scoop_message.specs.declared.request.Entry.{Entry}
 use Rattle.scoop_message.specs.declared.message.Message.{Message}
-use Rattle.scoop_message.specs.declared.message.Message.TheVariants.{Hello, Lock, Unlock, Log}
+use Rattle.scoop_message.specs.declared.message.Message.TheVariants.{Hello}
 use Rattle.scoop_message.specs.Message.{handler_of, client_of, is_for_handler}
-use Rattle.scoop_handler.specs.declared.mark.Mark.{Mark}
 use Rattle.scoop_handler.specs.Core.{core_of}
 use Rattle.scoop_handler.specs.State.{HandlerState}
 use Rattle.scoop_handler.specs.Hearing.{Hearing, hear}
@@ -21,22 +19,21 @@ use Rattle.scoop_reserve.specs.State.{ReservationState}
 use Rattle.scoop_client.specs.State.{ClientState}
 use Rattle.scoop_client.specs.Due.{due}
 use Rattle.scoop_client.specs.Hearing.{heard}
-use Rattle.scoop_client.specs.Line.{first_entries}
 use Rattle.scoop_client.specs.Rows.{DueRow, owes_nothing, greets, reserves, logs}
 use Rattle.scoop_client.proofs.DueRows.{due_row}
 use Rattle.scoop_client.proofs.Rows.{heard_row}
 use Rattle.scoop_world.specs.World.{World, Site, Party, number_of, is_site, is_party, site_of, set_site, set_party, sent_at, handlers_of}
-use Rattle.scoop_world.specs.Step.{Placement, Newcomer, new_site, new_party, opening, core_command, newest_block, commanded_world, with_sent, heard_site, heard_world, heard_party, with_site, with_party, begun_site, finished_site, restarted_party, reopened, reopened_world}
+use Rattle.scoop_world.specs.Step.{Placement, Newcomer, new_site, new_party, opening, newest_block, commanded_world, with_sent, heard_site, heard_world, heard_party, with_site, with_party, begun_site, finished_site, restarted_party, reopened, reopened_world}
 use Rattle.scoop_world.proofs.Events.{Changes, by_test}
 use Rattle.scoop_world.proofs.Sound.Owed.{OwedRow, asks, opens, unlocks, gives_back, owed_row}
 use Rattle.scoop_world.proofs.Sound.Facts.{Sound}
 use Rattle.scoop_world.proofs.Sound.Steps.{sent_all}
 use Rattle.scoop_world.proofs.Order.Sets.{handlers_after}
-use Rattle.scoop_world.proofs.Order.Facts.{IsNamed, Tells, SiteFits, PartyFits, Ordered, all_more_of, all_found, all_set_site, all_set_party}
-use Rattle.scoop_world.proofs.Order.Handlers.{sent_tells, state_anew}
+use Rattle.scoop_world.proofs.Order.Facts.{Tells, SiteFits, PartyFits, Ordered, all_more_of, all_found, all_set_site, all_set_party}
+use Rattle.scoop_world.proofs.Order.Handlers.{sent_tells}
 use Rattle.scoop_world.proofs.Order.Clients.{keeps_row}
 use Rattle.scoop_world.proofs.Order.Commands.{goes_on}
-use Rattle.scoop_world.proofs.Logging.Facts.{Carries, Grown, Logging, grown_same}
+use Rattle.scoop_world.proofs.Logging.Facts.{Carries, Logging, grown_same}
 use Rattle.scoop_world.proofs.Logging.Commands.{commanded_grown}
 use Rattle.scoop_world.proofs.Logging.Openings.{Shows, Openings}
 use Rattle.scoop_world.proofs.Order.Holding.{IsReachedIn}

@@ -1,5 +1,5 @@
 -- How much is left to do in a world: for its clients, for what handlers still take, and for what they still run.
-use Rattle.std.proofs.Common.{◌≡◌, ℕ, ◌+◌, ◌-◌, ◌*◌, ◌^◌, ◌<◌, ◌≤◌, Bool, true, false, List, length, map, Option, Some, None, refl, sym, ap, ◌∙◌, subst, arith}
+use Rattle.std.proofs.Common.{◌≡◌, ℕ, ◌+◌, ◌-◌, ◌^◌, ◌<◌, ◌≤◌, Bool, List, length, Option, Some, None}
 use Rattle.std.specs.Prelude.{if◌then◌else◌}
 use Rattle.scoop_message.specs.declared.name.HandlerId.{HandlerId}
 use Rattle.scoop_message.specs.Message.{same_client, same_handler}
@@ -11,7 +11,7 @@ use Rattle.scoop_reserve.specs.declared.stage.Stage.TheVariants.{Locking, Openin
 use Rattle.scoop_reserve.specs.State.{ReservationState}
 use Rattle.scoop_client.specs.Line.{LineState}
 use Rattle.scoop_client.specs.State.{ClientState}
-use Rattle.scoop_world.specs.World.{World, Site, Party, number_of, id_of, is_site, is_party, site_of, party_of, set_site, set_party}
+use Rattle.scoop_world.specs.World.{World, Site, Party, number_of, id_of, site_of, party_of, set_site, set_party}
 use Rattle.scoop_world.specs.Reach.{IsReached}
 use Rattle.scoop_world.proofs.Reaching.{sites_apart, parties_apart}
 use Rattle.scoop_calm.proofs.Totals.{total, distinct, total_newer}

@@ -1,5 +1,5 @@
 -- Messages that were sent.
-use Rattle.std.proofs.Common.{◌≡◌, ◌⊎◌, inl, inr, ℕ, zero, suc, ◌-◌, ◌==◌, List, [], ◌∷◌, ◌++◌, slice_get, Option, Some, None, refl, sym, ap, ◌∙◌, subst, ⊎_elim}
+use Rattle.std.proofs.Common.{◌≡◌, ◌⊎◌, inl, inr, ℕ, zero, suc, ◌-◌, ◌==◌, List, [], ◌∷◌, ◌++◌, slice_get, Option, Some, None, refl, ap, ⊎_elim}
 use Rattle.std.specs.Prelude.{if◌then◌else◌, option_to_list}
 use Rattle.scoop_message.specs.declared.message.Message.{Message}
 use Rattle.scoop_world.specs.World.{World, sent_at}

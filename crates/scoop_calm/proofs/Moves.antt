@@ -1,25 +1,22 @@
 -- What the kinds of events that a world settles by make of it.
-use Rattle.std.proofs.Common.{◌≡◌, ℕ, zero, suc, ◌+◌, ◌-◌, ◌==◌, true, false, List, [], ◌∷◌, ◌++◌, length, slice_get, Option, Some, None, refl, sym, ap, ◌∙◌, subst, arith}
+use Rattle.std.proofs.Common.{◌≡◌, ◌+◌, ◌-◌, ◌==◌, true, false, List, [], ◌∷◌, ◌++◌, length, slice_get, Some, None, refl, ap, ◌∙◌, arith}
 use Rattle.std.specs.Prelude.{if◌then◌else◌, Ok}
 use Rattle.std.proofs.lemmas.Bool.Decides.{nat_tests}
 use Rattle.scoop_message.specs.declared.message.Message.{Message}
 use Rattle.scoop_message.specs.Message.{handler_of, client_of, is_for_handler}
-use Rattle.scoop_handler.specs.declared.note.Heard.{Heard}
 use Rattle.scoop_handler.specs.declared.note.Note.{Note}
 use Rattle.scoop_handler.specs.State.{HandlerState}
 use Rattle.scoop_handler.specs.Hearing.{Hearing, hear}
 use Rattle.scoop_handler.specs.Running.{Task, ready, job_out, ran_of}
-use Rattle.scoop_client.specs.declared.phase.ClientNote.{ClientNote}
 use Rattle.scoop_client.specs.State.{ClientState}
 use Rattle.scoop_client.specs.Due.{due}
 use Rattle.scoop_client.specs.Hearing.{Notice, heard}
 use Rattle.scoop_client.specs.Commands as client
 use Rattle.scoop_world.specs.declared.event.Command.TheVariants.{End}
-use Rattle.scoop_world.specs.declared.event.Event.{Event}
 use Rattle.scoop_world.specs.declared.event.Event.TheVariants.{Do, Tick, Take, Begin, Finish}
 use Rattle.scoop_world.specs.declared.note.WorldNote.TheVariants as note
-use Rattle.scoop_world.specs.World.{World, Site, Party, number_of, id_of, site_of, party_of, set_site, set_party, sent_at}
-use Rattle.scoop_world.specs.Step.{step, do_at, commanded, commanded_world, with_sent, sends, tick_at, heard_site, heard_world, at_handler, taken, taken_by_handler, taken_by_client, heard_party, at_client, with_site, with_party, begun_site, begins, begin_at, finished_site, finishes, finish_at}
+use Rattle.scoop_world.specs.World.{World, Site, Party, number_of, id_of, site_of, party_of, sent_at}
+use Rattle.scoop_world.specs.Step.{step, do_at, commanded, commanded_world, with_sent, sends, tick_at, heard_world, at_handler, taken, taken_by_handler, taken_by_client, heard_party, at_client, with_site, with_party, begun_site, begins, begin_at, finished_site, finishes, finish_at}
 use Rattle.scoop_world.specs.Reach.{IsReached}
 use Rattle.scoop_world.proofs.Reaching.{reached_more}
 use Rattle.scoop_calm.specs.Settling as settling

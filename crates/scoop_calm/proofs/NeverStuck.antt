@@ -1,19 +1,18 @@
 -- From every world that is reached, events lead to a calm one.
-use Rattle.std.proofs.Common.{◌≡◌, ◌⊎◌, inl, inr, ◌&&◌, ◌||◌, not, Bool, true, false, true≢false, List, [], ◌∷◌, map, Option, Some, None, refl, sym, ap, ◌∙◌, subst, ⊎_elim}
+use Rattle.std.proofs.Common.{◌≡◌, ◌⊎◌, inl, inr, ◌&&◌, ◌||◌, not, true, List, [], ◌∷◌, map, Option, Some, None, refl, sym, ap, ◌∙◌, subst, ⊎_elim}
 use Rattle.std.specs.Prelude.{if◌then◌else◌}
 use Rattle.std.specs.List.{AllByRecursion}
 use Rattle.scoop_message.specs.declared.name.Block.{Block}
 use Rattle.scoop_message.specs.Message.{same_block}
 use Rattle.scoop_handler.specs.Core.{IsCore}
 use Rattle.scoop_handler.specs.Marks.{is_open, block_of, mark_of}
-use Rattle.scoop_handler.specs.State.{HandlerState, HolderIsUnderWay, is_holder, is_unfinished}
+use Rattle.scoop_handler.specs.State.{HolderIsUnderWay, is_holder, is_unfinished}
 use Rattle.scoop_handler.proofs.MarkLists.{mark_of-client}
 use Rattle.scoop_reserve.specs.Handlers.{is_empty}
-use Rattle.scoop_reserve.specs.State.{ReservationState}
-use Rattle.scoop_client.specs.declared.phase.Phase.TheVariants.{Greeting, Idle}
-use Rattle.scoop_client.specs.State.{phase_of, phase_of_block}
+use Rattle.scoop_client.specs.declared.phase.Phase.TheVariants.{Greeting}
+use Rattle.scoop_client.specs.State.{phase_of_block}
 use Rattle.scoop_world.specs.declared.event.Event.{Event}
-use Rattle.scoop_world.specs.World.{World, Site, Party, number_of, id_of}
+use Rattle.scoop_world.specs.World.{World, Site, Party, number_of}
 use Rattle.scoop_world.specs.Step.{Placement}
 use Rattle.scoop_world.specs.Reach.{IsReached, Leads}
 use Rattle.scoop_world.proofs.Order.Lists.{same_block_itself}
@@ -25,7 +24,7 @@ use Rattle.scoop_calm.proofs.Engine.{Useful, CanSettle, settles}
 use Rattle.scoop_calm.proofs.Attending.{Goes}
 use Rattle.scoop_calm.proofs.AtMark.{at_work}
 use Rattle.scoop_calm.proofs.Running.{sites_run_out}
-use Rattle.scoop_calm.proofs.Blocks.{owner, Owner}
+use Rattle.scoop_calm.proofs.Blocks.{owner}
 use Rattle.scoop_calm.proofs.Queues.{queues_or, all_locking_or, IsLockingOrNone, has_none, is_locking}
 use Rattle.scoop_calm.proofs.Leads.{settles_leads}
 use Rattle.scoop_calm.proofs.Locking.{locking_useful}

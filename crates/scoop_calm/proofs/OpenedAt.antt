@@ -1,17 +1,14 @@
 -- A block that has opened at a handler, while its client is in the same incarnation, is open there.
-use Rattle.std.proofs.Common.{◌≡◌, ◌⊎◌, inl, inr, ℕ, ◌+◌, ◌<◌, ◌≤◌, ◌||◌, Bool, true, false, true≢false, IsFalse, IsTrue, List, [], ◌∷◌, ◌++◌, length, map, Option, Some, None, refl, sym, ap, ◌∙◌, subst, ⊎_elim, arith}
-use Rattle.std.specs.List.{AllByRecursion}
+use Rattle.std.proofs.Common.{◌≡◌, inl, inr, ◌+◌, ◌<◌, ◌≤◌, ◌||◌, true, false, true≢false, IsTrue, List, [], ◌∷◌, ◌++◌, length, Option, Some, None, refl, sym, ap, ◌∙◌, subst, ⊎_elim, arith}
 use Rattle.scoop_message.specs.declared.name.Block.{Block}
 use Rattle.scoop_message.specs.declared.request.Entry.{Entry}
-use Rattle.scoop_message.specs.declared.name.HandlerId.{HandlerId}
 use Rattle.scoop_message.specs.Entries.{ends}
 use Rattle.scoop_message.specs.Message.{same_block}
 use Rattle.scoop_queue.specs.declared.state.QueueState.{QueueState}
-use Rattle.scoop_queue.specs.Queue.{PrivateQueue}
 use Rattle.scoop_queue.specs.Sound.{IsQueue}
 use Rattle.scoop_handler.specs.declared.mark.Mark.{Mark}
 use Rattle.scoop_handler.specs.Marks.{is_open, block_of, mark_of}
-use Rattle.scoop_handler.specs.State.{HandlerState, IsState, IsUnused, IsUnusedUnlessOpen, HasMark}
+use Rattle.scoop_handler.specs.State.{IsState, IsUnused, IsUnusedUnlessOpen, HasMark}
 use Rattle.scoop_handler.proofs.Beside.{no_queue_yet, HasMark-fits}
 use Rattle.scoop_handler.proofs.MarkLists.{All-mark_of}
 use Rattle.scoop_world.specs.World.{World, Site, number_of, has_block, greatest_count}

@@ -1,14 +1,12 @@
 -- A client that opens its block can open it wherever there is room for a private queue.
-use Rattle.std.proofs.Common.{◌≡◌, ◌⊎◌, inl, inr, ℕ, ◌+◌, ◌<◌, ◌≤◌, ◌==◌, ◌&&◌, not, Bool, true, false, true≢false, nat_lt, List, [], ◌∷◌, length, map, Option, Some, None, refl, sym, ap, ◌∙◌, subst, ⊎_elim, arith}
+use Rattle.std.proofs.Common.{◌≡◌, ◌⊎◌, inl, inr, ◌+◌, ◌<◌, ◌≤◌, ◌==◌, not, true, false, length, map, Some, None, refl, sym, ap, ◌∙◌, subst, ⊎_elim, arith}
 use Rattle.std.specs.Prelude.{if◌then◌else◌}
-use Rattle.std.specs.List.{AllByRecursion}
 use Rattle.std.proofs.lemmas.Bool.Decides.{nat_tests}
 use Rattle.scoop_message.specs.declared.limits.TheConstants.{MAX_QUEUES}
 use Rattle.scoop_message.specs.declared.name.Block.{Block}
 use Rattle.scoop_message.specs.declared.name.HandlerId.{HandlerId}
 use Rattle.scoop_message.specs.declared.message.Message.TheVariants.{Open, Opened}
 use Rattle.scoop_handler.specs.declared.mark.Mark.{Mark}
-use Rattle.scoop_handler.specs.declared.mark.Stage.{Stage as MarkStage}
 use Rattle.scoop_handler.specs.declared.mark.Stage.TheVariants.{Held as AtHeld}
 use Rattle.scoop_handler.specs.declared.note.Note.TheVariants.{Opened as OpenedHere, Known}
 use Rattle.scoop_handler.specs.declared.note.Reason.TheVariants.{NotHolder, QueueFull}
@@ -16,7 +14,6 @@ use Rattle.scoop_handler.specs.Core.{IsCore}
 use Rattle.scoop_handler.specs.Marks.{is_held, is_open, block_of, mark_of}
 use Rattle.scoop_handler.specs.State.{HandlerState}
 use Rattle.scoop_handler.specs.Hearing.{is_new, hear_open, dropped, known, opened_here, with_queue}
-use Rattle.scoop_reserve.specs.declared.stage.Stage.{Stage}
 use Rattle.scoop_reserve.specs.declared.stage.Stage.TheVariants.{Opening, Unlocking}
 use Rattle.scoop_reserve.specs.declared.stage.Step.{Step}
 use Rattle.scoop_reserve.specs.declared.stage.Step.TheVariants.{Opened as OpenedStep}

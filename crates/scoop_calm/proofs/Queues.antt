@@ -1,22 +1,18 @@
 -- No private queue has to stay: the client of the earliest block that has one gets on.
-use Rattle.std.proofs.Common.{◌≡◌, ◌⊎◌, inl, inr, ℕ, ◌==◌, ◌&&◌, ◌||◌, not, Bool, true, false, true≢false, IsFalse, List, [], ◌∷◌, length, map, find, Option, Some, None, refl, sym, ap, ◌∙◌, subst, ⊎_elim}
-use Rattle.std.specs.Prelude.{if◌then◌else◌, is_some}
+use Rattle.std.proofs.Common.{◌≡◌, ◌⊎◌, inl, inr, ◌==◌, ◌&&◌, ◌||◌, not, Bool, true, false, true≢false, List, [], ◌∷◌, length, map, Option, Some, None, refl, sym, ap, ◌∙◌, subst, ⊎_elim}
 use Rattle.std.specs.List.{list_any, AllByRecursion}
 use Rattle.scoop_message.specs.declared.limits.TheConstants.{MAX_QUEUES}
 use Rattle.scoop_message.specs.declared.name.Block.{Block}
-use Rattle.scoop_message.specs.declared.name.HandlerId.{HandlerId}
 use Rattle.scoop_message.specs.Message.{same_block}
 use Rattle.scoop_queue.specs.Queue.{PrivateQueue, is_open as takes_more, queue_of, has_queue, front}
 use Rattle.scoop_queue.specs.Sound.{IsQueue}
-use Rattle.scoop_handler.specs.declared.mark.Mark.{Mark}
-use Rattle.scoop_handler.specs.declared.mark.Stage.TheVariants.{Open as AtOpen}
 use Rattle.scoop_handler.specs.Core.{IsCore}
 use Rattle.scoop_handler.specs.Marks.{is_open, block_of, mark_of}
-use Rattle.scoop_handler.specs.State.{HandlerState, HasMark, is_holder, is_unfinished}
+use Rattle.scoop_handler.specs.State.{HasMark, is_holder, is_unfinished}
 use Rattle.scoop_handler.proofs.MarkLists.{mark_of-client}
 use Rattle.scoop_reserve.specs.declared.stage.Stage.TheVariants.{Locking}
 use Rattle.scoop_reserve.specs.State.{ReservationState}
-use Rattle.scoop_world.specs.World.{World, Site, Party, number_of, id_of, party_of, has_block}
+use Rattle.scoop_world.specs.World.{World, Site, Party, number_of, id_of, has_block}
 use Rattle.scoop_world.specs.Step.{Placement}
 use Rattle.scoop_world.specs.Reach.{IsReached}
 use Rattle.scoop_world.proofs.Events.{by_test}
@@ -30,10 +26,10 @@ use Rattle.scoop_calm.proofs.Resting.{HasRunOut, IsSettled}
 use Rattle.scoop_calm.proofs.Totals.{Member, each_or, all_member}
 use Rattle.scoop_calm.proofs.Engine.{Useful}
 use Rattle.scoop_calm.proofs.Attending.{Goes}
-use Rattle.scoop_calm.proofs.AtMark.{MarkAt, at_work}
+use Rattle.scoop_calm.proofs.AtMark.{at_work}
 use Rattle.scoop_calm.proofs.Waiting.{IsIdleIn}
 use Rattle.scoop_calm.proofs.Earliest.{Before, left_before, next_before, First, first_or, opened_queue, order_of, first_empty}
-use Rattle.scoop_calm.proofs.Blocks.{any_member, Passing, passing, queue_there, queue_found, found_in, must_be_open, owner, Owner, no_open_mark, is_open_at, by_stage}
+use Rattle.scoop_calm.proofs.Blocks.{any_member, passing, queue_there, queue_found, found_in, must_be_open, owner, no_open_mark, is_open_at, by_stage}
 use Rattle.scoop_queue.proofs.Found.{block-found}
 use Rattle.scoop_calm.proofs.Everything.{Everything}
 use Rattle.scoop_calm.proofs.Clearing.{party_found}

@@ -1,17 +1,14 @@
 -- What is so of a reservation at all times: its locks were got in ascending order, and it has something left to do
 -- until it is opened at all.
-use Rattle.std.proofs.Common.{◌≡◌, ◌⊎◌, inl, inr, ℕ, ◌+◌, ◌<◌, ◌≤◌, ◌==◌, ◌&&◌, ◌||◌, not, Bool, true, false, true≢false, nat_lt, List, [], ◌∷◌, length, Option, Some, None, refl, sym, ap, ◌∙◌, subst, ⊎_elim, arith}
-use Rattle.std.specs.Prelude.{if◌then◌else◌, Result, Ok, Err}
+use Rattle.std.proofs.Common.{◌≡◌, ◌<◌, ◌≤◌, ◌==◌, ◌||◌, not, true, false, true≢false, nat_lt, List, ◌∷◌, length, Option, Some, None, refl, sym, ◌∙◌, subst, arith}
+use Rattle.std.specs.Prelude.{if◌then◌else◌, Ok, Err}
 use Rattle.std.proofs.lemmas.Bool.Decides.{nat_tests}
 use Rattle.scoop_message.specs.declared.limits.TheConstants.{MAX_BLOCK_HANDLERS}
 use Rattle.scoop_message.specs.declared.name.Block.{Block}
 use Rattle.scoop_message.specs.declared.name.HandlerId.{HandlerId}
 use Rattle.scoop_message.specs.declared.message.Message.{Message}
-use Rattle.scoop_message.specs.Message.{same_handler}
 use Rattle.scoop_message.proofs.Same.{handler_decides}
-use Rattle.scoop_reserve.specs.declared.error.ReserveError.{ReserveError}
 use Rattle.scoop_reserve.specs.declared.error.ReserveError.TheVariants as error
-use Rattle.scoop_reserve.specs.declared.error.TooLate.{TooLate}
 use Rattle.scoop_reserve.specs.declared.stage.Stage.{Stage}
 use Rattle.scoop_reserve.specs.declared.stage.Stage.TheVariants.{Locking, Opening, Unlocking, GivingUp}
 use Rattle.scoop_reserve.specs.declared.stage.Step.{Step}
@@ -22,7 +19,7 @@ use Rattle.scoop_reserve.specs.Hearing.{is_gone, given_up, given_up_in}
 use Rattle.scoop_reserve.proofs.Rows.{HeardRow, passed_over, one_is_locked, all_are_locked, is_busy, one_is_opened, all_are_opened, is_unlocked, is_given_back}
 use Rattle.scoop_world.proofs.Events.{by_test}
 use Rattle.scoop_world.proofs.Order.Clients.{has_without, is_gone_one}
-use Rattle.scoop_calm.proofs.Handlers.{Filled, none, some, filled, some_in, gone_without, lowest_has, lowest_below, Lowest, lowest_of, from_filter, in_asked, all_known, NoTwice, none_repeated}
+use Rattle.scoop_calm.proofs.Handlers.{Filled, none, some, filled, some_in, gone_without, lowest_has, lowest_below, lowest_of, from_filter, in_asked, all_known, NoTwice, none_repeated}
 
 -- locks are got, or blocks opened
 pub data IsSettingOut : Stage → Type 0 where

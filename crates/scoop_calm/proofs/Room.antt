@@ -1,6 +1,6 @@
 -- A handler has room for a mark of each client of its world.
-use Rattle.std.proofs.Common.{◌≡◌, ◌⊎◌, inl, inr, ℕ, zero, suc, ◌+◌, ◌<◌, ◌≤◌, ◌==◌, ◌||◌, Bool, true, false, true≢false, List, [], ◌∷◌, length, map, find, Option, Some, None, refl, sym, ap, ◌∙◌, subst, ⊎_elim, arith}
-use Rattle.std.specs.Prelude.{⊤, if◌then◌else◌}
+use Rattle.std.proofs.Common.{◌≡◌, ℕ, ◌<◌, ◌≤◌, ◌==◌, ◌||◌, true, false, true≢false, List, [], ◌∷◌, length, map, find, Option, Some, None, refl, sym, ap, ◌∙◌, subst, arith}
+use Rattle.std.specs.Prelude.{if◌then◌else◌}
 use Rattle.std.specs.List.{AllByRecursion}
 use Rattle.std.specs.Option.{option_map_or}
 use Rattle.std.proofs.lemmas.List.{length-map}
@@ -14,11 +14,10 @@ use Rattle.scoop_handler.specs.declared.mark.Mark.{Mark}
 use Rattle.scoop_handler.specs.Marks.{mark_of}
 use Rattle.scoop_handler.specs.State.{IsAscending}
 use Rattle.scoop_reserve.specs.Handlers.{has, without}
-use Rattle.scoop_world.specs.World.{World, Party, is_party, party_of, set_party, newer_party}
-use Rattle.scoop_world.specs.Step.{Placement, Newcomer, new_party, opening}
-use Rattle.scoop_world.specs.Opening.{MayOpen}
+use Rattle.scoop_world.specs.World.{World, Party, is_party, party_of, newer_party}
+use Rattle.scoop_world.specs.Step.{Placement, new_party, opening}
 use Rattle.scoop_world.specs.Paper.{inc_of}
-use Rattle.scoop_world.specs.Reach.{Run, steps, IsReached}
+use Rattle.scoop_world.specs.Reach.{Run, IsReached}
 use Rattle.scoop_world.proofs.Events.{Changes, by_test, steps_kept}
 use Rattle.scoop_world.proofs.Order.Clients.{is_gone_one}
 use Rattle.scoop_world.proofs.Logging.Greetings.{IsMarkUpto}

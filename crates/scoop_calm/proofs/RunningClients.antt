@@ -1,5 +1,5 @@
 -- A client whose block is opened at all gets on, where nothing of the block is pending.
-use Rattle.std.proofs.Common.{◌≡◌, ◌⊎◌, inl, inr, ℕ, ◌+◌, ◌<◌, ◌≤◌, ◌==◌, ◌&&◌, ◌||◌, Bool, true, false, true≢false, nat_le, List, [], ◌∷◌, length, map, Option, Some, None, refl, sym, ap, ◌∙◌, subst, ⊎_elim, arith}
+use Rattle.std.proofs.Common.{◌≡◌, ◌⊎◌, inl, inr, ℕ, ◌<◌, ◌==◌, ◌&&◌, ◌||◌, Bool, true, false, true≢false, nat_le, List, [], ◌∷◌, length, map, Option, Some, None, refl, sym, ap, ◌∙◌, subst, ⊎_elim, arith}
 use Rattle.std.specs.Prelude.{if◌then◌else◌}
 use Rattle.std.specs.List.{AllByRecursion}
 use Rattle.scoop_message.specs.declared.limits.TheConstants.{MAX_UNACKNOWLEDGED}
@@ -10,9 +10,9 @@ use Rattle.scoop_message.proofs.Same.{handler_decides}
 use Rattle.scoop_reserve.specs.declared.stage.Stage.TheVariants.{Unlocking}
 use Rattle.scoop_reserve.specs.Handlers.{has}
 use Rattle.scoop_reserve.specs.State.{ReservationState}
-use Rattle.scoop_client.specs.Line.{LineState, is_full, is_over, is_ended, all_over, line_of, logged, lower, lowest_full, lowest_full_after}
+use Rattle.scoop_client.specs.Line.{LineState, is_ended, all_over, line_of, lower, lowest_full_after}
 use Rattle.scoop_client.specs.State.{ClientState}
-use Rattle.scoop_world.specs.World.{World, Site, Party, number_of, id_of, site_of, party_of}
+use Rattle.scoop_world.specs.World.{World, Site, Party, id_of, site_of, party_of}
 use Rattle.scoop_world.specs.Step.{Placement}
 use Rattle.scoop_world.specs.Reach.{IsReached}
 use Rattle.scoop_world.proofs.Events.{by_test}
@@ -26,7 +26,6 @@ use Rattle.scoop_calm.proofs.Opening.{beside}
 use Rattle.scoop_calm.proofs.Ending.{ending_useful}
 use Rattle.scoop_calm.proofs.Waiting.{IsIdleIn}
 use Rattle.scoop_calm.proofs.LogUseful.{log_useful}
-use Rattle.scoop_calm.proofs.AtMark.{MarkAt}
 use Rattle.scoop_calm.proofs.Everything.{Everything}
 
 -- ---- lines with nothing left

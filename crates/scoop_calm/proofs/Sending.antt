@@ -1,27 +1,22 @@
 -- A client sends entries of a block that is opened at all, to a handler where nothing of it is pending.
-use Rattle.std.proofs.Common.{◌≡◌, ◌⊎◌, inl, inr, ℕ, ◌+◌, ◌-◌, ◌^◌, ◌<◌, ◌≤◌, ◌==◌, ◌&&◌, ◌||◌, not, Bool, true, false, true≢false, nat_le, nat_lt, List, [], ◌∷◌, ◌++◌, length, drop, map, find, Option, Some, None, refl, sym, ap, ◌∙◌, subst, ⊎_elim, arith, length-append, length-drop, append-nil}
-use Rattle.std.specs.Prelude.{⊤, if◌then◌else◌}
-use Rattle.std.specs.List.{AllByRecursion}
+use Rattle.std.proofs.Common.{◌≡◌, ℕ, ◌+◌, ◌-◌, ◌^◌, ◌<◌, ◌≤◌, ◌==◌, ◌&&◌, ◌||◌, not, Bool, true, false, nat_le, nat_lt, List, [], ◌∷◌, length, Option, Some, None, refl, ap, ◌∙◌, arith, length-drop}
+use Rattle.std.specs.Prelude.{if◌then◌else◌}
 use Rattle.std.proofs.lemmas.Bool.Decides.{nat_tests}
 use Rattle.scoop_message.specs.declared.limits.TheConstants.{MAX_PENDING, MAX_ENTRIES}
 use Rattle.scoop_message.specs.declared.name.Block.{Block}
-use Rattle.scoop_message.specs.declared.name.HandlerId.{HandlerId}
 use Rattle.scoop_message.specs.declared.request.Entry.{Entry}
 use Rattle.scoop_message.specs.declared.request.Answer.{Answer as ObjectAnswer}
-use Rattle.scoop_message.specs.declared.message.Message.{Message}
-use Rattle.scoop_message.specs.declared.message.Message.TheVariants.{Hello, Unlock, Log, Logged, Answer}
-use Rattle.scoop_message.specs.Entries.{EndOnlyLast, ends, last_number}
+use Rattle.scoop_message.specs.declared.message.Message.TheVariants.{Log, Logged, Answer}
+use Rattle.scoop_message.specs.Entries.{ends, last_number}
 use Rattle.scoop_message.specs.Message.{same_client}
 use Rattle.scoop_message.proofs.Same.{client_decides}
-use Rattle.scoop_queue.specs.Queue.{PrivateQueue, pending}
-use Rattle.scoop_queue.proofs.Ends.{ends-append}
+use Rattle.scoop_queue.specs.Queue.{pending}
 use Rattle.scoop_handler.specs.declared.mark.Mark.{Mark}
 use Rattle.scoop_handler.specs.declared.note.Note.TheVariants.{Took, Known}
 use Rattle.scoop_handler.specs.declared.note.Reason.TheVariants.{NotOpen, Gap, PendingFull}
-use Rattle.scoop_handler.specs.Core.{IsCore}
-use Rattle.scoop_handler.specs.Marks.{is_open, mark_of, set_mark, with_received}
+use Rattle.scoop_handler.specs.Marks.{is_open, mark_of, set_mark}
 use Rattle.scoop_handler.specs.State.{HandlerState, IsAscending}
-use Rattle.scoop_handler.specs.Hearing.{is_new, hear_of, if_here, hear_log, dropped, known, took, with_entries, received_before, kept_answer, new_entries, is_closed, has_no_room}
+use Rattle.scoop_handler.specs.Hearing.{is_new, hear_of, if_here, hear_log, dropped, took, with_entries, received_before, kept_answer, new_entries, is_closed, has_no_room}
 use Rattle.scoop_calm.proofs.Totals.{total, Distinct, total_newer}
 use Rattle.scoop_calm.proofs.Measures.{mark_room}
 use Rattle.scoop_calm.proofs.Talk.{Replies, heard_of}

@@ -1,13 +1,12 @@
 -- A client asks a handler, and has less to do once it has heard the reply.
-use Rattle.std.proofs.Common.{◌≡◌, ℕ, ◌+◌, ◌<◌, ◌≤◌, ◌==◌, ◌&&◌, ◌||◌, Bool, true, false, true≢false, nat_lt, List, [], ◌∷◌, length, map, find, Option, Some, None, refl, sym, ap, ◌∙◌, subst, arith}
+use Rattle.std.proofs.Common.{◌≡◌, ℕ, ◌+◌, ◌<◌, ◌≤◌, ◌||◌, true, false, true≢false, nat_lt, List, [], ◌∷◌, length, map, find, Some, refl, sym, ap, ◌∙◌, arith}
 use Rattle.std.specs.Prelude.{if◌then◌else◌, Ok, Err}
 use Rattle.std.proofs.lemmas.Bool.Decides.{nat_tests}
 use Rattle.scoop_message.specs.declared.name.Block.{Block}
 use Rattle.scoop_message.specs.declared.name.HandlerId.{HandlerId}
 use Rattle.scoop_message.specs.declared.message.Message.{Message}
-use Rattle.scoop_message.specs.Message.{handler_of, client_of, is_for_handler, same_handler}
+use Rattle.scoop_message.specs.Message.{handler_of, client_of, is_for_handler}
 use Rattle.scoop_handler.specs.declared.mark.Mark.{Mark}
-use Rattle.scoop_handler.specs.declared.note.Heard.{Heard}
 use Rattle.scoop_handler.specs.declared.note.Note.{Note}
 use Rattle.scoop_handler.specs.declared.note.Reason.TheVariants.{Ungreeted, Stale, WrongHandler}
 use Rattle.scoop_handler.specs.Marks.{mark_of}
@@ -19,14 +18,14 @@ use Rattle.scoop_reserve.specs.State.{ReservationState}
 use Rattle.scoop_client.specs.State.{ClientState, with_reservation, idle}
 use Rattle.scoop_client.specs.Due.{due}
 use Rattle.scoop_client.specs.Hearing.{Notice, heard, stepped}
-use Rattle.scoop_world.specs.World.{World, Site, Party, number_of, id_of, is_site, site_of, party_of, set_party}
+use Rattle.scoop_world.specs.World.{World, Site, Party, number_of, id_of, is_site, site_of, party_of}
 use Rattle.scoop_world.specs.Step.{heard_party}
 use Rattle.scoop_world.specs.Reach.{IsReached}
 use Rattle.scoop_world.proofs.Events.{by_test}
 use Rattle.scoop_calm.proofs.Handlers.{itself}
-use Rattle.scoop_calm.proofs.Measures.{client_work, block_work, stage_work, lines_work, wait_work, Less, for_clients, parties_total}
+use Rattle.scoop_calm.proofs.Measures.{client_work, block_work, stage_work, lines_work, wait_work, for_clients, parties_total}
 use Rattle.scoop_calm.proofs.Engine.{Useful}
-use Rattle.scoop_calm.proofs.Moves.{replied_world, ask_useful}
+use Rattle.scoop_calm.proofs.Moves.{ask_useful}
 
 -- the handler replies so
 pub record Replies (s : HandlerState) (m reply : Message) : Type 0 where

@@ -1,24 +1,23 @@
 -- A client that has something to unlock can unlock it.
-use Rattle.std.proofs.Common.{◌≡◌, ◌⊎◌, inl, inr, ℕ, ◌+◌, ◌<◌, ◌≤◌, ◌&&◌, ◌||◌, not, Bool, true, false, true≢false, nat_lt, List, [], ◌∷◌, length, map, Option, Some, None, refl, sym, ap, ◌∙◌, subst, ⊎_elim, arith}
+use Rattle.std.proofs.Common.{◌≡◌, ◌<◌, ◌≤◌, ◌&&◌, true, false, true≢false, nat_lt, map, Some, None, refl, sym, ap, ◌∙◌, arith}
 use Rattle.std.specs.Prelude.{if◌then◌else◌}
 use Rattle.std.proofs.lemmas.Bool.Decides.{nat_tests}
 use Rattle.scoop_message.specs.declared.name.Block.{Block}
 use Rattle.scoop_message.specs.declared.name.HandlerId.{HandlerId}
 use Rattle.scoop_message.specs.declared.message.Message.{Message}
 use Rattle.scoop_message.specs.declared.message.Message.TheVariants.{Hello, Unlock, Unlocked}
-use Rattle.scoop_message.specs.Message.{same_block}
 use Rattle.scoop_handler.specs.declared.mark.Mark.{Mark}
 use Rattle.scoop_handler.specs.declared.mark.Stage.TheVariants.{Shut as AtShut}
 use Rattle.scoop_handler.specs.declared.note.Note.TheVariants.{Freed, Known}
 use Rattle.scoop_handler.specs.declared.note.Reason.TheVariants.{NotHolder}
 use Rattle.scoop_handler.specs.Marks.{block_of, fresh_mark, without_hold, mark_of}
 use Rattle.scoop_handler.specs.State.{HandlerState, is_holder, is_unfinished}
-use Rattle.scoop_handler.specs.Hearing.{Hearing, is_new, hear_unlock, dropped, moved, skipped, freed, known}
+use Rattle.scoop_handler.specs.Hearing.{is_new, hear_unlock, dropped, moved, skipped, freed, known}
 use Rattle.scoop_reserve.specs.declared.stage.Stage.{Stage}
 use Rattle.scoop_reserve.specs.declared.stage.Stage.TheVariants.{Unlocking, GivingUp}
 use Rattle.scoop_reserve.specs.declared.stage.Step.{Step}
 use Rattle.scoop_reserve.specs.declared.stage.Step.TheVariants.{Unlocked as UnlockedStep}
-use Rattle.scoop_reserve.specs.Handlers.{has, without, is_empty}
+use Rattle.scoop_reserve.specs.Handlers.{has, without}
 use Rattle.scoop_reserve.specs.State.{ReservationState, at_stage}
 use Rattle.scoop_reserve.specs.Due as owed
 use Rattle.scoop_reserve.specs.Hearing as reservation
@@ -26,7 +25,7 @@ use Rattle.scoop_client.specs.declared.phase.ClientNote.TheVariants.{Unlocked as
 use Rattle.scoop_client.specs.State.{ClientState}
 use Rattle.scoop_client.specs.Due.{due, due_in_block, due_after}
 use Rattle.scoop_client.specs.Hearing.{heard, hear_step, after_step, stepped}
-use Rattle.scoop_world.specs.World.{World, Site, Party, number_of, id_of, is_site, is_party, site_of, party_of}
+use Rattle.scoop_world.specs.World.{World, Party, number_of, id_of, is_party, party_of}
 use Rattle.scoop_world.specs.Step.{Placement, newest_block}
 use Rattle.scoop_world.specs.Reach.{IsReached}
 use Rattle.scoop_world.proofs.Events.{by_test}

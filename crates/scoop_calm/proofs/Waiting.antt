@@ -1,11 +1,9 @@
 -- A query that waits, and that the handler has run, has its answer there; and an answer there is that of the query that
 -- waits.
-use Rattle.std.proofs.Common.{◌≡◌, ◌⊎◌, inl, inr, ℕ, zero, suc, ◌+◌, ◌-◌, ◌<◌, ◌≤◌, ◌==◌, ◌&&◌, Bool, true, false, true≢false, IsTrue, List, [], ◌∷◌, ◌++◌, length, map, filter, slice_get, Option, Some, None, refl, sym, ap, ◌∙◌, subst, ⊎_elim, arith, length-append, append-nil, append_assoc}
+use Rattle.std.proofs.Common.{◌≡◌, ℕ, ◌+◌, ◌-◌, ◌<◌, ◌≤◌, ◌==◌, true, false, List, [], ◌∷◌, ◌++◌, length, map, filter, slice_get, Option, Some, None, refl, sym, ap, ◌∙◌, subst, arith, length-append, append-nil}
 use Rattle.std.specs.Prelude.{if◌then◌else◌}
-use Rattle.std.specs.List.{AllByRecursion}
 use Rattle.std.specs.Option.{option_map}
 use Rattle.std.proofs.lemmas.Bool.{eqb-true, eq-eqb}
-use Rattle.std.proofs.lemmas.Bool.Decides.{nat_tests}
 use Rattle.scoop_message.specs.declared.name.Block.{Block}
 use Rattle.scoop_message.specs.declared.name.HandlerId.{HandlerId}
 use Rattle.scoop_message.specs.declared.request.Entry.{Entry}
@@ -25,20 +23,20 @@ use Rattle.scoop_reserve.specs.State.{ReservationState}
 use Rattle.scoop_client.specs.Line.{LineState, logged, line_of}
 use Rattle.scoop_world.specs.World.{World, Site, Party, number_of, id_of, is_site, party_of, has_block, log_of, greatest_count}
 use Rattle.scoop_world.specs.Step.{Placement}
-use Rattle.scoop_world.specs.Safe.{HasRun, untold, numbered}
+use Rattle.scoop_world.specs.Safe.{HasRun, numbered}
 use Rattle.scoop_world.specs.Reach.{IsReached}
 use Rattle.scoop_world.proofs.Events.{by_test}
-use Rattle.scoop_world.proofs.Order.Facts.{SiteFits, all_found, all_more_of}
+use Rattle.scoop_world.proofs.Order.Facts.{SiteFits, all_found}
 use Rattle.scoop_world.proofs.Answering.Facts.{SiteAnswers}
 use Rattle.scoop_world.proofs.Answering.Kept.{KeepsRan}
 use Rattle.scoop_world.proofs.Order.Lists.{AreApart}
-use Rattle.scoop_world.proofs.Tape.Slots.{Slot, slot_queue, blocks_of}
+use Rattle.scoop_world.proofs.Tape.Slots.{slot_queue, blocks_of}
 use Rattle.scoop_world.proofs.Tape.Shown.{left_apart, slot_parts}
 use Rattle.scoop_world.proofs.Whole.Slots.{SlotWhole}
 use Rattle.scoop_world.proofs.Whole.Facts.{SiteTaped}
 use Rattle.scoop_calm.proofs.Totals.{Member, all_member}
 use Rattle.scoop_calm.proofs.Members.{member_last}
-use Rattle.scoop_calm.proofs.Marked.{MarkFits, last_answer}
+use Rattle.scoop_calm.proofs.Marked.{last_answer}
 use Rattle.scoop_calm.proofs.OpenedAt.{SlotOf, slot_of, queue_member}
 use Rattle.scoop_calm.proofs.Opening.{OwnMark, beside}
 use Rattle.scoop_calm.proofs.Unlocking.{block_fits, own_lines}
