@@ -30,23 +30,27 @@ pub fn command<'a>(alloc: Global, class_names: &'a [&'a str]) -> Result<Command<
         .subcommand(frame_command(alloc)?)
 }
 
-// The table of classes, for the help of the commands that run objects.
-macro_rules! classes {
-    () => {
-        "Classes, their words and their operations by number:\n\
+// The help of a command that runs objects, with the table of classes inside.
+macro_rules! with_classes {
+    ($front:literal, $back:literal) => {
+        concat!(
+            $front,
+            "Classes, their words and their operations by number:\n\
         \x20 cell       1 word    1 set A (gives A), 2 get\n\
         \x20 counter    1 word    1 add A (gives the sum), 2 get\n\
         \x20 account    1 word    1 deposit A, 2 withdraw A (refused where there is less), 3 balance; each gives the balance\n\
         \x20 exchange   2 words   1 put A (gives the number that was put before)\n\
         Numbers are whole, from 0 to 18446744073709551615, and stop there. A request with another operation, or \
-        without the argument A, is refused and changes nothing.\n\n"
+        without the argument A, is refused and changes nothing.\n\n",
+            $back
+        )
     };
 }
 
 fn world_command<'a>(alloc: Global) -> Result<Command<'a>, AllocError> {
     Command::new(alloc, "world")
         .about("Plays a script of standard input, and prints its events and histories")
-        .long_about(concat!(
+        .long_about(with_classes!(
             "Plays a script. Its first lines place handlers and let clients join:\n\
             \x20 handler NODE H CLASS W..   handler H on a node, with an object of the class and all its words\n\
             \x20 client C, client C B       client C, which puts 1, or B (1 to 4), entries into one Log\n\
@@ -65,7 +69,6 @@ fn world_command<'a>(alloc: Global) -> Result<Command<'a>, AllocError> {
             Each event prints what it did: `done`, `silent`, `sent I KIND`, a handler's or a client's note, `began`, \
             `ran`, `restarted`, `reopened`, or `refused` and why. The end prints what happened: the common list of \
             blocks, what opened and what ran at each handler, and what each client accepted.\n\n",
-            classes!(),
             "Statuses: 0; 1 for a fault of the script, told as `scoop: line N: TEXT`; 2 for the command line; 3 for \
             memory or output.\n\n\
             Example: printf 'handler 1 1 cell 0\\nclient 7\\ntrip 7 1\\n' | scoop world --echo",
@@ -125,14 +128,13 @@ fn answer_command<'a>(
 ) -> Result<Command<'a>, AllocError> {
     Command::new(alloc, "answer")
         .about("Answers the datagrams of standard input, with one line for each")
-        .long_about(concat!(
+        .long_about(with_classes!(
             "Runs one handler with one object, and gives it the datagrams of standard input. Each line is one \
             datagram in hex digits of either case; spaces are skipped. Each is answered with one line: the reply \
             in hex digits, or `none` and what the handler did, or `refused` and why the datagram is no frame. \
             What clients have logged is run as soon as it may run. With a file, each state is stored there \
             before the reply is printed, and the handler begins with the state that is stored: --class has to be \
             that of the handler that is stored there, and --word counts for a new handler alone.\n\n",
-            classes!(),
             "Statuses: 0; 1 for a fault of the input, told as `scoop: line N: TEXT`; 2 for the command line; 3 for \
             memory, output, or the store, told as `scoop: store: NAME`.\n\n\
             Example: scoop frame Hello 1 7 1 | scoop answer",
