@@ -32,7 +32,7 @@ pub fn command<'a>(alloc: Global, class_names: &'a [&'a str]) -> Result<Command<
 
 // The help of a command that runs objects, with the table of classes inside.
 macro_rules! with_classes {
-    ($front:literal, $back:literal) => {
+    ($front:literal, $back:literal $(,)?) => {
         concat!(
             $front,
             "Classes, their words and their operations by number:\n\
