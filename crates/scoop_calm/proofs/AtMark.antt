@@ -12,14 +12,14 @@ use Rattle.scoop_handler.specs.State.{HandlerState, IsState, HolderIsUnderWay, i
 use Rattle.scoop_handler.proofs.MarkLists.{All-mark_of, mark_of-client}
 use Rattle.scoop_handler.proofs.TableRows.{holder_from_test}
 use Rattle.scoop_reserve.specs.Handlers.{has}
-use Rattle.scoop_world.specs.World.{World, Site, Party, number_of, id_of, is_site, is_party, site_of, party_of}
-use Rattle.scoop_world.specs.Step.{Placement}
-use Rattle.scoop_world.specs.Reach.{IsReached}
-use Rattle.scoop_world.specs.Paper.{inc_of}
-use Rattle.scoop_world.proofs.Keys.{number_found}
-use Rattle.scoop_world.proofs.Order.Facts.{PartyFits, IsNamed, all_found}
-use Rattle.scoop_world.proofs.Logging.Greetings.{IsMarkUpto, MarksUpto, inc_there}
-use Rattle.scoop_world.proofs.Knowing.Facts.{PartyKnown}
+use Rattle.scoop_model.specs.World.{World, Site, Party, number_of, id_of, is_site, is_party, site_of, party_of}
+use Rattle.scoop_model.specs.Step.{Placement}
+use Rattle.scoop_model.specs.Reach.{IsReached}
+use Rattle.scoop_rules.specs.Paper.{inc_of}
+use Rattle.scoop_model.proofs.Keys.{number_found}
+use Rattle.scoop_model.proofs.Order.Facts.{PartyFits, IsNamed, all_found}
+use Rattle.scoop_model.proofs.Logging.Greetings.{IsMarkUpto, MarksUpto, inc_there}
+use Rattle.scoop_model.proofs.Knowing.Facts.{PartyKnown}
 use Rattle.scoop_calm.proofs.Totals.{Member, all_member}
 use Rattle.scoop_calm.proofs.Marked.{MarkFits}
 use Rattle.scoop_calm.proofs.MarkedRuns.{SiteMarked}

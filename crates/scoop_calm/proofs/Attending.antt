@@ -16,14 +16,14 @@ use Rattle.scoop_reserve.specs.Handlers.{has, is_lowest}
 use Rattle.scoop_reserve.specs.State.{ReservationState}
 use Rattle.scoop_client.specs.Line.{LineState, line_of}
 use Rattle.scoop_client.specs.State.{ClientState}
-use Rattle.scoop_world.specs.World.{World, Site, Party, number_of, id_of, is_site, is_party, site_of, party_of, set_site, set_party, count_in, greatest_count}
-use Rattle.scoop_world.specs.Step.{reopened}
-use Rattle.scoop_world.specs.Paper.{inc_of}
-use Rattle.scoop_world.proofs.Events.{by_test}
-use Rattle.scoop_world.proofs.Keys.{by_site, by_party, id_found}
-use Rattle.scoop_world.proofs.Order.Facts.{SiteFits, all_more_of}
-use Rattle.scoop_world.proofs.Order.Handlers.{state_anew}
-use Rattle.scoop_world.proofs.Whole.Sent.{count_itself}
+use Rattle.scoop_model.specs.World.{World, Site, Party, number_of, id_of, is_site, is_party, site_of, party_of, set_site, set_party, count_in, greatest_count}
+use Rattle.scoop_model.specs.Step.{reopened}
+use Rattle.scoop_rules.specs.Paper.{inc_of}
+use Rattle.scoop_model.proofs.Events.{by_test}
+use Rattle.scoop_model.proofs.Keys.{by_site, by_party, id_found}
+use Rattle.scoop_model.proofs.Order.Facts.{SiteFits, all_more_of}
+use Rattle.scoop_model.proofs.Order.Handlers.{state_anew}
+use Rattle.scoop_model.proofs.Whole.Sent.{count_itself}
 use Rattle.scoop_calm.proofs.Totals.{Member}
 use Rattle.scoop_calm.proofs.Leaving.{IsReleasedIn, IsOverIn}
 

@@ -24,15 +24,15 @@ use Rattle.scoop_client.specs.Hearing.{heard, stepped, after_step, up_to}
 use Rattle.scoop_client.specs.Commands.{Outcome}
 use Rattle.scoop_client.specs.Rows.{HeardRow, passed_over, is_welcomed, takes_step, is_acknowledged, is_accepted}
 use Rattle.scoop_client.proofs.Rows.{heard_row}
-use Rattle.scoop_world.specs.World.{World, greatest_count}
-use Rattle.scoop_world.proofs.Events.{by_test}
-use Rattle.scoop_world.proofs.Order.Clients.{has_without, is_gone_one, none_in_empty}
-use Rattle.scoop_world.proofs.Logging.Facts.{LineFits, LinesFit}
-use Rattle.scoop_world.proofs.Logging.Lines.{handlers_at, by_line, by_all, handlers_at_line, fits_acknowledged}
-use Rattle.scoop_world.proofs.Logging.OpeningClients.{unlocking_is}
+use Rattle.scoop_model.specs.World.{World, greatest_count}
+use Rattle.scoop_model.proofs.Events.{by_test}
+use Rattle.scoop_model.proofs.Order.Clients.{has_without, is_gone_one, none_in_empty}
+use Rattle.scoop_model.proofs.Logging.Facts.{LineFits, LinesFit}
+use Rattle.scoop_model.proofs.Logging.Lines.{handlers_at, by_line, by_all, handlers_at_line, fits_acknowledged}
+use Rattle.scoop_model.proofs.Logging.OpeningClients.{unlocking_is}
 use Rattle.scoop_calm.proofs.Handlers.{gone_without, lowest_has, lowest_below}
 use Rattle.scoop_calm.proofs.Attending.{IsOver, IsReleased, AskedAt, Goes, Attends, ClientAttends, PartyAttends}
-use Rattle.scoop_world.specs.World.{log_of}
+use Rattle.scoop_model.specs.World.{log_of}
 
 -- the client goes on to another state: where it had asked, it is at work still, or the handler is done with its block
 pub record Follows (w : World) (c d : ClientState) : Type 0 where

@@ -26,30 +26,30 @@ use Rattle.scoop_client.specs.Hearing.{heard}
 use Rattle.scoop_client.specs.Rows.{DueRow, owes_nothing, greets, reserves, logs}
 use Rattle.scoop_client.proofs.DueRows.{due_row}
 use Rattle.scoop_client.proofs.Rows.{heard_row}
-use Rattle.scoop_world.specs.World.{World, Site, Party, BlockLog, number_of, id_of, is_site, is_party, site_of, party_of, set_site, set_party, sent_at, greatest_count, ran_at}
-use Rattle.scoop_world.specs.Step.{Placement, Newcomer, opening, newest_block, core_command, commanded_world, with_sent, heard_site, heard_world, heard_party, with_site, begun_site, finished_site, restarted_party, reopened_world}
-use Rattle.scoop_world.specs.Safe.{HasRun, numbered, untold}
-use Rattle.scoop_world.specs.Paper.{inc_of}
-use Rattle.scoop_world.proofs.Events.{Changes}
-use Rattle.scoop_world.proofs.Keys.{by_party, site_put, id_found, number_found}
-use Rattle.scoop_world.proofs.Sound.Owed.{OwedRow, asks, opens, unlocks, gives_back, owed_row}
-use Rattle.scoop_world.proofs.Sound.Facts.{Sound}
-use Rattle.scoop_world.proofs.Sound.Steps.{sent_all}
-use Rattle.scoop_world.proofs.Order.Facts.{PartyFits, Ordered, all_found, all_pushed}
-use Rattle.scoop_world.proofs.Order.Handlers.{sent_tells}
-use Rattle.scoop_world.proofs.Order.Clients.{keeps_row}
-use Rattle.scoop_world.proofs.Order.Commands.{goes_on}
-use Rattle.scoop_world.proofs.Logging.Facts.{LinesFit, PartyLogs, Logging}
-use Rattle.scoop_world.proofs.Logging.Lines.{line_handler, found_has}
-use Rattle.scoop_world.proofs.Logging.Greetings.{place}
-use Rattle.scoop_world.proofs.Logging.Openings.{StageOpened, Openings}
-use Rattle.scoop_world.proofs.Logging.OpeningClients.{unlocking_is}
-use Rattle.scoop_world.proofs.Logging.OpeningSteps.{none_reserved}
-use Rattle.scoop_world.proofs.Answering.Facts.{TellsAnswer, Answering}
-use Rattle.scoop_world.proofs.Rules.Standing.{Standing}
-use Rattle.scoop_world.proofs.Tape.Slots.{Slot, ran_in, ran_of}
-use Rattle.scoop_world.proofs.Whole.Slots.{SlotWhole}
-use Rattle.scoop_world.proofs.Whole.Facts.{SiteTaped, Taped}
+use Rattle.scoop_model.specs.World.{World, Site, Party, BlockLog, number_of, id_of, is_site, is_party, site_of, party_of, set_site, set_party, sent_at, greatest_count, ran_at}
+use Rattle.scoop_model.specs.Step.{Placement, Newcomer, opening, newest_block, core_command, commanded_world, with_sent, heard_site, heard_world, heard_party, with_site, begun_site, finished_site, restarted_party, reopened_world}
+use Rattle.scoop_model.specs.Safe.{HasRun, numbered, untold}
+use Rattle.scoop_rules.specs.Paper.{inc_of}
+use Rattle.scoop_model.proofs.Events.{Changes}
+use Rattle.scoop_model.proofs.Keys.{by_party, site_put, id_found, number_found}
+use Rattle.scoop_model.proofs.Sound.Owed.{OwedRow, asks, opens, unlocks, gives_back, owed_row}
+use Rattle.scoop_model.proofs.Sound.Facts.{Sound}
+use Rattle.scoop_model.proofs.Sound.Steps.{sent_all}
+use Rattle.scoop_model.proofs.Order.Facts.{PartyFits, Ordered, all_found, all_pushed}
+use Rattle.scoop_model.proofs.Order.Handlers.{sent_tells}
+use Rattle.scoop_model.proofs.Order.Clients.{keeps_row}
+use Rattle.scoop_model.proofs.Order.Commands.{goes_on}
+use Rattle.scoop_model.proofs.Logging.Facts.{LinesFit, PartyLogs, Logging}
+use Rattle.scoop_model.proofs.Logging.Lines.{line_handler, found_has}
+use Rattle.scoop_model.proofs.Logging.Greetings.{place}
+use Rattle.scoop_model.proofs.Logging.Openings.{StageOpened, Openings}
+use Rattle.scoop_model.proofs.Logging.OpeningClients.{unlocking_is}
+use Rattle.scoop_model.proofs.Logging.OpeningSteps.{none_reserved}
+use Rattle.scoop_model.proofs.Answering.Facts.{TellsAnswer, Answering}
+use Rattle.scoop_model.proofs.Rules.Standing.{Standing}
+use Rattle.scoop_model.proofs.Tape.Slots.{Slot, ran_in, ran_of}
+use Rattle.scoop_model.proofs.Whole.Slots.{SlotWhole}
+use Rattle.scoop_model.proofs.Whole.Facts.{SiteTaped, Taped}
 use Rattle.scoop_calm.proofs.Totals.{Member}
 use Rattle.scoop_calm.proofs.Members.{sent_member}
 use Rattle.scoop_calm.proofs.Handlers.{lowest_has}

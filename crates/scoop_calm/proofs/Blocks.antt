@@ -24,20 +24,20 @@ use Rattle.scoop_reserve.specs.declared.stage.Stage.TheVariants.{Locking, Openin
 use Rattle.scoop_reserve.specs.Handlers.{has, is_empty}
 use Rattle.scoop_reserve.specs.Hearing.{is_given_up_in}
 use Rattle.scoop_reserve.specs.State.{ReservationState}
-use Rattle.scoop_world.specs.World.{World, Site, Party, number_of, id_of, site_of, party_of}
-use Rattle.scoop_world.specs.Step.{Placement}
-use Rattle.scoop_world.specs.Reach.{IsReached}
-use Rattle.scoop_world.specs.Paper.{inc_of}
-use Rattle.scoop_world.proofs.Events.{by_test}
-use Rattle.scoop_world.proofs.Keys.{id_found}
-use Rattle.scoop_world.proofs.Reaching.{sites_apart, sites_placed}
-use Rattle.scoop_world.proofs.Order.Lists.{same_block_itself}
-use Rattle.scoop_world.proofs.Order.Holding.{IsHeldIn}
-use Rattle.scoop_world.proofs.Order.Facts.{SiteFits}
-use Rattle.scoop_world.proofs.Logging.Greetings.{IsMarkUpto, MarksUpto}
-use Rattle.scoop_world.proofs.Logging.Openings.{NoOpen, IsMarkOpened, SiteOpened}
-use Rattle.scoop_world.proofs.Knowing.Facts.{PartyKnown}
-use Rattle.scoop_world.proofs.Rules.Front.{left_has}
+use Rattle.scoop_model.specs.World.{World, Site, Party, number_of, id_of, site_of, party_of}
+use Rattle.scoop_model.specs.Step.{Placement}
+use Rattle.scoop_model.specs.Reach.{IsReached}
+use Rattle.scoop_rules.specs.Paper.{inc_of}
+use Rattle.scoop_model.proofs.Events.{by_test}
+use Rattle.scoop_model.proofs.Keys.{id_found}
+use Rattle.scoop_model.proofs.Reaching.{sites_apart, sites_placed}
+use Rattle.scoop_model.proofs.Order.Lists.{same_block_itself}
+use Rattle.scoop_model.proofs.Order.Holding.{IsHeldIn}
+use Rattle.scoop_model.proofs.Order.Facts.{SiteFits}
+use Rattle.scoop_model.proofs.Logging.Greetings.{IsMarkUpto, MarksUpto}
+use Rattle.scoop_model.proofs.Logging.Openings.{NoOpen, IsMarkOpened, SiteOpened}
+use Rattle.scoop_model.proofs.Knowing.Facts.{PartyKnown}
+use Rattle.scoop_model.proofs.Rules.Front.{left_has}
 use Rattle.scoop_calm.proofs.Resting.{IsSettled, HasGivenBack, GaveBack}
 use Rattle.scoop_calm.proofs.Totals.{Member, all_member, distinct, member_found, found_member}
 use Rattle.scoop_calm.proofs.Handlers.{Filled, none, some, filled, has_head}

@@ -7,10 +7,10 @@ use Rattle.scoop_reserve.specs.declared.stage.Stage.{Stage}
 use Rattle.scoop_reserve.specs.declared.stage.Stage.TheVariants.{Locking, Opening, Unlocking, GivingUp}
 use Rattle.scoop_reserve.specs.Handlers.{has}
 use Rattle.scoop_reserve.specs.State.{ReservationState}
-use Rattle.scoop_world.specs.World.{World, Party, id_of, party_of}
-use Rattle.scoop_world.specs.Step.{Placement}
-use Rattle.scoop_world.specs.Reach.{IsReached}
-use Rattle.scoop_world.proofs.Reaching.{parties_apart}
+use Rattle.scoop_model.specs.World.{World, Party, id_of, party_of}
+use Rattle.scoop_model.specs.Step.{Placement}
+use Rattle.scoop_model.specs.Reach.{IsReached}
+use Rattle.scoop_model.proofs.Reaching.{parties_apart}
 use Rattle.scoop_calm.proofs.Resting.{IsWelcome, GaveBack, HasGivenBack, IsSettled}
 use Rattle.scoop_calm.proofs.Totals.{Member, distinct, member_found}
 use Rattle.scoop_calm.proofs.Handlers.{Filled, none, some, filled, has_head}

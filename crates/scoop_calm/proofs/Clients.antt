@@ -26,13 +26,13 @@ use Rattle.scoop_client.specs.Commands.{Command, Outcome, command, Reserve, DoCa
 use Rattle.scoop_client.specs.Rows.{HeardRow, passed_over, is_welcomed, takes_step, is_acknowledged, is_accepted, ReserveRow, begins_block, LogRow, is_logged, EndRow, ends_block, GiveUpRow, gives_up}
 use Rattle.scoop_client.proofs.Rows.{heard_row}
 use Rattle.scoop_client.proofs.CommandRows.{command_row}
-use Rattle.scoop_world.specs.World.{World, Party, is_party, set_party}
-use Rattle.scoop_world.specs.Step.{Placement, Newcomer, new_party, opening, core_command, heard_party, restarted_party}
-use Rattle.scoop_world.proofs.Events.{Changes, by_test}
-use Rattle.scoop_world.proofs.Order.Clients.{has_without}
-use Rattle.scoop_world.proofs.Order.Commands.{started_fresh}
-use Rattle.scoop_world.proofs.Order.Facts.{all_found, all_set_party}
-use Rattle.scoop_world.proofs.Logging.Commands.{running_is}
+use Rattle.scoop_model.specs.World.{World, Party, is_party, set_party}
+use Rattle.scoop_model.specs.Step.{Placement, Newcomer, new_party, opening, core_command, heard_party, restarted_party}
+use Rattle.scoop_model.proofs.Events.{Changes, by_test}
+use Rattle.scoop_model.proofs.Order.Clients.{has_without}
+use Rattle.scoop_model.proofs.Order.Commands.{started_fresh}
+use Rattle.scoop_model.proofs.Order.Facts.{all_found, all_set_party}
+use Rattle.scoop_model.proofs.Logging.Commands.{running_is}
 use Rattle.scoop_calm.proofs.Reserving.{Reserves, fresh_reserves, heard_reserves, give_up_reserves}
 use Rattle.scoop_calm.proofs.LinesGo.{LinesGo, fresh_go, logged_go, ended_go, counted_go, answered_go}
 

@@ -1,8 +1,8 @@
 -- From a world in which something useful can always be done, unless it rests, events lead to one that rests.
 use Rattle.std.proofs.Common.{◌⊎◌, ℕ, zero, suc, ◌<◌, ◌≤◌, List, [], ⊎_elim, arith}
-use Rattle.scoop_world.specs.declared.event.Event.{Event}
-use Rattle.scoop_world.specs.World.{World}
-use Rattle.scoop_world.specs.Reach.{IsReached}
+use Rattle.scoop_model.specs.declared.event.Event.{Event}
+use Rattle.scoop_model.specs.World.{World}
+use Rattle.scoop_model.specs.Reach.{IsReached}
 use Rattle.scoop_calm.specs.Settling.{Settles, stays}
 use Rattle.scoop_calm.proofs.Measures.{Less, for_clients, for_room, for_work, clients_left, room_left, work_left}
 

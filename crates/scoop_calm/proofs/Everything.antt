@@ -2,22 +2,22 @@
 use Rattle.std.proofs.Common.{true≢false, List, [], ◌∷◌, map, refl, sym, ap, ◌∙◌, subst}
 use Rattle.scoop_message.specs.declared.name.HandlerId.{HandlerId}
 use Rattle.std.specs.List.{AllByRecursion}
-use Rattle.scoop_world.specs.World.{World, Site}
-use Rattle.scoop_world.specs.Step.{Placement, Newcomer, new_party, opening}
-use Rattle.scoop_world.specs.Reach.{Run, IsReached}
-use Rattle.scoop_world.proofs.Events.{Changes, steps_kept}
-use Rattle.scoop_world.proofs.Sound.Runs.{both_kept}
-use Rattle.scoop_world.proofs.Order.Lists.{AreApart}
-use Rattle.scoop_world.proofs.Order.Joint.{joint_kept}
-use Rattle.scoop_world.proofs.Logging.OpeningRuns.{ToldMore, told_more_kept, opens_told_more}
-use Rattle.scoop_world.proofs.Answering.Facts.{Answering}
-use Rattle.scoop_world.proofs.Answering.Runs.{answering_kept, opens_answering}
-use Rattle.scoop_world.proofs.Rules.Standing.{Standing}
-use Rattle.scoop_world.proofs.Rules.StandingRuns.{standing_kept, opens_standing}
-use Rattle.scoop_world.proofs.Whole.Facts.{Taped}
-use Rattle.scoop_world.proofs.Whole.Steps.{taped_kept, opens_taped}
-use Rattle.scoop_world.proofs.Knowing.Facts.{PartyKnown, Knowing}
-use Rattle.scoop_world.proofs.Knowing.Runs.{knowing_kept}
+use Rattle.scoop_model.specs.World.{World, Site}
+use Rattle.scoop_model.specs.Step.{Placement, Newcomer, new_party, opening}
+use Rattle.scoop_model.specs.Reach.{Run, IsReached}
+use Rattle.scoop_model.proofs.Events.{Changes, steps_kept}
+use Rattle.scoop_model.proofs.Sound.Runs.{both_kept}
+use Rattle.scoop_model.proofs.Order.Lists.{AreApart}
+use Rattle.scoop_model.proofs.Order.Joint.{joint_kept}
+use Rattle.scoop_model.proofs.Logging.OpeningRuns.{ToldMore, told_more_kept, opens_told_more}
+use Rattle.scoop_model.proofs.Answering.Facts.{Answering}
+use Rattle.scoop_model.proofs.Answering.Runs.{answering_kept, opens_answering}
+use Rattle.scoop_model.proofs.Rules.Standing.{Standing}
+use Rattle.scoop_model.proofs.Rules.StandingRuns.{standing_kept, opens_standing}
+use Rattle.scoop_model.proofs.Whole.Facts.{Taped}
+use Rattle.scoop_model.proofs.Whole.Steps.{taped_kept, opens_taped}
+use Rattle.scoop_model.proofs.Knowing.Facts.{PartyKnown, Knowing}
+use Rattle.scoop_model.proofs.Knowing.Runs.{knowing_kept}
 use Rattle.scoop_calm.proofs.Clients.{AllFit, fit_kept, opens_fit}
 use Rattle.scoop_calm.proofs.MarkedRuns.{Marked, marked_kept, opens_marked}
 use Rattle.scoop_calm.proofs.Attending.{Attending}

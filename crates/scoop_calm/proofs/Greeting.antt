@@ -22,16 +22,16 @@ use Rattle.scoop_client.specs.declared.phase.ClientNote.TheVariants.{Welcomed}
 use Rattle.scoop_client.specs.State.{ClientState, with_left}
 use Rattle.scoop_client.specs.Due.{due_in_block}
 use Rattle.scoop_client.specs.Hearing.{heard, hear_welcome, ignored}
-use Rattle.scoop_world.specs.World.{World, Site, Party, number_of, id_of, is_site, is_party, site_of, party_of}
-use Rattle.scoop_world.specs.Step.{Placement}
-use Rattle.scoop_world.specs.Reach.{IsReached}
-use Rattle.scoop_world.specs.Paper.{inc_of}
-use Rattle.scoop_world.proofs.Events.{by_test}
-use Rattle.scoop_world.proofs.Keys.{number_found}
-use Rattle.scoop_world.proofs.Reaching.{sites_placed}
-use Rattle.scoop_world.proofs.Order.Facts.{all_found}
-use Rattle.scoop_world.proofs.Logging.Greetings.{IsMarkUpto, MarksUpto, inc_there, place}
-use Rattle.scoop_world.proofs.Knowing.Facts.{PartyKnown}
+use Rattle.scoop_model.specs.World.{World, Site, Party, number_of, id_of, is_site, is_party, site_of, party_of}
+use Rattle.scoop_model.specs.Step.{Placement}
+use Rattle.scoop_model.specs.Reach.{IsReached}
+use Rattle.scoop_rules.specs.Paper.{inc_of}
+use Rattle.scoop_model.proofs.Events.{by_test}
+use Rattle.scoop_model.proofs.Keys.{number_found}
+use Rattle.scoop_model.proofs.Reaching.{sites_placed}
+use Rattle.scoop_model.proofs.Order.Facts.{all_found}
+use Rattle.scoop_model.proofs.Logging.Greetings.{IsMarkUpto, MarksUpto, inc_there, place}
+use Rattle.scoop_model.proofs.Knowing.Facts.{PartyKnown}
 use Rattle.scoop_calm.proofs.Handlers.{itself, less_without}
 use Rattle.scoop_calm.proofs.Clients.{PartyFitsWell}
 use Rattle.scoop_calm.proofs.MarkedRuns.{SiteMarked}

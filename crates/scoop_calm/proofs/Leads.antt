@@ -1,14 +1,14 @@
 -- Events by which a world settles are a list of events, none of which is refused.
 use Rattle.std.proofs.Common.{◌≡◌, ℕ, ◌+◌, List, [], ◌∷◌, length, ap, ◌∙◌, arith}
 use Rattle.std.specs.Prelude.{Some, Ok}
-use Rattle.scoop_world.specs.declared.event.Event.{Event}
-use Rattle.scoop_world.specs.declared.event.Event.TheVariants.{Do, Tick, Take, Begin, Finish}
-use Rattle.scoop_world.specs.declared.event.Command.TheVariants.{End}
-use Rattle.scoop_world.specs.declared.note.WorldNote.{WorldNote}
-use Rattle.scoop_world.specs.declared.note.WorldNote.TheVariants as note
-use Rattle.scoop_world.specs.World.{World}
-use Rattle.scoop_world.specs.Step.{step}
-use Rattle.scoop_world.specs.Reach.{Run, next, run_after, Leads}
+use Rattle.scoop_model.specs.declared.event.Event.{Event}
+use Rattle.scoop_model.specs.declared.event.Event.TheVariants.{Do, Tick, Take, Begin, Finish}
+use Rattle.scoop_model.specs.declared.event.Command.TheVariants.{End}
+use Rattle.scoop_model.specs.declared.note.WorldNote.{WorldNote}
+use Rattle.scoop_model.specs.declared.note.WorldNote.TheVariants as note
+use Rattle.scoop_model.specs.World.{World}
+use Rattle.scoop_model.specs.Step.{step}
+use Rattle.scoop_model.specs.Reach.{Run, next, run_after, Leads}
 use Rattle.scoop_calm.specs.Settling.{Settles, stays, begins, finishes, ends, asks}
 
 one : (n : ℕ) (w v u : World) (es : List Event) (x : Event) (t : WorldNote) → step w x ≡ Ok (v, t) → run_after (n + 1) v es ≡ (u, Ok (n + 1 + length es)) → run_after n w (x ∷ es) ≡ (u, Ok (n + length (x ∷ es)))

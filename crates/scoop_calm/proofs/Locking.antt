@@ -29,16 +29,16 @@ use Rattle.scoop_reserve.specs.Hearing as reservation
 use Rattle.scoop_client.specs.declared.phase.ClientNote.TheVariants.{Locked as LockedNote}
 use Rattle.scoop_client.specs.State.{ClientState}
 use Rattle.scoop_client.specs.Hearing.{heard, hear_step, after_step, stepped}
-use Rattle.scoop_world.specs.World.{World, Site, Party, number_of, id_of, is_site, site_of, party_of, has_block}
-use Rattle.scoop_world.specs.Step.{Placement, newest_block}
-use Rattle.scoop_world.specs.Reach.{IsReached}
-use Rattle.scoop_world.proofs.Events.{by_test}
-use Rattle.scoop_world.proofs.Keys.{number_found}
-use Rattle.scoop_world.proofs.Order.Lists.{same_block_itself}
-use Rattle.scoop_world.proofs.Order.Facts.{SiteFits, IsNamed, all_found}
-use Rattle.scoop_world.proofs.Logging.Greetings.{place}
-use Rattle.scoop_world.proofs.Logging.Openings.{NoOpen, IsOpenedAtAll, IsGivenUp, Shows, StageOpened}
-use Rattle.scoop_world.proofs.Rules.Front.{left_has}
+use Rattle.scoop_model.specs.World.{World, Site, Party, number_of, id_of, is_site, site_of, party_of, has_block}
+use Rattle.scoop_model.specs.Step.{Placement, newest_block}
+use Rattle.scoop_model.specs.Reach.{IsReached}
+use Rattle.scoop_model.proofs.Events.{by_test}
+use Rattle.scoop_model.proofs.Keys.{number_found}
+use Rattle.scoop_model.proofs.Order.Lists.{same_block_itself}
+use Rattle.scoop_model.proofs.Order.Facts.{SiteFits, IsNamed, all_found}
+use Rattle.scoop_model.proofs.Logging.Greetings.{place}
+use Rattle.scoop_model.proofs.Logging.Openings.{NoOpen, IsOpenedAtAll, IsGivenUp, Shows, StageOpened}
+use Rattle.scoop_model.proofs.Rules.Front.{left_has}
 use Rattle.scoop_calm.proofs.Resting.{IsSettled}
 use Rattle.scoop_calm.proofs.Totals.{Member, all_member, total}
 use Rattle.scoop_calm.proofs.Handlers.{Filled, none, some, filled, less_without, lowest_has, lowest_of}

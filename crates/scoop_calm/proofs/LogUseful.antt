@@ -26,12 +26,12 @@ use Rattle.scoop_client.specs.Line.{LineState, logged, first_entries, line_of}
 use Rattle.scoop_client.specs.State.{ClientState}
 use Rattle.scoop_client.specs.Due.{due}
 use Rattle.scoop_client.specs.Hearing.{Notice, heard, up_to}
-use Rattle.scoop_world.specs.World.{World, Site, Party, number_of, id_of, is_site, site_of, party_of}
-use Rattle.scoop_world.specs.Step.{Placement, heard_site, heard_party}
-use Rattle.scoop_world.specs.Reach.{IsReached}
-use Rattle.scoop_world.proofs.Events.{by_test}
-use Rattle.scoop_world.proofs.Order.Facts.{all_found}
-use Rattle.scoop_world.proofs.Logging.Greetings.{place}
+use Rattle.scoop_model.specs.World.{World, Site, Party, number_of, id_of, is_site, site_of, party_of}
+use Rattle.scoop_model.specs.Step.{Placement, heard_site, heard_party}
+use Rattle.scoop_model.specs.Reach.{IsReached}
+use Rattle.scoop_model.proofs.Events.{by_test}
+use Rattle.scoop_model.proofs.Order.Facts.{all_found}
+use Rattle.scoop_model.proofs.Logging.Greetings.{place}
 use Rattle.scoop_calm.proofs.Totals.{Member, total}
 use Rattle.scoop_calm.proofs.Measures.{client_work, mark_room, site_room, for_room, parties_total, sites_total}
 use Rattle.scoop_calm.proofs.Engine.{Useful}

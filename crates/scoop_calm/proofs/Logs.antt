@@ -22,17 +22,17 @@ use Rattle.scoop_client.specs.Line.{LineState, logged, first_entries, line_of}
 use Rattle.scoop_client.specs.State.{ClientState}
 use Rattle.scoop_client.specs.Due.{due, due_in_block, due_after, due_line}
 use Rattle.scoop_client.proofs.Batches.{is_batch}
-use Rattle.scoop_world.specs.World.{World, Site, Party, number_of, id_of, is_site, is_party, party_of, has_block, log_of, greatest_count}
-use Rattle.scoop_world.specs.Step.{Placement}
-use Rattle.scoop_world.specs.Reach.{IsReached}
-use Rattle.scoop_world.proofs.Events.{by_test}
-use Rattle.scoop_world.proofs.Sound.Facts.{HasBatch}
-use Rattle.scoop_world.proofs.Order.Facts.{all_found}
-use Rattle.scoop_world.proofs.Logging.Facts.{LineFits}
-use Rattle.scoop_world.proofs.Logging.Lines.{line_handler, first_of_all}
-use Rattle.scoop_world.proofs.Logging.Openings.{StageOpened}
-use Rattle.scoop_world.proofs.Whole.Marks.{MarkTold}
-use Rattle.scoop_world.proofs.Whole.Facts.{SiteTaped}
+use Rattle.scoop_model.specs.World.{World, Site, Party, number_of, id_of, is_site, is_party, party_of, has_block, log_of, greatest_count}
+use Rattle.scoop_model.specs.Step.{Placement}
+use Rattle.scoop_model.specs.Reach.{IsReached}
+use Rattle.scoop_model.proofs.Events.{by_test}
+use Rattle.scoop_model.proofs.Sound.Facts.{HasBatch}
+use Rattle.scoop_model.proofs.Order.Facts.{all_found}
+use Rattle.scoop_model.proofs.Logging.Facts.{LineFits}
+use Rattle.scoop_model.proofs.Logging.Lines.{line_handler, first_of_all}
+use Rattle.scoop_model.proofs.Logging.Openings.{StageOpened}
+use Rattle.scoop_model.proofs.Whole.Marks.{MarkTold}
+use Rattle.scoop_model.proofs.Whole.Facts.{SiteTaped}
 use Rattle.scoop_calm.proofs.Marked.{MarkFits}
 use Rattle.scoop_calm.proofs.MarkedRuns.{SiteMarked}
 use Rattle.scoop_calm.proofs.Sending.{IsDue}

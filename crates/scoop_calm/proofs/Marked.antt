@@ -26,15 +26,15 @@ use Rattle.scoop_handler.specs.Running.{mark_after}
 use Rattle.scoop_handler.specs.Rows.{Row, first_greeting, newer_greeting, lock_granted, open_granted, unlock_new, unlock_holder, log_taken}
 use Rattle.scoop_handler.proofs.MarkLists.{mark_of-client, All-mark_of, All-set_mark, All-add_mark}
 use Rattle.scoop_handler.proofs.TableLaws.{block_of-same}
-use Rattle.scoop_world.specs.World.{World, log_of, handlers_of}
-use Rattle.scoop_world.specs.Safe.{numbered, untold}
-use Rattle.scoop_world.proofs.Events.{by_test}
-use Rattle.scoop_world.proofs.Stands.{Stands}
-use Rattle.scoop_world.proofs.Order.Lists.{same_block_is}
-use Rattle.scoop_world.proofs.Order.Holding.{Upto, IsReachedIn}
-use Rattle.scoop_world.proofs.Order.Facts.{IsNamed}
-use Rattle.scoop_world.proofs.Logging.Facts.{Grown}
-use Rattle.scoop_world.proofs.Tape.Slots.{Slot, ran_in, ran_of}
+use Rattle.scoop_model.specs.World.{World, log_of, handlers_of}
+use Rattle.scoop_model.specs.Safe.{numbered, untold}
+use Rattle.scoop_model.proofs.Events.{by_test}
+use Rattle.scoop_model.proofs.Stands.{Stands}
+use Rattle.scoop_model.proofs.Order.Lists.{same_block_is}
+use Rattle.scoop_model.proofs.Order.Holding.{Upto, IsReachedIn}
+use Rattle.scoop_model.proofs.Order.Facts.{IsNamed}
+use Rattle.scoop_model.proofs.Logging.Facts.{Grown}
+use Rattle.scoop_model.proofs.Tape.Slots.{Slot, ran_in, ran_of}
 use Rattle.scoop_calm.proofs.Totals.{Member}
 
 -- ---- one mark

@@ -22,24 +22,24 @@ use Rattle.scoop_client.specs.Hearing.{heard}
 use Rattle.scoop_client.specs.Rows.{DueRow, owes_nothing, greets, reserves, logs}
 use Rattle.scoop_client.proofs.DueRows.{due_row}
 use Rattle.scoop_client.proofs.Rows.{heard_row}
-use Rattle.scoop_world.specs.World.{World, Site, Party, number_of, is_site, is_party, site_of, set_site, set_party, sent_at, handlers_of}
-use Rattle.scoop_world.specs.Step.{Placement, Newcomer, new_site, new_party, opening, newest_block, commanded_world, with_sent, heard_site, heard_world, heard_party, with_site, with_party, begun_site, finished_site, restarted_party, reopened, reopened_world}
-use Rattle.scoop_world.proofs.Events.{Changes, by_test}
-use Rattle.scoop_world.proofs.Sound.Owed.{OwedRow, asks, opens, unlocks, gives_back, owed_row}
-use Rattle.scoop_world.proofs.Sound.Facts.{Sound}
-use Rattle.scoop_world.proofs.Sound.Steps.{sent_all}
-use Rattle.scoop_world.proofs.Order.Sets.{handlers_after}
-use Rattle.scoop_world.proofs.Order.Facts.{Tells, SiteFits, PartyFits, Ordered, all_more_of, all_found, all_set_site, all_set_party}
-use Rattle.scoop_world.proofs.Order.Handlers.{sent_tells}
-use Rattle.scoop_world.proofs.Order.Clients.{keeps_row}
-use Rattle.scoop_world.proofs.Order.Commands.{goes_on}
-use Rattle.scoop_world.proofs.Logging.Facts.{Carries, Logging, grown_same}
-use Rattle.scoop_world.proofs.Logging.Commands.{commanded_grown}
-use Rattle.scoop_world.proofs.Logging.Openings.{Shows, Openings}
-use Rattle.scoop_world.proofs.Order.Holding.{IsReachedIn}
-use Rattle.scoop_world.proofs.Tape.Slots.{Slot}
-use Rattle.scoop_world.proofs.Whole.Slots.{SlotWhole}
-use Rattle.scoop_world.proofs.Whole.Facts.{SiteTaped, Taped}
+use Rattle.scoop_model.specs.World.{World, Site, Party, number_of, is_site, is_party, site_of, set_site, set_party, sent_at, handlers_of}
+use Rattle.scoop_model.specs.Step.{Placement, Newcomer, new_site, new_party, opening, newest_block, commanded_world, with_sent, heard_site, heard_world, heard_party, with_site, with_party, begun_site, finished_site, restarted_party, reopened, reopened_world}
+use Rattle.scoop_model.proofs.Events.{Changes, by_test}
+use Rattle.scoop_model.proofs.Sound.Owed.{OwedRow, asks, opens, unlocks, gives_back, owed_row}
+use Rattle.scoop_model.proofs.Sound.Facts.{Sound}
+use Rattle.scoop_model.proofs.Sound.Steps.{sent_all}
+use Rattle.scoop_model.proofs.Order.Sets.{handlers_after}
+use Rattle.scoop_model.proofs.Order.Facts.{Tells, SiteFits, PartyFits, Ordered, all_more_of, all_found, all_set_site, all_set_party}
+use Rattle.scoop_model.proofs.Order.Handlers.{sent_tells}
+use Rattle.scoop_model.proofs.Order.Clients.{keeps_row}
+use Rattle.scoop_model.proofs.Order.Commands.{goes_on}
+use Rattle.scoop_model.proofs.Logging.Facts.{Carries, Logging, grown_same}
+use Rattle.scoop_model.proofs.Logging.Commands.{commanded_grown}
+use Rattle.scoop_model.proofs.Logging.Openings.{Shows, Openings}
+use Rattle.scoop_model.proofs.Order.Holding.{IsReachedIn}
+use Rattle.scoop_model.proofs.Tape.Slots.{Slot}
+use Rattle.scoop_model.proofs.Whole.Slots.{SlotWhole}
+use Rattle.scoop_model.proofs.Whole.Facts.{SiteTaped, Taped}
 use Rattle.scoop_calm.proofs.Totals.{Member}
 use Rattle.scoop_calm.proofs.Members.{member_more, member_pushed, sent_member}
 use Rattle.scoop_calm.proofs.Marked.{MarkFits, MarksFit, Further, mark_more, IsGiven, marked-row, marked-after, ran_reached}

@@ -11,9 +11,9 @@ use Rattle.scoop_reserve.specs.declared.stage.Stage.TheVariants.{Locking, Openin
 use Rattle.scoop_reserve.specs.State.{ReservationState}
 use Rattle.scoop_client.specs.Line.{LineState}
 use Rattle.scoop_client.specs.State.{ClientState}
-use Rattle.scoop_world.specs.World.{World, Site, Party, number_of, id_of, site_of, party_of, set_site, set_party}
-use Rattle.scoop_world.specs.Reach.{IsReached}
-use Rattle.scoop_world.proofs.Reaching.{sites_apart, parties_apart}
+use Rattle.scoop_model.specs.World.{World, Site, Party, number_of, id_of, site_of, party_of, set_site, set_party}
+use Rattle.scoop_model.specs.Reach.{IsReached}
+use Rattle.scoop_model.proofs.Reaching.{sites_apart, parties_apart}
 use Rattle.scoop_calm.proofs.Totals.{total, distinct, total_newer}
 
 -- ---- a client

@@ -11,11 +11,11 @@ use Rattle.scoop_handler.proofs.MarkLists.{mark_of-client}
 use Rattle.scoop_reserve.specs.Handlers.{is_empty}
 use Rattle.scoop_client.specs.declared.phase.Phase.TheVariants.{Greeting}
 use Rattle.scoop_client.specs.State.{phase_of_block}
-use Rattle.scoop_world.specs.declared.event.Event.{Event}
-use Rattle.scoop_world.specs.World.{World, Site, Party, number_of}
-use Rattle.scoop_world.specs.Step.{Placement}
-use Rattle.scoop_world.specs.Reach.{IsReached, Leads}
-use Rattle.scoop_world.proofs.Order.Lists.{same_block_itself}
+use Rattle.scoop_model.specs.declared.event.Event.{Event}
+use Rattle.scoop_model.specs.World.{World, Site, Party, number_of}
+use Rattle.scoop_model.specs.Step.{Placement}
+use Rattle.scoop_model.specs.Reach.{IsReached, Leads}
+use Rattle.scoop_model.proofs.Order.Lists.{same_block_itself}
 use Rattle.scoop_calm.specs.Settling.{Settles, IsIdle, IsFree, Calm}
 use Rattle.scoop_calm.proofs.Resting.{HasRunOut, IsSettled}
 use Rattle.scoop_calm.proofs.Totals.{Member, each_or, all_member}

@@ -11,14 +11,14 @@ use Rattle.scoop_handler.specs.Marks.{is_open, block_of, mark_of}
 use Rattle.scoop_handler.specs.State.{IsState, IsUnused, IsUnusedUnlessOpen, HasMark}
 use Rattle.scoop_handler.proofs.Beside.{no_queue_yet, HasMark-fits}
 use Rattle.scoop_handler.proofs.MarkLists.{All-mark_of}
-use Rattle.scoop_world.specs.World.{World, Site, number_of, has_block, greatest_count}
-use Rattle.scoop_world.proofs.Events.{by_test}
-use Rattle.scoop_world.proofs.Order.Lists.{same_block_is}
-use Rattle.scoop_world.proofs.Order.Holding.{Upto, IsReachedIn}
-use Rattle.scoop_world.proofs.Tape.Slots.{Slot, slot_queue, queue_at, queues_of, blocks_of}
-use Rattle.scoop_world.proofs.Whole.Marks.{MarkTold}
-use Rattle.scoop_world.proofs.Whole.Slots.{IsPassed, IsDone, SlotWhole}
-use Rattle.scoop_world.proofs.Whole.Facts.{SiteTaped}
+use Rattle.scoop_model.specs.World.{World, Site, number_of, has_block, greatest_count}
+use Rattle.scoop_model.proofs.Events.{by_test}
+use Rattle.scoop_model.proofs.Order.Lists.{same_block_is}
+use Rattle.scoop_model.proofs.Order.Holding.{Upto, IsReachedIn}
+use Rattle.scoop_model.proofs.Tape.Slots.{Slot, slot_queue, queue_at, queues_of, blocks_of}
+use Rattle.scoop_model.proofs.Whole.Marks.{MarkTold}
+use Rattle.scoop_model.proofs.Whole.Slots.{IsPassed, IsDone, SlotWhole}
+use Rattle.scoop_model.proofs.Whole.Facts.{SiteTaped}
 use Rattle.scoop_calm.proofs.Totals.{Member, all_member}
 use Rattle.scoop_calm.proofs.Members.{member_more}
 

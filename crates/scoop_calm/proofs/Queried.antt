@@ -14,13 +14,13 @@ use Rattle.scoop_object.specs.Class.{ClassTable}
 use Rattle.scoop_object.specs.Effect.{eff}
 use Rattle.scoop_object.specs.Play.{entry_effect}
 use Rattle.scoop_handler.specs.declared.ran.Ran.{Ran}
-use Rattle.scoop_world.proofs.Answering.Objects.{AnswersFrom}
-use Rattle.scoop_world.proofs.Tape.Slots.{Slot, ran_in, ran_of}
-use Rattle.scoop_world.proofs.Tape.Fits.{IsBegun}
+use Rattle.scoop_model.proofs.Answering.Objects.{AnswersFrom}
+use Rattle.scoop_model.proofs.Tape.Slots.{Slot, ran_in, ran_of}
+use Rattle.scoop_model.proofs.Tape.Fits.{IsBegun}
 use Rattle.scoop_queue.proofs.Lookup.{same_block-sym}
-use Rattle.scoop_world.specs.Safe.{numbered, untold}
-use Rattle.scoop_world.proofs.Events.{by_test}
-use Rattle.scoop_world.proofs.Order.Lists.{same_block_itself}
+use Rattle.scoop_model.specs.Safe.{numbered, untold}
+use Rattle.scoop_model.proofs.Events.{by_test}
+use Rattle.scoop_model.proofs.Order.Lists.{same_block_itself}
 use Rattle.scoop_calm.proofs.Marked.{next_answer, last_answer}
 
 and_false : (t : Bool) → (t && false) ≡ false

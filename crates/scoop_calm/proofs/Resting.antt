@@ -4,7 +4,7 @@ use Rattle.scoop_queue.specs.Queue.{front}
 use Rattle.scoop_reserve.specs.declared.stage.Stage.{Stage}
 use Rattle.scoop_reserve.specs.declared.stage.Stage.TheVariants.{Locking, Opening, Unlocking, GivingUp}
 use Rattle.scoop_reserve.specs.State.{ReservationState}
-use Rattle.scoop_world.specs.World.{Site, Party}
+use Rattle.scoop_model.specs.World.{Site, Party}
 
 -- no job is out, and none can go out
 pub record HasRunOut (s : Site) : Type 0 where

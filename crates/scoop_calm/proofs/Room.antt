@@ -14,13 +14,13 @@ use Rattle.scoop_handler.specs.declared.mark.Mark.{Mark}
 use Rattle.scoop_handler.specs.Marks.{mark_of}
 use Rattle.scoop_handler.specs.State.{IsAscending}
 use Rattle.scoop_reserve.specs.Handlers.{has, without}
-use Rattle.scoop_world.specs.World.{World, Party, is_party, party_of, newer_party}
-use Rattle.scoop_world.specs.Step.{Placement, new_party, opening}
-use Rattle.scoop_world.specs.Paper.{inc_of}
-use Rattle.scoop_world.specs.Reach.{Run, IsReached}
-use Rattle.scoop_world.proofs.Events.{Changes, by_test, steps_kept}
-use Rattle.scoop_world.proofs.Order.Clients.{is_gone_one}
-use Rattle.scoop_world.proofs.Logging.Greetings.{IsMarkUpto}
+use Rattle.scoop_model.specs.World.{World, Party, is_party, party_of, newer_party}
+use Rattle.scoop_model.specs.Step.{Placement, new_party, opening}
+use Rattle.scoop_rules.specs.Paper.{inc_of}
+use Rattle.scoop_model.specs.Reach.{Run, IsReached}
+use Rattle.scoop_model.proofs.Events.{Changes, by_test, steps_kept}
+use Rattle.scoop_model.proofs.Order.Clients.{is_gone_one}
+use Rattle.scoop_model.proofs.Logging.Greetings.{IsMarkUpto}
 use Rattle.scoop_calm.proofs.Handlers.{NoTwice, less_without}
 use Rattle.scoop_calm.proofs.Marked.{MarkFits}
 

@@ -12,11 +12,11 @@ use Rattle.scoop_handler.specs.declared.mark.Mark.{Mark}
 use Rattle.scoop_handler.specs.Core.{IsCore}
 use Rattle.scoop_handler.specs.Running.{Task, task_of, first_task, ready, job_out, ran_of, mark_after}
 use Rattle.scoop_handler.proofs.After.{job-front}
-use Rattle.scoop_world.specs.World.{World, Site, number_of, site_of}
-use Rattle.scoop_world.specs.Step.{with_site, begun_site, finished_site}
-use Rattle.scoop_world.specs.Reach.{IsReached}
-use Rattle.scoop_world.proofs.Events.{by_test}
-use Rattle.scoop_world.proofs.Reaching.{sites_apart}
+use Rattle.scoop_model.specs.World.{World, Site, number_of, site_of}
+use Rattle.scoop_model.specs.Step.{with_site, begun_site, finished_site}
+use Rattle.scoop_model.specs.Reach.{IsReached}
+use Rattle.scoop_model.proofs.Events.{by_test}
+use Rattle.scoop_model.proofs.Reaching.{sites_apart}
 use Rattle.scoop_calm.proofs.Resting.{HasRunOut}
 use Rattle.scoop_calm.proofs.Totals.{each_or, all_member, total, distinct, member_found}
 use Rattle.scoop_calm.proofs.Measures.{mark_room, site_room, queue_work, runs_left, site_work, Less, for_work, sites_total}

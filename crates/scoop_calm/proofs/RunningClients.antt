@@ -12,11 +12,11 @@ use Rattle.scoop_reserve.specs.Handlers.{has}
 use Rattle.scoop_reserve.specs.State.{ReservationState}
 use Rattle.scoop_client.specs.Line.{LineState, is_ended, all_over, line_of, lower, lowest_full_after}
 use Rattle.scoop_client.specs.State.{ClientState}
-use Rattle.scoop_world.specs.World.{World, Site, Party, id_of, site_of, party_of}
-use Rattle.scoop_world.specs.Step.{Placement}
-use Rattle.scoop_world.specs.Reach.{IsReached}
-use Rattle.scoop_world.proofs.Events.{by_test}
-use Rattle.scoop_world.proofs.Logging.Lines.{handlers_at, found_has}
+use Rattle.scoop_model.specs.World.{World, Site, Party, id_of, site_of, party_of}
+use Rattle.scoop_model.specs.Step.{Placement}
+use Rattle.scoop_model.specs.Reach.{IsReached}
+use Rattle.scoop_model.proofs.Events.{by_test}
+use Rattle.scoop_model.proofs.Logging.Lines.{handlers_at, found_has}
 use Rattle.scoop_calm.proofs.Totals.{Member, each_or}
 use Rattle.scoop_calm.proofs.Handlers.{NoTwice, itself}
 use Rattle.scoop_calm.proofs.Clients.{BlockFits}

@@ -3,8 +3,8 @@ use Rattle.std.proofs.Common.{◌≡◌, ◌⊎◌, inl, inr, ℕ, zero, suc, �
 use Rattle.std.specs.Prelude.{⊤, if◌then◌else◌}
 use Rattle.std.specs.Bool.{Decides}
 use Rattle.std.specs.List.{AllByRecursion}
-use Rattle.scoop_world.specs.Safe.{NoRepeats}
-use Rattle.scoop_world.proofs.Events.{by_test}
+use Rattle.scoop_model.specs.Safe.{NoRepeats}
+use Rattle.scoop_model.proofs.Events.{by_test}
 
 -- the item stands in the list
 abbrev pub Member : {A : Type 0} → A → List A → Type 0

@@ -25,15 +25,15 @@ use Rattle.scoop_client.specs.declared.phase.ClientNote.TheVariants.{Unlocked as
 use Rattle.scoop_client.specs.State.{ClientState}
 use Rattle.scoop_client.specs.Due.{due, due_in_block, due_after}
 use Rattle.scoop_client.specs.Hearing.{heard, hear_step, after_step, stepped}
-use Rattle.scoop_world.specs.World.{World, Party, number_of, id_of, is_party, party_of}
-use Rattle.scoop_world.specs.Step.{Placement, newest_block}
-use Rattle.scoop_world.specs.Reach.{IsReached}
-use Rattle.scoop_world.proofs.Events.{by_test}
-use Rattle.scoop_world.proofs.Order.Lists.{same_block_itself}
-use Rattle.scoop_world.proofs.Order.Clients.{none_in_empty}
-use Rattle.scoop_world.proofs.Order.Facts.{all_found}
-use Rattle.scoop_world.proofs.Logging.Facts.{LinesFit, PartyLogs}
-use Rattle.scoop_world.proofs.Logging.Greetings.{place}
+use Rattle.scoop_model.specs.World.{World, Party, number_of, id_of, is_party, party_of}
+use Rattle.scoop_model.specs.Step.{Placement, newest_block}
+use Rattle.scoop_model.specs.Reach.{IsReached}
+use Rattle.scoop_model.proofs.Events.{by_test}
+use Rattle.scoop_model.proofs.Order.Lists.{same_block_itself}
+use Rattle.scoop_model.proofs.Order.Clients.{none_in_empty}
+use Rattle.scoop_model.proofs.Order.Facts.{all_found}
+use Rattle.scoop_model.proofs.Logging.Facts.{LinesFit, PartyLogs}
+use Rattle.scoop_model.proofs.Logging.Greetings.{place}
 use Rattle.scoop_calm.proofs.Handlers.{less_without}
 use Rattle.scoop_calm.proofs.Clients.{BlockFits, PartyFitsWell}
 use Rattle.scoop_calm.proofs.Measures.{stage_work}

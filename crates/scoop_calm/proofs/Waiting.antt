@@ -21,19 +21,19 @@ use Rattle.scoop_reserve.specs.declared.stage.Stage.TheVariants.{Unlocking}
 use Rattle.scoop_reserve.specs.Handlers.{has}
 use Rattle.scoop_reserve.specs.State.{ReservationState}
 use Rattle.scoop_client.specs.Line.{LineState, logged, line_of}
-use Rattle.scoop_world.specs.World.{World, Site, Party, number_of, id_of, is_site, party_of, has_block, log_of, greatest_count}
-use Rattle.scoop_world.specs.Step.{Placement}
-use Rattle.scoop_world.specs.Safe.{HasRun, numbered}
-use Rattle.scoop_world.specs.Reach.{IsReached}
-use Rattle.scoop_world.proofs.Events.{by_test}
-use Rattle.scoop_world.proofs.Order.Facts.{SiteFits, all_found}
-use Rattle.scoop_world.proofs.Answering.Facts.{SiteAnswers}
-use Rattle.scoop_world.proofs.Answering.Kept.{KeepsRan}
-use Rattle.scoop_world.proofs.Order.Lists.{AreApart}
-use Rattle.scoop_world.proofs.Tape.Slots.{slot_queue, blocks_of}
-use Rattle.scoop_world.proofs.Tape.Shown.{left_apart, slot_parts}
-use Rattle.scoop_world.proofs.Whole.Slots.{SlotWhole}
-use Rattle.scoop_world.proofs.Whole.Facts.{SiteTaped}
+use Rattle.scoop_model.specs.World.{World, Site, Party, number_of, id_of, is_site, party_of, has_block, log_of, greatest_count}
+use Rattle.scoop_model.specs.Step.{Placement}
+use Rattle.scoop_model.specs.Safe.{HasRun, numbered}
+use Rattle.scoop_model.specs.Reach.{IsReached}
+use Rattle.scoop_model.proofs.Events.{by_test}
+use Rattle.scoop_model.proofs.Order.Facts.{SiteFits, all_found}
+use Rattle.scoop_model.proofs.Answering.Facts.{SiteAnswers}
+use Rattle.scoop_model.proofs.Answering.Kept.{KeepsRan}
+use Rattle.scoop_model.proofs.Order.Lists.{AreApart}
+use Rattle.scoop_model.proofs.Tape.Slots.{slot_queue, blocks_of}
+use Rattle.scoop_model.proofs.Tape.Shown.{left_apart, slot_parts}
+use Rattle.scoop_model.proofs.Whole.Slots.{SlotWhole}
+use Rattle.scoop_model.proofs.Whole.Facts.{SiteTaped}
 use Rattle.scoop_calm.proofs.Totals.{Member, all_member}
 use Rattle.scoop_calm.proofs.Members.{member_last}
 use Rattle.scoop_calm.proofs.Marked.{last_answer}

@@ -9,12 +9,12 @@ use Rattle.scoop_handler.specs.declared.ran.Ran.{Ran}
 use Rattle.scoop_client.specs.declared.phase.ClientNote.{ClientNote}
 use Rattle.scoop_client.specs.declared.phase.Phase.TheVariants.{Idle}
 use Rattle.scoop_client.specs.State.{phase_of}
-use Rattle.scoop_world.specs.declared.event.Command.TheVariants.{End}
-use Rattle.scoop_world.specs.declared.event.Event.{Event}
-use Rattle.scoop_world.specs.declared.event.Event.TheVariants.{Do, Tick, Take, Begin, Finish}
-use Rattle.scoop_world.specs.declared.note.WorldNote.TheVariants as note
-use Rattle.scoop_world.specs.World.{World, Site, Party}
-use Rattle.scoop_world.specs.Step.{step}
+use Rattle.scoop_model.specs.declared.event.Command.TheVariants.{End}
+use Rattle.scoop_model.specs.declared.event.Event.{Event}
+use Rattle.scoop_model.specs.declared.event.Event.TheVariants.{Do, Tick, Take, Begin, Finish}
+use Rattle.scoop_model.specs.declared.note.WorldNote.TheVariants as note
+use Rattle.scoop_model.specs.World.{World, Site, Party}
+use Rattle.scoop_model.specs.Step.{step}
 
 -- ---- events
 

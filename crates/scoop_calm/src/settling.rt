@@ -1,9 +1,9 @@
 //! What a world can come to, however it got where it is.
 
 ghost use Rattle.std.specs.Prelude.{List};
-ghost use Rattle.scoop_world.specs.declared.event.Event.{Event};
-ghost use Rattle.scoop_world.specs.World.{World};
-ghost use Rattle.scoop_world.specs.Reach.{IsReached, Leads};
+ghost use Rattle.scoop_model.specs.declared.event.Event.{Event};
+ghost use Rattle.scoop_model.specs.World.{World};
+ghost use Rattle.scoop_model.specs.Reach.{IsReached, Leads};
 ghost use Rattle.scoop_calm.specs.Settling.{Settles, Calm};
 
 /// A world is never stuck: from every world that can be reached, whatever was lost, repeated or delayed and whoever
