@@ -25,7 +25,7 @@ use Rattle.scoop_client.specs.Commands.{Outcome}
 use Rattle.scoop_client.specs.Rows.{HeardRow, passed_over, is_welcomed, takes_step, is_acknowledged, is_accepted}
 use Rattle.scoop_client.proofs.Rows.{heard_row}
 use Rattle.scoop_model.specs.World.{World, greatest_count}
-use Rattle.scoop_model.proofs.Events.{by_test}
+use Rattle.scoop_model.proofs.Basics.{by_test}
 use Rattle.scoop_model.proofs.Order.Clients.{has_without, is_gone_one, none_in_empty}
 use Rattle.scoop_model.proofs.Logging.Facts.{LineFits, LinesFit}
 use Rattle.scoop_model.proofs.Logging.Lines.{handlers_at, by_line, by_all, handlers_at_line, fits_acknowledged}

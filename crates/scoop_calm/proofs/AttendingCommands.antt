@@ -17,7 +17,7 @@ use Rattle.scoop_client.specs.Commands.{Command, Outcome, command, Reserve, DoCa
 use Rattle.scoop_client.specs.Rows.{ReserveRow, begins_block, LogRow, is_logged, EndRow, ends_block, GiveUpRow, gives_up}
 use Rattle.scoop_client.proofs.CommandRows.{command_row}
 use Rattle.scoop_model.specs.World.{World}
-use Rattle.scoop_model.proofs.Events.{by_test}
+use Rattle.scoop_model.proofs.Basics.{by_test}
 use Rattle.scoop_model.proofs.Order.Commands.{started_fresh}
 use Rattle.scoop_model.proofs.Logging.Lines.{fresh_found}
 use Rattle.scoop_calm.proofs.Handlers.{in_asked}

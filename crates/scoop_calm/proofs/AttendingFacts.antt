@@ -24,14 +24,14 @@ use Rattle.scoop_reserve.specs.Handlers.{has}
 use Rattle.scoop_reserve.specs.State.{ReservationState}
 use Rattle.scoop_client.specs.Line.{LineState, is_over, line_of, all_over}
 use Rattle.scoop_model.specs.World.{World, Site, number_of, is_site, has_block, log_of, greatest_count}
-use Rattle.scoop_model.proofs.Events.{by_test}
+use Rattle.scoop_model.proofs.Basics.{by_test}
 use Rattle.scoop_model.proofs.Keys.{number_found}
 use Rattle.scoop_model.proofs.Order.Holding.{IsReachedIn, upto_itself, reached_more}
 use Rattle.scoop_model.proofs.Order.Facts.{SiteFits, Ordered, all_found}
 use Rattle.scoop_model.proofs.Logging.Lines.{handlers_at}
 use Rattle.scoop_model.proofs.Logging.Openings.{NoOpen, IsMarkOpened, SiteOpened, Openings}
-use Rattle.scoop_model.proofs.Rules.Front.{left_has}
-use Rattle.scoop_model.proofs.Rules.Standing.{Standing}
+use Rattle.scoop_rules.proofs.Front.{left_has}
+use Rattle.scoop_model.proofs.Standing.Facts.{Standing}
 use Rattle.scoop_model.proofs.Whole.Marks.{MarkTold}
 use Rattle.scoop_model.proofs.Whole.Facts.{SiteTaped, Taped}
 use Rattle.scoop_calm.proofs.Marked.{MarkFits}

@@ -46,7 +46,7 @@ use Rattle.scoop_model.proofs.Logging.Openings.{StageOpened, Openings}
 use Rattle.scoop_model.proofs.Logging.OpeningClients.{unlocking_is}
 use Rattle.scoop_model.proofs.Logging.OpeningSteps.{none_reserved}
 use Rattle.scoop_model.proofs.Answering.Facts.{TellsAnswer, Answering}
-use Rattle.scoop_model.proofs.Rules.Standing.{Standing}
+use Rattle.scoop_model.proofs.Standing.Facts.{Standing}
 use Rattle.scoop_model.proofs.Tape.Slots.{Slot, ran_in, ran_of}
 use Rattle.scoop_model.proofs.Whole.Slots.{SlotWhole}
 use Rattle.scoop_model.proofs.Whole.Facts.{SiteTaped, Taped}

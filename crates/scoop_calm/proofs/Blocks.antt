@@ -28,7 +28,7 @@ use Rattle.scoop_model.specs.World.{World, Site, Party, number_of, id_of, site_o
 use Rattle.scoop_model.specs.Step.{Placement}
 use Rattle.scoop_model.specs.Reach.{IsReached}
 use Rattle.scoop_rules.specs.Paper.{inc_of}
-use Rattle.scoop_model.proofs.Events.{by_test}
+use Rattle.scoop_model.proofs.Basics.{by_test}
 use Rattle.scoop_model.proofs.Keys.{id_found}
 use Rattle.scoop_model.proofs.Reaching.{sites_apart, sites_placed}
 use Rattle.scoop_model.proofs.Order.Lists.{same_block_itself}
@@ -37,7 +37,7 @@ use Rattle.scoop_model.proofs.Order.Facts.{SiteFits}
 use Rattle.scoop_model.proofs.Logging.Greetings.{IsMarkUpto, MarksUpto}
 use Rattle.scoop_model.proofs.Logging.Openings.{NoOpen, IsMarkOpened, SiteOpened}
 use Rattle.scoop_model.proofs.Knowing.Facts.{PartyKnown}
-use Rattle.scoop_model.proofs.Rules.Front.{left_has}
+use Rattle.scoop_rules.proofs.Front.{left_has}
 use Rattle.scoop_calm.proofs.Resting.{IsSettled, HasGivenBack, GaveBack}
 use Rattle.scoop_calm.proofs.Totals.{Member, all_member, distinct, member_found, found_member}
 use Rattle.scoop_calm.proofs.Handlers.{Filled, none, some, filled, has_head}

@@ -28,7 +28,8 @@ use Rattle.scoop_client.proofs.Rows.{heard_row}
 use Rattle.scoop_client.proofs.CommandRows.{command_row}
 use Rattle.scoop_model.specs.World.{World, Party, is_party, set_party}
 use Rattle.scoop_model.specs.Step.{Placement, Newcomer, new_party, opening, core_command, heard_party, restarted_party}
-use Rattle.scoop_model.proofs.Events.{Changes, by_test}
+use Rattle.scoop_model.proofs.Basics.{by_test}
+use Rattle.scoop_model.proofs.Events.{Changes}
 use Rattle.scoop_model.proofs.Order.Clients.{has_without}
 use Rattle.scoop_model.proofs.Order.Commands.{started_fresh}
 use Rattle.scoop_model.proofs.Order.Facts.{all_found, all_set_party}

@@ -14,7 +14,7 @@ use Rattle.scoop_client.specs.declared.phase.ClientNote.TheVariants.{Acknowledge
 use Rattle.scoop_client.specs.Line.{LineState, logged, newly, acknowledged, line_of, at_line, all_over}
 use Rattle.scoop_client.specs.State.{ClientState, with_lines, idle}
 use Rattle.scoop_client.specs.Hearing.{Notice, heard, hear_logged, hear_count, hear_answer, hear_answer_to, settled, ignored, is_open_block, up_to}
-use Rattle.scoop_model.proofs.Events.{by_test}
+use Rattle.scoop_model.proofs.Basics.{by_test}
 use Rattle.scoop_model.proofs.Order.Lists.{same_block_itself}
 use Rattle.scoop_calm.proofs.Measures.{client_work, block_work, stage_work, lines_work, line_work, wait_work}
 

@@ -7,9 +7,9 @@ use Rattle.scoop_queue.specs.Queue.{PrivateQueue, first_of, front}
 use Rattle.scoop_queue.specs.declared.state.QueueState.{QueueState}
 use Rattle.scoop_model.specs.World.{has_block}
 use Rattle.scoop_model.specs.Safe.{IsSubsequence, nothing, left_out, taken}
-use Rattle.scoop_model.proofs.Events.{by_test}
+use Rattle.scoop_model.proofs.Basics.{by_test}
 use Rattle.scoop_model.proofs.Order.Lists.{AreApart, same_block_is, same_block_itself}
-use Rattle.scoop_model.proofs.Rules.Front.{left_has}
+use Rattle.scoop_rules.proofs.Front.{left_has}
 use Rattle.scoop_model.proofs.Tape.Slots.{Slot, slot_queue, queue_at, queues_of, blocks_of}
 use Rattle.scoop_calm.proofs.Totals.{Member}
 

@@ -12,8 +12,8 @@ use Rattle.scoop_model.proofs.Order.Joint.{joint_kept}
 use Rattle.scoop_model.proofs.Logging.OpeningRuns.{ToldMore, told_more_kept, opens_told_more}
 use Rattle.scoop_model.proofs.Answering.Facts.{Answering}
 use Rattle.scoop_model.proofs.Answering.Runs.{answering_kept, opens_answering}
-use Rattle.scoop_model.proofs.Rules.Standing.{Standing}
-use Rattle.scoop_model.proofs.Rules.StandingRuns.{standing_kept, opens_standing}
+use Rattle.scoop_model.proofs.Standing.Facts.{Standing}
+use Rattle.scoop_model.proofs.Standing.Runs.{standing_kept, opens_standing}
 use Rattle.scoop_model.proofs.Whole.Facts.{Taped}
 use Rattle.scoop_model.proofs.Whole.Steps.{taped_kept, opens_taped}
 use Rattle.scoop_model.proofs.Knowing.Facts.{PartyKnown, Knowing}

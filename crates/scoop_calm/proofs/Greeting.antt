@@ -26,7 +26,7 @@ use Rattle.scoop_model.specs.World.{World, Site, Party, number_of, id_of, is_sit
 use Rattle.scoop_model.specs.Step.{Placement}
 use Rattle.scoop_model.specs.Reach.{IsReached}
 use Rattle.scoop_rules.specs.Paper.{inc_of}
-use Rattle.scoop_model.proofs.Events.{by_test}
+use Rattle.scoop_model.proofs.Basics.{by_test}
 use Rattle.scoop_model.proofs.Keys.{number_found}
 use Rattle.scoop_model.proofs.Reaching.{sites_placed}
 use Rattle.scoop_model.proofs.Order.Facts.{all_found}

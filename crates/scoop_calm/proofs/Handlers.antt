@@ -7,7 +7,7 @@ use Rattle.scoop_message.specs.declared.name.HandlerId.{HandlerId}
 use Rattle.scoop_message.specs.Message.{same_handler}
 use Rattle.scoop_message.proofs.Same.{handler_decides}
 use Rattle.scoop_reserve.specs.Handlers.{has, without, is_empty, is_lowest, asked, first_unknown, first_repeated, first_repeated_after}
-use Rattle.scoop_model.proofs.Events.{by_test}
+use Rattle.scoop_model.proofs.Basics.{by_test}
 
 pub itself : (h : HandlerId) → same_handler h h ≡ true
 itself h = (handler_decides h h).1 refl

@@ -23,7 +23,7 @@ use Rattle.scoop_handler.proofs.After.{mark_of-after, MarksGrow-after}
 use Rattle.scoop_handler.proofs.Beside.{apart_blocks}
 use Rattle.scoop_handler.proofs.States.{roomy}
 use Rattle.scoop_handler.proofs.TableLaws.{block_of-same, held_holds, grows-row}
-use Rattle.scoop_model.proofs.Events.{by_test}
+use Rattle.scoop_model.proofs.Basics.{by_test}
 use Rattle.scoop_model.proofs.Order.Lists.{same_block_itself}
 use Rattle.scoop_model.proofs.Order.Holding.{Upto, IsReachedIn, reached_more}
 use Rattle.scoop_calm.proofs.Marked.{below_at, older_num}

@@ -10,7 +10,7 @@ use Rattle.scoop_message.specs.declared.request.Entry.TheVariants.{End}
 use Rattle.scoop_message.specs.Entry.{is_query}
 use Rattle.scoop_message.specs.Message.{same_handler}
 use Rattle.scoop_client.specs.Line.{LineState, fresh_line, with_entry, with_end, newly, acknowledged, line_of, at_line, is_ended, all_over}
-use Rattle.scoop_model.proofs.Events.{by_test}
+use Rattle.scoop_model.proofs.Basics.{by_test}
 use Rattle.scoop_model.proofs.Logging.Lines.{StaysAt, by_line, by_all, fresh_found}
 
 -- each query of the line that isn't acknowledged is the one that waits

@@ -32,13 +32,13 @@ use Rattle.scoop_client.specs.Hearing.{heard, hear_step, after_step, stepped}
 use Rattle.scoop_model.specs.World.{World, Site, Party, number_of, id_of, is_site, site_of, party_of, has_block}
 use Rattle.scoop_model.specs.Step.{Placement, newest_block}
 use Rattle.scoop_model.specs.Reach.{IsReached}
-use Rattle.scoop_model.proofs.Events.{by_test}
+use Rattle.scoop_model.proofs.Basics.{by_test}
 use Rattle.scoop_model.proofs.Keys.{number_found}
 use Rattle.scoop_model.proofs.Order.Lists.{same_block_itself}
 use Rattle.scoop_model.proofs.Order.Facts.{SiteFits, IsNamed, all_found}
 use Rattle.scoop_model.proofs.Logging.Greetings.{place}
 use Rattle.scoop_model.proofs.Logging.Openings.{NoOpen, IsOpenedAtAll, IsGivenUp, Shows, StageOpened}
-use Rattle.scoop_model.proofs.Rules.Front.{left_has}
+use Rattle.scoop_rules.proofs.Front.{left_has}
 use Rattle.scoop_calm.proofs.Resting.{IsSettled}
 use Rattle.scoop_calm.proofs.Totals.{Member, all_member, total}
 use Rattle.scoop_calm.proofs.Handlers.{Filled, none, some, filled, less_without, lowest_has, lowest_of}

@@ -29,7 +29,7 @@ use Rattle.scoop_client.specs.Hearing.{Notice, heard, up_to}
 use Rattle.scoop_model.specs.World.{World, Site, Party, number_of, id_of, is_site, site_of, party_of}
 use Rattle.scoop_model.specs.Step.{Placement, heard_site, heard_party}
 use Rattle.scoop_model.specs.Reach.{IsReached}
-use Rattle.scoop_model.proofs.Events.{by_test}
+use Rattle.scoop_model.proofs.Basics.{by_test}
 use Rattle.scoop_model.proofs.Order.Facts.{all_found}
 use Rattle.scoop_model.proofs.Logging.Greetings.{place}
 use Rattle.scoop_calm.proofs.Totals.{Member, total}

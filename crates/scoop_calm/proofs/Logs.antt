@@ -25,7 +25,7 @@ use Rattle.scoop_client.proofs.Batches.{is_batch}
 use Rattle.scoop_model.specs.World.{World, Site, Party, number_of, id_of, is_site, is_party, party_of, has_block, log_of, greatest_count}
 use Rattle.scoop_model.specs.Step.{Placement}
 use Rattle.scoop_model.specs.Reach.{IsReached}
-use Rattle.scoop_model.proofs.Events.{by_test}
+use Rattle.scoop_model.proofs.Basics.{by_test}
 use Rattle.scoop_model.proofs.Sound.Facts.{HasBatch}
 use Rattle.scoop_model.proofs.Order.Facts.{all_found}
 use Rattle.scoop_model.proofs.Logging.Facts.{LineFits}

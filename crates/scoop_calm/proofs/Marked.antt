@@ -28,7 +28,7 @@ use Rattle.scoop_handler.proofs.MarkLists.{mark_of-client, All-mark_of, All-set_
 use Rattle.scoop_handler.proofs.TableLaws.{block_of-same}
 use Rattle.scoop_model.specs.World.{World, log_of, handlers_of}
 use Rattle.scoop_model.specs.Safe.{numbered, untold}
-use Rattle.scoop_model.proofs.Events.{by_test}
+use Rattle.scoop_model.proofs.Basics.{by_test}
 use Rattle.scoop_model.proofs.Stands.{Stands}
 use Rattle.scoop_model.proofs.Order.Lists.{same_block_is}
 use Rattle.scoop_model.proofs.Order.Holding.{Upto, IsReachedIn}

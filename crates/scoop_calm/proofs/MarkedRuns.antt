@@ -24,7 +24,8 @@ use Rattle.scoop_client.proofs.DueRows.{due_row}
 use Rattle.scoop_client.proofs.Rows.{heard_row}
 use Rattle.scoop_model.specs.World.{World, Site, Party, number_of, is_site, is_party, site_of, set_site, set_party, sent_at, handlers_of}
 use Rattle.scoop_model.specs.Step.{Placement, Newcomer, new_site, new_party, opening, newest_block, commanded_world, with_sent, heard_site, heard_world, heard_party, with_site, with_party, begun_site, finished_site, restarted_party, reopened, reopened_world}
-use Rattle.scoop_model.proofs.Events.{Changes, by_test}
+use Rattle.scoop_model.proofs.Basics.{by_test}
+use Rattle.scoop_model.proofs.Events.{Changes}
 use Rattle.scoop_model.proofs.Sound.Owed.{OwedRow, asks, opens, unlocks, gives_back, owed_row}
 use Rattle.scoop_model.proofs.Sound.Facts.{Sound}
 use Rattle.scoop_model.proofs.Sound.Steps.{sent_all}

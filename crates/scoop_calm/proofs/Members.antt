@@ -3,7 +3,7 @@ use Rattle.std.proofs.Common.{◌≡◌, ◌⊎◌, inl, inr, ℕ, zero, suc, �
 use Rattle.std.specs.Prelude.{if◌then◌else◌, option_to_list}
 use Rattle.scoop_message.specs.declared.message.Message.{Message}
 use Rattle.scoop_model.specs.World.{World, sent_at}
-use Rattle.scoop_model.proofs.Events.{by_test}
+use Rattle.scoop_model.proofs.Basics.{by_test}
 use Rattle.scoop_calm.proofs.Totals.{Member}
 
 pub member_more : {A : Type 0} (x : A) (xs ys : List A) → Member x xs → Member x (xs ++ ys)

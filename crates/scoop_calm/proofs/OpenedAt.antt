@@ -12,7 +12,7 @@ use Rattle.scoop_handler.specs.State.{IsState, IsUnused, IsUnusedUnlessOpen, Has
 use Rattle.scoop_handler.proofs.Beside.{no_queue_yet, HasMark-fits}
 use Rattle.scoop_handler.proofs.MarkLists.{All-mark_of}
 use Rattle.scoop_model.specs.World.{World, Site, number_of, has_block, greatest_count}
-use Rattle.scoop_model.proofs.Events.{by_test}
+use Rattle.scoop_model.proofs.Basics.{by_test}
 use Rattle.scoop_model.proofs.Order.Lists.{same_block_is}
 use Rattle.scoop_model.proofs.Order.Holding.{Upto, IsReachedIn}
 use Rattle.scoop_model.proofs.Tape.Slots.{Slot, slot_queue, queue_at, queues_of, blocks_of}

@@ -27,12 +27,12 @@ use Rattle.scoop_client.specs.Hearing.{heard, hear_step, after_step, stepped}
 use Rattle.scoop_model.specs.World.{World, Site, Party, number_of, id_of, is_site, site_of, party_of, has_block}
 use Rattle.scoop_model.specs.Step.{Placement, newest_block}
 use Rattle.scoop_model.specs.Reach.{IsReached}
-use Rattle.scoop_model.proofs.Events.{by_test}
+use Rattle.scoop_model.proofs.Basics.{by_test}
 use Rattle.scoop_model.proofs.Order.Lists.{same_block_itself}
 use Rattle.scoop_model.proofs.Order.Holding.{IsHeldIn}
 use Rattle.scoop_model.proofs.Order.Facts.{all_found}
 use Rattle.scoop_model.proofs.Logging.Greetings.{place}
-use Rattle.scoop_model.proofs.Rules.Standing.{IsPastIn, StandsIn, StandsAt, StageStands}
+use Rattle.scoop_model.proofs.Standing.Facts.{IsPastIn, StandsIn, StandsAt, StageStands}
 use Rattle.scoop_model.proofs.Whole.Facts.{SiteTaped}
 use Rattle.scoop_calm.proofs.Handlers.{less_without}
 use Rattle.scoop_calm.proofs.Measures.{stage_work}

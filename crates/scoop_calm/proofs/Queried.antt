@@ -19,7 +19,7 @@ use Rattle.scoop_model.proofs.Tape.Slots.{Slot, ran_in, ran_of}
 use Rattle.scoop_model.proofs.Tape.Fits.{IsBegun}
 use Rattle.scoop_queue.proofs.Lookup.{same_block-sym}
 use Rattle.scoop_model.specs.Safe.{numbered, untold}
-use Rattle.scoop_model.proofs.Events.{by_test}
+use Rattle.scoop_model.proofs.Basics.{by_test}
 use Rattle.scoop_model.proofs.Order.Lists.{same_block_itself}
 use Rattle.scoop_calm.proofs.Marked.{next_answer, last_answer}
 

@@ -15,12 +15,12 @@ use Rattle.scoop_reserve.specs.State.{ReservationState}
 use Rattle.scoop_model.specs.World.{World, Site, Party, number_of, id_of, has_block}
 use Rattle.scoop_model.specs.Step.{Placement}
 use Rattle.scoop_model.specs.Reach.{IsReached}
-use Rattle.scoop_model.proofs.Events.{by_test}
+use Rattle.scoop_model.proofs.Basics.{by_test}
 use Rattle.scoop_model.proofs.Order.Lists.{same_block_is, same_block_itself}
 use Rattle.scoop_model.proofs.Order.Holding.{IsHeldIn}
 use Rattle.scoop_model.proofs.Order.Facts.{SiteFits}
 use Rattle.scoop_model.proofs.Logging.Openings.{NoOpen, StageOpened}
-use Rattle.scoop_model.proofs.Rules.Front.{left_has}
+use Rattle.scoop_rules.proofs.Front.{left_has}
 use Rattle.scoop_model.proofs.Whole.Facts.{SiteTaped}
 use Rattle.scoop_calm.proofs.Resting.{HasRunOut, IsSettled}
 use Rattle.scoop_calm.proofs.Totals.{Member, each_or, all_member}

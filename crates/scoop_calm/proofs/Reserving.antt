@@ -17,7 +17,7 @@ use Rattle.scoop_reserve.specs.State.{ReservationState, at_stage}
 use Rattle.scoop_reserve.specs.Starting.{fresh, started, unless_repeated, unless_unknown}
 use Rattle.scoop_reserve.specs.Hearing.{is_gone, given_up, given_up_in}
 use Rattle.scoop_reserve.proofs.Rows.{HeardRow, passed_over, one_is_locked, all_are_locked, is_busy, one_is_opened, all_are_opened, is_unlocked, is_given_back}
-use Rattle.scoop_model.proofs.Events.{by_test}
+use Rattle.scoop_model.proofs.Basics.{by_test}
 use Rattle.scoop_model.proofs.Order.Clients.{has_without, is_gone_one}
 use Rattle.scoop_calm.proofs.Handlers.{Filled, none, some, filled, some_in, gone_without, lowest_has, lowest_below, lowest_of, from_filter, in_asked, all_known, NoTwice, none_repeated}
 

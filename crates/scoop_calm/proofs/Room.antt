@@ -18,7 +18,8 @@ use Rattle.scoop_model.specs.World.{World, Party, is_party, party_of, newer_part
 use Rattle.scoop_model.specs.Step.{Placement, new_party, opening}
 use Rattle.scoop_rules.specs.Paper.{inc_of}
 use Rattle.scoop_model.specs.Reach.{Run, IsReached}
-use Rattle.scoop_model.proofs.Events.{Changes, by_test, steps_kept}
+use Rattle.scoop_model.proofs.Basics.{by_test}
+use Rattle.scoop_model.proofs.Events.{Changes, steps_kept}
 use Rattle.scoop_model.proofs.Order.Clients.{is_gone_one}
 use Rattle.scoop_model.proofs.Logging.Greetings.{IsMarkUpto}
 use Rattle.scoop_calm.proofs.Handlers.{NoTwice, less_without}

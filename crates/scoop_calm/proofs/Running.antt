@@ -15,7 +15,7 @@ use Rattle.scoop_handler.proofs.After.{job-front}
 use Rattle.scoop_model.specs.World.{World, Site, number_of, site_of}
 use Rattle.scoop_model.specs.Step.{with_site, begun_site, finished_site}
 use Rattle.scoop_model.specs.Reach.{IsReached}
-use Rattle.scoop_model.proofs.Events.{by_test}
+use Rattle.scoop_model.proofs.Basics.{by_test}
 use Rattle.scoop_model.proofs.Reaching.{sites_apart}
 use Rattle.scoop_calm.proofs.Resting.{HasRunOut}
 use Rattle.scoop_calm.proofs.Totals.{each_or, all_member, total, distinct, member_found}

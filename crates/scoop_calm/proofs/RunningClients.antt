@@ -15,7 +15,7 @@ use Rattle.scoop_client.specs.State.{ClientState}
 use Rattle.scoop_model.specs.World.{World, Site, Party, id_of, site_of, party_of}
 use Rattle.scoop_model.specs.Step.{Placement}
 use Rattle.scoop_model.specs.Reach.{IsReached}
-use Rattle.scoop_model.proofs.Events.{by_test}
+use Rattle.scoop_model.proofs.Basics.{by_test}
 use Rattle.scoop_model.proofs.Logging.Lines.{handlers_at, found_has}
 use Rattle.scoop_calm.proofs.Totals.{Member, each_or}
 use Rattle.scoop_calm.proofs.Handlers.{NoTwice, itself}

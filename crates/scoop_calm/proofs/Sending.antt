@@ -20,7 +20,7 @@ use Rattle.scoop_handler.specs.Hearing.{is_new, hear_of, if_here, hear_log, drop
 use Rattle.scoop_calm.proofs.Totals.{total, Distinct, total_newer}
 use Rattle.scoop_calm.proofs.Measures.{mark_room}
 use Rattle.scoop_calm.proofs.Talk.{Replies, heard_of}
-use Rattle.scoop_model.proofs.Events.{by_test}
+use Rattle.scoop_model.proofs.Basics.{by_test}
 
 -- ---- marks are of different clients
 

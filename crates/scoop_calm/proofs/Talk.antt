@@ -21,7 +21,7 @@ use Rattle.scoop_client.specs.Hearing.{Notice, heard, stepped}
 use Rattle.scoop_model.specs.World.{World, Site, Party, number_of, id_of, is_site, site_of, party_of}
 use Rattle.scoop_model.specs.Step.{heard_party}
 use Rattle.scoop_model.specs.Reach.{IsReached}
-use Rattle.scoop_model.proofs.Events.{by_test}
+use Rattle.scoop_model.proofs.Basics.{by_test}
 use Rattle.scoop_calm.proofs.Handlers.{itself}
 use Rattle.scoop_calm.proofs.Measures.{client_work, block_work, stage_work, lines_work, wait_work, for_clients, parties_total}
 use Rattle.scoop_calm.proofs.Engine.{Useful}

@@ -28,7 +28,7 @@ use Rattle.scoop_client.specs.Hearing.{heard, hear_step, after_step, stepped}
 use Rattle.scoop_model.specs.World.{World, Party, number_of, id_of, is_party, party_of}
 use Rattle.scoop_model.specs.Step.{Placement, newest_block}
 use Rattle.scoop_model.specs.Reach.{IsReached}
-use Rattle.scoop_model.proofs.Events.{by_test}
+use Rattle.scoop_model.proofs.Basics.{by_test}
 use Rattle.scoop_model.proofs.Order.Lists.{same_block_itself}
 use Rattle.scoop_model.proofs.Order.Clients.{none_in_empty}
 use Rattle.scoop_model.proofs.Order.Facts.{all_found}

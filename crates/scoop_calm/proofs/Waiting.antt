@@ -25,7 +25,7 @@ use Rattle.scoop_model.specs.World.{World, Site, Party, number_of, id_of, is_sit
 use Rattle.scoop_model.specs.Step.{Placement}
 use Rattle.scoop_model.specs.Safe.{HasRun, numbered}
 use Rattle.scoop_model.specs.Reach.{IsReached}
-use Rattle.scoop_model.proofs.Events.{by_test}
+use Rattle.scoop_model.proofs.Basics.{by_test}
 use Rattle.scoop_model.proofs.Order.Facts.{SiteFits, all_found}
 use Rattle.scoop_model.proofs.Answering.Facts.{SiteAnswers}
 use Rattle.scoop_model.proofs.Answering.Kept.{KeepsRan}
