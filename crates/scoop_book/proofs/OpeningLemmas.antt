@@ -1,21 +1,19 @@
 -- How handlers open, one by one, and what is so of a book that has opened.
-use Rattle.std.proofs.Common.{◌≡◌, ◌⊎◌, ⊎_elim, inl, inr, ℕ, Bool, zero, suc, ◌<◌, List, [], ◌∷◌, ◌++◌, map, length, get_or, Option, Some, None, refl, sym, ap, ◌∙◌, subst, arith}
-use Rattle.std.specs.Prelude.{⊤, IfSome}
-use Rattle.std.specs.List.{AllByRecursion, AllZip, Any}
+use Rattle.std.proofs.Common.{◌≡◌, ◌⊎◌, ⊎_elim, inl, inr, ℕ, Bool, zero, suc, List, [], ◌∷◌, ◌++◌, map, Option, Some, None, refl, sym, ap, ◌∙◌, subst, arith}
+use Rattle.std.specs.Prelude.{IfSome}
+use Rattle.std.specs.List.{AllByRecursion, Any}
 use Rattle.std.proofs.lemmas.Slice.Zip.{all_zipped_more}
 use Rattle.scoop_message.specs.declared.name.HandlerId.{HandlerId}
 use Rattle.scoop_object.specs.Class.{ClassTable}
 use Rattle.scoop_handler.specs.State.{HandlerState}
-use Rattle.scoop_handler.specs.Running.{FitsClass}
 use Rattle.scoop_record.specs.Keeper.{Stored, Holds, Damaged, stored_of, IsTheOne, IsSame, Stays}
-use Rattle.scoop_record.specs.declared.keeper.KeeperError.{KeeperError}
 use Rattle.scoop_record.specs.declared.keeper.KeeperError.TheVariants as keeper
 use Rattle.scoop_book.specs.declared.error.OpenError.{OpenError}
 use Rattle.scoop_book.specs.declared.error.OpenError.TheVariants.{NoPasses, WrongClass, Repeated, Keeper, OutOfMemory}
 use Rattle.scoop_book.specs.Moves.{LocalHandler, Entry, NoRepeats, number_in}
 use Rattle.scoop_book.specs.Books.{HasStored, IsBook}
 use Rattle.scoop_book.specs.Kept.{HandlersValue, handlers_kept, book_kept}
-use Rattle.scoop_book.specs.Opening.{Handed, HasMisfit, IsLoadRefusal, IsUnopened, MayOpen, OpensAs, AllOpen, opening_handler, opening_state, numbers_of}
+use Rattle.scoop_book.specs.Opening.{Handed, IsLoadRefusal, IsUnopened, MayOpen, OpensAs, AllOpen, opening_state, numbers_of}
 
 -- ---- what a keeper had before some loads
 

@@ -1,5 +1,5 @@
 -- What `==` says of events and replies: it decides whether two are the same.
-use Rattle.std.proofs.Common.{◌≡◌, ◌&&◌, ◌==◌, ℕ, Option, ap}
+use Rattle.std.proofs.Common.{◌≡◌, ◌&&◌, ◌==◌, ℕ, ap}
 use Rattle.std.proofs.lemmas.Bool.Decides.{Decides-like, Decides-eqb}
 use Rattle.std.specs.Bool.{Decides}
 use Rattle.scoop_message.specs.declared.name.Block.{Block}

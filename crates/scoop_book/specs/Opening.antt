@@ -7,7 +7,6 @@ use Rattle.scoop_handler.specs.State.{HandlerState, new_state}
 use Rattle.scoop_handler.specs.Core.{core_of}
 use Rattle.scoop_handler.specs.Running.{FitsClass}
 use Rattle.scoop_record.specs.Keeper.{Stored, Holds, Damaged, stored_of, IsTheOne}
-use Rattle.scoop_record.specs.declared.keeper.KeeperError.{KeeperError}
 use Rattle.scoop_record.specs.declared.keeper.KeeperError.TheVariants as keeper
 use Rattle.scoop_book.specs.declared.error.OpenError.{OpenError}
 use Rattle.scoop_book.specs.declared.error.OpenError.TheVariants.{NoPasses, WrongClass, Repeated, Keeper, OutOfMemory}

@@ -85,12 +85,7 @@ fn open(handler: u32, client: u32) -> Event {
 fn log(handler: u32, client: u32, number: u32) -> Option<Event> {
     let args = Args::of(&[u64::from(number)]).ok()?;
     let entries = Entries::of(&[Entry::Call(Request { op: SET, args })]).ok()?;
-    Some(Event::Hear(Message::Log(
-        HandlerId(handler),
-        block(client),
-        number,
-        entries,
-    )))
+    Some(Event::Hear(Message::Log(HandlerId(handler), block(client), number, entries)))
 }
 
 /// A book of these cells over memory.

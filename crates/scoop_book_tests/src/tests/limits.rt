@@ -86,7 +86,10 @@ fn handlers_are_refused(rt: HostRuntime) -> Result<(), Fail> {
         _ => None,
     };
     let wrong = Some(OpenError::WrongClass(HandlerId(STRANGE)));
-    assert_eq!(rt; fault(&[1, 2, 2, 1]), Some(OpenError::Repeated(HandlerId(2))));
+    assert_eq!(rt;
+        fault(&[1, 2, 2, 1]),
+        Some(OpenError::Repeated(HandlerId(2)))
+    );
     assert_eq!(rt; fault(&[1, 1, STRANGE]), wrong);
     assert_eq!(rt; fault(&[]), None);
     Ok(())
@@ -116,7 +119,10 @@ fn a_history_ends(rt: HostRuntime) -> Result<(), Fail> {
     };
     assert_eq!(rt; error.cause, FinishRefusal::HistoryFull);
     assert_eq!(rt; error.done.number(), 1);
-    assert_eq!(rt; node.event(&rt, &mut pass, hello(1, 7)), Err(BookError::HistoryFull));
+    assert_eq!(rt;
+        node.event(&rt, &mut pass, hello(1, 7)),
+        Err(BookError::HistoryFull)
+    );
     assert_eq!(rt; pass.events().len(), 2);
     let mut given = Vec::new(alloc);
     given.push(pass)?;

@@ -7,14 +7,11 @@ use scoop_object::Table;
 use scoop_record::{Keeper, MemoryKeeper, Store};
 use sqlite::{Connection, File, FileStore};
 use std::alloc::Global;
-use std::env;
-use std::fs;
-use std::process;
 use std::process::Abort;
 use std::sync::Wait;
 use std::test::Fail;
-use std::thread;
 use std::thread::Threads;
+use std::{env, fs, process, thread};
 
 type MemoryNode = Node<Table, MemoryKeeper>;
 
@@ -117,8 +114,11 @@ fn a_node_has_a_pass(rt: HostRuntime) -> Result<(), Fail> {
     let alloc = rt.alloc();
     let none = opened(alloc, MemoryKeeper::new(alloc), 0).ok_or("cells")?;
     assert_eq!(rt; none.err(), Some(OpenError::NoPasses));
-    let one: Result<(MemoryNode, Vec<Pass>), OpenError> =
-        opened(alloc, MemoryKeeper::new(alloc), 1).ok_or("cells")?;
+    let one: Result<(MemoryNode, Vec<Pass>), OpenError> = opened(
+        alloc,
+        MemoryKeeper::new(alloc),
+        1,
+    ).ok_or("cells")?;
     assert!(rt; one.is_ok());
     Ok(())
 }
@@ -165,8 +165,9 @@ fn a_node_keeps_its_record_in_a_file(rt: HostRuntime) -> Result<(), Fail> {
     let record = dir.join(alloc, "record")?;
     let path = record.to_str().ok_or("a path")?;
     let store = thousand(&rt, alloc, store_at(&rt, path)?)?;
-    let again: Result<(Node<Table, FiledStore>, Vec<Pass>), OpenError> =
-        opened(alloc, store, 1).ok_or("cells")?;
+    let again: Result<(Node<Table, FiledStore>, Vec<Pass>), OpenError> = opened(
+        alloc, store, 1,
+    ).ok_or("cells")?;
     assert!(rt; again.is_ok());
     drop(again);
     assert_eq!(rt; word_at(&rt, path, 1)?, Some(165));

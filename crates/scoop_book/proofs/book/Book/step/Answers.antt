@@ -3,7 +3,6 @@ use Rattle.scoop_message.specs.declared.name.HandlerId.{HandlerId}
 use Rattle.scoop_record.specs.Keeper.{IsSame, Stays}
 use Rattle.scoop_record.proofs.KeeperLemmas.{stays_same}
 use Rattle.scoop_book.specs.declared.event.Event.{Event}
-use Rattle.scoop_book.specs.declared.event.Event.TheVariants.{Hear}
 use Rattle.scoop_book.specs.declared.event.Reply.TheVariants.{Heard}
 use Rattle.scoop_book.specs.Moves.{Moves, handler_at, is_handler}
 use Rattle.scoop_book.specs.Kept.{IsFirst}

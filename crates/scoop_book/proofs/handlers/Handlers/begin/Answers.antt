@@ -1,6 +1,5 @@
-use Rattle.std.proofs.Common.{refl, ap, ◌∙◌}
+use Rattle.std.proofs.Common.{refl, ap}
 use Rattle.std.specs.Option.{option_map}
-use Rattle.scoop_handler.specs.Running.{Task}
 use Rattle.scoop_book.specs.declared.event.Event.TheVariants.{Begin}
 use Rattle.scoop_book.specs.declared.event.Reply.TheVariants.{Began}
 use Rattle.scoop_book.specs.Moves.{LocalHandler, leaves}

@@ -1,4 +1,4 @@
-use Rattle.std.proofs.Common.{◌≡◌, ◌≢◌, ◌↔◌, ℕ, List, ap, subst}
+use Rattle.std.proofs.Common.{◌≡◌, ◌↔◌, ℕ, List, ap, subst}
 use Rattle.scoop_book.specs.declared.error.CloseRefusal.TheVariants.{MissingPass}
 use Rattle.scoop_book.specs.Closing.{IsComplete}
 use Rattle.scoop_book.specs.Passes.{NodeValue, PassValue}
