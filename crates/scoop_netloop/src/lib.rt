@@ -10,9 +10,11 @@ mod answer;
 mod executor;
 mod node_loop;
 mod receiver;
+mod running;
 mod stop;
 
 pub use answer::{Answered, answer_datagram};
 pub use executor::{Gate, OpenGate};
 pub use node_loop::serve;
+pub use running::run_out;
 pub use stop::{ServeEnd, Stop};
