@@ -2,3 +2,4 @@ pub mod Replying
 pub mod Served
 pub mod Turns
 pub mod Firsts
+pub mod Dry

@@ -1,5 +1,6 @@
 -- How a datagram is answered.
-use Rattle.std.specs.Prelude.{◌≡◌, ℕ, Bool, true, false, List, [], length, Option, Some, None}
+use Rattle.std.specs.Prelude.{◌≡◌, ◌≤◌, ⊤, ℕ, Bool, true, false, List, [], length, Option, Some, None}
+use Rattle.scoop_message.specs.declared.limits.TheConstants.{BUFFER_LEN}
 use Rattle.scoop_message.specs.declared.name.HandlerId.{HandlerId}
 use Rattle.scoop_message.specs.declared.message.Message.{Message}
 use Rattle.scoop_message.specs.Message.{handler_of}
@@ -75,3 +76,9 @@ runs_after Freed = false
 runs_after (Took n) = true
 runs_after Known = true
 runs_after (Dropped why) = false
+
+-- a reply's length is within the buffer
+abbrev pub IsWithinBuffer : Answered → Type 0
+IsWithinBuffer (Reply len note) = len ≤ BUFFER_LEN
+IsWithinBuffer (Silent note) = ⊤
+IsWithinBuffer (RefusedFrame error) = ⊤

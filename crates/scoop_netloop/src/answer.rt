@@ -3,7 +3,7 @@
 ghost use Rattle.std.specs.Prelude.{◌≡◌, IfOk, IfErr, OnErr};
 ghost use Rattle.scoop_record.specs.Keeper.{IsSame, Stays as KeeperStays};
 ghost use Rattle.scoop_book.specs.Books.{Stays};
-ghost use Rattle.scoop_netloop.specs.Answering.{AnswersDatagram, IsUnheard, KeepsAnswered, runs_after};
+ghost use Rattle.scoop_netloop.specs.Answering.{AnswersDatagram, IsUnheard, IsWithinBuffer, KeepsAnswered, runs_after};
 
 use scoop_book::{Book, BookError, Event, Reply};
 use scoop_frame::{FrameError, decode, encode};
@@ -43,6 +43,7 @@ pub fn answer_datagram<B: Behaviour, K: Keeper<A>, A: Allocator + Copy>(
     out: &mut [u8; BUFFER_LEN],
 ) -> Result<Answered, BookError>
     ensures ok { IfOk result (λ answered. AnswersDatagram pass datagram.now book.old book.new answered out.old out.new) }
+    ensures limit { IfOk result IsWithinBuffer }
     ensures stored { K.is_honest book.new.keeper → IfOk result (λ _. KeepsAnswered datagram.now book.new.handlers (K.handlers book.old.keeper) (K.handlers book.new.keeper)) }
     ensures refused { IfErr result (IsUnheard datagram.now book.old) }
     ensures stays { OnErr result (Stays book.old book.new) }

@@ -8,11 +8,15 @@
 
 mod answer;
 mod executor;
+mod loop_link;
 mod node_loop;
 mod receiver;
+mod running;
 mod stop;
 
 pub use answer::{Answered, answer_datagram};
 pub use executor::{Gate, OpenGate};
+pub use loop_link::LoopLink;
 pub use node_loop::serve;
+pub use running::run_out;
 pub use stop::{ServeEnd, Stop};
