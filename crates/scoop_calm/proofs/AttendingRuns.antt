@@ -50,7 +50,7 @@ use Rattle.scoop_world.proofs.Rules.Standing.{Standing}
 use Rattle.scoop_world.proofs.Tape.Slots.{Slot, ran_in, ran_of}
 use Rattle.scoop_world.proofs.Whole.Slots.{SlotWhole}
 use Rattle.scoop_world.proofs.Whole.Facts.{SiteTaped, Taped}
-use Rattle.scoop_calm.proofs.Totals.{Member}
+use Rattle.scoop_calm.proofs.Totals.{Member, all_append}
 use Rattle.scoop_calm.proofs.Members.{sent_member}
 use Rattle.scoop_calm.proofs.Handlers.{lowest_has}
 use Rattle.scoop_calm.proofs.Reserving.{Reserves}
@@ -75,10 +75,6 @@ pub record Background (w : World) : Type 0 where
   pub fit : AllFit w
 
 -- ---- an answer tells of entries that were received
-
-all_append : {A : Type 0} (P : A → Type 0) (xs ys : List A) → AllByRecursion P xs → AllByRecursion P ys → AllByRecursion P (xs ++ ys)
-all_append P [] ys p q = q
-all_append P (x ∷ xs) ys p q = (p.0, all_append P xs ys p.1 q)
 
 module _ (ms : List Message) (h : HandlerId) where
   abbrev IsCounted : Block × ℕ × Entry → Type 0
