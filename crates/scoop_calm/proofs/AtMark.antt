@@ -15,12 +15,12 @@ use Rattle.scoop_reserve.specs.Handlers.{has}
 use Rattle.scoop_model.specs.World.{World, Site, Party, number_of, id_of, is_site, is_party, site_of, party_of}
 use Rattle.scoop_model.specs.Step.{Placement}
 use Rattle.scoop_model.specs.Reach.{IsReached}
-use Rattle.scoop_rules.specs.Paper.{inc_of}
+use Rattle.scoop_model.specs.Paper.{inc_of}
 use Rattle.scoop_model.proofs.Keys.{number_found}
 use Rattle.scoop_model.proofs.Order.Facts.{PartyFits, IsNamed, all_found}
 use Rattle.scoop_model.proofs.Logging.Greetings.{IsMarkUpto, MarksUpto, inc_there}
 use Rattle.scoop_model.proofs.Knowing.Facts.{PartyKnown}
-use Rattle.scoop_calm.proofs.Totals.{Member, all_member}
+use Rattle.scoop_calm.proofs.Totals.{Member, all_member, some_is}
 use Rattle.scoop_calm.proofs.Marked.{MarkFits}
 use Rattle.scoop_calm.proofs.MarkedRuns.{SiteMarked}
 use Rattle.scoop_calm.proofs.Leaving.{IsOverIn}
@@ -36,9 +36,6 @@ pub record MarkAt (w : World) (p : Party) (h : HandlerId) : Type 0 where
   pub client : mark.client ≡ id_of p
   pub inc : mark.inc ≡ p.client.inc
   pub num : mark.num ≤ p.client.last
-
-some_is : {A : Type 0} (a b : A) → Some a ≡ Some b → a ≡ b
-some_is a b e = cc
 
 shut_open : (e : Bool) (stage : MarkStage) → stage ≡ AtShut → (is_open stage && e) ≡ false
 shut_open e stage at = ap (λ t. is_open t && e) at

@@ -33,6 +33,7 @@ use Rattle.scoop_model.proofs.Logging.OpeningClients.{unlocking_is}
 use Rattle.scoop_calm.proofs.Handlers.{gone_without, lowest_has, lowest_below}
 use Rattle.scoop_calm.proofs.Attending.{IsOver, IsReleased, AskedAt, Goes, Attends, ClientAttends, PartyAttends}
 use Rattle.scoop_model.specs.World.{log_of}
+use Rattle.scoop_calm.proofs.Totals.{some_is}
 
 -- the client goes on to another state: where it had asked, it is at work still, or the handler is done with its block
 pub record Follows (w : World) (c d : ClientState) : Type 0 where
@@ -53,9 +54,6 @@ pub record Around (w : World) (c : ClientState) (m : Message) : Type 0 where
   pub answered : (h : HandlerId) (b : Block) (n : ℕ) (a : ObjectAnswer) → m ≡ Answer h b n a → n ≤ greatest_count h b w.sent
   pub given_over : (r : ReservationState) → c.reservation ≡ Some r → r.stage ≡ GivingUp → (h : HandlerId) → IsReleased w h r.block → IsOver w h r.block
   pub ends_over : (r : ReservationState) (ls : List LineState) → LinesTold w r ls → all_over ls ≡ true → (h : HandlerId) → has r.handlers h ≡ true → IsOver w h r.block
-
-some_is : {A : Type 0} (a b : A) → Some a ≡ Some b → a ≡ b
-some_is a b e = cc
 
 -- ---- the reservation stays, and lines too
 

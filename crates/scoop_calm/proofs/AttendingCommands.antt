@@ -23,9 +23,7 @@ use Rattle.scoop_model.proofs.Logging.Lines.{fresh_found}
 use Rattle.scoop_calm.proofs.Handlers.{in_asked}
 use Rattle.scoop_calm.proofs.Attending.{AskedAt, ClientAttends, PartyAttends}
 use Rattle.scoop_calm.proofs.AttendingClients.{Follows, log_attends, end_attends}
-
-some_is : {A : Type 0} (a b : A) → Some a ≡ Some b → a ≡ b
-some_is a b e = cc
+use Rattle.scoop_calm.proofs.Totals.{some_is}
 
 ok_is : (c d : ClientState) → ◌≡◌ {A = Outcome} (Ok c) (Ok d) → c ≡ d
 ok_is c d e = cc

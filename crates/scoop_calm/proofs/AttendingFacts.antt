@@ -39,6 +39,7 @@ use Rattle.scoop_calm.proofs.MarkedRuns.{SiteMarked, Marked}
 use Rattle.scoop_calm.proofs.Leaving.{IsReleasedIn, IsOverIn}
 use Rattle.scoop_calm.proofs.Attending.{IsOver, IsReleased}
 use Rattle.scoop_calm.proofs.AttendingClients.{LinesTold}
+use Rattle.scoop_calm.proofs.Totals.{none_long}
 
 -- ---- a block without its lock is over, once nothing is open
 
@@ -103,10 +104,6 @@ over_at (x ∷ xs) h l all found =
 empty_is : (es : List Entry) → (length es == 0) ≡ true → es ≡ []
 empty_is [] e = refl
 empty_is (x ∷ xs) e = absurd (true≢false (sym e ∙ (let n : (length (x ∷ xs) == 0) ≡ false = grind (arith, nat_tests) in n)))
-
-none_long : (es : List Entry) → length es ≤ 0 → es ≡ []
-none_long [] le = refl
-none_long (x ∷ xs) le = absurd (omega (arith, le))
 
 some_if_ends : (es : List Entry) → ends es ≡ true → 0 < length es
 some_if_ends [] e = absurd (true≢false (sym e))

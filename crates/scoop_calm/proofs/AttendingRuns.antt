@@ -1,5 +1,5 @@
 -- Whatever happens, clients attend to their blocks.
-use Rattle.std.proofs.Common.{◌≡◌, ◌⊎◌, inl, inr, ℕ, ◌+◌, ◌<◌, ◌≤◌, Bool, true, false, List, [], ◌∷◌, ◌++◌, length, map, find, Option, Some, None, refl, sym, ap, ◌∙◌, subst, ⊎_elim, arith}
+use Rattle.std.proofs.Common.{◌≡◌, ◌⊎◌, inl, inr, ℕ, ◌+◌, ◌<◌, ◌≤◌, Bool, true, false, List, [], ◌∷◌, length, map, find, Option, Some, None, refl, sym, ap, ◌∙◌, subst, ⊎_elim, arith}
 use Rattle.std.specs.Prelude.{if◌then◌else◌, option_to_list}
 use Rattle.std.specs.List.{AllByRecursion}
 use Rattle.std.specs.Option.{option_map_or}
@@ -29,7 +29,7 @@ use Rattle.scoop_client.proofs.Rows.{heard_row}
 use Rattle.scoop_model.specs.World.{World, Site, Party, BlockLog, number_of, id_of, is_site, is_party, site_of, party_of, set_site, set_party, sent_at, greatest_count, ran_at}
 use Rattle.scoop_model.specs.Step.{Placement, Newcomer, opening, newest_block, core_command, commanded_world, with_sent, heard_site, heard_world, heard_party, with_site, begun_site, finished_site, restarted_party, reopened_world}
 use Rattle.scoop_model.specs.Safe.{HasRun, numbered, untold}
-use Rattle.scoop_rules.specs.Paper.{inc_of}
+use Rattle.scoop_model.specs.Paper.{inc_of}
 use Rattle.scoop_model.proofs.Events.{Changes}
 use Rattle.scoop_model.proofs.Keys.{by_party, site_put, id_found, number_found}
 use Rattle.scoop_model.proofs.Sound.Owed.{OwedRow, asks, opens, unlocks, gives_back, owed_row}
@@ -50,7 +50,7 @@ use Rattle.scoop_model.proofs.Standing.Facts.{Standing}
 use Rattle.scoop_model.proofs.Tape.Slots.{Slot, ran_in, ran_of}
 use Rattle.scoop_model.proofs.Whole.Slots.{SlotWhole}
 use Rattle.scoop_model.proofs.Whole.Facts.{SiteTaped, Taped}
-use Rattle.scoop_calm.proofs.Totals.{Member}
+use Rattle.scoop_calm.proofs.Totals.{Member, all_append}
 use Rattle.scoop_calm.proofs.Members.{sent_member}
 use Rattle.scoop_calm.proofs.Handlers.{lowest_has}
 use Rattle.scoop_calm.proofs.Reserving.{Reserves}
@@ -75,10 +75,6 @@ pub record Background (w : World) : Type 0 where
   pub fit : AllFit w
 
 -- ---- an answer tells of entries that were received
-
-all_append : {A : Type 0} (P : A → Type 0) (xs ys : List A) → AllByRecursion P xs → AllByRecursion P ys → AllByRecursion P (xs ++ ys)
-all_append P [] ys p q = q
-all_append P (x ∷ xs) ys p q = (p.0, all_append P xs ys p.1 q)
 
 module _ (ms : List Message) (h : HandlerId) where
   abbrev IsCounted : Block × ℕ × Entry → Type 0

@@ -27,7 +27,7 @@ use Rattle.scoop_reserve.specs.State.{ReservationState}
 use Rattle.scoop_model.specs.World.{World, Site, Party, number_of, id_of, site_of, party_of}
 use Rattle.scoop_model.specs.Step.{Placement}
 use Rattle.scoop_model.specs.Reach.{IsReached}
-use Rattle.scoop_rules.specs.Paper.{inc_of}
+use Rattle.scoop_model.specs.Paper.{inc_of}
 use Rattle.scoop_model.proofs.Basics.{by_test}
 use Rattle.scoop_model.proofs.Keys.{id_found}
 use Rattle.scoop_model.proofs.Reaching.{sites_apart, sites_placed}
@@ -39,7 +39,7 @@ use Rattle.scoop_model.proofs.Logging.Openings.{NoOpen, IsMarkOpened, SiteOpened
 use Rattle.scoop_model.proofs.Knowing.Facts.{PartyKnown}
 use Rattle.scoop_rules.proofs.Front.{left_has}
 use Rattle.scoop_calm.proofs.Resting.{IsSettled, HasGivenBack, GaveBack}
-use Rattle.scoop_calm.proofs.Totals.{Member, all_member, distinct, member_found, found_member}
+use Rattle.scoop_calm.proofs.Totals.{Member, all_member, distinct, member_found, found_member, some_is}
 use Rattle.scoop_calm.proofs.Handlers.{Filled, none, some, filled, has_head}
 use Rattle.scoop_calm.proofs.Reserving.{IsSettingOut, opens}
 use Rattle.scoop_calm.proofs.Engine.{Useful}
@@ -54,9 +54,6 @@ use Rattle.scoop_calm.proofs.Everything.{Everything}
 use Rattle.scoop_calm.proofs.Clearing.{party_found}
 
 -- ---- look-ups
-
-some_is : {A : Type 0} (a b : A) → Some a ≡ Some b → a ≡ b
-some_is a b e = cc
 
 pub any_member : {A : Type 0} (f : A → Bool) (xs : List A) (x : A) → Member x xs → f x ≡ true → list_any f xs ≡ true
 any_member f [] x m e = absurd m

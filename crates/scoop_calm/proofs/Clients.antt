@@ -36,6 +36,7 @@ use Rattle.scoop_model.proofs.Order.Facts.{all_found, all_set_party}
 use Rattle.scoop_model.proofs.Logging.Commands.{running_is}
 use Rattle.scoop_calm.proofs.Reserving.{Reserves, fresh_reserves, heard_reserves, give_up_reserves}
 use Rattle.scoop_calm.proofs.LinesGo.{LinesGo, fresh_go, logged_go, ended_go, counted_go, answered_go}
+use Rattle.scoop_calm.proofs.Totals.{some_is}
 
 -- of a client that has a block
 pub record BlockFits (c : ClientState) (r : ReservationState) : Type 0 where
@@ -49,9 +50,6 @@ pub record ClientFits (c : ClientState) : Type 0 where
   pub within : (h : HandlerId) → has c.left h ≡ true → has c.handlers h ≡ true
   pub quiet : c.reservation ≡ None → c.waits ≡ None
   pub block : (r : ReservationState) → c.reservation ≡ Some r → BlockFits c r
-
-some_is : {A : Type 0} (a b : A) → Some a ≡ Some b → a ≡ b
-some_is a b e = cc
 
 -- ---- it hears
 

@@ -27,6 +27,7 @@ use Rattle.scoop_model.proofs.Basics.{by_test}
 use Rattle.scoop_model.proofs.Order.Lists.{same_block_itself}
 use Rattle.scoop_model.proofs.Order.Holding.{Upto, IsReachedIn, reached_more}
 use Rattle.scoop_calm.proofs.Marked.{below_at, older_num}
+use Rattle.scoop_calm.proofs.Totals.{some_is}
 
 -- the block's lock is given back, or never will be got
 pub record IsReleasedIn (s : HandlerState) (b : Block) : Type 0 where
@@ -64,9 +65,6 @@ open_unfinished : (o : Option Block) (k : Mark) → k.stage ≡ AtOpen → k.end
 open_unfinished o k at on e =
     let is : (is_open k.stage && not k.ended) ≡ true = (λ i. is_open (at i) && not (on i)) in
     true≢false (sym is ∙ or_right (is_holder o (block_of k)) _ e)
-
-some_is : {A : Type 0} (a b : A) → Some a ≡ Some b → a ≡ b
-some_is a b e = cc
 
 -- a mark is as it was, or the one that is new
 set_case :

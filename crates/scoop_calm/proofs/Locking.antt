@@ -40,7 +40,7 @@ use Rattle.scoop_model.proofs.Logging.Greetings.{place}
 use Rattle.scoop_model.proofs.Logging.Openings.{NoOpen, IsOpenedAtAll, IsGivenUp, Shows, StageOpened}
 use Rattle.scoop_rules.proofs.Front.{left_has}
 use Rattle.scoop_calm.proofs.Resting.{IsSettled}
-use Rattle.scoop_calm.proofs.Totals.{Member, all_member, total}
+use Rattle.scoop_calm.proofs.Totals.{Member, all_member, total, some_is}
 use Rattle.scoop_calm.proofs.Handlers.{Filled, none, some, filled, less_without, lowest_has, lowest_of}
 use Rattle.scoop_calm.proofs.Reserving.{IsSettingOut, locks}
 use Rattle.scoop_calm.proofs.Measures.{stage_work}
@@ -55,9 +55,6 @@ use Rattle.scoop_calm.proofs.Opening.{OwnMark, beside, client_is}
 use Rattle.scoop_calm.proofs.Blocks.{found_site, owner, Owner, no_open_mark}
 use Rattle.scoop_calm.proofs.Queues.{IsLockingOrNone, has_none, is_locking}
 use Rattle.scoop_calm.proofs.Everything.{Everything}
-
-some_is : {A : Type 0} (a b : A) → Some a ≡ Some b → a ≡ b
-some_is a b e = cc
 
 -- ---- the handler
 

@@ -39,6 +39,7 @@ use Rattle.scoop_calm.proofs.Sending.{IsDue}
 use Rattle.scoop_calm.proofs.Unlocking.{own_lines}
 use Rattle.scoop_calm.proofs.Opening.{OwnMark, beside, client_is, is_open_there}
 use Rattle.scoop_calm.proofs.Everything.{Everything}
+use Rattle.scoop_calm.proofs.Totals.{none_long}
 
 -- ---- entries
 
@@ -55,10 +56,6 @@ end_only (x ∷ z ∷ zs) ys only e = end_only (z ∷ zs) ys (second (not (is_en
     second : (t u : Bool) → (t && u) ≡ true → u ≡ true
     second true u e = e
     second false u e = absurd (true≢false (sym e))
-
-none_long : (es : List Entry) → length es ≤ 0 → es ≡ []
-none_long [] le = refl
-none_long (x ∷ xs) le = absurd (omega (arith, le))
 
 -- ---- what the client owes
 

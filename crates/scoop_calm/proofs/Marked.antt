@@ -35,7 +35,7 @@ use Rattle.scoop_model.proofs.Order.Holding.{Upto, IsReachedIn}
 use Rattle.scoop_model.proofs.Order.Facts.{IsNamed}
 use Rattle.scoop_model.proofs.Logging.Facts.{Grown}
 use Rattle.scoop_model.proofs.Tape.Slots.{Slot, ran_in, ran_of}
-use Rattle.scoop_calm.proofs.Totals.{Member}
+use Rattle.scoop_calm.proofs.Totals.{Member, all_append}
 
 -- ---- one mark
 
@@ -240,10 +240,6 @@ marked-after w h ran r (k ∷ ks) all =
     )
 
 -- ---- what has run is of blocks that the marks have reached
-
-all_append : {A : Type 0} (P : A → Type 0) (xs ys : List A) → AllByRecursion P xs → AllByRecursion P ys → AllByRecursion P (xs ++ ys)
-all_append P [] ys p q = q
-all_append P (x ∷ xs) ys p q = (p.0, all_append P xs ys p.1 q)
 
 all_numbered : (P : Block → Type 0) (b : Block) (n : ℕ) (es : List Entry) → P b → AllByRecursion (λ (u : Block × ℕ × Entry). P u.0) (numbered b n es)
 all_numbered P b n [] p = tt

@@ -19,7 +19,7 @@ use Rattle.scoop_model.proofs.Tape.Slots.{Slot, slot_queue, queue_at, queues_of,
 use Rattle.scoop_model.proofs.Whole.Marks.{MarkTold}
 use Rattle.scoop_model.proofs.Whole.Slots.{IsPassed, IsDone, SlotWhole}
 use Rattle.scoop_model.proofs.Whole.Facts.{SiteTaped}
-use Rattle.scoop_calm.proofs.Totals.{Member, all_member}
+use Rattle.scoop_calm.proofs.Totals.{Member, all_member, some_is}
 use Rattle.scoop_calm.proofs.Members.{member_more}
 
 -- ---- slots
@@ -51,9 +51,6 @@ queue_member (x ∷ xs) t q m e =
     (member_more (slot_queue t q) (queue_at t t.state) (queues_of xs) (subst (λ o. Member (slot_queue t q) (queue_at t o)) (sym e) (inl refl))))
     (λ (n : Member t xs). member_behind (slot_queue t q) (queue_at x x.state) (queues_of xs) (queue_member xs t q n e))
     m
-
-some_is : {A : Type 0} (a b : A) → Some a ≡ Some b → a ≡ b
-some_is a b e = cc
 
 some_if_ends : (es : List Entry) → ends es ≡ true → 0 < length es
 some_if_ends [] e = absurd (true≢false (sym e))

@@ -1,6 +1,6 @@
 -- A query that waits, and that the handler has run, has its answer there; and an answer there is that of the query that
 -- waits.
-use Rattle.std.proofs.Common.{◌≡◌, ℕ, ◌+◌, ◌-◌, ◌<◌, ◌≤◌, ◌==◌, true, false, List, [], ◌∷◌, ◌++◌, length, map, filter, slice_get, Option, Some, None, refl, sym, ap, ◌∙◌, subst, arith, length-append, append-nil}
+use Rattle.std.proofs.Common.{◌≡◌, ℕ, ◌+◌, ◌-◌, ◌<◌, ◌==◌, true, false, List, [], ◌∷◌, ◌++◌, length, map, filter, slice_get, Option, Some, None, refl, sym, ap, ◌∙◌, subst, arith, length-append, append-nil}
 use Rattle.std.specs.Prelude.{if◌then◌else◌}
 use Rattle.std.specs.Option.{option_map}
 use Rattle.std.proofs.lemmas.Bool.{eqb-true, eq-eqb}
@@ -34,7 +34,7 @@ use Rattle.scoop_model.proofs.Tape.Slots.{slot_queue, blocks_of}
 use Rattle.scoop_model.proofs.Tape.Shown.{left_apart, slot_parts}
 use Rattle.scoop_model.proofs.Whole.Slots.{SlotWhole}
 use Rattle.scoop_model.proofs.Whole.Facts.{SiteTaped}
-use Rattle.scoop_calm.proofs.Totals.{Member, all_member}
+use Rattle.scoop_calm.proofs.Totals.{Member, all_member, none_long}
 use Rattle.scoop_calm.proofs.Members.{member_last}
 use Rattle.scoop_calm.proofs.Marked.{last_answer}
 use Rattle.scoop_calm.proofs.OpenedAt.{SlotOf, slot_of, queue_member}
@@ -43,10 +43,6 @@ use Rattle.scoop_calm.proofs.Unlocking.{block_fits, own_lines}
 use Rattle.scoop_calm.proofs.Queried.{own_answers, LastRan, last_ran, query_last, IsAnsweredRan, all_answered, all_filtered, get_behind, ran_logged}
 use Rattle.scoop_calm.proofs.Logs.{fits, own_block, received, log_long, mark_fits, opened}
 use Rattle.scoop_calm.proofs.Everything.{Everything}
-
-none_long : (es : List Entry) → length es ≤ 0 → es ≡ []
-none_long [] le = refl
-none_long (x ∷ xs) le = absurd (omega (arith, le))
 
 -- nothing of the block is pending
 abbrev pub IsIdleIn : List PrivateQueue → Block → Type 0
