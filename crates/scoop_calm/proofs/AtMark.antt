@@ -15,7 +15,7 @@ use Rattle.scoop_reserve.specs.Handlers.{has}
 use Rattle.scoop_model.specs.World.{World, Site, Party, number_of, id_of, is_site, is_party, site_of, party_of}
 use Rattle.scoop_model.specs.Step.{Placement}
 use Rattle.scoop_model.specs.Reach.{IsReached}
-use Rattle.scoop_model.specs.Paper.{inc_of}
+use Rattle.scoop_model.specs.World.{inc_of}
 use Rattle.scoop_model.proofs.Keys.{number_found}
 use Rattle.scoop_model.proofs.Order.Facts.{PartyFits, IsNamed, all_found}
 use Rattle.scoop_model.proofs.Logging.Greetings.{IsMarkUpto, MarksUpto, inc_there}

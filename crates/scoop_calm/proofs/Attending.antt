@@ -18,7 +18,7 @@ use Rattle.scoop_client.specs.Line.{LineState, line_of}
 use Rattle.scoop_client.specs.State.{ClientState}
 use Rattle.scoop_model.specs.World.{World, Site, Party, number_of, id_of, is_site, is_party, site_of, party_of, set_site, set_party, count_in, greatest_count}
 use Rattle.scoop_model.specs.Step.{reopened}
-use Rattle.scoop_model.specs.Paper.{inc_of}
+use Rattle.scoop_model.specs.World.{inc_of}
 use Rattle.scoop_model.proofs.Basics.{by_test}
 use Rattle.scoop_model.proofs.Keys.{by_site, by_party, id_found}
 use Rattle.scoop_model.proofs.Order.Facts.{SiteFits, all_more_of}

@@ -29,7 +29,7 @@ use Rattle.scoop_client.proofs.Rows.{heard_row}
 use Rattle.scoop_model.specs.World.{World, Site, Party, BlockLog, number_of, id_of, is_site, is_party, site_of, party_of, set_site, set_party, sent_at, greatest_count, ran_at}
 use Rattle.scoop_model.specs.Step.{Placement, Newcomer, opening, newest_block, core_command, commanded_world, with_sent, heard_site, heard_world, heard_party, with_site, begun_site, finished_site, restarted_party, reopened_world}
 use Rattle.scoop_model.specs.Safe.{HasRun, numbered, untold}
-use Rattle.scoop_model.specs.Paper.{inc_of}
+use Rattle.scoop_model.specs.World.{inc_of}
 use Rattle.scoop_model.proofs.Events.{Changes}
 use Rattle.scoop_model.proofs.Keys.{by_party, site_put, id_found, number_found}
 use Rattle.scoop_model.proofs.Sound.Owed.{OwedRow, asks, opens, unlocks, gives_back, owed_row}

@@ -27,7 +27,7 @@ use Rattle.scoop_reserve.specs.State.{ReservationState}
 use Rattle.scoop_model.specs.World.{World, Site, Party, number_of, id_of, site_of, party_of}
 use Rattle.scoop_model.specs.Step.{Placement}
 use Rattle.scoop_model.specs.Reach.{IsReached}
-use Rattle.scoop_model.specs.Paper.{inc_of}
+use Rattle.scoop_model.specs.World.{inc_of}
 use Rattle.scoop_model.proofs.Basics.{by_test}
 use Rattle.scoop_model.proofs.Keys.{id_found}
 use Rattle.scoop_model.proofs.Reaching.{sites_apart, sites_placed}

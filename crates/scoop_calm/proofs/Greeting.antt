@@ -25,7 +25,7 @@ use Rattle.scoop_client.specs.Hearing.{heard, hear_welcome, ignored}
 use Rattle.scoop_model.specs.World.{World, Site, Party, number_of, id_of, is_site, is_party, site_of, party_of}
 use Rattle.scoop_model.specs.Step.{Placement}
 use Rattle.scoop_model.specs.Reach.{IsReached}
-use Rattle.scoop_model.specs.Paper.{inc_of}
+use Rattle.scoop_model.specs.World.{inc_of}
 use Rattle.scoop_model.proofs.Basics.{by_test}
 use Rattle.scoop_model.proofs.Keys.{number_found}
 use Rattle.scoop_model.proofs.Reaching.{sites_placed}

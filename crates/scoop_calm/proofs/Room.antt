@@ -16,7 +16,7 @@ use Rattle.scoop_handler.specs.State.{IsAscending}
 use Rattle.scoop_reserve.specs.Handlers.{has, without}
 use Rattle.scoop_model.specs.World.{World, Party, is_party, party_of, newer_party}
 use Rattle.scoop_model.specs.Step.{Placement, new_party, opening}
-use Rattle.scoop_model.specs.Paper.{inc_of}
+use Rattle.scoop_model.specs.World.{inc_of}
 use Rattle.scoop_model.specs.Reach.{Run, IsReached}
 use Rattle.scoop_model.proofs.Basics.{by_test}
 use Rattle.scoop_model.proofs.Events.{Changes, steps_kept}

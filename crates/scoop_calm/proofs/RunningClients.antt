@@ -1,7 +1,8 @@
 -- A client whose block is opened at all gets on, where nothing of the block is pending.
 use Rattle.std.proofs.Common.{◌≡◌, ◌⊎◌, inl, inr, ℕ, ◌<◌, ◌==◌, ◌&&◌, ◌||◌, Bool, true, false, true≢false, nat_le, List, [], ◌∷◌, length, map, Option, Some, None, refl, sym, ap, ◌∙◌, subst, ⊎_elim, arith}
-use Rattle.std.specs.Prelude.{if◌then◌else◌}
-use Rattle.std.specs.List.{AllByRecursion}
+use Rattle.std.specs.Prelude.{if◌then◌else◌, find, not}
+use Rattle.std.specs.List.{AllByRecursion, list_all}
+use Rattle.std.specs.Option.{option_map}
 use Rattle.scoop_message.specs.declared.limits.TheConstants.{MAX_UNACKNOWLEDGED}
 use Rattle.scoop_message.specs.declared.name.HandlerId.{HandlerId}
 use Rattle.scoop_message.specs.declared.request.Entry.{Entry}
@@ -10,7 +11,7 @@ use Rattle.scoop_message.proofs.Same.{handler_decides}
 use Rattle.scoop_reserve.specs.declared.stage.Stage.TheVariants.{Unlocking}
 use Rattle.scoop_reserve.specs.Handlers.{has}
 use Rattle.scoop_reserve.specs.State.{ReservationState}
-use Rattle.scoop_client.specs.Line.{LineState, is_ended, all_over, line_of, lower, lowest_full_after}
+use Rattle.scoop_client.specs.Line.{LineState, is_ended, is_full, is_lowest_full, lowest_full, all_over, line_of}
 use Rattle.scoop_client.specs.State.{ClientState}
 use Rattle.scoop_model.specs.World.{World, Site, Party, id_of, site_of, party_of}
 use Rattle.scoop_model.specs.Step.{Placement}
@@ -47,10 +48,15 @@ all_empty (l ∷ ls) once none = (
       (λ _ is. found) refl)),
 )
 
-none_full : (ls : List LineState) → AllByRecursion (λ (l : LineState). l.unacked ≡ []) ls → lowest_full_after None ls ≡ None
-none_full [] all = refl
-none_full (l ∷ ls) all =
-    ap (λ (es : List Entry). lowest_full_after (if nat_le MAX_UNACKNOWLEDGED (length es) then lower l.handler None else None) ls) all.0 ∙ none_full ls all.1
+no_full_one : (all ls : List LineState) → AllByRecursion (λ (l : LineState). l.unacked ≡ []) ls → find (is_lowest_full all) ls ≡ None
+no_full_one all [] empty = refl
+no_full_one all (l ∷ ls) empty =
+    let others = list_all (λ (x : LineState). not (is_full x) || nat_le l.handler.0 x.handler.0) all in
+    ap (λ (es : List Entry). if nat_le MAX_UNACKNOWLEDGED (length es) && others then Some l else find (is_lowest_full all) ls) empty.0
+    ∙ no_full_one all ls empty.1
+
+none_full : (ls : List LineState) → AllByRecursion (λ (l : LineState). l.unacked ≡ []) ls → lowest_full ls ≡ None
+none_full ls all = ap (option_map (λ (l : LineState). l.handler)) (no_full_one ls ls all)
 
 over_all : (ls : List LineState) (t : Bool) → t ≡ true → AllByRecursion (λ (l : LineState). l.ended ≡ t) ls → AllByRecursion (λ (l : LineState). l.unacked ≡ []) ls → all_over ls ≡ true
 over_all [] t e ended all = refl
