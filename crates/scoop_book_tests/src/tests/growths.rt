@@ -47,9 +47,19 @@ fn opens<'a>(
     Some(Node::open(heap, handlers, MemoryKeeper::new(heap), 1))
 }
 
-/// A message to the node with the growth of this number refused: whether one was. It is then heard once
-/// memory is there.
-fn hears<'a>(
+// The message of an act. A run has none.
+fn message_of(act: Act) -> Option<scoop_book::Event> {
+    match act {
+        Act::Hello => Some(hello(1, 7)),
+        Act::Lock => Some(lock(1, 7)),
+        Act::Open => Some(open(1, 7)),
+        Act::Log => log(1, 7, 1),
+        Act::Run => None,
+    }
+}
+
+// Whether a message to the node is refused, with the growth of this number refused. Then nothing has changed.
+fn is_refused<'a>(
     rt: &(impl Abort + Wait),
     heap: Heap<'a>,
     node: &HeapNode<'a>,
@@ -59,17 +69,34 @@ fn hears<'a>(
 ) -> bool {
     let before = pass.events().len();
     heap.refuse(number);
-    let told = node.event(rt, pass, event);
+    let error = node.event(rt, pass, event).err();
     let refused = heap.has_refused();
     heap.refuse(0);
     if refused {
-        assert_eq!(rt; told, Err(BookError::OutOfMemory));
+        assert_eq!(rt; error, Some(BookError::OutOfMemory));
         assert_eq!(rt; pass.events().len(), before);
-        assert!(rt; node.event(rt, pass, event).is_ok());
     } else {
-        assert!(rt; told.is_ok());
+        assert_eq!(rt; error, None);
     }
     refused
+}
+
+/// The message of an act to the node with the growth of this number refused: whether one was. It is then heard
+/// once memory is there.
+fn hears<'a>(
+    rt: &(impl Abort + Wait),
+    heap: Heap<'a>,
+    node: &HeapNode<'a>,
+    pass: &mut HeapPass<'a>,
+    number: u64,
+    act: Act,
+) -> Option<bool> {
+    let refused = is_refused(rt, heap, node, pass, number, message_of(act)?);
+    if refused {
+        let again = node.event(rt, pass, message_of(act)?);
+        assert!(rt; again.is_ok());
+    }
+    Some(refused)
 }
 
 /// The same of a Begin and of its Finish.
@@ -112,11 +139,8 @@ fn any_refused(rt: &(impl Abort + Wait), alloc: Global, number: u64) -> Option<b
     let mut any = false;
     for act in ACTS {
         let refused = match act {
-            Act::Hello => hears(rt, &heap, &node, &mut pass, number, hello(1, 7)),
-            Act::Lock => hears(rt, &heap, &node, &mut pass, number, lock(1, 7)),
-            Act::Open => hears(rt, &heap, &node, &mut pass, number, open(1, 7)),
-            Act::Log => hears(rt, &heap, &node, &mut pass, number, log(1, 7, 1)?),
             Act::Run => runs(rt, &heap, &node, &mut pass, number)?,
+            _ => hears(rt, &heap, &node, &mut pass, number, act)?,
         };
         if refused {
             any = true;
