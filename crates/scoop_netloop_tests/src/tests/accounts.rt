@@ -4,7 +4,7 @@ use super::{ONE, TWO};
 use scoop_book::{Book, Node, Pass};
 use scoop_message::{HandlerId, Words};
 use scoop_object::{Class, OpRow, Table, Term, Write, Writes};
-use scoop_record::MemoryKeeper;
+use scoop_record::{Keeper, MemoryKeeper};
 use std::alloc::Global;
 use std::process::Abort;
 
@@ -55,11 +55,13 @@ fn opened_book(alloc: Global) -> Option<Book<Table, MemoryKeeper>> {
     Book::open(alloc, handlers, MemoryKeeper::new(alloc)).ok()
 }
 
-type TestNode = Node<Table, MemoryKeeper>;
-
-fn opened_node(alloc: Global, passes: u32) -> Option<(TestNode, Vec<Pass>)> {
+fn opened_node<K: Keeper<Global>>(
+    alloc: Global,
+    keeper: K,
+    passes: u32,
+) -> Option<(Node<Table, K>, Vec<Pass>)> {
     let handlers = vec![in alloc; account(alloc, ONE)?, account(alloc, TWO)?].ok()?;
-    Node::open(alloc, handlers, MemoryKeeper::new(alloc), passes).ok()
+    Node::open(alloc, handlers, keeper, passes).ok()
 }
 
 /// A book of handlers 1 and 2, each with an account of balance 0.
@@ -70,9 +72,15 @@ pub fn book(rt: &impl Abort, alloc: Global) -> Book<Table, MemoryKeeper> {
     }
 }
 
-/// A node of handlers 1 and 2, each with an account of balance 0, and its passes.
-pub fn node(rt: &impl Abort, alloc: Global, passes: u32) -> (TestNode, Vec<Pass>) {
-    match opened_node(alloc, passes) {
+/// A node of handlers 1 and 2 over this keeper, each with an account of balance 0 where it has no state of it,
+/// and its passes.
+pub fn node<K: Keeper<Global>>(
+    rt: &impl Abort,
+    alloc: Global,
+    keeper: K,
+    passes: u32,
+) -> (Node<Table, K>, Vec<Pass>) {
+    match opened_node(alloc, keeper, passes) {
         Some(opened) => opened,
         None => panic!(rt; "no node"),
     }

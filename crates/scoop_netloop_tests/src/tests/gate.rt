@@ -6,6 +6,7 @@ use scoop_client::Client;
 use scoop_link::{Party, Peers, UdpLink};
 use scoop_message::{Answer, HandlerId, Request};
 use scoop_netloop::{Driver, DriverError, Gate, ServeEnd, Stop, serve};
+use scoop_record::MemoryKeeper;
 use std::sync::Wait;
 use std::sync::atomic::{AtomicBool, Ordering};
 use std::test::Fail;
@@ -63,7 +64,7 @@ fn asks(
 #[test]
 fn one_handler_works_while_another_is_held(rt: HostRuntime) -> Result<(), Fail> {
     let alloc = rt.alloc();
-    let (node, passes) = node(&rt, alloc, 3);
+    let (node, passes) = node(&rt, alloc, MemoryKeeper::new(alloc), 3);
     let own = Peers {
         own: 47401,
         table: &[(Party::Client(SEVEN), 47402), (Party::Client(EIGHT), 47403)],
