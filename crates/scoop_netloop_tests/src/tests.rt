@@ -1,0 +1,35 @@
+//! The tests of loops.
+
+mod accounts;
+mod gate;
+mod tape;
+mod waits;
+
+use scoop_client::Client;
+use scoop_message::{Args, ClientId, HandlerId, Request};
+use std::alloc::Global;
+use std::process::Abort;
+
+const ONE: HandlerId = HandlerId(1);
+
+const TWO: HandlerId = HandlerId(2);
+
+const SEVEN: ClientId = ClientId(7);
+
+const EIGHT: ClientId = ClientId(8);
+
+/// A client that knows one handler alone.
+fn client(rt: &impl Abort, alloc: Global, number: ClientId, handler: HandlerId) -> Client {
+    match Client::begin(alloc, number, 1, &[handler]) {
+        Ok(client) => client,
+        Err(_) => panic!(rt; "no client"),
+    }
+}
+
+/// A request of an account, with this argument.
+fn request(rt: &impl Abort, op: u16, argument: u64) -> Request {
+    match Args::of(&[argument]) {
+        Ok(args) => Request { op, args },
+        Err(_) => panic!(rt; "no request"),
+    }
+}
