@@ -13,9 +13,10 @@ use Rattle.scoop_object.specs.Class.{ClassTable}
 use Rattle.scoop_world.specs.declared.error.WorldOpenError.{WorldOpenError}
 use Rattle.scoop_world.specs.declared.error.WorldOpenError.TheVariants.{NoHandlers, TooManyHandlers, Repeated, WrongClass, TooManyClients, RepeatedClient, IncarnationsSpent, OutOfMemory}
 use Rattle.scoop_world.specs.declared.placing.Placement.{Placement}
-use Rattle.scoop_world.specs.Opening.{IsJoining, newcomers_of}
+use Rattle.scoop_model.specs.Opening.{IsJoining}
+use Rattle.scoop_world.specs.Placing.{newcomers_of}
 use Rattle.scoop_world.specs.OpenRefusal.{IsFirstRepeat, IsOfClass, IsFirstWrong, IsCounted, MayPlace, IsUnopened, handlers_of}
-use Rattle.scoop_world.specs.Safe.{NoRepeats}
+use Rattle.scoop_model.specs.Safe.{NoRepeats}
 use Rattle.std.specs.Result.{result_ok, result_err}
 use Rattle.scoop_demo.specs.declared.fault.RunError.{RunError}
 use Rattle.scoop_demo.specs.declared.script.kind.EventKind.{EventKind}

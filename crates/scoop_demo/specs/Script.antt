@@ -5,7 +5,8 @@ use Rattle.std.specs.Result.{result_ok, result_err}
 use Rattle.scoop_message.specs.declared.name.ClientId.{ClientId}
 use Rattle.scoop_object.specs.Class.{ClassTable}
 use Rattle.scoop_world.specs.OpenRefusal.{MayPlace, IsUnopened}
-use Rattle.scoop_world.specs.Opening.{IsJoining, newcomers_of}
+use Rattle.scoop_model.specs.Opening.{IsJoining}
+use Rattle.scoop_world.specs.Placing.{newcomers_of}
 use Rattle.scoop_world.specs.declared.placing.Placement.{Placement}
 use Rattle.scoop_world.specs.declared.error.WorldOpenError.{WorldOpenError}
 use Rattle.scoop_demo.specs.declared.fault.InputFault.{InputFault}
