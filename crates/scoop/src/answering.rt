@@ -1,14 +1,14 @@
 //! `scoop answer`: one handler, and the datagrams of standard input.
 
-ghost use Rattle.std.specs.Prelude.{◌≡◌, Some, Err, IfOk};
-ghost use Rattle.scoop_demo.specs.Classes.{class_named};
+ghost use Rattle.std.specs.Prelude.{◌≡◌, Err, IfOk};
+ghost use Rattle.scoop_demo.specs.Classes.{table_of};
 ghost use Rattle.scoop_demo.specs.Storing.{HasUnfitWords, OpensOver};
 
 use crate::failure::Failure;
 use crate::storing::{FiledStore, adopt, close, create};
 use clap::ArgMatches;
 use scoop_demo::{
-    AccountObject, CellObject, CounterObject, ExchangeObject, RunError, answer_run, demo_class,
+    AccountObject, CellObject, CounterObject, DemoClass, ExchangeObject, RunError, answer_run,
     open_handler,
 };
 use scoop_handler::Handler;
@@ -62,12 +62,20 @@ fn answer_over<K: Keeper<Global>, R: Input + Print + AllocGlobal>(
         word: given.get_one::<u64>("word").unwrap_or(0),
         shows_words: given.get_flag("words"),
     };
-    match given.get_str("class") {
-        Some("counter") => answer_as_counter(rt, keeper, &options),
-        Some("account") => answer_as_account(rt, keeper, &options),
-        Some("exchange") => answer_as_exchange(rt, keeper, &options),
-        _ => answer_as_cell(rt, keeper, &options),
+    match class_in(given)? {
+        DemoClass::Cell => answer_as_cell(rt, keeper, &options),
+        DemoClass::Counter => answer_as_counter(rt, keeper, &options),
+        DemoClass::Account => answer_as_account(rt, keeper, &options),
+        DemoClass::Exchange => answer_as_exchange(rt, keeper, &options),
     }
+}
+
+// The class that is asked for, a cell where none is.
+fn class_in(given: &ArgMatches<'_>) -> Result<DemoClass, Failure> {
+    let Some(name) = given.get_str("class") else {
+        return Ok(DemoClass::Cell);
+    };
+    DemoClass::from_name(name).ok_or(Failure::NoSuchClass)
 }
 
 fn answer_as_cell<K: Keeper<Global>, R: Input + Print + AllocGlobal>(
@@ -76,7 +84,7 @@ fn answer_as_cell<K: Keeper<Global>, R: Input + Print + AllocGlobal>(
     options: &Options,
 ) -> Result<(), Failure> {
     let cell = Box::new(rt.alloc(), CellObject::new(options.word))?;
-    answer_with(rt, keeper, options, "cell", Boxed::new(cell))
+    answer_with(rt, keeper, options, DemoClass::Cell, Boxed::new(cell))
 }
 
 fn answer_as_counter<K: Keeper<Global>, R: Input + Print + AllocGlobal>(
@@ -85,7 +93,7 @@ fn answer_as_counter<K: Keeper<Global>, R: Input + Print + AllocGlobal>(
     options: &Options,
 ) -> Result<(), Failure> {
     let counter = Box::new(rt.alloc(), CounterObject::new(options.word))?;
-    answer_with(rt, keeper, options, "counter", Boxed::new(counter))
+    answer_with(rt, keeper, options, DemoClass::Counter, Boxed::new(counter))
 }
 
 fn answer_as_account<K: Keeper<Global>, R: Input + Print + AllocGlobal>(
@@ -94,7 +102,7 @@ fn answer_as_account<K: Keeper<Global>, R: Input + Print + AllocGlobal>(
     options: &Options,
 ) -> Result<(), Failure> {
     let account = Box::new(rt.alloc(), AccountObject::new(options.word))?;
-    answer_with(rt, keeper, options, "account", Boxed::new(account))
+    answer_with(rt, keeper, options, DemoClass::Account, Boxed::new(account))
 }
 
 fn answer_as_exchange<K: Keeper<Global>, R: Input + Print + AllocGlobal>(
@@ -103,20 +111,26 @@ fn answer_as_exchange<K: Keeper<Global>, R: Input + Print + AllocGlobal>(
     options: &Options,
 ) -> Result<(), Failure> {
     let exchange = Box::new(rt.alloc(), ExchangeObject::new(options.word, 0))?;
-    answer_with(rt, keeper, options, "exchange", Boxed::new(exchange))
+    answer_with(
+        rt,
+        keeper,
+        options,
+        DemoClass::Exchange,
+        Boxed::new(exchange),
+    )
 }
 
-// Answers the datagrams with an object of the class of that name.
+// Answers the datagrams with an object of the class.
 fn answer_with<B: Behaviour, K: Keeper<Global>, R: Input + Print + AllocGlobal>(
     rt: &R,
     keeper: &mut K,
     options: &Options,
-    class_name: &str,
+    class: DemoClass,
     object: B,
 ) -> Result<(), Failure>
-    requires { class_named class_name.now ≡ Some (B.class object) }
+    requires { table_of class ≡ B.class object }
 {
-    let mut handler = open_named(rt.alloc(), keeper, options.handler, class_name, object)?;
+    let mut handler = open_with(rt.alloc(), keeper, options.handler, class, object)?;
     let mut output = BufWriter::new(rt.alloc(), io::writer(rt)).map_err(|_| OutOfMemory)?;
     answer_run(
         &mut handler,
@@ -128,21 +142,19 @@ fn answer_with<B: Behaviour, K: Keeper<Global>, R: Input + Print + AllocGlobal>(
     Ok(())
 }
 
-// The handler over what the keeper has for it, with an object of the class of that name. As the object has
-// the class, `WrongClass` comes only where the stored words are not as many as the class has.
-fn open_named<B: Behaviour, K: Keeper<Global>>(
+// The handler over what the keeper has for it, with an object of the class. As the object has the class,
+// `WrongClass` comes only where the stored words are not as many as the class has.
+fn open_with<B: Behaviour, K: Keeper<Global>>(
     alloc: Global,
     keeper: &mut K,
     number: HandlerId,
-    class_name: &str,
+    class: DemoClass,
     object: B,
 ) -> Result<Handler<B>, RunError>
-    requires { class_named class_name.now ≡ Some (B.class object) }
+    requires { table_of class ≡ B.class object }
     ensures opened { K.is_honest keeper.new → IfOk result (OpensOver (K.handlers keeper.old number.0) number (B.class object) (B.words object)) }
     ensures misfit { K.is_honest keeper.new → result ≡ Err (RunError.WrongClass number) → HasUnfitWords (K.handlers keeper.old number.0) (B.class object) }
 {
-    let Some(class) = demo_class(alloc, class_name)? else {
-        unreachable!()
-    };
+    let class = class.class(alloc)?;
     open_handler(alloc, keeper, number, class, object)
 }

@@ -16,8 +16,8 @@ pub fn words<R: Env + AllocGlobal>(rt: &R) -> Result<Vec<String>, Failure> {
     Ok(words.collect(rt.alloc())?)
 }
 
-/// What the program and its subcommands take, with their help.
-pub fn command<'a>(alloc: Global) -> Result<Command<'a>, AllocError> {
+/// What the program and its subcommands take, with their help. A class is one of these names.
+pub fn command<'a>(alloc: Global, class_names: &'a [&'a str]) -> Result<Command<'a>, AllocError> {
     Command::new(alloc, "scoop")
         .bin_name("scoop")?
         .version("0.1.0")
@@ -25,7 +25,7 @@ pub fn command<'a>(alloc: Global) -> Result<Command<'a>, AllocError> {
         .propagate_version(true)
         .subcommand_required(true)
         .arg_required_else_help(true)
-        .subcommand(answer_command(alloc)?)?
+        .subcommand(answer_command(alloc, class_names)?)?
         .subcommand(world_command(alloc))
 }
 
@@ -42,10 +42,10 @@ fn world_command<'a>(alloc: Global) -> Command<'a> {
         )
 }
 
-// The names of the classes.
-const CLASSES: &[&str] = &["cell", "counter", "account", "exchange"];
-
-fn answer_command<'a>(alloc: Global) -> Result<Command<'a>, AllocError> {
+fn answer_command<'a>(
+    alloc: Global,
+    class_names: &'a [&'a str],
+) -> Result<Command<'a>, AllocError> {
     Command::new(alloc, "answer")
         .about("Answers the datagrams of standard input, with one line for each")
         .long_about(
@@ -56,7 +56,7 @@ fn answer_command<'a>(alloc: Global) -> Result<Command<'a>, AllocError> {
             before the reply is printed, and the handler begins with the state that is stored.",
         )
         .arg(handler_option(alloc))?
-        .arg(class_option(alloc))?
+        .arg(class_option(alloc, class_names))?
         .arg(word_option(alloc))?
         .arg(new_option(alloc)?)?
         .arg(store_option(alloc))?
@@ -73,13 +73,13 @@ fn handler_option<'a>(alloc: Global) -> Arg<'a> {
         .default_value("1")
 }
 
-fn class_option<'a>(alloc: Global) -> Arg<'a> {
+fn class_option<'a>(alloc: Global, class_names: &'a [&'a str]) -> Arg<'a> {
     Arg::new(alloc, "class")
         .long("class")
         .value_name("NAME")
         .help("The class of its object")
         .action(ArgAction::Set)
-        .value_parser(CLASSES)
+        .value_parser(class_names)
         .default_value("cell")
 }
 

@@ -14,6 +14,8 @@ pub enum Failure {
     CommandLine(Error),
     /// The arguments aren't text.
     Arguments,
+    /// No class has the name that was given.
+    NoSuchClass,
     /// The work on the input ended early.
     Run(RunError),
 }
@@ -26,6 +28,10 @@ impl Failure {
             Failure::CommandLine(error) => report_command_line(rt, &error),
             Failure::Arguments => {
                 let _ = eprintln!(rt; "scoop: the arguments are not text");
+                2
+            }
+            Failure::NoSuchClass => {
+                let _ = eprintln!(rt; "scoop: no such class");
                 2
             }
             Failure::Run(error) => report_run(rt, error),

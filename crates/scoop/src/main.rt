@@ -11,6 +11,7 @@ use answering::answer;
 use command_line::{command, words};
 use failure::Failure;
 use playing::play;
+use scoop_demo::DemoClass;
 use std::process::ExitCode;
 
 fn main(rt: HostRuntime) -> ExitCode {
@@ -23,7 +24,8 @@ fn main(rt: HostRuntime) -> ExitCode {
 // Reads the command line and runs what it asks for.
 fn scoop(rt: &HostRuntime) -> Result<(), Failure> {
     let words = words(rt)?;
-    let matches = command(rt.alloc())?.try_get_matches_from(words.as_slice())?;
+    let class_names = DemoClass::names();
+    let matches = command(rt.alloc(), &class_names)?.try_get_matches_from(words.as_slice())?;
     match matches.subcommand() {
         Some(("answer", given)) => answer(rt, given),
         Some(("world", _)) => play(rt),

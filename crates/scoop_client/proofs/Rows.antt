@@ -1,5 +1,5 @@
 -- Each message is heard by one of the cases.
-use Rattle.std.proofs.Common.{◌≡◌, ℕ, ◌==◌, ◌&&◌, ◌||◌, Bool, true, false, Option, Some, None, refl, sym, ap, ◌∙◌, subst}
+use Rattle.std.proofs.Common.{◌≡◌, ◌↔◌, ℕ, ◌==◌, ◌&&◌, ◌||◌, Bool, true, false, Option, Some, None, refl, sym, ap, ◌∙◌, subst}
 use Rattle.std.specs.Prelude.{if◌then◌else◌, nat_lt, nat_le}
 use Rattle.std.proofs.lemmas.Bool.Decides.{Decides-eqb}
 use Rattle.scoop_message.specs.declared.name.HandlerId.{HandlerId}
@@ -13,11 +13,18 @@ use Rattle.scoop_message.proofs.Same.{handler_decides, client_decides, block_dec
 use Rattle.scoop_reserve.specs.Handlers.{has, without}
 use Rattle.scoop_reserve.specs.State.{ReservationState}
 use Rattle.scoop_reserve.specs.Hearing.{is_open}
-use Rattle.scoop_client.specs.declared.phase.ClientNote.TheVariants.{Welcomed, Acknowledged, Accepted}
+use Rattle.scoop_client.specs.declared.phase.ClientNote.TheVariants.{Welcomed, Acknowledged, Accepted, Ignored}
 use Rattle.scoop_client.specs.Line.{LineState, line_of, logged, acknowledged, at_line}
 use Rattle.scoop_client.specs.State.{ClientState, with_left, with_lines}
-use Rattle.scoop_client.specs.Rows.{HeardRow, passed_over, is_welcomed, takes_step, is_acknowledged, is_accepted}
-use Rattle.scoop_client.specs.Hearing.{Notice, heard, ignored, is_own, hear_step, settled, up_to, hear_count, hear_logged, hear_answer, hear_answer_to, is_open_block}
+use Rattle.scoop_reserve.specs.Hearing as reservation
+use Rattle.scoop_reserve.specs.Rows as reservation_rows
+use Rattle.scoop_reserve.specs.Rows.{awaits_lock, awaits_refusal, awaits_opening, awaits_unlocking, awaits_giving_back}
+use Rattle.scoop_reserve.specs.declared.stage.Step.{Step}
+use Rattle.scoop_reserve.specs.declared.stage.Step.TheVariants as step
+use Rattle.scoop_reserve.proofs.Rows as reserved
+use Rattle.scoop_client.specs.declared.phase.ClientNote.{ClientNote}
+use Rattle.scoop_client.specs.Rows.{Awaits, awaits_welcome, awaits_step, awaits_count, awaits_answer, HeardRow, passed_over, is_welcomed, takes_step, is_acknowledged, is_accepted, IsHeard}
+use Rattle.scoop_client.specs.Hearing.{Notice, heard, ignored, is_own, hear_step, after_step, settled, up_to, hear_count, hear_logged, hear_answer, hear_answer_to, is_open_block}
 
 both_true : (a b : Bool) → (a && b) ≡ true → (a ≡ true) × (b ≡ true)
 both_true true b e = (refl, e)
@@ -93,3 +100,99 @@ module _ (c : ClientState) where
   heard_row (Log h b n es) = over _
   heard_row (Logged h b n) = logged_row h b n c.reservation refl
   heard_row (Answer h b n a) = block_answer_row h b n a c.reservation refl
+
+  -- ---- what is awaited
+
+  own_block : (b : Block) → same_block b b ≡ true
+  own_block b = (block_decides b b).1 refl
+
+  own_handler : (h : HandlerId) → same_handler h h ≡ true
+  own_handler h = (handler_decides h h).1 refl
+
+  own_name : is_own c c.id c.inc ≡ true
+  own_name = (pair_decides c.id c.id c.inc c.inc (client_decides c.id c.id) (Decides-eqb c.inc c.inc)).1 refl
+
+  -- what the reservation ignores the client does
+  passed : (r s : ReservationState) (st : Step) → (s ≡ r) × (st ≡ step.Ignored) → after_step c s st ≡ ignored c
+  passed r s st is = ap (after_step c s) is.1
+
+  -- where a message isn't awaited nothing happens
+  quiet : (m : Message) (d : ClientState) (note : ClientNote) → HeardRow c m d note → (Awaits c m → ⊥) → (d ≡ c) × (note ≡ Ignored)
+  quiet m d note (passed_over n) out = (refl, refl)
+  quiet m d note (is_welcomed h left) out = absurd (out (awaits_welcome h left))
+  quiet m d note (takes_step n r held) out =
+      let is = passed r (reservation.heard r m).0 (reservation.heard r m).1 (reserved.quiet r m (reservation.heard r m).0 (reservation.heard r m).1 (reserved.heard_row r m) (λ awaited. out (awaits_step m r held awaited))) in
+      (ap (λ (n : Notice). n.0) is, ap (λ (n : Notice). n.1) is)
+  quiet m d note (is_acknowledged h n r l held opened line new) out = absurd (out (awaits_count h n r l held opened line new))
+  quiet m d note (is_accepted h n a r held opened waits) out = absurd (out (awaits_answer h n a r held opened waits))
+
+  step_told : (s : ReservationState) (st : Step) → (after_step c s st).1 ≡ Ignored → st ≡ step.Ignored
+  step_told s (step.Locked h) e = cc
+  step_told s (step.Busy h) e = cc
+  step_told s (step.Opened h) e = cc
+  step_told s (step.Unlocked h) e = cc
+  step_told s step.Ignored e = refl
+
+  step_heard : (m : Message) (r : ReservationState) → c.reservation ≡ Some r → reservation_rows.Awaits r m → heard c m ≡ after_step c (reservation.heard r m).0 (reservation.heard r m).1
+  step_heard m r held (awaits_lock h at low) = ap (hear_step c (Locked h r.block)) held
+  step_heard m r held (awaits_refusal h at low) = ap (hear_step c (Busy h r.block)) held
+  step_heard m r held (awaits_opening h at among) = ap (hear_step c (Opened h r.block)) held
+  step_heard m r held (awaits_unlocking h at among) = ap (hear_step c (Unlocked h r.block)) held
+  step_heard m r held (awaits_giving_back h at among) = ap (hear_step c (Unlocked h r.block)) held
+
+  welcome_gives : (h : HandlerId) → has c.left h ≡ true → heard c (Welcome h c.id c.inc) ≡ (with_left c (without h c.left), Welcomed h)
+  welcome_gives h left = rw (own_name, left) refl
+
+  count_gives : (h : HandlerId) (n : ℕ) (r : ReservationState) (l : LineState) → c.reservation ≡ Some r → is_open r ≡ true → line_of h c.lines ≡ Some l → (nat_lt (logged l) n || nat_le (up_to h n c.waits) l.acked) ≡ false
+      → heard c (Logged h r.block n) ≡ (settled (with_lines c (at_line h (acknowledged (up_to h n c.waits)) c.lines) c.waits), Acknowledged h (up_to h n c.waits))
+  count_gives h n r l held opened line new = ap (hear_logged c h r.block n) held ∙ rw (own_block r.block, opened) (ap (hear_count c h n (up_to h n c.waits)) line ∙ rw new refl)
+
+  answer_gives : (h : HandlerId) (n : ℕ) (a : ObjectAnswer) (r : ReservationState) → c.reservation ≡ Some r → is_open r ≡ true → c.waits ≡ Some (h, n)
+      → heard c (Answer h r.block n a) ≡ (with_lines c (at_line h (acknowledged n) c.lines) None, Accepted h n a)
+  answer_gives h n a r held opened waits =
+      ap (hear_answer c h r.block n a) held ∙ rw (own_block r.block, opened) (ap (hear_answer_to c h n a) waits ∙ rw ((pair_decides h h n n (handler_decides h h) (Decides-eqb n n)).1 refl) refl)
+
+  -- what is awaited isn't ignored
+  told : (m : Message) → Awaits c m → (heard c m).1 ≡ Ignored → ⊥
+  told m (awaits_welcome h left) e = let no : Welcomed h ≡ Ignored = sym (ap (λ (n : Notice). n.1) (welcome_gives h left)) ∙ e in cc
+  told m (awaits_step n r held awaited) e =
+      reserved.told r m awaited (step_told (reservation.heard r m).0 (reservation.heard r m).1 (sym (ap (λ (n : Notice). n.1) (step_heard m r held awaited)) ∙ e))
+  told m (awaits_count h n r l held opened line new) e =
+      let no : Acknowledged h (up_to h n c.waits) ≡ Ignored = sym (ap (λ (n : Notice). n.1) (count_gives h n r l held opened line new)) ∙ e in cc
+  told m (awaits_answer h n a r held opened waits) e = let no : Accepted h n a ≡ Ignored = sym (ap (λ (n : Notice). n.1) (answer_gives h n a r held opened waits)) ∙ e in cc
+
+  -- ---- the table gives one outcome
+
+  over_gives : (m : Message) → (Awaits c m → ⊥) → heard c m ≡ ignored c
+  over_gives m out = let is = quiet m (heard c m).0 (heard c m).1 (heard_row m) out in λ i. (is.0 i, is.1 i)
+
+  -- of other kinds than the reservation's nothing is awaited by it, and no step is taken
+  step_gives : (m : Message) (r : ReservationState) → c.reservation ≡ Some r → ((after_step c (reservation.heard r m).0 (reservation.heard r m).1).1 ≡ Ignored → Awaits c m → ⊥)
+      → heard c m ≡ after_step c (reservation.heard r m).0 (reservation.heard r m).1
+  step_gives (Locked h b) r held out = ap (hear_step c (Locked h b)) held
+  step_gives (Busy h b) r held out = ap (hear_step c (Busy h b)) held
+  step_gives (Opened h b) r held out = ap (hear_step c (Opened h b)) held
+  step_gives (Unlocked h b) r held out = ap (hear_step c (Unlocked h b)) held
+  step_gives (Hello h x inc) r held out = refl
+  step_gives (Welcome h x inc) r held out = over_gives (Welcome h x inc) (out refl)
+  step_gives (Lock h b) r held out = refl
+  step_gives (Open h b) r held out = refl
+  step_gives (Unlock h b) r held out = refl
+  step_gives (Log h b n es) r held out = refl
+  step_gives (Logged h b n) r held out = over_gives (Logged h b n) (out refl)
+  step_gives (Answer h b n a) r held out = over_gives (Answer h b n a) (out refl)
+
+  row_gives : (m : Message) (d : ClientState) (note : ClientNote) → HeardRow c m d note → (note ≡ Ignored → Awaits c m → ⊥) → heard c m ≡ (d, note)
+  row_gives m d note (passed_over n) out = over_gives m (out refl)
+  row_gives m d note (is_welcomed h left) out = welcome_gives h left
+  row_gives m d note (takes_step n r held) out = step_gives m r held out
+  row_gives m d note (is_acknowledged h n r l held opened line new) out = count_gives h n r l held opened line new
+  row_gives m d note (is_accepted h n a r held opened waits) out = answer_gives h n a r held opened waits
+
+  pub heard_exactly : (m : Message) (d : ClientState) (note : ClientNote) → (heard c m ≡ (d, note)) ↔ IsHeard c m d note
+  heard_exactly m d note =
+      let all : IsHeard c m (heard c m).0 (heard c m).1 = record { row = heard_row m; ignored = λ e awaited. told m awaited e } in
+      let P : Notice → Type 0 = λ n. IsHeard c m n.0 n.1 in (
+        λ e. subst P e all,
+        λ f. row_gives m d note f.row f.ignored,
+      )

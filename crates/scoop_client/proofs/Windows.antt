@@ -1,33 +1,121 @@
 -- Which windows are full.
-use Rattle.std.proofs.Common.{◌≡◌, ℕ, zero, suc, ◌<◌, ◌++◌, Bool, true, false, List, [], ◌∷◌, length, get_or, take, drop, map, Option, Some, None, refl, arith}
-use Rattle.std.specs.Prelude.{if◌then◌else◌, nat_le}
-use Rattle.scoop_message.specs.declared.name.HandlerId.{HandlerId}
-use Rattle.scoop_client.specs.Line.{LineState, is_full, lower, lowest_full, lowest_full_after}
+use Rattle.std.proofs.Common.{◌≡◌, ◌⊎◌, ⊎_elim, ℕ, zero, suc, ◌<◌, ◌≤◌, ◌++◌, Bool, true, false, cond, not, ◌&&◌, ◌||◌, List, [], ◌∷◌, length, get_or, take, drop, map, find, Option, Some, None, refl, sym, ap, subst, ◌∙◌, inl, inr, arith}
+use Rattle.std.specs.List.{list_all}
+use Rattle.std.specs.Option.{option_map}
+use Rattle.std.proofs.lemmas.Bool.Decides.{nat_tests}
+use Rattle.std.specs.Prelude.{nat_le}
+use Rattle.scoop_client.specs.Line.{LineState, is_full, is_lowest_full, lowest_full}
 
-one_of : (b : Bool) (x y : HandlerId) → (if b then Some x else Some y) ≡ None → ⊥
-one_of true x y e = cc
-one_of false x y e = cc
+here_or_later : {X : Type 0} (p : X → Bool) (x : X) (xs : List X) (i : ℕ) (d : X) (t : Bool) → p x ≡ t → cond t (Some x) (find p xs) ≡ None → i < length (x ∷ xs)
+    → ((k : ℕ) → find p xs ≡ None → k < length xs → p (get_or xs k d) ≡ false) → p (get_or (x ∷ xs) i d) ≡ false
+here_or_later p x xs i d true is e within later = cc
+here_or_later p x xs zero d false is e within later = is
+here_or_later p x xs (suc i) d false is e within later = later i e (omega arith)
 
-some_lower : (h : HandlerId) (best : Option HandlerId) → lower h best ≡ None → ⊥
-some_lower h None e = cc
-some_lower h (Some x) e = one_of (nat_le x.0 h.0) x h e
+-- a test that no element passes, each element fails
+find_none : {X : Type 0} (p : X → Bool) (xs : List X) (i : ℕ) (d : X) → find p xs ≡ None → i < length xs → p (get_or xs i d) ≡ false
+find_none p [] i d e within = absurd (omega arith)
+find_none p (x ∷ xs) i d e within = here_or_later p x xs i d (p x) refl e within (λ k f w. find_none p xs k d f w)
 
--- where none is told, none was known and this window isn't full
-not_full : (full : Bool) (h : HandlerId) (best : Option HandlerId) → (if full then lower h best else best) ≡ None → (best ≡ None) × (full ≡ false)
-not_full true h best e = absurd (some_lower h best e)
-not_full false h best e = (e, refl)
+-- a line that is full, and no full one is at a lower handler
+record Least (ls : List LineState) : Type 0 where
+  line : LineState
+  place : ℕ
+  within : place < length ls
+  stands : (d : LineState) → get_or ls place d ≡ line
+  full : is_full line ≡ true
+  least : list_all (λ x. not (is_full x) || nat_le line.handler.0 x.handler.0) ls ≡ true
 
-none_known : (best : Option HandlerId) (ls : List LineState) → lowest_full_after best ls ≡ None → best ≡ None
-none_known best [] e = e
-none_known best (l ∷ ls) e = (not_full (is_full l) l.handler best (none_known (if is_full l then lower l.handler best else best) ls e)).0
+abbrev NoneFull : List LineState → Type 0
+NoneFull ls = list_all (λ l. not (is_full l)) ls ≡ true
 
-none_full_after : (best : Option HandlerId) (ls : List LineState) (i : ℕ) (d : LineState) → lowest_full_after best ls ≡ None → i < length ls → is_full (get_or ls i d) ≡ false
-none_full_after best [] i d e within = absurd (omega arith)
-none_full_after best (l ∷ ls) zero d e within = (not_full (is_full l) l.handler best (none_known (if is_full l then lower l.handler best else best) ls e)).1
-none_full_after best (l ∷ ls) (suc i) d e within = none_full_after (if is_full l then lower l.handler best else best) ls i d e (omega arith)
+or_true : (t u : Bool) → t ≡ true → (t || u) ≡ true
+or_true t u e = rw e refl
+
+or_second : (t u : Bool) → u ≡ true → (t || u) ≡ true
+or_second true u e = refl
+or_second false u e = e
+
+halves : (t u : Bool) → (t && u) ≡ true → (t ≡ true) × (u ≡ true)
+halves true u e = (refl, e)
+halves false u e = cc
+
+whole : (t u : Bool) → t ≡ true → u ≡ true → (t && u) ≡ true
+whole t u e f = rw (e, f) refl
+
+below_none : (n : ℕ) (ls : List LineState) → NoneFull ls → list_all (λ x. not (is_full x) || nat_le n x.handler.0) ls ≡ true
+below_none n [] none = refl
+below_none n (x ∷ xs) none = let p = halves _ _ none in whole _ _ (or_true _ _ p.0) (below_none n xs p.1)
+
+one_below : (m n k : ℕ) (full : Bool) → m ≤ n → (not full || nat_le n k) ≡ true → (not full || nat_le m k) ≡ true
+one_below m n k true le e = grind (arith, nat_tests)
+one_below m n k false le e = refl
+
+below_lower : (m n : ℕ) (ls : List LineState) → m ≤ n → list_all (λ x. not (is_full x) || nat_le n x.handler.0) ls ≡ true → list_all (λ x. not (is_full x) || nat_le m x.handler.0) ls ≡ true
+below_lower m n [] le all = refl
+below_lower m n (x ∷ xs) le all = let p = halves _ _ all in whole _ _ (one_below m n x.handler.0 (is_full x) le p.0) (below_lower m n xs le p.1)
+
+le_itself : (n : ℕ) → nat_le n n ≡ true
+le_itself n = grind (arith, nat_tests)
+
+le_other : (m n : ℕ) → nat_le m n ≡ false → n ≤ m
+le_other m n e = grind (arith, nat_tests)
+
+first_least : (x : LineState) (xs : List LineState) → is_full x ≡ true → list_all (λ y. not (is_full y) || nat_le x.handler.0 y.handler.0) xs ≡ true → Least (x ∷ xs)
+first_least x xs is rest = record {
+  line = x;
+  place = 0;
+  within = omega arith;
+  stands = λ d. refl;
+  full = is;
+  least = whole _ _ (or_second _ _ (le_itself x.handler.0)) rest;
+}
+
+later_least : (x : LineState) (xs : List LineState) (l : Least xs) → (not (is_full x) || nat_le l.line.handler.0 x.handler.0) ≡ true → Least (x ∷ xs)
+later_least x xs l first = record {
+  line = l.line;
+  place = suc l.place;
+  within = omega (arith, l.within);
+  stands = l.stands;
+  full = l.full;
+  least = whole _ _ first l.least;
+}
+
+least_or_none : (ls : List LineState) → NoneFull ls ⊎ Least ls
+least_or_none [] = inl refl
+least_or_none (x ∷ xs) = by (is_full x) refl (least_or_none xs) where
+  compare : is_full x ≡ true → (l : Least xs) → (t : Bool) → nat_le l.line.handler.0 x.handler.0 ≡ t → Least (x ∷ xs)
+  compare is l true le = later_least x xs l (or_second _ _ le)
+  compare is l false le = first_least x xs is (below_lower x.handler.0 l.line.handler.0 xs (le_other _ _ le) l.least)
+
+  by : (t : Bool) → is_full x ≡ t → NoneFull xs ⊎ Least xs → NoneFull (x ∷ xs) ⊎ Least (x ∷ xs)
+  by true is (inl none) = inr (first_least x xs is (below_none x.handler.0 xs none))
+  by true is (inr l) = inr (compare is l (nat_le l.line.handler.0 x.handler.0) refl)
+  by false is (inl none) = inl (whole _ _ (ap not is) none)
+  by false is (inr l) = inr (later_least x xs l (or_true _ _ (ap not is)))
+
+none_at : (ls : List LineState) (i : ℕ) (d : LineState) → NoneFull ls → i < length ls → is_full (get_or ls i d) ≡ false
+none_at [] i d none within = absurd (omega arith)
+none_at (x ∷ xs) zero d none within = not_true (is_full x) (halves _ _ none).0 where
+  not_true : (t : Bool) → not t ≡ true → t ≡ false
+  not_true true e = cc
+  not_true false e = refl
+none_at (x ∷ xs) (suc i) d none within = none_at xs i d (halves _ _ none).1 (omega arith)
+
+no_line : (o : Option LineState) → option_map (λ (l : LineState). l.handler) o ≡ None → o ≡ None
+no_line None e = refl
+no_line (Some l) e = cc
+
+no_least : (ls : List LineState) → lowest_full ls ≡ None → Least ls → ⊥
+no_least ls e l =
+    let fails : is_lowest_full ls (get_or ls l.place l.line) ≡ false = find_none (is_lowest_full ls) ls l.place l.line (no_line (find (is_lowest_full ls) ls) e) l.within in
+    let passes : is_lowest_full ls l.line ≡ true = whole _ _ l.full l.least in
+    let both : is_lowest_full ls l.line ≡ false = subst (λ (x : LineState). is_lowest_full ls x ≡ false) (l.stands l.line) fails in
+    let no : true ≡ false = sym passes ∙ both in
+    cc
 
 pub none_full : (ls : List LineState) (i : ℕ) (d : LineState) → lowest_full ls ≡ None → i < length ls → is_full (get_or ls i d) ≡ false
-none_full ls i d e within = none_full_after None ls i d e within
+none_full ls i d e within = ⊎_elim (λ none. none_at ls i d none within) (λ l. absurd (no_least ls e l)) (least_or_none ls)
 
 left_of : {X : Type 0} (f : X → X) (xs : List X) (i : ℕ) (d : X) → i < length xs → get_or (map f (take i xs) ++ drop i xs) i d ≡ get_or xs i d
 left_of f [] i d within = absurd (omega arith)

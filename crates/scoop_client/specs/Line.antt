@@ -1,6 +1,7 @@
 -- What a client has logged at one handler.
-use Rattle.std.specs.Prelude.{◌≡◌, ℕ, ◌+◌, ◌-◌, ◌^◌, ◌<◌, min, Bool, true, false, ◌&&◌, ◌==◌, nat_le, if◌then◌else◌, List, [], ◌∷◌, ◌++◌, length, take, drop, find, slice_index_or, slice_set, Option, Some, None}
+use Rattle.std.specs.Prelude.{◌≡◌, ℕ, ◌+◌, ◌-◌, ◌^◌, ◌<◌, min, Bool, true, false, not, ◌&&◌, ◌||◌, ◌==◌, nat_le, if◌then◌else◌, List, [], ◌∷◌, ◌++◌, length, take, drop, find, slice_index_or, slice_set, Option, Some, None}
 use Rattle.std.specs.List.{list_any, list_all}
+use Rattle.std.specs.Option.{option_map}
 use Rattle.scoop_message.specs.declared.limits.TheConstants.{MAX_UNACKNOWLEDGED}
 use Rattle.scoop_message.specs.declared.name.HandlerId.{HandlerId}
 use Rattle.scoop_message.specs.declared.request.Entry.{Entry}
@@ -81,17 +82,13 @@ is_ended ls = list_any (λ l. l.ended) ls
 abbrev pub all_over : List LineState → Bool
 all_over ls = list_all is_over ls
 
--- the lowest handler whose window is full, where a lower one may be known already
-abbrev pub lower : HandlerId → Option HandlerId → Option HandlerId
-lower h None = Some h
-lower h (Some x) = if nat_le x.0 h.0 then Some x else Some h
+-- no full window is at a lower handler
+abbrev pub is_lowest_full : List LineState → LineState → Bool
+is_lowest_full ls l = is_full l && list_all (λ x. not (is_full x) || nat_le l.handler.0 x.handler.0) ls
 
-abbrev pub lowest_full_after : Option HandlerId → List LineState → Option HandlerId
-lowest_full_after best [] = best
-lowest_full_after best (l ∷ ls) = lowest_full_after (if is_full l then lower l.handler best else best) ls
-
+-- the lowest handler whose window is full
 abbrev pub lowest_full : List LineState → Option HandlerId
-lowest_full ls = lowest_full_after None ls
+lowest_full ls = option_map (λ l. l.handler) (find (is_lowest_full ls) ls)
 
 -- where the first line of a handler stands: it is its line, and it is the one that changes
 pub record IsPlaceOf (h : HandlerId) (ls : List LineState) (i : ℕ) : Type 0 where

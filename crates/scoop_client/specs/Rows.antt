@@ -1,5 +1,6 @@
--- The client's tables as relations, with a case for each of their lines. Later proofs go case by case.
-use Rattle.std.specs.Prelude.{◌≡◌, ℕ, ◌+◌, ◌-◌, ◌^◌, ◌==◌, ◌||◌, Bool, true, false, nat_lt, nat_le, length, map, List, Option, Some, None, Ok, Err}
+-- The client's tables as relations, with a case for each of their lines. What fits them is exactly what `due`,
+-- `heard` and `command` give.
+use Rattle.std.specs.Prelude.{◌≡◌, ◌≢◌, ℕ, ◌+◌, ◌-◌, ◌^◌, ◌==◌, ◌||◌, true, false, nat_lt, nat_le, length, map, List, Option, Some, None, Ok, Err}
 use Rattle.scoop_message.specs.declared.name.HandlerId.{HandlerId}
 use Rattle.scoop_message.specs.declared.request.Entry.{Entry}
 use Rattle.scoop_message.specs.declared.request.Entry.TheVariants.{Call, Query}
@@ -13,8 +14,8 @@ use Rattle.scoop_reserve.specs.Starting.{started}
 use Rattle.scoop_reserve.specs.Hearing.{is_open, given_up}
 use Rattle.scoop_reserve.specs.Hearing as reservation
 use Rattle.scoop_reserve.specs.Due as owed
-use Rattle.scoop_client.specs.declared.phase.Phase.{Phase}
-use Rattle.scoop_client.specs.declared.phase.Phase.TheVariants.{Greeting, Idle, Locking, Opening, Running, Ending, GivingUp}
+use Rattle.scoop_reserve.specs.Rows as reservation_rows
+use Rattle.scoop_client.specs.declared.phase.Phase.TheVariants.{Greeting, Idle, Locking, Running}
 use Rattle.scoop_client.specs.declared.phase.ClientNote.{ClientNote}
 use Rattle.scoop_client.specs.declared.phase.ClientNote.TheVariants.{Welcomed, Acknowledged, Accepted, Ignored}
 use Rattle.scoop_client.specs.declared.error.ClientError.TheVariants.{NotGreeted, NotIdle, NoBlock, Waiting, NotReserved, WindowFull, TooLate, Spent, Reserve as NotReservable}
@@ -25,6 +26,14 @@ use Rattle.scoop_client.specs.Commands.{Command, Outcome, Reserve, DoCall, DoQue
 
 -- ---- the message that is due
 
+-- nothing is due to a handler that has welcomed the client
+pub data OwesNothing (c : ClientState) (h : HandlerId) : Type 0 where
+  has_no_block : has c.left h ≡ false → c.reservation ≡ None → OwesNothing c h
+  waits_for_others : (r : ReservationState) → has c.left h ≡ false → c.reservation ≡ Some r → owed.due r h ≡ None → is_open r ≡ false → OwesNothing c h
+  is_elsewhere : (r : ReservationState) → has c.left h ≡ false → c.reservation ≡ Some r → owed.due r h ≡ None → is_open r ≡ true → line_of h c.lines ≡ None → OwesNothing c h
+  all_acknowledged : (r : ReservationState) (l : LineState) → has c.left h ≡ false → c.reservation ≡ Some r → owed.due r h ≡ None → is_open r ≡ true → line_of h c.lines ≡ Some l → (length l.unacked == 0) ≡ true → OwesNothing c h
+
+-- the cases, of which `owes_nothing` is that of one of these
 pub data DueRow (c : ClientState) (h : HandlerId) : Option Message → Type 0 where
   owes_nothing : DueRow c h None
   greets : has c.left h ≡ true → DueRow c h (Some (Hello h c.id c.inc))
@@ -32,8 +41,22 @@ pub data DueRow (c : ClientState) (h : HandlerId) : Option Message → Type 0 wh
   logs : (r : ReservationState) (l : LineState) → has c.left h ≡ false → c.reservation ≡ Some r → owed.due r h ≡ None → is_open r ≡ true → line_of h c.lines ≡ Some l → (length l.unacked == 0) ≡ false →
       DueRow c h (Some (Log l.handler r.block (l.acked + 1) (first_entries c.batch l.unacked)))
 
+-- the table: one of the cases, and nothing is due only where nothing is owed
+pub record IsDue (c : ClientState) (h : HandlerId) (message : Option Message) : Type 0 where
+  pub row : DueRow c h message
+  pub nothing : message ≡ None → OwesNothing c h
+
 -- ---- hearing
 
+-- the messages that are awaited
+pub data Awaits (c : ClientState) : Message → Type 0 where
+  awaits_welcome : (h : HandlerId) → has c.left h ≡ true → Awaits c (Welcome h c.id c.inc)
+  awaits_step : (m : Message) (r : ReservationState) → c.reservation ≡ Some r → reservation_rows.Awaits r m → Awaits c m
+  awaits_count : (h : HandlerId) (n : ℕ) (r : ReservationState) (l : LineState) → c.reservation ≡ Some r → is_open r ≡ true → line_of h c.lines ≡ Some l → (nat_lt (logged l) n || nat_le (up_to h n c.waits) l.acked) ≡ false → Awaits c (Logged h r.block n)
+  awaits_answer : (h : HandlerId) (n : ℕ) (a : ObjectAnswer) (r : ReservationState) → c.reservation ≡ Some r → is_open r ≡ true → c.waits ≡ Some (h, n) → Awaits c (Answer h r.block n a)
+
+-- the cases, of which `passed_over` is that of a message that isn't awaited; a step of the reservation that it
+-- doesn't await is one too
 pub data HeardRow (c : ClientState) : Message → ClientState → ClientNote → Type 0 where
   passed_over : (m : Message) → HeardRow c m c Ignored
   is_welcomed : (h : HandlerId) → has c.left h ≡ true → HeardRow c (Welcome h c.id c.inc) (with_left c (without h c.left)) (Welcomed h)
@@ -43,66 +66,43 @@ pub data HeardRow (c : ClientState) : Message → ClientState → ClientNote →
       HeardRow c (Logged h r.block n) (settled (with_lines c (at_line h (acknowledged (up_to h n c.waits)) c.lines) c.waits)) (Acknowledged h (up_to h n c.waits))
   is_accepted : (h : HandlerId) (n : ℕ) (a : ObjectAnswer) (r : ReservationState) → c.reservation ≡ Some r → is_open r ≡ true → c.waits ≡ Some (h, n) → HeardRow c (Answer h r.block n a) (with_lines c (at_line h (acknowledged n) c.lines) None) (Accepted h n a)
 
+-- the table: one of the cases, and only what isn't awaited is ignored
+pub record IsHeard (c : ClientState) (m : Message) (d : ClientState) (note : ClientNote) : Type 0 where
+  pub row : HeardRow c m d note
+  pub ignored : note ≡ Ignored → ¬ Awaits c m
+
 -- ---- commands
 
--- a block is under way
-abbrev pub has_block : Phase → Bool
-has_block Greeting = false
-has_block Idle = false
-has_block Locking = true
-has_block Opening = true
-has_block Running = true
-has_block Ending = true
-has_block GivingUp = true
-
-abbrev pub is_running : Phase → Bool
-is_running Greeting = false
-is_running Idle = false
-is_running Locking = false
-is_running Opening = false
-is_running Running = true
-is_running Ending = false
-is_running GivingUp = false
-
-abbrev pub is_locking : Phase → Bool
-is_locking Greeting = false
-is_locking Idle = false
-is_locking Locking = true
-is_locking Opening = false
-is_locking Running = false
-is_locking Ending = false
-is_locking GivingUp = false
-
 pub data ReserveRow (c : ClientState) (hs : List HandlerId) : Outcome → Type 0 where
-  reserve_ungreeted : phase_of c ≡ Greeting → ReserveRow c hs (Err NotGreeted)
-  reserve_busy : has_block (phase_of c) ≡ true → ReserveRow c hs (Err NotIdle)
+  reserve_not_greeted : phase_of c ≡ Greeting → ReserveRow c hs (Err NotGreeted)
+  reserve_not_idle : phase_of c ≢ Greeting → phase_of c ≢ Idle → ReserveRow c hs (Err NotIdle)
   reserve_spent : phase_of c ≡ Idle → (c.last == 2 ^ 32 - 1) ≡ true → ReserveRow c hs (Err Spent)
   reserve_refused : (e : ReserveError) → phase_of c ≡ Idle → (c.last == 2 ^ 32 - 1) ≡ false → started (next_block c) hs c.handlers ≡ Err e → ReserveRow c hs (Err (NotReservable e))
   begins_block : (r : ReservationState) → phase_of c ≡ Idle → (c.last == 2 ^ 32 - 1) ≡ false → started (next_block c) hs c.handlers ≡ Ok r → ReserveRow c hs (Ok (with_block c hs r))
 
 -- a call or a query
 pub data LogRow (c : ClientState) (h : HandlerId) (e : Entry) : Outcome → Type 0 where
-  log_ungreeted : phase_of c ≡ Greeting → LogRow c h e (Err NotGreeted)
-  log_without_block : is_running (phase_of c) ≡ false → LogRow c h e (Err NoBlock)
+  log_not_greeted : phase_of c ≡ Greeting → LogRow c h e (Err NotGreeted)
+  log_no_block : phase_of c ≢ Greeting → phase_of c ≢ Running → LogRow c h e (Err NoBlock)
   log_waiting : (w : HandlerId × ℕ) → phase_of c ≡ Running → c.waits ≡ Some w → LogRow c h e (Err (Waiting w.0))
-  log_unreserved : phase_of c ≡ Running → c.waits ≡ None → line_of h c.lines ≡ None → LogRow c h e (Err (NotReserved h))
+  log_not_reserved : phase_of c ≡ Running → c.waits ≡ None → line_of h c.lines ≡ None → LogRow c h e (Err (NotReserved h))
   log_window_full : (l : LineState) → phase_of c ≡ Running → c.waits ≡ None → line_of h c.lines ≡ Some l → is_full l ≡ true → LogRow c h e (Err (WindowFull h))
   log_spent : (l : LineState) → phase_of c ≡ Running → c.waits ≡ None → line_of h c.lines ≡ Some l → is_full l ≡ false → nat_le (2 ^ 32 - 2) (logged l) ≡ true → LogRow c h e (Err Spent)
   is_logged : (l : LineState) → phase_of c ≡ Running → c.waits ≡ None → line_of h c.lines ≡ Some l → is_full l ≡ false → nat_le (2 ^ 32 - 2) (logged l) ≡ false →
       LogRow c h e (Ok (with_lines c (at_line h (with_entry e) c.lines) (waits_for h (logged l + 1) e)))
 
 pub data EndRow (c : ClientState) : Outcome → Type 0 where
-  end_ungreeted : phase_of c ≡ Greeting → EndRow c (Err NotGreeted)
-  end_without_block : is_running (phase_of c) ≡ false → EndRow c (Err NoBlock)
+  end_not_greeted : phase_of c ≡ Greeting → EndRow c (Err NotGreeted)
+  end_no_block : phase_of c ≢ Greeting → phase_of c ≢ Running → EndRow c (Err NoBlock)
   end_waiting : (w : HandlerId × ℕ) → phase_of c ≡ Running → c.waits ≡ Some w → EndRow c (Err (Waiting w.0))
   end_window_full : (h : HandlerId) → phase_of c ≡ Running → c.waits ≡ None → lowest_full c.lines ≡ Some h → EndRow c (Err (WindowFull h))
   ends_block : phase_of c ≡ Running → c.waits ≡ None → lowest_full c.lines ≡ None → EndRow c (Ok (with_lines c (map with_end c.lines) None))
 
 pub data GiveUpRow (c : ClientState) : Outcome → Type 0 where
-  give_up_ungreeted : phase_of c ≡ Greeting → GiveUpRow c (Err NotGreeted)
-  give_up_without_block : has_block (phase_of c) ≡ false → GiveUpRow c (Err NoBlock)
-  give_up_too_late : has_block (phase_of c) ≡ true → GiveUpRow c (Err TooLate)
-  gives_up : (r s : ReservationState) → is_locking (phase_of c) ≡ true → c.reservation ≡ Some r → given_up r ≡ Ok s → GiveUpRow c (Ok (with_reservation c s))
+  give_up_not_greeted : phase_of c ≡ Greeting → GiveUpRow c (Err NotGreeted)
+  give_up_no_block : phase_of c ≡ Idle → GiveUpRow c (Err NoBlock)
+  give_up_too_late : phase_of c ≢ Greeting → phase_of c ≢ Idle → phase_of c ≢ Locking → GiveUpRow c (Err TooLate)
+  gives_up : (r s : ReservationState) → phase_of c ≡ Locking → c.reservation ≡ Some r → given_up r ≡ Ok s → GiveUpRow c (Ok (with_reservation c s))
 
 abbrev pub CommandRow : ClientState → Command → Outcome → Type 0
 CommandRow c (Reserve hs) = ReserveRow c hs

@@ -180,7 +180,7 @@ impl<A: Allocator + Clone> Client<A> {
     }
 
     /// A client that has to greet these handlers, with no block number used. The incarnation is at
-    /// least 1. It is refused, in this order, with `NoHandlers`, `TooManyHandlers` above 64,
+    /// least 1. It is refused, in this order, with `NoHandlers`, `TooManyHandlers` above `MAX_HANDLERS`,
     /// `Repeated` and `OutOfMemory`. One Log carries one entry.
     pub fn begin(
         alloc: A,

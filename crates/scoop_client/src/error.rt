@@ -14,14 +14,14 @@ pub enum BeginError {
     /// No handler is named.
     #[error("NoHandlers")]
     NoHandlers,
-    /// More than 64 handlers are named.
+    /// More than `MAX_HANDLERS` handlers are named.
     #[error("TooManyHandlers")]
     TooManyHandlers,
     /// This handler stands at the first place that repeats an earlier one.
     #[error("Repeated {0}")]
     Repeated(HandlerId),
     /// A growth of memory was refused.
-    #[error("OutOfMemory")]
+    #[error("out of memory")]
     OutOfMemory,
 }
 
@@ -43,7 +43,7 @@ pub enum ClientError {
     /// The block hasn't reserved this handler.
     #[error("NotReserved {0}")]
     NotReserved(HandlerId),
-    /// 64 entries at this handler aren't acknowledged.
+    /// `MAX_UNACKNOWLEDGED` entries at this handler aren't acknowledged.
     #[error("WindowFull {0}")]
     WindowFull(HandlerId),
     /// All handlers are locked already, or the block was given up before.
@@ -56,7 +56,7 @@ pub enum ClientError {
     #[error("{0}")]
     Reserve(ReserveError),
     /// A growth of memory was refused.
-    #[error("OutOfMemory")]
+    #[error("out of memory")]
     OutOfMemory,
 }
 

@@ -11,6 +11,7 @@ mod hearing;
 mod line;
 mod lines;
 mod phase;
+pub mod theorems;
 
 pub use client::Client;
 pub use error::{BeginError, ClientError};

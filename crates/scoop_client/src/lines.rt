@@ -1,7 +1,8 @@
 //! The lines of all handlers of a block.
 
-ghost use Rattle.std.specs.Prelude.{◌≡◌, MatchOption, IfOk, IfSome, Some, None, map, false};
-ghost use Rattle.scoop_client.specs.Line.{IsPlaceOf, IsNowhere, HasRoom, line_of, at_line, fresh_line, with_entry, with_end, acknowledged, is_ended, all_over, lower, lowest_full};
+ghost use Rattle.std.specs.Prelude.{◌≡◌, ◌||◌, nat_le, not, MatchOption, IfOk, IfSome, Some, None, map, false};
+ghost use Rattle.std.specs.List.{list_all};
+ghost use Rattle.scoop_client.specs.Line.{IsPlaceOf, IsNowhere, HasRoom, line_of, at_line, fresh_line, with_entry, with_end, acknowledged, is_ended, is_full, all_over, is_lowest_full, lowest_full};
 
 use crate::line::Line;
 use scoop_message::{Entry, HandlerId};
@@ -78,27 +79,31 @@ pub(crate) fn all_over<A: Allocator>(lines: &[Line<A>]) -> bool
     lines.iter().all(|line| line.is_over())
 }
 
-// The lower one of a handler and another, if there is another.
-fn lower(handler: HandlerId, best: Option<HandlerId>) -> Option<HandlerId>
-    ensures { result ≡ lower handler best }
+// Whether the window of this line is full, and none at a lower handler is.
+fn is_lowest_full<A: Allocator>(lines: &[Line<A>], line: &Line<A>) -> bool
+    ensures { result ≡ is_lowest_full lines.now line.now }
 {
-    match best {
-        Some(other) if other.0 <= handler.0 => Some(other),
-        _ => Some(handler),
-    }
+    line.is_full() && no_full_below(lines, line.handler())
+}
+
+fn no_full_below<A: Allocator>(lines: &[Line<A>], handler: HandlerId) -> bool
+    ensures { result ≡ list_all (λ x. not (is_full x) || nat_le handler.0 x.handler.0) lines.now }
+{
+    lines
+        .iter()
+        .all(|line| !line.is_full() || handler.0 <= line.handler().0)
 }
 
 /// The lowest handler whose window is full.
 pub(crate) fn lowest_full<A: Allocator>(lines: &[Line<A>]) -> Option<HandlerId>
     ensures { result ≡ lowest_full lines.now }
 {
-    let mut best = None;
     for line in lines {
-        if line.is_full() {
-            best = lower(line.handler(), best);
+        if is_lowest_full(lines, line) {
+            return Some(line.handler());
         }
     }
-    best
+    None
 }
 
 /// Logs an End at each handler.

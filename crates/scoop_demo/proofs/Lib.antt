@@ -10,4 +10,5 @@ mod ClassLemmas
 mod PartyLemmas
 mod WordLemmas
 mod NumberLemmas
+mod StagingLemmas
 mod ScriptLemmas

@@ -1,11 +1,14 @@
 -- The demo classes, by name.
 use Rattle.std.specs.Prelude.{◌==◌, if◌then◌else◌, ℕ, Bool, List, [], ◌∷◌, Option, Some, None, codes}
+use Rattle.std.specs.Option.{option_map}
 use Rattle.std.specs.Cmp.Lexicographic.{pointwise}
 use Rattle.scoop_object.specs.declared.term.Term.{Term}
 use Rattle.scoop_object.specs.declared.term.Term.TheVariants.{Const, Word, Arg}
 use Rattle.scoop_object.specs.declared.term.Write.{Write}
 use Rattle.scoop_object.specs.declared.row.OpRow.{OpRow}
 use Rattle.scoop_object.specs.Class.{ClassTable}
+use Rattle.scoop_demo.specs.declared.classes.DemoClass.{DemoClass}
+use Rattle.scoop_demo.specs.declared.classes.DemoClass.TheVariants.{Cell, Counter, Account, Exchange}
 
 abbrev pub write : ℕ → Term → Term → Term → Write
 write word base plus minus = record { word = word; base = base; plus = plus; minus = minus }
@@ -57,11 +60,27 @@ exchange_class =
 abbrev pub same_text : List ℕ → List ℕ → Bool
 same_text = pointwise ◌==◌
 
+abbrev pub class_name : DemoClass → List ℕ
+class_name Cell = codes "cell"
+class_name Counter = codes "counter"
+class_name Account = codes "account"
+class_name Exchange = codes "exchange"
+
+abbrev pub table_of : DemoClass → ClassTable
+table_of Cell = cell_class
+table_of Counter = counter_class
+table_of Account = account_class
+table_of Exchange = exchange_class
+
+-- which class has the name
+abbrev pub class_of_name : List ℕ → Option DemoClass
+class_of_name name =
+    if same_text name (class_name Cell) then Some Cell
+    else (if same_text name (class_name Counter) then Some Counter
+    else (if same_text name (class_name Account) then Some Account
+    else (if same_text name (class_name Exchange) then Some Exchange
+    else None)))
+
 -- the class of a name
 abbrev pub class_named : List ℕ → Option ClassTable
-class_named name =
-    if same_text name (codes "cell") then Some cell_class
-    else (if same_text name (codes "counter") then Some counter_class
-    else (if same_text name (codes "account") then Some account_class
-    else (if same_text name (codes "exchange") then Some exchange_class
-    else None)))
+class_named name = option_map table_of (class_of_name name)

@@ -15,3 +15,4 @@ pub mod ScriptLine
 pub mod LineFault
 pub mod NoteText
 pub mod Script
+pub mod Staging

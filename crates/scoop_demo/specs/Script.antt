@@ -1,7 +1,12 @@
 -- A script: which of its lines have a fault, and where a run over it stops.
-use Rattle.std.specs.Prelude.{◌≡◌, ℕ, ◌+◌, ◌||◌, ◌&&◌, not, max, Bool, true, false, if◌then◌else◌, List, [], ◌∷◌, ◌++◌, length, Option, Some, None, IfSome, ⊤}
-use Rattle.std.specs.List.{list_any}
-use Rattle.std.specs.Result.{result_err}
+use Rattle.std.specs.Prelude.{◌≡◌, ℕ, ◌+◌, ◌||◌, ◌&&◌, not, max, map, Bool, true, false, if◌then◌else◌, List, [], ◌∷◌, ◌++◌, length, Option, Some, None, IfSome, ⊤}
+use Rattle.std.specs.List.{list_any, filter_map, AllByRecursion}
+use Rattle.std.specs.Result.{result_ok, result_err}
+use Rattle.scoop_message.specs.declared.name.ClientId.{ClientId}
+use Rattle.scoop_object.specs.Class.{ClassTable}
+use Rattle.scoop_world.specs.OpenRefusal.{MayPlace, IsUnopened}
+use Rattle.scoop_world.specs.Opening.{IsJoining, newcomers_of}
+use Rattle.scoop_world.specs.declared.placing.Placement.{Placement}
 use Rattle.scoop_world.specs.declared.error.WorldOpenError.{WorldOpenError}
 use Rattle.scoop_demo.specs.declared.fault.InputFault.{InputFault}
 use Rattle.scoop_demo.specs.declared.fault.InputFault.TheVariants.{UnknownLine, TooLateForParty, CannotOpen, ReadFault}
@@ -13,7 +18,7 @@ use Rattle.scoop_demo.specs.Line.{lines_of, limit_fault}
 use Rattle.scoop_demo.specs.Run.{first_fault, BeginsWithLines}
 use Rattle.scoop_demo.specs.ScriptWords.{words_of, is_blank}
 use Rattle.scoop_demo.specs.ScriptKind.{kind_of}
-use Rattle.scoop_demo.specs.ScriptLine.{handler_line, client_line, event_line}
+use Rattle.scoop_demo.specs.ScriptLine.{Placed, handler_line, client_line, event_line}
 
 -- ---- one line
 
@@ -50,23 +55,73 @@ is_event line = if is_blank line then false else is_event_kind (kind_of (words_o
 abbrev pub opens_at : Bool → List ℕ → Bool
 opens_at opened line = not opened && is_event line
 
--- why the line of this number stops a run: its words have this fault, or it opens the world and the parties don't
--- allow it, or the output failed, or memory was wanted
-pub data StopsAtLine (number : ℕ) (opens : Bool) (found : Option InputFault) : RunError → Type 0 where
-  in_words : {fault : InputFault} → found ≡ Some fault → StopsAtLine number opens found (Input number fault)
-  in_opening : {error : WorldOpenError} → opens ≡ true → StopsAtLine number opens found (Input number (CannotOpen error))
-  in_output : StopsAtLine number opens found Write
-  in_memory : StopsAtLine number opens found OutOfMemory
+-- ---- the parties that lines name
+
+-- the handlers that are placed and the clients that join, each client with its batch
+pub record Parties : Type 0 where
+  pub placed : List Placed
+  pub clients : List (ClientId × ℕ)
+
+abbrev pub placed_by_kind : Option (LineKind × List (List ℕ)) → Option Placed
+placed_by_kind None = None
+placed_by_kind (Some (Handler, words)) = result_ok (handler_line words)
+placed_by_kind (Some (Client, words)) = None
+placed_by_kind (Some (Event kind, words)) = None
+
+abbrev pub joined_by_kind : Option (LineKind × List (List ℕ)) → Option (ClientId × ℕ)
+joined_by_kind None = None
+joined_by_kind (Some (Handler, words)) = None
+joined_by_kind (Some (Client, words)) = result_ok (client_line words)
+joined_by_kind (Some (Event kind, words)) = None
+
+-- the handler that the line places, if it does
+abbrev pub placed_by : List ℕ → Option Placed
+placed_by line = if is_blank line then None else placed_by_kind (kind_of (words_of line))
+
+-- the client that the line lets join, if it does
+abbrev pub joined_by : List ℕ → Option (ClientId × ℕ)
+joined_by line = if is_blank line then None else joined_by_kind (kind_of (words_of line))
+
+-- the parties that the lines name, in their order
+abbrev pub parties_of : List (List ℕ) → Parties
+parties_of lines = record { placed = filter_map placed_by lines; clients = filter_map joined_by lines }
+
+-- the handler as it is placed in a world. An object that goes by the rows of a class is seen as that class
+abbrev pub placement_of : Placed → Placement ClassTable
+placement_of p = record { node = p.node; handler = p.handler; class = p.class; object = p.class }
+
+-- the object's own class
+abbrev pub own_class : ClassTable → ClassTable
+own_class class = class
+
+-- a world opens with these parties, over these stored incarnations, if there is memory
+pub record Opens (parties : Parties) (stored : ℕ → Option ℕ) : Type 0 where
+  pub placed : MayPlace own_class (map placement_of parties.placed) parties.clients
+  pub joining : AllByRecursion IsJoining (newcomers_of stored parties.clients)
+
+-- no world opens with them, for this reason
+abbrev pub IsClosed : Parties → (ℕ → Option ℕ) → WorldOpenError → Type 0
+IsClosed parties stored error = IsUnopened own_class (map placement_of parties.placed) parties.clients stored error
+
+-- ---- where a run stops at a line
+
+-- why the line of this number stops a run: its words have this fault, and the world opens where it is the first event's;
+-- or it is, and the world doesn't open; or the output failed, or memory was wanted
+pub data StopsAtLine (number : ℕ) (opens : Bool) (found : Option InputFault) (parties : Parties) (stored : ℕ → Option ℕ) : RunError → Type 0 where
+  in_words : {fault : InputFault} → found ≡ Some fault → (opens ≡ true → Opens parties stored) → StopsAtLine number opens found parties stored (Input number fault)
+  in_opening : {error : WorldOpenError} → opens ≡ true → IsClosed parties stored error → StopsAtLine number opens found parties stored (Input number (CannotOpen error))
+  in_output : StopsAtLine number opens found parties stored Write
+  in_memory : StopsAtLine number opens found parties stored OutOfMemory
 
 -- why the world doesn't open at the line of this number
-pub data StopsOpening (number : ℕ) : RunError → Type 0 where
-  of_parties : {error : WorldOpenError} → StopsOpening number (Input number (CannotOpen error))
-  of_memory : StopsOpening number OutOfMemory
+pub data StopsOpening (number : ℕ) (parties : Parties) (stored : ℕ → Option ℕ) : RunError → Type 0 where
+  of_parties : {error : WorldOpenError} → IsClosed parties stored error → StopsOpening number parties stored (Input number (CannotOpen error))
+  of_memory : StopsOpening number parties stored OutOfMemory
 
 -- why the world, which hasn't opened before, doesn't open at the line of this number
-pub record StopsClosed (opened : Bool) (number : ℕ) (e : RunError) : Type 0 where
+pub record StopsClosed (opened : Bool) (number : ℕ) (parties : Parties) (stored : ℕ → Option ℕ) (e : RunError) : Type 0 where
   pub closed : opened ≡ false
-  pub stops : StopsOpening number e
+  pub stops : StopsOpening number parties stored e
 
 -- ---- several lines
 
@@ -75,24 +130,41 @@ abbrev pub Faultless : ℕ → Bool → List (List ℕ) → Type 0
 Faultless number opened [] = ⊤
 Faultless number opened (line ∷ lines) = (script_fault number opened line ≡ None) × Faultless (number + 1) (opened || is_event line) lines
 
--- these are all lines of an input, and none has a fault
-pub record PlaysAll (input : Option (List ℕ)) : Type 0 where
-  pub lines : List (List ℕ)
+-- no line has a fault, and the world of the parties that they name opens, at the latest where they end
+pub record PlaysLines (stored : ℕ → Option ℕ) (lines : List (List ℕ)) : Type 0 where
   pub faultless : Faultless 1 false lines
+  pub opens : Opens (parties_of lines) stored
+
+-- the same of the first lines of a script, whose world needn't have opened before an event
+pub record PlaysFirst (stored : ℕ → Option ℕ) (lines : List (List ℕ)) : Type 0 where
+  pub faultless : Faultless 1 false lines
+  pub opens : list_any is_event lines ≡ true → Opens (parties_of lines) stored
+
+-- these are all lines of an input, and they are played
+pub record PlaysAll (input : Option (List ℕ)) (stored : ℕ → Option ℕ) : Type 0 where
+  pub lines : List (List ℕ)
+  pub plays : PlaysLines stored lines
   pub all : IfSome input (λ bytes. lines_of bytes ≡ lines)
 
--- where a run stops, for which reason: no line before has a fault. A world that doesn't open is told at the first
--- event line, or at the last line where there is none
-pub data StopsPlaying (input : Option (List ℕ)) : RunError → Type 0 where
-  read_fault : (lines : List (List ℕ)) → Faultless 1 false lines → BeginsWithLines input lines
-      → StopsPlaying input (Input (length lines + 1) ReadFault)
-  line_fault : {fault : InputFault} (lines : List (List ℕ)) (line : List ℕ) → Faultless 1 false lines
-      → script_fault (length lines + 1) (list_any is_event lines) line ≡ Some fault → BeginsWithLines input (lines ++ line ∷ [])
-      → StopsPlaying input (Input (length lines + 1) fault)
-  first_event : {error : WorldOpenError} (lines : List (List ℕ)) (line : List ℕ) → Faultless 1 false lines
-      → list_any is_event lines ≡ false → is_event line ≡ true → BeginsWithLines input (lines ++ line ∷ [])
-      → StopsPlaying input (Input (length lines + 1) (CannotOpen error))
-  no_event : {error : WorldOpenError} (lines : List (List ℕ)) → Faultless 1 false lines → list_any is_event lines ≡ false
-      → IfSome input (λ bytes. lines_of bytes ≡ lines) → StopsPlaying input (Input (max (length lines) 1) (CannotOpen error))
-  output : (lines : List (List ℕ)) → Faultless 1 false lines → BeginsWithLines input lines → StopsPlaying input Write
-  memory : (lines : List (List ℕ)) → Faultless 1 false lines → BeginsWithLines input lines → StopsPlaying input OutOfMemory
+-- where a run over these stored incarnations stops, for which reason: the lines before are played. A line's limits come
+-- first, then its first words; a world that doesn't open is told at the first line of an event, before that line's other
+-- words are looked at, or at the last line where there is none
+pub data StopsPlaying (input : Option (List ℕ)) (stored : ℕ → Option ℕ) : RunError → Type 0 where
+  read_fault : (lines : List (List ℕ)) → PlaysFirst stored lines → BeginsWithLines input lines
+      → StopsPlaying input stored (Input (length lines + 1) ReadFault)
+  limit_broken : {fault : InputFault} (lines : List (List ℕ)) (line : List ℕ) → PlaysFirst stored lines
+      → limit_fault (length lines + 1) line ≡ Some fault → BeginsWithLines input (lines ++ line ∷ [])
+      → StopsPlaying input stored (Input (length lines + 1) fault)
+  line_fault : {fault : InputFault} (lines : List (List ℕ)) (line : List ℕ) → PlaysFirst stored lines
+      → limit_fault (length lines + 1) line ≡ None → words_fault (list_any is_event lines) line ≡ Some fault
+      → (is_event line ≡ true → Opens (parties_of lines) stored) → BeginsWithLines input (lines ++ line ∷ [])
+      → StopsPlaying input stored (Input (length lines + 1) fault)
+  first_event : {error : WorldOpenError} (lines : List (List ℕ)) (line : List ℕ) → PlaysFirst stored lines
+      → limit_fault (length lines + 1) line ≡ None → list_any is_event lines ≡ false → is_event line ≡ true
+      → IsClosed (parties_of lines) stored error → BeginsWithLines input (lines ++ line ∷ [])
+      → StopsPlaying input stored (Input (length lines + 1) (CannotOpen error))
+  no_event : {error : WorldOpenError} (lines : List (List ℕ)) → PlaysFirst stored lines → list_any is_event lines ≡ false
+      → IsClosed (parties_of lines) stored error → IfSome input (λ bytes. lines_of bytes ≡ lines)
+      → StopsPlaying input stored (Input (max (length lines) 1) (CannotOpen error))
+  output : (lines : List (List ℕ)) → PlaysFirst stored lines → BeginsWithLines input lines → StopsPlaying input stored Write
+  memory : (lines : List (List ℕ)) → PlaysFirst stored lines → BeginsWithLines input lines → StopsPlaying input stored OutOfMemory

@@ -6,7 +6,7 @@ ghost use Rattle.hex.specs.Hex.{is_hex_digit, decode_of};
 ghost use Rattle.scoop_demo.specs.Hex.{digits_of, hex_fault, StandsFor};
 
 use crate::fault::InputFault;
-use crate::source::Line;
+use crate::source::LineBytes;
 
 /// Bytes of the datagram of one line, at most.
 pub const MAX_DATAGRAM_LEN: usize = 2048;
@@ -17,7 +17,7 @@ pub const MAX_DATAGRAM_LEN: usize = 2048;
 /// The error is `NotHex` where another byte is no hex digit, else `OddDigits` where the number of digits
 /// is odd.
 pub fn read_datagram<'a>(
-    line: &mut Line,
+    line: &mut LineBytes,
     buffer: &'a mut [u8; MAX_DATAGRAM_LEN],
 ) -> Result<&'a [u8], InputFault>
     ensures ok { IfOk result (λ datagram. StandsFor line.old.items datagram.now) }
@@ -36,7 +36,7 @@ pub fn read_datagram<'a>(
     Ok(datagram)
 }
 
-fn remove_spaces(line: &mut Line)
+fn remove_spaces(line: &mut LineBytes)
     ensures { line.new.items ≡ digits_of line.old.items }
 {
     line.retain(|byte| *byte != b' ');

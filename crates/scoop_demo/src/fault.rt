@@ -34,9 +34,9 @@ pub enum InputFault {
     TooLateForParty,
     /// The handlers and clients of the lines before open no world.
     CannotOpen(WorldOpenError),
-    /// A request has more than four arguments.
+    /// A request has more than `MAX_ARGS` arguments.
     TooManyArguments,
-    /// More than nine handlers are named.
+    /// More than `MAX_NAMED_HANDLERS` handlers are named.
     TooManyHandlers,
 }
 

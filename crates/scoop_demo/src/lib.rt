@@ -1,11 +1,36 @@
-//! What the program `scoop` does with its input.
+//! What the program `scoop` does with its input, as calls over a reader and a writer.
 //!
-//! A handler answers the datagrams of an input, one in hex digits on each line, with one line for each, and
-//! its state is stored before the answer is written. A script is played in a world of handlers and clients.
-//! Beside them stand the demo classes, and for each of them an object of a type of its own.
+//! [`answer_run`] lets a handler answer the datagrams of an input, one in hex digits on each line, with one line for
+//! each; its state is stored before the answer is written. [`world_run`] plays a script in a world of handlers and
+//! clients. Beside them stand the demo classes, and for each of them an object of a type of its own.
+//!
+//! ```
+//! let script = "\
+//! handler 1 1 cell 0
+//! client 7
+//! trip 7 1";
+//! let mut output = Vec::new(alloc);
+//! world_run(
+//!     alloc,
+//!     MemoryKeeper::new(alloc),
+//!     script.as_bytes(),
+//!     &mut output,
+//! )?;
+//! let text = "\
+//! sent 1 Hello
+//! Greeted sent 2
+//! Welcomed 1
+//! joint none
+//! handler 1 opened none
+//! handler 1 ran none
+//! client 7 accepted none
+//! ";
+//! assert!(rt; output.as_slice() == text.as_bytes());
+//! ```
 #![tactic(auto)]
 
 mod answer;
+mod classes;
 mod datagram;
 mod fault;
 mod keeping;
@@ -18,11 +43,12 @@ mod script;
 mod source;
 
 pub use answer::{Answered, answer_one};
+pub use classes::{DemoClass, demo_class};
 pub use datagram::{MAX_DATAGRAM_LEN, read_datagram};
 pub use fault::{InputFault, RunError};
 pub use keeping::{open_handler, run_out};
 pub use lines::{Lines, MAX_LINES};
-pub use objects::{AccountObject, CellObject, CounterObject, ExchangeObject, demo_class};
+pub use objects::{AccountObject, CellObject, CounterObject, ExchangeObject};
 pub use playing::world_run;
 pub use printing::{print_accepted, print_all_ran, print_blocks, print_note};
 pub use run::answer_run;
@@ -30,4 +56,4 @@ pub use script::{
     EventKind, EventLine, LineError, LineKind, PlacedLine, is_blank, line_kind, read_client,
     read_event, read_placement,
 };
-pub use source::{Line, MAX_LINE_LEN, MAX_READS};
+pub use source::{LineBytes, MAX_LINE_LEN, MAX_READS};

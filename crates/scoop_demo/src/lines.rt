@@ -6,7 +6,7 @@ ghost use Rattle.std.specs.Io.KnownBytes.{Keeps, IsAtEnd};
 ghost use Rattle.scoop_demo.specs.Input.{error_at_line};
 
 use crate::fault::{InputFault, RunError};
-use crate::source::{Line, Source, SourceError};
+use crate::source::{LineBytes, Source, SourceError};
 use std::io::{Read, Write};
 use std::marker::Model;
 
@@ -56,11 +56,15 @@ impl<R: Read> Lines<R> {
     /// Reads the next line, and answers whether there was one. A newline at the end of the input starts no
     /// further line. The output is flushed before the program waits for more input.
     ///
-    /// The error is the first fault of the next line, with its number: `line too long` past 4,096
-    /// bytes, `too many lines` past 1,000,000 lines, `read fault` where the reader fails or was called
-    /// 10,000,000 times. It is `write fault` where the output can't be flushed. After an error the rest
-    /// of the line may be lost.
-    pub fn next_line<W: Write>(&mut self, line: &mut Line, output: &mut W) -> Result<bool, RunError>
+    /// The error is the first fault of the next line, with its number: `line too long` past `MAX_LINE_LEN`
+    /// bytes, `too many lines` past `MAX_LINES`, `read fault` where the reader fails or was called `MAX_READS`
+    /// times. It is `write fault` where the output can't be flushed. After an error the rest of the line may be
+    /// lost.
+    pub fn next_line<W: Write>(
+        &mut self,
+        line: &mut LineBytes,
+        output: &mut W,
+    ) -> Result<bool, RunError>
         ensures line { IfOk result (λ found. OnTrue found (TakesLine self.old line.new.items self.new)) }
         ensures end { result ≡ Ok false → IsAtEnd self.old.left }
         ensures err { IfErr result (StopsAtNext self.old) }

@@ -3,12 +3,15 @@
 mod events;
 mod stage;
 
-ghost use Rattle.std.specs.Prelude.{◌≡◌, IfErr, OnOk, false, is_some};
-ghost use Rattle.scoop_demo.specs.Script.{PlaysAll, StopsPlaying};
+ghost use Rattle.std.specs.Prelude.{◌≡◌, IfErr, OnOk, false, [], is_some};
+ghost use Rattle.scoop_demo.specs.Script.{PlaysAll, StopsPlaying, parties_of};
+ghost use Rattle.scoop_demo.specs.Staging.{IsWaiting};
+ghost use Rattle.scoop_record.specs.Memory.{incarnation_at};
 
 use crate::fault::RunError;
 use crate::lines::Lines;
 use arrayvec::ArrayVec;
+use scoop_object::{Behaviour, Table};
 use scoop_record::MemoryKeeper;
 use stage::Stage;
 use std::alloc::Global;
@@ -27,8 +30,8 @@ pub fn world_run<R: Read + Drop, W: Write>(
     reader: R,
     writer: &mut W,
 ) -> Result<(), RunError>
-    ensures ok { OnOk result (PlaysAll (R.remaining reader)) }
-    ensures err { IfErr result (StopsPlaying (R.remaining reader)) }
+    ensures ok { OnOk result (PlaysAll (R.remaining reader) (incarnation_at keeper)) }
+    ensures err { IfErr result (StopsPlaying (R.remaining reader) (incarnation_at keeper)) }
 {
     let played = play_all(alloc, keeper, reader, writer);
     let flushed = writer.flush();
@@ -45,8 +48,8 @@ fn play_all<R: Read + Drop, W: Write>(
     reader: R,
     writer: &mut W,
 ) -> Result<(), RunError>
-    ensures ok { OnOk result (PlaysAll (R.remaining reader)) }
-    ensures err { IfErr result (StopsPlaying (R.remaining reader)) }
+    ensures ok { OnOk result (PlaysAll (R.remaining reader) (incarnation_at keeper)) }
+    ensures err { IfErr result (StopsPlaying (R.remaining reader) (incarnation_at keeper)) }
 {
     let mut stage = Stage::new(alloc, keeper);
     match play_lines(&mut stage, reader, writer) {
@@ -65,9 +68,10 @@ fn play_lines<R: Read + Drop, W: Write>(
     reader: R,
     writer: &mut W,
 ) -> Result<(), RunError>
-    requires { is_some stage.old.world ≡ false }
-    ensures ok { OnOk result (PlaysAll (R.remaining reader)) }
-    ensures err { IfErr result (StopsPlaying (R.remaining reader)) }
+    requires closed { is_some stage.old.world ≡ false }
+    requires waits { IsWaiting ⟦<Table as Behaviour>⟧.class stage.old.placements.items stage.old.clients.items (incarnation_at stage.old.keeper) (parties_of []) (incarnation_at stage.old.keeper) }
+    ensures ok { OnOk result (PlaysAll (R.remaining reader) (incarnation_at stage.old.keeper)) }
+    ensures err { IfErr result (StopsPlaying (R.remaining reader) (incarnation_at stage.old.keeper)) }
 {
     let mut lines = Lines::new(reader);
     let mut line = ArrayVec::new();

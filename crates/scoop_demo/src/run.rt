@@ -14,7 +14,7 @@ use crate::datagram::{MAX_DATAGRAM_LEN, read_datagram};
 use crate::fault::RunError;
 use crate::keeping::run_out;
 use crate::lines::Lines;
-use crate::source::Line;
+use crate::source::LineBytes;
 use arrayvec::ArrayVec;
 use scoop_handler::Handler;
 use scoop_message::Words;
@@ -121,7 +121,7 @@ fn answer_line<B: Behaviour, K: Keeper<Global>, W: Write>(
     handler: &mut Handler<B>,
     keeper: &mut K,
     number: u32,
-    line: &mut Line,
+    line: &mut LineBytes,
     writer: &mut W,
 ) -> Result<(), RunError>
     requires { limit_fault number line.old.items ≡ None }

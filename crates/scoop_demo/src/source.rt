@@ -20,7 +20,7 @@ pub const MAX_READS: u32 = 10_000_000;
 const CHUNK_LEN: usize = 4096;
 
 /// The bytes of one line, without its newline.
-pub type Line = ArrayVec<u8, MAX_LINE_LEN>;
+pub type LineBytes = ArrayVec<u8, MAX_LINE_LEN>;
 
 /// Why an input was not read further.
 #[derive(Clone, Copy)]
@@ -67,7 +67,7 @@ impl<R: Read> Source<R> {
     /// further line. The output is flushed before each read, which may wait for the user.
     pub fn next_line<W: Write>(
         &mut self,
-        line: &mut Line,
+        line: &mut LineBytes,
         output: &mut W,
     ) -> Result<bool, SourceError>
         ensures line { IfOk result (λ found. OnTrue found (TakesFirst self.old line.new.items self.new)) }

@@ -99,3 +99,17 @@ fn classes_have_names(rt: HostRuntime) -> Result<(), Fail> {
     assert!(rt; demo_class(&heap, "bogus")?.is_none());
     Ok(())
 }
+
+#[test]
+fn knows_each_class_by_its_name(rt: HostRuntime) {
+    assert_eq!(rt;
+        DemoClass::names(),
+        ["cell", "counter", "account", "exchange"]
+    );
+    for name in DemoClass::names() {
+        assert_eq!(rt; DemoClass::from_name(name).map(DemoClass::name), Some(name));
+    }
+    for name in ["", "Cell", "cells", "bogus"] {
+        assert_eq!(rt; DemoClass::from_name(name), None);
+    }
+}

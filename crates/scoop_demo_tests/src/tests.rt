@@ -10,6 +10,7 @@ use std::process::Abort;
 use std::test::Fail;
 
 mod played;
+mod reads;
 mod stored;
 
 const LOCK: &str = "53510103 00000001 00000007 00000001 00000001 00000000 0000\n";

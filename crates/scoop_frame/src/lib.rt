@@ -22,6 +22,7 @@ pub use encoding::encode;
 pub use entry::{MAX_ENTRY, entry_from, entry_to};
 pub use error::FrameError;
 pub use law::{reframed, same_frame};
+pub use number::{u32_at, u64_at};
 pub use version::Version;
 
 #[cfg(test)]

@@ -1,10 +1,12 @@
 pub mod MarkLists
+pub mod MarkPlaces
 pub mod QueuePlaces
 pub mod Same
 pub mod Beside
 pub mod States
 pub mod Fronts
 pub mod TableRows
+pub mod OneRow
 pub mod TableLaws
 pub mod After
 pub mod Taking

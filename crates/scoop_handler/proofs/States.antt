@@ -6,7 +6,7 @@ use Rattle.std.specs.List.{AllByRecursion}
 use Rattle.std.specs.Option.{option_map_or}
 use Rattle.std.proofs.lemmas.Bool.{cases_Bool}
 use Rattle.std.proofs.lemmas.Bool.Decides.{nat_tests}
-use Rattle.scoop_message.specs.declared.limits.TheConstants.{MAX_CLIENTS, MAX_QUEUES, MAX_PENDING}
+use Rattle.scoop_message.specs.declared.limits.TheConstants.{MAX_MARKS, MAX_QUEUES, MAX_PENDING}
 use Rattle.scoop_message.specs.declared.name.Block.{Block}
 use Rattle.scoop_message.specs.declared.name.ClientId.{ClientId}
 use Rattle.scoop_message.specs.declared.request.Entry.{Entry}
@@ -266,7 +266,7 @@ IsState-freed s b k is at holds =
 
 -- ---- a first greeting
 
-pub IsState-first : (s : HandlerState) (c : ClientId) (inc : ℕ) → IsState s → mark_of c s.marks ≡ None → length s.marks < MAX_CLIENTS → IsState (with_mark s (greeting_mark c inc))
+pub IsState-first : (s : HandlerState) (c : ClientId) (inc : ℕ) → IsState s → mark_of c s.marks ≡ None → length s.marks < MAX_MARKS → IsState (with_mark s (greeting_mark c inc))
 IsState-first s c inc is none room = record {
   room = rw (length-add_mark (greeting_mark c inc) s.marks) (omega arith);
   ascending = IsAscending-add_mark (greeting_mark c inc) s.marks none is.ascending;

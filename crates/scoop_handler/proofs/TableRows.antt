@@ -3,7 +3,7 @@ use Rattle.std.proofs.Common.{◌≡◌, ◌≢◌, ℕ, ◌+◌, ◌<◌, ◌�
 use Rattle.std.specs.Prelude.{is_none}
 use Rattle.std.proofs.lemmas.Bool.{eqb-true}
 use Rattle.std.proofs.lemmas.Bool.Decides.{nat_tests}
-use Rattle.scoop_message.specs.declared.limits.TheConstants.{MAX_CLIENTS, MAX_QUEUES}
+use Rattle.scoop_message.specs.declared.limits.TheConstants.{MAX_MARKS, MAX_QUEUES}
 use Rattle.scoop_message.specs.declared.name.Block.{Block}
 use Rattle.scoop_message.specs.declared.name.ClientId.{ClientId}
 use Rattle.scoop_message.specs.declared.name.HandlerId.{HandlerId}
@@ -102,10 +102,10 @@ not_holder_from_test (Some x) b e same = let one : x ≡ b = cc in
 
 hello_row : (s : HandlerState) (h : HandlerId) (c : ClientId) (inc : ℕ) (k : Option Mark) → h ≡ s.number → mark_of c s.marks ≡ k → Row s (Hello h c inc) (hear_hello s c inc k)
 hello_row s h c inc None here is =
-    split (Row s (Hello h c inc)) (length s.marks == MAX_CLIENTS) _ _
-    (λ e. too_many_clients h c inc here is (eqb-true (length s.marks) MAX_CLIENTS e))
+    split (Row s (Hello h c inc)) (length s.marks == MAX_MARKS) _ _
+    (λ e. too_many_clients h c inc here is (eqb-true (length s.marks) MAX_MARKS e))
     (λ e. first_greeting h c inc here is (λ same. no_room same e)) where
-      no_room : length s.marks ≡ MAX_CLIENTS → (length s.marks == MAX_CLIENTS) ≡ false → ⊥
+      no_room : length s.marks ≡ MAX_MARKS → (length s.marks == MAX_MARKS) ≡ false → ⊥
       no_room same e = grind (arith, nat_tests)
 hello_row s h c inc (Some k) here is =
     split (Row s (Hello h c inc)) (nat_lt k.inc inc) _ _

@@ -1,7 +1,7 @@
 -- What a handler does with a message: its new state, the reply and the note. Of several cases the first
 -- that fits decides.
 use Rattle.std.specs.Prelude.{◌≡◌, ◌≤◌, ◌+◌, ◌-◌, ◌^◌, ℕ, Bool, ◌&&◌, ◌||◌, not, ◌==◌, nat_lt, nat_le, if◌then◌else◌, List, length, drop, Option, Some, None, is_none, Result, Ok, Err}
-use Rattle.scoop_message.specs.declared.limits.TheConstants.{MAX_CLIENTS, MAX_QUEUES, MAX_PENDING}
+use Rattle.scoop_message.specs.declared.limits.TheConstants.{MAX_MARKS, MAX_QUEUES, MAX_PENDING}
 use Rattle.scoop_message.specs.declared.name.Block.{Block}
 use Rattle.scoop_message.specs.declared.name.ClientId.{ClientId}
 use Rattle.scoop_message.specs.declared.name.HandlerId.{HandlerId}
@@ -85,7 +85,7 @@ freed s b k = replied (moved s None (without_hold k)) (Unlocked s.number b) Free
 
 abbrev pub hear_hello : HandlerState → ClientId → ℕ → Option Mark → Hearing
 hear_hello s c inc None =
-    if length s.marks == MAX_CLIENTS then dropped s TooManyClients
+    if length s.marks == MAX_MARKS then dropped s TooManyClients
     else greeted_first s c inc
 hear_hello s c inc (Some k) =
     if nat_lt k.inc inc then greeted_newer s c inc k

@@ -3,7 +3,7 @@ use Rattle.std.specs.Prelude.{◌≡◌, ◌<◌, ⊤, Option, Some, None}
 use Rattle.scoop_message.specs.declared.name.Block.{Block}
 use Rattle.scoop_message.specs.declared.name.HandlerId.{HandlerId}
 use Rattle.scoop_message.specs.declared.message.Message.{Message}
-use Rattle.scoop_message.specs.declared.message.Message.TheVariants.{Hello, Welcome, Lock, Locked, Busy, Open, Opened, Unlock, Unlocked, Log, Logged, Answer}
+use Rattle.scoop_message.specs.declared.message.Message.TheVariants.{Hello, Lock, Locked, Unlock}
 use Rattle.scoop_handler.specs.declared.note.Heard.{Heard}
 use Rattle.scoop_handler.specs.declared.note.Note.TheVariants.{Dropped}
 use Rattle.scoop_handler.specs.declared.note.Reason.{Reason}
@@ -15,33 +15,14 @@ ConfirmsOnlyHolder new heard = (h : HandlerId) (b : Block) → heard.reply ≡ S
 
 -- the message asks for the lock of this block
 abbrev pub AsksFor : Block → Message → Type 0
-AsksFor b (Hello h c inc) = ⊥
-AsksFor b (Welcome h c inc) = ⊥
 AsksFor b (Lock h x) = x ≡ b
-AsksFor b (Locked h x) = ⊥
-AsksFor b (Busy h x) = ⊥
-AsksFor b (Open h x) = ⊥
-AsksFor b (Opened h x) = ⊥
-AsksFor b (Unlock h x) = ⊥
-AsksFor b (Unlocked h x) = ⊥
-AsksFor b (Log h x n es) = ⊥
-AsksFor b (Logged h x n) = ⊥
-AsksFor b (Answer h x n a) = ⊥
+AsksFor b m = ⊥
 
 -- the message is the block's own Unlock, or a greeting by a newer incarnation of its client
 abbrev pub EndsHold : Block → Message → Type 0
 EndsHold b (Hello h c inc) = (c ≡ b.client) × (b.inc < inc)
-EndsHold b (Welcome h c inc) = ⊥
-EndsHold b (Lock h x) = ⊥
-EndsHold b (Locked h x) = ⊥
-EndsHold b (Busy h x) = ⊥
-EndsHold b (Open h x) = ⊥
-EndsHold b (Opened h x) = ⊥
 EndsHold b (Unlock h x) = x ≡ b
-EndsHold b (Unlocked h x) = ⊥
-EndsHold b (Log h x n es) = ⊥
-EndsHold b (Logged h x n) = ⊥
-EndsHold b (Answer h x n a) = ⊥
+EndsHold b m = ⊥
 
 -- how the holder may change: from none to a block that asks, and to none by a message that ends its hold
 abbrev pub HolderMoves : Option Block → Message → Option Block → Type 0

@@ -1,5 +1,5 @@
 -- What a handler keeps of its clients: one mark for each that has greeted it.
-use Rattle.std.specs.Prelude.{ℕ, Bool, true, false, nat_lt, if◌then◌else◌, List, [], ◌∷◌, Option, None, find, map, length, take_while}
+use Rattle.std.specs.Prelude.{◌≡◌, ◌<◌, ℕ, Bool, true, false, nat_lt, if◌then◌else◌, List, [], ◌∷◌, Option, Some, None, find, map, length, take_while, slice_index_or, slice_set}
 use Rattle.scoop_message.specs.declared.name.Block.{Block}
 use Rattle.scoop_message.specs.declared.name.ClientId.{ClientId}
 use Rattle.scoop_message.specs.Message.{same_client}
@@ -63,3 +63,14 @@ add_mark k (x ∷ xs) = if nat_lt x.client.0 k.client.0 then x ∷ add_mark k xs
 -- how many marks come before one of this client
 abbrev pub place_of : ClientId → List Mark → ℕ
 place_of c marks = length (take_while (λ k. nat_lt k.client.0 c.0) marks)
+
+-- where the client's mark stands: it is the one that is found, and the one that is set
+pub record IsPlaceOf (c : ClientId) (marks : List Mark) (i : ℕ) : Type 0 where
+  pub within : i < length marks
+  pub found : (d : Mark) → mark_of c marks ≡ Some (slice_index_or marks i d)
+  pub change : (k : Mark) → k.client ≡ c → set_mark k marks ≡ slice_set marks i k
+
+-- a client without a mark
+pub record IsNowhere (c : ClientId) (marks : List Mark) : Type 0 where
+  pub found : mark_of c marks ≡ None
+  pub change : (k : Mark) → k.client ≡ c → set_mark k marks ≡ marks

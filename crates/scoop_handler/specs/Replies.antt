@@ -1,26 +1,11 @@
 -- What is true of every reply.
-use Rattle.std.specs.Prelude.{⊤, ◌≡◌, ◌<◌, length, Option, Some, None, IsFalse}
-use Rattle.scoop_message.specs.declared.name.Block.{Block}
+use Rattle.std.specs.Prelude.{⊤, ◌≡◌, ◌<◌, length, Some, IsFalse}
 use Rattle.scoop_message.specs.declared.message.Message.{Message}
-use Rattle.scoop_message.specs.declared.message.Message.TheVariants.{Hello, Welcome, Lock, Locked, Busy, Open, Opened, Unlock, Unlocked, Log, Logged, Answer}
+use Rattle.scoop_message.specs.declared.message.Message.TheVariants.{Log}
 use Rattle.scoop_message.specs.Entries.{EndOnlyLast}
 use Rattle.scoop_message.specs.Message.{Fits, handler_of, client_of, inc_of, is_for_handler}
+pub use Rattle.scoop_message.specs.Message.{named_block}
 use Rattle.scoop_handler.specs.declared.note.Heard.{Heard}
-
--- the block that the message names
-abbrev pub named_block : Message → Option Block
-named_block (Hello h c inc) = None
-named_block (Welcome h c inc) = None
-named_block (Lock h b) = Some b
-named_block (Locked h b) = Some b
-named_block (Busy h b) = Some b
-named_block (Open h b) = Some b
-named_block (Opened h b) = Some b
-named_block (Unlock h b) = Some b
-named_block (Unlocked h b) = Some b
-named_block (Log h b n es) = Some b
-named_block (Logged h b n) = Some b
-named_block (Answer h b n a) = Some b
 
 -- the reply goes to the message's client, from the handler that the message names, about the same block, and
 -- fits where the message does
@@ -37,15 +22,5 @@ RepliesTo m heard = (reply : Message) → heard.reply ≡ Some reply → IsReply
 
 -- a Log has entries, an End only last: so has every one that a program holds
 abbrev pub HasEntries : Message → Type 0
-HasEntries (Hello h c inc) = ⊤
-HasEntries (Welcome h c inc) = ⊤
-HasEntries (Lock h b) = ⊤
-HasEntries (Locked h b) = ⊤
-HasEntries (Busy h b) = ⊤
-HasEntries (Open h b) = ⊤
-HasEntries (Opened h b) = ⊤
-HasEntries (Unlock h b) = ⊤
-HasEntries (Unlocked h b) = ⊤
 HasEntries (Log h b n es) = (0 < length es) × EndOnlyLast es
-HasEntries (Logged h b n) = ⊤
-HasEntries (Answer h b n a) = ⊤
+HasEntries m = ⊤

@@ -1,7 +1,7 @@
 -- The table by which a handler hears, a row for each case: which message, in which state, and what comes
 -- of it. Every message has a row, so what is true of each row is true of `hear`.
-use Rattle.std.specs.Prelude.{⊤, ◌≡◌, ◌≢◌, ◌⊎◌, ◌<◌, ◌≤◌, ◌+◌, ℕ, ◌&&◌, not, List, length, Option, Some, None, is_none, IsTrue, IsFalse}
-use Rattle.scoop_message.specs.declared.limits.TheConstants.{MAX_CLIENTS, MAX_QUEUES}
+use Rattle.std.specs.Prelude.{⊤, ◌≡◌, ◌≢◌, ◌⊎◌, ◌<◌, ◌≤◌, ◌+◌, ℕ, ◌&&◌, not, if◌then◌else◌, List, length, Option, Some, None, is_none, IsTrue, IsFalse}
+use Rattle.scoop_message.specs.declared.limits.TheConstants.{MAX_MARKS, MAX_QUEUES}
 use Rattle.scoop_message.specs.declared.name.Block.{Block}
 use Rattle.scoop_message.specs.declared.name.ClientId.{ClientId}
 use Rattle.scoop_message.specs.declared.name.HandlerId.{HandlerId}
@@ -10,7 +10,7 @@ use Rattle.scoop_message.specs.declared.request.Answer.{Answer as QueryAnswer}
 use Rattle.scoop_message.specs.declared.message.Message.{Message}
 use Rattle.scoop_message.specs.declared.message.Message.TheVariants.{Hello, Welcome, Lock, Locked, Busy, Open, Opened, Unlock, Unlocked, Log, Logged, Answer}
 use Rattle.scoop_message.specs.Entries.{last_number}
-use Rattle.scoop_message.specs.Message.{handler_of, is_for_handler}
+use Rattle.scoop_message.specs.Message.{handler_of, is_for_handler, named_block}
 use Rattle.scoop_handler.specs.declared.mark.Mark.{Mark}
 use Rattle.scoop_handler.specs.declared.mark.Stage.TheVariants.{Held as AtHeld, Open as AtOpen, Shut as AtShut}
 use Rattle.scoop_handler.specs.declared.note.Note.TheVariants.{Held}
@@ -21,18 +21,7 @@ use Rattle.scoop_handler.specs.Hearing.{Hearing, IsHeardAt, dropped, replied, kn
 
 -- the block that asks the handler for something
 abbrev pub asking_block : Message → Option Block
-asking_block (Hello h c inc) = None
-asking_block (Welcome h c inc) = None
-asking_block (Lock h b) = Some b
-asking_block (Locked h b) = None
-asking_block (Busy h b) = None
-asking_block (Open h b) = Some b
-asking_block (Opened h b) = None
-asking_block (Unlock h b) = Some b
-asking_block (Unlocked h b) = None
-asking_block (Log h b n es) = Some b
-asking_block (Logged h b n) = None
-asking_block (Answer h b n a) = None
+asking_block m = if is_for_handler m then named_block m else None
 
 -- the block's incarnation has not greeted
 abbrev pub IsUngreeted : Block → Option Mark → Type 0
@@ -57,8 +46,8 @@ pub record IsNext (k : Mark) (n : ℕ) (es : List Entry) : Type 0 where
 pub data Row (s : HandlerState) : Message → Hearing → Type 0 where
   not_for_handlers : (m : Message) → IsFalse (is_for_handler m) → Row s m (dropped s NotForHandlers)
   wrong_handler : (m : Message) → IsTrue (is_for_handler m) → handler_of m ≢ s.number → Row s m (dropped s WrongHandler)
-  too_many_clients : (h : HandlerId) (c : ClientId) (inc : ℕ) → h ≡ s.number → mark_of c s.marks ≡ None → length s.marks ≡ MAX_CLIENTS → Row s (Hello h c inc) (dropped s TooManyClients)
-  first_greeting : (h : HandlerId) (c : ClientId) (inc : ℕ) → h ≡ s.number → mark_of c s.marks ≡ None → length s.marks ≢ MAX_CLIENTS → Row s (Hello h c inc) (greeted_first s c inc)
+  too_many_clients : (h : HandlerId) (c : ClientId) (inc : ℕ) → h ≡ s.number → mark_of c s.marks ≡ None → length s.marks ≡ MAX_MARKS → Row s (Hello h c inc) (dropped s TooManyClients)
+  first_greeting : (h : HandlerId) (c : ClientId) (inc : ℕ) → h ≡ s.number → mark_of c s.marks ≡ None → length s.marks ≢ MAX_MARKS → Row s (Hello h c inc) (greeted_first s c inc)
   newer_greeting : (h : HandlerId) (c : ClientId) (inc : ℕ) (k : Mark) → h ≡ s.number → mark_of c s.marks ≡ Some k → k.inc < inc → Row s (Hello h c inc) (greeted_newer s c inc k)
   same_greeting : (h : HandlerId) (c : ClientId) (inc : ℕ) (k : Mark) → h ≡ s.number → mark_of c s.marks ≡ Some k → k.inc ≡ inc → Row s (Hello h c inc) (known s (Welcome s.number c inc))
   older_greeting : (h : HandlerId) (c : ClientId) (inc : ℕ) (k : Mark) → h ≡ s.number → mark_of c s.marks ≡ Some k → inc < k.inc → Row s (Hello h c inc) (dropped s Stale)

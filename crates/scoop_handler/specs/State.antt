@@ -3,7 +3,7 @@ use Rattle.std.specs.Prelude.{◌≡◌, ◌<◌, ◌≤◌, ◌⊎◌, ◌+◌,
 use Rattle.std.specs.List.{AllByRecursion}
 use Rattle.scoop_message.specs.declared.name.Block.{Block}
 use Rattle.scoop_message.specs.declared.name.HandlerId.{HandlerId}
-use Rattle.scoop_message.specs.declared.limits.TheConstants.{MAX_CLIENTS, MAX_WORDS}
+use Rattle.scoop_message.specs.declared.limits.TheConstants.{MAX_MARKS, MAX_WORDS}
 use Rattle.scoop_message.specs.Message.{same_block}
 use Rattle.scoop_queue.specs.Queue.{PrivateQueue, is_open as takes_more, is_cut, has_open, next_number}
 use Rattle.scoop_queue.specs.Sound.{IsQueues}
@@ -100,7 +100,7 @@ pub record AreWords (words : List ℕ) : Type 0 where
   pub few : length words ≤ MAX_WORDS
 
 pub record IsState (s : HandlerState) : Type 0 where
-  pub room : length s.marks ≤ MAX_CLIENTS
+  pub room : length s.marks ≤ MAX_MARKS
   pub ascending : IsAscending s.marks
   pub holder : HolderIsUnderWay s.holder s.marks
   pub held : AllByRecursion (HoldsIfHeld s.holder) s.marks

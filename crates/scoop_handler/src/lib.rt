@@ -11,6 +11,7 @@ mod marks;
 mod note;
 mod ran;
 mod state;
+pub mod theorems;
 
 pub use error::{AfterError, StrangerJob, WrongClass};
 pub use handler::Handler;

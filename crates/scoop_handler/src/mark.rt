@@ -1,7 +1,7 @@
 //! What a handler keeps of one client.
 
 ghost use Rattle.std.specs.Prelude.{◌≡◌};
-ghost use Rattle.scoop_handler.specs.Marks.{block_of, fresh_mark, newer_mark, opened_mark, with_received, without_hold};
+ghost use Rattle.scoop_handler.specs.Marks.{block_of, fresh_mark, opened_mark, with_received, without_hold};
 ghost use Rattle.scoop_handler.specs.Running.{mark_after};
 
 use crate::ran::Ran;
@@ -91,17 +91,6 @@ impl Mark {
             received,
             ended,
             ..self
-        }
-    }
-
-    /// The newer mark, if it is of the same client, and else this one.
-    pub(crate) fn or_newer(self, newer: Mark) -> Mark
-        ensures { result ≡ newer_mark newer self }
-    {
-        if self.client == newer.client {
-            newer
-        } else {
-            self
         }
     }
 

@@ -1,37 +1,56 @@
-//! The marks of a handler's clients, by ascending client. There are at most 64, so they are searched
-//! from the front.
+//! The marks of a handler's clients, by ascending client, so that a client's is found by halves.
 
-ghost use Rattle.std.specs.Prelude.{◌≡◌, ◌≤◌, length, map, OnOk, OnErr};
-ghost use Rattle.scoop_handler.specs.Marks.{mark_of, set_mark, add_mark, place_of};
+ghost use Rattle.std.specs.Prelude.{◌≡◌, ◌≤◌, length, map, MatchOption, OnOk, OnErr};
+ghost use Rattle.scoop_handler.specs.Marks.{IsPlaceOf, IsNowhere, mark_of, set_mark, add_mark, place_of};
 ghost use Rattle.scoop_handler.specs.Running.{mark_after};
+ghost use Rattle.scoop_handler.specs.State.{IsAscending};
 
 use crate::mark::Mark;
 use crate::ran::Ran;
 use scoop_message::{ClientId, OutOfMemory};
 use std::alloc::Allocator;
 
+// How many marks come before one of this client.
+fn place_of_client(marks: &[Mark], client: ClientId) -> usize
+    requires { IsAscending marks.now }
+    ensures place { result ≡ place_of client marks.now }
+    ensures within { result ≤ length marks.now }
+{
+    marks.partition_point(|k| k.client.0 < client.0)
+}
+
+// Where the client's mark stands.
+fn find_place(marks: &[Mark], client: ClientId) -> Option<usize>
+    requires { IsAscending marks.now }
+    ensures { MatchOption result (IsNowhere client marks.now) (IsPlaceOf client marks.now) }
+{
+    let place = place_of_client(marks, client);
+    if place < marks.len() && marks[place].client == client {
+        Some(place)
+    } else {
+        None
+    }
+}
+
 /// The client's mark.
 pub(crate) fn find_mark(marks: &[Mark], client: ClientId) -> Option<Mark>
+    requires { IsAscending marks.now }
     ensures { result ≡ mark_of client marks.now }
 {
-    marks.iter().copied().find(|k| k.client == client)
+    match find_place(marks, client) {
+        Some(place) => Some(marks[place]),
+        None => None,
+    }
 }
 
 /// Puts the mark in place of its client's.
 pub(crate) fn set_mark_in(marks: &mut [Mark], mark: Mark)
+    requires { IsAscending marks.old }
     ensures { marks.new ≡ set_mark mark marks.old }
 {
-    for k in marks.iter_mut() {
-        *k = k.or_newer(mark);
+    if let Some(place) = find_place(marks, mark.client) {
+        marks[place] = mark;
     }
-}
-
-// How many marks come before one of this client.
-fn place_of_client(marks: &[Mark], client: ClientId) -> usize
-    ensures place { result ≡ place_of client marks.now }
-    ensures within { result ≤ length marks.now }
-{
-    marks.iter().take_while(|k| k.client.0 < client.0).count()
 }
 
 /// Adds the mark of a client that has none, in the order of the clients. An `Err` changes nothing.
@@ -39,6 +58,7 @@ pub(crate) fn add_mark_in<A: Allocator>(
     marks: &mut Vec<Mark, A>,
     mark: Mark,
 ) -> Result<(), OutOfMemory>
+    requires { IsAscending marks.old.items }
     ensures ok { OnOk result (marks.new.items ≡ add_mark mark marks.old.items) }
     ensures err { OnErr result (marks.new.items ≡ marks.old.items) }
 {

@@ -12,7 +12,7 @@ pub enum Reason {
     NotForHandlers,
     /// It is for another handler.
     WrongHandler,
-    /// It greets for a client that is not known, and 64 clients are.
+    /// It greets for a client that has no mark, and there are `MAX_MARKS` marks.
     TooManyClients,
     /// The client has sent a newer greeting or asked something for a newer block, or the block is past
     /// asking for the lock.

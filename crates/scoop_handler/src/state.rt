@@ -7,7 +7,7 @@ mod conditions;
 
 use crate::mark::Mark;
 use conditions::is_state;
-use scoop_message::{Block, HandlerId, OutOfMemory, Words};
+use scoop_message::{Block, HandlerId, OutOfMemory, Words, same_words};
 use scoop_queue::QueueOfQueues;
 use std::alloc::{Allocator, Global};
 use std::marker::Model;
@@ -49,8 +49,8 @@ impl<A: Allocator> Model for HandlerState<A> {
 impl<A: Allocator> HandlerState<A> {
     /// The state of these parts; the marks are kept with this allocator.
     ///
-    /// Refused: `BadState` where there are more than 64 marks or they don't stand by ascending client;
-    /// where the holder isn't the block of a mark that is held or open, or a held mark's block isn't the
+    /// Refused: `BadState` where there are more than `MAX_MARKS` marks or they don't stand by ascending
+    /// client; where the holder isn't the block of a mark that is held or open, or a held mark's block isn't the
     /// holder; where something was received of a block that isn't open; where the block of a mark that is
     /// open and not ended has no open private queue; where a private queue's client has no mark, its block
     /// is above that mark's, or what it holds differs from what the mark says was received; where a queue
@@ -144,12 +144,6 @@ fn same_holder(left: Option<Block>, right: Option<Block>) -> bool
 }
 
 fn same_marks(left: &[Mark], right: &[Mark]) -> bool
-    ensures { IsTrue result ↔ (left.now ≡ right.now) }
-{
-    left == right
-}
-
-fn same_words(left: &Words, right: &Words) -> bool
     ensures { IsTrue result ↔ (left.now ≡ right.now) }
 {
     left == right

@@ -1,3 +1,5 @@
 pub mod Kept
 pub mod Exchanges
 pub mod Tapes
+mod Silences
+mod Udp

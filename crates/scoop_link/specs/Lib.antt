@@ -1,3 +1,4 @@
+pub mod Party
 pub mod Datagram
 pub mod Script
 pub mod Lane
@@ -5,3 +6,5 @@ pub mod Link
 pub mod Tape
 pub mod ScriptEnd
 pub mod Udp
+pub mod Pace
+pub mod Paced

@@ -1,24 +1,53 @@
--- What a link over UDP is, and which port a party has.
-use Rattle.std.specs.Prelude.{ℕ, Bool, false, List, find, Option}
+-- What a link over UDP is, and where a party is reached.
+use Rattle.std.specs.Prelude.{ℕ, List, [], ◌∷◌, find, Option}
 use Rattle.std.specs.Option.{option_map}
-use Rattle.scoop_message.specs.Message.{same_handler, same_client}
+use Rattle.std.specs.declared.net.ip_addr.IpAddr.{IpAddr}
+use Rattle.std.specs.declared.net.ip_addr.IpAddr.TheVariants.{V4, V6}
+use Rattle.std.specs.declared.net.socket_addr.SocketAddr.{SocketAddr}
+use Rattle.std.specs.Net.Addr.{ipv4_octets, ipv6_octets}
+use Rattle.std.specs.Net.Socket.{socket_ip, socket_port, socket_flowinfo, socket_scope_id}
 use Rattle.scoop_link.specs.declared.party.Party.{Party}
-use Rattle.scoop_link.specs.declared.party.Party.TheVariants.{Handler, Client}
+use Rattle.scoop_link.specs.Party.{same_party}
 
--- the ports of parties, and the count of faults
+-- the octets of an IP address, four or sixteen, a port, and for sixteen octets a flow label and a scope
+pub record Address : Type 0 where
+  pub octets : List ℕ
+  pub port : ℕ
+  pub flow : ℕ
+  pub scope : ℕ
+
+abbrev pub octets_of : IpAddr → List ℕ
+octets_of (V4 ip) = ipv4_octets ip
+octets_of (V6 ip) = ipv6_octets ip
+
+abbrev pub address_of : SocketAddr → Address
+address_of a =
+    record { octets = octets_of (socket_ip a); port = socket_port a; flow = socket_flowinfo a; scope = socket_scope_id a }
+
+-- a port of 127.0.0.1
+abbrev pub local_address : ℕ → Address
+local_address port = record { octets = 127 ∷ 0 ∷ 0 ∷ 1 ∷ []; port = port; flow = 0; scope = 0 }
+
+-- a party with its address, given as a socket address or as a port of this machine
+
+abbrev pub reached_at : Party × SocketAddr → Party × Address
+reached_at p = (p.0, address_of p.1)
+
+abbrev pub reached_here : Party × ℕ → Party × Address
+reached_here p = (p.0, local_address p.1)
+
+-- the addresses of parties, and the count of faults
 pub record UdpValue : Type 0 where
-  pub ports : List (Party × ℕ)
+  pub addresses : List (Party × Address)
   pub faults : ℕ
 
-abbrev pub open_udp : List (Party × ℕ) → UdpValue
-open_udp ports = record { ports = ports; faults = 0 }
-
-abbrev pub same_party : Party → Party → Bool
-same_party (Handler h) (Handler k) = same_handler h k
-same_party (Handler h) (Client d) = false
-same_party (Client c) (Handler k) = false
-same_party (Client c) (Client d) = same_client c d
+abbrev pub open_udp : List (Party × Address) → UdpValue
+open_udp addresses = record { addresses = addresses; faults = 0 }
 
 -- the first that stands beside the party
-abbrev pub port_of : List (Party × ℕ) → Party → Option ℕ
-port_of ports to = option_map (λ p. p.1) (find (λ p. same_party p.0 to) ports)
+
+abbrev pub socket_addr_to : List (Party × SocketAddr) → Party → Option SocketAddr
+socket_addr_to addresses to = option_map (λ p. p.1) (find (λ p. same_party p.0 to) addresses)
+
+abbrev pub address_to : List (Party × Address) → Party → Option Address
+address_to addresses to = option_map (λ p. p.1) (find (λ p. same_party p.0 to) addresses)

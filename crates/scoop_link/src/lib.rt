@@ -1,13 +1,16 @@
 //! Links: ways to send and receive datagrams, none of which is sure to arrive.
 //!
-//! `Link` is what every link keeps. `UdpLink` carries datagrams over UDP on this machine. The others
-//! are for tests: the two ends of a `ScriptLink` share lanes that drop and double by a script, and a
-//! `TapeLink` gives what it was fed and keeps what it was sent. No send and no receive takes memory.
+//! `Link` is what every link keeps. `UdpLink` carries datagrams over UDP, and `PacedLink` holds repeated
+//! ones back while an earlier one may be on its way. The others are for tests: the two ends of a
+//! `ScriptLink` share lanes that drop and double by a script, and a `TapeLink` gives what it was fed and
+//! keeps what it was sent. No send and no receive takes memory.
 #![tactic(auto)]
 
 mod datagram;
 mod lane;
 mod link;
+mod pace;
+mod paced_link;
 mod party;
 mod script;
 mod script_link;
@@ -17,11 +20,12 @@ mod udp_link;
 pub use datagram::Datagram;
 pub use lane::Lane;
 pub use link::{Link, LinkFault};
+pub use paced_link::PacedLink;
 pub use party::Party;
 pub use script::Script;
 pub use script_link::ScriptLink;
 pub use tape_link::TapeLink;
-pub use udp_link::{OpenLinkError, Peers, UdpLink};
+pub use udp_link::{Addresses, OpenLinkError, Peers, UdpLink};
 
 #[cfg(test)]
 mod tests;

@@ -1,15 +1,16 @@
-//! A link over UDP on this machine.
+//! A link over UDP.
 
-ghost use Rattle.std.specs.Prelude.{◌≡◌, ◌==◌, ◌≤◌, [], None, Err, IfOk, IfSome, IfNone, IsOk};
+ghost use Rattle.std.specs.Prelude.{◌≡◌, ◌==◌, ◌≤◌, map, None, Err, IfOk, IfSome, IfNone, IsOk};
 ghost use Rattle.std.specs.Bool.{OnTrue};
 ghost use Rattle.std.specs.List.{list_any};
+ghost use Rattle.std.specs.Net.Socket.{socket_port};
 ghost use Rattle.scoop_link.specs.Link.{CountsFault};
-ghost use Rattle.scoop_link.specs.Udp.{port_of, open_udp};
+ghost use Rattle.scoop_link.specs.Udp.{address_of, local_address, reached_at, reached_here, socket_addr_to, address_to, open_udp};
 
 use crate::link::{Link, LinkFault};
 use crate::party::Party;
 use scoop_message::limits::BUFFER_LEN;
-use std::alloc::{Allocator, Global};
+use std::alloc::{AllocError, Allocator, Global};
 use std::io;
 use std::io::ErrorKind;
 use std::marker::Model;
@@ -29,10 +30,20 @@ pub struct Peers<'a> {
     pub table: &'a [(Party, u16)],
 }
 
+/// Which address is one's own, and where other parties are reached: by IPv4 or IPv6. What one's own address
+/// can't reach, as one of the other family, is a fault of each send to it.
+#[derive(Clone, Copy, Debug)]
+pub struct Addresses<'a> {
+    /// The address that receives.
+    pub own: SocketAddr,
+    /// The addresses of parties, none of them with port 0. Of two for one party the first counts.
+    pub table: &'a [(Party, SocketAddr)],
+}
+
 /// Why a link isn't opened.
 #[derive(Clone, Copy, Debug, PartialEq, Eq, Error)]
 pub enum OpenLinkError {
-    /// The system doesn't give the port, or a party's port is 0.
+    /// The system doesn't give the address, or a party's port is 0.
     #[error("Fault")]
     Fault,
     /// A growth of memory was refused.
@@ -40,32 +51,50 @@ pub enum OpenLinkError {
     OutOfMemory,
 }
 
-/// A socket, with the ports of the parties that it reaches. Contracts see these and the count of faults.
+/// A socket, with the addresses of the parties that it reaches. Contracts see these and the count of faults.
 ///
-/// A datagram to a party without a port is lost. A receive waits about ten milliseconds.
+/// A datagram to a party without an address is lost. A receive waits about ten milliseconds.
 #[derive(Drop)]
 pub struct UdpLink<A: Allocator = Global> {
     socket: UdpSocket,
-    ports: Vec<(Party, u16), A>,
+    addresses: Vec<(Party, SocketAddr), A>,
     faults: u64,
 }
 
 impl<A: Allocator> Model for UdpLink<A> {
-    ghost use Rattle.scoop_link.specs.Udp.{UdpValue};
+    ghost use Rattle.std.specs.Prelude.{map};
+    ghost use Rattle.scoop_link.specs.Udp.{UdpValue, reached_at};
 
     ghost Value = { UdpValue };
 
-    ghost view = { λ l. record { ports = l.ports.items; faults = l.faults } };
+    ghost view = { λ l. record { addresses = map reached_at l.addresses.items; faults = l.faults } };
 }
 
-fn local(port: u16) -> SocketAddr {
+// A port of this machine.
+fn local(port: u16) -> SocketAddr
+    ensures { address_of result ≡ local_address port }
+{
     SocketAddr::new(IpAddr::V4(Ipv4Addr::LOCALHOST), port)
 }
 
-fn local_socket<R: Net>(rt: &R, port: u16) -> io::Result<UdpSocket> {
-    let socket = UdpSocket::bind(rt, local(port))?;
+fn socket_at<R: Net>(rt: &R, own: SocketAddr) -> io::Result<UdpSocket> {
+    let socket = UdpSocket::bind(rt, own)?;
     socket.set_read_timeout(Some(Duration::from_millis(RECEIVE_MILLIS)))?;
     Ok(socket)
+}
+
+// Parties with their addresses on this machine.
+fn local_addresses<A: Allocator>(
+    alloc: A,
+    ports: &[(Party, u16)],
+) -> Result<Vec<(Party, SocketAddr), A>, AllocError>
+    ensures { IfOk result (λ v. map reached_at v.items ≡ map reached_here ports.now) }
+{
+    let mut addresses = Vec::with_capacity(alloc, ports.len())?;
+    for (party, port) in ports {
+        addresses.push_reserved((*party, local(*port)));
+    }
+    Ok(addresses)
 }
 
 // Whether some party's port is 0.
@@ -75,34 +104,67 @@ fn lacks_port(ports: &[(Party, u16)]) -> bool
     ports.iter().any(|(_, port)| *port == 0)
 }
 
-fn port_of(ports: &[(Party, u16)], to: Party) -> Option<u16>
-    ensures { result ≡ port_of ports.now to }
+// Whether some party's address has port 0.
+fn lacks_port_at(addresses: &[(Party, SocketAddr)]) -> bool
+    ensures { result ≡ list_any (λ p. socket_port p.1 == 0) addresses.now }
 {
-    ports
+    addresses.iter().any(|(_, address)| address.port() == 0)
+}
+
+fn socket_addr_to(addresses: &[(Party, SocketAddr)], to: Party) -> Option<SocketAddr>
+    ensures { result ≡ socket_addr_to addresses.now to }
+{
+    addresses
         .iter()
         .find(|(party, _)| *party == to)
-        .map(|(_, port)| *port)
+        .map(|(_, address)| *address)
 }
 
 impl<A: Allocator> UdpLink<A> {
     /// Takes one's own port. `Fault` comes where a party's port is 0 or the system doesn't give one's
     /// own, and then `OutOfMemory` where there is no memory for the parties' ports.
     pub fn open<R: Net>(rt: &R, alloc: A, peers: Peers<'_>) -> Result<UdpLink<A>, OpenLinkError>
-        ensures opened { IfOk result (λ l. l ≡ open_udp peers.entry.table.now) }
+        ensures opened { IfOk result (λ l. l ≡ open_udp (map reached_here peers.entry.table.now)) }
         ensures no_port { OnTrue (list_any (λ p. p.1 == 0) peers.entry.table.now) (result ≡ Err OpenLinkError.Fault) }
     {
         if lacks_port(peers.table) {
             return Err(OpenLinkError::Fault);
         }
-        let Ok(socket) = local_socket(rt, peers.own) else {
+        let Ok(socket) = socket_at(rt, local(peers.own)) else {
             return Err(OpenLinkError::Fault);
         };
-        let Ok(ports) = Vec::from_slice(alloc, peers.table) else {
+        let Ok(addresses) = local_addresses(alloc, peers.table) else {
             return Err(OpenLinkError::OutOfMemory);
         };
         Ok(UdpLink {
             socket,
-            ports,
+            addresses,
+            faults: 0,
+        })
+    }
+
+    /// Takes one's own address. `Fault` comes where a party's port is 0 or the system doesn't give one's
+    /// own address, and then `OutOfMemory` where there is no memory for the parties' addresses.
+    pub fn open_at<R: Net>(
+        rt: &R,
+        alloc: A,
+        addresses: Addresses<'_>,
+    ) -> Result<UdpLink<A>, OpenLinkError>
+        ensures opened { IfOk result (λ l. l ≡ open_udp (map reached_at addresses.entry.table.now)) }
+        ensures no_port { OnTrue (list_any (λ p. socket_port p.1 == 0) addresses.entry.table.now) (result ≡ Err OpenLinkError.Fault) }
+    {
+        if lacks_port_at(addresses.table) {
+            return Err(OpenLinkError::Fault);
+        }
+        let Ok(socket) = socket_at(rt, addresses.own) else {
+            return Err(OpenLinkError::Fault);
+        };
+        let Ok(addresses) = Vec::from_slice(alloc, addresses.table) else {
+            return Err(OpenLinkError::OutOfMemory);
+        };
+        Ok(UdpLink {
+            socket,
+            addresses,
             faults: 0,
         })
     }
@@ -116,13 +178,13 @@ impl<A: Allocator> Link for UdpLink<A> {
     fn send(&mut self, to: Party, bytes: &[u8]) -> Result<(), LinkFault>
         ensures faults { CountsFault result self.old.faults self.new.faults }
 
-        ensures unlisted { IfNone (port_of self.old.ports to) (IsOk result) }
+        ensures unlisted { IfNone (address_to self.old.addresses to) (IsOk result) }
         ensures others { self.new ≡ record self.old { faults = self.new.faults } }
     {
-        let Some(port) = port_of(&self.ports, to) else {
+        let Some(address) = socket_addr_to(&self.addresses, to) else {
             return Ok(());
         };
-        if self.socket.send_to(bytes, local(port)).is_ok() || self.faults == u64::MAX {
+        if self.socket.send_to(bytes, address).is_ok() || self.faults == u64::MAX {
             return Ok(());
         }
         self.faults += 1;

@@ -1,5 +1,5 @@
 -- What a message names, whom it goes to, and which messages may be sent.
-use Rattle.std.specs.Prelude.{ℕ, ◌+◌, ◌^◌, ◌≤◌, ◌==◌, ◌&&◌, Bool, true, false, length}
+use Rattle.std.specs.Prelude.{ℕ, ◌+◌, ◌^◌, ◌≤◌, ◌==◌, ◌&&◌, Bool, true, false, length, Option, Some, None}
 use Rattle.scoop_message.specs.declared.name.HandlerId.{HandlerId}
 use Rattle.scoop_message.specs.declared.name.ClientId.{ClientId}
 use Rattle.scoop_message.specs.declared.name.Block.{Block}
@@ -75,6 +75,21 @@ is_for_handler (Unlocked h b) = false
 is_for_handler (Log h b n es) = true
 is_for_handler (Logged h b n) = false
 is_for_handler (Answer h b n a) = false
+
+-- the block that the message names
+abbrev pub named_block : Message → Option Block
+named_block (Hello h c inc) = None
+named_block (Welcome h c inc) = None
+named_block (Lock h b) = Some b
+named_block (Locked h b) = Some b
+named_block (Busy h b) = Some b
+named_block (Open h b) = Some b
+named_block (Opened h b) = Some b
+named_block (Unlock h b) = Some b
+named_block (Unlocked h b) = Some b
+named_block (Log h b n es) = Some b
+named_block (Logged h b n) = Some b
+named_block (Answer h b n a) = Some b
 
 -- incarnations and block numbers begin at 1
 pub record IsNumbered (b : Block) : Type 0 where

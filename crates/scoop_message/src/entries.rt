@@ -3,7 +3,7 @@
 ghost use Rattle.std.specs.Prelude.{◌≡◌, ◌≤◌, ◌<◌, length, slice_get};
 ghost use Rattle.std.specs.Result.{OkIff};
 ghost use Rattle.std.specs.Cmp.Lexicographic.{pointwise, lists_per, lists_equiv};
-ghost use Rattle.scoop_message.specs.Entries.{EndOnlyLast, end_only_last};
+ghost use Rattle.scoop_message.specs.Entries.{EndOnlyLast, end_only_last, ends};
 ghost use Rattle.scoop_message.specs.contracts.request.EntryPartialEq.TheImpl as on_entry;
 ghost use Rattle.scoop_message.specs.contracts.request.EntryPartialEq.TheImpl.Laws as partial_laws;
 ghost use Rattle.scoop_message.specs.contracts.request.EntryEq.TheImpl.Laws as entry_laws;
@@ -69,6 +69,16 @@ fn end_only_last(entries: &[Entry]) -> bool
         [] => true,
         [_] => true,
         [first, rest @ ..] => !first.is_end() && end_only_last(rest),
+    }
+}
+
+/// Whether the last of some entries is an End.
+pub fn ends(entries: &[Entry]) -> bool
+    ensures { result ≡ ends entries.now }
+{
+    match entries {
+        [.., last] => last.is_end(),
+        [] => false,
     }
 }
 

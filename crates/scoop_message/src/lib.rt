@@ -15,7 +15,7 @@ mod request;
 mod words;
 
 pub use args::{Args, TooManyArgs};
-pub use entries::{BadEntries, Entries};
+pub use entries::{BadEntries, Entries, ends};
 pub use law::{same_message, same_words};
 pub use memory::OutOfMemory;
 pub use message::Message;

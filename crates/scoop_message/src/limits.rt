@@ -6,7 +6,10 @@ pub const MAX_NODES: usize = 64;
 /// Handlers of one world or of one node, at most.
 pub const MAX_HANDLERS: usize = 64;
 
-/// Clients that one handler has greeted, and clients of one world, at most.
+/// Marks of one handler, which are the clients that it has greeted, at most.
+pub const MAX_MARKS: usize = 64;
+
+/// Clients of one world, at most.
 pub const MAX_CLIENTS: usize = 64;
 
 /// Private queues of one handler, at most.

@@ -92,6 +92,7 @@ impl Words {
         requires { i < length self.old }
         ensures { self.new ≡ slice_set self.old i word }
     {
+        // For the prover, which opens the fields here.
         prove!(i < self.count);
         self.cells[i] = word;
     }

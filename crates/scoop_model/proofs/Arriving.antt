@@ -31,9 +31,12 @@ use Rattle.scoop_model.proofs.Ready.Runs.{reached_ready}
 -- ---- what is pending of a block, by the slots
 
 -- another block's queue holds nothing of it
-other_queue : (s : Slot) (qs : List PrivateQueue) (b : Block) → same_block s.block b ≡ false → (o : Option QueueState) → entries_in b (queue_at s o ++ qs) ≡ entries_in b qs
+other_queue :
+    (s : Slot) (qs : List PrivateQueue) (b : Block) → same_block s.block b ≡ false → (o : Option QueueState)
+    → entries_in b (queue_at s o ++ qs) ≡ entries_in b qs
 other_queue s qs b other None = refl
-other_queue s qs b other (Some u) = ap (λ t. option_map_or (λ (q : PrivateQueue). q.entries) (if t then Some (slot_queue s u) else queue_of b qs) []) (same_block-sym s.block b other)
+other_queue s qs b other (Some u) =
+    ap (λ t. option_map_or (λ (q : PrivateQueue). q.entries) (if t then Some (slot_queue s u) else queue_of b qs) []) (same_block-sym s.block b other)
 
 none_pending : (ss : List Slot) (b : Block) → has_block (blocks_of ss) b ≡ false → entries_in b (queues_of ss) ≡ []
 none_pending [] b none = refl
@@ -43,9 +46,12 @@ none_pending (s ∷ ss) b none =
     (λ _ e is. other_queue s (queues_of ss) b is s.state ∙ none_pending ss b e) none refl
 
 -- the slot's own queue holds what waits in it
-own_queue : (s : Slot) (ss : List Slot) → has_block (blocks_of ss) s.block ≡ false → (o : Option QueueState) → (o ≡ None → s.rest ≡ []) → entries_in s.block (queue_at s o ++ queues_of ss) ≡ s.rest
+own_queue :
+    (s : Slot) (ss : List Slot) → has_block (blocks_of ss) s.block ≡ false → (o : Option QueueState) → (o ≡ None → s.rest ≡ [])
+    → entries_in s.block (queue_at s o ++ queues_of ss) ≡ s.rest
 own_queue s ss apart None gone = none_pending ss s.block apart ∙ sym (gone refl)
-own_queue s ss apart (Some u) gone = ap (λ t. option_map_or (λ (q : PrivateQueue). q.entries) (if t then Some (slot_queue s u) else queue_of s.block (queues_of ss)) []) (same_block_itself s.block)
+own_queue s ss apart (Some u) gone =
+    ap (λ t. option_map_or (λ (q : PrivateQueue). q.entries) (if t then Some (slot_queue s u) else queue_of s.block (queues_of ss)) []) (same_block_itself s.block)
 
 -- ---- what has arrived of a block
 
@@ -63,7 +69,9 @@ record PendingIn (w : World) (h : HandlerId) (b : Block) (qs : List PrivateQueue
   pending : entries_in b qs ≡ slot.rest
 
 module _ (w : World) (h : HandlerId) where
-  pending_slot : (ss : List Slot) (b : Block) → AreApart (blocks_of ss) → AllByRecursion (IsArrived w h) ss → has_block (blocks_of ss) b ≡ true → PendingIn w h b (queues_of ss)
+  pending_slot :
+      (ss : List Slot) (b : Block) → AreApart (blocks_of ss) → AllByRecursion (IsArrived w h) ss → has_block (blocks_of ss) b ≡ true
+      → PendingIn w h b (queues_of ss)
   pending_slot [] b apart all e = absurd (true≢false (sym e))
   pending_slot (s ∷ ss) b apart all e =
       by_test (λ t. (t || has_block (blocks_of ss) b) ≡ true → same_block s.block b ≡ t → PendingIn w h b (queues_of (s ∷ ss))) (same_block s.block b)
@@ -84,7 +92,8 @@ module _ (w : World) (h : HandlerId) where
 
     arrived_slots : AllByRecursion (IsArrived w h) here.slots
     arrived_slots =
-        all_both (IsPart (ran_at h w)) (λ t. IsBegun (λ b. log_of b h w) t × (IsToldAs w h t × IsOverIfGone w h t)) (IsArrived w h) (λ t p k. record { part = p; begun = k.0; told = k.1.0; gone = k.1.1 }) here.slots
+        all_both (IsPart (ran_at h w)) (λ t. IsBegun (λ b. log_of b h w) t × (IsToldAs w h t × IsOverIfGone w h t)) (IsArrived w h)
+        (λ t p k. record { part = p; begun = k.0; told = k.1.0; gone = k.1.1 }) here.slots
         (slot_parts (ran_at h w) here.slots here.ran apart)
         (all_both (IsBegun (λ b. log_of b h w)) (λ t. IsToldAs w h t × IsOverIfGone w h t) (λ t. IsBegun (λ b. log_of b h w) t × (IsToldAs w h t × IsOverIfGone w h t)) (λ t x k. (x, k)) here.slots here.begun
         (all_both (IsToldAs w h) (IsOverIfGone w h) (λ t. IsToldAs w h t × IsOverIfGone w h t) (λ t x k. (x, k)) here.slots here.told here.gone))

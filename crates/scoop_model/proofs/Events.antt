@@ -1,4 +1,5 @@
--- What is to be shown of a world for each kind of event, so that a list of events keeps it.
+-- What is to be shown of a world for each kind of event. `Happens` speaks of the event, the new world and what is told;
+-- `Changes` of the new world alone, so that a list of events keeps it (`steps_kept`). Every layer is shown by one of them.
 use Rattle.std.proofs.Common.{◌≡◌, ℕ, ◌+◌, ◌-◌, ◌^◌, ◌==◌, Bool, true, false, List, [], ◌∷◌, Option, Some, None, refl}
 use Rattle.std.specs.Prelude.{⊤, if◌then◌else◌, Ok, Err}
 use Rattle.std.specs.List.{list_any}
@@ -6,8 +7,8 @@ use Rattle.scoop_message.specs.declared.name.ClientId.{ClientId}
 use Rattle.scoop_message.specs.declared.name.HandlerId.{HandlerId}
 use Rattle.scoop_message.specs.declared.message.Message.{Message}
 use Rattle.scoop_message.specs.Message.{handler_of, client_of, is_for_handler}
-use Rattle.scoop_handler.specs.Hearing.{hear}
-use Rattle.scoop_handler.specs.Running.{Task, ready, job_out}
+use Rattle.scoop_handler.specs.Hearing.{Hearing, hear}
+use Rattle.scoop_handler.specs.Running.{Task, ready, job_out, ran_of}
 use Rattle.scoop_client.specs.State.{ClientState}
 use Rattle.scoop_client.specs.Due.{due}
 use Rattle.scoop_client.specs.Hearing.{heard}
@@ -15,97 +16,161 @@ use Rattle.scoop_client.specs.Commands.{Outcome, command}
 use Rattle.scoop_model.specs.declared.event.Command.{Command}
 use Rattle.scoop_model.specs.declared.event.Event.{Event}
 use Rattle.scoop_model.specs.declared.event.Event.TheVariants.{Do, Tick, Take, Begin, Finish, ClientRestart, NodeRestart}
+use Rattle.scoop_model.specs.declared.note.WorldNote.{WorldNote}
 use Rattle.scoop_model.specs.declared.note.WorldNote.TheVariants as note
 use Rattle.scoop_model.specs.declared.error.WorldError.TheVariants.{NoSuchParty, IncarnationsSpent}
 use Rattle.scoop_model.specs.World.{World, Site, Party, site_of, party_of, sent_at}
-use Rattle.scoop_model.specs.Step.{Stepped, step, core_command, commanded, commanded_world, do_at, with_sent, tick_at, heard_world, taken_by_handler, heard_party, taken_by_client, taken, with_site, with_party, begun_site, begins, begin_at, finished_site, finishes, finish_at, restarted_party, restart_client, reopened_world, restart_node}
+use Rattle.scoop_model.specs.Step.{Stepped, step, core_command, commanded, commanded_world, do_at, with_sent, place_of, sent_or_silent, tick_at, heard_world, taken_by_handler, heard_party, taken_by_client, taken, with_site, with_party, begun_site, begins, begin_at, finished_site, finishes, finish_at, restarted_party, restart_client, reopened_world, restart_node}
 use Rattle.scoop_model.specs.Reach.{Run, next, run_after, steps}
 use Rattle.scoop_model.proofs.Basics.{by_test}
 
+-- the world after an event and what it tells, if it isn't refused, have the property
+abbrev pub Gives : (World → WorldNote → Type 0) → Stepped → Type 0
+Gives Q (Ok r) = Q r.0 r.1
+Gives Q (Err e) = ⊤
+
+-- what a handler makes of a message, and tells
+abbrev pub heard_by : Site → Message → Hearing
+heard_by s m = hear s.core.state m
+
+-- each way in which an event changes a world gives the property
+pub record Happens (Q : Event → World → WorldNote → Type 0) (w : World) : Type 0 where
+  pub commands :
+      (c : ClientId) (p : Party) (x : Command) (d : ClientState) → party_of c w ≡ Some p → command p.client (core_command x) ≡ Ok d
+      → Q (Do c x) (commanded_world w p x d) note.Done
+  pub sends :
+      (c : ClientId) (p : Party) (h : HandlerId) (s : Site) → party_of c w ≡ Some p → site_of h w ≡ Some s
+      → Q (Tick c h) (with_sent w (due p.client h)) (sent_or_silent (place_of w (due p.client h)))
+  pub hears :
+      (i : ℕ) (m : Message) (s : Site) → sent_at i w ≡ Some m → is_for_handler m ≡ true → site_of (handler_of m) w ≡ Some s
+      → Q (Take i) (heard_world w s (heard_by s m)) (note.Handler (heard_by s m).1.note (place_of w (heard_by s m).1.reply))
+  pub notices :
+      (i : ℕ) (m : Message) (p : Party) → sent_at i w ≡ Some m → is_for_handler m ≡ false → party_of (client_of m) w ≡ Some p
+      → Q (Take i) (with_party w (heard_party p (heard p.client m))) (note.Client (heard p.client m).1)
+  pub begins :
+      (h : HandlerId) (s : Site) (t : Task) → site_of h w ≡ Some s → ready s.core ≡ Some t
+      → Q (Begin h) (with_site w (begun_site s)) (note.Began t.block t.number)
+  pub finishes :
+      (h : HandlerId) (s : Site) (t : Task) → site_of h w ≡ Some s → job_out s.core ≡ Some t
+      → Q (Finish h) (with_site w (finished_site s t)) (note.Ran (ran_of t))
+  pub restarts :
+      (c : ClientId) (p : Party) → party_of c w ≡ Some p → (p.stored == 2 ^ 32 - 1) ≡ false
+      → Q (ClientRestart c) (with_party w (restarted_party p)) (note.Restarted (p.stored + 1))
+  pub reopens : (n : ℕ) → Q (NodeRestart n) (reopened_world w n) note.Reopened
+
+module _ (Q : Event → World → WorldNote → Type 0) (w : World) (all : Happens Q w) where
+  command_happens :
+      (c : ClientId) (p : Party) (x : Command) (o : Outcome) → party_of c w ≡ Some p → command p.client (core_command x) ≡ o
+      → Gives (Q (Do c x)) (commanded w p x o)
+  command_happens c p x (Err e) at is = tt
+  command_happens c p x (Ok d) at is = all.commands c p x d at is
+
+  do_happens : (c : ClientId) (x : Command) (o : Option Party) → party_of c w ≡ o → Gives (Q (Do c x)) (do_at w x o)
+  do_happens c x None at = tt
+  do_happens c x (Some p) at = command_happens c p x (command p.client (core_command x)) at refl
+
+  tick_happens :
+      (c : ClientId) (h : HandlerId) (o : Option Party) (t : Option Site) → party_of c w ≡ o → site_of h w ≡ t → Gives (Q (Tick c h)) (tick_at w h o t)
+  tick_happens c h None t at here = tt
+  tick_happens c h (Some p) None at here = tt
+  tick_happens c h (Some p) (Some s) at here = all.sends c p h s at here
+
+  hear_happens :
+      (i : ℕ) (m : Message) (o : Option Site) → sent_at i w ≡ Some m → is_for_handler m ≡ true → site_of (handler_of m) w ≡ o
+      → Gives (Q (Take i)) (taken_by_handler w m o)
+  hear_happens i m None was goes here = tt
+  hear_happens i m (Some s) was goes here = all.hears i m s was goes here
+
+  notice_happens :
+      (i : ℕ) (m : Message) (o : Option Party) → sent_at i w ≡ Some m → is_for_handler m ≡ false → party_of (client_of m) w ≡ o
+      → Gives (Q (Take i)) (taken_by_client w m o)
+  notice_happens i m None was goes at = tt
+  notice_happens i m (Some p) was goes at = all.notices i m p was goes at
+
+  by_receiver :
+      (i : ℕ) (m : Message) (b : Bool) → sent_at i w ≡ Some m → is_for_handler m ≡ b
+      → Gives (Q (Take i)) (if b then taken_by_handler w m (site_of (handler_of m) w) else taken_by_client w m (party_of (client_of m) w))
+  by_receiver i m true was goes = hear_happens i m (site_of (handler_of m) w) was goes refl
+  by_receiver i m false was goes = notice_happens i m (party_of (client_of m) w) was goes refl
+
+  take_happens : (i : ℕ) (o : Option Message) → sent_at i w ≡ o → Gives (Q (Take i)) (taken w o)
+  take_happens i None was = tt
+  take_happens i (Some m) was = by_receiver i m (is_for_handler m) was refl
+
+  task_begins : (h : HandlerId) (s : Site) (o : Option Task) → site_of h w ≡ Some s → ready s.core ≡ o → Gives (Q (Begin h)) (begins w s o)
+  task_begins h s None here is = tt
+  task_begins h s (Some t) here is = all.begins h s t here is
+
+  begin_happens : (h : HandlerId) (o : Option Site) → site_of h w ≡ o → Gives (Q (Begin h)) (begin_at w o)
+  begin_happens h None here = tt
+  begin_happens h (Some s) here = task_begins h s (ready s.core) here refl
+
+  task_finishes : (h : HandlerId) (s : Site) (o : Option Task) → site_of h w ≡ Some s → job_out s.core ≡ o → Gives (Q (Finish h)) (finishes w s o)
+  task_finishes h s None here is = tt
+  task_finishes h s (Some t) here is = all.finishes h s t here is
+
+  finish_happens : (h : HandlerId) (o : Option Site) → site_of h w ≡ o → Gives (Q (Finish h)) (finish_at w o)
+  finish_happens h None here = tt
+  finish_happens h (Some s) here = task_finishes h s (job_out s.core) here refl
+
+  restart_happens : (c : ClientId) (o : Option Party) → party_of c w ≡ o → Gives (Q (ClientRestart c)) (restart_client w o)
+  restart_happens c None at = tt
+  restart_happens c (Some p) at =
+      by_test
+      (λ t. Gives (Q (ClientRestart c)) (if t then Err IncarnationsSpent else Ok (with_party w (restarted_party p), note.Restarted (p.stored + 1))))
+      (p.stored == 2 ^ 32 - 1)
+      (λ spent. tt)
+      (λ room. all.restarts c p at room)
+
+  node_happens : (n : ℕ) → Gives (Q (NodeRestart n)) (restart_node w n)
+  node_happens n =
+      by_test (λ t. Gives (Q (NodeRestart n)) (if t then Ok (reopened_world w n, note.Reopened) else Err NoSuchParty)) (list_any (λ s. s.node == n) w.sites)
+      (λ there. all.reopens n)
+      (λ nowhere. tt)
+
+  pub event_happens : (e : Event) → Gives (Q e) (step w e)
+  event_happens (Do c x) = do_happens c x (party_of c w) refl
+  event_happens (Tick c h) = tick_happens c h (party_of c w) (site_of h w) refl refl
+  event_happens (Take i) = take_happens i (sent_at i w) refl
+  event_happens (Begin h) = begin_happens h (site_of h w) refl
+  event_happens (Finish h) = finish_happens h (site_of h w) refl
+  event_happens (ClientRestart c) = restart_happens c (party_of c w) refl
+  event_happens (NodeRestart n) = node_happens n
+
+-- ---- properties of the world alone
+
 -- the world after an event, if it isn't refused, has the property
 abbrev pub Kept : (World → Type 0) → Stepped → Type 0
-Kept P (Ok r) = P r.0
-Kept P (Err e) = ⊤
+Kept P o = Gives (λ v told. P v) o
 
 -- each way in which a world changes gives the property
 pub record Changes (P : World → Type 0) (w : World) : Type 0 where
-  pub commands : (c : ClientId) (p : Party) (x : Command) (d : ClientState) → party_of c w ≡ Some p → command p.client (core_command x) ≡ Ok d → P (commanded_world w p x d)
+  pub commands :
+      (c : ClientId) (p : Party) (x : Command) (d : ClientState) → party_of c w ≡ Some p → command p.client (core_command x) ≡ Ok d
+      → P (commanded_world w p x d)
   pub sends : (c : ClientId) (p : Party) (h : HandlerId) (s : Site) → party_of c w ≡ Some p → site_of h w ≡ Some s → P (with_sent w (due p.client h))
-  pub hears : (i : ℕ) (m : Message) (s : Site) → sent_at i w ≡ Some m → is_for_handler m ≡ true → site_of (handler_of m) w ≡ Some s → P (heard_world w s (hear s.core.state m))
-  pub notices : (i : ℕ) (m : Message) (p : Party) → sent_at i w ≡ Some m → is_for_handler m ≡ false → party_of (client_of m) w ≡ Some p → P (with_party w (heard_party p (heard p.client m)))
+  pub hears :
+      (i : ℕ) (m : Message) (s : Site) → sent_at i w ≡ Some m → is_for_handler m ≡ true → site_of (handler_of m) w ≡ Some s
+      → P (heard_world w s (hear s.core.state m))
+  pub notices :
+      (i : ℕ) (m : Message) (p : Party) → sent_at i w ≡ Some m → is_for_handler m ≡ false → party_of (client_of m) w ≡ Some p
+      → P (with_party w (heard_party p (heard p.client m)))
   pub begins : (h : HandlerId) (s : Site) (t : Task) → site_of h w ≡ Some s → ready s.core ≡ Some t → P (with_site w (begun_site s))
   pub finishes : (h : HandlerId) (s : Site) (t : Task) → site_of h w ≡ Some s → job_out s.core ≡ Some t → P (with_site w (finished_site s t))
   pub restarts : (c : ClientId) (p : Party) → party_of c w ≡ Some p → (p.stored == 2 ^ 32 - 1) ≡ false → P (with_party w (restarted_party p))
   pub reopens : (n : ℕ) → P (reopened_world w n)
 
-module _ (P : World → Type 0) (w : World) (all : Changes P w) where
-  command_kept : (c : ClientId) (p : Party) (x : Command) (o : Outcome) → party_of c w ≡ Some p → command p.client (core_command x) ≡ o → Kept P (commanded w p x o)
-  command_kept c p x (Err e) at is = tt
-  command_kept c p x (Ok d) at is = all.commands c p x d at is
-
-  do_kept : (c : ClientId) (x : Command) (o : Option Party) → party_of c w ≡ o → Kept P (do_at w x o)
-  do_kept c x None at = tt
-  do_kept c x (Some p) at = command_kept c p x (command p.client (core_command x)) at refl
-
-  tick_kept : (c : ClientId) (h : HandlerId) (o : Option Party) (t : Option Site) → party_of c w ≡ o → site_of h w ≡ t → Kept P (tick_at w h o t)
-  tick_kept c h None t at here = tt
-  tick_kept c h (Some p) None at here = tt
-  tick_kept c h (Some p) (Some s) at here = all.sends c p h s at here
-
-  hear_kept : (i : ℕ) (m : Message) (o : Option Site) → sent_at i w ≡ Some m → is_for_handler m ≡ true → site_of (handler_of m) w ≡ o → Kept P (taken_by_handler w m o)
-  hear_kept i m None was goes here = tt
-  hear_kept i m (Some s) was goes here = all.hears i m s was goes here
-
-  notice_kept : (i : ℕ) (m : Message) (o : Option Party) → sent_at i w ≡ Some m → is_for_handler m ≡ false → party_of (client_of m) w ≡ o → Kept P (taken_by_client w m o)
-  notice_kept i m None was goes at = tt
-  notice_kept i m (Some p) was goes at = all.notices i m p was goes at
-
-  by_receiver : (i : ℕ) (m : Message) (b : Bool) → sent_at i w ≡ Some m → is_for_handler m ≡ b
-      → Kept P (if b then taken_by_handler w m (site_of (handler_of m) w) else taken_by_client w m (party_of (client_of m) w))
-  by_receiver i m true was goes = hear_kept i m (site_of (handler_of m) w) was goes refl
-  by_receiver i m false was goes = notice_kept i m (party_of (client_of m) w) was goes refl
-
-  take_kept : (i : ℕ) (o : Option Message) → sent_at i w ≡ o → Kept P (taken w o)
-  take_kept i None was = tt
-  take_kept i (Some m) was = by_receiver i m (is_for_handler m) was refl
-
-  task_begins : (h : HandlerId) (s : Site) (o : Option Task) → site_of h w ≡ Some s → ready s.core ≡ o → Kept P (begins w s o)
-  task_begins h s None here is = tt
-  task_begins h s (Some t) here is = all.begins h s t here is
-
-  begin_kept : (h : HandlerId) (o : Option Site) → site_of h w ≡ o → Kept P (begin_at w o)
-  begin_kept h None here = tt
-  begin_kept h (Some s) here = task_begins h s (ready s.core) here refl
-
-  task_finishes : (h : HandlerId) (s : Site) (o : Option Task) → site_of h w ≡ Some s → job_out s.core ≡ o → Kept P (finishes w s o)
-  task_finishes h s None here is = tt
-  task_finishes h s (Some t) here is = all.finishes h s t here is
-
-  finish_kept : (h : HandlerId) (o : Option Site) → site_of h w ≡ o → Kept P (finish_at w o)
-  finish_kept h None here = tt
-  finish_kept h (Some s) here = task_finishes h s (job_out s.core) here refl
-
-  restart_kept : (c : ClientId) (o : Option Party) → party_of c w ≡ o → Kept P (restart_client w o)
-  restart_kept c None at = tt
-  restart_kept c (Some p) at =
-      by_test (λ t. Kept P (if t then Err IncarnationsSpent else Ok (with_party w (restarted_party p), note.Restarted (p.stored + 1)))) (p.stored == 2 ^ 32 - 1)
-      (λ spent. tt)
-      (λ room. all.restarts c p at room)
-
-  node_kept : (n : ℕ) → Kept P (restart_node w n)
-  node_kept n =
-      by_test (λ t. Kept P (if t then Ok (reopened_world w n, note.Reopened) else Err NoSuchParty)) (list_any (λ s. s.node == n) w.sites)
-      (λ there. all.reopens n)
-      (λ nowhere. tt)
-
-  pub event_kept : (e : Event) → Kept P (step w e)
-  event_kept (Do c x) = do_kept c x (party_of c w) refl
-  event_kept (Tick c h) = tick_kept c h (party_of c w) (site_of h w) refl refl
-  event_kept (Take i) = take_kept i (sent_at i w) refl
-  event_kept (Begin h) = begin_kept h (site_of h w) refl
-  event_kept (Finish h) = finish_kept h (site_of h w) refl
-  event_kept (ClientRestart c) = restart_kept c (party_of c w) refl
-  event_kept (NodeRestart n) = node_kept n
+pub event_kept : (P : World → Type 0) (w : World) → Changes P w → (e : Event) → Kept P (step w e)
+event_kept P w all e = event_happens (λ x v told. P v) w (record {
+  commands = λ c p x d at is. all.commands c p x d at is;
+  sends = λ c p h s at here. all.sends c p h s at here;
+  hears = λ i m s was goes here. all.hears i m s was goes here;
+  notices = λ i m p was goes at. all.notices i m p was goes at;
+  begins = λ h s t here is. all.begins h s t here is;
+  finishes = λ h s t here is. all.finishes h s t here is;
+  restarts = λ c p at room. all.restarts c p at room;
+  reopens = λ n. all.reopens n;
+}) e
 
 module _ (P : World → Type 0) (each : (w : World) → P w → Changes P w) where
   one_kept : (n : ℕ) (w : World) (go_on : World → Run) → ((v : World) → P v → P (go_on v).0) → (o : Stepped) → P w → Kept P o → P (next n w go_on o).0

@@ -49,7 +49,8 @@ module _ {A K : Type 0} (key : A → K) (same : K → K → Bool) (decides : (a 
       (has_key (key a) x)
       (λ here is.
       let own : key x ≡ key a = (decides (key x) (key a)).0 is in
-      let not_a : has_key k a ≡ false = by_test (λ u. has_key k a ≡ u → u ≡ false) (has_key k a) (λ yes_it_is f. absurd (apart ((decides (key a) k).0 f))) (λ other f. refl) refl in
+      let not_a : has_key k a ≡ false =
+      by_test (λ u. has_key k a ≡ u → u ≡ false) (has_key k a) (λ yes_it_is f. absurd (apart ((decides (key a) k).0 f))) (λ other f. refl) refl in
       let not_x : has_key k x ≡ false = subst (λ j. same j k ≡ false) (sym own) not_a in
       ap (λ u. if u then Some a else rest) not_a ∙ other_found a k xs apart ∙ sym (ap (λ u. if u then Some x else find (has_key k) xs) not_x))
       (λ there is. ap (λ r. if has_key k x then Some x else r) (other_found a k xs apart)) refl

@@ -13,8 +13,12 @@ pub mod Knowing
 pub mod Answering
 pub mod Tape
 pub mod Whole
+pub mod Locking
 pub mod Standing
 pub mod Ready
 pub mod Arriving
+pub mod Granting
+pub mod Told
+pub mod Grants
 pub mod Headline
 pub mod OpenedExamples

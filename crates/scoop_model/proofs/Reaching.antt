@@ -1,6 +1,6 @@
 -- Which worlds are reached, and what is so of them.
 use Rattle.std.proofs.Common.{◌≡◌, ℕ, ◌+◌, ◌==◌, false, List, [], ◌∷◌, ◌++◌, map, length, refl, sym, ap, ◌∙◌, subst, arith, length-append}
-use Rattle.std.specs.Prelude.{if◌then◌else◌, Result, Ok, Err}
+use Rattle.std.specs.Prelude.{if◌then◌else◌, Ok, Err}
 use Rattle.std.specs.List.{AllByRecursion}
 use Rattle.scoop_message.specs.declared.name.HandlerId.{HandlerId}
 use Rattle.scoop_message.specs.declared.name.ClientId.{ClientId}
@@ -11,7 +11,6 @@ use Rattle.scoop_handler.specs.Hearing.{hear}
 use Rattle.scoop_client.specs.Hearing.{heard}
 use Rattle.scoop_model.specs.declared.event.Event.{Event}
 use Rattle.scoop_model.specs.declared.note.WorldNote.{WorldNote}
-use Rattle.scoop_model.specs.declared.error.WorldError.{WorldError}
 use Rattle.scoop_model.specs.World.{World, Site, Party, number_of, id_of, is_site, is_party, set_site, set_party}
 use Rattle.scoop_model.specs.Step.{Stepped, Placement, Newcomer, step, opening, new_site, new_party, begun_site, finished_site, heard_site, heard_party, restarted_party, reopened}
 use Rattle.scoop_model.specs.Opening.{MayOpen}
@@ -31,12 +30,15 @@ at w n = (w, Ok n)
 one_more :
     (n : ℕ) (v w : World) (xs : List Event) (e : Event) (r : World × WorldNote) (o : Stepped)
     → ((u : World) → run_after (n + 1) u xs ≡ (w, Ok (n + 1 + length xs)) → run_after (n + 1) u (xs ++ e ∷ []) ≡ (r.0, Ok (n + 1 + length xs + 1)))
-    → (k : ℕ) → k ≡ n + 1 + length xs → next n v (λ u. run_after (n + 1) u xs) o ≡ (w, Ok k) → next n v (λ u. run_after (n + 1) u (xs ++ e ∷ [])) o ≡ (r.0, Ok (k + 1))
+    → (k : ℕ) → k ≡ n + 1 + length xs → next n v (λ u. run_after (n + 1) u xs) o ≡ (w, Ok k)
+    → next n v (λ u. run_after (n + 1) u (xs ++ e ∷ [])) o ≡ (r.0, Ok (k + 1))
 one_more n v w xs e r (Err y) later k is leads = absurd (let f = ap (λ (x : Run). x.1) leads in cc)
 one_more n v w xs e r (Ok q) later k is leads =
     subst (λ (j : ℕ). run_after (n + 1) q.0 (xs ++ e ∷ []) ≡ (r.0, Ok (j + 1))) (sym is) (later q.0 (subst (λ (j : ℕ). run_after (n + 1) q.0 xs ≡ (w, Ok j)) is leads))
 
-leads_from : (n : ℕ) (v w : World) (es : List Event) (e : Event) (r : World × WorldNote) → run_after n v es ≡ (w, Ok (n + length es)) → step w e ≡ Ok r → run_after n v (es ++ e ∷ []) ≡ (r.0, Ok (n + length es + 1))
+leads_from :
+    (n : ℕ) (v w : World) (es : List Event) (e : Event) (r : World × WorldNote) → run_after n v es ≡ (w, Ok (n + length es)) → step w e ≡ Ok r
+    → run_after n v (es ++ e ∷ []) ≡ (r.0, Ok (n + length es + 1))
 leads_from n v w [] e r leads is =
     let same : v ≡ w = ap (λ (x : Run). x.0) leads in
     let here : step v e ≡ Ok r = ap (λ (x : World). step x e) same ∙ is in
@@ -75,7 +77,8 @@ numbers_set : (s : Site) (sites : List Site) → map number_of (set_site s sites
 numbers_set s [] = refl
 numbers_set s (x ∷ xs) =
     by_test (λ t. is_site (number_of s) x ≡ t → number_of (if t then s else x) ∷ map number_of (set_site s xs) ≡ number_of x ∷ map number_of xs) (is_site (number_of s) x)
-    (λ _ is. ap (λ n. n ∷ map number_of (set_site s xs)) (sym ((handler_decides (number_of x) (number_of s)).0 is)) ∙ ap (λ ns. number_of x ∷ ns) (numbers_set s xs))
+    (λ _ is.
+    ap (λ n. n ∷ map number_of (set_site s xs)) (sym ((handler_decides (number_of x) (number_of s)).0 is)) ∙ ap (λ ns. number_of x ∷ ns) (numbers_set s xs))
     (λ _ is. ap (λ ns. number_of x ∷ ns) (numbers_set s xs)) refl
 
 ids_set : (p : Party) (parties : List Party) → map id_of (set_party p parties) ≡ map id_of parties
@@ -89,7 +92,8 @@ numbers_reopened : (n : ℕ) (js : List _) (sites : List Site) → AllByRecursio
 numbers_reopened n js [] all = refl
 numbers_reopened n js (x ∷ xs) all =
     by_test (λ t. number_of (if t then record x { core = core_of x.core.class x.stored false } else x) ∷ map number_of (map (reopened n) xs) ≡ number_of x ∷ map number_of xs) (x.node == n)
-    (λ here. ap (λ (s : HandlerState). s.number ∷ map number_of (map (reopened n) xs)) (all.0.stored) ∙ ap (λ ns. number_of x ∷ ns) (numbers_reopened n js xs all.1))
+    (λ here.
+    ap (λ (s : HandlerState). s.number ∷ map number_of (map (reopened n) xs)) (all.0.stored) ∙ ap (λ ns. number_of x ∷ ns) (numbers_reopened n js xs all.1))
     (λ there. ap (λ ns. number_of x ∷ ns) (numbers_reopened n js xs all.1))
 
 known_kept : (hs : List HandlerId) (cs : List ClientId) (w : World) → Known hs cs w → Changes (Known hs cs) w

@@ -22,14 +22,17 @@ module _ {A : Type 0} (part : Site → A) (none : A) where
   abbrev part_in : Option Site → A
   part_in o = option_map_or part o none
 
-  pub set_same : (w : World) (s old : Site) → site_of (number_of s) w ≡ Some old → part s ≡ part old → (h : HandlerId) → part_in (find (is_site h) (set_site s w.sites)) ≡ part_in (site_of h w)
+  pub set_same :
+      (w : World) (s old : Site) → site_of (number_of s) w ≡ Some old → part s ≡ part old → (h : HandlerId)
+      → part_in (find (is_site h) (set_site s w.sites)) ≡ part_in (site_of h w)
   set_same w s old here same h =
       by_site (λ o. part_in o ≡ part_in (site_of h w)) w s old h here
       (λ is. same ∙ ap part_in (sym here ∙ ap (λ j. site_of j w) is))
       (λ apart. refl)
 
   pub anew_same :
-      (kept : (n : ℕ) (s : Site) → part (reopened n s) ≡ part s) (n : ℕ) (h : HandlerId) (sites : List Site) → AllByRecursion (λ s. (reopened n s).core.state ≡ s.core.state) sites
+      (kept : (n : ℕ) (s : Site) → part (reopened n s) ≡ part s) (n : ℕ) (h : HandlerId) (sites : List Site)
+      → AllByRecursion (λ s. (reopened n s).core.state ≡ s.core.state) sites
       → part_in (find (is_site h) (map (reopened n) sites)) ≡ part_in (find (is_site h) sites)
   anew_same kept n h [] all = refl
   anew_same kept n h (s ∷ ss) all =

@@ -5,4 +5,6 @@ pub mod Opening
 pub mod Reach
 pub mod Named
 pub mod Received
+pub mod Told
+pub mod Grants
 pub mod Examples

@@ -8,7 +8,7 @@ use Rattle.scoop_message.specs.declared.name.HandlerId.{HandlerId}
 use Rattle.scoop_message.specs.declared.request.Answer.{Answer as ObjectAnswer}
 use Rattle.scoop_message.specs.declared.request.Entry.{Entry}
 use Rattle.scoop_message.specs.declared.message.Message.{Message}
-use Rattle.scoop_message.specs.declared.message.Message.TheVariants.{Hello, Welcome, Lock, Locked, Busy, Open, Opened, Unlock, Unlocked, Log, Logged, Answer}
+use Rattle.scoop_message.specs.declared.message.Message.TheVariants.{Welcome, Logged}
 use Rattle.scoop_message.specs.Entry.{is_end}
 use Rattle.scoop_message.specs.Message.{same_client, same_handler, same_block}
 use Rattle.scoop_handler.specs.declared.ran.Ran.{Ran}
@@ -142,17 +142,7 @@ sent_at i w = if i == 0 then None else slice_get w.sent (i - 1)
 -- the handler welcomes a newer incarnation of the block's client
 abbrev pub is_newer_welcome : HandlerId → Block → Message → Bool
 is_newer_welcome h b (Welcome x c inc) = same_handler x h && (same_client c b.client && nat_lt b.inc inc)
-is_newer_welcome h b (Hello x c inc) = false
-is_newer_welcome h b (Lock x y) = false
-is_newer_welcome h b (Locked x y) = false
-is_newer_welcome h b (Busy x y) = false
-is_newer_welcome h b (Open x y) = false
-is_newer_welcome h b (Opened x y) = false
-is_newer_welcome h b (Unlock x y) = false
-is_newer_welcome h b (Unlocked x y) = false
-is_newer_welcome h b (Log x y n es) = false
-is_newer_welcome h b (Logged x y n) = false
-is_newer_welcome h b (Answer x y n a) = false
+is_newer_welcome h b m = false
 
 -- the handler has been greeted by a newer incarnation of the block's client
 abbrev pub is_succeeded : Block → HandlerId → World → Bool
@@ -161,17 +151,7 @@ is_succeeded b h w = list_any (is_newer_welcome h b) w.sent
 -- how many entries of the block the handler has received, as the message tells
 abbrev pub count_in : HandlerId → Block → Message → ℕ
 count_in h b (Logged x y n) = if same_handler x h && same_block y b then n else 0
-count_in h b (Hello x c inc) = 0
-count_in h b (Welcome x c inc) = 0
-count_in h b (Lock x y) = 0
-count_in h b (Locked x y) = 0
-count_in h b (Busy x y) = 0
-count_in h b (Open x y) = 0
-count_in h b (Opened x y) = 0
-count_in h b (Unlock x y) = 0
-count_in h b (Unlocked x y) = 0
-count_in h b (Log x y n es) = 0
-count_in h b (Answer x y n a) = 0
+count_in h b m = 0
 
 abbrev pub greatest_count : HandlerId → Block → List Message → ℕ
 greatest_count h b [] = 0

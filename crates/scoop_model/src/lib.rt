@@ -3,6 +3,23 @@
 //!
 //! An event moves one party. Any message may come at any later moment, any number of times, in any order,
 //! or never, and clients and nodes may restart at any moment.
+//!
+//! Here are the words in which events are given, and the theorems. A world that runs them is `scoop_world`'s.
+//!
+//! ```
+//! // client 7 reserves two handlers, and sends the first one what it owes to it
+//! let both = HandlerList::of(&[HandlerId(1), HandlerId(2)])?;
+//! let reserve = Event::Do(ClientId(7), Command::Reserve(both));
+//! let tick = Event::Tick(ClientId(7), HandlerId(1));
+//! assert!(rt; same_event(&reserve, &reserve));
+//! assert!(rt; !same_event(&reserve, &tick));
+//! // a command names nine handlers at most
+//! assert_eq!(rt; HandlerList::of(&[HandlerId(1); 10]), Err(TooManyHandlers));
+//! // a proof that calls a theorem has it: every world that is reached is safe
+//! theorems::reached_safe();
+//! // and over a whole list of events a block that opens was the holder from its grant on
+//! theorems::held_until_opened();
+//! ```
 #![tactic(auto)]
 
 mod error;

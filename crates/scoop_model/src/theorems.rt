@@ -1,11 +1,17 @@
 //! What holds of every world that can be reached: functions with nothing in them but a clause.
 
+mod holding;
 mod opening;
 mod running;
 mod safety;
 mod telling;
 
+pub use holding::{granted_once, held_until_opened};
 pub use opening::opens_safe;
 pub use running::{handlers_sound, handlers_stay, in_order, opened_in_joint};
 pub use safety::reached_safe;
-pub use telling::{logged_is_received, named_incarnations_known};
+pub use telling::{
+    answer_has_run, hello_is_stored, locked_is_held_opened_or_over, log_was_logged,
+    logged_is_received, named_incarnations_known, open_was_granted, opened_has_opened,
+    unlock_is_opened_or_left, welcome_has_greeted,
+};

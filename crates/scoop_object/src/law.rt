@@ -6,8 +6,8 @@ ghost use Rattle.scoop_object.specs.Effect.{eff};
 use crate::behaviour::Behaviour;
 use scoop_message::{Answer, Request};
 
-/// Objects of one class with equal words, of whatever types, have equal words and give equal answers
-/// after a request: those that the request's effect says.
+/// Objects of one class with equal words, of whatever types, stay of that class, and have equal words and give
+/// equal answers after a request: those that the request's effect says.
 pub fn apply_both<B: Behaviour, C: Behaviour>(
     left: &mut B,
     right: &mut C,
@@ -16,6 +16,7 @@ pub fn apply_both<B: Behaviour, C: Behaviour>(
     requires class { B.class left.old ≡ C.class right.old }
     requires words { B.words left.old ≡ C.words right.old }
     ensures class { B.class left.new ≡ C.class right.new }
+    ensures same_class { B.class left.new ≡ B.class left.old }
     ensures words { B.words left.new ≡ C.words right.new }
     ensures answers { result.0 ≡ result.1 }
     ensures new_words { B.words left.new ≡ (eff (B.class left.old) (B.words left.old) request.now).0 }

@@ -4,6 +4,25 @@
 //! writes and what it answers. What a request does to an object's words is defined once, by that
 //! table. An object is a `Table`, which interprets the rows of its class, or a type of its own in a
 //! box, which is proved to do the same. Contracts see an object by its class and its words.
+//!
+//! ```
+//! let add = Write {
+//!     word: 0,
+//!     base: Term::Word(0),
+//!     plus: Term::Arg(0),
+//!     minus: Term::Const(0),
+//! };
+//! let row = OpRow {
+//!     op: 1,
+//!     test: None,
+//!     writes: Writes::of(&[add])?,
+//!     answer: Term::Word(0),
+//! };
+//! let class = Class::build(rt.alloc(), 1, &[row])?;
+//! let mut counter = Table::new(class, Words::of(&[5])?)?;
+//! let args = Args::of(&[2])?;
+//! assert_eq!(rt; counter.apply(&Request { op: 1, args }), Answer::Value(7));
+//! ```
 #![tactic(auto)]
 
 mod behaviour;

@@ -468,3 +468,25 @@ fn growths_may_be_refused(rt: HostRuntime) -> Result<(), Fail> {
     assert_eq!(rt; (changes, last), (2, Grown::Copied));
     Ok(())
 }
+
+/// The example of the crate.
+#[test]
+fn a_counter_adds(rt: HostRuntime) -> Result<(), Fail> {
+    let add = Write {
+        word: 0,
+        base: Term::Word(0),
+        plus: Term::Arg(0),
+        minus: Term::Const(0),
+    };
+    let row = OpRow {
+        op: 1,
+        test: None,
+        writes: Writes::of(&[add])?,
+        answer: Term::Word(0),
+    };
+    let class = Class::build(rt.alloc(), 1, &[row])?;
+    let mut counter = Table::new(class, Words::of(&[5])?)?;
+    let args = Args::of(&[2])?;
+    assert_eq!(rt; counter.apply(&Request { op: 1, args }), Answer::Value(7));
+    Ok(())
+}

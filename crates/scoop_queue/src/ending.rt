@@ -1,23 +1,12 @@
 //! Where an End stands in a list of entries, and whether a list is that of a private queue.
 
 ghost use Rattle.std.specs.Prelude.{◌≡◌, length};
-ghost use Rattle.scoop_message.specs.Entries.{ends};
 ghost use Rattle.scoop_queue.specs.Queue.{queue_with};
 ghost use Rattle.scoop_queue.specs.Refusal.{has_ending, is_queue};
 
 use crate::state::{Head, QueueState};
 use scoop_message::Entry;
 use scoop_message::limits::MAX_PENDING;
-
-/// Whether the last entry is an End.
-pub(crate) fn ends(entries: &[Entry]) -> bool
-    ensures { result ≡ ends entries.now }
-{
-    match entries {
-        [.., last] => last.is_end(),
-        [] => false,
-    }
-}
 
 // Whether no End stands before the last entry, and one stands there exactly where it is wanted.
 fn has_ending(wanted: bool, entries: &[Entry]) -> bool

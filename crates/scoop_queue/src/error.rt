@@ -8,7 +8,7 @@ use thiserror::Error;
 /// Why no private queue was opened, in the order in which it is tested.
 #[derive(Clone, Copy, Debug, PartialEq, Eq, Error)]
 pub enum OpenQueueError {
-    /// There are 64 private queues.
+    /// There are `MAX_QUEUES` private queues.
     #[error("QueueFull")]
     QueueFull,
     /// The block has a private queue.
@@ -28,7 +28,7 @@ pub enum PutError {
     /// Its private queue has ended or was cut.
     #[error("Ended")]
     Ended,
-    /// With the new entries more than 64 would be pending.
+    /// With the new entries more than `MAX_PENDING` would be pending.
     #[error("PendingFull")]
     PendingFull,
     /// A growth of memory was refused.
@@ -39,7 +39,7 @@ pub enum PutError {
 /// Why no private queue was appended, in the order in which it is tested.
 #[derive(Clone, Copy, Debug, PartialEq, Eq, Error)]
 pub enum AppendError {
-    /// There are 64 private queues.
+    /// There are `MAX_QUEUES` private queues.
     #[error("QueueFull")]
     QueueFull,
     /// The block has a private queue.

@@ -2,6 +2,17 @@
 //! the entries that it has logged and that have not run.
 //!
 //! The handler works on the first private queue and waits where that is empty and has not ended.
+//!
+//! ```
+//! let mut queues = QueueOfQueues::new(rt.alloc());
+//! queues.open(block(1))?;
+//! queues.open(block(2))?;
+//! assert_eq!(rt; queues.front(), None);
+//! queues.put(block(1), Entry::End)?;
+//! assert_eq!(rt; queues.front(), Some((block(1), 1, Entry::End)));
+//! assert_eq!(rt; queues.advance(), Some((block(1), 1, Entry::End)));
+//! assert_eq!(rt; queues.list_len(), 1);
+//! ```
 #![tactic(auto)]
 
 mod ending;

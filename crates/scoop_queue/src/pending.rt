@@ -4,11 +4,10 @@ ghost use Rattle.std.specs.Prelude.{◌≡◌, ◌<◌, ◌↔◌, ◌++◌, [],
 ghost use Rattle.std.specs.Bool.{OnTrue, OnFalse};
 ghost use Rattle.scoop_message.specs.declared.name.Block.{Block};
 
-use crate::ending::ends;
 use crate::error::PutError;
 use crate::state::{Head, QueueState};
 use scoop_message::limits::MAX_PENDING;
-use scoop_message::{Entry, OutOfMemory};
+use scoop_message::{Entry, OutOfMemory, ends};
 use std::alloc::Allocator;
 use std::collections::VecDeque;
 

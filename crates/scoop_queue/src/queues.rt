@@ -48,7 +48,7 @@ impl<A: Allocator + Copy> QueueOfQueues<A> {
 
     /// Opens a private queue for the block, the last and empty, whose first entry will have number 1.
     ///
-    /// Refused with nothing changed: `QueueFull` at 64 private queues, `AlreadyThere` where the block
+    /// Refused with nothing changed: `QueueFull` at `MAX_QUEUES` private queues, `AlreadyThere` where the block
     /// has one, `OutOfMemory`.
     pub fn open(&mut self, block: Block) -> Result<(), OpenQueueError>
         ensures fits { OnOk result (open_refusal block self.old ≡ None) }
@@ -61,10 +61,10 @@ impl<A: Allocator + Copy> QueueOfQueues<A> {
 
     /// Appends a whole private queue: that of the head's block with these entries.
     ///
-    /// Refused with nothing changed: `QueueFull` at 64 private queues, `AlreadyThere` where the block
-    /// has one, `BadQueue` where the first number is 0, there are more than 64 entries, a number is
-    /// above 2^32-1 or an open queue's next one would be, a cut queue is empty, an End isn't the last
-    /// entry of an ended queue, or an ended queue has none; `OutOfMemory`.
+    /// Refused with nothing changed: `QueueFull` at `MAX_QUEUES` private queues, `AlreadyThere` where the block
+    /// has one, `BadQueue` where the first number is 0, there are more than `MAX_PENDING` entries, a
+    /// number is above 2^32-1 or an open queue's next one would be, a cut queue is empty, an End isn't the
+    /// last entry of an ended queue, or an ended queue has none; `OutOfMemory`.
     pub fn append(&mut self, head: Head, entries: &[Entry]) -> Result<(), AppendError>
         ensures fits { OnOk result (append_refusal head entries.now self.old ≡ None) }
         ensures appended { OnOk result (self.new ≡ self.old ++ queue_with head entries.now ∷ []) }
@@ -87,7 +87,7 @@ impl<A: Allocator> QueueOfQueues<A> {
     /// Puts an entry at the end of the block's private queue, which an End closes.
     ///
     /// Refused with nothing changed: `NotThere` where the block has no private queue, `Ended` where
-    /// that has ended or was cut, `PendingFull` where 64 are pending, `OutOfMemory`.
+    /// that has ended or was cut, `PendingFull` where `MAX_PENDING` are pending, `OutOfMemory`.
     pub fn put(&mut self, block: Block, entry: Entry) -> Result<(), PutError>
         requires { HasNumbersFor block (entry ∷ []) self.old }
         ensures fits { OnOk result (put_refusal block 1 self.old ≡ None) }
@@ -100,7 +100,7 @@ impl<A: Allocator> QueueOfQueues<A> {
 
     /// Puts all entries at the end of the block's private queue, in order, or none.
     ///
-    /// Refused as `put` is, `PendingFull` where pending and new ones pass 64.
+    /// Refused as `put` is, `PendingFull` where pending and new ones pass `MAX_PENDING`.
     pub fn put_all(&mut self, block: Block, entries: &[Entry]) -> Result<(), PutError>
         requires some { 0 < length entries.now }
         requires end { EndOnlyLast entries.now }

@@ -103,7 +103,7 @@ pub(crate) fn append<A: Allocator + Copy>(
     Ok(())
 }
 
-// Takes out what stands at a place. The others keep their order: at most 64 places shift.
+// Takes out what stands at a place. The others keep their order: at most `MAX_QUEUES` places shift.
 fn remove_at<A: Allocator>(table: &mut Table<A>, place: usize)
     ensures { table.new.entries ≡ remove table.old.entries place }
 {

@@ -514,3 +514,17 @@ fn refused_memory(rt: HostRuntime) -> Result<(), Fail> {
     assert!(rt; refused > 0 && refused < 39, "{refused}");
     Ok(())
 }
+
+/// The example of the crate.
+#[test]
+fn an_empty_queue_is_waited_for(rt: HostRuntime) -> Result<(), Fail> {
+    let mut queues = QueueOfQueues::new(rt.alloc());
+    queues.open(block(1))?;
+    queues.open(block(2))?;
+    assert_eq!(rt; queues.front(), None);
+    queues.put(block(1), Entry::End)?;
+    assert_eq!(rt; queues.front(), Some((block(1), 1, Entry::End)));
+    assert_eq!(rt; queues.advance(), Some((block(1), 1, Entry::End)));
+    assert_eq!(rt; queues.list_len(), 1);
+    Ok(())
+}

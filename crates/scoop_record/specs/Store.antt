@@ -1,5 +1,5 @@
 -- What a record over a database shows.
-use Rattle.std.specs.Prelude.{◌≡◌, ◌≢◌, ◌⊎◌, ℕ, ℤ, min, pos, negsuc, false, List, [], ◌∷◌, Option, Some, None, option_map, IsTrue}
+use Rattle.std.specs.Prelude.{◌≡◌, ◌≢◌, ◌⊎◌, ℕ, ℤ, min, pos, negsuc, false, List, [], ◌∷◌, Option, Some, None, option_map, Result, OnOk, IsTrue}
 use Rattle.sqlite_value.specs.declared.value.Value.{Value}
 use Rattle.sqlite_value.specs.declared.value.Value.TheVariants.{Null, Int, Real, Text, Blob}
 use Rattle.sqlite_trees.specs.Tree.{Trees}
@@ -73,6 +73,10 @@ TellsVersion db found = IsLaidOut db → found ≡ version_in db.trees
 -- the disk has been honest, and no failure of it has shut the connection
 abbrev pub IsSound : State → Type 0
 IsSound s = HasCleanDisk s × IsTrue s.is_open
+
+-- under a clean disk Ok is told only where the connection was open at this moment, of which `after` is a later one
+abbrev pub IsOpenOnOk : {V E : Type 0} → Result V E → (moment after : State) → Type 0
+IsOpenOnOk result moment after = HasCleanDisk after → OnOk result (IsTrue moment.is_open)
 
 -- between calls all is committed
 abbrev pub IsReady : State → Type 0

@@ -8,7 +8,7 @@ ghost use Rattle.sqlite.specs.State.{HasCleanDisk, IsUnchanged, KeepsCommit, Sho
 ghost use Rattle.sqlite.specs.declared.types.Value.{Value as SqlValue};
 ghost use Rattle.sqlite.specs.declared.types.Value.TheVariants.{Int};
 ghost use Rattle.scoop_record.specs.Tables.{value_at, Puts};
-ghost use Rattle.scoop_record.specs.Store.{inc_in, incs_in, IsRecord, IsSound, IsReady, Advances};
+ghost use Rattle.scoop_record.specs.Store.{inc_in, incs_in, IsRecord, IsSound, IsReady, IsOpenOnOk, Advances};
 ghost use Rattle.scoop_record.specs.Keeper.{next_of, last_incarnation, IsPutError};
 
 use crate::keeper::KeeperError;
@@ -87,6 +87,7 @@ pub(crate) fn advance<S: Alter>(conn: &mut Connection<S>, client: u32) -> Result
     ensures mode { conn.new.in_transaction ≡ false }
     ensures ready { IsReady (state S.Store conn.new) }
     ensures sound { IsSound (state S.Store conn.new) → IsSound (state S.Store conn.old) }
+    ensures is_open { IsOpenOnOk result (state S.Store conn.new) (state S.Store conn.new) }
     ensures next { IsSound (state S.Store conn.new) → IfOk result (λ inc. (inc ≡ next_of (incs_in (state S.Store conn.old).now.trees client))
         × Advances (state S.Store conn.old).now (state S.Store conn.new).now client) }
     ensures spent { IsSound (state S.Store conn.new) → result ≡ Err KeeperError.IncarnationsSpent → incs_in (state S.Store conn.old).now.trees client ≡ Some last_incarnation }

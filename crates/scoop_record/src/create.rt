@@ -6,7 +6,7 @@ ghost use Rattle.sqlite.specs.Held.{state};
 ghost use Rattle.sqlite.specs.State.{HasCleanDisk, KeepsCommit, Shows, Survives};
 ghost use Rattle.sqlite.specs.declared.types.Value.TheVariants.{Int};
 ghost use Rattle.scoop_record.specs.Tables.{no_schema, meta_schema, two_schema, first_schema, record_schema, row_of, Makes, Puts};
-ghost use Rattle.scoop_record.specs.Store.{IsSound, IsIdle, IsNewRecord};
+ghost use Rattle.scoop_record.specs.Store.{IsSound, IsIdle, IsOpenOnOk, IsNewRecord};
 ghost use Rattle.scoop_record.specs.Keeper.{IsPutError};
 
 use crate::keeper::KeeperError;
@@ -109,6 +109,7 @@ fn make_tables<S: Alter>(conn: &mut Connection<S>, version: u32) -> Result<(), K
     requires blank { IsSound (state S.Store conn.old) → ((state S.Store conn.old).now.schema ≡ no_schema) × ((state S.Store conn.old).now ≡ (state S.Store conn.old).committed) }
     ensures mode { conn.new.in_transaction ≡ false }
     ensures sound { IsSound (state S.Store conn.new) → IsSound (state S.Store conn.old) }
+    ensures is_open { IsOpenOnOk result (state S.Store conn.new) (state S.Store conn.new) }
     ensures made { IsSound (state S.Store conn.new) → OnOk result (IsNewRecord (state S.Store conn.new).now version × ((state S.Store conn.new).now ≡ (state S.Store conn.new).committed)) }
     ensures refused { IsSound (state S.Store conn.new) → OnErr result ((state S.Store conn.new).now ≡ (state S.Store conn.old).now) }
     ensures named { IfErr result IsPutError }
@@ -132,6 +133,7 @@ fn make_tables<S: Alter>(conn: &mut Connection<S>, version: u32) -> Result<(), K
 pub fn create_tables<S: Alter>(conn: &mut Connection<S>) -> Result<(), KeeperError>
     ensures mode { conn.new.in_transaction ≡ conn.old.in_transaction }
     ensures idle { OnOk result (IsIdle S.Store conn.new) }
+    ensures is_open { IsOpenOnOk result (state S.Store conn.new) (state S.Store conn.new) }
     ensures made { IsSound (state S.Store conn.new) → OnOk result (IsNewRecord (state S.Store conn.new).now 2) }
     ensures blank { OnOk result ((state S.Store conn.old).now.schema ≡ no_schema) }
     ensures other { (state S.Store conn.old).now.schema ≢ no_schema → (result ≡ Err KeeperError.Refused) × (conn.new ≡ conn.old) }

@@ -8,7 +8,7 @@ ghost use Rattle.sqlite.specs.State.{HasCleanDisk, IsUnchanged, KeepsCommit, Sho
 ghost use Rattle.sqlite.specs.declared.types.Value.{Value as SqlValue};
 ghost use Rattle.sqlite.specs.declared.types.Value.TheVariants.{Blob};
 ghost use Rattle.scoop_record.specs.Tables.{value_at, Puts};
-ghost use Rattle.scoop_record.specs.Store.{IsRecord, IsSound, IsReady, Has, handlers_in, PutsBoth};
+ghost use Rattle.scoop_record.specs.Store.{IsRecord, IsSound, IsReady, IsOpenOnOk, Has, handlers_in, PutsBoth};
 ghost use Rattle.scoop_record.specs.Keeper.{IsPutError, IsTheOne, stored_of, Damaged};
 ghost use Rattle.scoop_record.specs.Reading.{IsStored};
 
@@ -159,6 +159,7 @@ pub(crate) fn write_state<S: Alter>(
     ensures mode { conn.new.in_transaction ≡ false }
     ensures ready { IsReady (state S.Store conn.new) }
     ensures sound { IsSound (state S.Store conn.new) → IsSound (state S.Store conn.old) }
+    ensures is_open { IsOpenOnOk result (state S.Store conn.new) (state S.Store conn.new) }
     ensures written { IsSound (state S.Store conn.new) → OnOk result (PutsBoth (state S.Store conn.old).now (state S.Store conn.new).now handler image.now entries.now) }
     ensures refused { IsSound (state S.Store conn.new) → OnErr result ((state S.Store conn.new).now ≡ (state S.Store conn.old).now) }
     ensures named { IfErr result IsPutError }
@@ -180,6 +181,7 @@ fn find_state<S: Alter>(
 ) -> Result<Option<HandlerState>, KeeperError>
     requires { IsSound (state S.Store tx.old.conn.now) → IsRecord (state S.Store tx.old.conn.now).now }
     ensures same_reference { tx.new.conn.ghost_name ≡ tx.old.conn.ghost_name }
+    ensures is_open { IsOpenOnOk result (state S.Store tx.old.conn.now) (state S.Store tx.new.conn.now) }
     ensures loaded { HasCleanDisk (state S.Store tx.new.conn.now) → IfOk result (λ found. IsTheOne (handlers_in (state S.Store tx.old.conn.now).now.trees handler.0) (stored_of found)) }
     ensures own { IfOk result (λ found. IfSome found (λ s. s.number ≡ handler)) }
     ensures bad { HasCleanDisk (state S.Store tx.new.conn.now) → result ≡ Err (KeeperError.BadImage handler) → IsTheOne (handlers_in (state S.Store tx.old.conn.now).now.trees handler.0) Damaged }
@@ -212,9 +214,10 @@ pub(crate) fn load<S: Alter>(
     ensures ready { IsReady (state S.Store conn.new) }
     ensures sound { IsSound (state S.Store conn.new) → IsSound (state S.Store conn.old) }
     ensures same { IsSound (state S.Store conn.new) → (state S.Store conn.new).now ≡ (state S.Store conn.old).now }
-    ensures loaded { IsSound (state S.Store conn.new) → IfOk result (λ found. IsTheOne (handlers_in (state S.Store conn.old).now.trees handler.0) (stored_of found)) }
+    ensures is_open { IsOpenOnOk result (state S.Store conn.old) (state S.Store conn.new) }
+    ensures loaded { HasCleanDisk (state S.Store conn.new) → IfOk result (λ found. IsTheOne (handlers_in (state S.Store conn.old).now.trees handler.0) (stored_of found)) }
     ensures own { IfOk result (λ found. IfSome found (λ s. s.number ≡ handler)) }
-    ensures bad { IsSound (state S.Store conn.new) → result ≡ Err (KeeperError.BadImage handler) → IsTheOne (handlers_in (state S.Store conn.old).now.trees handler.0) Damaged }
+    ensures bad { HasCleanDisk (state S.Store conn.new) → result ≡ Err (KeeperError.BadImage handler) → IsTheOne (handlers_in (state S.Store conn.old).now.trees handler.0) Damaged }
     ensures named { IfErr result (λ e. IsPutError e ⊎ (e ≡ KeeperError.BadImage handler)) }
     ensures survives { Survives (state S.Store conn.old) (state S.Store conn.new) (λ _. ⊥) }
 {
@@ -226,7 +229,7 @@ pub(crate) fn load<S: Alter>(
 pub(crate) fn images_of(alloc: Global, it: &HandlerState) -> Result<(Vec<u8>, Vec<u8>), OutOfMemory>
     ensures { IfOk result (λ rows. IsStored it.now.number rows.0.items rows.1.items it.now) }
 {
-    // Says that it is a state.
+    // For the prover alone: any reader of the type tells it that the value is a state.
     let _number = it.handler();
     let bytes = image(alloc, it)?;
     let row = pending_row(alloc, it)?;

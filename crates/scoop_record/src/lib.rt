@@ -1,4 +1,22 @@
-//! Stored states of handlers, and stored incarnations of clients.
+//! Keeps what has to outlive a restart: the states of handlers, and the incarnations of clients.
+//!
+//! A [`Keeper`] takes and gives them: a [`MemoryKeeper`] in memory, a [`Store`] in the tables of a database, a
+//! [`FailingKeeper`] over another one, for tests. What a store writes for a handler are the bytes of [`image`] and
+//! [`pending_row`].
+//!
+//! ```
+//! let conn = Connection::open_in_memory(alloc)?;
+//! let mut store = Store::create(alloc, conn)?;
+//! store.put_handler(&state)?;
+//! assert_eq!(rt; store.next_incarnation(ClientId(7))?, 1);
+//!
+//! // A restart: all that stays is the database.
+//! let conn = store.into_connection();
+//! let mut store = Store::adopt(alloc, conn)?;
+//! let found = store.load_handler(HandlerId(1))?.ok_or("a state")?;
+//! assert!(rt; found.same(&state));
+//! assert_eq!(rt; store.next_incarnation(ClientId(7))?, 2);
+//! ```
 #![tactic(auto)]
 
 mod adopt;

@@ -37,10 +37,10 @@ impl<S: Alter + Drop> Model for Store<S> {
 impl<S: Alter + Drop> Store<S> {
     ghost use Rattle.sqlite.specs.Effect.{Database};
     ghost use Rattle.sqlite.specs.Held.{Held, state};
-    ghost use Rattle.sqlite.specs.State.{Survives};
+    ghost use Rattle.sqlite.specs.State.{HasCleanDisk, Survives};
     ghost use Rattle.scoop_record.specs.Keeper.{IsPutError, IsAdoptError};
     ghost use Rattle.scoop_record.specs.Migrate.{Migrates, Adopts, IsLowestBad, IsWrongSchema};
-    ghost use Rattle.scoop_record.specs.Store.{IsSound, IsLaidOut, IsNewRecord};
+    ghost use Rattle.scoop_record.specs.Store.{IsSound, IsOpenOnOk, IsLaidOut, IsNewRecord};
 
     /// Makes the tables in a database that has none, in one transaction.
     ///
@@ -49,6 +49,7 @@ impl<S: Alter + Drop> Store<S> {
     /// it leaves is said by [`create_tables`], which this calls.
     pub fn create(alloc: Global, mut conn: Connection<S>) -> Result<Store<S>, KeeperError>
         ensures made { IfOk result (λ store. IsSound (state S.Store store) → IsNewRecord (state S.Store store).now 2) }
+        ensures is_open { IfOk result (λ store. HasCleanDisk (state S.Store store) → IsTrue (state S.Store store).is_open) }
         ensures blank { OnOk result ((state S.Store conn).now.schema ≡ no_schema) }
         ensures other { (state S.Store conn).now.schema ≢ no_schema → result ≡ Err KeeperError.Refused }
         ensures inside { IsTrue conn.in_transaction → result ≡ Err KeeperError.Refused }
@@ -69,6 +70,7 @@ impl<S: Alter + Drop> Store<S> {
     /// not those of their version, or a text is refused; `OutOfMemory`. The connection goes with the
     /// refusal: what it leaves is said by [`adopt_tables`], which this calls.
     pub fn adopt(alloc: Global, mut conn: Connection<S>) -> Result<Store<S>, KeeperError>
+        ensures is_open { IfOk result (λ store. HasCleanDisk (state S.Store store) → IsTrue (state S.Store conn).is_open) }
         ensures adopted { IfOk result (λ store. IsSound (state S.Store store) → Adopts (state S.Store conn).now (state S.Store store).now) }
         ensures sound { IfOk result (λ store. IsSound (state S.Store store) → IsSound (state S.Store conn)) }
         ensures inside { IsTrue conn.in_transaction → result ≡ Err KeeperError.Refused }
@@ -94,9 +96,9 @@ impl<S: Alter + Drop> Store<S> {
 impl<S: Alter + Drop> Keeper<Global> for Store<S> {
     ghost use Rattle.sqlite.specs.Held.{state as seen};
     ghost use Rattle.sqlite.specs.Effect.{Database};
-    ghost use Rattle.sqlite.specs.State.{Survives};
+    ghost use Rattle.sqlite.specs.State.{HasCleanDisk, Survives};
     ghost use Rattle.scoop_record.specs.Keeper.{Damaged, Keeps, Stays, IsSame, IsTheOne, Sets, IsPutError, next_of, last_incarnation, stored_of};
-    ghost use Rattle.scoop_record.specs.Store.{handlers_in, incs_in, IsSound, Advances, Saves};
+    ghost use Rattle.scoop_record.specs.Store.{handlers_in, incs_in, IsSound, IsOpenOnOk, Advances, Saves};
 
     ghost handlers = { λ s. handlers_in (seen S.Store s).now.trees };
 
@@ -104,7 +106,16 @@ impl<S: Alter + Drop> Keeper<Global> for Store<S> {
 
     ghost is_honest = { λ s. IsSound (seen S.Store s) };
 
+    // Ok tells that the connection is open: it is honest behind a put where the disk is clean, and before a load, which
+    // stores nothing. A connection that a fault has shut refuses.
+    ghost put_gives = { λ _ _ result after. IsOpenOnOk result (seen S.Store after) (seen S.Store after) };
+
+    ghost load_gives = { λ before _ result after. IsOpenOnOk result (seen S.Store before) (seen S.Store after) };
+
+    ghost next_gives = { λ _ _ result after. IsOpenOnOk result (seen S.Store after) (seen S.Store after) };
+
     fn put_handler(&mut self, state: &HandlerState) -> Result<(), KeeperError>
+        ensures is_open { IsOpenOnOk result (seen S.Store self.new) (seen S.Store self.new) }
         ensures stored { IsSound (seen S.Store self.new) → OnOk result (Keeps (handlers_in (seen S.Store self.old).now.trees) (handlers_in (seen S.Store self.new).now.trees) state.now) }
         ensures incarnations { IsSound (seen S.Store self.new) → IsSame (incs_in (seen S.Store self.old).now.trees) (incs_in (seen S.Store self.new).now.trees) }
         ensures refused { IsSound (seen S.Store self.new) → OnErr result (Stays (handlers_in (seen S.Store self.old).now.trees) (handlers_in (seen S.Store self.new).now.trees)) }
@@ -125,9 +136,10 @@ impl<S: Alter + Drop> Keeper<Global> for Store<S> {
     }
 
     fn load_handler(&mut self, handler: HandlerId) -> Result<Option<HandlerState>, KeeperError>
-        ensures loaded { IsSound (seen S.Store self.new) → IfOk result (λ found. IsTheOne (handlers_in (seen S.Store self.old).now.trees handler.0) (stored_of found)) }
+        ensures is_open { IsOpenOnOk result (seen S.Store self.old) (seen S.Store self.new) }
+        ensures loaded { HasCleanDisk (seen S.Store self.new) → IfOk result (λ found. IsTheOne (handlers_in (seen S.Store self.old).now.trees handler.0) (stored_of found)) }
         ensures own { IfOk result (λ found. IfSome found (λ s. s.number ≡ handler)) }
-        ensures bad { IsSound (seen S.Store self.new) → result ≡ Err (KeeperError.BadImage handler) → IsTheOne (handlers_in (seen S.Store self.old).now.trees handler.0) Damaged }
+        ensures bad { HasCleanDisk (seen S.Store self.new) → result ≡ Err (KeeperError.BadImage handler) → IsTheOne (handlers_in (seen S.Store self.old).now.trees handler.0) Damaged }
         ensures named { IfErr result (λ e. IsPutError e ⊎ (e ≡ KeeperError.BadImage handler)) }
         ensures handlers { IsSound (seen S.Store self.new) → Stays (handlers_in (seen S.Store self.old).now.trees) (handlers_in (seen S.Store self.new).now.trees) }
         ensures incarnations { IsSound (seen S.Store self.new) → IsSame (incs_in (seen S.Store self.old).now.trees) (incs_in (seen S.Store self.new).now.trees) }
@@ -140,6 +152,7 @@ impl<S: Alter + Drop> Keeper<Global> for Store<S> {
     }
 
     fn next_incarnation(&mut self, client: ClientId) -> Result<u32, KeeperError>
+        ensures is_open { IsOpenOnOk result (seen S.Store self.new) (seen S.Store self.new) }
         ensures next { IsSound (seen S.Store self.new) → IfOk result (λ inc. inc ≡ next_of (incs_in (seen S.Store self.old).now.trees client.0)) }
         ensures stored { IsSound (seen S.Store self.new) → IfOk result (Sets (incs_in (seen S.Store self.old).now.trees) (incs_in (seen S.Store self.new).now.trees) client.0) }
         ensures spent { IsSound (seen S.Store self.new) → result ≡ Err KeeperError.IncarnationsSpent → incs_in (seen S.Store self.old).now.trees client.0 ≡ Some last_incarnation }

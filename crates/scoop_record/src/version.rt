@@ -6,7 +6,7 @@ ghost use Rattle.sqlite.specs.declared.types.Value.{Value as SqlValue};
 ghost use Rattle.sqlite.specs.Held.{state};
 ghost use Rattle.sqlite.specs.State.{HasCleanDisk, KeepsCommit, Survives};
 ghost use Rattle.scoop_record.specs.Keeper.{IsPutError};
-ghost use Rattle.scoop_record.specs.Store.{IsSound, IsLaidOut, number_of, TellsVersion};
+ghost use Rattle.scoop_record.specs.Store.{IsSound, IsLaidOut, IsOpenOnOk, number_of, TellsVersion};
 ghost use Rattle.scoop_record.specs.Tables.{value_at};
 
 use crate::keeper::KeeperError;
@@ -19,6 +19,7 @@ pub const VERSION: u32 = 2;
 /// The rows that stand for the version, under whatever schema.
 fn rows_of_meta<S: Alter>(tx: &mut Transaction<'_, S>) -> Result<Vec<Row>, Error>
     ensures same_reference { tx.new.conn.ghost_name ≡ tx.old.conn.ghost_name }
+    ensures is_open { IsOpenOnOk result (state S.Store tx.old.conn.now) (state S.Store tx.new.conn.now) }
     ensures version { HasCleanDisk (state S.Store tx.new.conn.now) → IfOk result (λ rows. IsLaidOut (state S.Store tx.old.conn.now).now
         → length rows.items ≤ 1 → rows.items ≡ map (λ v. v ∷ []) (option_to_list (value_at ((state S.Store tx.old.conn.now).now.trees 0) 1))) }
     ensures kept { HasCleanDisk (state S.Store tx.new.conn.now) → IsTrue (state S.Store tx.old.conn.now).in_transaction → KeepsCommit (state S.Store tx.old.conn.now) (state S.Store tx.new.conn.now) }
@@ -46,6 +47,7 @@ fn number_in(rows: &[Row]) -> Result<Option<i64>, KeeperError>
 
 fn find_version<S: Alter>(tx: &mut Transaction<'_, S>) -> Result<Option<i64>, KeeperError>
     ensures same_reference { tx.new.conn.ghost_name ≡ tx.old.conn.ghost_name }
+    ensures is_open { IsOpenOnOk result (state S.Store tx.old.conn.now) (state S.Store tx.new.conn.now) }
     ensures version { HasCleanDisk (state S.Store tx.new.conn.now) → IfOk result (TellsVersion (state S.Store tx.old.conn.now).now) }
     ensures kept { HasCleanDisk (state S.Store tx.new.conn.now) → IsTrue (state S.Store tx.old.conn.now).in_transaction → KeepsCommit (state S.Store tx.old.conn.now) (state S.Store tx.new.conn.now) }
     ensures named { IfErr result IsPutError }
@@ -63,6 +65,7 @@ pub(crate) fn version<S: Alter>(conn: &mut Connection<S>) -> Result<Option<i64>,
     ensures mode { conn.new.in_transaction ≡ false }
     ensures sound { IsSound (state S.Store conn.new) → IsSound (state S.Store conn.old) }
     ensures same { IsSound (state S.Store conn.new) → ((state S.Store conn.new).now ≡ (state S.Store conn.old).committed) × ((state S.Store conn.new).committed ≡ (state S.Store conn.old).committed) }
+    ensures is_open { IsOpenOnOk result (state S.Store conn.old) (state S.Store conn.new) }
     ensures version { IsSound (state S.Store conn.new) → IfOk result (TellsVersion (state S.Store conn.old).now) }
     ensures named { IfErr result IsPutError }
     ensures survives { Survives (state S.Store conn.old) (state S.Store conn.new) (λ _. ⊥) }

@@ -1,5 +1,5 @@
--- What a reservation does with a message, case by case.
-use Rattle.std.proofs.Common.{◌≡◌, Bool, true, false, refl, sym, subst}
+-- What a reservation does with a message is what fits its table, and that alone.
+use Rattle.std.proofs.Common.{◌≡◌, ◌↔◌, Bool, true, false, refl, sym, subst}
 use Rattle.std.specs.Prelude.{if◌then◌else◌}
 use Rattle.scoop_message.specs.declared.name.HandlerId.{HandlerId}
 use Rattle.scoop_message.specs.declared.name.Block.{Block}
@@ -13,17 +13,9 @@ use Rattle.scoop_reserve.specs.declared.stage.Step.{Step}
 use Rattle.scoop_reserve.specs.declared.stage.Step.TheVariants.{Locked as LockedStep, Busy as BusyStep, Opened as OpenedStep, Unlocked as UnlockedStep, Ignored}
 use Rattle.scoop_reserve.specs.Handlers.{has, without, is_lowest, is_empty}
 use Rattle.scoop_reserve.specs.State.{ReservationState, at_stage}
+pub use Rattle.scoop_reserve.specs.Rows.{HeardRow, passed_over, one_is_locked, all_are_locked, is_busy, one_is_opened, all_are_opened, is_unlocked, is_given_back}
+use Rattle.scoop_reserve.specs.Rows.{Awaits, awaits_lock, awaits_refusal, awaits_opening, awaits_unlocking, awaits_giving_back, IsHeard}
 use Rattle.scoop_reserve.specs.Hearing.{Notice, heard, ignored, one_locked, one_opened, hear_locked, hear_busy, hear_opened, hear_unlocked}
-
-pub data HeardRow (r : ReservationState) : Message → ReservationState → Step → Type 0 where
-  passed_over : (m : Message) → HeardRow r m r Ignored
-  one_is_locked : (h : HandlerId) → r.stage ≡ Locking → is_lowest h r.left ≡ true → is_empty (without h r.left) ≡ false → HeardRow r (Locked h r.block) (at_stage r Locking (without h r.left)) (LockedStep h)
-  all_are_locked : (h : HandlerId) → r.stage ≡ Locking → is_lowest h r.left ≡ true → is_empty (without h r.left) ≡ true → HeardRow r (Locked h r.block) (at_stage r Opening r.handlers) (LockedStep h)
-  is_busy : (h : HandlerId) → r.stage ≡ Locking → is_lowest h r.left ≡ true → HeardRow r (Busy h r.block) r (BusyStep h)
-  one_is_opened : (h : HandlerId) → r.stage ≡ Opening → has r.left h ≡ true → is_empty (without h r.left) ≡ false → HeardRow r (Opened h r.block) (at_stage r Opening (without h r.left)) (OpenedStep h)
-  all_are_opened : (h : HandlerId) → r.stage ≡ Opening → has r.left h ≡ true → is_empty (without h r.left) ≡ true → HeardRow r (Opened h r.block) (at_stage r Unlocking r.handlers) (OpenedStep h)
-  is_unlocked : (h : HandlerId) → r.stage ≡ Unlocking → has r.left h ≡ true → HeardRow r (Unlocked h r.block) (at_stage r Unlocking (without h r.left)) (UnlockedStep h)
-  is_given_back : (h : HandlerId) → r.stage ≡ GivingUp → has r.left h ≡ true → HeardRow r (Unlocked h r.block) (at_stage r GivingUp (without h r.left)) (UnlockedStep h)
 
 module _ (r : ReservationState) where
   abbrev Row : Message → Notice → Type 0
@@ -97,3 +89,47 @@ module _ (r : ReservationState) where
   heard_row (Log h b n es) = over _
   heard_row (Logged h b n) = over _
   heard_row (Answer h b n a) = over _
+
+-- ---- what is awaited
+
+-- where a message isn't awaited nothing happens
+pub quiet : (r : ReservationState) (m : Message) (s : ReservationState) (step : Step) → HeardRow r m s step → (Awaits r m → ⊥) → (s ≡ r) × (step ≡ Ignored)
+quiet r m s step (passed_over n) out = (refl, refl)
+quiet r m s step (one_is_locked h at low more) out = absurd (out (awaits_lock h at low))
+quiet r m s step (all_are_locked h at low none) out = absurd (out (awaits_lock h at low))
+quiet r m s step (is_busy h at low) out = absurd (out (awaits_refusal h at low))
+quiet r m s step (one_is_opened h at among more) out = absurd (out (awaits_opening h at among))
+quiet r m s step (all_are_opened h at among none) out = absurd (out (awaits_opening h at among))
+quiet r m s step (is_unlocked h at among) out = absurd (out (awaits_unlocking h at among))
+quiet r m s step (is_given_back h at among) out = absurd (out (awaits_giving_back h at among))
+
+own : (b : Block) → same_block b b ≡ true
+own b = (block_decides b b).1 refl
+
+-- what is awaited isn't ignored
+pub told : (r : ReservationState) (m : Message) → Awaits r m → (heard r m).1 ≡ Ignored → ⊥
+told r m (awaits_lock h at low) e = let no : LockedStep h ≡ Ignored = rw (own r.block, at, low) at e in cc
+told r m (awaits_refusal h at low) e = let no : BusyStep h ≡ Ignored = rw (own r.block, at, low) at e in cc
+told r m (awaits_opening h at among) e = let no : OpenedStep h ≡ Ignored = rw (own r.block, at, among) at e in cc
+told r m (awaits_unlocking h at among) e = let no : UnlockedStep h ≡ Ignored = rw (own r.block, at, among) at e in cc
+told r m (awaits_giving_back h at among) e = let no : UnlockedStep h ≡ Ignored = rw (own r.block, at, among) at e in cc
+
+-- ---- the table gives one outcome
+
+row_gives : (r : ReservationState) (m : Message) (s : ReservationState) (step : Step) → HeardRow r m s step → (step ≡ Ignored → Awaits r m → ⊥) → heard r m ≡ (s, step)
+row_gives r m s step (passed_over n) out = let is = quiet r m (heard r m).0 (heard r m).1 (heard_row r m) (out refl) in λ i. (is.0 i, is.1 i)
+row_gives r m s step (one_is_locked h at low more) out = rw (own r.block, at, low, more) refl
+row_gives r m s step (all_are_locked h at low none) out = rw (own r.block, at, low, none) refl
+row_gives r m s step (is_busy h at low) out = rw (own r.block, at, low) refl
+row_gives r m s step (one_is_opened h at among more) out = rw (own r.block, at, among, more) refl
+row_gives r m s step (all_are_opened h at among none) out = rw (own r.block, at, among, none) refl
+row_gives r m s step (is_unlocked h at among) out = rw (own r.block, at, among) refl
+row_gives r m s step (is_given_back h at among) out = rw (own r.block, at, among) refl
+
+pub heard_exactly : (r : ReservationState) (m : Message) (s : ReservationState) (step : Step) → (heard r m ≡ (s, step)) ↔ IsHeard r m s step
+heard_exactly r m s step =
+    let all : IsHeard r m (heard r m).0 (heard r m).1 = record { row = heard_row r m; ignored = λ e awaited. told r m awaited e } in
+    let P : Notice → Type 0 = λ n. IsHeard r m n.0 n.1 in (
+      λ e. subst P e all,
+      λ f. row_gives r m s step f.row f.ignored,
+    )

@@ -19,7 +19,7 @@ pub enum ReserveError {
     #[error("Unknown {0}")]
     Unknown(HandlerId),
     /// A growth of memory was refused. A reservation of fixed size never answers it.
-    #[error("OutOfMemory")]
+    #[error("out of memory")]
     OutOfMemory,
 }
 

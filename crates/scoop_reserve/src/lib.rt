@@ -3,6 +3,20 @@
 //!
 //! `Reservation` says which message is due to which handler, and takes the handlers' replies. It is of
 //! fixed size, so nothing here takes memory.
+//!
+//! ```
+//! let mut reservation = Reservation::start(BLOCK, &[TWO, ONE], &[ONE, TWO])?;
+//! assert_eq!(rt; reservation.due(ONE), Some(Message::Lock(ONE, BLOCK)));
+//! assert_eq!(rt; reservation.due(TWO), None);
+//! reservation.hear(&Message::Locked(ONE, BLOCK));
+//! assert_eq!(rt; reservation.due(TWO), Some(Message::Lock(TWO, BLOCK)));
+//! reservation.hear(&Message::Locked(TWO, BLOCK));
+//! assert_eq!(rt; reservation.due(ONE), Some(Message::Open(ONE, BLOCK)));
+//! reservation.hear(&Message::Opened(ONE, BLOCK));
+//! reservation.hear(&Message::Opened(TWO, BLOCK));
+//! assert!(rt; reservation.is_open());
+//! assert_eq!(rt; reservation.due(TWO), Some(Message::Unlock(TWO, BLOCK)));
+//! ```
 #![tactic(auto)]
 
 mod error;
@@ -10,6 +24,7 @@ mod handlers;
 mod reservation;
 mod set;
 mod stage;
+pub mod theorems;
 
 pub use error::{ReserveError, TooLate};
 pub use handlers::{first_repeated, has};

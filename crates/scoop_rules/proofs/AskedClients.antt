@@ -1,4 +1,6 @@
--- What a client does leaves no query among the entries that have not run, but the one that waits.
+-- What a client does leaves no query among the entries that have not run, but the one that waits. A client logs nothing
+-- while a query waits, and an answer is accepted only for the query that waits; where it is, the query has run, and being
+-- the log's last entry, so has all that was logged before it.
 use Rattle.std.proofs.Common.{◌≡◌, ℕ, ◌+◌, ◌-◌, ◌≤◌, false, true≢false, List, [], ◌∷◌, ◌++◌, length, map, take, Some, None, refl, sym, ap, ◌∙◌, subst, arith, length-append, append-nil, ⊎_elim}
 use Rattle.std.specs.Prelude.{if◌then◌else◌, Ok}
 use Rattle.std.specs.List.{AllByRecursion}
@@ -55,7 +57,9 @@ step_block r m s st (is_unlocked h at is) = refl
 step_block r m s st (is_given_back h at is) = refl
 
 -- the entries up to the query that was answered have run, and it was the last
-module _ (w : World) (tape : Taped w) (c : ClientState) (r : ReservationState) (lines : LinesFit w c r) (h : HandlerId) (n : ℕ) (waits : c.waits ≡ Some (h, n)) where
+module _
+    (w : World) (tape : Taped w) (c : ClientState) (r : ReservationState) (lines : LinesFit w c r) (h : HandlerId) (n : ℕ)
+    (waits : c.waits ≡ Some (h, n)) where
   all_ran : n ≤ count_of r.block (ran_at h w) → any_query (unrun w r.block h) ≡ false
   all_ran ran =
       let g = lines.waits h n waits in
@@ -81,7 +85,9 @@ module _ (w : World) (tape : Taped w) (c : ClientState) (fits : (r : Reservation
   stepped_asked r s held block =
       by_test (λ t. ClientAsked w (if t then idle c else with_reservation c s)) (is_gone s)
       (λ over. idle_asked c)
-      (λ on q e. let same : s ≡ q = some_is s q e in subst (λ (y : ReservationState). AskedFor w y.block c.waits) same (subst (λ b. AskedFor w b c.waits) (sym block) (f r held)))
+      (λ on q e.
+      let same : s ≡ q =
+      some_is s q e in subst (λ (y : ReservationState). AskedFor w y.block c.waits) same (subst (λ b. AskedFor w b c.waits) (sym block) (f r held)))
     where
       some_is : (a b : ReservationState) → Some a ≡ Some b → a ≡ b
       some_is a b e = cc
@@ -111,9 +117,12 @@ module _ (w : World) (tape : Taped w) (c : ClientState) (fits : (r : Reservation
 
 -- nothing is logged, and nothing runs
 same_world : (w : World) (p : Party) → Asked w → PartyAsked w p → Asked (with_party w p)
-same_world w p i f = all_set_party (PartyAsked w) (PartyAsked (with_party w p)) p w.parties (record { asked = f.asked }) (λ y other g. record { asked = g.asked }) i
+same_world w p i f =
+    all_set_party (PartyAsked w) (PartyAsked (with_party w p)) p w.parties (record { asked = f.asked }) (λ y other g. record { asked = g.asked }) i
 
-pub notices_asked : (w : World) → Taped w → Asked w → (m : Message) (p : Party) → TellsAnswer w m → PartyLogs w p → PartyAsked w p → Asked (with_party w (heard_party p (heard p.client m)))
+pub notices_asked :
+    (w : World) → Taped w → Asked w → (m : Message) (p : Party) → TellsAnswer w m → PartyLogs w p → PartyAsked w p
+    → Asked (with_party w (heard_party p (heard p.client m)))
 notices_asked w tape i m p tells logs f =
     let now = heard p.client m in
     same_world w (heard_party p now) i (record { asked = heard_asked w tape p.client logs.block f.asked m now.0 now.1 (heard_row p.client m) tells })
@@ -153,7 +162,8 @@ module _ (w : World) (p : Party) (x : Command) (d : ClientState) where
   first_stay b h n long =
       ap (λ k. take k (log_of b h now)) long ∙
       ⊎_elim
-      (λ (same : log_of b h now ≡ log_of b h w). ap (λ es. take (length (log_of b h w)) es) (same ∙ sym (append-nil (log_of b h w))) ∙ take-append_seam (log_of b h w) [])
+      (λ (same : log_of b h now ≡ log_of b h w).
+      ap (λ es. take (length (log_of b h w)) es) (same ∙ sym (append-nil (log_of b h w))) ∙ take-append_seam (log_of b h w) [])
       (λ (more : IsAdded x (newest_block d) b h w.logs). ap (λ es. take (length (log_of b h w)) es) more.grows ∙ take-append_seam (log_of b h w) (added x h))
       (log_after x (newest_block d) b h w.logs)
 
@@ -245,7 +255,8 @@ module _ (w : World) (p : Party) (d : ClientState) (fits : PartyFits w p) (logs 
   command_asked GiveUp e = give_up_asked _ (command_row c (core_command GiveUp)) e
 
 all_set_beside :
-    (P Q R : Party → Type 0) (p : Party) (parties : List Party) → R p → ((y : Party) → is_party (id_of p) y ≡ false → P y → Q y → R y) → AllByRecursion P parties → AllByRecursion Q parties
+    (P Q R : Party → Type 0) (p : Party) (parties : List Party) → R p → ((y : Party) → is_party (id_of p) y ≡ false → P y → Q y → R y)
+    → AllByRecursion P parties → AllByRecursion Q parties
     → AllByRecursion R (set_party p parties)
 all_set_beside P Q R p [] own others all beside = tt
 all_set_beside P Q R p (y ∷ ys) own others all beside = (
@@ -254,7 +265,8 @@ all_set_beside P Q R p (y ∷ ys) own others all beside = (
 )
 
 pub commands_asked :
-    (w : World) → Asked w → AllByRecursion (PartyLogs w) w.parties → (p : Party) (x : Command) (d : ClientState) → PartyFits w p → PartyLogs w p → PartyAsked w p
+    (w : World) → Asked w → AllByRecursion (PartyLogs w) w.parties → (p : Party) (x : Command) (d : ClientState) → PartyFits w p → PartyLogs w p
+    → PartyAsked w p
     → client.command p.client (core_command x) ≡ Ok d → Asked (commanded_world w p x d)
 commands_asked w i logs p x d fits own f e =
     all_set_beside (PartyLogs w) (PartyAsked w) (PartyAsked (commanded_world w p x d)) (record p { client = d }) w.parties

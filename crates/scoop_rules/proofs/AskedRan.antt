@@ -45,7 +45,8 @@ count_own b n (e ∷ es) =
 abbrev IsUpto : List (Block × ℕ × Entry) → Block × ℕ × Entry → Type 0
 IsUpto us u = u.1 ≤ count_told u.0 us
 
-numbers_upto : (us : List (Block × ℕ × Entry)) (b : Block) (n : ℕ) (es : List Entry) → n + length es ≤ count_told b us + 1 → AllByRecursion (IsUpto us) (numbered b n es)
+numbers_upto :
+    (us : List (Block × ℕ × Entry)) (b : Block) (n : ℕ) (es : List Entry) → n + length es ≤ count_told b us + 1 → AllByRecursion (IsUpto us) (numbered b n es)
 numbers_upto us b n [] le = tt
 numbers_upto us b n (e ∷ es) le = (omega (arith, le), numbers_upto us b (n + 1) es (omega (arith, le)))
 

@@ -44,9 +44,11 @@ use Rattle.scoop_rules.proofs.AskedClients.{commands_asked, notices_asked, resta
 -- ---- what a handler does
 
 -- nothing is logged, and no less has run
-goes_on : (v w : World) → v.logs ≡ w.logs → ((b : Block) → RanMore v w b) → (ps : List Party) → AllByRecursion (PartyAsked v) ps → AllByRecursion (PartyAsked w) ps
+goes_on :
+    (v w : World) → v.logs ≡ w.logs → ((b : Block) → RanMore v w b) → (ps : List Party) → AllByRecursion (PartyAsked v) ps → AllByRecursion (PartyAsked w) ps
 goes_on v w same more ps = all_more_of (PartyAsked v) (PartyAsked w)
-    (λ p f. record { asked = λ r held. asked_more v w r.block (λ h. ap (λ ls. log_of r.block h (record v { logs = ls })) same) (more r.block) p.client.waits (f.asked r held) }) ps
+    (λ p f.
+    record { asked = λ r held. asked_more v w r.block (λ h. ap (λ ls. log_of r.block h (record v { logs = ls })) same) (more r.block) p.client.waits (f.asked r held) }) ps
 
 abbrev count_in : Block → Option Site → ℕ
 count_in b o = count_of b (option_map_or (λ s. s.ran) o [])
@@ -64,7 +66,8 @@ count_set w s old here b le h =
 count_more : (b : Block) (rs : List Ran) (r : Ran) → count_of b rs ≤ count_of b (rs ++ r ∷ [])
 count_more b rs r =
     let parts : count_of b (rs ++ r ∷ []) ≡ count_of b rs + count_of b (r ∷ []) =
-    ap length (filter-append (λ x. same_block x.block b) rs (r ∷ [])) ∙ length-append (filter (λ x. same_block x.block b) rs) (filter (λ x. same_block x.block b) (r ∷ [])) in
+    ap length (filter-append (λ x. same_block x.block b) rs (r ∷ []))
+    ∙ length-append (filter (λ x. same_block x.block b) rs) (filter (λ x. same_block x.block b) (r ∷ [])) in
     omega (arith, parts)
 
 module _ (w : World) (h : HandlerId) (s : Site) (found : site_of h w ≡ Some s) where
@@ -81,7 +84,8 @@ asked_kept w o l a tape i = record {
   sends = λ c p h s at here. goes_on w (with_sent w (due p.client h)) refl (λ b h. omega arith) w.parties i;
   hears = λ k m s was goes here.
       let now = hear s.core.state m in
-      let still : site_of now.0.number w ≡ Some s = subst (λ j. site_of j w ≡ Some s) (sym (number-row s.core.state m now (row s.core.state m))) (place w (handler_of m) s here) in
+      let still : site_of now.0.number w ≡ Some s =
+      subst (λ j. site_of j w ≡ Some s) (sym (number-row s.core.state m now (row s.core.state m))) (place w (handler_of m) s here) in
       goes_on w (heard_world w s now) refl (λ b h. count_set w (heard_site s now) s still b (omega arith) h) w.parties i;
   notices = λ k m p was goes at.
       notices_asked w tape i m p (sent_tells w k m was a.messages) (all_found (PartyLogs w) (is_party (client_of m)) w.parties p l.parties at)
@@ -108,7 +112,8 @@ queue_none b s none =
     (λ gone. refl)
     (λ there.
     let left : any_query (drop s.count (kept s)) ≡ false =
-    by_test (λ t. any_query (drop s.count (if t then take s.received s.logged else s.logged)) ≡ false) (is_cut_off s) (λ cut. none_taken s.count s.received s.logged none) (λ whole. none) in
+    by_test (λ t. any_query (drop s.count (if t then take s.received s.logged else s.logged)) ≡ false) (is_cut_off s)
+    (λ cut. none_taken s.count s.received s.logged none) (λ whole. none) in
     by_test (λ t. (t && any_query (drop s.count (kept s)) || false) ≡ false) (same_block b b) (λ own. ap (λ t. t || false) left) (λ other. refl))
 
 -- nor in that of another
@@ -121,7 +126,8 @@ queue_other b y s other =
 queues_none : (w : World) (b : Block) (h : HandlerId) → any_query (unrun w b h) ≡ false → (js : List Block) → waits b (flat_map (queue_at w h) js) ≡ false
 queues_none w b h none [] = refl
 queues_none w b h none (y ∷ ys) =
-    list_any-append (λ (q : Waiting). is_of b q && list_any is_query q.entries) (queue_at w h y) (flat_map (queue_at w h) ys) ∙ (λ i. first i || queues_none w b h none ys i)
+    list_any-append (λ (q : Waiting). is_of b q && list_any is_query q.entries) (queue_at w h y) (flat_map (queue_at w h) ys)
+    ∙ (λ i. first i || queues_none w b h none ys i)
   where
     first : waits b (queue_at w h y) ≡ false
     first = by_test (λ t. waits b (if t then queue_of y (seen y h w) else []) ≡ false) (has (set_of y w) h)
@@ -131,7 +137,8 @@ queues_none w b h none (y ∷ ys) =
         (λ elsewhere. refl)
 
 -- where no query of the client waits, none of its block waits in the rules
-pub none_waits : (w : World) → Asked w → (c : ClientId) (p : Party) (r : ReservationState) → party_of c w ≡ Some p → p.client.reservation ≡ Some r → p.client.waits ≡ None
+pub none_waits :
+    (w : World) → Asked w → (c : ClientId) (p : Party) (r : ReservationState) → party_of c w ≡ Some p → p.client.reservation ≡ Some r → p.client.waits ≡ None
     → (h : HandlerId) → waits r.block ((configuration_of w).queues h) ≡ false
 none_waits w i c p r at held free h =
     let f = all_found (PartyAsked w) (is_party c) w.parties p i at in
@@ -150,4 +157,5 @@ all_asked_kept w i =
     (asked_kept w told.0.0 told.1 i.0.0.1 i.0.1 i.1)
 
 pub always_asked : (ps : List Placement) (ns : List Newcomer) (es : List Event) → MayOpen ps ns → Asked (steps (opening ps ns) es)
-always_asked ps ns es may = (steps_kept AllAsked all_asked_kept (opening ps ns) es (((opens_told ps ns may, opens_answering ps ns), opens_taped ps ns), opens_asked ps ns)).1
+always_asked ps ns es may =
+    (steps_kept AllAsked all_asked_kept (opening ps ns) es (((opens_told ps ns may, opens_answering ps ns), opens_taped ps ns), opens_asked ps ns)).1

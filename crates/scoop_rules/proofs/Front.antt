@@ -1,4 +1,6 @@
--- Where the block of the first private queue stands in the common list.
+-- Where the block of the first private queue stands in the common list. What opened at a handler is the common list with
+-- some blocks left out, and the first slot with an entry splits it: all blocks before it are over there, or are no blocks of
+-- this handler, or can't open here any more.
 use Rattle.std.proofs.Common.{◌≡◌, ◌⊎◌, inl, inr, ℕ, ◌+◌, true, ◌||◌, true≢false, List, [], ◌∷◌, ◌++◌, length, flat_map, Option, Some, None, refl, sym, ap, ◌∙◌, subst, ⊎_elim}
 use Rattle.std.specs.List.{AllByRecursion}
 use Rattle.scoop_message.specs.declared.name.Block.{Block}
@@ -19,7 +21,8 @@ use Rattle.scoop_model.proofs.Tape.Slots.{Slot, slot_queue, queue_at, queues_of,
 pub left_has : {xs ys : List Block} → IsSubsequence xs ys → (b : Block) → has_block xs b ≡ true → has_block ys b ≡ true
 left_has nothing b e = e
 left_has (left_out y xs ys s) b e = by_test (λ t. (t || has_block ys b) ≡ true) (same_block y b) (λ same. refl) (λ other. left_has s b e)
-left_has (taken y xs ys s) b e = by_test (λ t. (t || has_block xs b) ≡ true → (t || has_block ys b) ≡ true) (same_block y b) (λ same _. refl) (λ other f. left_has s b f) e
+left_has (taken y xs ys s) b e =
+    by_test (λ t. (t || has_block xs b) ≡ true → (t || has_block ys b) ≡ true) (same_block y b) (λ same _. refl) (λ other f. left_has s b f) e
 
 has_head : (b : Block) (bs : List Block) → has_block (b ∷ bs) b ≡ true
 has_head b bs = ap (λ t. t || has_block bs b) (same_block_itself b)
@@ -44,7 +47,9 @@ first_slot s t u (x ∷ es) is e =
     }
 
 -- the first slot is gone, or it is the one with the first entry
-first_or_later : (s : Slot) (o : Option QueueState) (ss : List Slot) (u : Block × ℕ × Entry) → s.state ≡ o → front (queue_at s o ++ queues_of ss) ≡ Some u → (s.state ≡ None × (front (queues_of ss) ≡ Some u)) ⊎ FirstSlot u s
+first_or_later :
+    (s : Slot) (o : Option QueueState) (ss : List Slot) (u : Block × ℕ × Entry) → s.state ≡ o → front (queue_at s o ++ queues_of ss) ≡ Some u
+    → (s.state ≡ None × (front (queues_of ss) ≡ Some u)) ⊎ FirstSlot u s
 first_or_later s None ss u is e = inl (is, e)
 first_or_later s (Some t) ss u is e = inr (first_slot s t u s.rest refl e)
 
@@ -68,7 +73,9 @@ not_again : (y : Block) (ys : List Block) → AreApart (y ∷ ys) → has_block 
 not_again y ys d e = true≢false (sym e ∙ d.0)
 
 -- a list that is left of one with a head is left of the rest, or has that head too
-left_cases : (xs : List Block) (y : Block) (ys : List Block) → IsSubsequence xs (y ∷ ys) → IsSubsequence xs ys ⊎ ((zs : List Block) × (xs ≡ y ∷ zs) × IsSubsequence zs ys)
+left_cases :
+    (xs : List Block) (y : Block) (ys : List Block) → IsSubsequence xs (y ∷ ys)
+    → IsSubsequence xs ys ⊎ ((zs : List Block) × (xs ≡ y ∷ zs) × IsSubsequence zs ys)
 left_cases xs y ys (left_out x zs ws s) = inl s
 left_cases xs y ys (taken x zs ws s) = inr (zs, refl, s)
 
@@ -147,8 +154,10 @@ parted_more f P u y ys none r = record {
 
 -- where gone slots have no queue, the first slot's block is the first in the list that has one
 pub parted :
-    (f : Block → List Waiting) (P : Slot → Type 0) (u : Block × ℕ × Entry) → ((s : Slot) → P s → s.state ≡ None → f s.block ≡ []) → (ss : List Slot) (js : List Block)
-    → IsSubsequence (blocks_of ss) js → AreApart js → ((b : Block) → has_block js b ≡ true → IsPlaced f (blocks_of ss) js b) → AllByRecursion P ss → front (queues_of ss) ≡ Some u
+    (f : Block → List Waiting) (P : Slot → Type 0) (u : Block × ℕ × Entry) → ((s : Slot) → P s → s.state ≡ None → f s.block ≡ [])
+    → (ss : List Slot) (js : List Block)
+    → IsSubsequence (blocks_of ss) js → AreApart js → ((b : Block) → has_block js b ≡ true → IsPlaced f (blocks_of ss) js b) → AllByRecursion P ss
+    → front (queues_of ss) ≡ Some u
     → Parted f P u js
 parted f P u gone [] js sub d placed all e = absurd (none_some e)
 parted f P u gone (s ∷ ss) [] sub d placed all e = absurd (left_nothing s.block (blocks_of ss) sub)

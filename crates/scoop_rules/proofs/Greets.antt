@@ -1,4 +1,6 @@
--- A greeting by a newer incarnation cuts the queues of blocks whose End was not received.
+-- A greeting by a newer incarnation cuts the queues of blocks whose End was not received. It cuts at this handler alone, and
+-- only blocks of an older incarnation of that client that are in the common list and name the handler: each keeps what was
+-- told to be received, as its slot does. All other queues, seen before and after the greeting, are the same.
 use Rattle.std.proofs.Common.{◌≡◌, ℕ, zero, suc, ◌-◌, ◌≤◌, ◌<◌, ◌==◌, Bool, true, false, not, ◌&&◌, ◌||◌, nat_le, true≢false, List, [], ◌∷◌, ◌++◌, length, map, filter, flat_map, take, drop, refl, sym, ap, ◌∙◌, subst, arith, length-append, append-nil}
 use Rattle.std.specs.Prelude.{if◌then◌else◌}
 use Rattle.std.proofs.lemmas.Bool.Decides.{nat_tests}
@@ -42,7 +44,9 @@ none_dropped c es = let l = length-drop c es in grind (arith, nat_tests)
 
 cut_by_length : (b : Block) (es : List Entry) → cut_queue b es ≡ (if length es == 0 then [] else record { block = b; entries = es; state = Cut } ∷ [])
 cut_by_length b [] = refl
-cut_by_length b (e ∷ es) = let some : (length (e ∷ es) == 0) ≡ false = grind (arith, nat_tests) in sym (ap (λ t. if t then [] else record { block = b; entries = e ∷ es; state = Cut } ∷ []) some)
+cut_by_length b (e ∷ es) =
+    let some : (length (e ∷ es) == 0) ≡ false =
+    grind (arith, nat_tests) in sym (ap (λ t. if t then [] else record { block = b; entries = e ∷ es; state = Cut } ∷ []) some)
 
 -- a block as it is seen, before and after the greeting
 abbrev as_seen : List Entry → ℕ → Bool → Bool → ℕ → Seen
@@ -61,14 +65,18 @@ newly_cut b log c r false e =
     ∙ sym (ap queue_by e)
   where
     queue_by : Bool → List Waiting
-    queue_by t = if not t && nat_le (length (take r log)) c then [] else record { block = b; entries = drop c (if not t then take r log else log); state = if not t then Cut else if has_end log then Ended else Open } ∷ []
+    queue_by t =
+        if not t && nat_le (length (take r log)) c then [] else record { block = b; entries = drop c (if not t then take r log else log); state = if not t then Cut else if has_end log then Ended else Open } ∷ []
 
 -- its End was received
-not_cut : (b : Block) (log : List Entry) (c r : ℕ) (over : Bool) → has_end (take r log) ≡ true → queue_of b (as_seen log c over true r) ≡ queue_of b (as_seen log c over false r)
+not_cut :
+    (b : Block) (log : List Entry) (c r : ℕ) (over : Bool) → has_end (take r log) ≡ true
+    → queue_of b (as_seen log c over true r) ≡ queue_of b (as_seen log c over false r)
 not_cut b log c r over e = ap queue_by e
   where
     queue_by : Bool → List Waiting
-    queue_by t = if over || not t && nat_le (length (take r log)) c then [] else record { block = b; entries = drop c (if not t then take r log else log); state = if not t then Cut else if has_end log then Ended else Open } ∷ []
+    queue_by t =
+        if over || not t && nat_le (length (take r log)) c then [] else record { block = b; entries = drop c (if not t then take r log else log); state = if not t then Cut else if has_end log then Ended else Open } ∷ []
 
 abbrev queue_if : Bool → Block → Seen → List Waiting
 queue_if named b s = if named then queue_of b s else []
@@ -80,20 +88,26 @@ greet_one b log c r over false old newer more = refl
 greet_one b log c r over true true false more = absurd (true≢false (sym (more refl)))
 greet_one b log c r over true false false more = refl
 greet_one b log c r over true true true more =
-    by_test (λ t. queue_of b (as_seen log c over true r) ≡ (if t && not t then flat_map (cut_waiting b (r - c)) (queue_of b (as_seen log c over true r)) else queue_of b (as_seen log c over true r))) (not (has_end (take r log))) (λ _. refl) (λ _. refl)
+    by_test (λ t. queue_of b (as_seen log c over true r) ≡ (if t && not t then flat_map (cut_waiting b (r - c)) (queue_of b (as_seen log c over true r)) else queue_of b (as_seen log c over true r))) (not (has_end (take r log)))
+    (λ _. refl)
+    (λ _. refl)
 greet_one b log c r over true false true more =
     by_test
-    (λ t. has_end (take r log) ≡ t → queue_of b (as_seen log c over true r) ≡ (if not t && true then flat_map (cut_waiting b (r - c)) (queue_of b (as_seen log c over false r)) else queue_of b (as_seen log c over false r)))
+    (λ t.
+    has_end (take r log) ≡ t → queue_of b (as_seen log c over true r) ≡ (if not t && true then flat_map (cut_waiting b (r - c)) (queue_of b (as_seen log c over false r)) else queue_of b (as_seen log c over false r)))
     (has_end (take r log))
     (λ _ e. not_cut b log c r over e)
     (λ _ e. sym (newly_cut b log c r over e)) refl
 
 -- ---- the cuts one after another
 
-module _ (o : Objects) (v w : World) (h : HandlerId) (may : (b : Block) → is_cut_by v w h b ≡ true → (b.inc < inc_of v b.client) × (count_of b (ran_at h v) ≤ received b h v)) where
+module _
+    (o : Objects) (v w : World) (h : HandlerId)
+    (may : (b : Block) → is_cut_by v w h b ≡ true → (b.inc < inc_of v b.client) × (count_of b (ran_at h v) ≤ received b h v)) where
   -- the world's configuration with these queues at the handler
   abbrev with_queues : (Block → List Waiting) → Configuration
-  with_queues f = record { queues = put_at_handler h (flat_map f v.joint) (configuration_of v).queues; ran = λ x. ran_at x v; separated = v.joint; inc = inc_of v }
+  with_queues f =
+      record { queues = put_at_handler h (flat_map f v.joint) (configuration_of v).queues; ran = λ x. ran_at x v; separated = v.joint; inc = inc_of v }
 
   abbrev left_of : Block → ℕ
   left_of b = received b h v - count_of b (ran_at h v)
@@ -106,7 +120,9 @@ module _ (o : Objects) (v w : World) (h : HandlerId) (may : (b : Block) → is_c
   cut_once b f y = if same_block b y then cut_one b (f y) else f y
 
   same_queues : (f g : Block → List Waiting) → ((y : Block) → has_block v.joint y ≡ true → f y ≡ g y) → with_queues f ≡ with_queues g
-  same_queues f g e = same_configuration (with_queues f) (with_queues g) (λ x. ap (λ qs. if same_handler x h then qs else flat_map (queue_at v x) v.joint) (queues_same f g v.joint e)) (λ x. refl) refl (λ c. refl)
+  same_queues f g e =
+      same_configuration (with_queues f) (with_queues g)
+      (λ x. ap (λ qs. if same_handler x h then qs else flat_map (queue_at v x) v.joint) (queues_same f g v.joint e)) (λ x. refl) refl (λ c. refl)
 
   own_once : (b : Block) (f : Block → List Waiting) → ((y : Block) → AreOwn y (f y)) → (y : Block) → AreOwn y (cut_once b f y)
   own_once b f own y = by_test (λ t. AreOwn y (if t then cut_one b (f y) else f y)) (same_block b y) (λ _. own_cut b y (left_of b) (f y) (own y)) (λ _. own y)
@@ -130,7 +146,8 @@ module _ (o : Objects) (v w : World) (h : HandlerId) (may : (b : Block) → is_c
       (λ t. same_handler x h ≡ t
       → (if t then cut_one b ((with_queues f).queues h) else (if t then flat_map f v.joint else flat_map (queue_at v x) v.joint)) ≡ (if t then flat_map (cut_once b f) v.joint else flat_map (queue_at v x) v.joint))
       (same_handler x h)
-      (λ _ _. ap (cut_one b) (at_itself f) ∙ cut_over b (left_of b) f v.joint ∙ queues_same (λ y. cut_one b (f y)) (cut_once b f) v.joint (λ y _. once_is b f own y))
+      (λ _ _.
+      ap (cut_one b) (at_itself f) ∙ cut_over b (left_of b) f v.joint ∙ queues_same (λ y. cut_one b (f y)) (cut_once b f) v.joint (λ y _. once_is b f own y))
       (λ _ _. refl) refl)
       (λ x. refl) refl (λ c. refl)
 
@@ -138,14 +155,17 @@ module _ (o : Objects) (v w : World) (h : HandlerId) (may : (b : Block) → is_c
   abbrev cut_all : List Block → (Block → List Waiting) → Block → List Waiting
   cut_all bs f y = if has_block bs y && is_cut_by v w h y then cut_one y (f y) else f y
 
-  cut_all_first : (b : Block) (bs : List Block) (f : Block → List Waiting) → is_cut_by v w h b ≡ true → has_block bs b ≡ false → (y : Block) → cut_all (b ∷ bs) f y ≡ cut_all bs (cut_once b f) y
+  cut_all_first :
+      (b : Block) (bs : List Block) (f : Block → List Waiting) → is_cut_by v w h b ≡ true → has_block bs b ≡ false → (y : Block)
+      → cut_all (b ∷ bs) f y ≡ cut_all bs (cut_once b f) y
   cut_all_first b bs f cuts new y =
       by_test
       (λ t. same_block b y ≡ t
       → (if (t || has_block bs y) && is_cut_by v w h y then cut_one y (f y) else f y) ≡ (if has_block bs y && is_cut_by v w h y then cut_one y (if t then cut_one b (f y) else f y) else (if t then cut_one b (f y) else f y)))
       (same_block b y)
       (λ _ same. subst
-      (λ z. (if is_cut_by v w h z then cut_one z (f z) else f z) ≡ (if has_block bs z && is_cut_by v w h z then cut_one z (cut_one b (f z)) else cut_one b (f z)))
+      (λ z.
+      (if is_cut_by v w h z then cut_one z (f z) else f z) ≡ (if has_block bs z && is_cut_by v w h z then cut_one z (cut_one b (f z)) else cut_one b (f z)))
       (same_block_is b y same)
       (ap (λ t. if t then cut_one b (f b) else f b) cuts ∙ sym (ap (λ t. if t && is_cut_by v w h b then cut_one b (cut_one b (f b)) else cut_one b (f b)) new)))
       (λ _ other. refl) refl
@@ -159,10 +179,12 @@ module _ (o : Objects) (v w : World) (h : HandlerId) (may : (b : Block) → is_c
       by_test (λ t. same_block b y ≡ t → (if (t || has_block bs y) && is_cut_by v w h y then cut_one y (f y) else f y) ≡ cut_all bs f y) (same_block b y)
       (λ _ same.
       let not_so : is_cut_by v w h y ≡ false = subst (λ z. is_cut_by v w h z ≡ false) (same_block_is b y same) stays in
-      ap (λ t. if t then cut_one y (f y) else f y) not_so ∙ sym (ap (λ t. if has_block bs y && t then cut_one y (f y) else f y) not_so ∙ and_false (has_block bs y) (cut_one y (f y)) (f y)))
+      ap (λ t. if t then cut_one y (f y) else f y) not_so
+      ∙ sym (ap (λ t. if has_block bs y && t then cut_one y (f y) else f y) not_so ∙ and_false (has_block bs y) (cut_one y (f y)) (f y)))
       (λ _ other. refl) refl
 
-  pub cuts : (bs : List Block) → AreApart bs → (f : Block → List Waiting) → ((y : Block) → AreOwn y (f y)) → (end : Configuration) → with_queues (cut_all bs f) ≡ end
+  pub cuts :
+      (bs : List Block) → AreApart bs → (f : Block → List Waiting) → ((y : Block) → AreOwn y (f y)) → (end : Configuration) → with_queues (cut_all bs f) ≡ end
       → MovesLead o (with_queues f) (map (λ b. CutTo b h (received b h v)) (filter (is_cut_by v w h) bs)) end
   cuts [] d f own end e = e
   cuts (b ∷ bs) d f own end e =
@@ -250,7 +272,8 @@ module _ (v : World) (sites : List Site) (same_ran : (j : HandlerId) → ran_in 
     cut_is : (b : Block) → has_block v.joint b ≡ true → cut_all o v greeted_world h may v.joint (queue_at v h) b ≡ queue_at greeted_world h b
     cut_is b m =
         sym (
-        (λ i. if has (set_of b v) h then queue_of b (record { logged = log_of b h v; count = count_of b (same_ran h i); over = has_ended b (same_ran h i); newer = is_succeeded b h greeted_world; received = same_received b h i }) else [])
+        (λ i.
+        if has (set_of b v) h then queue_of b (record { logged = log_of b h v; count = count_of b (same_ran h i); over = has_ended b (same_ran h i); newer = is_succeeded b h greeted_world; received = same_received b h i }) else [])
         ∙ greet_one b (log_of b h v) (count_of b (ran_at h v)) (received b h v) (has_ended b (ran_at h v)) (has (set_of b v) h) (is_succeeded b h v) (is_succeeded b h greeted_world) (still_succeeded b h)
         ∙ (λ i.
         if sym m i && (has (set_of b v) h && ((is_succeeded b h greeted_world && not (has_end (take (sym (same_received b h) i) (log_of b h v)))) && not (is_cut_off (seen b h v))))
@@ -259,16 +282,21 @@ module _ (v : World) (sites : List Site) (same_ran : (j : HandlerId) → ran_in 
     begins : with_queues o v greeted_world h may (queue_at v h) ≡ configuration_of v
     begins =
         same_configuration (with_queues o v greeted_world h may (queue_at v h)) (configuration_of v)
-        (λ x. by_test (λ t. same_handler x h ≡ t → (if t then flat_map (queue_at v h) v.joint else flat_map (queue_at v x) v.joint) ≡ flat_map (queue_at v x) v.joint) (same_handler x h)
+        (λ x.
+        by_test (λ t. same_handler x h ≡ t → (if t then flat_map (queue_at v h) v.joint else flat_map (queue_at v x) v.joint) ≡ flat_map (queue_at v x) v.joint) (same_handler x h)
         (λ _ is. ap (λ j. flat_map (queue_at v j) v.joint) (sym ((handler_decides x h).0 is))) (λ _ _. refl) refl)
         (λ x. refl) refl (λ d. refl)
 
     ends : with_queues o v greeted_world h may (cut_all o v greeted_world h may v.joint (queue_at v h)) ≡ configuration_of greeted_world
     ends =
         same_configuration (with_queues o v greeted_world h may (cut_all o v greeted_world h may v.joint (queue_at v h))) (configuration_of greeted_world)
-        (λ x. by_test (λ t. same_handler x h ≡ t → (if t then flat_map (cut_all o v greeted_world h may v.joint (queue_at v h)) v.joint else flat_map (queue_at v x) v.joint) ≡ flat_map (queue_at greeted_world x) v.joint) (same_handler x h)
-        (λ _ is. queues_same (cut_all o v greeted_world h may v.joint (queue_at v h)) (queue_at greeted_world h) v.joint cut_is ∙ ap (λ j. flat_map (queue_at greeted_world j) v.joint) (sym ((handler_decides x h).0 is)))
-        (λ _ other. sym (queues_same (queue_at greeted_world x) (queue_at v x) v.joint (λ b m. other_place b x (λ same. true≢false (sym ((handler_decides x h).1 same) ∙ other))))) refl)
+        (λ x.
+        by_test (λ t. same_handler x h ≡ t → (if t then flat_map (cut_all o v greeted_world h may v.joint (queue_at v h)) v.joint else flat_map (queue_at v x) v.joint) ≡ flat_map (queue_at greeted_world x) v.joint) (same_handler x h)
+        (λ _ is.
+        queues_same (cut_all o v greeted_world h may v.joint (queue_at v h)) (queue_at greeted_world h) v.joint cut_is
+        ∙ ap (λ j. flat_map (queue_at greeted_world j) v.joint) (sym ((handler_decides x h).0 is)))
+        (λ _ other.
+        sym (queues_same (queue_at greeted_world x) (queue_at v x) v.joint (λ b m. other_place b x (λ same. true≢false (sym ((handler_decides x h).1 same) ∙ other))))) refl)
         (λ x. sym (same_ran x)) refl (λ d. refl)
 
     pub greets_follows : MovesLead o (configuration_of v) (greeting_cuts v greeted_world h) (configuration_of greeted_world)

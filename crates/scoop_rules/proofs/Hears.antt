@@ -32,7 +32,9 @@ module _ (w : World) (ready : Ready w) (s : Site) (here : site_of (number_of s) 
       (λ apart. refl)
 
   -- nothing but the states of handlers and quiet messages
-  quiet_row : (m : Message) (h : Hearing) (r : Row s.core.state m h) → (h.1.note ≡ Greeted → ⊥) → configuration_of w ≡ configuration_of (record w { sites = set_site (heard_site s h) w.sites; sent = w.sent ++ option_to_list h.1.reply })
+  quiet_row :
+      (m : Message) (h : Hearing) (r : Row s.core.state m h) → (h.1.note ≡ Greeted → ⊥)
+      → configuration_of w ≡ configuration_of (record w { sites = set_site (heard_site s h) w.sites; sent = w.sent ++ option_to_list h.1.reply })
   quiet_row m h r old = quiet_same w (set_site (heard_site s h) w.sites) h.1.reply (same_ran m h r) (quiet-row w s here ready m h r old)
 
   row_follows :

@@ -18,7 +18,8 @@ use Rattle.scoop_model.proofs.Order.Lists.{same_block_itself}
 -- ---- configurations are the same where they are so at every handler and client
 
 pub same_configuration :
-    (g k : Configuration) → ((h : HandlerId) → g.queues h ≡ k.queues h) → ((h : HandlerId) → g.ran h ≡ k.ran h) → g.separated ≡ k.separated → ((c : ClientId) → g.inc c ≡ k.inc c)
+    (g k : Configuration) → ((h : HandlerId) → g.queues h ≡ k.queues h) → ((h : HandlerId) → g.ran h ≡ k.ran h) → g.separated ≡ k.separated
+    → ((c : ClientId) → g.inc c ≡ k.inc c)
     → g ≡ k
 same_configuration g k queues ran separated inc = λ i. record { queues = λ h. queues h i; ran = λ h. ran h i; separated = separated i; inc = λ c. inc c i }
 
@@ -34,11 +35,14 @@ queues_same f g (j ∷ js) e =
 pub queues_last : (f : Block → List Waiting) (js : List Block) (b : Block) → flat_map f (js ++ b ∷ []) ≡ flat_map f js ++ f b
 queues_last f js b = flat_map-append f js (b ∷ []) ∙ ap (λ qs. flat_map f js ++ qs) (append-nil (f b))
 
-pub logged_over : (b : Block) (e : Entry) (f : Block → List Waiting) (js : List Block) → map (logged_to b e) (flat_map f js) ≡ flat_map (λ x. map (logged_to b e) (f x)) js
+pub logged_over :
+    (b : Block) (e : Entry) (f : Block → List Waiting) (js : List Block) → map (logged_to b e) (flat_map f js) ≡ flat_map (λ x. map (logged_to b e) (f x)) js
 logged_over b e f [] = refl
 logged_over b e f (j ∷ js) = map-append (logged_to b e) (f j) (flat_map f js) ∙ ap (λ qs. map (logged_to b e) (f j) ++ qs) (logged_over b e f js)
 
-pub cut_over : (b : Block) (k : ℕ) (f : Block → List Waiting) (js : List Block) → flat_map (cut_waiting b k) (flat_map f js) ≡ flat_map (λ x. flat_map (cut_waiting b k) (f x)) js
+pub cut_over :
+    (b : Block) (k : ℕ) (f : Block → List Waiting) (js : List Block)
+    → flat_map (cut_waiting b k) (flat_map f js) ≡ flat_map (λ x. flat_map (cut_waiting b k) (f x)) js
 cut_over b k f [] = refl
 cut_over b k f (j ∷ js) = flat_map-append (cut_waiting b k) (f j) (flat_map f js) ∙ ap (λ qs. flat_map (cut_waiting b k) (f j) ++ qs) (cut_over b k f js)
 
@@ -51,16 +55,20 @@ abbrev pub AreOwn : Block → List Waiting → Type 0
 AreOwn b qs = AllByRecursion (IsOwn b) qs
 
 pub own_queue : (b : Block) (s : Seen) → AreOwn b (queue_of b s)
-own_queue b s = by_test (λ t. AreOwn b (if t then [] else record { block = b; entries = drop s.count (kept s); state = state_of s } ∷ [])) (is_gone s) (λ gone. tt) (λ there. (refl, tt))
+own_queue b s =
+    by_test (λ t. AreOwn b (if t then [] else record { block = b; entries = drop s.count (kept s); state = state_of s } ∷ [])) (is_gone s) (λ gone. tt)
+    (λ there. (refl, tt))
 
 pub own_queue_at : (w : World) (h : HandlerId) (b : Block) → AreOwn b (queue_at w h b)
-own_queue_at w h b = by_test (λ t. AreOwn b (if t then queue_of b (seen b h w) else [])) (has (set_of b w) h) (λ named. own_queue b (seen b h w)) (λ not_named. tt)
+own_queue_at w h b =
+    by_test (λ t. AreOwn b (if t then queue_of b (seen b h w) else [])) (has (set_of b w) h) (λ named. own_queue b (seen b h w)) (λ not_named. tt)
 
 pub logged_other : (b x : Block) (e : Entry) (qs : List Waiting) → same_block x b ≡ false → AreOwn x qs → map (logged_to b e) qs ≡ qs
 logged_other b x e [] other own = refl
 logged_other b x e (q ∷ qs) other own =
     let apart : is_of b q ≡ false = ap (λ y. same_block y b) own.0 ∙ other in
-    let first : logged_to b e q ≡ q = by_test (λ t. is_of b q ≡ t → logged_to b e q ≡ q) (is_of b q) (λ _ is. absurd (true≢false (sym is ∙ apart))) (λ _ is. stays is) refl in
+    let first : logged_to b e q ≡ q =
+    by_test (λ t. is_of b q ≡ t → logged_to b e q ≡ q) (is_of b q) (λ _ is. absurd (true≢false (sym is ∙ apart))) (λ _ is. stays is) refl in
     λ i. first i ∷ logged_other b x e qs other own.1 i
   where
     stays : is_of b q ≡ false → logged_to b e q ≡ q

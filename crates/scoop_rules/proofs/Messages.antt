@@ -21,7 +21,8 @@ use Rattle.scoop_model.proofs.Basics.{by_test}
 max_none : (n : ℕ) → max n 0 ≡ n
 max_none n = omega arith
 
-pub greatest_more : (h : HandlerId) (b : Block) (ms : List Message) (m : Message) → greatest_count h b (ms ++ m ∷ []) ≡ max (greatest_count h b ms) (count_in h b m)
+pub greatest_more :
+    (h : HandlerId) (b : Block) (ms : List Message) (m : Message) → greatest_count h b (ms ++ m ∷ []) ≡ max (greatest_count h b ms) (count_in h b m)
 greatest_more h b [] m = omega arith
 greatest_more h b (x ∷ xs) m = let later = greatest_more h b xs m in omega (arith, later)
 
@@ -29,8 +30,11 @@ or_nothing : (t : Bool) → (t || false) ≡ t
 or_nothing true = refl
 or_nothing false = refl
 
-pub newer_more : (h : HandlerId) (b : Block) (ms : List Message) (m : Message) → list_any (is_newer_welcome h b) (ms ++ m ∷ []) ≡ (list_any (is_newer_welcome h b) ms || is_newer_welcome h b m)
-newer_more h b ms m = list_any-append (is_newer_welcome h b) ms (m ∷ []) ∙ ap (λ t. list_any (is_newer_welcome h b) ms || t) (or_nothing (is_newer_welcome h b m))
+pub newer_more :
+    (h : HandlerId) (b : Block) (ms : List Message) (m : Message)
+    → list_any (is_newer_welcome h b) (ms ++ m ∷ []) ≡ (list_any (is_newer_welcome h b) ms || is_newer_welcome h b m)
+newer_more h b ms m =
+    list_any-append (is_newer_welcome h b) ms (m ∷ []) ∙ ap (λ t. list_any (is_newer_welcome h b) ms || t) (or_nothing (is_newer_welcome h b m))
 
 -- ---- quiet messages
 
@@ -39,7 +43,9 @@ pub record IsQuiet (ms : List Message) (m : Message) : Type 0 where
   pub greets : (h : HandlerId) (b : Block) → is_newer_welcome h b m ≡ true → list_any (is_newer_welcome h b) ms ≡ true
   pub tells : (h : HandlerId) (b : Block) → list_any (is_newer_welcome h b) ms ≡ true → count_in h b m ≤ greatest_count h b ms
 
-pub quiet_newer : (h : HandlerId) (b : Block) (ms : List Message) (m : Message) → IsQuiet ms m → list_any (is_newer_welcome h b) (ms ++ m ∷ []) ≡ list_any (is_newer_welcome h b) ms
+pub quiet_newer :
+    (h : HandlerId) (b : Block) (ms : List Message) (m : Message) → IsQuiet ms m
+    → list_any (is_newer_welcome h b) (ms ++ m ∷ []) ≡ list_any (is_newer_welcome h b) ms
 quiet_newer h b ms m q =
     newer_more h b ms m
     ∙ by_test (λ t. is_newer_welcome h b m ≡ t → (list_any (is_newer_welcome h b) ms || t) ≡ list_any (is_newer_welcome h b) ms) (is_newer_welcome h b m)
@@ -48,7 +54,8 @@ quiet_newer h b ms m q =
 
 -- a block that some messages show
 abbrev pub told_seen : HandlerId → Block → List Entry → ℕ → Bool → List Message → Seen
-told_seen h b log count over ms = record { logged = log; count = count; over = over; newer = list_any (is_newer_welcome h b) ms; received = greatest_count h b ms }
+told_seen h b log count over ms =
+    record { logged = log; count = count; over = over; newer = list_any (is_newer_welcome h b) ms; received = greatest_count h b ms }
 
 -- what was received matters only of a block that was succeeded
 not_succeeded : (b : Block) (log : List Entry) (count : ℕ) (over newer : Bool) (n k : ℕ) → newer ≡ false
@@ -104,7 +111,8 @@ both_so true u e = (refl, e)
 both_so false u e = absurd (true≢false (sym e))
 
 -- what a newer welcome says
-pub newer_welcome_says : (h x : HandlerId) (b : Block) (c : ClientId) (inc : ℕ) → is_newer_welcome h b (Welcome x c inc) ≡ true → (x ≡ h) × (b.client ≡ c) × (b.inc < inc)
+pub newer_welcome_says :
+    (h x : HandlerId) (b : Block) (c : ClientId) (inc : ℕ) → is_newer_welcome h b (Welcome x c inc) ≡ true → (x ≡ h) × (b.client ≡ c) × (b.inc < inc)
 newer_welcome_says h x b c inc e =
     let p = both_so (same_handler x h) (same_client c b.client && nat_lt b.inc inc) e in
     let q = both_so (same_client c b.client) (nat_lt b.inc inc) p.1 in
@@ -130,7 +138,8 @@ count_quiet ms x y n not_so = record {
       by_test (λ t. same_handler x h && same_block y b ≡ t → (if t then n else 0) ≤ greatest_count h b ms) (same_handler x h && same_block y b)
       (λ _ is.
       let p = both_so (same_handler x h) (same_block y b) is in
-      let there : list_any (is_newer_welcome x y) ms ≡ true = subst (λ z. list_any (is_newer_welcome x z) ms ≡ true) (sym ((block_decides y b).0 p.1)) (subst (λ j. list_any (is_newer_welcome j b) ms ≡ true) (sym ((handler_decides x h).0 p.0)) e) in
+      let there : list_any (is_newer_welcome x y) ms ≡ true =
+      subst (λ z. list_any (is_newer_welcome x z) ms ≡ true) (sym ((block_decides y b).0 p.1)) (subst (λ j. list_any (is_newer_welcome j b) ms ≡ true) (sym ((handler_decides x h).0 p.0)) e) in
       absurd (not_so there))
       (λ _ is. omega arith) refl;
 }

@@ -1,4 +1,6 @@
--- At its first opening anywhere a block is reserved in one step, and cut wherever it can't open any more.
+-- At its first opening anywhere a block is reserved in one step, and cut wherever it can't open any more. Nothing is logged
+-- for it yet, so each new queue is empty and open; where a newer incarnation of its client has greeted it is cut at once and
+-- gone. A later opening is no move: the block is in the common list already.
 use Rattle.std.proofs.Common.{◌≡◌, ◌⊎◌, inl, inr, ℕ, zero, suc, ◌-◌, ◌<◌, Bool, true, false, ◌&&◌, ◌||◌, true≢false, List, [], ◌∷◌, ◌++◌, map, filter, flat_map, take, Option, refl, sym, ap, ◌∙◌, subst, ⊎_elim, arith, append-nil}
 use Rattle.std.specs.Prelude.{if◌then◌else◌}
 use Rattle.std.proofs.lemmas.Grind.{flat_map-append}
@@ -38,7 +40,9 @@ with_last w js last = record { queues = λ x. flat_map (queue_at w x) w.joint ++
 
 other_than : (b y : Block) (js : List Block) → has_block js b ≡ false → has_block js y ≡ true → same_block y b ≡ false
 other_than b y js none m =
-    by_test (λ t. same_block y b ≡ t → t ≡ false) (same_block y b) (λ _ is. absurd (true≢false (sym m ∙ ap (has_block js) (same_block_is y b is) ∙ none))) (λ _ is. refl) refl
+    by_test (λ t. same_block y b ≡ t → t ≡ false) (same_block y b)
+    (λ _ is. absurd (true≢false (sym m ∙ ap (has_block js) (same_block_is y b is) ∙ none)))
+    (λ _ is. refl) refl
 
 cut_nothing : (n : ℕ) → take {A = Entry} n [] ≡ []
 cut_nothing zero = refl
@@ -56,7 +60,9 @@ cut_behind w h b k qs new =
     (cut_over b k (queue_at w h) w.joint
     ∙ queues_same (λ y. flat_map (cut_waiting b k) (queue_at w h y)) (queue_at w h) w.joint (λ y m. cut_other b y k (queue_at w h y) (other_than b y w.joint new m) (own_queue_at w h y)))
 
-module _ (o : Objects) (w : World) (js : List Block) (b : Block) (new : has_block w.joint b ≡ false) (below : (h : HandlerId) → is_succeeded b h w ≡ true → b.inc < inc_of w b.client) (none : (h : HandlerId) → count_of b (ran_at h w) ≡ 0) where
+module _
+    (o : Objects) (w : World) (js : List Block) (b : Block) (new : has_block w.joint b ≡ false)
+    (below : (h : HandlerId) → is_succeeded b h w ≡ true → b.inc < inc_of w b.client) (none : (h : HandlerId) → count_of b (ran_at h w) ≡ 0) where
   abbrev IsNewOrNone : (HandlerId → List Waiting) → Type 0
   IsNewOrNone last = (x : HandlerId) → (last x ≡ []) ⊎ (last x ≡ new_queue b ∷ [])
 
@@ -82,7 +88,8 @@ module _ (o : Objects) (w : World) (js : List Block) (b : Block) (new : has_bloc
       (λ x. refl) refl (λ c. refl)
 
   still_new : (h : HandlerId) (last : HandlerId → List Waiting) → IsNewOrNone last → IsNewOrNone (without_at h last)
-  still_new h last is x = by_test (λ t. ((if t then [] else last x) ≡ []) ⊎ ((if t then [] else last x) ≡ new_queue b ∷ [])) (same_handler x h) (λ _. inl refl) (λ _. is x)
+  still_new h last is x =
+      by_test (λ t. ((if t then [] else last x) ≡ []) ⊎ ((if t then [] else last x) ≡ new_queue b ∷ [])) (same_handler x h) (λ _. inl refl) (λ _. is x)
 
   abbrev cut_where : List HandlerId → (HandlerId → List Waiting) → HandlerId → List Waiting
   cut_where hs last x = if has hs x && is_succeeded b x w then [] else last x
@@ -91,10 +98,13 @@ module _ (o : Objects) (w : World) (js : List Block) (b : Block) (new : has_bloc
   and_false true ps qs = refl
   and_false false ps qs = refl
 
-  cut_where_first : (h : HandlerId) (hs : List HandlerId) (last : HandlerId → List Waiting) → is_succeeded b h w ≡ true → (x : HandlerId) → cut_where (h ∷ hs) last x ≡ cut_where hs (without_at h last) x
+  cut_where_first :
+      (h : HandlerId) (hs : List HandlerId) (last : HandlerId → List Waiting) → is_succeeded b h w ≡ true → (x : HandlerId)
+      → cut_where (h ∷ hs) last x ≡ cut_where hs (without_at h last) x
   cut_where_first h hs last newer x =
       by_test
-      (λ t. same_handler h x ≡ t → (if (t || has hs x) && is_succeeded b x w then [] else last x) ≡ (if has hs x && is_succeeded b x w then [] else (if same_handler x h then [] else last x)))
+      (λ t.
+      same_handler h x ≡ t → (if (t || has hs x) && is_succeeded b x w then [] else last x) ≡ (if has hs x && is_succeeded b x w then [] else (if same_handler x h then [] else last x)))
       (same_handler h x)
       (λ _ same.
       let one : h ≡ x = (handler_decides h x).0 same in
@@ -106,7 +116,9 @@ module _ (o : Objects) (w : World) (js : List Block) (b : Block) (new : has_bloc
       either true = refl
       either false = refl
 
-  cut_where_not : (h : HandlerId) (hs : List HandlerId) (last : HandlerId → List Waiting) → is_succeeded b h w ≡ false → (x : HandlerId) → cut_where (h ∷ hs) last x ≡ cut_where hs last x
+  cut_where_not :
+      (h : HandlerId) (hs : List HandlerId) (last : HandlerId → List Waiting) → is_succeeded b h w ≡ false → (x : HandlerId)
+      → cut_where (h ∷ hs) last x ≡ cut_where hs last x
   cut_where_not h hs last older x =
       by_test (λ t. same_handler h x ≡ t → (if (t || has hs x) && is_succeeded b x w then [] else last x) ≡ cut_where hs last x) (same_handler h x)
       (λ _ same.
@@ -131,7 +143,9 @@ module _ (o : Objects) (w : World) (js : List Block) (b : Block) (new : has_bloc
 
 -- ---- an opening
 
-module _ (w : World) (sites : List Site) (m : Option Message) (same_ran : (j : HandlerId) → ran_in j sites ≡ ran_at j w) (quiet : IsQuietIfSome w.sent m) (b : Block) where
+module _
+    (w : World) (sites : List Site) (m : Option Message) (same_ran : (j : HandlerId) → ran_in j sites ≡ ran_at j w) (quiet : IsQuietIfSome w.sent m)
+    (b : Block) where
   abbrev opened_world : World
   opened_world = with_news w sites m same_ran quiet (joined w.joint (b ∷ []))
 
@@ -170,7 +184,9 @@ module _ (w : World) (sites : List Site) (m : Option Message) (same_ran : (j : H
     both_tests true g = refl
     both_tests false g = refl
 
-    own_after : (x : HandlerId) → cut_where o w js b new (λ h. ready.below b h) (λ h. ap (λ (s : Seen). s.count) (looks h)) (set_of b w) at_each x ≡ queue_at opened_world x b
+    own_after :
+        (x : HandlerId)
+        → cut_where o w js b new (λ h. ready.below b h) (λ h. ap (λ (s : Seen). s.count) (looks h)) (set_of b w) at_each x ≡ queue_at opened_world x b
     own_after x =
         both_tests (has (set_of b w) x) (is_succeeded b x w)
         ∙ ap (λ qs. if has (set_of b w) x then qs else []) (sym (ap (queue_of b) (looks x) ∙ fresh (is_succeeded b x w)))
@@ -179,7 +195,10 @@ module _ (w : World) (sites : List Site) (m : Option Message) (same_ran : (j : H
     begins : with_last w js at_each ≡ separate b (set_of b w) (configuration_of w)
     begins =
         same_configuration (with_last w js at_each) (separate b (set_of b w) (configuration_of w))
-        (λ x. by_test (λ t. flat_map (queue_at w x) w.joint ++ (if t then new_queue b ∷ [] else []) ≡ (if t then flat_map (queue_at w x) w.joint ++ new_queue b ∷ [] else flat_map (queue_at w x) w.joint)) (has (set_of b w) x) (λ _. refl) (λ _. append-nil (flat_map (queue_at w x) w.joint)))
+        (λ x.
+        by_test (λ t. flat_map (queue_at w x) w.joint ++ (if t then new_queue b ∷ [] else []) ≡ (if t then flat_map (queue_at w x) w.joint ++ new_queue b ∷ [] else flat_map (queue_at w x) w.joint)) (has (set_of b w) x)
+        (λ _. refl)
+        (λ _. append-nil (flat_map (queue_at w x) w.joint)))
         (λ x. refl) refl (λ c. refl)
 
     ends : with_last w js (λ x. queue_at opened_world x b) ≡ configuration_of opened_world
@@ -196,7 +215,10 @@ module _ (w : World) (sites : List Site) (m : Option Message) (same_ran : (j : H
       new,
       subst (λ g. MovesLead o g (late_cuts w b) (configuration_of opened_world)) begins
           (late o w js b new (λ h. ready.below b h) (λ h. ap (λ (s : Seen). s.count) (looks h)) (set_of b w) at_each
-          (λ x. by_test (λ t. ((if t then new_queue b ∷ [] else []) ≡ []) ⊎ ((if t then new_queue b ∷ [] else []) ≡ new_queue b ∷ [])) (has (set_of b w) x) (λ _. inr refl) (λ _. inl refl))
+          (λ x.
+          by_test (λ t. ((if t then new_queue b ∷ [] else []) ≡ []) ⊎ ((if t then new_queue b ∷ [] else []) ≡ new_queue b ∷ [])) (has (set_of b w) x)
+          (λ _. inr refl)
+          (λ _. inl refl))
           (configuration_of opened_world)
           (same_configuration (with_last w js _) (with_last w js (λ x. queue_at opened_world x b)) (λ x. ap (λ qs. flat_map (queue_at w x) w.joint ++ qs) (own_after x)) (λ x. refl) refl (λ c. refl) ∙ ends)),
     )

@@ -1,4 +1,6 @@
--- An entry that runs is a run of the first entry of the first private queue.
+-- An entry that runs is a run of the first entry of the first private queue. The handler's own first queue with an entry is
+-- its first slot that isn't over; the queues of the rules before it are gone, since their blocks are over there; and its
+-- block's queue begins with the same entry. Then one more has run of that block, and all other queues stay.
 use Rattle.std.proofs.Common.{◌≡◌, ◌⊎◌, inl, inr, ℕ, ◌+◌, Bool, true, false, ◌&&◌, ◌||◌, nat_le, true≢false, List, [], ◌∷◌, ◌++◌, length, filter, flat_map, Option, Some, None, refl, sym, ap, ◌∙◌, subst, ⊎_elim, arith, length-append, append_assoc}
 use Rattle.std.specs.Prelude.{if◌then◌else◌}
 use Rattle.std.specs.List.{AllByRecursion}
@@ -43,7 +45,8 @@ use Rattle.scoop_model.proofs.Ready.Facts.{IsOverIfGone, IsNamedAt, HandlerReady
 
 pub count_pushed : (b : Block) (rs : List Ran) (r : Ran) → count_of b (rs ++ r ∷ []) ≡ count_of b rs + (if same_block r.block b then 1 else 0)
 count_pushed b rs r =
-    ap length (filter-append (λ x. same_block x.block b) rs (r ∷ [])) ∙ length-append (filter (λ x. same_block x.block b) rs) (filter (λ x. same_block x.block b) (r ∷ []))
+    ap length (filter-append (λ x. same_block x.block b) rs (r ∷ []))
+    ∙ length-append (filter (λ x. same_block x.block b) rs) (filter (λ x. same_block x.block b) (r ∷ []))
     ∙ by_test (λ t. count_of b rs + length (if t then r ∷ [] else []) ≡ count_of b rs + (if t then 1 else 0)) (same_block r.block b) (λ _. refl) (λ _. refl)
 
 or_nothing : (t : Bool) → (t || false) ≡ t
@@ -52,7 +55,8 @@ or_nothing false = refl
 
 pub ended_pushed : (b : Block) (rs : List Ran) (r : Ran) → has_ended b (rs ++ r ∷ []) ≡ (has_ended b rs || same_block r.block b && is_end r.entry)
 ended_pushed b rs r =
-    list_any-append (λ x. same_block x.block b && is_end x.entry) rs (r ∷ []) ∙ ap (λ t. has_ended b rs || t) (or_nothing (same_block r.block b && is_end r.entry))
+    list_any-append (λ x. same_block x.block b && is_end x.entry) rs (r ∷ [])
+    ∙ ap (λ t. has_ended b rs || t) (or_nothing (same_block r.block b && is_end r.entry))
 
 -- ---- the common list around a block
 
@@ -62,7 +66,9 @@ has_middle b (x ∷ xs) ys = by_test (λ t. (t || has_block (xs ++ b ∷ ys) b) 
 
 apart_from : (b y : Block) (bs : List Block) → has_block bs b ≡ false → has_block bs y ≡ true → same_block b y ≡ false
 apart_from b y bs none m =
-    by_test (λ t. same_block b y ≡ t → t ≡ false) (same_block b y) (λ _ is. absurd (true≢false (sym m ∙ ap (has_block bs) (sym (same_block_is b y is)) ∙ none))) (λ _ is. refl) refl
+    by_test (λ t. same_block b y ≡ t → t ≡ false) (same_block b y)
+    (λ _ is. absurd (true≢false (sym m ∙ ap (has_block bs) (sym (same_block_is b y is)) ∙ none)))
+    (λ _ is. refl) refl
 
 -- in a list without repeats the blocks before and behind one are others
 before_apart : (b y : Block) (xs ys : List Block) → AreApart (xs ++ b ∷ ys) → has_block xs y ≡ true → same_block b y ≡ false
@@ -87,7 +93,8 @@ queues_around f js xs ys b qs e none at = ap (flat_map f) e ∙ flat_map-append 
 -- ---- the run of a first queue that is known
 
 first_runs :
-    (o : Objects) (h : HandlerId) (g k : Configuration) (q : Waiting) (x : Entry) (es : List Entry) (qs : List Waiting) → q.entries ≡ x ∷ es → g.queues h ≡ q ∷ qs
+    (o : Objects) (h : HandlerId) (g k : Configuration) (q : Waiting) (x : Entry) (es : List Entry) (qs : List Waiting) → q.entries ≡ x ∷ es
+    → g.queues h ≡ q ∷ qs
     → record g { queues = put_at_handler h (rest_of q x es ++ qs) g.queues; ran = put_at_handler h (g.ran h ++ next_ran (o.class h) (o.words h) (g.ran h) q.block x ∷ []) g.ran } ≡ k
     → MovesLead o g (RunOne h ∷ []) k
 first_runs o h g k q x es qs entries first e = (
@@ -108,7 +115,8 @@ pub record SlotReady (w : World) (h : HandlerId) (t : Slot) : Type 0 where
   pub named : IsNamedAt w h t
 
 all_four :
-    (P Q R S T : Slot → Type 0) → ((t : Slot) → P t → Q t → R t → S t → T t) → (ss : List Slot) → AllByRecursion P ss → AllByRecursion Q ss → AllByRecursion R ss → AllByRecursion S ss
+    (P Q R S T : Slot → Type 0) → ((t : Slot) → P t → Q t → R t → S t → T t) → (ss : List Slot) → AllByRecursion P ss → AllByRecursion Q ss
+    → AllByRecursion R ss → AllByRecursion S ss
     → AllByRecursion T ss
 all_four P Q R S T f [] p q r s = tt
 all_four P Q R S T f (t ∷ ts) p q r s = (f t p.0 q.0 r.0 s.0, all_four P Q R S T f ts p.1 q.1 r.1 s.1)
@@ -125,7 +133,8 @@ module _ (w : World) (h : HandlerId) (ready : Ready w) where
 
   pub slots_ready : AllByRecursion (SlotReady w h) here.slots
   slots_ready =
-      all_four (IsSeen w h) (IsBegun (λ b. log_of b h w)) (IsOverIfGone w h) (IsNamedAt w h) (SlotReady w h) (λ t a b c d. record { seen = a; begun = b; gone = c; named = d }) here.slots
+      all_four (IsSeen w h) (IsBegun (λ b. log_of b h w)) (IsOverIfGone w h) (IsNamedAt w h) (SlotReady w h)
+      (λ t a b c d. record { seen = a; begun = b; gone = c; named = d }) here.slots
       (all_seen w h here.slots here.ran slots_apart here.begun here.told) here.begun here.gone here.named
 
   if_nothing : (t : Bool) (qs : List Waiting) → qs ≡ [] → (if t then qs else []) ≡ []
@@ -195,8 +204,11 @@ module _ (w : World) (h : HandlerId) (s : Site) (t : Task) (found : site_of h w 
 
   other_block : (b : Block) → same_block t.block b ≡ false → queue_at ran_world h b ≡ queue_at w h b
   other_block b other =
-      let count = ap (count_of b) ran_here ∙ count_pushed b (ran_at h w) (told_of t) ∙ ap (λ y. count_of b (ran_at h w) + (if y then 1 else 0)) other ∙ omega arith in
-      let over = ap (has_ended b) ran_here ∙ ended_pushed b (ran_at h w) (told_of t) ∙ ap (λ y. has_ended b (ran_at h w) || y && is_end t.entry) other ∙ or_nothing (has_ended b (ran_at h w)) in
+      let count =
+      ap (count_of b) ran_here ∙ count_pushed b (ran_at h w) (told_of t) ∙ ap (λ y. count_of b (ran_at h w) + (if y then 1 else 0)) other ∙ omega arith in
+      let over =
+      ap (has_ended b) ran_here ∙ ended_pushed b (ran_at h w) (told_of t) ∙ ap (λ y. has_ended b (ran_at h w) || y && is_end t.entry) other
+      ∙ or_nothing (has_ended b (ran_at h w)) in
       λ i. if has (set_of b w) h then queue_of b (record { logged = log_of b h w; count = count i; over = over i; newer = is_succeeded b h w; received = received b h w }) else []
 
   other_place : (j : HandlerId) (b : Block) → (j ≡ h → ⊥) → queue_at ran_world j b ≡ queue_at w j b
@@ -212,7 +224,8 @@ module _ (w : World) (h : HandlerId) (s : Site) (t : Task) (found : site_of h w 
       let own = same_block_itself b in
       let count = ap (count_of b) ran_here ∙ count_pushed b (ran_at h w) (told_of t) ∙ ap (λ y. count_of b (ran_at h w) + (if y then 1 else 0)) own in
       let over = ap (has_ended b) ran_here ∙ ended_pushed b (ran_at h w) (told_of t) ∙ ap (λ y. has_ended b (ran_at h w) || y && is_end t.entry) own in
-      (λ i. if named i then queue_of b (record { logged = log_of b h w; count = count i; over = over i; newer = is_succeeded b h w; received = received b h w }) else [])
+      (λ i.
+      if named i then queue_of b (record { logged = log_of b h w; count = count i; over = over i; newer = is_succeeded b h w; received = received b h w }) else [])
       ∙ ran_queue b (seen b h w) t.entry f
 
   module _ (ready : Ready w) (out : job_out s.core ≡ Some t) where
@@ -234,7 +247,8 @@ module _ (w : World) (h : HandlerId) (s : Site) (t : Task) (found : site_of h w 
     no_end =
         let v = around.slot in
         let all : v.ran ++ t.entry ∷ (around.first.later ++ around.has.begun.behind) ≡ log_of v.block h w =
-        sym (append_assoc v.ran (t.entry ∷ around.first.later) around.has.begun.behind) ∙ ap (λ es. (v.ran ++ es) ++ around.has.begun.behind) (sym around.first.rest) ∙ around.has.begun.all in
+        sym (append_assoc v.ran (t.entry ∷ around.first.later) around.has.begun.behind)
+        ∙ ap (λ es. (v.ran ++ es) ++ around.has.begun.behind) (sym around.first.rest) ∙ around.has.begun.all in
         none_before v.ran t.entry (around.first.later ++ around.has.begun.behind) (subst EndOnlyLast (sym all) (ready.logs v.block h))
 
     first : HasFirst (seen t.block h w) t.entry
@@ -286,13 +300,16 @@ module _ (w : World) (h : HandlerId) (s : Site) (t : Task) (found : site_of h w 
     is_not_here : (j : HandlerId) → same_handler j h ≡ false → j ≡ h → ⊥
     is_not_here j e same = true≢false (sym ((handler_decides j h).1 same) ∙ e)
 
-    queues_after : (j : HandlerId) → put_at_handler h (rest_of q t.entry first.later ++ later) (configuration_of w).queues j ≡ flat_map (queue_at ran_world j) w.joint
+    queues_after :
+        (j : HandlerId) → put_at_handler h (rest_of q t.entry first.later ++ later) (configuration_of w).queues j ≡ flat_map (queue_at ran_world j) w.joint
     queues_after j =
         by_test (λ y. same_handler j h ≡ y → (if y then rest_of q t.entry first.later ++ later else flat_map (queue_at w j) w.joint) ≡ flat_map (queue_at ran_world j) w.joint) (same_handler j h)
         (λ _ is. queues_here ∙ ap (λ k. flat_map (queue_at ran_world k) w.joint) (sym (is_here j is)))
         (λ _ is. sym (queues_same (queue_at ran_world j) (queue_at w j) w.joint (λ b m. other_place j b (is_not_here j is)))) refl
 
-    ran_after : (j : HandlerId) → put_at_handler h (ran_at h w ++ next_ran ((objects_of w).class h) ((objects_of w).words h) (ran_at h w) t.block t.entry ∷ []) (configuration_of w).ran j ≡ ran_at j ran_world
+    ran_after :
+        (j : HandlerId)
+        → put_at_handler h (ran_at h w ++ next_ran ((objects_of w).class h) ((objects_of w).words h) (ran_at h w) t.block t.entry ∷ []) (configuration_of w).ran j ≡ ran_at j ran_world
     ran_after j =
         by_test (λ y. same_handler j h ≡ y → (if y then ran_at h w ++ next_ran ((objects_of w).class h) ((objects_of w).words h) (ran_at h w) t.block t.entry ∷ [] else ran_at j w) ≡ ran_at j ran_world) (same_handler j h)
         (λ _ is. ap (λ r. ran_at h w ++ r ∷ []) same_ran ∙ sym ran_here ∙ ap (λ k. ran_at k ran_world) (sym (is_here j is)))

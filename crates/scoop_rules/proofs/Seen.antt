@@ -1,4 +1,6 @@
--- A block as a world shows it at one handler, by its slot there.
+-- A block as a world shows it at one handler, by its slot there. The rules' queue of a block is a function of five things
+-- that a world shows of it: what was logged, how many entries ran, whether its End has, whether a newer incarnation greeted,
+-- and how many entries were told to be received. A slot gives all five, and so says what that queue is.
 use Rattle.std.proofs.Common.{◌≡◌, ◌⊎◌, ℕ, ◌+◌, Bool, true, false, not, ◌&&◌, ◌||◌, ◌==◌, nat_le, true≢false, IsTrue, List, [], ◌∷◌, ◌++◌, length, map, take, drop, refl, sym, ap, ◌∙◌, ⊎_elim, arith, length-append, append_assoc, append-nil}
 use Rattle.std.specs.Prelude.{if◌then◌else◌}
 use Rattle.std.specs.List.{AllByRecursion, list_any}
@@ -8,7 +10,7 @@ use Rattle.scoop_message.specs.declared.name.Block.{Block}
 use Rattle.scoop_message.specs.declared.name.HandlerId.{HandlerId}
 use Rattle.scoop_message.specs.declared.request.Entry.{Entry}
 use Rattle.scoop_message.specs.Entry.{is_end}
-use Rattle.scoop_message.specs.Entries.{EndOnlyLast, end_only_last, ends}
+use Rattle.scoop_message.specs.Entries.{EndOnlyLast, end_only_last}
 use Rattle.scoop_message.specs.Message.{same_block}
 use Rattle.scoop_queue.specs.declared.state.QueueState.TheVariants.{Open, Ended, Cut}
 use Rattle.scoop_queue.specs.Queue.{is_cut}
@@ -45,7 +47,8 @@ none_before (x ∷ z ∷ xs) y ys only =
 
 pub no_end_left : (xs ys : List Entry) → has_end (xs ++ ys) ≡ false → has_end xs ≡ false
 no_end_left [] ys e = refl
-no_end_left (x ∷ xs) ys e = by_test (λ t. (t || has_end (xs ++ ys)) ≡ false → (t || has_end xs) ≡ false) (is_end x) (λ _ f. absurd (true≢false f)) (λ _ f. no_end_left xs ys f) e
+no_end_left (x ∷ xs) ys e =
+    by_test (λ t. (t || has_end (xs ++ ys)) ≡ false → (t || has_end xs) ≡ false) (is_end x) (λ _ f. absurd (true≢false f)) (λ _ f. no_end_left xs ys f) e
 
 -- ---- what ran of a block, by what ran
 
@@ -75,7 +78,8 @@ ended_slot rs t told = ended_part t.block rs ∙ ended_told t.block 1 (part_of r
 
 -- the block as its slot has it, with what was logged and not received
 abbrev pub slot_seen : List Entry → List Entry → List Entry → Bool → Seen
-slot_seen ran rest more newer = record { logged = (ran ++ rest) ++ more; count = length ran; over = has_end ran; newer = newer; received = length (ran ++ rest) }
+slot_seen ran rest more newer =
+    record { logged = (ran ++ rest) ++ more; count = length ran; over = has_end ran; newer = newer; received = length (ran ++ rest) }
 
 pub record IsSeen (w : World) (h : HandlerId) (t : Slot) : Type 0 where
   pub more : List Entry
@@ -95,7 +99,9 @@ pub all_seen :
     → AllByRecursion (IsBegun (λ b. log_of b h w)) ss → AllByRecursion (IsToldAs w h) ss → AllByRecursion (IsSeen w h) ss
 all_seen w h ss ran apart begun told = all ss (slot_parts (ran_at h w) ss ran apart) begun told
   where
-    all : (ts : List Slot) → AllByRecursion (IsPart (ran_at h w)) ts → AllByRecursion (IsBegun (λ b. log_of b h w)) ts → AllByRecursion (IsToldAs w h) ts → AllByRecursion (IsSeen w h) ts
+    all :
+        (ts : List Slot) → AllByRecursion (IsPart (ran_at h w)) ts → AllByRecursion (IsBegun (λ b. log_of b h w)) ts → AllByRecursion (IsToldAs w h) ts
+        → AllByRecursion (IsSeen w h) ts
     all [] p b t = tt
     all (s ∷ ts) p b t = (seen_slot w h s p.0 b.0 t.0, all ts p.1 b.1 t.1)
 
@@ -132,7 +138,9 @@ reflexive : (n : ℕ) → nat_le n n ≡ true
 reflexive n = grind (arith, nat_tests)
 
 -- the private queue is gone
-pub gone_queue : (b : Block) (ran rest more : List Entry) (newer : Bool) → rest ≡ [] → (has_end ran ≡ true) ⊎ (newer ≡ true) → queue_of b (slot_seen ran rest more newer) ≡ []
+pub gone_queue :
+    (b : Block) (ran rest more : List Entry) (newer : Bool) → rest ≡ [] → (has_end ran ≡ true) ⊎ (newer ≡ true)
+    → queue_of b (slot_seen ran rest more newer) ≡ []
 gone_queue b ran rest more newer none why =
     ap (λ es. queue_of b (slot_seen ran es more newer)) none
     ∙ ⊎_elim
@@ -151,7 +159,8 @@ gone_queue b ran rest more newer none why =
     cut : has_end ran ≡ false → queue_of b (slot_seen ran [] more true) ≡ []
     cut e =
         let no_end : has_end (take (length (ran ++ [])) ((ran ++ []) ++ more)) ≡ false = ap has_end took ∙ e in
-        let all : nat_le (length (take (length (ran ++ [])) ((ran ++ []) ++ more))) (length ran) ≡ true = ap (λ es. nat_le (length es) (length ran)) took ∙ reflexive (length ran) in
+        let all : nat_le (length (take (length (ran ++ [])) ((ran ++ []) ++ more))) (length ran) ≡ true =
+        ap (λ es. nat_le (length es) (length ran)) took ∙ reflexive (length ran) in
         ap (λ t. if t then [] else record { block = b; entries = drop (length ran) (kept (slot_seen ran [] more true)); state = state_of (slot_seen ran [] more true) } ∷ [])
         (λ i. e i || not (no_end i) && all i)
 
@@ -194,19 +203,23 @@ ran_queue b s x f =
     let next = drop_more s.count (kept s) f.later x f.entries in
     let over : s.over ≡ false = first_false s.over (is_cut_off s && nat_le (length (take s.received s.logged)) s.count) f.there in
     let q : Waiting = record { block = b; entries = x ∷ f.later; state = state_of s } in
-    (λ i. if (over i || is_end x) || is_cut_off s && nat_le (length (take s.received s.logged)) (s.count + 1) then [] else record { block = b; entries = next.0 i; state = state_of s } ∷ [])
+    (λ i.
+    if (over i || is_end x) || is_cut_off s && nat_le (length (take s.received s.logged)) (s.count + 1) then [] else record { block = b; entries = next.0 i; state = state_of s } ∷ [])
     ∙ by_test
     (λ t. is_cut_off s ≡ t
     → (if is_end x || t && nat_le (length (take s.received s.logged)) (s.count + 1) then [] else record { block = b; entries = f.later; state = state_of s } ∷ []) ≡ rest_of q x f.later)
     (is_cut_off s)
     (λ _ c.
-    let long : length (take s.received s.logged) ≡ s.count + 1 + length f.later = ap (λ t. length (if t then take s.received s.logged else s.logged)) (sym c) ∙ next.1 in
+    let long : length (take s.received s.logged) ≡ s.count + 1 + length f.later =
+    ap (λ t. length (if t then take s.received s.logged else s.logged)) (sym c) ∙ next.1 in
     let same : nat_le (length (take s.received s.logged)) (s.count + 1) ≡ (is_cut (state_of s) && length f.later == 0) =
-    same_length f.later (length (take s.received s.logged)) (s.count + 1) long ∙ sym (ap (λ t. is_cut (if t then Cut else if has_end s.logged then Ended else Open) && length f.later == 0) c) in
+    same_length f.later (length (take s.received s.logged)) (s.count + 1) long
+    ∙ sym (ap (λ t. is_cut (if t then Cut else if has_end s.logged then Ended else Open) && length f.later == 0) c) in
     λ i. if is_end x || same i then [] else record { block = b; entries = f.later; state = state_of s } ∷ [])
     (λ _ c.
     let same : false ≡ (is_cut (state_of s) && length f.later == 0) =
-    uncut (has_end s.logged) (length f.later == 0) ∙ sym (ap (λ t. is_cut (if t then Cut else if has_end s.logged then Ended else Open) && length f.later == 0) c) in
+    uncut (has_end s.logged) (length f.later == 0)
+    ∙ sym (ap (λ t. is_cut (if t then Cut else if has_end s.logged then Ended else Open) && length f.later == 0) c) in
     λ i. if is_end x || same i then [] else record { block = b; entries = f.later; state = state_of s } ∷ []) refl
   where
     uncut : (t u : Bool) → false ≡ (is_cut (if t then Ended else Open) && u)

@@ -34,16 +34,21 @@ module _ (w : World) (sites : List Site) (o : Option Message) (same_ran : (j : H
   abbrev pub with_news : List Block → World
   with_news js = record w { sites = sites; sent = w.sent ++ option_to_list o; joint = js }
 
-  same_told : (h : HandlerId) (b : Block) (rs : List Ran) → queue_of b (told_seen h b (log_of b h w) (count_of b rs) (has_ended b rs) (w.sent ++ option_to_list o)) ≡ queue_of b (told_seen h b (log_of b h w) (count_of b rs) (has_ended b rs) w.sent)
+  same_told :
+      (h : HandlerId) (b : Block) (rs : List Ran)
+      → queue_of b (told_seen h b (log_of b h w) (count_of b rs) (has_ended b rs) (w.sent ++ option_to_list o)) ≡ queue_of b (told_seen h b (log_of b h w) (count_of b rs) (has_ended b rs) w.sent)
   same_told h b rs = of o quiet
     where
-      of : (p : Option Message) → IsQuietIfSome w.sent p → queue_of b (told_seen h b (log_of b h w) (count_of b rs) (has_ended b rs) (w.sent ++ option_to_list p)) ≡ queue_of b (told_seen h b (log_of b h w) (count_of b rs) (has_ended b rs) w.sent)
+      of :
+          (p : Option Message) → IsQuietIfSome w.sent p
+          → queue_of b (told_seen h b (log_of b h w) (count_of b rs) (has_ended b rs) (w.sent ++ option_to_list p)) ≡ queue_of b (told_seen h b (log_of b h w) (count_of b rs) (has_ended b rs) w.sent)
       of None q = ap (λ ms. queue_of b (told_seen h b (log_of b h w) (count_of b rs) (has_ended b rs) ms)) (append-nil w.sent)
       of (Some m) q = quiet_queue h b (log_of b h w) (count_of b rs) (has_ended b rs) w.sent m (q m refl)
 
   pub same_queue : (js : List Block) (h : HandlerId) (b : Block) → queue_at (with_news js) h b ≡ queue_at w h b
   same_queue js h b =
-      (λ i. if has (set_of b w) h then queue_of b (told_seen h b (log_of b h w) (count_of b (same_ran h i)) (has_ended b (same_ran h i)) (w.sent ++ option_to_list o)) else [])
+      (λ i.
+      if has (set_of b w) h then queue_of b (told_seen h b (log_of b h w) (count_of b (same_ran h i)) (has_ended b (same_ran h i)) (w.sent ++ option_to_list o)) else [])
       ∙ ap (λ qs. if has (set_of b w) h then qs else []) (same_told h b (ran_at h w))
 
   pub quiet_same : configuration_of w ≡ configuration_of (with_news w.joint)
@@ -59,7 +64,8 @@ module _ (w : World) (s : Site) (here : site_of (number_of s) w ≡ Some s) (rea
   plain_reply n plain m e = let same : n ≡ m = cc in subst (IsQuiet w.sent) same (plain_quiet w.sent n plain)
 
   -- a count of a block whose incarnation is the mark's
-  count_reply : (b : Block) (k : Mark) (n : ℕ) → mark_of b.client s.core.state.marks ≡ Some k → k.inc ≡ b.inc → IsQuietIfSome w.sent (Some (Logged (number_of s) b n))
+  count_reply :
+      (b : Block) (k : Mark) (n : ℕ) → mark_of b.client s.core.state.marks ≡ Some k → k.inc ≡ b.inc → IsQuietIfSome w.sent (Some (Logged (number_of s) b n))
   count_reply b k n found inc m e =
       let same : Logged (number_of s) b n ≡ m = cc in
       subst (IsQuiet w.sent) same

@@ -1,5 +1,26 @@
 //! The written rules of SCOOP, in which there are no messages and a joint reservation is one step, and the
 //! theorem that whatever happens in a world is a run of them.
+//!
+//! A *configuration* has at each handler a queue of private queues and what has run. A *move* reserves a block at
+//! all of its handlers in one step, logs one entry, runs the first entry of the first queue, restarts a client, or
+//! cuts a queue. Each world stands for a configuration, and each event for a list of moves, mostly for none.
+//!
+//! The crate has nothing to run: its functions are theorems, which a proof has once it calls them.
+//!
+//! ```
+//! // nothing was reserved and nothing has run where a world opens
+//! theorems::opens_empty();
+//! // whatever happens next in a world that is reached is a list of moves, each of which the rules allow
+//! theorems::follows_rules();
+//! // so any list of events from a world that opens is a run of the rules
+//! theorems::runs_by_rules();
+//! // and its moves, played one after another, make what the last world stands for
+//! theorems::replays();
+//! // three clients in a circle of locks: their events, and the moves of these events, are computed
+//! examples::three_clients();
+//! // a client restarts with two calls received that have not run
+//! examples::runs_what_came();
+//! ```
 #![tactic(auto)]
 
 pub mod examples;

@@ -17,7 +17,8 @@ use Rattle.scoop_model.proofs.Reaching.{reached_ordered}
 use Rattle.scoop_model.proofs.Order.Facts.{PartyFits, all_at}
 
 -- a block that has a log has handlers
-handlers_found : (b : Block) (logs : List BlockLog) → has_log b logs ≡ true → (hs : List HandlerId) × (option_map handlers_in (find (is_log_of b) logs) ≡ Some hs)
+handlers_found :
+    (b : Block) (logs : List BlockLog) → has_log b logs ≡ true → (hs : List HandlerId) × (option_map handlers_in (find (is_log_of b) logs) ≡ Some hs)
 handlers_found b [] e = absurd (true≢false (sym e))
 handlers_found b (l ∷ ls) e =
     by_test (λ t. (t || has_log b ls) ≡ true → (hs : List HandlerId) × (option_map handlers_in (if t then Some l else find (is_log_of b) ls) ≡ Some hs)) (is_log_of b l)
@@ -31,7 +32,9 @@ begun_block c d hs o r is = absurd (cc)
 pub begun_is : (c d : ClientState) (hs : List HandlerId) → client.command c (client.Reserve hs) ≡ Ok d → newest_block d ≡ client.next_block c
 begun_is c d hs is = begun_block c d hs _ (command_row c (client.Reserve hs)) is
 
-pub begun_is_new : (v : World) (at : ℕ) (p : Party) (hs : List HandlerId) (d : ClientState) → IsReached v → slice_get v.parties at ≡ Some p → client.command p.client (client.Reserve hs) ≡ Ok d → has_log (newest_block d) v.logs ≡ false
+pub begun_is_new :
+    (v : World) (at : ℕ) (p : Party) (hs : List HandlerId) (d : ClientState) → IsReached v → slice_get v.parties at ≡ Some p
+    → client.command p.client (client.Reserve hs) ≡ Ok d → has_log (newest_block d) v.logs ≡ false
 begun_is_new v at p hs d reached there is =
     let fits : PartyFits v p = all_at (PartyFits v) v.parties at p there (reached_ordered v reached).parties in
     let b : Block = client.next_block p.client in

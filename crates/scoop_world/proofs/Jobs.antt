@@ -24,9 +24,12 @@ first_stays c s number words stays there = by (front c.state.queues) refl there
     by : (o : Option (Block × ℕ × Entry)) → front c.state.queues ≡ o → is_some o ≡ true → first_task (with_state s c) ≡ first_task c
     by None e t = absurd (cc)
     by (Some f) e t =
-        let new : first_task (with_state s c) ≡ Some (task_with s.number f c.class s.words) = ap (option_map (λ g. task_with s.number g c.class s.words)) (stays f e) in
-        let old : first_task c ≡ Some (task_with c.state.number f c.class c.state.words) = ap (option_map (λ g. task_with c.state.number g c.class c.state.words)) e in
-        new ∙ ap (λ (h : HandlerId). Some (task_with h f c.class s.words)) number ∙ ap (λ (xs : List ℕ). Some (task_with c.state.number f c.class xs)) words ∙ sym old
+        let new : first_task (with_state s c) ≡ Some (task_with s.number f c.class s.words) =
+        ap (option_map (λ g. task_with s.number g c.class s.words)) (stays f e) in
+        let old : first_task c ≡ Some (task_with c.state.number f c.class c.state.words) =
+        ap (option_map (λ g. task_with c.state.number g c.class c.state.words)) e in
+        new ∙ ap (λ (h : HandlerId). Some (task_with h f c.class s.words)) number ∙ ap (λ (xs : List ℕ). Some (task_with c.state.number f c.class xs)) words
+        ∙ sym old
 
 pub job_stays : (c : Core) (m : Message) → IsCore c → job_out (with_state (hear c.state m).0 c) ≡ job_out c
 job_stays c m sound = by c.out refl
@@ -35,7 +38,8 @@ job_stays c m sound = by c.out refl
     by false e = rw e refl
     by true e =
         let r = row c.state m in
-        let first = first_stays c (hear c.state m).0 (number-row c.state m (hear c.state m) r) (words-row c.state m (hear c.state m) r) (front-row c.state m (hear c.state m) r) (sound.job e) in
+        let first =
+        first_stays c (hear c.state m).0 (number-row c.state m (hear c.state m) r) (words-row c.state m (hear c.state m) r) (front-row c.state m (hear c.state m) r) (sound.job e) in
         rw e first
 
 -- an earlier state may come back

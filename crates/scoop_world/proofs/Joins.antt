@@ -50,7 +50,8 @@ joined_more hs before cs i ps k l c p so apart at longer is may sets states =
     let s = incarnation_at before in
     let same : incarnation_at k c.0.0 ≡ s c.0.0 = so.left i c (omega arith) at in
     let newcomer : newcomer_of (incarnation_at k) c ≡ newcomer_of s c = ap (joins_with c) same in
-    let all : newcomers_of s (take (i + 1) cs) ≡ newcomers_of s (take i cs) ++ newcomer_of s c ∷ [] = ap (newcomers_of s) longer ∙ map-append (newcomer_of s) (take i cs) (c ∷ []) in
+    let all : newcomers_of s (take (i + 1) cs) ≡ newcomers_of s (take i cs) ++ newcomer_of s c ∷ [] =
+    ap (newcomers_of s) longer ∙ map-append (newcomer_of s) (take i cs) (c ∷ []) in
     let off : (j : ℕ) (d : ClientId × ℕ) → slice_get cs j ≡ Some d → (j ≡ i → ⊥) → d.0.0 ≡ c.0.0 → ⊥ =
     λ j d there other e. other (apart j i c.0 (number_at cs j d there ∙ ap Some (same_number d.0 c.0 e)) (number_at cs i c at)) in
     record {

@@ -1,4 +1,6 @@
--- The place of a handler or a client among all, and what the keeper has once one of them changes.
+-- The place of a handler or a client among all, and what the keeper has once one of them changes. Code finds a place and
+-- writes there; the definitions look up by a key. As keys don't repeat, the first item that passes a test is the one with
+-- the key, a write at its place is a replacement by key, and what the keeper has of the others stays.
 use Rattle.std.proofs.Common.{◌≡◌, ℕ, zero, suc, ◌+◌, ◌<◌, Bool, true, false, List, [], ◌∷◌, map, find, length, drop, get_or, set, slice_get, Option, Some, None, refl, sym, ap, ◌∙◌, subst, arith}
 use Rattle.std.specs.Prelude.{if◌then◌else◌}
 use Rattle.std.specs.Bool.{Decides}
@@ -30,7 +32,9 @@ module _ {A : Type 0} (test : A → Bool) where
       here (y ∷ ys) zero d lt e = rw e refl
       here (y ∷ ys) (suc j) d lt e = here ys j d (omega arith) e
 
-  pub none_here : (xs : List A) (i : ℕ) (x : A) → i < length xs → find test (drop i xs) ≡ find test xs → test (get_or xs i x) ≡ false → find test (drop (i + 1) xs) ≡ find test xs
+  pub none_here :
+      (xs : List A) (i : ℕ) (x : A) → i < length xs → find test (drop i xs) ≡ find test xs → test (get_or xs i x) ≡ false
+      → find test (drop (i + 1) xs) ≡ find test xs
   none_here xs i x within left is = next xs i x within is ∙ left
     where
       next : (ys : List A) (j : ℕ) (d : A) → j < length ys → test (get_or ys j d) ≡ false → find test (drop (j + 1) ys) ≡ find test (drop j ys)
@@ -80,7 +84,9 @@ module _ {A K : Type 0} (key : A → K) (same : K → K → Bool) (decides : (a 
       (λ _ is. ap (λ ys. x ∷ ys) (set_newer a xs i (λ j k y p q. let ss = apart (suc j) (suc k) y p q in omega (arith, ss)) e)) refl
 
   -- what is so of the new one, and of those with other keys
-  pub all_newer : (P Q : A → Type 0) (a : A) (xs : List A) → Q a → ((x : A) → same (key x) (key a) ≡ false → P x → Q x) → AllByRecursion P xs → AllByRecursion Q (map (newer a) xs)
+  pub all_newer :
+      (P Q : A → Type 0) (a : A) (xs : List A) → Q a → ((x : A) → same (key x) (key a) ≡ false → P x → Q x) → AllByRecursion P xs
+      → AllByRecursion Q (map (newer a) xs)
   all_newer P Q a [] own others all = tt
   all_newer P Q a (x ∷ xs) own others all = (
     by_test (λ t. same (key x) (key a) ≡ t → Q (if t then a else x)) (same (key x) (key a)) (λ _ is. own) (λ _ is. others x is all.0) refl,
@@ -88,7 +94,8 @@ module _ {A K : Type 0} (key : A → K) (same : K → K → Bool) (decides : (a 
   )
 
   key_at : (xs : List A) (i : ℕ) (old a : A) → slice_get xs i ≡ Some old → key a ≡ key old → slice_get (map key xs) i ≡ Some (key a)
-  key_at xs i old a at same_key = slice_get-map key xs i ∙ ap (λ o. elim o as (λ _. Option K) [ None ↦ None | Some y ↦ Some (key y) ]) at ∙ ap Some (sym same_key)
+  key_at xs i old a at same_key =
+      slice_get-map key xs i ∙ ap (λ o. elim o as (λ _. Option K) [ None ↦ None | Some y ↦ Some (key y) ]) at ∙ ap Some (sym same_key)
 
 all_set_at : {A : Type 0} (P : A → Type 0) (xs : List A) (i : ℕ) (a : A) → AllByRecursion P xs → P a → AllByRecursion P (set xs i a)
 all_set_at P [] i a all own = tt
@@ -96,16 +103,24 @@ all_set_at P (x ∷ xs) zero a all own = (own, all.1)
 all_set_at P (x ∷ xs) (suc i) a all own = (all.0, all_set_at P xs i a all.1 own)
 
 -- the site in place of that with its number, and the party in place of that with its client
-pub site_set : (sites : List Site) (i : ℕ) (old s : Site) → NoRepeats (map number_of sites) → slice_get sites i ≡ Some old → number_of s ≡ number_of old → set sites i s ≡ set_site s sites
-site_set sites i old s apart at same = set_newer number_of same_handler handler_decides s sites i apart (key_at number_of same_handler handler_decides sites i old s at same)
+pub site_set :
+    (sites : List Site) (i : ℕ) (old s : Site) → NoRepeats (map number_of sites) → slice_get sites i ≡ Some old → number_of s ≡ number_of old
+    → set sites i s ≡ set_site s sites
+site_set sites i old s apart at same =
+    set_newer number_of same_handler handler_decides s sites i apart (key_at number_of same_handler handler_decides sites i old s at same)
 
-pub party_set : (parties : List Party) (i : ℕ) (old p : Party) → NoRepeats (map id_of parties) → slice_get parties i ≡ Some old → id_of p ≡ id_of old → set parties i p ≡ set_party p parties
-party_set parties i old p apart at same = set_newer id_of same_client client_decides p parties i apart (key_at id_of same_client client_decides parties i old p at same)
+pub party_set :
+    (parties : List Party) (i : ℕ) (old p : Party) → NoRepeats (map id_of parties) → slice_get parties i ≡ Some old → id_of p ≡ id_of old
+    → set parties i p ≡ set_party p parties
+party_set parties i old p apart at same =
+    set_newer id_of same_client client_decides p parties i apart (key_at id_of same_client client_decides parties i old p at same)
 
 -- ---- what the keeper has
 
 -- a client that keeps its number and its incarnation
-pub has_party : (k : MemoryRecord) (sites : List Site) (parties : List Party) (i : ℕ) (old p : Party) → HasAll k sites parties → slice_get parties i ≡ Some old → id_of p ≡ id_of old → p.stored ≡ old.stored → HasAll k sites (set parties i p)
+pub has_party :
+    (k : MemoryRecord) (sites : List Site) (parties : List Party) (i : ℕ) (old p : Party) → HasAll k sites parties → slice_get parties i ≡ Some old
+    → id_of p ≡ id_of old → p.stored ≡ old.stored → HasAll k sites (set parties i p)
 has_party k sites parties i old p all at same stored =
     let was = all_at (HasIncarnation k) parties i old at all.incarnations in
     record {
@@ -114,7 +129,9 @@ has_party k sites parties i old p all at same stored =
     }
 
 -- a handler that keeps its number and its state
-pub has_same_site : (k : MemoryRecord) (sites : List Site) (parties : List Party) (i : ℕ) (old s : Site) → HasAll k sites parties → slice_get sites i ≡ Some old → number_of s ≡ number_of old → s.stored ≡ old.stored → HasAll k (set sites i s) parties
+pub has_same_site :
+    (k : MemoryRecord) (sites : List Site) (parties : List Party) (i : ℕ) (old s : Site) → HasAll k sites parties → slice_get sites i ≡ Some old
+    → number_of s ≡ number_of old → s.stored ≡ old.stored → HasAll k (set sites i s) parties
 has_same_site k sites parties i old s all at same stored =
     let was = all_at (HasState k) sites i old at all.states in
     record {
@@ -134,16 +151,22 @@ stored_is o None e = none o e
     none (Some t) f = absurd (cc)
 stored_is o (Some s) e = holds_is o s e
 
-pub incarnations_stay : (k l : MemoryRecord) (parties : List Party) → l.incarnations ≡ k.incarnations → AllByRecursion (HasIncarnation k) parties → AllByRecursion (HasIncarnation l) parties
+pub incarnations_stay :
+    (k l : MemoryRecord) (parties : List Party) → l.incarnations ≡ k.incarnations → AllByRecursion (HasIncarnation k) parties
+    → AllByRecursion (HasIncarnation l) parties
 incarnations_stay k l [] same all = tt
-incarnations_stay k l (p ∷ ps) same all = (record { incarnation = ap (λ (is : List (ℕ × ℕ)). incarnation_at (record { states = []; incarnations = is }) (id_of p).0) same ∙ all.0.incarnation }, incarnations_stay k l ps same all.1)
+incarnations_stay k l (p ∷ ps) same all =
+    (record { incarnation = ap (λ (is : List (ℕ × ℕ)). incarnation_at (record { states = []; incarnations = is }) (id_of p).0) same ∙ all.0.incarnation }, incarnations_stay k l ps same all.1)
 
 states_stay : (k l : MemoryRecord) (sites : List Site) → l.states ≡ k.states → AllByRecursion (HasState k) sites → AllByRecursion (HasState l) sites
 states_stay k l [] same all = tt
-states_stay k l (s ∷ ss) same all = (record { state = ap (λ (xs : List (ℕ × HandlerState)). state_at (record { states = xs; incarnations = [] }) (number_of s).0) same ∙ all.0.state }, states_stay k l ss same all.1)
+states_stay k l (s ∷ ss) same all =
+    (record { state = ap (λ (xs : List (ℕ × HandlerState)). state_at (record { states = xs; incarnations = [] }) (number_of s).0) same ∙ all.0.state }, states_stay k l ss same all.1)
 
 -- a handler whose new state is stored
-pub has_site : (k l : MemoryRecord) (sites : List Site) (parties : List Party) (i : ℕ) (old s : Site) → HasAll k sites parties → NoRepeats (map number_of sites) → slice_get sites i ≡ Some old → number_of s ≡ number_of old → s.stored.number ≡ number_of s → Stores k l s.stored → HasAll l (set sites i s) parties
+pub has_site :
+    (k l : MemoryRecord) (sites : List Site) (parties : List Party) (i : ℕ) (old s : Site) → HasAll k sites parties → NoRepeats (map number_of sites)
+    → slice_get sites i ≡ Some old → number_of s ≡ number_of old → s.stored.number ≡ number_of s → Stores k l s.stored → HasAll l (set sites i s) parties
 has_site k l sites parties i old s all apart at same own stores =
     let there : state_at l s.stored.number.0 ≡ Some s.stored = holds_is (state_at l s.stored.number.0) s.stored stores.states.there in
     let new : HasState l s = record { state = ap (λ (h : HandlerId). state_at l h.0) (sym own) ∙ there } in
@@ -160,7 +183,9 @@ has_site k l sites parties i old s all apart at same own stores =
     }
 
 -- a client whose new incarnation is stored
-pub has_incarnation : (k l : MemoryRecord) (sites : List Site) (parties : List Party) (i : ℕ) (old p : Party) → HasAll k sites parties → NoRepeats (map id_of parties) → slice_get parties i ≡ Some old → id_of p ≡ id_of old
+pub has_incarnation :
+    (k l : MemoryRecord) (sites : List Site) (parties : List Party) (i : ℕ) (old p : Party) → HasAll k sites parties → NoRepeats (map id_of parties)
+    → slice_get parties i ≡ Some old → id_of p ≡ id_of old
     → Sets (incarnation_at k) (incarnation_at l) (id_of old).0 p.stored → l.states ≡ k.states → HasAll l sites (set parties i p)
 has_incarnation k l sites parties i old p all apart at same sets states = record {
   states = states_stay k l sites states all.states;

@@ -1,4 +1,6 @@
--- What the calls on the map of blocks do to the logs that it keeps.
+-- What the calls on the map of blocks do to the logs that it keeps. The map has each block once, in the order of the
+-- reserves, which is the order of the logs: an insert of a new block puts its log at the end, a write at a block's place
+-- changes its log alone, and a look-up finds the place of the first log of the block, which is its only one.
 use Rattle.std.proofs.Common.{◌≡◌, ℕ, zero, suc, ◌+◌, ◌<◌, ◌≤◌, Bool, true, false, ◌||◌, cond, List, [], ◌∷◌, ◌++◌, length, map, slice_get, Option, None, Some, position, MatchOption, nat_lt, refl, sym, ap, ◌∙◌, subst, arith}
 use Rattle.std.specs.List.{AllByRecursion, IsDistinct, list_any, position_or_len}
 use Rattle.std.specs.Map.{keys_of, values_of}
@@ -50,7 +52,8 @@ place-first b e es n is rest = by (same_key b e.0) refl
         let next : suc m ≡ n = omega (arith, later) in
         subst (IsPlaceOf b (logs_kept (e ∷ es))) next (flipped e.0 b ∙ other, rest m refl next)
 
-place-position : {A : Type 0} → (b : Block) (es : Entries A) (n : ℕ) → position_or_len (same_key b) (keys_of es) ≡ n → n < length es → IsPlaceOf b (logs_kept es) n
+place-position :
+    {A : Type 0} → (b : Block) (es : Entries A) (n : ℕ) → position_or_len (same_key b) (keys_of es) ≡ n → n < length es → IsPlaceOf b (logs_kept es) n
 place-position b [] n is within = absurd (omega arith)
 place-position b (e ∷ es) n is within = place-first b e es n is (λ m at next. place-position b es m at (omega (arith, next, within)))
 
@@ -69,10 +72,14 @@ none-position : {A : Type 0} → (b : Block) (es : Entries A) → length es ≤ 
 none-position b [] past = refl
 none-position b (e ∷ es) past = none-first b e es past (none-position b es)
 
-pub place-found : {A : Type 0} → (b : Block) (es : Entries A) (r : Option ℕ) → r ≡ position (same_key b) (keys_of es) → MatchOption r (has_log b (logs_kept es) ≡ false) (IsPlaceOf b (logs_kept es))
+pub place-found :
+    {A : Type 0} → (b : Block) (es : Entries A) (r : Option ℕ) → r ≡ position (same_key b) (keys_of es)
+    → MatchOption r (has_log b (logs_kept es) ≡ false) (IsPlaceOf b (logs_kept es))
 place-found {A} b es r is = by (nat_lt (position_or_len (same_key b) (keys_of es)) (length (keys_of es))) refl
   where
-    by : (t : Bool) → nat_lt (position_or_len (same_key b) (keys_of es)) (length (keys_of es)) ≡ t → MatchOption r (has_log b (logs_kept es) ≡ false) (IsPlaceOf b (logs_kept es))
+    by :
+        (t : Bool) → nat_lt (position_or_len (same_key b) (keys_of es)) (length (keys_of es)) ≡ t
+        → MatchOption r (has_log b (logs_kept es) ≡ false) (IsPlaceOf b (logs_kept es))
     by true inside =
         let n = position_or_len (same_key b) (keys_of es) in
         let at : r ≡ Some n = is ∙ ap (λ t. cond t (Some n) None) inside in
@@ -116,7 +123,9 @@ kept-insert b v (e ∷ es) none =
 
 -- ---- the log of a block
 
-pub lines-place : {A : Type 0} → (b : Block) (p : Vec (Line A) A) (es : Entries A) (i : ℕ) → IsPlaceOf b (logs_kept es) i → slice_get (values_of es) i ≡ Some p → lines_of b (logs_kept es) ≡ map line_kept p.items
+pub lines-place :
+    {A : Type 0} → (b : Block) (p : Vec (Line A) A) (es : Entries A) (i : ℕ) → IsPlaceOf b (logs_kept es) i → slice_get (values_of es) i ≡ Some p
+    → lines_of b (logs_kept es) ≡ map line_kept p.items
 lines-place b p [] i place is = absurd place
 lines-place b p (e ∷ es) zero place is =
     let here : e.1 ≡ p = cc in
@@ -124,7 +133,9 @@ lines-place b p (e ∷ es) zero place is =
 lines-place b p (e ∷ es) (suc i) place is = rw (place.0) (lines-place b p es i place.1 is)
 
 -- no other entry is of this block
-others-stay : {A : Type 0} → (b : Block) (f : HandlerLog → HandlerLog) (k : Block) (es : Entries A) → k ≡ b → AllByRecursion (λ y. same_key k y ≡ false) (keys_of es) → map (changed_log b f) (logs_kept es) ≡ logs_kept es
+others-stay :
+    {A : Type 0} → (b : Block) (f : HandlerLog → HandlerLog) (k : Block) (es : Entries A) → k ≡ b → AllByRecursion (λ y. same_key k y ≡ false) (keys_of es)
+    → map (changed_log b f) (logs_kept es) ≡ logs_kept es
 others-stay b f k [] is apart = refl
 others-stay b f k (e ∷ es) is apart =
     let other : same_block e.0 b ≡ false = flipped e.0 b ∙ (ap (λ c. same_key c e.0) (sym is) ∙ apart.0) in
@@ -152,7 +163,9 @@ kept-set b f p v (e ∷ es) (suc i) apart place is becomes =
     rw (place.0) (ap (λ ls. log_kept e ∷ ls) (kept-set b f p v es i (rest_apart e.0 (keys_of es) apart) place.1 is becomes))
 
 -- a write of lines that are seen as they were
-pub kept-same : {A : Type 0} → (p v : Vec (Line A) A) (es : Entries A) (i : ℕ) → slice_get (values_of es) i ≡ Some p → map line_kept v.items ≡ map line_kept p.items → logs_kept (set_value_at es i v) ≡ logs_kept es
+pub kept-same :
+    {A : Type 0} → (p v : Vec (Line A) A) (es : Entries A) (i : ℕ) → slice_get (values_of es) i ≡ Some p → map line_kept v.items ≡ map line_kept p.items
+    → logs_kept (set_value_at es i v) ≡ logs_kept es
 kept-same p v [] i is same = refl
 kept-same p v (e ∷ es) zero is same =
     let here : e.1 ≡ p = cc in

@@ -33,7 +33,8 @@ row_newest : (c d : ClientState) (m : Message) (note : ClientNote) → HeardRow 
 row_newest c d m note (passed_over n) = refl
 row_newest c d m note (is_welcomed h left) = refl
 row_newest c d m note (takes_step n r has_one) = step_newest c (reservation.heard r n).0 (reservation.heard r n).1
-row_newest c d m note (is_acknowledged h n r l has_one opened line fresh_count) = settled_newest c (with_lines c (at_line h (acknowledged (up_to h n c.waits)) c.lines) c.waits) refl
+row_newest c d m note (is_acknowledged h n r l has_one opened line fresh_count) =
+    settled_newest c (with_lines c (at_line h (acknowledged (up_to h n c.waits)) c.lines) c.waits) refl
 row_newest c d m note (is_accepted h n a r has_one opened waits) = refl
 
 pub heard_newest : (c : ClientState) (m : Message) → newest_block (heard c m).0 ≡ newest_block c

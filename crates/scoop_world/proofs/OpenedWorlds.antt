@@ -33,10 +33,14 @@ module _ {B : Type 0} (words : B → List ℕ) where
   own_states [] = tt
   own_states (p ∷ ps) = (refl, own_states ps)
 
-  pub numbers_apart : (ps : List (Placed B)) (sites : List Site) → sites ≡ map new_site (placements_of words ps) → NoRepeats (handlers_of ps) → NoRepeats (map number_of sites)
+  pub numbers_apart :
+      (ps : List (Placed B)) (sites : List Site) → sites ≡ map new_site (placements_of words ps) → NoRepeats (handlers_of ps)
+      → NoRepeats (map number_of sites)
   numbers_apart ps sites made apart = subst NoRepeats (sym (ap (map number_of) made ∙ same_numbers ps)) apart
 
-  pub states_own : (ps : List (Placed B)) (sites : List Site) → sites ≡ map new_site (placements_of words ps) → AllByRecursion (λ (s : Site). s.stored.number ≡ number_of s) sites
+  pub states_own :
+      (ps : List (Placed B)) (sites : List Site) → sites ≡ map new_site (placements_of words ps)
+      → AllByRecursion (λ (s : Site). s.stored.number ≡ number_of s) sites
   states_own ps sites made = subst (AllByRecursion (λ (s : Site). s.stored.number ≡ number_of s)) (sym made) (own_states ps)
 
   same_clients : (stored : ℕ → Option ℕ) (cs : List (ClientId × ℕ)) → map (λ (n : Newcomer). n.id) (newcomers_of stored cs) ≡ clients_of cs
@@ -45,7 +49,8 @@ module _ {B : Type 0} (words : B → List ℕ) where
 
   pub may_open :
       (class : B → ClassTable) (ps : List (Placed B)) (cs : List (ClientId × ℕ)) (stored : ℕ → Option ℕ)
-      → MayPlace class ps cs → AllByRecursion IsPlaced (placements_of words ps) → AllByRecursion IsJoining (newcomers_of stored cs) → MayOpen (placements_of words ps) (newcomers_of stored cs)
+      → MayPlace class ps cs → AllByRecursion IsPlaced (placements_of words ps) → AllByRecursion IsJoining (newcomers_of stored cs)
+      → MayOpen (placements_of words ps) (newcomers_of stored cs)
   may_open class ps cs stored may placed joining =
       let many : length (placements_of words ps) ≡ length ps = length-map ps (placement_of words) in
       let joined : length (newcomers_of stored cs) ≡ length cs = length-map cs (newcomer_of stored) in
@@ -71,7 +76,8 @@ module _ {B : Type 0} (words : B → List ℕ) where
 -- what is stored, or want of memory, is why no world opens
 pub unopened :
     {B : Type 0} (class : B → ClassTable) (ps : List (Placed B)) (cs : List (ClientId × ℕ)) (stored : ℕ → Option ℕ) (e : WorldOpenError)
-    → MayPlace class ps cs → (e ≡ OutOfMemory) ⊎ ((e ≡ IncarnationsSpent) × Any (λ (c : ClientId × ℕ). stored c.0.0 ≡ Some last_incarnation) cs) → IsUnopened class ps cs stored e
+    → MayPlace class ps cs → (e ≡ OutOfMemory) ⊎ ((e ≡ IncarnationsSpent) × Any (λ (c : ClientId × ℕ). stored c.0.0 ≡ Some last_incarnation) cs)
+    → IsUnopened class ps cs stored e
 unopened class ps cs stored e may why =
     ⊎_elim
     (λ (p : e ≡ OutOfMemory). subst (IsUnopened class ps cs stored) (sym p) may)
@@ -79,5 +85,7 @@ unopened class ps cs stored e may why =
     why
 
 -- the states are stored behind the incarnations, which stay
-pub all_stored : (k l : MemoryRecord) (sites : List Site) (parties : List Party) → AllByRecursion (HasState l) sites → l.incarnations ≡ k.incarnations → AllByRecursion (HasIncarnation k) parties → HasAll l sites parties
+pub all_stored :
+    (k l : MemoryRecord) (sites : List Site) (parties : List Party) → AllByRecursion (HasState l) sites → l.incarnations ≡ k.incarnations
+    → AllByRecursion (HasIncarnation k) parties → HasAll l sites parties
 all_stored k l sites parties states same incarnations = record { states = states; incarnations = incarnations_stay k l parties same incarnations }

@@ -29,12 +29,16 @@ module _ {A K : Type 0} (key : A → K) (same : K → K → Bool) (decides : (a 
       (λ other f. let c = one_has xs k f in let lt = c.1 in (suc c.0, omega (arith, lt), c.2)) e
 
   -- an item whose key none of those before it has
-  pub once_longer : (xs : List A) (i : ℕ) (x : A) → slice_get xs i ≡ Some x → NoRepeats (map key (take i xs)) → list_any (λ y. same (key y) (key x)) (take i xs) ≡ false → NoRepeats (map key (take (i + 1) xs))
+  pub once_longer :
+      (xs : List A) (i : ℕ) (x : A) → slice_get xs i ≡ Some x → NoRepeats (map key (take i xs)) → list_any (λ y. same (key y) (key x)) (take i xs) ≡ false
+      → NoRepeats (map key (take (i + 1) xs))
   once_longer xs i x at once new =
       subst (λ (ys : List A). NoRepeats (map key ys)) (sym (longer xs i x at)) (once_more key (take i xs) x once (none_has (take i xs) (key x) new))
 
   -- and one whose key one of them has
-  pub first_repeat : (xs : List A) (i : ℕ) (x : A) → slice_get xs i ≡ Some x → NoRepeats (map key (take i xs)) → list_any (λ y. same (key y) (key x)) (take i xs) ≡ true → IsFirstRepeat (map key xs) (key x)
+  pub first_repeat :
+      (xs : List A) (i : ℕ) (x : A) → slice_get xs i ≡ Some x → NoRepeats (map key (take i xs)) → list_any (λ y. same (key y) (key x)) (take i xs) ≡ true
+      → IsFirstRepeat (map key xs) (key x)
   first_repeat xs i x at once old = record {
     place = i;
     there = slice_get-map key xs i ∙ ap (option_map key) at;

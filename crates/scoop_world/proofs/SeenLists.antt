@@ -8,7 +8,8 @@ use Rattle.std.proofs.lemmas.List.Elements.{All-more}
 
 module _ {A B : Type 0} (view : A → B) where
   -- an item is replaced by one that is seen as it was
-  pub seen_same : (all now : List A) (i : ℕ) (x new : A) → view new ≡ view (get_or now i x) → map view now ≡ map view all → map view (set now i new) ≡ map view all
+  pub seen_same :
+      (all now : List A) (i : ℕ) (x new : A) → view new ≡ view (get_or now i x) → map view now ≡ map view all → map view (set now i new) ≡ map view all
   seen_same all now i x new e same = map-set_same view now i new x e ∙ same
 
   -- an item is replaced by one that is seen as changed

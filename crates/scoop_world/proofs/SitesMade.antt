@@ -20,7 +20,8 @@ use Rattle.scoop_model.proofs.Order.Facts.{all_at}
 -- ---- a vector that is used up
 
 -- what it has given is a front of its items
-pub taken_front : {X A : Type 0} (s : IntoIter X A) (xs : List X) (t : IntoIter X A) → Yields into_iter_steps s xs t → into_iter_items s ≡ xs ++ into_iter_items t
+pub taken_front :
+    {X A : Type 0} (s : IntoIter X A) (xs : List X) (t : IntoIter X A) → Yields into_iter_steps s xs t → into_iter_items s ≡ xs ++ into_iter_items t
 taken_front s [] t y = ap into_iter_items y
 taken_front s (x ∷ xs) t y = y.1.0 ∙ ap (λ ys. x ∷ ys) (taken_front y.0 xs t y.2)
 
@@ -30,7 +31,8 @@ all_next P [] x left all = all.0
 all_next P (y ∷ done) x left all = all_next P done x left all.1
 
 -- nothing is left of it
-pub taken_all : {X A : Type 0} (s : IntoIter X A) (xs : List X) (t : IntoIter X A) → Yields into_iter_steps s xs t → into_iter_len t ≡ 0 → into_iter_items s ≡ xs
+pub taken_all :
+    {X A : Type 0} (s : IntoIter X A) (xs : List X) (t : IntoIter X A) → Yields into_iter_steps s xs t → into_iter_len t ≡ 0 → into_iter_items s ≡ xs
 taken_all s xs t y none = taken_front s xs t y ∙ ap (λ ys. xs ++ ys) (no_items (into_iter_items t) (sym t.rest.ok.0 ∙ none)) ∙ append-nil xs
   where
     no_items : {Y : Type 0} (ys : List Y) → length ys ≡ 0 → ys ≡ []
@@ -56,13 +58,16 @@ other_stays k l x s off stores has =
     record { state = there_is (state_at l n) x.stored ((stores.states.others n off (Holds x.stored)).0 (ap stored_of has.state)) }
 
 -- the states of the handlers before it stay, and its own is there
-more_states : (k l : MemoryRecord) (sites : List Site) (i : ℕ) (s : Site) → slice_get sites i ≡ Some s → NoRepeats (map number_of sites) → s.stored.number ≡ number_of s → Stores k l s.stored → AllByRecursion (HasState k) (take i sites)
+more_states :
+    (k l : MemoryRecord) (sites : List Site) (i : ℕ) (s : Site) → slice_get sites i ≡ Some s → NoRepeats (map number_of sites) → s.stored.number ≡ number_of s
+    → Stores k l s.stored → AllByRecursion (HasState k) (take i sites)
     → AllByRecursion (HasState l) (take i sites ++ s ∷ [])
 more_states k l [] i s at apart own stores all = absurd (cc)
 more_states k l (x ∷ xs) zero s at apart own stores all =
     (record { state = ap (λ (h : HandlerId). state_at l h.0) (sym own) ∙ there_is (state_at l s.stored.number.0) s.stored stores.states.there }, tt)
 more_states k l (x ∷ xs) (suc i) s at apart own stores all =
-    let named : slice_get (map number_of xs) i ≡ Some (number_of s) = slice_get-map number_of xs i ∙ ap (λ o. elim o as (λ _. Option HandlerId) [ None ↦ None | Some y ↦ Some (number_of y) ]) at in
+    let named : slice_get (map number_of xs) i ≡ Some (number_of s) =
+    slice_get-map number_of xs i ∙ ap (λ o. elim o as (λ _. Option HandlerId) [ None ↦ None | Some y ↦ Some (number_of y) ]) at in
     let off : (number_of x).0 ≡ s.stored.number.0 → ⊥ = λ e.
     let same : number_of x ≡ number_of s = ap (λ (n : ℕ). record { 0 = n }) (e ∙ ap (λ (h : HandlerId). h.0) own) in
     let zs = apart zero (suc i) (number_of s) (ap Some same) named in omega (arith, zs) in (
@@ -71,7 +76,9 @@ more_states k l (x ∷ xs) (suc i) s at apart own stores all =
     )
 
 -- the next handler's state is stored
-pub states_more : (k l : MemoryRecord) (sites : List Site) (i : ℕ) (s : Site) → i < length sites → s ≡ get_or sites i s → NoRepeats (map number_of sites) → AllByRecursion (λ x. x.stored.number ≡ number_of x) sites → Stores k l s.stored
+pub states_more :
+    (k l : MemoryRecord) (sites : List Site) (i : ℕ) (s : Site) → i < length sites → s ≡ get_or sites i s → NoRepeats (map number_of sites)
+    → AllByRecursion (λ x. x.stored.number ≡ number_of x) sites → Stores k l s.stored
     → AllByRecursion (HasState k) (take i sites) → AllByRecursion (HasState l) (take (i + 1) sites)
 states_more k l sites i s within is apart own stores all =
     let at = item_at sites i s within is in

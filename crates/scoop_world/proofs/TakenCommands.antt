@@ -36,7 +36,8 @@ end_newest c d o (ends_block running free room) is = ap newest_block (sym (ok_is
 end_newest c d o r is = absurd (cc)
 
 -- the block stays
-pub logged_newest : (c d : ClientState) (x : Command) (t : Option HandlerId × Entry) → logged_by x ≡ Some t → outcome_of c x ≡ Ok d → newest_block d ≡ newest_block c
+pub logged_newest :
+    (c d : ClientState) (x : Command) (t : Option HandlerId × Entry) → logged_by x ≡ Some t → outcome_of c x ≡ Ok d → newest_block d ≡ newest_block c
 logged_newest c d (Reserve hs) t logs is = absurd (cc)
 logged_newest c d (Call h r) t logs is = log_newest c d h _ _ (command_row c (core_command (Call h r))) is
 logged_newest c d (Query h r) t logs is = log_newest c d h _ _ (command_row c (core_command (Query h r))) is
@@ -44,7 +45,9 @@ logged_newest c d End t logs is = end_newest c d _ (command_row c (core_command 
 logged_newest c d GiveUp t logs is = absurd (cc)
 
 -- what it logs
-pub logged_logs : (x : Command) (t : Option HandlerId × Entry) (b : Block) (logs : List BlockLog) → logged_by x ≡ Some t → logs_after x b logs ≡ map (changed_log b (with_entry_for t.0 t.1)) logs
+pub logged_logs :
+    (x : Command) (t : Option HandlerId × Entry) (b : Block) (logs : List BlockLog) → logged_by x ≡ Some t
+    → logs_after x b logs ≡ map (changed_log b (with_entry_for t.0 t.1)) logs
 logged_logs (Reserve hs) t b logs is = absurd (cc)
 logged_logs (Call h r) t b logs is =
     let s : Option HandlerId × Entry = (Some h, CallEntry r) in
@@ -58,17 +61,22 @@ logged_logs End t b logs is =
 logged_logs GiveUp t b logs is = absurd (cc)
 
 -- where the block has no log nothing is logged
-pub unlogged : (c d : ClientState) (x : Command) (t : Option HandlerId × Entry) (logs : List BlockLog) → logged_by x ≡ Some t → outcome_of c x ≡ Ok d → has_log (newest_block c) logs ≡ false → logs ≡ logs_after x (newest_block d) logs
+pub unlogged :
+    (c d : ClientState) (x : Command) (t : Option HandlerId × Entry) (logs : List BlockLog) → logged_by x ≡ Some t → outcome_of c x ≡ Ok d
+    → has_log (newest_block c) logs ≡ false → logs ≡ logs_after x (newest_block d) logs
 unlogged c d x t logs l is none =
     sym (ap (λ b. logs_after x b logs) (logged_newest c d x t l is) ∙ logged_logs x t (newest_block c) logs l ∙ none_changed (newest_block c) (with_entry_for t.0 t.1) logs none)
 
 -- and else it is logged there
-pub logged : (c d : ClientState) (x : Command) (t : Option HandlerId × Entry) (logs after : List BlockLog) → logged_by x ≡ Some t → outcome_of c x ≡ Ok d → after ≡ map (changed_log (newest_block c) (with_entry_for t.0 t.1)) logs → after ≡ logs_after x (newest_block d) logs
+pub logged :
+    (c d : ClientState) (x : Command) (t : Option HandlerId × Entry) (logs after : List BlockLog) → logged_by x ≡ Some t → outcome_of c x ≡ Ok d
+    → after ≡ map (changed_log (newest_block c) (with_entry_for t.0 t.1)) logs → after ≡ logs_after x (newest_block d) logs
 logged c d x t logs after l is made =
     made ∙ sym (ap (λ b. logs_after x b logs) (logged_newest c d x t l is) ∙ logged_logs x t (newest_block c) logs l)
 
 -- why it isn't taken where there is no room
-pub refuses_log : (c : ClientState) (x : Command) (t : Option HandlerId × Entry) (e : WorldError) → logged_by x ≡ Some t → RefusesLog c t.0 e → IsRefusal (outcome_of c x) e
+pub refuses_log :
+    (c : ClientState) (x : Command) (t : Option HandlerId × Entry) (e : WorldError) → logged_by x ≡ Some t → RefusesLog c t.0 e → IsRefusal (outcome_of c x) e
 refuses_log c (Reserve hs) t e is told = absurd (cc)
 refuses_log c (Call h r) t e is told =
     let s : Option HandlerId × Entry = (Some h, CallEntry r) in
@@ -85,7 +93,8 @@ refuses_log c GiveUp t e is told = absurd (cc)
 
 -- ---- any command
 
-commanded_ok : (w : World) (p : Party) (x : Command) (d : ClientState) (o : client.Outcome) → o ≡ Ok d → commanded w p x o ≡ Ok (commanded_world w p x d, note.Done)
+commanded_ok :
+    (w : World) (p : Party) (x : Command) (d : ClientState) (o : client.Outcome) → o ≡ Ok d → commanded w p x o ≡ Ok (commanded_world w p x d, note.Done)
 commanded_ok w p x d o is = ap (commanded w p x) is
 
 -- the client at this place has taken the command
@@ -94,7 +103,8 @@ pub taken_command :
     → q ≡ record p { client = q.client } → id_of q ≡ id_of p
     → do_at w x (slice_get w.parties at) ≡ Ok (record w { parties = set w.parties at q; logs = logs_after x (newest_block q.client) w.logs }, note.Done)
 taken_command w at p q x reached there is changed same =
-    let sets : set w.parties at q ≡ set_party (record p { client = q.client }) w.parties = party_set w.parties at p q (parties_apart w reached) there same ∙ ap (λ (r : Party). set_party r w.parties) changed in
+    let sets : set w.parties at q ≡ set_party (record p { client = q.client }) w.parties =
+    party_set w.parties at p q (parties_apart w reached) there same ∙ ap (λ (r : Party). set_party r w.parties) changed in
     let made : List Party → Stepped = λ ps. Ok (record w { parties = ps; logs = logs_after x (newest_block q.client) w.logs }, note.Done) in
     ap (do_at w x) there ∙ commanded_ok w p x q.client (outcome_of p.client x) is ∙ ap made (sym sets)
 
@@ -111,5 +121,7 @@ is_refused w p x o OutOfMemory told = still o told
     still (Err y) ok = absurd (cc)
 
 -- the client at this place has refused the command
-pub refused_command : (w : World) (at : ℕ) (p : Party) (x : Command) (e : WorldError) → slice_get w.parties at ≡ Some p → IsRefusal (outcome_of p.client x) e → IsRefused (do_at w x (slice_get w.parties at)) e
+pub refused_command :
+    (w : World) (at : ℕ) (p : Party) (x : Command) (e : WorldError) → slice_get w.parties at ≡ Some p → IsRefusal (outcome_of p.client x) e
+    → IsRefused (do_at w x (slice_get w.parties at)) e
 refused_command w at p x e there told = subst (λ (o : Option Party). IsRefused (do_at w x o) e) (sym there) (is_refused w p x (outcome_of p.client x) e told)

@@ -9,7 +9,7 @@ use Rattle.scoop_message.specs.declared.request.Entry.TheVariants.{End as EndEnt
 use Rattle.scoop_message.specs.declared.message.Message.{Message}
 use Rattle.scoop_handler.specs.declared.ran.Ran.{Ran}
 use Rattle.scoop_handler.specs.State.{HandlerState}
-use Rattle.scoop_handler.specs.Core.{Core, core_of}
+use Rattle.scoop_handler.specs.Core.{Core}
 use Rattle.scoop_handler.specs.Running.{Task}
 use Rattle.scoop_client.specs.State.{ClientState}
 use Rattle.scoop_record.specs.Keeper.{Keeps}

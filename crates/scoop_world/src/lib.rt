@@ -1,4 +1,23 @@
 //! All parties together: a world of handlers and clients that runs lists of events, over a record in memory.
+//!
+//! An event moves one party. Any message may come at any later moment, any number of times, in any order,
+//! or never, and clients and nodes may restart at any moment. Whatever the events are, the world stays safe, and
+//! what has happened is a run of the written rules: that is the theorem, on `World::run`.
+//!
+//! ```
+//! // a handler whose object has one word, and a client
+//! let class = Class::build(alloc, 1, &[])?;
+//! let object = Table::new(Class::build(alloc, 1, &[])?, Words::of(&[0])?)?;
+//! let mut placements = Vec::new(alloc);
+//! placements.push(Placement { node: 1, handler: HandlerId(1), class, object })?;
+//! let keeper = MemoryKeeper::new(alloc);
+//! let mut world = World::open(alloc, placements, &[(ClientId(7), 1)], keeper)?;
+//! // the client greets the handler, which hears that, and the client hears the reply
+//! let greeting = [Event::Tick(ClientId(7), HandlerId(1)), Event::Take(1), Event::Take(2)];
+//! assert_eq!(rt; world.run(&greeting), Ok(3));
+//! let welcome = Message::Welcome(HandlerId(1), ClientId(7), 1);
+//! assert_eq!(rt; world.sent(2).copied(), Some(welcome));
+//! ```
 #![tactic(auto)]
 
 mod error;

@@ -1,4 +1,5 @@
 //! The tests of worlds.
 
 mod data;
+mod examples;
 mod worlds;

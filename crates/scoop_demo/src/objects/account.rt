@@ -3,7 +3,7 @@
 ghost use Rattle.std.specs.Prelude.{◌≡◌, [], ◌∷◌};
 ghost use Rattle.scoop_demo.specs.Classes.{account_class};
 
-use super::rows::account_rows;
+use crate::classes::rows::account_rows;
 use scoop_message::{Answer, Request, Words};
 use scoop_object::{Class, Object, WrongWords};
 

@@ -3,7 +3,7 @@
 ghost use Rattle.std.specs.Prelude.{◌≡◌, [], ◌∷◌};
 ghost use Rattle.scoop_demo.specs.Classes.{cell_class};
 
-use super::rows::cell_rows;
+use crate::classes::rows::cell_rows;
 use scoop_message::{Answer, Request, Words};
 use scoop_object::{Class, Object, WrongWords};
 

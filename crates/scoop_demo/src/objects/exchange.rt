@@ -3,7 +3,7 @@
 ghost use Rattle.std.specs.Prelude.{◌≡◌, [], ◌∷◌};
 ghost use Rattle.scoop_demo.specs.Classes.{exchange_class};
 
-use super::rows::exchange_rows;
+use crate::classes::rows::exchange_rows;
 use scoop_message::{Answer, Request, Words};
 use scoop_object::{Class, Object, WrongWords};
 use std::mem;

@@ -1,12 +1,15 @@
 //! The parties of a script, and their world.
 
-ghost use Rattle.std.specs.Prelude.{◌≡◌, ◌≤◌, true, false, ◌||◌, not, length, None, IfErr, OnOk, is_some};
-ghost use Rattle.std.specs.List.{All};
-ghost use Rattle.std.specs.Result.{result_err};
+ghost use Rattle.std.specs.Prelude.{◌≡◌, ◌≤◌, ℕ, true, false, ◌||◌, not, [], ◌∷◌, ◌++◌, List, length, Option, None, IfErr, OnOk, is_some};
+ghost use Rattle.std.specs.List.{All, cons_option};
+ghost use Rattle.std.specs.Result.{result_ok, result_err};
 ghost use Rattle.scoop_message.specs.declared.limits.TheConstants.{MAX_ENTRIES};
+ghost use Rattle.scoop_message.specs.declared.name.ClientId.{ClientId};
+ghost use Rattle.scoop_record.specs.Memory.{incarnation_at};
 ghost use Rattle.scoop_demo.specs.ScriptWords.{words_of};
-ghost use Rattle.scoop_demo.specs.ScriptLine.{handler_line, client_line, event_line};
-ghost use Rattle.scoop_demo.specs.Script.{StopsAtLine, StopsOpening, StopsClosed, party_fault, words_fault, is_event, opens_at};
+ghost use Rattle.scoop_demo.specs.ScriptLine.{Placed, joining, handler_line, client_line, event_line};
+ghost use Rattle.scoop_demo.specs.Script.{Parties, Opens, StopsAtLine, StopsOpening, StopsClosed, parties_of, party_fault, words_fault, is_event, opens_at};
+ghost use Rattle.scoop_demo.specs.Staging.{AreFirst, AreFirstClients, IsStaged, IsWaiting, with_line};
 
 use super::events::{Stop, play};
 use crate::fault::{InputFault, RunError};
@@ -17,7 +20,7 @@ use crate::script::{
 };
 use scoop_message::limits::{MAX_CLIENTS, MAX_HANDLERS};
 use scoop_message::{ClientId, HandlerId, OutOfMemory};
-use scoop_object::Table;
+use scoop_object::{Behaviour, Table};
 use scoop_record::MemoryKeeper;
 use scoop_world::{Placement, World, WorldOpenError};
 use std::alloc::Global;
@@ -28,9 +31,9 @@ use std::{io, mem};
 #[derive(Drop)]
 pub struct Stage {
     alloc: Global,
-    keeper: MemoryKeeper,
-    placements: Vec<Placement<Table>>,
-    clients: Vec<(ClientId, u8)>,
+    pub(super) keeper: MemoryKeeper,
+    pub(super) placements: Vec<Placement<Table>>,
+    pub(super) clients: Vec<(ClientId, u8)>,
     handlers: Vec<HandlerId>,
     names: Vec<ClientId>,
     pub(super) world: Option<World<Table>>,
@@ -47,7 +50,9 @@ fn fault_at(line: u32, fault: InputFault) -> RunError
 impl Stage {
     /// A stage without parties, whose world will open over this keeper.
     pub fn new(alloc: Global, keeper: MemoryKeeper) -> Stage
-        ensures { is_some result.world ≡ false }
+        ensures closed { is_some result.world ≡ false }
+        ensures waits { IsWaiting ⟦<Table as Behaviour>⟧.class result.placements.items result.clients.items (incarnation_at result.keeper) (parties_of []) (incarnation_at keeper) }
+        ensures own { incarnation_at result.keeper ≡ incarnation_at keeper }
     {
         Stage {
             alloc,
@@ -69,7 +74,12 @@ impl Stage {
     ) -> Result<(), RunError>
         ensures ok { OnOk result (words_fault (is_some self.old.world) line.now ≡ None) }
         ensures opened { OnOk result (is_some self.new.world ≡ (is_some self.old.world || is_event line.now)) }
-        ensures err { IfErr result (StopsAtLine number (opens_at (is_some self.old.world) line.now) (words_fault (is_some self.old.world) line.now)) }
+        ensures staged { (parties : Parties) (stored : ℕ → Option ℕ)
+            → IsStaged ⟦<Table as Behaviour>⟧.class (is_some self.old.world) self.old.placements.items self.old.clients.items (incarnation_at self.old.keeper) parties stored
+            → OnOk result (IsStaged ⟦<Table as Behaviour>⟧.class (is_some self.new.world) self.new.placements.items self.new.clients.items (incarnation_at self.new.keeper) (with_line parties line.now) stored) }
+        ensures err { (parties : Parties) (stored : ℕ → Option ℕ)
+            → IsStaged ⟦<Table as Behaviour>⟧.class (is_some self.old.world) self.old.placements.items self.old.clients.items (incarnation_at self.old.keeper) parties stored
+            → IfErr result (StopsAtLine number (opens_at (is_some self.old.world) line.now) (words_fault (is_some self.old.world) line.now) parties stored) }
     {
         if is_blank(line) {
             return Ok(());
@@ -88,7 +98,11 @@ impl Stage {
     fn place(&mut self, number: u32, words: &[u8]) -> Result<(), RunError>
         ensures ok { OnOk result (party_fault (is_some self.old.world) (result_err (handler_line (words_of words.now))) ≡ None) }
         ensures same { is_some self.new.world ≡ is_some self.old.world }
-        ensures err { IfErr result (StopsAtLine number false (party_fault (is_some self.old.world) (result_err (handler_line (words_of words.now))))) }
+        ensures kept { (placed : List Placed) → AreFirst ⟦<Table as Behaviour>⟧.class self.old.placements.items placed
+            → OnOk result (AreFirst ⟦<Table as Behaviour>⟧.class self.new.placements.items (placed ++ cons_option (result_ok (handler_line (words_of words.now))) [])) }
+        ensures others { (self.new.clients ≡ self.old.clients) × (self.new.keeper ≡ self.old.keeper) }
+        ensures err { (parties : Parties) (stored : ℕ → Option ℕ)
+            → IfErr result (StopsAtLine number false (party_fault (is_some self.old.world) (result_err (handler_line (words_of words.now)))) parties stored) }
     {
         if self.world.is_some() {
             return Err(fault_at(number, InputFault::TooLateForParty));
@@ -107,7 +121,11 @@ impl Stage {
     // Keeps a handler that is placed. One past the limit stands for all that follow.
     fn add_placement(&mut self, placed: PlacedLine) -> Result<(), OutOfMemory>
         requires { length placed.words ≡ placed.class.words }
-        ensures { is_some self.new.world ≡ is_some self.old.world }
+        ensures same { is_some self.new.world ≡ is_some self.old.world }
+        ensures kept { (before : List Placed) → AreFirst ⟦<Table as Behaviour>⟧.class self.old.placements.items before
+            → OnOk result (AreFirst ⟦<Table as Behaviour>⟧.class self.new.placements.items
+            (before ++ record { node = placed.node; handler = placed.handler; class = placed.class; words = placed.words } ∷ [])) }
+        ensures others { (self.new.clients ≡ self.old.clients) × (self.new.keeper ≡ self.old.keeper) }
     {
         if self.placements.len() > MAX_HANDLERS {
             return Ok(());
@@ -135,7 +153,11 @@ impl Stage {
     fn join(&mut self, number: u32, words: &[u8]) -> Result<(), RunError>
         ensures ok { OnOk result (party_fault (is_some self.old.world) (result_err (client_line (words_of words.now))) ≡ None) }
         ensures same { is_some self.new.world ≡ is_some self.old.world }
-        ensures err { IfErr result (StopsAtLine number false (party_fault (is_some self.old.world) (result_err (client_line (words_of words.now))))) }
+        ensures kept { (clients : List (ClientId × ℕ)) → AreFirstClients self.old.clients.items clients
+            → OnOk result (AreFirstClients self.new.clients.items (clients ++ cons_option (result_ok (client_line (words_of words.now))) [])) }
+        ensures others { (self.new.placements ≡ self.old.placements) × (self.new.keeper ≡ self.old.keeper) }
+        ensures err { (parties : Parties) (stored : ℕ → Option ℕ)
+            → IfErr result (StopsAtLine number false (party_fault (is_some self.old.world) (result_err (client_line (words_of words.now)))) parties stored) }
     {
         if self.world.is_some() {
             return Err(fault_at(number, InputFault::TooLateForParty));
@@ -154,7 +176,10 @@ impl Stage {
     fn add_client(&mut self, client: ClientId, batch: u8) -> Result<(), OutOfMemory>
         requires some { 1 ≤ batch }
         requires limit { batch ≤ MAX_ENTRIES }
-        ensures { is_some self.new.world ≡ is_some self.old.world }
+        ensures same { is_some self.new.world ≡ is_some self.old.world }
+        ensures kept { (before : List (ClientId × ℕ)) → AreFirstClients self.old.clients.items before
+            → OnOk result (AreFirstClients self.new.clients.items (before ++ joining client batch ∷ [])) }
+        ensures others { (self.new.placements ≡ self.old.placements) × (self.new.keeper ≡ self.old.keeper) }
     {
         if self.clients.len() > MAX_CLIENTS {
             return Ok(());
@@ -174,7 +199,12 @@ impl Stage {
     ) -> Result<(), RunError>
         ensures ok { OnOk result (result_err (event_line kind (words_of words.now)) ≡ None) }
         ensures opened { OnOk result (is_some self.new.world ≡ true) }
-        ensures err { IfErr result (StopsAtLine number (not (is_some self.old.world)) (result_err (event_line kind (words_of words.now)))) }
+        ensures opens { (parties : Parties) (stored : ℕ → Option ℕ)
+            → IsStaged ⟦<Table as Behaviour>⟧.class (is_some self.old.world) self.old.placements.items self.old.clients.items (incarnation_at self.old.keeper) parties stored
+            → OnOk result (Opens parties stored) }
+        ensures err { (parties : Parties) (stored : ℕ → Option ℕ)
+            → IsStaged ⟦<Table as Behaviour>⟧.class (is_some self.old.world) self.old.placements.items self.old.clients.items (incarnation_at self.old.keeper) parties stored
+            → IfErr result (StopsAtLine number (not (is_some self.old.world)) (result_err (event_line kind (words_of words.now))) parties stored) }
     {
         match self.open_by(number) {
             Ok(()) => {}
@@ -196,7 +226,7 @@ impl Stage {
     ) -> Result<(), RunError>
         requires { is_some self.old.world ≡ true }
         ensures same { is_some self.new.world ≡ true }
-        ensures err { IfErr result (StopsAtLine number false None) }
+        ensures err { (parties : Parties) (stored : ℕ → Option ℕ) → IfErr result (StopsAtLine number false None parties stored) }
     {
         match &mut self.world {
             Some(world) => match play(world, event, writer) {
@@ -211,7 +241,12 @@ impl Stage {
     /// Opens the world, at the line of this number, where it hasn't opened yet.
     pub fn open_by(&mut self, number: u32) -> Result<(), RunError>
         ensures ok { OnOk result (is_some self.new.world ≡ true) }
-        ensures err { IfErr result (StopsClosed (is_some self.old.world) number) }
+        ensures opens { (parties : Parties) (stored : ℕ → Option ℕ)
+            → IsStaged ⟦<Table as Behaviour>⟧.class (is_some self.old.world) self.old.placements.items self.old.clients.items (incarnation_at self.old.keeper) parties stored
+            → OnOk result (Opens parties stored) }
+        ensures err { (parties : Parties) (stored : ℕ → Option ℕ)
+            → IsStaged ⟦<Table as Behaviour>⟧.class (is_some self.old.world) self.old.placements.items self.old.clients.items (incarnation_at self.old.keeper) parties stored
+            → IfErr result (StopsClosed (is_some self.old.world) number parties stored) }
     {
         if self.world.is_some() {
             return Ok(());
@@ -222,7 +257,12 @@ impl Stage {
     // Opens the world, at the line of this number.
     fn open(&mut self, number: u32) -> Result<(), RunError>
         ensures ok { OnOk result (is_some self.new.world ≡ true) }
-        ensures err { IfErr result (StopsOpening number) }
+        ensures opens { (parties : Parties) (stored : ℕ → Option ℕ)
+            → IsWaiting ⟦<Table as Behaviour>⟧.class self.old.placements.items self.old.clients.items (incarnation_at self.old.keeper) parties stored
+            → OnOk result (Opens parties stored) }
+        ensures err { (parties : Parties) (stored : ℕ → Option ℕ)
+            → IsWaiting ⟦<Table as Behaviour>⟧.class self.old.placements.items self.old.clients.items (incarnation_at self.old.keeper) parties stored
+            → IfErr result (StopsOpening number parties stored) }
     {
         let placements = mem::replace(&mut self.placements, Vec::new(self.alloc));
         let keeper = mem::replace(&mut self.keeper, MemoryKeeper::new(self.alloc));

@@ -71,7 +71,7 @@ fn told(client: ClientId, command: Command) -> EventLine
     EventLine::One(Event::Do(client, command))
 }
 
-// A client, and up to nine handlers.
+// A client, and up to `MAX_NAMED_HANDLERS` handlers.
 fn read_reserve(line: &[u8]) -> Result<EventLine, InputFault>
     ensures { result ≡ reserve_line (words_of line.now) }
 {
@@ -86,7 +86,7 @@ fn read_reserve(line: &[u8]) -> Result<EventLine, InputFault>
     Ok(told(client, Command::Reserve(handlers)))
 }
 
-// Up to nine handlers.
+// Up to `MAX_NAMED_HANDLERS` handlers.
 fn read_handlers(line: &[u8]) -> Result<HandlerList, InputFault>
     requires { length (words_of line.now) ≤ MAX_NAMED_HANDLERS }
     ensures { result ≡ each_of handler_of (words_of line.now) }
@@ -108,7 +108,7 @@ fn read_handlers(line: &[u8]) -> Result<HandlerList, InputFault>
     }
 }
 
-// A client, a handler, and an operation with up to four arguments.
+// A client, a handler, and an operation with up to `MAX_ARGS` arguments.
 fn read_request(line: &[u8]) -> Result<(ClientId, HandlerId, Request), InputFault>
     ensures { result ≡ request_line (words_of line.now) }
 {
@@ -131,7 +131,7 @@ fn read_request(line: &[u8]) -> Result<(ClientId, HandlerId, Request), InputFaul
     Ok((client, handler, Request { op, args }))
 }
 
-// Up to four arguments.
+// Up to `MAX_ARGS` arguments.
 fn read_args(line: &[u8]) -> Result<Args, InputFault>
     requires { length (words_of line.now) ≤ MAX_ARGS }
     ensures { result ≡ each_of number_of (words_of line.now) }

@@ -9,6 +9,7 @@ use scoop_record::MemoryKeeper;
 use scoop_world::WorldOpenError;
 use std::alloc::Global;
 use std::process::Abort;
+use std::test::Fail;
 
 mod faults;
 mod limits;
@@ -450,4 +451,32 @@ giveup 7 > refused TooLate
 #[test]
 fn tells_why_an_event_is_refused(rt: HostRuntime) {
     plays(&rt, rt.alloc(), REFUSED);
+}
+
+// The example of the crate's root doc.
+#[test]
+fn plays_the_example_of_the_doc(rt: HostRuntime) -> Result<(), Fail> {
+    let alloc = rt.alloc();
+    let script = "\
+handler 1 1 cell 0
+client 7
+trip 7 1";
+    let mut output = Vec::new(alloc);
+    world_run(
+        alloc,
+        MemoryKeeper::new(alloc),
+        script.as_bytes(),
+        &mut output,
+    )?;
+    let text = "\
+sent 1 Hello
+Greeted sent 2
+Welcomed 1
+joint none
+handler 1 opened none
+handler 1 ran none
+client 7 accepted none
+";
+    assert!(rt; output.as_slice() == text.as_bytes());
+    Ok(())
 }

@@ -10,7 +10,7 @@ use crate::handler::Handler;
 use crate::handler::changing::greeting;
 use crate::marks::find_mark;
 use crate::note::{Heard, Note, Reason};
-use scoop_message::limits::MAX_CLIENTS;
+use scoop_message::limits::MAX_MARKS;
 use scoop_message::{ClientId, Message, OutOfMemory};
 use scoop_object::Behaviour;
 use std::alloc::Allocator;
@@ -27,7 +27,7 @@ impl<B: Behaviour, A: Allocator> Handler<B, A> {
     {
         let welcome = Message::Welcome(self.number, client, inc);
         let Some(mark) = find_mark(&self.marks, client) else {
-            if self.marks.len() == MAX_CLIENTS {
+            if self.marks.len() == MAX_MARKS {
                 return Ok(Heard::dropped(Reason::TooManyClients));
             }
             self.add(greeting(client, inc))?;

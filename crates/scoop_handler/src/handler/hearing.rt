@@ -72,7 +72,7 @@ impl<B: Behaviour, A: Allocator + Copy> Handler<B, A> {
                 Err(why) => Heard::dropped(why),
             }),
             Message::Log(_, block, number, entries) => {
-                // Says that there are entries, an End only last.
+                // For the prover: there are entries, an End only last.
                 let _count = entries.len();
                 match self.mark_for(block) {
                     Ok(mark) => self.hear_log(block, number, entries.as_slice(), mark),

@@ -1,7 +1,7 @@
 //! A block logs entries.
 
 ghost use Rattle.std.specs.Prelude.{◌≡◌, ◌<◌, ◌≤◌, ◌+◌, ◌^◌, ℕ, length, IfOk, OnErr, IsErr, IsTrue, Some};
-ghost use Rattle.scoop_message.specs.Entries.{EndOnlyLast, ends, last_number};
+ghost use Rattle.scoop_message.specs.Entries.{EndOnlyLast, last_number};
 ghost use Rattle.scoop_handler.specs.Core.{IsCore, with_state};
 ghost use Rattle.scoop_handler.specs.Hearing.{hear_log, received_before, kept_answer, is_closed, new_entries, has_no_room, IsHeardAt};
 ghost use Rattle.scoop_handler.specs.Rows.{IsNext};
@@ -11,19 +11,9 @@ use crate::handler::Handler;
 use crate::mark::{Mark, Stage};
 use crate::note::{Heard, Note, Reason};
 use scoop_message::limits::{MAX_ENTRIES, MAX_PENDING};
-use scoop_message::{Block, Entry, Message, OutOfMemory};
+use scoop_message::{Block, Entry, Message, OutOfMemory, ends};
 use scoop_object::Behaviour;
 use std::alloc::Allocator;
-
-// Whether the last entry is an End.
-fn ends(entries: &[Entry]) -> bool
-    ensures { result ≡ ends entries.now }
-{
-    match entries {
-        [.., last] => last.is_end(),
-        [] => false,
-    }
-}
 
 // Whether the block takes no more, or entries up to the number `last` would leave none for the End.
 fn is_closed(mark: &Mark, last: u64, entries: &[Entry]) -> bool

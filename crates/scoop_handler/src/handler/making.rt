@@ -31,6 +31,7 @@ impl<B: Behaviour, A: Allocator + Copy> Handler<B, A> {
         if !object.has_class(&class) {
             return Err(WrongClass(object));
         }
+        // For the prover: they are as many as the class has.
         let _words = object.words();
         Ok(Handler {
             class,

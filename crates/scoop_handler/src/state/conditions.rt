@@ -1,5 +1,5 @@
-//! Whether parts are those of a handler's state. There are at most 64 marks and 64 private queues, so they
-//! are searched from the front.
+//! Whether parts are those of a handler's state. There are at most `MAX_MARKS` marks and
+//! `MAX_QUEUES` private queues, so they are searched from the front.
 
 ghost use Rattle.std.specs.Prelude.{◌≡◌, ◌↔◌, ◌+◌, List, length, IsTrue, IfSome, slice_get};
 ghost use Rattle.std.specs.List.{AllByRecursion};
@@ -10,7 +10,7 @@ ghost use Rattle.scoop_handler.specs.State.{state_of, FitsMark, HasMark, HasQueu
 
 use crate::mark::{Mark, Stage};
 use crate::marks::find_mark;
-use scoop_message::limits::MAX_CLIENTS;
+use scoop_message::limits::MAX_MARKS;
 use scoop_message::{Block, Words};
 use scoop_queue::{Head, QueueOfQueues, QueueState};
 use std::alloc::Allocator;
@@ -28,6 +28,7 @@ fn is_ascending(marks: &[Mark]) -> bool
 
 // Whether the holder is its client's newest block, and that is held or open.
 fn is_under_way(holder: Option<Block>, marks: &[Mark]) -> bool
+    requires { IsAscending marks.now }
     ensures { IsTrue result ↔ HolderIsUnderWay holder marks.now }
 {
     let Some(block) = holder else {
@@ -121,12 +122,14 @@ fn fits_mark(head: Head, next: u64, mark: Mark) -> bool
 
 // Whether the private queue at a place, if there is one, fits its client's mark.
 fn has_mark<A: Allocator>(marks: &[Mark], queues: &QueueOfQueues<A>, i: usize) -> bool
+    requires { IsAscending marks.now }
     ensures { IsTrue result ↔ IfSome (slice_get queues.now i) (HasMark marks.now) }
 {
     let Some(head) = queues.head(i) else {
         return true;
     };
     let pending = queues.pending_len(head.block);
+    // For the prover: the private queues are sound.
     let _list = queues.list_len();
     match find_mark(marks, head.block.client) {
         Some(mark) => fits_mark(head, u64::from(head.first) + pending as u64, mark),
@@ -136,6 +139,7 @@ fn has_mark<A: Allocator>(marks: &[Mark], queues: &QueueOfQueues<A>, i: usize) -
 
 // Whether each private queue fits its client's mark.
 fn have_marks<A: Allocator>(marks: &[Mark], queues: &QueueOfQueues<A>) -> bool
+    requires { IsAscending marks.now }
     ensures { IsTrue result ↔ AllByRecursion (HasMark marks.now) queues.now }
 {
     for i in 0..queues.list_len() {
@@ -155,9 +159,10 @@ pub(crate) fn is_state<A: Allocator>(
 ) -> bool
     ensures { (number : HandlerId) → IsTrue result ↔ IsState (state_of number holder marks.now queues.now words.now) }
 {
+    // For the prover: what is true of all words and of all private queues.
     let _words = words.len();
     let _queues = queues.list_len();
-    marks.len() <= MAX_CLIENTS
+    marks.len() <= MAX_MARKS
         && is_ascending(marks)
         && is_under_way(holder, marks)
         && fit(marks, holder, queues)

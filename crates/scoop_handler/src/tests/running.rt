@@ -7,7 +7,7 @@ use super::{
 use crate::job::Done;
 use crate::{AfterError, Handler, HandlerState, Job, Reason, StrangerJob};
 use scoop_message::Answer;
-use scoop_message::limits::{MAX_CLIENTS, MAX_QUEUES};
+use scoop_message::limits::{MAX_MARKS, MAX_QUEUES};
 use scoop_object::{Behaviour, Table};
 use std::alloc::Allocator;
 use std::process::Abort;
@@ -52,7 +52,7 @@ fn waits_for_the_first_queue(rt: HostRuntime) -> Result<(), Fail> {
 }
 
 #[test]
-fn greets_64_clients(rt: HostRuntime) -> Result<(), Fail> {
+fn greets_as_many_clients_as_there_may_be(rt: HostRuntime) -> Result<(), Fail> {
     let mut handler = fresh(rt.alloc(), rt.alloc())?;
     for client in 0..64 {
         let row = (Act::Hello, client * 37 % 64, 1, 0, Said::Greeted);
@@ -63,13 +63,13 @@ fn greets_64_clients(rt: HostRuntime) -> Result<(), Fail> {
         (Act::Hello, 63, 1, 0, Said::Known),
     ];
     hears(&rt, &mut handler, &rows);
-    assert_eq!(rt; MAX_CLIENTS, 64);
+    assert_eq!(rt; MAX_MARKS, 64);
     Ok(())
 }
 
 /// There is room for a private queue again once one has run to its End.
 #[test]
-fn opens_64_queues(rt: HostRuntime) -> Result<(), Fail> {
+fn opens_as_many_queues_as_there_may_be(rt: HostRuntime) -> Result<(), Fail> {
     let mut handler = fresh(rt.alloc(), rt.alloc())?;
     hears_one(&rt, &mut handler, (Act::Hello, 7, 1, 0, Said::Greeted));
     let end = Act::Log(1, Does::End, Does::Nothing);

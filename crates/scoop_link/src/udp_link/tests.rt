@@ -1,6 +1,8 @@
 use super::*;
 use crate::tests::{CLIENT, HANDLER, fails, gets, has_faults, sends};
+use scoop_refusing::Refusing;
 use std::alloc::Global;
+use std::net::Ipv6Addr;
 use std::process::Abort;
 use std::rt::Clock;
 use std::test::Fail;
@@ -97,5 +99,113 @@ fn what_the_system_refuses_is_a_fault_until_the_count_is_full(rt: HostRuntime) -
     link.faults = u64::MAX;
     sends(&rt, &mut link, CLIENT, &too_long);
     has_faults(&rt, &link, u64::MAX);
+    Ok(())
+}
+
+// An address of this machine: the last octet of 127.0.0.x, or ::1 for 0.
+fn at(octet: u8, port: u16) -> SocketAddr {
+    let ip = if octet == 0 {
+        IpAddr::V6(Ipv6Addr::LOCALHOST)
+    } else {
+        IpAddr::V4(Ipv4Addr::new(127, 0, 0, octet))
+    };
+    SocketAddr::new(ip, port)
+}
+
+// A datagram goes from an address to another one and back.
+fn go_between<R: Net + Abort>(
+    rt: &R,
+    alloc: Global,
+    here: SocketAddr,
+    there: SocketAddr,
+) -> Result<(), Fail> {
+    let mut first = UdpLink::open_at(
+        rt,
+        alloc,
+        Addresses {
+            own: here,
+            table: &[(CLIENT, there)],
+        },
+    )?;
+    let mut second = UdpLink::open_at(
+        rt,
+        alloc,
+        Addresses {
+            own: there,
+            table: &[(HANDLER, here)],
+        },
+    )?;
+    carries(rt, &mut first, &mut second, &[9; 171], 171);
+    sends(rt, &mut second, HANDLER, &[4]);
+    gets(rt, &mut first, Some((1, 4)));
+    sends(rt, &mut second, CLIENT, &[5]);
+    has_faults(rt, &first, 0);
+    has_faults(rt, &second, 0);
+    Ok(())
+}
+
+#[test]
+fn datagrams_go_by_ipv6(rt: HostRuntime) -> Result<(), Fail> {
+    go_between(&rt, rt.alloc(), at(0, 47321), at(0, 47322))
+}
+
+#[test]
+fn datagrams_go_between_addresses(rt: HostRuntime) -> Result<(), Fail> {
+    go_between(&rt, rt.alloc(), at(2, 47323), at(3, 47323))
+}
+
+#[test]
+fn an_address_is_taken_once_and_has_a_port(rt: HostRuntime) -> Result<(), Fail> {
+    let own = Addresses {
+        own: at(2, 47324),
+        table: &[],
+    };
+    let _first = UdpLink::open_at(&rt, rt.alloc(), own)?;
+    assert_eq!(rt;
+        UdpLink::open_at(&rt, rt.alloc(), own).err(),
+        Some(OpenLinkError::Fault)
+    );
+    let portless = Addresses {
+        own: at(2, 47325),
+        table: &[(CLIENT, at(2, 47324)), (HANDLER, at(2, 0))],
+    };
+    assert_eq!(rt;
+        UdpLink::open_at(&rt, rt.alloc(), portless).err(),
+        Some(OpenLinkError::Fault)
+    );
+    Ok(())
+}
+
+#[test]
+fn an_address_of_the_other_family_is_a_fault(rt: HostRuntime) -> Result<(), Fail> {
+    let mixed = Addresses {
+        own: at(2, 47326),
+        table: &[(CLIENT, at(0, 47326))],
+    };
+    let mut link = UdpLink::open_at(&rt, rt.alloc(), mixed)?;
+    fails(&rt, &mut link, CLIENT, &[1]);
+    has_faults(&rt, &link, 1);
+    Ok(())
+}
+
+#[test]
+fn each_growth_of_a_table_is_refused(rt: HostRuntime) -> Result<(), Fail> {
+    let ports = Peers {
+        own: 47327,
+        table: &[(CLIENT, 47328)],
+    };
+    let addresses = Addresses {
+        own: at(2, 47327),
+        table: &[(CLIENT, at(2, 47328))],
+    };
+    let heap = Refusing::new(rt.alloc(), 1);
+    let refused = Some(OpenLinkError::OutOfMemory);
+    assert_eq!(rt; UdpLink::open(&rt, &heap, ports).err(), refused);
+    heap.refuse(1);
+    assert_eq!(rt; UdpLink::open_at(&rt, &heap, addresses).err(), refused);
+    heap.refuse(2);
+    assert_eq!(rt; UdpLink::open(&rt, &heap, ports).err(), None);
+    heap.refuse(2);
+    assert_eq!(rt; UdpLink::open_at(&rt, &heap, addresses).err(), None);
     Ok(())
 }

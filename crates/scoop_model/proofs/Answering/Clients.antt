@@ -1,4 +1,6 @@
--- What a client does keeps the answers right, and accepts each once.
+-- What a client does keeps the answers right, and accepts each once. An answer is accepted only of the query that waits, by
+-- an Answer that was sent, so it has run with that answer; and then the query is acknowledged, so every answer that was
+-- accepted lies behind the client, and the query that waits is none of them.
 use Rattle.std.proofs.Common.{◌≡◌, ℕ, ◌+◌, ◌<◌, Bool, true, false, List, [], ◌∷◌, ◌++◌, map, Option, Some, None, refl, sym, ap, ◌∙◌, subst, arith, append-nil}
 use Rattle.std.specs.Prelude.{if◌then◌else◌, Ok}
 use Rattle.std.specs.List.{AllByRecursion}
@@ -85,7 +87,8 @@ goes_on w p q on same f = record {
 }
 
 -- a world in which a party has gone on, with other logs or the same
-party_moves : (w : World) (p q : Party) (ls : List BlockLog) → Answering w → PartyAnswers w q → Answering (record w { parties = set_party q w.parties; logs = ls })
+party_moves :
+    (w : World) (p q : Party) (ls : List BlockLog) → Answering w → PartyAnswers w q → Answering (record w { parties = set_party q w.parties; logs = ls })
 party_moves w p q ls i f =
     let v : World = record w { parties = set_party q w.parties; logs = ls } in
     record {
@@ -104,7 +107,9 @@ module _ (w : World) (p : Party) (h : HandlerId) (n : ℕ) (a : ObjectAnswer) (r
   abbrev new : Accepted
   new = (h, newest_block p.client, n, a)
 
-  module _ (held : p.client.reservation ≡ Some r) (line : LineState) (found : line_of h p.client.lines ≡ Some line) (last : n ≡ logged line) (waiting : line.acked < n) where
+  module _
+      (held : p.client.reservation ≡ Some r) (line : LineState) (found : line_of h p.client.lines ≡ Some line) (last : n ≡ logged line)
+      (waiting : line.acked < n) where
     new_behind : IsBehind now new
     new_behind = record {
       upto = upto_itself p.client.inc p.client.last;
@@ -118,7 +123,8 @@ module _ (w : World) (p : Party) (h : HandlerId) (n : ℕ) (a : ObjectAnswer) (r
     none_same x f e =
         let b : x.1 ≡ newest_block p.client = ap (λ (q : HandlerId × Block × ℕ). q.1) e in
         let low = f.behind.acked r held (ap (λ (y : Block). y.inc) b) (ap (λ (y : Block). y.num) b) in
-        let there : acked_at x.0 p.client.lines ≡ line.acked = ap (λ (q : HandlerId × Block × ℕ). acked_at q.0 p.client.lines) e ∙ ap (λ o. option_map_or (λ (l : LineState). l.acked) o 0) found in
+        let there : acked_at x.0 p.client.lines ≡ line.acked =
+        ap (λ (q : HandlerId × Block × ℕ). acked_at q.0 p.client.lines) e ∙ ap (λ o. option_map_or (λ (l : LineState). l.acked) o 0) found in
         let number : x.2 ≡ n = ap (λ (q : HandlerId × Block × ℕ). q.2) e in
         omega (arith, low, there, number, waiting)
 
@@ -144,17 +150,22 @@ module _ (w : World) (p : Party) (logging : PartyLogs w p) (f : PartyAnswers w p
   quiet : (d : ClientState) (ys : List Accepted) → Onward p.client d → ys ≡ [] → PartyAnswers w (party_with p d ys)
   quiet d ys on none = goes_on w p (party_with p d ys) on (ap (λ xs. p.accepted ++ xs) none ∙ append-nil p.accepted) f
 
-  heard_fits : (m : Message) (d : ClientState) (note : ClientNote) → HeardRow p.client m d note → Onward p.client d → TellsAnswer w m → PartyAnswers w (party_with p d (newly_accepted (newest_block p.client) note))
+  heard_fits :
+      (m : Message) (d : ClientState) (note : ClientNote) → HeardRow p.client m d note → Onward p.client d → TellsAnswer w m
+      → PartyAnswers w (party_with p d (newly_accepted (newest_block p.client) note))
   heard_fits m d note (passed_over n) on t = quiet d [] on refl
   heard_fits m d note (is_welcomed h left) on t = quiet d [] on refl
-  heard_fits m d note (takes_step n r held) on t = quiet d _ on (step_accepts (newest_block p.client) p.client (reservation.heard r n).0 (reservation.heard r n).1)
+  heard_fits m d note (takes_step n r held) on t =
+      quiet d _ on (step_accepts (newest_block p.client) p.client (reservation.heard r n).0 (reservation.heard r n).1)
   heard_fits m d note (is_acknowledged h n r l held opened line new_count) on t = quiet d [] on refl
   heard_fits m d note (is_accepted h n a r held opened waits) on t =
       let block = logging.block r held in
       let query = block.waits h n waits in
       accepts w p h n a r held query.line query.found query.query.number query.query.waiting on (subst (λ b. HasRun (ran_at h w) b n a) block.block t) f
 
-pub notices_answering : (w : World) → Answering w → (m : Message) (p : Party) → TellsAnswer w m → PartyLogs w p → PartyAnswers w p → Answering (with_party w (heard_party p (heard p.client m)))
+pub notices_answering :
+    (w : World) → Answering w → (m : Message) (p : Party) → TellsAnswer w m → PartyLogs w p → PartyAnswers w p
+    → Answering (with_party w (heard_party p (heard p.client m)))
 notices_answering w i m p tells logging f =
     let now = heard p.client m in
     let row = heard_row p.client m in
@@ -162,8 +173,11 @@ notices_answering w i m p tells logging f =
 
 -- ---- a client takes a command, or restarts
 
-pub commands_answering : (w : World) → Answering w → (p : Party) (x : Command) (d : ClientState) → PartyAnswers w p → client.command p.client (core_command x) ≡ Ok d → Answering (commanded_world w p x d)
-commands_answering w i p x d f e = party_moves w p (record p { client = d }) _ i (goes_on w p (record p { client = d }) (onward_commanded p.client x d e) refl f)
+pub commands_answering :
+    (w : World) → Answering w → (p : Party) (x : Command) (d : ClientState) → PartyAnswers w p → client.command p.client (core_command x) ≡ Ok d
+    → Answering (commanded_world w p x d)
+commands_answering w i p x d f e =
+    party_moves w p (record p { client = d }) _ i (goes_on w p (record p { client = d }) (onward_commanded p.client x d e) refl f)
 
 pub restarts_answering : (w : World) → Answering w → (p : Party) → PartyFits w p → PartyAnswers w p → Answering (with_party w (restarted_party p))
 restarts_answering w i p fits f =

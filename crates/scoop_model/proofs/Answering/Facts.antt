@@ -8,7 +8,7 @@ use Rattle.scoop_message.specs.declared.name.Block.{Block}
 use Rattle.scoop_message.specs.declared.name.HandlerId.{HandlerId}
 use Rattle.scoop_message.specs.declared.request.Answer.{Answer as ObjectAnswer}
 use Rattle.scoop_message.specs.declared.message.Message.{Message}
-use Rattle.scoop_message.specs.declared.message.Message.TheVariants.{Hello, Welcome, Lock, Locked, Busy, Open, Opened, Unlock, Unlocked, Log, Logged, Answer}
+use Rattle.scoop_message.specs.declared.message.Message.TheVariants.{Answer}
 use Rattle.scoop_object.specs.Play.{play}
 use Rattle.scoop_reserve.specs.State.{ReservationState}
 use Rattle.scoop_client.specs.Line.{LineState, line_of}
@@ -22,18 +22,8 @@ use Rattle.scoop_model.proofs.Answering.Kept.{KeepsRan}
 
 -- an Answer that was sent tells what ran
 abbrev pub TellsAnswer : World → Message → Type 0
-TellsAnswer w (Hello h c inc) = ⊤
-TellsAnswer w (Welcome h c inc) = ⊤
-TellsAnswer w (Lock h b) = ⊤
-TellsAnswer w (Locked h b) = ⊤
-TellsAnswer w (Busy h b) = ⊤
-TellsAnswer w (Open h b) = ⊤
-TellsAnswer w (Opened h b) = ⊤
-TellsAnswer w (Unlock h b) = ⊤
-TellsAnswer w (Unlocked h b) = ⊤
-TellsAnswer w (Log h b n es) = ⊤
-TellsAnswer w (Logged h b n) = ⊤
 TellsAnswer w (Answer h b n a) = HasRun (ran_at h w) b n a
+TellsAnswer w m = ⊤
 
 -- the object has played the entries that ran, and each answer that ran or is kept is its own
 pub record SiteAnswers (s : Site) : Type 0 where
@@ -71,18 +61,8 @@ RanStays v w = (h : HandlerId) (b : Block) (n : ℕ) (a : ObjectAnswer) → HasR
 
 module _ (v w : World) (stays : RanStays v w) where
   pub tells_answer_more : (m : Message) → TellsAnswer v m → TellsAnswer w m
-  tells_answer_more (Hello h c inc) t = tt
-  tells_answer_more (Welcome h c inc) t = tt
-  tells_answer_more (Lock h b) t = tt
-  tells_answer_more (Locked h b) t = tt
-  tells_answer_more (Busy h b) t = tt
-  tells_answer_more (Open h b) t = tt
-  tells_answer_more (Opened h b) t = tt
-  tells_answer_more (Unlock h b) t = tt
-  tells_answer_more (Unlocked h b) t = tt
-  tells_answer_more (Log h b n es) t = tt
-  tells_answer_more (Logged h b n) t = tt
   tells_answer_more (Answer h b n a) t = stays h b n a t
+  tells_answer_more m t = tt
 
   pub messages_more : (ms : List Message) → AllByRecursion (TellsAnswer v) ms → AllByRecursion (TellsAnswer w) ms
   messages_more = all_more_of (TellsAnswer v) (TellsAnswer w) tells_answer_more

@@ -1,4 +1,6 @@
--- What a handler does keeps the answers right.
+-- What a handler does keeps the answers right. Where an entry runs, its answer is the object's at the words that the
+-- entries before it have made, and the mark keeps it if it is a query's of the mark's block; an Answer that is replied is
+-- the one that is kept. Hearing runs nothing, and a restarted node has the words that were stored with what ran.
 use Rattle.std.proofs.Common.{◌≡◌, ℕ, ◌==◌, List, [], ◌∷◌, map, find, Option, Some, None, refl, sym, ap, ◌∙◌, subst}
 use Rattle.std.specs.Prelude.{if◌then◌else◌}
 use Rattle.std.specs.List.{AllByRecursion}
@@ -7,7 +9,7 @@ use Rattle.scoop_message.specs.declared.name.Block.{Block}
 use Rattle.scoop_message.specs.declared.name.HandlerId.{HandlerId}
 use Rattle.scoop_message.specs.declared.request.Answer.{Answer as ObjectAnswer}
 use Rattle.scoop_message.specs.declared.message.Message.{Message}
-use Rattle.scoop_message.specs.declared.message.Message.TheVariants.{Hello, Welcome, Lock, Locked, Busy, Open, Opened, Unlock, Unlocked, Log, Logged, Answer}
+use Rattle.scoop_message.specs.declared.message.Message.TheVariants.{Answer}
 use Rattle.scoop_message.specs.Message.{same_handler}
 use Rattle.scoop_message.proofs.Same.{pair}
 use Rattle.scoop_object.specs.Class.{ClassTable}
@@ -35,8 +37,11 @@ use Rattle.scoop_model.proofs.Answering.Facts.{TellsAnswer, SiteAnswers, Answeri
 abbrev ran_of_site : Option Site → List Ran
 ran_of_site o = option_map_or (λ s. s.ran) o []
 
-module _ (w : World) (s old : Site) (here : site_of (number_of s) w ≡ Some old) (more : (b : Block) (n : ℕ) (a : ObjectAnswer) → HasRun old.ran b n a → HasRun s.ran b n a) where
-  ran_stays : (h : HandlerId) (b : Block) (n : ℕ) (a : ObjectAnswer) → HasRun (ran_at h w) b n a → HasRun (ran_of_site (find (is_site h) (set_site s w.sites))) b n a
+module _
+    (w : World) (s old : Site) (here : site_of (number_of s) w ≡ Some old)
+    (more : (b : Block) (n : ℕ) (a : ObjectAnswer) → HasRun old.ran b n a → HasRun s.ran b n a) where
+  ran_stays :
+      (h : HandlerId) (b : Block) (n : ℕ) (a : ObjectAnswer) → HasRun (ran_at h w) b n a → HasRun (ran_of_site (find (is_site h) (set_site s w.sites))) b n a
   ran_stays h b n a r =
       by_site (λ o. HasRun (ran_of_site o) b n a) w s old h here
       (λ same.
@@ -59,23 +64,14 @@ module _ (w : World) (s old : Site) (here : site_of (number_of s) w ≡ Some old
 -- ---- a handler hears
 
 -- what a reply tells
-reply_tells : (v : World) (h : HandlerId) (rs : List Ran) (o : Option Message) → ran_at h v ≡ rs → TellsRan rs h o → (m : Message) → o ≡ Some m → TellsAnswer v m
+reply_tells :
+    (v : World) (h : HandlerId) (rs : List Ran) (o : Option Message) → ran_at h v ≡ rs → TellsRan rs h o → (m : Message) → o ≡ Some m → TellsAnswer v m
 reply_tells v h rs None at t m e = absurd (cc)
 reply_tells v h rs (Some r) at t m e = let same : r ≡ m = cc in subst (TellsAnswer v) same (told r t)
   where
     told : (r : Message) → TellsRan rs h (Some r) → TellsAnswer v r
     told (Answer x b n a) t = subst (λ j. HasRun (ran_at j v) b n a) (sym t.0) (subst (λ xs. HasRun xs b n a) (sym at) t.1)
-    told (Hello x c inc) t = tt
-    told (Welcome x c inc) t = tt
-    told (Lock x b) t = tt
-    told (Locked x b) t = tt
-    told (Busy x b) t = tt
-    told (Open x b) t = tt
-    told (Opened x b) t = tt
-    told (Unlock x b) t = tt
-    told (Unlocked x b) t = tt
-    told (Log x b n es) t = tt
-    told (Logged x b n) t = tt
+    told m t = tt
 
 -- the task of a job that is out has the class of its handler, and the words that these are
 job_object : (c : Core) (t : Task) {words : List ℕ} → job_out c ≡ Some t → c.state.words ≡ words → pair t.class t.words ≡ pair c.class words
@@ -128,7 +124,9 @@ module _ (w : World) (i : Answering w) (h : HandlerId) (s : Site) (found : site_
 
 -- ---- a node restarts
 
-ran_first : (h : HandlerId) (x y : Site) (xs ys : List Site) → number_of y ≡ number_of x → y.ran ≡ x.ran → ran_of_site (find (is_site h) ys) ≡ ran_of_site (find (is_site h) xs)
+ran_first :
+    (h : HandlerId) (x y : Site) (xs ys : List Site) → number_of y ≡ number_of x → y.ran ≡ x.ran
+    → ran_of_site (find (is_site h) ys) ≡ ran_of_site (find (is_site h) xs)
     → ran_of_site (find (is_site h) (y ∷ ys)) ≡ ran_of_site (find (is_site h) (x ∷ xs))
 ran_first h x y xs ys number ran later =
     subst (λ k. ran_of_site (if same_handler k h then Some y else find (is_site h) ys) ≡ ran_of_site (find (is_site h) (x ∷ xs))) (sym number)
@@ -136,12 +134,16 @@ ran_first h x y xs ys number ran later =
 
 module _ (js : List Block) (n : ℕ) where
   number_anew : (x : Site) → SiteFits js x → number_of (reopened n x) ≡ number_of x
-  number_anew x f = by_test (λ t. number_of (if t then reopened_site x else x) ≡ number_of x) (x.node == n) (λ here. ap (λ (st : HandlerState). st.number) f.stored) (λ there. refl)
+  number_anew x f =
+      by_test (λ t. number_of (if t then reopened_site x else x) ≡ number_of x) (x.node == n) (λ here. ap (λ (st : HandlerState). st.number) f.stored)
+      (λ there. refl)
 
   ran_same : (x : Site) → (reopened n x).ran ≡ x.ran
   ran_same x = by_test (λ t. (if t then reopened_site x else x).ran ≡ x.ran) (x.node == n) (λ here. refl) (λ there. refl)
 
-  pub ran_anew : (h : HandlerId) (xs : List Site) → AllByRecursion (SiteFits js) xs → ran_of_site (find (is_site h) (map (reopened n) xs)) ≡ ran_of_site (find (is_site h) xs)
+  pub ran_anew :
+      (h : HandlerId) (xs : List Site) → AllByRecursion (SiteFits js) xs
+      → ran_of_site (find (is_site h) (map (reopened n) xs)) ≡ ran_of_site (find (is_site h) xs)
   ran_anew h [] all = refl
   ran_anew h (x ∷ xs) all = ran_first h x (reopened n x) xs (map (reopened n) xs) (number_anew x all.0) (ran_same x) (ran_anew h xs all.1)
 

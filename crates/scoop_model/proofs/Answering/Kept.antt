@@ -8,7 +8,7 @@ use Rattle.scoop_message.specs.declared.name.Block.{Block}
 use Rattle.scoop_message.specs.declared.name.HandlerId.{HandlerId}
 use Rattle.scoop_message.specs.declared.request.Answer.{Answer as ObjectAnswer}
 use Rattle.scoop_message.specs.declared.message.Message.{Message}
-use Rattle.scoop_message.specs.declared.message.Message.TheVariants.{Hello, Welcome, Lock, Locked, Busy, Open, Opened, Unlock, Unlocked, Log, Logged, Answer}
+use Rattle.scoop_message.specs.declared.message.Message.TheVariants.{Answer}
 use Rattle.scoop_message.specs.Entries.{last_number}
 use Rattle.scoop_message.specs.Entry.{is_query}
 use Rattle.scoop_message.specs.Message.{same_block}
@@ -51,18 +51,8 @@ keeps_none rs b stage = record { has = λ n a e. absurd (cc) }
 -- an Answer is of this handler, and tells what ran
 abbrev pub TellsRan : List Ran → HandlerId → Option Message → Type 0
 TellsRan rs h None = ⊤
-TellsRan rs h (Some (Hello x c inc)) = ⊤
-TellsRan rs h (Some (Welcome x c inc)) = ⊤
-TellsRan rs h (Some (Lock x b)) = ⊤
-TellsRan rs h (Some (Locked x b)) = ⊤
-TellsRan rs h (Some (Busy x b)) = ⊤
-TellsRan rs h (Some (Open x b)) = ⊤
-TellsRan rs h (Some (Opened x b)) = ⊤
-TellsRan rs h (Some (Unlock x b)) = ⊤
-TellsRan rs h (Some (Unlocked x b)) = ⊤
-TellsRan rs h (Some (Log x b n es)) = ⊤
-TellsRan rs h (Some (Logged x b n)) = ⊤
 TellsRan rs h (Some (Answer x b n a)) = (x ≡ h) × HasRun rs b n a
+TellsRan rs h (Some m) = ⊤
 
 module _ (rs : List Ran) (s : HandlerState) (all : AllByRecursion (KeepsRan rs) s.marks) where
   -- the mark of a block that is heard
@@ -73,13 +63,15 @@ module _ (rs : List Ran) (s : HandlerState) (all : AllByRecursion (KeepsRan rs) 
   keeps_set k own = All-set_mark (KeepsRan rs) (KeepsRan rs) k s.marks own (λ x apart f. f) all
 
   pub keeps-row : (m : Message) (h : Hearing) → Row s m h → AllByRecursion (KeepsRan rs) h.0.marks
-  keeps-row m h (first_greeting x c inc here none room) = All-add_mark (KeepsRan rs) (KeepsRan rs) (greeting_mark c inc) s.marks (keeps_none rs _ AtShut) (λ x f. f) all
+  keeps-row m h (first_greeting x c inc here none room) =
+      All-add_mark (KeepsRan rs) (KeepsRan rs) (greeting_mark c inc) s.marks (keeps_none rs _ AtShut) (λ x f. f) all
   keeps-row m h (newer_greeting x c inc k here found newer) = keeps_set (greeting_mark c inc) (keeps_none rs _ AtShut)
   keeps-row m h (lock_granted x b k here at new free clear) = keeps_set (fresh_mark b AtHeld) (keeps_none rs b AtHeld)
   keeps-row m h (open_granted x b k here at same was room) = let f = keeps_found b k at in keeps_set (opened_mark k) (record { has = f.has })
   keeps-row m h (unlock_new x b k here at new clear) = keeps_set (fresh_mark b AtShut) (keeps_none rs b AtShut)
   keeps-row m h (unlock_holder x b k here at same holds) = let f = keeps_found b k at in keeps_set (without_hold k) (record { has = f.has })
-  keeps-row m h (log_taken x b n es k here at next goes_on room) = let f = keeps_found b k at.heard in keeps_set (with_received (last_number n es) _ k) (record { has = f.has })
+  keeps-row m h (log_taken x b n es k here at next goes_on room) =
+      let f = keeps_found b k at.heard in keeps_set (with_received (last_number n es) _ k) (record { has = f.has })
   keeps-row m h r = all
 
   pub tells_ran-row : (m : Message) (h : Hearing) → Row s m h → TellsRan rs s.number h.1.reply

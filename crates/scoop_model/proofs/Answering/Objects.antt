@@ -11,12 +11,15 @@ abbrev pub AnswersFrom : ClassTable → List ℕ → List Ran → Type 0
 AnswersFrom class words [] = ⊤
 AnswersFrom class words (r ∷ rs) = (r.answer ≡ (entry_effect class words r.entry).1) × AnswersFrom class (entry_effect class words r.entry).0 rs
 
-pub play_pushed : (class : ClassTable) (words : List ℕ) (rs : List Ran) (r : Ran) → play class words (entries_of (rs ++ r ∷ [])) ≡ (entry_effect class (play class words (entries_of rs)) r.entry).0
+pub play_pushed :
+    (class : ClassTable) (words : List ℕ) (rs : List Ran) (r : Ran)
+    → play class words (entries_of (rs ++ r ∷ [])) ≡ (entry_effect class (play class words (entries_of rs)) r.entry).0
 play_pushed class words [] r = refl
 play_pushed class words (x ∷ rs) r = play_pushed class (entry_effect class words x.entry).0 rs r
 
 pub answers_pushed :
-    (class : ClassTable) (words : List ℕ) (rs : List Ran) (r : Ran) → AnswersFrom class words rs → r.answer ≡ (entry_effect class (play class words (entries_of rs)) r.entry).1
+    (class : ClassTable) (words : List ℕ) (rs : List Ran) (r : Ran) → AnswersFrom class words rs
+    → r.answer ≡ (entry_effect class (play class words (entries_of rs)) r.entry).1
     → AnswersFrom class words (rs ++ r ∷ [])
 answers_pushed class words [] r all own = (own, tt)
 answers_pushed class words (x ∷ rs) r all own = (all.0, answers_pushed class (entry_effect class words x.entry).0 rs r all.1 own)

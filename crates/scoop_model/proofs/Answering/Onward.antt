@@ -56,7 +56,8 @@ behind_more c d a o b = record {
 -- ---- the client stays in its block
 
 module _ (c : ClientState) where
-  onward_here : (d : ClientState) → d.id ≡ c.id → d.inc ≡ c.inc → d.last ≡ c.last → ((r : ReservationState) → d.reservation ≡ Some r → GoesOnIn c d) → Onward c d
+  onward_here :
+      (d : ClientState) → d.id ≡ c.id → d.inc ≡ c.inc → d.last ≡ c.last → ((r : ReservationState) → d.reservation ≡ Some r → GoesOnIn c d) → Onward c d
   onward_here d id inc last goes_on = record {
     id = id;
     upto = record { inc = omega (arith, inc); num = λ e. omega (arith, last) };
@@ -73,7 +74,8 @@ module _ (c : ClientState) where
   onward_idle : (d : ClientState) → d.id ≡ c.id → d.inc ≡ c.inc → d.last ≡ c.last → Onward c (idle d)
   onward_idle d id inc last = onward_here (idle d) id inc last (λ r e. absurd (cc))
 
-  onward_lines : (ls : List LineState) (waits : Option (HandlerId × ℕ)) → ((h : HandlerId) → acked_at h c.lines ≤ acked_at h ls) → Onward c (with_lines c ls waits)
+  onward_lines :
+      (ls : List LineState) (waits : Option (HandlerId × ℕ)) → ((h : HandlerId) → acked_at h c.lines ≤ acked_at h ls) → Onward c (with_lines c ls waits)
   onward_lines ls waits more = onward_here (with_lines c ls waits) refl refl refl (λ r held. record { reservation = r; held = held; acked = more })
 
   -- ---- it hears
@@ -101,7 +103,8 @@ module _ (c : ClientState) where
   onward_heard m d note (takes_step n r held) = onward_step r (reservation.heard r n).0 (reservation.heard r n).1 held
   onward_heard m d note (is_acknowledged h n r l held opened line new) =
       let k = up_to h n c.waits in onward_settled (at_line h (acknowledged k) c.lines) (λ x. acked_at_line (acknowledged k) (acknowledged_raises k) h x c.lines)
-  onward_heard m d note (is_accepted h n a r held opened waits) = onward_lines (at_line h (acknowledged n) c.lines) None (λ x. acked_at_line (acknowledged n) (acknowledged_raises n) h x c.lines)
+  onward_heard m d note (is_accepted h n a r held opened waits) =
+      onward_lines (at_line h (acknowledged n) c.lines) None (λ x. acked_at_line (acknowledged n) (acknowledged_raises n) h x c.lines)
 
   -- ---- it takes a command
 
@@ -126,7 +129,8 @@ module _ (c : ClientState) where
   onward_log h x d o row e = absurd (cc)
 
   onward_end : (d : ClientState) (o : client.Outcome) → EndRow c o → o ≡ Ok d → Onward c d
-  onward_end d o (ends_block running free room) e = subst (Onward c) (ok_is _ d e) (onward_lines (map with_end c.lines) None (λ y. acked_all with_end ends_raise y c.lines))
+  onward_end d o (ends_block running free room) e =
+      subst (Onward c) (ok_is _ d e) (onward_lines (map with_end c.lines) None (λ y. acked_all with_end ends_raise y c.lines))
   onward_end d o row e = absurd (cc)
 
   onward_give_up : (d : ClientState) (o : client.Outcome) → GiveUpRow c o → o ≡ Ok d → Onward c d

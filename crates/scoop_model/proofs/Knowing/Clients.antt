@@ -1,4 +1,6 @@
--- What a client does keeps that its block's incarnation is known, and so is that of each block that it names.
+-- What a client does keeps that its block's incarnation is known, and so is that of each block that it names. A client
+-- reserves only once no handler is left to greet, and each Welcome tells that the handler's mark has come to the client's
+-- incarnation; so from the reserve on every handler knows the incarnation of the block.
 use Rattle.std.proofs.Common.{◌≡◌, ◌+◌, true, false, List, Option, Some, None, refl, ap, ◌∙◌, subst}
 use Rattle.std.specs.Prelude.{if◌then◌else◌, Ok}
 use Rattle.scoop_message.specs.declared.name.Block.{Block}
@@ -78,7 +80,8 @@ module _ (hs : List HandlerId) (ss : List Site) where
   -- ---- what a client hears
 
   -- nothing but the reservation changes, in the same block
-  in_block : (c : ClientState) (r s : ReservationState) → ClientKnown hs ss c → c.reservation ≡ Some r → r.block ≡ s.block → ClientKnown hs ss (with_reservation c s)
+  in_block :
+      (c : ClientState) (r s : ReservationState) → ClientKnown hs ss c → c.reservation ≡ Some r → r.block ≡ s.block → ClientKnown hs ss (with_reservation c s)
   in_block c r s k has_one same = record {
     handlers = k.handlers;
     greeted = k.greeted;
@@ -88,11 +91,14 @@ module _ (hs : List HandlerId) (ss : List Site) where
   idle_known : (c : ClientState) → ClientKnown hs ss c → ClientKnown hs ss (idle c)
   idle_known c k = record { handlers = k.handlers; greeted = k.greeted; block = λ r e. absurd (cc) }
 
-  stepped_known : (c : ClientState) (r s : ReservationState) → ClientKnown hs ss c → c.reservation ≡ Some r → r.block ≡ s.block → ClientKnown hs ss (stepped c s)
+  stepped_known :
+      (c : ClientState) (r s : ReservationState) → ClientKnown hs ss c → c.reservation ≡ Some r → r.block ≡ s.block → ClientKnown hs ss (stepped c s)
   stepped_known c r s k has_one same =
       by_test (λ t. ClientKnown hs ss (if t then idle c else with_reservation c s)) (is_gone s) (λ over. idle_known c k) (λ on. in_block c r s k has_one same)
 
-  step_known : (c : ClientState) (r s : ReservationState) (st : Step) → ClientKnown hs ss c → c.reservation ≡ Some r → r.block ≡ s.block → ClientKnown hs ss (after_step c s st).0
+  step_known :
+      (c : ClientState) (r s : ReservationState) (st : Step) → ClientKnown hs ss c → c.reservation ≡ Some r → r.block ≡ s.block
+      → ClientKnown hs ss (after_step c s st).0
   step_known c r s (step.Locked h) k has_one same = stepped_known c r s k has_one same
   step_known c r s (step.Busy h) k has_one same = stepped_known c r s k has_one same
   step_known c r s (step.Opened h) k has_one same = stepped_known c r s k has_one same
@@ -106,14 +112,18 @@ module _ (hs : List HandlerId) (ss : List Site) where
   lines_known c lines waits k = record { handlers = k.handlers; greeted = k.greeted; block = k.block }
 
   -- one more handler has welcomed the client
-  welcomed_known : (c : ClientState) (h : HandlerId) → ClientKnown hs ss c → HasGreeted ss h c.id c.inc → (x : HandlerId) → has hs x ≡ true → has (without h c.left) x ≡ false → HasGreeted ss x c.id c.inc
+  welcomed_known :
+      (c : ClientState) (h : HandlerId) → ClientKnown hs ss c → HasGreeted ss h c.id c.inc → (x : HandlerId) → has hs x ≡ true
+      → has (without h c.left) x ≡ false → HasGreeted ss x c.id c.inc
   welcomed_known c h k now x e f =
       by_test (λ t. has c.left x ≡ t → HasGreeted ss x c.id c.inc) (has c.left x)
       (λ _ there. subst (λ j. HasGreeted ss j c.id c.inc) (is_gone_one h x c.left there f) now)
       (λ _ before. k.greeted x e before) refl
 
 -- the client stays known by what it hears
-pub heard_known : (hs : List HandlerId) (w : World) (c : ClientState) (m : Message) (d : ClientState) (note : ClientNote) → HeardRow c m d note → Greets w m → ClientKnown hs w.sites c → ClientKnown hs w.sites d
+pub heard_known :
+    (hs : List HandlerId) (w : World) (c : ClientState) (m : Message) (d : ClientState) (note : ClientNote) → HeardRow c m d note → Greets w m
+    → ClientKnown hs w.sites c → ClientKnown hs w.sites d
 heard_known hs w c m d note (passed_over n) g k = k
 heard_known hs w c m d note (is_welcomed h left) g k = record { handlers = k.handlers; greeted = welcomed_known hs w.sites c h k g; block = k.block }
 heard_known hs w c m d note (takes_step n r has_one) g k =
@@ -154,7 +164,8 @@ module _ (hs : List HandlerId) (ss : List Site) (c d : ClientState) (k : ClientK
   end_known o row e = absurd (cc)
 
   give_up_known : (o : Outcome) → GiveUpRow c o → o ≡ Ok d → ClientKnown hs ss d
-  give_up_known o (gives_up r s locking has_one given) e = subst IsAfter (ok_is (with_reservation c s) d e) (in_block hs ss c r s k has_one (given_up_block r s r.stage given))
+  give_up_known o (gives_up r s locking has_one given) e =
+      subst IsAfter (ok_is (with_reservation c s) d e) (in_block hs ss c r s k has_one (given_up_block r s r.stage given))
   give_up_known o row e = absurd (cc)
 
   pub command_known : (x : Command) → command c x ≡ Ok d → ClientKnown hs ss d

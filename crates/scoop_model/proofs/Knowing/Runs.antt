@@ -46,7 +46,9 @@ module _ (hs : List HandlerId) where
   old_names w v i more = all_more_of (Names hs w.sites) (Names hs v.sites) (names_more hs w.sites v.sites more) w.sent i.messages
 
   -- one site goes on, and nothing is sent
-  site_known : (w : World) (s old : Site) → Knowing hs w → site_of (number_of s) w ≡ Some old → MarksGrow old.core.state.marks s.core.state.marks → Knowing hs (record w { sites = set_site s w.sites })
+  site_known :
+      (w : World) (s old : Site) → Knowing hs w → site_of (number_of s) w ≡ Some old → MarksGrow old.core.state.marks s.core.state.marks
+      → Knowing hs (record w { sites = set_site s w.sites })
   site_known w s old i here grows =
       let v : World = record w { sites = set_site s w.sites } in
       let more = granted_set w s old here grows in
@@ -56,13 +58,16 @@ module _ (hs : List HandlerId) where
   set_known : (w : World) (p : Party) → Knowing hs w → PartyKnown hs w.sites p → AllByRecursion (PartyKnown hs w.sites) (set_party p w.parties)
   set_known w p i own = all_set_party (PartyKnown hs w.sites) (PartyKnown hs w.sites) p w.parties own (λ y other k. k) i.parties
 
-  hears_known : (w : World) → Sound w → Knowing hs w → (k : _) (m : Message) (s : Site) → sent_at k w ≡ Some m → site_of (handler_of m) w ≡ Some s → Knowing hs (heard_world w s (hear s.core.state m))
+  hears_known :
+      (w : World) → Sound w → Knowing hs w → (k : _) (m : Message) (s : Site) → sent_at k w ≡ Some m → site_of (handler_of m) w ≡ Some s
+      → Knowing hs (heard_world w s (hear s.core.state m))
   hears_known w sound i k m s was found =
       let now : Hearing = hear s.core.state m in
       let by = row s.core.state m in
       let t : Site = heard_site s now in
       let v : World = heard_world w s now in
-      let here : site_of (number_of t) w ≡ Some s = subst (λ j. site_of j w ≡ Some s) (sym (number-row s.core.state m now by)) (place w (handler_of m) s found) in
+      let here : site_of (number_of t) w ≡ Some s =
+      subst (λ j. site_of j w ≡ Some s) (sym (number-row s.core.state m now by)) (place w (handler_of m) s found) in
       let more = granted_set w t s here (grows-row s.core.state m now by) in
       let named : Names hs v.sites m = names_more hs w.sites v.sites more m (sent_all w k m was (Names hs w.sites) i.messages) in
       let replies = replies-row s.core.state m now by (sent_all w k m was HasEntries sound.messages) in
@@ -126,7 +131,8 @@ module _ (hs : List HandlerId) where
 found_has : (h : HandlerId) (ss : List Site) (s : Site) → find (is_site h) ss ≡ Some s → has (map number_of ss) h ≡ true
 found_has h [] s e = absurd (cc)
 found_has h (x ∷ xs) s e =
-    by_test (λ t. (if t then Some x else find (is_site h) xs) ≡ Some s → (t || has (map number_of xs) h) ≡ true) (is_site h x) (λ here f. refl) (λ there f. found_has h xs s f) e
+    by_test (λ t. (if t then Some x else find (is_site h) xs) ≡ Some s → (t || has (map number_of xs) h) ≡ true) (is_site h x) (λ here f. refl)
+    (λ there f. found_has h xs s f) e
 
 names_shown : (hs : List HandlerId) (w : World) → map number_of w.sites ≡ hs → (m : Message) → Names hs w.sites m → NamesKnown w m
 names_shown hs w numbers m n = record {
@@ -141,10 +147,23 @@ names_shown hs w numbers m n = record {
     some_site : (x y : Site) → Some x ≡ Some y → x ≡ y
     some_site x y e = cc
 
+-- what is known in a world that is reached
+reached_knowing : (w : World) (r : IsReached w) → Knowing (map (λ (p : Placement). p.handler) r.placements) w
+reached_knowing w r =
+    let hs = map (λ (p : Placement). p.handler) r.placements in
+    let v : World = opening r.placements r.newcomers in
+    let opens : All hs v =
+    (((opens_ordered r.placements r.newcomers, opens_sound r.placements r.newcomers r.opens), opens_greetings r.placements r.newcomers), record { messages = tt; parties = parties_open hs v.sites r.newcomers }) in
+    let i : All hs w = subst (All hs) (ap (λ (x : Run). x.0) r.leads) (steps_kept (All hs) (all_kept hs) v r.events opens) in
+    i.1
+
 pub names_known : (w : World) → IsReached w → AllByRecursion (NamesKnown w) w.sent
 names_known w r =
     let hs = map (λ (p : Placement). p.handler) r.placements in
-    let v : World = opening r.placements r.newcomers in
-    let opens : All hs v = (((opens_ordered r.placements r.newcomers, opens_sound r.placements r.newcomers r.opens), opens_greetings r.placements r.newcomers), record { messages = tt; parties = parties_open hs v.sites r.newcomers }) in
-    let i : All hs w = subst (All hs) (ap (λ (x : Run). x.0) r.leads) (steps_kept (All hs) (all_kept hs) v r.events opens) in
-    all_more_of (Names hs w.sites) (NamesKnown w) (names_shown hs w (sites_placed w r)) w.sent i.1.messages
+    all_more_of (Names hs w.sites) (NamesKnown w) (names_shown hs w (sites_placed w r)) w.sent (reached_knowing w r).messages
+
+-- each client knows the handlers that were placed
+pub clients_know : (w : World) (r : IsReached w) → AllByRecursion (λ p. p.client.handlers ≡ map number_of w.sites) w.parties
+clients_know w r =
+    let hs = map (λ (p : Placement). p.handler) r.placements in
+    all_more_of (PartyKnown hs w.sites) (λ p. p.client.handlers ≡ map number_of w.sites) (λ p k. k.handlers ∙ sym (sites_placed w r)) w.parties (reached_knowing w r).parties

@@ -1,4 +1,6 @@
--- What a client sends and hears, and its restart, leave its lines at the end of the logs.
+-- What a client sends and hears, and its restart, leave its lines at the end of the logs. A Log carries the first entries
+-- of a line, from the number behind the acknowledged ones, so they stand in the log with these numbers; an acknowledgement
+-- takes entries off a line's front alone. Hearing and restarting log nothing.
 use Rattle.std.proofs.Common.{◌≡◌, ℕ, ◌+◌, ◌||◌, Bool, true, false, true≢false, nat_lt, nat_le, List, [], ◌++◌, Option, Some, refl, sym, ap, ◌∙◌, subst, append_assoc, append-nil}
 use Rattle.std.specs.Prelude.{if◌then◌else◌}
 use Rattle.std.specs.List.{AllByRecursion}
@@ -7,7 +9,7 @@ use Rattle.scoop_message.specs.declared.name.Block.{Block}
 use Rattle.scoop_message.specs.declared.name.HandlerId.{HandlerId}
 use Rattle.scoop_message.specs.declared.request.Entry.{Entry}
 use Rattle.scoop_message.specs.declared.message.Message.{Message}
-use Rattle.scoop_message.specs.declared.message.Message.TheVariants.{Hello, Welcome, Lock, Locked, Busy, Open, Opened, Unlock, Unlocked, Log, Logged, Answer}
+use Rattle.scoop_message.specs.declared.message.Message.TheVariants.{Hello, Log}
 use Rattle.scoop_message.specs.Entries.{EndOnlyLast}
 use Rattle.scoop_message.specs.Message.{same_handler}
 use Rattle.scoop_message.proofs.Same.{handler_decides}
@@ -39,17 +41,7 @@ use Rattle.scoop_model.proofs.Logging.Lines.{by_line, handlers_at, handlers_at_l
 module _ (v w : World) where
   pub carries_more : Grown v w → (m : Message) → Carries v m → Carries w m
   carries_more grown (Log h b n es) s = let x = grown b h in subst (λ log. Stands log n es) x.1 (stands_more (log_of b h v) x.0 n es s)
-  carries_more grown (Hello h c inc) s = tt
-  carries_more grown (Welcome h c inc) s = tt
-  carries_more grown (Lock h b) s = tt
-  carries_more grown (Locked h b) s = tt
-  carries_more grown (Busy h b) s = tt
-  carries_more grown (Open h b) s = tt
-  carries_more grown (Opened h b) s = tt
-  carries_more grown (Unlock h b) s = tt
-  carries_more grown (Unlocked h b) s = tt
-  carries_more grown (Logged h b n) s = tt
-  carries_more grown (Answer h b n a) s = tt
+  carries_more grown m s = tt
 
   -- the log of this block stays
   abbrev pub SameLogs : Block → Type 0
@@ -176,7 +168,9 @@ module _ (w : World) (c : ClientState) (fits : AllFit w c) where
   step_fits r s step.Ignored held g = fits
 
   -- one line's entries are acknowledged
-  acknowledged_lines : (r : ReservationState) (h : HandlerId) (k : ℕ) → c.reservation ≡ Some r → (j : HandlerId) (l : LineState) → line_of j (at_line h (acknowledged k) c.lines) ≡ Some l → LineFits (log_of r.block j w) l
+  acknowledged_lines :
+      (r : ReservationState) (h : HandlerId) (k : ℕ) → c.reservation ≡ Some r → (j : HandlerId) (l : LineState)
+      → line_of j (at_line h (acknowledged k) c.lines) ≡ Some l → LineFits (log_of r.block j w) l
   acknowledged_lines r h k held =
       let f = fits r held in
       by_line (λ j l. LineFits (log_of r.block j w) l) h (acknowledged k) (λ l. refl) c.lines
@@ -196,7 +190,9 @@ module _ (w : World) (c : ClientState) (fits : AllFit w c) where
       let there : line_of h c.lines ≡ Some g.line = ap (λ i. line_of i c.lines) same ∙ g.found in
       let one : l ≡ g.line = line_is l g.line (sym line ∙ there) in
       let now : up_to h n c.waits ≡ up_to h n (Some (h, q)) = ap (up_to h n) waits ∙ ap (λ i. up_to h n (Some (i, q))) (sym same) in
-      let new : nat_le (up_to h n (Some (h, q))) g.line.acked ≡ false = ap (λ a. nat_le a g.line.acked) (sym now) ∙ ap (λ (x : LineState). nat_le k x.acked) (sym one) ∙ second (nat_lt (logged l) n) (nat_le k l.acked) fresh_count in
+      let new : nat_le (up_to h n (Some (h, q))) g.line.acked ≡ false =
+      ap (λ a. nat_le a g.line.acked) (sym now) ∙ ap (λ (x : LineState). nat_le k x.acked) (sym one)
+      ∙ second (nat_lt (logged l) n) (nat_le k l.acked) fresh_count in
       record {
         line = acknowledged k g.line;
         found = ap (λ i. line_of i (at_line h (acknowledged k) c.lines)) (sym same) ∙ line_own h (acknowledged k) (λ x. refl) c.lines ∙ ap (option_map (acknowledged k)) there;
@@ -244,10 +240,12 @@ module _ (w : World) (c : ClientState) (fits : AllFit w c) where
 
 -- a client goes on, and nothing is logged
 party_moves : (w : World) (p : Party) → Logging w → PartyLogs w p → Logging (with_party w p)
-party_moves w p i f = logging_more w (with_party w p) (λ b j. refl) i i.messages (all_set_party (PartyLogs w) (PartyLogs w) p w.parties f (λ y other g. g) i.parties)
+party_moves w p i f =
+    logging_more w (with_party w p) (λ b j. refl) i i.messages (all_set_party (PartyLogs w) (PartyLogs w) p w.parties f (λ y other g. g) i.parties)
 
 pub notices_logging : (w : World) → Logging w → (m : Message) (p : Party) → PartyLogs w p → Logging (with_party w (heard_party p (heard p.client m)))
-notices_logging w i m p f = party_moves w (heard_party p (heard p.client m)) i (record { block = row_fits w p.client f.block m (heard p.client m).0 (heard p.client m).1 (heard_row p.client m) })
+notices_logging w i m p f =
+    party_moves w (heard_party p (heard p.client m)) i (record { block = row_fits w p.client f.block m (heard p.client m).0 (heard p.client m).1 (heard_row p.client m) })
 
 pub restarts_logging : (w : World) → Logging w → (p : Party) → Logging (with_party w (restarted_party p))
 restarts_logging w i p = party_moves w (restarted_party p) i (record { block = λ r e. absurd (cc) })

@@ -1,4 +1,6 @@
--- What a command to a client does leaves its lines at the end of the logs.
+-- What a command to a client does leaves its lines at the end of the logs. The log and the client's own line at a handler
+-- grow by the same entry, so that the line stays the log's end; other blocks' logs stay; and nothing is logged before the
+-- block has opened at all of its handlers. Command by command, by the rows of the client's table.
 use Rattle.std.proofs.Common.{◌≡◌, ℕ, ◌+◌, ◌-◌, ◌^◌, Bool, true, false, true≢false, nat_le, List, [], ◌∷◌, ◌++◌, map, Option, Some, None, refl, sym, ap, ◌∙◌, subst, append-nil, ⊎_elim}
 use Rattle.std.specs.Prelude.{if◌then◌else◌, Ok}
 use Rattle.std.specs.Option.{option_map}
@@ -87,7 +89,8 @@ pub record IsRunning (c : ClientState) : Type 0 where
 running_at : (ended : Bool) (s : Stage) → phase_at s ended ≡ Running → (is_open_in s ≡ true) × (ended ≡ false)
 running_at ended AtLocking e = absurd (cc)
 running_at ended AtOpening e = absurd (cc)
-running_at ended AtUnlocking e = by_test (λ t. (if t then Ending else Running) ≡ Running → (true ≡ true) × (t ≡ false)) ended (λ over f. absurd (cc)) (λ on f. (refl, refl)) e
+running_at ended AtUnlocking e =
+    by_test (λ t. (if t then Ending else Running) ≡ Running → (true ≡ true) × (t ≡ false)) ended (λ over f. absurd (cc)) (λ on f. (refl, refl)) e
 running_at ended AtGivingUp e = absurd (cc)
 
 pub running_is : (c : ClientState) → phase_of c ≡ Running → IsRunning c
@@ -119,7 +122,9 @@ module _ (w : World) (p : Party) (fits : PartyFits w p) (f : PartyLogs w p) wher
   going_on : (run : IsRunning c) (h : HandlerId) → HasLine run.reservation.block h w.logs → ends (log_of run.reservation.block h w) ≡ false
   going_on run h has =
       let r = run.reservation in
-      let x = same_found (λ (y : HandlerLog). y.handler) (λ (y : LineState). y.handler) h (lines_of r.block w.logs) c.lines has.line (sym (lines_named r run.held)) has.found in
+      let x =
+      same_found (λ (y : HandlerLog). y.handler)
+      (λ (y : LineState). y.handler) h (lines_of r.block w.logs) c.lines has.line (sym (lines_named r run.held)) has.found in
       sym ((f.block r run.held).lines h x.0 x.1).ended ∙ not_ended h c.lines x.0 run.going x.1
 
   going_now : (run : IsRunning c) (x : Command) (b : Block) (h : HandlerId) → IsAdded x (newest_block c) b h w.logs → ends (log_of b h w) ≡ false
@@ -131,7 +136,9 @@ module _ (w : World) (p : Party) (fits : PartyFits w p) (f : PartyLogs w p) wher
   is_the_one run r held = let both : Some run.reservation ≡ Some r = sym run.held ∙ held in cc
 
   -- the log of a running block's handler has the command's entries behind its own
-  log_grows : (x : Command) (r : ReservationState) → c.reservation ≡ Some r → (h : HandlerId) (l : LineState) → line_of h c.lines ≡ Some l → (d : ClientState) → newest_block d ≡ newest_block c
+  log_grows :
+      (x : Command) (r : ReservationState) → c.reservation ≡ Some r → (h : HandlerId) (l : LineState) → line_of h c.lines ≡ Some l → (d : ClientState)
+      → newest_block d ≡ newest_block c
       → log_of r.block h w ++ added x h ≡ log_of r.block h (commanded_world w p x d)
   log_grows x r held h l found d same =
       let block : r.block ≡ newest_block d = (f.block r held).block ∙ sym same in
@@ -153,12 +160,16 @@ module _
   adds_here = adds k ∙ ap (λ t. if t then e ∷ [] else []) ((handler_decides k k).1 refl)
 
   adds_elsewhere : (h : HandlerId) → (k ≡ h → ⊥) → added x h ≡ []
-  adds_elsewhere h apart = adds h ∙ by_test (λ t. same_handler h k ≡ t → (if t then e ∷ [] else []) ≡ []) (same_handler h k) (λ _ is. absurd (apart (sym ((handler_decides h k).0 is)))) (λ _ is. refl) refl
+  adds_elsewhere h apart =
+      adds h
+      ∙ by_test (λ t. same_handler h k ≡ t → (if t then e ∷ [] else []) ≡ []) (same_handler h k) (λ _ is. absurd (apart (sym ((handler_decides h k).0 is)))) (λ _ is. refl) refl
 
   own_log : (r : ReservationState) → p.client.reservation ≡ Some r → log_of r.block k w ++ e ∷ [] ≡ log_of r.block k after
   own_log r held = ap (λ es. log_of r.block k w ++ es) (sym adds_here) ∙ log_grows w p fits f x r held k l line later refl
 
-  lines_logged : (r : ReservationState) → p.client.reservation ≡ Some r → (h : HandlerId) (m : LineState) → line_of h later.lines ≡ Some m → LineFits (log_of r.block h after) m
+  lines_logged :
+      (r : ReservationState) → p.client.reservation ≡ Some r → (h : HandlerId) (m : LineState) → line_of h later.lines ≡ Some m
+      → LineFits (log_of r.block h after) m
   lines_logged r held =
       let own = f.block r held in
       by_line (λ h m. LineFits (log_of r.block h after) m) k (with_line_entry e) (λ m. refl) p.client.lines
@@ -172,7 +183,9 @@ module _
       line_is : (a b : LineState) → Some a ≡ Some b → a ≡ b
       line_is a b e = cc
 
-  waits_logged : (r : ReservationState) → p.client.reservation ≡ Some r → (n : Entry) → e ≡ n → (h : HandlerId) (q : ℕ) → client.waits_for k (logged l + 1) n ≡ Some (h, q) → WaitsAt after later r.block h q
+  waits_logged :
+      (r : ReservationState) → p.client.reservation ≡ Some r → (n : Entry) → e ≡ n → (h : HandlerId) (q : ℕ)
+      → client.waits_for k (logged l + 1) n ≡ Some (h, q) → WaitsAt after later r.block h q
   waits_logged r held (CallEntry s) is h q waits = absurd (cc)
   waits_logged r held EndEntry is h q waits = absurd (cc)
   waits_logged r held (QueryEntry s) is h q waits =
@@ -218,7 +231,8 @@ module _ (w : World) (p : Party) (fits : PartyFits w p) (f : PartyLogs w p) (run
       block = own.block;
       handlers = handlers_in_all with_end (λ m. refl) p.client.lines ∙ own.handlers;
       lines = by_all (λ h m. LineFits (log_of r.block h over) m) with_end (λ m. refl) p.client.lines
-          (λ h m there. subst (λ log. LineFits log (with_end m)) (log_grows w p fits f End r held h m there ended refl) (fits_ended (log_of r.block h w) m (own.lines h m there) (not_ended h p.client.lines m run.going there)));
+          (λ h m there.
+          subst (λ log. LineFits log (with_end m)) (log_grows w p fits f End r held h m there ended refl) (fits_ended (log_of r.block h w) m (own.lines h m there) (not_ended h p.client.lines m run.going there)));
       waits = λ h q waits. absurd (cc);
       unlogged = λ shut h. absurd (true≢false (sym run.opened ∙ ap is_open (is_the_one w p fits f run r held) ∙ shut));
     });
@@ -234,7 +248,9 @@ module _ (w : World) (p : Party) (hs : List HandlerId) (r : ReservationState) (f
   first = commanded_world w p (Reserve hs) begun
 
   no_log : (h : HandlerId) → log_of (client.next_block p.client) h first ≡ []
-  no_log h = reserved_same hs (newest_block begun) (client.next_block p.client) h w.logs ∙ unreserved_empty (client.next_block p.client) h w.logs (next_is_new w p fits (handlers_of (client.next_block p.client) w) refl)
+  no_log h =
+      reserved_same hs (newest_block begun) (client.next_block p.client) h w.logs
+      ∙ unreserved_empty (client.next_block p.client) h w.logs (next_is_new w p fits (handlers_of (client.next_block p.client) w) refl)
 
   fresh_fits : LinesFit first begun (fresh (client.next_block p.client) hs)
   fresh_fits = record {
@@ -256,9 +272,11 @@ module _ (w : World) (p : Party) (hs : List HandlerId) (r : ReservationState) (f
       some_is a b e = cc
 
       unlogged_before : (b : Block) (h : HandlerId) → IsAdded (Reserve hs) (newest_block begun) b h w.logs → [] ≡ log_of b h w
-      unlogged_before b h more = subst (λ y. [] ≡ log_of y h w) more.block (sym (unreserved_empty (client.next_block p.client) h w.logs (next_is_new w p fits (handlers_of (client.next_block p.client) w) refl)))
+      unlogged_before b h more =
+          subst (λ y. [] ≡ log_of y h w) more.block (sym (unreserved_empty (client.next_block p.client) h w.logs (next_is_new w p fits (handlers_of (client.next_block p.client) w) refl)))
 
-given_stays : (c : ClientState) (r s : ReservationState) (stage : Stage) → r.stage ≡ stage → given_up_in r stage ≡ Ok s → StaysLogged c (with_reservation c s) r s
+given_stays :
+    (c : ClientState) (r s : ReservationState) (stage : Stage) → r.stage ≡ stage → given_up_in r stage ≡ Ok s → StaysLogged c (with_reservation c s) r s
 given_stays c r s AtLocking at e =
     let given : at_stage r AtGivingUp (asked r.handlers r.left) ≡ s = cc in
     subst (λ q. StaysLogged c (with_reservation c q) r q) given (record { newest = refl; lines = refl; waits = refl; block = refl; handlers = refl; opened = λ _. ap is_open_in at })
@@ -272,7 +290,9 @@ given_shut r s AtOpening e = refl
 given_shut r s AtUnlocking e = absurd (cc)
 given_shut r s AtGivingUp e = refl
 
-give_up_logs : (w : World) (p : Party) (r s : ReservationState) → PartyLogs w p → p.client.reservation ≡ Some r → given_up_in r r.stage ≡ Ok s → Logs w p GiveUp (with_reservation p.client s)
+give_up_logs :
+    (w : World) (p : Party) (r s : ReservationState) → PartyLogs w p → p.client.reservation ≡ Some r → given_up_in r r.stage ≡ Ok s
+    → Logs w p GiveUp (with_reservation p.client s)
 give_up_logs w p r s f held given =
     let d : ClientState = with_reservation p.client s in
     record {
@@ -298,7 +318,9 @@ module _ (w : World) (p : Party) (d : ClientState) (fits : PartyFits w p) (f : P
       (reserve_logs w p hs r fits (started_fresh (client.next_block p.client) hs p.client.handlers r begins))
   reserve_row hs o r e = absurd (cc)
 
-  log_row : (x : Command) (k : HandlerId) (n : Entry) (o : client.Outcome) → ((h : HandlerId) → added x h ≡ (if same_handler h k then n ∷ [] else [])) → is_end n ≡ false → LogRow p.client k n o → o ≡ Ok d → Logs w p x d
+  log_row :
+      (x : Command) (k : HandlerId) (n : Entry) (o : client.Outcome) → ((h : HandlerId) → added x h ≡ (if same_handler h k then n ∷ [] else []))
+      → is_end n ≡ false → LogRow p.client k n o → o ≡ Ok d → Logs w p x d
   log_row x k n o adds no_end (is_logged l running free line room more) e =
       subst (Logs w p x) (ok_is _ d e) (entry_logs w p x k n adds no_end fits f l (running_is p.client running) line more)
   log_row x k n o adds no_end r e = absurd (cc)
@@ -308,7 +330,8 @@ module _ (w : World) (p : Party) (d : ClientState) (fits : PartyFits w p) (f : P
   end_row o r e = absurd (cc)
 
   give_up_row : (o : client.Outcome) → GiveUpRow p.client o → o ≡ Ok d → Logs w p GiveUp d
-  give_up_row o (gives_up r s locking has_one given) e = subst (Logs w p GiveUp) (ok_is (with_reservation p.client s) d e) (give_up_logs w p r s f has_one given)
+  give_up_row o (gives_up r s locking has_one given) e =
+      subst (Logs w p GiveUp) (ok_is (with_reservation p.client s) d e) (give_up_logs w p r s f has_one given)
   give_up_row o r e = absurd (cc)
 
   logs_of : (x : Command) → client.command p.client (core_command x) ≡ Ok d → Logs w p x d
@@ -318,5 +341,7 @@ module _ (w : World) (p : Party) (d : ClientState) (fits : PartyFits w p) (f : P
   logs_of End e = end_row _ (command_row p.client (core_command End)) e
   logs_of GiveUp e = give_up_row _ (command_row p.client (core_command GiveUp)) e
 
-pub commands_logging : (w : World) → Logging w → (p : Party) (x : Command) (d : ClientState) → PartyFits w p → PartyLogs w p → client.command p.client (core_command x) ≡ Ok d → Logging (commanded_world w p x d)
+pub commands_logging :
+    (w : World) → Logging w → (p : Party) (x : Command) (d : ClientState) → PartyFits w p → PartyLogs w p → client.command p.client (core_command x) ≡ Ok d
+    → Logging (commanded_world w p x d)
 commands_logging w i p x d fits f e = commanded_logging w p x d i (logs_of w p d fits f x e)

@@ -9,7 +9,7 @@ use Rattle.scoop_message.specs.declared.request.Entry.{Entry}
 use Rattle.scoop_message.specs.declared.request.Entry.TheVariants.{Query as QueryEntry}
 use Rattle.scoop_message.specs.declared.request.Request.{Request}
 use Rattle.scoop_message.specs.declared.message.Message.{Message}
-use Rattle.scoop_message.specs.declared.message.Message.TheVariants.{Hello, Welcome, Lock, Locked, Busy, Open, Opened, Unlock, Unlocked, Log, Logged, Answer}
+use Rattle.scoop_message.specs.declared.message.Message.TheVariants.{Log}
 use Rattle.scoop_message.specs.Entries.{EndOnlyLast, ends}
 use Rattle.scoop_reserve.specs.State.{ReservationState}
 use Rattle.scoop_reserve.specs.Hearing.{is_open}
@@ -24,17 +24,7 @@ use Rattle.scoop_model.proofs.Stands.{Stands}
 -- a Log carries entries that stand in the block's log for its handler
 abbrev pub Carries : World → Message → Type 0
 Carries w (Log h b n es) = Stands (log_of b h w) n es
-Carries w (Hello h c inc) = ⊤
-Carries w (Welcome h c inc) = ⊤
-Carries w (Lock h b) = ⊤
-Carries w (Locked h b) = ⊤
-Carries w (Busy h b) = ⊤
-Carries w (Open h b) = ⊤
-Carries w (Opened h b) = ⊤
-Carries w (Unlock h b) = ⊤
-Carries w (Unlocked h b) = ⊤
-Carries w (Logged h b n) = ⊤
-Carries w (Answer h b n a) = ⊤
+Carries w m = ⊤
 
 -- ---- clients
 

@@ -56,16 +56,7 @@ IsGreeted w h c inc = IsGranted w h (block_named c inc 0)
 abbrev pub Greets : World → Message → Type 0
 Greets w (Hello h c inc) = inc ≤ inc_of w c
 Greets w (Welcome h c inc) = IsGreeted w h c inc
-Greets w (Lock h b) = ⊤
-Greets w (Locked h b) = ⊤
-Greets w (Busy h b) = ⊤
-Greets w (Open h b) = ⊤
-Greets w (Opened h b) = ⊤
-Greets w (Unlock h b) = ⊤
-Greets w (Unlocked h b) = ⊤
-Greets w (Log h b n es) = ⊤
-Greets w (Logged h b n) = ⊤
-Greets w (Answer h b n a) = ⊤
+Greets w m = ⊤
 
 -- the mark's incarnation isn't above its client's
 pub record IsMarkUpto (bound : ClientId → ℕ) (k : Mark) : Type 0 where
@@ -88,16 +79,7 @@ module _ (v w : World) (x : Onward v w) where
   greets_more : (m : Message) → Greets v m → Greets w m
   greets_more (Hello h c inc) g = omega (arith, g, x.incs c)
   greets_more (Welcome h c inc) g = x.granted h (block_named c inc 0) g
-  greets_more (Lock h b) g = tt
-  greets_more (Locked h b) g = tt
-  greets_more (Busy h b) g = tt
-  greets_more (Open h b) g = tt
-  greets_more (Opened h b) g = tt
-  greets_more (Unlock h b) g = tt
-  greets_more (Unlocked h b) g = tt
-  greets_more (Log h b n es) g = tt
-  greets_more (Logged h b n) g = tt
-  greets_more (Answer h b n a) g = tt
+  greets_more m g = tt
 
   marks_more : (marks : List Mark) → AllByRecursion (IsMarkUpto (inc_of v)) marks → AllByRecursion (IsMarkUpto (inc_of w)) marks
   marks_more marks all = all_more_of (IsMarkUpto (inc_of v)) (IsMarkUpto (inc_of w)) (λ k u. record { upto = omega (arith, u.upto, x.incs k.client) }) marks all
@@ -131,7 +113,9 @@ owed_greets w r h m (opens at is) = tt
 owed_greets w r h m (unlocks at is) = tt
 owed_greets w r h m (gives_back at is) = tt
 
-due_greets : (w : World) (c : ClientId) (p : Party) (h : HandlerId) (o : Option Message) → party_of c w ≡ Some p → DueRow p.client h o → (m : Message) → o ≡ Some m → Greets w m
+due_greets :
+    (w : World) (c : ClientId) (p : Party) (h : HandlerId) (o : Option Message) → party_of c w ≡ Some p → DueRow p.client h o → (m : Message) → o ≡ Some m
+    → Greets w m
 due_greets w c p h o at owes_nothing m e = absurd (cc)
 due_greets w c p h o at (greets left) m e =
     let same : Hello h p.client.id p.client.inc ≡ m = cc in
@@ -157,32 +141,46 @@ party_greets w v c p q i at same le sites sent parties =
 
 -- ---- a handler hears
 
-heard_mark : (bound : ClientId → ℕ) (marks : List Mark) (c : ClientId) (k : Mark) → AllByRecursion (IsMarkUpto bound) marks → mark_of c marks ≡ Some k → IsMarkUpto bound k
+heard_mark :
+    (bound : ClientId → ℕ) (marks : List Mark) (c : ClientId) (k : Mark) → AllByRecursion (IsMarkUpto bound) marks → mark_of c marks ≡ Some k
+    → IsMarkUpto bound k
 heard_mark bound marks c k all found = All-mark_of (IsMarkUpto bound) c marks k all found
 
 -- a new mark in the place of the client's, in the same incarnation
-block_mark : (bound : ClientId → ℕ) (s : HandlerState) (b : Block) (k : Mark) (stage : Stage) → AllByRecursion (IsMarkUpto bound) s.marks → IsHeardAt s b k → IsMarkUpto bound (fresh_mark b stage)
+block_mark :
+    (bound : ClientId → ℕ) (s : HandlerState) (b : Block) (k : Mark) (stage : Stage) → AllByRecursion (IsMarkUpto bound) s.marks → IsHeardAt s b k
+    → IsMarkUpto bound (fresh_mark b stage)
 block_mark bound s b k stage all at =
     let u = (heard_mark bound s.marks b.client k all at.found).upto in
     let own = ap bound (mark_of-client b.client s.marks k at.found) in
     let inc = at.inc in
     record { upto = omega (arith, u, own, inc) }
 
-set_upto : (bound : ClientId → ℕ) (k : Mark) (marks : List Mark) → IsMarkUpto bound k → AllByRecursion (IsMarkUpto bound) marks → AllByRecursion (IsMarkUpto bound) (set_mark k marks)
+set_upto :
+    (bound : ClientId → ℕ) (k : Mark) (marks : List Mark) → IsMarkUpto bound k → AllByRecursion (IsMarkUpto bound) marks
+    → AllByRecursion (IsMarkUpto bound) (set_mark k marks)
 set_upto bound k marks own all = All-set_mark (IsMarkUpto bound) (IsMarkUpto bound) k marks own (λ x apart u. u) all
 
 -- a Hello is of an incarnation within the bound
 abbrev HelloUpto : (ClientId → ℕ) → Message → Type 0
 HelloUpto bound m = (h : HandlerId) (c : ClientId) (inc : ℕ) → m ≡ Hello h c inc → inc ≤ bound c
 
-upto-row : (bound : ClientId → ℕ) (s : HandlerState) (m : Message) (h : Hearing) → Row s m h → HelloUpto bound m → AllByRecursion (IsMarkUpto bound) s.marks → AllByRecursion (IsMarkUpto bound) h.0.marks
-upto-row bound s m h (first_greeting x c inc here none room) hello all = All-add_mark (IsMarkUpto bound) (IsMarkUpto bound) (greeting_mark c inc) s.marks (record { upto = hello x c inc refl }) (λ y u. u) all
-upto-row bound s m h (newer_greeting x c inc k here found newer) hello all = set_upto bound (greeting_mark c inc) s.marks (record { upto = hello x c inc refl }) all
-upto-row bound s m h (lock_granted x b k here at new free clear) hello all = set_upto bound (fresh_mark b AtHeld) s.marks (block_mark bound s b k AtHeld all at) all
-upto-row bound s m h (open_granted x b k here at same held room) hello all = set_upto bound (opened_mark k) s.marks (record { upto = (heard_mark bound s.marks b.client k all at.found).upto }) all
+upto-row :
+    (bound : ClientId → ℕ) (s : HandlerState) (m : Message) (h : Hearing) → Row s m h → HelloUpto bound m → AllByRecursion (IsMarkUpto bound) s.marks
+    → AllByRecursion (IsMarkUpto bound) h.0.marks
+upto-row bound s m h (first_greeting x c inc here none room) hello all =
+    All-add_mark (IsMarkUpto bound) (IsMarkUpto bound) (greeting_mark c inc) s.marks (record { upto = hello x c inc refl }) (λ y u. u) all
+upto-row bound s m h (newer_greeting x c inc k here found newer) hello all =
+    set_upto bound (greeting_mark c inc) s.marks (record { upto = hello x c inc refl }) all
+upto-row bound s m h (lock_granted x b k here at new free clear) hello all =
+    set_upto bound (fresh_mark b AtHeld) s.marks (block_mark bound s b k AtHeld all at) all
+upto-row bound s m h (open_granted x b k here at same held room) hello all =
+    set_upto bound (opened_mark k) s.marks (record { upto = (heard_mark bound s.marks b.client k all at.found).upto }) all
 upto-row bound s m h (unlock_new x b k here at new clear) hello all = set_upto bound (fresh_mark b AtShut) s.marks (block_mark bound s b k AtShut all at) all
-upto-row bound s m h (unlock_holder x b k here at same holds) hello all = set_upto bound (without_hold k) s.marks (record { upto = (heard_mark bound s.marks b.client k all at.found).upto }) all
-upto-row bound s m h (log_taken x b n es k here at next goes_on room) hello all = set_upto bound (with_received _ _ k) s.marks (record { upto = (heard_mark bound s.marks b.client k all at.heard.found).upto }) all
+upto-row bound s m h (unlock_holder x b k here at same holds) hello all =
+    set_upto bound (without_hold k) s.marks (record { upto = (heard_mark bound s.marks b.client k all at.found).upto }) all
+upto-row bound s m h (log_taken x b n es k here at next goes_on room) hello all =
+    set_upto bound (with_received _ _ k) s.marks (record { upto = (heard_mark bound s.marks b.client k all at.heard.found).upto }) all
 upto-row bound s m h r hello all = all
 
 -- a Welcome is of an incarnation that the handler's mark has reached, and no reply is a Hello
@@ -190,49 +188,36 @@ abbrev GreetsBack : HandlerState → Option Message → Type 0
 GreetsBack s None = ⊤
 GreetsBack s (Some (Hello x c inc)) = ⊥
 GreetsBack s (Some (Welcome x c inc)) = (x ≡ s.number) × IsReachedIn s.marks (block_named c inc 0)
-GreetsBack s (Some (Lock x b)) = ⊤
-GreetsBack s (Some (Locked x b)) = ⊤
-GreetsBack s (Some (Busy x b)) = ⊤
-GreetsBack s (Some (Open x b)) = ⊤
-GreetsBack s (Some (Opened x b)) = ⊤
-GreetsBack s (Some (Unlock x b)) = ⊤
-GreetsBack s (Some (Unlocked x b)) = ⊤
-GreetsBack s (Some (Log x b n es)) = ⊤
-GreetsBack s (Some (Logged x b n)) = ⊤
-GreetsBack s (Some (Answer x b n a)) = ⊤
+GreetsBack s (Some m) = ⊤
 
 reached_at : (marks : List Mark) (c : ClientId) (inc : ℕ) (k : Mark) → mark_of c marks ≡ Some k → k.inc ≡ inc → IsReachedIn marks (block_named c inc 0)
 reached_at marks c inc k found same = record { mark = k; found = found; upto = record { inc = omega (arith, same); num = λ e. omega arith } }
 
 back-row : (s : HandlerState) (m : Message) (h : Hearing) → Row s m h → GreetsBack h.0 h.1.reply
-back-row s m h (first_greeting x c inc here none room) = (refl, reached_at _ c inc (greeting_mark c inc) (mark_of-add_mark_own (greeting_mark c inc) s.marks none) refl)
-back-row s m h (newer_greeting x c inc k here found newer) = (refl, reached_at _ c inc (greeting_mark c inc) (mark_of-set_mark_own (greeting_mark c inc) k s.marks found) refl)
+back-row s m h (first_greeting x c inc here none room) =
+    (refl, reached_at _ c inc (greeting_mark c inc) (mark_of-add_mark_own (greeting_mark c inc) s.marks none) refl)
+back-row s m h (newer_greeting x c inc k here found newer) =
+    (refl, reached_at _ c inc (greeting_mark c inc) (mark_of-set_mark_own (greeting_mark c inc) k s.marks found) refl)
 back-row s m h (same_greeting x c inc k here found same) = (refl, reached_at s.marks c inc k found same)
 back-row s m h r = tt
 
-back_greets : (v : World) (s : Site) (o : Option Message) → site_of (number_of s) v ≡ Some s → GreetsBack s.core.state o → (m : Message) → o ≡ Some m → Greets v m
+back_greets :
+    (v : World) (s : Site) (o : Option Message) → site_of (number_of s) v ≡ Some s → GreetsBack s.core.state o → (m : Message) → o ≡ Some m → Greets v m
 back_greets v s None here t m e = absurd (cc)
 back_greets v s (Some n) here t m e = let same : n ≡ m = cc in subst (Greets v) same (told n t)
   where
     told : (n : Message) → GreetsBack s.core.state (Some n) → Greets v n
     told (Hello h c inc) t = absurd t
     told (Welcome h c inc) t = subst (λ j. IsGreeted v j c inc) (sym t.0) (record { site = s; found = here; reached = t.1 })
-    told (Lock h b) t = tt
-    told (Locked h b) t = tt
-    told (Busy h b) t = tt
-    told (Open h b) t = tt
-    told (Opened h b) t = tt
-    told (Unlock h b) t = tt
-    told (Unlocked h b) t = tt
-    told (Log h b n es) t = tt
-    told (Logged h b n) t = tt
-    told (Answer h b n a) t = tt
+    told m t = tt
 
 hello_upto : (w : World) (m : Message) → Greets w m → HelloUpto (inc_of w) m
 hello_upto w m g h c inc same = subst (Greets w) same g
 
 -- one handler's marks go on
-module _ (w v : World) (i : Greetings w) (s old : Site) (here : site_of (number_of s) w ≡ Some old) (grows : MarksGrow old.core.state.marks s.core.state.marks) (parties : v.parties ≡ w.parties) (sites : v.sites ≡ set_site s w.sites) where
+module _
+    (w v : World) (i : Greetings w) (s old : Site) (here : site_of (number_of s) w ≡ Some old) (grows : MarksGrow old.core.state.marks s.core.state.marks)
+    (parties : v.parties ≡ w.parties) (sites : v.sites ≡ set_site s w.sites) where
   site_onward : Onward w v
   site_onward = record {
     incs = λ d. subst (λ ps. inc_of w d ≤ option_map_or (λ (y : Party). y.client.inc) (find (is_party d) ps) 0) (sym parties) (omega arith);
@@ -253,7 +238,9 @@ module _ (w v : World) (i : Greetings w) (s old : Site) (here : site_of (number_
 pub place : (w : World) (h : HandlerId) (s : Site) → site_of h w ≡ Some s → site_of (number_of s) w ≡ Some s
 place w h s found = subst (λ j. site_of j w ≡ Some s) (sym (number_found h w s found)) found
 
-hears_greets : (w : World) → Greetings w → (k : ℕ) (m : Message) (s : Site) → sent_at k w ≡ Some m → site_of (handler_of m) w ≡ Some s → Greetings (heard_world w s (hear s.core.state m))
+hears_greets :
+    (w : World) → Greetings w → (k : ℕ) (m : Message) (s : Site) → sent_at k w ≡ Some m → site_of (handler_of m) w ≡ Some s
+    → Greetings (heard_world w s (hear s.core.state m))
 hears_greets w i k m s was found =
     let now : Hearing = hear s.core.state m in
     let by = row s.core.state m in
@@ -269,13 +256,18 @@ hears_greets w i k m s was found =
 
 -- ---- an entry runs, and a node restarts
 
-after_upto : (bound : ClientId → ℕ) (r : Ran) (marks : List Mark) → AllByRecursion (IsMarkUpto bound) marks → AllByRecursion (IsMarkUpto bound) (map (mark_after r) marks)
+after_upto :
+    (bound : ClientId → ℕ) (r : Ran) (marks : List Mark) → AllByRecursion (IsMarkUpto bound) marks
+    → AllByRecursion (IsMarkUpto bound) (map (mark_after r) marks)
 after_upto bound r [] all = tt
 after_upto bound r (k ∷ ks) all = (record { upto = all.0.upto }, after_upto bound r ks all.1)
 
-upto_anew : (w : World) (n : ℕ) (sites : List Site) → AllByRecursion (SiteFits w.joint) sites → AllByRecursion (MarksUpto w) sites → AllByRecursion (MarksUpto w) (map (reopened n) sites)
+upto_anew :
+    (w : World) (n : ℕ) (sites : List Site) → AllByRecursion (SiteFits w.joint) sites → AllByRecursion (MarksUpto w) sites
+    → AllByRecursion (MarksUpto w) (map (reopened n) sites)
 upto_anew w n [] fits all = tt
-upto_anew w n (s ∷ ss) fits all = (subst (λ (x : HandlerState). AllByRecursion (IsMarkUpto (inc_of w)) x.marks) (sym (state_anew w.joint n s fits.0)) all.0, upto_anew w n ss fits.1 all.1)
+upto_anew w n (s ∷ ss) fits all =
+    (subst (λ (x : HandlerState). AllByRecursion (IsMarkUpto (inc_of w)) x.marks) (sym (state_anew w.joint n s fits.0)) all.0, upto_anew w n ss fits.1 all.1)
 
 -- ---- a client that was succeeded
 
@@ -319,7 +311,8 @@ welcome_passes w h b (Log x y n es) g e = absurd (true≢false (sym e))
 welcome_passes w h b (Logged x y n) g e = absurd (true≢false (sym e))
 welcome_passes w h b (Answer x y n a) g e = absurd (true≢false (sym e))
 
-any_passes : (w : World) (h : HandlerId) (b : Block) (ms : List Message) → AllByRecursion (Greets w) ms → list_any (is_newer_welcome h b) ms ≡ true → IsPassed w h b
+any_passes :
+    (w : World) (h : HandlerId) (b : Block) (ms : List Message) → AllByRecursion (Greets w) ms → list_any (is_newer_welcome h b) ms ≡ true → IsPassed w h b
 any_passes w h b [] all e = absurd (true≢false (sym e))
 any_passes w h b (m ∷ ms) all e =
     by_test (λ t. is_newer_welcome h b m ≡ t → (t || list_any (is_newer_welcome h b) ms) ≡ true → IsPassed w h b) (is_newer_welcome h b m)
@@ -350,12 +343,14 @@ greetings_kept w o i = record {
   sends = λ c p h s at here. record {
     messages = all_pushed (Greets (with_sent w (due p.client h))) w.sent (due p.client h)
         (all_more_of (Greets w) (Greets (with_sent w (due p.client h))) (greets_more w (with_sent w (due p.client h)) (record { incs = λ d. omega arith; granted = λ j b g. g })) w.sent i.messages)
-        (λ m e. greets_more w (with_sent w (due p.client h)) (record { incs = λ d. omega arith; granted = λ j b g. g }) m (due_greets w c p h (due p.client h) at (due_row p.client h) m e));
+        (λ m e.
+        greets_more w (with_sent w (due p.client h)) (record { incs = λ d. omega arith; granted = λ j b g. g }) m (due_greets w c p h (due p.client h) at (due_row p.client h) m e));
     marks = i.marks;
   };
   hears = λ k m s was goes here. hears_greets w i k m s was here;
   notices = λ k m p was goes at. (
-      let kept = keeps_row w p.client (all_found (PartyFits w) (is_party (client_of m)) w.parties p o.parties at).reservation m (heard p.client m).0 (heard p.client m).1 (heard_row p.client m) (sent_tells w k m was o.messages) in
+      let kept =
+      keeps_row w p.client (all_found (PartyFits w) (is_party (client_of m)) w.parties p o.parties at).reservation m (heard p.client m).0 (heard p.client m).1 (heard_row p.client m) (sent_tells w k m was o.messages) in
       party_greets w (with_party w (heard_party p (heard p.client m))) (client_of m) p (heard_party p (heard p.client m)) i at kept.id (let e = kept.inc in omega (arith, e)) refl refl refl);
   begins = λ h s t here is.
       site_greets w (with_site w (begun_site s)) i (begun_site s) s (place w h s here) (MarksGrow-same s.core.state.marks) refl refl

@@ -1,4 +1,6 @@
--- How a client's lines change beside the log: an entry more, an End more, and a count that is acknowledged.
+-- How a client's lines change beside the log: an entry more, an End more, and a count that is acknowledged. A line fits its
+-- log where the acknowledged entries and the line's own, one after the other, are the log. Each change of a line is looked
+-- at alone, and then among the lines of a block, of which one changes.
 use Rattle.std.proofs.Common.{◌≡◌, ℕ, ◌+◌, ◌-◌, ◌^◌, ◌<◌, ◌≤◌, ◌&&◌, ◌||◌, true, false, true≢false, nat_le, List, [], ◌∷◌, ◌++◌, length, take, drop, map, find, Option, Some, None, refl, sym, ap, ◌∙◌, subst, arith, length-append, length-drop, append_assoc}
 use Rattle.std.specs.Prelude.{if◌then◌else◌}
 use Rattle.std.specs.Option.{option_map}
@@ -52,7 +54,9 @@ line_other k h f stays (l ∷ ls) apart =
     by_test (λ t. same_handler l.handler k ≡ t → line_of h (if t then f l ∷ ls else l ∷ at_line k f ls) ≡ (if same_handler l.handler h then Some l else line_of h ls)) (same_handler l.handler k)
     (λ here is.
     let own : l.handler ≡ k = (handler_decides l.handler k).0 is in
-    let off : same_handler l.handler h ≡ false = by_test (λ u. same_handler l.handler h ≡ u → u ≡ false) (same_handler l.handler h) (λ both e. absurd (apart (sym own ∙ (handler_decides l.handler h).0 e))) (λ one e. refl) refl in
+    let off : same_handler l.handler h ≡ false =
+    by_test (λ u. same_handler l.handler h ≡ u → u ≡ false) (same_handler l.handler h)
+    (λ both e. absurd (apart (sym own ∙ (handler_decides l.handler h).0 e))) (λ one e. refl) refl in
     ap (λ u. if u then Some (f l) else line_of h ls) (ap (λ j. same_handler j h) (stays l) ∙ off) ∙ sym (ap (λ u. if u then Some l else line_of h ls) off))
     (λ there is. ap (λ r. if same_handler l.handler h then Some l else r) (line_other k h f stays ls apart)) refl
 
@@ -122,7 +126,9 @@ same_found {A} {B} a_of b_of h (a ∷ xs) (b ∷ ys) x same e =
     (λ there f. same_found a_of b_of h xs ys x rest f) e)
 
 -- a handler that has an item is among the handlers
-pub found_has : {A : Type 0} (handler : A → HandlerId) (h : HandlerId) (xs : List A) (x : A) → find (λ a. same_handler (handler a) h) xs ≡ Some x → has (map handler xs) h ≡ true
+pub found_has :
+    {A : Type 0} (handler : A → HandlerId) (h : HandlerId) (xs : List A) (x : A) → find (λ a. same_handler (handler a) h) xs ≡ Some x
+    → has (map handler xs) h ≡ true
 found_has handler h [] x e = absurd (cc)
 found_has handler h (a ∷ xs) x e =
     by_test (λ t. (if t then Some a else find (λ y. same_handler (handler y) h) xs) ≡ Some x → (t || has (map handler xs) h) ≡ true) (same_handler (handler a) h)
@@ -149,7 +155,9 @@ fits_fresh h = record { acknowledged = []; all = refl; count = refl; ended = ref
 room_left : (n : ℕ) → nat_le (2 ^ 32 - 2) n ≡ false → n + 2 < 2 ^ 32
 room_left n e = let l : n < 2 ^ 32 - 2 = grind (arith, nat_tests) in omega (arith, l)
 
-pub fits_logged : (log : List Entry) (l : LineState) (e : Entry) → LineFits log l → l.ended ≡ false → is_end e ≡ false → nat_le (2 ^ 32 - 2) (logged l) ≡ false → LineFits (log ++ e ∷ []) (with_entry e l)
+pub fits_logged :
+    (log : List Entry) (l : LineState) (e : Entry) → LineFits log l → l.ended ≡ false → is_end e ≡ false → nat_le (2 ^ 32 - 2) (logged l) ≡ false
+    → LineFits (log ++ e ∷ []) (with_entry e l)
 fits_logged log l e f more no_end free =
     let long = length-append l.unacked (e ∷ []) in
     let room = room_left (logged l) free in
@@ -214,7 +222,9 @@ up_to_below h n q pos =
     (λ _ is. by_test (λ u. nat_le q n ≡ u → (if u then q - 1 else n) < q) (nat_le q n) (λ _ le. omega arith) (λ _ off. grind (arith, nat_tests)) refl)
     (λ _ is. absurd (true≢false (sym ((handler_decides h h).1 refl) ∙ is))) refl
 
-pub query_acknowledged : (log : List Entry) (h : HandlerId) (n q : ℕ) (l : LineState) → nat_le (up_to h n (Some (h, q))) l.acked ≡ false → IsLastQuery log l q → IsLastQuery log (acknowledged (up_to h n (Some (h, q))) l) q
+pub query_acknowledged :
+    (log : List Entry) (h : HandlerId) (n q : ℕ) (l : LineState) → nat_le (up_to h n (Some (h, q))) l.acked ≡ false → IsLastQuery log l q
+    → IsLastQuery log (acknowledged (up_to h n (Some (h, q))) l) q
 query_acknowledged log h n q l new is =
     let k = up_to h n (Some (h, q)) in
     let waiting = is.waiting in

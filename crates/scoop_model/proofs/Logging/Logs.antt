@@ -1,4 +1,6 @@
--- What a command adds to the logs: entries behind those of its client's block, and nothing to the other blocks.
+-- What a command adds to the logs: entries behind those of its client's block, and nothing to the other blocks. Logs are
+-- looked up by block and by handler; a command changes the lines of one block by a function of each line, so a look-up finds
+-- either the changed line or what it found before.
 use Rattle.std.proofs.Common.{◌≡◌, ◌⊎◌, inl, inr, true≢false, List, [], ◌∷◌, ◌++◌, map, find, Option, Some, None, refl, sym, ap, ◌∙◌, subst, append-nil}
 use Rattle.std.specs.Prelude.{if◌then◌else◌, unwrap_or}
 use Rattle.std.specs.Option.{option_map, option_map_or}
@@ -42,7 +44,9 @@ adds_at k e h l own =
     (λ here. refl)
     (λ there. sym (append-nil l.entries)))
 
-line_changed : (h : HandlerId) (f : HandlerLog → HandlerLog) → LeavesHandler f → (ls : List HandlerLog) → find (is_line_of h) (map f ls) ≡ option_map f (find (is_line_of h) ls)
+line_changed :
+    (h : HandlerId) (f : HandlerLog → HandlerLog) → LeavesHandler f → (ls : List HandlerLog)
+    → find (is_line_of h) (map f ls) ≡ option_map f (find (is_line_of h) ls)
 line_changed h f keeps [] = refl
 line_changed h f keeps (l ∷ ls) =
     let rest = find (is_line_of h) (map f ls) in
@@ -98,7 +102,9 @@ pub record HasLine (b : Block) (h : HandlerId) (logs : List BlockLog) : Type 0 w
 abbrev pub GrowsBy : Block → HandlerId → List BlockLog → List BlockLog → List Entry → Type 0
 GrowsBy b h old new es = log_in b h new ≡ log_in b h old ++ es
 
-changed_here : (b : Block) (h : HandlerId) (f : HandlerLog → HandlerLog) (es : List Entry) (logs : List BlockLog) → LeavesHandler f → Adds f h es → HasLine b h logs → GrowsBy b h logs (map (changed_log b f) logs) es
+changed_here :
+    (b : Block) (h : HandlerId) (f : HandlerLog → HandlerLog) (es : List Entry) (logs : List BlockLog) → LeavesHandler f → Adds f h es → HasLine b h logs
+    → GrowsBy b h logs (map (changed_log b f) logs) es
 changed_here b h f es logs keeps adds has =
     let l = has.line in
     let own = key_found (λ (x : HandlerLog). x.handler) same_handler handler_decides h (lines_of b logs) l has.found in
@@ -107,20 +113,26 @@ changed_here b h f es logs keeps adds has =
     ∙ adds l own
     ∙ ap (λ o. entries_in o ++ es) (sym has.found)
 
-changed_nowhere : (b : Block) (h : HandlerId) (f : HandlerLog → HandlerLog) (logs : List BlockLog) → LeavesHandler f → find (is_line_of h) (lines_of b logs) ≡ None → log_in b h (map (changed_log b f) logs) ≡ log_in b h logs
+changed_nowhere :
+    (b : Block) (h : HandlerId) (f : HandlerLog → HandlerLog) (logs : List BlockLog) → LeavesHandler f → find (is_line_of h) (lines_of b logs) ≡ None
+    → log_in b h (map (changed_log b f) logs) ≡ log_in b h logs
 changed_nowhere b h f logs keeps none =
     ap (λ ls. entries_in (find (is_line_of h) ls)) (lines_here b f logs)
     ∙ ap entries_in (line_changed h f keeps (lines_of b logs) ∙ ap (option_map f) none)
     ∙ ap entries_in (sym none)
 
-changed_other : (c b : Block) (h : HandlerId) (f : HandlerLog → HandlerLog) (logs : List BlockLog) → (c ≡ b → ⊥) → log_in b h (map (changed_log c f) logs) ≡ log_in b h logs
+changed_other :
+    (c b : Block) (h : HandlerId) (f : HandlerLog → HandlerLog) (logs : List BlockLog) → (c ≡ b → ⊥)
+    → log_in b h (map (changed_log c f) logs) ≡ log_in b h logs
 changed_other c b h f logs apart = ap (λ ls. entries_in (find (is_line_of h) ls)) (lines_other c b f logs apart)
 
 -- ---- a reserve
 
 fresh_empty : (h : HandlerId) (hs : List HandlerId) → entries_in (find (is_line_of h) (map fresh_log hs)) ≡ []
 fresh_empty h [] = refl
-fresh_empty h (k ∷ ks) = by_test (λ t. entries_in (if t then Some (fresh_log k) else find (is_line_of h) (map fresh_log ks)) ≡ []) (same_handler k h) (λ here. refl) (λ there. fresh_empty h ks)
+fresh_empty h (k ∷ ks) =
+    by_test (λ t. entries_in (if t then Some (fresh_log k) else find (is_line_of h) (map fresh_log ks)) ≡ []) (same_handler k h) (λ here. refl)
+    (λ there. fresh_empty h ks)
 
 -- a new block has logged nothing
 pub reserved_same : (hs : List HandlerId) (c b : Block) (h : HandlerId) (logs : List BlockLog) → log_in b h (logs_after (Reserve hs) c logs) ≡ log_in b h logs
@@ -142,7 +154,9 @@ unreserved_empty b h logs none = from (find (is_log_of b) logs) none
     from (Some l) e = absurd (cc)
 
 -- a block's lines are of the handlers that its reserve named
-pub named_lines : (b : Block) (logs : List BlockLog) (hs : List HandlerId) → option_map handlers_in (find (is_log_of b) logs) ≡ Some hs → map (λ (x : HandlerLog). x.handler) (lines_of b logs) ≡ hs
+pub named_lines :
+    (b : Block) (logs : List BlockLog) (hs : List HandlerId) → option_map handlers_in (find (is_log_of b) logs) ≡ Some hs
+    → map (λ (x : HandlerLog). x.handler) (lines_of b logs) ≡ hs
 named_lines b logs hs named = from (find (is_log_of b) logs) named
   where
     from : (o : Option BlockLog) → option_map handlers_in o ≡ Some hs → map (λ (x : HandlerLog). x.handler) (lines_in o) ≡ hs
@@ -162,13 +176,17 @@ log_other GiveUp c b h logs apart = refl
 -- the block's log has the command's entries behind its own
 pub log_here : (x : Command) (b : Block) (h : HandlerId) (logs : List BlockLog) → HasLine b h logs → GrowsBy b h logs (logs_after x b logs) (added x h)
 log_here (Reserve hs) b h logs has = reserved_same hs b b h logs ∙ sym (append-nil (log_in b h logs))
-log_here (Call k r) b h logs has = changed_here b h (with_entry_at k (CallEntry r)) (added (Call k r) h) logs (leaves_at k (CallEntry r)) (adds_at k (CallEntry r) h) has
-log_here (Query k r) b h logs has = changed_here b h (with_entry_at k (QueryEntry r)) (added (Query k r) h) logs (leaves_at k (QueryEntry r)) (adds_at k (QueryEntry r) h) has
+log_here (Call k r) b h logs has =
+    changed_here b h (with_entry_at k (CallEntry r)) (added (Call k r) h) logs (leaves_at k (CallEntry r)) (adds_at k (CallEntry r) h) has
+log_here (Query k r) b h logs has =
+    changed_here b h (with_entry_at k (QueryEntry r)) (added (Query k r) h) logs (leaves_at k (QueryEntry r)) (adds_at k (QueryEntry r) h) has
 log_here End b h logs has = changed_here b h (with_entry EndEntry) (EndEntry ∷ []) logs (λ l. refl) (λ l own. refl) has
 log_here GiveUp b h logs has = sym (append-nil (log_in b h logs))
 
 -- a handler without a line has no log
-log_nowhere : (x : Command) (b : Block) (h : HandlerId) (logs : List BlockLog) → find (is_line_of h) (lines_of b logs) ≡ None → log_in b h (logs_after x b logs) ≡ log_in b h logs
+log_nowhere :
+    (x : Command) (b : Block) (h : HandlerId) (logs : List BlockLog) → find (is_line_of h) (lines_of b logs) ≡ None
+    → log_in b h (logs_after x b logs) ≡ log_in b h logs
 log_nowhere (Reserve hs) b h logs none = reserved_same hs b b h logs
 log_nowhere (Call k r) b h logs none = changed_nowhere b h (with_entry_at k (CallEntry r)) logs (leaves_at k (CallEntry r)) none
 log_nowhere (Query k r) b h logs none = changed_nowhere b h (with_entry_at k (QueryEntry r)) logs (leaves_at k (QueryEntry r)) none
@@ -201,4 +219,5 @@ log_after x c b h logs =
   where
     at_line : (o : Option HandlerLog) → find (is_line_of h) (lines_of b logs) ≡ o → (log_in b h (logs_after x b logs) ≡ log_in b h logs) ⊎ IsAdded x b b h logs
     at_line None none = inl (log_nowhere x b h logs none)
-    at_line (Some l) is = let has : HasLine b h logs = record { line = l; found = is } in inr (record { block = refl; line = has; grows = log_here x b h logs has })
+    at_line (Some l) is =
+        let has : HasLine b h logs = record { line = l; found = is } in inr (record { block = refl; line = has; grows = log_here x b h logs has })

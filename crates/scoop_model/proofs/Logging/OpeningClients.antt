@@ -1,4 +1,6 @@
--- What a client does keeps what is told of openings.
+-- What a client does keeps what is told of openings. A block has one reservation at most (its client's), so what is told
+-- of the block can be read off that reservation's stage: no Open is sent while it locks or is given up, an Unlock only once
+-- all handlers have told Opened. Each row of the client's table either leaves the stage or goes on to the next one.
 use Rattle.std.proofs.Common.{◌≡◌, ◌⊎◌, inl, inr, ◌+◌, ◌||◌, not, Bool, true, false, true≢false, List, [], ◌∷◌, filter, find, Option, Some, None, refl, sym, ap, ◌∙◌, subst, ⊎_elim, append-nil}
 use Rattle.std.specs.Prelude.{if◌then◌else◌, Ok}
 use Rattle.std.specs.List.{AllByRecursion, list_any}
@@ -54,8 +56,10 @@ same_reservation o r s e f = cc
 
 -- ---- two reservations of one block are one
 
-block_own : (w : World) → Logging w → (c : ClientId) (p : Party) → party_of c w ≡ Some p → (r : ReservationState) → p.client.reservation ≡ Some r → r.block.client ≡ c
-block_own w l c p at r held = ap (λ (b : Block). b.client) ((all_found (PartyLogs w) (is_party c) w.parties p l.parties at).block r held).block ∙ id_found c w p at
+block_own :
+    (w : World) → Logging w → (c : ClientId) (p : Party) → party_of c w ≡ Some p → (r : ReservationState) → p.client.reservation ≡ Some r → r.block.client ≡ c
+block_own w l c p at r held =
+    ap (λ (b : Block). b.client) ((all_found (PartyLogs w) (is_party c) w.parties p l.parties at).block r held).block ∙ id_found c w p at
 
 one_owner :
     (w : World) → Logging w → (c d : ClientId) (p q : Party) → party_of c w ≡ Some p → party_of d w ≡ Some q
@@ -76,7 +80,8 @@ opening_locking e = cc
 -- no Open of this block is owed, where a reservation of it isn't opening
 owed_quiet : (b : Block) (r : ReservationState) (h : HandlerId) (m : Message) → OwedRow r h m → (r.block ≡ b → r.stage ≡ Opening → ⊥) → is_open_of b m ≡ false
 owed_quiet b r h m (asks at low) off = refl
-owed_quiet b r h m (opens at is) off = by_test (λ t. same_block r.block b ≡ t → t ≡ false) (same_block r.block b) (λ _ e. absurd (off ((block_decides r.block b).0 e) at)) (λ _ e. refl) refl
+owed_quiet b r h m (opens at is) off =
+    by_test (λ t. same_block r.block b ≡ t → t ≡ false) (same_block r.block b) (λ _ e. absurd (off ((block_decides r.block b).0 e) at)) (λ _ e. refl) refl
 owed_quiet b r h m (unlocks at is) off = refl
 owed_quiet b r h m (gives_back at is) off = refl
 
@@ -134,7 +139,9 @@ module _ (w : World) (o : Ordered w) (l : Logging w) (i : Openings w) (c : Clien
   due_shows h q (logs r x greeted has_one free opened line some) m e =
       let same : Log x.handler r.block (x.acked + 1) (first_entries p.client.batch x.unacked) ≡ m = cc in
       let own = line_handler h p.client.lines x line in
-      let member : has r.handlers x.handler ≡ true = ap (has r.handlers) own ∙ ap (λ hs. has hs h) (sym (logged_party.block r has_one).handlers) ∙ found_has (λ (y : LineState). y.handler) h p.client.lines x line in
+      let member : has r.handlers x.handler ≡ true =
+      ap (has r.handlers) own ∙ ap (λ hs. has hs h) (sym (logged_party.block r has_one).handlers)
+      ∙ found_has (λ (y : LineState). y.handler) h p.client.lines x line in
       subst (Shows w) same (named_there r has_one x.handler member, opened_at_all r has_one (unlocking_is r.stage opened))
 
   module _ (h : HandlerId) where
@@ -165,7 +172,9 @@ module _ (w : World) (o : Ordered w) (l : Logging w) (i : Openings w) (c : Clien
         let one = one_owner w l d c q p there at s r has held same in
         off (sym is ∙ ap (λ (y : ReservationState). y.stage) one)
 
-    stage_sent : (d : ClientId) (q : Party) → party_of d w ≡ Some q → (s : ReservationState) → q.client.reservation ≡ Some s → (stage : Stage) → s.stage ≡ stage → StageOpened w s stage → StageOpened sent_on s stage
+    stage_sent :
+        (d : ClientId) (q : Party) → party_of d w ≡ Some q → (s : ReservationState) → q.client.reservation ≡ Some s → (stage : Stage) → s.stage ≡ stage
+        → StageOpened w s stage → StageOpened sent_on s stage
     stage_sent d q there s has Locking is f = still_none s.block (not_opening d q there s has (λ e. opening_locking (e ∙ is))) f
     stage_sent d q there s has Opening is f = f
     stage_sent d q there s has Unlocking is f = f
@@ -188,7 +197,9 @@ module _ (w : World) (o : Ordered w) (l : Logging w) (i : Openings w) (c : Clien
 -- what a client's reservation comes from: it begins, stays, takes a step, or is given up
 pub record IsFrom (w : World) (c : ClientState) (s : ReservationState) : Type 0 where
   pub opened : ReservationOpened w s
-  pub given_up : (b : Block) → IsGivenUp w b → s.block ≡ b → ((r : ReservationState) → c.reservation ≡ Some r → r.block ≡ b → r.stage ≡ GivingBack) → s.stage ≡ GivingBack
+  pub given_up :
+      (b : Block) → IsGivenUp w b → s.block ≡ b → ((r : ReservationState) → c.reservation ≡ Some r → r.block ≡ b → r.stage ≡ GivingBack)
+      → s.stage ≡ GivingBack
 
 module _
     (w : World) (i : Openings w) (c : ClientId) (p q : Party) (at : party_of c w ≡ Some p) (same : id_of q ≡ id_of p) (ls : List BlockLog)
@@ -327,8 +338,10 @@ module _ (w : World) (c : ClientState) (fits : (r : ReservationState) → c.rese
   pub row_from : (m : Message) (d : ClientState) (note : ClientNote) → HeardRow c m d note → Shows w m → AllFrom d
   row_from m d note (passed_over n) shows = stays
   row_from m d note (is_welcomed h left) shows = stays
-  row_from m d note (takes_step n r has_one) shows = after_from (reservation.heard r n).0 (reservation.heard r n).1 (step_from n shows r has_one (reservation.heard r n).0 (reservation.heard r n).1 (step_row r n))
-  row_from m d note (is_acknowledged h n r l has_one opened line fresh_count) shows = settled_from (with_lines c (at_line h (acknowledged (up_to h n c.waits)) c.lines) c.waits) stays
+  row_from m d note (takes_step n r has_one) shows =
+      after_from (reservation.heard r n).0 (reservation.heard r n).1 (step_from n shows r has_one (reservation.heard r n).0 (reservation.heard r n).1 (step_row r n))
+  row_from m d note (is_acknowledged h n r l has_one opened line fresh_count) shows =
+      settled_from (with_lines c (at_line h (acknowledged (up_to h n c.waits)) c.lines) c.waits) stays
   row_from m d note (is_accepted h n a r has_one opened waits) shows = stays
 
 -- ---- a command
@@ -361,10 +374,13 @@ has_filtered : (test : HandlerId → Bool) (hs : List HandlerId) (x : HandlerId)
 has_filtered test [] x e = e
 has_filtered test (y ∷ ys) x e =
     by_test (λ t. has (if t then y ∷ filter test ys else filter test ys) x ≡ true → (same_handler y x || has ys x) ≡ true) (test y)
-    (λ stays f. by_test (λ u. (u || has (filter test ys) x) ≡ true → (u || has ys x) ≡ true) (same_handler y x) (λ here g. refl) (λ there g. has_filtered test ys x g) f)
+    (λ stays f.
+    by_test (λ u. (u || has (filter test ys) x) ≡ true → (u || has ys x) ≡ true) (same_handler y x) (λ here g. refl) (λ there g. has_filtered test ys x g) f)
     (λ gone f. by_test (λ u. (u || has ys x) ≡ true) (same_handler y x) (λ here. refl) (λ there. has_filtered test ys x f)) e
 
-module _ (w : World) (o : Ordered w) (p : Party) (f : PartyFits w p) (l : PartyLogs w p) (opened : (r : ReservationState) → p.client.reservation ≡ Some r → ReservationOpened w r) where
+module _
+    (w : World) (o : Ordered w) (p : Party) (f : PartyFits w p) (l : PartyLogs w p)
+    (opened : (r : ReservationState) → p.client.reservation ≡ Some r → ReservationOpened w r) where
   next_new : handlers_of (client.next_block p.client) w ≡ None
   next_new = next_is_new w p f (handlers_of (client.next_block p.client) w) refl
 
@@ -402,7 +418,8 @@ module _ (w : World) (o : Ordered w) (p : Party) (f : PartyFits w p) (l : PartyL
     reserve_from : (hs : List HandlerId) (q : client.Outcome) → ReserveRow p.client hs q → q ≡ Ok d → From
     reserve_from hs q (begins_block r at_idle room begins) e =
         from_made (client.with_block p.client hs r) e
-        (λ s held. subst (IsFrom w p.client) (started_fresh (client.next_block p.client) hs p.client.handlers r begins ∙ same_reservation (Some r) r s refl held) (fresh_from hs))
+        (λ s held.
+        subst (IsFrom w p.client) (started_fresh (client.next_block p.client) hs p.client.handlers r begins ∙ same_reservation (Some r) r s refl held) (fresh_from hs))
     reserve_from hs q r e = absurd (cc)
 
     log_from : (h : HandlerId) (n : Entry) (q : client.Outcome) → LogRow p.client h n q → q ≡ Ok d → From
@@ -415,7 +432,8 @@ module _ (w : World) (o : Ordered w) (p : Party) (f : PartyFits w p) (l : PartyL
 
     give_up_from : (q : client.Outcome) → GiveUpRow p.client q → q ≡ Ok d → From
     give_up_from q (gives_up r s locking has_one given) e =
-        from_made (with_reservation p.client s) e (λ y held. subst (IsFrom w p.client) (same_reservation (Some s) s y refl held) (given_from r s r.stage has_one refl given))
+        from_made (with_reservation p.client s) e
+        (λ y held. subst (IsFrom w p.client) (same_reservation (Some s) s y refl held) (given_from r s r.stage has_one refl given))
     give_up_from q r e = absurd (cc)
 
     pub command_from : (x : client.Command) → client.command p.client x ≡ Ok d → From
@@ -429,7 +447,8 @@ module _ (w : World) (o : Ordered w) (p : Party) (f : PartyFits w p) (l : PartyL
 
     -- nothing, or entries of a block that has opened
     abbrev LogsOpened : Command → ClientState → Type 0
-    LogsOpened x e = (b : Block) (h : HandlerId) → IsAdded x (newest_block e) b h w.logs → (log_in b h (logs_after x (newest_block e) w.logs) ≡ log_of b h w) ⊎ (IsNamed w h b × IsOpenedAtAll w b)
+    LogsOpened x e =
+        (b : Block) (h : HandlerId) → IsAdded x (newest_block e) b h w.logs → (log_in b h (logs_after x (newest_block e) w.logs) ≡ log_of b h w) ⊎ (IsNamed w h b × IsOpenedAtAll w b)
 
     logs_made : (x : Command) (e : ClientState) → ◌≡◌ {A = client.Outcome} (Ok e) (Ok d) → LogsOpened x e → LogsOpened x d
     logs_made x e made g = let same : e ≡ d = cc in subst (LogsOpened x) same g
@@ -440,9 +459,12 @@ module _ (w : World) (o : Ordered w) (p : Party) (f : PartyFits w p) (l : PartyL
         let r = run.reservation in
         let same : r.block ≡ b = (l.block r run.held).block ∙ more.block in
         let named = (f.reservation r run.held).named in
-        let at_all : IsOpenedAtAll w r.block = record { handlers = r.handlers; set = named; opened = subst (StageOpened w r) (unlocking_is r.stage run.opened) (opened r run.held).stage } in
+        let at_all : IsOpenedAtAll w r.block =
+        record { handlers = r.handlers; set = named; opened = subst (StageOpened w r) (unlocking_is r.stage run.opened) (opened r run.held).stage } in
         let set : handlers_of b w ≡ Some r.handlers = ap (λ y. handlers_of y w) (sym same) ∙ named in
-        let member : has r.handlers h ≡ true = ap (λ hs. has hs h) (sym (named_lines b w.logs r.handlers set)) ∙ found_has (λ (y : HandlerLog). y.handler) h (lines_of b w.logs) more.line.line more.line.found in
+        let member : has r.handlers h ≡ true =
+        ap (λ hs. has hs h) (sym (named_lines b w.logs r.handlers set))
+        ∙ found_has (λ (y : HandlerLog). y.handler) h (lines_of b w.logs) more.line.line more.line.found in
         inr (record { handlers = r.handlers; set = set; member = member }, subst (IsOpenedAtAll w) same at_all)
 
     log_logs : (x : Command) (h : HandlerId) (n : Entry) (q : client.Outcome) → LogRow p.client h n q → q ≡ Ok d → LogsOpened x d
@@ -460,7 +482,9 @@ module _ (w : World) (o : Ordered w) (p : Party) (f : PartyFits w p) (l : PartyL
     added_opened End e = end_logs _ (command_row p.client (core_command End)) e
     added_opened GiveUp e = λ b h more. inl (more.grows ∙ append-nil (log_of b h w))
 
-    pub logs_opened : (x : Command) → client.command p.client (core_command x) ≡ Ok d → (b : Block) (h : HandlerId) → (log_in b h (logs_after x (newest_block d) w.logs) ≡ log_of b h w) ⊎ (IsNamed w h b × IsOpenedAtAll w b)
+    pub logs_opened :
+        (x : Command) → client.command p.client (core_command x) ≡ Ok d → (b : Block) (h : HandlerId)
+        → (log_in b h (logs_after x (newest_block d) w.logs) ≡ log_of b h w) ⊎ (IsNamed w h b × IsOpenedAtAll w b)
     logs_opened x e b h =
         ⊎_elim
         (λ (same : log_in b h (logs_after x (newest_block d) w.logs) ≡ log_of b h w). inl same)

@@ -1,4 +1,6 @@
--- What a handler does keeps what is told of openings.
+-- What a handler does keeps what is told of openings. The one row that opens a block makes its mark open and puts it down
+-- as opened in the same event, so an open mark's block has opened; what opened stays; and an Opened is replied only of such
+-- a block. Running and restarting change no stage.
 use Rattle.std.proofs.Common.{◌≡◌, inl, ℕ, ◌==◌, ◌||◌, true, false, true≢false, IsFalse, List, [], ◌∷◌, ◌++◌, map, find, Option, Some, None, refl, sym, ap, ◌∙◌, subst, ⊎_elim, append-nil}
 use Rattle.std.specs.Prelude.{if◌then◌else◌, ⊤, option_to_list}
 use Rattle.std.specs.List.{AllByRecursion}
@@ -50,7 +52,8 @@ module _ (bs new : List Block) (more : (b : Block) → has_block bs b ≡ true �
   not_open : (k : Mark) → (k.stage ≡ AtOpen → ⊥) → IsMarkOpened new k
   not_open k shut = record { opened = λ e. absurd (shut e) }
 
-  set_opened : (k : Mark) (marks : List Mark) → IsMarkOpened new k → AllByRecursion (IsMarkOpened bs) marks → AllByRecursion (IsMarkOpened new) (set_mark k marks)
+  set_opened :
+      (k : Mark) (marks : List Mark) → IsMarkOpened new k → AllByRecursion (IsMarkOpened bs) marks → AllByRecursion (IsMarkOpened new) (set_mark k marks)
   set_opened k marks own all = All-set_mark (IsMarkOpened bs) (IsMarkOpened new) k marks own (λ x apart. others_stay x) all
 
   shut_not_open : AtShut ≡ AtOpen → ⊥
@@ -65,10 +68,15 @@ module _ (bs new : List Block) (more : (b : Block) → has_block bs b ≡ true �
   was_open AtShut e = e
 
   -- the blocks of open marks have opened, where that of a new one has
-  pub marks-row : (s : HandlerState) (m : Message) (h : Hearing) → Row s m h → ((b : Block) → h.1.note ≡ OpenedNote b → has_block new b ≡ true) → AllByRecursion (IsMarkOpened bs) s.marks → AllByRecursion (IsMarkOpened new) h.0.marks
-  marks-row s m h (first_greeting x c inc here none room) opens all = All-add_mark (IsMarkOpened bs) (IsMarkOpened new) (greeting_mark c inc) s.marks (not_open (greeting_mark c inc) shut_not_open) others_stay all
-  marks-row s m h (newer_greeting x c inc k here found newer) opens all = set_opened (greeting_mark c inc) s.marks (not_open (greeting_mark c inc) shut_not_open) all
-  marks-row s m h (lock_granted x b k here at newer free clear) opens all = set_opened (fresh_mark b AtHeld) s.marks (not_open (fresh_mark b AtHeld) held_not_open) all
+  pub marks-row :
+      (s : HandlerState) (m : Message) (h : Hearing) → Row s m h → ((b : Block) → h.1.note ≡ OpenedNote b → has_block new b ≡ true)
+      → AllByRecursion (IsMarkOpened bs) s.marks → AllByRecursion (IsMarkOpened new) h.0.marks
+  marks-row s m h (first_greeting x c inc here none room) opens all =
+      All-add_mark (IsMarkOpened bs) (IsMarkOpened new) (greeting_mark c inc) s.marks (not_open (greeting_mark c inc) shut_not_open) others_stay all
+  marks-row s m h (newer_greeting x c inc k here found newer) opens all =
+      set_opened (greeting_mark c inc) s.marks (not_open (greeting_mark c inc) shut_not_open) all
+  marks-row s m h (lock_granted x b k here at newer free clear) opens all =
+      set_opened (fresh_mark b AtHeld) s.marks (not_open (fresh_mark b AtHeld) held_not_open) all
   marks-row s m h (open_granted x b k here at same was room) opens all =
       set_opened (opened_mark k) s.marks (record { opened = λ e. subst (λ y. has_block new y ≡ true) (sym (block_of-same s b k at same)) (opens b refl) }) all
   marks-row s m h (unlock_new x b k here at newer clear) opens all = set_opened (fresh_mark b AtShut) s.marks (not_open (fresh_mark b AtShut) shut_not_open) all
@@ -82,26 +90,23 @@ module _ (bs new : List Block) (more : (b : Block) → has_block bs b ≡ true �
   -- an Opened is of a block that has opened here, and no Open, Unlock or Log is a reply
   abbrev ShowsBack : HandlerState → Option Message → Type 0
   ShowsBack s None = ⊤
-  ShowsBack s (Some (Hello x c inc)) = ⊤
-  ShowsBack s (Some (Welcome x c inc)) = ⊤
-  ShowsBack s (Some (Lock x b)) = ⊤
-  ShowsBack s (Some (Locked x b)) = ⊤
-  ShowsBack s (Some (Busy x b)) = ⊤
   ShowsBack s (Some (Open x b)) = ⊥
   ShowsBack s (Some (Opened x b)) = (x ≡ s.number) × (has_block new b ≡ true)
   ShowsBack s (Some (Unlock x b)) = ⊥
-  ShowsBack s (Some (Unlocked x b)) = ⊤
   ShowsBack s (Some (Log x b n es)) = ⊥
-  ShowsBack s (Some (Logged x b n)) = ⊤
-  ShowsBack s (Some (Answer x b n a)) = ⊤
+  ShowsBack s (Some m) = ⊤
 
-  back-row : (s : HandlerState) (m : Message) (h : Hearing) → Row s m h → ((b : Block) → h.1.note ≡ OpenedNote b → has_block new b ≡ true) → AllByRecursion (IsMarkOpened bs) s.marks → ShowsBack h.0 h.1.reply
+  back-row :
+      (s : HandlerState) (m : Message) (h : Hearing) → Row s m h → ((b : Block) → h.1.note ≡ OpenedNote b → has_block new b ≡ true)
+      → AllByRecursion (IsMarkOpened bs) s.marks → ShowsBack h.0 h.1.reply
   back-row s m h (open_granted x b k here at same was room) opens all = (refl, opens b refl)
   back-row s m h (open_again x b k here at same was) opens all =
       (refl, more b (subst (λ y. has_block bs y ≡ true) (block_of-same s b k at same) ((All-mark_of (IsMarkOpened bs) b.client s.marks k all at.found).opened was)))
   back-row s m h r opens all = tt
 
-  back_shows : (v : World) (s : Site) (o : Option Message) → site_of (number_of s) v ≡ Some s → s.opened ≡ new → ShowsBack s.core.state o → (m : Message) → o ≡ Some m → Shows v m
+  back_shows :
+      (v : World) (s : Site) (o : Option Message) → site_of (number_of s) v ≡ Some s → s.opened ≡ new → ShowsBack s.core.state o → (m : Message) → o ≡ Some m
+      → Shows v m
   back_shows v s None here is t m e = absurd (cc)
   back_shows v s (Some n) here is t m e = let same : n ≡ m = cc in subst (Shows v) same (told n t)
     where
@@ -139,7 +144,9 @@ no_open b (Open h y) back = absurd (true≢false back)
 no_open b m back = refl
 
 -- one handler goes on, and perhaps replies
-module _ (w : World) (i : Openings w) (s old : Site) (here : site_of (number_of s) w ≡ Some old) (more : OpenedMore old s) (o : Option Message) (js : List Block) (quiet : (b : Block) (m : Message) → o ≡ Some m → is_open_of b m ≡ false) where
+module _
+    (w : World) (i : Openings w) (s old : Site) (here : site_of (number_of s) w ≡ Some old) (more : OpenedMore old s) (o : Option Message) (js : List Block)
+    (quiet : (b : Block) (m : Message) → o ≡ Some m → is_open_of b m ≡ false) where
   abbrev after : World
   after = record w { sites = set_site s w.sites; sent = w.sent ++ option_to_list o; joint = js }
 
@@ -167,7 +174,9 @@ in_front (y ∷ ys) new b e =
     (λ same _. refl)
     (λ other f. in_front ys new b f) e
 
-module _ (w : World) (sound : Sound w) (i : Openings w) (k : ℕ) (m : Message) (s : Site) (was : sent_at k w ≡ Some m) (found : site_of (handler_of m) w ≡ Some s) where
+module _
+    (w : World) (sound : Sound w) (i : Openings w) (k : ℕ) (m : Message) (s : Site) (was : sent_at k w ≡ Some m)
+    (found : site_of (handler_of m) w ≡ Some s) where
   abbrev now : Hearing
   now = hear s.core.state m
 
@@ -239,7 +248,8 @@ module _ (w : World) (i : Openings w) (h : HandlerId) (s : Site) (found : site_o
   own_site = all_found (SiteOpened w) (is_site h) w.sites s i.sites found
 
   -- the handler goes on with the blocks that opened at it
-  quiet_site : (t : Site) → number_of t ≡ number_of s → t.opened ≡ s.opened → AllByRecursion (IsMarkOpened s.opened) t.core.state.marks → Openings (with_site w t)
+  quiet_site :
+      (t : Site) → number_of t ≡ number_of s → t.opened ≡ s.opened → AllByRecursion (IsMarkOpened s.opened) t.core.state.marks → Openings (with_site w t)
   quiet_site t same opened marks =
       let there : site_of (number_of t) w ≡ Some s = subst (λ j. site_of j w ≡ Some s) (sym same) (place w h s found) in
       let more : OpenedMore s t = λ b e. ap (λ bs. has_block bs b) opened ∙ e in
@@ -259,14 +269,16 @@ module _ (w : World) (i : Openings w) (h : HandlerId) (s : Site) (found : site_o
   pub finishes_openings : (t : Task) → Openings (with_site w (finished_site s t))
   finishes_openings t = quiet_site (finished_site s t) refl refl (after_opened (ran_of t) s.core.state.marks own_site.marks)
     where
-      after_opened : (r : Ran) (marks : List Mark) → AllByRecursion (IsMarkOpened s.opened) marks → AllByRecursion (IsMarkOpened s.opened) (map (mark_after r) marks)
+      after_opened :
+          (r : Ran) (marks : List Mark) → AllByRecursion (IsMarkOpened s.opened) marks → AllByRecursion (IsMarkOpened s.opened) (map (mark_after r) marks)
       after_opened r [] all = tt
       after_opened r (k ∷ ks) all = (record { opened = all.0.opened }, after_opened r ks all.1)
 
 -- ---- a node restarts
 
 pub same_list : (n : ℕ) (s : Site) → (reopened n s).opened ≡ s.opened
-same_list n s = by_test (λ t. (if t then record s { core = core_of s.core.class s.stored false } else s).opened ≡ s.opened) (s.node == n) (λ here. refl) (λ there. refl)
+same_list n s =
+    by_test (λ t. (if t then record s { core = core_of s.core.class s.stored false } else s).opened ≡ s.opened) (s.node == n) (λ here. refl) (λ there. refl)
 
 pub opened_anew :
     (js : List Block) (n : ℕ) (h : HandlerId) (sites : List Site) → AllByRecursion (SiteFits js) sites
@@ -297,7 +309,9 @@ module _ (w : World) (fits : AllByRecursion (SiteFits w.joint) w.sites) (i : Ope
         marks = subst (λ bs. AllByRecursion (IsMarkOpened bs) (reopened n s).core.state.marks) (sym (same_list n s)) (subst (λ (st : HandlerState). AllByRecursion (IsMarkOpened s.opened) st.marks) (sym state) o.marks);
       }
 
-  sites_anew : (sites : List Site) → AllByRecursion (SiteFits w.joint) sites → AllByRecursion (SiteOpened w) sites → AllByRecursion (SiteOpened (reopened_world w n)) (map (reopened n) sites)
+  sites_anew :
+      (sites : List Site) → AllByRecursion (SiteFits w.joint) sites → AllByRecursion (SiteOpened w) sites
+      → AllByRecursion (SiteOpened (reopened_world w n)) (map (reopened n) sites)
   sites_anew [] f o = tt
   sites_anew (s ∷ ss) f o = (site_anew s f.0 o.0, sites_anew ss f.1 o.1)
 

@@ -51,7 +51,9 @@ unjoined_empty w o i b none h =
     (i.logs b h)
 
 -- a client whose reservation is opened at all has opened it at each of its handlers
-pub running_opened : (w : World) → Ordered w → Logging w → Openings w → (c : ClientId) (p : Party) → party_of c w ≡ Some p → (r : ReservationState) → p.client.reservation ≡ Some r → is_open r ≡ true → IsOpenedAtAll w r.block
+pub running_opened :
+    (w : World) → Ordered w → Logging w → Openings w → (c : ClientId) (p : Party) → party_of c w ≡ Some p → (r : ReservationState)
+    → p.client.reservation ≡ Some r → is_open r ≡ true → IsOpenedAtAll w r.block
 running_opened w o l i c p at r held opened = opened_at_all w o l i c p at r held (unlocking_is r.stage opened)
 
 -- ---- any list of events
@@ -81,7 +83,9 @@ module _ (ps : List Placement) (ns : List Newcomer) (es : List Event) (may : May
   told = always_told_more ps ns es may
 
   -- a Log is sent only of a block that has opened at each of its handlers
-  pub logs_opened : (i : ℕ) (h : HandlerId) (b : Block) (n : ℕ) (entries : List Entry) → sent_at i now ≡ Some (Log h b n entries) → (x : HandlerId) → has (set_of b now) x ≡ true → has_block (opened_at x now) b ≡ true
+  pub logs_opened :
+      (i : ℕ) (h : HandlerId) (b : Block) (n : ℕ) (entries : List Entry) → sent_at i now ≡ Some (Log h b n entries) → (x : HandlerId)
+      → has (set_of b now) x ≡ true → has_block (opened_at x now) b ≡ true
   logs_opened i h b n entries was x member =
       let o = (sent_all now i (Log h b n entries) was (Shows now) told.1.1.messages).1 in
       let set : set_of b now ≡ o.handlers = ap (λ hs. unwrap_or hs []) o.set in

@@ -30,7 +30,8 @@ openings_kept w o sound l i = record {
   commands = λ c p x d at is. (
       let f = all_found (PartyFits w) (is_party c) w.parties p o.parties at in
       let l_at = all_found (PartyLogs w) (is_party c) w.parties p l.parties at in
-      party_goes_on w i c p (record p { client = d }) at (goes_on w p x d is f).id (logs_after x (newest_block d) w.logs) (λ b hs e. handlers_after x (newest_block d) b w.logs hs e)
+      party_goes_on w i c p (record p { client = d }) at (goes_on w p x d is f).id (logs_after x (newest_block d) w.logs)
+      (λ b hs e. handlers_after x (newest_block d) b w.logs hs e)
       (command_from w o p f l_at (i.parties c p at) d (core_command x) is) (logs_opened w o p f l_at (i.parties c p at) d x is));
   sends = λ c p h s at here. sends_openings w o l i c p at h;
   hears = λ k m s was goes here. hears_openings w sound i k m s was here;
@@ -50,7 +51,9 @@ sites_open w [] = tt
 sites_open w (p ∷ ps) = (record { named = λ b e. absurd (cc); marks = tt }, sites_open w ps)
 
 -- no client has a block
-pub none_reserved : (c : ClientId) (hs : List HandlerId) (ns : List Newcomer) (p : Party) → find (is_party c) (map (new_party hs) ns) ≡ Some p → (r : ReservationState) → p.client.reservation ≡ Some r → ⊥
+pub none_reserved :
+    (c : ClientId) (hs : List HandlerId) (ns : List Newcomer) (p : Party) → find (is_party c) (map (new_party hs) ns) ≡ Some p → (r : ReservationState)
+    → p.client.reservation ≡ Some r → ⊥
 none_reserved c hs [] p e r held = cc
 none_reserved c hs (n ∷ ns) p e r held =
     by_test (λ t. (if t then Some (new_party hs n) else find (is_party c) (map (new_party hs) ns)) ≡ Some p → ⊥) (is_party c (new_party hs n))

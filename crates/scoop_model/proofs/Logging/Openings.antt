@@ -6,7 +6,7 @@ use Rattle.scoop_message.specs.declared.name.Block.{Block}
 use Rattle.scoop_message.specs.declared.name.ClientId.{ClientId}
 use Rattle.scoop_message.specs.declared.name.HandlerId.{HandlerId}
 use Rattle.scoop_message.specs.declared.message.Message.{Message}
-use Rattle.scoop_message.specs.declared.message.Message.TheVariants.{Hello, Welcome, Lock, Locked, Busy, Open, Opened, Unlock, Unlocked, Log, Logged, Answer}
+use Rattle.scoop_message.specs.declared.message.Message.TheVariants.{Open, Opened, Unlock, Log}
 use Rattle.scoop_message.specs.Message.{same_block}
 use Rattle.scoop_reserve.specs.declared.stage.Stage.{Stage}
 use Rattle.scoop_reserve.specs.declared.stage.Stage.TheVariants.{Locking, Opening, Unlocking, GivingUp}
@@ -34,17 +34,7 @@ pub record IsOpenedAtAll (w : World) (b : Block) : Type 0 where
 
 abbrev pub is_open_of : Block → Message → Bool
 is_open_of b (Open h y) = same_block y b
-is_open_of b (Hello h c inc) = false
-is_open_of b (Welcome h c inc) = false
-is_open_of b (Lock h y) = false
-is_open_of b (Locked h y) = false
-is_open_of b (Busy h y) = false
-is_open_of b (Opened h y) = false
-is_open_of b (Unlock h y) = false
-is_open_of b (Unlocked h y) = false
-is_open_of b (Log h y n es) = false
-is_open_of b (Logged h y n) = false
-is_open_of b (Answer h y n a) = false
+is_open_of b m = false
 
 abbrev pub NoOpen : World → Block → Type 0
 NoOpen w b = list_any (is_open_of b) w.sent ≡ false
@@ -65,14 +55,7 @@ Shows w (Open h b) = IsNamed w h b
 Shows w (Opened h b) = IsOpenedAt w h b
 Shows w (Unlock h b) = IsNamed w h b × (IsOpenedAtAll w b ⊎ IsGivenUp w b)
 Shows w (Log h b n es) = IsNamed w h b × IsOpenedAtAll w b
-Shows w (Hello h c inc) = ⊤
-Shows w (Welcome h c inc) = ⊤
-Shows w (Lock h b) = ⊤
-Shows w (Locked h b) = ⊤
-Shows w (Busy h b) = ⊤
-Shows w (Unlocked h b) = ⊤
-Shows w (Logged h b n) = ⊤
-Shows w (Answer h b n a) = ⊤
+Shows w m = ⊤
 
 -- ---- handlers and clients
 
@@ -126,14 +109,7 @@ module _ (w v : World) (x : Onto w v) where
   shows_more (Opened h b) s = x.opened h b s
   shows_more (Unlock h b) s = (named_more h b s.0, ⊎_elim (λ (o : IsOpenedAtAll w b). inl (opened_more b o)) (λ (g : IsGivenUp w b). inr (x.given_up b g)) s.1)
   shows_more (Log h b n es) s = (named_more h b s.0, opened_more b s.1)
-  shows_more (Hello h c inc) s = tt
-  shows_more (Welcome h c inc) s = tt
-  shows_more (Lock h b) s = tt
-  shows_more (Locked h b) s = tt
-  shows_more (Busy h b) s = tt
-  shows_more (Unlocked h b) s = tt
-  shows_more (Logged h b n) s = tt
-  shows_more (Answer h b n a) s = tt
+  shows_more m s = tt
 
   pub site_more : (s : Site) → SiteOpened w s → SiteOpened v s
   site_more s o = record { named = λ b e. named_more (number_of s) b (o.named b e); marks = o.marks }
@@ -161,7 +137,9 @@ module _ (w v : World) (x : Onto w v) where
       (grown b h)
 
 -- no Open is among the new messages
-pub none_pushed : (b : Block) (ms : List Message) (o : Option Message) → list_any (is_open_of b) ms ≡ false → ((m : Message) → o ≡ Some m → is_open_of b m ≡ false) → list_any (is_open_of b) (ms ++ option_to_list o) ≡ false
+pub none_pushed :
+    (b : Block) (ms : List Message) (o : Option Message) → list_any (is_open_of b) ms ≡ false → ((m : Message) → o ≡ Some m → is_open_of b m ≡ false)
+    → list_any (is_open_of b) (ms ++ option_to_list o) ≡ false
 none_pushed b [] None none new = refl
 none_pushed b [] (Some m) none new = ap (λ t. t || false) (new m refl)
 none_pushed b (x ∷ xs) o none new =

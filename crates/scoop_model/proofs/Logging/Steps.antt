@@ -29,7 +29,8 @@ hears_logging w sound i k m s was =
     let now = hear s.core.state m in
     logging_more w (heard_world w s now) (λ b h. refl) i
     (all_pushed (Carries w) w.sent now.1.reply i.messages
-    (λ reply e. to_client_carries w reply (replies-row s.core.state m now (row s.core.state m) (sent_all w k m was HasEntries sound.messages) reply e).to_client))
+    (λ reply e.
+    to_client_carries w reply (replies-row s.core.state m now (row s.core.state m) (sent_all w k m was HasEntries sound.messages) reply e).to_client))
     i.parties
 
 -- every event keeps it

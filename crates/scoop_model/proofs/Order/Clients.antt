@@ -1,4 +1,6 @@
--- What a client does keeps the order.
+-- What a client does keeps the order. A client asks for the locks of its block one after another and notes which handlers
+-- are left; a Locked that it hears was sent, so the handler has granted the lock, for good. So an Open, which is due only
+-- once none is left, is of a block that was granted at each of its handlers.
 use Rattle.std.proofs.Common.{◌≡◌, ◌+◌, ◌&&◌, ◌||◌, not, Bool, true, false, true≢false, length, List, [], ◌∷◌, Option, Some, None, refl, sym, ◌∙◌, subst, arith}
 use Rattle.std.proofs.lemmas.Bool.{eqb-true}
 use Rattle.std.specs.Prelude.{if◌then◌else◌}
@@ -38,7 +40,8 @@ has_without h x [] e = e
 has_without h x (y ∷ ys) e =
     by_test (λ t. has (if not t then y ∷ without h ys else without h ys) x ≡ true → (same_handler y x || has ys x) ≡ true) (same_handler y h)
     (λ gone f. by_test (λ u. (u || has ys x) ≡ true) (same_handler y x) (λ here. refl) (λ there. has_without h x ys f))
-    (λ stays f. by_test (λ u. (u || has (without h ys) x) ≡ true → (u || has ys x) ≡ true) (same_handler y x) (λ here g. refl) (λ there g. has_without h x ys g) f)
+    (λ stays f.
+    by_test (λ u. (u || has (without h ys) x) ≡ true → (u || has ys x) ≡ true) (same_handler y x) (λ here g. refl) (λ there g. has_without h x ys g) f)
     e
 
 -- what goes out of the list is the one handler
@@ -71,7 +74,9 @@ module _ (w : World) (h : HandlerId) (r : ReservationState) (m : Message) (named
   due_tells : (stage : Stage) → LocksAt w r stage → due_in r h stage ≡ Some m → Tells w m
   due_tells Locking l e =
       by_test (λ t. is_lowest h r.left ≡ t → (if t then Some (Lock h r.block) else None) ≡ Some m → Tells w m) (is_lowest h r.left)
-      (λ _ is f. let same : Lock h r.block ≡ m = cc in subst (Tells w) same (record { handlers = r.handlers; set = named; member = l.0 h (and_first (has r.left h) _ is) }))
+      (λ _ is f.
+      let same : Lock h r.block ≡ m =
+      cc in subst (Tells w) same (record { handlers = r.handlers; set = named; member = l.0 h (and_first (has r.left h) _ is) }))
       (λ _ is f. absurd (cc)) refl e
   due_tells Opening l e =
       by_test (λ t. (if t then Some (Open h r.block) else None) ≡ Some m → Tells w m) (has r.left h)
@@ -92,7 +97,8 @@ owed_tells w p h o (greets left) fits m e = let same : Hello h p.client.id p.cli
 owed_tells w p h o (reserves r n greeted has_one owes) fits m e =
     let f = fits.reservation r has_one in
     due_tells w h r m f.named r.stage f.locks (owes ∙ e)
-owed_tells w p h o (logs r l greeted has_one free opened line some) fits m e = let same : Log l.handler r.block (l.acked + 1) (first_entries p.client.batch l.unacked) ≡ m = cc in subst (Tells w) same tt
+owed_tells w p h o (logs r l greeted has_one free opened line some) fits m e =
+    let same : Log l.handler r.block (l.acked + 1) (first_entries p.client.batch l.unacked) ≡ m = cc in subst (Tells w) same tt
 
 pub sends_ordered : (w : World) → Ordered w → (p : Party) (h : HandlerId) → PartyFits w p → Ordered (with_sent w (due p.client h))
 sends_ordered w o p h fits =
@@ -120,7 +126,9 @@ party_moves w p o fits =
 
 -- ---- a client hears
 
-step_fits : (w : World) (r : ReservationState) (m : Message) (s : ReservationState) (st : Step) → StepRow r m s st → ReservationFits w r → Tells w m → ReservationFits w s
+step_fits :
+    (w : World) (r : ReservationState) (m : Message) (s : ReservationState) (st : Step) → StepRow r m s st → ReservationFits w r → Tells w m
+    → ReservationFits w s
 step_fits w r m s st (steps_over n) f t = f
 step_fits w r m s st (one_is_locked h at low rest) f t =
     let l = subst (LocksAt w r) at f.locks in
@@ -187,10 +195,12 @@ module _ (w : World) (c : ClientState) (fits : (r : ReservationState) → c.rese
   keeps_row m d note (takes_step n r has_one) t =
       keeps_step (reservation.heard r n).0 (reservation.heard r n).1
       (step_fits w r n (reservation.heard r n).0 (reservation.heard r n).1 (step_row r n) (fits r has_one) t)
-  keeps_row m d note (is_acknowledged h n r l has_one opened line fresh_count) t = keeps_settled (with_lines c (at_line h (acknowledged (up_to h n c.waits)) c.lines) c.waits) (record { id = refl; inc = refl; last = refl; reservation = fits })
+  keeps_row m d note (is_acknowledged h n r l has_one opened line fresh_count) t =
+      keeps_settled (with_lines c (at_line h (acknowledged (up_to h n c.waits)) c.lines) c.waits) (record { id = refl; inc = refl; last = refl; reservation = fits })
   keeps_row m d note (is_accepted h n a r has_one opened waits) t = record { id = refl; inc = refl; last = refl; reservation = fits }
 
-pub notices_ordered : (w : World) → Ordered w → (m : Message) (p : Party) → Tells w m → PartyFits w p → Ordered (with_party w (heard_party p (heard p.client m)))
+pub notices_ordered :
+    (w : World) → Ordered w → (m : Message) (p : Party) → Tells w m → PartyFits w p → Ordered (with_party w (heard_party p (heard p.client m)))
 notices_ordered w o m p tells f =
     let d = (heard p.client m).0 in
     let k = keeps_row w p.client f.reservation m d (heard p.client m).1 (heard_row p.client m) tells in

@@ -1,4 +1,5 @@
--- What a command to a client does keeps the order.
+-- What a command to a client does keeps the order. Only a reserve matters: its block is newer than all that its client has
+-- named, so it has no handlers yet; they are set once, as the reserve names them, and all of them are left to lock.
 use Rattle.std.proofs.Common.{◌≡◌, ◌==◌, ◌≤◌, nat_lt, false, true≢false, length, List, Option, Some, None, refl, sym, ap, ◌∙◌, subst, ⊎_elim, arith}
 use Rattle.std.specs.Prelude.{if◌then◌else◌, Ok, Err}
 use Rattle.scoop_message.specs.declared.limits.TheConstants.{MAX_BLOCK_HANDLERS}
@@ -65,7 +66,8 @@ module _ (w : World) (p : Party) (x : Command) (d : ClientState) where
   extends : Extends w (commanded_world w p x d)
   extends = record { granted = λ j b g. g; sets = λ b hs e. handlers_after x (newest_block d) b w.logs hs e }
 
-  same_reservation : PartyFits w p → d.reservation ≡ p.client.reservation → (r : ReservationState) → d.reservation ≡ Some r → ReservationFits (commanded_world w p x d) r
+  same_reservation :
+      PartyFits w p → d.reservation ≡ p.client.reservation → (r : ReservationState) → d.reservation ≡ Some r → ReservationFits (commanded_world w p x d) r
   same_reservation f same r e = reservation_more w (commanded_world w p x d) extends r (f.reservation r (sym same ∙ e))
 
   party_goes_on : PartyFits w p → GoesOn w p x d → PartyFits (commanded_world w p x d) (record p { client = d })
@@ -105,14 +107,18 @@ module _ (w : World) (p : Party) (x : Command) (d : ClientState) where
       }
 
 -- the next block has no handlers yet
-pub next_is_new : (w : World) (p : Party) → PartyFits w p → (o : Option (List HandlerId)) → handlers_of (client.next_block p.client) w ≡ o → handlers_of (client.next_block p.client) w ≡ None
+pub next_is_new :
+    (w : World) (p : Party) → PartyFits w p → (o : Option (List HandlerId)) → handlers_of (client.next_block p.client) w ≡ o
+    → handlers_of (client.next_block p.client) w ≡ None
 next_is_new w p f None e = e
 next_is_new w p f (Some hs) e =
     let u = f.newest (client.next_block p.client) hs refl e in
     let le = u.num refl in
     absurd (omega (arith, le))
 
-reserve_goes_on : (w : World) (p : Party) (hs : List HandlerId) (d : ClientState) (o : client.Outcome) → ReserveRow p.client hs o → o ≡ Ok d → PartyFits w p → GoesOn w p (Reserve hs) d
+reserve_goes_on :
+    (w : World) (p : Party) (hs : List HandlerId) (d : ClientState) (o : client.Outcome) → ReserveRow p.client hs o → o ≡ Ok d → PartyFits w p
+    → GoesOn w p (Reserve hs) d
 reserve_goes_on w p hs d o (begins_block r idle room begins) e f =
     let made = ok_is (client.with_block p.client hs r) d e in
     subst (GoesOn w p (Reserve hs)) made (record {
@@ -132,7 +138,9 @@ reserve_goes_on w p hs d o (begins_block r idle room begins) e f =
     some_is a b e = cc
 reserve_goes_on w p hs d o r e f = absurd (cc)
 
-log_goes_on : (w : World) (p : Party) (x : Command) (h : HandlerId) (n : _) (d : ClientState) (o : client.Outcome) → LogRow p.client h n o → o ≡ Ok d → PartyFits w p → GoesOn w p x d
+log_goes_on :
+    (w : World) (p : Party) (x : Command) (h : HandlerId) (n : _) (d : ClientState) (o : client.Outcome) → LogRow p.client h n o → o ≡ Ok d → PartyFits w p
+    → GoesOn w p x d
 log_goes_on w p x h n d o (is_logged l running free line room more) e f =
     let made = ok_is _ d e in
     subst (GoesOn w p x) made (record { id = refl; inc = refl; last = omega arith; reservation = same_reservation w p x _ f refl })
@@ -169,5 +177,7 @@ goes_on w p (Query h r) d e f = log_goes_on w p (Query h r) h _ d _ (command_row
 goes_on w p End d e f = end_goes_on w p d _ (command_row p.client (core_command End)) e f
 goes_on w p GiveUp d e f = give_up_goes_on w p d _ (command_row p.client (core_command GiveUp)) e f
 
-pub commands_ordered : (w : World) → Ordered w → (p : Party) (x : Command) (d : ClientState) → PartyFits w p → client.command p.client (core_command x) ≡ Ok d → Ordered (commanded_world w p x d)
+pub commands_ordered :
+    (w : World) → Ordered w → (p : Party) (x : Command) (d : ClientState) → PartyFits w p → client.command p.client (core_command x) ≡ Ok d
+    → Ordered (commanded_world w p x d)
 commands_ordered w o p x d f e = goes_on_ordered w p x d o f (goes_on w p x d e f)

@@ -7,7 +7,7 @@ use Rattle.std.specs.Option.{option_map}
 use Rattle.scoop_message.specs.declared.name.Block.{Block}
 use Rattle.scoop_message.specs.declared.name.HandlerId.{HandlerId}
 use Rattle.scoop_message.specs.declared.message.Message.{Message}
-use Rattle.scoop_message.specs.declared.message.Message.TheVariants.{Hello, Welcome, Lock, Locked, Busy, Open, Opened, Unlock, Unlocked, Log, Logged, Answer}
+use Rattle.scoop_message.specs.declared.message.Message.TheVariants.{Lock, Locked, Open}
 use Rattle.scoop_reserve.specs.declared.stage.Stage.{Stage}
 use Rattle.scoop_reserve.specs.declared.stage.Stage.TheVariants.{Locking, Opening, Unlocking, GivingUp}
 use Rattle.scoop_reserve.specs.Handlers.{has}
@@ -42,18 +42,10 @@ pub record IsGrantedAtAll (w : World) (b : Block) : Type 0 where
 
 -- what a message that was sent tells for good
 abbrev pub Tells : World → Message → Type 0
-Tells w (Hello h c inc) = ⊤
-Tells w (Welcome h c inc) = ⊤
 Tells w (Lock h b) = IsNamed w h b
 Tells w (Locked h b) = IsGranted w h b
-Tells w (Busy h b) = ⊤
 Tells w (Open h b) = IsGrantedAtAll w b
-Tells w (Opened h b) = ⊤
-Tells w (Unlock h b) = ⊤
-Tells w (Unlocked h b) = ⊤
-Tells w (Log h b n es) = ⊤
-Tells w (Logged h b n) = ⊤
-Tells w (Answer h b n a) = ⊤
+Tells w m = ⊤
 
 -- ---- handlers and clients
 
@@ -66,7 +58,8 @@ pub record SiteFits (js : List Block) (s : Site) : Type 0 where
 
 -- while a reservation locks, those of its handlers that are not left have granted it their locks, and then all have
 abbrev pub LocksAt : World → ReservationState → Stage → Type 0
-LocksAt w r Locking = ((h : HandlerId) → has r.left h ≡ true → has r.handlers h ≡ true) × ((h : HandlerId) → has r.handlers h ≡ true → has r.left h ≡ false → IsGranted w h r.block)
+LocksAt w r Locking =
+    ((h : HandlerId) → has r.left h ≡ true → has r.handlers h ≡ true) × ((h : HandlerId) → has r.handlers h ≡ true → has r.left h ≡ false → IsGranted w h r.block)
 LocksAt w r Opening = (h : HandlerId) → has r.handlers h ≡ true → IsGranted w h r.block
 LocksAt w r Unlocking = ⊤
 LocksAt w r GivingUp = ⊤
@@ -98,18 +91,10 @@ module _ (v w : World) (x : Extends v w) where
   all_more b g = record { handlers = g.handlers; set = x.sets b g.handlers g.set; granted = λ h e. x.granted h b (g.granted h e) }
 
   pub tells_more : (m : Message) → Tells v m → Tells w m
-  tells_more (Hello h c inc) t = tt
-  tells_more (Welcome h c inc) t = tt
   tells_more (Lock h b) t = record { handlers = t.handlers; set = x.sets b t.handlers t.set; member = t.member }
   tells_more (Locked h b) t = x.granted h b t
-  tells_more (Busy h b) t = tt
   tells_more (Open h b) t = all_more b t
-  tells_more (Opened h b) t = tt
-  tells_more (Unlock h b) t = tt
-  tells_more (Unlocked h b) t = tt
-  tells_more (Log h b n es) t = tt
-  tells_more (Logged h b n) t = tt
-  tells_more (Answer h b n a) t = tt
+  tells_more m t = tt
 
   locks_more : (r : ReservationState) (stage : Stage) → LocksAt v r stage → LocksAt w r stage
   locks_more r Locking l = (l.0, λ h e f. x.granted h r.block (l.1 h e f))
@@ -134,7 +119,9 @@ pub all_more_of : {A : Type 0} (P Q : A → Type 0) → ((a : A) → P a → Q a
 all_more_of P Q f [] all = tt
 all_more_of P Q f (x ∷ xs) all = (f x all.0, all_more_of P Q f xs all.1)
 
-pub all_pushed : {A : Type 0} (P : A → Type 0) (xs : List A) (o : Option A) → AllByRecursion P xs → ((a : A) → o ≡ Some a → P a) → AllByRecursion P (xs ++ option_to_list o)
+pub all_pushed :
+    {A : Type 0} (P : A → Type 0) (xs : List A) (o : Option A) → AllByRecursion P xs → ((a : A) → o ≡ Some a → P a)
+    → AllByRecursion P (xs ++ option_to_list o)
 all_pushed P [] None all one = tt
 all_pushed P [] (Some a) all one = (one a refl, tt)
 all_pushed P (x ∷ xs) o all one = (all.0, all_pushed P xs o all.1 one)
@@ -151,14 +138,17 @@ all_found P test (x ∷ xs) a all e =
     (λ here f. let p : x ≡ a = cc in subst P p all.0)
     (λ there f. all_found P test xs a all.1 f) e
 
-pub all_set_site : (P Q : Site → Type 0) (s : Site) (sites : List Site) → Q s → ((x : Site) → P x → Q x) → AllByRecursion P sites → AllByRecursion Q (set_site s sites)
+pub all_set_site :
+    (P Q : Site → Type 0) (s : Site) (sites : List Site) → Q s → ((x : Site) → P x → Q x) → AllByRecursion P sites → AllByRecursion Q (set_site s sites)
 all_set_site P Q s [] own others all = tt
 all_set_site P Q s (x ∷ xs) own others all = (
   by_test (λ t. Q (if t then s else x)) (is_site (number_of s) x) (λ here. own) (λ there. others x all.0),
   all_set_site P Q s xs own others all.1,
 )
 
-pub all_set_party : (P Q : Party → Type 0) (p : Party) (parties : List Party) → Q p → ((x : Party) → is_party (id_of p) x ≡ false → P x → Q x) → AllByRecursion P parties → AllByRecursion Q (set_party p parties)
+pub all_set_party :
+    (P Q : Party → Type 0) (p : Party) (parties : List Party) → Q p → ((x : Party) → is_party (id_of p) x ≡ false → P x → Q x) → AllByRecursion P parties
+    → AllByRecursion Q (set_party p parties)
 all_set_party P Q p [] own others all = tt
 all_set_party P Q p (x ∷ xs) own others all = (
   by_test (λ t. Q (if t then p else x)) (is_party (id_of p) x) (λ here. own) (λ there. others x there all.0),

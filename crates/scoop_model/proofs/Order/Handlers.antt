@@ -1,11 +1,13 @@
--- What a handler does keeps the order.
+-- What a handler does keeps the order. Where a block opens, it was held; if it is in the common list already, what has
+-- opened here stands before it there; if not, it is put at that list's end, behind all of them. A lock is granted only where
+-- the mark hasn't reached the block, so never for a block of the common list, which was granted at each of its handlers.
 use Rattle.std.proofs.Common.{◌≡◌, ℕ, ◌-◌, ◌==◌, true, List, [], ◌∷◌, ◌++◌, map, find, slice_get, Option, Some, None, refl, sym, ap, ◌∙◌, subst, ⊎_elim, arith, append-nil}
 use Rattle.std.specs.Prelude.{if◌then◌else◌, ◌<◌, ◌≤◌, option_to_list}
 use Rattle.std.specs.List.{AllByRecursion}
 use Rattle.scoop_message.specs.declared.name.Block.{Block}
 use Rattle.scoop_message.specs.declared.name.HandlerId.{HandlerId}
 use Rattle.scoop_message.specs.declared.message.Message.{Message}
-use Rattle.scoop_message.specs.declared.message.Message.TheVariants.{Hello, Welcome, Lock, Locked, Busy, Open, Opened, Unlock, Unlocked, Log, Logged, Answer}
+use Rattle.scoop_message.specs.declared.message.Message.TheVariants.{Lock, Locked, Open}
 use Rattle.scoop_message.specs.Message.{handler_of, same_handler}
 use Rattle.scoop_handler.specs.declared.note.Note.{Note}
 use Rattle.scoop_handler.specs.declared.note.Note.TheVariants.{Greeted, Granted, Held, Opened as OpenedNote, Freed, Took, Known, Dropped}
@@ -69,8 +71,8 @@ module _ (w : World) (s old : Site) (here : site_of (number_of s) w ≡ Some old
 -- ---- a handler hears
 
 -- a block that is newly locked was not reached before
-reached_not_new : (s : Site) (m : Message) (b : Block) → IsReachedIn s.core.state.marks b → IsNewlyLocked s.core.state m b → ⊥
-reached_not_new s m b r new =
+pub reached_not_new : (s : Site) (m : Message) (now : Hearing) (b : Block) → IsReachedIn s.core.state.marks b → IsNewlyLocked s.core.state m now b → ⊥
+reached_not_new s m now b r new =
     let marks : Some r.mark ≡ Some new.mark = sym r.found ∙ new.found in
     let alike : r.mark ≡ new.mark = cc in
     absurd_place r.mark.inc new.mark.inc r.mark.num new.mark.num b.inc b.num (ap (λ (k : Mark). k.inc) alike) (ap (λ (k : Mark). k.num) alike) r.upto.num new.inc new.num
@@ -78,8 +80,11 @@ reached_not_new s m b r new =
     absurd_place : (i j n k c d : ℕ) → i ≡ j → n ≡ k → (i ≡ c → d ≤ n) → j ≡ c → k < d → ⊥
     absurd_place i j n k c d ij nk up jc kd = let le = up (ij ∙ jc) in omega (arith, le, nk, kd)
 
-newly_locked_new : (w : World) (s : Site) (m : Message) (b : Block) → Ordered w → site_of (number_of s) w ≡ Some s → Tells w m → IsNewlyLocked s.core.state m b → has_block w.joint b ≡ true → ⊥
-newly_locked_new w s m b i here tells new e =
+newly_locked_new :
+    (w : World) (s : Site) (m : Message) (now : Hearing) (b : Block) → Ordered w → site_of (number_of s) w ≡ Some s → Tells w m
+    → IsNewlyLocked s.core.state m now b
+    → has_block w.joint b ≡ true → ⊥
+newly_locked_new w s m now b i here tells new e =
     let names : IsNamed w (number_of s) b = subst (Tells w) new.asks tells in
     let all = i.joint b e in
     let both : Some names.handlers ≡ Some all.handlers = sym names.set ∙ all.set in
@@ -88,7 +93,7 @@ newly_locked_new w s m b i here tells new e =
     let found : Some g.site ≡ Some s = sym g.found ∙ here in
     let one : g.site ≡ s = cc in
     let r : IsReachedIn s.core.state.marks b = subst (λ (x : Site). IsReachedIn x.core.state.marks b) one g.reached in
-    reached_not_new s m b r new
+    reached_not_new s m now b r new
 
 -- what a reply tells
 reply_tells : (v : World) (s : Site) (o : Option Message) → site_of (number_of s) v ≡ Some s → TellsBack s.core.state o → (m : Message) → o ≡ Some m → Tells v m
@@ -96,18 +101,10 @@ reply_tells v s None here t m e = absurd (cc)
 reply_tells v s (Some n) here t m e = let same : n ≡ m = cc in subst (Tells v) same (told n t)
   where
     told : (n : Message) → TellsBack s.core.state (Some n) → Tells v n
-    told (Hello h c inc) t = tt
-    told (Welcome h c inc) t = tt
     told (Lock h b) t = absurd t
     told (Locked h b) t = subst (λ j. IsGranted v j b) (sym t.0) (record { site = s; found = here; reached = t.1 })
-    told (Busy h b) t = tt
     told (Open h b) t = absurd t
-    told (Opened h b) t = tt
-    told (Unlock h b) t = tt
-    told (Unlocked h b) t = tt
-    told (Log h b n es) t = tt
-    told (Logged h b n) t = tt
-    told (Answer h b n a) t = tt
+    told m t = tt
 
 -- the site with another state, and what has newly opened
 abbrev site_with : Site → HandlerState → List Block → Site
@@ -137,7 +134,9 @@ module _ (w : World) (s : Site) (m : Message) (i : Ordered w) (found : site_of (
   grows = grows-row s.core.state m now (row s.core.state m)
 
   -- the messages, once the reply is among them
-  replies : (new : List Block) (v : World) → site_of now.0.number v ≡ Some (site_with s now.0 new) → AllByRecursion (Tells v) w.sent → AllByRecursion (Tells v) (w.sent ++ option_to_list now.1.reply)
+  replies :
+      (new : List Block) (v : World) → site_of now.0.number v ≡ Some (site_with s now.0 new) → AllByRecursion (Tells v) w.sent
+      → AllByRecursion (Tells v) (w.sent ++ option_to_list now.1.reply)
   replies new v there all = all_pushed (Tells v) w.sent now.1.reply all (reply_tells v (site_with s now.0 new) now.1.reply there heard.tells)
 
   quiet_fits : SiteFits w.joint (site_with s now.0 [])
@@ -148,7 +147,7 @@ module _ (w : World) (s : Site) (m : Message) (i : Ordered w) (found : site_of (
         subst (λ xs. IsSubsequence (xs ++ b ∷ []) w.joint) (sym (append-nil s.opened)) (
         ⊎_elim
         (λ (was : IsHeldIn s.core.state.marks b). fits.next b was in_joint)
-        (λ (new : IsNewlyLocked s.core.state m b). absurd (newly_locked_new w s m b i here tells new in_joint))
+        (λ (new : IsNewlyLocked s.core.state m now b). absurd (newly_locked_new w s m now b i here tells new in_joint))
         (heard.locks b held));
     left = subst (λ xs. IsSubsequence xs w.joint) (sym (append-nil s.opened)) fits.left;
   }
@@ -197,7 +196,9 @@ module _ (w : World) (s : Site) (m : Message) (i : Ordered w) (found : site_of (
   by_note Known e = quiet
   by_note (Dropped why) e = quiet
 
-pub hears_ordered : (w : World) → Ordered w → (i : ℕ) (m : Message) (s : Site) → sent_at i w ≡ Some m → site_of (handler_of m) w ≡ Some s → Ordered (heard_world w s (hear s.core.state m))
+pub hears_ordered :
+    (w : World) → Ordered w → (i : ℕ) (m : Message) (s : Site) → sent_at i w ≡ Some m → site_of (handler_of m) w ≡ Some s
+    → Ordered (heard_world w s (hear s.core.state m))
 hears_ordered w o i m s was found = by_note w s m o found (sent_tells w i m was o.messages) (hear s.core.state m).1.note refl
 
 -- ---- an entry runs
@@ -212,7 +213,8 @@ module _ (w : World) (o : Ordered w) (h : HandlerId) (s : Site) (found : site_of
   pub begins_ordered : Ordered (with_site w (begun_site s))
   begins_ordered =
       let f = site_fits in
-      site_moves w (begun_site s) s place (MarksGrow-same s.core.state.marks) w.sent o (record { stored = f.stored; holds = f.holds; next = f.next; left = f.left }) (λ v there all. all)
+      site_moves w (begun_site s) s place (MarksGrow-same s.core.state.marks) w.sent o (record { stored = f.stored; holds = f.holds; next = f.next; left = f.left })
+      (λ v there all. all)
 
   pub finishes_ordered : (t : Task) → Ordered (with_site w (finished_site s t))
   finishes_ordered t =
@@ -229,7 +231,9 @@ module _ (w : World) (o : Ordered w) (h : HandlerId) (s : Site) (found : site_of
 
 -- ---- a node restarts
 
-granted_first : (h : HandlerId) (b : Block) (x y : Site) (xs ys : List Site) → y.core.state ≡ x.core.state → (IsGrantedIn (find (is_site h) xs) b → IsGrantedIn (find (is_site h) ys) b)
+granted_first :
+    (h : HandlerId) (b : Block) (x y : Site) (xs ys : List Site) → y.core.state ≡ x.core.state
+    → (IsGrantedIn (find (is_site h) xs) b → IsGrantedIn (find (is_site h) ys) b)
     → IsGrantedIn (find (is_site h) (x ∷ xs)) b → IsGrantedIn (find (is_site h) (y ∷ ys)) b
 granted_first h b x y xs ys same later g =
     let k : number_of y ≡ number_of x = ap (λ (st : HandlerState). st.number) same in
@@ -256,7 +260,9 @@ fits_anew js n x f =
     })
     (λ there. f)
 
-pub granted_anew : (js : List Block) (n : ℕ) (h : HandlerId) (b : Block) (xs : List Site) → AllByRecursion (SiteFits js) xs → IsGrantedIn (find (is_site h) xs) b → IsGrantedIn (find (is_site h) (map (reopened n) xs)) b
+pub granted_anew :
+    (js : List Block) (n : ℕ) (h : HandlerId) (b : Block) (xs : List Site) → AllByRecursion (SiteFits js) xs → IsGrantedIn (find (is_site h) xs) b
+    → IsGrantedIn (find (is_site h) (map (reopened n) xs)) b
 granted_anew js n h b [] all g = g
 granted_anew js n h b (x ∷ xs) all g = granted_first h b x (reopened n x) xs (map (reopened n) xs) (state_anew js n x all.0) (granted_anew js n h b xs all.1) g
 

@@ -1,16 +1,18 @@
--- What a handler's marks tell: which block holds its lock, and which blocks it has granted.
+-- What a handler's marks tell: which block holds its lock, and which blocks it has granted. A mark is at one block of its
+-- client and only grows: a block is *reached* where the mark is at it or past it, which stays; it is *held* where the mark
+-- is at it and held, which begins with the row that grants the lock and ends with the one that opens or frees.
 use Rattle.std.proofs.Common.{◌≡◌, ◌⊎◌, inl, inr, ℕ, ◌<◌, ◌≤◌, true, false, true≢false, List, map, Option, Some, None, refl, sym, ap, ◌∙◌, subst, ⊎_elim, arith}
 use Rattle.std.specs.Prelude.{if◌then◌else◌, ⊤}
 use Rattle.std.specs.Option.{option_map}
 use Rattle.scoop_message.specs.declared.name.Block.{Block}
 use Rattle.scoop_message.specs.declared.name.ClientId.{ClientId}
 use Rattle.scoop_message.specs.declared.message.Message.{Message}
-use Rattle.scoop_message.specs.declared.message.Message.TheVariants.{Hello, Welcome, Lock, Locked, Busy, Open, Opened, Unlock, Unlocked, Log, Logged, Answer}
+use Rattle.scoop_message.specs.declared.message.Message.TheVariants.{Hello, Lock, Locked, Open, Unlock, Log}
 use Rattle.scoop_message.specs.Message.{same_client}
 use Rattle.scoop_handler.specs.declared.mark.Mark.{Mark}
 use Rattle.scoop_handler.specs.declared.mark.Stage.{Stage}
 use Rattle.scoop_handler.specs.declared.mark.Stage.TheVariants.{Held as AtHeld, Open as AtOpen, Shut as AtShut}
-use Rattle.scoop_handler.specs.declared.note.Note.TheVariants.{Opened as OpenedNote}
+use Rattle.scoop_handler.specs.declared.note.Note.TheVariants.{Granted, Opened as OpenedNote}
 use Rattle.scoop_handler.specs.declared.ran.Ran.{Ran}
 use Rattle.scoop_handler.specs.Marks.{is_held, fresh_mark, opened_mark, with_received, without_hold, mark_of, set_mark, add_mark}
 use Rattle.scoop_handler.specs.State.{HandlerState}
@@ -110,11 +112,14 @@ held_set k old marks b found h =
     }))
 
 -- a mark that isn't held leaves those of other clients
-held_left : (k old : Mark) (marks : List Mark) (b : Block) → mark_of k.client marks ≡ Some old → (k.stage ≡ AtHeld → ⊥) → IsHeldIn (set_mark k marks) b → IsOther k marks b
+held_left :
+    (k old : Mark) (marks : List Mark) (b : Block) → mark_of k.client marks ≡ Some old → (k.stage ≡ AtHeld → ⊥) → IsHeldIn (set_mark k marks) b
+    → IsOther k marks b
 held_left k old marks b found off h =
     ⊎_elim (λ (own : IsOwn k b). absurd (off own.stage)) (λ (other : IsOther k marks b). other) (held_set k old marks b found h)
 
-held_added : (k : Mark) (marks : List Mark) (b : Block) → mark_of k.client marks ≡ None → (k.stage ≡ AtHeld → ⊥) → IsHeldIn (add_mark k marks) b → IsHeldIn marks b
+held_added :
+    (k : Mark) (marks : List Mark) (b : Block) → mark_of k.client marks ≡ None → (k.stage ≡ AtHeld → ⊥) → IsHeldIn (add_mark k marks) b → IsHeldIn marks b
 held_added k marks b none off h =
     by_test (λ t. IsHeldIn marks b) (same_client k.client b.client)
     (λ e.
@@ -141,9 +146,10 @@ held_ran r marks b h = go (mark_of b.client marks) refl (sym (mark_of-after r b.
 
 -- ---- what hearing does to the lock
 
--- the block asks for the lock, and was never granted it
-pub record IsNewlyLocked (s : HandlerState) (m : Message) (b : Block) : Type 0 where
+-- the block asks for the lock, and is granted it, which it never was before
+pub record IsNewlyLocked (s : HandlerState) (m : Message) (h : Hearing) (b : Block) : Type 0 where
   pub asks : m ≡ Lock s.number b
+  pub note : h.1.note ≡ Granted
   pub mark : Mark
   pub found : mark_of b.client s.marks ≡ Some mark
   pub inc : mark.inc ≡ b.inc
@@ -159,17 +165,12 @@ pub record IsNewlyOpened (s : HandlerState) (m : Message) (h : Hearing) (b : Blo
 abbrev pub TellsBack : HandlerState → Option Message → Type 0
 TellsBack s None = ⊤
 TellsBack s (Some (Hello x c inc)) = ⊥
-TellsBack s (Some (Welcome x c inc)) = ⊤
 TellsBack s (Some (Lock x b)) = ⊥
 TellsBack s (Some (Locked x b)) = (x ≡ s.number) × IsReachedIn s.marks b
-TellsBack s (Some (Busy x b)) = ⊤
 TellsBack s (Some (Open x b)) = ⊥
-TellsBack s (Some (Opened x b)) = ⊤
 TellsBack s (Some (Unlock x b)) = ⊥
-TellsBack s (Some (Unlocked x b)) = ⊤
 TellsBack s (Some (Log x b n es)) = ⊥
-TellsBack s (Some (Logged x b n)) = ⊤
-TellsBack s (Some (Answer x b n a)) = ⊤
+TellsBack s (Some m) = ⊤
 
 open_not_held : AtOpen ≡ AtHeld → ⊥
 open_not_held e = cc
@@ -209,7 +210,8 @@ holds-row s m h (lock_granted x b k here at new free clear) all = λ y held.
   where
     nobody : (o : Option Block) (y : Block) → o ≡ None → o ≡ Some y → ⊥
     nobody o y e f = cc
-holds-row s m h (open_granted x b k here at same was room) all = λ y held. all y (held_left (opened_mark k) k s.marks y (own_place b k s.marks at.found) open_not_held held).held
+holds-row s m h (open_granted x b k here at same was room) all =
+    λ y held. all y (held_left (opened_mark k) k s.marks y (own_place b k s.marks at.found) open_not_held held).held
 holds-row s m h (unlock_new x b k here at new clear) all = λ y held. all y (held_left (fresh_mark b AtShut) k s.marks y at.found shut_not_held held).held
 holds-row s m h (unlock_holder x b k here at same holds) all = λ y held.
     let other = held_left (without_hold k) k s.marks y (own_place b k s.marks at.found) (freed_not_held k.stage) held in
@@ -219,17 +221,19 @@ holds-row s m h (log_taken x b n es k here at next goes_on room) all = λ y held
     all y (held_left (with_received _ _ k) k s.marks y (own_place b k s.marks at.heard.found) (λ e. open_not_held (sym at.stage ∙ e)) held).held
 holds-row s m h r all = all
 
-locks-row : (s : HandlerState) (m : Message) (h : Hearing) → Row s m h → (y : Block) → IsHeldIn h.0.marks y → IsHeldIn s.marks y ⊎ IsNewlyLocked s m y
+locks-row : (s : HandlerState) (m : Message) (h : Hearing) → Row s m h → (y : Block) → IsHeldIn h.0.marks y → IsHeldIn s.marks y ⊎ IsNewlyLocked s m h y
 locks-row s m h (first_greeting x c inc here none room) = λ y held. inl (held_added (greeting_mark c inc) s.marks y none shut_not_held held)
 locks-row s m h (newer_greeting x c inc k here found newer) = λ y held. inl (held_left (greeting_mark c inc) k s.marks y found shut_not_held held).held
 locks-row s m h (lock_granted x b k here at new free clear) = λ y held.
     ⊎_elim
-    (λ (own : IsOwn (fresh_mark b AtHeld) y). inr (subst (IsNewlyLocked s (Lock x b)) (own_is b y AtHeld own) (record { asks = ap (λ z. Lock z b) here; mark = k; found = at.found; inc = at.inc; num = new })))
+    (λ (own : IsOwn (fresh_mark b AtHeld) y). inr (subst (IsNewlyLocked s (Lock x b) _) (own_is b y AtHeld own) (record { asks = ap (λ z. Lock z b) here; note = refl; mark = k; found = at.found; inc = at.inc; num = new })))
     (λ (other : IsOther (fresh_mark b AtHeld) s.marks y). inl other.held)
     (held_set (fresh_mark b AtHeld) k s.marks y at.found held)
-locks-row s m h (open_granted x b k here at same was room) = λ y held. inl (held_left (opened_mark k) k s.marks y (own_place b k s.marks at.found) open_not_held held).held
+locks-row s m h (open_granted x b k here at same was room) =
+    λ y held. inl (held_left (opened_mark k) k s.marks y (own_place b k s.marks at.found) open_not_held held).held
 locks-row s m h (unlock_new x b k here at new clear) = λ y held. inl (held_left (fresh_mark b AtShut) k s.marks y at.found shut_not_held held).held
-locks-row s m h (unlock_holder x b k here at same holds) = λ y held. inl (held_left (without_hold k) k s.marks y (own_place b k s.marks at.found) (freed_not_held k.stage) held).held
+locks-row s m h (unlock_holder x b k here at same holds) =
+    λ y held. inl (held_left (without_hold k) k s.marks y (own_place b k s.marks at.found) (freed_not_held k.stage) held).held
 locks-row s m h (log_taken x b n es k here at next goes_on room) = λ y held.
     inl (held_left (with_received _ _ k) k s.marks y (own_place b k s.marks at.heard.found) (λ e. open_not_held (sym at.stage ∙ e)) held).held
 locks-row s m h r = λ y held. inl held
@@ -274,7 +278,7 @@ tells-row s m h r = tt
 
 pub record Hears (s : HandlerState) (m : Message) (h : Hearing) : Type 0 where
   pub holds : HeldHolds s → HeldHolds h.0
-  pub locks : (b : Block) → IsHeldIn h.0.marks b → IsHeldIn s.marks b ⊎ IsNewlyLocked s m b
+  pub locks : (b : Block) → IsHeldIn h.0.marks b → IsHeldIn s.marks b ⊎ IsNewlyLocked s m h b
   pub opens : (b : Block) → h.1.note ≡ OpenedNote b → IsNewlyOpened s m h b
   pub tells : TellsBack h.0 h.1.reply
 

@@ -70,7 +70,9 @@ apart_pushed (y ∷ ys) x d new =
     (λ same f. absurd (true≢false f))
     (λ other f is. (
       by_test (λ t. has_block (ys ++ x ∷ []) y ≡ t → t ≡ false) (has_block (ys ++ x ∷ []) y)
-          (λ there e. ⊎_elim (λ (p : x ≡ y). absurd (true≢false (sym (subst (λ z. same_block y z ≡ true) (sym p) (same_block_itself y)) ∙ is))) (λ (p : has_block ys y ≡ true). absurd (true≢false (sym p ∙ d.0))) (in_pushed ys x y e))
+          (λ there e.
+          ⊎_elim (λ (p : x ≡ y). absurd (true≢false (sym (subst (λ z. same_block y z ≡ true) (sym p) (same_block_itself y)) ∙ is)))
+          (λ (p : has_block ys y ≡ true). absurd (true≢false (sym p ∙ d.0))) (in_pushed ys x y e))
           (λ nowhere e. refl) refl,
       apart_pushed ys x d.1 f,
     )) new refl
@@ -122,7 +124,9 @@ pub joined_more : (bs : List Block) (b : Block) (xs : List Block) → IsSubseque
 joined_more bs b xs s = by_test (λ t. IsSubsequence xs (if t then bs else bs ++ b ∷ [])) (has_block bs b) (λ old. s) (λ new. left_of_more s b)
 
 -- b comes last: where it is in the list already, it stands behind these
-pub joined_last : (bs : List Block) (b : Block) (xs : List Block) → IsSubsequence xs bs → (has_block bs b ≡ true → IsSubsequence (xs ++ b ∷ []) bs) → IsSubsequence (xs ++ b ∷ []) (with_block bs b)
+pub joined_last :
+    (bs : List Block) (b : Block) (xs : List Block) → IsSubsequence xs bs → (has_block bs b ≡ true → IsSubsequence (xs ++ b ∷ []) bs)
+    → IsSubsequence (xs ++ b ∷ []) (with_block bs b)
 joined_last bs b xs s old =
     by_test (λ t. has_block bs b ≡ t → IsSubsequence (xs ++ b ∷ []) (if t then bs else bs ++ b ∷ [])) (has_block bs b)
     (λ there e. old e)
@@ -134,6 +138,7 @@ pub joined_next :
     → has_block (with_block bs b) x ≡ true → IsSubsequence (xs ++ x ∷ []) (with_block bs b)
 joined_next bs b x xs s old e =
     ⊎_elim
-    (λ (p : b ≡ x). subst (λ y. IsSubsequence (xs ++ y ∷ []) (with_block bs b)) p (joined_last bs b xs s (λ f. subst (λ y. IsSubsequence (xs ++ y ∷ []) bs) (sym p) (old (subst (λ y. has_block bs y ≡ true) p f)))))
+    (λ (p : b ≡ x).
+    subst (λ y. IsSubsequence (xs ++ y ∷ []) (with_block bs b)) p (joined_last bs b xs s (λ f. subst (λ y. IsSubsequence (xs ++ y ∷ []) bs) (sym p) (old (subst (λ y. has_block bs y ≡ true) p f)))))
     (λ (p : has_block bs x ≡ true). joined_more bs b (xs ++ x ∷ []) (old p))
     (joined_has bs b x e)

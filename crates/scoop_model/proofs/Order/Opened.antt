@@ -37,7 +37,9 @@ note_keeps js (Dropped why) x e = e
 same_opened : (bs : List Block) (x : Block) → has_block (bs ++ []) x ≡ true → has_block bs x ≡ true
 same_opened bs x e = subst (λ ys. has_block ys x ≡ true) (append-nil bs) e
 
-note_opens : (js bs : List Block) (told : Note) → ((x : Block) → has_block bs x ≡ true → has_block js x ≡ true) → (x : Block) → has_block (bs ++ newly_opened told) x ≡ true → has_block (joined js (newly_opened told)) x ≡ true
+note_opens :
+    (js bs : List Block) (told : Note) → ((x : Block) → has_block bs x ≡ true → has_block js x ≡ true) → (x : Block)
+    → has_block (bs ++ newly_opened told) x ≡ true → has_block (joined js (newly_opened told)) x ≡ true
 note_opens js bs (Opened b) all x e =
     ⊎_elim
     (λ (p : b ≡ x). subst (λ y. has_block (with_block js b) y ≡ true) p (joined_there js b))
@@ -51,7 +53,9 @@ note_opens js bs (Took n) all x e = all x (same_opened bs x e)
 note_opens js bs Known all x e = all x (same_opened bs x e)
 note_opens js bs (Dropped why) all x e = all x (same_opened bs x e)
 
-set_all : (js ks : List Block) (s : Site) (sites : List Site) → OpenedIn ks s → ((x : Block) → has_block js x ≡ true → has_block ks x ≡ true) → AllByRecursion (OpenedIn js) sites → AllByRecursion (OpenedIn ks) (set_site s sites)
+set_all :
+    (js ks : List Block) (s : Site) (sites : List Site) → OpenedIn ks s → ((x : Block) → has_block js x ≡ true → has_block ks x ≡ true)
+    → AllByRecursion (OpenedIn js) sites → AllByRecursion (OpenedIn ks) (set_site s sites)
 set_all js ks s [] own more all = tt
 set_all js ks s (x ∷ xs) own more all = (
   by_test (λ t. OpenedIn ks (if t then s else x)) (is_site (number_of s) x) (λ here. own) (λ there b e. more b (all.0 b e)),
@@ -85,5 +89,6 @@ none_opened : (ps : List Placement) → AllByRecursion (OpenedIn []) (map new_si
 none_opened [] = tt
 none_opened (p ∷ ps) = ((λ b e. e), none_opened ps)
 
-pub opened_in_joint : (ps : List Placement) (ns : List Newcomer) (es : List Event) → AllByRecursion (OpenedIn (steps (opening ps ns) es).joint) (steps (opening ps ns) es).sites
+pub opened_in_joint :
+    (ps : List Placement) (ns : List Newcomer) (es : List Event) → AllByRecursion (OpenedIn (steps (opening ps ns) es).joint) (steps (opening ps ns) es).sites
 opened_in_joint ps ns es = steps_kept AllOpenedIn opened_kept (opening ps ns) es (none_opened ps)

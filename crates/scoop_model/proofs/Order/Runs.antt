@@ -29,7 +29,8 @@ ordered_kept w o = record {
 
 sites_open : (ps : List Placement) → AllByRecursion (SiteFits []) (map new_site ps)
 sites_open [] = tt
-sites_open (p ∷ ps) = (record { stored = refl; holds = λ b held. absurd (let f = held.found in cc); next = λ b held e. absurd (true≢false (sym e)); left = nothing }, sites_open ps)
+sites_open (p ∷ ps) =
+    (record { stored = refl; holds = λ b held. absurd (let f = held.found in cc); next = λ b held e. absurd (true≢false (sym e)); left = nothing }, sites_open ps)
 
 parties_open : (hs : List HandlerId) (ps : List Placement) (all ns : List Newcomer) → AllByRecursion (PartyFits (opening ps all)) (map (new_party hs) ns)
 parties_open hs ps all [] = tt

@@ -32,7 +32,9 @@ leaves_all : (f : HandlerLog → HandlerLog) → LeavesHandler f → (ls : List 
 leaves_all f keeps [] = refl
 leaves_all f keeps (l ∷ ls) = λ i. keeps l i ∷ leaves_all f keeps ls i
 
-changed_same : (c : Block) (f : HandlerLog → HandlerLog) → LeavesHandler f → (l : BlockLog) → (handlers_in (changed_log c f l) ≡ handlers_in l) × ((changed_log c f l).block ≡ l.block)
+changed_same :
+    (c : Block) (f : HandlerLog → HandlerLog) → LeavesHandler f → (l : BlockLog)
+    → (handlers_in (changed_log c f l) ≡ handlers_in l) × ((changed_log c f l).block ≡ l.block)
 changed_same c f keeps l =
     by_test (λ t. let m = (if t then record { block = l.block; lines = map f l.lines } else l) in (handlers_in m ≡ handlers_in l) × (m.block ≡ l.block)) (is_log_of c l)
     (λ here. (leaves_all f keeps l.lines, refl))
@@ -43,8 +45,10 @@ found_changed b c f keeps [] = refl
 found_changed b c f keeps (l ∷ ls) =
     let m = changed_log c f l in
     let same = changed_same c f keeps l in
-    let P : Bool → Type 0 = λ t. option_map handlers_in (if t then Some m else find (is_log_of b) (map (changed_log c f) ls)) ≡ option_map handlers_in (if same_block l.block b then Some l else find (is_log_of b) ls) in
-    let Q : Bool → Type 0 = λ t. option_map handlers_in (if t then Some m else find (is_log_of b) (map (changed_log c f) ls)) ≡ option_map handlers_in (if t then Some l else find (is_log_of b) ls) in
+    let P : Bool → Type 0 =
+    λ t. option_map handlers_in (if t then Some m else find (is_log_of b) (map (changed_log c f) ls)) ≡ option_map handlers_in (if same_block l.block b then Some l else find (is_log_of b) ls) in
+    let Q : Bool → Type 0 =
+    λ t. option_map handlers_in (if t then Some m else find (is_log_of b) (map (changed_log c f) ls)) ≡ option_map handlers_in (if t then Some l else find (is_log_of b) ls) in
     subst P (ap (λ x. same_block x b) (sym same.1)) (by_test Q (same_block l.block b) (λ here. ap Some same.0) (λ there. found_changed b c f keeps ls))
 
 found_behind : (b : Block) (logs : List BlockLog) (new : BlockLog) (hs : List HandlerId) → found b logs ≡ Some hs → found b (logs ++ new ∷ []) ≡ Some hs
@@ -62,11 +66,15 @@ found_after End c b logs hs e = found_changed b c (with_entry EndEntry) (λ l. r
 found_after GiveUp c b logs hs e = e
 
 -- what a command leaves
-pub handlers_after : (x : Command) (c b : Block) (logs : List BlockLog) (hs : List HandlerId) → option_map handlers_in (find (is_log_of b) logs) ≡ Some hs → option_map handlers_in (find (is_log_of b) (logs_after x c logs)) ≡ Some hs
+pub handlers_after :
+    (x : Command) (c b : Block) (logs : List BlockLog) (hs : List HandlerId) → option_map handlers_in (find (is_log_of b) logs) ≡ Some hs
+    → option_map handlers_in (find (is_log_of b) (logs_after x c logs)) ≡ Some hs
 handlers_after = found_after
 
 -- a block that has handlers behind a new one had them before, or is the new one
-found_before : (b : Block) (logs : List BlockLog) (new : BlockLog) (hs : List HandlerId) → found b (logs ++ new ∷ []) ≡ Some hs → (found b logs ≡ Some hs) ⊎ (new.block ≡ b)
+found_before :
+    (b : Block) (logs : List BlockLog) (new : BlockLog) (hs : List HandlerId) → found b (logs ++ new ∷ []) ≡ Some hs
+    → (found b logs ≡ Some hs) ⊎ (new.block ≡ b)
 found_before b [] new hs e =
     by_test (λ t. option_map handlers_in (if t then Some new else None) ≡ Some hs → (found b [] ≡ Some hs) ⊎ (new.block ≡ b)) (is_log_of b new)
     (λ here f. inr ((block_decides new.block b).0 here))
@@ -77,7 +85,9 @@ found_before b (l ∷ ls) new hs e =
     (λ there f. found_before b ls new hs f) e
 
 -- what a command finds
-pub handlers_before : (x : Command) (c b : Block) (logs : List BlockLog) (hs : List HandlerId) → option_map handlers_in (find (is_log_of b) (logs_after x c logs)) ≡ Some hs → (option_map handlers_in (find (is_log_of b) logs) ≡ Some hs) ⊎ (c ≡ b)
+pub handlers_before :
+    (x : Command) (c b : Block) (logs : List BlockLog) (hs : List HandlerId) → option_map handlers_in (find (is_log_of b) (logs_after x c logs)) ≡ Some hs
+    → (option_map handlers_in (find (is_log_of b) logs) ≡ Some hs) ⊎ (c ≡ b)
 handlers_before (Reserve ks) c b logs hs e = found_before b logs _ hs e
 handlers_before (Call h r) c b logs hs e = inl (sym (found_changed b c (with_entry_at h (CallEntry r)) (leaves_at h (CallEntry r)) logs) ∙ e)
 handlers_before (Query h r) c b logs hs e = inl (sym (found_changed b c (with_entry_at h (QueryEntry r)) (leaves_at h (QueryEntry r)) logs) ∙ e)
@@ -89,7 +99,9 @@ same_names [] = refl
 same_names (h ∷ hs) = ap (λ ks. h ∷ ks) (same_names hs)
 
 -- a new block has the handlers that its reserve names
-pub handlers_fresh : (c : Block) (hs : List HandlerId) (logs : List BlockLog) → option_map handlers_in (find (is_log_of c) logs) ≡ None → option_map handlers_in (find (is_log_of c) (logs_after (Reserve hs) c logs)) ≡ Some hs
+pub handlers_fresh :
+    (c : Block) (hs : List HandlerId) (logs : List BlockLog) → option_map handlers_in (find (is_log_of c) logs) ≡ None
+    → option_map handlers_in (find (is_log_of c) (logs_after (Reserve hs) c logs)) ≡ Some hs
 handlers_fresh c hs [] none =
     let new : BlockLog = record { block = c; lines = map fresh_log hs } in
     ap (λ t. option_map handlers_in (if t then Some new else None)) ((block_decides c c).1 refl) ∙ ap Some (same_names hs)

@@ -1,5 +1,5 @@
 -- Whatever happens, a handler tells counts of received entries only of blocks that have opened there.
-use Rattle.std.proofs.Common.{◌≡◌, ℕ, ◌==◌, Bool, true, false, ◌&&◌, ◌||◌, true≢false, List, [], Option, Some, None, refl, sym, ap, ◌∙◌, subst, arith}
+use Rattle.std.proofs.Common.{◌≡◌, ℕ, ◌==◌, true, false, ◌&&◌, true≢false, List, [], Option, Some, None, refl, sym, ap, ◌∙◌, subst, arith}
 use Rattle.std.specs.Prelude.{⊤, if◌then◌else◌}
 use Rattle.std.specs.List.{AllByRecursion}
 use Rattle.std.specs.Option.{option_map_or}
@@ -52,17 +52,7 @@ at_log s bs b k all at = record {
 abbrev CountsBack : HandlerState → List Block → Option Message → Type 0
 CountsBack s bs None = ⊤
 CountsBack s bs (Some (Logged x y n)) = TellsOpened s bs x y
-CountsBack s bs (Some (Hello x c inc)) = ⊤
-CountsBack s bs (Some (Welcome x c inc)) = ⊤
-CountsBack s bs (Some (Lock x y)) = ⊤
-CountsBack s bs (Some (Locked x y)) = ⊤
-CountsBack s bs (Some (Busy x y)) = ⊤
-CountsBack s bs (Some (Open x y)) = ⊤
-CountsBack s bs (Some (Opened x y)) = ⊤
-CountsBack s bs (Some (Unlock x y)) = ⊤
-CountsBack s bs (Some (Unlocked x y)) = ⊤
-CountsBack s bs (Some (Log x y n es)) = ⊤
-CountsBack s bs (Some (Answer x y n a)) = ⊤
+CountsBack s bs (Some m) = ⊤
 
 back-row : (s : HandlerState) (bs : List Block) (m : Message) (h : Hearing) → Row s m h → AllByRecursion (IsMarkOpened bs) s.marks → CountsBack s bs h.1.reply
 back-row s bs m h (log_again x b n es k here at upto none) all = at_log s bs b k all at
@@ -71,7 +61,8 @@ back-row s bs m h r all = tt
 
 -- so it tells nothing of a block that hasn't opened
 reply_silent :
-    (w : World) (s : Site) → site_of (number_of s) w ≡ Some s → (o : Option Message) → CountsBack s.core.state s.opened o → (h : HandlerId) (b : Block) → has_block (opened_at h w) b ≡ false
+    (w : World) (s : Site) → site_of (number_of s) w ≡ Some s → (o : Option Message) → CountsBack s.core.state s.opened o → (h : HandlerId) (b : Block)
+    → has_block (opened_at h w) b ≡ false
     → told_in h b o ≡ 0
 reply_silent w s here None t h b off = refl
 reply_silent w s here (Some (Logged x y n)) t h b off =
@@ -80,7 +71,8 @@ reply_silent w s here (Some (Logged x y n)) t h b off =
     (λ _ own.
     let at : number_of s ≡ h = sym t.here ∙ (handler_decides x h).0 is in
     let there : has_block (opened_at h w) b ≡ true =
-    ap (λ j. has_block (opened_at j w) b) (sym at) ∙ ap (λ q. has_block (option_map_or (λ (z : Site). z.opened) q []) b) here ∙ ap (has_block s.opened) (sym (same_block_is y b own)) ∙ t.opened in
+    ap (λ j. has_block (opened_at j w) b) (sym at) ∙ ap (λ q. has_block (option_map_or (λ (z : Site). z.opened) q []) b) here
+    ∙ ap (has_block s.opened) (sym (same_block_is y b own)) ∙ t.opened in
     absurd (true≢false (sym there ∙ off)))
     (λ _ other. refl) refl)
     (λ _ elsewhere. refl) refl
@@ -127,7 +119,8 @@ module _ (w : World) (i : Openings w) (counts : Counts w) (m : Message) (s : Sit
 -- ---- every event
 
 opened_kept : (n : ℕ) (s : Site) → (reopened n s).opened ≡ s.opened
-opened_kept n s = by_test (λ t. (if t then record s { core = core_of s.core.class s.stored false } else s).opened ≡ s.opened) (s.node == n) (λ here. refl) (λ there. refl)
+opened_kept n s =
+    by_test (λ t. (if t then record s { core = core_of s.core.class s.stored false } else s).opened ≡ s.opened) (s.node == n) (λ here. refl) (λ there. refl)
 
 pub counts_kept : (w : World) → Ordered w → Openings w → Counts w → Changes Counts w
 counts_kept w o openings i = record {

@@ -60,7 +60,9 @@ by_slot P (s ∷ ss) f = (
     or_true true m = refl
     or_true false m = m
 
-module _ (w : World) (once : AreApart w.joint) (o : Ordered w) (l : Logging w) (taped : Taped w) (answers : Answering w) (greetings : Greetings w) (openings : Openings w) (standing : Standing w) (counts : Counts w) where
+module _
+    (w : World) (once : AreApart w.joint) (o : Ordered w) (l : Logging w) (taped : Taped w) (answers : Answering w) (greetings : Greetings w)
+    (openings : Openings w) (standing : Standing w) (counts : Counts w) where
   module _ (h : HandlerId) (s : Site) (at : site_of h w ≡ Some s) where
     number : number_of s ≡ h
     number = number_found h w s at
@@ -101,10 +103,13 @@ module _ (w : World) (once : AreApart w.joint) (o : Ordered w) (l : Logging w) (
 
     named_slot : (b : Block) → has_block (blocks_of f.slots) b ≡ true → has (set_of b w) h ≡ true
     named_slot b m =
-        let n : IsNamed w (number_of s) b = (all_found (SiteOpened w) (is_site h) w.sites s openings.sites at).named b (ap (λ bs. has_block bs b) f.tape.opened ∙ m) in
+        let n : IsNamed w (number_of s) b =
+        (all_found (SiteOpened w) (is_site h) w.sites s openings.sites at).named b (ap (λ bs. has_block bs b) f.tape.opened ∙ m) in
         ap (λ hs. has hs h) (ap (λ (q : Option (List HandlerId)). unwrap_or q []) n.set) ∙ ap (has n.handlers) (sym number) ∙ n.member
 
-    stands_here : (b : Block) → has_block w.joint b ≡ true → has (set_of b w) h ≡ true → (has_block (opened_at h w) b ≡ true) ⊎ ((is_succeeded b h w ≡ true) ⊎ IsSubsequence (opened_at h w ++ b ∷ []) w.joint)
+    stands_here :
+        (b : Block) → has_block w.joint b ≡ true → has (set_of b w) h ≡ true
+        → (has_block (opened_at h w) b ≡ true) ⊎ ((is_succeeded b h w ≡ true) ⊎ IsSubsequence (opened_at h w ++ b ∷ []) w.joint)
     stands_here b m named =
         let all = joint_stands w standing b m in
         let here : StandsAt w h b = all.stands h (subst (λ hs. has hs h ≡ true) (ap (λ (q : Option (List HandlerId)). unwrap_or q []) all.set) named) in
@@ -114,7 +119,8 @@ module _ (w : World) (once : AreApart w.joint) (o : Ordered w) (l : Logging w) (
         (λ (q : IsHeldIn here.site.core.state.marks b ⊎ IsPastIn here.site.core.state.marks b). inr (⊎_elim
         (λ (held : IsHeldIn here.site.core.state.marks b).
         inr (subst (λ bs. IsSubsequence (bs ++ b ∷ []) w.joint) (sym opened_is) (fits.next b (subst (λ (x : Site). IsHeldIn x.core.state.marks b) same held) m)))
-        (λ (p : IsPastIn here.site.core.state.marks b). inl (mark_greets b p.mark (ap (λ (x : Site). mark_of b.client x.core.state.marks) (sym same) ∙ p.found) p.newer)) q))
+        (λ (p : IsPastIn here.site.core.state.marks b).
+        inl (mark_greets b p.mark (ap (λ (x : Site). mark_of b.client x.core.state.marks) (sym same) ∙ p.found) p.newer)) q))
         here.stands
 
     handler_there : HandlerReady w h

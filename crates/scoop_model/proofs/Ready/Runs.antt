@@ -81,7 +81,8 @@ opens_kept ps ns may = ((opens_told_more ps ns may, (opens_answering ps ns, open
 
 -- what each event keeps, and an opening world has
 pub reached_keeps :
-    (P : World → Type 0) → ((w : World) → P w → Changes P w) → ((ps : List Placement) (ns : List Newcomer) → MayOpen ps ns → P (opening ps ns)) → (w : World) → IsReached w → P w
+    (P : World → Type 0) → ((w : World) → P w → Changes P w) → ((ps : List Placement) (ns : List Newcomer) → MayOpen ps ns → P (opening ps ns)) → (w : World)
+    → IsReached w → P w
 reached_keeps P each opens w r =
     let v : World = opening r.placements r.newcomers in
     subst P (ap (λ (x : Run). x.0) r.leads) (steps_kept P each v r.events (opens r.placements r.newcomers r.opens))

@@ -19,7 +19,10 @@ pub data OwedRow (r : ReservationState) (h : HandlerId) : Message → Type 0 whe
 
 module _ (r : ReservationState) (h : HandlerId) (m : Message) where
   tested : (t : Bool) (n : Message) → (t ≡ true → OwedRow r h n) → (if t then Some n else None) ≡ Some m → OwedRow r h m
-  tested t n case e = by_test (λ u. t ≡ u → (if u then Some n else None) ≡ Some m → OwedRow r h m) t (λ _ is f. let same : n ≡ m = cc in subst (OwedRow r h) same (case is)) (λ _ is f. absurd (cc)) refl e
+  tested t n case e =
+      by_test (λ u. t ≡ u → (if u then Some n else None) ≡ Some m → OwedRow r h m) t
+      (λ _ is f. let same : n ≡ m = cc in subst (OwedRow r h) same (case is))
+      (λ _ is f. absurd (cc)) refl e
 
   owed_in : (stage : Stage) → r.stage ≡ stage → due_in r h stage ≡ Some m → OwedRow r h m
   owed_in Locking at e = tested (is_lowest h r.left) (Lock h r.block) (asks at) e

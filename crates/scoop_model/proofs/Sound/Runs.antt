@@ -36,5 +36,6 @@ ordered_sound_kept w i = both_kept Ordered Sound w (ordered_kept w i.0) (sound_k
 pub always_sound : (ps : List Placement) (ns : List Newcomer) (es : List Event) → MayOpen ps ns → InOrderAndSound (steps (opening ps ns) es)
 always_sound ps ns es may = steps_kept InOrderAndSound ordered_sound_kept (opening ps ns) es (opens_ordered ps ns, opens_sound ps ns may)
 
-pub handlers_sound : (ps : List Placement) (ns : List Newcomer) (es : List Event) → MayOpen ps ns → AllByRecursion (λ s. IsCore s.core) (steps (opening ps ns) es).sites
+pub handlers_sound :
+    (ps : List Placement) (ns : List Newcomer) (es : List Event) → MayOpen ps ns → AllByRecursion (λ s. IsCore s.core) (steps (opening ps ns) es).sites
 handlers_sound ps ns es may = (always_sound ps ns es may).1.sites

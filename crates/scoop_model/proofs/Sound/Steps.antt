@@ -44,7 +44,9 @@ to_client_has m back = tt
 
 -- ---- handlers
 
-anew : (js : List _) (n : ℕ) (sites : List Site) → AllByRecursion (SiteFits js) sites → AllByRecursion SiteSound sites → AllByRecursion SiteSound (map (reopened n) sites)
+anew :
+    (js : List _) (n : ℕ) (sites : List Site) → AllByRecursion (SiteFits js) sites → AllByRecursion SiteSound sites
+    → AllByRecursion SiteSound (map (reopened n) sites)
 anew js n [] fits all = tt
 anew js n (s ∷ ss) fits all = (
   by_test (λ t. SiteSound (if t then record s { core = core_of s.core.class s.stored false } else s)) (s.node == n)
@@ -130,7 +132,8 @@ new_state_is h words are = record {
 
 sites_open : (ps : List Placement) → AllByRecursion IsPlaced ps → AllByRecursion SiteSound (map new_site ps)
 sites_open [] all = tt
-sites_open (p ∷ ps) all = (record { state = new_state_is p.handler p.words all.0.words; words = all.0.class; job = λ out. absurd (true≢false (sym out)) }, sites_open ps all.1)
+sites_open (p ∷ ps) all =
+    (record { state = new_state_is p.handler p.words all.0.words; words = all.0.class; job = λ out. absurd (true≢false (sym out)) }, sites_open ps all.1)
 
 parties_open : (hs : List HandlerId) (ns : List Newcomer) → AllByRecursion IsJoining ns → AllByRecursion PartySound (map (new_party hs) ns)
 parties_open hs [] all = tt

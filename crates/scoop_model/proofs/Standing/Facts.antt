@@ -1,7 +1,7 @@
 -- A block that opened somewhere stands at each of its handlers: it has opened there, holds the lock there, or is past
 -- there for good. What every event keeps of that, over what messages tell.
 use Rattle.std.proofs.Common.{◌≡◌, ◌⊎◌, inl, inr, ℕ, zero, suc, ◌-◌, ◌==◌, ◌<◌, ◌||◌, true, false, true≢false, List, [], ◌∷◌, ◌++◌, slice_get, Option, Some, None, refl, sym, ap, ◌∙◌, subst, ⊎_elim, arith}
-use Rattle.std.specs.Prelude.{⊤, if◌then◌else◌, option_to_list}
+use Rattle.std.specs.Prelude.{if◌then◌else◌, option_to_list}
 use Rattle.std.specs.List.{AllByRecursion, list_any}
 use Rattle.scoop_message.specs.declared.name.Block.{Block}
 use Rattle.scoop_message.specs.declared.name.ClientId.{ClientId}
@@ -17,6 +17,7 @@ use Rattle.scoop_handler.specs.Growing.{MarksGrow}
 use Rattle.scoop_handler.specs.Marks.{mark_of}
 use Rattle.scoop_model.specs.World.{World, Site, Party, has_block, handlers_of, party_of, sent_at, site_of}
 use Rattle.scoop_model.proofs.Basics.{by_test}
+use Rattle.scoop_model.proofs.Locking.{Locks, HasLocks, locks_more}
 use Rattle.scoop_model.proofs.Order.Holding.{IsHeldIn, reached_more}
 use Rattle.scoop_model.proofs.Order.Facts.{all_more_of, all_pushed}
 use Rattle.scoop_model.proofs.Logging.Openings.{IsGivenUp, Onto, is_open_of}
@@ -58,13 +59,10 @@ HasOpen w b = list_any (is_open_of b) w.sent ≡ true
 
 -- while a reservation locks, its block stands at those of its handlers that are not left, and then at all
 abbrev pub StageStands : World → ReservationState → Stage → Type 0
-StageStands w r Locking = (h : HandlerId) → has r.handlers h ≡ true → has r.left h ≡ false → StandsAt w h r.block
-StageStands w r Opening = (h : HandlerId) → has r.handlers h ≡ true → StandsAt w h r.block
-StageStands w r Unlocking = ⊤
-StageStands w r GivingUp = ⊤
+StageStands w r stage = Locks (StandsAt w) r stage
 
-pub record ReservationStands (w : World) (r : ReservationState) : Type 0 where
-  pub stage : StageStands w r r.stage
+abbrev pub ReservationStands : World → ReservationState → Type 0
+ReservationStands w r = HasLocks (StandsAt w) r
 
 pub record Standing (w : World) : Type 0 where
   pub locked : AllByRecursion (LockedStands w) w.sent
@@ -85,7 +83,8 @@ pub past_more : (old new : List Mark) (b : Block) → MarksGrow old new → IsPa
 past_more old new b grows p =
     let k = p.mark in
     let newer = p.newer in
-    let r = reached_more old new (record { client = b.client; inc = k.inc; num = k.num }) grows (record { mark = k; found = p.found; upto = record { inc = omega arith; num = λ e. omega arith } }) in
+    let r =
+    reached_more old new (record { client = b.client; inc = k.inc; num = k.num }) grows (record { mark = k; found = p.found; upto = record { inc = omega arith; num = λ e. omega arith } }) in
     let up = r.upto.inc in
     record { mark = r.mark; found = r.found; newer = omega (arith, newer, up) }
 
@@ -107,7 +106,9 @@ pub record IsNewOpen (b : Block) (o : Option Message) : Type 0 where
   pub is : o ≡ Some message
   pub opens : is_open_of b message ≡ true
 
-any_pushed : (b : Block) (ms : List Message) (o : Option Message) → list_any (is_open_of b) (ms ++ option_to_list o) ≡ true → (list_any (is_open_of b) ms ≡ true) ⊎ IsNewOpen b o
+any_pushed :
+    (b : Block) (ms : List Message) (o : Option Message) → list_any (is_open_of b) (ms ++ option_to_list o) ≡ true
+    → (list_any (is_open_of b) ms ≡ true) ⊎ IsNewOpen b o
 any_pushed b [] None e = absurd (true≢false (sym e))
 any_pushed b [] (Some m) e =
     by_test (λ t. is_open_of b m ≡ t → (t || false) ≡ true → (false ≡ true) ⊎ IsNewOpen b (Some m)) (is_open_of b m)
@@ -128,7 +129,8 @@ open_sent w k m b was opens =
     any_at : (ms : List Message) (j : ℕ) → slice_get ms j ≡ Some m → list_any (is_open_of b) ms ≡ true
     any_at [] j e = absurd (cc)
     any_at (x ∷ xs) zero e = let same : x ≡ m = cc in ap (λ t. t || list_any (is_open_of b) xs) (subst (λ y. is_open_of b y ≡ true) (sym same) opens)
-    any_at (x ∷ xs) (suc j) e = let rest = any_at xs j e in by_test (λ t. (t || list_any (is_open_of b) xs) ≡ true) (is_open_of b x) (λ here. refl) (λ there. rest)
+    any_at (x ∷ xs) (suc j) e =
+        let rest = any_at xs j e in by_test (λ t. (t || list_any (is_open_of b) xs) ≡ true) (is_open_of b x) (λ here. refl) (λ there. rest)
 
 module _ (v w : World) (x : StandsOn v w) (i : Standing v) where
   pub locked_more : (m : Message) → LockedStands v m → LockedStands w m
@@ -160,7 +162,9 @@ module _ (v w : World) (x : StandsOn v w) (i : Standing v) where
   opening_giving : Opening ≡ GivingUp → ⊥
   opening_giving e = cc
 
-  pub stage_more : (c : ClientId) (p : Party) → party_of c v ≡ Some p → (r : ReservationState) → p.client.reservation ≡ Some r → (stage : Stage) → r.stage ≡ stage → StageStands v r stage → StageStands w r stage
+  pub stage_more :
+      (c : ClientId) (p : Party) → party_of c v ≡ Some p → (r : ReservationState) → p.client.reservation ≡ Some r → (stage : Stage) → r.stage ≡ stage
+      → StageStands v r stage → StageStands w r stage
   stage_more c p at r held Locking is f = λ h member gone. not_given r (λ g. locking_giving (sym is ∙ g.left c p at r held refl)) h (f h member gone)
   stage_more c p at r held Opening is f = λ h member. not_given r (λ g. opening_giving (sym is ∙ g.left c p at r held refl)) h (f h member)
   stage_more c p at r held Unlocking is f = tt
@@ -171,13 +175,7 @@ module _ (v w : World) (x : StandsOn v w) (i : Standing v) where
 
   -- a reservation of the new world
   pub reservation_on : (r : ReservationState) → ((h : HandlerId) → StandsAt v h r.block → StandsAt w h r.block) → ReservationStands v r → ReservationStands w r
-  reservation_on r on f = record { stage = mapped r.stage f.stage }
-    where
-      mapped : (stage : Stage) → StageStands v r stage → StageStands w r stage
-      mapped Locking g = λ h member gone. on h (g h member gone)
-      mapped Opening g = λ h member. on h (g h member)
-      mapped Unlocking g = tt
-      mapped GivingUp g = tt
+  reservation_on r on f = locks_more (StandsAt v) (StandsAt w) r on f
 
   -- one message may be new
   pub standing_more :

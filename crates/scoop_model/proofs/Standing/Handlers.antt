@@ -1,4 +1,6 @@
--- What a handler does leaves each block standing where it stood, but for one that was given up.
+-- What a handler does leaves each block standing where it stood, but for one that was given up. A held block stops being
+-- held only by opening, by a newer greeting of its client (then it is past there), or by its own Unlock, which is sent only
+-- of a block that has opened at all of its handlers or was given up.
 use Rattle.std.proofs.Common.{◌≡◌, ◌⊎◌, inl, inr, ℕ, ◌||◌, true, true≢false, List, [], ◌∷◌, ◌++◌, map, find, Some, None, refl, sym, ap, ◌∙◌, subst, ⊎_elim, append-nil}
 use Rattle.std.specs.Prelude.{if◌then◌else◌}
 use Rattle.std.specs.List.{AllByRecursion}
@@ -54,7 +56,9 @@ place w h s found = subst (λ j. site_of j w ≡ Some s) (sym (number_found h w 
 
 -- ---- a handler hears
 
-module _ (w : World) (o : Ordered w) (sound : Sound w) (openings : Openings w) (i : Standing w) (k : ℕ) (m : Message) (s : Site) (was : sent_at k w ≡ Some m) (found : site_of (handler_of m) w ≡ Some s) where
+module _
+    (w : World) (o : Ordered w) (sound : Sound w) (openings : Openings w) (i : Standing w) (k : ℕ) (m : Message) (s : Site) (was : sent_at k w ≡ Some m)
+    (found : site_of (handler_of m) w ≡ Some s) where
   abbrev now : Hearing
   now = hear s.core.state m
 
@@ -113,7 +117,8 @@ module _ (w : World) (o : Ordered w) (sound : Sound w) (openings : Openings w) (
       (λ (q : IsHeldIn s.core.state.marks b ⊎ IsPastIn s.core.state.marks b).
       ⊎_elim
       (λ (held : IsHeldIn s.core.state.marks b). held_goes b (held_row s.core.state b fits.holds held m now (row s.core.state m)))
-      (λ (past : IsPastIn s.core.state.marks b). inl (inr (inr (past_more s.core.state.marks now.0.marks b (grows-row s.core.state m now (row s.core.state m)) past)))) q)
+      (λ (past : IsPastIn s.core.state.marks b).
+      inl (inr (inr (past_more s.core.state.marks now.0.marks b (grows-row s.core.state m now (row s.core.state m)) past)))) q)
       stands
 
   heard_on : StandsOn w after
@@ -174,16 +179,19 @@ module _ (w : World) (i : Standing w) (h : HandlerId) (s : Site) (found : site_o
             ⊎_elim
             (λ (e : has_block s.opened b ≡ true). inl (inl (more b e)))
             (λ (q : IsHeldIn s.core.state.marks b ⊎ IsPastIn s.core.state.marks b).
-            ⊎_elim (λ (e : IsHeldIn s.core.state.marks b). inl (inr (inl (held b e)))) (λ (e : IsPastIn s.core.state.marks b). inl (inr (inr (past_more s.core.state.marks t.core.state.marks b grows e)))) q)
+            ⊎_elim (λ (e : IsHeldIn s.core.state.marks b). inl (inr (inl (held b e))))
+            (λ (e : IsPastIn s.core.state.marks b). inl (inr (inr (past_more s.core.state.marks t.core.state.marks b grows e)))) q)
             stands);
       } in
-      standing_more w (with_site w t) on i None (sym (append-nil w.sent)) (λ m e. absurd (cc)) (λ b new. absurd (let f = new.is in cc)) i.joint (λ c p at r held. reservation_more w (with_site w t) on i c p at r held)
+      standing_more w (with_site w t) on i None (sym (append-nil w.sent)) (λ m e. absurd (cc)) (λ b new. absurd (let f = new.is in cc)) i.joint
+      (λ c p at r held. reservation_more w (with_site w t) on i c p at r held)
 
   pub begins_standing : Standing (with_site w (begun_site s))
   begins_standing = quiet_site (begun_site s) refl refl (MarksGrow-same s.core.state.marks) (λ b e. e)
 
   pub finishes_standing : (t : Task) → Standing (with_site w (finished_site s t))
-  finishes_standing t = quiet_site (finished_site s t) refl refl (MarksGrow-after (ran_of t) s.core.state.marks) (λ b e. held_after (ran_of t) s.core.state.marks b e)
+  finishes_standing t =
+      quiet_site (finished_site s t) refl refl (MarksGrow-after (ran_of t) s.core.state.marks) (λ b e. held_after (ran_of t) s.core.state.marks b e)
 
 -- ---- a node restarts
 
@@ -191,10 +199,13 @@ same_stands : (x y : Site) (b : Block) → y.core.state ≡ x.core.state → y.o
 same_stands x y b state opened stands =
     ⊎_elim
     (λ (e : has_block x.opened b ≡ true). inl (ap (λ bs. has_block bs b) opened ∙ e))
-    (λ (q : IsHeldIn x.core.state.marks b ⊎ IsPastIn x.core.state.marks b). inr (subst (λ (st : HandlerState). IsHeldIn st.marks b ⊎ IsPastIn st.marks b) (sym state) q))
+    (λ (q : IsHeldIn x.core.state.marks b ⊎ IsPastIn x.core.state.marks b).
+    inr (subst (λ (st : HandlerState). IsHeldIn st.marks b ⊎ IsPastIn st.marks b) (sym state) q))
     stands
 
-stands_anew : (js : List Block) (n : ℕ) (h : HandlerId) (b : Block) (xs : List Site) → AllByRecursion (SiteFits js) xs → StandsFor (find (is_site h) xs) b → StandsFor (find (is_site h) (map (reopened n) xs)) b
+stands_anew :
+    (js : List Block) (n : ℕ) (h : HandlerId) (b : Block) (xs : List Site) → AllByRecursion (SiteFits js) xs → StandsFor (find (is_site h) xs) b
+    → StandsFor (find (is_site h) (map (reopened n) xs)) b
 stands_anew js n h b [] fits g = g
 stands_anew js n h b (x ∷ xs) fits g =
     let y = reopened n x in
@@ -214,4 +225,5 @@ pub reopens_standing : (w : World) → Ordered w → Openings w → Standing w �
 reopens_standing w o openings i n =
     let v : World = reopened_world w n in
     let on : StandsOn w v = record { onto = anew_onto w o.sites openings n; stands = λ h b g. inl (stands_anew w.joint n h b w.sites o.sites g) } in
-    standing_more w v on i None (sym (append-nil w.sent)) (λ m e. absurd (cc)) (λ b new. absurd (let f = new.is in cc)) i.joint (λ c p at r held. reservation_more w v on i c p at r held)
+    standing_more w v on i None (sym (append-nil w.sent)) (λ m e. absurd (cc)) (λ b new. absurd (let f = new.is in cc)) i.joint
+    (λ c p at r held. reservation_more w v on i c p at r held)

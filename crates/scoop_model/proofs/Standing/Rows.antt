@@ -1,5 +1,5 @@
 -- What a handler hears leaves a block that holds the lock there held, past or opened, unless it is the block's Unlock.
-use Rattle.std.proofs.Common.{◌≡◌, ◌⊎◌, inl, inr, ◌||◌, ◌&&◌, not, true, false, true≢false, List, map, Option, Some, refl, sym, ap, ◌∙◌, subst, arith}
+use Rattle.std.proofs.Common.{◌≡◌, ◌⊎◌, inl, inr, ◌||◌, ◌&&◌, not, true, false, true≢false, List, map, Some, refl, sym, ap, ◌∙◌, subst, arith}
 use Rattle.scoop_message.specs.declared.name.Block.{Block}
 use Rattle.scoop_message.specs.declared.name.ClientId.{ClientId}
 use Rattle.scoop_message.specs.declared.name.HandlerId.{HandlerId}
@@ -28,7 +28,8 @@ HeldGoes s m h b = IsHeldIn h.0.marks b ⊎ (IsPastIn h.0.marks b ⊎ ((h.1.note
 
 -- a mark of another client is set
 held_beside : (k : Mark) (marks : List Mark) (b : Block) → same_client b.client k.client ≡ false → IsHeldIn marks b → IsHeldIn (set_mark k marks) b
-held_beside k marks b apart h = record { mark = h.mark; found = mark_of-set_mark_other b.client k marks apart ∙ h.found; inc = h.inc; num = h.num; stage = h.stage }
+held_beside k marks b apart h =
+    record { mark = h.mark; found = mark_of-set_mark_other b.client k marks apart ∙ h.found; inc = h.inc; num = h.num; stage = h.stage }
 
 held_is : (marks : List Mark) (b : Block) (h : IsHeldIn marks b) → block_of h.mark ≡ b
 held_is marks b h = λ t. record { client = mark_of-client b.client marks h.mark h.found t; inc = h.inc t; num = h.num t }
@@ -92,7 +93,9 @@ module _ (s : HandlerState) (b : Block) (holds : HeldHolds s) (held : IsHeldIn s
   held_row m h r = inl held
 
 -- a Locked is of a block that holds the lock
-pub locked_row : (s : HandlerState) (m : Message) (h : Hearing) → Row s m h → (x : HandlerId) (b : Block) → h.1.reply ≡ Some (Locked x b) → (x ≡ h.0.number) × IsHeldIn h.0.marks b
+pub locked_row :
+    (s : HandlerState) (m : Message) (h : Hearing) → Row s m h → (x : HandlerId) (b : Block) → h.1.reply ≡ Some (Locked x b)
+    → (x ≡ h.0.number) × IsHeldIn h.0.marks b
 locked_row s m h (lock_granted y c k here at new free clear) = λ x b e.
     let same : Locked s.number c ≡ Locked x b = some_is e in
     let block = locked_block same in (

@@ -33,7 +33,8 @@ standing_kept w o sound l openings i = record {
   commands = λ c p x d at is. (
       let f = all_found (PartyFits w) (is_party c) w.parties p o.parties at in
       let own = all_found (PartyLogs w) (is_party c) w.parties p l.parties at in
-      party_standing w openings i c p (record p { client = d }) at (goes_on w p x d is f).id (logs_after x (newest_block d) w.logs) (λ b hs e. handlers_after x (newest_block d) b w.logs hs e)
+      party_standing w openings i c p (record p { client = d }) at (goes_on w p x d is f).id (logs_after x (newest_block d) w.logs)
+      (λ b hs e. handlers_after x (newest_block d) b w.logs hs e)
       (command_from w o p f own (openings.parties c p at) d (core_command x) is) (logs_opened w o p f own (openings.parties c p at) d x is) (command_stands w c p at (i.parties c p at) d (core_command x) is));
   sends = λ c p h s at here. sends_standing w o l openings i c p at h;
   hears = λ k m s was goes here. hears_standing w o sound openings i k m s was here;
@@ -73,5 +74,7 @@ pub always_standing : (ps : List Placement) (ns : List Newcomer) (es : List Even
 always_standing ps ns es may = (steps_kept AllStanding all_standing_kept (opening ps ns) es (opens_told_more ps ns may, opens_standing ps ns)).1
 
 -- a block of the common list stands at each of its handlers
-pub always_stands : (ps : List Placement) (ns : List Newcomer) (es : List Event) → MayOpen ps ns → (b : Block) → has_block (steps (opening ps ns) es).joint b ≡ true → StandsAtAll (steps (opening ps ns) es) b
+pub always_stands :
+    (ps : List Placement) (ns : List Newcomer) (es : List Event) → MayOpen ps ns → (b : Block) → has_block (steps (opening ps ns) es).joint b ≡ true
+    → StandsAtAll (steps (opening ps ns) es) b
 always_stands ps ns es may b e = joint_stands (steps (opening ps ns) es) (always_standing ps ns es may) b e

@@ -45,7 +45,8 @@ begun_more log more grow s i =
     }
 
 pub tape_more :
-    (log more : Block → List Entry) → ((b : Block) → IsBeginningOf (log b) (more b)) → (qs : List PrivateQueue) (bs : List Block) (rs : List (Block × ℕ × Entry)) (ss : List Slot)
+    (log more : Block → List Entry) → ((b : Block) → IsBeginningOf (log b) (more b))
+    → (qs : List PrivateQueue) (bs : List Block) (rs : List (Block × ℕ × Entry)) (ss : List Slot)
     → TapeFits log qs bs rs ss → TapeFits more qs bs rs ss
 tape_more log more grow qs bs rs ss f = record {
   opened = f.opened;
@@ -61,7 +62,9 @@ all_last : (P : Slot → Type 0) (ss : List Slot) (s : Slot) → AllByRecursion 
 all_last P [] s all last = (last, tt)
 all_last P (x ∷ xs) s all last = (all.0, all_last P xs s all.1 last)
 
-module _ (log : Block → List Entry) (qs : List PrivateQueue) (bs : List Block) (rs : List (Block × ℕ × Entry)) (ss : List Slot) (f : TapeFits log qs bs rs ss) where
+module _
+    (log : Block → List Entry) (qs : List PrivateQueue) (bs : List Block) (rs : List (Block × ℕ × Entry)) (ss : List Slot)
+    (f : TapeFits log qs bs rs ss) where
   pub open_tape : (b : Block) → TapeFits log (opened b qs) (bs ++ b ∷ []) rs (slots_new b ss)
   open_tape b = record {
     opened = ap (λ xs. xs ++ b ∷ []) f.opened ∙ sym (blocks-new b ss);
@@ -89,7 +92,9 @@ module _ (log : Block → List Entry) (qs : List PrivateQueue) (bs : List Block)
     begun = each_kept (IsBegun log) (IsBegun log) (cut_in b) (cut_begun b) ss f.begun;
   }
 
-  pub put_tape : (b : Block) (es : List Entry) → AreApart qs → AllByRecursion (λ s. IsBegun log (put_in b es s)) ss → TapeFits log (put_all b es qs) bs rs (slots_put b es ss)
+  pub put_tape :
+      (b : Block) (es : List Entry) → AreApart qs → AllByRecursion (λ s. IsBegun log (put_in b es s)) ss
+      → TapeFits log (put_all b es qs) bs rs (slots_put b es ss)
   put_tape b es apart begun = record {
     opened = f.opened ∙ sym (blocks-put b es ss);
     queues = ap (put_all b es) f.queues ∙ sym (queues-put b es ss (apart_slots apart));

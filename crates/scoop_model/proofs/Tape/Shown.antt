@@ -43,8 +43,11 @@ once_apart (b ∷ bs) once = (
 -- what is left of a list without a block is without it
 pub left_without : {xs ys : List Block} → IsSubsequence xs ys → (b : Block) → has_block ys b ≡ false → has_block xs b ≡ false
 left_without nothing b e = refl
-left_without (left_out y xs ys s) b e = by_test (λ t. (t || has_block ys b) ≡ false → has_block xs b ≡ false) (same_block y b) (λ same f. absurd (true≢false f)) (λ other f. left_without s b f) e
-left_without (taken y xs ys s) b e = by_test (λ t. (t || has_block ys b) ≡ false → (t || has_block xs b) ≡ false) (same_block y b) (λ same f. absurd (true≢false f)) (λ other f. left_without s b f) e
+left_without (left_out y xs ys s) b e =
+    by_test (λ t. (t || has_block ys b) ≡ false → has_block xs b ≡ false) (same_block y b) (λ same f. absurd (true≢false f)) (λ other f. left_without s b f) e
+left_without (taken y xs ys s) b e =
+    by_test (λ t. (t || has_block ys b) ≡ false → (t || has_block xs b) ≡ false) (same_block y b) (λ same f. absurd (true≢false f))
+    (λ other f. left_without s b f) e
 
 pub left_apart : {xs ys : List Block} → IsSubsequence xs ys → AreApart ys → AreApart xs
 left_apart nothing d = tt
@@ -125,12 +128,15 @@ none_ran rs (s ∷ ss) b e none =
 -- ---- in turn
 
 -- the parts of other blocks are those of the later part
-parts_later : (rs qs : List Ran) (s : Slot) (bs : List Block) → map untold rs ≡ ran_in s → has_block bs s.block ≡ false → flat_map (part_of (rs ++ qs)) bs ≡ flat_map (part_of qs) bs
+parts_later :
+    (rs qs : List Ran) (s : Slot) (bs : List Block) → map untold rs ≡ ran_in s → has_block bs s.block ≡ false
+    → flat_map (part_of (rs ++ qs)) bs ≡ flat_map (part_of qs) bs
 parts_later rs qs s [] e none = refl
 parts_later rs qs s (b ∷ bs) e none =
     by_test (λ t. (t || has_block bs s.block) ≡ false → same_block b s.block ≡ t → flat_map (part_of (rs ++ qs)) (b ∷ bs) ≡ flat_map (part_of qs) (b ∷ bs)) (same_block b s.block)
     (λ same f _. absurd (true≢false f))
-    (λ other f is. λ i. (filter-append (of_block b) rs qs ∙ ap (λ xs. xs ++ part_of qs b) (none_of rs s.block b 1 s.ran e (same_block-sym b s.block is))) i ++ parts_later rs qs s bs e f i) none refl
+    (λ other f is.
+    λ i. (filter-append (of_block b) rs qs ∙ ap (λ xs. xs ++ part_of qs b) (none_of rs s.block b 1 s.ran e (same_block-sym b s.block is))) i ++ parts_later rs qs s bs e f i) none refl
 
 -- the first block's part is the first part
 own_part :
@@ -192,13 +198,17 @@ length-numbered b n (e ∷ es) = ap suc (length-numbered b (n + 1) es)
 pub length-part : (rs : List Ran) (t : Slot) → map untold rs ≡ ran_in t → length rs ≡ length t.ran
 length-part rs t told = sym (length-map rs untold) ∙ ap length told ∙ length-numbered t.block 1 t.ran
 
-first_entries : (log : Block → List Entry) (rs : List Ran) (t : Slot) → map untold rs ≡ ran_in t → IsBegun log t → map untold rs ≡ numbered t.block 1 (take (length rs) (log t.block))
+first_entries :
+    (log : Block → List Entry) (rs : List Ran) (t : Slot) → map untold rs ≡ ran_in t → IsBegun log t
+    → map untold rs ≡ numbered t.block 1 (take (length rs) (log t.block))
 first_entries log rs t told i =
     let starts : take (length t.ran) (log t.block) ≡ t.ran =
     ap (take (length t.ran)) (sym (sym (append_assoc t.ran t.rest i.behind) ∙ i.all)) ∙ take-append_seam t.ran (t.rest ++ i.behind) in
     told ∙ ap (numbered t.block 1) (sym (ap (λ n. take n (log t.block)) (length-part rs t told) ∙ starts))
 
-all_firsts : (log : Block → List Entry) (rs : List Ran) (ss : List Slot) → AllByRecursion (IsPart rs) ss → AllByRecursion (IsBegun log) ss → AllByRecursion (IsFirst log rs) (blocks_of ss)
+all_firsts :
+    (log : Block → List Entry) (rs : List Ran) (ss : List Slot) → AllByRecursion (IsPart rs) ss → AllByRecursion (IsBegun log) ss
+    → AllByRecursion (IsFirst log rs) (blocks_of ss)
 all_firsts log rs [] parts begun = tt
 all_firsts log rs (s ∷ ss) parts begun = (first_entries log (part_of rs s.block) s parts.0 begun.0, all_firsts log rs ss parts.1 begun.1)
 

@@ -58,5 +58,6 @@ module _ (log : Block → List Entry) (s : Site) (ss : List Slot) (f : SiteTape 
   grown_tape more grow = tape_more log more grow s.core.state.queues s.opened (map untold s.ran) ss f
 
 -- what opened here is left of the common list, in which no block repeats
-pub site_tape_shown : (w : World) (s : Site) (js : List Block) (ss : List Slot) → NoRepeats js → IsSubsequence s.opened js → SiteTape (logs_at w s) s ss → Tape w s
+pub site_tape_shown :
+    (w : World) (s : Site) (js : List Block) (ss : List Slot) → NoRepeats js → IsSubsequence s.opened js → SiteTape (logs_at w s) s ss → Tape w s
 site_tape_shown w s js ss once left f = tape_shown w s s.core.state.queues ss (left_apart left (once_apart js once)) f

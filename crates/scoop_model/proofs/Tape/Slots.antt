@@ -195,7 +195,8 @@ queues-put b es (s ∷ ss) apart = at s.block s.ran s.rest s.state apart (queues
         (λ y. queue_in (if y then put_slot es (slot_of c ran rest (Some t)) t else slot_of c ran rest (Some t)) ++ queues_of (slots_put b es ss)
         ≡ (if y then (with_entries es (slot_queue (slot_of c ran rest (Some t)) t) ∷ []) ++ queues_of ss else slot_queue (slot_of c ran rest (Some t)) t ∷ put_all b es (queues_of ss)))
         (same_block b c)
-        (λ same. ap (λ qs. with_entries es (slot_queue (slot_of c ran rest (Some t)) t) ∷ qs) (same_behind b (λ q. with_entries es q ∷ []) c (queues_of ss) (queues_of (slots_put b es ss)) same a.0 (later a.1)))
+        (λ same.
+        ap (λ qs. with_entries es (slot_queue (slot_of c ran rest (Some t)) t) ∷ qs) (same_behind b (λ q. with_entries es q ∷ []) c (queues_of ss) (queues_of (slots_put b es ss)) same a.0 (later a.1)))
         (λ other. ap (λ qs. slot_queue (slot_of c ran rest (Some t)) t ∷ qs) (later a.1))
 
 -- ---- a block's queue is cut
@@ -235,7 +236,9 @@ cut_rest b s = at s.block s.ran s.rest s.state
   where
     at : (c : Block) (ran rest : List Entry) (o : Option QueueState) → (cut_in b (slot_of c ran rest o)).rest ≡ rest
     at c ran rest None = refl
-    at c ran rest (Some t) = by_test (λ y. (if y then cut_slot (slot_of c ran rest (Some t)) t else slot_of c ran rest (Some t)).rest ≡ rest) (same_block b c) (λ same. refl) (λ other. refl)
+    at c ran rest (Some t) =
+        by_test (λ y. (if y then cut_slot (slot_of c ran rest (Some t)) t else slot_of c ran rest (Some t)).rest ≡ rest) (same_block b c) (λ same. refl)
+        (λ other. refl)
 
 pub ran-cut : (b : Block) (ss : List Slot) → ran_of (slots_cut b ss) ≡ ran_of ss
 ran-cut b = ran-kept (cut_in b) (cut_keeps b)
@@ -247,7 +250,9 @@ pub turn-cut : (b : Block) (ss : List Slot) → InTurn ss → InTurn (slots_cut 
 turn-cut b = turn-kept (cut_in b) (cut_keeps b)
 
 -- the queue of a slot that is cut
-queue-cut : (c : Block) (ran rest : List Entry) (t : QueueState) → queue_in (cut_slot (slot_of c ran rest (Some t)) t) ≡ left_by_cut (slot_queue (slot_of c ran rest (Some t)) t)
+queue-cut :
+    (c : Block) (ran rest : List Entry) (t : QueueState)
+    → queue_in (cut_slot (slot_of c ran rest (Some t)) t) ≡ left_by_cut (slot_queue (slot_of c ran rest (Some t)) t)
 queue-cut c ran [] Open = refl
 queue-cut c ran (e ∷ es) Open = refl
 queue-cut c ran rest Ended = refl
@@ -337,7 +342,9 @@ first-runs b ran (x ∷ es) t ss f none turn e = record {
   turn = (waits_for_none (if goes_with t x es then None else Some t) ss none, turn);
 }
 
-gone-runs : (b : Block) (ran rest : List Entry) (ss ts : List Slot) (f : Block × ℕ × Entry) → Runs ss ts f → Runs (slot_of b ran rest None ∷ ss) (slot_of b ran rest None ∷ ts) f
+gone-runs :
+    (b : Block) (ran rest : List Entry) (ss ts : List Slot) (f : Block × ℕ × Entry) → Runs ss ts f
+    → Runs (slot_of b ran rest None ∷ ss) (slot_of b ran rest None ∷ ts) f
 gone-runs b ran rest ss ts f r = record {
   queues = r.queues;
   ran = ap (λ us. numbered b 1 ran ++ us) r.ran ∙ sym (append_assoc (numbered b 1 ran) (ran_of ss) (f ∷ []));

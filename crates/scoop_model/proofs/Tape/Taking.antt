@@ -49,7 +49,8 @@ each_queue P (s ∷ ss) all = at s.block s.ran s.rest s.state all (each_queue P 
         (b : Block) (ran rest : List Entry) (o : Option QueueState) → AllByRecursion P (queues_of (slot_of b ran rest o ∷ ss))
         → (AllByRecursion P (queues_of ss) → AllByRecursion (InQueue P) ss) → AllByRecursion (InQueue P) (slot_of b ran rest o ∷ ss)
     at b ran rest None all later = (record { has = λ t e. absurd (none_some e) }, later all)
-    at b ran rest (Some u) all later = (record { has = λ t e. subst (λ v. P (slot_queue (slot_of b ran rest (Some u)) v)) (same_Some u t e) all.0 }, later all.1)
+    at b ran rest (Some u) all later =
+        (record { has = λ t e. subst (λ v. P (slot_queue (slot_of b ran rest (Some u)) v)) (same_Some u t e) all.0 }, later all.1)
 
 pub all_both : {A : Type 0} (P Q R : A → Type 0) → ((a : A) → P a → Q a → R a) → (xs : List A) → AllByRecursion P xs → AllByRecursion Q xs → AllByRecursion R xs
 all_both P Q R f [] p q = tt
@@ -77,9 +78,11 @@ live_slot : (marks : List Mark) (s : Slot) → InQueue (HasMark marks) s → IsL
 live_slot marks s has = record {
   live = λ e.
       let h = has.has TakesMore e in
-      let same : block_of h.mark ≡ s.block = by_test (λ t. same_block (block_of h.mark) s.block ≡ t → block_of h.mark ≡ s.block) (same_block (block_of h.mark) s.block)
+      let same : block_of h.mark ≡ s.block =
+      by_test (λ t. same_block (block_of h.mark) s.block ≡ t → block_of h.mark ≡ s.block) (same_block (block_of h.mark) s.block)
       (λ is _. same_block-true (block_of h.mark) s.block is)
-      (λ other _. absurd (true≢false (h.fits.older (λ is. true≢false (sym (subst (λ b. same_block (block_of h.mark) b ≡ true) is (same_block-refl (block_of h.mark))) ∙ other)))))
+      (λ other _.
+      absurd (true≢false (h.fits.older (λ is. true≢false (sym (subst (λ b. same_block (block_of h.mark) b ≡ true) is (same_block-refl (block_of h.mark))) ∙ other)))))
       refl in
       let fits = h.fits.newest same in
       let goes_on = both (is_open h.mark.stage) (not h.mark.ended) (fits.unfinished refl) in
@@ -104,8 +107,12 @@ live_slots s ss is queues =
 
 -- ---- a Log is taken
 
-module _ (log : Block → List Entry) (s : HandlerState) (b : Block) (n : ℕ) (es : List Entry) (k : Mark) (at : IsLogAt s b k) (next : IsNext k n es) (st : Stands (log b) n es) where
-  grown : (c : Block) (ran rest : List Entry) (u : QueueState) → b ≡ c → IsBegun log (slot_of c ran rest (Some u)) → HasMark s.marks (slot_queue (slot_of c ran rest (Some u)) u)
+module _
+    (log : Block → List Entry) (s : HandlerState) (b : Block) (n : ℕ) (es : List Entry) (k : Mark) (at : IsLogAt s b k) (next : IsNext k n es)
+    (st : Stands (log b) n es) where
+  grown :
+      (c : Block) (ran rest : List Entry) (u : QueueState) → b ≡ c → IsBegun log (slot_of c ran rest (Some u))
+      → HasMark s.marks (slot_queue (slot_of c ran rest (Some u)) u)
       → IsBegun log (put_slot (new_entries n es k) (slot_of c ran rest (Some u)) u)
   grown c ran rest u is i has =
       let there : mark_of c.client s.marks ≡ Some k = subst (λ (d : Block). mark_of d.client s.marks ≡ Some k) is at.heard.found in
@@ -120,14 +127,18 @@ module _ (log : Block → List Entry) (s : HandlerState) (b : Block) (n : ℕ) (
   put_begun : (t : Slot) → IsBegun log t → InQueue (HasMark s.marks) t → IsBegun log (put_in b (new_entries n es k) t)
   put_begun t i has = by t.block t.ran t.rest t.state i has
     where
-      by : (c : Block) (ran rest : List Entry) (o : Option QueueState) → IsBegun log (slot_of c ran rest o) → InQueue (HasMark s.marks) (slot_of c ran rest o) → IsBegun log (put_in b (new_entries n es k) (slot_of c ran rest o))
+      by :
+          (c : Block) (ran rest : List Entry) (o : Option QueueState) → IsBegun log (slot_of c ran rest o) → InQueue (HasMark s.marks) (slot_of c ran rest o)
+          → IsBegun log (put_in b (new_entries n es k) (slot_of c ran rest o))
       by c ran rest None i has = i
       by c ran rest (Some u) i has =
           by_test (λ y. IsBegun log (if y then put_slot (new_entries n es k) (slot_of c ran rest (Some u)) u else slot_of c ran rest (Some u))) (same_block b c)
           (λ same. grown c ran rest u (same_block-true b c same) i (has.has u refl))
           (λ other. i)
 
-  take_tape : (bs : List Block) (rs : List (Block × ℕ × Entry)) (ss : List Slot) → IsState s → TapeFits log s.queues bs rs ss → TapeFits log (put_all b (new_entries n es k) s.queues) bs rs (slots_put b (new_entries n es k) ss)
+  take_tape :
+      (bs : List Block) (rs : List (Block × ℕ × Entry)) (ss : List Slot) → IsState s → TapeFits log s.queues bs rs ss
+      → TapeFits log (put_all b (new_entries n es k) s.queues) bs rs (slots_put b (new_entries n es k) ss)
   take_tape bs rs ss is f =
       put_tape log s.queues bs rs ss f b (new_entries n es k) is.queues.apart
       (all_both (IsBegun log) (InQueue (HasMark s.marks)) (λ t. IsBegun log (put_in b (new_entries n es k) t)) put_begun ss f.begun
@@ -147,7 +158,9 @@ same_opened log qs bs rs ss f = subst (λ xs. TapeFits log qs xs rs ss) (sym (ap
 pub row_tape :
     (log : Block → List Entry) (s : HandlerState) (m : Message) (h : Hearing) (r : Row s m h) (bs : List Block) (rs : List (Block × ℕ × Entry)) (ss : List Slot)
     → IsState s → StandsIfLog log m → TapeFits log s.queues bs rs ss → TapeFits log h.0.queues (bs ++ newly_opened h.1.note) rs (slots_after s m h r ss)
-row_tape log s m h (newer_greeting x c inc k here found newer) bs rs ss is st f = same_opened log _ bs rs _ (cut_tape log s.queues bs rs ss f (block_of k) is.queues.apart)
+row_tape log s m h (newer_greeting x c inc k here found newer) bs rs ss is st f =
+    same_opened log _ bs rs _ (cut_tape log s.queues bs rs ss f (block_of k) is.queues.apart)
 row_tape log s m h (open_granted x b k here at same held room) bs rs ss is st f = open_tape log s.queues bs rs ss f b
-row_tape log s m h (log_taken x b n es k here at next goes_on room) bs rs ss is st f = same_opened log _ bs rs _ (take_tape log s b n es k at next (st x b n es refl) bs rs ss is f)
+row_tape log s m h (log_taken x b n es k here at next goes_on room) bs rs ss is st f =
+    same_opened log _ bs rs _ (take_tape log s b n es k at next (st x b n es refl) bs rs ss is f)
 row_tape log s m h r bs rs ss is st f = same_opened log s.queues bs rs ss f

@@ -64,7 +64,9 @@ marks_alike ms ns h marks same t = record {
 
 -- ---- a block that isn't reached has no count
 
-none_counted : (ms : List Message) (h : HandlerId) (marks : List Mark) (b : Block) → ((x : Block) → 0 < greatest_count h x ms → IsReachedIn marks x) → (IsReachedIn marks b → ⊥) → greatest_count h b ms ≡ 0
+none_counted :
+    (ms : List Message) (h : HandlerId) (marks : List Mark) (b : Block) → ((x : Block) → 0 < greatest_count h x ms → IsReachedIn marks x)
+    → (IsReachedIn marks b → ⊥) → greatest_count h b ms ≡ 0
 none_counted ms h marks b all past =
     ⊎_elim
     (λ (e : greatest_count h b ms ≡ 0). e)
@@ -103,7 +105,9 @@ zero_le n = omega arith
 -- ---- what one mark tells once it moves
 
 -- the handler's marks stay at the same blocks and counts
-same_mark : (ms : List Message) (h : HandlerId) (k x : Mark) → x.client ≡ k.client → x.inc ≡ k.inc → x.num ≡ k.num → x.received ≡ k.received → MarkTold ms h k → MarkTold ms h x
+same_mark :
+    (ms : List Message) (h : HandlerId) (k x : Mark) → x.client ≡ k.client → x.inc ≡ k.inc → x.num ≡ k.num → x.received ≡ k.received → MarkTold ms h k
+    → MarkTold ms h x
 same_mark ms h k x client inc num received t = record {
   greeted = λ b own newer. t.greeted b (own ∙ client) (let e = inc in omega (arith, newer, e));
   received = ap (λ y. greatest_count h y ms) same ∙ t.received ∙ sym received;
@@ -114,7 +118,8 @@ same_mark ms h k x client inc num received t = record {
 
 -- a mark that comes to a newer block of its incarnation
 next_mark :
-    (ms : List Message) (h : HandlerId) (marks : List Mark) (b : Block) (k : Mark) (stage : Stage) → mark_of b.client marks ≡ Some k → k.inc ≡ b.inc → k.num < b.num
+    (ms : List Message) (h : HandlerId) (marks : List Mark) (b : Block) (k : Mark) (stage : Stage) → mark_of b.client marks ≡ Some k → k.inc ≡ b.inc
+    → k.num < b.num
     → MarksTold ms h marks → MarkTold ms h (fresh_mark b stage)
 next_mark ms h marks b k stage found inc newer t =
     let old = All-mark_of (MarkTold ms h) b.client marks k t.each found in
@@ -147,7 +152,9 @@ pub record IsMoreTold (ms ns : List Message) (h : HandlerId) (b : Block) (k : Ma
   pub own : greatest_count h b ns ≡ last
   pub others : (x : Block) → same_block b x ≡ false → greatest_count h x ns ≡ greatest_count h x ms
 
-module _ (ms : List Message) (s : HandlerState) (b : Block) (k : Mark) (last : ℕ) (found : mark_of b.client s.marks ≡ Some k) (same : block_of k ≡ b) (new : k.received < last) (t : MarksTold ms s.number s.marks) where
+module _
+    (ms : List Message) (s : HandlerState) (b : Block) (k : Mark) (last : ℕ) (found : mark_of b.client s.marks ≡ Some k) (same : block_of k ≡ b)
+    (new : k.received < last) (t : MarksTold ms s.number s.marks) where
   abbrev ns : List Message
   ns = ms ++ Logged s.number b last ∷ []
 
@@ -190,7 +197,9 @@ module _ (ms : List Message) (s : HandlerState) (b : Block) (k : Mark) (last : �
       (λ _ is. t.reached x (let e = count_more.others x is in omega (arith, e, some)))
       refl)
 
-  taken_told : (ended : Bool) → MarksGrow s.marks (set_mark (with_received last ended k) s.marks) → MarksTold ns s.number (set_mark (with_received last ended k) s.marks)
+  taken_told :
+      (ended : Bool) → MarksGrow s.marks (set_mark (with_received last ended k) s.marks)
+      → MarksTold ns s.number (set_mark (with_received last ended k) s.marks)
   taken_told ended grows = record {
     each = All-set_mark (MarkTold ms s.number) (MarkTold ns s.number) (with_received last ended k) s.marks (taken_mark ended) other_mark t.each;
     reached = taken_reached (set_mark (with_received last ended k) s.marks) grows;
@@ -213,15 +222,19 @@ alike-row ms s m h (log_again x b n es k here at before none) t quiet = alike_mo
         by_test (λ u. same_block b y ≡ u → count_in s.number y (Logged s.number b k.received) ≤ greatest_count s.number y ms) (same_block b y)
         (λ _ is.
         let one : block_of k ≡ y = same ∙ same_block_is b y is in
-        let told : greatest_count s.number y ms ≡ k.received = ap (λ z. greatest_count s.number z ms) (sym one) ∙ (All-mark_of (MarkTold ms s.number) b.client s.marks k t.each at.heard.found).received in
-        let own : count_in s.number y (Logged s.number b k.received) ≡ k.received = ap (λ z. count_in s.number y (Logged s.number z k.received)) (same_block_is b y is) ∙ count_itself s.number y k.received in
+        let told : greatest_count s.number y ms ≡ k.received =
+        ap (λ z. greatest_count s.number z ms) (sym one) ∙ (All-mark_of (MarkTold ms s.number) b.client s.marks k t.each at.heard.found).received in
+        let own : count_in s.number y (Logged s.number b k.received) ≡ k.received =
+        ap (λ z. count_in s.number y (Logged s.number z k.received)) (same_block_is b y is) ∙ count_itself s.number y k.received in
         omega (arith, told, own))
         (λ _ is. let none = count_other s.number s.number b y k.received (λ _ e. blocks_apart b y is e) in omega (arith, none))
         refl
 alike-row ms s m h r t quiet = alike_more s.number ms h.1.reply (λ b. zero_le (greatest_count s.number b ms))
 
 -- the marks change while nothing new is told
-module _ (ms ns : List Message) (h : HandlerId) (marks news : List Mark) (alike : TellsAlike h ms ns) (grows : MarksGrow marks news) (t : MarksTold ms h marks) where
+module _
+    (ms ns : List Message) (h : HandlerId) (marks news : List Mark) (alike : TellsAlike h ms ns) (grows : MarksGrow marks news)
+    (t : MarksTold ms h marks) where
   now : MarksTold ns h marks
   now = marks_alike ms ns h marks alike t
 
@@ -230,16 +243,20 @@ module _ (ms ns : List Message) (h : HandlerId) (marks news : List Mark) (alike 
 
   -- one mark changes
   mark_moved : (k : Mark) → news ≡ set_mark k marks → MarkTold ns h k → MarksTold ns h news
-  mark_moved k is one = marks_moved (subst (AllByRecursion (MarkTold ns h)) (sym is) (All-set_mark (MarkTold ns h) (MarkTold ns h) k marks one (λ x apart m. m) now.each))
+  mark_moved k is one =
+      marks_moved (subst (AllByRecursion (MarkTold ns h)) (sym is) (All-set_mark (MarkTold ns h) (MarkTold ns h) k marks one (λ x apart m. m) now.each))
 
   -- a mark more
   mark_added : (k : Mark) → news ≡ add_mark k marks → MarkTold ns h k → MarksTold ns h news
-  mark_added k is one = marks_moved (subst (AllByRecursion (MarkTold ns h)) (sym is) (All-add_mark (MarkTold ns h) (MarkTold ns h) k marks one (λ x m. m) now.each))
+  mark_added k is one =
+      marks_moved (subst (AllByRecursion (MarkTold ns h)) (sym is) (All-add_mark (MarkTold ns h) (MarkTold ns h) k marks one (λ x m. m) now.each))
 
   found_told : (b : Block) (k : Mark) → mark_of b.client marks ≡ Some k → MarkTold ns h k
   found_told b k found = All-mark_of (MarkTold ns h) b.client marks k now.each found
 
-pub marks_told-row : (ms : List Message) (s : HandlerState) (m : Message) (h : Hearing) → Row s m h → MarksTold ms s.number s.marks → MarksTold (ms ++ option_to_list h.1.reply) s.number h.0.marks
+pub marks_told-row :
+    (ms : List Message) (s : HandlerState) (m : Message) (h : Hearing) → Row s m h → MarksTold ms s.number s.marks
+    → MarksTold (ms ++ option_to_list h.1.reply) s.number h.0.marks
 marks_told-row ms s m h (first_greeting x c inc here none room) t =
     let r = first_greeting x c inc here none room in
     let k : Mark = greeting_mark c inc in

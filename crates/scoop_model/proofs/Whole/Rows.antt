@@ -31,7 +31,9 @@ abbrev pub SlotsWhole : List Message → HandlerId → List Mark → List Slot �
 SlotsWhole ms h marks ss = AllByRecursion (SlotWhole ms h marks) ss
 
 -- the marks grow, and nothing new is told
-pub slots_moved : (ms ns : List Message) (h : HandlerId) (old new : List Mark) (ss : List Slot) → TellsAlike h ms ns → MarksGrow old new → SlotsWhole ms h old ss → SlotsWhole ns h new ss
+pub slots_moved :
+    (ms ns : List Message) (h : HandlerId) (old new : List Mark) (ss : List Slot) → TellsAlike h ms ns → MarksGrow old new → SlotsWhole ms h old ss
+    → SlotsWhole ns h new ss
 slots_moved ms ns h old new ss alike grows all =
     all_more_of (SlotWhole ms h old) (SlotWhole ns h new) (λ t w. slot_more ms ns h old new t grows (alike.counted t.block) w) ss all
 
@@ -45,7 +47,9 @@ not_ended : (ended more : Bool) → (ended || more) ≡ false → ended ≡ fals
 not_ended true more e = absurd (true≢false e)
 not_ended false more e = refl
 
-module _ (ms : List Message) (s : HandlerState) (b : Block) (n : ℕ) (es : List Entry) (k : Mark) (at : IsLogAt s b k) (next : IsNext k n es) (goes_on : is_closed k (last_number n es) es ≡ false) (t : MarksTold ms s.number s.marks) where
+module _
+    (ms : List Message) (s : HandlerState) (b : Block) (n : ℕ) (es : List Entry) (k : Mark) (at : IsLogAt s b k) (next : IsNext k n es)
+    (goes_on : is_closed k (last_number n es) es ≡ false) (t : MarksTold ms s.number s.marks) where
   abbrev news : List Entry
   news = new_entries n es k
 
@@ -67,7 +71,9 @@ module _ (ms : List Message) (s : HandlerState) (b : Block) (n : ℕ) (es : List
   told : IsMoreTold ms (ms ++ Logged s.number b (last_number n es) ∷ []) s.number b k (last_number n es)
   told = count_more ms s b k (last_number n es) at.heard.found same next.new t
 
-  is_taken : MarksGrow s.marks (set_mark after s.marks) → IsTaken ms (ms ++ Logged s.number b (last_number n es) ∷ []) s.number s.marks (set_mark after s.marks) b news
+  is_taken :
+      MarksGrow s.marks (set_mark after s.marks)
+      → IsTaken ms (ms ++ Logged s.number b (last_number n es) ∷ []) s.number s.marks (set_mark after s.marks) b news
   is_taken grows = record {
     grows = grows;
     mark = k;
@@ -84,7 +90,8 @@ module _ (ms : List Message) (s : HandlerState) (b : Block) (n : ℕ) (es : List
 -- ---- every row
 
 pub slots_whole-row :
-    (ms : List Message) (s : HandlerState) (m : Message) (h : Hearing) (r : Row s m h) (ss : List Slot) → IsState s → MarksTold ms s.number s.marks → SlotsWhole ms s.number s.marks ss
+    (ms : List Message) (s : HandlerState) (m : Message) (h : Hearing) (r : Row s m h) (ss : List Slot) → IsState s → MarksTold ms s.number s.marks
+    → SlotsWhole ms s.number s.marks ss
     → SlotsWhole (ms ++ option_to_list h.1.reply) s.number h.0.marks (slots_after s m h r ss)
 slots_whole-row ms s m h (newer_greeting x c inc k here found newer) ss is t all =
     let r = newer_greeting x c inc k here found newer in
@@ -100,7 +107,8 @@ slots_whole-row ms s m h (open_granted x b k here at same held room) ss is t all
     let news : List Mark = set_mark (opened_mark k) s.marks in
     let none : k.received ≡ 0 = ((All-mark_of IsUnusedUnlessOpen b.client s.marks k is.unused at.found).unused (ap is_open held)).received in
     let count : greatest_count s.number b ms ≡ 0 =
-    ap (λ z. greatest_count s.number z ms) (sym (block_of-same s b k at same)) ∙ (All-mark_of (MarkTold ms s.number) b.client s.marks k t.each at.found).received ∙ none in
+    ap (λ z. greatest_count s.number z ms) (sym (block_of-same s b k at same))
+    ∙ (All-mark_of (MarkTold ms s.number) b.client s.marks k t.each at.found).received ∙ none in
     all_pushed (SlotWhole _ s.number news) ss (Some (new_slot b)) (slots_moved ms _ s.number s.marks news ss alike grows all)
     (λ u e.
     let one : new_slot b ≡ u = cc in

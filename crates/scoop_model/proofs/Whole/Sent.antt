@@ -27,7 +27,10 @@ count_itself h b n = ap (λ t. if t then n else 0) (ap (λ t. t && same_block b 
 pub count_other : (x h : HandlerId) (y b : Block) (n : ℕ) → (x ≡ h → y ≡ b → ⊥) → count_in h b (Logged x y n) ≡ 0
 count_other x h y b n apart =
     by_test (λ t. same_handler x h ≡ t → (if t && same_block y b then n else 0) ≡ 0) (same_handler x h)
-    (λ _ here. by_test (λ t. same_block y b ≡ t → (if t then n else 0) ≡ 0) (same_block y b) (λ _ is. absurd (apart ((handler_decides x h).0 here) ((block_decides y b).0 is))) (λ _ is. refl) refl)
+    (λ _ here.
+    by_test (λ t. same_block y b ≡ t → (if t then n else 0) ≡ 0) (same_block y b)
+    (λ _ is. absurd (apart ((handler_decides x h).0 here) ((block_decides y b).0 is)))
+    (λ _ is. refl) refl)
     (λ _ there. refl) refl
 
 -- nor is one told by a message of another handler
@@ -71,7 +74,8 @@ newer_welcome h b c inc own newer =
 
 -- ---- one message more
 
-greatest_pushed : (h : HandlerId) (b : Block) (ms : List Message) (m : Message) → greatest_count h b (ms ++ m ∷ []) ≡ max (greatest_count h b ms) (count_in h b m)
+greatest_pushed :
+    (h : HandlerId) (b : Block) (ms : List Message) (m : Message) → greatest_count h b (ms ++ m ∷ []) ≡ max (greatest_count h b ms) (count_in h b m)
 greatest_pushed h b [] m = omega arith
 greatest_pushed h b (x ∷ xs) m = let later = greatest_pushed h b xs m in omega (arith, later)
 
@@ -81,7 +85,9 @@ told_in h b None = 0
 told_in h b (Some m) = count_in h b m
 
 -- a count that isn't above the greatest one leaves it
-pub greatest_stays : (h : HandlerId) (b : Block) (ms : List Message) (o : Option Message) → told_in h b o ≤ greatest_count h b ms → greatest_count h b (ms ++ option_to_list o) ≡ greatest_count h b ms
+pub greatest_stays :
+    (h : HandlerId) (b : Block) (ms : List Message) (o : Option Message) → told_in h b o ≤ greatest_count h b ms
+    → greatest_count h b (ms ++ option_to_list o) ≡ greatest_count h b ms
 greatest_stays h b ms None le = ap (greatest_count h b) (append-nil ms)
 greatest_stays h b ms (Some m) le = let more = greatest_pushed h b ms m in omega (arith, more, le)
 
@@ -96,10 +102,12 @@ IsGreeted h b ms = list_any (is_newer_welcome h b) ms ≡ true
 pub greeted_more : (h : HandlerId) (b : Block) (ms : List Message) (o : Option Message) → IsGreeted h b ms → IsGreeted h b (ms ++ option_to_list o)
 greeted_more h b ms o e = list_any-append (is_newer_welcome h b) ms (option_to_list o) ∙ ap (λ t. t || list_any (is_newer_welcome h b) (option_to_list o)) e
 
-pub greeted_last : (h : HandlerId) (b : Block) (ms : List Message) (c : ClientId) (inc : ℕ) → b.client ≡ c → b.inc < inc → IsGreeted h b (ms ++ Welcome h c inc ∷ [])
+pub greeted_last :
+    (h : HandlerId) (b : Block) (ms : List Message) (c : ClientId) (inc : ℕ) → b.client ≡ c → b.inc < inc → IsGreeted h b (ms ++ Welcome h c inc ∷ [])
 greeted_last h b [] c inc own newer = ap (λ t. t || false) (newer_welcome h b c inc own newer)
 greeted_last h b (m ∷ ms) c inc own newer =
-    by_test (λ t. (t || list_any (is_newer_welcome h b) (ms ++ Welcome h c inc ∷ [])) ≡ true) (is_newer_welcome h b m) (λ first. refl) (λ later. greeted_last h b ms c inc own newer)
+    by_test (λ t. (t || list_any (is_newer_welcome h b) (ms ++ Welcome h c inc ∷ [])) ≡ true) (is_newer_welcome h b m) (λ first. refl)
+    (λ later. greeted_last h b ms c inc own newer)
 
 -- ---- messages that tell a handler's counts as before
 
@@ -110,18 +118,23 @@ pub record TellsAlike (h : HandlerId) (ms ns : List Message) : Type 0 where
 pub alike_same : (h : HandlerId) (ms : List Message) → TellsAlike h ms ms
 alike_same h ms = record { greeted = λ b e. e; counted = λ b. refl }
 
-pub alike_more : (h : HandlerId) (ms : List Message) (o : Option Message) → ((b : Block) → told_in h b o ≤ greatest_count h b ms) → TellsAlike h ms (ms ++ option_to_list o)
+pub alike_more :
+    (h : HandlerId) (ms : List Message) (o : Option Message) → ((b : Block) → told_in h b o ≤ greatest_count h b ms)
+    → TellsAlike h ms (ms ++ option_to_list o)
 alike_more h ms o le = record { greeted = λ b e. greeted_more h b ms o e; counted = λ b. greatest_stays h b ms o (le b) }
 
 none_told : (h : HandlerId) (ms : List Message) (o : Option Message) → ((b : Block) → told_in h b o ≡ 0) → TellsAlike h ms (ms ++ option_to_list o)
 none_told h ms o none = alike_more h ms o (λ b. let e = none b in omega (arith, e))
 
 -- what a client sends
-pub alike_from_client : (h : HandlerId) (ms : List Message) (o : Option Message) → ((m : Message) → o ≡ Some m → is_for_handler m ≡ true) → TellsAlike h ms (ms ++ option_to_list o)
+pub alike_from_client :
+    (h : HandlerId) (ms : List Message) (o : Option Message) → ((m : Message) → o ≡ Some m → is_for_handler m ≡ true)
+    → TellsAlike h ms (ms ++ option_to_list o)
 alike_from_client h ms None goes = none_told h ms None (λ b. refl)
 alike_from_client h ms (Some m) goes = none_told h ms (Some m) (λ b. count_of_client h b m (goes m refl))
 
 -- what another handler replies
-pub alike_elsewhere : (h : HandlerId) (ms : List Message) (o : Option Message) → ((m : Message) → o ≡ Some m → handler_of m ≡ h → ⊥) → TellsAlike h ms (ms ++ option_to_list o)
+pub alike_elsewhere :
+    (h : HandlerId) (ms : List Message) (o : Option Message) → ((m : Message) → o ≡ Some m → handler_of m ≡ h → ⊥) → TellsAlike h ms (ms ++ option_to_list o)
 alike_elsewhere h ms None apart = none_told h ms None (λ b. refl)
 alike_elsewhere h ms (Some m) apart = none_told h ms (Some m) (λ b. count_elsewhere h b m (apart m refl))

@@ -56,14 +56,17 @@ module _ (w : World) (s : Site) (marks_told : MarksTold w.sent (number_of s) s.c
       let es : entries_of (part t.block s) ≡ t.ran = told_entries (part t.block s) t.block 1 t.ran f.told in
       let count : received t.block (number_of s) w ≡ length t.ran = f.whole.received ∙ ap (λ xs. length t.ran + length xs) d.rest ∙ omega arith in
       let start : t.ran ++ (t.rest ++ f.begun.behind) ≡ log_of t.block (number_of s) w = sym (append_assoc t.ran t.rest f.begun.behind) ∙ f.begun.all in
-      let all : take (received t.block (number_of s) w) (log_of t.block (number_of s) w) ≡ t.ran = (λ i. take (count i) (sym start i)) ∙ take-append_seam t.ran (t.rest ++ f.begun.behind) in
+      let all : take (received t.block (number_of s) w) (log_of t.block (number_of s) w) ≡ t.ran =
+      (λ i. take (count i) (sym start i)) ∙ take-append_seam t.ran (t.rest ++ f.begun.behind) in
       ⊎_elim
       (λ (e : IsTrue (ends t.ran)). inl (ap ends es ∙ e))
       (λ (p : IsPassed s.core.state.marks t.block). inr (succeeded t.block p, es ∙ sym all))
       d.whole
 
   -- where nothing has run behind a slot, no block there has a part
-  none_behind : (ss : List Slot) (between back : List Block) (later : Block) → NoneRan ss → AllByRecursion IsShown ss → blocks_of ss ≡ between ++ later ∷ back → part later s ≡ []
+  none_behind :
+      (ss : List Slot) (between back : List Block) (later : Block) → NoneRan ss → AllByRecursion IsShown ss → blocks_of ss ≡ between ++ later ∷ back
+      → part later s ≡ []
   none_behind [] [] back later none all e = absurd (cc)
   none_behind [] (x ∷ between) back later none all e = absurd (cc)
   none_behind (t ∷ ts) [] back later none all e =
@@ -98,6 +101,7 @@ whole_shown w s js ss once left f told whole front between back b later opened s
     let apart : AreApart (blocks_of ss) = subst AreApart f.opened (left_apart left (once_apart js once)) in
     let parts = slot_parts s.ran ss f.ran apart in
     let all : AllByRecursion (IsShown w s told) ss =
-    all_both (IsPart s.ran) (λ t. SlotWhole w.sent (number_of s) s.core.state.marks t × IsBegun (logs_at w s) t) (IsShown w s told) (λ t p k. record { told = p; whole = k.0; begun = k.1 }) ss parts
+    all_both (IsPart s.ran) (λ t. SlotWhole w.sent (number_of s) s.core.state.marks t × IsBegun (logs_at w s) t) (IsShown w s told)
+    (λ t p k. record { told = p; whole = k.0; begun = k.1 }) ss parts
     (all_both (SlotWhole w.sent (number_of s) s.core.state.marks) (IsBegun (logs_at w s)) (λ t. SlotWhole w.sent (number_of s) s.core.state.marks t × IsBegun (logs_at w s) t) (λ t a k. (a, k)) ss whole f.begun) in
     before_whole w s told ss front between back b later f.turn all (sym f.opened ∙ opened) some

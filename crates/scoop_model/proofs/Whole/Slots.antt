@@ -116,7 +116,8 @@ slot_more ms ns h old new t grows same w = record {
 
 -- ---- a block opens
 
-pub new_whole : (ms : List Message) (h : HandlerId) (marks : List Mark) (b : Block) → IsReachedIn marks b → greatest_count h b ms ≡ 0 → SlotWhole ms h marks (new_slot b)
+pub new_whole :
+    (ms : List Message) (h : HandlerId) (marks : List Mark) (b : Block) → IsReachedIn marks b → greatest_count h b ms ≡ 0 → SlotWhole ms h marks (new_slot b)
 new_whole ms h marks b reached none = record {
   reached = reached;
   ended = λ off. absurd (true≢false off);
@@ -126,7 +127,9 @@ new_whole ms h marks b reached none = record {
 
 -- ---- a block's queue is cut
 
-cut_whole : (ms : List Message) (h : HandlerId) (marks : List Mark) (b : Block) (t : Slot) → IsPassed marks b → SlotWhole ms h marks t → SlotWhole ms h marks (cut_in b t)
+cut_whole :
+    (ms : List Message) (h : HandlerId) (marks : List Mark) (b : Block) (t : Slot) → IsPassed marks b → SlotWhole ms h marks t
+    → SlotWhole ms h marks (cut_in b t)
 cut_whole ms h marks b t passed w = at t.block t.ran t.rest t.state w.reached w.ended w.gone w.received
   where
     at :
@@ -157,7 +160,8 @@ cut_whole ms h marks b t passed w = at t.block t.ran t.rest t.state w.reached w.
 pub slots_cut_whole :
     (ms : List Message) (h : HandlerId) (marks : List Mark) (b : Block) (ss : List Slot) → IsPassed marks b → AllByRecursion (SlotWhole ms h marks) ss
     → AllByRecursion (SlotWhole ms h marks) (slots_cut b ss)
-slots_cut_whole ms h marks b ss passed all = each_kept (SlotWhole ms h marks) (SlotWhole ms h marks) (cut_in b) (λ t w. cut_whole ms h marks b t passed w) ss all
+slots_cut_whole ms h marks b ss passed all =
+    each_kept (SlotWhole ms h marks) (SlotWhole ms h marks) (cut_in b) (λ t w. cut_whole ms h marks b t passed w) ss all
 
 -- ---- entries are put
 
@@ -174,7 +178,9 @@ pub record IsTaken (ms ns : List Message) (h : HandlerId) (old new : List Mark) 
   pub more : greatest_count h b ns ≡ greatest_count h b ms + length es
   pub others : (x : Block) → same_block b x ≡ false → greatest_count h x ns ≡ greatest_count h x ms
 
-put_whole : (ms ns : List Message) (h : HandlerId) (old new : List Mark) (b : Block) (es : List Entry) → IsTaken ms ns h old new b es → (t : Slot) → SlotWhole ms h old t → SlotWhole ns h new (put_in b es t)
+put_whole :
+    (ms ns : List Message) (h : HandlerId) (old new : List Mark) (b : Block) (es : List Entry) → IsTaken ms ns h old new b es → (t : Slot)
+    → SlotWhole ms h old t → SlotWhole ns h new (put_in b es t)
 put_whole ms ns h old new b es k t w = at t.block t.ran t.rest t.state w
   where
     -- the block has not ended
@@ -197,7 +203,9 @@ put_whole ms ns h old new b es k t w = at t.block t.ran t.rest t.state w
         (λ _ is. slot_more ms ns h old new s k.grows (k.others c is) w)
         refl
       where
-        own : (q : QueueState) → same_block b c ≡ true → SlotWhole ms h old (slot_of c ran rest (Some q)) → SlotWhole ns h new (put_slot es (slot_of c ran rest (Some q)) q)
+        own :
+            (q : QueueState) → same_block b c ≡ true → SlotWhole ms h old (slot_of c ran rest (Some q))
+            → SlotWhole ns h new (put_slot es (slot_of c ran rest (Some q)) q)
         own Ended is w = absurd (still_runs c is (w.ended refl))
         own Cut is w = absurd (still_runs c is (w.ended refl))
         own Open is w =
@@ -205,11 +213,14 @@ put_whole ms ns h old new b es k t w = at t.block t.ran t.rest t.state w
             record {
               reached = reached_more old new c k.grows w.reached;
               ended = λ off.
-                  let last : ends es ≡ true = by_test (λ u. takes_more (Some (if u then Ended else Open)) ≡ false → u ≡ true) (ends es) (λ _ _. refl) (λ _ f. absurd (true≢false f)) off in
-                  subst (HasEnded new) one (λ x found own. subst (λ (y : Mark). y.ended ≡ true) (mark_is (mark_of b.client new) k.next x k.now found) (k.ended last));
+                  let last : ends es ≡ true =
+                  by_test (λ u. takes_more (Some (if u then Ended else Open)) ≡ false → u ≡ true) (ends es) (λ _ _. refl) (λ _ f. absurd (true≢false f)) off in
+                  subst (HasEnded new) one
+                  (λ x found own. subst (λ (y : Mark). y.ended ≡ true) (mark_is (mark_of b.client new) k.next x k.now found) (k.ended last));
               gone = λ none. absurd (cc);
               received =
-                  let count : greatest_count h c ns ≡ greatest_count h c ms + length es = subst (λ x. greatest_count h x ns ≡ greatest_count h x ms + length es) one k.more in
+                  let count : greatest_count h c ns ≡ greatest_count h c ms + length es =
+                  subst (λ x. greatest_count h x ns ≡ greatest_count h x ms + length es) one k.more in
                   let was = w.received in
                   omega (arith, count, was, length-append rest es);
             }
@@ -235,7 +246,9 @@ or_cases true u e = inl refl
 or_cases false u e = inr e
 
 -- an entry goes ahead of others, in a queue that is as all are
-module _ (ms : List Message) (h : HandlerId) (old new : List Mark) (grows : MarksGrow old new) (c : Block) (ran : List Entry) (e : Entry) (es : List Entry) (q : QueueState) where
+module _
+    (ms : List Message) (h : HandlerId) (old new : List Mark) (grows : MarksGrow old new) (c : Block) (ran : List Entry) (e : Entry) (es : List Entry)
+    (q : QueueState) where
   abbrev before : Slot
   before = slot_of c ran (e ∷ es) (Some q)
 
@@ -285,7 +298,8 @@ module _ (ms : List Message) (h : HandlerId) (old new : List Mark) (grows : Mark
         by_gone false goes none = absurd (cc)
 
 run_whole :
-    (ms : List Message) (h : HandlerId) (old new : List Mark) → MarksGrow old new → (t : Slot) (q : QueueState) → t.state ≡ Some q → IsQueue (slot_queue t q) → HasMark old (slot_queue t q) → SlotWhole ms h old t
+    (ms : List Message) (h : HandlerId) (old new : List Mark) → MarksGrow old new → (t : Slot) (q : QueueState) → t.state ≡ Some q → IsQueue (slot_queue t q)
+    → HasMark old (slot_queue t q) → SlotWhole ms h old t
     → SlotWhole ms h new (run_rest t q t.rest)
 run_whole ms h old new grows t q is sound has w = at t.block t.ran t.rest t.state is sound has w
   where
@@ -298,7 +312,8 @@ run_whole ms h old new grows t q is sound has w = at t.block t.ran t.rest t.stat
         runs_whole ms h old new grows c ran e es q sound has (subst (λ (p : Option QueueState). SlotWhole ms h old (slot_of c ran (e ∷ es) p)) is w) (goes_with q e es) refl
 
 pub slots_run_whole :
-    (ms : List Message) (h : HandlerId) (marks : List Mark) (r : Ran) (ss : List Slot) → AllByRecursion IsQueue (queues_of ss) → AllByRecursion (HasMark marks) (queues_of ss)
+    (ms : List Message) (h : HandlerId) (marks : List Mark) (r : Ran) (ss : List Slot) → AllByRecursion IsQueue (queues_of ss)
+    → AllByRecursion (HasMark marks) (queues_of ss)
     → AllByRecursion (SlotWhole ms h marks) ss → AllByRecursion (SlotWhole ms h (map (mark_after r) marks)) (slots_run ss)
 slots_run_whole ms h marks r ss sound marked all =
     let new : List Mark = map (mark_after r) marks in

@@ -1,4 +1,6 @@
--- Every event keeps what is so of the sites, and it is so of a world that opens.
+-- Every event keeps what is so of the sites, and it is so of a world that opens. Of each site the slots are kept up with:
+-- hearing and running change them as they change the private queues (`Tape`), the marks as the table says (`Marks`), and
+-- what was told of counts as the replies say (`Sent`). Other sites stay, as no other handler speaks for them.
 use Rattle.std.proofs.Common.{◌≡◌, ℕ, ◌==◌, ◌<◌, Bool, true, false, true≢false, List, [], ◌∷◌, map, Option, Some, None, refl, sym, ap, ◌∙◌, subst, arith}
 use Rattle.std.specs.Prelude.{if◌then◌else◌}
 use Rattle.std.specs.List.{AllByRecursion}
@@ -78,7 +80,9 @@ due_goes c h m e = due_row_goes c h (due c h) (due_row c h) m e
 -- ---- sites
 
 -- one site changes, and the others are of other handlers
-all_set_others : (P Q : Site → Type 0) (s : Site) (sites : List Site) → Q s → ((x : Site) → is_site (number_of s) x ≡ false → P x → Q x) → AllByRecursion P sites → AllByRecursion Q (set_site s sites)
+all_set_others :
+    (P Q : Site → Type 0) (s : Site) (sites : List Site) → Q s → ((x : Site) → is_site (number_of s) x ≡ false → P x → Q x) → AllByRecursion P sites
+    → AllByRecursion Q (set_site s sites)
 all_set_others P Q s [] own others all = tt
 all_set_others P Q s (x ∷ xs) own others all = (
   by_test (λ t. is_site (number_of s) x ≡ t → Q (if t then s else x)) (is_site (number_of s) x) (λ _ here. own) (λ _ there. others x there all.0) refl,
@@ -94,7 +98,9 @@ same_sites v w told logged sites all = all_more_of (SiteTaped v) (SiteTaped w) (
 
 -- ---- a handler hears
 
-module _ (w : World) (sound : Sound w) (logged : Logging w) (i : Taped w) (k : ℕ) (m : Message) (s : Site) (was : sent_at k w ≡ Some m) (here : site_of (handler_of m) w ≡ Some s) where
+module _
+    (w : World) (sound : Sound w) (logged : Logging w) (i : Taped w) (k : ℕ) (m : Message) (s : Site) (was : sent_at k w ≡ Some m)
+    (here : site_of (handler_of m) w ≡ Some s) where
   abbrev now : Hearing
   now = hear s.core.state m
 
@@ -180,10 +186,13 @@ anew_taped : (w : World) (n : ℕ) (s : Site) → s.stored ≡ s.core.state → 
 anew_taped w n s stored f =
     let v : World = reopened_world w n in
     by_test (λ t. SiteTaped v (if t then record s { core = core_of s.core.class s.stored false } else s)) (s.node == n)
-    (λ here. subst (λ (x : HandlerState). SiteTaped v (record s { core = core_of s.core.class x false })) (sym stored) (record { told = f.told; slots = f.slots; tape = f.tape; whole = f.whole }))
+    (λ here.
+    subst (λ (x : HandlerState). SiteTaped v (record s { core = core_of s.core.class x false })) (sym stored) (record { told = f.told; slots = f.slots; tape = f.tape; whole = f.whole }))
     (λ there. same_site w v refl refl s f)
 
-all_anew : (w : World) (n : ℕ) (sites : List Site) → AllByRecursion (SiteFits w.joint) sites → AllByRecursion (SiteTaped w) sites → AllByRecursion (SiteTaped (reopened_world w n)) (map (reopened n) sites)
+all_anew :
+    (w : World) (n : ℕ) (sites : List Site) → AllByRecursion (SiteFits w.joint) sites → AllByRecursion (SiteTaped w) sites
+    → AllByRecursion (SiteTaped (reopened_world w n)) (map (reopened n) sites)
 all_anew w n [] fits all = tt
 all_anew w n (s ∷ ss) fits all = (anew_taped w n s fits.0.stored all.0, all_anew w n ss fits.1 all.1)
 
@@ -192,10 +201,12 @@ all_anew w n (s ∷ ss) fits all = (anew_taped w n s fits.0.stored all.0, all_an
 pub taped_kept : (w : World) → Ordered w → Sound w → Logging w → Taped w → Changes Taped w
 taped_kept w o sound logged i = record {
   commands = λ c p x d at is.
-      all_more_of (SiteTaped w) (SiteTaped (commanded_world w p x d)) (λ s. site_more w (commanded_world w p x d) s (alike_same (number_of s) w.sent) (commanded_grown w p x d)) w.sites i;
+      all_more_of (SiteTaped w) (SiteTaped (commanded_world w p x d))
+      (λ s. site_more w (commanded_world w p x d) s (alike_same (number_of s) w.sent) (commanded_grown w p x d)) w.sites i;
   sends = λ c p h s at here.
       let v : World = with_sent w (due p.client h) in
-      all_more_of (SiteTaped w) (SiteTaped v) (λ x. site_more w v x (alike_from_client (number_of x) w.sent (due p.client h) (due_goes p.client h)) (grown_same w v refl)) w.sites i;
+      all_more_of (SiteTaped w) (SiteTaped v)
+      (λ x. site_more w v x (alike_from_client (number_of x) w.sent (due p.client h) (due_goes p.client h)) (grown_same w v refl)) w.sites i;
   hears = λ k m s was goes here. hears_taped w sound logged i k m s was here;
   notices = λ k m p was goes at. same_sites w (with_party w (heard_party p (heard p.client m))) refl refl w.sites i;
   begins = λ h s t here is. begins_taped w sound i h s here;

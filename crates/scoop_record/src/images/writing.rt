@@ -108,7 +108,7 @@ fn put_mark<A: Allocator>(out: &mut Vec<u8, A>, mark: &Mark) -> Result<(), OutOf
     put_kept(out, mark.kept)
 }
 
-// The marks are those of a state, so there are at most 64.
+// The marks are those of a state, so there are at most `MAX_CLIENTS`.
 fn put_marks<A: Allocator, B: Allocator>(
     out: &mut Vec<u8, A>,
     state: &HandlerState<B>,

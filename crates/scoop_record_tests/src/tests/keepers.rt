@@ -230,3 +230,23 @@ fn what_is_no_incarnation_is_the_last_one(rt: HostRuntime) -> Result<(), Fail> {
     assert_eq!(rt; next_behind(rt.alloc(), -1)?, spent);
     Ok(())
 }
+
+// The example of the crate's root doc.
+#[test]
+fn keeps_over_a_restart_as_in_the_doc(rt: HostRuntime) -> Result<(), Fail> {
+    let alloc = rt.alloc();
+    let state = waiting(alloc, 5)?;
+
+    let conn = Connection::open_in_memory(alloc)?;
+    let mut store = Store::create(alloc, conn)?;
+    store.put_handler(&state)?;
+    assert_eq!(rt; store.next_incarnation(ClientId(7))?, 1);
+
+    // A restart: all that stays is the database.
+    let conn = store.into_connection();
+    let mut store = Store::adopt(alloc, conn)?;
+    let found = store.load_handler(HandlerId(1))?.ok_or("a state")?;
+    assert!(rt; found.same(&state));
+    assert_eq!(rt; store.next_incarnation(ClientId(7))?, 2);
+    Ok(())
+}

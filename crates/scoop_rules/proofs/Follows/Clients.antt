@@ -61,18 +61,23 @@ module _ (w : World) (c : ClientId) (p q : Party) (at : party_of c w ≡ Some p)
 
 -- ---- a notice, and a restart
 
-pub party_same : (w : World) (c : ClientId) (p q : Party) → party_of c w ≡ Some p → id_of q ≡ id_of p → q.client.inc ≡ p.client.inc → configuration_of w ≡ configuration_of (with_party w q)
-party_same w c p q at own same = same_configuration (configuration_of w) (configuration_of (with_party w q)) (λ h. refl) (λ h. refl) refl (inc_same w c p q at own same)
+pub party_same :
+    (w : World) (c : ClientId) (p q : Party) → party_of c w ≡ Some p → id_of q ≡ id_of p → q.client.inc ≡ p.client.inc
+    → configuration_of w ≡ configuration_of (with_party w q)
+party_same w c p q at own same =
+    same_configuration (configuration_of w) (configuration_of (with_party w q)) (λ h. refl) (λ h. refl) refl (inc_same w c p q at own same)
 
 pub notice_same :
     (w : World) (o : Ordered w) (i : ℕ) (m : Message) (p : Party) → sent_at i w ≡ Some m → party_of (client_of m) w ≡ Some p
     → configuration_of w ≡ configuration_of (with_party w (heard_party p (heard p.client m)))
 notice_same w o i m p was at =
-    let kept = keeps_row w p.client (all_found (PartyFits w) (is_party (client_of m)) w.parties p o.parties at).reservation m (heard p.client m).0 (heard p.client m).1 (heard_row p.client m) (sent_tells w i m was o.messages) in
+    let kept =
+    keeps_row w p.client (all_found (PartyFits w) (is_party (client_of m)) w.parties p o.parties at).reservation m (heard p.client m).0 (heard p.client m).1 (heard_row p.client m) (sent_tells w i m was o.messages) in
     party_same w (client_of m) p (heard_party p (heard p.client m)) at kept.id kept.inc
 
 pub restart_follows :
-    (w : World) (o : Ordered w) (g : Objects) (c : ClientId) (p : Party) → party_of c w ≡ Some p → MovesLead g (configuration_of w) (Restart c ∷ []) (configuration_of (with_party w (restarted_party p)))
+    (w : World) (o : Ordered w) (g : Objects) (c : ClientId) (p : Party) → party_of c w ≡ Some p
+    → MovesLead g (configuration_of w) (Restart c ∷ []) (configuration_of (with_party w (restarted_party p)))
 restart_follows w o g c p at =
     let q : Party = restarted_party p in
     let stored = (all_found (PartyFits w) (is_party c) w.parties p o.parties at).stored in (
@@ -84,18 +89,22 @@ restart_follows w o g c p at =
 -- ---- a reserve, and a block given up
 
 -- a block of the common list was reserved before, and keeps its handlers
-pub same_set : (w : World) (o : Ordered w) (p : Party) (x : Command) (d : ClientState) (b : Block) → has_block w.joint b ≡ true → set_of b w ≡ set_of b (commanded_world w p x d)
+pub same_set :
+    (w : World) (o : Ordered w) (p : Party) (x : Command) (d : ClientState) (b : Block) → has_block w.joint b ≡ true
+    → set_of b w ≡ set_of b (commanded_world w p x d)
 same_set w o p x d b m =
     let all = o.joint b m in
     ap (λ (q : Option (List HandlerId)). unwrap_or q []) (all.set ∙ sym (handlers_after x (newest_block d) b w.logs all.handlers all.set))
 
 pub reserve_same :
-    (w : World) (o : Ordered w) (c : ClientId) (p : Party) (hs : List HandlerId) (d : ClientState) → party_of c w ≡ Some p → command p.client (core_command (Reserve hs)) ≡ Ok d
+    (w : World) (o : Ordered w) (c : ClientId) (p : Party) (hs : List HandlerId) (d : ClientState) → party_of c w ≡ Some p
+    → command p.client (core_command (Reserve hs)) ≡ Ok d
     → configuration_of w ≡ configuration_of (commanded_world w p (Reserve hs) d)
 reserve_same w o c p hs d at is =
     let fits = all_found (PartyFits w) (is_party c) w.parties p o.parties at in
     let g = goes_on w p (Reserve hs) d is fits in
-    same_configuration (configuration_of w) (configuration_of then_world) (λ h. queues_same (queue_at w h) (queue_at then_world h) w.joint (same_queue h)) (λ h. refl) refl
+    same_configuration (configuration_of w) (configuration_of then_world) (λ h. queues_same (queue_at w h) (queue_at then_world h) w.joint (same_queue h))
+    (λ h. refl) refl
     (inc_same w c p (record p { client = d }) at g.id g.inc)
   where
     then_world : World

@@ -1,4 +1,6 @@
--- What a client's command does follows the rules: each entry that it logs is logged in the queues of the rules.
+-- What a client's command does follows the rules: each entry that it logs is logged in the queues of the rules. The block
+-- has opened at all of its handlers, so each has a queue for it, which is open since no End is logged and its client has
+-- greeted in no newer incarnation; and no query of it waits. An End is one move at each handler, one after another.
 use Rattle.std.proofs.Common.{◌≡◌, ◌⊎◌, inl, inr, ◌<◌, true, false, ◌&&◌, ◌||◌, true≢false, List, [], ◌∷◌, ◌++◌, length, map, flat_map, find, Option, Some, None, refl, sym, ap, ◌∙◌, subst, ⊎_elim, arith, length-append, append-nil}
 use Rattle.std.specs.Prelude.{if◌then◌else◌, unwrap_or, Ok}
 use Rattle.std.specs.Option.{option_map_or}
@@ -43,7 +45,8 @@ use Rattle.scoop_rules.proofs.Follows.Clients.{same_set, inc_same, reserve_same,
 -- ---- lines of handlers
 
 -- a handler of some lines has one of them
-line_there : (h : HandlerId) (ls : List HandlerLog) → has (map (λ (y : HandlerLog). y.handler) ls) h ≡ true → (m : HandlerLog) × (find (is_line_of h) ls ≡ Some m)
+line_there :
+    (h : HandlerId) (ls : List HandlerLog) → has (map (λ (y : HandlerLog). y.handler) ls) h ≡ true → (m : HandlerLog) × (find (is_line_of h) ls ≡ Some m)
 line_there h [] e = absurd (true≢false (sym e))
 line_there h (l ∷ ls) e =
     by_test (λ t. (t || has (map (λ (y : HandlerLog). y.handler) ls) h) ≡ true → (m : HandlerLog) × ((if t then Some l else find (is_line_of h) ls) ≡ Some m)) (is_line_of h l)
@@ -169,7 +172,9 @@ module _
       takes_more = open_among b (queue_at w h) w.joint (in_joint h m) its_queue
 
     -- a queue stays where its block's log does, or where its block doesn't name the handler
-    queue_stays : (h : HandlerId) (y : Block) → has_block w.joint y ≡ true → (log_of y h after ≡ log_of y h w) ⊎ (has (set_of y w) h ≡ false) → queue_at after h y ≡ queue_at w h y
+    queue_stays :
+        (h : HandlerId) (y : Block) → has_block w.joint y ≡ true → (log_of y h after ≡ log_of y h w) ⊎ (has (set_of y w) h ≡ false)
+        → queue_at after h y ≡ queue_at w h y
     queue_stays h y my why = ⊎_elim
         (λ (log : log_of y h after ≡ log_of y h w).
         λ i. if has (sym (same_set w f.ordered p x d y my) i) h then queue_of y (record (seen y h w) { logged = log i }) else [])
@@ -181,14 +186,17 @@ module _
     other_than : (y : Block) → same_block y b ≡ false → b ≡ y → ⊥
     other_than y other e = true≢false (sym (ap (λ z. same_block z b) (sym e) ∙ same_block_itself b) ∙ other)
 
-    queues_logged : (h : HandlerId) → has (set_of b w) h ≡ true → (e : Entry) → added x h ≡ e ∷ [] → map (logged_to b e) (flat_map (queue_at w h) w.joint) ≡ flat_map (queue_at after h) w.joint
+    queues_logged :
+        (h : HandlerId) → has (set_of b w) h ≡ true → (e : Entry) → added x h ≡ e ∷ []
+        → map (logged_to b e) (flat_map (queue_at w h) w.joint) ≡ flat_map (queue_at after h) w.joint
     queues_logged h m e adds =
         logged_over b e (queue_at w h) w.joint
         ∙ queues_same (λ y. map (logged_to b e) (queue_at w h y)) (queue_at after h) w.joint
         (λ y my.
         by_test (λ t. same_block y b ≡ t → map (logged_to b e) (queue_at w h y) ≡ queue_at after h y) (same_block y b)
         (λ _ own. subst (λ z. map (logged_to b e) (queue_at w h z) ≡ queue_at after h z) (sym (same_block_is y b own)) (sym (queue_here h m e adds)))
-        (λ _ other. logged_other b y e (queue_at w h y) other (own_queue_at w h y) ∙ sym (queue_stays h y my (inl (log_stays y h (inl (other_than y other)))))) refl)
+        (λ _ other.
+        logged_other b y e (queue_at w h y) other (own_queue_at w h y) ∙ sym (queue_stays h y my (inl (log_stays y h (inl (other_than y other)))))) refl)
 
     queues_stay : (h : HandlerId) → (has (set_of b w) h ≡ false) ⊎ (added x h ≡ []) → flat_map (queue_at w h) w.joint ≡ flat_map (queue_at after h) w.joint
     queues_stay h why =
@@ -204,7 +212,8 @@ module _
     -- the entry goes to these handlers, and to no others
     pub all_logged :
         (hs : List HandlerId) (e : Entry) → ((h : HandlerId) → has hs h ≡ true → (has (set_of b w) h ≡ true) × (added x h ≡ e ∷ []))
-        → ((h : HandlerId) → has hs h ≡ false → (has (set_of b w) h ≡ false) ⊎ (added x h ≡ [])) → logged_at_all b e hs (configuration_of w) ≡ configuration_of after
+        → ((h : HandlerId) → has hs h ≡ false → (has (set_of b w) h ≡ false) ⊎ (added x h ≡ []))
+        → logged_at_all b e hs (configuration_of w) ≡ configuration_of after
     all_logged hs e there off =
         same_configuration (logged_at_all b e hs (configuration_of w)) (configuration_of after)
         (λ h.
@@ -235,7 +244,10 @@ module _
         here h so = adds h ∙ ap (λ t. if t then e ∷ [] else []) so
 
         one_of : (h : HandlerId) → has (k ∷ []) h ≡ true → k ≡ h
-        one_of h there = by_test (λ t. same_handler k h ≡ t → (t || false) ≡ true → k ≡ h) (same_handler k h) (λ _ so g. (handler_decides k h).0 so) (λ _ so g. absurd (true≢false (sym g))) refl there
+        one_of h there =
+            by_test (λ t. same_handler k h ≡ t → (t || false) ≡ true → k ≡ h) (same_handler k h)
+            (λ _ so g. (handler_decides k h).0 so)
+            (λ _ so g. absurd (true≢false (sym g))) refl there
 
         elsewhere : (h : HandlerId) → has (k ∷ []) h ≡ false → same_handler h k ≡ false
         elsewhere h off =
@@ -243,7 +255,9 @@ module _
             (λ _ so. absurd (true≢false (sym (ap (λ y. has (k ∷ []) y) ((handler_decides h k).0 so) ∙ ap (λ t. t || false) (itself k)) ∙ off)))
             (λ _ so. refl) refl
 
-    pub end_leads : ((h : HandlerId) → added x h ≡ EndEntry ∷ []) → MovesLead (objects_of w) (configuration_of w) (map (λ h. LogOne b h EndEntry) (set_of b w)) (configuration_of after)
+    pub end_leads :
+        ((h : HandlerId) → added x h ≡ EndEntry ∷ [])
+        → MovesLead (objects_of w) (configuration_of w) (map (λ h. LogOne b h EndEntry) (set_of b w)) (configuration_of after)
     end_leads adds =
         subst (λ g. MovesLead (objects_of w) (configuration_of w) (map (λ h. LogOne b h EndEntry) (set_of b w)) g)
         (all_logged (set_of b w) EndEntry (λ h m. (m, adds h)) (λ h off. inl off))

@@ -35,7 +35,9 @@ FollowsTo w e (Ok r) = Follows w e r.0 r.1
 FollowsTo w e (Err x) = ⊤
 
 module _ (w : World) (f : Following w) where
-  commanded_follows : (c : ClientId) (p : Party) (x : Command) (o : Outcome) → party_of c w ≡ Some p → command p.client (core_command x) ≡ o → FollowsTo w (Do c x) (commanded w p x o)
+  commanded_follows :
+      (c : ClientId) (p : Party) (x : Command) (o : Outcome) → party_of c w ≡ Some p → command p.client (core_command x) ≡ o
+      → FollowsTo w (Do c x) (commanded w p x o)
   commanded_follows c p x (Err e) at is = tt
   commanded_follows c p x (Ok d) at is =
       subst (λ q. MovesLead (objects_of w) (configuration_of w) (client_moves w x q) (configuration_of (commanded_world w p x d))) (sym at) (command_follows w f c p at d x is)
@@ -48,7 +50,8 @@ module _ (w : World) (f : Following w) where
   tick_follows : (c : ClientId) (h : HandlerId) (o : Option Party) (t : Option Site) → FollowsTo w (Tick c h) (tick_at w h o t)
   tick_follows c h None t = tt
   tick_follows c h (Some p) None = tt
-  tick_follows c h (Some p) (Some s) = quiet_same w w.sites (due p.client h) (λ j. refl) (λ m e. plain_quiet w.sent m (request_plain m (due_goes p.client h m e)))
+  tick_follows c h (Some p) (Some s) =
+      quiet_same w w.sites (due p.client h) (λ j. refl) (λ m e. plain_quiet w.sent m (request_plain m (due_goes p.client h m e)))
 
   hear_follows : (i : ℕ) (m : Message) (o : Option Site) → sent_at i w ≡ Some m → site_of (handler_of m) w ≡ o → FollowsTo w (Take i) (taken_by_handler w m o)
   hear_follows i m None was here = tt

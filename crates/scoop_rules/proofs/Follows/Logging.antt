@@ -29,7 +29,10 @@ same_turned : (h x : HandlerId) → same_handler h x ≡ same_handler x h
 same_turned h x =
     by_test (λ t. same_handler x h ≡ t → same_handler h x ≡ t) (same_handler x h)
     (λ _ is. (handler_decides h x).1 (sym ((handler_decides x h).0 is)))
-    (λ _ is. by_test (λ u. same_handler h x ≡ u → u ≡ false) (same_handler h x) (λ _ also. absurd (true≢false (sym ((handler_decides x h).1 (sym ((handler_decides h x).0 also))) ∙ is))) (λ _ also. refl) refl) refl
+    (λ _ is.
+    by_test (λ u. same_handler h x ≡ u → u ≡ false) (same_handler h x)
+    (λ _ also. absurd (true≢false (sym ((handler_decides x h).1 (sym ((handler_decides h x).0 also))) ∙ is)))
+    (λ _ also. refl) refl) refl
 
 abbrev with_one_more : Entry → Waiting → Waiting
 with_one_more e q = record { block = q.block; entries = q.entries ++ e ∷ []; state = if is_end e then Ended else q.state }
@@ -54,14 +57,17 @@ waits_logged b e no_query (q ∷ qs) = λ i. one i || waits_logged b e no_query 
 
 module _ (o : Objects) (b : Block) (e : Entry) (no_query : is_query e ≡ false) where
   pub logs_lead :
-      (hs : List HandlerId) → AreDistinct hs → (g : Configuration) → g.inc b.client ≡ b.inc → ((h : HandlerId) → has hs h ≡ true → has_open b (g.queues h) ≡ true)
+      (hs : List HandlerId) → AreDistinct hs → (g : Configuration) → g.inc b.client ≡ b.inc
+      → ((h : HandlerId) → has hs h ≡ true → has_open b (g.queues h) ≡ true)
       → ((x : HandlerId) → waits b (g.queues x) ≡ false) → MovesLead o g (map (λ h. LogOne b h e) hs) (logged_at_all b e hs g)
   logs_lead [] apart g inc there none = refl
   logs_lead (h ∷ hs) apart g inc there none = (
     (inc, there h (ap (λ t. t || has hs h) ((handler_decides h h).1 refl)), none),
     subst (λ k. MovesLead o (log_one b h e g) (map (λ x. LogOne b x e) hs) k) ends
         (logs_lead hs apart.1 (log_one b h e g) inc still_there
-        (λ x. by_test (λ t. waits b (if t then map (logged_to b e) (g.queues h) else g.queues x) ≡ false) (same_handler x h) (λ here. waits_logged b e no_query (g.queues h) ∙ none h) (λ off. none x))),
+        (λ x.
+        by_test (λ t. waits b (if t then map (logged_to b e) (g.queues h) else g.queues x) ≡ false) (same_handler x h)
+        (λ here. waits_logged b e no_query (g.queues h) ∙ none h) (λ off. none x))),
   )
     where
       still_there : (x : HandlerId) → has hs x ≡ true → has_open b ((log_one b h e g).queues x) ≡ true

@@ -20,7 +20,8 @@ following w f asked sets = record {
   clients = λ c p at. record {
     opened = λ r held is_there h m. (
         let all = running_opened w f.ordered f.logging f.openings c p at r held is_there in
-        let named : handlers_of r.block w ≡ Some r.handlers = ((all_found (PartyFits w) (is_party c) w.parties p f.ordered.parties at).reservation r held).named in
+        let named : handlers_of r.block w ≡ Some r.handlers =
+        ((all_found (PartyFits w) (is_party c) w.parties p f.ordered.parties at).reservation r held).named in
         all.opened h (subst (λ hs. has hs h ≡ true) (same_Some r.handlers all.handlers (sym named ∙ all.set)) m));
     asked = λ r held free h. none_waits w asked c p r at held free h;
   };

@@ -40,19 +40,25 @@ leads_replayed o g end (m ∷ ms) l = leads_replayed o (moved o m g) end ms l.1
 
 -- ---- the objects stay
 
-same_objects : (v w : World) → ((h : HandlerId) → (objects_of v).class h ≡ (objects_of w).class h) → ((h : HandlerId) → (objects_of v).words h ≡ (objects_of w).words h) → objects_of v ≡ objects_of w
+same_objects :
+    (v w : World) → ((h : HandlerId) → (objects_of v).class h ≡ (objects_of w).class h) → ((h : HandlerId) → (objects_of v).words h ≡ (objects_of w).words h)
+    → objects_of v ≡ objects_of w
 same_objects v w class words = λ i. record { class = λ h. class h i; words = λ h. words h i }
 
 site_objects :
-    (w : World) (s old : Site) → site_of (number_of s) w ≡ Some old → s.core.class ≡ old.core.class → s.placed ≡ old.placed → objects_of (record w { sites = set_site s w.sites }) ≡ objects_of w
+    (w : World) (s old : Site) → site_of (number_of s) w ≡ Some old → s.core.class ≡ old.core.class → s.placed ≡ old.placed
+    → objects_of (record w { sites = set_site s w.sites }) ≡ objects_of w
 site_objects w s old here class placed =
     same_objects (record w { sites = set_site s w.sites }) w (set_same (λ (x : Site). x.core.class) no_class w s old here class) (set_same (λ (x : Site). x.placed) [] w s old here placed)
 
 class_kept : (n : ℕ) (s : Site) → (reopened n s).core.class ≡ s.core.class
-class_kept n s = by_test (λ t. (if t then record s { core = core_of s.core.class s.stored false } else s).core.class ≡ s.core.class) (s.node == n) (λ here. refl) (λ there. refl)
+class_kept n s =
+    by_test (λ t. (if t then record s { core = core_of s.core.class s.stored false } else s).core.class ≡ s.core.class) (s.node == n) (λ here. refl)
+    (λ there. refl)
 
 placed_kept : (n : ℕ) (s : Site) → (reopened n s).placed ≡ s.placed
-placed_kept n s = by_test (λ t. (if t then record s { core = core_of s.core.class s.stored false } else s).placed ≡ s.placed) (s.node == n) (λ here. refl) (λ there. refl)
+placed_kept n s =
+    by_test (λ t. (if t then record s { core = core_of s.core.class s.stored false } else s).placed ≡ s.placed) (s.node == n) (λ here. refl) (λ there. refl)
 
 abbrev HasObjects : Objects → World → Type 0
 HasObjects o w = objects_of w ≡ o
@@ -80,7 +86,8 @@ objects_kept o w ordered i = record {
 
 module _ (o : Objects) where
   after_one :
-      (n : ℕ) (w : World) (e : Event) (es : List Event) → HasObjects o w → ((v : World) → Kept v → HasObjects o v → MovesLead o (configuration_of v) (moves_in v es) (configuration_of (run_after (n + 1) v es).0))
+      (n : ℕ) (w : World) (e : Event) (es : List Event) → HasObjects o w
+      → ((v : World) → Kept v → HasObjects o v → MovesLead o (configuration_of v) (moves_in v es) (configuration_of (run_after (n + 1) v es).0))
       → (s : Stepped) → FollowsTo w e s → events.Kept Kept s → events.Kept (HasObjects o) s
       → MovesLead o (configuration_of w) (elim s [ Ok r ↦ moves_of w r.0 e r.1 ++ moves_in r.0 es | Err x ↦ [] ]) (configuration_of (next n w (λ v. run_after (n + 1) v es) s).0)
   after_one n w e es same later (Ok r) follows kept objects =
@@ -89,10 +96,13 @@ module _ (o : Objects) where
       (later r.0 kept objects)
   after_one n w e es same later (Err x) follows kept objects = refl
 
-  pub events_lead : (n : ℕ) (w : World) (es : List Event) → Kept w → HasObjects o w → MovesLead o (configuration_of w) (moves_in w es) (configuration_of (run_after n w es).0)
+  pub events_lead :
+      (n : ℕ) (w : World) (es : List Event) → Kept w → HasObjects o w
+      → MovesLead o (configuration_of w) (moves_in w es) (configuration_of (run_after n w es).0)
   events_lead n w [] kept same = refl
   events_lead n w (e ∷ es) kept same =
-      after_one n w e es same (λ v k s. events_lead (n + 1) v es k s) (step w e) (event_follows w (kept_following w kept) e) (events.event_kept Kept w (all_kept w kept) e)
+      after_one n w e es same
+      (λ v k s. events_lead (n + 1) v es k s) (step w e) (event_follows w (kept_following w kept) e) (events.event_kept Kept w (all_kept w kept) e)
       (events.event_kept (HasObjects o) w (objects_kept o w (kept_following w kept).ordered same) e)
 
 -- so it goes on from a reached world, where events lead to another
@@ -111,7 +121,8 @@ none_ran h (p ∷ ps) =
 
 -- an opening world stands for the configuration in which nothing was reserved and nothing has run
 pub opens_empty : (ps : List Placement) (ns : List Newcomer) → configuration_of (opening ps ns) ≡ empty_configuration (inc_of (opening ps ns))
-opens_empty ps ns = same_configuration (configuration_of (opening ps ns)) (empty_configuration (inc_of (opening ps ns))) (λ h. refl) (λ h. none_ran h ps) refl (λ c. refl)
+opens_empty ps ns =
+    same_configuration (configuration_of (opening ps ns)) (empty_configuration (inc_of (opening ps ns))) (λ h. refl) (λ h. none_ran h ps) refl (λ c. refl)
 
 pub runs_by_rules : (ps : List Placement) (ns : List Newcomer) (es : List Event) → MayOpen ps ns → RunsByRules (opening ps ns) es (steps (opening ps ns) es)
 runs_by_rules ps ns es may =
@@ -121,4 +132,5 @@ runs_by_rules ps ns es may =
 -- the moves of the events, played one after another, make what the world stands for
 pub replays : (ps : List Placement) (ns : List Newcomer) (es : List Event) → MayOpen ps ns
     → replayed (objects_of (opening ps ns)) (moves_in (opening ps ns) es) (empty_configuration (inc_of (opening ps ns))) ≡ configuration_of (steps (opening ps ns) es)
-replays ps ns es may = leads_replayed (objects_of (opening ps ns)) (empty_configuration (inc_of (opening ps ns))) (configuration_of (steps (opening ps ns) es)) (moves_in (opening ps ns) es) (runs_by_rules ps ns es may)
+replays ps ns es may =
+    leads_replayed (objects_of (opening ps ns)) (empty_configuration (inc_of (opening ps ns))) (configuration_of (steps (opening ps ns) es)) (moves_in (opening ps ns) es) (runs_by_rules ps ns es may)

@@ -59,7 +59,9 @@ none_repeated before (h ∷ hs) e =
         (λ _ so. absurd (true≢false (sym m ∙ ap (has before) (sym ((handler_decides h x).0 so)) ∙ is)))
         (λ _ so. rest) refl
 
-distinct_unless : (b : Block) (hs known : List HandlerId) (s : ReservationState) (o : Option HandlerId) → first_repeated hs ≡ o → unless_repeated (fresh b hs) o (first_unknown known hs) ≡ Ok s → AreDistinct hs
+distinct_unless :
+    (b : Block) (hs known : List HandlerId) (s : ReservationState) (o : Option HandlerId) → first_repeated hs ≡ o
+    → unless_repeated (fresh b hs) o (first_unknown known hs) ≡ Ok s → AreDistinct hs
 distinct_unless b hs known s None is e = (none_repeated [] hs is).0
 distinct_unless b hs known s (Some h) is e = absurd (cc)
 
@@ -82,11 +84,13 @@ module _ (w : World) (i : Sets w) (p : Party) (d : ClientState) (fits : PartyFit
   reserve_sets : (ks : List HandlerId) (o : client.Outcome) → ReserveRow p.client ks o → o ≡ Ok d → Sets (commanded_world w p (Reserve ks) d)
   reserve_sets ks o (begins_block r idle room begins) done b hs e =
       let new : client.next_block p.client ≡ newest_block d = ap newest_block (ok_is (client.with_block p.client ks r) d done) in
-      let none : handlers_of (newest_block d) w ≡ None = subst (λ y. handlers_of y w ≡ None) new (next_is_new w p fits (handlers_of (client.next_block p.client) w) refl) in
+      let none : handlers_of (newest_block d) w ≡ None =
+      subst (λ y. handlers_of y w ≡ None) new (next_is_new w p fits (handlers_of (client.next_block p.client) w) refl) in
       ⊎_elim
       (λ (old : handlers_of b w ≡ Some hs). i b hs old)
       (λ (own : newest_block d ≡ b).
-      let named : Some ks ≡ Some hs = sym (handlers_fresh (newest_block d) ks w.logs none) ∙ ap (λ y. handlers_of y (commanded_world w p (Reserve ks) d)) own ∙ e in
+      let named : Some ks ≡ Some hs =
+      sym (handlers_fresh (newest_block d) ks w.logs none) ∙ ap (λ y. handlers_of y (commanded_world w p (Reserve ks) d)) own ∙ e in
       let same : ks ≡ hs = cc in
       subst AreDistinct same (started_distinct (client.next_block p.client) ks p.client.handlers r begins))
       (handlers_before (Reserve ks) (newest_block d) b w.logs hs e)
@@ -95,7 +99,8 @@ module _ (w : World) (i : Sets w) (p : Party) (d : ClientState) (fits : PartyFit
   commands_sets : (x : Command) → client.command p.client (core_command x) ≡ Ok d → Sets (commanded_world w p x d)
   commands_sets (Reserve ks) is = reserve_sets ks _ (command_row p.client (core_command (Reserve ks))) is
   commands_sets (Call h r) is = λ b hs e. i b hs (sym (found_changed b (newest_block d) (with_entry_at h (CallEntry r)) (leaves_at h (CallEntry r)) w.logs) ∙ e)
-  commands_sets (Query h r) is = λ b hs e. i b hs (sym (found_changed b (newest_block d) (with_entry_at h (QueryEntry r)) (leaves_at h (QueryEntry r)) w.logs) ∙ e)
+  commands_sets (Query h r) is =
+      λ b hs e. i b hs (sym (found_changed b (newest_block d) (with_entry_at h (QueryEntry r)) (leaves_at h (QueryEntry r)) w.logs) ∙ e)
   commands_sets End is = λ b hs e. i b hs (sym (found_changed b (newest_block d) (with_entry EndEntry) (λ l. refl) w.logs) ∙ e)
   commands_sets GiveUp is = λ b hs e. i b hs e
 

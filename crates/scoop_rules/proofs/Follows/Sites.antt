@@ -1,28 +1,23 @@
 -- What stays of each handler where one site goes on, or a node restarts; where the same has run, so does the
 -- configuration.
-use Rattle.std.proofs.Common.{◌≡◌, ℕ, ◌==◌, false, List, [], ◌∷◌, map, find, Option, Some, refl, sym, ap, ◌∙◌, subst}
+use Rattle.std.proofs.Common.{◌≡◌, ℕ, ◌==◌, false, List, [], map, Some, refl, sym}
 use Rattle.std.specs.Prelude.{if◌then◌else◌}
-use Rattle.std.specs.List.{AllByRecursion}
-use Rattle.std.specs.Option.{option_map_or}
 use Rattle.scoop_message.specs.declared.name.HandlerId.{HandlerId}
-use Rattle.scoop_message.specs.Message.{same_handler}
 use Rattle.scoop_reserve.specs.Handlers.{has}
 use Rattle.scoop_handler.specs.Core.{core_of}
-use Rattle.scoop_handler.specs.State.{HandlerState}
-use Rattle.scoop_model.specs.World.{World, Site, number_of, is_site, site_of, set_site, ran_at, set_of, log_of, is_succeeded, received}
+use Rattle.scoop_model.specs.World.{World, Site, site_of, set_site, ran_at, set_of, log_of, is_succeeded, received}
 use Rattle.scoop_model.specs.Step.{with_site, begun_site, reopened, reopened_world}
 use Rattle.scoop_rules.specs.Paper.{count_of, has_ended, queue_of, queue_at, configuration_of}
 use Rattle.scoop_model.proofs.Basics.{by_test}
-use Rattle.scoop_model.proofs.Keys.{number_found, by_site}
-use Rattle.scoop_model.proofs.Order.Facts.{SiteFits, Ordered}
-use Rattle.scoop_model.proofs.Order.Handlers.{state_anew}
+use Rattle.scoop_model.proofs.Order.Facts.{Ordered}
 use Rattle.scoop_model.proofs.Sites.{own_site, set_same, anew_same, states_anew}
 use Rattle.scoop_rules.proofs.Lists.{same_configuration, queues_same}
 use Rattle.scoop_rules.proofs.Sends.{ran_in}
 
 -- ---- where the same has run
 
-pub ran_same : (w : World) (sites : List Site) → ((j : HandlerId) → ran_in j sites ≡ ran_at j w) → configuration_of w ≡ configuration_of (record w { sites = sites })
+pub ran_same :
+    (w : World) (sites : List Site) → ((j : HandlerId) → ran_in j sites ≡ ran_at j w) → configuration_of w ≡ configuration_of (record w { sites = sites })
 ran_same w sites same =
     same_configuration (configuration_of w) (configuration_of (record w { sites = sites }))
     (λ h.
@@ -37,7 +32,8 @@ begin_same w h s found =
     ran_same w (set_site (begun_site s) w.sites) (set_same (λ (x : Site). x.ran) [] w (begun_site s) s (own_site w h s found) refl)
 
 ran_kept : (n : ℕ) (s : Site) → (reopened n s).ran ≡ s.ran
-ran_kept n s = by_test (λ t. (if t then record s { core = core_of s.core.class s.stored false } else s).ran ≡ s.ran) (s.node == n) (λ here. refl) (λ there. refl)
+ran_kept n s =
+    by_test (λ t. (if t then record s { core = core_of s.core.class s.stored false } else s).ran ≡ s.ran) (s.node == n) (λ here. refl) (λ there. refl)
 
 pub reopen_same : (w : World) → Ordered w → (n : ℕ) → configuration_of w ≡ configuration_of (reopened_world w n)
 reopen_same w o n = ran_same w (map (reopened n) w.sites) (λ j. anew_same (λ (x : Site). x.ran) [] ran_kept n j w.sites (states_anew w o n))

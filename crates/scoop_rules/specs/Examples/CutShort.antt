@@ -106,8 +106,10 @@ pub record RunsWhatCame : Type 0 where
   pub too_late : told has_run (Take 13 ∷ []) ≡ Handler (Dropped Stale) None ∷ []
   pub moves :
       moves_in one_cell all_events
-      ≡ Separate (block 7 1 1) (handler 1 ∷ []) ∷ LogOne (block 7 1 1) (handler 1) (CallEntry (set_to 5)) ∷ LogOne (block 7 1 1) (handler 1) (CallEntry (set_to 6))
-      ∷ LogOne (block 7 1 1) (handler 1) (CallEntry (set_to 7)) ∷ Restart (client 7) ∷ CutTo (block 7 1 1) (handler 1) 2 ∷ RunOne (handler 1) ∷ RunOne (handler 1) ∷ []
+      ≡ Separate (block 7 1 1) (handler 1 ∷ [])
+      ∷ LogOne (block 7 1 1) (handler 1) (CallEntry (set_to 5)) ∷ LogOne (block 7 1 1) (handler 1) (CallEntry (set_to 6))
+      ∷ LogOne (block 7 1 1) (handler 1) (CallEntry (set_to 7))
+      ∷ Restart (client 7) ∷ CutTo (block 7 1 1) (handler 1) 2 ∷ RunOne (handler 1) ∷ RunOne (handler 1) ∷ []
   pub gone : (configuration_of has_run).queues (handler 1) ≡ []
   pub by_rules : RunsByRules one_cell all_events (steps one_cell all_events)
   pub gone_replayed : all_replayed.queues (handler 1) ≡ []

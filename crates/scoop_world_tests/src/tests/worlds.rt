@@ -11,6 +11,7 @@ mod opening;
 mod refusing;
 mod restarting;
 mod rows;
+mod runs;
 
 use scoop_client::ClientNote;
 use scoop_handler::{Note, Ran, Reason};

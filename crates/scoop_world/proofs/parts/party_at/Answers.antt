@@ -7,13 +7,15 @@ use Rattle.scoop_world.proofs.parts.party_at.Goals as goal
 pub returns-then-eq : goal.returns-then-eq
 returns-then-eq g c =
     let x = c.index-parties-i.result in
-    let here : is_party c.args.client (get_or c.args.parties.now c.loop-i.i x) ≡ true = rw (← c.index-parties-i.is, ← c.id.ensures) (sym c.eq.ensures ∙ c.if-eq.true) in
+    let here : is_party c.args.client (get_or c.args.parties.now c.loop-i.i x) ≡ true =
+    rw (← c.index-parties-i.is, ← c.id.ensures) (sym c.eq.ensures ∙ c.if-eq.true) in
     first_here (is_party c.args.client) c.args.parties.now c.loop-i.i x (omega arith) c.loop-i.invariant here
 
 pub loop-i-preserved : goal.loop-i-preserved
 loop-i-preserved g c =
     let x = c.index-parties-i.result in
-    let off : is_party c.args.client (get_or c.args.parties.now c.loop-i.i x) ≡ false = rw (← c.index-parties-i.is, ← c.id.ensures) (sym c.eq.ensures ∙ c.if-eq.false) in
+    let off : is_party c.args.client (get_or c.args.parties.now c.loop-i.i x) ≡ false =
+    rw (← c.index-parties-i.is, ← c.id.ensures) (sym c.eq.ensures ∙ c.if-eq.false) in
     none_here (is_party c.args.client) c.args.parties.now c.loop-i.i x (omega arith) c.loop-i.invariant off
 
 pub returns : goal.returns

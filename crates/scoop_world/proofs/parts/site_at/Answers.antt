@@ -7,13 +7,15 @@ use Rattle.scoop_world.proofs.parts.site_at.Goals as goal
 pub returns-then-eq : goal.returns-then-eq
 returns-then-eq g c =
     let x = c.index-sites-i.result in
-    let here : is_site c.args.handler (get_or c.args.sites.now c.loop-i.i x) ≡ true = rw (← c.index-sites-i.is, ← c.number.ensures.value) (sym c.eq.ensures ∙ c.if-eq.true) in
+    let here : is_site c.args.handler (get_or c.args.sites.now c.loop-i.i x) ≡ true =
+    rw (← c.index-sites-i.is, ← c.number.ensures.value) (sym c.eq.ensures ∙ c.if-eq.true) in
     first_here (is_site c.args.handler) c.args.sites.now c.loop-i.i x (omega arith) c.loop-i.invariant here
 
 pub loop-i-preserved : goal.loop-i-preserved
 loop-i-preserved g c =
     let x = c.index-sites-i.result in
-    let off : is_site c.args.handler (get_or c.args.sites.now c.loop-i.i x) ≡ false = rw (← c.index-sites-i.is, ← c.number.ensures.value) (sym c.eq.ensures ∙ c.if-eq.false) in
+    let off : is_site c.args.handler (get_or c.args.sites.now c.loop-i.i x) ≡ false =
+    rw (← c.index-sites-i.is, ← c.number.ensures.value) (sym c.eq.ensures ∙ c.if-eq.false) in
     none_here (is_site c.args.handler) c.args.sites.now c.loop-i.i x (omega arith) c.loop-i.invariant off
 
 pub returns : goal.returns

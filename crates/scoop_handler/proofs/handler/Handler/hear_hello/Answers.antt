@@ -1,4 +1,5 @@
 use Rattle.std.proofs.Common.{◌<◌, ◌≡◌, Some, None, length, sym, ap, subst, ◌∙◌, arith}
+use Rattle.scoop_message.specs.declared.limits.TheConstants.{MAX_MARKS}
 use Rattle.scoop_handler.specs.Core.{Core, IsCore}
 use Rattle.scoop_handler.specs.Marks.{mark_of}
 use Rattle.scoop_handler.proofs.States.{IsState-first, IsState-newer}
@@ -11,7 +12,7 @@ add-requires g c =
     let was : None ≡ mark_of c.args.client c.deref.result.now = c.in_default.ensures {u = tt} in
     let none = ap (mark_of c.args.client) marks ∙ sym was in
     let same_length = ap (λ (s : Core). length s.state.marks) c.self.view_is in
-    let room : length c.args.self.now.state.marks < 64 = omega (arith, is.state.room) in
+    let room : length c.args.self.now.state.marks < MAX_MARKS = omega (arith, is.state.room) in
     rw c.greeting.ensures (IsState-first c.args.self.now.state c.args.client c.args.inc is.state none room)
 
 pub renew-requires : goal.renew-requires

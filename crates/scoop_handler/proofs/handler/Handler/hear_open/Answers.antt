@@ -1,4 +1,5 @@
 use Rattle.std.proofs.Common.{◌≡◌, ◌<◌, length, ap, subst, arith}
+use Rattle.scoop_message.specs.declared.limits.TheConstants.{MAX_QUEUES}
 use Rattle.scoop_handler.specs.Core.{Core, IsCore}
 use Rattle.scoop_handler.proofs.States.{IsState-opened}
 use Rattle.scoop_handler.proofs.handler.Handler.hear_open.Goals as goal
@@ -10,5 +11,5 @@ open-requires g c =
     let same_length = ap (λ (s : Core). length s.state.queues) c.self.view_is in
     let counted = c.list_len.ensures.value in
     let apart = c.if-list_len-eq-MAX_QUEUES.false in
-    let room : length c.args.self.now.state.queues < 64 = omega (arith, is.state.queues.limit) in
+    let room : length c.args.self.now.state.queues < MAX_QUEUES = omega (arith, is.state.queues.limit) in
     IsState-opened c.args.self.now.state c.args.block c.args.mark is.state c.requires same_num c.in-Held.is room

@@ -18,7 +18,8 @@ returns-in_err-party-clause-refused g c =
     let i = c.loop-client.client-index in
     let none : ClientId × ℕ = (record { 0 = 0 }, 0) in
     err_passes c.from_residual.result _ _ c.from_residual.ensures.1
-    (λ e is. not_joined c.args.handlers.now c.args.keeper.now cs i c.loop-client.parties.items c.loop-client.keeper none e c.loop-client.invariant c.loop-client-test.true
+    (λ e is.
+    not_joined c.args.handlers.now c.args.keeper.now cs i c.loop-client.parties.items c.loop-client.keeper none e c.loop-client.invariant c.loop-client-test.true
     (rw is c.in_err-party.ensures.refused))
 
 pub loop-client-preserved : goal.loop-client-preserved

@@ -17,7 +17,10 @@ pub returns-then-is_joining-clause-some : goal.returns-then-is_joining-clause-so
 returns-then-is_joining-clause-some c =
     let cs = c.args.clients.now in
     let i = c.loop-i.i in
-    first_repeat (λ (x : ClientId × ℕ). x.0) same_client client_decides cs i (get_or cs i nobody) (slice_get-get_or cs i nobody (omega arith)) c.loop-i.invariant (sym c.is_joining.ensures ∙ c.if-is_joining.true)
+    first_repeat
+    (λ (x : ClientId × ℕ).
+    x.0) same_client client_decides cs i (get_or cs i nobody) (slice_get-get_or cs i nobody (omega arith)) c.loop-i.invariant (sym c.is_joining.ensures
+    ∙ c.if-is_joining.true)
 
 pub loop-i-preserved : goal.loop-i-preserved
 loop-i-preserved c =

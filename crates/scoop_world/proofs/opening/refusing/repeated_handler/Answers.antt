@@ -14,7 +14,10 @@ returns-then-is_placed-clause-some g c =
     let ps = c.args.placements.now in
     let i = c.loop-i.i in
     let p = c.index-placements-i.result in
-    first_repeat (λ (x : Placement g.row.B.Denot). x.handler) same_handler handler_decides ps i p (item_at ps i p (omega arith) c.index-placements-i.is) c.loop-i.invariant (sym c.is_placed.ensures ∙ c.if-is_placed.true)
+    first_repeat
+    (λ (x : Placement g.row.B.Denot).
+    x.handler) same_handler handler_decides ps i p (item_at ps i p (omega arith) c.index-placements-i.is) c.loop-i.invariant (sym c.is_placed.ensures
+    ∙ c.if-is_placed.true)
 
 pub loop-i-preserved : goal.loop-i-preserved
 loop-i-preserved g c =

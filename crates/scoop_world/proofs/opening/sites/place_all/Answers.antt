@@ -21,11 +21,15 @@ place-site-requires g c =
 pub returns-clause-sites : goal.returns-clause-sites
 returns-clause-sites g c =
     let it = c.into_iter-placement-iterator in
-    let all = sym (taken_all it.result c.loop-placement.yielded c.loop-placement.placement-iterator c.loop-placement.yielded_by c.in-None.ensures.steps.0) ∙ it.ensures.into_iter_gives.0 in
+    let all =
+    sym (taken_all it.result c.loop-placement.yielded c.loop-placement.placement-iterator c.loop-placement.yielded_by c.in-None.ensures.steps.0)
+    ∙ it.ensures.into_iter_gives.0 in
     c.loop-placement.invariant.sites ∙ ap (λ ps. map new_site (placements_of g.B.Behaviour.words ps)) all
 
 pub returns-clause-placed : goal.returns-clause-placed
 returns-clause-placed g c =
     let it = c.into_iter-placement-iterator in
-    let all = sym (taken_all it.result c.loop-placement.yielded c.loop-placement.placement-iterator c.loop-placement.yielded_by c.in-None.ensures.steps.0) ∙ it.ensures.into_iter_gives.0 in
+    let all =
+    sym (taken_all it.result c.loop-placement.yielded c.loop-placement.placement-iterator c.loop-placement.yielded_by c.in-None.ensures.steps.0)
+    ∙ it.ensures.into_iter_gives.0 in
     subst (λ ps. AllByRecursion IsPlaced (placements_of g.B.Behaviour.words ps)) all c.loop-placement.invariant.placed

@@ -12,7 +12,8 @@ use Rattle.scoop_world.proofs.parts.Parts.begin.Goals.{in-Some-begin, in-None}
 pub invariant_of-self : goal.invariant_of-self
 invariant_of-self g c =
     let s = c.index_mut-site.result.now in
-    let first : IsFirst (is_site c.args.handler) c.self.inside.sites.items c.in-Some.at = subst (λ (xs : List Site). IsFirst (is_site c.args.handler) xs c.in-Some.at) c.deref.ensures.value c.in-Some.ensures in
+    let first : IsFirst (is_site c.args.handler) c.self.inside.sites.items c.in-Some.at =
+    subst (λ (xs : List Site). IsFirst (is_site c.args.handler) xs c.in-Some.at) c.deref.ensures.value c.in-Some.ensures in
     let there = item_at c.self.inside.sites.items c.in-Some.at s first.within c.index_mut-site.ensures.value in
     elim c.match-begin.branch [
       | in-Some-begin w ↦ has_same_site c.self.inside.keeper c.self.inside.sites.items c.self.inside.parties.items c.in-Some.at s c.begin.new.self c.self.invariant there (ap number_of w.in-Some-begin.ensures.site) (ap (λ (x : Site). x.stored) w.in-Some-begin.ensures.site)
@@ -22,7 +23,8 @@ invariant_of-self g c =
 pub returns : goal.returns
 returns g c =
     let s = c.index_mut-site.result.now in
-    let first : IsFirst (is_site c.args.handler) c.self.inside.sites.items c.in-Some.at = subst (λ (xs : List Site). IsFirst (is_site c.args.handler) xs c.in-Some.at) c.deref.ensures.value c.in-Some.ensures in
+    let first : IsFirst (is_site c.args.handler) c.self.inside.sites.items c.in-Some.at =
+    subst (λ (xs : List Site). IsFirst (is_site c.args.handler) xs c.in-Some.at) c.deref.ensures.value c.in-Some.ensures in
     elim c.match-begin.branch [
       | in-Some-begin w ↦ (
           let x = from_began (ready s.core) w.in-Some-begin.began (w.in-Some-begin.ensures.began) in

@@ -22,10 +22,12 @@ returns-in-Err g c =
 
 pub add-requires-clause-new : goal.add-requires-clause-new
 add-requires-clause-new g c =
-    let v : World = world_kept c.self.inside.sites.items c.self.inside.parties.items c.self.inside.sent.items c.self.inside.joint.keys (logs_kept c.self.inside.logs.entries) in
+    let v : World =
+    world_kept c.self.inside.sites.items c.self.inside.parties.items c.self.inside.sent.items c.self.inside.joint.keys (logs_kept c.self.inside.logs.entries) in
     let fresh : has_log (newest_block c.command.new.self.client) (logs_kept c.self.inside.logs.entries) ≡ false =
     begun_is_new v c.args.at c.index_mut-party.result.now c.args.handlers.now c.command.new.self.client (subst IsReached (sym c.self.view_is) c.requires.reached) (party_there c.self.inside.sites.items c.self.inside.parties.items c.self.inside.sent.items c.self.inside.joint.keys (logs_kept c.self.inside.logs.entries) c.args.self.now c.self.view_is c.args.at c.index_mut-party.result.now c.requires.within c.index_mut-party.ensures.value) c.in-Ok-command.ensures.taken.0 in
-    let named : has_log c.newest.result (logs_kept c.self.inside.logs.entries) ≡ false = subst (λ (b : Block). has_log b (logs_kept c.self.inside.logs.entries) ≡ false) (sym c.newest.ensures) fresh in
+    let named : has_log c.newest.result (logs_kept c.self.inside.logs.entries) ≡ false =
+    subst (λ (b : Block). has_log b (logs_kept c.self.inside.logs.entries) ≡ false) (sym c.newest.ensures) fresh in
     subst (λ (ls : List BlockLog). has_log c.newest.result ls ≡ false) (sym (ap logs_kept c.room_for.ensures.logs)) named
 
 pub returns : goal.returns

@@ -38,6 +38,9 @@ returns g c =
     let all : length ys ≤ length xs = omega (arith, long) in
     let whole : take n (xs ++ drop (length xs) ys) ≡ map f ys =
     ap (λ (zs : List Site). take n (xs ++ zs)) (drop_all (length xs) ys all) ∙ ap (take n) (append-nil xs) ∙ take_all n xs le ∙ are in
-    let there : list_any (on_node c.args.node) ys ≡ true = ap (list_any (on_node c.args.node)) (sym c.deref.ensures.value) ∙ sym c.any_on.ensures ∙ c.if-not-any_on.false in
-    let made : List Site → Stepped = λ ss. Ok (world_kept ss c.self.inside.parties.items c.self.inside.sent.items c.self.inside.joint.keys (logs_kept c.self.inside.logs.entries), Reopened) in
-    node_restarted c.self.inside.sites.items c.self.inside.parties.items c.self.inside.sent.items c.self.inside.joint.keys (logs_kept c.self.inside.logs.entries) c.args.self.now c.self.view_is c.args.node there ∙ ap made (sym whole)
+    let there : list_any (on_node c.args.node) ys ≡ true =
+    ap (list_any (on_node c.args.node)) (sym c.deref.ensures.value) ∙ sym c.any_on.ensures ∙ c.if-not-any_on.false in
+    let made : List Site → Stepped =
+    λ ss. Ok (world_kept ss c.self.inside.parties.items c.self.inside.sent.items c.self.inside.joint.keys (logs_kept c.self.inside.logs.entries), Reopened) in
+    node_restarted c.self.inside.sites.items c.self.inside.parties.items c.self.inside.sent.items c.self.inside.joint.keys (logs_kept c.self.inside.logs.entries) c.args.self.now c.self.view_is c.args.node there
+    ∙ ap made (sym whole)

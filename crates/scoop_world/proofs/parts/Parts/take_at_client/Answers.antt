@@ -14,8 +14,10 @@ pub returns : goal.returns
 returns g c =
     let p = c.index_mut-party.result.now in
     let m = c.args.message.now in
-    let named : IsFirst (is_party (client_of m)) c.deref.result.now c.in-Some.at = subst (λ (x : ClientId). IsFirst (is_party x) c.deref.result.now c.in-Some.at) c.client.ensures c.in-Some.ensures in
-    let first : IsFirst (is_party (client_of m)) c.self.inside.parties.items c.in-Some.at = subst (λ (xs : List Party). IsFirst (is_party (client_of m)) xs c.in-Some.at) c.deref.ensures.value named in
+    let named : IsFirst (is_party (client_of m)) c.deref.result.now c.in-Some.at =
+    subst (λ (x : ClientId). IsFirst (is_party x) c.deref.result.now c.in-Some.at) c.client.ensures c.in-Some.ensures in
+    let first : IsFirst (is_party (client_of m)) c.self.inside.parties.items c.in-Some.at =
+    subst (λ (xs : List Party). IsFirst (is_party (client_of m)) xs c.in-Some.at) c.deref.ensures.value named in
     elim c.match-hear.branch [
       | in-Ok w ↦ rw w.result-is (
           noticed_there c.self.inside.sites.items c.self.inside.parties.items c.self.inside.sent.items c.self.inside.joint.keys (logs_kept c.self.inside.logs.entries) c.args.self.now c.self.view_is m c.in-Some.at p c.hear.new.self c.requires first c.index_mut-party.ensures.value w.in-Ok.ensures.party c.hear.ensures.id
@@ -30,6 +32,8 @@ pub invariant_of-self : goal.invariant_of-self
 invariant_of-self g c =
     let p = c.index_mut-party.result.now in
     let m = c.args.message.now in
-    let named : IsFirst (is_party (client_of m)) c.deref.result.now c.in-Some.at = subst (λ (x : ClientId). IsFirst (is_party x) c.deref.result.now c.in-Some.at) c.client.ensures c.in-Some.ensures in
-    let first : IsFirst (is_party (client_of m)) c.self.inside.parties.items c.in-Some.at = subst (λ (xs : List Party). IsFirst (is_party (client_of m)) xs c.in-Some.at) c.deref.ensures.value named in
+    let named : IsFirst (is_party (client_of m)) c.deref.result.now c.in-Some.at =
+    subst (λ (x : ClientId). IsFirst (is_party x) c.deref.result.now c.in-Some.at) c.client.ensures c.in-Some.ensures in
+    let first : IsFirst (is_party (client_of m)) c.self.inside.parties.items c.in-Some.at =
+    subst (λ (xs : List Party). IsFirst (is_party (client_of m)) xs c.in-Some.at) c.deref.ensures.value named in
     has_party c.self.inside.keeper c.self.inside.sites.items c.self.inside.parties.items c.in-Some.at p c.hear.new.self c.self.invariant (item_at c.self.inside.parties.items c.in-Some.at p first.within c.index_mut-party.ensures.value) c.hear.ensures.id c.hear.ensures.stored

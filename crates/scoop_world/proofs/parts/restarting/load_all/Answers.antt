@@ -9,7 +9,8 @@ use Rattle.scoop_world.proofs.parts.restarting.load_all.Goals as goal
 pub load-requires : goal.load-requires
 load-requires g c =
     let x = c.site-item.result in
-    let own : HasState c.args.keeper.now x = subst (HasState c.args.keeper.now) (sym c.site-item.is) (all_by_place (HasState c.args.keeper.now) c.args.sites.now c.requires c.loop-site.site-index x (omega arith)) in
+    let own : HasState c.args.keeper.now x =
+    subst (HasState c.args.keeper.now) (sym c.site-item.is) (all_by_place (HasState c.args.keeper.now) c.args.sites.now c.requires c.loop-site.site-index x (omega arith)) in
     subst (λ (m : MemoryRecord). HasState m x) (sym c.loop-site.invariant.same) own
 
 pub loop-site-preserved : goal.loop-site-preserved
@@ -18,7 +19,8 @@ loop-site-preserved g c =
     let x = c.site-item.result in
     let xs = c.args.sites.now in
     let f = stored_on c.args.node in
-    let longer : map f (take (i + 1) xs) ≡ map f (take i xs) ++ f (get_or xs i x) ∷ [] = ap (map f) (take_more xs i x c.loop-site-test.true) ∙ map-append f (take i xs) (get_or xs i x ∷ []) in
+    let longer : map f (take (i + 1) xs) ≡ map f (take i xs) ++ f (get_or xs i x) ∷ [] =
+    ap (map f) (take_more xs i x c.loop-site-test.true) ∙ map-append f (take i xs) (get_or xs i x ∷ []) in
     record {
       found = c.in_ok-push.ensures.items
           ∙ ap (λ (ys : List (Option HandlerState)). ys ++ c.in_ok-state.state ∷ []) c.loop-site.invariant.found
@@ -28,4 +30,5 @@ loop-site-preserved g c =
     }
 
 pub returns-clause-found : goal.returns-clause-found
-returns-clause-found g c = c.loop-site.invariant.found ∙ ap (map (stored_on c.args.node)) (take_all c.loop-site.site-index c.args.sites.now c.loop-site-test.false)
+returns-clause-found g c =
+    c.loop-site.invariant.found ∙ ap (map (stored_on c.args.node)) (take_all c.loop-site.site-index c.args.sites.now c.loop-site-test.false)

@@ -30,7 +30,8 @@ store_all-requires-clause-apart g c =
     numbers_apart g.B.Behaviour.words ps c.deref-4.result.now (c.deref-4.ensures.value ∙ c.in_ok-sites.ensures.sites) may.apart
 
 pub store_all-requires-clause-own : goal.store_all-requires-clause-own
-store_all-requires-clause-own g c = states_own g.B.Behaviour.words c.args.placements.items c.deref-4.result.now (c.deref-4.ensures.value ∙ c.in_ok-sites.ensures.sites)
+store_all-requires-clause-own g c =
+    states_own g.B.Behaviour.words c.args.placements.items c.deref-4.result.now (c.deref-4.ensures.value ∙ c.in_ok-sites.ensures.sites)
 
 pub new-requires : goal.new-requires
 new-requires g c =
@@ -46,7 +47,8 @@ invariant_of-result g c =
     let hs = c.in_ok-handlers.handlers.items in
     let may : MayPlace g.B.Behaviour.class ps cs = subst (λ xs. MayPlace g.B.Behaviour.class xs cs) c.deref.ensures.value c.in_default.ensures.none in
     let named : hs ≡ handlers_of ps = c.in_ok-handlers.ensures ∙ ap handlers_of c.deref-2.ensures.value in
-    let joined : c.in-Ok.parties.items ≡ map (new_party hs) (newcomers_of stored cs) = c.in-Ok.ensures.parties ∙ ap (λ ks. map (new_party ks) (newcomers_of stored cs)) c.deref-3.ensures.value in
+    let joined : c.in-Ok.parties.items ≡ map (new_party hs) (newcomers_of stored cs) =
+    c.in-Ok.ensures.parties ∙ ap (λ ks. map (new_party ks) (newcomers_of stored cs)) c.deref-3.ensures.value in
     let opened = opened_is words ps cs stored c.in_ok-sites.sites.items hs c.in-Ok.parties.items c.in_ok-sites.ensures.sites named joined in
     subst IsReached (sym (c.new.ensures ∙ opened)) (reached_opening (placements_of words ps) (newcomers_of stored cs) (may_open words g.B.Behaviour.class ps cs stored may c.in_ok-sites.ensures.placed c.in-Ok.ensures.joining))
 
@@ -57,7 +59,8 @@ returns-clause-opens g c =
     let stored = incarnation_at c.args.keeper in
     let hs = c.in_ok-handlers.handlers.items in
     let named : hs ≡ handlers_of ps = c.in_ok-handlers.ensures ∙ ap handlers_of c.deref-2.ensures.value in
-    let joined : c.in-Ok.parties.items ≡ map (new_party hs) (newcomers_of stored cs) = c.in-Ok.ensures.parties ∙ ap (λ ks. map (new_party ks) (newcomers_of stored cs)) c.deref-3.ensures.value in
+    let joined : c.in-Ok.parties.items ≡ map (new_party hs) (newcomers_of stored cs) =
+    c.in-Ok.ensures.parties ∙ ap (λ ks. map (new_party ks) (newcomers_of stored cs)) c.deref-3.ensures.value in
     c.new.ensures ∙ opened_is g.B.Behaviour.words ps cs stored c.in_ok-sites.sites.items hs c.in-Ok.parties.items c.in_ok-sites.ensures.sites named joined
 
 pub returns-clause-safe : goal.returns-clause-safe

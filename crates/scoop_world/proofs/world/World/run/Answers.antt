@@ -42,13 +42,15 @@ loop-taken-preserved g c =
     let es = c.args.events.now in
     let i = c.loop-taken.taken in
     let e = c.index-events-taken.result in
-    let longer : take (i + 1) es ≡ take i es ++ e ∷ [] = take_more es i e (omega arith) ∙ ap (λ (y : Event). take i es ++ y ∷ []) (sym c.index-events-taken.is) in (
+    let longer : take (i + 1) es ≡ take i es ++ e ∷ [] =
+    take_more es i e (omega arith) ∙ ap (λ (y : Event). take i es ++ y ∷ []) (sym c.index-events-taken.is) in (
       subst (λ (xs : List Event). Leads v xs c.step.new.self) (sym longer) (leads_next v c.loop-taken.self (take i es) e (c.step.new.self, c.in-Ok.field-0) c.loop-taken.invariant.0 c.in-Ok.ensures.takes),
       c.step.ensures.reached,
     )
 
 pub returns-clause-runs : goal.returns-clause-runs
-returns-clause-runs g c = (refl, subst (λ (xs : List Event). Leads c.args.self.now xs c.loop-taken.self) (take_all c.loop-taken.taken c.args.events.now (omega arith)) c.loop-taken.invariant.0)
+returns-clause-runs g c =
+    (refl, subst (λ (xs : List Event). Leads c.args.self.now xs c.loop-taken.self) (take_all c.loop-taken.taken c.args.events.now (omega arith)) c.loop-taken.invariant.0)
 
 pub returns-clause-safe : goal.returns-clause-safe
 returns-clause-safe g c = reached_safe c.loop-taken.self c.loop-taken.invariant.1

@@ -1,0 +1,16 @@
+-- The handlers are copied over the first blanks, and the other blanks stay.
+use Rattle.std.proofs.Common.{arith, drop, length, ◌∙◌, replicate}
+use Rattle.std.proofs.lemmas.List.{drop-replicate, length-append, length-drop}
+use Rattle.std.proofs.Math.Seq.{drop-append_seam}
+use Rattle.scoop_reserve.specs.Handlers.{nobody}
+use Rattle.scoop_driver.proofs.block_handlers.BlockHandlers.of.Goals as goal
+
+pub invariant_of-result : goal.invariant_of-result
+invariant_of-result c =
+    let hs = c.args.handlers.now in
+    let blanks = replicate 8 nobody in
+    rw c.copy_from_slice.ensures.after (record {
+      fits = c.requires;
+      size = length-append hs (drop (length hs) blanks) ∙ omega (arith, c.requires, length-drop (length hs) blanks);
+      others = drop-append_seam hs (drop (length hs) blanks) ∙ drop-replicate (length hs) 8 nobody;
+    })

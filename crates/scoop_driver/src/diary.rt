@@ -1,0 +1,134 @@
+//! Diaries, which are handed each step of a driver.
+
+ghost use Rattle.std.specs.Prelude.{◌≡◌, ◌<◌, ⊤, [], ◌∷◌, ◌++◌, Option, Some, None, List, IsErr, OnOk};
+ghost use Rattle.scoop_driver.specs.declared.step.Step.{Step as Made};
+ghost use Rattle.scoop_driver.specs.Steps.{noted};
+
+use crate::step::{Command, Received, Step};
+use scoop_client::Client;
+use scoop_message::OutOfMemory;
+use std::alloc::{Allocator, Global};
+use std::marker::Model;
+
+/// What a driver hands its steps to. Before each step the driver has room made for it, and makes no step
+/// where that is refused. So a diary that keeps its steps keeps all that were made, and no other.
+pub trait Diary<A: Allocator>: Drop {
+    /// The steps so far, oldest first, where the diary keeps them.
+    ghost steps: { Self → Option (List Made) };
+
+    /// There is room for one more step.
+    ghost has_room: { Self → Type 0 };
+
+    /// Room may be refused.
+    ghost wants_memory: { Type 0 };
+
+    /// Makes room for one more step, or is refused with no step less.
+    fn make_room(&mut self) -> Result<(), OutOfMemory>
+        ensures room { OnOk result (has_room self.new) }
+        ensures steps { steps self.new ≡ steps self.old }
+        ensures refused { IsErr result → wants_memory };
+
+    /// The client took this command, and stands behind it now.
+    fn gave(&mut self, client: &Client<A>, command: Command)
+        requires { has_room self.old }
+        ensures { steps self.new ≡ noted (steps self.old) (Made.Gave command ∷ []) };
+
+    /// This client has sent all that is due to its handlers, and this was received, which it hasn't heard
+    /// yet.
+    fn turned(&mut self, client: &Client<A>, received: Received)
+        requires { has_room self.old }
+        ensures { steps self.new ≡ noted (steps self.old) (Made.Turned received ∷ []) };
+
+    /// This client has sent what is due to its handlers before the one at this place, and the send to that
+    /// one failed.
+    fn broke(&mut self, client: &Client<A>, place: usize)
+        requires { has_room self.old }
+        ensures { steps self.new ≡ noted (steps self.old) (Made.Broke place ∷ []) };
+}
+
+/// A diary that keeps nothing.
+#[derive(Clone, Copy, Debug, PartialEq, Eq)]
+pub struct NoDiary;
+
+impl<A: Allocator> Diary<A> for NoDiary {
+    ghost steps = { λ _. None };
+
+    ghost has_room = { λ _. ⊤ };
+
+    ghost wants_memory = { ⊥ };
+
+    fn make_room(&mut self) -> Result<(), OutOfMemory> {
+        Ok(())
+    }
+
+    fn gave(&mut self, _client: &Client<A>, _command: Command) {}
+
+    fn turned(&mut self, _client: &Client<A>, _received: Received) {}
+
+    fn broke(&mut self, _client: &Client<A>, _place: usize) {}
+}
+
+/// A diary that keeps every step. Contracts see the steps, and for how many more there is room.
+#[derive(Drop)]
+pub struct StepList<A: Allocator = Global> {
+    steps: Vec<Step, A>,
+}
+
+impl<A: Allocator> Model for StepList<A> {
+    ghost use Rattle.std.specs.Prelude.{◌-◌, vec_len, vec_capacity};
+    ghost use Rattle.scoop_driver.specs.Steps.{KeptSteps};
+
+    ghost Value = { KeptSteps };
+
+    ghost view = { λ l. record { steps = l.steps.items; room = vec_capacity l.steps - vec_len l.steps } };
+}
+
+impl<A: Allocator> StepList<A> {
+    /// A diary with no step yet.
+    pub fn new(alloc: A) -> StepList<A>
+        ensures { result.steps ≡ [] }
+    {
+        StepList {
+            steps: Vec::new(alloc),
+        }
+    }
+
+    /// The steps so far, oldest first.
+    pub fn steps(&self) -> &[Step]
+        ensures { result.now ≡ self.now.steps }
+    {
+        &self.steps
+    }
+
+    fn keep(&mut self, step: Step)
+        requires { 0 < self.old.room }
+        ensures { self.new.steps ≡ self.old.steps ++ step ∷ [] }
+    {
+        self.steps.push_reserved(step);
+    }
+}
+
+impl<A: Allocator, C: Allocator> Diary<C> for StepList<A> {
+    ghost steps = { λ l. Some l.steps };
+
+    ghost has_room = { λ l. 0 < l.room };
+
+    ghost wants_memory = { ⊤ };
+
+    fn make_room(&mut self) -> Result<(), OutOfMemory> {
+        self.steps.reserve(1)?;
+        Ok(())
+    }
+
+    fn gave(&mut self, _client: &Client<C>, command: Command) {
+        self.keep(Step::Gave(command));
+    }
+
+    fn turned(&mut self, _client: &Client<C>, received: Received) {
+        self.keep(Step::Turned(received));
+    }
+
+    fn broke(&mut self, _client: &Client<C>, place: usize) {
+        self.keep(Step::Broke(place));
+    }
+}

@@ -1,0 +1,173 @@
+//! A client over its link.
+
+ghost use Rattle.std.specs.Prelude.{◌≡◌, OnOk};
+ghost use Rattle.scoop_client.specs.Due.{due};
+ghost use Rattle.scoop_client.specs.State.{phase_of};
+ghost use Rattle.scoop_client.specs.Commands.Command.{Reserve, DoCall, DoEnd, GiveUp as DoGiveUp};
+ghost use Rattle.scoop_client.specs.declared.phase.Phase.TheVariants.{Idle as AtIdle};
+ghost use Rattle.scoop_driver.specs.State.{state_of};
+ghost use Rattle.scoop_driver.specs.Turning.{TakesTurn};
+ghost use Rattle.scoop_driver.specs.Calls.{Called, Queried, RunsNext};
+
+use crate::block_handlers::BlockHandlers;
+use crate::diary::{Diary, NoDiary};
+use crate::error::DriverError;
+use crate::sending::take_turn;
+use crate::step::Command;
+use scoop_client::{Client, ClientError, ClientNote, Phase};
+use scoop_link::Link;
+use scoop_message::{Answer, HandlerId, Message, Request};
+use std::alloc::{Allocator, Global};
+use std::marker::Model;
+
+/// A client over its link. Each of its calls takes at most so many turns, in which the client sends all
+/// that is due and receives once. After `TurnsOver`, `LinkFault` or a refusal that follows turns the client
+/// stands where the messages that it has heard put it.
+///
+/// Contracts see its client, its link's datagrams where the link tells them, how many calls of the link
+/// failed, the steps that its diary keeps, the link and the diary, and how many turns a call takes at most.
+#[derive(Drop)]
+pub struct Driver<L: Link, D: Diary<A> = NoDiary, A: Allocator = Global> {
+    pub(crate) client: Client<A>,
+    link: L,
+    pub(crate) diary: D,
+    pub(crate) turns: u64,
+}
+
+impl<L: Link, D: Diary<A>, A: Allocator> Model for Driver<L, D, A> {
+    ghost use Rattle.scoop_driver.specs.State.{DriverState, state_of};
+
+    ghost Value = { DriverState L D };
+
+    ghost view = { λ d. state_of L.told L.fault_count D.steps d.client d.link d.diary d.turns };
+}
+
+impl<L: Link, A: Allocator> Driver<L, NoDiary, A> {
+    /// A driver of this client over this link. `turns` bounds the turns of each call.
+    pub fn new(client: Client<A>, link: L, turns: u64) -> Driver<L, NoDiary, A>
+        ensures { result ≡ state_of L.told L.fault_count ⟦<NoDiary as Diary<A>>⟧.steps client link (record {}) turns }
+    {
+        Driver::with_diary(client, link, turns, NoDiary)
+    }
+}
+
+impl<L: Link, D: Diary<A>, A: Allocator> Driver<L, D, A> {
+    /// A driver that hands its steps to this diary.
+    pub fn with_diary(client: Client<A>, link: L, turns: u64, diary: D) -> Driver<L, D, A>
+        ensures { result ≡ state_of L.told L.fault_count D.steps client link diary turns }
+    {
+        Driver {
+            client,
+            link,
+            diary,
+            turns,
+        }
+    }
+
+    /// What its client is at.
+    pub fn phase(&self) -> Phase
+        ensures { result ≡ phase_of self.now.seen.client }
+    {
+        self.client.phase()
+    }
+
+    /// The message that its client owes to this handler now.
+    pub fn due(&self, handler: HandlerId) -> Option<Message>
+        ensures { result ≡ due self.now.seen.client handler }
+    {
+        self.client.due(handler)
+    }
+
+    /// Its link.
+    pub fn link(&self) -> &L
+        ensures { result.now ≡ self.now.link }
+    {
+        &self.link
+    }
+
+    /// Its diary.
+    pub fn diary(&self) -> &D
+        ensures { result.now ≡ self.now.diary }
+    {
+        &self.diary
+    }
+
+    /// One turn: sends all that is due to the client's handlers, in their order, and receives once. Answers
+    /// what the client made of the message, and `None` where no frame came. `LinkFault` breaks the turn off.
+    /// Where a diary has no room, no turn is taken, and `OutOfMemory` is answered.
+    pub fn turn(&mut self) -> Result<Option<ClientNote>, DriverError>
+        ensures does { TakesTurn result self.old.seen self.new.seen }
+        ensures turns { self.new.turns ≡ self.old.turns }
+        ensures memory { result ≡ Err (DriverError.Client ClientError.OutOfMemory) → D.wants_memory }
+    {
+        take_turn(&mut self.client, &mut self.link, &mut self.diary)
+    }
+}
+
+impl<L: Link, D: Diary<A>, A: Allocator + Clone> Driver<L, D, A> {
+    /// Begins a block over these handlers, and takes turns until it runs.
+    pub fn reserve(&mut self, handlers: &[HandlerId]) -> Result<(), DriverError>
+        ensures does { Called (Reserve handlers.now) self.old.turns result self.old.seen self.new.seen }
+        ensures runs { OnOk result (RunsNext self.old.seen.client self.new.seen.client) }
+        ensures turns { self.new.turns ≡ self.old.turns }
+    {
+        let turns = self.turns;
+        match self.client.may_reserve(handlers) {
+            Ok(()) => {}
+            Err(error) => return Err(DriverError::Client(error)),
+        }
+        match self.give(&Command::Reserve(BlockHandlers::of(handlers))) {
+            Ok(()) => self.turns_until(Phase::Running, turns),
+            Err(error) => Err(DriverError::Client(error)),
+        }
+    }
+
+    /// Logs a call. Where the window at the handler is full it first takes turns until there is room.
+    pub fn call(&mut self, handler: HandlerId, request: Request) -> Result<(), DriverError>
+        ensures does { Called (DoCall handler request) self.old.turns result self.old.seen self.new.seen }
+        ensures turns { self.new.turns ≡ self.old.turns }
+    {
+        match self.log(&Command::Call(handler, request)) {
+            Ok(_) => Ok(()),
+            Err(error) => Err(error),
+        }
+    }
+
+    /// Logs a query, and takes turns until its answer is accepted. Where the window at the handler is full
+    /// it first takes turns until there is room.
+    pub fn query(&mut self, handler: HandlerId, request: Request) -> Result<Answer, DriverError>
+        ensures does { Queried handler request self.old.turns result self.old.seen self.new.seen }
+        ensures turns { self.new.turns ≡ self.old.turns }
+    {
+        match self.log(&Command::Query(handler, request)) {
+            Ok(turns) => self.answer_of(handler, turns),
+            Err(error) => Err(error),
+        }
+    }
+
+    /// Ends the block, and takes turns until all of it is acknowledged. Where a window is full it first
+    /// takes turns until there is room.
+    pub fn end(&mut self) -> Result<(), DriverError>
+        ensures does { Called DoEnd self.old.turns result self.old.seen self.new.seen }
+        ensures ends { OnOk result (phase_of self.new.seen.client ≡ AtIdle) }
+        ensures turns { self.new.turns ≡ self.old.turns }
+    {
+        match self.log(&Command::End) {
+            Ok(turns) => self.turns_until(Phase::Idle, turns),
+            Err(error) => Err(error),
+        }
+    }
+
+    /// Gives the block up, which isn't locked at all its handlers yet. Takes no turn.
+    pub fn give_up(&mut self) -> Result<(), DriverError>
+        ensures does { Called DoGiveUp 0 result self.old.seen self.new.seen }
+        ensures link { self.new.link ≡ self.old.link }
+        ensures turns { self.new.turns ≡ self.old.turns }
+        ensures memory { result ≡ Err (DriverError.Client ClientError.OutOfMemory) → D.wants_memory }
+    {
+        match self.give(&Command::GiveUp) {
+            Ok(()) => Ok(()),
+            Err(error) => Err(DriverError::Client(error)),
+        }
+    }
+}

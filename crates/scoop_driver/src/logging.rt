@@ -1,0 +1,182 @@
+//! Commands to the client, and the turns that they take.
+
+ghost use Rattle.std.specs.Prelude.{◌≡◌, ◌⊎◌};
+ghost use Rattle.scoop_client.specs.Commands.{Foretells, Commanded, command as taken};
+ghost use Rattle.scoop_driver.specs.Steps.{core_command};
+ghost use Rattle.scoop_driver.specs.Parts.{Gives, Given, Offered, Reached, Logged, Answered, IsAcceptedFrom, IsReserve};
+
+use crate::diary::Diary;
+use crate::driver::Driver;
+use crate::error::DriverError;
+use crate::step::Command;
+use scoop_client::{Client, ClientError, ClientNote, Phase};
+use scoop_link::Link;
+use scoop_message::{Answer, HandlerId};
+use std::alloc::Allocator;
+
+// Whether the block may be given up now: what `give_up` would say.
+fn may_give_up<A: Allocator>(client: &Client<A>) -> Result<(), ClientError>
+    ensures { Foretells (taken client.now (core_command Command.GiveUp)) result }
+{
+    match client.phase() {
+        Phase::Greeting => Err(ClientError::NotGreeted),
+        Phase::Idle => Err(ClientError::NoBlock),
+        Phase::Locking => Ok(()),
+        Phase::Opening | Phase::Running | Phase::Ending | Phase::GivingUp => {
+            Err(ClientError::TooLate)
+        }
+    }
+}
+
+// Whether the client takes a command now, want of memory apart.
+fn may_take<A: Allocator>(client: &Client<A>, command: &Command) -> Result<(), ClientError>
+    ensures { Foretells (taken client.now (core_command command.now)) result }
+{
+    match command {
+        Command::Reserve(handlers) => client.may_reserve(handlers.as_slice()),
+        Command::Call(handler, _) => client.may_log(*handler),
+        Command::Query(handler, _) => client.may_log(*handler),
+        Command::End => client.may_end(),
+        Command::GiveUp => may_give_up(client),
+    }
+}
+
+// The client takes a command, or refuses it.
+fn take<A: Allocator + Clone>(client: &mut Client<A>, command: &Command) -> Result<(), ClientError>
+    ensures takes { Commanded (core_command command.now) result client.old client.new }
+    ensures memory { result ≡ Err ClientError.OutOfMemory → IsReserve command.now }
+{
+    match *command {
+        Command::Reserve(handlers) => client.reserve(handlers.as_slice()),
+        Command::Call(handler, request) => client.call(handler, request),
+        Command::Query(handler, request) => client.query(handler, request),
+        Command::End => client.end(),
+        Command::GiveUp => client.give_up(),
+    }
+}
+
+// Gives the client a command that it takes, and hands it to the diary.
+fn give<D: Diary<A>, A: Allocator + Clone>(
+    client: &mut Client<A>,
+    diary: &mut D,
+    command: &Command,
+) -> Result<(), ClientError>
+    ensures does { Gives command.now result client.old client.new (D.steps diary.old) (D.steps diary.new) }
+    ensures memory { result ≡ Err ClientError.OutOfMemory → IsReserve command.now ⊎ D.wants_memory }
+{
+    match may_take(client, command) {
+        Ok(()) => {}
+        Err(error) => return Err(error),
+    }
+    if diary.make_room().is_err() {
+        return Err(ClientError::OutOfMemory);
+    }
+    match take(client, command) {
+        Ok(()) => {}
+        Err(error) => return Err(error),
+    }
+    diary.gave(client, *command);
+    Ok(())
+}
+
+// The answer that was accepted from this handler, if the note tells of one.
+fn accepted_from(handler: HandlerId, note: Option<ClientNote>) -> Option<Answer>
+    ensures { IsAcceptedFrom handler note result }
+{
+    match note {
+        Some(ClientNote::Accepted(from, _, answer)) if from == handler => Some(answer),
+        _ => None,
+    }
+}
+
+impl<L: Link, D: Diary<A>, A: Allocator + Clone> Driver<L, D, A> {
+    // Gives its client a command.
+    pub(crate) fn give(&mut self, command: &Command) -> Result<(), ClientError>
+        ensures does { Given command.now result self.old.seen self.new.seen }
+        ensures link { self.new.link ≡ self.old.link }
+        ensures turns { self.new.turns ≡ self.old.turns }
+        ensures memory { result ≡ Err ClientError.OutOfMemory → IsReserve command.now ⊎ D.wants_memory }
+    {
+        give(&mut self.client, &mut self.diary, command)
+    }
+
+    // The same, and answers whether the window had room.
+    fn offer(&mut self, command: &Command) -> Result<bool, DriverError>
+        ensures does { Offered command.now result self.old.seen self.new.seen }
+        ensures turns { self.new.turns ≡ self.old.turns }
+    {
+        match self.give(command) {
+            Ok(()) => Ok(true),
+            Err(ClientError::WindowFull(_)) => Ok(false),
+            Err(error) => Err(DriverError::Client(error)),
+        }
+    }
+
+    // Takes turns until the window has room, and gives the command. Answers how many turns are left.
+    pub(crate) fn log(&mut self, command: &Command) -> Result<u64, DriverError>
+        ensures does { Logged (core_command command.now) self.old.turns result self.old.seen self.new.seen }
+        ensures turns { self.new.turns ≡ self.old.turns }
+    {
+        let turns = self.turns;
+        for taken in 0..turns {
+            match self.offer(command) {
+                Ok(true) => return Ok(turns - taken),
+                Ok(false) => {}
+                Err(error) => return Err(error),
+            }
+            match self.turn() {
+                Ok(_) => {}
+                Err(error) => return Err(error),
+            }
+        }
+        match self.offer(command) {
+            Ok(true) => Ok(0),
+            Ok(false) => Err(DriverError::TurnsOver),
+            Err(error) => Err(error),
+        }
+    }
+}
+
+impl<L: Link, D: Diary<A>, A: Allocator> Driver<L, D, A> {
+    // Takes turns until the client is at this phase.
+    pub(crate) fn turns_until(&mut self, phase: Phase, turns: u64) -> Result<(), DriverError>
+        ensures does { Reached phase turns result self.old.seen self.new.seen }
+        ensures turns { self.new.turns ≡ self.old.turns }
+    {
+        for taken in 0..turns {
+            if self.client.phase() == phase {
+                return Ok(());
+            }
+            match self.turn() {
+                Ok(_) => {}
+                Err(error) => return Err(error),
+            }
+        }
+        if self.client.phase() == phase {
+            Ok(())
+        } else {
+            Err(DriverError::TurnsOver)
+        }
+    }
+
+    // Takes turns until an answer of this handler is accepted.
+    pub(crate) fn answer_of(
+        &mut self,
+        handler: HandlerId,
+        turns: u64,
+    ) -> Result<Answer, DriverError>
+        ensures does { Answered handler turns result self.old.seen self.new.seen }
+        ensures turns { self.new.turns ≡ self.old.turns }
+    {
+        for taken in 0..turns {
+            let note = match self.turn() {
+                Ok(note) => note,
+                Err(error) => return Err(error),
+            };
+            if let Some(answer) = accepted_from(handler, note) {
+                return Ok(answer);
+            }
+        }
+        Err(DriverError::TurnsOver)
+    }
+}

@@ -1,0 +1,42 @@
+//! The tests of drivers.
+
+mod calls;
+mod diaries;
+mod growths;
+mod node;
+mod turns;
+mod waits;
+
+use scoop_client::Client;
+use scoop_message::{Args, Block, ClientId, HandlerId, Request};
+use std::alloc::Allocator;
+use std::process::Abort;
+
+const ONE: HandlerId = HandlerId(1);
+
+const SEVEN: ClientId = ClientId(7);
+
+/// The block of this number of client 7.
+fn block(num: u32) -> Block {
+    Block {
+        client: SEVEN,
+        inc: 1,
+        num,
+    }
+}
+
+/// Client 7, which knows handler 1 alone.
+fn client<A: Allocator + Clone>(rt: &impl Abort, alloc: A) -> Client<A> {
+    match Client::begin(alloc, SEVEN, 1, &[ONE]) {
+        Ok(client) => client,
+        Err(_) => panic!(rt; "no client"),
+    }
+}
+
+/// A request of an account, with this argument.
+fn request(rt: &impl Abort, op: u16, argument: u64) -> Request {
+    match Args::of(&[argument]) {
+        Ok(args) => Request { op, args },
+        Err(_) => panic!(rt; "no request"),
+    }
+}

@@ -1,0 +1,11 @@
+-- What a paced link is.
+use Rattle.std.specs.Prelude.{ℕ}
+use Rattle.scoop_link.specs.Pace.{PaceValue, fresh_pace}
+
+-- the link behind it, and its pace
+pub record PacedValue (L : Type 0) : Type 0 where
+  pub inner : L
+  pub pace : PaceValue
+
+abbrev pub paced : {L : Type 0} → L → PaceValue → PacedValue L
+paced inner pace = record { inner = inner; pace = pace }

@@ -1,0 +1,206 @@
+-- What each message that was ever sent tells for good, by what every event keeps. The layers have these facts in the form
+-- in which they are kept; here each is said as the theorem says it, for every message of a world that is reached.
+use Rattle.std.proofs.Common.{◌≡◌, inl, inr, ℕ, zero, suc, ◌+◌, ◌-◌, ◌<◌, ◌||◌, true, false, true≢false, nat_lt, List, [], ◌∷◌, ◌++◌, length, slice_get, Option, Some, None, refl, sym, ap, ◌∙◌, subst, ⊎_elim, arith, append_assoc}
+use Rattle.std.specs.Prelude.{Contains}
+use Rattle.std.specs.List.{AllByRecursion, list_any}
+use Rattle.std.specs.Option.{option_map_or}
+use Rattle.std.proofs.lemmas.Bool.Decides.{nat_tests}
+use Rattle.std.proofs.lemmas.Option.{slice_get-get_or}
+use Rattle.scoop_message.specs.declared.name.Block.{Block}
+use Rattle.scoop_message.specs.declared.name.ClientId.{ClientId}
+use Rattle.scoop_message.specs.declared.name.HandlerId.{HandlerId}
+use Rattle.scoop_message.specs.declared.request.Entry.{Entry}
+use Rattle.scoop_message.specs.declared.message.Message.{Message}
+use Rattle.scoop_message.specs.declared.message.Message.TheVariants.{Open}
+use Rattle.scoop_handler.specs.declared.mark.Mark.{Mark}
+use Rattle.scoop_handler.specs.declared.mark.Stage.{Stage}
+use Rattle.scoop_handler.specs.declared.mark.Stage.TheVariants.{Held as AtHeld, Open as AtOpen, Shut as AtShut}
+use Rattle.scoop_handler.specs.Marks.{block_of}
+use Rattle.scoop_handler.proofs.MarkLists.{mark_of-client, All-mark_of}
+use Rattle.scoop_model.specs.World.{World, Site, Party, is_site, is_party, party_of, inc_of, has_block, log_of}
+use Rattle.scoop_model.specs.Reach.{IsReached}
+use Rattle.scoop_model.specs.Told.{stored_of, TellsStored, TellsGreeted, HoldsOpenedOrOver, TellsHeld, TellsGranted, TellsOpened, HasOpenedAtAll, IsLeft, TellsUnlocked, AreOfLog, TellsLogged, TellsRan}
+use Rattle.scoop_model.proofs.Basics.{by_test}
+use Rattle.scoop_model.proofs.Stands.{Stands}
+use Rattle.scoop_model.proofs.Order.Facts.{IsGranted, Tells, SiteFits, PartyFits, all_at, all_found, all_more_of}
+use Rattle.scoop_model.proofs.Order.Lists.{same_block_itself}
+use Rattle.scoop_model.proofs.Logging.Facts.{Carries}
+use Rattle.scoop_model.proofs.Logging.Greetings.{Greets}
+use Rattle.scoop_model.proofs.Logging.Openings.{IsOpenedAtAll, IsGivenUp, Shows, SiteOpened, is_open_of}
+use Rattle.scoop_model.proofs.Answering.Facts.{TellsAnswer}
+use Rattle.scoop_model.proofs.Ready.Runs.{Facts, reached_facts, reached_keeps}
+use Rattle.scoop_model.proofs.Granting.{Granting, granting_kept, opens_granting}
+use Rattle.scoop_model.proofs.Order.Runs.{ordered_kept, opens_ordered}
+use Rattle.scoop_model.proofs.Order.Facts.{Ordered}
+use Rattle.scoop_model.proofs.Sound.Runs.{both_kept}
+
+-- ---- lists
+
+-- what stands in the front part of a list stands there in the whole
+slice_front : {A : Type 0} (xs ys : List A) (j : ℕ) (x : A) → slice_get xs j ≡ Some x → slice_get (xs ++ ys) j ≡ Some x
+slice_front [] ys j x e = absurd (cc)
+slice_front (y ∷ xs) ys zero x e = e
+slice_front (y ∷ xs) ys (suc j) x e = slice_front xs ys j x e
+
+-- and what stands behind it, so many places later
+slice_behind : {A : Type 0} (xs ys : List A) (i j : ℕ) → i ≡ length xs + j → slice_get (xs ++ ys) i ≡ slice_get ys j
+slice_behind [] ys i j e = let same : i ≡ j = omega (arith, e) in ap (slice_get ys) same
+slice_behind (x ∷ xs) ys zero j e = absurd (omega (arith, e))
+slice_behind (x ∷ xs) ys (suc i) j e = slice_behind xs ys i j (omega (arith, e))
+
+-- what is so of each element is so of one that the list contains
+contained : {A : Type 0} (P : A → Type 0) (xs : List A) (x : A) → AllByRecursion P xs → Contains xs x → P x
+contained P xs x all is = all_at P xs is.0 x (slice_get-get_or xs is.0 x is.1 ∙ ap Some is.2) all
+
+none_any : {A : Type 0} (test : A → _) (xs : List A) → list_any test xs ≡ false → AllByRecursion (λ x. test x ≡ false) xs
+none_any test [] e = tt
+none_any test (x ∷ xs) e =
+    by_test (λ t. test x ≡ t → (t || list_any test xs) ≡ false → (test x ≡ false) × AllByRecursion (λ y. test y ≡ false) xs) (test x)
+    (λ _ is f. absurd (true≢false f))
+    (λ _ is f. (is, none_any test xs f)) refl e
+
+module _ (w : World) (f : Facts w) where
+  -- ---- greetings
+
+  inc_stored : (c : ClientId) → inc_of w c ≡ stored_of c w
+  inc_stored c = by (party_of c w) refl
+    where
+      by : (o : Option Party) → party_of c w ≡ o → option_map_or (λ (p : Party). p.client.inc) o 0 ≡ option_map_or (λ (p : Party). p.stored) o 0
+      by None at = refl
+      by (Some p) at = (all_found (PartyFits w) (is_party c) w.parties p f.ordered.parties at).stored
+
+  tells_stored : (m : Message) → Greets w m → TellsStored w m
+  tells_stored m g = record { stored = λ h c inc is. let le = subst (Greets w) is g in let own = inc_stored c in omega (arith, le, own) }
+
+  tells_greeted : (m : Message) → Greets w m → TellsGreeted w m
+  tells_greeted m g = record {
+    greeted = λ h c inc is.
+        let t = subst (Greets w) is g in
+        record { site = t.site; found = t.found; mark = t.reached.mark; marked = t.reached.found; greeted = t.reached.upto.inc };
+  }
+
+  -- ---- locks
+
+  -- the client's mark is the block's own
+  module _ (h : HandlerId) (b : Block) (g : IsGranted w h b) where
+    abbrev site : Site
+    site = g.site
+
+    abbrev mark : Mark
+    mark = g.reached.mark
+
+    own_held : mark.inc ≡ b.inc → mark.num ≡ b.num → (stage : Stage) → mark.stage ≡ stage → HoldsOpenedOrOver w h b
+    own_held inc num AtHeld is = record {
+      site = site;
+      found = g.found;
+      is = inl ((all_found (SiteFits w.joint) (is_site h) w.sites site f.ordered.sites g.found).holds b (record { mark = mark; found = g.reached.found; inc = inc; num = num; stage = is }));
+    }
+    own_held inc num AtOpen is =
+        let client : mark.client ≡ b.client = mark_of-client b.client site.core.state.marks mark g.reached.found in
+        let own : block_of mark ≡ b = λ i. record { client = client i; inc = inc i; num = num i } in
+        let opens =
+        All-mark_of _ b.client site.core.state.marks mark (all_found (SiteOpened w) (is_site h) w.sites site f.openings.sites g.found).marks g.reached.found in
+        record { site = site; found = g.found; is = inr (inl (subst (λ y. has_block site.opened y ≡ true) own (opens.opened is))) }
+    own_held inc num AtShut is = record {
+      site = site;
+      found = g.found;
+      is = inr (inr (record { mark = mark; marked = g.reached.found; over = inr (inc, num, is) }));
+    }
+
+    same_inc_held : mark.inc ≡ b.inc → HoldsOpenedOrOver w h b
+    same_inc_held inc =
+        let le = g.reached.upto.num inc in
+        by_test (λ t. nat_lt b.num mark.num ≡ t → HoldsOpenedOrOver w h b) (nat_lt b.num mark.num)
+        (λ _ is.
+        let newer : b.num < mark.num = grind (arith, nat_tests) in
+        record { site = site; found = g.found; is = inr (inr (record { mark = mark; marked = g.reached.found; over = inl (inr (inc, newer)) })) })
+        (λ _ is.
+        let same : mark.num ≡ b.num = grind (arith, nat_tests) in
+        own_held inc same mark.stage refl) refl
+
+    granted_held : HoldsOpenedOrOver w h b
+    granted_held =
+        let le = g.reached.upto.inc in
+        by_test (λ t. nat_lt b.inc mark.inc ≡ t → HoldsOpenedOrOver w h b) (nat_lt b.inc mark.inc)
+        (λ _ is.
+        let newer : b.inc < mark.inc = grind (arith, nat_tests) in
+        record { site = site; found = g.found; is = inr (inr (record { mark = mark; marked = g.reached.found; over = inl (inl newer) })) })
+        (λ _ is.
+        let same : mark.inc ≡ b.inc = grind (arith, nat_tests) in
+        same_inc_held same) refl
+
+  tells_held : (m : Message) → Tells w m → TellsHeld w m
+  tells_held m t = record { held = λ h b is. granted_held h b (subst (Tells w) is t) }
+
+  -- ---- openings
+
+  opened_all : (b : Block) → IsOpenedAtAll w b → HasOpenedAtAll w b
+  opened_all b o = record { handlers = o.handlers; set = o.set; opened = o.opened }
+
+  is_left : (b : Block) → IsGivenUp w b → IsLeft w b
+  is_left b g = record {
+    unopened = λ h was. true≢false (sym (same_block_itself b) ∙ contained (λ m. is_open_of b m ≡ false) w.sent (Open h b) (none_any (is_open_of b) w.sent g.none) was);
+    given_up = λ p at r held own. g.left b.client p at r held own;
+  }
+
+  tells_opened : (m : Message) → Shows w m → TellsOpened w m
+  tells_opened m s = record { opened = λ h b is. subst (Shows w) is s }
+
+  tells_unlocked : (m : Message) → Shows w m → TellsUnlocked w m
+  tells_unlocked m s = record {
+    unlocked = λ h b is. ⊎_elim (λ (o : IsOpenedAtAll w b). inl (opened_all b o)) (λ (g : IsGivenUp w b). inr (is_left b g)) (subst (Shows w) is s).1;
+  }
+
+  -- ---- logs and answers
+
+  of_log : (log : List Entry) (n : ℕ) (es : List Entry) → Stands log n es → AreOfLog log n es
+  of_log log n es s =
+      let number = s.number in
+      record {
+        from = omega (arith, number);
+        each = λ j e at.
+            subst (λ xs. slice_get xs (n - 1 + j) ≡ Some e) (sym (append_assoc s.before es s.behind) ∙ s.all)
+            (slice_behind s.before (es ++ s.behind) (n - 1 + j) j (omega (arith, number)) ∙ slice_front es s.behind j e at);
+      }
+
+  tells_logged : (m : Message) → Carries w m → Shows w m → TellsLogged w m
+  tells_logged m c s = record { logged = λ h b n es is. (of_log (log_of b h w) n es (subst (Carries w) is c), opened_all b (subst (Shows w) is s).1) }
+
+  tells_ran : (m : Message) → TellsAnswer w m → TellsRan w m
+  tells_ran m t = record { ran = λ h b n a is. subst (TellsAnswer w) is t }
+
+-- ---- every message of a world that is reached
+
+both_all : {A : Type 0} (P Q R : A → Type 0) → ((a : A) → P a → Q a → R a) → (xs : List A) → AllByRecursion P xs → AllByRecursion Q xs → AllByRecursion R xs
+both_all P Q R f [] p q = tt
+both_all P Q R f (x ∷ xs) p q = (f x p.0 q.0, both_all P Q R f xs p.1 q.1)
+
+module _ (w : World) (r : IsReached w) where
+  facts : Facts w
+  facts = reached_facts w r
+
+  pub all_stored : AllByRecursion (TellsStored w) w.sent
+  all_stored = all_more_of (Greets w) (TellsStored w) (tells_stored w facts) w.sent facts.greetings.messages
+
+  pub all_greeted : AllByRecursion (TellsGreeted w) w.sent
+  all_greeted = all_more_of (Greets w) (TellsGreeted w) (tells_greeted w facts) w.sent facts.greetings.messages
+
+  pub all_held : AllByRecursion (TellsHeld w) w.sent
+  all_held = all_more_of (Tells w) (TellsHeld w) (tells_held w facts) w.sent facts.ordered.messages
+
+  pub all_granted : AllByRecursion (TellsGranted w) w.sent
+  all_granted =
+      (reached_keeps (λ v. Ordered v × Granting v) (λ v i. both_kept Ordered Granting v (ordered_kept v i.0) (granting_kept v i.0 i.1))
+      (λ ps ns may. (opens_ordered ps ns, opens_granting ps ns)) w r).1.messages
+
+  pub all_opened : AllByRecursion (TellsOpened w) w.sent
+  all_opened = all_more_of (Shows w) (TellsOpened w) (tells_opened w facts) w.sent facts.openings.messages
+
+  pub all_unlocked : AllByRecursion (TellsUnlocked w) w.sent
+  all_unlocked = all_more_of (Shows w) (TellsUnlocked w) (tells_unlocked w facts) w.sent facts.openings.messages
+
+  pub all_logged : AllByRecursion (TellsLogged w) w.sent
+  all_logged = both_all (Carries w) (Shows w) (TellsLogged w) (tells_logged w facts) w.sent facts.logging.messages facts.openings.messages
+
+  pub all_ran : AllByRecursion (TellsRan w) w.sent
+  all_ran = all_more_of (TellsAnswer w) (TellsRan w) (tells_ran w facts) w.sent facts.answering.messages

@@ -1,0 +1,5 @@
+mod Blocks
+mod Differences
+mod Seals
+mod Opening
+mod Sending

@@ -1,0 +1,5 @@
+pub mod Hmac
+pub mod Key
+pub mod Tag
+pub mod Sealed
+pub use Rattle.scoop_link.specs.Link

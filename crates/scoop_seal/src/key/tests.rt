@@ -1,0 +1,70 @@
+use super::*;
+use std::process::Abort;
+use std::test::Fail;
+
+const DIGITS: &[u8; 64] = b"000102030405060708090a0b0c0d0e0f101112131415161718191A1B1C1D1E1F";
+
+// A text that begins with the digits of a key, at most 70 bytes of these and the end.
+fn text_of<'a>(buffer: &'a mut [u8; 70], digits: &[u8], end: &[u8]) -> &'a [u8] {
+    let digits_len = digits.len().min(64);
+    let end_len = end.len().min(6);
+    buffer[..digits_len].copy_from_slice(&digits[..digits_len]);
+    buffer[digits_len..digits_len + end_len].copy_from_slice(&end[..end_len]);
+    &buffer[..digits_len + end_len]
+}
+
+// Why the text is no key.
+fn refusal(text: &[u8]) -> Option<KeyError> {
+    Key::read(text).err()
+}
+
+// The digits with this end are the key of the bytes from 0 to 31.
+fn is_read(rt: &impl Abort, end: &[u8]) {
+    let mut buffer = [0; 70];
+    match Key::read(text_of(&mut buffer, DIGITS, end)) {
+        Ok(key) => {
+            for (i, byte) in key.bytes().iter().enumerate() {
+                assert_eq!(rt; usize::from(*byte), i);
+            }
+        }
+        Err(_) => panic!(rt; "no key"),
+    }
+}
+
+// The digits with this end are no key.
+fn is_refused(rt: &impl Abort, digits: &[u8], end: &[u8], wanted: KeyError) {
+    let mut buffer = [0; 70];
+    let refused = refusal(text_of(&mut buffer, digits, end));
+    assert_eq!(rt; refused, Some(wanted));
+}
+
+#[test]
+fn a_key_has_an_end_of_line_or_none(rt: HostRuntime) {
+    is_read(&rt, b"");
+    is_read(&rt, b"\n");
+    is_read(&rt, b"\r\n");
+}
+
+#[test]
+fn other_texts_are_no_keys(rt: HostRuntime) {
+    for end in [b"0".as_slice(), b"00", b"\r", b"\n\n", b" \n", b"\n "] {
+        is_refused(&rt, DIGITS, end, KeyError::Length);
+    }
+    is_refused(&rt, b"", b"", KeyError::Length);
+    is_refused(&rt, b"", b"\n", KeyError::Length);
+    is_refused(&rt, &DIGITS[..62], b"\n", KeyError::Length);
+    is_refused(&rt, &DIGITS[..63], b"\n", KeyError::Length);
+    is_refused(&rt, &DIGITS[..63], b"g\n", KeyError::Digit);
+    is_refused(&rt, &DIGITS[..63], b"\n\n", KeyError::Digit);
+    is_refused(&rt, &DIGITS[..62], b"0x", KeyError::Digit);
+}
+
+#[test]
+fn refusals_say_nothing_of_the_key(rt: HostRuntime) -> Result<(), Fail> {
+    let text = format!(in rt.alloc(); "{}, {}", KeyError::Length, KeyError::Digit)?;
+    assert_eq!(rt;
+        text.as_str(),
+        "a key has 64 hex digits, a key has hex digits alone"
+    );
+    Ok(())
+}

@@ -1,0 +1,160 @@
+//! A link whose datagrams carry a tag.
+
+ghost use Rattle.std.specs.Prelude.{◌≡◌, ◌≤◌, ◌<◌, [], None, length, IfOk, IfSome};
+ghost use Rattle.scoop_link.specs.Link.{CountsFault, Exchanges, taken_by};
+ghost use Rattle.scoop_seal.specs.Tag.{sealed};
+ghost use Rattle.scoop_seal.specs.Sealed.{seals, fault_sum, own_after, gone, Opens, IsTagged, TakesOne};
+
+use crate::key::Key;
+use crate::tag::{MOST_BYTES, opened, seal};
+use scoop_link::{Link, LinkFault, Party};
+use scoop_message::limits::BUFFER_LEN;
+use std::marker::Model;
+
+// Datagrams that one receive takes, at most.
+const MOST_TAKEN: usize = 64;
+
+/// What one receive of the link behind gave: nothing, a datagram without the right tag, or so many bytes
+/// with it.
+pub enum Taken {
+    /// Nothing.
+    Nothing,
+    /// A datagram that was not sealed.
+    Forged,
+    /// So many bytes with their tag behind them.
+    Genuine(usize),
+}
+
+/// A link that sends bytes sealed, and gives only those that were sealed with its key.
+///
+/// Behind the bytes stand the first sixteen bytes of their code by RFC 2104 with SHA-256 and the key. A
+/// send of more than 176 bytes is a fault of its own. A receive takes datagrams from the link behind, at
+/// most 64, until one has the right tag, and gives the bytes before that; the others are counted. It gives
+/// nothing where nothing came or none of the 64 had the right tag. Its count of faults is that of its own
+/// ones and those of the link behind.
+///
+/// Who has not the key can't make a datagram that is given, but can repeat one that was sent. Nothing is
+/// kept secret. Contracts see the link behind it, the key and both counts. It doesn't tell its datagrams.
+#[derive(Drop)]
+pub struct SealedLink<L> {
+    inner: L,
+    key: Key,
+    refused: u64,
+    faults: u64,
+}
+
+impl<L> Model for SealedLink<L> {
+    ghost use Rattle.scoop_seal.specs.Sealed.{SealedValue};
+
+    ghost Value = { SealedValue L };
+
+    ghost view = { λ s. record { inner = s.inner; key = s.key; refused = s.refused; faults = s.faults } };
+}
+
+impl<L: Link> SealedLink<L> {
+    /// Seals what goes by the link with the key.
+    pub fn new(inner: L, key: Key) -> SealedLink<L>
+        ensures { result ≡ seals inner key }
+    {
+        SealedLink {
+            inner,
+            key,
+            refused: 0,
+            faults: 0,
+        }
+    }
+
+    /// The link behind this one.
+    pub fn inner(&self) -> &L
+        ensures { result.now ≡ self.now.inner }
+    {
+        &self.inner
+    }
+
+    /// How many datagrams were taken that had not the right tag. The count stops at 2^64-1.
+    pub fn refused(&self) -> u64
+        ensures { result ≡ self.now.refused }
+    {
+        self.refused
+    }
+
+    // How many sends and receives failed, here and in the link behind.
+    fn count(&self) -> u64
+        ensures { result ≡ fault_sum self.now.faults (L.fault_count self.now.inner) }
+    {
+        self.faults.saturating_add(self.inner.faults())
+    }
+
+    // Takes one datagram from the link behind.
+    fn take(&mut self, buffer: &mut [u8; BUFFER_LEN]) -> Result<Taken, LinkFault>
+        ensures faults { CountsFault result (L.fault_count self.old.inner) (L.fault_count self.new.inner) }
+        ensures taken { TakesOne result self.old.key (L.told self.old.inner) (L.told self.new.inner) self.old.refused self.new.refused buffer.new }
+        ensures others { (self.new.key ≡ self.old.key) × (self.new.faults ≡ self.old.faults) }
+    {
+        let Some(len) = self.inner.receive(buffer)? else {
+            return Ok(Taken::Nothing);
+        };
+        match opened(&self.key, &buffer[..len]) {
+            Some(len) => Ok(Taken::Genuine(len)),
+            None => {
+                self.refused = self.refused.saturating_add(1);
+                Ok(Taken::Forged)
+            }
+        }
+    }
+}
+
+impl<L: Link> Link for SealedLink<L> {
+    ghost told = { λ _. None };
+
+    ghost fault_count = { λ s. fault_sum s.faults (L.fault_count s.inner) };
+
+    fn send(&mut self, to: Party, bytes: &[u8]) -> Result<(), LinkFault>
+        ensures faults { CountsFault result (fault_sum self.old.faults (L.fault_count self.old.inner)) (fault_sum self.new.faults (L.fault_count self.new.inner)) }
+
+        ensures too_long { MOST_BYTES < length bytes.now → self.new ≡ record self.old { faults = own_after self.old.faults (L.fault_count self.old.inner) } }
+        ensures sealed { length bytes.now ≤ MOST_BYTES → Exchanges (L.told self.old.inner) (L.told self.new.inner) [] (gone (L.fault_count self.old.inner) (L.fault_count self.new.inner) to (sealed self.old.key bytes.now)) }
+        ensures others { length bytes.now ≤ MOST_BYTES → self.new ≡ record self.old { inner = self.new.inner } }
+    {
+        let full = self.count() == u64::MAX;
+        if bytes.len() > MOST_BYTES {
+            if full {
+                return Ok(());
+            }
+            self.faults += 1;
+            return Err(LinkFault);
+        }
+        let mut buffer = [0; BUFFER_LEN];
+        let len = seal(&self.key, bytes, &mut buffer);
+        let sent = self.inner.send(to, &buffer[..len]);
+        if full { Ok(()) } else { sent }
+    }
+
+    fn receive(&mut self, buffer: &mut [u8; BUFFER_LEN]) -> Result<Option<usize>, LinkFault>
+        ensures in_bounds { IfOk result (λ got. IfSome got (λ n. n ≤ BUFFER_LEN)) }
+        ensures faults { CountsFault result (fault_sum self.old.faults (L.fault_count self.old.inner)) (fault_sum self.new.faults (L.fault_count self.new.inner)) }
+
+        ensures opened { Opens self.old.key (L.told self.old.inner) (L.told self.new.inner) self.old.refused self.new.refused (taken_by result buffer.new) }
+        ensures tagged { IfOk result (λ got. IfSome got (IsTagged self.old.key buffer.new)) }
+        ensures others { (self.new.key ≡ self.old.key) × (self.new.faults ≡ self.old.faults) }
+    {
+        for _ in 0..MOST_TAKEN {
+            let full = self.count() == u64::MAX;
+            match self.take(buffer) {
+                Ok(Taken::Forged) => {}
+                Ok(Taken::Nothing) => return Ok(None),
+                Ok(Taken::Genuine(len)) => return Ok(Some(len)),
+                Err(_) if full => return Ok(None),
+                Err(fault) => return Err(fault),
+            }
+        }
+        Ok(None)
+    }
+
+    fn faults(&self) -> u64 {
+        self.count()
+    }
+}
+
+#[cfg(test)]
+mod tests;

@@ -1,0 +1,49 @@
+-- The first place of a message that was sent is one at which it was sent.
+use Rattle.std.proofs.Common.{◌≡◌, ℕ, zero, suc, ◌+◌, ◌-◌, ◌<◌, ◌==◌, false, true≢false, List, [], ◌∷◌, length, get_or, slice_get, Some, None, refl, sym, ap, ◌∙◌, arith}
+use Rattle.std.specs.Prelude.{if◌then◌else◌, Contains}
+use Rattle.std.proofs.lemmas.Bool.Decides.{Decides-eqb}
+use Rattle.scoop_message.specs.contracts.message.MessagePartialEq.TheImpl as on_message
+use Rattle.scoop_message.specs.declared.message.Message.{Message}
+use Rattle.scoop_message.proofs.Same.{message_decides}
+use Rattle.scoop_model.specs.World.{World, sent_at}
+use Rattle.scoop_model.proofs.Basics.{by_test}
+use Rattle.scoop_weave.specs.Histories.{place_in}
+
+record IsAt (xs : List Message) (m : Message) (p : ℕ) : Type 0 where
+  place : ℕ
+  next : p ≡ suc place
+  found : slice_get xs place ≡ Some m
+
+later : (x : Message) (xs : List Message) (m : Message) (p : ℕ) → IsAt xs m p → IsAt (x ∷ xs) m (p + 1)
+later x xs m p at = record { place = suc at.place; next = (let e = at.next in omega arith); found = at.found }
+
+in_rest : (x : Message) (xs : List Message) (m : Message) (k : ℕ) → k < length (x ∷ xs) → get_or (x ∷ xs) k m ≡ m → on_message.eq-value.it x m ≡ false → Contains xs m
+in_rest x xs m zero within is other = absurd (true≢false (sym ((message_decides x m).1 is) ∙ other))
+in_rest x xs m (suc k) within is other = (k, omega arith, is)
+
+none_in : (m : Message) (k : ℕ) → k < length {A = Message} [] → ⊥
+none_in m k within = omega arith
+
+placed : (xs : List Message) (m : Message) → Contains xs m → IsAt xs m (place_in xs m)
+placed [] m c = absurd (none_in m c.0 c.1)
+placed (x ∷ xs) m c =
+    by_test (λ t. on_message.eq-value.it x m ≡ t → IsAt (x ∷ xs) m (if t then 1 else place_in xs m + 1)) (on_message.eq-value.it x m)
+    (λ _ here. record { place = 0; next = refl; found = ap Some ((message_decides x m).0 here) })
+    (λ _ other. later x xs m (place_in xs m) (placed xs m (in_rest x xs m c.0 c.1 c.2 other)))
+    refl
+
+not_zero : (k : ℕ) → suc k ≡ 0 → ⊥
+not_zero k e = omega arith
+
+at_place : (w : World) (k : ℕ) → sent_at (suc k) w ≡ slice_get w.sent k
+at_place w k =
+    let back : suc k - 1 ≡ k = omega arith in
+    by_test (λ t. suc k == 0 ≡ t → (if t then None else slice_get w.sent (suc k - 1)) ≡ slice_get w.sent k) (suc k == 0)
+    (λ _ e. absurd (not_zero k ((Decides-eqb (suc k) 0).0 e)))
+    (λ _ e. ap (slice_get w.sent) back)
+    refl
+
+pub sent_there : (w : World) (m : Message) → Contains w.sent m → sent_at (place_in w.sent m) w ≡ Some m
+sent_there w m c =
+    let p = placed w.sent m c in
+    ap (λ i. sent_at i w) p.next ∙ at_place w p.place ∙ p.found

@@ -1,0 +1,106 @@
+-- A list of items of which those that a step concerns go on, and the others stay.
+use Rattle.std.proofs.Common.{◌≡◌, ℕ, suc, Bool, true, false, true≢false, List, [], ◌∷◌, map, find, slice_get, Some, refl, sym, ap, ◌∙◌, subst}
+use Rattle.std.specs.Prelude.{⊤, if◌then◌else◌}
+use Rattle.std.specs.Bool.{Decides}
+use Rattle.scoop_model.specs.Safe.{NoRepeats}
+use Rattle.scoop_model.proofs.Basics.{by_test}
+use Rattle.scoop_weave.proofs.Lists.{itself, apart, from_false, rest_once, none_later, untouched}
+
+-- the item goes on where the step concerns it
+pub data StepAt {A : Type 0} (R : A → A → Type 0) (x : A) : Bool → A → Type 0 where
+  goes : (u : A) → R x u → StepAt R x true u
+  stays : StepAt R x false x
+
+pub gone : {A : Type 0} (R : A → A → Type 0) (x u : A) (b : Bool) → StepAt R x b u → b ≡ true → R x u
+gone R x u true (goes y r) e = r
+gone R x u false stays e = absurd (true≢false (sym e))
+
+pub stayed : {A : Type 0} (R : A → A → Type 0) (x u : A) (b : Bool) → StepAt R x b u → b ≡ false → u ≡ x
+stayed R x u true (goes y r) e = absurd (true≢false e)
+stayed R x u false stays e = refl
+
+module _ {A K : Type 0} (key : A → K) (same : K → K → Bool) (decides : (a b : K) → Decides (same a b) (a ≡ b)) (R : A → A → Type 0) (on : A → Bool) where
+  -- and each keeps its key
+  abbrev pub EachStep : List A → List A → Type 0
+  EachStep [] [] = ⊤
+  EachStep [] (u ∷ us) = ⊥
+  EachStep (x ∷ xs) [] = ⊥
+  EachStep (x ∷ xs) (u ∷ us) = StepAt R x (on x) u × (key u ≡ key x) × EachStep xs us
+
+  pub keys_stay : (xs us : List A) → EachStep xs us → map key us ≡ map key xs
+  keys_stay [] [] all = refl
+  keys_stay [] (u ∷ us) all = absurd all
+  keys_stay (x ∷ xs) [] all = absurd all
+  keys_stay (x ∷ xs) (u ∷ us) all = ap (λ k. k ∷ map key us) all.1 ∙ ap (λ ks. key x ∷ ks) (keys_stay xs us all.2)
+
+  pub all_stay : (xs us : List A) → EachStep xs us → ((x : A) → on x ≡ false) → us ≡ xs
+  all_stay [] [] all none = refl
+  all_stay [] (u ∷ us) all none = absurd all
+  all_stay (x ∷ xs) [] all none = absurd all
+  all_stay (x ∷ xs) (u ∷ us) all none = ap (λ y. y ∷ us) (stayed R x u (on x) all.0 (none x)) ∙ ap (λ ys. x ∷ ys) (all_stay xs us all.2 none)
+
+  -- where the step is a function, and leaves what it doesn't concern
+  pub all_go : (f : A → A) (xs us : List A) → EachStep xs us → ((x u : A) → R x u → u ≡ f x) → ((x : A) → on x ≡ false → f x ≡ x) → us ≡ map f xs
+  all_go f [] [] all is other = refl
+  all_go f [] (u ∷ us) all is other = absurd all
+  all_go f (x ∷ xs) [] all is other = absurd all
+  all_go f (x ∷ xs) (u ∷ us) all is other =
+      let here : u ≡ f x =
+      by_test (λ b. on x ≡ b → u ≡ f x) (on x)
+      (λ _ e. is x u (gone R x u (on x) all.0 e))
+      (λ _ e. stayed R x u (on x) all.0 e ∙ sym (other x e)) refl in
+      ap (λ y. y ∷ us) here ∙ ap (λ ys. f x ∷ ys) (all_go f xs us all.2 is other)
+
+  -- the step concerns the items of one key
+  module _ (k : K) (at : (x : A) → on x ≡ same k (key x)) where
+    away : (x : A) → (key x ≡ k → ⊥) → on x ≡ false
+    away x differ = at x ∙ apart same decides k (key x) (λ e. differ (sym e))
+
+    others_stay : (xs us : List A) → EachStep xs us → ((j : ℕ) → slice_get (map key xs) j ≡ Some k → ⊥) → us ≡ xs
+    others_stay [] [] all none = refl
+    others_stay [] (u ∷ us) all none = absurd all
+    others_stay (x ∷ xs) [] all none = absurd all
+    others_stay (x ∷ xs) (u ∷ us) all none =
+        ap (λ y. y ∷ us) (stayed R x u (on x) all.0 (away x (λ e. none 0 (ap Some e))))
+        ∙ ap (λ ys. x ∷ ys) (others_stay xs us all.2 (λ j e. none (suc j) e))
+
+    pub record GoesAt (s : A) (xs us : List A) : Type 0 where
+      pub new : A
+      pub moves : R s new
+      pub keeps : key new ≡ key s
+      pub after : us ≡ map (λ x. if same (key x) (key new) then new else x) xs
+
+    pub one_goes : (xs us : List A) (s : A) → EachStep xs us → NoRepeats (map key xs) → find (λ a. same (key a) k) xs ≡ Some s → key s ≡ k → GoesAt s xs us
+    one_goes [] us s all once found own = absurd (cc)
+    one_goes (x ∷ xs) [] s all once found own = absurd all
+    one_goes (x ∷ xs) (u ∷ us) s all once found own =
+        by_test (λ t. same (key x) k ≡ t → (if t then Some x else find (λ a. same (key a) k) xs) ≡ Some s → GoesAt s (x ∷ xs) (u ∷ us)) (same (key x) k)
+        (λ _ here is.
+        let this : x ≡ s = cc in
+        let x_key : key x ≡ k = (decides (key x) k).0 here in
+        let u_key : key u ≡ k = all.1 ∙ x_key in
+        let moves : R x u = gone R x u (on x) all.0 (at x ∙ ap (same k) x_key ∙ itself same decides k) in
+        let none : (j : ℕ) → slice_get (map key xs) j ≡ Some k → ⊥ = λ j e. none_later key same decides x xs once j (e ∙ ap Some (sym x_key)) in
+        let rest : us ≡ map (λ y. if same (key y) (key u) then u else y) xs =
+        others_stay xs us all.2 none ∙ sym (untouched key same decides u xs (λ j e. none j (e ∙ ap Some u_key))) in
+        let head : (if same (key x) (key u) then u else x) ≡ u = ap (λ t. if t then u else x) (ap (same (key x)) all.1 ∙ itself same decides (key x)) in
+        record {
+          new = u;
+          moves = subst (λ y. R y u) this moves;
+          keeps = all.1 ∙ ap key this;
+          after = ap (λ ys. u ∷ ys) rest ∙ ap (λ y. y ∷ map (λ y. if same (key y) (key u) then u else y) xs) (sym head);
+        })
+        (λ _ there is.
+        let later = one_goes xs us s all.2 (rest_once key same decides x xs once) is own in
+        let new_key : key later.new ≡ k = later.keeps ∙ own in
+        let other : u ≡ x = stayed R x u (on x) all.0 (away x (from_false same decides (key x) k there)) in
+        let head : (if same (key x) (key later.new) then later.new else x) ≡ x = ap (λ t. if t then later.new else x) (ap (same (key x)) new_key ∙ there) in
+        record {
+          new = later.new;
+          moves = later.moves;
+          keeps = later.keeps;
+          after =
+              ap (λ y. y ∷ us) (other ∙ sym head)
+              ∙ ap (λ ys. (if same (key x) (key later.new) then later.new else x) ∷ ys) later.after;
+        })
+        refl found

@@ -1,0 +1,50 @@
+//! Nodes and clients that run side by side.
+
+ghost use Rattle.std.specs.Prelude.{List};
+ghost use Rattle.scoop_model.specs.declared.event.Event.{Event as WorldEvent};
+ghost use Rattle.scoop_model.specs.Step.{Placement, Newcomer, opening};
+ghost use Rattle.scoop_model.specs.Reach.{steps};
+ghost use Rattle.scoop_model.specs.Opening.{MayOpen};
+ghost use Rattle.scoop_weave.specs.System.{LocalClient, System};
+ghost use Rattle.scoop_weave.specs.Moves.{LocalMove};
+ghost use Rattle.scoop_weave.specs.Parties.{ClientRuns, IsWoven};
+ghost use Rattle.scoop_weave.specs.Driving.{DriverStep, AllCan, walk, moves_of_steps};
+ghost use Rattle.scoop_weave.specs.Nodes.{IsWovenOfNodes};
+ghost use Rattle.scoop_weave.specs.Weave.{Weave, IsWorld, IsOfWeave};
+
+/// Where each handler's and each client's own moves lead it by themselves, from how it opens to how it is now, and
+/// each message that is heard was sent before, all moves one after another lead the whole system there.
+pub fn woven_is_a_weave()
+    ensures { (placements : List Placement) (newcomers : List Newcomer) (moves : List LocalMove) (now : System) → MayOpen placements newcomers → IsWoven placements newcomers moves now → Weave placements newcomers moves now }
+{}
+
+/// What handlers and clients do, each by itself, in any order in which a message is heard only after it was sent, is
+/// what happens in a world: so what they tell of themselves is safe, and a run of the written rules.
+pub fn weave_is_a_world()
+    ensures { (placements : List Placement) (newcomers : List Newcomer) (moves : List LocalMove) (now : System) → MayOpen placements newcomers → Weave placements newcomers moves now → IsWorld placements newcomers moves now }
+{}
+
+/// Nothing is left out: every world that events lead to is that of a weave.
+pub fn world_is_of_a_weave()
+    ensures { (placements : List Placement) (newcomers : List Newcomer) (events : List WorldEvent) → MayOpen placements newcomers → IsOfWeave placements newcomers (steps (opening placements newcomers) events) }
+{}
+
+/// Where each node's own list leads its handlers by itself, one handler at a time and all of them where it restarts, so
+/// does what the list has of each handler.
+pub fn nodes_are_woven()
+    ensures { (placements : List Placement) (newcomers : List Newcomer) (moves : List LocalMove) (now : System) → MayOpen placements newcomers → IsWovenOfNodes placements newcomers moves now → IsWoven placements newcomers moves now }
+{}
+
+/// The promise for a running system. Take nodes and clients that run side by side, each with its own list of what it did,
+/// from how it opened, its restarts among them, and one list of all of it in which each message that is heard was sent
+/// before. Whatever was lost, repeated, delayed or brought to the wrong party, the handlers opened their blocks in the
+/// order of one common list, ran what was logged block after block, and answered right, and all of it is a run of the
+/// written rules.
+pub fn system_is_a_world()
+    ensures { (placements : List Placement) (newcomers : List Newcomer) (moves : List LocalMove) (now : System) → MayOpen placements newcomers → IsWovenOfNodes placements newcomers moves now → IsWorld placements newcomers moves now }
+{}
+
+/// What a driver does by steps, its commands and its turns, is what its client's own moves do.
+pub fn drivers_move()
+    ensures { (client : LocalClient) (steps : List DriverStep) → AllCan client steps → ClientRuns client (moves_of_steps client steps) (walk client steps) }
+{}
