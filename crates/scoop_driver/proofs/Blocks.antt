@@ -24,7 +24,7 @@ use Rattle.scoop_client.specs.Line.{LineState, all_over, acknowledged, at_line}
 use Rattle.scoop_client.specs.State.{ClientState, phase_of, phase_of_block, block_of, idle, with_lines, with_reservation}
 use Rattle.scoop_client.specs.Hearing.{heard, after_step, stepped, up_to}
 use Rattle.scoop_client.specs.Commands.{Outcome, Reserve, command, next_block}
-use Rattle.scoop_client.specs.Rows.{HeardRow, passed_over, is_welcomed, takes_step, is_acknowledged, is_accepted, ReserveRow, reserve_ungreeted, reserve_busy, reserve_spent, reserve_refused, begins_block}
+use Rattle.scoop_client.specs.Rows.{HeardRow, passed_over, is_welcomed, takes_step, is_acknowledged, is_accepted, ReserveRow, reserve_not_greeted, reserve_not_idle, reserve_spent, reserve_refused, begins_block}
 use Rattle.scoop_client.proofs.Rows.{heard_row}
 use Rattle.scoop_client.proofs.CommandRows.{command_row}
 use Rattle.scoop_driver.specs.declared.step.Step.{Step}
@@ -140,8 +140,8 @@ block_after (Ok d) = block_of d.reservation
 block_after (Err e) = None
 
 reserves_next : (c d : ClientState) (hs : List HandlerId) (o : Outcome) → ReserveRow c hs o → o ≡ Ok d → block_of d.reservation ≡ Some (next_block c)
-reserves_next c d hs o (reserve_ungreeted g) is = cc
-reserves_next c d hs o (reserve_busy b) is = cc
+reserves_next c d hs o (reserve_not_greeted g) is = cc
+reserves_next c d hs o (reserve_not_idle b i) is = cc
 reserves_next c d hs o (reserve_spent i s) is = cc
 reserves_next c d hs o (reserve_refused x i f s) is = cc
 reserves_next c d hs o (begins_block r i f s) is = sym (ap block_after is) ∙ ap Some (started_block (next_block c) hs c.handlers r s)

@@ -17,15 +17,15 @@ use Rattle.scoop_client.specs.declared.error.ClientError.TheVariants.{NotGreeted
 use Rattle.scoop_client.specs.Line.{logged}
 use Rattle.scoop_client.specs.State.{ClientState}
 use Rattle.scoop_client.specs.Commands.{Command, Outcome, Reserve, DoCall, DoQuery, DoEnd, GiveUp, command, next_block, IsRefused, CommandedAlways}
-use Rattle.scoop_client.specs.Rows.{CommandRow, ReserveRow, LogRow, EndRow, GiveUpRow, reserve_ungreeted, reserve_busy, reserve_spent, reserve_refused, begins_block, log_ungreeted, log_without_block, log_waiting, log_unreserved, log_window_full, log_spent, is_logged, end_ungreeted, end_without_block, end_waiting, end_window_full, ends_block, give_up_ungreeted, give_up_without_block, give_up_too_late, gives_up}
+use Rattle.scoop_client.specs.Rows.{CommandRow, ReserveRow, LogRow, EndRow, GiveUpRow, reserve_not_greeted, reserve_not_idle, reserve_spent, reserve_refused, begins_block, log_not_greeted, log_no_block, log_waiting, log_not_reserved, log_window_full, log_spent, is_logged, end_not_greeted, end_no_block, end_waiting, end_window_full, ends_block, give_up_not_greeted, give_up_no_block, give_up_too_late, gives_up}
 use Rattle.scoop_client.proofs.CommandRows.{command_row}
 use Rattle.scoop_driver.specs.Calls.{IsRefusal, IsTakeable}
 
 -- ---- reserving
 
 reserve_refusal : (c : ClientState) (hs : List HandlerId) (o : Outcome) (e : ClientError) → ReserveRow c hs o → o ≡ Err e → IsRefusal o e
-reserve_refusal c hs o e (reserve_ungreeted g) is = (let same : e ≡ NotGreeted = cc in rw same refl)
-reserve_refusal c hs o e (reserve_busy b) is = (let same : e ≡ NotIdle = cc in rw same refl)
+reserve_refusal c hs o e (reserve_not_greeted g) is = (let same : e ≡ NotGreeted = cc in rw same refl)
+reserve_refusal c hs o e (reserve_not_idle b i) is = (let same : e ≡ NotIdle = cc in rw same refl)
 reserve_refusal c hs o e (reserve_spent i s) is = (let same : e ≡ Spent = cc in rw same refl)
 reserve_refusal c hs o e (reserve_refused x i f s) is = (let same : e ≡ NotReservable x = cc in rw same refl)
 reserve_refusal c hs o e (begins_block r i f s) is = cc
@@ -35,9 +35,9 @@ pub reserve_is_refused : (c : ClientState) (hs : List HandlerId) (e : ClientErro
 reserve_is_refused c hs e is = reserve_refusal c hs (command c (Reserve hs)) e (command_row c (Reserve hs)) is
 
 give_up_refusal : (c : ClientState) (o : Outcome) (e : ClientError) → GiveUpRow c o → o ≡ Err e → IsRefusal o e
-give_up_refusal c o e (give_up_ungreeted g) is = (let same : e ≡ NotGreeted = cc in rw same refl)
-give_up_refusal c o e (give_up_without_block b) is = (let same : e ≡ NoBlock = cc in rw same refl)
-give_up_refusal c o e (give_up_too_late b) is = (let same : e ≡ TooLate = cc in rw same refl)
+give_up_refusal c o e (give_up_not_greeted g) is = (let same : e ≡ NotGreeted = cc in rw same refl)
+give_up_refusal c o e (give_up_no_block b) is = (let same : e ≡ NoBlock = cc in rw same refl)
+give_up_refusal c o e (give_up_too_late b i l) is = (let same : e ≡ TooLate = cc in rw same refl)
 give_up_refusal c o e (gives_up r s l h g) is = cc
 
 not_ok : {P : Type 0} → false ≡ true → P
@@ -81,8 +81,8 @@ few_started c hs r is =
     few_or_none (length hs == 0) (length hs) (unless_repeated (fresh (next_block c) hs) (first_repeated hs) (first_unknown c.handlers hs)) (subst IsOk (sym is) refl)
 
 few_taken : (c : ClientState) (hs : List HandlerId) (o : Outcome) → ReserveRow c hs o → IsOk o → length hs ≤ MAX_BLOCK_HANDLERS
-few_taken c hs o (reserve_ungreeted g) h = not_ok h
-few_taken c hs o (reserve_busy b) h = not_ok h
+few_taken c hs o (reserve_not_greeted g) h = not_ok h
+few_taken c hs o (reserve_not_idle b i) h = not_ok h
 few_taken c hs o (reserve_spent i s) h = not_ok h
 few_taken c hs o (reserve_refused x i f s) h = not_ok h
 few_taken c hs o (begins_block r i f s) h = few_started c hs r s
@@ -97,10 +97,10 @@ waits_of (Ok d) = d.waits
 waits_of (Err e) = None
 
 query_row : (c d : ClientState) (h : HandlerId) (r : Request) (o : Outcome) → LogRow c h (Asked r) o → o ≡ Ok d → (n : ℕ) × (d.waits ≡ Some (h, n))
-query_row c d h r o (log_ungreeted g) is = cc
-query_row c d h r o (log_without_block b) is = cc
+query_row c d h r o (log_not_greeted g) is = cc
+query_row c d h r o (log_no_block b k) is = cc
 query_row c d h r o (log_waiting w p q) is = cc
-query_row c d h r o (log_unreserved p q l) is = cc
+query_row c d h r o (log_not_reserved p q l) is = cc
 query_row c d h r o (log_window_full l p q s f) is = cc
 query_row c d h r o (log_spent l p q s f n) is = cc
 query_row c d h r o (is_logged l p q s f n) is = (logged l + 1, sym (ap waits_of is))
@@ -112,32 +112,32 @@ query_waits c d h r is = query_row c d h r (command c (DoQuery h r)) (command_ro
 -- ---- memory
 
 reserve_wants : (c : ClientState) (hs : List HandlerId) (o : Outcome) → ReserveRow c hs o → o ≡ Err OutOfMemory → ⊥
-reserve_wants c hs o (reserve_ungreeted g) is = cc
-reserve_wants c hs o (reserve_busy b) is = cc
+reserve_wants c hs o (reserve_not_greeted g) is = cc
+reserve_wants c hs o (reserve_not_idle b i) is = cc
 reserve_wants c hs o (reserve_spent i s) is = cc
 reserve_wants c hs o (reserve_refused x i f s) is = cc
 reserve_wants c hs o (begins_block r i f s) is = cc
 
 log_wants : (c : ClientState) (h : HandlerId) (e : Entry) (o : Outcome) → LogRow c h e o → o ≡ Err OutOfMemory → ⊥
-log_wants c h e o (log_ungreeted g) is = cc
-log_wants c h e o (log_without_block b) is = cc
+log_wants c h e o (log_not_greeted g) is = cc
+log_wants c h e o (log_no_block b r) is = cc
 log_wants c h e o (log_waiting w p q) is = cc
-log_wants c h e o (log_unreserved p q l) is = cc
+log_wants c h e o (log_not_reserved p q l) is = cc
 log_wants c h e o (log_window_full l p q s f) is = cc
 log_wants c h e o (log_spent l p q s f n) is = cc
 log_wants c h e o (is_logged l p q s f n) is = cc
 
 end_wants : (c : ClientState) (o : Outcome) → EndRow c o → o ≡ Err OutOfMemory → ⊥
-end_wants c o (end_ungreeted g) is = cc
-end_wants c o (end_without_block b) is = cc
+end_wants c o (end_not_greeted g) is = cc
+end_wants c o (end_no_block b r) is = cc
 end_wants c o (end_waiting w p q) is = cc
 end_wants c o (end_window_full h p q f) is = cc
 end_wants c o (ends_block p q f) is = cc
 
 give_up_wants : (c : ClientState) (o : Outcome) → GiveUpRow c o → o ≡ Err OutOfMemory → ⊥
-give_up_wants c o (give_up_ungreeted g) is = cc
-give_up_wants c o (give_up_without_block b) is = cc
-give_up_wants c o (give_up_too_late b) is = cc
+give_up_wants c o (give_up_not_greeted g) is = cc
+give_up_wants c o (give_up_no_block b) is = cc
+give_up_wants c o (give_up_too_late b i l) is = cc
 give_up_wants c o (gives_up r s l h g) is = cc
 
 wants : (c : ClientState) (x : Command) (o : Outcome) → CommandRow c x o → o ≡ Err OutOfMemory → ⊥

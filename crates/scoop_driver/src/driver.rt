@@ -80,14 +80,17 @@ impl<L: Link, D: Diary<A>, A: Allocator> Driver<L, D, A> {
 
     /// Its link.
     pub fn link(&self) -> &L
-        ensures { result.now ≡ self.now.link }
+        ensures link { result.now ≡ self.now.link }
+        ensures told { self.now.seen.told ≡ L.told result.now }
+        ensures faults { self.now.seen.faults ≡ L.fault_count result.now }
     {
         &self.link
     }
 
     /// Its diary.
     pub fn diary(&self) -> &D
-        ensures { result.now ≡ self.now.diary }
+        ensures diary { result.now ≡ self.now.diary }
+        ensures steps { self.now.seen.diary ≡ D.steps result.now }
     {
         &self.diary
     }
@@ -105,7 +108,9 @@ impl<L: Link, D: Diary<A>, A: Allocator> Driver<L, D, A> {
 }
 
 impl<L: Link, D: Diary<A>, A: Allocator + Clone> Driver<L, D, A> {
-    /// Begins a block over these handlers, and takes turns until it runs.
+    /// Begins a block over these handlers, and takes turns until it runs. Refused, in this order, as the
+    /// client refuses it, before any turn; then with `TurnsOver` or `LinkFault`, where the block may go on
+    /// by further turns, or be given up.
     pub fn reserve(&mut self, handlers: &[HandlerId]) -> Result<(), DriverError>
         ensures does { Called (Reserve handlers.now) self.old.turns result self.old.seen self.new.seen }
         ensures runs { OnOk result (RunsNext self.old.seen.client self.new.seen.client) }
@@ -123,9 +128,12 @@ impl<L: Link, D: Diary<A>, A: Allocator + Clone> Driver<L, D, A> {
     }
 
     /// Logs a call. Where the window at the handler is full it first takes turns until there is room.
+    /// Refused, in this order, as the client refuses it, with `TurnsOver` where there is still no room, and
+    /// with `LinkFault`.
     pub fn call(&mut self, handler: HandlerId, request: Request) -> Result<(), DriverError>
         ensures does { Called (DoCall handler request) self.old.turns result self.old.seen self.new.seen }
         ensures turns { self.new.turns ≡ self.old.turns }
+        ensures memory { result ≡ Err (DriverError.Client ClientError.OutOfMemory) → D.wants_memory }
     {
         match self.log(&Command::Call(handler, request)) {
             Ok(_) => Ok(()),
@@ -134,10 +142,12 @@ impl<L: Link, D: Diary<A>, A: Allocator + Clone> Driver<L, D, A> {
     }
 
     /// Logs a query, and takes turns until its answer is accepted. Where the window at the handler is full
-    /// it first takes turns until there is room.
+    /// it first takes turns until there is room. Refused as `call`; after `TurnsOver` and `LinkFault` the
+    /// query may be logged, and further turns go on to its answer.
     pub fn query(&mut self, handler: HandlerId, request: Request) -> Result<Answer, DriverError>
         ensures does { Queried handler request self.old.turns result self.old.seen self.new.seen }
         ensures turns { self.new.turns ≡ self.old.turns }
+        ensures memory { result ≡ Err (DriverError.Client ClientError.OutOfMemory) → D.wants_memory }
     {
         match self.log(&Command::Query(handler, request)) {
             Ok(turns) => self.answer_of(handler, turns),
@@ -146,11 +156,13 @@ impl<L: Link, D: Diary<A>, A: Allocator + Clone> Driver<L, D, A> {
     }
 
     /// Ends the block, and takes turns until all of it is acknowledged. Where a window is full it first
-    /// takes turns until there is room.
+    /// takes turns until there is room. Refused as `call`; after `TurnsOver` and `LinkFault` the block may be
+    /// ended, and further turns go on until the client is idle.
     pub fn end(&mut self) -> Result<(), DriverError>
         ensures does { Called DoEnd self.old.turns result self.old.seen self.new.seen }
         ensures ends { OnOk result (phase_of self.new.seen.client ≡ AtIdle) }
         ensures turns { self.new.turns ≡ self.old.turns }
+        ensures memory { result ≡ Err (DriverError.Client ClientError.OutOfMemory) → D.wants_memory }
     {
         match self.log(&Command::End) {
             Ok(turns) => self.turns_until(Phase::Idle, turns),
@@ -158,7 +170,8 @@ impl<L: Link, D: Diary<A>, A: Allocator + Clone> Driver<L, D, A> {
         }
     }
 
-    /// Gives the block up, which isn't locked at all its handlers yet. Takes no turn.
+    /// Gives the block up, which isn't locked at all its handlers yet. Takes no turn, and is refused as the
+    /// client refuses it.
     pub fn give_up(&mut self) -> Result<(), DriverError>
         ensures does { Called DoGiveUp 0 result self.old.seen self.new.seen }
         ensures link { self.new.link ≡ self.old.link }

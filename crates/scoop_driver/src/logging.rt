@@ -104,6 +104,7 @@ impl<L: Link, D: Diary<A>, A: Allocator + Clone> Driver<L, D, A> {
     fn offer(&mut self, command: &Command) -> Result<bool, DriverError>
         ensures does { Offered command.now result self.old.seen self.new.seen }
         ensures turns { self.new.turns ≡ self.old.turns }
+        ensures memory { result ≡ Err (DriverError.Client ClientError.OutOfMemory) → IsReserve command.now ⊎ D.wants_memory }
     {
         match self.give(command) {
             Ok(()) => Ok(true),
@@ -116,6 +117,7 @@ impl<L: Link, D: Diary<A>, A: Allocator + Clone> Driver<L, D, A> {
     pub(crate) fn log(&mut self, command: &Command) -> Result<u64, DriverError>
         ensures does { Logged (core_command command.now) self.old.turns result self.old.seen self.new.seen }
         ensures turns { self.new.turns ≡ self.old.turns }
+        ensures memory { result ≡ Err (DriverError.Client ClientError.OutOfMemory) → IsReserve command.now ⊎ D.wants_memory }
     {
         let turns = self.turns;
         for taken in 0..turns {
@@ -142,6 +144,7 @@ impl<L: Link, D: Diary<A>, A: Allocator> Driver<L, D, A> {
     pub(crate) fn turns_until(&mut self, phase: Phase, turns: u64) -> Result<(), DriverError>
         ensures does { Reached phase turns result self.old.seen self.new.seen }
         ensures turns { self.new.turns ≡ self.old.turns }
+        ensures memory { result ≡ Err (DriverError.Client ClientError.OutOfMemory) → D.wants_memory }
     {
         for taken in 0..turns {
             if self.client.phase() == phase {
@@ -167,6 +170,7 @@ impl<L: Link, D: Diary<A>, A: Allocator> Driver<L, D, A> {
     ) -> Result<Answer, DriverError>
         ensures does { Answered handler turns result self.old.seen self.new.seen }
         ensures turns { self.new.turns ≡ self.old.turns }
+        ensures memory { result ≡ Err (DriverError.Client ClientError.OutOfMemory) → D.wants_memory }
     {
         for taken in 0..turns {
             let note = match self.turn() {

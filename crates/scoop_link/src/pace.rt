@@ -12,7 +12,7 @@ use std::alloc::Allocator;
 use std::marker::Model;
 
 // The last of so many datagrams in a row without a silence counts as one.
-const MOST_IN_A_ROW: u64 = 64;
+const MAX_IN_A_ROW: u64 = 64;
 
 /// The datagram that was passed on to a party last.
 #[derive(Drop)]
@@ -159,7 +159,7 @@ impl<A: Allocator> Pace<A> {
     pub(crate) fn receive(&mut self)
         ensures { self.new ≡ after_datagram self.old }
     {
-        if self.received < MOST_IN_A_ROW - 1 {
+        if self.received < MAX_IN_A_ROW - 1 {
             self.received += 1;
         } else {
             self.silence();

@@ -160,7 +160,7 @@ fn refusals_are_printed(rt: HostRuntime) -> Result<(), Fail> {
     )?;
     assert_eq!(rt;
         text.as_str(),
-        "Empty TooMany Repeated 2 Unknown 5 OutOfMemory TooLate"
+        "Empty TooMany Repeated 2 Unknown 5 out of memory TooLate"
     );
     Ok(())
 }

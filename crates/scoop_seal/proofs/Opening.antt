@@ -1,11 +1,10 @@
 -- What a receive has taken so far.
-use Rattle.std.proofs.Common.{◌≡◌, ℕ, zero, suc, ◌+◌, ◌-◌, ◌^◌, ◌<◌, ◌≤◌, min, List, [], ◌∷◌, ◌++◌, length, map, take, get_or, All, Option, refl, sym, ap, subst, ◌∙◌, length-append, arith}
-use Rattle.std.proofs.lemmas.List.{append-nil}
+use Rattle.std.proofs.Common.{◌≡◌, ℕ, zero, suc, ◌+◌, List, [], ◌∷◌, ◌++◌, length, All, Option, refl, sym, ap, subst, ◌∙◌, length-append, arith}
 use Rattle.std.proofs.lemmas.List.Elements.{All-append}
 use Rattle.scoop_link.specs.Link.{Told, Exchanges}
 use Rattle.scoop_link.proofs.Exchanges.{exchanges_nothing, exchanges-append}
-use Rattle.scoop_seal.specs.Tag.{sealed, IsForged}
-use Rattle.scoop_seal.specs.Sealed.{one_more, count_after, Refuses, Opens}
+use Rattle.scoop_seal.specs.Tag.{IsForged}
+use Rattle.scoop_seal.specs.Sealed.{one_more, count_after, Refuses}
 
 -- so many datagrams were taken and refused
 pub record SoFar (key : List ℕ) (before after : Option Told) (refused now n : ℕ) : Type 0 where
@@ -53,15 +52,3 @@ pub so_far-more : (key same : List ℕ) (a b c : Option Told) (refused now then 
 so_far-more key same a b c refused now then n is first more =
     let P : List ℕ → Type 0 = λ k. (d : List ℕ) × Refuses k b c now then (d ∷ []) in
     so_far-also key a b c refused now then n first (subst P is more)
-
--- and then some bytes, or nothing
-pub opens_then : (key same : List ℕ) (a b c : Option Told) (refused now then n : ℕ) (given : List (List ℕ)) → same ≡ key → SoFar key a b refused now n → n + length given ≤ 64 → Exchanges b c (map (sealed same) given) [] → then ≡ now → Opens key a c refused then given
-opens_then key same a b c refused now then n given is first fits taken counted =
-    let P : List ℕ → Type 0 = λ k. Exchanges b c (map (sealed k) given) [] in
-    record {
-      forged = first.forged;
-      exchanged = exchanges-append a b c first.forged (map (sealed key) given) [] [] first.refuses.exchanged (subst P is taken);
-      all_forged = first.refuses.all_forged;
-      counted = counted ∙ first.refuses.counted;
-      at_most = omega (arith, first.count);
-    }

@@ -1,11 +1,11 @@
 -- What a send of a sealed link sends.
-use Rattle.std.proofs.Common.{◌≡◌, ℕ, ◌+◌, ◌≤◌, List, [], ◌∷◌, length, Option, Result, Ok, Err, ap, sym, subst, ◌∙◌, arith}
+use Rattle.std.proofs.Common.{◌≡◌, ℕ, ◌≤◌, List, [], ◌∷◌, length, Option, Result, Ok, Err, ap, sym, subst, ◌∙◌, arith}
 use Rattle.std.proofs.lemmas.Bool.{eq-eqb, ne_eqb}
 use Rattle.scoop_message.specs.declared.limits.TheConstants.{BUFFER_LEN}
 use Rattle.scoop_link.specs.declared.party.Party.{Party}
 use Rattle.scoop_link.specs.declared.link.LinkFault.{LinkFault}
 use Rattle.scoop_link.specs.Datagram.{kept}
-use Rattle.scoop_link.specs.Link.{Datagrams, Told, CountsFault, Exchanges, sent_by}
+use Rattle.scoop_link.specs.Link.{Told, CountsFault, Exchanges, sent_by}
 use Rattle.scoop_link.proofs.Kept.{kept-short}
 use Rattle.scoop_seal.specs.Sealed.{gone}
 

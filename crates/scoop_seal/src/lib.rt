@@ -13,4 +13,4 @@ mod tag;
 pub use key::{Key, KeyError};
 pub use mac::hmac;
 pub use sealed_link::SealedLink;
-pub use tag::{MOST_BYTES, TAG_LEN};
+pub use tag::{MAX_BYTES, TAG_LEN};

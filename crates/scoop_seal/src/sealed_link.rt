@@ -6,22 +6,20 @@ ghost use Rattle.scoop_seal.specs.Tag.{sealed};
 ghost use Rattle.scoop_seal.specs.Sealed.{seals, fault_sum, own_after, gone, Opens, IsTagged, TakesOne};
 
 use crate::key::Key;
-use crate::tag::{MOST_BYTES, opened, seal};
+use crate::tag::{MAX_BYTES, opened, seal};
 use scoop_link::{Link, LinkFault, Party};
 use scoop_message::limits::BUFFER_LEN;
 use std::marker::Model;
 
 // Datagrams that one receive takes, at most.
-const MOST_TAKEN: usize = 64;
+const MAX_TAKEN: usize = 64;
 
-/// What one receive of the link behind gave: nothing, a datagram without the right tag, or so many bytes
-/// with it.
-pub enum Taken {
-    /// Nothing.
+// What one receive of the link behind gave.
+enum Taken {
     Nothing,
-    /// A datagram that was not sealed.
+    // A datagram that was not sealed.
     Forged,
-    /// So many bytes with their tag behind them.
+    // So many bytes with their tag behind them.
     Genuine(usize),
 }
 
@@ -112,12 +110,12 @@ impl<L: Link> Link for SealedLink<L> {
     fn send(&mut self, to: Party, bytes: &[u8]) -> Result<(), LinkFault>
         ensures faults { CountsFault result (fault_sum self.old.faults (L.fault_count self.old.inner)) (fault_sum self.new.faults (L.fault_count self.new.inner)) }
 
-        ensures too_long { MOST_BYTES < length bytes.now → self.new ≡ record self.old { faults = own_after self.old.faults (L.fault_count self.old.inner) } }
-        ensures sealed { length bytes.now ≤ MOST_BYTES → Exchanges (L.told self.old.inner) (L.told self.new.inner) [] (gone (L.fault_count self.old.inner) (L.fault_count self.new.inner) to (sealed self.old.key bytes.now)) }
-        ensures others { length bytes.now ≤ MOST_BYTES → self.new ≡ record self.old { inner = self.new.inner } }
+        ensures too_long { MAX_BYTES < length bytes.now → self.new ≡ record self.old { faults = own_after self.old.faults (L.fault_count self.old.inner) } }
+        ensures sealed { length bytes.now ≤ MAX_BYTES → Exchanges (L.told self.old.inner) (L.told self.new.inner) [] (gone (L.fault_count self.old.inner) (L.fault_count self.new.inner) to (sealed self.old.key bytes.now)) }
+        ensures others { length bytes.now ≤ MAX_BYTES → self.new ≡ record self.old { inner = self.new.inner } }
     {
         let full = self.count() == u64::MAX;
-        if bytes.len() > MOST_BYTES {
+        if bytes.len() > MAX_BYTES {
             if full {
                 return Ok(());
             }
@@ -138,7 +136,7 @@ impl<L: Link> Link for SealedLink<L> {
         ensures tagged { IfOk result (λ got. IfSome got (IsTagged self.old.key buffer.new)) }
         ensures others { (self.new.key ≡ self.old.key) × (self.new.faults ≡ self.old.faults) }
     {
-        for _ in 0..MOST_TAKEN {
+        for _ in 0..MAX_TAKEN {
             let full = self.count() == u64::MAX;
             match self.take(buffer) {
                 Ok(Taken::Forged) => {}

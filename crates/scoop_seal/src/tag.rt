@@ -11,9 +11,9 @@ use scoop_message::limits::BUFFER_LEN;
 pub const TAG_LEN: usize = 16;
 
 /// Bytes that find room in a datagram beside their tag, at most. The longest frame is shorter.
-pub const MOST_BYTES: usize = 176;
+pub const MAX_BYTES: usize = 176;
 
-const _: () = prove!(MOST_BYTES + TAG_LEN == BUFFER_LEN);
+const _: () = prove!(MAX_BYTES + TAG_LEN == BUFFER_LEN);
 
 // The tag of some bytes.
 fn tag(key: &Key, bytes: &[u8]) -> [u8; TAG_LEN]
@@ -38,7 +38,7 @@ fn same_tag(left: &[u8; TAG_LEN], right: &[u8; TAG_LEN]) -> bool
 
 /// Writes some bytes and their tag to the start of a buffer, and answers how many these are.
 pub(crate) fn seal(key: &Key, bytes: &[u8], buffer: &mut [u8; BUFFER_LEN]) -> usize
-    requires { length bytes.now ≤ MOST_BYTES }
+    requires { length bytes.now ≤ MAX_BYTES }
     ensures len { result ≡ length bytes.now + TAG_LEN }
     ensures sealed { take result buffer.new ≡ sealed key.now bytes.now }
 {

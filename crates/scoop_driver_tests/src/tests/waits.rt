@@ -4,7 +4,7 @@ use super::node::{BALANCE, DEPOSIT, Line, Node, WITHDRAW};
 use super::{ONE, client, request};
 use scoop_client::{ClientError, ClientNote, Phase};
 use scoop_driver::{Condition, Driver, DriverError};
-use scoop_message::{HandlerId, Request};
+use scoop_message::HandlerId;
 use std::process::Abort;
 
 fn balance_of(rt: &impl Abort, handler: HandlerId, least: u64) -> Condition {
@@ -15,16 +15,22 @@ fn balance_of(rt: &impl Abort, handler: HandlerId, least: u64) -> Condition {
     }
 }
 
+/// Waits for a balance of at least this, to do this with an amount.
 fn waits(
+    rt: &impl Abort,
     driver: &mut Driver<Line>,
-    condition: Condition,
-    body: &[(HandlerId, Request)],
-    tries: u32,
+    least: u64,
+    op: u16,
+    amount: u64,
 ) -> Result<u32, DriverError> {
-    if tries == 0 {
-        return Ok(0);
-    }
-    driver.when(&[ONE], condition, body, tries)
+    let body = [(ONE, request(rt, op, amount))];
+    driver.when(&[ONE], balance_of(rt, ONE, least), &body, 2)
+}
+
+/// The balance is this, and no block is left.
+fn has(rt: &impl Abort, driver: &Driver<Line>, balance: u64) {
+    assert_eq!(rt; driver.link().node.balance(), Some(balance));
+    assert_eq!(rt; driver.phase(), Phase::Idle);
 }
 
 #[test]
@@ -32,21 +38,29 @@ fn a_wait_withdraws_once_the_balance_is_there(rt: HostRuntime) {
     let line = Line::new(Node::new(&rt, rt.alloc()));
     let mut driver = Driver::new(client(&rt, rt.alloc()), line, 10);
     assert_eq!(rt; driver.turn(), Ok(Some(ClientNote::Welcomed(ONE))));
-    let hundred = balance_of(&rt, ONE, 100);
-    let body = [(ONE, request(&rt, WITHDRAW, 100))];
     let failed = Err(DriverError::ConditionFailed(2));
-    assert_eq!(rt; waits(&mut driver, hundred, &body, 2), failed);
-    assert_eq!(rt; driver.link().node.balance(), Some(0));
-    let nothing = balance_of(&rt, ONE, 0);
-    let deposit = [(ONE, request(&rt, DEPOSIT, 150))];
-    assert_eq!(rt; waits(&mut driver, nothing, &deposit, 1), Ok(1));
-    assert_eq!(rt; driver.link().node.balance(), Some(150));
-    assert_eq!(rt; waits(&mut driver, hundred, &body, 2), Ok(1));
-    assert_eq!(rt; driver.link().node.balance(), Some(50));
-    let fifty = balance_of(&rt, ONE, 50);
-    assert_eq!(rt; waits(&mut driver, fifty, &body, 1), Ok(1));
-    assert_eq!(rt; driver.link().node.balance(), Some(50));
-    assert_eq!(rt; driver.phase(), Phase::Idle);
+    assert_eq!(rt; waits(&rt, &mut driver, 100, WITHDRAW, 100), failed);
+    has(&rt, &driver, 0);
+    assert_eq!(rt; waits(&rt, &mut driver, 0, DEPOSIT, 150), Ok(1));
+    has(&rt, &driver, 150);
+    assert_eq!(rt; waits(&rt, &mut driver, 100, WITHDRAW, 100), Ok(1));
+    has(&rt, &driver, 50);
+    assert_eq!(rt; waits(&rt, &mut driver, 50, WITHDRAW, 100), Ok(1));
+    has(&rt, &driver, 50);
+}
+
+/// A wait of one try with a condition on one handler, whose body names handler 1 and another.
+fn asks(
+    rt: &impl Abort,
+    driver: &mut Driver<Line>,
+    asked: HandlerId,
+    named: HandlerId,
+) -> Result<u32, DriverError> {
+    let body = [
+        (ONE, request(rt, DEPOSIT, 1)),
+        (named, request(rt, DEPOSIT, 1)),
+    ];
+    driver.when(&[ONE], balance_of(rt, asked, 0), &body, 1)
 }
 
 #[test]
@@ -55,22 +69,9 @@ fn a_handler_outside_is_refused_first(rt: HostRuntime) {
     let mut driver = Driver::new(client(&rt, rt.alloc()), line, 10);
     let nine = HandlerId(9);
     let outside = Err(DriverError::Client(ClientError::NotReserved(nine)));
-    assert_eq!(rt;
-        waits(&mut driver, balance_of(&rt, nine, 0), &[], 1),
-        outside
-    );
-    let body = [
-        (ONE, request(&rt, DEPOSIT, 1)),
-        (nine, request(&rt, DEPOSIT, 1)),
-    ];
-    assert_eq!(rt;
-        waits(&mut driver, balance_of(&rt, ONE, 0), &body, 1),
-        outside
-    );
+    assert_eq!(rt; asks(&rt, &mut driver, nine, ONE), outside);
+    assert_eq!(rt; asks(&rt, &mut driver, ONE, nine), outside);
     assert_eq!(rt; driver.phase(), Phase::Greeting);
     let ungreeted = Err(DriverError::Client(ClientError::NotGreeted));
-    assert_eq!(rt;
-        waits(&mut driver, balance_of(&rt, ONE, 0), &[], 1),
-        ungreeted
-    );
+    assert_eq!(rt; asks(&rt, &mut driver, ONE, ONE), ungreeted);
 }

@@ -1,4 +1,4 @@
-use Rattle.std.proofs.Common.{◌≡◌, ◌++◌, take, drop, length}
+use Rattle.std.proofs.Common.{◌≡◌, ◌++◌, take, drop}
 use Rattle.scoop_seal.specs.Hmac.{mixed}
 use Rattle.scoop_seal.proofs.mac.mix.Given as goal
 
