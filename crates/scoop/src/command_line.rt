@@ -26,20 +26,100 @@ pub fn command<'a>(alloc: Global, class_names: &'a [&'a str]) -> Result<Command<
         .subcommand_required(true)
         .arg_required_else_help(true)
         .subcommand(answer_command(alloc, class_names)?)?
-        .subcommand(world_command(alloc))
+        .subcommand(world_command(alloc)?)?
+        .subcommand(frame_command(alloc)?)
 }
 
-fn world_command<'a>(alloc: Global) -> Command<'a> {
+// The help of a command that runs objects, with the table of classes inside.
+macro_rules! with_classes {
+    ($front:literal, $back:literal $(,)?) => {
+        concat!(
+            $front,
+            "Classes, their words and their operations by number:\n\
+        \x20 cell       1 word    1 set A (gives A), 2 get\n\
+        \x20 counter    1 word    1 add A (gives the sum), 2 get\n\
+        \x20 account    1 word    1 deposit A, 2 withdraw A (refused where there is less), 3 balance; each gives the balance\n\
+        \x20 exchange   2 words   1 put A (gives the number that was put before)\n\
+        Numbers are whole, from 0 to 18446744073709551615, and stop there. A request with another operation, or \
+        without the argument A, is refused and changes nothing.\n\n",
+            $back
+        )
+    };
+}
+
+fn world_command<'a>(alloc: Global) -> Result<Command<'a>, AllocError> {
     Command::new(alloc, "world")
         .about("Plays a script of standard input, and prints its events and histories")
-        .long_about(
-            "Plays a script: its first lines place handlers (`handler NODE H CLASS W..`) and let clients join \
-            (`client C` or `client C B`), and each further line is an event (`reserve C H..`, `call C H OP A..`, \
-            `query C H OP A..`, `end C`, `giveup C`, `tick C H`, `take I`, `trip C H`, `begin H`, `finish H`, \
-            `run H`, `restart client C`, `restart node N`). Empty lines and lines that begin with `#` are \
-            skipped. Each event prints what it did, and the end what happened: the common list of blocks, what \
-            opened and what ran at each handler, and what each client accepted.",
+        .long_about(with_classes!(
+            "Plays a script. Its first lines place handlers and let clients join:\n\
+            \x20 handler NODE H CLASS W..   handler H on a node, with an object of the class and all its words\n\
+            \x20 client C, client C B       client C, which puts 1, or B (1 to 4), entries into one Log\n\
+            Each further line is an event:\n\
+            \x20 reserve C H..              client C reserves 1 to 8 handlers for a block\n\
+            \x20 call C H OP A..            it logs a command\n\
+            \x20 query C H OP A..           it logs a query, and waits for the answer\n\
+            \x20 end C, giveup C            it ends its block, or gives it up while it locks\n\
+            \x20 tick C H                   it sends handler H the message that is due\n\
+            \x20 take I                     the I-th message that was sent comes to its receiver, as often as one likes\n\
+            \x20 trip C H                   tick, take it, and take the reply\n\
+            \x20 begin H, finish H          handler H begins its next entry, and finishes it\n\
+            \x20 run H                      both\n\
+            \x20 restart client C, restart node N\n\
+            Words are parted by spaces. Empty lines and lines that begin with `#` are skipped.\n\n\
+            Each event prints what it did: `done`, `silent`, `sent I KIND`, a handler's or a client's note, `began`, \
+            `ran`, `restarted`, `reopened`, or `refused` and why. The end prints what happened: the common list of \
+            blocks, what opened and what ran at each handler, and what each client accepted.\n\n",
+            "Statuses: 0; 1 for a fault of the script, told as `scoop: line N: TEXT`; 2 for the command line; 3 for \
+            memory or output.\n\n\
+            Example: printf 'handler 1 1 cell 0\\nclient 7\\ntrip 7 1\\n' | scoop world --echo",
+        ))
+        .arg(echo_flag(alloc))?
+        .arg(strict_flag(alloc))
+}
+
+fn echo_flag<'a>(alloc: Global) -> Arg<'a> {
+    Arg::new(alloc, "echo")
+        .long("echo")
+        .help(
+            "Prints each event's line before what it did, with the message that it takes or the entry that it runs",
         )
+        .action(ArgAction::SetTrue)
+}
+
+fn strict_flag<'a>(alloc: Global) -> Arg<'a> {
+    Arg::new(alloc, "strict")
+        .long("strict")
+        .help("Ends at the first event that is refused, with status 1 and its line")
+        .action(ArgAction::SetTrue)
+}
+
+fn frame_command<'a>(alloc: Global) -> Result<Command<'a>, AllocError> {
+    Command::new(alloc, "frame")
+        .about("Prints the frame of a message in words, or the frames of standard input in words")
+        .long_about(
+            "Prints the frame of the message that the words say, in hex digits. With no words, reads frames in hex \
+            digits from standard input, one on each line, and prints each in words, or `refused` and why it is no \
+            frame.\n\n\
+            \x20 Hello H C INC, Welcome H C INC\n\
+            \x20 Lock H BLOCK, Locked, Busy, Open, Opened, Unlock, Unlocked\n\
+            \x20 Log H BLOCK N ENTRY..      the entries from number N on: call:OP:A.., query:OP:A.. or end\n\
+            \x20 Logged H BLOCK N\n\
+            \x20 Answer H BLOCK N ANSWER    a number or `refused`\n\
+            A block is written C.INC.N. `v2` before all says a frame of version 2, whose Log may have up to 4 entries; \
+            else the version is 1.\n\n\
+            Statuses: 0; 1 for a fault of a line, told as `scoop: line N: TEXT`; 2 for words that are no message or \
+            one that no frame says; 3 for memory or output.\n\n\
+            Example: scoop frame Lock 1 7.1.1",
+        )
+        .arg(words_argument(alloc))
+}
+
+fn words_argument<'a>(alloc: Global) -> Arg<'a> {
+    Arg::new(alloc, "words")
+        .value_name("WORD")
+        .help("The words of a message")
+        .action(ArgAction::Append)
+        .num_args(0..)
 }
 
 fn answer_command<'a>(
@@ -48,13 +128,17 @@ fn answer_command<'a>(
 ) -> Result<Command<'a>, AllocError> {
     Command::new(alloc, "answer")
         .about("Answers the datagrams of standard input, with one line for each")
-        .long_about(
+        .long_about(with_classes!(
             "Runs one handler with one object, and gives it the datagrams of standard input. Each line is one \
             datagram in hex digits of either case; spaces are skipped. Each is answered with one line: the reply \
             in hex digits, or `none` and what the handler did, or `refused` and why the datagram is no frame. \
             What clients have logged is run as soon as it may run. With a file, each state is stored there \
-            before the reply is printed, and the handler begins with the state that is stored.",
-        )
+            before the reply is printed, and the handler begins with the state that is stored: --class has to be \
+            that of the handler that is stored there, and --word counts for a new handler alone.\n\n",
+            "Statuses: 0; 1 for a fault of the input, told as `scoop: line N: TEXT`; 2 for the command line; 3 for \
+            memory, output, or the store, told as `scoop: store: NAME`.\n\n\
+            Example: scoop frame Hello 1 7 1 | scoop answer",
+        ))
         .arg(handler_option(alloc))?
         .arg(class_option(alloc, class_names))?
         .arg(word_option(alloc))?

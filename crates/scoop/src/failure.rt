@@ -2,7 +2,7 @@
 
 use clap::Error;
 use clap::error::ErrorKind;
-use scoop_demo::RunError;
+use scoop_demo::{RunError, WordsError};
 use scoop_message::OutOfMemory;
 use scoop_record::KeeperError;
 use std::alloc::{AllocError, AllocFailed};
@@ -16,6 +16,8 @@ pub enum Failure {
     Arguments,
     /// No class has the name that was given.
     NoSuchClass,
+    /// The words are no message with a frame.
+    Words(WordsError),
     /// The work on the input ended early.
     Run(RunError),
 }
@@ -32,6 +34,10 @@ impl Failure {
             }
             Failure::NoSuchClass => {
                 let _ = eprintln!(rt; "scoop: no such class");
+                2
+            }
+            Failure::Words(error) => {
+                let _ = eprintln!(rt; "scoop: {error}");
                 2
             }
             Failure::Run(error) => report_run(rt, error),
@@ -59,6 +65,15 @@ fn report_command_line<R: Print + Eprint>(rt: &R, error: &Error) -> u8 {
 impl From<RunError> for Failure {
     fn from(error: RunError) -> Failure {
         Failure::Run(error)
+    }
+}
+
+impl From<WordsError> for Failure {
+    fn from(error: WordsError) -> Failure {
+        match error {
+            WordsError::OutOfMemory => Failure::from(OutOfMemory),
+            error => Failure::Words(error),
+        }
     }
 }
 

@@ -4,12 +4,14 @@
 mod answering;
 mod command_line;
 mod failure;
+mod framing;
 mod playing;
 mod storing;
 
 use answering::answer;
 use command_line::{command, words};
 use failure::Failure;
+use framing::frame;
 use playing::play;
 use scoop_demo::DemoClass;
 use std::process::ExitCode;
@@ -28,7 +30,8 @@ fn scoop(rt: &HostRuntime) -> Result<(), Failure> {
     let matches = command(rt.alloc(), &class_names)?.try_get_matches_from(words.as_slice())?;
     match matches.subcommand() {
         Some(("answer", given)) => answer(rt, given),
-        Some(("world", _)) => play(rt),
+        Some(("world", given)) => play(rt, given),
+        Some(("frame", given)) => frame(rt, given),
         _ => Ok(()),
     }
 }

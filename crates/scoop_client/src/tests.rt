@@ -1,11 +1,10 @@
 ghost use Rattle.std.specs.Prelude.{◌≤◌};
 
 use super::*;
-use linked_list_allocator::LocalHeap;
 use scoop_message::limits::{MAX_HANDLERS, MAX_UNACKNOWLEDGED};
 use scoop_message::{Answer, Args, Block, ClientId, Entries, Entry, HandlerId, Message, Request};
 use scoop_reserve::ReserveError;
-use std::alloc::{Allocator, Global};
+use std::alloc::Global;
 use std::process::Abort;
 use std::test::Fail;
 
@@ -60,7 +59,7 @@ fn reply_to(message: Message) -> Message {
 }
 
 // Sends all that is due, and hears the replies, until nothing more is due or a query waits.
-fn settle<A: Allocator>(client: &mut Client<A>) {
+fn settle(client: &mut Client) {
     for _ in 0..100 {
         for number in 1..10 {
             if let Some(message) = client.due(HandlerId(number)) {
@@ -550,67 +549,6 @@ fn a_log_carries_a_batch(rt: HostRuntime) {
     for batch in 1..5 {
         carries(&rt, rt.alloc(), batch);
     }
-}
-
-/// How far a client with little memory comes.
-#[derive(Clone, Copy)]
-enum Came {
-    Nowhere,
-    Begun,
-    Reserved,
-}
-
-fn two_refusal<A: Allocator + Copy>(client: &mut Client<A>) -> Option<ClientError> {
-    client.reserve(&[ONE, TWO]).err()
-}
-
-fn is_as<A: Allocator>(rt: &impl Abort, client: &Client<A>, phase: Phase, block: Option<Block>) {
-    assert_eq!(rt; client.phase(), phase);
-    assert_eq!(rt; client.block(), block);
-}
-
-// Whether the client reserves two handlers. Refused memory leaves it idle.
-fn reserves_two<A: Allocator + Copy>(rt: &impl Abort, client: &mut Client<A>) -> bool {
-    let refusal = two_refusal(client);
-    if refusal.is_none() {
-        is_as(rt, client, Phase::Locking, Some(BLOCK));
-        return true;
-    }
-    assert_eq!(rt; refusal, Some(ClientError::OutOfMemory));
-    is_as(rt, client, Phase::Idle, None);
-    false
-}
-
-fn nowhere(rt: &impl Abort, error: BeginError) -> Came {
-    assert_eq!(rt; error, BeginError::OutOfMemory);
-    Came::Nowhere
-}
-
-fn comes(rt: &impl Abort, alloc: Global, size: usize) -> Result<Came, Fail> {
-    let heap = LocalHeap::new(alloc, size)?;
-    let mut client = match Client::begin(&heap, SEVEN, 1, &NINE[..8]) {
-        Ok(client) => client,
-        Err(error) => return Ok(nowhere(rt, error)),
-    };
-    settle(&mut client);
-    if reserves_two(rt, &mut client) {
-        return Ok(Came::Reserved);
-    }
-    Ok(Came::Begun)
-}
-
-#[test]
-fn refused_memory_changes_nothing(rt: HostRuntime) -> Result<(), Fail> {
-    let (mut unbegun, mut unreserved, mut reserved) = (0u32, 0u32, 0u32);
-    for step in 0..200 {
-        match comes(&rt, rt.alloc(), 32 + step * 64)? {
-            Came::Nowhere => unbegun = unbegun.saturating_add(1),
-            Came::Begun => unreserved = unreserved.saturating_add(1),
-            Came::Reserved => reserved = reserved.saturating_add(1),
-        }
-    }
-    assert!(rt; unbegun > 0 && unreserved > 0 && reserved > 0);
-    Ok(())
 }
 
 #[test]

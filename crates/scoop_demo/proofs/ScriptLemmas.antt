@@ -5,7 +5,7 @@ use Rattle.std.proofs.lemmas.List.Folds.{list_any-append}
 use Rattle.std.specs.List.{list_any}
 use Rattle.std.specs.Io.KnownBytes.{IsAtEnd}
 use Rattle.scoop_demo.specs.declared.fault.InputFault.{InputFault}
-use Rattle.scoop_demo.specs.declared.fault.InputFault.TheVariants.{ReadFault, UnknownLine, TooLateForParty, CannotOpen}
+use Rattle.scoop_demo.specs.declared.fault.InputFault.TheVariants.{ReadFault, UnknownLine, TooLateForParty, CannotOpen, Refused}
 use Rattle.scoop_demo.specs.declared.script.kind.LineKind.{LineKind}
 use Rattle.scoop_demo.specs.declared.fault.RunError.{RunError}
 use Rattle.scoop_demo.specs.declared.fault.RunError.TheVariants.{Input as InputError, Write}
@@ -23,7 +23,7 @@ use Rattle.scoop_demo.specs.Staging.{IsStaged, IsWaiting, with_line}
 use Rattle.scoop_demo.proofs.StagingLemmas.{parties_more, staged_opens, staged_if_waits}
 use Rattle.scoop_demo.specs.Script.StopsAtLine.{in_words, in_opening, in_output, in_memory}
 use Rattle.scoop_demo.specs.Script.StopsOpening.{of_parties, of_memory}
-use Rattle.scoop_demo.specs.Script.StopsPlaying.{read_fault, limit_broken, line_fault, first_event, no_event, output, memory}
+use Rattle.scoop_demo.specs.Script.StopsPlaying.{event_refused, read_fault, limit_broken, line_fault, first_event, no_event, output, memory}
 use Rattle.scoop_demo.proofs.InputLemmas.{begins_with}
 use Rattle.scoop_demo.proofs.RunLemmas.{Splits, splits_none, splits_more, splits_all, splits_first, splits_next, all_begin, few_lines}
 
@@ -147,7 +147,7 @@ not_true true is = cc
 not_true false is = refl
 
 module _ {B : Type 0} {class : B → ClassTable} {input : Option (List ℕ)} {stored : ℕ → Option ℕ} {lines : Input} {opened : Bool} {kept : List (Placement B)} {clients : List (ClientId × ℕ)}
-    {own : ℕ → Option ℕ} (p : Taken class input stored lines opened kept clients own) where
+    {own : ℕ → Option ℕ} (strict : Bool) (p : Taken class input stored lines opened kept clients own) where
   next_number : {next : Input} {line : List ℕ} → TakesLine lines line next → next.taken ≡ length p.taken + 1
   next_number t = omega (arith, t.count, p.count)
 
@@ -179,17 +179,17 @@ module _ {B : Type 0} {class : B → ClassTable} {input : Option (List ℕ)} {st
   taken_all e opens = record { lines = p.taken; plays = record { faultless = p.faultless; opens = opens }; all = splits_all _ _ p.taken p.splits e }
 
   -- the world doesn't open at the end of the input
-  pub end_stops : (number : ℕ) (e : RunError) → IsAtEnd lines.left → number ≡ max lines.taken 1 → StopsClosed opened number (parties_of p.taken) stored e → StopsPlaying input stored e
+  pub end_stops : (number : ℕ) (e : RunError) → IsAtEnd lines.left → number ≡ max lines.taken 1 → StopsClosed opened number (parties_of p.taken) stored e → StopsPlaying strict input stored e
   end_stops number e end at s = at_end number e at s.stops where
-    at_end : (n : ℕ) (e : RunError) → n ≡ max lines.taken 1 → StopsOpening n (parties_of p.taken) stored e → StopsPlaying input stored e
+    at_end : (n : ℕ) (e : RunError) → n ≡ max lines.taken 1 → StopsOpening n (parties_of p.taken) stored e → StopsPlaying strict input stored e
     at_end n (InputError m f) at (of_parties {error} why) =
         let last : n ≡ max (length p.taken) 1 = at ∙ ap (λ k. max k 1) (sym p.count) in
-        let P : ℕ → Type 0 = λ k. StopsPlaying input stored (InputError k (CannotOpen error)) in
+        let P : ℕ → Type 0 = λ k. StopsPlaying strict input stored (InputError k (CannotOpen error)) in
         subst P (sym last) (no_event p.taken first_lines (p.events ∙ s.closed) why (splits_all _ _ p.taken p.splits end))
     at_end n e at of_memory = memory p.taken first_lines (splits_first _ _ p.taken p.splits)
 
   pub end_if : (number : ℕ) (r : Result Unit RunError) → IsAtEnd lines.left → number ≡ max lines.taken 1 → IfErr r (StopsClosed opened number (parties_of p.taken) stored)
-      → IfErr r (StopsPlaying input stored)
+      → IfErr r (StopsPlaying strict input stored)
   end_if number (Ok u) end at s = tt
   end_if number (Err e) end at s = end_stops number e end at s
 
@@ -198,12 +198,12 @@ module _ {B : Type 0} {class : B → ClassTable} {input : Option (List ℕ)} {st
   end_plays (Err e) end o = tt
 
   -- the next line could not be taken
-  pub taken_stops : (e : RunError) → StopsAtNext lines e → StopsPlaying input stored e
+  pub taken_stops : (e : RunError) → StopsAtNext lines e → StopsPlaying strict input stored e
   taken_stops e next_unread =
-      let P : ℕ → Type 0 = λ n. StopsPlaying input stored (InputError (n + 1) ReadFault) in
+      let P : ℕ → Type 0 = λ n. StopsPlaying strict input stored (InputError (n + 1) ReadFault) in
       subst P p.count (read_fault p.taken first_lines (splits_first _ _ p.taken p.splits))
   taken_stops e (past_limit {fault} b) =
-      let P : ℕ → Type 0 = λ n. limit_fault (n + 1) b.line ≡ Some fault → StopsPlaying input stored (InputError (n + 1) fault) in
+      let P : ℕ → Type 0 = λ n. limit_fault (n + 1) b.line ≡ Some fault → StopsPlaying strict input stored (InputError (n + 1) fault) in
       let stops : P (length p.taken) = λ found. limit_broken p.taken b.line first_lines found (splits_next _ _ p.taken b.line p.splits b.next) in
       subst P p.count stops b.found
   taken_stops e write_fault = output p.taken first_lines (splits_first _ _ p.taken p.splits)
@@ -217,20 +217,26 @@ module _ {B : Type 0} {class : B → ClassTable} {input : Option (List ℕ)} {st
 
   -- the line that was taken stops the run
   pub line_stops : {next : Input} (e : RunError) (line : List ℕ) → TakesLine lines line next
-      → StopsAtLine next.taken (opens_at opened line) (words_fault opened line) (parties_of p.taken) stored e → StopsPlaying input stored e
+      → StopsAtLine next.taken (opens_at opened line) (words_fault opened line) (parties_of p.taken) stored e → StopsPlaying strict input stored e
   line_stops {next = next} e line t (in_words {fault} found here) =
-      let P : ℕ → Type 0 = λ n. limit_fault n line ≡ None → words_fault (list_any is_event p.taken) line ≡ Some fault → StopsPlaying input stored (InputError n fault) in
+      let P : ℕ → Type 0 = λ n. limit_fault n line ≡ None → words_fault (list_any is_event p.taken) line ≡ Some fault → StopsPlaying strict input stored (InputError n fault) in
       let stops : P (length p.taken + 1) = λ none f. line_fault p.taken line first_lines none f (opens_by line here) (splits_next _ _ p.taken line p.splits (begins_with _ _ line t.bytes)) in
       subst P (sym (next_number t)) stops t.limits (ap (λ o. words_fault o line) p.events ∙ found)
   line_stops {next = next} e line t (in_opening {error} is why) =
       let first = and_true (not opened) (is_event line) is in
-      let P : ℕ → Type 0 = λ n. limit_fault n line ≡ None → StopsPlaying input stored (InputError n (CannotOpen error)) in
+      let P : ℕ → Type 0 = λ n. limit_fault n line ≡ None → StopsPlaying strict input stored (InputError n (CannotOpen error)) in
       let stops : P (length p.taken + 1) = λ none.
       first_event p.taken line first_lines none (p.events ∙ not_true opened first.0) first.1 why (splits_next _ _ p.taken line p.splits (begins_with _ _ line t.bytes)) in
       subst P (sym (next_number t)) stops t.limits
   line_stops e line t in_output = output p.taken first_lines (splits_first _ _ p.taken p.splits)
   line_stops e line t in_memory = memory p.taken first_lines (splits_first _ _ p.taken p.splits)
 
+  -- the last line's event was refused
+  pub refused_stops : (number : ℕ) → number ≡ lines.taken → strict ≡ true → StopsPlaying strict input stored (InputError number Refused)
+  refused_stops number at is =
+      let P : ℕ → Type 0 = λ n. StopsPlaying strict input stored (InputError n Refused) in
+      subst P (p.count ∙ sym at) (event_refused p.taken is first_lines (splits_first _ _ p.taken p.splits))
+
 -- all lines were played, but the writer may have lost some of what they wrote
-pub output_stops : (input : Option (List ℕ)) (stored : ℕ → Option ℕ) → PlaysAll input stored → StopsPlaying input stored Write
-output_stops input stored a = output a.lines (record { faultless = a.plays.faultless; opens = λ is. a.plays.opens }) (all_begin input a.lines a.all)
+pub output_stops : (strict : Bool) (input : Option (List ℕ)) (stored : ℕ → Option ℕ) → PlaysAll input stored → StopsPlaying strict input stored Write
+output_stops strict input stored a = output a.lines (record { faultless = a.plays.faultless; opens = λ is. a.plays.opens }) (all_begin input a.lines a.all)

@@ -14,5 +14,7 @@ pub mod ScriptKind
 pub mod ScriptLine
 pub mod LineFault
 pub mod NoteText
+pub mod FrameWords
+pub mod FrameLine
 pub mod Script
 pub mod Staging

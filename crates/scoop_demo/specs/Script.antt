@@ -9,7 +9,7 @@ use Rattle.scoop_world.specs.Opening.{IsJoining, newcomers_of}
 use Rattle.scoop_world.specs.declared.placing.Placement.{Placement}
 use Rattle.scoop_world.specs.declared.error.WorldOpenError.{WorldOpenError}
 use Rattle.scoop_demo.specs.declared.fault.InputFault.{InputFault}
-use Rattle.scoop_demo.specs.declared.fault.InputFault.TheVariants.{UnknownLine, TooLateForParty, CannotOpen, ReadFault}
+use Rattle.scoop_demo.specs.declared.fault.InputFault.TheVariants.{UnknownLine, TooLateForParty, CannotOpen, ReadFault, Refused}
 use Rattle.scoop_demo.specs.declared.fault.RunError.{RunError}
 use Rattle.scoop_demo.specs.declared.fault.RunError.TheVariants.{Input, Write, OutOfMemory}
 use Rattle.scoop_demo.specs.declared.script.kind.LineKind.{LineKind}
@@ -149,22 +149,23 @@ pub record PlaysAll (input : Option (List ℕ)) (stored : ℕ → Option ℕ) : 
 -- where a run over these stored incarnations stops, for which reason: the lines before are played. A line's limits come
 -- first, then its first words; a world that doesn't open is told at the first line of an event, before that line's other
 -- words are looked at, or at the last line where there is none
-pub data StopsPlaying (input : Option (List ℕ)) (stored : ℕ → Option ℕ) : RunError → Type 0 where
+pub data StopsPlaying (strict : Bool) (input : Option (List ℕ)) (stored : ℕ → Option ℕ) : RunError → Type 0 where
   read_fault : (lines : List (List ℕ)) → PlaysFirst stored lines → BeginsWithLines input lines
-      → StopsPlaying input stored (Input (length lines + 1) ReadFault)
+      → StopsPlaying strict input stored (Input (length lines + 1) ReadFault)
   limit_broken : {fault : InputFault} (lines : List (List ℕ)) (line : List ℕ) → PlaysFirst stored lines
       → limit_fault (length lines + 1) line ≡ Some fault → BeginsWithLines input (lines ++ line ∷ [])
-      → StopsPlaying input stored (Input (length lines + 1) fault)
+      → StopsPlaying strict input stored (Input (length lines + 1) fault)
   line_fault : {fault : InputFault} (lines : List (List ℕ)) (line : List ℕ) → PlaysFirst stored lines
       → limit_fault (length lines + 1) line ≡ None → words_fault (list_any is_event lines) line ≡ Some fault
       → (is_event line ≡ true → Opens (parties_of lines) stored) → BeginsWithLines input (lines ++ line ∷ [])
-      → StopsPlaying input stored (Input (length lines + 1) fault)
+      → StopsPlaying strict input stored (Input (length lines + 1) fault)
   first_event : {error : WorldOpenError} (lines : List (List ℕ)) (line : List ℕ) → PlaysFirst stored lines
       → limit_fault (length lines + 1) line ≡ None → list_any is_event lines ≡ false → is_event line ≡ true
       → IsClosed (parties_of lines) stored error → BeginsWithLines input (lines ++ line ∷ [])
-      → StopsPlaying input stored (Input (length lines + 1) (CannotOpen error))
+      → StopsPlaying strict input stored (Input (length lines + 1) (CannotOpen error))
   no_event : {error : WorldOpenError} (lines : List (List ℕ)) → PlaysFirst stored lines → list_any is_event lines ≡ false
       → IsClosed (parties_of lines) stored error → IfSome input (λ bytes. lines_of bytes ≡ lines)
-      → StopsPlaying input stored (Input (max (length lines) 1) (CannotOpen error))
-  output : (lines : List (List ℕ)) → PlaysFirst stored lines → BeginsWithLines input lines → StopsPlaying input stored Write
-  memory : (lines : List (List ℕ)) → PlaysFirst stored lines → BeginsWithLines input lines → StopsPlaying input stored OutOfMemory
+      → StopsPlaying strict input stored (Input (max (length lines) 1) (CannotOpen error))
+  event_refused : (lines : List (List ℕ)) → strict ≡ true → PlaysFirst stored lines → BeginsWithLines input lines → StopsPlaying strict input stored (Input (length lines) Refused)
+  output : (lines : List (List ℕ)) → PlaysFirst stored lines → BeginsWithLines input lines → StopsPlaying strict input stored Write
+  memory : (lines : List (List ℕ)) → PlaysFirst stored lines → BeginsWithLines input lines → StopsPlaying strict input stored OutOfMemory

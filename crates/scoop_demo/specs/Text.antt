@@ -4,7 +4,7 @@ use Rattle.std.specs.Fmt.{decimal}
 use Rattle.scoop_record.specs.Text.{error_text as keeper_text}
 use Rattle.scoop_demo.specs.declared.fault.InputFault.{InputFault}
 use Rattle.scoop_demo.specs.declared.fault.InputFault.TheVariants.{LineTooLong, TooManyLines, ReadFault, NotHex, OddDigits}
-use Rattle.scoop_demo.specs.declared.fault.InputFault.TheVariants.{UnknownLine, WrongNumberOfWords, NotANumber, NoSuchClass, TooLateForParty, CannotOpen, TooManyArguments, TooManyHandlers}
+use Rattle.scoop_demo.specs.declared.fault.InputFault.TheVariants.{UnknownLine, WrongNumberOfWords, NotANumber, NoSuchClass, TooLateForParty, CannotOpen, TooManyArguments, TooManyHandlers, NoSuchKind, Refused}
 use Rattle.scoop_demo.specs.OpenErrorText.{open_error_name}
 use Rattle.scoop_demo.specs.declared.fault.RunError.{RunError}
 use Rattle.scoop_demo.specs.declared.fault.RunError.TheVariants.{Input, Write, OutOfMemory, Store, WrongClass}
@@ -23,6 +23,8 @@ fault_text TooLateForParty = codes "too late for a party"
 fault_text (CannotOpen error) = codes "cannot open the world: " ++ open_error_name error
 fault_text TooManyArguments = codes "too many arguments"
 fault_text TooManyHandlers = codes "too many handlers"
+fault_text NoSuchKind = codes "no such kind"
+fault_text Refused = codes "refused"
 
 abbrev pub error_text : RunError → List ℕ
 error_text (Input line fault) = codes "line " ++ decimal line ++ codes ": " ++ fault_text fault

@@ -38,6 +38,10 @@ pub enum InputFault {
     TooManyArguments,
     /// More than `MAX_NAMED_HANDLERS` handlers are named.
     TooManyHandlers,
+    /// A word names no kind of message or of entry.
+    NoSuchKind,
+    /// The line's event was refused, where no event may be.
+    Refused,
 }
 
 impl fmt::Display for InputFault {
@@ -63,6 +67,8 @@ impl fmt::Display for InputFault {
             }
             InputFault::TooManyArguments => "too many arguments",
             InputFault::TooManyHandlers => "too many handlers",
+            InputFault::NoSuchKind => "no such kind",
+            InputFault::Refused => "refused",
         })
     }
 }

@@ -33,6 +33,7 @@ mod answer;
 mod classes;
 mod datagram;
 mod fault;
+mod framing;
 mod keeping;
 mod lines;
 mod objects;
@@ -46,10 +47,13 @@ pub use answer::{Answered, answer_one};
 pub use classes::{DemoClass, demo_class};
 pub use datagram::{MAX_DATAGRAM_LEN, read_datagram};
 pub use fault::{InputFault, RunError};
+pub use framing::{
+    WordsError, print_frame_of, print_message, read_message, tell_frame, tell_frames,
+};
 pub use keeping::{open_handler, run_out};
 pub use lines::{Lines, MAX_LINES};
 pub use objects::{AccountObject, CellObject, CounterObject, ExchangeObject};
-pub use playing::world_run;
+pub use playing::{PlayOptions, world_run, world_run_with};
 pub use printing::{print_accepted, print_all_ran, print_blocks, print_note};
 pub use run::answer_run;
 pub use script::{

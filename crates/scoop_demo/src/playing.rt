@@ -1,5 +1,6 @@
 //! A script that is played.
 
+mod echo;
 mod events;
 mod stage;
 
@@ -8,7 +9,7 @@ ghost use Rattle.scoop_demo.specs.Script.{PlaysAll, StopsPlaying, parties_of};
 ghost use Rattle.scoop_demo.specs.Staging.{IsWaiting};
 ghost use Rattle.scoop_record.specs.Memory.{incarnation_at};
 
-use crate::fault::RunError;
+use crate::fault::{InputFault, RunError};
 use crate::lines::Lines;
 use arrayvec::ArrayVec;
 use scoop_object::{Behaviour, Table};
@@ -16,6 +17,16 @@ use scoop_record::MemoryKeeper;
 use stage::Stage;
 use std::alloc::Global;
 use std::io::{Read, Write};
+
+/// What a run of a script tells and refuses, beside what every run does.
+#[derive(Clone, Copy, Debug, Default, PartialEq, Eq)]
+pub struct PlayOptions {
+    /// Before what a line's event did, the line is told, with its number: `18: take 19 = Unlock 7.1.1 to 1`. The message
+    /// stands there for `take` and `trip`, and the entry that ran for `run` and `finish`.
+    pub echoes: bool,
+    /// An event that is refused ends the run, as a fault of its line.
+    pub is_strict: bool,
+}
 
 /// Plays a script: its first lines place handlers and let clients join, and open a world over the keeper at
 /// the first line of an event; each event writes a line. After the last line, the histories are written: the
@@ -31,9 +42,27 @@ pub fn world_run<R: Read + Drop, W: Write>(
     writer: &mut W,
 ) -> Result<(), RunError>
     ensures ok { OnOk result (PlaysAll (R.remaining reader) (incarnation_at keeper)) }
-    ensures err { IfErr result (StopsPlaying (R.remaining reader) (incarnation_at keeper)) }
+    ensures err { IfErr result (StopsPlaying false (R.remaining reader) (incarnation_at keeper)) }
 {
-    let played = play_all(alloc, keeper, reader, writer);
+    let options = PlayOptions {
+        echoes: false,
+        is_strict: false,
+    };
+    world_run_with(alloc, keeper, options, reader, writer)
+}
+
+/// The same with options. The line whose event is refused, where that ends the run, has written its own line.
+pub fn world_run_with<R: Read + Drop, W: Write>(
+    alloc: Global,
+    keeper: MemoryKeeper,
+    options: PlayOptions,
+    reader: R,
+    writer: &mut W,
+) -> Result<(), RunError>
+    ensures ok { OnOk result (PlaysAll (R.remaining reader) (incarnation_at keeper)) }
+    ensures err { IfErr result (StopsPlaying options.is_strict (R.remaining reader) (incarnation_at keeper)) }
+{
+    let played = play_all(alloc, keeper, options, reader, writer);
     let flushed = writer.flush();
     match played {
         Ok(()) if flushed.is_err() => Err(RunError::Write),
@@ -45,14 +74,15 @@ pub fn world_run<R: Read + Drop, W: Write>(
 fn play_all<R: Read + Drop, W: Write>(
     alloc: Global,
     keeper: MemoryKeeper,
+    options: PlayOptions,
     reader: R,
     writer: &mut W,
 ) -> Result<(), RunError>
     ensures ok { OnOk result (PlaysAll (R.remaining reader) (incarnation_at keeper)) }
-    ensures err { IfErr result (StopsPlaying (R.remaining reader) (incarnation_at keeper)) }
+    ensures err { IfErr result (StopsPlaying options.is_strict (R.remaining reader) (incarnation_at keeper)) }
 {
     let mut stage = Stage::new(alloc, keeper);
-    match play_lines(&mut stage, reader, writer) {
+    match play_lines(&mut stage, options, reader, writer) {
         Ok(()) => {}
         Err(error) => return Err(error),
     }
@@ -62,16 +92,17 @@ fn play_all<R: Read + Drop, W: Write>(
     }
 }
 
-// Plays the lines of a script until one has a fault. Where none is that of an event, the world opens at the end.
+// Plays the lines of a script until one stops the run. Where none is that of an event, the world opens at the end.
 fn play_lines<R: Read + Drop, W: Write>(
     stage: &mut Stage,
+    options: PlayOptions,
     reader: R,
     writer: &mut W,
 ) -> Result<(), RunError>
     requires closed { is_some stage.old.world ≡ false }
     requires waits { IsWaiting ⟦<Table as Behaviour>⟧.class stage.old.placements.items stage.old.clients.items (incarnation_at stage.old.keeper) (parties_of []) (incarnation_at stage.old.keeper) }
     ensures ok { OnOk result (PlaysAll (R.remaining reader) (incarnation_at stage.old.keeper)) }
-    ensures err { IfErr result (StopsPlaying (R.remaining reader) (incarnation_at stage.old.keeper)) }
+    ensures err { IfErr result (StopsPlaying options.is_strict (R.remaining reader) (incarnation_at stage.old.keeper)) }
 {
     let mut lines = Lines::new(reader);
     let mut line = ArrayVec::new();
@@ -82,9 +113,16 @@ fn play_lines<R: Read + Drop, W: Write>(
             Ok(false) => return stage.open_by(taken.max(1)),
             Err(error) => return Err(error),
         }
-        match stage.play_line(lines.number(), line.as_slice(), writer) {
+        let number = lines.number();
+        match stage.play_line(number, line.as_slice(), options.echoes, writer) {
             Ok(()) => {}
             Err(error) => return Err(error),
+        }
+        if options.is_strict && stage.is_refused {
+            return Err(RunError::Input {
+                line: number,
+                fault: InputFault::Refused,
+            });
         }
     }
 }

@@ -48,7 +48,7 @@ fn print_sent<W: Write>(place: usize, sent: Option<&Message>, writer: &mut W) ->
 }
 
 // The name of a message's kind.
-fn kind_name(message: &Message) -> &'static str
+pub(crate) fn kind_name(message: &Message) -> &'static str
     ensures { result.now ≡ kind_text message.now }
 {
     match message {

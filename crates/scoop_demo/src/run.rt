@@ -174,7 +174,7 @@ fn print_answer<W: Write>(
 }
 
 // Writes the bytes of a frame as a line of hex digits.
-fn print_frame<W: Write>(frame: &[u8], writer: &mut W) -> io::Result<()>
+pub(crate) fn print_frame<W: Write>(frame: &[u8], writer: &mut W) -> io::Result<()>
     requires { length frame.now ≤ MAX_FRAME }
     ensures { OnOk result (Appends (W.contents writer.old) (W.contents writer.new) (encode_lower frame.now ++ 10 ∷ [])) }
 {

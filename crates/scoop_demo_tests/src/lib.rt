@@ -4,6 +4,8 @@
 //! them over that crate, and doesn't prove that crate once more with them.
 
 #[cfg(test)]
+mod framing;
+#[cfg(test)]
 mod objects;
 #[cfg(test)]
 mod script;

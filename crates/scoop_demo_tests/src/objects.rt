@@ -1,7 +1,7 @@
-use linked_list_allocator::LocalHeap;
 use scoop_demo::*;
 use scoop_message::{Answer, Args, OutOfMemory, Request, Words};
 use scoop_object::{Behaviour, Boxed, Object, Table, WrongWords};
+use scoop_refusing::Refusing;
 use std::alloc::Global;
 use std::process::Abort;
 use std::test::Fail;
@@ -94,8 +94,9 @@ fn classes_have_names(rt: HostRuntime) -> Result<(), Fail> {
     }
     let counters = demo_class(alloc, "counter")?.expect(&rt, "it has a name");
     assert!(rt; !CellObject::new(0).has_class(&counters));
-    let heap = LocalHeap::new(alloc, 1024)?;
+    let heap = Refusing::new(alloc, 1);
     assert_eq!(rt; demo_class(&heap, "account").err(), Some(OutOfMemory));
+    assert!(rt; demo_class(&heap, "account")?.is_some());
     assert!(rt; demo_class(&heap, "bogus")?.is_none());
     Ok(())
 }

@@ -1,4 +1,4 @@
-//! Stories, limits, refused memory and printed forms.
+//! Stories, limits and printed forms.
 
 mod hearing;
 mod keeping;
@@ -9,7 +9,7 @@ use scoop_message::{
     Answer, Args, Block, ClientId, Entries, Entry, HandlerId, Message, Request, Words,
 };
 use scoop_object::{Behaviour, Class, OpRow, Table, Term, Write, Writes};
-use std::alloc::{Allocator, Global};
+use std::alloc::Global;
 use std::process::Abort;
 use std::test::Fail;
 
@@ -105,8 +105,8 @@ fn object(alloc: Global) -> Result<Table, Fail> {
 }
 
 /// A handler with such an object, which nobody has greeted.
-fn fresh<A: Allocator + Copy>(alloc: A, global: Global) -> Result<Handler<Table, A>, Fail> {
-    match Handler::new(alloc, HERE, class(global)?, object(global)?) {
+fn fresh(alloc: Global) -> Result<Handler<Table>, Fail> {
+    match Handler::new(alloc, HERE, class(alloc)?, object(alloc)?) {
         Ok(handler) => Ok(handler),
         Err(_) => Err("wrong class".into()),
     }
@@ -179,17 +179,12 @@ fn heard(act: Act, from: Block, said: Said) -> Heard {
 }
 
 /// The handler hears a message, and answers so.
-fn answers<A: Allocator + Copy>(
-    rt: &impl Abort,
-    handler: &mut Handler<Table, A>,
-    message: &Message,
-    answer: Heard,
-) {
+fn answers(rt: &impl Abort, handler: &mut Handler<Table>, message: &Message, answer: Heard) {
     assert_eq!(rt; handler.hear(message), Ok(answer), "to {message:?}");
 }
 
 /// The handler hears what is asked in a row, and answers so.
-fn hears_one<A: Allocator + Copy>(rt: &impl Abort, handler: &mut Handler<Table, A>, row: Row) {
+fn hears_one(rt: &impl Abort, handler: &mut Handler<Table>, row: Row) {
     let (act, client, inc, num, said) = row;
     let from = block(client, inc, num);
     let Some(message) = message(act, from) else {
@@ -199,19 +194,14 @@ fn hears_one<A: Allocator + Copy>(rt: &impl Abort, handler: &mut Handler<Table, 
 }
 
 /// The handler hears what is asked in each row, and answers so.
-fn hears<A: Allocator + Copy>(rt: &impl Abort, handler: &mut Handler<Table, A>, rows: &[Row]) {
+fn hears(rt: &impl Abort, handler: &mut Handler<Table>, rows: &[Row]) {
     for row in rows {
         hears_one(rt, handler, *row);
     }
 }
 
 /// The block locks and opens, and unlocks for the next one.
-fn opens<A: Allocator + Copy>(
-    rt: &impl Abort,
-    handler: &mut Handler<Table, A>,
-    client: u32,
-    num: u32,
-) {
+fn opens(rt: &impl Abort, handler: &mut Handler<Table>, client: u32, num: u32) {
     hears_one(rt, handler, (Act::Lock, client, 1, num, Said::Granted));
     hears_one(rt, handler, (Act::Open, client, 1, num, Said::Opened));
     hears_one(rt, handler, (Act::Unlock, client, 1, num, Said::Freed));
@@ -219,7 +209,7 @@ fn opens<A: Allocator + Copy>(
 
 /// A handler at which the first blocks of these clients have opened.
 fn opened(rt: &impl Abort, alloc: Global, clients: &[u32]) -> Result<Handler<Table>, Fail> {
-    let mut handler = fresh(alloc, alloc)?;
+    let mut handler = fresh(alloc)?;
     for client in clients {
         hears_one(rt, &mut handler, (Act::Hello, *client, 1, 0, Said::Greeted));
         opens(rt, &mut handler, *client, 1);
@@ -228,18 +218,16 @@ fn opened(rt: &impl Abort, alloc: Global, clients: &[u32]) -> Result<Handler<Tab
 }
 
 /// The block, the number and the answer of the entry that the handler runs next.
-fn ran<B: Behaviour, A: Allocator>(
-    handler: &mut Handler<B, A>,
-) -> Option<(Block, u32, Option<Answer>)> {
+fn ran<B: Behaviour>(handler: &mut Handler<B>) -> Option<(Block, u32, Option<Answer>)> {
     match handler.run() {
         Some(ran) => Some((ran.block, ran.number, ran.answer)),
         None => None,
     }
 }
 
-fn runs_one<A: Allocator>(
+fn runs_one(
     rt: &impl Abort,
-    handler: &mut Handler<Table, A>,
+    handler: &mut Handler<Table>,
     from: Block,
     number: u32,
     value: Option<u64>,
@@ -252,9 +240,9 @@ fn runs_one<A: Allocator>(
 }
 
 /// The handler runs entries of the client's first block, with these numbers and answers.
-fn runs<A: Allocator>(
+fn runs(
     rt: &impl Abort,
-    handler: &mut Handler<Table, A>,
+    handler: &mut Handler<Table>,
     client: u32,
     expected: &[(u32, Option<u64>)],
 ) {
@@ -264,22 +252,18 @@ fn runs<A: Allocator>(
 }
 
 /// The handler's object has this word.
-fn has_word<A: Allocator>(rt: &impl Abort, handler: &Handler<Table, A>, word: u64) {
+fn has_word(rt: &impl Abort, handler: &Handler<Table>, word: u64) {
     let words = handler.words();
     assert_eq!(rt; words.as_slice(), [word].as_slice());
 }
 
 /// The handler has nothing to run, and its object has this word.
-fn rests<A: Allocator>(rt: &impl Abort, handler: &mut Handler<Table, A>, word: u64) {
+fn rests(rt: &impl Abort, handler: &mut Handler<Table>, word: u64) {
     assert_eq!(rt; ran(handler), None);
     has_word(rt, handler, word);
 }
 
-fn restart<B: Behaviour, A: Allocator>(
-    class: Class,
-    object: B,
-    state: HandlerState<A>,
-) -> Option<Handler<B, A>> {
+fn restart<B: Behaviour>(class: Class, object: B, state: HandlerState) -> Option<Handler<B>> {
     Handler::restart(class, object, state).ok()
 }
 

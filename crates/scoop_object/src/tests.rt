@@ -1,9 +1,8 @@
 ghost use Rattle.std.specs.Prelude.{◌≤◌};
 
 use super::*;
-use linked_list_allocator::LocalHeap;
-use scoop_message::{Answer, Args, OutOfMemory, Request, Words};
-use std::alloc::{Allocator, Global};
+use scoop_message::{Answer, Args, Request, Words};
+use std::alloc::Global;
 use std::process::Abort;
 use std::test::Fail;
 
@@ -416,56 +415,6 @@ fn classes_are_the_same_by_words_and_rows_in_order(rt: HostRuntime) -> Result<()
     is_class(&rt, &class, 2, &rows, false);
     is_class(&rt, &class, 1, &[rows[1], rows[0], rows[2]], false);
     is_class(&rt, &class, 1, &rows[..2], false);
-    Ok(())
-}
-
-/// How far a class with little memory comes.
-#[derive(Clone, Copy, Debug, PartialEq, Eq)]
-enum Grown {
-    Nowhere,
-    Built,
-    Copied,
-}
-
-fn grows<A: Allocator + Copy>(rt: &impl Abort, alloc: A, rows: &[OpRow]) -> Grown {
-    let class = match Class::build(alloc, 1, rows) {
-        Ok(class) => class,
-        Err(error) => {
-            assert_eq!(rt; error, ClassError::OutOfMemory);
-            return Grown::Nowhere;
-        }
-    };
-    assert!(rt; class.is(1, rows));
-    match class.copy() {
-        Ok(copy) => {
-            assert!(rt; copy.is(1, rows));
-            Grown::Copied
-        }
-        Err(OutOfMemory) => Grown::Built,
-    }
-}
-
-fn grown_in(rt: &impl Abort, alloc: Global, size: usize) -> Result<Grown, Fail> {
-    let Some(rows) = account() else {
-        return Err("no rows".into());
-    };
-    let heap = LocalHeap::new(alloc, size)?;
-    Ok(grows(rt, &heap, &rows))
-}
-
-/// In larger and larger memory a class is refused, then its copy alone, then nothing.
-#[test]
-fn growths_may_be_refused(rt: HostRuntime) -> Result<(), Fail> {
-    let mut last = Grown::Nowhere;
-    let mut changes = 0u32;
-    for quarters in 0..32 {
-        let next = grown_in(&rt, rt.alloc(), 64 + 256 * quarters)?;
-        if next != last {
-            changes = changes.saturating_add(1);
-        }
-        last = next;
-    }
-    assert_eq!(rt; (changes, last), (2, Grown::Copied));
     Ok(())
 }
 

@@ -2,7 +2,6 @@ ghost use Rattle.std.specs.Prelude.{ℕ, ◌<◌, length, IsTrue, IfSome};
 ghost use Rattle.scoop_queue.specs.Queue.{head_at};
 
 use super::*;
-use linked_list_allocator::LocalHeap;
 use scoop_message::limits::{MAX_PENDING, MAX_QUEUES};
 use scoop_message::{Args, Block, ClientId, Entries, Entry, OutOfMemory, Request};
 use std::alloc::{Allocator, Global};
@@ -422,96 +421,6 @@ fn a_copy_is_the_same(rt: HostRuntime) -> Result<(), Fail> {
     are_same(&rt, &copy, &queues, true);
     is_cut(&rt, &mut copy, 3, true);
     are_same(&rt, &copy, &queues, false);
-    Ok(())
-}
-
-// Whether memory for a queue is refused, which then isn't there.
-fn refuses_queue<A: Allocator + Copy>(
-    rt: &impl Abort,
-    queues: &mut QueueOfQueues<A>,
-    num: u32,
-) -> bool {
-    let count = queues.list_len();
-    let refusal = open_refusal(queues, num);
-    if refusal.is_none() {
-        return false;
-    }
-    assert_eq!(rt; refusal, Some(OpenQueueError::OutOfMemory));
-    has_count(rt, queues, count);
-    true
-}
-
-// Whether memory for entries of the first queue is refused, which then aren't there.
-fn refuses_entries<A: Allocator>(rt: &impl Abort, queues: &mut QueueOfQueues<A>) -> bool {
-    let pending = queues.pending_len(block(1));
-    if queues.list_len() == 0 || put_refusal(queues, 1, Given::Four).is_none() {
-        return false;
-    }
-    assert_eq!(rt; queues.pending_len(block(1)), pending);
-    true
-}
-
-// What refuses a queue of four entries.
-fn whole_refusal<A: Allocator + Copy>(queues: &mut QueueOfQueues<A>) -> Option<AppendError> {
-    let head = Head {
-        block: block(9),
-        first: 1,
-        state: QueueState::Open,
-    };
-    match four_calls() {
-        Some(four) => queues.append(head, four.as_slice()).err(),
-        None => Some(AppendError::BadQueue),
-    }
-}
-
-// Whether memory for a whole queue is refused, which then isn't there.
-fn refuses_whole<A: Allocator + Copy>(rt: &impl Abort, queues: &mut QueueOfQueues<A>) -> bool {
-    let count = queues.list_len();
-    let refusal = whole_refusal(queues);
-    if refusal.is_none() {
-        return false;
-    }
-    assert_eq!(rt; refusal, Some(AppendError::OutOfMemory));
-    has_count(rt, queues, count);
-    true
-}
-
-// Whether memory for a copy is refused.
-fn refuses_copy<A: Allocator + Copy>(rt: &impl Abort, queues: &QueueOfQueues<A>) -> bool {
-    match queues.copy() {
-        Ok(copy) => {
-            assert!(rt; copy.same(queues));
-            false
-        }
-        Err(OutOfMemory) => true,
-    }
-}
-
-// Whether this much memory is too little for queues, entries and copies.
-fn is_refused(rt: &impl Abort, alloc: Global, size: usize) -> Result<bool, Fail> {
-    let heap = LocalHeap::new(alloc, size)?;
-    let mut queues = QueueOfQueues::new(&heap);
-    let mut refused = false;
-    for num in 1..9 {
-        refused = refuses_queue(rt, &mut queues, num) || refused;
-    }
-    for _round in 0..16 {
-        refused = refuses_entries(rt, &mut queues) || refused;
-    }
-    refused = refuses_whole(rt, &mut queues) || refused;
-    Ok(refuses_copy(rt, &queues) || refused)
-}
-
-/// However little memory there is: a refused call changes nothing.
-#[test]
-fn refused_memory(rt: HostRuntime) -> Result<(), Fail> {
-    let mut refused = 0;
-    for count in 0..40 {
-        if is_refused(&rt, rt.alloc(), 512 * count)? {
-            refused = count;
-        }
-    }
-    assert!(rt; refused > 0 && refused < 39, "{refused}");
     Ok(())
 }
 

@@ -19,3 +19,4 @@ pub mod StoringLemmas
 pub mod TableLemmas
 pub mod Texts
 pub mod UpsertLemmas
+pub mod RunningLemmas

@@ -5,6 +5,7 @@ pub mod Places
 pub mod Reading
 pub mod Faults
 pub mod Keeper
+pub mod Running
 pub mod Text
 pub mod Memory
 pub mod Failing

@@ -51,7 +51,7 @@ impl From<OutOfMemory> for KeeperError {
     }
 }
 
-/// Keeps the states of handlers, which are kept with this allocator, and the incarnations of clients.
+/// Keeps the states of handlers, whose memory this allocator gives, and the incarnations of clients.
 /// Contracts see it as what it has for each handler and for each client.
 pub trait Keeper<A: Allocator>: Drop {
     ghost use Rattle.scoop_handler.specs.State.{HandlerState};

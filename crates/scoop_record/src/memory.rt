@@ -9,7 +9,7 @@ use std::alloc::{Allocator, Global};
 use std::collections::BTreeMap;
 use std::marker::Model;
 
-/// Keeps copies of the states in memory, and is always honest.
+/// Keeps copies of the states in memory, each by the allocator of the state, and is always honest.
 #[derive(Drop)]
 pub struct MemoryKeeper<A: Allocator = Global> {
     states: BTreeMap<u32, HandlerState<A>, A>,

@@ -3,6 +3,5 @@
 mod images;
 mod keepers;
 mod numbers;
-mod refusals;
 mod stopped;
 mod tables;

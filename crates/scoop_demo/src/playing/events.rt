@@ -1,8 +1,9 @@
 //! The events of a script.
 
+use crate::playing::echo::{Echo, Subject};
 use crate::printing::print_note;
 use crate::script::EventLine;
-use scoop_message::{ClientId, HandlerId};
+use scoop_message::{ClientId, HandlerId, Message};
 use scoop_object::Table;
 use scoop_world::{Event, World, WorldError, WorldNote};
 use std::io;
@@ -17,50 +18,72 @@ pub enum Stop {
     OutOfMemory,
 }
 
-/// Plays what one line asks for, and writes a line for each event, `refused` and the reason where it is refused.
+/// What came of an event.
+#[derive(Clone, Copy)]
+pub enum Outcome {
+    /// It was taken, and sent a message, which has this place.
+    Sent(usize),
+    /// It was taken, and sent none.
+    Taken,
+    /// It was refused.
+    Refused,
+}
+
+/// Plays what one line asks for, and writes a line for each event, `refused` and the reason where it is refused,
+/// behind the echo that is asked for. The outcome is that of the last event.
 pub fn play<W: Write>(
     world: &mut World<Table>,
     event: EventLine,
+    echo: Option<Echo<'_>>,
     writer: &mut W,
-) -> Result<(), Stop> {
+) -> Result<Outcome, Stop> {
     match event {
-        EventLine::One(event) => {
-            step(world, event, writer)?;
-            Ok(())
-        }
-        EventLine::Run(handler) => run(world, handler, writer),
-        EventLine::Trip(client, handler) => trip(world, client, handler, writer),
+        EventLine::One(event) => step(world, event, echo, writer),
+        EventLine::Run(handler) => run(world, handler, echo, writer),
+        EventLine::Trip(client, handler) => trip(world, client, handler, echo, writer),
     }
 }
 
-// One event, with its line: the place of the message that it sent, if it sent one.
+// One event, with its line behind the echo.
 fn step<W: Write>(
     world: &mut World<Table>,
     event: Event,
+    echo: Option<Echo<'_>>,
     writer: &mut W,
-) -> Result<Option<usize>, Stop> {
+) -> Result<Outcome, Stop> {
+    let taken = match event {
+        Event::Take(place) => world.sent(place).copied(),
+        _ => None,
+    };
     match world.step(event) {
-        Ok(note) => tell(world, &note, writer),
+        Ok(note) => {
+            written(Echo::print(echo, subject(taken, &note), writer))?;
+            tell(world, &note, writer)
+        }
         Err(error) => {
-            refuse(error, writer)?;
-            Ok(None)
+            written(Echo::print(echo, subject(taken, &WorldNote::Silent), writer))?;
+            refuse(error, writer)
         }
     }
 }
 
-// Writes the line of what an event did: the place of the message that it sent, if it sent one.
-fn tell<W: Write>(
-    world: &World<Table>,
-    note: &WorldNote,
-    writer: &mut W,
-) -> Result<Option<usize>, Stop> {
-    let place = sent_by(note);
-    let sent = match place {
-        Some(place) => world.sent(place),
-        None => None,
+// What an event is about: the message that was taken, or the entry that ran.
+fn subject(taken: Option<Message>, note: &WorldNote) -> Subject {
+    match (taken, note) {
+        (Some(message), _) => Subject::Message(message),
+        (None, WorldNote::Ran(ran)) => Subject::Entry(ran.entry),
+        _ => Subject::Nothing,
+    }
+}
+
+// Writes the line of what an event did.
+fn tell<W: Write>(world: &World<Table>, note: &WorldNote, writer: &mut W) -> Result<Outcome, Stop> {
+    let Some(place) = sent_by(note) else {
+        written(print_note(note, None, writer))?;
+        return Ok(Outcome::Taken);
     };
-    written(print_note(note, sent, writer))?;
-    Ok(place)
+    written(print_note(note, world.sent(place), writer))?;
+    Ok(Outcome::Sent(place))
 }
 
 // The place of the message that an event sent, if it sent one.
@@ -73,10 +96,13 @@ fn sent_by(note: &WorldNote) -> Option<usize> {
 }
 
 // Writes the line of an event that is refused. Want of memory is no such line.
-fn refuse<W: Write>(error: WorldError, writer: &mut W) -> Result<(), Stop> {
+fn refuse<W: Write>(error: WorldError, writer: &mut W) -> Result<Outcome, Stop> {
     match error {
         WorldError::OutOfMemory => Err(Stop::OutOfMemory),
-        error => written(writeln!(writer, "refused {error}")),
+        error => {
+            written(writeln!(writer, "refused {error}"))?;
+            Ok(Outcome::Refused)
+        }
     }
 }
 
@@ -89,12 +115,17 @@ fn written(outcome: io::Result<()>) -> Result<(), Stop> {
 
 // The handler's next entry begins, and finishes at once: that it has run is the one line. Where it doesn't
 // begin, that is refused.
-fn run<W: Write>(world: &mut World<Table>, handler: HandlerId, writer: &mut W) -> Result<(), Stop> {
+fn run<W: Write>(
+    world: &mut World<Table>,
+    handler: HandlerId,
+    echo: Option<Echo<'_>>,
+    writer: &mut W,
+) -> Result<Outcome, Stop> {
     if let Err(error) = world.step(Event::Begin(handler)) {
+        written(Echo::print(echo, Subject::Nothing, writer))?;
         return refuse(error, writer);
     }
-    step(world, Event::Finish(handler), writer)?;
-    Ok(())
+    step(world, Event::Finish(handler), echo, writer)
 }
 
 // The client sends the handler what it owes; the handler hears it, and the client the reply.
@@ -102,14 +133,39 @@ fn trip<W: Write>(
     world: &mut World<Table>,
     client: ClientId,
     handler: HandlerId,
+    echo: Option<Echo<'_>>,
     writer: &mut W,
-) -> Result<(), Stop> {
-    let Some(place) = step(world, Event::Tick(client, handler), writer)? else {
-        return Ok(());
+) -> Result<Outcome, Stop> {
+    let place = match send(world, client, handler, echo, writer)? {
+        Outcome::Sent(place) => place,
+        outcome => return Ok(outcome),
     };
-    let Some(reply) = step(world, Event::Take(place), writer)? else {
-        return Ok(());
-    };
-    step(world, Event::Take(reply), writer)?;
-    Ok(())
+    match step(world, Event::Take(place), None, writer)? {
+        Outcome::Sent(reply) => step(world, Event::Take(reply), None, writer),
+        outcome => Ok(outcome),
+    }
+}
+
+// The client sends the handler what it owes. Its message is the echo's.
+fn send<W: Write>(
+    world: &mut World<Table>,
+    client: ClientId,
+    handler: HandlerId,
+    echo: Option<Echo<'_>>,
+    writer: &mut W,
+) -> Result<Outcome, Stop> {
+    match world.step(Event::Tick(client, handler)) {
+        Ok(note) => {
+            let sent = match sent_by(&note) {
+                Some(place) => world.sent(place).copied(),
+                None => None,
+            };
+            written(Echo::print(echo, subject(sent, &note), writer))?;
+            tell(world, &note, writer)
+        }
+        Err(error) => {
+            written(Echo::print(echo, Subject::Nothing, writer))?;
+            refuse(error, writer)
+        }
+    }
 }

@@ -11,7 +11,8 @@ ghost use Rattle.scoop_demo.specs.ScriptLine.{Placed, joining, handler_line, cli
 ghost use Rattle.scoop_demo.specs.Script.{Parties, Opens, StopsAtLine, StopsOpening, StopsClosed, parties_of, party_fault, words_fault, is_event, opens_at};
 ghost use Rattle.scoop_demo.specs.Staging.{AreFirst, AreFirstClients, IsStaged, IsWaiting, with_line};
 
-use super::events::{Stop, play};
+use super::echo::Echo;
+use super::events::{Outcome, Stop, play};
 use crate::fault::{InputFault, RunError};
 use crate::printing::{print_accepted, print_all_ran, print_blocks};
 use crate::script::{
@@ -27,7 +28,8 @@ use std::alloc::Global;
 use std::io::Write;
 use std::{io, mem};
 
-/// The parties that the lines so far have named, and their world from the first event on.
+/// The parties that the lines so far have named, and their world from the first event on, with whether the last event
+/// was refused.
 #[derive(Drop)]
 pub struct Stage {
     alloc: Global,
@@ -37,6 +39,7 @@ pub struct Stage {
     handlers: Vec<HandlerId>,
     names: Vec<ClientId>,
     pub(super) world: Option<World<Table>>,
+    pub(super) is_refused: bool,
     ghost batches: { All (λ c. (1 ≤ c.1) × (c.1 ≤ MAX_ENTRIES)) clients.items },
 }
 
@@ -62,14 +65,16 @@ impl Stage {
             handlers: Vec::new(alloc),
             names: Vec::new(alloc),
             world: None,
+            is_refused: false,
         }
     }
 
-    /// Plays the line of this number.
+    /// Plays the line of this number, told before what its event did where that is asked for.
     pub fn play_line<W: Write>(
         &mut self,
         number: u32,
         line: &[u8],
+        echoes: bool,
         writer: &mut W,
     ) -> Result<(), RunError>
         ensures ok { OnOk result (words_fault (is_some self.old.world) line.now ≡ None) }
@@ -90,7 +95,9 @@ impl Stage {
         match kind {
             LineKind::Handler => self.place(number, words),
             LineKind::Client => self.join(number, words),
-            LineKind::Event(kind) => self.play_event(number, kind, words, writer),
+            LineKind::Event(kind) => {
+                self.play_event(number, kind, words, Echo::of(echoes, number, line), writer)
+            }
         }
     }
 
@@ -195,6 +202,7 @@ impl Stage {
         number: u32,
         kind: EventKind,
         words: &[u8],
+        echo: Option<Echo<'_>>,
         writer: &mut W,
     ) -> Result<(), RunError>
         ensures ok { OnOk result (result_err (event_line kind (words_of words.now)) ≡ None) }
@@ -214,7 +222,7 @@ impl Stage {
             Ok(event) => event,
             Err(fault) => return Err(fault_at(number, fault)),
         };
-        self.play_in_world(number, event, writer)
+        self.play_in_world(number, event, echo, writer)
     }
 
     // Plays events in the world, which has opened.
@@ -222,6 +230,7 @@ impl Stage {
         &mut self,
         number: u32,
         event: EventLine,
+        echo: Option<Echo<'_>>,
         writer: &mut W,
     ) -> Result<(), RunError>
         requires { is_some self.old.world ≡ true }
@@ -229,8 +238,11 @@ impl Stage {
         ensures err { (parties : Parties) (stored : ℕ → Option ℕ) → IfErr result (StopsAtLine number false None parties stored) }
     {
         match &mut self.world {
-            Some(world) => match play(world, event, writer) {
-                Ok(()) => Ok(()),
+            Some(world) => match play(world, event, echo, writer) {
+                Ok(outcome) => {
+                    self.is_refused = matches!(outcome, Outcome::Refused);
+                    Ok(())
+                }
                 Err(Stop::Write) => Err(RunError::Write),
                 Err(Stop::OutOfMemory) => Err(RunError::OutOfMemory),
             },

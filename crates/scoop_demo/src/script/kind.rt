@@ -106,7 +106,8 @@ fn event_kind(word: &[u8]) -> Option<EventKind>
     }
 }
 
-fn is(word: &[u8], name: &str) -> bool
+/// Whether a word is this name.
+pub fn is(word: &[u8], name: &str) -> bool
     ensures { result ≡ same_text word.now name.now }
 {
     word == name.as_bytes()

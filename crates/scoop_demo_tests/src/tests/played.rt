@@ -9,6 +9,7 @@ use scoop_record::MemoryKeeper;
 use scoop_world::WorldOpenError;
 use std::alloc::Global;
 use std::process::Abort;
+use std::str;
 use std::test::Fail;
 
 mod faults;
@@ -479,4 +480,123 @@ client 7 accepted none
 ";
     assert!(rt; output.as_slice() == text.as_bytes());
     Ok(())
+}
+
+const ECHOED: &str = "\
+# a block
+handler 1 1 cell 0
+client 7
+trip 7 1
+reserve 7 1
+tick 7 1
+take 3
+take 3
+run 1
+";
+
+const ECHOES: &str = "\
+4: trip 7 1 = Hello 7.1 to 1
+sent 1 Hello
+Greeted sent 2
+Welcomed 1
+5: reserve 7 1
+done
+6: tick 7 1
+sent 3 Lock
+7: take 3 = Lock 7.1.1 to 1
+Granted sent 4
+8: take 3 = Lock 7.1.1 to 1
+Known sent 5
+9: run 1
+refused NothingToRun
+";
+
+const NO_BLOCKS: &str = "\
+joint none
+handler 1 opened none
+handler 1 ran none
+client 7 accepted none
+";
+
+// How a script ends with these options, and what it writes.
+fn played_with(
+    alloc: Global,
+    options: PlayOptions,
+    script: &str,
+) -> (Result<(), RunError>, Vec<u8>) {
+    let mut output = Vec::new(alloc);
+    let keeper = MemoryKeeper::new(alloc);
+    let ended = world_run_with(alloc, keeper, options, script.as_bytes(), &mut output);
+    (ended, output)
+}
+
+#[test]
+fn tells_the_lines_that_it_plays(rt: HostRuntime) -> Result<(), Fail> {
+    let options = PlayOptions {
+        echoes: true,
+        is_strict: false,
+    };
+    let (ended, output) = played_with(rt.alloc(), options, ECHOED);
+    assert_eq!(rt; ended, Ok(()));
+    let text = format!(in rt.alloc(); "{ECHOES}{NO_BLOCKS}")?;
+    assert_eq!(rt; str::from_utf8(&output).ok(), Some(text.as_str()));
+    Ok(())
+}
+
+#[test]
+fn stops_at_a_refused_event(rt: HostRuntime) {
+    let options = PlayOptions {
+        echoes: true,
+        is_strict: true,
+    };
+    let (ended, output) = played_with(rt.alloc(), options, ECHOED);
+    let fault = RunError::Input {
+        line: 9,
+        fault: InputFault::Refused,
+    };
+    assert_eq!(rt; ended, Err(fault));
+    assert_eq!(rt; str::from_utf8(&output).ok(), Some(ECHOES));
+}
+
+const RAN: &str = "\
+handler 1 1 cell 0
+client 7 2
+trip 7 1
+reserve 7 1
+trip 7 1
+trip 7 1
+trip 7 1
+call 7 1 1 5
+query 7 1 2
+trip 7 1
+begin 1
+finish 1
+run 1
+";
+
+const RUNS: &str = "\
+trip 7 1 = Log 7.1.1 1 call 1 5 query 2 to 1
+sent 9 Log
+Took 2 sent 10
+Acknowledged 1 1
+11: begin 1
+began 7.1.1 1
+12: finish 1 = call 1 5
+ran 7.1.1 1 5
+13: run 1 = query 2
+ran 7.1.1 2 5
+";
+
+#[test]
+fn tells_the_entries_that_run(rt: HostRuntime) {
+    let options = PlayOptions {
+        echoes: true,
+        is_strict: true,
+    };
+    let (ended, output) = played_with(rt.alloc(), options, RAN);
+    assert_eq!(rt; ended, Ok(()));
+    let text = str::from_utf8(&output).ok().unwrap_or("");
+    let (_, behind) = text.split_once("10: ").unwrap_or(("", ""));
+    let (told, _) = behind.split_once("joint").unwrap_or((behind, ""));
+    assert_eq!(rt; told, RUNS);
 }

@@ -19,7 +19,7 @@ fn greetings(rt: HostRuntime) -> Result<(), Fail> {
         (Act::Lock, 7, 3, 1, Said::Dropped(Reason::Ungreeted)),
         (Act::Lock, 7, 1, 1, Said::Dropped(Reason::Stale)),
     ];
-    hears(&rt, &mut fresh(rt.alloc(), rt.alloc())?, &rows);
+    hears(&rt, &mut fresh(rt.alloc())?, &rows);
     Ok(())
 }
 
@@ -29,7 +29,7 @@ fn drops(rt: &impl Abort, handler: &mut Handler<Table>, message: Message, why: R
 
 #[test]
 fn messages_for_others(rt: HostRuntime) -> Result<(), Fail> {
-    let mut handler = fresh(rt.alloc(), rt.alloc())?;
+    let mut handler = fresh(rt.alloc())?;
     let refused = Message::Answer(HERE, block(7, 1, 1), 1, Answer::Refused);
     drops(&rt, &mut handler, refused, Reason::NotForHandlers);
     let welcome = Message::Welcome(ELSEWHERE, ClientId(7), 1);
@@ -46,7 +46,7 @@ fn holds(rt: &impl Abort, handler: &Handler<Table>, holder: Block) {
 /// One block holds the lock, opens and unlocks; another gives up; the old Locks of both come late.
 #[test]
 fn one_block_holds_the_lock(rt: HostRuntime) -> Result<(), Fail> {
-    let mut handler = fresh(rt.alloc(), rt.alloc())?;
+    let mut handler = fresh(rt.alloc())?;
     let entry = Act::Log(1, Does::End, Does::Nothing);
     let rows = [
         (Act::Hello, 7, 1, 0, Said::Greeted),

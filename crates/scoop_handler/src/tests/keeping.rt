@@ -1,15 +1,14 @@
-//! States that are kept and come back, and refused memory.
+//! States that are kept and come back.
 
 use super::{
     Act, Does, ELSEWHERE, HERE, Said, block, class, entry, fresh, has_word, hears, hears_one,
-    message, object, opened, restart, restarted, runs, taken,
+    object, opened, restart, restarted, runs, taken,
 };
 use crate::{Handler, HandlerState, Mark, Reason, Stage, StateError};
-use linked_list_allocator::LocalHeap;
-use scoop_message::{Answer, Block, HandlerId, Message, Words};
+use scoop_message::{Answer, Block, HandlerId, Words};
 use scoop_object::{Behaviour, Class, Table};
 use scoop_queue::{Head, QueueOfQueues, QueueState};
-use std::alloc::{Allocator, Global};
+use std::alloc::Global;
 use std::process::Abort;
 use std::test::Fail;
 
@@ -127,7 +126,7 @@ fn takes_made(
 
 #[test]
 fn a_state_of_another_handler(rt: HostRuntime) -> Result<(), Fail> {
-    let mut handler = fresh(rt.alloc(), rt.alloc())?;
+    let mut handler = fresh(rt.alloc())?;
     takes_made(&rt, &mut handler, bare(rt.alloc(), ELSEWHERE, &[1]), false);
     Ok(())
 }
@@ -347,7 +346,7 @@ fn almost_full(alloc: Global) -> Option<HandlerState> {
 /// The highest number is kept for the End.
 #[test]
 fn the_last_number(rt: HostRuntime) -> Result<(), Fail> {
-    let mut handler = fresh(rt.alloc(), rt.alloc())?;
+    let mut handler = fresh(rt.alloc())?;
     takes_made(&rt, &mut handler, almost_full(rt.alloc()), true);
     let call = Act::Log(u32::MAX, Does::Add(1), Does::Nothing);
     let both = Act::Log(u32::MAX, Does::Add(1), Does::End);
@@ -359,69 +358,5 @@ fn the_last_number(rt: HostRuntime) -> Result<(), Fail> {
         (end, 7, 1, 1, Said::Took(u32::MAX)),
     ];
     hears(&rt, &mut handler, &rows);
-    Ok(())
-}
-
-fn is_heard<A: Allocator + Copy>(handler: &mut Handler<Table, A>, message: &Message) -> bool {
-    handler.hear(message).is_ok()
-}
-
-// Whether memory is refused to a message. What is refused once is refused again.
-fn refuses<A: Allocator + Copy>(
-    rt: &impl Abort,
-    handler: &mut Handler<Table, A>,
-    act: Act,
-    from: Block,
-) -> bool {
-    let Some(message) = message(act, from) else {
-        panic!(rt; "no such message");
-    };
-    if is_heard(handler, &message) {
-        return false;
-    }
-    assert!(rt; !is_heard(handler, &message), "{message:?}");
-    true
-}
-
-// Whether memory is refused while a block comes and goes.
-fn refuses_block<A: Allocator + Copy>(
-    rt: &impl Abort,
-    handler: &mut Handler<Table, A>,
-    from: Block,
-) -> bool {
-    let mut refused = false;
-    for act in [
-        Act::Hello,
-        Act::Lock,
-        Act::Open,
-        Act::Log(1, Does::Add(1), Does::End),
-        Act::Unlock,
-    ] {
-        refused = refuses(rt, handler, act, from) || refused;
-    }
-    refused
-}
-
-// Whether a handler with this much memory is refused some.
-fn is_refused(rt: &impl Abort, alloc: Global, size: usize) -> Result<bool, Fail> {
-    let heap = LocalHeap::new(alloc, size)?;
-    let mut handler = fresh(&heap, alloc)?;
-    let mut refused = false;
-    for client in 0..8 {
-        refused = refuses_block(rt, &mut handler, block(client, 1, 1)) || refused;
-    }
-    Ok(refused || handler.copy().is_err())
-}
-
-/// However little memory there is: what is refused once is refused again, since it changed nothing.
-#[test]
-fn refused_memory(rt: HostRuntime) -> Result<(), Fail> {
-    let mut refused = 0;
-    for count in 0..40 {
-        if is_refused(&rt, rt.alloc(), 512 * count)? {
-            refused = count;
-        }
-    }
-    assert!(rt; refused > 0 && refused < 39, "{refused}");
     Ok(())
 }

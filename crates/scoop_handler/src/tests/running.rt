@@ -53,7 +53,7 @@ fn waits_for_the_first_queue(rt: HostRuntime) -> Result<(), Fail> {
 
 #[test]
 fn greets_as_many_clients_as_there_may_be(rt: HostRuntime) -> Result<(), Fail> {
-    let mut handler = fresh(rt.alloc(), rt.alloc())?;
+    let mut handler = fresh(rt.alloc())?;
     for client in 0..64 {
         let row = (Act::Hello, client * 37 % 64, 1, 0, Said::Greeted);
         hears_one(&rt, &mut handler, row);
@@ -70,7 +70,7 @@ fn greets_as_many_clients_as_there_may_be(rt: HostRuntime) -> Result<(), Fail> {
 /// There is room for a private queue again once one has run to its End.
 #[test]
 fn opens_as_many_queues_as_there_may_be(rt: HostRuntime) -> Result<(), Fail> {
-    let mut handler = fresh(rt.alloc(), rt.alloc())?;
+    let mut handler = fresh(rt.alloc())?;
     hears_one(&rt, &mut handler, (Act::Hello, 7, 1, 0, Said::Greeted));
     let end = Act::Log(1, Does::End, Does::Nothing);
     for num in 1..65 {
@@ -164,10 +164,7 @@ fn done_aside<R: Threads + Sync + Abort>(
     Ok(work_aside(rt, job))
 }
 
-fn after<B: Behaviour, A: Allocator + Copy>(
-    handler: &Handler<B, A>,
-    done: &Done<B>,
-) -> Option<HandlerState<A>> {
+fn after<B: Behaviour>(handler: &Handler<B>, done: &Done<B>) -> Option<HandlerState> {
     handler.after_finish(done).ok()
 }
 

@@ -1,9 +1,8 @@
 //! Images of the worked state, whole, cut and changed.
 
-use linked_list_allocator::LocalHeap;
 use scoop_message::HandlerId;
 use scoop_record::*;
-use std::alloc::{Allocator, Global};
+use std::alloc::Global;
 use std::test::Fail;
 
 const HANDLER: HandlerId = HandlerId(1);
@@ -14,7 +13,7 @@ pub const IMAGE: [u8; 54] =
 
 pub const PENDING: [u8; 24] = *b"\x01\0\x01\x01\0\0\0\0\0\0\0\x05\x01\0\x01\x01\0\0\0\0\0\0\0\x06";
 
-fn fault<A: Allocator + Copy>(alloc: A, image: &[u8], pending: &[u8]) -> Option<ReadError> {
+fn fault(alloc: Global, image: &[u8], pending: &[u8]) -> Option<ReadError> {
     read_image(alloc, HANDLER, image, pending).err()
 }
 
@@ -89,20 +88,6 @@ fn what_no_handler_has_is_no_image(rt: HostRuntime) -> Result<(), Fail> {
         *image.get_mut(at).ok_or("a byte of the image")? = byte;
         assert_eq!(rt; fault(rt.alloc(), &image, &PENDING), bad, "{at}");
     }
-    Ok(())
-}
-
-#[test]
-fn want_of_memory_is_told(rt: HostRuntime) -> Result<(), Fail> {
-    let mut refused = 0;
-    for size in 0..8 {
-        let heap = LocalHeap::new(rt.alloc(), 512 * size)?;
-        if let Some(error) = fault(&heap, &IMAGE, &PENDING) {
-            assert_eq!(rt; error, ReadError::OutOfMemory);
-            refused = size;
-        }
-    }
-    assert!(rt; refused > 0);
     Ok(())
 }
 

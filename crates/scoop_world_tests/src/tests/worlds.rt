@@ -5,7 +5,6 @@ ghost use Rattle.std.specs.Prelude.{◌≤◌};
 ghost use Rattle.std.specs.List.{All};
 ghost use Rattle.scoop_message.specs.declared.limits.TheConstants.{MAX_ENTRIES};
 
-mod growths;
 mod one_cell;
 mod opening;
 mod refusing;
@@ -23,7 +22,7 @@ use scoop_record::MemoryKeeper;
 use scoop_world::{
     Command, Event, HandlerList, Placement, World, WorldError, WorldNote, WorldOpenError,
 };
-use std::alloc::{Allocator, Global};
+use std::alloc::Global;
 use std::process::Abort;
 
 /// Makes the word the argument.
@@ -165,12 +164,12 @@ impl Joining {
         Ok(())
     }
 
-    fn open<A: Allocator + Copy>(
+    fn open(
         &self,
-        alloc: A,
+        alloc: Global,
         placements: Vec<Placement<Table>>,
-        keeper: MemoryKeeper<A>,
-    ) -> Result<World<Table, A>, WorldOpenError> {
+        keeper: MemoryKeeper,
+    ) -> Result<World<Table>, WorldOpenError> {
         World::open(alloc, placements, &self.clients, keeper)
     }
 }

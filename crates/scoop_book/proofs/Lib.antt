@@ -1,0 +1,7 @@
+pub mod Same
+pub mod Places
+pub mod BookLemmas
+pub mod OpeningLemmas
+pub mod Alls
+pub mod MadeBy
+pub mod NodeLemmas

@@ -1,0 +1,6 @@
+pub mod Moves
+pub mod Kept
+pub mod Opening
+pub mod Books
+pub mod Passes
+pub mod Closing

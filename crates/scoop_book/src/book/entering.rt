@@ -1,0 +1,200 @@
+//! What happens at a book's handlers, and is entered.
+
+ghost use Rattle.std.specs.Prelude.{◌≡◌, ◌≢◌, ◌⊎◌, ◌||◌, ℕ, IfOk, IfErr, OnOk, OnErr, IfSome};
+ghost use Rattle.std.specs.Option.{option_map};
+ghost use Rattle.scoop_handler.specs.Running.{job_out, ran_of, ready};
+ghost use Rattle.scoop_record.specs.Keeper.{IsPutError, IsSame, Stays as KeeperStays};
+ghost use Rattle.scoop_book.specs.Moves.{handler_at, handler_in, leaves};
+ghost use Rattle.scoop_book.specs.Books.{Gains, IsBook, IsRefused, IsUnfinished, KeepsNew, MayHappen, Stays, IsHear, HasReply, fails, fails_to_finish, refusal_of};
+
+use crate::book::{Book, enter};
+use crate::error::{BookError, FinishError, FinishRefusal};
+use crate::event::{Event, Reply};
+use scoop_handler::{Done, Job, Ran};
+use scoop_message::{Block, HandlerId};
+use scoop_object::Behaviour;
+use scoop_record::{JobRefusal, Keeper, KeeperError};
+use std::alloc::Allocator;
+
+// Why an event isn't entered, by what the keeper says of the new state; and whether it is the last one.
+fn put_refused(failed: &mut bool, error: KeeperError) -> BookError
+    requires { IsPutError error }
+    ensures named { (result ≡ BookError.StoreRefused) ⊎ (result ≡ BookError.OutOfMemory) }
+    ensures failed { failed.new ≡ (failed.old || fails result) }
+{
+    match error {
+        KeeperError::OutOfMemory => BookError::OutOfMemory,
+        _ => {
+            *failed = true;
+            BookError::StoreRefused
+        }
+    }
+}
+
+// Why a job isn't finished, by what the handler and its keeper say; and whether it is the last one.
+fn job_refused(failed: &mut bool, cause: JobRefusal) -> FinishRefusal
+    ensures cause { result ≡ refusal_of cause }
+    ensures failed { failed.new ≡ (failed.old || fails_to_finish result) }
+{
+    match cause {
+        JobRefusal::Stranger => FinishRefusal::Stranger,
+        JobRefusal::OutOfMemory => FinishRefusal::OutOfMemory,
+        JobRefusal::Refused => {
+            *failed = true;
+            FinishRefusal::StoreRefused
+        }
+    }
+}
+
+/// The block and the number of the entry that has left, if any.
+pub(crate) fn entry_left<B: Behaviour>(job: &Option<Job<B>>) -> Option<(Block, u32)>
+    ensures { result ≡ option_map leaves job.now }
+{
+    match job {
+        Some(job) => Some((job.block(), job.number())),
+        None => None,
+    }
+}
+
+/// The reply to a Finish.
+pub(crate) fn finished(ran: &Ran) -> Reply
+    ensures { result ≡ Reply.Finished ran.now }
+{
+    Reply::Finished(*ran)
+}
+
+fn refused<B: Behaviour>(cause: FinishRefusal, done: Done<B>) -> FinishError<B>
+    ensures cause { result.cause ≡ cause }
+    ensures done { result.done ≡ done }
+{
+    FinishError { cause, done }
+}
+
+impl<B: Behaviour, K: Keeper<A>, A: Allocator + Copy> Book<B, K, A> {
+    /// A handler hears a message, for the pass of this number. Its new state is stored before it takes it; a
+    /// put is left out where the keeper is known to have that state. The entry is the history's last.
+    ///
+    /// Refused with handlers, history and record as they were, in this order: `NodeFailed`, `HistoryFull`,
+    /// `UnknownHandler`, `StoreRefused`, after which nothing is entered any more, `OutOfMemory`.
+    pub fn step(&mut self, pass: u32, event: Event) -> Result<Reply, BookError>
+        requires { IsHear event }
+        ensures gains { IfOk result (λ reply. Gains pass event reply self.old self.new) }
+        ensures may { OnOk result (MayHappen self.old (handler_at event)) }
+        ensures replies { IfOk result (HasReply event) }
+        ensures stored { K.is_honest self.new.keeper → OnOk result (KeepsNew (handler_at event) self.new.handlers (K.handlers self.old.keeper) (K.handlers self.new.keeper)) }
+        ensures incarnations { K.is_honest self.new.keeper → IsSame (K.incarnations self.old.keeper) (K.incarnations self.new.keeper) }
+        ensures refused { IfErr result (IsRefused self.old (handler_at event)) }
+        ensures stays { OnErr result (Stays self.old self.new) }
+        ensures failed { IfErr result (λ e. self.new.failed ≡ (self.old.failed || fails e)) }
+        ensures kept { K.is_honest self.new.keeper → OnErr result (KeeperStays (K.handlers self.old.keeper) (K.handlers self.new.keeper)) }
+        ensures honest { K.is_honest self.new.keeper → K.is_honest self.old.keeper }
+        ensures was { IsBook K.handlers K.is_honest self.old }
+        ensures sound { IsBook K.handlers K.is_honest self.new }
+    {
+        let Event::Hear(message) = &event else {
+            unreachable!()
+        };
+        if self.failed {
+            return Err(BookError::NodeFailed);
+        }
+        if self.history.len() >= self.limit {
+            return Err(BookError::HistoryFull);
+        }
+        let Some(at) = self.handlers.place(message.handler()) else {
+            return Err(BookError::UnknownHandler);
+        };
+        let Ok(()) = self.history.reserve(1) else {
+            return Err(BookError::OutOfMemory);
+        };
+        let heard = match self.handlers.hear(at, message) {
+            Ok(heard) => heard,
+            Err(error) => return Err(put_refused(&mut self.failed, error)),
+        };
+        let reply = Reply::Heard(heard);
+        enter(&mut self.history, pass, &event, &reply);
+        Ok(reply)
+    }
+
+    /// The handler's next entry leaves to be run, for the pass of this number. `None` exactly where the
+    /// handler has none, or a job is out; that is entered too. No keeper is asked.
+    ///
+    /// Refused with handlers, history and record as they were, in this order: `NodeFailed`, `HistoryFull`,
+    /// `UnknownHandler`, `OutOfMemory`.
+    pub fn begin(&mut self, pass: u32, handler: HandlerId) -> Result<Option<Job<B>>, BookError>
+        ensures gains { IfOk result (λ job. Gains pass (Event.Begin handler) (Reply.Began (option_map leaves job)) self.old self.new) }
+        ensures may { OnOk result (MayHappen self.old handler) }
+        ensures job { IfOk result (λ job. IfSome (handler_in handler self.old.handlers) (λ s. job ≡ ready s.core)) }
+        ensures keeper { self.new.keeper ≡ self.old.keeper }
+        ensures refused { IfErr result (IsRefused self.old handler) }
+        ensures unasked { IfErr result (λ e. e ≢ BookError.StoreRefused) }
+        ensures stays { OnErr result (Stays self.old self.new) }
+        ensures failed { self.new.failed ≡ self.old.failed }
+        ensures was { IsBook K.handlers K.is_honest self.old }
+        ensures sound { IsBook K.handlers K.is_honest self.new }
+    {
+        if self.failed {
+            return Err(BookError::NodeFailed);
+        }
+        if self.history.len() >= self.limit {
+            return Err(BookError::HistoryFull);
+        }
+        let Some(at) = self.handlers.place(handler) else {
+            return Err(BookError::UnknownHandler);
+        };
+        let Ok(()) = self.history.reserve(1) else {
+            return Err(BookError::OutOfMemory);
+        };
+        let job = self.handlers.begin(at, handler);
+        let reply = Reply::Began(entry_left(&job));
+        enter(&mut self.history, pass, &Event::Begin(handler), &reply);
+        Ok(job)
+    }
+
+    /// The entry that left a handler with this job has run, for the pass of this number. The handler's new
+    /// state is stored before it takes it.
+    ///
+    /// Refused with handlers, history and record as they were, and the job handed back, in this order:
+    /// `NodeFailed`, `HistoryFull`, `UnknownHandler`, `Stranger` where it isn't the job that is out at its
+    /// handler, `StoreRefused`, after which nothing is entered any more, `OutOfMemory`.
+    pub fn finish(&mut self, pass: u32, done: Done<B>) -> Result<Ran, FinishError<B>>
+        ensures gains { IfOk result (λ ran. Gains pass (Event.Finish done.handler) (Reply.Finished ran) self.old self.new) }
+        ensures may { OnOk result (MayHappen self.old done.handler) }
+        ensures out { OnOk result (IfSome (handler_in done.handler self.old.handlers) (λ s. job_out s.core ≡ Some done)) }
+        ensures ran { IfOk result (λ ran. ran ≡ ran_of done) }
+        ensures stored { K.is_honest self.new.keeper → OnOk result (KeepsNew done.handler self.new.handlers (K.handlers self.old.keeper) (K.handlers self.new.keeper)) }
+        ensures incarnations { K.is_honest self.new.keeper → IsSame (K.incarnations self.old.keeper) (K.incarnations self.new.keeper) }
+        ensures handed_back { IfErr result (λ e. e.done ≡ done) }
+        ensures refused { IfErr result (λ e. IsUnfinished self.old done e.cause) }
+        ensures stays { OnErr result (Stays self.old self.new) }
+        ensures failed { IfErr result (λ e. self.new.failed ≡ (self.old.failed || fails_to_finish e.cause)) }
+        ensures kept { K.is_honest self.new.keeper → OnErr result (KeeperStays (K.handlers self.old.keeper) (K.handlers self.new.keeper)) }
+        ensures honest { K.is_honest self.new.keeper → K.is_honest self.old.keeper }
+        ensures was { IsBook K.handlers K.is_honest self.old }
+        ensures sound { IsBook K.handlers K.is_honest self.new }
+    {
+        if self.failed {
+            return Err(refused(FinishRefusal::NodeFailed, done));
+        }
+        if self.history.len() >= self.limit {
+            return Err(refused(FinishRefusal::HistoryFull, done));
+        }
+        let handler = done.handler();
+        let Some(at) = self.handlers.place(handler) else {
+            return Err(refused(FinishRefusal::UnknownHandler, done));
+        };
+        let Ok(()) = self.history.reserve(1) else {
+            let cause = self.handlers.no_room_to_finish(at, &done);
+            return Err(refused(cause, done));
+        };
+        let ran = match self.handlers.finish(at, done) {
+            Ok(ran) => ran,
+            Err(error) => {
+                let cause = job_refused(&mut self.failed, error.cause);
+                return Err(refused(cause, error.done));
+            }
+        };
+        let reply = finished(&ran);
+        enter(&mut self.history, pass, &Event::Finish(handler), &reply);
+        Ok(ran)
+    }
+}

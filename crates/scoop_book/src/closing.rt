@@ -1,0 +1,146 @@
+//! How a node is closed: its history is held against its passes.
+
+ghost use Rattle.std.specs.Prelude.{◌≡◌, ◌≢◌, ◌<◌, ◌↔◌, ℕ, IsTrue, IfNone, IfSome};
+ghost use Rattle.std.specs.List.{All, Any};
+ghost use Rattle.scoop_book.specs.Closing.{Agrees, IsComplete};
+ghost use Rattle.scoop_book.specs.Moves.{made_by};
+
+use crate::error::CloseRefusal;
+use crate::event::{Event, Reply};
+use crate::law::{same_event, same_reply};
+use crate::opening::Opening;
+use crate::pass::Pass;
+use scoop_record::Keeper;
+use std::alloc::{Allocator, Global};
+
+/// The history of a closed node, each event with the number of its pass and its reply, and the keeper.
+#[derive(Drop)]
+pub struct Closed<K: Keeper<A>, A: Allocator = Global> {
+    /// What happened, in order.
+    pub history: Vec<(u32, Event, Reply), A>,
+    /// The keeper, as it stands.
+    pub keeper: K,
+}
+
+// Whether one of the passes has this number.
+fn has_number<A: Allocator + Copy>(passes: &[Pass<A>], number: u32) -> bool
+    ensures { IsTrue result ↔ Any (λ p. p.number ≡ number) passes.now }
+{
+    passes.iter().any(|p| p.number() == number)
+}
+
+// The first number below the count that no pass has.
+fn first_missing<A: Allocator + Copy>(count: u32, passes: &[Pass<A>]) -> Option<u32>
+    ensures none { IfNone result ((n : ℕ) → n < count → Any (λ p. p.number ≡ n) passes.now) }
+    ensures some { IfSome result (λ n. (n < count) × (Any (λ p. p.number ≡ n) passes.now → ⊥)) }
+{
+    for number in 0..count {
+        if !has_number(passes, number) {
+            return Some(number);
+        }
+    }
+    None
+}
+
+// Whether there are so many passes, of the numbers from 0 on.
+fn is_complete<A: Allocator + Copy>(count: u32, passes: &[Pass<A>]) -> bool
+    ensures { IsTrue result ↔ IsComplete count passes.now }
+{
+    if passes.len() != count as usize {
+        return false;
+    }
+    match first_missing(count, passes) {
+        Some(_) => false,
+        None => true,
+    }
+}
+
+// Whether the entry is this event with this reply.
+fn is_of(made: &(Event, Reply), entry: &(u32, Event, Reply)) -> bool
+    ensures { IsTrue result ↔ (made.now ≡ (entry.now.1, entry.now.2)) }
+{
+    same_event(&made.0, &entry.1) && same_reply(&made.1, &entry.2)
+}
+
+// Whether the pass has just the events that the history has of its number.
+fn has_events<A: Allocator + Copy>(pass: &Pass<A>, history: &[(u32, Event, Reply)]) -> bool
+    ensures { IsTrue result → pass.now.events ≡ made_by pass.now.number history.now }
+{
+    let mut left = pass.events();
+    for entry in history {
+        if entry.0 == pass.number() {
+            let Some((first, others)) = left.split_first() else {
+                return false;
+            };
+            if !is_of(first, entry) {
+                return false;
+            }
+            left = others;
+        }
+    }
+    left.is_empty()
+}
+
+// Whether the pass says what the history says of it.
+fn agrees<A: Allocator + Copy>(
+    pass: &Pass<A>,
+    opening: &[Opening<A>],
+    history: &[(u32, Event, Reply)],
+) -> bool
+    ensures { IsTrue result → Agrees opening.now history.now pass.now }
+{
+    has_events(pass, history) && (pass.number() != 0 || pass.keeps(opening))
+}
+
+// The first pass that says something else.
+fn first_different<A: Allocator + Copy>(
+    passes: &[Pass<A>],
+    opening: &[Opening<A>],
+    history: &[(u32, Event, Reply)],
+) -> Option<u32>
+    ensures { IfNone result (All (Agrees opening.now history.now) passes.now) }
+{
+    for pass in passes {
+        if !agrees(pass, opening, history) {
+            return Some(pass.number());
+        }
+    }
+    None
+}
+
+// The number of an entry that no pass has.
+fn stranger(count: u32, history: &[(u32, Event, Reply)]) -> Option<u32>
+    ensures { IfNone result (All (λ e. e.0 < count) history.now) }
+{
+    for entry in history {
+        if entry.0 >= count {
+            return Some(entry.0);
+        }
+    }
+    None
+}
+
+/// Why a node with these handlers as they opened and this history isn't closed by these passes.
+pub(crate) fn refusal<A: Allocator + Copy>(
+    count: u32,
+    passes: &[Pass<A>],
+    opening: &[Opening<A>],
+    history: &[(u32, Event, Reply)],
+) -> Option<CloseRefusal>
+    ensures complete { IfNone result (IsComplete count passes.now) }
+    ensures agree { IfNone result (All (Agrees opening.now history.now) passes.now) }
+    ensures no_others { IfNone result (All (λ e. e.0 < count) history.now) }
+    ensures missing { IfSome result (λ e. (e ≡ CloseRefusal.MissingPass) ↔ (IsComplete count passes.now → ⊥)) }
+    ensures memory { IfSome result (λ e. e ≢ CloseRefusal.OutOfMemory) }
+{
+    if !is_complete(count, passes) {
+        return Some(CloseRefusal::MissingPass);
+    }
+    if let Some(number) = first_different(passes, opening, history) {
+        return Some(CloseRefusal::PassDiffers(number));
+    }
+    if let Some(number) = stranger(count, history) {
+        return Some(CloseRefusal::PassDiffers(number));
+    }
+    None
+}

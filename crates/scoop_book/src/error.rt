@@ -1,0 +1,140 @@
+//! Why calls on books and nodes are refused.
+
+ghost use Rattle.std.specs.Prelude.{◌≡◌};
+
+use crate::node::Node;
+use crate::pass::Pass;
+use scoop_handler::Done;
+use scoop_message::{HandlerId, OutOfMemory};
+use scoop_object::Behaviour;
+use scoop_record::{Keeper, KeeperError};
+use std::alloc::{AllocError, AllocFailed, Allocator, Global};
+use thiserror::Error;
+
+/// Why a book or a node doesn't open, in the order in which it is tested.
+#[derive(Clone, Copy, Debug, PartialEq, Eq, Error)]
+pub enum OpenError {
+    /// There is to be no pass.
+    #[error("NoPasses")]
+    NoPasses,
+    /// The object of this handler hasn't the class that comes with it, or what is stored for the handler has
+    /// another number of words than the class.
+    #[error("WrongClass {0}")]
+    WrongClass(HandlerId),
+    /// This handler stands at the first place that repeats an earlier one.
+    #[error("Repeated {0}")]
+    Repeated(HandlerId),
+    /// The keeper refuses to load.
+    #[error("{0}")]
+    Keeper(KeeperError),
+    /// A growth of memory was refused.
+    #[error("OutOfMemory")]
+    OutOfMemory,
+}
+
+/// Why an event isn't entered, in the order in which it is tested. Printed as its name.
+#[derive(Clone, Copy, Debug, PartialEq, Eq, Error)]
+pub enum BookError {
+    /// The keeper has refused a state before. Nothing is entered until the node is opened again.
+    #[error("NodeFailed")]
+    NodeFailed,
+    /// The history has as many entries as it may have.
+    #[error("HistoryFull")]
+    HistoryFull,
+    /// The handler isn't here.
+    #[error("UnknownHandler")]
+    UnknownHandler,
+    /// The keeper refuses the new state.
+    #[error("StoreRefused")]
+    StoreRefused,
+    /// A growth of memory was refused.
+    #[error("OutOfMemory")]
+    OutOfMemory,
+}
+
+/// Why a job isn't finished, in the order in which it is tested. Printed as its name.
+#[derive(Clone, Copy, Debug, PartialEq, Eq, Error)]
+pub enum FinishRefusal {
+    /// The keeper has refused a state before. Nothing is entered until the node is opened again.
+    #[error("NodeFailed")]
+    NodeFailed,
+    /// The history has as many entries as it may have.
+    #[error("HistoryFull")]
+    HistoryFull,
+    /// The job's handler isn't here.
+    #[error("UnknownHandler")]
+    UnknownHandler,
+    /// The job isn't the one that is out at its handler.
+    #[error("Stranger")]
+    Stranger,
+    /// The keeper refuses the new state.
+    #[error("StoreRefused")]
+    StoreRefused,
+    /// A growth of memory was refused.
+    #[error("OutOfMemory")]
+    OutOfMemory,
+}
+
+/// A job that isn't finished. It is handed back.
+#[derive(Drop)]
+pub struct FinishError<B: Behaviour> {
+    /// Why it isn't finished.
+    pub cause: FinishRefusal,
+    /// The job.
+    pub done: Done<B>,
+}
+
+/// Why a node isn't closed, in the order in which it is tested. Printed as its name.
+#[derive(Clone, Copy, Debug, PartialEq, Eq, Error)]
+pub enum CloseRefusal {
+    /// The passes aren't those that the node opened with, each once.
+    #[error("MissingPass")]
+    MissingPass,
+    /// What the pass of this number says isn't what the history says of it.
+    #[error("PassDiffers {0}")]
+    PassDiffers(u32),
+    /// A growth of memory was refused. Closing takes no memory, so this never comes.
+    #[error("OutOfMemory")]
+    OutOfMemory,
+}
+
+/// A node that isn't closed. It is handed back with the passes.
+#[derive(Drop)]
+pub struct CloseError<B: Behaviour, K: Keeper<A>, A: Allocator = Global> {
+    /// Why it isn't closed.
+    pub cause: CloseRefusal,
+    /// The node.
+    pub node: Node<B, K, A>,
+    /// The passes, as they were given.
+    pub passes: Vec<Pass<A>, A>,
+}
+
+impl From<OutOfMemory> for OpenError {
+    ghost use Rattle.scoop_book.specs.declared.error.OpenError.TheVariants as variants;
+
+    ghost from_gives = { λ _ e. e ≡ variants.OutOfMemory };
+
+    fn from(_: OutOfMemory) -> OpenError {
+        OpenError::OutOfMemory
+    }
+}
+
+impl From<AllocError> for OpenError {
+    ghost use Rattle.scoop_book.specs.declared.error.OpenError.TheVariants as variants;
+
+    ghost from_gives = { λ _ e. e ≡ variants.OutOfMemory };
+
+    fn from(_: AllocError) -> OpenError {
+        OpenError::OutOfMemory
+    }
+}
+
+impl<T: Drop> From<AllocFailed<T>> for OpenError {
+    ghost use Rattle.scoop_book.specs.declared.error.OpenError.TheVariants as variants;
+
+    ghost from_gives = { λ _ e. e ≡ variants.OutOfMemory };
+
+    fn from(_: AllocFailed<T>) -> OpenError {
+        OpenError::OutOfMemory
+    }
+}

@@ -1,0 +1,177 @@
+//! Two threads at one node, and how it is closed.
+
+use super::{cells, hello, lock, log, open};
+use scoop_book::{CloseRefusal, Event, Node, OpenError, Pass, Reply};
+use scoop_message::HandlerId;
+use scoop_object::Table;
+use scoop_record::{Keeper, MemoryKeeper, Store};
+use sqlite::{Connection, File, FileStore};
+use std::alloc::Global;
+use std::process::Abort;
+use std::sync::Wait;
+use std::test::Fail;
+use std::thread::Threads;
+use std::{env, fs, process, thread};
+
+type MemoryNode = Node<Table, MemoryKeeper>;
+
+type FiledStore = Store<FileStore<File>>;
+
+/// What a thread does at one node: its client greets the handler, opens a private queue there, and logs calls
+/// each of which runs before the next, 500 events in all.
+fn work<K: Keeper<Global>, R: Wait>(
+    rt: &R,
+    node: &Node<Table, K>,
+    mut pass: Pass,
+    handler: u32,
+    client: u32,
+) -> Option<Pass> {
+    for event in [
+        hello(handler, client),
+        lock(handler, client),
+        open(handler, client),
+    ] {
+        node.event(rt, &mut pass, event).ok()?;
+    }
+    for number in 1..166u32 {
+        node.event(rt, &mut pass, log(handler, client, number)?)
+            .ok()?;
+        let job = node.begin(rt, &mut pass, HandlerId(handler)).ok()??;
+        node.finish(rt, &mut pass, job.work()).ok()?;
+    }
+    for _ in 0..2 {
+        node.event(rt, &mut pass, hello(handler, client)).ok()?;
+    }
+    Some(pass)
+}
+
+/// Two threads, each with its pass.
+fn both_work<K: Keeper<Global> + Send, R: Threads + Wait + Sync>(
+    rt: &R,
+    node: &Node<Table, K>,
+    first: Pass,
+    second: Pass,
+) -> (Option<Pass>, Option<Pass>) {
+    thread::join(
+        rt,
+        move || work(rt, node, first, 1, 7),
+        move || work(rt, node, second, 2, 8),
+    )
+}
+
+/// A node of two cells over this keeper, with its passes from the last to the first.
+fn opened<K: Keeper<Global>>(
+    alloc: Global,
+    keeper: K,
+    passes: u32,
+) -> Option<Result<(Node<Table, K>, Vec<Pass>), OpenError>> {
+    let handlers = cells(alloc, &[1, 2])?;
+    Some(Node::open(alloc, handlers, keeper, passes))
+}
+
+/// How many entries are of this pass.
+fn entries_of(history: &[(u32, Event, Reply)], number: u32) -> usize {
+    history.iter().filter(|entry| entry.0 == number).count()
+}
+
+#[test]
+fn two_threads_work_and_the_node_is_closed(rt: HostRuntime) -> Result<(), Fail> {
+    let alloc = rt.alloc();
+    let (node, mut passes) = opened(alloc, MemoryKeeper::new(alloc), 2).ok_or("cells")??;
+    let (_, mut strangers) = opened(alloc, MemoryKeeper::new(alloc), 2).ok_or("cells")??;
+    let second = passes.pop().ok_or("second")?;
+    let first = passes.pop().ok_or("first")?;
+    let (first, second) = both_work(&rt, &node, first, second);
+    let (first, second) = (first.ok_or("first")?, second.ok_or("second")?);
+    assert_eq!(rt; (first.number(), first.events().len()), (0, 500));
+    assert_eq!(rt; (second.number(), second.events().len()), (1, 500));
+    let mut given = Vec::new(alloc);
+    given.push(first)?;
+    let Err(error) = node.close(&rt, given) else {
+        return Err("closed with one pass".into());
+    };
+    assert_eq!(rt; error.cause, CloseRefusal::MissingPass);
+    let (node, mut given) = (error.node, error.passes);
+    given.push(strangers.pop().ok_or("stranger")?)?;
+    let Err(error) = node.close(&rt, given) else {
+        return Err("closed with a stranger".into());
+    };
+    assert_eq!(rt; error.cause, CloseRefusal::PassDiffers(1));
+    let (node, mut given) = (error.node, error.passes);
+    drop(given.pop());
+    given.push(second)?;
+    let Ok(closed) = node.close(&rt, given) else {
+        return Err("not closed".into());
+    };
+    assert_eq!(rt; closed.history.len(), 1000);
+    assert_eq!(rt; entries_of(&closed.history, 0), 500);
+    assert_eq!(rt; entries_of(&closed.history, 1), 500);
+    Ok(())
+}
+
+#[test]
+fn a_node_has_a_pass(rt: HostRuntime) -> Result<(), Fail> {
+    let alloc = rt.alloc();
+    let none = opened(alloc, MemoryKeeper::new(alloc), 0).ok_or("cells")?;
+    assert_eq!(rt; none.err(), Some(OpenError::NoPasses));
+    let one: Result<(MemoryNode, Vec<Pass>), OpenError> = opened(
+        alloc,
+        MemoryKeeper::new(alloc),
+        1,
+    ).ok_or("cells")?;
+    assert!(rt; one.is_ok());
+    Ok(())
+}
+
+/// The same events over this keeper, which is handed back. The passes may be given in any order.
+fn thousand<K: Keeper<Global> + Send, R: Threads + Wait + Sync + Abort>(
+    rt: &R,
+    alloc: Global,
+    keeper: K,
+) -> Result<K, Fail> {
+    let (node, mut passes) = opened(alloc, keeper, 2).ok_or("cells")??;
+    let second = passes.pop().ok_or("second")?;
+    let first = passes.pop().ok_or("first")?;
+    let (first, second) = both_work(rt, &node, first, second);
+    let mut given = Vec::new(alloc);
+    given.push(second.ok_or("second")?)?;
+    given.push(first.ok_or("first")?)?;
+    let Ok(closed) = node.close(rt, given) else {
+        return Err("not closed".into());
+    };
+    assert_eq!(rt; closed.history.len(), 1000);
+    Ok(closed.keeper)
+}
+
+/// A store in a new file.
+fn store_at(rt: &HostRuntime, path: &str) -> Result<FiledStore, Fail> {
+    Ok(Store::create(rt.alloc(), Connection::open(rt, path)?)?)
+}
+
+/// The word that the file has for a handler.
+fn word_at(rt: &HostRuntime, path: &str, handler: u32) -> Result<Option<u64>, Fail> {
+    let mut store: FiledStore = Store::adopt(rt.alloc(), Connection::open(rt, path)?)?;
+    let stored = store.load_handler(HandlerId(handler))?;
+    Ok(stored.ok_or("a stored state")?.words().get(0))
+}
+
+/// The same over a store in a file.
+#[test]
+fn a_node_keeps_its_record_in_a_file(rt: HostRuntime) -> Result<(), Fail> {
+    let alloc = rt.alloc();
+    let name = format!(in alloc; "scoop-book-{}", process::id(rt.process()))?;
+    let dir = env::temp_dir(&rt)?.join(alloc, name.as_str())?;
+    fs::create_dir(&rt, &dir)?;
+    let record = dir.join(alloc, "record")?;
+    let path = record.to_str().ok_or("a path")?;
+    let store = thousand(&rt, alloc, store_at(&rt, path)?)?;
+    let again: Result<(Node<Table, FiledStore>, Vec<Pass>), OpenError> = opened(
+        alloc, store, 1,
+    ).ok_or("cells")?;
+    assert!(rt; again.is_ok());
+    drop(again);
+    assert_eq!(rt; word_at(&rt, path, 1)?, Some(165));
+    assert_eq!(rt; word_at(&rt, path, 2)?, Some(165));
+    fs::remove_dir_all(&rt, &dir)?;
+    Ok(())
+}

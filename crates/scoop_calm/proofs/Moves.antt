@@ -1,0 +1,123 @@
+-- What the kinds of events that a world settles by make of it.
+use Rattle.std.proofs.Common.{◌≡◌, ◌+◌, ◌-◌, ◌==◌, true, false, List, [], ◌∷◌, ◌++◌, length, slice_get, Some, None, refl, ap, ◌∙◌, arith}
+use Rattle.std.specs.Prelude.{if◌then◌else◌, Ok}
+use Rattle.std.proofs.lemmas.Bool.Decides.{nat_tests}
+use Rattle.scoop_message.specs.declared.message.Message.{Message}
+use Rattle.scoop_message.specs.Message.{handler_of, client_of, is_for_handler}
+use Rattle.scoop_handler.specs.declared.note.Note.{Note}
+use Rattle.scoop_handler.specs.State.{HandlerState}
+use Rattle.scoop_handler.specs.Hearing.{Hearing, hear}
+use Rattle.scoop_handler.specs.Running.{Task, ready, job_out, ran_of}
+use Rattle.scoop_client.specs.State.{ClientState}
+use Rattle.scoop_client.specs.Due.{due}
+use Rattle.scoop_client.specs.Hearing.{Notice, heard}
+use Rattle.scoop_client.specs.Commands as client
+use Rattle.scoop_model.specs.declared.event.Command.TheVariants.{End}
+use Rattle.scoop_model.specs.declared.event.Event.TheVariants.{Do, Tick, Take, Begin, Finish}
+use Rattle.scoop_model.specs.declared.note.WorldNote.TheVariants as note
+use Rattle.scoop_model.specs.World.{World, Site, Party, number_of, id_of, site_of, party_of, sent_at}
+use Rattle.scoop_model.specs.Step.{step, do_at, commanded, commanded_world, with_sent, sends, tick_at, heard_world, at_handler, taken, taken_by_handler, taken_by_client, heard_party, at_client, with_site, with_party, begun_site, begins, begin_at, finished_site, finishes, finish_at}
+use Rattle.scoop_model.specs.Reach.{IsReached}
+use Rattle.scoop_model.proofs.Reaching.{reached_more}
+use Rattle.scoop_calm.specs.Settling as settling
+use Rattle.scoop_calm.proofs.Measures.{Less}
+use Rattle.scoop_calm.proofs.Engine.{Useful}
+
+-- ---- a job goes out, and is finished
+
+module _ (w : World) (reached : IsReached w) (s : Site) (t : Task) (here : site_of (number_of s) w ≡ Some s) where
+  begin_step : ready s.core ≡ Some t → step w (Begin (number_of s)) ≡ Ok (with_site w (begun_site s), note.Began t.block t.number)
+  begin_step is = ap (begin_at w) here ∙ ap (begins w s) is
+
+  pub begin_useful : ready s.core ≡ Some t → Less (with_site w (begun_site s)) w → Useful w
+  begin_useful is less = record {
+    after = with_site w (begun_site s);
+    reached = reached_more w (Begin (number_of s)) (with_site w (begun_site s), note.Began t.block t.number) reached (begin_step is);
+    less = less;
+    goes = λ es u later. (Begin (number_of s) ∷ es, settling.begins w (with_site w (begun_site s)) u es (number_of s) t.block t.number (begin_step is) later);
+  }
+
+  finish_step : job_out s.core ≡ Some t → step w (Finish (number_of s)) ≡ Ok (with_site w (finished_site s t), note.Ran (ran_of t))
+  finish_step is = ap (finish_at w) here ∙ ap (finishes w s) is
+
+  pub finish_useful : job_out s.core ≡ Some t → Less (with_site w (finished_site s t)) w → Useful w
+  finish_useful is less = record {
+    after = with_site w (finished_site s t);
+    reached = reached_more w (Finish (number_of s)) (with_site w (finished_site s t), note.Ran (ran_of t)) reached (finish_step is);
+    less = less;
+    goes = λ es u later. (Finish (number_of s) ∷ es, settling.finishes w (with_site w (finished_site s t)) u es (number_of s) (ran_of t) (finish_step is) later);
+  }
+
+-- ---- a client ends its block
+
+module _ (w : World) (reached : IsReached w) (p : Party) (c : ClientState) (at : party_of (id_of p) w ≡ Some p) (ends : client.command p.client client.DoEnd ≡ Ok c) where
+  abbrev pub ended_world : World
+  ended_world = commanded_world w p End c
+
+  end_step : step w (Do (id_of p) End) ≡ Ok (ended_world, note.Done)
+  end_step = ap (do_at w End) at ∙ ap (commanded w p End) ends
+
+  pub end_useful : Less ended_world w → Useful w
+  end_useful less = record {
+    after = ended_world;
+    reached = reached_more w (Do (id_of p) End) (ended_world, note.Done) reached end_step;
+    less = less;
+    goes = λ es u later. (Do (id_of p) End ∷ es, settling.ends w ended_world u es (id_of p) end_step later);
+  }
+
+-- ---- a client asks, and hears the reply
+
+last_of : (ms : List Message) (m : Message) → slice_get (ms ++ m ∷ []) (length ms) ≡ Some m
+last_of [] m = refl
+last_of (x ∷ xs) m = last_of xs m
+
+sent_last : (w : World) (ms : List Message) (m : Message) → sent_at (length ms + 1) (record w { sent = ms ++ m ∷ [] }) ≡ Some m
+sent_last w ms m =
+    let place : (length ms + 1 == 0) ≡ false = grind (arith, nat_tests) in
+    let before : length ms + 1 - 1 ≡ length ms = omega arith in
+    ap (λ t. if t then None else slice_get (ms ++ m ∷ []) (length ms + 1 - 1)) place ∙ ap (slice_get (ms ++ m ∷ [])) before ∙ last_of ms m
+
+module _ (w : World) (reached : IsReached w) (p : Party) (s : Site) (m reply : Message) (t : HandlerState) (told : Note) (d : Notice)
+    (at : party_of (id_of p) w ≡ Some p) (here : site_of (number_of s) w ≡ Some s) (owes : due p.client (number_of s) ≡ Some m) (goes : is_for_handler m ≡ true)
+    (to : handler_of m ≡ number_of s) (hears : hear s.core.state m ≡ (t, record { reply = Some reply; note = told })) (back : is_for_handler reply ≡ false)
+    (own : client_of reply ≡ id_of p) (takes : heard p.client reply ≡ d) where
+  abbrev hearing : Hearing
+  hearing = (t, record { reply = Some reply; note = told })
+
+  abbrev asked : World
+  asked = with_sent w (Some m)
+
+  abbrev answered : World
+  answered = heard_world asked s hearing
+
+  abbrev pub replied_world : World
+  replied_world = with_party answered (heard_party p d)
+
+  tick : step w (Tick (id_of p) (number_of s)) ≡ Ok (asked, note.Sent (length w.sent + 1))
+  tick = ap (λ o. tick_at w (number_of s) o (site_of (number_of s) w)) at ∙ ap (tick_at w (number_of s) (Some p)) here ∙ ap (sends w) owes
+
+  take : step asked (Take (length w.sent + 1)) ≡ Ok (answered, note.Handler told (Some (length asked.sent + 1)))
+  take =
+      ap (taken asked) (sent_last w w.sent m)
+      ∙ ap (λ b. if b then taken_by_handler asked m (site_of (handler_of m) w) else taken_by_client asked m (party_of (client_of m) w)) goes
+      ∙ ap (λ h. taken_by_handler asked m (site_of h w)) to ∙ ap (taken_by_handler asked m) here ∙ ap (at_handler asked s) hears
+
+  notice : step answered (Take (length asked.sent + 1)) ≡ Ok (replied_world, note.Client d.1)
+  notice =
+      ap (taken answered) (sent_last answered asked.sent reply)
+      ∙ ap (λ b. if b then taken_by_handler answered reply (site_of (handler_of reply) answered) else taken_by_client answered reply (party_of (client_of reply) w)) back
+      ∙ ap (λ c. taken_by_client answered reply (party_of c w)) own ∙ ap (taken_by_client answered reply) at ∙ ap (at_client answered p) takes
+
+  pub ask_useful : Less replied_world w → Useful w
+  ask_useful less = record {
+    after = replied_world;
+    reached =
+        reached_more answered (Take (length asked.sent + 1)) (replied_world, note.Client d.1)
+        (reached_more asked (Take (length w.sent + 1)) (answered, note.Handler told (Some (length asked.sent + 1)))
+        (reached_more w (Tick (id_of p) (number_of s)) (asked, note.Sent (length w.sent + 1)) reached tick) take) notice;
+    less = less;
+    goes = λ es u later. (
+      Tick (id_of p) (number_of s) ∷ Take (length w.sent + 1) ∷ Take (length asked.sent + 1) ∷ es,
+      settling.asks w asked answered replied_world u es (id_of p) (number_of s) (length w.sent + 1) (length asked.sent + 1) told d.1 tick take notice later,
+    );
+  }

@@ -1,0 +1,16 @@
+//! What a world can come to, however it got where it is.
+
+ghost use Rattle.std.specs.Prelude.{List};
+ghost use Rattle.scoop_model.specs.declared.event.Event.{Event};
+ghost use Rattle.scoop_model.specs.World.{World};
+ghost use Rattle.scoop_model.specs.Reach.{IsReached, Leads};
+ghost use Rattle.scoop_calm.specs.Settling.{Settles, Calm};
+
+/// A world is never stuck: from every world that can be reached, whatever was lost, repeated or delayed and whoever
+/// restarted before, some events lead to a calm one, in which every client is idle, and at each handler nobody holds
+/// the lock, no private queue is left, and no job is out. None of the events is refused and none is a restart. They
+/// begin and finish what can run, end blocks, and let clients ask: each message is taken right after it was sent, and
+/// so is its reply.
+pub fn never_stuck()
+    ensures { (w : World) → IsReached w → (events : List Event) × (v : World) × Settles w events v × Leads w events v × Calm v }
+{}

@@ -1,0 +1,99 @@
+//! What a script's line said, told before what it did.
+
+use scoop_message::{Entry, Message, Request};
+use std::io;
+use std::io::Write;
+
+/// A line of a script: its number, and its bytes.
+#[derive(Clone, Copy)]
+pub struct Echo<'a> {
+    pub number: u32,
+    pub line: &'a [u8],
+}
+
+/// What a line's event is about.
+#[derive(Clone, Copy)]
+pub enum Subject {
+    /// The message that was sent or taken.
+    Message(Message),
+    /// The entry that ran.
+    Entry(Entry),
+    Nothing,
+}
+
+impl<'a> Echo<'a> {
+    /// The line of this number, where it is to be told.
+    pub fn of(echoes: bool, number: u32, line: &'a [u8]) -> Option<Echo<'a>> {
+        if echoes {
+            Some(Echo { number, line })
+        } else {
+            None
+        }
+    }
+
+    /// Writes the echo that is asked for, if one is: the line's number and the line, and what its event is about.
+    pub fn print<W: Write>(
+        echo: Option<Echo<'_>>,
+        subject: Subject,
+        writer: &mut W,
+    ) -> io::Result<()> {
+        let Some(echo) = echo else {
+            return Ok(());
+        };
+        write!(writer, "{}: ", echo.number)?;
+        writer.write_all(echo.line)?;
+        match subject {
+            Subject::Message(message) => {
+                writer.write_all(b" = ")?;
+                print_told(&message, writer)?;
+            }
+            Subject::Entry(entry) => {
+                writer.write_all(b" =")?;
+                print_entry(&entry, writer)?;
+            }
+            Subject::Nothing => {}
+        }
+        writer.write_all(b"\n")
+    }
+}
+
+// Writes a message: its kind, whom it is about, its numbers, and the handler that it goes to or comes from.
+fn print_told<W: Write>(message: &Message, writer: &mut W) -> io::Result<()> {
+    match message {
+        Message::Hello(h, c, inc) => write!(writer, "Hello {c}.{inc} to {h}"),
+        Message::Welcome(h, c, inc) => write!(writer, "Welcome {c}.{inc} from {h}"),
+        Message::Lock(h, b) => write!(writer, "Lock {b} to {h}"),
+        Message::Locked(h, b) => write!(writer, "Locked {b} from {h}"),
+        Message::Busy(h, b) => write!(writer, "Busy {b} from {h}"),
+        Message::Open(h, b) => write!(writer, "Open {b} to {h}"),
+        Message::Opened(h, b) => write!(writer, "Opened {b} from {h}"),
+        Message::Unlock(h, b) => write!(writer, "Unlock {b} to {h}"),
+        Message::Unlocked(h, b) => write!(writer, "Unlocked {b} from {h}"),
+        Message::Log(h, b, n, entries) => {
+            write!(writer, "Log {b} {n}")?;
+            for entry in entries.as_slice() {
+                print_entry(entry, writer)?;
+            }
+            write!(writer, " to {h}")
+        }
+        Message::Logged(h, b, n) => write!(writer, "Logged {b} {n} from {h}"),
+        Message::Answer(h, b, n, answer) => write!(writer, "Answer {b} {n} {answer} from {h}"),
+    }
+}
+
+// Writes an entry as a script does, with a space before it.
+fn print_entry<W: Write>(entry: &Entry, writer: &mut W) -> io::Result<()> {
+    match entry {
+        Entry::Call(request) => print_request(" call", request, writer),
+        Entry::Query(request) => print_request(" query", request, writer),
+        Entry::End => writer.write_all(b" end"),
+    }
+}
+
+fn print_request<W: Write>(name: &str, request: &Request, writer: &mut W) -> io::Result<()> {
+    write!(writer, "{name} {}", request.op)?;
+    for argument in request.args.as_slice() {
+        write!(writer, " {argument}")?;
+    }
+    Ok(())
+}

@@ -1,0 +1,175 @@
+//! Frames in words, and back.
+
+use scoop_demo::*;
+use scoop_frame::FrameError;
+use std::alloc::Global;
+use std::process::Abort;
+use std::str;
+use std::test::Fail;
+
+// Messages in words, and their frames in hex digits.
+const FRAMES: [(&str, &str); 16] = [
+    (
+        "Hello 1 7 1",
+        "5351010100000001000000070000000100000000000000000000",
+    ),
+    (
+        "Welcome 1 7 1",
+        "5351010200000001000000070000000100000000000000000000",
+    ),
+    (
+        "Lock 1 7.1.1",
+        "5351010300000001000000070000000100000001000000000000",
+    ),
+    (
+        "Locked 1 7.1.1",
+        "5351010400000001000000070000000100000001000000000000",
+    ),
+    (
+        "Busy 1 7.1.1",
+        "5351010500000001000000070000000100000001000000000000",
+    ),
+    (
+        "Open 1 7.1.1",
+        "5351010600000001000000070000000100000001000000000000",
+    ),
+    (
+        "Opened 1 7.1.1",
+        "5351010700000001000000070000000100000001000000000000",
+    ),
+    (
+        "Unlock 1 7.1.1",
+        "5351010800000001000000070000000100000001000000000000",
+    ),
+    (
+        "Unlocked 1 7.1.1",
+        "5351010900000001000000070000000100000001000000000000",
+    ),
+    (
+        "Logged 1 7.1.1 2",
+        "5351010b00000001000000070000000100000001000000020000",
+    ),
+    (
+        "Answer 1 7.1.1 2 5",
+        "5351010c00000001000000070000000100000001000000020009010000000000000005",
+    ),
+    (
+        "Answer 1 7.1.1 2 refused",
+        "5351010c0000000100000007000000010000000100000002000100",
+    ),
+    (
+        "Log 1 7.1.1 1 call:1:5",
+        "5351010a0000000100000007000000010000000100000001000c010001010000000000000005",
+    ),
+    (
+        "Log 1 7.1.1 2 query:2",
+        "5351010a0000000100000007000000010000000100000002000402000200",
+    ),
+    (
+        "v2 Unlock 1 7.1.1",
+        "5351020800000001000000070000000100000001000000000000",
+    ),
+    (
+        "v2 Log 1 7.1.1 1 query:2 end",
+        "5351020a00000001000000070000000100000001000000010006020200020003",
+    ),
+];
+
+// The hex digits of the frame of a message in words.
+fn framed(rt: &impl Abort, alloc: Global, words: &str) -> Result<String, Fail> {
+    let (version, message) = match read_message(alloc, words.as_bytes()) {
+        Ok(read) => read,
+        Err(error) => panic!(rt; "{words}: {error}"),
+    };
+    let mut digits = Vec::new(alloc);
+    print_frame_of(version, &message, &mut digits)?;
+    let text = str::from_utf8(&digits).ok().ok_or("text")?;
+    Ok(String::from_str(alloc, text.trim_end())?)
+}
+
+#[test]
+fn turns_words_into_frames_and_back(rt: HostRuntime) -> Result<(), Fail> {
+    let alloc = rt.alloc();
+    for (words, digits) in FRAMES {
+        assert_eq!(rt; framed(&rt, alloc, words)?.as_str(), digits, "{words}");
+        let mut told = Vec::new(alloc);
+        assert_eq!(rt; tell_frames(digits.as_bytes(), &mut told), Ok(()));
+        let line = format!(in alloc; "{words}\n")?;
+        assert!(rt; told.as_slice() == line.as_bytes(), "{words}");
+    }
+    Ok(())
+}
+
+#[test]
+fn tells_why_words_have_no_frame(rt: HostRuntime) {
+    for (words, error) in [
+        ("", WordsError::Fault(InputFault::WrongNumberOfWords)),
+        ("v2", WordsError::Fault(InputFault::WrongNumberOfWords)),
+        ("lock 1 7.1.1", WordsError::Fault(InputFault::NoSuchKind)),
+        ("Lock 1", WordsError::Fault(InputFault::WrongNumberOfWords)),
+        (
+            "Lock 1 7.1.1 1",
+            WordsError::Fault(InputFault::WrongNumberOfWords),
+        ),
+        ("Lock 1 7.1", WordsError::Fault(InputFault::NotANumber)),
+        ("Lock 1 7.1.1.1", WordsError::Fault(InputFault::NotANumber)),
+        ("Lock 01 7.1.1", WordsError::Fault(InputFault::NotANumber)),
+        (
+            "Lock 4294967296 7.1.1",
+            WordsError::Fault(InputFault::NotANumber),
+        ),
+        ("Lock 1 7.0.1", WordsError::Refused(FrameError::FieldZero)),
+        ("Hello 1 7 0", WordsError::Refused(FrameError::FieldZero)),
+        (
+            "Logged 1 7.1.1 0",
+            WordsError::Refused(FrameError::FieldZero),
+        ),
+        (
+            "Log 1 7.1.1 1",
+            WordsError::Fault(InputFault::WrongNumberOfWords),
+        ),
+        (
+            "Log 1 7.1.1 1 set:5",
+            WordsError::Fault(InputFault::NoSuchKind),
+        ),
+        (
+            "Log 1 7.1.1 1 call:1:1:2:3:4:5",
+            WordsError::Fault(InputFault::TooManyArguments),
+        ),
+        (
+            "Log 1 7.1.1 1 query:2 end",
+            WordsError::Refused(FrameError::BadBody),
+        ),
+        (
+            "v2 Log 1 7.1.1 1 end end",
+            WordsError::Refused(FrameError::BadBody),
+        ),
+        (
+            "v2 Log 1 7.1.1 1 end end end end end",
+            WordsError::Refused(FrameError::BadBody),
+        ),
+        (
+            "v2 Log 1 7.1.1 4294967295 query:2 end",
+            WordsError::Refused(FrameError::BadBody),
+        ),
+    ] {
+        assert_eq!(rt;
+            read_message(rt.alloc(), words.as_bytes()),
+            Err(error),
+            "{words}"
+        );
+    }
+}
+
+#[test]
+fn tells_what_is_no_frame(rt: HostRuntime) {
+    let mut told = Vec::new(rt.alloc());
+    let input = "5351\n5351010300000000000000070000000000000001000000000000\n";
+    assert_eq!(rt; tell_frames(input.as_bytes(), &mut told), Ok(()));
+    assert!(rt; told.as_slice() == b"refused Short\nrefused FieldZero\n".as_slice());
+    let fault = RunError::Input {
+        line: 2,
+        fault: InputFault::OddDigits,
+    };
+    assert_eq!(rt; tell_frames("5351\n535".as_bytes(), &mut told), Err(fault));
+}

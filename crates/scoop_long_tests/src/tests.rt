@@ -1,0 +1,8 @@
+//! A long run: a fixed rule chooses its events, of which every tenth has no memory.
+
+mod counts;
+mod objects;
+mod opening;
+mod rule;
+mod run;
+mod watch;

@@ -1,0 +1,200 @@
+//! What is watched: plain lists of what has happened so far, and the rules that each new item has to keep.
+
+mod party;
+mod site;
+
+use super::opening::{CLIENTS, HANDLERS};
+use party::Party;
+use scoop_message::{Block, HandlerId, Message};
+use scoop_object::Table;
+use scoop_world::World;
+use site::Site;
+use std::alloc::{Allocator, Global};
+
+/// Which rule was broken.
+pub type Fault = &'static str;
+
+/// What has happened so far.
+#[derive(Drop)]
+pub struct Watch {
+    joint: Vec<Block>,
+    sites: Vec<Site>,
+    parties: Vec<Party>,
+    sent: usize,
+}
+
+/// How many items have come to the lists.
+#[derive(Clone, Copy, Debug, Default, PartialEq, Eq)]
+pub struct Grown {
+    pub opened: usize,
+    pub ran: usize,
+    pub accepted: usize,
+    pub sent: usize,
+}
+
+fn holds(is: bool, fault: Fault) -> Result<(), Fault> {
+    if is { Ok(()) } else { Err(fault) }
+}
+
+fn place_of(blocks: &[Block], block: Block) -> Option<usize> {
+    for (i, other) in blocks.iter().enumerate() {
+        if *other == block {
+            return Some(i);
+        }
+    }
+    None
+}
+
+fn last_of<T: Copy>(list: &[T]) -> Option<T> {
+    list.get(list.len().checked_sub(1)?).copied()
+}
+
+// The item that has come to a list. No other has come, and none has gone; of those before, the last one is
+// looked at.
+fn newest<T: PartialEq + Copy>(old: &[T], new: &[T]) -> Result<Option<T>, Fault> {
+    let before = new.get(..old.len()).ok_or("an item has gone")?;
+    let more = new.get(old.len()..).ok_or("an item has gone")?;
+    holds(more.len() <= 1, "two items have come")?;
+    holds(last_of(old) == last_of(before), "an item has changed")?;
+    Ok(more.first().copied())
+}
+
+// A block joins the common list. It isn't there yet.
+fn join(joint: &mut Vec<Block>, block: Block) -> Result<(), Fault> {
+    holds(
+        place_of(joint, block).is_none(),
+        "a block is in the common list twice",
+    )?;
+    joint.push(block).map_err(|_| "no memory")
+}
+
+impl Watch {
+    /// Nothing has happened.
+    pub fn new(alloc: Global) -> Result<Watch, Fault> {
+        let mut watch = Watch {
+            joint: Vec::new(alloc),
+            sites: Vec::new(alloc),
+            parties: Vec::new(alloc),
+            sent: 0,
+        };
+        for handler in HANDLERS {
+            watch
+                .sites
+                .push(Site::new(alloc, handler))
+                .map_err(|_| "no memory")?;
+        }
+        for client in CLIENTS {
+            watch
+                .parties
+                .push(Party::new(alloc, client))
+                .map_err(|_| "no memory")?;
+        }
+        Ok(watch)
+    }
+
+    /// How many messages were sent.
+    pub fn sent(&self) -> usize {
+        self.sent
+    }
+
+    /// How many entries the message's handler has told to have of the message's block, 0 where it names no
+    /// block or is for a client.
+    pub fn received(&self, message: &Message) -> u32 {
+        let Message::Log(handler, block, _, _) = *message else {
+            return 0;
+        };
+        for site in &self.sites {
+            if site.handler() == handler {
+                return site.received(block);
+            }
+        }
+        0
+    }
+
+    // What a message that was sent tells of its handler.
+    fn note_message(&mut self, message: &Message) -> Result<(), Fault> {
+        for site in &mut self.sites {
+            site.note_message(message)?;
+        }
+        Ok(())
+    }
+
+    // Notes the messages that were sent since: how many.
+    fn see_messages<A: Allocator + Copy>(
+        &mut self,
+        world: &World<Table, A>,
+        most: usize,
+    ) -> Result<usize, Fault> {
+        for count in 0..most {
+            let Some(message) = world.sent(self.sent.saturating_add(1)) else {
+                return Ok(count);
+            };
+            self.note_message(message)?;
+            self.sent = self.sent.saturating_add(1);
+        }
+        holds(
+            world.sent(self.sent.saturating_add(1)).is_none(),
+            "more was sent",
+        )?;
+        Ok(most)
+    }
+
+    fn see_joint<A: Allocator + Copy>(&mut self, world: &World<Table, A>) -> Result<(), Fault> {
+        match newest(&self.joint, world.joint())? {
+            Some(block) => join(&mut self.joint, block),
+            None => Ok(()),
+        }
+    }
+
+    /// What has come since, of each list at most one item: it keeps the rules.
+    pub fn see<A: Allocator + Copy>(&mut self, world: &World<Table, A>) -> Result<Grown, Fault> {
+        let mut grown = Grown::default();
+        let joint = self.joint.len();
+        self.see_joint(world)?;
+        grown.sent = self.see_messages(world, 1)?;
+        for site in &mut self.sites {
+            let (opened, ran) = (site.see_opened(&self.joint, world)?, site.see_ran(world)?);
+            grown.opened = grown.opened.saturating_add(opened);
+            grown.ran = grown.ran.saturating_add(ran);
+        }
+        for party in &mut self.parties {
+            let accepted = party.see_accepted(&self.sites, world)?;
+            grown.accepted = grown.accepted.saturating_add(accepted);
+        }
+        let joined = self.joint.len().saturating_sub(joint);
+        holds(joined <= grown.opened, "a block joined that didn't open")?;
+        Ok(grown)
+    }
+
+    /// All that has happened in a world, from its beginning: each item keeps the rules.
+    pub fn of<A: Allocator + Copy>(alloc: Global, world: &World<Table, A>) -> Result<Watch, Fault> {
+        let mut watch = Watch::new(alloc)?;
+        for block in world.joint() {
+            join(&mut watch.joint, *block)?;
+        }
+        watch.see_messages(world, 100_000)?;
+        for site in &mut watch.sites {
+            site.see_all(&watch.joint, world)?;
+        }
+        for party in &mut watch.parties {
+            party.see_all(&watch.sites, world)?;
+        }
+        Ok(watch)
+    }
+
+    /// Whether the same has happened.
+    pub fn same(&self, other: &Watch) -> bool {
+        if self.joint.as_slice() != other.joint.as_slice() || self.sent != other.sent {
+            return false;
+        }
+        self.sites
+            .iter()
+            .zip(&other.sites)
+            .all(|(left, right)| left.same(right))
+            && self
+                .parties
+                .iter()
+                .zip(&other.parties)
+                .all(|(left, right)| left.same(right))
+    }
+}

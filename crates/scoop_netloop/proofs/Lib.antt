@@ -1,0 +1,5 @@
+pub mod Replying
+pub mod Served
+pub mod Turns
+pub mod Firsts
+pub mod Dry

@@ -1,0 +1,42 @@
+-- How what a loop does is put together.
+use Rattle.std.proofs.Common.{◌≡◌, ℕ, Bool, true, false, List, [], ◌∷◌, ◌++◌, Option, refl, ap, sym, ◌∙◌, subst, append_assoc}
+use Rattle.std.proofs.lemmas.List.{append-nil}
+use Rattle.scoop_link.specs.Link.{Datagrams, Told}
+use Rattle.scoop_link.proofs.Exchanges.{exchanges-append}
+use Rattle.scoop_book.specs.declared.event.Event.{Event}
+use Rattle.scoop_book.specs.declared.event.Reply.{Reply}
+use Rattle.scoop_book.specs.Passes.{PassValue, pass_value}
+use Rattle.scoop_netloop.specs.Serving.{Serves, nothing, passes_over, hears, Sends, ServesPass, reply_datagrams, with_events}
+
+serves_more : (ds es : List (List ℕ)) (xs ys : List (Event × Reply)) (gone more : Datagrams) → Serves ds xs gone → Serves es ys more → Serves (ds ++ es) (xs ++ ys) (gone ++ more)
+serves_more ds es xs ys gone more nothing second = second
+serves_more ds es xs ys gone more (passes_over d front fronts went first) second =
+    passes_over d (front ++ es) (xs ++ ys) (gone ++ more) (serves_more front es xs ys gone more first second)
+serves_more ds es xs ys gone more (hears v m told d front events went is first) second =
+    subst (Serves (ds ++ es) (xs ++ ys)) (sym (append_assoc (reply_datagrams v told.reply) went more))
+    (hears v m told d (front ++ es) (events ++ ys) (went ++ more) is (serves_more front es events ys went more first second))
+
+sends_more : (c : Bool) (all more gone others : Datagrams) → Sends true all gone → Sends c more others → Sends c (all ++ more) (gone ++ others)
+sends_more c all more gone others first second = record {
+  missing = second.missing;
+  rest =
+      ap (λ (xs : Datagrams). xs ++ more) (first.rest ∙ (ap (λ (xs : Datagrams). gone ++ xs) (first.none refl) ∙ append-nil gone))
+      ∙ (ap (λ (xs : Datagrams). gone ++ xs) second.rest ∙ sym (append_assoc gone others second.missing));
+  last = second.last;
+  none = second.none;
+}
+
+-- what a loop does and then goes on to do
+pub serves_on : (c : Bool) (p q r : PassValue) (a b d : Option Told) → ServesPass true p q a b → ServesPass c q r b d → ServesPass c p r a d
+serves_on c p q r a b d first second = record {
+  taken = first.taken ++ second.taken;
+  gained = first.gained ++ second.gained;
+  all = first.all ++ second.all;
+  gone = first.gone ++ second.gone;
+  serves = serves_more first.taken second.taken first.gained second.gained first.all second.all first.serves second.serves;
+  sends = sends_more c first.all second.all first.gone second.gone first.sends second.sends;
+  events =
+      second.events
+      ∙ (ap (with_events second.gained) first.events ∙ ap (pass_value p.number p.opening) (append_assoc p.events first.gained second.gained));
+  exchanges = exchanges-append a b d first.taken second.taken first.gone second.gone first.exchanges second.exchanges;
+}

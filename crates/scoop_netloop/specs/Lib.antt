@@ -1,0 +1,4 @@
+pub mod Answering
+pub mod Looping
+pub mod RunningOut
+pub mod Serving

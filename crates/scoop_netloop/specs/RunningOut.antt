@@ -1,0 +1,46 @@
+-- How a handler of a book runs until nothing can run.
+use Rattle.std.specs.Prelude.{ℕ, Bool, true, false, Some, None}
+use Rattle.scoop_message.specs.declared.name.Block.{Block}
+use Rattle.scoop_message.specs.declared.name.HandlerId.{HandlerId}
+use Rattle.scoop_handler.specs.Running.{Task, ran_of}
+use Rattle.scoop_book.specs.declared.event.Event.TheVariants.{Begin, Finish}
+use Rattle.scoop_book.specs.declared.event.Reply.TheVariants.{Began, Finished}
+use Rattle.scoop_book.specs.Moves.{leaves}
+use Rattle.scoop_book.specs.Books.{BookValue, Gains, Stays}
+
+-- an entry of the handler leaves, and runs
+pub record RunsEntry {K : Type 0} (pass : ℕ) (h : HandlerId) (old new : BookValue K) : Type 0 where
+  pub task : Task
+  pub between : BookValue K
+  pub begins : Gains pass (Begin h) (Began (Some (leaves task))) old between
+  pub finishes : Gains pass (Finish h) (Finished (ran_of task)) between new
+
+-- the handler has nothing to run
+abbrev pub FindsNothing : {K : Type 0} → ℕ → HandlerId → (old new : BookValue K) → Type 0
+FindsNothing pass h old new = Gains pass (Begin h) (Began None) old new
+
+abbrev pub RunsNext : {K : Type 0} → ℕ → HandlerId → (ran : Bool) → (old new : BookValue K) → Type 0
+RunsNext pass h true old new = RunsEntry pass h old new
+RunsNext pass h false old new = FindsNothing pass h old new
+
+-- entries of the handler run, one after another
+pub data RunsEntries {K : Type 0} (pass : ℕ) (h : HandlerId) : (old new : BookValue K) → Type 0 where
+  none_ran : (b : BookValue K) → RunsEntries pass h b b
+  then_ran : (a b c : BookValue K) → RunsEntries pass h a b → RunsEntry pass h b c → RunsEntries pass h a c
+
+-- entries run until the handler has nothing to run
+pub record RunsDry {K : Type 0} (pass : ℕ) (h : HandlerId) (old new : BookValue K) : Type 0 where
+  pub last : BookValue K
+  pub ran : RunsEntries pass h old last
+  pub nothing : FindsNothing pass h last new
+
+-- the next entry doesn't leave, or leaves and doesn't come back
+pub data Breaks {K : Type 0} (pass : ℕ) (h : HandlerId) (old new : BookValue K) : Type 0 where
+  not_begun : Stays old new → Breaks pass h old new
+  not_finished : (left : Block × ℕ) (between : BookValue K) → Gains pass (Begin h) (Began (Some left)) old between → Stays between new → Breaks pass h old new
+
+-- entries run, and then one doesn't
+pub record RunsSome {K : Type 0} (pass : ℕ) (h : HandlerId) (old new : BookValue K) : Type 0 where
+  pub last : BookValue K
+  pub ran : RunsEntries pass h old last
+  pub breaks : Breaks pass h last new

@@ -1,0 +1,69 @@
+//! A book that answers datagrams.
+
+ghost use Rattle.std.specs.Prelude.{◌≡◌, IfOk, IfErr, OnErr};
+ghost use Rattle.scoop_record.specs.Keeper.{IsSame, Stays as KeeperStays};
+ghost use Rattle.scoop_book.specs.Books.{Stays};
+ghost use Rattle.scoop_netloop.specs.Answering.{AnswersDatagram, IsUnheard, IsWithinBuffer, KeepsAnswered, runs_after};
+
+use scoop_book::{Book, BookError, Event, Reply};
+use scoop_frame::{FrameError, decode, encode};
+use scoop_handler::{Heard, Note};
+use scoop_message::limits::BUFFER_LEN;
+use scoop_object::Behaviour;
+use scoop_record::Keeper;
+use std::alloc::Allocator;
+
+/// What a handler did with a datagram.
+#[derive(Clone, Copy, Debug, PartialEq, Eq)]
+pub enum Answered {
+    /// The handler replied: how many bytes the reply's frame has, and what the handler did.
+    Reply(usize, Note),
+    /// The handler has no reply: what it did.
+    Silent(Note),
+    /// The datagram is no frame, and no handler did anything.
+    RefusedFrame(FrameError),
+}
+
+// Whether something may have become ready to run by a message with this note.
+pub(crate) fn runs_after(note: Note) -> bool
+    ensures { result ≡ runs_after note }
+{
+    matches!(note, Note::Greeted | Note::Took(_) | Note::Known)
+}
+
+/// Gives a datagram to the book, for the pass of this number: where it is the frame of a message, its handler
+/// hears it, the new state is stored, and the history has one more entry. The frame of the reply, in the version
+/// of the datagram, is written to the front of the buffer.
+///
+/// Refused as `Book::step` refuses the message, with handlers, history, record and buffer as they were.
+pub fn answer_datagram<B: Behaviour, K: Keeper<A>, A: Allocator + Copy>(
+    book: &mut Book<B, K, A>,
+    pass: u32,
+    datagram: &[u8],
+    out: &mut [u8; BUFFER_LEN],
+) -> Result<Answered, BookError>
+    ensures ok { IfOk result (λ answered. AnswersDatagram pass datagram.now book.old book.new answered out.old out.new) }
+    ensures limit { IfOk result IsWithinBuffer }
+    ensures stored { K.is_honest book.new.keeper → IfOk result (λ _. KeepsAnswered datagram.now book.new.handlers (K.handlers book.old.keeper) (K.handlers book.new.keeper)) }
+    ensures refused { IfErr result (IsUnheard datagram.now book.old) }
+    ensures stays { OnErr result (Stays book.old book.new) }
+    ensures buffer { OnErr result (out.new ≡ out.old) }
+    ensures kept { K.is_honest book.new.keeper → OnErr result (KeeperStays (K.handlers book.old.keeper) (K.handlers book.new.keeper)) }
+    ensures incarnations { K.is_honest book.new.keeper → IsSame (K.incarnations book.old.keeper) (K.incarnations book.new.keeper) }
+    ensures honest { K.is_honest book.new.keeper → K.is_honest book.old.keeper }
+{
+    let (version, message) = match decode(datagram) {
+        Ok(read) => read,
+        Err(error) => return Ok(Answered::RefusedFrame(error)),
+    };
+    let heard = match book.step(pass, Event::Hear(message)) {
+        Ok(Reply::Heard(heard)) => heard,
+        Ok(_) => unreachable!(),
+        Err(error) => return Err(error),
+    };
+    let Heard { reply, note } = heard;
+    match reply {
+        Some(reply) => Ok(Answered::Reply(encode(version, &reply, out), note)),
+        None => Ok(Answered::Silent(note)),
+    }
+}

@@ -1,0 +1,66 @@
+//! A handler of a book runs until nothing can run.
+
+ghost use Rattle.std.specs.Prelude.{◌≢◌, IfOk, OnOk, OnErr};
+ghost use Rattle.scoop_netloop.specs.RunningOut.{Breaks, RunsDry, RunsNext, RunsSome};
+
+use scoop_book::{Book, BookError, FinishRefusal};
+use scoop_message::HandlerId;
+use scoop_object::Behaviour;
+use scoop_record::Keeper;
+use std::alloc::Allocator;
+
+// Why an entry that has just left doesn't run.
+fn refusal_of(cause: FinishRefusal) -> BookError
+    requires { cause ≢ FinishRefusal.Stranger }
+{
+    match cause {
+        FinishRefusal::NodeFailed => BookError::NodeFailed,
+        FinishRefusal::HistoryFull => BookError::HistoryFull,
+        FinishRefusal::UnknownHandler => BookError::UnknownHandler,
+        FinishRefusal::Stranger => unreachable!(),
+        FinishRefusal::StoreRefused => BookError::StoreRefused,
+        FinishRefusal::OutOfMemory => BookError::OutOfMemory,
+    }
+}
+
+// The handler's next entry leaves and runs. It answers false where nothing can run.
+fn run_next<B: Behaviour, K: Keeper<A>, A: Allocator + Copy>(
+    book: &mut Book<B, K, A>,
+    pass: u32,
+    handler: HandlerId,
+) -> Result<bool, BookError>
+    ensures ok { IfOk result (λ ran. RunsNext pass handler ran book.old book.new) }
+    ensures err { OnErr result (Breaks pass handler book.old book.new) }
+{
+    let job = match book.begin(pass, handler) {
+        Ok(Some(job)) => job,
+        Ok(None) => return Ok(false),
+        Err(error) => return Err(error),
+    };
+    match book.finish(pass, job.work()) {
+        Ok(_) => Ok(true),
+        Err(error) => Err(refusal_of(error.cause)),
+    }
+}
+
+/// Runs what the handler's private queues hold until nothing can run, for the pass of this number. Each entry
+/// that runs is a Begin and a Finish in the history, and the last Begin finds nothing.
+///
+/// Refused as `Book::begin` and `Book::finish` refuse. What has run stands, and an entry that left and isn't
+/// finished stays out.
+pub fn run_out<B: Behaviour, K: Keeper<A>, A: Allocator + Copy>(
+    book: &mut Book<B, K, A>,
+    pass: u32,
+    handler: HandlerId,
+) -> Result<(), BookError>
+    ensures ok { OnOk result (RunsDry pass handler book.old book.new) }
+    ensures err { OnErr result (RunsSome pass handler book.old book.new) }
+{
+    loop {
+        match run_next(book, pass, handler) {
+            Ok(true) => {}
+            Ok(false) => return Ok(()),
+            Err(error) => return Err(error),
+        }
+    }
+}
