@@ -1,5 +1,6 @@
-//! Books and nodes of cells, and what is done at them. No helper has a contract, so that the tests' own proofs
-//! see nothing of the contracts of a book.
+//! Books and nodes of cells, and what is done at them.
+
+ghost use Rattle.std.specs.Prelude.{◌≤◌, IfSome, vec_len};
 
 mod growths;
 mod limits;
@@ -7,6 +8,7 @@ mod refusing;
 mod threads;
 
 use scoop_book::{Book, Event, OpenError};
+use scoop_message::limits::MAX_HANDLERS;
 use scoop_message::{Args, Block, ClientId, Entries, Entry, HandlerId, Message, Request, Words};
 use scoop_object::{Class, OpRow, Table, Term, Write, Writes};
 use scoop_record::MemoryKeeper;
@@ -48,11 +50,16 @@ fn handed(alloc: Global, number: u32) -> Option<Handed> {
     Some((HandlerId(number), class, object))
 }
 
-/// Cells of these numbers.
-fn cells(alloc: Global, numbers: &[u32]) -> Option<Vec<Handed>> {
+/// Cells of these numbers, of which there are no more than a node may have.
+fn cells(alloc: Global, numbers: &[u32]) -> Option<Vec<Handed>>
+    ensures { IfSome result (λ handlers. vec_len handlers ≤ MAX_HANDLERS) }
+{
     let mut handlers = Vec::new(alloc);
     for number in numbers {
         handlers.push(handed(alloc, *number)?).ok()?;
+    }
+    if handlers.len() > MAX_HANDLERS {
+        return None;
     }
     Some(handlers)
 }

@@ -67,6 +67,10 @@ fn is_refused<'a>(
     number: u64,
     event: scoop_book::Event,
 ) -> bool {
+    // A node takes messages alone.
+    let scoop_book::Event::Hear(_) = event else {
+        return false;
+    };
     let before = pass.events().len();
     heap.refuse(number);
     let error = node.event(rt, pass, event).err();
@@ -81,6 +85,19 @@ fn is_refused<'a>(
     refused
 }
 
+// Whether the node hears the message.
+fn is_heard<'a>(
+    rt: &(impl Abort + Wait),
+    node: &HeapNode<'a>,
+    pass: &mut HeapPass<'a>,
+    event: scoop_book::Event,
+) -> bool {
+    let scoop_book::Event::Hear(_) = event else {
+        return false;
+    };
+    node.event(rt, pass, event).is_ok()
+}
+
 /// The message of an act to the node with the growth of this number refused: whether one was. It is then heard
 /// once memory is there.
 fn hears<'a>(
@@ -93,8 +110,8 @@ fn hears<'a>(
 ) -> Option<bool> {
     let refused = is_refused(rt, heap, node, pass, number, message_of(act)?);
     if refused {
-        let again = node.event(rt, pass, message_of(act)?);
-        assert!(rt; again.is_ok());
+        let heard = is_heard(rt, node, pass, message_of(act)?);
+        assert!(rt; heard);
     }
     Some(refused)
 }

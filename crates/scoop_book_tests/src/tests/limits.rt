@@ -13,8 +13,19 @@ use std::test::Fail;
 
 const ONE: HandlerId = HandlerId(1);
 
+/// Whether the handler heard the message.
+fn is_heard(book: &mut Book<Table, MemoryKeeper>, event: Event) -> bool {
+    let Event::Hear(_) = event else {
+        return false;
+    };
+    book.step(0, event).is_ok()
+}
+
 /// Whether the handler heard the message with this note.
 fn notes(book: &mut Book<Table, MemoryKeeper>, event: Event, note: Note) -> bool {
+    let Event::Hear(_) = event else {
+        return false;
+    };
     match book.step(0, event) {
         Ok(Reply::Heard(heard)) => heard.note == note,
         _ => false,
@@ -61,7 +72,7 @@ fn a_book_opens_again(rt: HostRuntime) -> Result<(), Fail> {
         open(1, 7),
         log(1, 7, 1).ok_or("log")?,
     ] {
-        first.step(0, event)?;
+        assert!(rt; is_heard(&mut first, event));
     }
     let job = first.begin(0, ONE)?.ok_or("a job")?;
     let done = job.work();
@@ -107,7 +118,7 @@ fn a_history_ends(rt: HostRuntime) -> Result<(), Fail> {
         open(1, 7),
         log(1, 7, 1).ok_or("log")?,
     ] {
-        before.step(0, event)?;
+        assert!(rt; is_heard(&mut before, event));
     }
     let handlers = cells(alloc, &[1]).ok_or("cells")?;
     let (node, mut passes) = Node::open_limited(alloc, handlers, before.into_keeper(), 1, 2)?;

@@ -17,6 +17,19 @@ type MemoryNode = Node<Table, MemoryKeeper>;
 
 type FiledStore = Store<FileStore<File>>;
 
+/// The node hears the message.
+fn hears<K: Keeper<Global>, R: Wait>(
+    rt: &R,
+    node: &Node<Table, K>,
+    pass: &mut Pass,
+    event: Event,
+) -> Option<Reply> {
+    let Event::Hear(_) = event else {
+        return None;
+    };
+    node.event(rt, pass, event).ok()
+}
+
 /// What a thread does at one node: its client greets the handler, opens a private queue there, and logs calls
 /// each of which runs before the next, 500 events in all.
 fn work<K: Keeper<Global>, R: Wait>(
@@ -31,16 +44,15 @@ fn work<K: Keeper<Global>, R: Wait>(
         lock(handler, client),
         open(handler, client),
     ] {
-        node.event(rt, &mut pass, event).ok()?;
+        hears(rt, node, &mut pass, event)?;
     }
     for number in 1..166u32 {
-        node.event(rt, &mut pass, log(handler, client, number)?)
-            .ok()?;
+        hears(rt, node, &mut pass, log(handler, client, number)?)?;
         let job = node.begin(rt, &mut pass, HandlerId(handler)).ok()??;
         node.finish(rt, &mut pass, job.work()).ok()?;
     }
     for _ in 0..2 {
-        node.event(rt, &mut pass, hello(handler, client)).ok()?;
+        hears(rt, node, &mut pass, hello(handler, client))?;
     }
     Some(pass)
 }
