@@ -1,6 +1,7 @@
 //! Books and nodes of cells, and what is done at them.
 
 ghost use Rattle.std.specs.Prelude.{◌≤◌, IfSome, vec_len};
+ghost use Rattle.scoop_book.specs.Books.{IsHear};
 
 mod growths;
 mod limits;
@@ -74,22 +75,30 @@ fn block(client: u32) -> Block {
 }
 
 /// The client greets the handler.
-fn hello(handler: u32, client: u32) -> Event {
+fn hello(handler: u32, client: u32) -> Event
+    ensures { IsHear result }
+{
     Event::Hear(Message::Hello(HandlerId(handler), ClientId(client), 1))
 }
 
 /// Its block asks for the lock.
-fn lock(handler: u32, client: u32) -> Event {
+fn lock(handler: u32, client: u32) -> Event
+    ensures { IsHear result }
+{
     Event::Hear(Message::Lock(HandlerId(handler), block(client)))
 }
 
 /// Its block asks for a private queue.
-fn open(handler: u32, client: u32) -> Event {
+fn open(handler: u32, client: u32) -> Event
+    ensures { IsHear result }
+{
     Event::Hear(Message::Open(HandlerId(handler), block(client)))
 }
 
 /// Its block logs a call of this number, which makes the word that number.
-fn log(handler: u32, client: u32, number: u32) -> Option<Event> {
+fn log(handler: u32, client: u32, number: u32) -> Option<Event>
+    ensures { IfSome result IsHear }
+{
     let args = Args::of(&[u64::from(number)]).ok()?;
     let entries = Entries::of(&[Entry::Call(Request { op: SET, args })]).ok()?;
     Some(Event::Hear(Message::Log(HandlerId(handler), block(client), number, entries)))
