@@ -4,18 +4,15 @@ use super::{cells, hello, lock, log, open};
 use scoop_book::{CloseRefusal, Event, Node, OpenError, Pass, Reply};
 use scoop_message::HandlerId;
 use scoop_object::Table;
-use scoop_record::{Keeper, MemoryKeeper, Store};
-use sqlite::{Connection, File, FileStore};
+use scoop_record::{Keeper, MemoryKeeper};
 use std::alloc::Global;
 use std::process::Abort;
 use std::sync::Wait;
 use std::test::Fail;
+use std::thread;
 use std::thread::Threads;
-use std::{env, fs, process, thread};
 
 type MemoryNode = Node<Table, MemoryKeeper>;
-
-type FiledStore = Store<FileStore<File>>;
 
 /// The node hears the message.
 fn hears<K: Keeper<Global>, R: Wait>(
@@ -132,58 +129,5 @@ fn a_node_has_a_pass(rt: HostRuntime) -> Result<(), Fail> {
         1,
     ).ok_or("cells")?;
     assert!(rt; one.is_ok());
-    Ok(())
-}
-
-/// The same events over this keeper, which is handed back. The passes may be given in any order.
-fn thousand<K: Keeper<Global> + Send, R: Threads + Wait + Sync + Abort>(
-    rt: &R,
-    alloc: Global,
-    keeper: K,
-) -> Result<K, Fail> {
-    let (node, mut passes) = opened(alloc, keeper, 2).ok_or("cells")??;
-    let second = passes.pop().ok_or("second")?;
-    let first = passes.pop().ok_or("first")?;
-    let (first, second) = both_work(rt, &node, first, second);
-    let mut given = Vec::new(alloc);
-    given.push(second.ok_or("second")?)?;
-    given.push(first.ok_or("first")?)?;
-    let Ok(closed) = node.close(rt, given) else {
-        return Err("not closed".into());
-    };
-    assert_eq!(rt; closed.history.len(), 1000);
-    Ok(closed.keeper)
-}
-
-/// A store in a new file.
-fn store_at(rt: &HostRuntime, path: &str) -> Result<FiledStore, Fail> {
-    Ok(Store::create(rt.alloc(), Connection::open(rt, path)?)?)
-}
-
-/// The word that the file has for a handler.
-fn word_at(rt: &HostRuntime, path: &str, handler: u32) -> Result<Option<u64>, Fail> {
-    let mut store: FiledStore = Store::adopt(rt.alloc(), Connection::open(rt, path)?)?;
-    let stored = store.load_handler(HandlerId(handler))?;
-    Ok(stored.ok_or("a stored state")?.words().get(0))
-}
-
-/// The same over a store in a file.
-#[test]
-fn a_node_keeps_its_record_in_a_file(rt: HostRuntime) -> Result<(), Fail> {
-    let alloc = rt.alloc();
-    let name = format!(in alloc; "scoop-book-{}", process::id(rt.process()))?;
-    let dir = env::temp_dir(&rt)?.join(alloc, name.as_str())?;
-    fs::create_dir(&rt, &dir)?;
-    let record = dir.join(alloc, "record")?;
-    let path = record.to_str().ok_or("a path")?;
-    let store = thousand(&rt, alloc, store_at(&rt, path)?)?;
-    let again: Result<(Node<Table, FiledStore>, Vec<Pass>), OpenError> = opened(
-        alloc, store, 1,
-    ).ok_or("cells")?;
-    assert!(rt; again.is_ok());
-    drop(again);
-    assert_eq!(rt; word_at(&rt, path, 1)?, Some(165));
-    assert_eq!(rt; word_at(&rt, path, 2)?, Some(165));
-    fs::remove_dir_all(&rt, &dir)?;
     Ok(())
 }
