@@ -16,7 +16,7 @@ use Rattle.scoop_client.specs.State.{ClientState, with_lines, idle}
 use Rattle.scoop_client.specs.Hearing.{Notice, heard, hear_logged, hear_count, hear_answer, hear_answer_to, settled, ignored, is_open_block, up_to}
 use Rattle.scoop_model.proofs.Basics.{by_test}
 use Rattle.scoop_model.proofs.Order.Lists.{same_block_itself}
-use Rattle.scoop_calm.proofs.Measures.{client_work, block_work, stage_work, lines_work, line_work, wait_work}
+use Rattle.scoop_calm.specs.Left.{block_work, client_work, line_work, lines_work, stage_work, wait_work}
 
 -- ---- one line has less left
 

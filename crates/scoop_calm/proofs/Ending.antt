@@ -11,8 +11,9 @@ use Rattle.scoop_client.specs.State.{ClientState, phase_of, phase_of_block, phas
 use Rattle.scoop_client.specs.Commands.{command, DoEnd, end_block, end_unless_waiting, end_unless_full, with_ends}
 use Rattle.scoop_model.specs.World.{World, Party, id_of, party_of}
 use Rattle.scoop_model.specs.Reach.{IsReached}
+use Rattle.scoop_calm.specs.Left.{block_work, client_work, line_work, lines_work, stage_work, wait_work}
 use Rattle.scoop_calm.proofs.Clients.{BlockFits}
-use Rattle.scoop_calm.proofs.Measures.{client_work, block_work, stage_work, lines_work, line_work, wait_work, for_clients, parties_total}
+use Rattle.scoop_calm.proofs.Measures.{for_clients, parties_total}
 use Rattle.scoop_calm.proofs.Engine.{Useful}
 use Rattle.scoop_calm.proofs.Moves.{end_useful}
 

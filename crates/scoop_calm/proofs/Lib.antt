@@ -34,8 +34,11 @@ mod Queues
 mod Locking
 mod Leads
 mod NeverStuck
+mod NextEvents
 mod Measures
 mod Engine
+mod Choices
+mod Playing
 mod Moves
 mod Resting
 mod Running

@@ -39,11 +39,11 @@ use Rattle.scoop_model.proofs.Order.Facts.{SiteFits, IsNamed, all_found}
 use Rattle.scoop_model.proofs.Logging.Greetings.{place}
 use Rattle.scoop_model.proofs.Logging.Openings.{NoOpen, IsOpenedAtAll, IsGivenUp, Shows, StageOpened}
 use Rattle.scoop_rules.proofs.Front.{left_has}
+use Rattle.scoop_calm.specs.Left.{stage_work, total}
 use Rattle.scoop_calm.proofs.Resting.{IsSettled}
-use Rattle.scoop_calm.proofs.Totals.{Member, all_member, total, some_is}
+use Rattle.scoop_calm.proofs.Totals.{Member, all_member, some_is}
 use Rattle.scoop_calm.proofs.Handlers.{Filled, none, some, filled, less_without, lowest_has, lowest_of}
 use Rattle.scoop_calm.proofs.Reserving.{IsSettingOut, locks}
-use Rattle.scoop_calm.proofs.Measures.{stage_work}
 use Rattle.scoop_calm.proofs.Engine.{Useful}
 use Rattle.scoop_calm.proofs.Marked.{MarkFits}
 use Rattle.scoop_calm.proofs.MarkedRuns.{SiteMarked}

@@ -32,8 +32,9 @@ use Rattle.scoop_model.specs.Reach.{IsReached}
 use Rattle.scoop_model.proofs.Basics.{by_test}
 use Rattle.scoop_model.proofs.Order.Facts.{all_found}
 use Rattle.scoop_model.proofs.Logging.Greetings.{place}
-use Rattle.scoop_calm.proofs.Totals.{Member, total}
-use Rattle.scoop_calm.proofs.Measures.{client_work, mark_room, site_room, for_room, parties_total, sites_total}
+use Rattle.scoop_calm.specs.Left.{client_work, mark_room, site_room, total}
+use Rattle.scoop_calm.proofs.Totals.{Member}
+use Rattle.scoop_calm.proofs.Measures.{for_room, parties_total, sites_total}
 use Rattle.scoop_calm.proofs.Engine.{Useful}
 use Rattle.scoop_calm.proofs.Moves.{ask_useful}
 use Rattle.scoop_calm.proofs.Talk.{Replies, asks_useful}

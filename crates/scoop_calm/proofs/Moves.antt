@@ -1,6 +1,7 @@
 -- What the kinds of events that a world settles by make of it.
-use Rattle.std.proofs.Common.{◌≡◌, ◌+◌, ◌-◌, ◌==◌, true, false, List, [], ◌∷◌, ◌++◌, length, slice_get, Some, None, refl, ap, ◌∙◌, arith}
+use Rattle.std.proofs.Common.{◌≡◌, ℕ, ◌+◌, ◌-◌, ◌==◌, true, false, List, [], ◌∷◌, ◌++◌, length, slice_get, Some, None, refl, ap, ◌∙◌, subst, arith}
 use Rattle.std.specs.Prelude.{if◌then◌else◌, Ok}
+use Rattle.std.proofs.lemmas.List.{length-append}
 use Rattle.std.proofs.lemmas.Bool.Decides.{nat_tests}
 use Rattle.scoop_message.specs.declared.message.Message.{Message}
 use Rattle.scoop_message.specs.Message.{handler_of, client_of, is_for_handler}
@@ -20,6 +21,9 @@ use Rattle.scoop_model.specs.Step.{step, do_at, commanded, commanded_world, with
 use Rattle.scoop_model.specs.Reach.{IsReached}
 use Rattle.scoop_model.proofs.Reaching.{reached_more}
 use Rattle.scoop_calm.specs.Settling as settling
+use Rattle.scoop_calm.specs.Next.{choices}
+use Rattle.scoop_calm.proofs.Totals.{Member}
+use Rattle.scoop_calm.proofs.Choices.{may_finish, may_begin, may_end, may_ask}
 use Rattle.scoop_calm.proofs.Measures.{Less}
 use Rattle.scoop_calm.proofs.Engine.{Useful}
 
@@ -35,6 +39,7 @@ module _ (w : World) (reached : IsReached w) (s : Site) (t : Task) (here : site_
     reached = reached_more w (Begin (number_of s)) (with_site w (begun_site s), note.Began t.block t.number) reached (begin_step is);
     less = less;
     goes = λ es u later. (Begin (number_of s) ∷ es, settling.begins w (with_site w (begun_site s)) u es (number_of s) t.block t.number (begin_step is) later);
+    choice = may_begin w s here;
   }
 
   finish_step : job_out s.core ≡ Some t → step w (Finish (number_of s)) ≡ Ok (with_site w (finished_site s t), note.Ran (ran_of t))
@@ -46,6 +51,7 @@ module _ (w : World) (reached : IsReached w) (s : Site) (t : Task) (here : site_
     reached = reached_more w (Finish (number_of s)) (with_site w (finished_site s t), note.Ran (ran_of t)) reached (finish_step is);
     less = less;
     goes = λ es u later. (Finish (number_of s) ∷ es, settling.finishes w (with_site w (finished_site s t)) u es (number_of s) (ran_of t) (finish_step is) later);
+    choice = may_finish w s here;
   }
 
 -- ---- a client ends its block
@@ -63,6 +69,7 @@ module _ (w : World) (reached : IsReached w) (p : Party) (c : ClientState) (at :
     reached = reached_more w (Do (id_of p) End) (ended_world, note.Done) reached end_step;
     less = less;
     goes = λ es u later. (Do (id_of p) End ∷ es, settling.ends w ended_world u es (id_of p) end_step later);
+    choice = may_end w p at;
   }
 
 -- ---- a client asks, and hears the reply
@@ -108,6 +115,9 @@ module _ (w : World) (reached : IsReached w) (p : Party) (s : Site) (m reply : M
       ∙ ap (λ b. if b then taken_by_handler answered reply (site_of (handler_of reply) answered) else taken_by_client answered reply (party_of (client_of reply) w)) back
       ∙ ap (λ c. taken_by_client answered reply (party_of c w)) own ∙ ap (taken_by_client answered reply) at ∙ ap (at_client answered p) takes
 
+  reply_place : length w.sent + 2 ≡ length asked.sent + 1
+  reply_place = let more = length-append w.sent (m ∷ []) in omega (arith, more)
+
   pub ask_useful : Less replied_world w → Useful w
   ask_useful less = record {
     after = replied_world;
@@ -120,4 +130,5 @@ module _ (w : World) (reached : IsReached w) (p : Party) (s : Site) (m reply : M
       Tick (id_of p) (number_of s) ∷ Take (length w.sent + 1) ∷ Take (length asked.sent + 1) ∷ es,
       settling.asks w asked answered replied_world u es (id_of p) (number_of s) (length w.sent + 1) (length asked.sent + 1) told d.1 tick take notice later,
     );
+    choice = subst (λ (n : ℕ). Member (Tick (id_of p) (number_of s) ∷ Take (length w.sent + 1) ∷ Take n ∷ []) (choices w)) reply_place (may_ask w p s at here);
   }

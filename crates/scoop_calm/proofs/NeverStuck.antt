@@ -16,11 +16,12 @@ use Rattle.scoop_model.specs.World.{World, Site, Party, number_of}
 use Rattle.scoop_model.specs.Step.{Placement}
 use Rattle.scoop_model.specs.Reach.{IsReached, Leads}
 use Rattle.scoop_model.proofs.Order.Lists.{same_block_itself}
-use Rattle.scoop_calm.specs.Settling.{Settles, IsIdle, IsFree, Calm}
+use Rattle.scoop_calm.specs.Settling.{Settles, stays, IsIdle, IsFree, Calm}
 use Rattle.scoop_calm.proofs.Resting.{HasRunOut, IsSettled}
 use Rattle.scoop_calm.proofs.Totals.{Member, each_or, all_member}
 use Rattle.scoop_calm.proofs.Handlers.{filled}
-use Rattle.scoop_calm.proofs.Engine.{Useful, CanSettle, settles}
+use Rattle.scoop_calm.proofs.Measures.{Less}
+use Rattle.scoop_calm.proofs.Engine.{Useful, by_what_is_left}
 use Rattle.scoop_calm.proofs.Attending.{Goes}
 use Rattle.scoop_calm.proofs.AtMark.{at_work}
 use Rattle.scoop_calm.proofs.Running.{sites_run_out}
@@ -75,7 +76,7 @@ all_map P (x ∷ xs) f = (f x (inl refl), all_map P xs (λ y m. f y (inr m)))
 either : (P Q R : Type 0) → P ⊎ Q → (P → R ⊎ Q) → R ⊎ Q
 either P Q R x f = ⊎_elim (λ (p : P). f p) (λ (q : Q). inr q) x
 
-calm_or : (w : World) → IsReached w → Calm w ⊎ Useful w
+pub calm_or : (w : World) → IsReached w → Calm w ⊎ Useful w
 calm_or w r =
     let e = everything w r in
     either (AllByRecursion HasRunOut w.sites) (Useful w) (Calm w) (sites_run_out w r e.background.sound.sites) (λ ran.
@@ -88,7 +89,23 @@ calm_or w r =
       parties = all_map IsIdle w.parties (λ p m. is_idle w r e ran settled empty p (all_member IsSettled w.parties p settled m) (all_member HasNone w.parties p none m));
     }))))))
 
+-- events that lead to a calm world
+record CanSettle (w : World) : Type 0 where
+  pub events : List Event
+  pub after : World
+  pub settles : Settles w events after
+  pub calm : Calm after
+
+progress : (w : World) → IsReached w → ((u : World) → IsReached u → Less u w → CanSettle u) → CanSettle w
+progress w r rest =
+    ⊎_elim (λ (calm : Calm w). record { events = []; after = w; settles = stays w; calm = calm })
+    (λ (u : Useful w).
+    let c = rest u.after u.reached u.less in
+    let g = u.goes c.events c.after c.settles in
+    record { events = g.0; after = c.after; settles = g.1; calm = c.calm })
+    (calm_or w r)
+
 pub never_stuck : (w : World) → IsReached w → (events : List Event) × (v : World) × Settles w events v × Leads w events v × Calm v
 never_stuck w r =
-    let c : CanSettle Calm w = settles Calm calm_or w r in
-    (c.events, c.after, c.settles, settles_leads w c.after c.events c.settles, c.rest)
+    let c = by_what_is_left CanSettle progress w r in
+    (c.events, c.after, c.settles, settles_leads w c.after c.events c.settles, c.calm)

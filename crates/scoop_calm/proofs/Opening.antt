@@ -34,8 +34,8 @@ use Rattle.scoop_model.proofs.Order.Facts.{all_found}
 use Rattle.scoop_model.proofs.Logging.Greetings.{place}
 use Rattle.scoop_model.proofs.Standing.Facts.{IsPastIn, StandsIn, StandsAt, StageStands}
 use Rattle.scoop_model.proofs.Whole.Facts.{SiteTaped}
+use Rattle.scoop_calm.specs.Left.{stage_work}
 use Rattle.scoop_calm.proofs.Handlers.{less_without}
-use Rattle.scoop_calm.proofs.Measures.{stage_work}
 use Rattle.scoop_calm.proofs.Engine.{Useful}
 use Rattle.scoop_calm.proofs.AtMark.{MarkAt}
 use Rattle.scoop_calm.proofs.OpenedAt.{opened_reached, opened_open}

@@ -17,9 +17,10 @@ use Rattle.scoop_model.specs.Step.{with_site, begun_site, finished_site}
 use Rattle.scoop_model.specs.Reach.{IsReached}
 use Rattle.scoop_model.proofs.Basics.{by_test}
 use Rattle.scoop_model.proofs.Reaching.{sites_apart}
+use Rattle.scoop_calm.specs.Left.{mark_room, queue_work, runs_left, site_room, site_work, total}
 use Rattle.scoop_calm.proofs.Resting.{HasRunOut}
-use Rattle.scoop_calm.proofs.Totals.{each_or, all_member, total, distinct, member_found}
-use Rattle.scoop_calm.proofs.Measures.{mark_room, site_room, queue_work, runs_left, site_work, Less, for_work, sites_total}
+use Rattle.scoop_calm.proofs.Totals.{each_or, all_member, distinct, member_found}
+use Rattle.scoop_calm.proofs.Measures.{Less, for_work, sites_total}
 use Rattle.scoop_calm.proofs.Engine.{Useful}
 use Rattle.scoop_calm.proofs.Moves.{begin_useful, finish_useful}
 

@@ -17,8 +17,8 @@ use Rattle.scoop_handler.specs.declared.note.Reason.TheVariants.{NotOpen, Gap, P
 use Rattle.scoop_handler.specs.Marks.{is_open, mark_of, set_mark}
 use Rattle.scoop_handler.specs.State.{HandlerState, IsAscending}
 use Rattle.scoop_handler.specs.Hearing.{is_new, hear_of, if_here, hear_log, dropped, took, with_entries, received_before, kept_answer, new_entries, is_closed, has_no_room}
-use Rattle.scoop_calm.proofs.Totals.{total, Distinct, total_newer}
-use Rattle.scoop_calm.proofs.Measures.{mark_room}
+use Rattle.scoop_calm.specs.Left.{mark_room, total}
+use Rattle.scoop_calm.proofs.Totals.{Distinct, total_newer}
 use Rattle.scoop_calm.proofs.Talk.{Replies, heard_of}
 use Rattle.scoop_model.proofs.Basics.{by_test}
 

@@ -22,8 +22,9 @@ use Rattle.scoop_model.specs.World.{World, Site, Party, number_of, id_of, is_sit
 use Rattle.scoop_model.specs.Step.{heard_party}
 use Rattle.scoop_model.specs.Reach.{IsReached}
 use Rattle.scoop_model.proofs.Basics.{by_test}
+use Rattle.scoop_calm.specs.Left.{block_work, client_work, lines_work, stage_work, wait_work}
 use Rattle.scoop_calm.proofs.Handlers.{itself}
-use Rattle.scoop_calm.proofs.Measures.{client_work, block_work, stage_work, lines_work, wait_work, for_clients, parties_total}
+use Rattle.scoop_calm.proofs.Measures.{for_clients, parties_total}
 use Rattle.scoop_calm.proofs.Engine.{Useful}
 use Rattle.scoop_calm.proofs.Moves.{ask_useful}
 

@@ -5,6 +5,7 @@ use Rattle.std.specs.Bool.{Decides}
 use Rattle.std.specs.List.{AllByRecursion}
 use Rattle.scoop_model.specs.Safe.{NoRepeats}
 use Rattle.scoop_model.proofs.Basics.{by_test}
+use Rattle.scoop_calm.specs.Left.{total}
 
 -- ---- lists and options
 
@@ -36,10 +37,6 @@ each_or P Q (x ∷ xs) decide =
 pub all_member : {A : Type 0} (P : A → Type 0) (xs : List A) (x : A) → AllByRecursion P xs → Member x xs → P x
 all_member P [] x all m = absurd m
 all_member P (y ∷ ys) x all m = ⊎_elim (λ (e : y ≡ x). subst P e all.0) (λ (n : Member x ys). all_member P ys x all.1 n) m
-
-abbrev pub total : {A : Type 0} → (A → ℕ) → List A → ℕ
-total f [] = 0
-total f (x ∷ xs) = f x + total f xs
 
 module _ {A K : Type 0} (key : A → K) (same : K → K → Bool) (decides : (a b : K) → Decides (same a b) (a ≡ b)) where
   abbrev pub has_key : K → A → Bool

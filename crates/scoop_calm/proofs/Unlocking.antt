@@ -34,9 +34,9 @@ use Rattle.scoop_model.proofs.Order.Clients.{none_in_empty}
 use Rattle.scoop_model.proofs.Order.Facts.{all_found}
 use Rattle.scoop_model.proofs.Logging.Facts.{LinesFit, PartyLogs}
 use Rattle.scoop_model.proofs.Logging.Greetings.{place}
+use Rattle.scoop_calm.specs.Left.{stage_work}
 use Rattle.scoop_calm.proofs.Handlers.{less_without}
 use Rattle.scoop_calm.proofs.Clients.{BlockFits, PartyFitsWell}
-use Rattle.scoop_calm.proofs.Measures.{stage_work}
 use Rattle.scoop_calm.proofs.Attending.{Goes}
 use Rattle.scoop_calm.proofs.Engine.{Useful}
 use Rattle.scoop_calm.proofs.AtMark.{MarkAt, mark_at, at_work}

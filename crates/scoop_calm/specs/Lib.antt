@@ -1,1 +1,3 @@
+pub mod Left
+pub mod Next
 pub mod Settling

@@ -3,4 +3,4 @@
 
 mod settling;
 
-pub use settling::never_stuck;
+pub use settling::{never_stuck, settles_by_next_events};

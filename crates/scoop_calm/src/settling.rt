@@ -1,9 +1,10 @@
 //! What a world can come to, however it got where it is.
 
-ghost use Rattle.std.specs.Prelude.{List};
+ghost use Rattle.std.specs.Prelude.{◌≡◌, ℕ, List, []};
 ghost use Rattle.scoop_model.specs.declared.event.Event.{Event};
 ghost use Rattle.scoop_model.specs.World.{World};
 ghost use Rattle.scoop_model.specs.Reach.{IsReached, Leads};
+ghost use Rattle.scoop_calm.specs.Next.{next_events, settling};
 ghost use Rattle.scoop_calm.specs.Settling.{Settles, Calm};
 
 /// A world is never stuck: from every world that can be reached, whatever was lost, repeated or delayed and whoever
@@ -13,4 +14,12 @@ ghost use Rattle.scoop_calm.specs.Settling.{Settles, Calm};
 /// so is its reply.
 pub fn never_stuck()
     ensures { (w : World) → IsReached w → (events : List Event) × (v : World) × Settles w events v × Leads w events v × Calm v }
+{}
+
+/// The events are a function of the world: the next events, taken again and again, lead from every world that can be
+/// reached to a calm one, in which none are next. The next ones are the first that are taken and leave less to do, of
+/// these: a handler's job that is out is finished; a job goes out; a client asks a handler, the message is taken at
+/// once, and so is the reply; a client ends its block.
+pub fn settles_by_next_events()
+    ensures { (w : World) → IsReached w → (n : ℕ) × (v : World) × Leads w (settling n w) v × Calm v × (next_events v ≡ []) }
 {}
