@@ -17,7 +17,7 @@ one n w v u es x t e rest =
     let more : n + 1 + length es ≡ n + length (x ∷ es) = omega arith in
     ap (next n w (λ y. run_after (n + 1) y es)) e ∙ rest ∙ ap made more
 
-leads_from : (n : ℕ) (w u : World) (es : List Event) → Settles w es u → run_after n w es ≡ (u, Ok (n + length es))
+pub leads_from : (n : ℕ) (w u : World) (es : List Event) → Settles w es u → run_after n w es ≡ (u, Ok (n + length es))
 leads_from n _ _ _ (stays w) = let made : ℕ → Run = λ k. (w, Ok k) in let none : n ≡ n + length {A = Event} [] = omega arith in ap made none
 leads_from n _ _ _ (begins w v u es h b k e rest) = one n w v u es (Begin h) (note.Began b k) e (leads_from (n + 1) v u es rest)
 leads_from n _ _ _ (finishes w v u es h r e rest) = one n w v u es (Finish h) (note.Ran r) e (leads_from (n + 1) v u es rest)

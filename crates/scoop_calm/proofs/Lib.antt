@@ -39,6 +39,7 @@ mod Measures
 mod Engine
 mod Choices
 mod Playing
+mod OfKind
 mod Moves
 mod Resting
 mod Running

@@ -78,7 +78,7 @@ last_of : (ms : List Message) (m : Message) → slice_get (ms ++ m ∷ []) (leng
 last_of [] m = refl
 last_of (x ∷ xs) m = last_of xs m
 
-sent_last : (w : World) (ms : List Message) (m : Message) → sent_at (length ms + 1) (record w { sent = ms ++ m ∷ [] }) ≡ Some m
+pub sent_last : (w : World) (ms : List Message) (m : Message) → sent_at (length ms + 1) (record w { sent = ms ++ m ∷ [] }) ≡ Some m
 sent_last w ms m =
     let place : (length ms + 1 == 0) ≡ false = grind (arith, nat_tests) in
     let before : length ms + 1 - 1 ≡ length ms = omega arith in

@@ -1,7 +1,8 @@
 -- The events that are next, again and again, lead from every reached world to a calm one.
-use Rattle.std.proofs.Common.{◌≡◌, ◌⊎◌, inl, inr, ℕ, zero, suc, ◌+◌, ◌<◌, ◌≤◌, Bool, true, false, true≢false, ◌&&◌, ◌||◌, nat_lt, List, [], ◌∷◌, ◌++◌, length, find, Option, Some, None, refl, sym, ap, ◌∙◌, subst, ⊎_elim, arith}
+use Rattle.std.proofs.Common.{◌≡◌, ◌⊎◌, inl, inr, ℕ, zero, suc, ◌<◌, ◌≤◌, Bool, true, false, true≢false, ◌&&◌, ◌||◌, nat_lt, List, [], ◌∷◌, ◌++◌, length, find, Option, Some, None, refl, sym, ap, ◌∙◌, subst, ⊎_elim, arith}
 use Rattle.std.specs.Prelude.{if◌then◌else◌, nat_le, unwrap_or, Ok}
 use Rattle.std.specs.Result.{is_ok}
+use Rattle.std.proofs.lemmas.List.{append-nil}
 use Rattle.std.proofs.lemmas.Bool.Decides.{nat_tests}
 use Rattle.scoop_model.specs.declared.event.Event.{Event}
 use Rattle.scoop_model.specs.World.{World}
@@ -9,12 +10,14 @@ use Rattle.scoop_model.specs.Reach.{Run, run, steps, Leads, IsReached}
 use Rattle.scoop_model.proofs.Basics.{by_test}
 use Rattle.scoop_calm.specs.Left.{clients_left, room_left, work_left, has_less}
 use Rattle.scoop_calm.specs.Next.{choices, helps, next_events, settling}
-use Rattle.scoop_calm.specs.Settling.{stays, Calm}
+use Rattle.scoop_calm.specs.Settling.{Settles, stays, Calm}
 use Rattle.scoop_calm.proofs.Totals.{Member}
 use Rattle.scoop_calm.proofs.Measures.{Less, for_clients, for_room, for_work}
 use Rattle.scoop_calm.proofs.Engine.{Useful, by_what_is_left}
-use Rattle.scoop_calm.proofs.Leads.{settles_leads}
-use Rattle.scoop_calm.proofs.Playing.{LeadTo, none_lead, goes, lead_on}
+use Rattle.scoop_calm.proofs.Leads.{leads_from, settles_leads}
+use Rattle.scoop_calm.proofs.Playing.{LeadTo, goes}
+use Rattle.scoop_calm.proofs.OfKind.{of_kind}
+use Rattle.scoop_calm.proofs.Everything.{everything}
 use Rattle.scoop_calm.proofs.NeverStuck.{calm_or}
 
 -- ---- less is left to do, as a test
@@ -89,6 +92,13 @@ module _ (v w : World) where
 
 -- ---- the first that helps
 
+found_in : {A : Type 0} (test : A → Bool) (xs : List A) (x : A) → find test xs ≡ Some x → Member x xs
+found_in test [] x e = absurd (cc)
+found_in test (y ∷ ys) x e =
+    by_test (λ b. (if b then Some y else find test ys) ≡ Some x → Member x (y ∷ ys)) (test y)
+    (λ _ f. inl (let same : y ≡ x = cc in same))
+    (λ _ f. inr (found_in test ys x f)) e
+
 found_test : {A : Type 0} (test : A → Bool) (xs : List A) (x : A) → find test xs ≡ Some x → test x ≡ true
 found_test test [] x e = absurd (cc)
 found_test test (y ∷ ys) x e =
@@ -120,7 +130,7 @@ module _ (w : World) where
 record Settled (w : World) : Type 0 where
   pub rounds : ℕ
   pub after : World
-  pub leads : LeadTo w (settling rounds w) after
+  pub settles : Settles w (settling rounds w) after
   pub none : next_events after ≡ []
   pub calm : Calm after
 
@@ -128,26 +138,31 @@ progress : (w : World) → IsReached w → ((u : World) → IsReached u → Less
 progress w reached rest = by_found (find (helps w) (choices w)) refl
   where
     by_found : (o : Option (List Event)) → find (helps w) (choices w) ≡ o → Settled w
-    by_found None is = record { rounds = zero; after = w; leads = none_lead w; none = ap (λ o. unwrap_or o []) is; calm = calm_where_none w reached is }
+    by_found None is = record { rounds = zero; after = w; settles = stays w; none = ap (λ o. unwrap_or o []) is; calm = calm_where_none w reached is }
     by_found (Some es) is =
         let next : next_events w ≡ es = ap (λ o. unwrap_or o []) is in
         let test = found_test (helps w) (choices w) es is in
-        let g = goes zero w es (first_of (is_ok (run w es).1) (has_less (run w es).0 w) test) in
+        let ok = first_of (is_ok (run w es).1) (has_less (run w es).0 w) test in
+        let g = goes zero w es ok in
+        let k = of_kind w (everything w reached).background.sound es ok (found_in (helps w) (choices w) es is) in
         let to : steps w es ≡ g.after = ap (λ (x : Run). x.0) (g.leads zero) in
+        let one : LeadTo w (es ++ []) k.after = λ n. leads_from n w k.after (es ++ []) (k.goes [] k.after (stays k.after)) in
+        let all : es ++ [] ≡ es = append-nil es in
+        let there : k.after ≡ g.after = sym (ap (λ (x : Run). x.0) (one zero)) ∙ ap (λ xs. (run w xs).0) all ∙ to in
         let less : has_less g.after w ≡ true = ap (λ v. has_less v w) (sym to) ∙ second_of (is_ok (run w es).1) (has_less (run w es).0 w) test in
         let s = rest g.after (g.reached reached) (has_is_less g.after w less) in
         let path : settling (suc s.rounds) w ≡ es ++ settling s.rounds g.after = ap (λ xs. xs ++ settling s.rounds (steps w xs)) next ∙ ap (λ v. es ++ settling s.rounds v) to in
         record {
           rounds = suc s.rounds;
           after = s.after;
-          leads = subst (λ (xs : List Event). LeadTo w xs s.after) (sym path) (lead_on w g.after s.after es (settling s.rounds g.after) g.leads s.leads);
+          settles =
+              subst (λ (xs : List Event). Settles w xs s.after) (sym path)
+              (k.goes (settling s.rounds g.after) s.after (subst (λ (v : World). Settles v (settling s.rounds g.after) s.after) (sym there) s.settles));
           none = s.none;
           calm = s.calm;
         }
 
-pub settles_by_next : (w : World) → IsReached w → (n : ℕ) × (v : World) × Leads w (settling n w) v × Calm v × (next_events v ≡ [])
+pub settles_by_next : (w : World) → IsReached w → (n : ℕ) × (v : World) × Settles w (settling n w) v × Leads w (settling n w) v × Calm v × (next_events v ≡ [])
 settles_by_next w r =
     let s = by_what_is_left Settled progress w r in
-    let made : ℕ → Run = λ k. (s.after, Ok k) in
-    let none : 0 + length (settling s.rounds w) ≡ length (settling s.rounds w) = omega arith in
-    (s.rounds, s.after, s.leads 0 ∙ ap made none, s.calm, s.none)
+    (s.rounds, s.after, s.settles, settles_leads w s.after (settling s.rounds w) s.settles, s.calm, s.none)

@@ -21,5 +21,5 @@ pub fn never_stuck()
 /// these: a handler's job that is out is finished; a job goes out; a client asks a handler, the message is taken at
 /// once, and so is the reply; a client ends its block.
 pub fn settles_by_next_events()
-    ensures { (w : World) → IsReached w → (n : ℕ) × (v : World) × Leads w (settling n w) v × Calm v × (next_events v ≡ []) }
+    ensures { (w : World) → IsReached w → (n : ℕ) × (v : World) × Settles w (settling n w) v × Leads w (settling n w) v × Calm v × (next_events v ≡ []) }
 {}
