@@ -187,30 +187,45 @@ fn stopped<R: Wait>(
     Some((answered, left_by(store)))
 }
 
-/// Stops the call at each of the log's calls in turn, up to where it is answered. The node that opens afterwards
-/// has the state before the call or the call's own, and that one where the call was answered.
-fn stops(rt: &(impl Abort + Wait), alloc: Global, call: Call) -> Result<(), Fail> {
-    let files = files_before(rt, alloc, call).ok_or("files")?;
+/// The first of the log's calls that the call itself makes, by halves: before it, no node opens.
+fn begins_at<R: Wait>(rt: &R, alloc: Global, files: &Files<Stopped>, call: Call) -> u64 {
+    let mut low = 0u64;
+    let mut high = 256u64;
+    for _ in 0..8 {
+        let middle = low.midpoint(high);
+        if stopped(rt, alloc, files, call, middle).is_some() {
+            high = middle;
+        } else {
+            low = middle;
+        }
+    }
+    high
+}
+
+/// Whether what is found is the state before the call or the call's own, and that one where it was answered.
+fn is_whole(call: Call, answered: bool, found: Found) -> bool {
     let (before, own) = match call {
         Call::Hear => ((false, 0), (true, 0)),
         Call::Finish => ((true, 0), (false, 1)),
     };
-    let mut refused = 0u32;
-    for calls in 0..256u64 {
-        let Some((answered, left)) = stopped(rt, alloc, &files, call, calls) else {
-            // It stopped before the call.
-            assert_eq!(rt; refused, 0, "{calls}");
-            continue;
-        };
+    found == own || found == before && !answered
+}
+
+/// Stops the call at each of the log's calls in turn, up to where it is answered. The node that opens afterwards
+/// has the state before the call or the call's own, and that one where the call was answered.
+fn stops(rt: &(impl Abort + Wait), alloc: Global, call: Call) -> Result<(), Fail> {
+    let files = files_before(rt, alloc, call).ok_or("files")?;
+    let first = begins_at(rt, alloc, &files, call);
+    for more in 0..64u64 {
+        let calls = first.saturating_add(more);
+        let (answered, left) = stopped(rt, alloc, &files, call, calls).ok_or("open files")?;
         let (written, synced) = both_found(rt, alloc, left).ok_or("a node")?;
+        assert!(rt; is_whole(call, answered, written), "{more}");
+        assert!(rt; is_whole(call, answered, synced), "{more}");
         if answered {
-            assert_eq!(rt; (written, synced), (own, own));
-            assert!(rt; refused > 0);
+            assert!(rt; more > 0);
             return Ok(());
         }
-        assert!(rt; written == before || written == own, "{calls}");
-        assert!(rt; synced == before || synced == own, "{calls}");
-        refused = refused.saturating_add(1);
     }
     Err("it was never answered".into())
 }
