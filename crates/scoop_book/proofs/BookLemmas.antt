@@ -20,7 +20,9 @@ use Rattle.scoop_book.specs.declared.event.Event.{Event}
 use Rattle.scoop_book.specs.declared.event.Event.TheVariants.{Hear, Begin, Finish}
 use Rattle.scoop_book.specs.declared.event.Reply.{Reply}
 use Rattle.scoop_book.specs.declared.event.Reply.TheVariants.{Heard, Began, Finished}
-use Rattle.scoop_book.specs.Moves.{LocalHandler, Entry, number_in, is_handler, handler_in, with_handler, handler_at, after_hearing, after_finish, HandlerMoves, Moves, Replays, NoRepeats}
+use Rattle.scoop_record.specs.Keyed.{IsFirst, NoRepeats}
+use Rattle.scoop_record.proofs.Keyed.{all_newer, all_set_at, item_at, key_at, put_again, set_newer, some_at}
+use Rattle.scoop_book.specs.Moves.{LocalHandler, Entry, number_in, is_handler, handler_in, with_handler, handler_at, after_hearing, after_finish, HandlerMoves, Moves, Replays}
 use Rattle.scoop_record.specs.declared.running.JobRefusal.{JobRefusal}
 use Rattle.scoop_record.specs.declared.running.JobRefusal.TheVariants as jobs
 use Rattle.scoop_book.specs.declared.error.BookError.{BookError}
@@ -28,8 +30,8 @@ use Rattle.scoop_book.specs.declared.error.BookError.TheVariants.{StoreRefused, 
 use Rattle.scoop_book.specs.declared.error.FinishRefusal.{FinishRefusal}
 use Rattle.scoop_book.specs.declared.error.FinishRefusal.TheVariants as unfinished
 use Rattle.scoop_book.specs.Books.{BookValue, IsBook, HasStored, KeepsNew, Gains, MayHappen, IsRefused, IsStranger, MayFinish, IsUnfinished, fails_to_finish, refusal_of}
-use Rattle.scoop_book.specs.Kept.{IsFirst, IsHeld, HandlersValue, handlers_kept, book_kept}
-use Rattle.scoop_book.proofs.Places.{item_at, some_at, put_again, key_found, own_found, set_newer, key_at, all_newer, all_set_at, all_at}
+use Rattle.scoop_book.specs.Kept.{IsHeld, HandlersValue, handlers_kept, book_kept}
+use Rattle.scoop_book.proofs.Places.{key_found, own_found, all_at}
 
 -- a replay goes on by a move
 pub replays_more : (hs : List LocalHandler) (es : List Entry) (e : Entry) (ks ls : List LocalHandler) → Replays hs es ks → Moves e.1 e.2 ks ls → Replays hs (es ++ e ∷ []) ls

@@ -10,7 +10,8 @@ use Rattle.scoop_record.specs.Keeper.{Stored, Holds, Damaged, stored_of, IsTheOn
 use Rattle.scoop_record.specs.declared.keeper.KeeperError.TheVariants as keeper
 use Rattle.scoop_book.specs.declared.error.OpenError.{OpenError}
 use Rattle.scoop_book.specs.declared.error.OpenError.TheVariants.{NoPasses, WrongClass, Repeated, Keeper, OutOfMemory}
-use Rattle.scoop_book.specs.Moves.{LocalHandler, Entry, NoRepeats, number_in}
+use Rattle.scoop_record.specs.Keyed.{NoRepeats}
+use Rattle.scoop_book.specs.Moves.{LocalHandler, Entry, number_in}
 use Rattle.scoop_book.specs.Books.{HasStored, IsBook}
 use Rattle.scoop_book.specs.Kept.{HandlersValue, handlers_kept, book_kept}
 use Rattle.scoop_book.specs.Opening.{Handed, IsLoadRefusal, IsUnopened, MayOpen, OpensAs, AllOpen, opening_state, numbers_of}

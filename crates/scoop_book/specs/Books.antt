@@ -15,7 +15,8 @@ use Rattle.scoop_book.specs.declared.error.BookError.{BookError}
 use Rattle.scoop_book.specs.declared.error.BookError.TheVariants.{NodeFailed, HistoryFull, UnknownHandler, StoreRefused, OutOfMemory}
 use Rattle.scoop_book.specs.declared.error.FinishRefusal.{FinishRefusal}
 use Rattle.scoop_book.specs.declared.error.FinishRefusal.TheVariants as unfinished
-use Rattle.scoop_book.specs.Moves.{LocalHandler, Entry, number_in, handler_in, Moves, Replays, NoRepeats}
+use Rattle.scoop_record.specs.Keyed.{NoRepeats}
+use Rattle.scoop_book.specs.Moves.{LocalHandler, Entry, number_in, handler_in, Moves, Replays}
 
 -- the handlers as they opened and as they are now, what has happened between, how many entries that may have, whether
 -- the keeper has refused a state, and the keeper

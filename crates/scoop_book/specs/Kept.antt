@@ -4,7 +4,8 @@ use Rattle.std.specs.List.{AllByRecursion}
 use Rattle.scoop_handler.specs.State.{HandlerState}
 use Rattle.scoop_handler.specs.Core.{Core}
 use Rattle.scoop_record.specs.Keeper.{Stored}
-use Rattle.scoop_book.specs.Moves.{LocalHandler, Entry, NoRepeats, local_handler, number_in}
+use Rattle.scoop_record.specs.Keyed.{NoRepeats}
+use Rattle.scoop_book.specs.Moves.{LocalHandler, Entry, local_handler, number_in}
 use Rattle.scoop_book.specs.Books.{BookValue, HasStored}
 
 -- what is stored of a handler: its state as it is, or nothing
@@ -31,8 +32,3 @@ pub record IsHeld {K : Type 0} (has : K → ℕ → Stored → Type 0) (is_hones
 abbrev pub book_kept : {K : Type 0} → List LocalHandler → List LocalHandler → List Entry → ℕ → Bool → K → BookValue K
 book_kept opening handlers history limit failed keeper =
     record { opening = opening; handlers = handlers; history = history; limit = limit; failed = failed; keeper = keeper }
-
--- the first that passes the test stands at this place
-pub record IsFirst {A : Type 0} (test : A → Bool) (xs : List A) (i : ℕ) : Type 0 where
-  pub within : i < length xs
-  pub found : find test xs ≡ slice_get xs i

@@ -115,7 +115,3 @@ Replays hs (e ∷ es) ks = (between : List LocalHandler) × Moves e.1 e.2 hs bet
 abbrev pub made_by : ℕ → List Entry → List (Event × Reply)
 made_by n [] = []
 made_by n (e ∷ es) = if e.0 == n then (e.1, e.2) ∷ made_by n es else made_by n es
-
--- no two places have one value
-abbrev pub NoRepeats : {A : Type 0} → List A → Type 0
-NoRepeats {A} xs = (i j : ℕ) (x : A) → slice_get xs i ≡ Some x → slice_get xs j ≡ Some x → i ≡ j

@@ -10,7 +10,8 @@ use Rattle.scoop_record.specs.Keeper.{Stored, Holds, Damaged, stored_of, IsTheOn
 use Rattle.scoop_record.specs.declared.keeper.KeeperError.TheVariants as keeper
 use Rattle.scoop_book.specs.declared.error.OpenError.{OpenError}
 use Rattle.scoop_book.specs.declared.error.OpenError.TheVariants.{NoPasses, WrongClass, Repeated, Keeper, OutOfMemory}
-use Rattle.scoop_book.specs.Moves.{LocalHandler, local_handler, NoRepeats}
+use Rattle.scoop_record.specs.Keyed.{NoRepeats, IsFirstRepeat}
+use Rattle.scoop_book.specs.Moves.{LocalHandler, local_handler}
 
 -- a handler as it is handed over: its number, and its object with the object's class
 abbrev pub Handed : Type 0 → Type 0
@@ -53,13 +54,6 @@ pub record IsFirstWrong {B : Type 0} (class : B → ClassTable) (ps : List (Hand
   pub named : handed.0 ≡ h
   pub wrong : class handed.2 ≢ handed.1
   pub right : AllByRecursion (IsOfClass class) (take place ps)
-
--- the element stands at the first place that repeats an earlier one
-pub record IsFirstRepeat {A : Type 0} (xs : List A) (x : A) : Type 0 where
-  pub place : ℕ
-  pub there : slice_get xs place ≡ Some x
-  pub earlier : Contains (take place xs) x
-  pub apart : NoRepeats (take place xs)
 
 -- each object has its class, and each handler is there once
 pub record MayOpen {B : Type 0} (class : B → ClassTable) (ps : List (Handed B)) : Type 0 where

@@ -28,11 +28,11 @@ pub enum OpenError {
     #[error("{0}")]
     Keeper(KeeperError),
     /// A growth of memory was refused.
-    #[error("OutOfMemory")]
+    #[error("out of memory")]
     OutOfMemory,
 }
 
-/// Why an event isn't entered, in the order in which it is tested. Printed as its name.
+/// Why an event isn't entered, in the order in which it is tested. Printed as its name, want of memory in words.
 #[derive(Clone, Copy, Debug, PartialEq, Eq, Error)]
 pub enum BookError {
     /// The keeper has refused a state before. Nothing is entered until the node is opened again.
@@ -48,11 +48,11 @@ pub enum BookError {
     #[error("StoreRefused")]
     StoreRefused,
     /// A growth of memory was refused.
-    #[error("OutOfMemory")]
+    #[error("out of memory")]
     OutOfMemory,
 }
 
-/// Why a job isn't finished, in the order in which it is tested. Printed as its name.
+/// Why a job isn't finished, in the order in which it is tested. Printed as its name, want of memory in words.
 #[derive(Clone, Copy, Debug, PartialEq, Eq, Error)]
 pub enum FinishRefusal {
     /// The keeper has refused a state before. Nothing is entered until the node is opened again.
@@ -71,7 +71,7 @@ pub enum FinishRefusal {
     #[error("StoreRefused")]
     StoreRefused,
     /// A growth of memory was refused.
-    #[error("OutOfMemory")]
+    #[error("out of memory")]
     OutOfMemory,
 }
 
@@ -84,7 +84,7 @@ pub struct FinishError<B: Behaviour> {
     pub done: Done<B>,
 }
 
-/// Why a node isn't closed, in the order in which it is tested. Printed as its name.
+/// Why a node isn't closed, in the order in which it is tested. Printed as its name, want of memory in words.
 #[derive(Clone, Copy, Debug, PartialEq, Eq, Error)]
 pub enum CloseRefusal {
     /// The passes aren't those that the node opened with, each once.
@@ -94,7 +94,7 @@ pub enum CloseRefusal {
     #[error("PassDiffers {0}")]
     PassDiffers(u32),
     /// A growth of memory was refused. Closing takes no memory, so this never comes.
-    #[error("OutOfMemory")]
+    #[error("out of memory")]
     OutOfMemory,
 }
 

@@ -7,7 +7,7 @@ ghost use Rattle.scoop_handler.specs.Running.{job_out, ran_of, ready};
 ghost use Rattle.scoop_record.specs.Keeper.{IsPutError, IsSame, Stays};
 ghost use Rattle.scoop_book.specs.Moves.{Moves, is_handler, leaves};
 ghost use Rattle.scoop_book.specs.Books.{KeepsNew};
-ghost use Rattle.scoop_book.specs.Kept.{IsFirst};
+ghost use Rattle.scoop_record.specs.Keyed.{IsFirst};
 
 use crate::error::FinishRefusal;
 use crate::event::{Event, Reply};

@@ -8,8 +8,9 @@ ghost use Rattle.scoop_handler.specs.Core.{core_of};
 ghost use Rattle.scoop_handler.specs.Running.{FitsClass};
 ghost use Rattle.scoop_handler.specs.State.{new_state};
 ghost use Rattle.scoop_record.specs.Keeper.{IsSame, IsTheOne, Stays, stored_of};
-ghost use Rattle.scoop_book.specs.Moves.{NoRepeats, local_handler};
-ghost use Rattle.scoop_book.specs.Opening.{AllOpen, IsFirstRepeat, IsFirstWrong, IsHandedWrongly, IsLoadRefusal, IsOfClass, MayOpen, OpensAs, numbers_of};
+ghost use Rattle.scoop_record.specs.Keyed.{IsFirstRepeat, NoRepeats};
+ghost use Rattle.scoop_book.specs.Moves.{local_handler};
+ghost use Rattle.scoop_book.specs.Opening.{AllOpen, IsFirstWrong, IsHandedWrongly, IsLoadRefusal, IsOfClass, MayOpen, OpensAs, numbers_of};
 
 use crate::error::OpenError;
 use crate::local::Local;

@@ -15,7 +15,8 @@ use Rattle.scoop_world.specs.declared.error.WorldOpenError.TheVariants.{NoHandle
 use Rattle.scoop_world.specs.declared.placing.Placement.{Placement}
 use Rattle.scoop_model.specs.Opening.{IsJoining}
 use Rattle.scoop_world.specs.Placing.{newcomers_of}
-use Rattle.scoop_world.specs.OpenRefusal.{IsFirstRepeat, IsOfClass, IsFirstWrong, IsCounted, MayPlace, IsUnopened, handlers_of}
+use Rattle.scoop_record.specs.Keyed.{IsFirstRepeat}
+use Rattle.scoop_world.specs.OpenRefusal.{IsOfClass, IsFirstWrong, IsCounted, MayPlace, IsUnopened, handlers_of}
 use Rattle.scoop_model.specs.Safe.{NoRepeats}
 use Rattle.std.specs.Result.{result_ok, result_err}
 use Rattle.scoop_demo.specs.declared.fault.RunError.{RunError}

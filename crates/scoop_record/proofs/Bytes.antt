@@ -5,19 +5,12 @@ use Rattle.std.specs.List.{flat_map}
 use Rattle.std.proofs.lemmas.List.{drop-drop, take_more_set}
 use Rattle.std.proofs.lemmas.List.Concat.{flat_map-append}
 use Rattle.byteorder.specs.Endian.{big_from}
-use Rattle.byteorder.specs.Numbers.{big_from-cons}
 use Rattle.scoop_message.specs.declared.name.Block.{Block}
 use Rattle.scoop_frame.proofs.Bytes.{IsBytes, front, front-append, front-drop, front_4, front_8}
 use Rattle.scoop_queue.specs.declared.state.Head.{Head}
 use Rattle.scoop_handler.specs.declared.mark.Mark.{Mark}
 use Rattle.scoop_handler.specs.Marks.{block_of}
 use Rattle.scoop_record.specs.Image.{block_bytes, flag_byte, head_bytes, holder_bytes, kept_bytes, mark_bytes, stage_byte, state_byte, words_bytes}
-
--- the number at a place is the first one of what begins there
-pub big_from_drop : (at n : ℕ) (b : List ℕ) → at ≤ length b → big_from at n b ≡ big_from 0 n (drop at b)
-big_from_drop zero n b le = refl
-big_from_drop (suc at) n [] le = absurd (omega (arith, le))
-big_from_drop (suc at) n (x ∷ b) le = big_from-cons at n x b ∙ big_from_drop at n b (omega (arith, le))
 
 pub block_is : (at : ℕ) (b : List ℕ) (c i n : ℕ) → IsBytes b → at + 12 ≤ length b → c ≡ big_from at 4 b → i ≡ big_from (at + 4) 4 b → n ≡ big_from (at + 8) 4 b
     → drop at b ≡ block_bytes (record { client = record { 0 = c }; inc = i; num = n }) ++ drop (at + 12) b

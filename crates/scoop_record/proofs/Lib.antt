@@ -1,4 +1,6 @@
 pub mod Lists
+pub mod Keyed
+pub mod UsedUp
 pub mod Places
 pub mod Firsts
 pub mod Bytes

@@ -2,6 +2,7 @@ pub use Rattle.scoop_handler.specs.State
 pub mod Range
 pub mod Image
 pub mod Places
+pub mod Keyed
 pub mod Reading
 pub mod Faults
 pub mod Keeper

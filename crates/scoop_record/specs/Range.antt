@@ -2,7 +2,7 @@
 -- them, so it asks for these bounds.
 use Rattle.std.specs.Prelude.{ℕ, ◌<◌, ◌≤◌, ◌^◌, List, length, Option, Some, None, ⊤}
 use Rattle.std.specs.List.{AllByRecursion}
-use Rattle.scoop_message.specs.declared.limits.TheConstants.{MAX_CLIENTS}
+use Rattle.scoop_message.specs.declared.limits.TheConstants.{MAX_MARKS}
 use Rattle.scoop_message.specs.declared.name.Block.{Block}
 use Rattle.scoop_message.specs.declared.request.Answer.{Answer}
 use Rattle.scoop_message.specs.Range.{IsEntry, IsAnswer}
@@ -50,7 +50,7 @@ pub record AreObjectWords (words : List ℕ) : Type 0 where
 
 -- the marks of a handler
 pub record AreMarks (marks : List Mark) : Type 0 where
-  pub few : length marks ≤ MAX_CLIENTS
+  pub few : length marks ≤ MAX_MARKS
   pub range : AllByRecursion MarkInRange marks
 
 -- a state without the entries of its private queues

@@ -1,7 +1,7 @@
 -- What is read of a stored image, and what it says.
 use Rattle.std.specs.Prelude.{◌≡◌, ◌≢◌, ◌≤◌, ℕ, List, [], ◌∷◌, ◌++◌, length, take, drop, Option, Some, None}
 use Rattle.std.specs.List.{flat_map, AllByRecursion}
-use Rattle.scoop_message.specs.declared.limits.TheConstants.{MAX_CLIENTS}
+use Rattle.scoop_message.specs.declared.limits.TheConstants.{MAX_MARKS}
 use Rattle.scoop_message.specs.declared.request.Entry.{Entry}
 use Rattle.scoop_message.specs.Range.{IsEntry}
 use Rattle.scoop_frame.specs.Body.{entry_bytes}
@@ -26,14 +26,14 @@ ReadsHead bytes None = (h : Head) (pending : ℕ) (rest : List ℕ) → HeadInRa
 -- nothing where none begin them
 abbrev pub ReadsMarks : List ℕ → (cells : List Mark) → Option (ℕ × ℕ) → Type 0
 ReadsMarks bytes cells (Some x) =
-    (x.0 ≤ MAX_CLIENTS) × AreMarks (take x.0 cells) × (x.1 ≡ length (marks_bytes (take x.0 cells))) × (bytes ≡ marks_bytes (take x.0 cells) ++ drop x.1 bytes)
+    (x.0 ≤ MAX_MARKS) × AreMarks (take x.0 cells) × (x.1 ≡ length (marks_bytes (take x.0 cells))) × (bytes ≡ marks_bytes (take x.0 cells) ++ drop x.1 bytes)
 ReadsMarks bytes cells None = (marks : List Mark) (rest : List ℕ) → AreMarks marks → bytes ≢ marks_bytes marks ++ rest
 
 -- what the bytes of the handler's image begin with in this version, with the marks in the first cells
 pub record IsFront (version : ℕ) (handler : HandlerId) (bytes : List ℕ) (cells : List Mark) (f : Front) : Type 0 where
   pub words : AreObjectWords f.words
   pub holder : HolderInRange f.holder
-  pub room : f.marks ≤ MAX_CLIENTS
+  pub room : f.marks ≤ MAX_MARKS
   pub marks : AreMarks (take f.marks cells)
   pub long : f.len ≤ length bytes
   pub begins : bytes ≡ parts version handler f.words f.holder (take f.marks cells) f.queues (drop f.len bytes)

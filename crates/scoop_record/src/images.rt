@@ -6,7 +6,6 @@
 mod error;
 mod front;
 mod lists;
-mod number;
 mod parts;
 mod reading;
 mod writing;

@@ -1,106 +1,22 @@
--- The place of a handler or a client among all, and what the keeper has once one of them changes. Code finds a place and
--- writes there; the definitions look up by a key. As keys don't repeat, the first item that passes a test is the one with
--- the key, a write at its place is a replacement by key, and what the keeper has of the others stays.
-use Rattle.std.proofs.Common.{◌≡◌, ℕ, zero, suc, ◌+◌, ◌<◌, Bool, true, false, List, [], ◌∷◌, map, find, length, drop, get_or, set, slice_get, Option, Some, None, refl, sym, ap, ◌∙◌, subst, arith}
-use Rattle.std.specs.Prelude.{if◌then◌else◌}
-use Rattle.std.specs.Bool.{Decides}
+-- The place of a handler or a client among all, and what the keeper has once one of them changes: a write at its place is a
+-- replacement by key, and what the keeper has of the others stays.
+use Rattle.std.proofs.Common.{◌≡◌, ℕ, zero, suc, ◌<◌, List, [], ◌∷◌, map, length, get_or, set, slice_get, Option, Some, None, refl, sym, ap, ◌∙◌, subst, arith}
 use Rattle.std.specs.List.{AllByRecursion}
 use Rattle.std.proofs.lemmas.Bool.{eqb-false}
-use Rattle.std.proofs.lemmas.Option.{slice_get-map, slice_get-get_or}
-use Rattle.std.proofs.lemmas.List.{set-get_or}
 use Rattle.scoop_message.specs.declared.name.HandlerId.{HandlerId}
 use Rattle.scoop_message.specs.declared.name.ClientId.{ClientId}
 use Rattle.scoop_message.specs.Message.{same_client, same_handler}
 use Rattle.scoop_message.proofs.Same.{handler_decides, client_decides}
 use Rattle.scoop_handler.specs.State.{HandlerState}
-use Rattle.scoop_record.specs.Keeper.{Holds, Sets, stored_of}
-use Rattle.scoop_record.specs.Memory.{MemoryRecord, state_at, incarnation_at}
+use Rattle.scoop_record.specs.Keeper.{Holds, IsSame, Sets, Stays, stored_of}
+use Rattle.scoop_record.specs.Memory.{Has, MemoryRecord, state_at, incarnation_at}
+use Rattle.scoop_record.proofs.Keyed.{set_newer, all_newer, key_at, all_set_at}
 use Rattle.scoop_model.specs.World.{Site, Party, number_of, id_of, set_site, set_party}
 use Rattle.scoop_model.specs.Safe.{NoRepeats}
-use Rattle.scoop_world.specs.Kept.{IsFirst, Stores, HasState, HasIncarnation, HasAll}
-use Rattle.scoop_model.proofs.Basics.{by_test}
+use Rattle.scoop_world.specs.Kept.{Stores, KeepsAll, HasState, HasIncarnation, HasAll}
 use Rattle.scoop_model.proofs.Order.Facts.{all_at}
 
--- ---- the first that passes a test
-
-module _ {A : Type 0} (test : A → Bool) where
-  pub first_here : (xs : List A) (i : ℕ) (x : A) → i < length xs → find test (drop i xs) ≡ find test xs → test (get_or xs i x) ≡ true → IsFirst test xs i
-  first_here xs i x within left is = record { within = within; found = sym left ∙ here xs i x within is }
-    where
-      here : (ys : List A) (j : ℕ) (d : A) → j < length ys → test (get_or ys j d) ≡ true → find test (drop j ys) ≡ slice_get ys j
-      here [] j d lt e = absurd (omega arith)
-      here (y ∷ ys) zero d lt e = rw e refl
-      here (y ∷ ys) (suc j) d lt e = here ys j d (omega arith) e
-
-  pub none_here :
-      (xs : List A) (i : ℕ) (x : A) → i < length xs → find test (drop i xs) ≡ find test xs → test (get_or xs i x) ≡ false
-      → find test (drop (i + 1) xs) ≡ find test xs
-  none_here xs i x within left is = next xs i x within is ∙ left
-    where
-      next : (ys : List A) (j : ℕ) (d : A) → j < length ys → test (get_or ys j d) ≡ false → find test (drop (j + 1) ys) ≡ find test (drop j ys)
-      next [] j d lt e = absurd (omega arith)
-      next (y ∷ ys) zero d lt e = rw e refl
-      next (y ∷ ys) (suc j) d lt e = rw (step_on j) (next ys j d (omega arith) e)
-        where
-          step_on : (k : ℕ) → suc k + 1 ≡ suc (k + 1)
-          step_on k = omega arith
-
--- what was read at a place
-pub item_at : {A : Type 0} (xs : List A) (i : ℕ) (x : A) → i < length xs → x ≡ get_or xs i x → slice_get xs i ≡ Some x
-item_at xs i x within is = slice_get-get_or xs i x within ∙ ap Some (sym is)
-
-pub some_at : {A : Type 0} (xs : List A) (i : ℕ) → i < length xs → (x : A) × (slice_get xs i ≡ Some x)
-some_at [] i within = absurd (omega arith)
-some_at (x ∷ xs) zero within = (x, refl)
-some_at (x ∷ xs) (suc i) within = some_at xs i (omega arith)
-
--- and is put there again
-pub put_again : {A : Type 0} (xs : List A) (i : ℕ) (x y : A) → x ≡ get_or xs i x → y ≡ x → set xs i y ≡ xs
-put_again xs i x y is same = ap (set xs i) (same ∙ is) ∙ set-get_or xs i x
-
--- ---- one takes the place of that with its key
-
-module _ {A K : Type 0} (key : A → K) (same : K → K → Bool) (decides : (a b : K) → Decides (same a b) (a ≡ b)) where
-  abbrev newer : A → A → A
-  newer a x = if same (key x) (key a) then a else x
-
-  none_newer : (a : A) (xs : List A) → ((k : ℕ) → slice_get (map key xs) k ≡ Some (key a) → ⊥) → map (newer a) xs ≡ xs
-  none_newer a [] none = refl
-  none_newer a (x ∷ xs) none =
-      by_test (λ t. same (key x) (key a) ≡ t → (if t then a else x) ∷ map (newer a) xs ≡ x ∷ xs) (same (key x) (key a))
-      (λ _ is. absurd (none zero (ap Some ((decides (key x) (key a)).0 is))))
-      (λ _ is. ap (λ ys. x ∷ ys) (none_newer a xs (λ k e. none (suc k) e))) refl
-
-  pub set_newer : (a : A) (xs : List A) (i : ℕ) → NoRepeats (map key xs) → slice_get (map key xs) i ≡ Some (key a) → set xs i a ≡ map (newer a) xs
-  set_newer a [] i apart e = absurd (cc)
-  set_newer a (x ∷ xs) zero apart e =
-      let own : key x ≡ key a = cc in
-      let here : (if same (key x) (key a) then a else x) ≡ a = ap (λ t. if t then a else x) ((decides (key x) (key a)).1 own) in
-      let rest = none_newer a xs (λ k f. absurd (let zs = apart zero (suc k) (key a) e f in omega (arith, zs))) in
-      ap (λ y. y ∷ xs) (sym here) ∙ ap (λ ys. newer a x ∷ ys) (sym rest)
-  set_newer a (x ∷ xs) (suc i) apart e =
-      by_test (λ t. same (key x) (key a) ≡ t → x ∷ set xs i a ≡ (if t then a else x) ∷ map (newer a) xs) (same (key x) (key a))
-      (λ _ is. absurd (let zs = apart zero (suc i) (key a) (ap Some ((decides (key x) (key a)).0 is)) e in omega (arith, zs)))
-      (λ _ is. ap (λ ys. x ∷ ys) (set_newer a xs i (λ j k y p q. let ss = apart (suc j) (suc k) y p q in omega (arith, ss)) e)) refl
-
-  -- what is so of the new one, and of those with other keys
-  pub all_newer :
-      (P Q : A → Type 0) (a : A) (xs : List A) → Q a → ((x : A) → same (key x) (key a) ≡ false → P x → Q x) → AllByRecursion P xs
-      → AllByRecursion Q (map (newer a) xs)
-  all_newer P Q a [] own others all = tt
-  all_newer P Q a (x ∷ xs) own others all = (
-    by_test (λ t. same (key x) (key a) ≡ t → Q (if t then a else x)) (same (key x) (key a)) (λ _ is. own) (λ _ is. others x is all.0) refl,
-    all_newer P Q a xs own others all.1,
-  )
-
-  key_at : (xs : List A) (i : ℕ) (old a : A) → slice_get xs i ≡ Some old → key a ≡ key old → slice_get (map key xs) i ≡ Some (key a)
-  key_at xs i old a at same_key =
-      slice_get-map key xs i ∙ ap (λ o. elim o as (λ _. Option K) [ None ↦ None | Some y ↦ Some (key y) ]) at ∙ ap Some (sym same_key)
-
-all_set_at : {A : Type 0} (P : A → Type 0) (xs : List A) (i : ℕ) (a : A) → AllByRecursion P xs → P a → AllByRecursion P (set xs i a)
-all_set_at P [] i a all own = tt
-all_set_at P (x ∷ xs) zero a all own = (own, all.1)
-all_set_at P (x ∷ xs) (suc i) a all own = (all.0, all_set_at P xs i a all.1 own)
+-- ---- the sites and the parties
 
 -- the site in place of that with its number, and the party in place of that with its client
 pub site_set :
@@ -152,16 +68,33 @@ stored_is o None e = none o e
 stored_is o (Some s) e = holds_is o s e
 
 pub incarnations_stay :
-    (k l : MemoryRecord) (parties : List Party) → l.incarnations ≡ k.incarnations → AllByRecursion (HasIncarnation k) parties
+    (k l : MemoryRecord) (parties : List Party) → IsSame (incarnation_at k) (incarnation_at l) → AllByRecursion (HasIncarnation k) parties
     → AllByRecursion (HasIncarnation l) parties
 incarnations_stay k l [] same all = tt
-incarnations_stay k l (p ∷ ps) same all =
-    (record { incarnation = ap (λ (is : List (ℕ × ℕ)). incarnation_at (record { states = []; incarnations = is }) (id_of p).0) same ∙ all.0.incarnation }, incarnations_stay k l ps same all.1)
+incarnations_stay k l (p ∷ ps) same all = (record { incarnation = same.each (id_of p).0 ∙ all.0.incarnation }, incarnations_stay k l ps same all.1)
 
-states_stay : (k l : MemoryRecord) (sites : List Site) → l.states ≡ k.states → AllByRecursion (HasState k) sites → AllByRecursion (HasState l) sites
+states_stay : (k l : MemoryRecord) (sites : List Site) → Stays (Has k) (Has l) → AllByRecursion (HasState k) sites → AllByRecursion (HasState l) sites
 states_stay k l [] same all = tt
 states_stay k l (s ∷ ss) same all =
-    (record { state = ap (λ (xs : List (ℕ × HandlerState)). state_at (record { states = xs; incarnations = [] }) (number_of s).0) same ∙ all.0.state }, states_stay k l ss same all.1)
+    let n : ℕ = (number_of s).0 in
+    (record { state = stored_is (state_at l n) (state_at k n) ((same.each n (stored_of (state_at k n))).0 refl) ∙ all.0.state }, states_stay k l ss same all.1)
+
+-- the states of a keeper that has the same list of them
+same_states : (k l : MemoryRecord) → l.states ≡ k.states → Stays (Has k) (Has l)
+same_states k l same = record {
+  each = λ h v.
+      let at : state_at l h ≡ state_at k h = ap (λ (xs : List (ℕ × HandlerState)). state_at (record { states = xs; incarnations = [] }) h) same in
+      (λ has. ap stored_of at ∙ has, λ has. ap stored_of (sym at) ∙ has);
+}
+
+-- the incarnations of a keeper that has the same list of them
+pub same_incarnations : (k l : MemoryRecord) → l.incarnations ≡ k.incarnations → IsSame (incarnation_at k) (incarnation_at l)
+same_incarnations k l same = record { each = λ c. ap (λ (is : List (ℕ × ℕ)). incarnation_at (record { states = []; incarnations = is }) c) same }
+
+-- what is kept is there still
+pub has_kept : (k l : MemoryRecord) (sites : List Site) (parties : List Party) → HasAll k sites parties → KeepsAll k l → HasAll l sites parties
+has_kept k l sites parties all kept =
+    record { states = states_stay k l sites kept.states all.states; incarnations = incarnations_stay k l parties kept.incarnations all.incarnations }
 
 -- a handler whose new state is stored
 pub has_site :
@@ -188,7 +121,7 @@ pub has_incarnation :
     → slice_get parties i ≡ Some old → id_of p ≡ id_of old
     → Sets (incarnation_at k) (incarnation_at l) (id_of old).0 p.stored → l.states ≡ k.states → HasAll l sites (set parties i p)
 has_incarnation k l sites parties i old p all apart at same sets states = record {
-  states = states_stay k l sites states all.states;
+  states = states_stay k l sites (same_states k l states) all.states;
   incarnations = subst (AllByRecursion (HasIncarnation l)) (sym (party_set parties i old p apart at same))
       (all_newer id_of same_client client_decides (HasIncarnation k) (HasIncarnation l) p parties (record { incarnation = ap (λ (c : ClientId). incarnation_at l c.0) same ∙ sets.there })
       (λ x other has.

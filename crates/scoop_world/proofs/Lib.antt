@@ -1,13 +1,11 @@
 mod Reached
 mod SeenLists
 mod LogLists
-mod Jobs
 mod Newest
 mod KeptPlaces
 mod SitesMade
 mod TakenCommands
 mod TakenEvents
 mod FreshBlocks
-mod Repeats
 mod Joins
 mod OpenedWorlds

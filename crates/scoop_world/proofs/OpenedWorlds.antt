@@ -18,7 +18,7 @@ use Rattle.scoop_model.specs.Opening.{IsPlaced, IsJoining, MayOpen}
 use Rattle.scoop_world.specs.Placing.{placement_of, placements_of, newcomer_of, newcomers_of}
 use Rattle.scoop_world.specs.OpenRefusal.{MayPlace, IsUnopened, handlers_of, clients_of}
 use Rattle.scoop_world.specs.Kept.{world_kept, HasIncarnation, HasState, HasAll}
-use Rattle.scoop_world.proofs.KeptPlaces.{incarnations_stay}
+use Rattle.scoop_world.proofs.KeptPlaces.{incarnations_stay, same_incarnations}
 
 module _ {B : Type 0} (words : B → List ℕ) where
   same_handlers : (ps : List (Placed B)) → map (λ (p : Placement). p.handler) (placements_of words ps) ≡ handlers_of ps
@@ -88,4 +88,4 @@ unopened class ps cs stored e may why =
 pub all_stored :
     (k l : MemoryRecord) (sites : List Site) (parties : List Party) → AllByRecursion (HasState l) sites → l.incarnations ≡ k.incarnations
     → AllByRecursion (HasIncarnation k) parties → HasAll l sites parties
-all_stored k l sites parties states same incarnations = record { states = states; incarnations = incarnations_stay k l parties same incarnations }
+all_stored k l sites parties states same incarnations = record { states = states; incarnations = incarnations_stay k l parties (same_incarnations k l same) incarnations }

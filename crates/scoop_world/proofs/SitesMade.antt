@@ -1,43 +1,18 @@
 -- What is so of the handlers so far, as they are placed one by one and as their states are stored one by one.
 use Rattle.std.proofs.Common.{◌≡◌, ℕ, zero, suc, ◌+◌, ◌<◌, List, [], ◌∷◌, ◌++◌, map, length, take, get_or, slice_get, Option, Some, None, refl, sym, ap, ◌∙◌, subst, arith, append-nil}
 use Rattle.std.specs.List.{AllByRecursion}
-use Rattle.std.specs.Iterator.{Yields}
-use Rattle.std.specs.Vec.Iter.{into_iter_items, into_iter_len, into_iter_steps}
-use Rattle.std.specs.declared.vec.IntoIter.{IntoIter}
 use Rattle.std.proofs.lemmas.Option.{slice_get-map}
 use Rattle.std.proofs.lemmas.List.{take_more}
 use Rattle.scoop_message.specs.declared.name.HandlerId.{HandlerId}
 use Rattle.scoop_handler.specs.State.{HandlerState}
-use Rattle.scoop_record.specs.Keeper.{stored_of, Holds}
-use Rattle.scoop_record.specs.Memory.{MemoryRecord, state_at}
+use Rattle.scoop_record.specs.Keeper.{stored_of, Holds, Keeps}
+use Rattle.scoop_record.specs.Memory.{Has, MemoryRecord, state_at}
 use Rattle.scoop_model.specs.World.{Site, number_of}
 use Rattle.scoop_model.specs.Step.{Placement, new_site}
 use Rattle.scoop_model.specs.Safe.{NoRepeats}
-use Rattle.scoop_world.specs.Kept.{Stores, HasState}
-use Rattle.scoop_world.proofs.KeptPlaces.{item_at}
+use Rattle.scoop_world.specs.Kept.{HasState}
+use Rattle.scoop_record.proofs.Keyed.{item_at}
 use Rattle.scoop_model.proofs.Order.Facts.{all_at}
-
--- ---- a vector that is used up
-
--- what it has given is a front of its items
-pub taken_front :
-    {X A : Type 0} (s : IntoIter X A) (xs : List X) (t : IntoIter X A) → Yields into_iter_steps s xs t → into_iter_items s ≡ xs ++ into_iter_items t
-taken_front s [] t y = ap into_iter_items y
-taken_front s (x ∷ xs) t y = y.1.0 ∙ ap (λ ys. x ∷ ys) (taken_front y.0 xs t y.2)
-
--- what is so of all items is so of the next one
-pub all_next : {X : Type 0} (P : X → Type 0) (done : List X) (x : X) (left : List X) → AllByRecursion P (done ++ x ∷ left) → P x
-all_next P [] x left all = all.0
-all_next P (y ∷ done) x left all = all_next P done x left all.1
-
--- nothing is left of it
-pub taken_all :
-    {X A : Type 0} (s : IntoIter X A) (xs : List X) (t : IntoIter X A) → Yields into_iter_steps s xs t → into_iter_len t ≡ 0 → into_iter_items s ≡ xs
-taken_all s xs t y none = taken_front s xs t y ∙ ap (λ ys. xs ++ ys) (no_items (into_iter_items t) (sym t.rest.ok.0 ∙ none)) ∙ append-nil xs
-  where
-    no_items : {Y : Type 0} (ys : List Y) → length ys ≡ 0 → ys ≡ []
-    no_items [] e = refl
-    no_items (y ∷ ys) e = absurd (omega (arith, e))
 
 -- ---- the states that are stored one by one
 
@@ -52,19 +27,19 @@ there_is None s e = absurd (cc)
 there_is (Some t) s e = let same : t ≡ s = cc in ap Some same
 
 -- another handler's state stays
-other_stays : (k l : MemoryRecord) (x s : Site) → ((number_of x).0 ≡ s.stored.number.0 → ⊥) → Stores k l s.stored → HasState k x → HasState l x
+other_stays : (k l : MemoryRecord) (x s : Site) → ((number_of x).0 ≡ s.stored.number.0 → ⊥) → Keeps (Has k) (Has l) s.stored → HasState k x → HasState l x
 other_stays k l x s off stores has =
     let n : ℕ = (number_of x).0 in
-    record { state = there_is (state_at l n) x.stored ((stores.states.others n off (Holds x.stored)).0 (ap stored_of has.state)) }
+    record { state = there_is (state_at l n) x.stored ((stores.others n off (Holds x.stored)).0 (ap stored_of has.state)) }
 
 -- the states of the handlers before it stay, and its own is there
 more_states :
     (k l : MemoryRecord) (sites : List Site) (i : ℕ) (s : Site) → slice_get sites i ≡ Some s → NoRepeats (map number_of sites) → s.stored.number ≡ number_of s
-    → Stores k l s.stored → AllByRecursion (HasState k) (take i sites)
+    → Keeps (Has k) (Has l) s.stored → AllByRecursion (HasState k) (take i sites)
     → AllByRecursion (HasState l) (take i sites ++ s ∷ [])
 more_states k l [] i s at apart own stores all = absurd (cc)
 more_states k l (x ∷ xs) zero s at apart own stores all =
-    (record { state = ap (λ (h : HandlerId). state_at l h.0) (sym own) ∙ there_is (state_at l s.stored.number.0) s.stored stores.states.there }, tt)
+    (record { state = ap (λ (h : HandlerId). state_at l h.0) (sym own) ∙ there_is (state_at l s.stored.number.0) s.stored stores.there }, tt)
 more_states k l (x ∷ xs) (suc i) s at apart own stores all =
     let named : slice_get (map number_of xs) i ≡ Some (number_of s) =
     slice_get-map number_of xs i ∙ ap (λ o. elim o as (λ _. Option HandlerId) [ None ↦ None | Some y ↦ Some (number_of y) ]) at in
@@ -78,7 +53,7 @@ more_states k l (x ∷ xs) (suc i) s at apart own stores all =
 -- the next handler's state is stored
 pub states_more :
     (k l : MemoryRecord) (sites : List Site) (i : ℕ) (s : Site) → i < length sites → s ≡ get_or sites i s → NoRepeats (map number_of sites)
-    → AllByRecursion (λ x. x.stored.number ≡ number_of x) sites → Stores k l s.stored
+    → AllByRecursion (λ x. x.stored.number ≡ number_of x) sites → Keeps (Has k) (Has l) s.stored
     → AllByRecursion (HasState k) (take i sites) → AllByRecursion (HasState l) (take (i + 1) sites)
 states_more k l sites i s within is apart own stores all =
     let at = item_at sites i s within is in

@@ -25,7 +25,9 @@ use Rattle.scoop_model.specs.World.{World, Site, Party, BlockLog, number_of, id_
 use Rattle.scoop_model.specs.Step.{Stepped, sent_or_silent, tick_at, newest_block, logs_after, do_at, newly_opened, joined, heard_site, taken_by_handler, heard_party, taken_by_client, with_party, begun_site, begins, begin_at, finished_site, finishes, finish_at, restarted_party, restart_client, reopened, restart_node}
 use Rattle.scoop_model.specs.Reach.{IsReached}
 use Rattle.scoop_model.specs.Safe.{NoRepeats}
-use Rattle.scoop_world.specs.Kept.{IsFirst, HasState, HasAll, began, on_node, world_kept}
+use Rattle.scoop_record.specs.Keyed.{IsFirst}
+use Rattle.scoop_record.proofs.Keyed.{item_at, put_again, some_at}
+use Rattle.scoop_world.specs.Kept.{HasState, HasAll, began, on_node, world_kept}
 use Rattle.scoop_world.specs.Answers.{IsRefusal, IsRefused, IsRestartRefusal, outcome_of}
 use Rattle.scoop_record.specs.Memory.{MemoryRecord, state_at}
 use Rattle.scoop_handler.specs.State.{HandlerState}
@@ -34,7 +36,7 @@ use Rattle.std.specs.List.{AllByRecursion, list_any}
 use Rattle.scoop_model.proofs.Basics.{by_test}
 use Rattle.scoop_model.proofs.Order.Facts.{SiteFits}
 use Rattle.scoop_model.proofs.Reaching.{sites_apart, parties_apart, reached_ordered}
-use Rattle.scoop_world.proofs.KeptPlaces.{item_at, some_at, put_again, site_set, party_set}
+use Rattle.scoop_world.proofs.KeptPlaces.{site_set, party_set}
 use Rattle.scoop_world.proofs.TakenCommands.{taken_command, refused_command}
 
 states_reopened :

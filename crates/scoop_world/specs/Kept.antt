@@ -12,7 +12,7 @@ use Rattle.scoop_handler.specs.State.{HandlerState}
 use Rattle.scoop_handler.specs.Core.{Core}
 use Rattle.scoop_handler.specs.Running.{Task}
 use Rattle.scoop_client.specs.State.{ClientState}
-use Rattle.scoop_record.specs.Keeper.{Keeps}
+use Rattle.scoop_record.specs.Keeper.{IsSame, Keeps, Stays}
 use Rattle.scoop_record.specs.Memory.{MemoryRecord, Has, state_at, incarnation_at}
 use Rattle.scoop_model.specs.declared.event.Command.{Command}
 use Rattle.scoop_model.specs.declared.event.Command.TheVariants.{Reserve, Call, Query, End, GiveUp}
@@ -23,11 +23,6 @@ use Rattle.scoop_model.specs.Step.{with_entry, finished_site}
 -- all parts of a world
 abbrev pub world_kept : List Site → List Party → List Message → List Block → List BlockLog → World
 world_kept sites parties sent joint logs = record { sites = sites; parties = parties; sent = sent; joint = joint; logs = logs }
-
--- the first that passes the test stands at this place
-pub record IsFirst {A : Type 0} (test : A → Bool) (xs : List A) (i : ℕ) : Type 0 where
-  pub within : i < length xs
-  pub found : find test xs ≡ slice_get xs i
 
 -- ---- handlers and clients
 
@@ -106,14 +101,19 @@ logged_by GiveUp = None
 
 -- ---- what the keeper has
 
--- the keeper has stored the state, and nothing else has changed
+-- the keeper has stored the state, and has of the others what it had
 pub record Stores (old new : MemoryRecord) (s : HandlerState) : Type 0 where
   pub states : Keeps (Has old) (Has new) s
-  pub incarnations : new.incarnations ≡ old.incarnations
+  pub incarnations : IsSame (incarnation_at old) (incarnation_at new)
 
--- the same where a job was out
+-- it has what it had
+pub record KeepsAll (old new : MemoryRecord) : Type 0 where
+  pub states : Stays (Has old) (Has new)
+  pub incarnations : IsSame (incarnation_at old) (incarnation_at new)
+
+-- the state is stored where a job was out
 abbrev pub StoresJob : Option Task → MemoryRecord → MemoryRecord → HandlerState → Type 0
-StoresJob None old new s = new ≡ old
+StoresJob None old new s = KeepsAll old new
 StoresJob (Some t) old new s = Stores old new s
 
 pub record HasState (k : MemoryRecord) (s : Site) : Type 0 where

@@ -6,17 +6,11 @@ use Rattle.scoop_message.specs.declared.name.HandlerId.{HandlerId}
 use Rattle.scoop_message.specs.declared.name.ClientId.{ClientId}
 use Rattle.scoop_object.specs.Class.{ClassTable}
 use Rattle.scoop_record.specs.Keeper.{last_incarnation}
+use Rattle.scoop_record.specs.Keyed.{IsFirstRepeat}
 use Rattle.scoop_world.specs.declared.error.WorldOpenError.{WorldOpenError}
 use Rattle.scoop_world.specs.declared.error.WorldOpenError.TheVariants.{NoHandlers, TooManyHandlers, Repeated, WrongClass, TooManyClients, RepeatedClient, IncarnationsSpent, OutOfMemory}
 use Rattle.scoop_world.specs.declared.placing.Placement.{Placement}
 use Rattle.scoop_model.specs.Safe.{NoRepeats}
-
--- the element stands at the first place that repeats an earlier one
-pub record IsFirstRepeat {A : Type 0} (xs : List A) (x : A) : Type 0 where
-  pub place : ℕ
-  pub there : slice_get xs place ≡ Some x
-  pub earlier : Contains (take place xs) x
-  pub apart : NoRepeats (take place xs)
 
 -- the handlers that are placed, and the clients that join, in their order
 abbrev pub handlers_of : {B : Type 0} → List (Placement B) → List HandlerId

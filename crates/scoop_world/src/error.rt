@@ -6,7 +6,7 @@ use scoop_message::{ClientId, HandlerId, OutOfMemory};
 use std::alloc::{AllocError, AllocFailed};
 use thiserror::Error;
 
-/// Why a world doesn't open, in the order in which it is tested. Printed as its name.
+/// Why a world doesn't open, in the order in which it is tested. Printed as its name, want of memory in words.
 #[derive(Clone, Copy, Debug, PartialEq, Eq, Error)]
 pub enum WorldOpenError {
     /// No handler is placed.
@@ -31,7 +31,7 @@ pub enum WorldOpenError {
     #[error("IncarnationsSpent")]
     IncarnationsSpent,
     /// A growth of memory was refused.
-    #[error("OutOfMemory")]
+    #[error("out of memory")]
     OutOfMemory,
 }
 

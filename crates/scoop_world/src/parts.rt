@@ -3,7 +3,8 @@
 ghost use Rattle.std.specs.Prelude.{◌≡◌, ◌<◌, ◌-◌, [], None, find, length, slice_get, MatchOption};
 ghost use Rattle.std.specs.Option.{option_map};
 ghost use Rattle.scoop_model.specs.World.{is_site, is_party, logged_at, party_of, sent_at, site_of};
-ghost use Rattle.scoop_world.specs.Kept.{HasAll, IsFirst, world_kept};
+ghost use Rattle.scoop_record.specs.Keyed.{IsFirst};
+ghost use Rattle.scoop_world.specs.Kept.{HasAll, world_kept};
 
 mod commanding;
 mod hearing;

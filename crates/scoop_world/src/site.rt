@@ -2,15 +2,16 @@
 
 ghost use Rattle.std.specs.Prelude.{◌≡◌, ◌<◌, ◌++◌, [], ◌∷◌, false, vec_len, vec_capacity, IfNone, IfOk, IsSome, OnOk, OnErr, OnSome};
 ghost use Rattle.std.specs.Option.{option_map};
-ghost use Rattle.scoop_handler.specs.Core.{IsCore, with_state};
+ghost use Rattle.scoop_handler.specs.Core.{IsCore};
 ghost use Rattle.scoop_handler.specs.Hearing.{hear};
-ghost use Rattle.scoop_handler.specs.Running.{MayReset, after, job_out, ran_of, ready};
-ghost use Rattle.scoop_world.specs.Kept.{Stores};
+ghost use Rattle.scoop_handler.specs.Running.{job_out, ran_of, ready};
+ghost use Rattle.scoop_record.specs.Keeper.{Keeps};
+ghost use Rattle.scoop_record.specs.Memory.{Has};
 
 use scoop_handler::{Done, Handler, HandlerState, Heard, Note, Ran};
 use scoop_message::{Block, Entry, HandlerId, Message, OutOfMemory, Request, Words};
 use scoop_object::Behaviour;
-use scoop_record::{Keeper, MemoryKeeper};
+use scoop_record::{Keeper, MemoryKeeper, finish_and_store, hear_and_store};
 use std::alloc::Allocator;
 use std::marker::Model;
 
@@ -39,68 +40,6 @@ impl<B: Behaviour, A: Allocator> Model for Site<B, A> {
     ghost invariant = { λ s. s.job ≡ job_out s.handler };
 }
 
-// Stores a state.
-fn put_state<A: Allocator + Copy>(
-    keeper: &mut MemoryKeeper<A>,
-    state: &HandlerState<A>,
-) -> Result<(), OutOfMemory>
-    ensures ok { OnOk result (Stores keeper.old keeper.new state.now) }
-    ensures err { OnErr result (keeper.new ≡ keeper.old) }
-{
-    match keeper.put_handler(state) {
-        Ok(()) => Ok(()),
-        Err(_) => Err(OutOfMemory),
-    }
-}
-
-// Stores the state of the handler.
-fn store<B: Behaviour, A: Allocator + Copy>(
-    keeper: &mut MemoryKeeper<A>,
-    handler: &Handler<B, A>,
-) -> Result<(), OutOfMemory>
-    ensures ok { OnOk result (Stores keeper.old keeper.new handler.now.state) }
-    ensures err { OnErr result (keeper.new ≡ keeper.old) }
-{
-    let state = handler.copy()?;
-    put_state(keeper, &state)
-}
-
-// The handler takes an earlier state again.
-fn take_back<B: Behaviour, A: Allocator + Copy>(handler: &mut Handler<B, A>, state: HandlerState<A>)
-    requires { MayReset state handler.old }
-    ensures { handler.new ≡ with_state state handler.old }
-{
-    let Ok(()) = handler.reset(state) else {
-        unreachable!()
-    };
-}
-
-// Hears a message, and stores the new state. `OutOfMemory` changes nothing.
-fn hear_and_store<B: Behaviour, A: Allocator + Copy>(
-    handler: &mut Handler<B, A>,
-    keeper: &mut MemoryKeeper<A>,
-    message: &Message,
-) -> Result<Heard, OutOfMemory>
-    ensures heard { IfOk result (λ heard. heard ≡ (hear handler.old.state message.now).1) }
-    ensures state { OnOk result (handler.new ≡ with_state (hear handler.old.state message.now).0 handler.old) }
-    ensures stored { OnOk result (Stores keeper.old keeper.new (hear handler.old.state message.now).0) }
-    ensures job { job_out handler.new ≡ job_out handler.old }
-    ensures err { OnErr result (handler.new ≡ handler.old) }
-    ensures kept { OnErr result (keeper.new ≡ keeper.old) }
-{
-    // Says that the handler is sound.
-    let _number = handler.number();
-    let before = handler.copy()?;
-    let heard = handler.hear(message)?;
-    match store(keeper, handler) {
-        Ok(()) => Ok(heard),
-        Err(error) => {
-            take_back(handler, before);
-            Err(error)
-        }
-    }
-}
-
 // Puts down what has run. There is room for it.
 fn put_down<A: Allocator + Copy>(ran: &mut Vec<Ran, A>, new: &Ran)
     requires { vec_len ran.old < vec_capacity ran.old }
@@ -111,25 +50,10 @@ fn put_down<A: Allocator + Copy>(ran: &mut Vec<Ran, A>, new: &Ran)
     ran.push_reserved(*new);
 }
 
-// Stores the state after a job that is out.
-fn store_after<B: Behaviour, A: Allocator + Copy>(
-    keeper: &mut MemoryKeeper<A>,
-    handler: &Handler<B, A>,
-    done: &Done<B>,
-) -> Result<(), OutOfMemory>
-    ensures ok { OnOk result (Stores keeper.old keeper.new (after done.now handler.now.state)) }
-    ensures err { OnErr result (keeper.new ≡ keeper.old) }
-{
-    match handler.after_finish(done) {
-        Ok(state) => put_state(keeper, &state),
-        Err(_) => Err(OutOfMemory),
-    }
-}
-
 impl<B: Behaviour, A: Allocator + Copy> Site<B, A> {
     ghost use Rattle.scoop_model.specs.World.{number_of};
     ghost use Rattle.scoop_model.specs.Step.{begun_site, heard_site};
-    ghost use Rattle.scoop_world.specs.Kept.{StoresJob, after_job, began, site_kept};
+    ghost use Rattle.scoop_world.specs.Kept.{HasState, KeepsAll, Stores, StoresJob, after_job, began, site_kept};
     ghost use Rattle.scoop_model.specs.Step.{reopened_site};
 
     /// A handler at which nothing has happened, with the words of its object.
@@ -150,10 +74,14 @@ impl<B: Behaviour, A: Allocator + Copy> Site<B, A> {
 
     /// Stores its state.
     pub(crate) fn store(&self, keeper: &mut MemoryKeeper<A>) -> Result<(), OutOfMemory>
-        ensures ok { OnOk result (Stores keeper.old keeper.new self.now.stored) }
-        ensures err { OnErr result (keeper.new ≡ keeper.old) }
+        ensures ok { OnOk result (Keeps (Has keeper.old) (Has keeper.new) self.now.stored) }
+        ensures incarnations { keeper.new.incarnations ≡ keeper.old.incarnations }
     {
-        store(keeper, &self.handler)
+        let state = self.handler.copy()?;
+        match keeper.put_handler(&state) {
+            Ok(()) => Ok(()),
+            Err(_) => Err(OutOfMemory),
+        }
     }
 
     /// Its number.
@@ -185,20 +113,23 @@ impl<B: Behaviour, A: Allocator + Copy> Site<B, A> {
         &self.ran
     }
 
-    /// Hears a message, and stores the new state. `OutOfMemory` changes nothing.
+    /// Hears a message, and stores the new state, if there is one. `OutOfMemory` changes nothing.
     pub(crate) fn hear(
         &mut self,
         keeper: &mut MemoryKeeper<A>,
         message: &Message,
     ) -> Result<Heard, OutOfMemory>
+        requires { HasState keeper.old self.old }
         ensures heard { IfOk result (λ heard. heard ≡ (hear self.old.core.state message.now).1) }
         ensures site { OnOk result (self.new ≡ heard_site self.old (hear self.old.core.state message.now)) }
         ensures stored { OnOk result (Stores keeper.old keeper.new (hear self.old.core.state message.now).0) }
         ensures err { OnErr result (self.new ≡ self.old) }
-        ensures kept { OnErr result (keeper.new ≡ keeper.old) }
+        ensures kept { OnErr result (KeepsAll keeper.old keeper.new) }
     {
         self.opened.reserve(1)?;
-        let heard = hear_and_store(&mut self.handler, keeper, message)?;
+        let Ok(heard) = hear_and_store(&mut self.handler, keeper, true, message) else {
+            return Err(OutOfMemory);
+        };
         if let Note::Opened(block) = heard.note {
             self.opened.push_reserved(block);
         }
@@ -228,7 +159,7 @@ impl<B: Behaviour, A: Allocator + Copy> Site<B, A> {
         ensures out { OnErr result (IsSome (job_out self.old.core)) }
         ensures stored { OnOk result (StoresJob (job_out self.old.core) keeper.old keeper.new self.new.stored) }
         ensures err { OnErr result (self.new ≡ self.old) }
-        ensures kept { OnErr result (keeper.new ≡ keeper.old) }
+        ensures kept { OnErr result (KeepsAll keeper.old keeper.new) }
     {
         let Some(done) = self.job.take() else {
             return Ok(None);
@@ -237,15 +168,16 @@ impl<B: Behaviour, A: Allocator + Copy> Site<B, A> {
             self.job = Some(done);
             return Err(OutOfMemory);
         }
-        if store_after(keeper, &self.handler, &done).is_err() {
-            self.job = Some(done);
-            return Err(OutOfMemory);
+        match finish_and_store(&mut self.handler, keeper, done) {
+            Ok(ran) => {
+                put_down(&mut self.ran, &ran);
+                Ok(Some(ran))
+            }
+            Err(error) => {
+                self.job = Some(error.done);
+                Err(OutOfMemory)
+            }
         }
-        let Ok(ran) = self.handler.finish(done) else {
-            unreachable!()
-        };
-        put_down(&mut self.ran, &ran);
-        Ok(Some(ran))
     }
 
     /// The node has restarted: the handler takes its stored state, with no job out.

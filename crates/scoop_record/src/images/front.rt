@@ -3,10 +3,10 @@
 ghost use Rattle.scoop_record.specs.Reading.{ReadsFront};
 
 use crate::images::lists::marks_from;
-use crate::images::number::u32_at;
 use crate::images::parts::{holder_from, words_from};
+use scoop_frame::u32_at;
 use scoop_handler::Mark;
-use scoop_message::limits::MAX_CLIENTS;
+use scoop_message::limits::MAX_MARKS;
 use scoop_message::{Block, HandlerId, Words};
 
 /// What an image begins with. The marks stand in cells beside it.
@@ -28,7 +28,7 @@ pub(crate) fn front_from(
     bytes: &[u8],
     version: u8,
     handler: HandlerId,
-    cells: &mut [Mark; MAX_CLIENTS],
+    cells: &mut [Mark; MAX_MARKS],
 ) -> Option<Front>
     ensures { ReadsFront version handler bytes.now cells.new result }
 {

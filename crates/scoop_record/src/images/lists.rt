@@ -7,18 +7,18 @@ use crate::images::parts::mark_from;
 use scoop_frame::entry_from;
 use scoop_handler::Mark;
 use scoop_message::Entry;
-use scoop_message::limits::{MAX_CLIENTS, MAX_PENDING};
+use scoop_message::limits::{MAX_MARKS, MAX_PENDING};
 
 /// Reads the marks that begin the bytes, behind their count. Answers how many there are and how many
 /// bytes they take.
-pub(crate) fn marks_from(bytes: &[u8], cells: &mut [Mark; MAX_CLIENTS]) -> Option<(usize, usize)>
+pub(crate) fn marks_from(bytes: &[u8], cells: &mut [Mark; MAX_MARKS]) -> Option<(usize, usize)>
     ensures { ReadsMarks bytes.now cells.new result }
 {
     let [count, ..] = bytes else {
         return None;
     };
     let count = usize::from(*count);
-    if count > MAX_CLIENTS {
+    if count > MAX_MARKS {
         return None;
     }
     let mut at = 1;

@@ -8,8 +8,7 @@ ghost use Rattle.scoop_record.specs.Image.{block_bytes, flag_byte, holder_bytes,
 ghost use Rattle.scoop_record.specs.Range.{AreObjectWords, BlockInRange, HolderInRange, KeptInRange, MarkInRange};
 ghost use Rattle.scoop_record.specs.Reading.{ReadsHead};
 
-use crate::images::number::{u32_at, u64_at};
-use scoop_frame::answer_from;
+use scoop_frame::{answer_from, u32_at, u64_at};
 use scoop_handler::{Mark, Stage};
 use scoop_message::limits::MAX_WORDS;
 use scoop_message::{Answer, Block, ClientId, Words};

@@ -10,7 +10,7 @@ use crate::images::lists::entries_from;
 use crate::images::parts::head_from;
 use crate::images::writing::VERSION;
 use scoop_handler::{HandlerState, Mark, Stage};
-use scoop_message::limits::{MAX_CLIENTS, MAX_PENDING};
+use scoop_message::limits::{MAX_MARKS, MAX_PENDING};
 use scoop_message::{ClientId, Entry, HandlerId};
 use scoop_queue::QueueOfQueues;
 use std::alloc::Allocator;
@@ -128,7 +128,7 @@ pub fn read_image<A: Allocator + Copy>(
     ensures only { IfOk result (λ s. (t : State) → IsStored handler image.now pending.now t → t ≡ s) }
     ensures bad { IfErr result (λ e. e ≡ ReadError.BadImage → (s : State) → IsStored handler image.now pending.now s → ⊥) }
 {
-    let mut cells = [NO_MARK; MAX_CLIENTS];
+    let mut cells = [NO_MARK; MAX_MARKS];
     let Some(front) = front_from(image, VERSION, handler, &mut cells) else {
         return Err(ReadError::BadImage);
     };
@@ -156,7 +156,7 @@ pub fn read_image_with_entries<A: Allocator + Copy>(
     ensures only { IfOk result (λ s. (t : State) → IsStoredWithEntries handler bytes.now t → t ≡ s) }
     ensures bad { IfErr result (λ e. e ≡ ReadError.BadImage → (t : State) → IsStoredWithEntries handler bytes.now t → ⊥) }
 {
-    let mut cells = [NO_MARK; MAX_CLIENTS];
+    let mut cells = [NO_MARK; MAX_MARKS];
     let Some(front) = front_from(bytes, VERSION_WITH_ENTRIES, handler, &mut cells) else {
         return Err(ReadError::BadImage);
     };

@@ -11,7 +11,7 @@ ghost use Rattle.scoop_record.specs.Range.{BareInRange, BlockInRange, EntriesInR
 
 use scoop_frame::{MAX_ANSWER, MAX_ENTRY, answer_to, entry_to};
 use scoop_handler::{HandlerState, Mark, Stage};
-use scoop_message::limits::{MAX_CLIENTS, MAX_PENDING};
+use scoop_message::limits::{MAX_MARKS, MAX_PENDING};
 use scoop_message::{Answer, Block, Entry, OutOfMemory, Words};
 use scoop_queue::{Head, QueueOfQueues, QueueState};
 use std::alloc::Allocator;
@@ -108,12 +108,12 @@ fn put_mark<A: Allocator>(out: &mut Vec<u8, A>, mark: &Mark) -> Result<(), OutOf
     put_kept(out, mark.kept)
 }
 
-// The marks are those of a state, so there are at most `MAX_CLIENTS`.
+// The marks are those of a state, so there are at most `MAX_MARKS`.
 fn put_marks<A: Allocator, B: Allocator>(
     out: &mut Vec<u8, A>,
     state: &HandlerState<B>,
 ) -> Result<(), OutOfMemory>
-    requires { length state.now.marks ≤ MAX_CLIENTS }
+    requires { length state.now.marks ≤ MAX_MARKS }
     ensures bytes { OnOk result (out.new.items ≡ out.old.items ++ marks_bytes state.now.marks) }
     ensures range { OnOk result (AllByRecursion MarkInRange state.now.marks) }
 {

@@ -2,7 +2,7 @@ use Rattle.std.proofs.Common.{◌++◌, refl, sym, ap, ◌∙◌, subst}
 use Rattle.std.specs.List.{AllByRecursion}
 use Rattle.scoop_book.specs.Opening.{AllOpen, IsOfClass}
 use Rattle.scoop_book.proofs.OpeningLemmas.{none_opened, not_opened, opened_more, same_on, stays_on}
-use Rattle.scoop_book.proofs.Places.{all_next, taken_all, taken_front}
+use Rattle.scoop_record.proofs.UsedUp.{all_next, taken_all, taken_front}
 use Rattle.scoop_book.proofs.opening.open_all.Goals as goal
 
 pub loop-handed-init : goal.loop-handed-init

@@ -3,10 +3,9 @@ use Rattle.std.proofs.lemmas.List.{take_all}
 use Rattle.scoop_message.specs.Message.{same_handler}
 use Rattle.scoop_message.proofs.Same.{handler_decides}
 use Rattle.scoop_book.specs.Opening.{Handed}
-use Rattle.scoop_book.specs.Moves.{NoRepeats}
+use Rattle.scoop_record.specs.Keyed.{NoRepeats}
+use Rattle.scoop_record.proofs.Keyed.{first_repeat, item_at, once_longer}
 use Rattle.scoop_book.specs.Opening.{numbers_of}
-use Rattle.scoop_book.proofs.Places.{item_at}
-use Rattle.scoop_book.proofs.Places.{once_longer, first_repeat}
 use Rattle.scoop_book.proofs.opening.repeated_handler.Goals as goal
 
 pub returns-then-is_handed-clause-some : goal.returns-then-is_handed-clause-some

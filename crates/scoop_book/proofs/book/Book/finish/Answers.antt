@@ -6,7 +6,7 @@ use Rattle.scoop_book.specs.declared.event.Event.TheVariants.{Finish}
 use Rattle.scoop_book.specs.declared.event.Reply.TheVariants.{Finished}
 use Rattle.scoop_book.specs.Moves.{is_handler}
 use Rattle.scoop_book.specs.Books.{BookValue, IsUnfinished, KeepsNew}
-use Rattle.scoop_book.specs.Kept.{IsFirst}
+use Rattle.scoop_record.specs.Keyed.{IsFirst}
 use Rattle.scoop_book.proofs.BookLemmas.{book_more, book_same, entered, gains, job_refusal, keeper_is, failed_is, may_happen, room_refusal, still_works}
 use Rattle.scoop_book.proofs.book.Book.finish.Goals as goal
 

@@ -5,7 +5,7 @@ use Rattle.scoop_record.proofs.KeeperLemmas.{stays_same}
 use Rattle.scoop_book.specs.declared.event.Event.{Event}
 use Rattle.scoop_book.specs.declared.event.Reply.TheVariants.{Heard}
 use Rattle.scoop_book.specs.Moves.{Moves, handler_at, is_handler}
-use Rattle.scoop_book.specs.Kept.{IsFirst}
+use Rattle.scoop_record.specs.Keyed.{IsFirst}
 use Rattle.scoop_book.proofs.BookLemmas.{book_more, book_same, entered, gains, keeper_is, may_happen, put_refusal}
 use Rattle.scoop_book.proofs.book.Book.step.Goals as goal
 

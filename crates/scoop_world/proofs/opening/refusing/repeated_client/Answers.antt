@@ -6,7 +6,7 @@ use Rattle.scoop_message.specs.Message.{same_client}
 use Rattle.scoop_message.proofs.Same.{client_decides}
 use Rattle.scoop_model.specs.Safe.{NoRepeats}
 use Rattle.scoop_world.specs.OpenRefusal.{clients_of}
-use Rattle.scoop_world.proofs.Repeats.{once_longer, first_repeat}
+use Rattle.scoop_record.proofs.Keyed.{first_repeat, once_longer}
 use Rattle.scoop_world.proofs.opening.refusing.repeated_client.Goals as goal
 
 -- what is read beyond the list

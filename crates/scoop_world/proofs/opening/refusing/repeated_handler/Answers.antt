@@ -5,8 +5,7 @@ use Rattle.scoop_message.proofs.Same.{handler_decides}
 use Rattle.scoop_world.specs.declared.placing.Placement.{Placement}
 use Rattle.scoop_model.specs.Safe.{NoRepeats}
 use Rattle.scoop_world.specs.OpenRefusal.{handlers_of}
-use Rattle.scoop_world.proofs.KeptPlaces.{item_at}
-use Rattle.scoop_world.proofs.Repeats.{once_longer, first_repeat}
+use Rattle.scoop_record.proofs.Keyed.{first_repeat, item_at, once_longer}
 use Rattle.scoop_world.proofs.opening.refusing.repeated_handler.Goals as goal
 
 pub returns-then-is_placed-clause-some : goal.returns-then-is_placed-clause-some

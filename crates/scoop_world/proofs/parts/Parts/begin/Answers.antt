@@ -3,8 +3,10 @@ use Rattle.scoop_message.specs.declared.name.Block.{Block}
 use Rattle.scoop_handler.specs.Running.{ready}
 use Rattle.scoop_model.specs.declared.note.WorldNote.TheVariants as note
 use Rattle.scoop_model.specs.World.{Site, number_of, is_site}
-use Rattle.scoop_world.specs.Kept.{IsFirst, logs_kept, world_kept}
-use Rattle.scoop_world.proofs.KeptPlaces.{has_same_site, item_at}
+use Rattle.scoop_record.specs.Keyed.{IsFirst}
+use Rattle.scoop_record.proofs.Keyed.{item_at}
+use Rattle.scoop_world.specs.Kept.{logs_kept, world_kept}
+use Rattle.scoop_world.proofs.KeptPlaces.{has_same_site}
 use Rattle.scoop_world.proofs.TakenEvents.{same_site, begun_there, nothing_begins, from_began, none_began}
 use Rattle.scoop_world.proofs.parts.Parts.begin.Goals as goal
 use Rattle.scoop_world.proofs.parts.Parts.begin.Goals.{in-Some-begin, in-None}

@@ -2,7 +2,7 @@ use Rattle.std.proofs.Common.{◌≡◌, List, Option, slice_get, sym, subst}
 use Rattle.scoop_model.specs.declared.event.Command.{Command}
 use Rattle.scoop_model.specs.World.{World, Party, is_party, party_of}
 use Rattle.scoop_model.specs.Step.{do_at}
-use Rattle.scoop_world.specs.Kept.{IsFirst}
+use Rattle.scoop_record.specs.Keyed.{IsFirst}
 use Rattle.scoop_world.specs.Answers.{Takes}
 use Rattle.scoop_world.proofs.parts.Parts.command.Goals as goal
 

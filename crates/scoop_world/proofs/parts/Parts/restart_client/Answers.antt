@@ -4,8 +4,10 @@ use Rattle.scoop_record.specs.Memory.{MemoryRecord, incarnation_at}
 use Rattle.scoop_record.specs.Keeper.{Sets}
 use Rattle.scoop_model.specs.declared.note.WorldNote.TheVariants as note
 use Rattle.scoop_model.specs.World.{Party, id_of, is_party}
-use Rattle.scoop_world.specs.Kept.{IsFirst, HasAll, logs_kept, world_kept, HasIncarnation}
-use Rattle.scoop_world.proofs.KeptPlaces.{has_party, has_incarnation, item_at}
+use Rattle.scoop_record.specs.Keyed.{IsFirst}
+use Rattle.scoop_record.proofs.Keyed.{item_at}
+use Rattle.scoop_world.specs.Kept.{HasAll, logs_kept, world_kept, HasIncarnation}
+use Rattle.scoop_world.proofs.KeptPlaces.{has_party, has_incarnation}
 use Rattle.scoop_world.proofs.TakenEvents.{apart_parties, same_party, restarted_there, restart_refused}
 use Rattle.scoop_world.proofs.parts.Parts.restart_client.Goals as goal
 use Rattle.scoop_world.proofs.parts.Parts.restart_client.Goals.{in-Ok, in-Err}

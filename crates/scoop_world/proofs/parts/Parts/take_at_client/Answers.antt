@@ -1,11 +1,13 @@
-use Rattle.scoop_world.proofs.KeptPlaces.{has_party, item_at}
+use Rattle.scoop_record.specs.Keyed.{IsFirst}
+use Rattle.scoop_record.proofs.Keyed.{item_at}
+use Rattle.scoop_world.proofs.KeptPlaces.{has_party}
 use Rattle.std.proofs.Common.{List, Ok, set, sym, ap, ◌∙◌, subst}
 use Rattle.scoop_message.specs.declared.name.ClientId.{ClientId}
 use Rattle.scoop_message.specs.Message.{client_of}
 use Rattle.scoop_client.specs.declared.phase.ClientNote.{ClientNote}
 use Rattle.scoop_model.specs.declared.note.WorldNote.TheVariants as note
 use Rattle.scoop_model.specs.World.{Party, is_party}
-use Rattle.scoop_world.specs.Kept.{IsFirst, logs_kept, world_kept}
+use Rattle.scoop_world.specs.Kept.{logs_kept, world_kept}
 use Rattle.scoop_world.proofs.TakenEvents.{same_party, noticed_there, notices_ok}
 use Rattle.scoop_world.proofs.parts.Parts.take_at_client.Goals as goal
 use Rattle.scoop_world.proofs.parts.Parts.take_at_client.Goals.{in-Ok, in-Err}

@@ -1,4 +1,3 @@
-use Rattle.scoop_record.specs.Memory.{MemoryRecord}
 use Rattle.std.proofs.Common.{◌≡◌, List, set, sym, ap, ◌∙◌, refl, subst}
 use Rattle.scoop_message.specs.declared.name.Block.{Block}
 use Rattle.scoop_message.specs.declared.name.HandlerId.{HandlerId}
@@ -9,8 +8,11 @@ use Rattle.scoop_handler.proofs.TableRows.{row}
 use Rattle.scoop_handler.proofs.TableLaws.{number-row}
 use Rattle.scoop_model.specs.World.{Site, number_of, is_site}
 use Rattle.scoop_model.specs.Step.{heard_site}
-use Rattle.scoop_world.specs.Kept.{IsFirst, Stores, logs_kept, world_kept, HasAll}
-use Rattle.scoop_world.proofs.KeptPlaces.{has_site, item_at, has_same_site, read_at}
+use Rattle.scoop_record.specs.Keyed.{IsFirst}
+use Rattle.scoop_record.proofs.Keyed.{item_at}
+use Rattle.scoop_world.specs.Kept.{Stores, HasState, logs_kept, world_kept}
+use Rattle.scoop_world.proofs.KeptPlaces.{has_kept, has_site, has_same_site, read_at}
+use Rattle.scoop_model.proofs.Order.Facts.{all_at}
 use Rattle.scoop_world.proofs.TakenEvents.{apart_sites, same_site, heard_all, hears_ok}
 use Rattle.scoop_message.specs.declared.message.Message.{Message}
 use Rattle.scoop_world.proofs.parts.Parts.take_at_handler.Goals as goal
@@ -28,6 +30,16 @@ returns-in_default-hear g c =
           ∙ ap (λ (bs : List Block). world_kept (set c.self.inside.sites.items c.in-Some.at c.hear.new.self) c.self.inside.parties.items c.self.inside.sent.items bs (logs_kept c.self.inside.logs.entries)) c.in-Ok-reserve.ensures.keys
           ∙ same_site c.self.inside.sites.items c.self.inside.parties.items c.self.inside.sent.items c.self.inside.joint.keys (logs_kept c.self.inside.logs.entries) c.args.self.now c.self.view_is c.in-Some.at s c.hear.new.self c.index_mut-site.ensures.value c.in_default-hear.ensures.err,
     )
+
+pub hear-requires : goal.hear-requires
+hear-requires g c =
+    let s = c.index_mut-site.result.now in
+    let m = c.args.message.now in
+    let named : IsFirst (is_site (handler_of m)) c.deref.result.now c.in-Some.at =
+    subst (λ (x : HandlerId). IsFirst (is_site x) c.deref.result.now c.in-Some.at) c.handler.ensures c.in-Some.ensures in
+    let first : IsFirst (is_site (handler_of m)) c.self.inside.sites.items c.in-Some.at =
+    subst (λ (xs : List Site). IsFirst (is_site (handler_of m)) xs c.in-Some.at) c.deref.ensures.value named in
+    all_at (HasState c.self.inside.keeper) c.self.inside.sites.items c.in-Some.at s (item_at c.self.inside.sites.items c.in-Some.at s first.within c.index_mut-site.ensures.value) c.self.invariant.states
 
 pub invariant_of-self-2 : goal.invariant_of-self-2
 invariant_of-self-2 g c =
@@ -99,4 +111,5 @@ invariant_of-self-in_default-hear g c =
     subst (λ (xs : List Site). IsFirst (is_site (handler_of m)) xs c.in-Some.at) c.deref.ensures.value named in
     let there = item_at c.self.inside.sites.items c.in-Some.at s first.within c.index_mut-site.ensures.value in
     let same : t ≡ s = c.in_default-hear.ensures.err in
-    subst (λ (k : MemoryRecord). HasAll k (set c.self.inside.sites.items c.in-Some.at t) c.self.inside.parties.items) (sym c.in_default-hear.ensures.kept) (has_same_site c.self.inside.keeper c.self.inside.sites.items c.self.inside.parties.items c.in-Some.at s t c.self.invariant there (ap number_of same) (ap (λ (x : Site). x.stored) same))
+    has_kept c.self.inside.keeper c.hear.new.keeper (set c.self.inside.sites.items c.in-Some.at t) c.self.inside.parties.items
+    (has_same_site c.self.inside.keeper c.self.inside.sites.items c.self.inside.parties.items c.in-Some.at s t c.self.invariant there (ap number_of same) (ap (λ (x : Site). x.stored) same)) c.in_default-hear.ensures.kept

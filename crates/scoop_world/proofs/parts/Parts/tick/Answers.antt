@@ -5,7 +5,8 @@ use Rattle.scoop_model.specs.declared.error.WorldError.TheVariants.{NoSuchParty}
 use Rattle.std.proofs.Common.{◌≡◌, ℕ, List, Option, Some, None, Ok, Err, refl, find, sym, ap, ◌∙◌, subst}
 use Rattle.scoop_model.specs.World.{Site, Party, is_site, is_party, World, site_of, party_of}
 use Rattle.scoop_model.specs.Step.{Stepped, sent_or_silent, tick_at}
-use Rattle.scoop_world.specs.Kept.{IsFirst, logs_kept, world_kept}
+use Rattle.scoop_record.specs.Keyed.{IsFirst}
+use Rattle.scoop_world.specs.Kept.{logs_kept, world_kept}
 use Rattle.scoop_world.proofs.TakenEvents.{ticked_all, tick_ok}
 use Rattle.scoop_world.proofs.parts.Parts.tick.Goals as goal
 use Rattle.scoop_world.proofs.parts.Parts.tick.Goals.{in-Some-send, in-None}

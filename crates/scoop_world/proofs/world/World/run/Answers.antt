@@ -7,7 +7,7 @@ use Rattle.scoop_model.specs.Step.{step}
 use Rattle.scoop_model.specs.Reach.{Leads}
 use Rattle.scoop_world.specs.Answers.{IsRefused}
 use Rattle.scoop_rules.specs.Paper.{LeadsByRules}
-use Rattle.scoop_world.proofs.KeptPlaces.{item_at}
+use Rattle.scoop_record.proofs.Keyed.{item_at}
 use Rattle.scoop_model.proofs.Reaching.{leads_next}
 use Rattle.scoop_model.proofs.Headline.{reached_safe}
 use Rattle.scoop_rules.proofs.Follows.Runs.{reached_runs}
