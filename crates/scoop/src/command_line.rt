@@ -74,7 +74,8 @@ fn world_command<'a>(alloc: Global) -> Result<Command<'a>, AllocError> {
             Example: printf 'handler 1 1 cell 0\\nclient 7\\ntrip 7 1\\n' | scoop world --echo",
         ))
         .arg(echo_flag(alloc))?
-        .arg(strict_flag(alloc))
+        .arg(strict_flag(alloc))?
+        .arg(chart_option(alloc))
 }
 
 fn echo_flag<'a>(alloc: Global) -> Arg<'a> {
@@ -91,6 +92,13 @@ fn strict_flag<'a>(alloc: Global) -> Arg<'a> {
         .long("strict")
         .help("Ends at the first event that is refused, with status 1 and its line")
         .action(ArgAction::SetTrue)
+}
+
+fn chart_option<'a>(alloc: Global) -> Arg<'a> {
+    Arg::new(alloc, "chart")
+        .long("chart")
+        .value_name("FILE")
+        .help("Writes a sequence chart of the run to the file, as SVG, of at most 2000 events")
 }
 
 fn frame_command<'a>(alloc: Global) -> Result<Command<'a>, AllocError> {

@@ -18,6 +18,10 @@ pub enum Failure {
     NoSuchClass,
     /// The words are no message with a frame.
     Words(WordsError),
+    /// The chart's file could not be written.
+    Chart,
+    /// The run has more events than a chart shows, and its file is empty.
+    LongChart,
     /// The work on the input ended early.
     Run(RunError),
 }
@@ -39,6 +43,16 @@ impl Failure {
             Failure::Words(error) => {
                 let _ = eprintln!(rt; "scoop: {error}");
                 2
+            }
+            Failure::Chart => {
+                let _ = eprintln!(rt; "scoop: chart: the file could not be written");
+                3
+            }
+            Failure::LongChart => {
+                let _ = eprintln!(rt;
+                    "scoop: chart: a chart shows at most 2000 events, and the run has more"
+                );
+                1
             }
             Failure::Run(error) => report_run(rt, error),
         }

@@ -2,20 +2,63 @@
 
 use crate::failure::Failure;
 use clap::ArgMatches;
-use scoop_demo::{PlayOptions, world_run_with};
+use scoop_demo::{Picture, PlayOptions, world_run_charted};
 use scoop_message::OutOfMemory;
 use scoop_record::MemoryKeeper;
+use std::fs::File;
 use std::io;
-use std::io::BufWriter;
+use std::io::{BufWriter, Write};
 
 /// Plays the script of standard input, in a world that nothing is stored for.
-pub fn play<R: Input + Print + AllocGlobal>(rt: &R, given: &ArgMatches<'_>) -> Result<(), Failure> {
+pub fn play(rt: &HostRuntime, given: &ArgMatches<'_>) -> Result<(), Failure> {
     let options = PlayOptions {
         echoes: given.get_flag("echo"),
         is_strict: given.get_flag("strict"),
     };
     let keeper = MemoryKeeper::new(rt.alloc());
     let mut output = BufWriter::new(rt.alloc(), io::writer(rt)).map_err(|_| OutOfMemory)?;
-    world_run_with(rt.alloc(), keeper, options, rt.reader(), &mut output)?;
-    Ok(())
+    match given.get_str("chart") {
+        Some(path) => play_charted(rt, keeper, options, path, &mut output),
+        None => {
+            let unwanted = &mut Picture::unwanted(rt.alloc());
+            world_run_charted(
+                rt.alloc(),
+                keeper,
+                options,
+                rt.reader(),
+                unwanted,
+                &mut output,
+            )?;
+            Ok(())
+        }
+    }
+}
+
+// The same, with the run's chart in a file, which is made before the run and written whatever ended it.
+fn play_charted<W: Write>(
+    rt: &HostRuntime,
+    keeper: MemoryKeeper,
+    options: PlayOptions,
+    path: &str,
+    output: &mut W,
+) -> Result<(), Failure> {
+    let Ok(file) = File::create(rt, path) else {
+        return Err(Failure::Chart);
+    };
+    let mut chart = BufWriter::new(rt.alloc(), file).map_err(|_| OutOfMemory)?;
+    let mut picture = Picture::wanted(rt.alloc());
+    let played = world_run_charted(
+        rt.alloc(),
+        keeper,
+        options,
+        rt.reader(),
+        &mut picture,
+        output,
+    );
+    let drawn = picture.draw(&mut chart).and_then(|()| chart.flush());
+    played?;
+    if picture.is_too_long() {
+        return Err(Failure::LongChart);
+    }
+    drawn.map_err(|_| Failure::Chart)
 }

@@ -53,7 +53,7 @@ pub use framing::{
 pub use keeping::{open_handler, run_out};
 pub use lines::{Lines, MAX_LINES};
 pub use objects::{AccountObject, CellObject, CounterObject, ExchangeObject};
-pub use playing::{PlayOptions, world_run, world_run_with};
+pub use playing::{Picture, PlayOptions, world_run, world_run_charted, world_run_with};
 pub use printing::{print_accepted, print_all_ran, print_blocks, print_note};
 pub use run::answer_run;
 pub use script::{

@@ -2,6 +2,7 @@
 
 mod echo;
 mod events;
+mod picture;
 mod stage;
 
 ghost use Rattle.std.specs.Prelude.{◌≡◌, IfErr, OnOk, false, [], is_some};
@@ -12,6 +13,7 @@ ghost use Rattle.scoop_record.specs.Memory.{incarnation_at};
 use crate::fault::{InputFault, RunError};
 use crate::lines::Lines;
 use arrayvec::ArrayVec;
+pub use picture::Picture;
 use scoop_object::{Behaviour, Table};
 use scoop_record::MemoryKeeper;
 use stage::Stage;
@@ -62,7 +64,29 @@ pub fn world_run_with<R: Read + Drop, W: Write>(
     ensures ok { OnOk result (PlaysAll (R.remaining reader) (incarnation_at keeper)) }
     ensures err { IfErr result (StopsPlaying options.is_strict (R.remaining reader) (incarnation_at keeper)) }
 {
-    let played = play_all(alloc, keeper, options, reader, writer);
+    world_run_charted(
+        alloc,
+        keeper,
+        options,
+        reader,
+        &mut Picture::unwanted(alloc),
+        writer,
+    )
+}
+
+/// The same, where a picture that is wanted is told each event. It can be drawn whatever ended the run.
+pub fn world_run_charted<R: Read + Drop, W: Write>(
+    alloc: Global,
+    keeper: MemoryKeeper,
+    options: PlayOptions,
+    reader: R,
+    picture: &mut Picture,
+    writer: &mut W,
+) -> Result<(), RunError>
+    ensures ok { OnOk result (PlaysAll (R.remaining reader) (incarnation_at keeper)) }
+    ensures err { IfErr result (StopsPlaying options.is_strict (R.remaining reader) (incarnation_at keeper)) }
+{
+    let played = play_all(alloc, keeper, options, reader, picture, writer);
     let flushed = writer.flush();
     match played {
         Ok(()) if flushed.is_err() => Err(RunError::Write),
@@ -76,13 +100,14 @@ fn play_all<R: Read + Drop, W: Write>(
     keeper: MemoryKeeper,
     options: PlayOptions,
     reader: R,
+    picture: &mut Picture,
     writer: &mut W,
 ) -> Result<(), RunError>
     ensures ok { OnOk result (PlaysAll (R.remaining reader) (incarnation_at keeper)) }
     ensures err { IfErr result (StopsPlaying options.is_strict (R.remaining reader) (incarnation_at keeper)) }
 {
     let mut stage = Stage::new(alloc, keeper);
-    match play_lines(&mut stage, options, reader, writer) {
+    match play_lines(&mut stage, options, reader, picture, writer) {
         Ok(()) => {}
         Err(error) => return Err(error),
     }
@@ -97,6 +122,7 @@ fn play_lines<R: Read + Drop, W: Write>(
     stage: &mut Stage,
     options: PlayOptions,
     reader: R,
+    picture: &mut Picture,
     writer: &mut W,
 ) -> Result<(), RunError>
     requires closed { is_some stage.old.world ≡ false }
@@ -110,11 +136,11 @@ fn play_lines<R: Read + Drop, W: Write>(
         let taken = lines.number();
         match lines.next_line(&mut line, writer) {
             Ok(true) => {}
-            Ok(false) => return stage.open_by(taken.max(1)),
+            Ok(false) => return stage.open_by(taken.max(1), picture),
             Err(error) => return Err(error),
         }
         let number = lines.number();
-        match stage.play_line(number, line.as_slice(), options.echoes, writer) {
+        match stage.play_line(number, line.as_slice(), options.echoes, picture, writer) {
             Ok(()) => {}
             Err(error) => return Err(error),
         }

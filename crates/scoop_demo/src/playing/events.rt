@@ -1,9 +1,10 @@
 //! The events of a script.
 
 use crate::playing::echo::{Echo, Subject};
+use crate::playing::picture::Picture;
 use crate::printing::print_note;
 use crate::script::EventLine;
-use scoop_message::{ClientId, HandlerId, Message};
+use scoop_message::{ClientId, HandlerId, Message, OutOfMemory};
 use scoop_object::Table;
 use scoop_world::{Event, World, WorldError, WorldNote};
 use std::io;
@@ -30,17 +31,31 @@ pub enum Outcome {
 }
 
 /// Plays what one line asks for, and writes a line for each event, `refused` and the reason where it is refused,
-/// behind the echo that is asked for. The outcome is that of the last event.
+/// behind the echo that is asked for. The picture is told each event. The outcome is that of the last event.
 pub fn play<W: Write>(
     world: &mut World<Table>,
     event: EventLine,
     echo: Option<Echo<'_>>,
+    picture: &mut Picture,
     writer: &mut W,
 ) -> Result<Outcome, Stop> {
     match event {
-        EventLine::One(event) => step(world, event, echo, writer),
-        EventLine::Run(handler) => run(world, handler, echo, writer),
-        EventLine::Trip(client, handler) => trip(world, client, handler, echo, writer),
+        EventLine::One(event) => step(world, event, echo, picture, writer),
+        EventLine::Run(handler) => run(world, handler, echo, picture, writer),
+        EventLine::Trip(client, handler) => trip(world, client, handler, echo, picture, writer),
+    }
+}
+
+// One event, which the picture is told.
+fn happen(
+    world: &mut World<Table>,
+    event: Event,
+    picture: &mut Picture,
+) -> Result<Result<WorldNote, WorldError>, Stop> {
+    let outcome = world.step(event);
+    match picture.note(world, event, &outcome) {
+        Ok(()) => Ok(outcome),
+        Err(OutOfMemory) => Err(Stop::OutOfMemory),
     }
 }
 
@@ -49,13 +64,14 @@ fn step<W: Write>(
     world: &mut World<Table>,
     event: Event,
     echo: Option<Echo<'_>>,
+    picture: &mut Picture,
     writer: &mut W,
 ) -> Result<Outcome, Stop> {
     let taken = match event {
         Event::Take(place) => world.sent(place).copied(),
         _ => None,
     };
-    match world.step(event) {
+    match happen(world, event, picture)? {
         Ok(note) => {
             written(Echo::print(echo, subject(taken, &note), writer))?;
             tell(world, &note, writer)
@@ -119,13 +135,14 @@ fn run<W: Write>(
     world: &mut World<Table>,
     handler: HandlerId,
     echo: Option<Echo<'_>>,
+    picture: &mut Picture,
     writer: &mut W,
 ) -> Result<Outcome, Stop> {
-    if let Err(error) = world.step(Event::Begin(handler)) {
+    if let Err(error) = happen(world, Event::Begin(handler), picture)? {
         written(Echo::print(echo, Subject::Nothing, writer))?;
         return refuse(error, writer);
     }
-    step(world, Event::Finish(handler), echo, writer)
+    step(world, Event::Finish(handler), echo, picture, writer)
 }
 
 // The client sends the handler what it owes; the handler hears it, and the client the reply.
@@ -134,14 +151,15 @@ fn trip<W: Write>(
     client: ClientId,
     handler: HandlerId,
     echo: Option<Echo<'_>>,
+    picture: &mut Picture,
     writer: &mut W,
 ) -> Result<Outcome, Stop> {
-    let place = match send(world, client, handler, echo, writer)? {
+    let place = match send(world, client, handler, echo, picture, writer)? {
         Outcome::Sent(place) => place,
         outcome => return Ok(outcome),
     };
-    match step(world, Event::Take(place), None, writer)? {
-        Outcome::Sent(reply) => step(world, Event::Take(reply), None, writer),
+    match step(world, Event::Take(place), None, picture, writer)? {
+        Outcome::Sent(reply) => step(world, Event::Take(reply), None, picture, writer),
         outcome => Ok(outcome),
     }
 }
@@ -152,9 +170,10 @@ fn send<W: Write>(
     client: ClientId,
     handler: HandlerId,
     echo: Option<Echo<'_>>,
+    picture: &mut Picture,
     writer: &mut W,
 ) -> Result<Outcome, Stop> {
-    match world.step(Event::Tick(client, handler)) {
+    match happen(world, Event::Tick(client, handler), picture)? {
         Ok(note) => {
             let sent = match sent_by(&note) {
                 Some(place) => world.sent(place).copied(),

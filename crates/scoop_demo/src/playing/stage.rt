@@ -13,6 +13,7 @@ ghost use Rattle.scoop_demo.specs.Staging.{AreFirst, AreFirstClients, IsStaged, 
 
 use super::echo::Echo;
 use super::events::{Outcome, Stop, play};
+use super::picture::Picture;
 use crate::fault::{InputFault, RunError};
 use crate::printing::{print_accepted, print_all_ran, print_blocks};
 use crate::script::{
@@ -69,12 +70,13 @@ impl Stage {
         }
     }
 
-    /// Plays the line of this number, told before what its event did where that is asked for.
+    /// Plays the line of this number, told before what its event did where that is asked for. The picture is told each event.
     pub fn play_line<W: Write>(
         &mut self,
         number: u32,
         line: &[u8],
         echoes: bool,
+        picture: &mut Picture,
         writer: &mut W,
     ) -> Result<(), RunError>
         ensures ok { OnOk result (words_fault (is_some self.old.world) line.now ≡ None) }
@@ -96,7 +98,8 @@ impl Stage {
             LineKind::Handler => self.place(number, words),
             LineKind::Client => self.join(number, words),
             LineKind::Event(kind) => {
-                self.play_event(number, kind, words, Echo::of(echoes, number, line), writer)
+                let echo = Echo::of(echoes, number, line);
+                self.play_event(number, kind, words, echo, picture, writer)
             }
         }
     }
@@ -203,6 +206,7 @@ impl Stage {
         kind: EventKind,
         words: &[u8],
         echo: Option<Echo<'_>>,
+        picture: &mut Picture,
         writer: &mut W,
     ) -> Result<(), RunError>
         ensures ok { OnOk result (result_err (event_line kind (words_of words.now)) ≡ None) }
@@ -214,7 +218,7 @@ impl Stage {
             → IsStaged ⟦<Table as Behaviour>⟧.class (is_some self.old.world) self.old.placements.items self.old.clients.items (incarnation_at self.old.keeper) parties stored
             → IfErr result (StopsAtLine number (not (is_some self.old.world)) (result_err (event_line kind (words_of words.now))) parties stored) }
     {
-        match self.open_by(number) {
+        match self.open_by(number, picture) {
             Ok(()) => {}
             Err(error) => return Err(error),
         }
@@ -222,7 +226,7 @@ impl Stage {
             Ok(event) => event,
             Err(fault) => return Err(fault_at(number, fault)),
         };
-        self.play_in_world(number, event, echo, writer)
+        self.play_in_world(number, event, echo, picture, writer)
     }
 
     // Plays events in the world, which has opened.
@@ -231,6 +235,7 @@ impl Stage {
         number: u32,
         event: EventLine,
         echo: Option<Echo<'_>>,
+        picture: &mut Picture,
         writer: &mut W,
     ) -> Result<(), RunError>
         requires { is_some self.old.world ≡ true }
@@ -238,7 +243,7 @@ impl Stage {
         ensures err { (parties : Parties) (stored : ℕ → Option ℕ) → IfErr result (StopsAtLine number false None parties stored) }
     {
         match &mut self.world {
-            Some(world) => match play(world, event, echo, writer) {
+            Some(world) => match play(world, event, echo, picture, writer) {
                 Ok(outcome) => {
                     self.is_refused = matches!(outcome, Outcome::Refused);
                     Ok(())
@@ -251,7 +256,7 @@ impl Stage {
     }
 
     /// Opens the world, at the line of this number, where it hasn't opened yet.
-    pub fn open_by(&mut self, number: u32) -> Result<(), RunError>
+    pub fn open_by(&mut self, number: u32, picture: &mut Picture) -> Result<(), RunError>
         ensures ok { OnOk result (is_some self.new.world ≡ true) }
         ensures opens { (parties : Parties) (stored : ℕ → Option ℕ)
             → IsStaged ⟦<Table as Behaviour>⟧.class (is_some self.old.world) self.old.placements.items self.old.clients.items (incarnation_at self.old.keeper) parties stored
@@ -263,7 +268,19 @@ impl Stage {
         if self.world.is_some() {
             return Ok(());
         }
-        self.open(number)
+        match self.begin(picture) {
+            Ok(()) => self.open(number),
+            Err(_) => Err(RunError::OutOfMemory),
+        }
+    }
+
+    // The picture begins with the parties that are there.
+    fn begin(&self, picture: &mut Picture) -> Result<(), OutOfMemory> {
+        let mut handlers = Vec::new(self.alloc);
+        for placement in &self.placements {
+            handlers.push((placement.node, placement.handler))?;
+        }
+        picture.begin(&self.names, &handlers)
     }
 
     // Opens the world, at the line of this number.

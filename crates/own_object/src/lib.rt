@@ -1,0 +1,22 @@
+//! An example: an object of one's own, and the table of its class, proved to be each other.
+//!
+//! Handlers run an object of any type, as long as it does what the table of a class says: then a client's answers,
+//! a node's record and the replay of a history mean the same, whether the object is this type or a `Table` that
+//! interprets the rows. The table is `stock_class` in `specs/Stock.antt`; that the type does what it says is the
+//! contract of the trait `Object`.
+//!
+//! ```
+//! let mut stock = StockObject::new(10, 0);
+//! let order = Request { op: ORDER, args: Args::of(&[4])? };
+//! assert_eq!(rt; stock.apply(&order), Answer::Value(6));
+//! ```
+#![tactic(auto)]
+
+mod rows;
+mod stock;
+
+pub use rows::{LEFT, ORDER, stock_rows};
+pub use stock::StockObject;
+
+#[cfg(test)]
+mod tests;

@@ -1,0 +1,237 @@
+//! What a chart is told of a run.
+
+use crate::error::ChartError;
+use crate::lifeline::{Party, client_place, handler_place, lifelines};
+use scoop_message::{Block, ClientId, HandlerId, OutOfMemory};
+use scoop_model::{Event, WorldError, WorldNote};
+use std::alloc::{Allocator, Global};
+
+/// How many events a chart can show.
+pub const MAX_ROWS: usize = 2000;
+
+/// What an event draws on the lifeline that it is about.
+#[derive(Clone, Copy, Debug, PartialEq, Eq)]
+pub(crate) enum Mark {
+    Nothing,
+    /// The client restarted.
+    Restarted,
+    /// The node restarted, with all its handlers.
+    Reopened(u32),
+}
+
+/// An event: whose lifeline it is about, if it is about one, and its label, which ends at this place of all labels.
+#[derive(Clone, Copy, Debug)]
+pub(crate) struct Row {
+    pub(crate) place: Option<usize>,
+    pub(crate) mark: Mark,
+    pub(crate) label_end: usize,
+}
+
+/// A message: the row in which it was sent, its sender's and its receiver's lifelines, and whether it was taken.
+#[derive(Clone, Copy, Debug)]
+pub(crate) struct Sent {
+    pub(crate) row: usize,
+    pub(crate) from: usize,
+    pub(crate) to: usize,
+    pub(crate) is_taken: bool,
+}
+
+/// A delivery: the row in which the message, which has this place, was taken, and whether it was taken before.
+#[derive(Clone, Copy, Debug)]
+pub(crate) struct Taken {
+    pub(crate) row: usize,
+    pub(crate) message: usize,
+    pub(crate) is_repeated: bool,
+}
+
+/// A piece of a handler's lifeline on which one block runs, from row to row. Its colour is the place of the block among
+/// those that have run anywhere.
+#[derive(Clone, Copy, Debug)]
+pub(crate) struct Piece {
+    pub(crate) place: usize,
+    pub(crate) colour: usize,
+    pub(crate) first: usize,
+    pub(crate) last: usize,
+}
+
+/// A sequence chart of a run, of at most `MAX_ROWS` events.
+#[derive(Drop)]
+pub struct Chart<A: Allocator = Global> {
+    pub(crate) parties: Vec<Party, A>,
+    pub(crate) rows: Vec<Row, A>,
+    pub(crate) labels: Vec<u8, A>,
+    pub(crate) sent: Vec<Sent, A>,
+    pub(crate) taken: Vec<Taken, A>,
+    pub(crate) pieces: Vec<Piece, A>,
+    blocks: Vec<Block, A>,
+}
+
+impl<A: Allocator + Copy> Chart<A> {
+    /// A chart with a lifeline for each of these clients and of these handlers, which come with their nodes, and no
+    /// event yet. The only refusal is `OutOfMemory`.
+    pub fn new(
+        alloc: A,
+        clients: &[ClientId],
+        handlers: &[(u32, HandlerId)],
+    ) -> Result<Chart<A>, ChartError> {
+        Ok(Chart {
+            parties: lifelines(alloc, clients, handlers)?,
+            rows: Vec::new(alloc),
+            labels: Vec::new(alloc),
+            sent: Vec::new(alloc),
+            taken: Vec::new(alloc),
+            pieces: Vec::new(alloc),
+            blocks: Vec::new(alloc),
+        })
+    }
+
+    /// How many events it was told.
+    pub fn rows(&self) -> usize {
+        self.rows.len()
+    }
+
+    /// Takes the next event of the run, with what came of it and the text of its row.
+    ///
+    /// Refused with `TooLong` where it has `MAX_ROWS` events already, and with `OutOfMemory`; it is of no use then.
+    pub fn note(
+        &mut self,
+        event: &Event,
+        outcome: &Result<WorldNote, WorldError>,
+        label: &[u8],
+    ) -> Result<(), ChartError> {
+        if self.rows.len() >= MAX_ROWS {
+            return Err(ChartError::TooLong);
+        }
+        let place = self.place_of(event);
+        let mark = match outcome {
+            Ok(note) => {
+                self.carry(event, note, place)?;
+                mark_of(event)
+            }
+            Err(_) => Mark::Nothing,
+        };
+        self.keep(place, mark, label)?;
+        Ok(())
+    }
+
+    // Keeps a row.
+    fn keep(&mut self, place: Option<usize>, mark: Mark, label: &[u8]) -> Result<(), OutOfMemory> {
+        self.labels.extend_from_slice(label)?;
+        let label_end = self.labels.len();
+        self.rows.push(Row {
+            place,
+            mark,
+            label_end,
+        })?;
+        Ok(())
+    }
+
+    // The lifeline that an event is about.
+    fn place_of(&self, event: &Event) -> Option<usize> {
+        match event {
+            Event::Do(client, _) | Event::Tick(client, _) | Event::ClientRestart(client) => {
+                client_place(&self.parties, *client)
+            }
+            Event::Begin(handler) | Event::Finish(handler) => {
+                handler_place(&self.parties, *handler)
+            }
+            Event::Take(place) => Some(self.message(*place)?.1.to),
+            Event::NodeRestart(_) => None,
+        }
+    }
+
+    // The message that has this place, counted from 1, and its place counted from 0.
+    fn message(&self, place: usize) -> Option<(usize, Sent)> {
+        let place = place.checked_sub(1)?;
+        Some((place, *self.sent.get(place)?))
+    }
+
+    // Keeps the messages that an event took and sent, and that a block ran.
+    fn carry(
+        &mut self,
+        event: &Event,
+        note: &WorldNote,
+        place: Option<usize>,
+    ) -> Result<(), OutOfMemory> {
+        let row = self.rows.len();
+        match (event, note, place) {
+            (Event::Tick(_, handler), WorldNote::Sent(_), Some(from)) => {
+                let to = handler_place(&self.parties, *handler).unwrap_or(from);
+                self.send(row, from, to)
+            }
+            (_, WorldNote::Began(block, _), Some(place)) => self.run(row, place, *block),
+            (_, WorldNote::Ran(ran), Some(place)) => self.run(row, place, ran.block),
+            (Event::Take(place), note, _) => {
+                let Some((message, sent)) = self.message(*place) else {
+                    return Ok(());
+                };
+                self.take(row, message)?;
+                match note {
+                    WorldNote::Handler(_, Some(_)) => self.send(row, sent.to, sent.from),
+                    _ => Ok(()),
+                }
+            }
+            _ => Ok(()),
+        }
+    }
+
+    fn send(&mut self, row: usize, from: usize, to: usize) -> Result<(), OutOfMemory> {
+        self.sent.push(Sent {
+            row,
+            from,
+            to,
+            is_taken: false,
+        })?;
+        Ok(())
+    }
+
+    fn take(&mut self, row: usize, message: usize) -> Result<(), OutOfMemory> {
+        let mut is_repeated = false;
+        if let Some(sent) = self.sent.get_mut(message) {
+            is_repeated = sent.is_taken;
+            sent.is_taken = true;
+        }
+        self.taken.push(Taken {
+            row,
+            message,
+            is_repeated,
+        })?;
+        Ok(())
+    }
+
+    // The block ran in this row: a handler's last piece goes on where it is the same block's.
+    fn run(&mut self, row: usize, place: usize, block: Block) -> Result<(), OutOfMemory> {
+        let colour = self.colour_of(block)?;
+        let last = self.pieces.iter_mut().rfind(|piece| piece.place == place);
+        match last {
+            Some(piece) if piece.colour == colour => {
+                piece.last = row;
+            }
+            _ => self.pieces.push(Piece {
+                place,
+                colour,
+                first: row,
+                last: row,
+            })?,
+        }
+        Ok(())
+    }
+
+    // The place of a block among those that have run, where a new one is added.
+    fn colour_of(&mut self, block: Block) -> Result<usize, OutOfMemory> {
+        if let Some(place) = self.blocks.iter().position(|other| *other == block) {
+            return Ok(place);
+        }
+        self.blocks.push(block)?;
+        Ok(self.blocks.len() - 1)
+    }
+}
+
+// What an event draws.
+fn mark_of(event: &Event) -> Mark {
+    match event {
+        Event::ClientRestart(_) => Mark::Restarted,
+        Event::NodeRestart(node) => Mark::Reopened(*node),
+        _ => Mark::Nothing,
+    }
+}

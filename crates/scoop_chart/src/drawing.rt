@@ -1,0 +1,246 @@
+//! A chart's picture.
+
+use crate::chart::{Chart, Mark, Piece, Row, Sent, Taken};
+use crate::lifeline::Party;
+use std::alloc::Allocator;
+use std::io;
+use std::io::Write;
+
+// Lengths are in pixels. A letter of the labels has at most this width.
+const LETTER: usize = 8;
+
+const MARGIN: usize = 16;
+
+// Where the first row stands.
+const TOP: usize = 72;
+
+const ROW_HEIGHT: usize = 24;
+
+const COLUMN_WIDTH: usize = 96;
+
+// How far the arrow of a message goes that is never taken.
+const LOST: usize = 36;
+
+// The colours of blocks. The block after the last has the first one again.
+const COLOURS: [&str; 8] = [
+    "#1f77b4", "#d62728", "#2ca02c", "#9467bd", "#ff7f0e", "#17becf", "#8c564b", "#e377c2",
+];
+
+const STYLE: &str =
+    "<style>text{font:12px monospace;fill:#222}.name{text-anchor:middle}.life{stroke:#999}\
+.row{stroke:#eee}.sent{stroke:#333;marker-end:url(#head)}.again{stroke:#888;stroke-dasharray:4 3;marker-end:url(#head)}\
+.lost{stroke:#c00;fill:none}.bar{stroke:#000;stroke-width:4}.runs{stroke-width:8;stroke-linecap:round}</style>";
+
+const HEAD: &str =
+    "<defs><marker id=\"head\" viewBox=\"0 0 8 8\" refX=\"8\" refY=\"4\" markerWidth=\"8\" markerHeight=\"8\" \
+orient=\"auto\"><path d=\"M0 0L8 4L0 8z\"/></marker></defs>";
+
+/// Where things stand in a picture.
+#[derive(Clone, Copy)]
+struct Room {
+    // of the first lifeline
+    first: usize,
+    width: usize,
+    height: usize,
+}
+
+impl Room {
+    fn of<A: Allocator>(chart: &Chart<A>) -> Room {
+        let first = longest(&chart.rows)
+            .saturating_mul(LETTER)
+            .saturating_add(MARGIN)
+            .saturating_add(COLUMN_WIDTH);
+        let lines = chart.parties.len().saturating_mul(COLUMN_WIDTH);
+        Room {
+            first,
+            width: first.saturating_add(lines),
+            height: row_at(chart.rows.len()).saturating_add(MARGIN),
+        }
+    }
+
+    // Where a lifeline stands.
+    fn line_at(self, place: usize) -> usize {
+        self.first
+            .saturating_add(place.saturating_mul(COLUMN_WIDTH))
+    }
+}
+
+// Where a row stands.
+fn row_at(row: usize) -> usize {
+    TOP.saturating_add(row.saturating_mul(ROW_HEIGHT))
+}
+
+// The length of the longest label.
+fn longest(rows: &[Row]) -> usize {
+    let mut begin = 0;
+    let mut most = 0;
+    for row in rows {
+        most = row.label_end.saturating_sub(begin).max(most);
+        begin = row.label_end;
+    }
+    most
+}
+
+impl<A: Allocator + Copy> Chart<A> {
+    /// Writes the picture, an SVG document with an element in a line. The errors are the writer's.
+    pub fn draw<W: Write>(&self, writer: &mut W) -> io::Result<()> {
+        let room = Room::of(self);
+        let Room { width, height, .. } = room;
+        write!(writer, "<svg xmlns=\"http://www.w3.org/2000/svg\" ")?;
+        writeln!(
+            writer,
+            "width=\"{width}\" height=\"{height}\" viewBox=\"0 0 {width} {height}\">"
+        )?;
+        writeln!(writer, "{STYLE}")?;
+        writeln!(writer, "{HEAD}")?;
+        writeln!(
+            writer,
+            "<rect width=\"{width}\" height=\"{height}\" fill=\"#fff\"/>"
+        )?;
+        self.draw_lifelines(room, writer)?;
+        self.draw_rows(room, writer)?;
+        for piece in &self.pieces {
+            draw_piece(room, *piece, writer)?;
+        }
+        self.draw_messages(room, writer)?;
+        self.draw_restarts(room, writer)?;
+        writeln!(writer, "</svg>")
+    }
+
+    // A line from top to bottom for each party, with its name, and its node where it has one.
+    fn draw_lifelines<W: Write>(&self, room: Room, writer: &mut W) -> io::Result<()> {
+        let top = TOP - ROW_HEIGHT;
+        let bottom = room.height;
+        for (place, party) in self.parties.iter().enumerate() {
+            let x = room.line_at(place);
+            writeln!(
+                writer,
+                "<line class=\"life\" x1=\"{x}\" y1=\"{top}\" x2=\"{x}\" y2=\"{bottom}\"/>"
+            )?;
+            if let Party::Handler(node, _) = party {
+                writeln!(
+                    writer,
+                    "<text class=\"name\" x=\"{x}\" y=\"20\">node {node}</text>"
+                )?;
+            }
+            write!(writer, "<text class=\"name\" x=\"{x}\" y=\"36\">")?;
+            party.print(writer)?;
+            writeln!(writer, "</text>")?;
+        }
+        Ok(())
+    }
+
+    // Each row's label, with a faint line to the lifeline that it is about.
+    fn draw_rows<W: Write>(&self, room: Room, writer: &mut W) -> io::Result<()> {
+        let mut begin = 0;
+        for (number, row) in self.rows.iter().enumerate() {
+            let y = row_at(number);
+            let base = y.saturating_add(4);
+            let label = self.labels.get(begin..row.label_end).unwrap_or(&[]);
+            begin = row.label_end;
+            if let Some(place) = row.place {
+                let left = room.first.saturating_sub(COLUMN_WIDTH / 2);
+                let x = room.line_at(place);
+                writeln!(
+                    writer,
+                    "<line class=\"row\" x1=\"{left}\" y1=\"{y}\" x2=\"{x}\" y2=\"{y}\"/>"
+                )?;
+                writeln!(writer, "<circle cx=\"{x}\" cy=\"{y}\" r=\"3\"/>")?;
+            }
+            write!(writer, "<text x=\"{MARGIN}\" y=\"{base}\">")?;
+            print_escaped(label, writer)?;
+            writeln!(writer, "</text>")?;
+        }
+        Ok(())
+    }
+
+    // An arrow for each delivery, and a short one with a cross for what was never taken.
+    fn draw_messages<W: Write>(&self, room: Room, writer: &mut W) -> io::Result<()> {
+        for taken in &self.taken {
+            if let Some(sent) = self.sent.get(taken.message) {
+                draw_delivery(room, *sent, *taken, writer)?;
+            }
+        }
+        for sent in &self.sent {
+            if !sent.is_taken {
+                draw_lost(room, *sent, writer)?;
+            }
+        }
+        Ok(())
+    }
+
+    // A bar across each lifeline that a restart is about.
+    fn draw_restarts<W: Write>(&self, room: Room, writer: &mut W) -> io::Result<()> {
+        for (number, row) in self.rows.iter().enumerate() {
+            match (row.mark, row.place) {
+                (Mark::Restarted, Some(place)) => draw_bar(room, place, number, writer)?,
+                (Mark::Reopened(node), _) => {
+                    for (place, party) in self.parties.iter().enumerate() {
+                        if party.is_on(node) {
+                            draw_bar(room, place, number, writer)?;
+                        }
+                    }
+                }
+                _ => {}
+            }
+        }
+        Ok(())
+    }
+}
+
+fn draw_piece<W: Write>(room: Room, piece: Piece, writer: &mut W) -> io::Result<()> {
+    let x = room.line_at(piece.place);
+    let top = row_at(piece.first).saturating_sub(8);
+    let bottom = row_at(piece.last).saturating_add(8);
+    let colour = COLOURS[piece.colour % 8];
+    writeln!(
+        writer,
+        "<line class=\"runs\" stroke=\"{colour}\" x1=\"{x}\" y1=\"{top}\" x2=\"{x}\" y2=\"{bottom}\"/>"
+    )
+}
+
+fn draw_delivery<W: Write>(room: Room, sent: Sent, taken: Taken, writer: &mut W) -> io::Result<()> {
+    let class = if taken.is_repeated { "again" } else { "sent" };
+    let (x1, y1) = (room.line_at(sent.from), row_at(sent.row));
+    let (x2, y2) = (room.line_at(sent.to), row_at(taken.row));
+    writeln!(
+        writer,
+        "<line class=\"{class}\" x1=\"{x1}\" y1=\"{y1}\" x2=\"{x2}\" y2=\"{y2}\"/>"
+    )
+}
+
+fn draw_lost<W: Write>(room: Room, sent: Sent, writer: &mut W) -> io::Result<()> {
+    let (x, y) = (room.line_at(sent.from), row_at(sent.row));
+    let end = if sent.from < sent.to {
+        x.saturating_add(LOST)
+    } else {
+        x.saturating_sub(LOST)
+    };
+    writeln!(
+        writer,
+        "<path class=\"lost\" d=\"M{x} {y}H{end}m-4 -4l8 8m0 -8l-8 8\"/>"
+    )
+}
+
+fn draw_bar<W: Write>(room: Room, place: usize, row: usize, writer: &mut W) -> io::Result<()> {
+    let y = row_at(row);
+    let left = room.line_at(place).saturating_sub(14);
+    let right = room.line_at(place).saturating_add(14);
+    writeln!(
+        writer,
+        "<line class=\"bar\" x1=\"{left}\" y1=\"{y}\" x2=\"{right}\" y2=\"{y}\"/>"
+    )
+}
+
+// Writes bytes as text of an SVG document.
+fn print_escaped<W: Write>(bytes: &[u8], writer: &mut W) -> io::Result<()> {
+    for byte in bytes {
+        match byte {
+            b'&' => writer.write_all(b"&amp;")?,
+            b'<' => writer.write_all(b"&lt;")?,
+            b'>' => writer.write_all(b"&gt;")?,
+            byte => writer.write_all(&[*byte])?,
+        }
+    }
+    Ok(())
+}

@@ -1,0 +1,157 @@
+//! A client and two accounts, and what they do.
+
+use crate::account::{BALANCE, DEPOSIT, WITHDRAW, account, class, request};
+use crate::error::TransferError;
+use scoop_chart::Chart;
+use scoop_message::{Answer, Block, ClientId, HandlerId, OutOfMemory};
+use scoop_object::Table;
+use scoop_record::MemoryKeeper;
+use scoop_world::{Command, Event, HandlerList, Placement, World, WorldNote};
+use std::alloc::Global;
+use std::io;
+use std::io::Write;
+
+const CLIENT: ClientId = ClientId(7);
+
+const FROM: HandlerId = HandlerId(1);
+
+const TO: HandlerId = HandlerId(2);
+
+const BOTH: [HandlerId; 2] = [FROM, TO];
+
+/// Two accounts on two nodes, and a client that pays from the first to the second.
+#[derive(Drop)]
+pub struct Transfer {
+    world: World<Table>,
+    chart: Chart,
+}
+
+impl Transfer {
+    /// Accounts that hold these balances. The client has greeted both.
+    pub fn open(alloc: Global, from: u64, to: u64) -> Result<Transfer, TransferError> {
+        let keeper = MemoryKeeper::new(alloc);
+        let placements = placements(alloc, [from, to])?;
+        let world = World::open(alloc, placements, &[(CLIENT, 1)], keeper)?;
+        let chart = Chart::new(alloc, &[CLIENT], &[(1, FROM), (2, TO)])?;
+        let mut transfer = Transfer { world, chart };
+        for handler in BOTH {
+            transfer.trip(handler)?;
+        }
+        Ok(transfer)
+    }
+
+    /// Pays an amount in a joint block, and answers the balance of the second account, if the query was answered.
+    ///
+    /// The first message of the log to the second account is lost, and the message behind it comes twice.
+    pub fn pay(&mut self, amount: u64) -> Result<Option<Answer>, TransferError> {
+        self.begin()?;
+        self.tell(Command::Call(FROM, request(WITHDRAW, Some(amount))))?;
+        self.tell(Command::Call(TO, request(DEPOSIT, Some(amount))))?;
+        self.trip(FROM)?;
+        self.send(TO)?;
+        let again = self.send(TO)?;
+        self.take(again)?;
+        self.take(again)?;
+        self.trip(TO)?;
+        self.run(FROM)?;
+        self.run(TO)?;
+        self.tell(Command::Query(TO, request(BALANCE, None)))?;
+        self.trip(TO)?;
+        self.run(TO)?;
+        self.trip(TO)?;
+        self.end()?;
+        Ok(self.world.accepted(CLIENT).and_then(last_answer))
+    }
+
+    /// Draws what has happened so far.
+    pub fn draw<W: Write>(&self, writer: &mut W) -> io::Result<()> {
+        self.chart.draw(writer)
+    }
+
+    // Reserves both accounts: locks, opens and unlocks each.
+    fn begin(&mut self) -> Result<(), TransferError> {
+        let Ok(both) = HandlerList::of(&BOTH) else {
+            return Ok(());
+        };
+        self.tell(Command::Reserve(both))?;
+        for _ in 0..3 {
+            for handler in BOTH {
+                self.trip(handler)?;
+            }
+        }
+        Ok(())
+    }
+
+    // Ends the block at both accounts.
+    fn end(&mut self) -> Result<(), TransferError> {
+        self.tell(Command::End)?;
+        for handler in BOTH {
+            self.trip(handler)?;
+            self.run(handler)?;
+        }
+        Ok(())
+    }
+
+    // One event, which the chart is told.
+    fn step(&mut self, event: Event) -> Result<WorldNote, TransferError> {
+        let outcome = self.world.step(event);
+        self.chart.note(&event, &outcome, b"")?;
+        Ok(outcome?)
+    }
+
+    fn tell(&mut self, command: Command) -> Result<(), TransferError> {
+        self.step(Event::Do(CLIENT, command))?;
+        Ok(())
+    }
+
+    // The client sends what it owes to the handler. The answer is the message's place.
+    fn send(&mut self, handler: HandlerId) -> Result<usize, TransferError> {
+        match self.step(Event::Tick(CLIENT, handler))? {
+            WorldNote::Sent(place) => Ok(place),
+            _ => Err(TransferError::NothingSent),
+        }
+    }
+
+    // A message comes to its receiver. The answer is the place of the reply, if it has one.
+    fn take(&mut self, place: usize) -> Result<Option<usize>, TransferError> {
+        match self.step(Event::Take(place))? {
+            WorldNote::Handler(_, reply) => Ok(reply),
+            _ => Ok(None),
+        }
+    }
+
+    // The client sends what it owes, the handler hears it, and the client the reply.
+    fn trip(&mut self, handler: HandlerId) -> Result<(), TransferError> {
+        let sent = self.send(handler)?;
+        if let Some(reply) = self.take(sent)? {
+            self.take(reply)?;
+        }
+        Ok(())
+    }
+
+    fn run(&mut self, handler: HandlerId) -> Result<(), TransferError> {
+        self.step(Event::Begin(handler))?;
+        self.step(Event::Finish(handler))?;
+        Ok(())
+    }
+}
+
+// The answer that was accepted last.
+fn last_answer(accepted: &[(HandlerId, Block, u32, Answer)]) -> Option<Answer> {
+    let (_, _, _, answer) = accepted.last()?;
+    Some(*answer)
+}
+
+// The accounts, each on a node of its own.
+fn placements(alloc: Global, balances: [u64; 2]) -> Result<Vec<Placement<Table>>, OutOfMemory> {
+    let mut placements = Vec::new(alloc);
+    for (handler, balance) in [(FROM, balances[0]), (TO, balances[1])] {
+        placements.push(Placement {
+            node: handler.0,
+            handler,
+            class: class(alloc)?,
+            object: account(alloc, balance)?,
+        })?;
+    }
+    Ok(placements)
+}
