@@ -15,7 +15,7 @@ use std::test::Fail;
 const ONE: HandlerId = HandlerId(1);
 
 // The bytes of an entry, whatever has happened.
-const _: () = prove!(size_of::<(u32, Event, Reply)>() == 568);
+const _: () = prove!(size_of::<(u32, Event, Reply)>() == 560);
 
 /// Whether the handler heard the message.
 fn is_heard(book: &mut Book<Table, MemoryKeeper>, event: Event) -> bool {
