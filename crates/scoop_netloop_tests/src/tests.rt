@@ -1,7 +1,10 @@
 //! The tests of loops.
 
 mod accounts;
+mod frames;
 mod gate;
+mod growths;
+mod painting;
 mod tape;
 mod waits;
 
