@@ -5,6 +5,7 @@ mod frames;
 mod gate;
 mod growths;
 mod painting;
+mod refused;
 mod tape;
 mod waits;
 
