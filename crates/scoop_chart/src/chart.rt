@@ -154,25 +154,32 @@ impl<A: Allocator + Copy> Chart<A> {
         place: Option<usize>,
     ) -> Result<(), OutOfMemory> {
         let row = self.rows.len();
-        match (event, note, place) {
-            (Event::Tick(_, handler), WorldNote::Sent(_), Some(from)) => {
-                let to = handler_place(&self.parties, *handler).unwrap_or(from);
-                self.send(row, from, to)
+        let Some(place) = place else {
+            return Ok(());
+        };
+        match *event {
+            Event::Tick(_, handler) if is_sent(note) => {
+                let to = handler_place(&self.parties, handler).unwrap_or(place);
+                self.send(row, place, to)
             }
-            (_, WorldNote::Began(block, _), Some(place)) => self.run(row, place, *block),
-            (_, WorldNote::Ran(ran), Some(place)) => self.run(row, place, ran.block),
-            (Event::Take(place), note, _) => {
-                let Some((message, sent)) = self.message(*place) else {
-                    return Ok(());
-                };
-                self.take(row, message)?;
-                match note {
-                    WorldNote::Handler(_, Some(_)) => self.send(row, sent.to, sent.from),
-                    _ => Ok(()),
-                }
-            }
-            _ => Ok(()),
+            Event::Take(message) => self.deliver(row, message, has_reply(note)),
+            _ => match block_that_ran(note) {
+                Some(block) => self.run(row, place, block),
+                None => Ok(()),
+            },
         }
+    }
+
+    // A message, which has this place, counted from 1, comes to its receiver, which may reply.
+    fn deliver(&mut self, row: usize, place: usize, replies: bool) -> Result<(), OutOfMemory> {
+        let Some((message, sent)) = self.message(place) else {
+            return Ok(());
+        };
+        self.take(row, message)?;
+        if replies {
+            self.send(row, sent.to, sent.from)?;
+        }
+        Ok(())
     }
 
     fn send(&mut self, row: usize, from: usize, to: usize) -> Result<(), OutOfMemory> {
@@ -224,6 +231,25 @@ impl<A: Allocator + Copy> Chart<A> {
         }
         self.blocks.push(block)?;
         Ok(self.blocks.len() - 1)
+    }
+}
+
+// Whether an event sent a client's message.
+fn is_sent(note: &WorldNote) -> bool {
+    matches!(note, WorldNote::Sent(_))
+}
+
+// Whether a handler replied.
+fn has_reply(note: &WorldNote) -> bool {
+    matches!(note, WorldNote::Handler(_, Some(_)))
+}
+
+// The block whose entry began or ran.
+fn block_that_ran(note: &WorldNote) -> Option<Block> {
+    match note {
+        WorldNote::Began(block, _) => Some(*block),
+        WorldNote::Ran(ran) => Some(ran.block),
+        _ => None,
     }
 }
 
