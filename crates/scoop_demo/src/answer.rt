@@ -1,93 +1,94 @@
-//! One handler that answers datagrams.
+//! What a book answers to the datagram of a line.
 
-ghost use Rattle.std.specs.Prelude.{◌≡◌, ◌≢◌, IfOk, IfErr, OnOk, OnErr};
-ghost use Rattle.scoop_record.specs.Keeper.{IsSame, Stays};
-ghost use Rattle.scoop_demo.specs.Answer.{AnswersDatagram, ConfirmsHolder, MovesHolder, LeavesState, IsShort, line_of, note_of};
-ghost use Rattle.scoop_demo.specs.Running.{runs_after, runs_next};
-ghost use Rattle.scoop_demo.specs.Run.{FailsToAnswer, PrintsOnly};
-ghost use Rattle.scoop_demo.specs.Storing.{IsTo, StoresIf};
+ghost use Rattle.std.specs.Prelude.{◌≡◌, ◌≢◌, IfOk, IfErr, IfSome, OnErr, OnOk};
+ghost use Rattle.scoop_message.specs.declared.message.Message.{Message};
+ghost use Rattle.scoop_message.specs.Message.{handler_of};
+ghost use Rattle.scoop_frame.specs.declared.version.Version.{Version};
+ghost use Rattle.scoop_frame.specs.Frame.{IsFrame};
+ghost use Rattle.scoop_record.specs.Keeper.{IsSame};
+ghost use Rattle.scoop_book.specs.Books.{IsBook, Rests};
+ghost use Rattle.scoop_netloop.specs.Answering.{IsWithinBuffer};
+ghost use Rattle.scoop_netloop.specs.RunningOut.{RunsDry, RunsSome};
+ghost use Rattle.scoop_demo.specs.Answer.{IsHere, Prints, Unheard, line_of, note_elsewhere, runs_by};
+ghost use Rattle.scoop_demo.specs.Storing.{KeepsOthers, TellsRefusal};
 
 use crate::fault::RunError;
-use crate::keeping::hear_stored;
-use scoop_frame::{FrameError, decode, encode};
-use scoop_handler::{Handler, Heard, Note};
+use scoop_book::{Book, BookError};
+use scoop_frame::decode;
+use scoop_handler::{Note, Reason};
+use scoop_message::HandlerId;
 use scoop_message::limits::BUFFER_LEN;
+use scoop_netloop::{Answered, answer_datagram, run_out, runs_after};
 use scoop_object::Behaviour;
-use scoop_record::Keeper;
+use scoop_record::{Keeper, KeeperError};
 use std::alloc::Global;
 
-/// What a handler did with a datagram.
-#[derive(Clone, Copy, Debug, PartialEq, Eq)]
-pub enum Answered {
-    /// The handler replied: how many bytes the reply's frame has, and what the handler did.
-    Reply(usize, Note),
-    /// The handler has no reply: what it did.
-    Silent(Note),
-    /// The datagram is no frame, and the handler did nothing.
-    RefusedFrame(FrameError),
-}
+// The one pass of a run's book.
+const PASS: u32 = 0;
 
-impl Answered {
-    /// Whether something may have become ready to run: after `Greeted`, `Took` and `Known`.
-    pub fn runs_next(self) -> bool
-        ensures { result ≡ runs_next (note_of self) }
-    {
-        match self {
-            Answered::Reply(_, note) => runs_after(note),
-            Answered::Silent(note) => runs_after(note),
-            Answered::RefusedFrame(_) => false,
-        }
+// What a run says of a refusal of its book. A handler that isn't here is no refusal of a run.
+fn refusal_of(error: BookError) -> RunError
+    requires { error ≢ BookError.UnknownHandler }
+    ensures { TellsRefusal error result }
+{
+    match error {
+        BookError::NodeFailed => RunError::NodeFailed,
+        BookError::HistoryFull => RunError::HistoryFull,
+        BookError::UnknownHandler => unreachable!(),
+        BookError::StoreRefused => RunError::Store(KeeperError::Refused),
+        BookError::OutOfMemory => RunError::OutOfMemory,
     }
 }
 
-fn runs_after(note: Note) -> bool
-    ensures { result ≡ runs_after note }
+// What every handler but its own does with a datagram's message.
+fn elsewhere(datagram: &[u8]) -> Note
+    ensures { (v : Version) (m : Message) → IsFrame v m datagram.now → result ≡ note_elsewhere m }
 {
-    matches!(note, Note::Greeted | Note::Took(_) | Note::Known)
+    match decode(datagram) {
+        Ok((_, message)) if message.for_handler() => Note::Dropped(Reason::WrongHandler),
+        _ => Note::Dropped(Reason::NotForHandlers),
+    }
 }
 
-/// Gives a datagram to a handler, and stores its state where the datagram is the frame of a message to it.
-/// The frame of the reply, in the version of the datagram, is written to the front of the buffer.
+// The handler that may have something to run now that this was answered to a datagram.
+fn runs_by(answered: Answered, datagram: &[u8]) -> Option<HandlerId> {
+    let note = match answered {
+        Answered::Reply(_, note) | Answered::Silent(note) => note,
+        Answered::RefusedFrame(_) => return None,
+    };
+    if !runs_after(note) {
+        return None;
+    }
+    match decode(datagram) {
+        Ok((_, message)) => Some(message.handler()),
+        Err(_) => None,
+    }
+}
+
+/// Gives a datagram to the book. Answers what is to be told of it, and the handler that may have something to run
+/// now. The frame of a reply is at the front of the buffer.
 ///
-/// `OutOfMemory` comes where the message makes the handler keep more than before, and changes nothing; or,
-/// as `Store` with `Refused`, where the handler has heard the message and its state isn't stored.
-pub fn answer_one<B: Behaviour, K: Keeper<Global>>(
-    handler: &mut Handler<B>,
-    keeper: &mut K,
+/// Refused as the book refuses the message, with handlers, history and record as they were; but a message to a
+/// handler that isn't here is answered as any other handler would.
+pub fn answer<B: Behaviour, K: Keeper<Global>>(
+    book: &mut Book<B, K>,
     datagram: &[u8],
     out: &mut [u8; BUFFER_LEN],
-) -> Result<Answered, RunError>
-    ensures ok { IfOk result (λ answered.
-        AnswersDatagram handler.old datagram.now handler.new answered out.old out.new) }
-    ensures only { IfOk result (λ answered.
-        PrintsOnly handler.old datagram.now handler.new (note_of answered) (line_of answered out.new)) }
-    ensures err { IfErr result (FailsToAnswer handler.old datagram.now handler.new) }
+) -> Result<(Answered, Option<HandlerId>), RunError> {
+    match answer_datagram(book, PASS, datagram, out) {
+        Ok(answered) => Ok((answered, runs_by(answered, datagram))),
+        Err(BookError::UnknownHandler) => Ok((Answered::Silent(elsewhere(datagram)), None)),
+        Err(error) => Err(refusal_of(error)),
+    }
+}
 
-    // What the keeper has.
-    ensures stored { K.is_honest keeper.new → OnOk result (StoresIf (IsTo handler.old.state.number datagram.now)
-        handler.old.state handler.new.state (K.handlers keeper.old) (K.handlers keeper.new)) }
-    ensures refused { K.is_honest keeper.new → OnErr result (Stays (K.handlers keeper.old) (K.handlers keeper.new)) }
-    ensures incarnations { K.is_honest keeper.new → IsSame (K.incarnations keeper.old) (K.incarnations keeper.new) }
-    ensures honest { K.is_honest keeper.new → K.is_honest keeper.old }
-
-    // What follows for those who only lock.
-    ensures confirms { IfOk result (λ answered. ConfirmsHolder answered out.new handler.new) }
-    ensures moves { IfOk result (λ _.
-        handler.new.state.holder ≢ handler.old.state.holder
-        → MovesHolder handler.old.state.holder datagram.now handler.new.state.holder) }
-    ensures leaves { IfOk result (LeavesState handler.old handler.new) }
-    ensures short { IfOk result IsShort }
-{
-    let (version, message) = match decode(datagram) {
-        Ok(read) => read,
-        Err(error) => return Ok(Answered::RefusedFrame(error)),
-    };
-    let Heard { reply, note } = match hear_stored(handler, keeper, &message) {
-        Ok(heard) => heard,
-        Err(error) => return Err(error),
-    };
-    match reply {
-        Some(reply) => Ok(Answered::Reply(encode(version, &reply, out), note)),
-        None => Ok(Answered::Silent(note)),
+/// Runs a handler that is here until nothing can run.
+pub fn run_dry<B: Behaviour, K: Keeper<Global>>(
+    book: &mut Book<B, K>,
+    handler: HandlerId,
+) -> Result<(), RunError> {
+    match run_out(book, PASS, handler) {
+        Ok(()) => Ok(()),
+        Err(error) => Err(refusal_of(error)),
     }
 }

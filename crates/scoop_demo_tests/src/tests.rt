@@ -38,21 +38,35 @@ struct Case<'a> {
     output: &'a str,
 }
 
-// How a run of handler 1 with an object of that class ends, over what a keeper has, and what it writes.
+// How a run ended, what it wrote, and the keeper behind it.
+#[derive(Drop)]
+struct Ended<K: Drop> {
+    result: Result<(), RunError>,
+    output: Vec<u8>,
+    keeper: K,
+}
+
+// A run of handler 1 with an object of that class, over what a keeper has; or why it doesn't open.
 fn run_of<B: Behaviour, K: Keeper<Global>>(
     rt: &impl Abort,
     alloc: Global,
-    keeper: &mut K,
+    keeper: K,
     (class, object): (&str, B),
     input: &[u8],
-) -> Result<(Result<(), RunError>, Vec<u8>), Fail> {
+) -> Result<Result<Ended<K>, RunError>, Fail> {
     let class = demo_class(alloc, class)?.expect(rt, "it has a name");
     let mut output = Vec::new(alloc);
-    let ended = match open_handler(alloc, keeper, HandlerId(1), class, object) {
-        Ok(mut handler) => answer_run(&mut handler, keeper, true, input, &mut output),
-        Err(error) => Err(error),
+    let mut book = match open_book(alloc, keeper, HandlerId(1), class, object) {
+        Ok(book) => book,
+        Err(error) => return Ok(Err(error)),
     };
-    Ok((ended, output))
+    let result = answer_run(&mut book, Some(HandlerId(1)), input, &mut output);
+    let keeper = book.into_keeper();
+    Ok(Ok(Ended {
+        result,
+        output,
+        keeper,
+    }))
 }
 
 // Runs handler 1 with an object of that class over an input.
@@ -62,10 +76,10 @@ fn runs<B: Behaviour>(
     object: (&str, B),
     case: Case<'_>,
 ) -> Result<(), Fail> {
-    let mut keeper = MemoryKeeper::new(alloc);
-    let (ended, output) = run_of(rt, alloc, &mut keeper, object, case.input.as_bytes())?;
-    assert_eq!(rt; ended, case.ended);
-    assert_eq!(rt; output.as_slice(), case.output.as_bytes());
+    let keeper = MemoryKeeper::new(alloc);
+    let ended = run_of(rt, alloc, keeper, object, case.input.as_bytes())??;
+    assert_eq!(rt; ended.result, case.ended);
+    assert_eq!(rt; ended.output.as_slice(), case.output.as_bytes());
     Ok(())
 }
 
@@ -253,11 +267,9 @@ fn answers_all<R: Read + Drop, W: Write>(
 ) -> Result<Result<(), RunError>, Fail> {
     let class = demo_class(alloc, "cell")?.expect(rt, "it has a name");
     let cell = Table::new(class.copy()?, Words::of(&[0])?)?;
-    let mut keeper = MemoryKeeper::new(alloc);
-    match open_handler(alloc, &mut keeper, HandlerId(1), class, cell) {
-        Ok(mut handler) => Ok(answer_run(&mut handler, &mut keeper, true, reader, writer)),
-        Err(_) => panic!(rt; "it is of its class"),
-    }
+    let keeper = MemoryKeeper::new(alloc);
+    let mut book = open_book(alloc, keeper, HandlerId(1), class, cell)?;
+    Ok(answer_run(&mut book, Some(HandlerId(1)), reader, writer))
 }
 
 // Gives newlines, each time as many as there is room for, and then an error of this kind or the end.
@@ -397,6 +409,8 @@ fn errors_have_a_text_and_a_status(rt: HostRuntime) -> Result<(), Fail> {
             "store: WrongSchema",
         ),
         (RunError::WrongClass(HandlerId(1)), "store: WrongClass 1"),
+        (RunError::NodeFailed, "store: NodeFailed"),
+        (RunError::HistoryFull, "store: HistoryFull"),
     ] {
         assert_eq!(rt; format!(in rt.alloc(); "{error}")?.as_str(), text);
         assert_eq!(rt; error.status(), 3);

@@ -24,8 +24,8 @@ pub enum Answered {
     RefusedFrame(FrameError),
 }
 
-// Whether something may have become ready to run by a message with this note.
-pub(crate) fn runs_after(note: Note) -> bool
+/// Whether something may have become ready to run by a message with this note.
+pub fn runs_after(note: Note) -> bool
     ensures { result ≡ runs_after note }
 {
     matches!(note, Note::Greeted | Note::Took(_) | Note::Known)
