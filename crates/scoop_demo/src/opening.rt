@@ -50,7 +50,7 @@ pub fn open_book<B: Behaviour, K: Keeper<Global>>(
     ensures incarnations { IfOk result (λ b. K.is_honest b.keeper → IsSame (K.incarnations keeper) (K.incarnations b.keeper)) }
     ensures honest { IfOk result (λ b. K.is_honest b.keeper → K.is_honest keeper) }
     // The keeper goes with a refusal, so this speaks of what is stored where every such keeper is honest.
-    ensures refused { IfErr result (FailsToOpen (K.handlers keeper number.0) ((k : K) → K.is_honest k) number class (B.class object)) }
+    ensures refused { IfErr result (FailsToOpen (K.handlers keeper) ((k : K) → K.is_honest k) number class (B.class object)) }
 {
     let mut handlers = Vec::new(alloc);
     match handlers.push((number, class, object)) {

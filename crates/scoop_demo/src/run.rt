@@ -1,16 +1,15 @@
 //! A run over the lines of an input, one answer for each.
 
-ghost use Rattle.std.specs.Prelude.{◌≡◌, ◌≤◌, ◌∷◌, ◌++◌, [], length, None, IfErr, OnOk, OnErr};
+ghost use Rattle.std.specs.Prelude.{◌≡◌, ◌≤◌, ◌∷◌, ◌++◌, [], length, None, IfErr, OnOk};
 ghost use Rattle.std.specs.Io.KnownBytes.{Appends};
 ghost use Rattle.scoop_message.specs.declared.limits.TheConstants.{BUFFER_LEN};
-ghost use Rattle.scoop_record.specs.Keeper.{IsSame};
 ghost use Rattle.hex.specs.Hex.{encode_lower};
 ghost use Rattle.scoop_book.specs.Books.{IsBook};
 ghost use Rattle.scoop_netloop.specs.Answering.{IsWithinBuffer};
 ghost use Rattle.scoop_demo.specs.Line.{limit_fault};
 ghost use Rattle.scoop_demo.specs.Answer.{line_of};
-ghost use Rattle.scoop_demo.specs.Storing.{KeepsOthers};
-ghost use Rattle.scoop_demo.specs.Run.{AnswersAll, StopsEarly, WritesAnswer, StopsInLine, words_text, words_line, numbers_text};
+ghost use Rattle.scoop_demo.specs.Storing.{KeepsElsewhere};
+ghost use Rattle.scoop_demo.specs.Run.{AnswersAll, StopsEarly, WritesAnswer, StopsInLine, words_text, words_line, shown_line, numbers_text};
 
 use crate::answer::{answer, run_dry};
 use crate::datagram::{MAX_DATAGRAM_LEN, read_datagram};
@@ -53,9 +52,7 @@ pub fn answer_run<B: Behaviour, K: Keeper<Global>, R: Read + Drop, W: Write>(
 
     // What the keeper has.
     ensures sound { IsBook K.handlers K.is_honest book.old → IsBook K.handlers K.is_honest book.new }
-    ensures others { K.is_honest book.new.keeper → KeepsOthers book.old.handlers (K.handlers book.old.keeper) (K.handlers book.new.keeper) }
-    ensures incarnations { K.is_honest book.new.keeper → IsSame (K.incarnations book.old.keeper) (K.incarnations book.new.keeper) }
-    ensures honest { K.is_honest book.new.keeper → K.is_honest book.old.keeper }
+    ensures others { KeepsElsewhere K.handlers K.incarnations K.is_honest book.old.handlers book.old.keeper book.new.keeper }
 {
     let answered = answer_all(book, shown, reader, writer);
     let flushed = writer.flush();
@@ -75,9 +72,7 @@ fn answer_all<B: Behaviour, K: Keeper<Global>, R: Read + Drop, W: Write>(
     ensures ok { OnOk result (AnswersAll (R.remaining reader) book.old book.new (words_line shown book.new.handlers) (W.contents writer.old) (W.contents writer.new)) }
     ensures err { IfErr result (StopsEarly (R.remaining reader) book.old book.new (W.contents writer.old) (W.contents writer.new)) }
     ensures sound { IsBook K.handlers K.is_honest book.old → IsBook K.handlers K.is_honest book.new }
-    ensures others { K.is_honest book.new.keeper → KeepsOthers book.old.handlers (K.handlers book.old.keeper) (K.handlers book.new.keeper) }
-    ensures incarnations { K.is_honest book.new.keeper → IsSame (K.incarnations book.old.keeper) (K.incarnations book.new.keeper) }
-    ensures honest { K.is_honest book.new.keeper → K.is_honest book.old.keeper }
+    ensures others { KeepsElsewhere K.handlers K.incarnations K.is_honest book.old.handlers book.old.keeper book.new.keeper }
 {
     match answer_lines(book, reader, writer) {
         Ok(()) => {}
@@ -102,9 +97,7 @@ fn answer_lines<B: Behaviour, K: Keeper<Global>, R: Read + Drop, W: Write>(
     ensures ok { OnOk result (AnswersAll (R.remaining reader) book.old book.new [] (W.contents writer.old) (W.contents writer.new)) }
     ensures err { IfErr result (StopsEarly (R.remaining reader) book.old book.new (W.contents writer.old) (W.contents writer.new)) }
     ensures sound { IsBook K.handlers K.is_honest book.old → IsBook K.handlers K.is_honest book.new }
-    ensures others { K.is_honest book.new.keeper → KeepsOthers book.old.handlers (K.handlers book.old.keeper) (K.handlers book.new.keeper) }
-    ensures incarnations { K.is_honest book.new.keeper → IsSame (K.incarnations book.old.keeper) (K.incarnations book.new.keeper) }
-    ensures honest { K.is_honest book.new.keeper → K.is_honest book.old.keeper }
+    ensures others { KeepsElsewhere K.handlers K.incarnations K.is_honest book.old.handlers book.old.keeper book.new.keeper }
 {
     let mut lines = Lines::new(reader);
     let mut line = ArrayVec::new();
@@ -132,9 +125,7 @@ fn answer_line<B: Behaviour, K: Keeper<Global>, W: Write>(
     ensures ok { OnOk result (WritesAnswer number book.old line.old.items book.new (W.contents writer.old) (W.contents writer.new)) }
     ensures err { IfErr result (StopsInLine number book.old line.old.items book.new (W.contents writer.old) (W.contents writer.new)) }
     ensures sound { IsBook K.handlers K.is_honest book.old → IsBook K.handlers K.is_honest book.new }
-    ensures others { K.is_honest book.new.keeper → KeepsOthers book.old.handlers (K.handlers book.old.keeper) (K.handlers book.new.keeper) }
-    ensures incarnations { K.is_honest book.new.keeper → IsSame (K.incarnations book.old.keeper) (K.incarnations book.new.keeper) }
-    ensures honest { K.is_honest book.new.keeper → K.is_honest book.old.keeper }
+    ensures others { KeepsElsewhere K.handlers K.incarnations K.is_honest book.old.handlers book.old.keeper book.new.keeper }
 {
     let mut buffer = [0; MAX_DATAGRAM_LEN];
     let datagram = match read_datagram(line, &mut buffer) {

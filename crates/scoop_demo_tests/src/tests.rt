@@ -1,3 +1,4 @@
+use scoop_book::Book;
 use scoop_demo::*;
 use scoop_message::{HandlerId, Words};
 use scoop_object::{Behaviour, Boxed, Table};
@@ -120,6 +121,48 @@ fn runs_a_block_of_calls(rt: HostRuntime) -> Result<(), Fail> {
             output: &output,
         },
     )
+}
+
+// A book of handler 1 with a cell.
+fn cell_book<K: Keeper<Global>>(
+    rt: &impl Abort,
+    alloc: Global,
+    keeper: K,
+) -> Result<Book<Table, K>, Fail> {
+    let class = demo_class(alloc, "cell")?.expect(rt, "it has a name");
+    let cell = Table::new(class.copy()?, Words::of(&[0])?)?;
+    Ok(open_book(alloc, keeper, HandlerId(1), class, cell)?)
+}
+
+#[test]
+fn enters_what_its_handler_hears_and_runs(rt: HostRuntime) -> Result<(), Fail> {
+    let alloc = rt.alloc();
+    // A Hello to handler 2, a Welcome from it, and no frame; then a block of client 7 with one call.
+    let input = format!(in alloc;
+        "5351010100000002000000070000000100000000000000000000\n\
+        5351010200000002000000070000000100000000000000000000\n\
+        00\n\
+        {OPENING}\
+        5351010a0000000100000007000000010000000100000001000c010001010000000000000005\n"
+    )?;
+    let output = format!(in alloc;
+        "none Dropped WrongHandler\nnone Dropped NotForHandlers\nrefused Short\n{OPENED}\
+        5351010b00000001000000070000000100000001000000010000\n"
+    )?;
+    let mut book = cell_book(&rt, alloc, MemoryKeeper::new(alloc))?;
+    let mut written = Vec::new(alloc);
+    let ended = answer_run(
+        &mut book,
+        Some(HandlerId(2)),
+        input.as_bytes(),
+        &mut written,
+    );
+    assert_eq!(rt; ended, Ok(()));
+    assert_eq!(rt; written.as_slice(), output.as_bytes());
+    // Each message to handler 1 is an entry. The greeting lets the handler look for something to run, and the call lets
+    // it begin, finish, and look again.
+    assert_eq!(rt; book.history().len(), 5 + 1 + 3);
+    Ok(())
 }
 
 #[test]
@@ -265,10 +308,7 @@ fn answers_all<R: Read + Drop, W: Write>(
     reader: R,
     writer: &mut W,
 ) -> Result<Result<(), RunError>, Fail> {
-    let class = demo_class(alloc, "cell")?.expect(rt, "it has a name");
-    let cell = Table::new(class.copy()?, Words::of(&[0])?)?;
-    let keeper = MemoryKeeper::new(alloc);
-    let mut book = open_book(alloc, keeper, HandlerId(1), class, cell)?;
+    let mut book = cell_book(rt, alloc, MemoryKeeper::new(alloc))?;
     Ok(answer_run(&mut book, Some(HandlerId(1)), reader, writer))
 }
 

@@ -1,6 +1,6 @@
 //! Runs over keepers: what is stored, what comes back, and what a refusal leaves.
 
-use super::{Ended, HELLO, LOCK, OPENED, OPENING, run_of};
+use super::{Ended, HELLO, LOCK, OPENED, OPENING, cell_book, run_of};
 use scoop_demo::*;
 use scoop_message::HandlerId;
 use scoop_object::Boxed;
@@ -221,5 +221,20 @@ fn a_refusal_stops_before_its_answer(rt: HostRuntime) -> Result<(), Fail> {
     for (calls, answered) in (1..9).zip(answers) {
         goes_on(&rt, alloc, calls, answered)?;
     }
+    Ok(())
+}
+
+#[test]
+fn a_book_that_has_failed_answers_nothing(rt: HostRuntime) -> Result<(), Fail> {
+    let alloc = rt.alloc();
+    let keeper = FailingKeeper::new(MemoryKeeper::new(alloc), 1);
+    let mut book = cell_book(&rt, alloc, keeper)?;
+    let mut written = Vec::new(alloc);
+    let refused = RunError::Store(KeeperError::Refused);
+    for error in [refused, RunError::NodeFailed] {
+        let ended = answer_run(&mut book, None, HELLO.as_bytes(), &mut written);
+        assert_eq!(rt; ended, Err(error));
+    }
+    assert_eq!(rt; written.len(), 0);
     Ok(())
 }
