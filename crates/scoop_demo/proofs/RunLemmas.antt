@@ -96,20 +96,22 @@ module _ {K : Type 0} (number : ℕ) (line : List ℕ) (old heard : BookValue K)
       → HearsLine number old line heard next text
   hears_line datagram text next none found stands prints = record { datagram = datagram; is_datagram = is_datagram number line datagram none found stands; prints = prints }
 
-  -- the handler runs behind the answer
-  pub ran_behind : (r : Result Unit RunError) (h : HandlerId) (text : List ℕ) (new : BookValue K) (before after : Option (List ℕ)) → HearsLine number old line heard (Some h) text
-      → Appends before after (text ++ 10 ∷ []) → OnOk r (RunsDry 0 h heard new) → OnOk r (WritesAnswer number old line new before after)
-  ran_behind (Ok u) h text new before after hears writes dry = record { text = text; answers = record { heard = heard; next = Some h; hears = hears; runs = dry }; writes = writes }
-  ran_behind (Err e) h text new before after hears writes dry = tt
+  module _ (next : Option HandlerId) (text : List ℕ) (before after : Option (List ℕ)) (hears : HearsLine number old line heard next text) (writes : Appends before after (text ++ 10 ∷ [])) where
+    hears_as : (other : Option HandlerId) → next ≡ other → HearsLine number old line heard other text
+    hears_as other is = subst (λ (n : Option HandlerId). HearsLine number old line heard n text) is hears
 
-  pub stopped_behind : (r : Result Unit RunError) (h : HandlerId) (text : List ℕ) (new : BookValue K) (before after : Option (List ℕ)) → HearsLine number old line heard (Some h) text
-      → Appends before after (text ++ 10 ∷ []) → IfErr r (StopsRunning h heard new) → IfErr r (StopsInLine number old line new before after)
-  stopped_behind (Ok u) h text new before after hears writes stops = tt
-  stopped_behind (Err e) h text new before after hears writes stops = in_run heard h text hears stops writes
+    -- the handler runs behind the answer
+    pub ran_behind : (r : Result Unit RunError) (h : HandlerId) (new : BookValue K) → next ≡ Some h → OnOk r (RunsDry 0 h heard new) → OnOk r (WritesAnswer number old line new before after)
+    ran_behind (Ok u) h new is dry = record { text = text; answers = record { heard = heard; next = Some h; hears = hears_as (Some h) is; runs = dry }; writes = writes }
+    ran_behind (Err e) h new is dry = tt
 
-  -- nothing runs behind it
-  pub rested_behind : (text : List ℕ) (before after : Option (List ℕ)) → HearsLine number old line heard None text → Appends before after (text ++ 10 ∷ []) → WritesAnswer number old line heard before after
-  rested_behind text before after hears writes = record { text = text; answers = record { heard = heard; next = None; hears = hears; runs = refl }; writes = writes }
+    pub stopped_behind : (r : Result Unit RunError) (h : HandlerId) (new : BookValue K) → next ≡ Some h → IfErr r (StopsRunning h heard new) → IfErr r (StopsInLine number old line new before after)
+    stopped_behind (Ok u) h new is stops = tt
+    stopped_behind (Err e) h new is stops = in_run heard h text (hears_as (Some h) is) stops writes
+
+    -- nothing runs behind it
+    pub rested_behind : next ≡ None → WritesAnswer number old line heard before after
+    rested_behind is = record { text = text; answers = record { heard = heard; next = None; hears = hears_as None is; runs = refl }; writes = writes }
 
 -- one line more has its answer
 answers_more : {K : Type 0} (number : ℕ) (first mid last : BookValue K) (lines : List (List ℕ)) (text line answer : List ℕ) → AnswersLines number first lines mid text

@@ -1,6 +1,4 @@
-use Rattle.std.proofs.Common.{◌≡◌, Option, None, Some, refl, sym, subst}
-use Rattle.scoop_message.specs.declared.name.HandlerId.{HandlerId}
-use Rattle.scoop_demo.specs.Run.{HearsLine}
+use Rattle.std.proofs.Common.{Some, refl}
 use Rattle.scoop_demo.specs.Run.StopsInLine.{in_digits, in_book, in_output}
 use Rattle.scoop_demo.proofs.AnswerLemmas.{absent_printed, elsewhere_more, here_printed}
 use Rattle.scoop_demo.proofs.RunLemmas.{digits_fault, hears_line, is_datagram, keeps_all, ran_behind, rested_behind, stopped_behind}
@@ -21,13 +19,13 @@ run_dry-requires g c = here_printed _ _ _ _ _ _ c.in-Ok-answer.ensures.ok c.in-S
 
 pub returns-in-Some-clause-ok : goal.returns-in-Some-clause-ok
 returns-in-Some-clause-ok g c =
-    let hears = rw c.in-Some.is at (hears_line _ _ _ _ _ _ _ c.requires c.in-Ok.ensures.fault c.in-Ok.ensures.ok c.in-Ok-answer.ensures.ok) in
-    ran_behind _ _ _ _ c.run_dry.result _ _ _ _ _ hears c.in-Ok-print_answer.ensures c.run_dry.ensures.ok
+    let hears = hears_line _ _ _ _ _ _ _ c.requires c.in-Ok.ensures.fault c.in-Ok.ensures.ok c.in-Ok-answer.ensures.ok in
+    ran_behind _ _ _ _ _ _ _ _ hears c.in-Ok-print_answer.ensures c.run_dry.result _ _ c.in-Some.is c.run_dry.ensures.ok
 
 pub returns-in-Some-clause-err : goal.returns-in-Some-clause-err
 returns-in-Some-clause-err g c =
-    let hears = rw c.in-Some.is at (hears_line _ _ _ _ _ _ _ c.requires c.in-Ok.ensures.fault c.in-Ok.ensures.ok c.in-Ok-answer.ensures.ok) in
-    stopped_behind _ _ _ _ c.run_dry.result _ _ _ _ _ hears c.in-Ok-print_answer.ensures c.run_dry.ensures.err
+    let hears = hears_line _ _ _ _ _ _ _ c.requires c.in-Ok.ensures.fault c.in-Ok.ensures.ok c.in-Ok-answer.ensures.ok in
+    stopped_behind _ _ _ _ _ _ _ _ hears c.in-Ok-print_answer.ensures c.run_dry.result _ _ c.in-Some.is c.run_dry.ensures.err
 
 pub returns-in-Some-clause-others : goal.returns-in-Some-clause-others
 returns-in-Some-clause-others g c =
@@ -35,5 +33,5 @@ returns-in-Some-clause-others g c =
 
 pub returns-in-None-clause-ok : goal.returns-in-None-clause-ok
 returns-in-None-clause-ok g c =
-    let hears = rw c.in-None.is at (hears_line _ _ _ _ _ _ _ c.requires c.in-Ok.ensures.fault c.in-Ok.ensures.ok c.in-Ok-answer.ensures.ok) in
-    rested_behind _ _ _ _ _ _ _ hears c.in-Ok-print_answer.ensures
+    let hears = hears_line _ _ _ _ _ _ _ c.requires c.in-Ok.ensures.fault c.in-Ok.ensures.ok c.in-Ok-answer.ensures.ok in
+    rested_behind _ _ _ _ _ _ _ _ hears c.in-Ok-print_answer.ensures c.in-None.is
