@@ -27,7 +27,7 @@ abbrev pub pending_at : HandlerId → List LocalHandler → ℕ
 pending_at h hs = option_map_or (λ (s : LocalHandler). all_pending s.core.state.queues) (handler_in h hs) 0
 
 -- the handler that moved is found as it is now
-moved_there : (event : Event) (reply : Reply) (hs ks : List LocalHandler) (moves : Moves event reply hs ks) → handler_in (handler_at event) ks ≡ Some moves.new
+pub moved_there : (event : Event) (reply : Reply) (hs ks : List LocalHandler) (moves : Moves event reply hs ks) → handler_in (handler_at event) ks ≡ Some moves.new
 moved_there event reply hs ks moves =
     let named : number_in moves.new ≡ handler_at event =
     moved_number event reply moves.handler moves.new moves.moves ∙ key_found number_in same_handler handler_decides (handler_at event) hs moves.handler moves.here in
@@ -76,7 +76,7 @@ own_number c true x t e = cc
 own_number c false None t e = cc
 own_number c false (Some f) t e = sym (ap (λ (u : Task). u.handler) (some_same (task_of c f) t e))
 
-if_here : {A : Type 0} (P : A → Type 0) (o : Option A) (x : A) → o ≡ Some x → IfSome o P → P x
+pub if_here : {A : Type 0} (P : A → Type 0) (o : Option A) (x : A) → o ≡ Some x → IfSome o P → P x
 if_here P None x e is = cc
 if_here P (Some y) x e is = subst P (some_same y x e) is
 

@@ -1,12 +1,17 @@
 -- How a handler of a book runs until nothing can run.
-use Rattle.std.specs.Prelude.{ℕ, Bool, true, false, Some, None}
+use Rattle.std.specs.Prelude.{◌≡◌, ◌≢◌, ◌≤◌, ℕ, Bool, true, false, length, Option, Some, None}
 use Rattle.scoop_message.specs.declared.name.Block.{Block}
 use Rattle.scoop_message.specs.declared.name.HandlerId.{HandlerId}
 use Rattle.scoop_handler.specs.Running.{Task, ran_of}
 use Rattle.scoop_book.specs.declared.event.Event.TheVariants.{Begin, Finish}
 use Rattle.scoop_book.specs.declared.event.Reply.TheVariants.{Began, Finished}
-use Rattle.scoop_book.specs.Moves.{leaves}
-use Rattle.scoop_book.specs.Books.{BookValue, Gains, Stays}
+use Rattle.scoop_book.specs.Moves.{handler_in, leaves}
+use Rattle.scoop_book.specs.Books.{BookValue, Gains, Stays, MayEnter, MayHappen}
+use Rattle.scoop_book.specs.declared.error.BookError.{BookError}
+use Rattle.scoop_book.specs.declared.error.BookError.TheVariants.{NodeFailed, HistoryFull, UnknownHandler, StoreRefused, OutOfMemory}
+use Rattle.scoop_book.specs.declared.error.FinishRefusal.{FinishRefusal}
+use Rattle.scoop_book.specs.declared.error.FinishRefusal.TheVariants as unfinished
+use Rattle.scoop_record.specs.Keeper.{Stored, StaysAt, IsSame}
 
 -- an entry of the handler leaves, and runs
 pub record RunsEntry {K : Type 0} (pass : ℕ) (h : HandlerId) (old new : BookValue K) : Type 0 where
@@ -44,3 +49,27 @@ pub record RunsSome {K : Type 0} (pass : ℕ) (h : HandlerId) (old new : BookVal
   pub last : BookValue K
   pub ran : RunsEntries pass h old last
   pub breaks : Breaks pass h last new
+
+-- a job's refusal, as that of a run: a job that has just left is no stranger
+abbrev pub Tells : FinishRefusal → BookError → Type 0
+Tells unfinished.NodeFailed e = e ≡ NodeFailed
+Tells unfinished.HistoryFull e = e ≡ HistoryFull
+Tells unfinished.UnknownHandler e = e ≡ UnknownHandler
+Tells unfinished.Stranger e = ⊥
+Tells unfinished.StoreRefused e = e ≡ StoreRefused
+Tells unfinished.OutOfMemory e = e ≡ OutOfMemory
+
+-- Why a run breaks off: the keeper had refused a state before, or refuses that of an entry that left, after which nothing
+-- is entered any more; the history is full by then; the handler isn't here; or memory is wanted.
+abbrev pub BreaksOff : {K : Type 0} → HandlerId → (old new : BookValue K) → BookError → Type 0
+BreaksOff h old new NodeFailed = old.failed ≡ true
+BreaksOff h old new HistoryFull = (new.failed ≡ false) × (new.limit ≤ length new.history)
+BreaksOff h old new UnknownHandler = MayEnter old × (handler_in h old.handlers ≡ None)
+BreaksOff h old new StoreRefused = (old.failed ≡ false) × (new.failed ≡ true)
+BreaksOff h old new OutOfMemory = MayHappen old h
+
+-- While the keeper is honest it was so before, of the other handlers it has what it had, and of all clients.
+pub record KeepsOthers {K : Type 0} (has : K → ℕ → Stored → Type 0) (incarnations : K → ℕ → Option ℕ) (is_honest : K → Type 0) (h : HandlerId) (old new : K) : Type 0 where
+  pub honest : is_honest new → is_honest old
+  pub handlers : is_honest new → (other : ℕ) → other ≢ h.0 → StaysAt (has old) (has new) other
+  pub clients : is_honest new → IsSame (incarnations old) (incarnations new)
