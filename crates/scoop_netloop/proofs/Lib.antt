@@ -3,3 +3,5 @@ pub mod Served
 pub mod Turns
 pub mod Firsts
 pub mod Dry
+pub mod Keeping
+pub mod Looping

@@ -64,7 +64,7 @@ pub(crate) fn execute<B, K, A, G, R>(
     rt: &R,
     node: &Node<B, K, A>,
     pass: &mut Pass<A>,
-    jobs: &Receiver<HandlerId>,
+    jobs: &Receiver<HandlerId, A>,
     gate: &G,
     stop: &Stop,
 ) -> ServeEnd

@@ -1,15 +1,18 @@
 //! A node without a network.
 
-ghost use Rattle.std.specs.Prelude.{◌≡◌, ◌≤◌, [], None, zero, IfOk, IfSome};
-ghost use Rattle.scoop_link.specs.Datagram.{TakesFirst};
-ghost use Rattle.scoop_link.specs.Link.{CountsFault};
-ghost use Rattle.scoop_netloop.specs.Looping.{loop_value};
+ghost use Rattle.std.specs.Prelude.{◌≡◌, ◌≤◌, ◌⊎◌, ◌++◌, ◌∷◌, [], None, Ok, zero, IfOk, IfSome};
+ghost use Rattle.scoop_link.specs.Datagram.{TakesFirst, kept};
+ghost use Rattle.scoop_link.specs.Link.{CountsFault, Exchanges, sent_by, taken_by};
+ghost use Rattle.scoop_netloop.specs.Answering.{runs_after};
+ghost use Rattle.scoop_netloop.specs.Looping.{Loops, RunsThen, loop_value};
 
 use crate::answer::{Answered, answer_datagram, runs_after};
 use crate::running::run_out;
 use scoop_book::Book;
 use scoop_frame::decode;
+use scoop_handler::Note;
 use scoop_link::{Datagram, Link, LinkFault, Party};
+use scoop_message::HandlerId;
 use scoop_message::limits::BUFFER_LEN;
 use scoop_object::Behaviour;
 use scoop_record::Keeper;
@@ -48,27 +51,49 @@ impl<B: Behaviour, K: Keeper<A>, A: Allocator + Copy> LoopLink<B, K, A> {
     }
 }
 
+// Keeps the frame of a reply behind the others. Without memory for it, it is lost.
+fn keep_reply<A: Allocator>(replies: &mut VecDeque<Datagram, A>, frame: &[u8])
+    ensures { (replies.new.items ≡ replies.old.items ++ kept frame.now ∷ []) ⊎ (replies.new.items ≡ replies.old.items) }
+{
+    let _lost_without_memory = replies.push_back(Datagram::of(frame));
+}
+
+// Runs the handler behind a message with this note. What the book refuses is left.
+fn run_behind<B: Behaviour, K: Keeper<A>, A: Allocator + Copy>(
+    book: &mut Book<B, K, A>,
+    pass: u32,
+    handler: HandlerId,
+    note: Note,
+)
+    ensures { RunsThen (runs_after note) pass handler book.old book.new }
+{
+    if runs_after(note) {
+        let _what_has_run_stands = run_out(book, pass, handler);
+    }
+}
+
 // Gives a datagram to the book, keeps the reply, and runs the handler.
 fn answer<B: Behaviour, K: Keeper<A>, A: Allocator + Copy>(
     book: &mut Book<B, K, A>,
     pass: u32,
     replies: &mut VecDeque<Datagram, A>,
     bytes: &[u8],
-) {
+)
+    ensures { Loops pass bytes.now book.old replies.old.items book.new replies.new.items }
+{
     let Ok((_, message)) = decode(bytes) else {
         return;
     };
+    let handler = message.handler();
     let mut buffer = [0; BUFFER_LEN];
-    let note = match answer_datagram(book, pass, bytes, &mut buffer) {
+    match answer_datagram(book, pass, bytes, &mut buffer) {
         Ok(Answered::Reply(len, note)) => {
-            let _lost_without_memory = replies.push_back(Datagram::of(&buffer[..len]));
-            note
+            keep_reply(replies, &buffer[..len]);
+            run_behind(book, pass, handler, note);
         }
-        Ok(Answered::Silent(note)) => note,
-        Ok(Answered::RefusedFrame(_)) | Err(_) => return,
-    };
-    if runs_after(note) {
-        let _what_has_run_stands = run_out(book, pass, message.handler());
+        Ok(Answered::Silent(note)) => run_behind(book, pass, handler, note),
+        Ok(Answered::RefusedFrame(_)) => {}
+        Err(_) => {}
     }
 }
 
@@ -77,7 +102,13 @@ impl<B: Behaviour, K: Keeper<A>, A: Allocator + Copy> Link for LoopLink<B, K, A>
 
     ghost fault_count = { λ _. zero };
 
-    fn send(&mut self, _to: Party, bytes: &[u8]) -> Result<(), LinkFault> {
+    fn send(&mut self, _to: Party, bytes: &[u8]) -> Result<(), LinkFault>
+        ensures faults { CountsFault result zero zero }
+
+        ensures sent { result ≡ Ok tt }
+        ensures loops { Loops self.old.pass bytes.now self.old.book self.old.replies self.new.book self.new.replies }
+        ensures pass { self.new.pass ≡ self.old.pass }
+    {
         answer(&mut self.book, self.pass, &mut self.replies, bytes);
         Ok(())
     }
@@ -86,7 +117,7 @@ impl<B: Behaviour, K: Keeper<A>, A: Allocator + Copy> Link for LoopLink<B, K, A>
         ensures in_bounds { IfOk result (λ got. IfSome got (λ n. n ≤ BUFFER_LEN)) }
         ensures faults { CountsFault result zero zero }
         ensures first { IfOk result (λ got. TakesFirst got self.old.replies self.new.replies buffer.old buffer.new) }
-        ensures book { self.new.book ≡ self.old.book }
+        ensures others { (self.new.book ≡ self.old.book) × (self.new.pass ≡ self.old.pass) }
     {
         let Some(first) = self.replies.pop_front() else {
             return Ok(None);

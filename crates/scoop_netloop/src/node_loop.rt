@@ -12,7 +12,7 @@ use scoop_link::Link;
 use scoop_message::HandlerId;
 use scoop_object::Behaviour;
 use scoop_record::Keeper;
-use std::alloc::{Allocator, Global};
+use std::alloc::Allocator;
 use std::sync::Wait;
 use std::thread;
 use std::thread::Threads;
@@ -34,7 +34,7 @@ fn run_beside<T, B, K, A, G, R>(
     node: &Node<B, K, A>,
     executors: &mut [Pass<A>],
     ends: &mut [ServeEnd],
-    jobs: &Receiver<HandlerId>,
+    jobs: &Receiver<HandlerId, A>,
     gate: &G,
     stop: &Stop,
     task: T,
@@ -72,7 +72,7 @@ struct Receiving<'a, 'l, 'p, B: Behaviour, K: Keeper<A>, A: Allocator + Copy, L:
     node: &'a Node<B, K, A>,
     link: &'l mut L,
     pass: &'p mut Pass<A>,
-    work: Sender<HandlerId>,
+    work: Sender<HandlerId, A>,
     stop: &'a Stop,
     turns: u64,
 }
@@ -122,8 +122,8 @@ fn serve_beside<B, K, A, L, G, R>(
     first: &mut Pass<A>,
     executors: &mut [Pass<A>],
     ends: &mut [ServeEnd],
-    work: Sender<HandlerId>,
-    jobs: Receiver<HandlerId>,
+    work: Sender<HandlerId, A>,
+    jobs: Receiver<HandlerId, A>,
     gate: &G,
     stop: &Stop,
     turns: u64,
@@ -163,7 +163,7 @@ where
 /// were told of, and end. A job that an executor can't finish is dropped and stays out.
 pub fn serve<B, K, A, L, G, R>(
     rt: &R,
-    alloc: Global,
+    alloc: A,
     node: &Node<B, K, A>,
     link: &mut L,
     mut passes: Vec<Pass<A>, A>,

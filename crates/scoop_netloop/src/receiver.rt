@@ -44,7 +44,11 @@ fn hear<B: Behaviour, K: Keeper<A>, A: Allocator + Copy, R: Wait>(
 }
 
 // Tells the executors of a handler that may have something to run.
-fn wake<R: Wait>(rt: &R, work: &Sender<HandlerId>, handler: HandlerId) -> Option<ServeEnd> {
+fn wake<A: Allocator, R: Wait>(
+    rt: &R,
+    work: &Sender<HandlerId, A>,
+    handler: HandlerId,
+) -> Option<ServeEnd> {
     match work.send(rt, handler) {
         Ok(()) => None,
         Err(SendError::Disconnected(_)) => Some(ServeEnd::Stopped),
@@ -69,7 +73,7 @@ fn turn<B: Behaviour, K: Keeper<A>, A: Allocator + Copy, L: Link, R: Wait>(
     node: &Node<B, K, A>,
     link: &mut L,
     pass: &mut Pass<A>,
-    work: &Sender<HandlerId>,
+    work: &Sender<HandlerId, A>,
 ) -> Option<ServeEnd>
     ensures { ServesPass (is_none result) pass.old pass.new (L.told link.old) (L.told link.new) }
 {
@@ -106,7 +110,7 @@ pub(crate) fn receive_all<B: Behaviour, K: Keeper<A>, A: Allocator + Copy, L: Li
     node: &Node<B, K, A>,
     link: &mut L,
     pass: &mut Pass<A>,
-    work: &Sender<HandlerId>,
+    work: &Sender<HandlerId, A>,
     stop: &Stop,
     turns: u64,
 ) -> ServeEnd

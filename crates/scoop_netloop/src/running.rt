@@ -1,7 +1,8 @@
 //! A handler of a book runs until nothing can run.
 
-ghost use Rattle.std.specs.Prelude.{◌≢◌, IfOk, OnOk, OnErr};
-ghost use Rattle.scoop_netloop.specs.RunningOut.{Breaks, RunsDry, RunsNext, RunsSome};
+ghost use Rattle.std.specs.Prelude.{◌≢◌, IfOk, IfErr, OnOk, OnErr};
+ghost use Rattle.scoop_book.specs.Books.{IsBook};
+ghost use Rattle.scoop_netloop.specs.RunningOut.{Breaks, BreaksOff, KeepsOthers, RunsDry, RunsNext, RunsSome, Tells};
 
 use scoop_book::{Book, BookError, FinishRefusal};
 use scoop_message::HandlerId;
@@ -12,6 +13,7 @@ use std::alloc::Allocator;
 // Why an entry that has just left doesn't run.
 fn refusal_of(cause: FinishRefusal) -> BookError
     requires { cause ≢ FinishRefusal.Stranger }
+    ensures { Tells cause result }
 {
     match cause {
         FinishRefusal::NodeFailed => BookError::NodeFailed,
@@ -31,6 +33,9 @@ fn run_next<B: Behaviour, K: Keeper<A>, A: Allocator + Copy>(
 ) -> Result<bool, BookError>
     ensures ok { IfOk result (λ ran. RunsNext pass handler ran book.old book.new) }
     ensures err { OnErr result (Breaks pass handler book.old book.new) }
+    ensures refused { IfErr result (BreaksOff handler book.old book.new) }
+    ensures others { KeepsOthers K.handlers K.incarnations K.is_honest handler book.old.keeper book.new.keeper }
+    ensures sound { IsBook K.handlers K.is_honest book.new }
 {
     let job = match book.begin(pass, handler) {
         Ok(Some(job)) => job,
@@ -46,8 +51,9 @@ fn run_next<B: Behaviour, K: Keeper<A>, A: Allocator + Copy>(
 /// Runs what the handler's private queues hold until nothing can run, for the pass of this number. Each entry
 /// that runs is a Begin and a Finish in the history, and the last Begin finds nothing.
 ///
-/// Refused as `Book::begin` and `Book::finish` refuse. What has run stands, and an entry that left and isn't
-/// finished stays out.
+/// Refused as `Book::begin` and `Book::finish` refuse: `NodeFailed` and `UnknownHandler` before anything has run,
+/// `HistoryFull`, `StoreRefused`, after which nothing is entered any more, and `OutOfMemory` perhaps later. What has
+/// run stands and is stored, and an entry that left and isn't finished stays out.
 pub fn run_out<B: Behaviour, K: Keeper<A>, A: Allocator + Copy>(
     book: &mut Book<B, K, A>,
     pass: u32,
@@ -55,6 +61,9 @@ pub fn run_out<B: Behaviour, K: Keeper<A>, A: Allocator + Copy>(
 ) -> Result<(), BookError>
     ensures ok { OnOk result (RunsDry pass handler book.old book.new) }
     ensures err { OnErr result (RunsSome pass handler book.old book.new) }
+    ensures refused { IfErr result (BreaksOff handler book.old book.new) }
+    ensures others { KeepsOthers K.handlers K.incarnations K.is_honest handler book.old.keeper book.new.keeper }
+    ensures sound { IsBook K.handlers K.is_honest book.new }
 {
     loop {
         match run_next(book, pass, handler) {

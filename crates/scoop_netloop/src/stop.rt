@@ -4,7 +4,7 @@ use scoop_book::{BookError, FinishRefusal};
 use std::sync::atomic::{AtomicBool, Ordering};
 use thiserror::Error;
 
-/// Why a loop ended. Printed as its name.
+/// Why a loop ended. Printed as its name, but want of memory as everywhere.
 #[derive(Clone, Copy, Debug, PartialEq, Eq, Error)]
 pub enum ServeEnd {
     /// It was asked to stop.
@@ -29,7 +29,7 @@ pub enum ServeEnd {
     #[error("NoThread")]
     NoThread,
     /// A growth of memory was refused.
-    #[error("OutOfMemory")]
+    #[error("out of memory")]
     OutOfMemory,
 }
 

@@ -1,7 +1,11 @@
 //! The tests of loops.
 
 mod accounts;
+mod frames;
 mod gate;
+mod growths;
+mod painting;
+mod refused;
 mod tape;
 mod waits;
 

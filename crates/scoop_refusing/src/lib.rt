@@ -2,13 +2,13 @@
 #![tactic(auto)]
 
 use std::alloc::{AllocError, Allocator};
-use std::cell::Cell;
+use std::sync::atomic::{AtomicU64, Ordering};
 
 /// An allocator that refuses one growth, and passes every other call on. It is lent to what grows by it.
 pub struct Refusing<B: Allocator> {
     inner: B,
     // How many growths are left up to the one that is refused, 0 once it was.
-    left: Cell<u64>,
+    left: AtomicU64,
 }
 
 impl<B: Allocator> Refusing<B> {
@@ -16,18 +16,18 @@ impl<B: Allocator> Refusing<B> {
     pub fn new(inner: B, number: u64) -> Refusing<B> {
         Refusing {
             inner,
-            left: Cell::new(number),
+            left: AtomicU64::new(number),
         }
     }
 
     /// Refuses the growth of this number from now on, and none under 0.
     pub fn refuse(&self, number: u64) {
-        self.left.set(number);
+        self.left.store(number, Ordering::SeqCst);
     }
 
     /// Whether it has refused, or refuses none.
     pub fn has_refused(&self) -> bool {
-        self.left.get() == 0
+        self.left.load(Ordering::SeqCst) == 0
     }
 }
 
@@ -38,10 +38,9 @@ impl<B: Allocator> Drop for Refusing<B> {
 }
 
 // Counts a growth, and tells whether it is the one that is refused.
-fn refuses(left: &Cell<u64>) -> bool {
-    let now = left.get();
-    left.set(now.saturating_sub(1));
-    now == 1
+fn refuses(left: &AtomicU64) -> bool {
+    let counted = left.fetch_update(Ordering::SeqCst, Ordering::SeqCst, |now| now.checked_sub(1));
+    counted == Ok(1)
 }
 
 unsafe impl<B: Allocator> Allocator for Refusing<B> {

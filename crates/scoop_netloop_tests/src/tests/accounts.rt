@@ -5,7 +5,7 @@ use scoop_book::{Book, Node, Pass};
 use scoop_message::{HandlerId, Words};
 use scoop_object::{Class, OpRow, Table, Term, Write, Writes};
 use scoop_record::{Keeper, MemoryKeeper};
-use std::alloc::Global;
+use std::alloc::{Allocator, Global};
 use std::process::Abort;
 
 /// Adds the argument to the balance.
@@ -17,16 +17,19 @@ pub const WITHDRAW: u16 = 2;
 /// Tells the balance.
 pub const BALANCE: u16 = 3;
 
+/// Makes the argument the balance.
+pub const SET: u16 = 4;
+
 const BALANCE_NOW: Term = Term::Word(0);
 
 const AMOUNT: Term = Term::Arg(0);
 
 const NOTHING: Term = Term::Const(0);
 
-fn row(op: u16, test: Option<(Term, Term)>, plus: Term, minus: Term) -> Option<OpRow> {
+fn row(op: u16, test: Option<(Term, Term)>, base: Term, plus: Term, minus: Term) -> Option<OpRow> {
     let write = Write {
         word: 0,
-        base: BALANCE_NOW,
+        base,
         plus,
         minus,
     };
@@ -39,10 +42,12 @@ fn row(op: u16, test: Option<(Term, Term)>, plus: Term, minus: Term) -> Option<O
 }
 
 fn class(alloc: Global) -> Option<Class> {
-    let deposit = row(DEPOSIT, None, AMOUNT, NOTHING)?;
-    let withdraw = row(WITHDRAW, Some((AMOUNT, BALANCE_NOW)), NOTHING, AMOUNT)?;
-    let balance = row(BALANCE, None, NOTHING, NOTHING)?;
-    Class::build(alloc, 1, &[deposit, withdraw, balance]).ok()
+    let covered = Some((AMOUNT, BALANCE_NOW));
+    let deposit = row(DEPOSIT, None, BALANCE_NOW, AMOUNT, NOTHING)?;
+    let withdraw = row(WITHDRAW, covered, BALANCE_NOW, NOTHING, AMOUNT)?;
+    let balance = row(BALANCE, None, BALANCE_NOW, NOTHING, NOTHING)?;
+    let set = row(SET, None, AMOUNT, NOTHING, NOTHING)?;
+    Class::build(alloc, 1, &[deposit, withdraw, balance, set]).ok()
 }
 
 fn account(alloc: Global, number: HandlerId) -> Option<(HandlerId, Class, Table)> {
@@ -50,37 +55,46 @@ fn account(alloc: Global, number: HandlerId) -> Option<(HandlerId, Class, Table)
     Some((number, class(alloc)?, object))
 }
 
-fn opened_book(alloc: Global) -> Option<Book<Table, MemoryKeeper>> {
+fn opened_book<A: Allocator + Copy>(
+    alloc: Global,
+    heap: A,
+) -> Option<Book<Table, MemoryKeeper<A>, A>> {
     let handlers = vec![in alloc; account(alloc, ONE)?, account(alloc, TWO)?].ok()?;
-    Book::open(alloc, handlers, MemoryKeeper::new(alloc)).ok()
+    Book::open(heap, handlers, MemoryKeeper::new(heap)).ok()
 }
 
-fn opened_node<K: Keeper<Global>>(
+fn opened_node<A: Allocator + Copy, K: Keeper<A>>(
     alloc: Global,
+    heap: A,
     keeper: K,
     passes: u32,
-) -> Option<(Node<Table, K>, Vec<Pass>)> {
+) -> Option<(Node<Table, K, A>, Vec<Pass<A>, A>)> {
     let handlers = vec![in alloc; account(alloc, ONE)?, account(alloc, TWO)?].ok()?;
-    Node::open(alloc, handlers, keeper, passes).ok()
+    Node::open(heap, handlers, keeper, passes).ok()
 }
 
-/// A book of handlers 1 and 2, each with an account of balance 0.
-pub fn book(rt: &impl Abort, alloc: Global) -> Book<Table, MemoryKeeper> {
-    match opened_book(alloc) {
+/// A book of handlers 1 and 2 over this heap, each with an account of balance 0.
+pub fn book<A: Allocator + Copy>(
+    rt: &impl Abort,
+    alloc: Global,
+    heap: A,
+) -> Book<Table, MemoryKeeper<A>, A> {
+    match opened_book(alloc, heap) {
         Some(book) => book,
         None => panic!(rt; "no book"),
     }
 }
 
-/// A node of handlers 1 and 2 over this keeper, each with an account of balance 0 where it has no state of it,
-/// and its passes.
-pub fn node<K: Keeper<Global>>(
+/// A node of handlers 1 and 2 over this heap and keeper, each with an account of balance 0 where it has no
+/// state of it, and its passes.
+pub fn node<A: Allocator + Copy, K: Keeper<A>>(
     rt: &impl Abort,
     alloc: Global,
+    heap: A,
     keeper: K,
     passes: u32,
-) -> (Node<Table, K>, Vec<Pass>) {
-    match opened_node(alloc, keeper, passes) {
+) -> (Node<Table, K, A>, Vec<Pass<A>, A>) {
+    match opened_node(alloc, heap, keeper, passes) {
         Some(opened) => opened,
         None => panic!(rt; "no node"),
     }

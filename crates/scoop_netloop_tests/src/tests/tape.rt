@@ -1,35 +1,15 @@
 //! A node over a tape.
 
 use super::accounts::node;
+use super::frames::{FIRST, HELLO, LOCK, feed, sends};
 use super::{ONE, SEVEN};
-use scoop_frame::{Version, decode, encode};
-use scoop_link::{Link, Party, Script, ScriptLink, TapeLink};
-use scoop_message::limits::BUFFER_LEN;
-use scoop_message::{Block, Message};
+use scoop_frame::{Version, decode};
+use scoop_link::{Party, Script, ScriptLink, TapeLink};
+use scoop_message::Message;
 use scoop_netloop::{OpenGate, ServeEnd, Stop, serve};
 use scoop_record::{FailingKeeper, MemoryKeeper};
 use std::process::Abort;
 use std::test::Fail;
-
-const FIRST: Block = Block {
-    client: SEVEN,
-    inc: 1,
-    num: 1,
-};
-
-const LOCK: Message = Message::Lock(ONE, FIRST);
-
-const HELLO: Message = Message::Hello(ONE, SEVEN, 1);
-
-fn feed(rt: &impl Abort, link: &mut TapeLink, message: &Message) {
-    let mut buffer = [0; BUFFER_LEN];
-    let len = match message.fits() && Version::One.carries(message) {
-        true => encode(Version::One, message, &mut buffer),
-        false => panic!(rt; "no frame"),
-    };
-    let fed = link.feed(&buffer[..len]).is_ok();
-    assert!(rt; fed);
-}
 
 fn has_sent(rt: &impl Abort, link: &TapeLink, i: usize, message: Message) {
     match link.sent(i) {
@@ -44,7 +24,7 @@ fn has_sent(rt: &impl Abort, link: &TapeLink, i: usize, message: Message) {
 #[test]
 fn a_greeting_and_a_lock_are_answered(rt: HostRuntime) -> Result<(), Fail> {
     let alloc = rt.alloc();
-    let (node, passes) = node(&rt, alloc, MemoryKeeper::new(alloc), 2);
+    let (node, passes) = node(&rt, alloc, alloc, MemoryKeeper::new(alloc), 2);
     let mut link = TapeLink::new(alloc, 8)?;
     feed(&rt, &mut link, &LOCK);
     feed(&rt, &mut link, &HELLO);
@@ -62,21 +42,10 @@ fn a_greeting_and_a_lock_are_answered(rt: HostRuntime) -> Result<(), Fail> {
     Ok(())
 }
 
-// Sends a message to handler 1, in version 1.
-fn sends(rt: &impl Abort, link: &mut ScriptLink, message: &Message) {
-    let mut buffer = [0; BUFFER_LEN];
-    let len = match message.fits() && Version::One.carries(message) {
-        true => encode(Version::One, message, &mut buffer),
-        false => panic!(rt; "no frame"),
-    };
-    let sent = link.send(Party::Handler(ONE), &buffer[..len]).is_ok();
-    assert!(rt; sent);
-}
-
 #[test]
 fn a_loop_goes_on_after_a_fault_with_another_link(rt: HostRuntime) -> Result<(), Fail> {
     let alloc = rt.alloc();
-    let (node, passes) = node(&rt, alloc, MemoryKeeper::new(alloc), 2);
+    let (node, passes) = node(&rt, alloc, alloc, MemoryKeeper::new(alloc), 2);
     // The fifth call is the send of the second reply.
     let script = Script {
         drop_every: 0,
@@ -84,9 +53,9 @@ fn a_loop_goes_on_after_a_fault_with_another_link(rt: HostRuntime) -> Result<(),
         fail_at: 5,
     };
     let (mut link, mut other) = ScriptLink::pair(alloc, script, Script::default(), 8)?;
-    sends(&rt, &mut other, &LOCK);
-    sends(&rt, &mut other, &HELLO);
-    sends(&rt, &mut other, &LOCK);
+    sends(&rt, &mut other, Party::Handler(ONE), &LOCK);
+    sends(&rt, &mut other, Party::Handler(ONE), &HELLO);
+    sends(&rt, &mut other, Party::Handler(ONE), &LOCK);
     assert!(rt; passes.len() == 2);
     let stop = Stop::new();
     let (end, passes) = serve(&rt, alloc, &node, &mut link, passes, &OpenGate, &stop, 10);
@@ -108,7 +77,7 @@ fn a_node_whose_keeper_refuses_keeps_what_was_stored(rt: HostRuntime) -> Result<
     let alloc = rt.alloc();
     // Two states are loaded, and two put.
     let keeper = FailingKeeper::new(MemoryKeeper::new(alloc), 4);
-    let (first, passes) = node(&rt, alloc, keeper, 2);
+    let (first, passes) = node(&rt, alloc, alloc, keeper, 2);
     let mut link = TapeLink::new(alloc, 8)?;
     feed(&rt, &mut link, &LOCK);
     feed(&rt, &mut link, &HELLO);
@@ -121,7 +90,7 @@ fn a_node_whose_keeper_refuses_keeps_what_was_stored(rt: HostRuntime) -> Result<
     let Ok(closed) = first.close(&rt, passes) else {
         return Err("not closed".into());
     };
-    let (second, passes) = node(&rt, alloc, closed.keeper.into_inner(), 2);
+    let (second, passes) = node(&rt, alloc, alloc, closed.keeper.into_inner(), 2);
     let mut link = TapeLink::new(alloc, 8)?;
     feed(&rt, &mut link, &LOCK);
     assert!(rt; passes.len() == 2);

@@ -49,7 +49,7 @@ fn balance(rt: &impl Abort, driver: &mut Looped) -> Result<Answer, DriverError> 
 #[test]
 fn a_withdrawal_waits_for_the_balance(rt: HostRuntime) {
     let alloc = rt.alloc();
-    let link = LoopLink::new(alloc, book(&rt, alloc), 0);
+    let link = LoopLink::new(alloc, book(&rt, alloc, alloc), 0);
     let mut driver = Driver::new(client(&rt, alloc, SEVEN, ONE), link, 20);
     assert_eq!(rt; driver.turn(), Ok(Some(ClientNote::Welcomed(ONE))));
     let failed = Err(DriverError::ConditionFailed(2));
