@@ -70,7 +70,7 @@ module _ {B : Type 0} (class : B → ClassTable) (has : ℕ → Stored → Type 
       subst (FailsToOpen has honest number own (class object)) (sym (t ∙ ap (λ (k : HandlerId). run.Store (keeper.BadImage k)) r.0)) (bad_image same r.1)
   unloaded (Keeper keeper.IncarnationsSpent) told same r t = absurd r
   unloaded (Keeper keeper.WrongSchema) told same r t = absurd r
-  unloaded OutOfMemory told same r t = subst (FailsToOpen has honest number own (class object)) (sym t) (no_memory same)
+  unloaded OutOfMemory told same r t = subst (FailsToOpen has honest number own (class object)) (sym t) no_memory
 
   pub fails_to_open : (e : OpenError) (told : RunError) → IsUnopened class has honest handed e → TellsUnopened e told → FailsToOpen has honest number own (class object) told
   fails_to_open NoPasses told (inl w) t = absurd w

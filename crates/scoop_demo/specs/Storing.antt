@@ -62,4 +62,4 @@ pub data FailsToOpen (has : ℕ → Stored → Type 0) (honest : Type 0) (number
   refused : own ≡ class → FailsToOpen has honest number class own (Store keeper.Refused)
   bad_image : own ≡ class → (honest → IsTheOne (has number.0) Damaged) → FailsToOpen has honest number class own (Store (keeper.BadImage number))
   wrong_words : own ≡ class → (honest → HasMisfit has number class) → FailsToOpen has honest number class own (WrongClass number)
-  no_memory : own ≡ class → FailsToOpen has honest number class own OutOfMemory
+  no_memory : FailsToOpen has honest number class own OutOfMemory

@@ -2,7 +2,7 @@ use Rattle.scoop_demo.proofs.AnswerLemmas.{elsewhere_ran, not_away}
 use Rattle.scoop_demo.proofs.answer.run_dry.Goals as goal
 
 pub refusal_of-requires : goal.refusal_of-requires
-refusal_of-requires g c = not_away _ _ _ _ c.requires c.in-Err.ensures.refused
+refusal_of-requires g c = not_away c.args.handler c.args.book.now c.run_out.new.book _ c.requires c.in-Err.ensures.refused
 
 pub returns-in-Ok-clause-others : goal.returns-in-Ok-clause-others
 returns-in-Ok-clause-others g c = elsewhere_ran _ _ _ _ _ _ _ c.requires c.run_out.ensures.others
