@@ -1,5 +1,5 @@
 -- What is printed for a datagram, and what the keeper has behind it.
-use Rattle.std.proofs.Common.{◌≡◌, ◌≢◌, if◌then◌else◌, ℕ, Bool, true, false, List, [], ◌∷◌, length, drop, Option, Some, None, IfSome, refl, sym, ap, ◌∙◌, subst}
+use Rattle.std.proofs.Common.{◌≡◌, ◌≢◌, if◌then◌else◌, ℕ, Bool, true, false, List, [], ◌∷◌, length, drop, Option, Some, None, refl, sym, ap, ◌∙◌, subst}
 use Rattle.std.proofs.lemmas.List.{take_at}
 use Rattle.hex.specs.Hex.{encode_lower}
 use Rattle.scoop_message.specs.declared.name.HandlerId.{HandlerId}
@@ -11,29 +11,29 @@ use Rattle.scoop_frame.specs.declared.version.Version.{Version}
 use Rattle.scoop_frame.specs.Buffer.{written}
 use Rattle.scoop_frame.specs.Frame.{frame, IsFrame}
 use Rattle.scoop_handler.specs.declared.note.Note.{Note}
-use Rattle.scoop_record.specs.Keeper.{Keeps, Stored, StaysAt, Stays as KeeperStays, IsSame}
+use Rattle.scoop_record.specs.Keeper.{Keeps, Stored, StaysAt, Stays as KeeperStays}
 use Rattle.scoop_record.proofs.KeeperLemmas.{is_same_same, is_same_more}
 use Rattle.scoop_book.specs.declared.error.BookError.{BookError}
 use Rattle.scoop_book.specs.declared.error.BookError.TheVariants.{UnknownHandler}
 use Rattle.scoop_book.specs.declared.event.Event.{Event}
-use Rattle.scoop_book.specs.declared.event.Event.TheVariants.{Hear, Begin, Finish}
+use Rattle.scoop_book.specs.declared.event.Event.TheVariants.{Hear}
 use Rattle.scoop_book.specs.declared.event.Reply.{Reply}
-use Rattle.scoop_book.specs.declared.event.Reply.TheVariants.{Heard, Began, Finished}
-use Rattle.scoop_book.specs.Moves.{LocalHandler, Moves, handler_at, handler_in, leaves, number_in, with_handler}
+use Rattle.scoop_book.specs.declared.event.Reply.TheVariants.{Heard}
+use Rattle.scoop_book.specs.Moves.{LocalHandler, Moves, handler_in, number_in, with_handler}
 use Rattle.scoop_book.specs.Books.{BookValue, Gains, KeepsNew}
 use Rattle.scoop_book.proofs.Places.{by_test, key_found}
 use Rattle.scoop_netloop.specs.declared.answer.Answered.{Answered}
 use Rattle.scoop_netloop.specs.declared.answer.Answered.TheVariants as answered
-use Rattle.scoop_netloop.specs.Answering.{AnswersDatagram, AnswersFrame, KeepsAnswered, RefusesFrame, answered_of, frame_of, runs_after}
+use Rattle.scoop_netloop.specs.Answering.{AnswersDatagram, KeepsAnswered, answered_of, frame_of, runs_after}
 use Rattle.scoop_netloop.specs.Answering.AnswersDatagram.{refuses, answers}
-use Rattle.scoop_netloop.specs.RunningOut.{BreaksOff, KeepsOthers, RunsDry, RunsEntries}
+use Rattle.scoop_netloop.specs.RunningOut.{BreaksOff, KeepsOthers, RunsEntries}
 use Rattle.scoop_netloop.specs.RunningOut.RunsEntries.{none_ran, then_ran}
 use Rattle.scoop_netloop.proofs.Dry.{if_here, moved_there}
 use Rattle.scoop_demo.specs.Answer.{IsHere, Prints, Rests, line_of, runs_by, text_of}
 use Rattle.scoop_demo.specs.Answer.Prints.{refused, heard, elsewhere}
 use Rattle.scoop_demo.specs.Run.{AnswersLine, RunsBehind}
 use Rattle.scoop_demo.specs.Storing.{KeepsElsewhere}
-use Rattle.scoop_demo.proofs.OnlyLemmas.{one_frame, rests_same}
+use Rattle.scoop_demo.proofs.OnlyLemmas.{rests_same}
 
 -- ---- what is printed
 

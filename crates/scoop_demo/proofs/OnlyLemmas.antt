@@ -18,11 +18,11 @@ use Rattle.scoop_book.specs.declared.event.Event.{Event}
 use Rattle.scoop_book.specs.declared.event.Event.TheVariants.{Hear, Begin, Finish}
 use Rattle.scoop_book.specs.declared.event.Reply.{Reply}
 use Rattle.scoop_book.specs.declared.event.Reply.TheVariants.{Heard, Began, Finished}
-use Rattle.scoop_book.specs.Moves.{Entry, LocalHandler, HandlerMoves, Moves, after_finish, handler_at, handler_in, leaves, with_handler}
+use Rattle.scoop_book.specs.Moves.{Entry, LocalHandler, HandlerMoves, Moves, after_finish, handler_in, leaves, with_handler}
 use Rattle.scoop_book.specs.Books.{BookValue, Gains}
 use Rattle.scoop_netloop.specs.RunningOut.{FindsNothing, RunsDry, RunsEntries, RunsEntry}
 use Rattle.scoop_netloop.specs.RunningOut.RunsEntries.{none_ran, then_ran}
-use Rattle.scoop_demo.specs.Hex.{StandsFor, digits_of}
+use Rattle.scoop_demo.specs.Hex.{digits_of}
 use Rattle.scoop_demo.specs.Answer.{Prints, PrintsElsewhere, PrintsHeard, PrintsRefused, Rests, note_elsewhere, runs_by, text_of}
 use Rattle.scoop_demo.specs.Answer.Prints.{refused, heard, elsewhere}
 use Rattle.scoop_demo.specs.Run.{AnswersFirst, AnswersLine, AnswersLines, RunsBehind}
@@ -115,18 +115,20 @@ module _ {K : Type 0} where
   gains_only : (pass : ℕ) (event : Event) (r q : Reply) (a b c d : BookValue K) → Rests a c → Gains pass event r a b → Gains pass event q c d → (r ≡ q) × Rests b d
   gains_only pass event r q a b c d same x y =
       let moves = subst (λ (hs : List LocalHandler). Moves event q hs d.handlers) same.stays.handlers y.moves in
-      let one = moves_only event r q a.handlers b.handlers d.handlers x.moves moves in
-      (one.0, record {
-        stays = record {
-          handlers = sym one.1;
-          history =
-            y.history ∙ ap (λ (es : List Entry). es ++ (pass, event, q) ∷ []) same.stays.history
-            ∙ ap (λ (z : Reply). a.history ++ (pass, event, z) ∷ []) (sym one.0) ∙ sym x.history;
-          opening = y.opening ∙ same.stays.opening ∙ sym x.opening;
-          limit = y.limit ∙ same.stays.limit ∙ sym x.limit;
-        };
-        failed = y.failed ∙ same.failed ∙ sym x.failed;
-      })
+      let one = moves_only event r q a.handlers b.handlers d.handlers x.moves moves in (
+        one.0,
+        record {
+          stays = record {
+            handlers = sym one.1;
+            history =
+                y.history ∙ ap (λ (es : List Entry). es ++ (pass, event, q) ∷ []) same.stays.history
+                ∙ ap (λ (z : Reply). a.history ++ (pass, event, z) ∷ []) (sym one.0) ∙ sym x.history;
+            opening = y.opening ∙ same.stays.opening ∙ sym x.opening;
+            limit = y.limit ∙ same.stays.limit ∙ sym x.limit;
+          };
+          failed = y.failed ∙ same.failed ∙ sym x.failed;
+        },
+      )
 
   -- ---- runs
 
@@ -168,8 +170,7 @@ module _ {K : Type 0} where
       let message = ap (λ (f : Version × Message). f.1) frames in
       let gains = subst (λ (m : Message). Gains 0 (Hear m) (Heard y.heard) c e) message y.gains in
       let one = gains_only 0 (Hear x.message) (Heard x.heard) (Heard y.heard) a b c e same x.gains gains in
-      let told : y.heard ≡ x.heard = told_same x.heard y.heard one.0 in
-      (
+      let told : y.heard ≡ x.heard = told_same x.heard y.heard one.0 in (
         one.1,
         x.runs ∙ sym (y.runs ∙ ap (λ (t : Told). runs_by t.note (handler_of y.message)) told ∙ ap (λ (m : Message). runs_by x.heard.note (handler_of m)) message),
         x.is ∙ sym (y.is ∙ ap (λ (t : Told). text_of y.version t.reply t.note) told ∙ ap (λ (v : Version). text_of v x.heard.reply x.heard.note) version),
@@ -181,8 +182,7 @@ module _ {K : Type 0} where
   elsewhere_only : (d : List ℕ) (a b c e : BookValue K) (next other : Option HandlerId) (text again : List ℕ) → Rests a c
       → PrintsElsewhere d a b next text → PrintsElsewhere d c e other again → Rests b e × (next ≡ other) × (text ≡ again)
   elsewhere_only d a b c e next other text again same x y =
-      let message = ap (λ (f : Version × Message). f.1) (one_frame d x.version y.version x.message y.message x.carried y.carried) in
-      (
+      let message = ap (λ (f : Version × Message). f.1) (one_frame d x.version y.version x.message y.message x.carried y.carried) in (
         rests_aside a b c e x.rests y.rests same,
         x.nothing ∙ sym y.nothing,
         x.is ∙ ap (λ (m : Message). codes "none " ++ note_text (note_elsewhere m)) message ∙ sym y.is,

@@ -1,5 +1,5 @@
 -- Why a book of one handler doesn't open.
-use Rattle.std.proofs.Common.{◌≡◌, ◌⊎◌, inl, inr, ℕ, zero, suc, ◌<◌, List, [], ◌∷◌, get_or, length, Option, Some, None, refl, sym, ap, ◌∙◌, subst, arith}
+use Rattle.std.proofs.Common.{◌≡◌, ◌⊎◌, inl, inr, ℕ, zero, suc, ◌<◌, List, [], ◌∷◌, get_or, Some, sym, ap, ◌∙◌, subst, arith}
 use Rattle.std.specs.Prelude.{Contains, slice_get, take}
 use Rattle.std.specs.List.{Any}
 use Rattle.scoop_message.specs.declared.name.HandlerId.{HandlerId}
@@ -8,7 +8,7 @@ use Rattle.scoop_record.specs.Keeper.{Stored}
 use Rattle.scoop_record.specs.declared.keeper.KeeperError.TheVariants as keeper
 use Rattle.scoop_book.specs.declared.error.OpenError.{OpenError}
 use Rattle.scoop_book.specs.declared.error.OpenError.TheVariants.{NoPasses, WrongClass, Repeated, Keeper, OutOfMemory}
-use Rattle.scoop_book.specs.Opening.{Handed, IsFirstRepeat, IsFirstWrong, IsLoadRefusal, IsUnloaded, IsUnopened, numbers_of}
+use Rattle.scoop_book.specs.Opening.{Handed, IsFirstRepeat, IsFirstWrong, IsLoadRefusal, IsUnloaded, IsUnopened}
 use Rattle.scoop_demo.specs.declared.fault.RunError.{RunError}
 use Rattle.scoop_demo.specs.declared.fault.RunError.TheVariants as run
 use Rattle.scoop_demo.specs.Storing.{FailsToOpen, OpensOne, TellsUnopened}
@@ -38,17 +38,17 @@ module _ {B : Type 0} (class : B → ClassTable) (has : ℕ → Stored → Type 
   handed = (number, own, object) ∷ []
 
   loaded : (e : OpenError) → IsUnloaded class has honest handed e → (e ≡ OutOfMemory) ⊎ IsLoadRefusal has honest number own e
-  loaded e u = elim u.refused [ | inl is ↦ inl is | inr any ↦ inr (any_one (λ (p : Handed B). IsLoadRefusal has honest p.0 p.1 e) (number, own, object) any) ]
+  loaded e u = elim u.refused [ inl is ↦ inl is | inr any ↦ inr (any_one (λ (p : Handed B). IsLoadRefusal has honest p.0 p.1 e) (number, own, object) any) ]
 
   same_class : (e : OpenError) → IsUnloaded class has honest handed e → class object ≡ own
   same_class e u = u.may.classes.0
 
   pub opens_one : (e : OpenError) → IsUnopened class has honest handed e → OpensOne e
   opens_one NoPasses (inl w) = w
-  opens_one NoPasses (inr u) = elim (loaded NoPasses u) [ | inl is ↦ cc | inr r ↦ r ]
+  opens_one NoPasses (inr u) = elim (loaded NoPasses u) [ inl is ↦ cc | inr r ↦ r ]
   opens_one (WrongClass h) u = tt
   opens_one (Repeated h) (inl w) = one_apart number h w.1
-  opens_one (Repeated h) (inr u) = elim (loaded (Repeated h) u) [ | inl is ↦ cc | inr r ↦ r ]
+  opens_one (Repeated h) (inr u) = elim (loaded (Repeated h) u) [ inl is ↦ cc | inr r ↦ r ]
   opens_one (Keeper k) u = tt
   opens_one OutOfMemory u = tt
 

@@ -16,7 +16,7 @@ use Rattle.scoop_demo.specs.Hex.{hex_fault, StandsFor}
 use Rattle.scoop_demo.specs.Answer.{Prints, StopsRunning}
 use Rattle.scoop_demo.specs.Input.{Input, TakesLine, StopsAtNext}
 use Rattle.scoop_demo.specs.Input.StopsAtNext.{read_fault as next_unread, past_limit, write_fault}
-use Rattle.scoop_demo.specs.Run.{HearsLine, IsDatagram, AnswersFirst, AnswersLine, AnswersLines, AnswersAll, BeginsWithLines, RunsBehind, WritesAnswer, StopsInLine, StopsBehind, StopsEarly, fault_of, first_fault}
+use Rattle.scoop_demo.specs.Run.{HearsLine, IsDatagram, AnswersFirst, AnswersLine, AnswersLines, AnswersAll, BeginsWithLines, WritesAnswer, StopsInLine, StopsBehind, StopsEarly, fault_of, first_fault}
 use Rattle.scoop_demo.specs.Run.StopsInLine.{in_digits, in_book, in_output, in_run}
 use Rattle.scoop_demo.specs.Run.StopsBehind.{read_fault, line_fault}
 use Rattle.scoop_demo.specs.Run.StopsEarly.{at_line, at_output, at_answer, at_book, at_run}
