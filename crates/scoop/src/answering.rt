@@ -1,17 +1,17 @@
 //! `scoop answer`: one handler, and the datagrams of standard input.
 
-ghost use Rattle.std.specs.Prelude.{◌≡◌, Err, IfOk};
+ghost use Rattle.std.specs.Prelude.{◌≡◌, ◌∷◌, [], IfOk};
+ghost use Rattle.scoop_book.specs.Opening.{AllOpen};
 ghost use Rattle.scoop_demo.specs.Classes.{table_of};
-ghost use Rattle.scoop_demo.specs.Storing.{HasUnfitWords, OpensOver};
 
 use crate::failure::Failure;
 use crate::storing::{FiledStore, adopt, close, create};
 use clap::ArgMatches;
+use scoop_book::Book;
 use scoop_demo::{
     AccountObject, CellObject, CounterObject, DemoClass, ExchangeObject, RunError, answer_run,
-    open_handler,
+    open_book,
 };
-use scoop_handler::Handler;
 use scoop_message::{HandlerId, OutOfMemory};
 use scoop_object::{Behaviour, Boxed};
 use scoop_record::{Keeper, MemoryKeeper};
@@ -36,27 +36,28 @@ pub fn answer(rt: &HostRuntime, given: &ArgMatches<'_>) -> Result<(), Failure> {
     if let Some(path) = given.get_str("store") {
         return answer_over_file(rt, given, adopt(rt, path)?);
     }
-    answer_over(rt, given, &mut MemoryKeeper::new(rt.alloc()))
+    let (answered, _) = answer_over(rt, given, MemoryKeeper::new(rt.alloc()))?;
+    answered
 }
 
 // The same over a store in a file, which is closed behind it.
 fn answer_over_file(
     rt: &HostRuntime,
     given: &ArgMatches<'_>,
-    mut store: FiledStore,
+    store: FiledStore,
 ) -> Result<(), Failure> {
-    let answered = answer_over(rt, given, &mut store);
+    let (answered, store) = answer_over(rt, given, store)?;
     let closed = close(store);
     answered?;
     Ok(closed?)
 }
 
-// The same over this keeper.
+// The same over this keeper, which is handed back unless nothing was opened over it.
 fn answer_over<K: Keeper<Global>, R: Input + Print + AllocGlobal>(
     rt: &R,
     given: &ArgMatches<'_>,
-    keeper: &mut K,
-) -> Result<(), Failure> {
+    keeper: K,
+) -> Result<(Result<(), Failure>, K), Failure> {
     let options = Options {
         handler: HandlerId(given.get_one::<u32>("handler").unwrap_or(1)),
         word: given.get_one::<u64>("word").unwrap_or(0),
@@ -80,36 +81,36 @@ fn class_in(given: &ArgMatches<'_>) -> Result<DemoClass, Failure> {
 
 fn answer_as_cell<K: Keeper<Global>, R: Input + Print + AllocGlobal>(
     rt: &R,
-    keeper: &mut K,
+    keeper: K,
     options: &Options,
-) -> Result<(), Failure> {
+) -> Result<(Result<(), Failure>, K), Failure> {
     let cell = Box::new(rt.alloc(), CellObject::new(options.word))?;
     answer_with(rt, keeper, options, DemoClass::Cell, Boxed::new(cell))
 }
 
 fn answer_as_counter<K: Keeper<Global>, R: Input + Print + AllocGlobal>(
     rt: &R,
-    keeper: &mut K,
+    keeper: K,
     options: &Options,
-) -> Result<(), Failure> {
+) -> Result<(Result<(), Failure>, K), Failure> {
     let counter = Box::new(rt.alloc(), CounterObject::new(options.word))?;
     answer_with(rt, keeper, options, DemoClass::Counter, Boxed::new(counter))
 }
 
 fn answer_as_account<K: Keeper<Global>, R: Input + Print + AllocGlobal>(
     rt: &R,
-    keeper: &mut K,
+    keeper: K,
     options: &Options,
-) -> Result<(), Failure> {
+) -> Result<(Result<(), Failure>, K), Failure> {
     let account = Box::new(rt.alloc(), AccountObject::new(options.word))?;
     answer_with(rt, keeper, options, DemoClass::Account, Boxed::new(account))
 }
 
 fn answer_as_exchange<K: Keeper<Global>, R: Input + Print + AllocGlobal>(
     rt: &R,
-    keeper: &mut K,
+    keeper: K,
     options: &Options,
-) -> Result<(), Failure> {
+) -> Result<(Result<(), Failure>, K), Failure> {
     let exchange = Box::new(rt.alloc(), ExchangeObject::new(options.word, 0))?;
     answer_with(
         rt,
@@ -123,38 +124,42 @@ fn answer_as_exchange<K: Keeper<Global>, R: Input + Print + AllocGlobal>(
 // Answers the datagrams with an object of the class.
 fn answer_with<B: Behaviour, K: Keeper<Global>, R: Input + Print + AllocGlobal>(
     rt: &R,
-    keeper: &mut K,
+    keeper: K,
     options: &Options,
     class: DemoClass,
     object: B,
-) -> Result<(), Failure>
+) -> Result<(Result<(), Failure>, K), Failure>
     requires { table_of class ≡ B.class object }
 {
-    let mut handler = open_with(rt.alloc(), keeper, options.handler, class, object)?;
+    let mut book = open_with(rt.alloc(), keeper, options.handler, class, object)?;
+    let answered = answer_lines(rt, &mut book, options);
+    Ok((answered, book.into_keeper()))
+}
+
+// Answers the lines of standard input.
+fn answer_lines<B: Behaviour, K: Keeper<Global>, R: Input + Print + AllocGlobal>(
+    rt: &R,
+    book: &mut Book<B, K>,
+    options: &Options,
+) -> Result<(), Failure> {
+    let shown = options.shows_words.then_some(options.handler);
     let mut output = BufWriter::new(rt.alloc(), io::writer(rt)).map_err(|_| OutOfMemory)?;
-    answer_run(
-        &mut handler,
-        keeper,
-        options.shows_words,
-        rt.reader(),
-        &mut output,
-    )?;
+    answer_run(book, shown, rt.reader(), &mut output)?;
     Ok(())
 }
 
-// The handler over what the keeper has for it, with an object of the class. As the object has the class,
-// `WrongClass` comes only where the stored words are not as many as the class has.
+// The book of the handler over what the keeper has for it, with an object of the class. As the object has the
+// class, `WrongClass` comes only where the stored words are not as many as the class has.
 fn open_with<B: Behaviour, K: Keeper<Global>>(
     alloc: Global,
-    keeper: &mut K,
+    keeper: K,
     number: HandlerId,
     class: DemoClass,
     object: B,
-) -> Result<Handler<B>, RunError>
+) -> Result<Book<B, K>, RunError>
     requires { table_of class ≡ B.class object }
-    ensures opened { K.is_honest keeper.new → IfOk result (OpensOver (K.handlers keeper.old number.0) number (B.class object) (B.words object)) }
-    ensures misfit { K.is_honest keeper.new → result ≡ Err (RunError.WrongClass number) → HasUnfitWords (K.handlers keeper.old number.0) (B.class object) }
+    ensures { IfOk result (λ b. AllOpen B.words (K.handlers keeper) (K.is_honest b.keeper) ((number, B.class object, object) ∷ []) b.opening) }
 {
     let class = class.class(alloc)?;
-    open_handler(alloc, keeper, number, class, object)
+    open_book(alloc, keeper, number, class, object)
 }

@@ -142,7 +142,8 @@ fn answer_command<'a>(
             in hex digits, or `none` and what the handler did, or `refused` and why the datagram is no frame. \
             What clients have logged is run as soon as it may run. With a file, each state is stored there \
             before the reply is printed, and the handler begins with the state that is stored: --class has to be \
-            that of the handler that is stored there, and --word counts for a new handler alone.\n\n",
+            that of the handler that is stored there, and --word counts for a new handler alone. A run ends once \
+            its history has 1000000 entries (a call makes about four); with a file, go on with --store.\n\n",
             "Statuses: 0; 1 for a fault of the input, told as `scoop: line N: TEXT`; 2 for the command line; 3 for \
             memory, output, or the store, told as `scoop: store: NAME`.\n\n\
             Example: scoop frame Hello 1 7 1 | scoop answer",

@@ -1,99 +1,191 @@
--- What a handler answers to a datagram.
-use Rattle.std.proofs.Common.{◌≡◌, IsFalse, ℕ, List, length, drop, [], ◌++◌, codes, Option, Some, None, Result, Ok, Err, ◌↔◌, refl, sym, ap, ◌∙◌, inl, inr}
+-- What is printed for a datagram, and what the keeper has behind it.
+use Rattle.std.proofs.Common.{◌≡◌, ◌≢◌, if◌then◌else◌, ℕ, Bool, true, false, List, [], ◌∷◌, length, drop, Option, Some, None, refl, sym, ap, ◌∙◌, subst}
 use Rattle.std.proofs.lemmas.List.{take_at}
 use Rattle.hex.specs.Hex.{encode_lower}
+use Rattle.scoop_message.specs.declared.name.HandlerId.{HandlerId}
 use Rattle.scoop_message.specs.declared.message.Message.{Message}
-use Rattle.scoop_message.specs.declared.message.Message.TheVariants.{Hello, Welcome, Lock, Locked, Busy, Open, Opened, Unlock, Unlocked, Log, Logged, Answer}
-use Rattle.scoop_message.specs.Message.{is_for_handler}
-use Rattle.scoop_frame.specs.declared.version.Version.{Version}
-use Rattle.scoop_frame.specs.Version.{Carries}
-use Rattle.scoop_frame.specs.Buffer.{written}
+use Rattle.scoop_message.specs.Message.{handler_of, same_handler}
+use Rattle.scoop_message.proofs.Same.{handler_decides}
 use Rattle.scoop_frame.specs.declared.error.FrameError.{FrameError}
-use Rattle.scoop_frame.specs.Fault.{IsFirstFault}
-use Rattle.scoop_frame.specs.Frame.{frame, IsFrame, both}
-use Rattle.scoop_frame.specs.Text.{error_text}
-use Rattle.scoop_handler.specs.declared.note.Heard.{Heard}
-use Rattle.scoop_handler.specs.Hearing.{hear}
+use Rattle.scoop_frame.specs.declared.version.Version.{Version}
+use Rattle.scoop_frame.specs.Buffer.{written}
+use Rattle.scoop_frame.specs.Frame.{frame, IsFrame}
 use Rattle.scoop_handler.specs.declared.note.Note.{Note}
-use Rattle.scoop_handler.specs.State.{HandlerState}
-use Rattle.scoop_handler.specs.Core.{Core, with_state}
-use Rattle.scoop_demo.specs.declared.answer.Answered.{Answered}
-use Rattle.scoop_demo.specs.declared.answer.Answered.TheVariants.{RefusedFrame}
-use Rattle.scoop_demo.specs.Answer.{AnswersDatagram, frame_of, answered_of, line_of, note_of}
-use Rattle.scoop_demo.specs.Run.{Prints, PrintsOnly, text_of}
+use Rattle.scoop_record.specs.Keeper.{Keeps, Stored, StaysAt, Stays as KeeperStays}
+use Rattle.scoop_record.proofs.KeeperLemmas.{is_same_same, is_same_more}
+use Rattle.scoop_book.specs.declared.error.BookError.{BookError}
+use Rattle.scoop_book.specs.declared.error.BookError.TheVariants.{UnknownHandler}
+use Rattle.scoop_book.specs.declared.event.Event.{Event}
+use Rattle.scoop_book.specs.declared.event.Event.TheVariants.{Hear}
+use Rattle.scoop_book.specs.declared.event.Reply.{Reply}
+use Rattle.scoop_book.specs.declared.event.Reply.TheVariants.{Heard}
+use Rattle.scoop_book.specs.Moves.{LocalHandler, Moves, handler_in, number_in, with_handler}
+use Rattle.scoop_book.specs.Books.{BookValue, Gains, KeepsNew}
+use Rattle.scoop_book.proofs.Places.{by_test, key_found}
+use Rattle.scoop_netloop.specs.declared.answer.Answered.{Answered}
+use Rattle.scoop_netloop.specs.declared.answer.Answered.TheVariants as answered
+use Rattle.scoop_netloop.specs.Answering.{AnswersDatagram, KeepsAnswered, answered_of, frame_of, runs_after}
+use Rattle.scoop_netloop.specs.Answering.AnswersDatagram.{refuses, answers}
+use Rattle.scoop_netloop.specs.RunningOut.{BreaksOff, KeepsOthers, RunsEntries}
+use Rattle.scoop_netloop.specs.RunningOut.RunsEntries.{none_ran, then_ran}
+use Rattle.scoop_netloop.proofs.Dry.{if_here, moved_there}
+use Rattle.scoop_demo.specs.Answer.{IsHere, Prints, Rests, line_of, runs_by, text_of}
+use Rattle.scoop_demo.specs.Answer.Prints.{refused, heard, elsewhere}
+use Rattle.scoop_demo.specs.Run.{AnswersLine, RunsBehind}
+use Rattle.scoop_demo.specs.Storing.{KeepsElsewhere}
+use Rattle.scoop_demo.proofs.OnlyLemmas.{rests_same}
 
--- both versions carry every message that goes to a client
-pub carries_reply : (v : Version) (reply : Message) → IsFalse (is_for_handler reply) → Carries v reply
-carries_reply v (Hello h c inc) f = tt
-carries_reply v (Welcome h c inc) f = tt
-carries_reply v (Lock h b) f = tt
-carries_reply v (Locked h b) f = tt
-carries_reply v (Busy h b) f = tt
-carries_reply v (Open h b) f = tt
-carries_reply v (Opened h b) f = tt
-carries_reply v (Unlock h b) f = tt
-carries_reply v (Unlocked h b) f = tt
-carries_reply v (Log h b n es) f = cc
-carries_reply v (Logged h b n) f = tt
-carries_reply v (Answer h b n a) f = tt
+-- ---- what is printed
 
-pub heard_line : (v : Version) (reply : Option Message) (note : Note) (buffer : List ℕ) → line_of (answered_of v reply note) (written (frame_of v reply) buffer) ≡ text_of v reply note
+heard_line : (v : Version) (reply : Option Message) (note : Note) (buffer : List ℕ) → line_of (answered_of v reply note) (written (frame_of v reply) buffer) ≡ text_of v reply note
 heard_line v None note buffer = refl
 heard_line v (Some reply) note buffer = ap encode_lower (take_at (frame v reply) (drop (length (frame v reply)) buffer) (length (frame v reply)) refl)
 
-pub heard_note : (v : Version) (reply : Option Message) (note : Note) → note_of (answered_of v reply note) ≡ Some note
-heard_note v None note = refl
-heard_note v (Some reply) note = refl
+-- the handler that may have something to run behind an answer
+pub record Follows (d : List ℕ) (a : Answered) (next : Option HandlerId) : Type 0 where
+  pub refused : (e : FrameError) → a ≡ answered.RefusedFrame e → next ≡ None
+  pub silent : (note : Note) (v : Version) (m : Message) → a ≡ answered.Silent note → IsFrame v m d → next ≡ runs_by note (handler_of m)
+  pub replied : (n : ℕ) (note : Note) (v : Version) (m : Message) → a ≡ answered.Reply n note → IsFrame v m d → next ≡ runs_by note (handler_of m)
 
--- the line that is printed for an answer is the text of what was answered
-pub prints : (old new : Core) (datagram buffer out : List ℕ) (answered : Answered) → AnswersDatagram old datagram new answered buffer out
-    → Prints old datagram new (note_of answered) (line_of answered out)
-prints old new datagram buffer out answered (inl r) =
-    inl (record { error = r.error; is_refused = r.is_refused; note_is = ap note_of r.answer; is = ap (λ a. line_of a out) r.answer })
-prints old new datagram buffer out answered (inr f) =
-    let bytes = ap (λ b. line_of answered b) f.bytes in
-    let answer = ap (λ a. line_of a (written (frame_of f.version f.heard.reply) buffer)) f.answer in
-    let text = bytes ∙ answer ∙ heard_line f.version f.heard.reply f.heard.note buffer in
-    let note_is = ap note_of f.answer ∙ heard_note f.version f.heard.reply f.heard.note in
-    inr (record { version = f.version; heard = f.heard; is_heard = f.is_heard; note_is = note_is; is = text })
+follows_heard : (d : List ℕ) (a : Answered) (next : Option HandlerId) (v : Version) (m : Message) (reply : Option Message) (note : Note) → Follows d a next → a ≡ answered_of v reply note
+    → IsFrame v m d → next ≡ runs_by note (handler_of m)
+follows_heard d a next v m None note follows is carried = follows.silent note v m is carried
+follows_heard d a next v m (Some reply) note follows is carried = follows.replied (length (frame v reply)) note v m is carried
 
--- what a datagram is read as: the only frame, or the only first fault
-pub record IsRead (datagram : List ℕ) (read : Result (Version × Message) FrameError) : Type 0 where
-  pub frames : (v : Version) (m : Message) → (read ≡ Ok (both v m)) ↔ IsFrame v m datagram
-  pub faults : (e : FrameError) → (read ≡ Err e) ↔ IsFirstFault e datagram
+pub printed : {K : Type 0} (d : List ℕ) (old new : BookValue K) (a : Answered) (buffer out : List ℕ) (next : Option HandlerId) → Follows d a next → AnswersDatagram 0 d old new a buffer out
+    → Prints d old new next (line_of a out)
+printed d old new a buffer out next follows (refuses r) =
+    refused (record {
+      error = r.error;
+      first_fault = r.first_fault;
+      rests = subst (Rests old) (sym r.stays) (rests_same old);
+      nothing = follows.refused r.error r.answer;
+      is = ap (λ x. line_of x out) r.answer;
+    })
+printed d old new a buffer out next follows (answers f) =
+    let bytes = ap (λ b. line_of a b) f.bytes in
+    let answer = ap (λ x. line_of x (written (frame_of f.version f.heard.reply) buffer)) f.answer in
+    heard (record {
+      version = f.version;
+      message = f.message;
+      carried = f.carried;
+      heard = f.heard;
+      gains = f.gains;
+      runs = follows_heard d a next f.version f.message f.heard.reply f.heard.note follows f.answer f.carried;
+      is = bytes ∙ answer ∙ heard_line f.version f.heard.reply f.heard.note buffer;
+    })
 
--- bytes that are no frame have one answer
-pub only_refused : (datagram : List ℕ) (read : Result (Version × Message) FrameError) (old : Core) (e : FrameError) → IsRead datagram read → read ≡ Err e
-    → PrintsOnly old datagram old None (line_of (RefusedFrame e) [])
-only_refused datagram read old e is refused = record {
-  same = λ c n t p. elim p [
-    | inl r ↦
-        let again : read ≡ Err r.error = (is.faults r.error).1 r.is_refused.first_fault in
-        let error : r.error ≡ e = cc in
-        (r.is_refused.same, r.note_is, r.is ∙ ap (λ x. codes "refused " ++ error_text x) error)
-    | inr h ↦
-        let again : read ≡ Ok (both h.version h.is_heard.message) = (is.frames h.version h.is_heard.message).1 h.is_heard.carried in
-        cc
-  ];
-}
+-- ---- the handlers of a book stay the same ones
 
--- so has a frame
-pub only_heard : (datagram : List ℕ) (read : Result (Version × Message) FrameError) (old new : Core) (v : Version) (m : Message) (heard : Heard) → IsRead datagram read
-    → read ≡ Ok (both v m) → hear old.state m ≡ (new.state, heard) → new ≡ with_state new.state old
-    → PrintsOnly old datagram new (Some heard.note) (text_of v heard.reply heard.note)
-only_heard datagram read old new v m heard is reads hears stays = record {
-  same = λ c n t p. elim p [
-    | inl r ↦ let again : read ≡ Err r.error = (is.faults r.error).1 r.is_refused.first_fault in cc
-    | inr h ↦
-        let again : read ≡ Ok (both h.version h.is_heard.message) = (is.frames h.version h.is_heard.message).1 h.is_heard.carried in
-        let same : both h.version h.is_heard.message ≡ both v m = cc in
-        let version : h.version ≡ v = ap (λ (x : Version × Message). x.0) same in
-        let message : h.is_heard.message ≡ m = ap (λ (x : Version × Message). x.1) same in
-        let result = sym h.is_heard.hears ∙ ap (hear old.state) message ∙ hears in
-        let state_is = ap (λ (x : HandlerState × Heard). x.0) result in
-        let heard_is = ap (λ (x : HandlerState × Heard). x.1) result in
-        let core_is = h.is_heard.stays ∙ ap (λ s. with_state s old) state_is ∙ sym stays in
-        let note_is = h.note_is ∙ ap (λ (x : Heard). Some x.note) heard_is in
-        (core_is, note_is, h.is ∙ ap (λ (x : Heard). text_of h.version x.reply x.note) heard_is ∙ ap (λ x. text_of x heard.reply heard.note) version)
-  ];
-}
+some_none : {A : Type 0} (x : A) → Some x ≡ None → ⊥
+some_none x e = cc
+
+absent_newer : (s : LocalHandler) (hs : List LocalHandler) (h : HandlerId) → handler_in h hs ≡ None → handler_in h (with_handler s hs) ≡ None
+absent_newer s [] h none = refl
+absent_newer s (x ∷ xs) h none =
+    by_test (λ (t : Bool). (if t then Some x else handler_in h xs) ≡ None → same_handler (number_in x) h ≡ t → handler_in h (with_handler s (x ∷ xs)) ≡ None) (same_handler (number_in x) h)
+    (λ here f is. absurd (some_none x f))
+    (λ there f is.
+    by_test
+    (λ (u : Bool). same_handler (number_in x) (number_in s) ≡ u
+    → (if same_handler (number_in (if u then s else x)) h then Some (if u then s else x) else handler_in h (with_handler s xs)) ≡ None)
+    (same_handler (number_in x) (number_in s))
+    (λ _ own.
+    let off : same_handler (number_in s) h ≡ false = ap (λ k. same_handler k h) (sym ((handler_decides (number_in x) (number_in s)).0 own)) ∙ is in
+    ap (λ t. if t then Some s else handler_in h (with_handler s xs)) off ∙ absent_newer s xs h f)
+    (λ _ other. ap (λ t. if t then Some x else handler_in h (with_handler s xs)) is ∙ absent_newer s xs h f) refl)
+    none refl
+
+absent_moved : (event : Event) (reply : Reply) (hs ks : List LocalHandler) (h : HandlerId) → Moves event reply hs ks → handler_in h hs ≡ None → handler_in h ks ≡ None
+absent_moved event reply hs ks h moves none = ap (handler_in h) moves.after ∙ absent_newer moves.new hs h none
+
+module _ {K : Type 0} where
+  absent_entries : (pass : ℕ) (k h : HandlerId) (a b : BookValue K) → RunsEntries pass k a b → handler_in h a.handlers ≡ None → handler_in h b.handlers ≡ None
+  absent_entries pass k h a b (none_ran x) none = none
+  absent_entries pass k h a b (then_ran x y z before last) none =
+      absent_moved _ _ last.between.handlers b.handlers h last.finishes.moves
+      (absent_moved _ _ y.handlers last.between.handlers h last.begins.moves (absent_entries pass k h a y before none))
+
+  absent_behind : (next : Option HandlerId) (h : HandlerId) (a b : BookValue K) → RunsBehind next a b → handler_in h a.handlers ≡ None → handler_in h b.handlers ≡ None
+  absent_behind None h a b same none = subst (λ (x : BookValue K). handler_in h x.handlers ≡ None) (sym same) none
+  absent_behind (Some k) h a b dry none = absent_moved _ _ dry.last.handlers b.handlers h dry.nothing.moves (absent_entries 0 k h a dry.last dry.ran none)
+
+  pub absent_printed : (d : List ℕ) (a b : BookValue K) (next : Option HandlerId) (text : List ℕ) (h : HandlerId) → Prints d a b next text → handler_in h a.handlers ≡ None → handler_in h b.handlers ≡ None
+  absent_printed d a b next text h (refused r) none = ap (handler_in h) r.rests.stays.handlers ∙ none
+  absent_printed d a b next text h (heard r) none = absent_moved _ _ a.handlers b.handlers h r.gains.moves none
+  absent_printed d a b next text h (elsewhere r) none = ap (handler_in h) r.rests.stays.handlers ∙ none
+
+  pub absent_line : (number : ℕ) (line text : List ℕ) (a b : BookValue K) (h : HandlerId) → AnswersLine number a line b text → handler_in h a.handlers ≡ None → handler_in h b.handlers ≡ None
+  absent_line number line text a b h is none = absent_behind is.next h is.heard b is.runs (absent_printed is.hears.datagram a is.heard is.next text h is.hears.prints none)
+
+  -- the handler that has something to run is here
+  pub here_printed : (d : List ℕ) (a b : BookValue K) (next : Option HandlerId) (h : HandlerId) (text : List ℕ) → Prints d a b next text → next ≡ Some h → IsHere b.handlers h
+  here_printed d a b next h text (refused r) some = absurd (some_none h (sym some ∙ r.nothing))
+  here_printed d a b next h text (elsewhere r) some = absurd (some_none h (sym some ∙ r.nothing))
+  here_printed d a b next h text (heard r) some =
+      let own : handler_of r.message ≡ h = named (runs_after r.heard.note) (sym r.runs ∙ some) in
+      record { handler = r.gains.moves.new; here = ap (λ (k : HandlerId). handler_in k b.handlers) (sym own) ∙ moved_there (Hear r.message) (Heard r.heard) a.handlers b.handlers r.gains.moves }
+    where
+      named : (t : Bool) → (if t then Some (handler_of r.message) else None) ≡ Some h → handler_of r.message ≡ h
+      named true e = cc
+      named false e = cc
+
+-- ---- the keeper
+
+number_apart : (h k : HandlerId) → (h ≡ k → ⊥) → h.0 ≢ k.0
+number_apart h k apart same = let id : ℕ → HandlerId = λ n. record { 0 = n } in apart (ap id same)
+
+absent_apart : (hs : List LocalHandler) (h k : HandlerId) (s : LocalHandler) → handler_in h hs ≡ None → handler_in k hs ≡ Some s → h ≡ k → ⊥
+absent_apart hs h k s none some same = some_none s (sym some ∙ subst (λ (x : HandlerId). handler_in x hs ≡ None) same none)
+
+-- what a keeper has of the handlers elsewhere
+others_heard : {K : Type 0} (pass : ℕ) (m : Message) (reply : Reply) (old new : BookValue K) (was now : ℕ → Stored → Type 0) → Gains pass (Hear m) reply old new → KeepsNew (handler_of m) new.handlers was now
+    → (h : HandlerId) → handler_in h old.handlers ≡ None → StaysAt was now h.0
+others_heard pass m reply old new was now gains keeps h none =
+    let moves = gains.moves in
+    let found = moved_there (Hear m) reply old.handlers new.handlers moves in
+    let number : number_in moves.new ≡ handler_of m = key_found number_in same_handler handler_decides (handler_of m) new.handlers moves.new found in
+    let state : Keeps was now moves.new.core.state = if_here (λ (s : LocalHandler). Keeps was now s.core.state) (handler_in (handler_of m) new.handlers) moves.new found keeps in
+    state.others h.0 (number_apart h (number_in moves.new) (λ same. absent_apart old.handlers h (handler_of m) moves.handler none moves.here (same ∙ number)))
+
+others_refused : (was now : ℕ → Stored → Type 0) → KeeperStays was now → (h : HandlerId) → StaysAt was now h.0
+others_refused was now stays h = stays.each h.0
+
+stays_at : (a : ℕ → Stored → Type 0) (n : ℕ) → StaysAt a a n
+stays_at a n v = (λ x. x, λ x. x)
+
+pub others_answered : {K : Type 0} (pass : ℕ) (d : List ℕ) (old new : BookValue K) (a : Answered) (buffer out : List ℕ) (has : K → ℕ → Stored → Type 0) → AnswersDatagram pass d old new a buffer out
+    → KeepsAnswered d new.handlers (has old.keeper) (has new.keeper) → (h : HandlerId) → handler_in h old.handlers ≡ None → StaysAt (has old.keeper) (has new.keeper) h.0
+others_answered pass d old new a buffer out has (refuses r) keeps h none = subst (λ (b : BookValue _). StaysAt (has old.keeper) (has b.keeper) h.0) (sym r.stays) (stays_at (has old.keeper) h.0)
+others_answered pass d old new a buffer out has (answers f) keeps h none =
+    others_heard pass f.message (Heard f.heard) old new (has old.keeper) (has new.keeper) f.gains (keeps f.version f.message f.carried) h none
+
+module _ {K : Type 0} (has : K → ℕ → Stored → Type 0) (incs : K → ℕ → Option ℕ) (is_honest : K → Type 0) where
+  pub elsewhere_same : (hs : List LocalHandler) (a : K) → KeepsElsewhere has incs is_honest hs a a
+  elsewhere_same hs a = record { honest = λ is. is; handlers = λ is h none. stays_at (has a) h.0; clients = λ is. is_same_same (incs a) }
+
+  -- one behind the other, where no handler comes
+  pub elsewhere_more : (hs ks : List LocalHandler) (a b c : K) → ((h : HandlerId) → handler_in h hs ≡ None → handler_in h ks ≡ None) → KeepsElsewhere has incs is_honest hs a b
+      → KeepsElsewhere has incs is_honest ks b c → KeepsElsewhere has incs is_honest hs a c
+  elsewhere_more hs ks a b c absent first second = record {
+    honest = λ is. first.honest (second.honest is);
+    handlers = λ is h none v.
+        let before = first.handlers (second.honest is) h none v in
+        let behind = second.handlers is h (absent h none) v in
+        (λ x. behind.0 (before.0 x), λ x. before.1 (behind.1 x));
+    clients = λ is. is_same_more (incs a) (incs b) (incs c) (first.clients (second.honest is)) (second.clients is);
+  }
+
+  -- a handler that is here ran
+  pub elsewhere_ran : (hs : List LocalHandler) (h : HandlerId) (a b : K) → IsHere hs h → KeepsOthers has incs is_honest h a b → KeepsElsewhere has incs is_honest hs a b
+  elsewhere_ran hs h a b here others = record {
+    honest = others.honest;
+    handlers = λ is k none. others.handlers is k.0 (number_apart k h (absent_apart hs k h here.handler none here.here));
+    clients = others.clients;
+  }
+
+-- a handler that is here isn't told of as unknown
+pub not_away : {K : Type 0} (h : HandlerId) (old new : BookValue K) (e : BookError) → IsHere old.handlers h → BreaksOff h old new e → e ≢ UnknownHandler
+not_away h old new e here breaks is =
+    let away = subst (BreaksOff h old new) is breaks in
+    some_none here.handler (sym here.here ∙ away.1)

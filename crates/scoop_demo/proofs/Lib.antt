@@ -2,9 +2,9 @@ mod ChunkLemmas
 mod LineLemmas
 mod InputLemmas
 mod HexLemmas
+mod OpenLemmas
+mod OnlyLemmas
 mod AnswerLemmas
-mod RunningLemmas
-mod StoringLemmas
 mod RunLemmas
 mod ClassLemmas
 mod PartyLemmas

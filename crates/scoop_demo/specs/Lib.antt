@@ -3,9 +3,8 @@ pub mod Text
 pub mod Line
 pub mod Input
 pub mod Hex
-pub mod Answer
-pub mod Running
 pub mod Storing
+pub mod Answer
 pub mod Run
 pub mod Classes
 pub mod ScriptWords

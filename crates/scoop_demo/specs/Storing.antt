@@ -1,59 +1,29 @@
--- What a keeper has once a handler has answered, and what of it is stored.
-use Rattle.std.specs.Prelude.{false, ◌≡◌, ◌≢◌, ◌⊎◌, ℕ, List, [], ◌∷◌}
+-- What a keeper has behind a run, and what a run says of refusals.
+use Rattle.std.specs.Prelude.{◌≡◌, ◌≢◌, ⊤, ℕ, List, Option, None}
 use Rattle.scoop_message.specs.declared.name.HandlerId.{HandlerId}
-use Rattle.scoop_message.specs.declared.message.Message.{Message}
-use Rattle.scoop_message.specs.Message.{handler_of}
-use Rattle.scoop_frame.specs.declared.version.Version.{Version}
-use Rattle.scoop_frame.specs.Frame.{IsFrame}
-use Rattle.scoop_handler.specs.State.{HandlerState, new_state}
-use Rattle.scoop_handler.specs.Core.{Core, core_of, with_state}
-use Rattle.scoop_handler.specs.declared.note.Heard.{Heard}
-use Rattle.scoop_handler.specs.Hearing.{hear}
-use Rattle.scoop_handler.specs.Memory.{TakesMemory}
-use Rattle.scoop_handler.specs.Running.{FitsClass}
 use Rattle.scoop_object.specs.Class.{ClassTable}
 use Rattle.scoop_record.specs.declared.keeper.KeeperError.{KeeperError}
 use Rattle.scoop_record.specs.declared.keeper.KeeperError.TheVariants as keeper
-use Rattle.scoop_record.specs.Keeper.{Stored, Missing, Holds, IsTheOne, Keeps, Stays, StaysAt}
+use Rattle.scoop_record.specs.Keeper.{Stored, Damaged, IsTheOne, StaysAt, IsSame}
+use Rattle.scoop_book.specs.declared.error.BookError.{BookError}
+use Rattle.scoop_book.specs.declared.error.BookError.TheVariants as book
+use Rattle.scoop_book.specs.declared.error.OpenError.{OpenError}
+use Rattle.scoop_book.specs.declared.error.OpenError.TheVariants as unopened
+use Rattle.scoop_book.specs.Moves.{LocalHandler, handler_in}
+use Rattle.scoop_book.specs.Opening.{HasMisfit}
 use Rattle.scoop_demo.specs.declared.fault.RunError.{RunError}
-use Rattle.scoop_demo.specs.declared.fault.RunError.TheVariants.{OutOfMemory, Store}
-use Rattle.scoop_demo.specs.Hex.{StandsFor}
+use Rattle.scoop_demo.specs.declared.fault.RunError.TheVariants.{OutOfMemory, Store, WrongClass, NodeFailed, HistoryFull}
 
--- the datagram is the frame of a message to this handler
-pub record IsTo (number : HandlerId) (datagram : List ℕ) : Type 0 where
-  pub version : Version
-  pub message : Message
-  pub carried : IsFrame version message datagram
-  pub here : handler_of message ≡ number
+-- While the keeper is honest it was so before, of the handlers that aren't among these it has what it had, and of all
+-- clients.
+pub record KeepsElsewhere {K : Type 0} (has : K → ℕ → Stored → Type 0) (incarnations : K → ℕ → Option ℕ) (is_honest : K → Type 0) (hs : List LocalHandler) (old new : K) : Type 0 where
+  pub honest : is_honest new → is_honest old
+  pub handlers : is_honest new → (h : HandlerId) → handler_in h hs ≡ None → StaysAt (has old) (has new) h.0
+  pub clients : is_honest new → IsSame (incarnations old) (incarnations new)
 
--- the line stands for such a datagram
-pub record IsLineTo (number : HandlerId) (line : List ℕ) : Type 0 where
-  pub datagram : List ℕ
-  pub stands : StandsFor line datagram
-  pub is_to : IsTo number datagram
+-- ---- what a run says of refusals
 
--- one of the lines does
-abbrev pub SomeIsTo : HandlerId → List (List ℕ) → Type 0
-SomeIsTo number [] = ⊥
-SomeIsTo number (line ∷ lines) = IsLineTo number line ⊎ SomeIsTo number lines
-
--- where something was heard, the last state is there for its handler and what there is for the others stays;
--- where nothing was, neither the state nor the keeper has changed
-pub data StoresIf (Hears : Type 0) (first last : HandlerState) (was now : ℕ → Stored → Type 0) : Type 0 where
-  stored : Hears → last.number ≡ first.number → Keeps was now last → StoresIf Hears first last was now
-  unstored : (Hears → ⊥) → last ≡ first → Stays was now → StoresIf Hears first last was now
-
--- what a keeper has, once lines have led its handler from the first state to the last one, where it is honest
-abbrev pub Stores : (honest : Type 0) (was now : ℕ → Stored → Type 0) → List (List ℕ) → HandlerState → HandlerState → Type 0
-Stores honest was now lines first last = honest → StoresIf (SomeIsTo first.number lines) first last was now
-
--- a keeper that had the first state has the last one, and what it has for the others stays
-pub record Follows (first last : HandlerState) (was now : ℕ → Stored → Type 0) : Type 0 where
-  pub number : last.number ≡ first.number
-  pub there : was first.number.0 (Holds first) → now first.number.0 (Holds last)
-  pub others : (other : ℕ) → other ≢ first.number.0 → StaysAt was now other
-
--- what a run says of a keeper's refusal
+-- of a keeper's
 abbrev pub error_of : KeeperError → RunError
 error_of keeper.OutOfMemory = OutOfMemory
 error_of keeper.Refused = Store keeper.Refused
@@ -61,30 +31,35 @@ error_of (keeper.BadImage handler) = Store (keeper.BadImage handler)
 error_of keeper.IncarnationsSpent = Store keeper.IncarnationsSpent
 error_of keeper.WrongSchema = Store keeper.WrongSchema
 
--- why a state was not stored
-abbrev pub IsStoreError : RunError → Type 0
-IsStoreError e = (e ≡ OutOfMemory) ⊎ (e ≡ Store keeper.Refused)
+-- of a book's: that a handler isn't here is none
+abbrev pub TellsRefusal : BookError → RunError → Type 0
+TellsRefusal book.NodeFailed e = e ≡ NodeFailed
+TellsRefusal book.HistoryFull e = e ≡ HistoryFull
+TellsRefusal book.UnknownHandler e = ⊥
+TellsRefusal book.StoreRefused e = e ≡ Store keeper.Refused
+TellsRefusal book.OutOfMemory e = e ≡ OutOfMemory
 
--- why a message was not taken: it takes memory that was refused, and nothing has changed; or the handler has
--- heard it, but its state was not stored
-pub data FailsToHear (old : Core) (m : Message) (new : Core) : RunError → Type 0 where
-  no_memory : TakesMemory old.state m → new ≡ old → FailsToHear old m new OutOfMemory
-  not_stored : {e : RunError} → IsStoreError e → (heard : Heard) → hear old.state m ≡ (new.state, heard) → new ≡ with_state new.state old
-      → handler_of m ≡ old.state.number → FailsToHear old m new e
+-- of a refusal to open a book of one handler
+abbrev pub TellsUnopened : OpenError → RunError → Type 0
+TellsUnopened unopened.NoPasses e = ⊥
+TellsUnopened (unopened.WrongClass handler) e = e ≡ WrongClass handler
+TellsUnopened (unopened.Repeated handler) e = ⊥
+TellsUnopened (unopened.Keeper refusal) e = e ≡ error_of refusal
+TellsUnopened unopened.OutOfMemory e = e ≡ OutOfMemory
 
--- the handler of this number, with an object that has these words, over what a keeper has for it: its state
--- with no job out, whose words are as many as the class has; or a new one where there is none
-pub data OpensOver (has : Stored → Type 0) (number : HandlerId) (class : ClassTable) (words : List ℕ) (c : Core) : Type 0 where
-  anew : IsTheOne has Missing → c ≡ core_of class (new_state number words) false → OpensOver has number class words c
-  again : (s : HandlerState) → IsTheOne has (Holds s) → s.number ≡ number → FitsClass class s → c ≡ core_of class s false → OpensOver has number class words c
+-- one handler isn't repeated, and a book needs no pass
+abbrev pub OpensOne : OpenError → Type 0
+OpensOne unopened.NoPasses = ⊥
+OpensOne (unopened.WrongClass _) = ⊤
+OpensOne (unopened.Repeated _) = ⊥
+OpensOne (unopened.Keeper _) = ⊤
+OpensOne unopened.OutOfMemory = ⊤
 
--- what a keeper has for a handler is a state whose words are not as many as the class has
-pub record HasUnfitWords (has : Stored → Type 0) (class : ClassTable) : Type 0 where
-  pub state : HandlerState
-  pub is_stored : IsTheOne has (Holds state)
-  pub unfit : ¬ FitsClass class state
-
--- why no handler of a class is opened over what a keeper has for it: the object's own class is another one, or the
--- stored words are not as many as the class has
-abbrev pub Misfits : (has : Stored → Type 0) (class own : ClassTable) → Type 0
-Misfits has class own = (own ≢ class) ⊎ HasUnfitWords has class
+-- why a handler of a class doesn't open with an object of its own class: the two differ; or, by what a keeper has, the
+-- keeper refuses to load it, or the stored words are not as many as the class has; or memory is wanted
+pub data FailsToOpen (has : ℕ → Stored → Type 0) (honest : Type 0) (number : HandlerId) (class own : ClassTable) : RunError → Type 0 where
+  wrong_class : own ≢ class → FailsToOpen has honest number class own (WrongClass number)
+  refused : own ≡ class → FailsToOpen has honest number class own (Store keeper.Refused)
+  bad_image : own ≡ class → (honest → IsTheOne (has number.0) Damaged) → FailsToOpen has honest number class own (Store (keeper.BadImage number))
+  wrong_words : own ≡ class → (honest → HasMisfit has number class) → FailsToOpen has honest number class own (WrongClass number)
+  no_memory : FailsToOpen has honest number class own OutOfMemory

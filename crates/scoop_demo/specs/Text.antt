@@ -7,7 +7,7 @@ use Rattle.scoop_demo.specs.declared.fault.InputFault.TheVariants.{LineTooLong, 
 use Rattle.scoop_demo.specs.declared.fault.InputFault.TheVariants.{UnknownLine, WrongNumberOfWords, NotANumber, NoSuchClass, TooLateForParty, CannotOpen, TooManyArguments, TooManyHandlers, NoSuchKind, Refused}
 use Rattle.scoop_demo.specs.OpenErrorText.{open_error_name}
 use Rattle.scoop_demo.specs.declared.fault.RunError.{RunError}
-use Rattle.scoop_demo.specs.declared.fault.RunError.TheVariants.{Input, Write, OutOfMemory, Store, WrongClass}
+use Rattle.scoop_demo.specs.declared.fault.RunError.TheVariants.{Input, Write, OutOfMemory, Store, WrongClass, NodeFailed, HistoryFull}
 
 abbrev pub fault_text : InputFault → List ℕ
 fault_text LineTooLong = codes "line too long"
@@ -32,6 +32,8 @@ error_text Write = codes "write fault"
 error_text OutOfMemory = codes "out of memory"
 error_text (Store why) = codes "store: " ++ keeper_text why
 error_text (WrongClass handler) = codes "store: WrongClass " ++ decimal handler.0
+error_text NodeFailed = codes "store: NodeFailed"
+error_text HistoryFull = codes "store: HistoryFull"
 
 -- 1 at a fault of the input, 3 where output, memory or the store failed
 abbrev pub status_of : RunError → ℕ
@@ -40,3 +42,5 @@ status_of Write = 3
 status_of OutOfMemory = 3
 status_of (Store _) = 3
 status_of (WrongClass _) = 3
+status_of NodeFailed = 3
+status_of HistoryFull = 3

@@ -1,93 +1,116 @@
-//! One handler that answers datagrams.
+//! What a book answers to the datagram of a line.
 
-ghost use Rattle.std.specs.Prelude.{◌≡◌, ◌≢◌, IfOk, IfErr, OnOk, OnErr};
-ghost use Rattle.scoop_record.specs.Keeper.{IsSame, Stays};
-ghost use Rattle.scoop_demo.specs.Answer.{AnswersDatagram, ConfirmsHolder, MovesHolder, LeavesState, IsShort, line_of, note_of};
-ghost use Rattle.scoop_demo.specs.Running.{runs_after, runs_next};
-ghost use Rattle.scoop_demo.specs.Run.{FailsToAnswer, PrintsOnly};
-ghost use Rattle.scoop_demo.specs.Storing.{IsTo, StoresIf};
+ghost use Rattle.std.specs.Prelude.{◌≡◌, ◌≢◌, ℕ, None, IfOk, IfErr, OnOk};
+ghost use Rattle.scoop_message.specs.declared.message.Message.{Message};
+ghost use Rattle.scoop_message.specs.Message.{handler_of};
+ghost use Rattle.scoop_frame.specs.declared.error.FrameError.{FrameError};
+ghost use Rattle.scoop_handler.specs.declared.note.Note.{Note};
+ghost use Rattle.scoop_frame.specs.declared.version.Version.{Version};
+ghost use Rattle.scoop_frame.specs.Frame.{IsFrame};
+ghost use Rattle.scoop_book.specs.Books.{IsBook};
+ghost use Rattle.scoop_netloop.specs.Answering.{IsWithinBuffer};
+ghost use Rattle.scoop_netloop.specs.RunningOut.{RunsDry};
+ghost use Rattle.scoop_demo.specs.Answer.{IsHere, Prints, StopsRunning, Unheard, line_of, note_elsewhere, runs_by};
+ghost use Rattle.scoop_demo.specs.Storing.{KeepsElsewhere, TellsRefusal};
 
 use crate::fault::RunError;
-use crate::keeping::hear_stored;
-use scoop_frame::{FrameError, decode, encode};
-use scoop_handler::{Handler, Heard, Note};
+use scoop_book::{Book, BookError};
+use scoop_frame::decode;
+use scoop_handler::{Note, Reason};
+use scoop_message::HandlerId;
 use scoop_message::limits::BUFFER_LEN;
+use scoop_netloop::{Answered, answer_datagram, run_out, runs_after};
 use scoop_object::Behaviour;
-use scoop_record::Keeper;
+use scoop_record::{Keeper, KeeperError};
 use std::alloc::Global;
 
-/// What a handler did with a datagram.
-#[derive(Clone, Copy, Debug, PartialEq, Eq)]
-pub enum Answered {
-    /// The handler replied: how many bytes the reply's frame has, and what the handler did.
-    Reply(usize, Note),
-    /// The handler has no reply: what it did.
-    Silent(Note),
-    /// The datagram is no frame, and the handler did nothing.
-    RefusedFrame(FrameError),
-}
+// The one pass of a run's book.
+const PASS: u32 = 0;
 
-impl Answered {
-    /// Whether something may have become ready to run: after `Greeted`, `Took` and `Known`.
-    pub fn runs_next(self) -> bool
-        ensures { result ≡ runs_next (note_of self) }
-    {
-        match self {
-            Answered::Reply(_, note) => runs_after(note),
-            Answered::Silent(note) => runs_after(note),
-            Answered::RefusedFrame(_) => false,
-        }
+// What a run says of a refusal of its book. A handler that isn't here is no refusal of a run.
+fn refusal_of(error: BookError) -> RunError
+    requires { error ≢ BookError.UnknownHandler }
+    ensures { TellsRefusal error result }
+{
+    match error {
+        BookError::NodeFailed => RunError::NodeFailed,
+        BookError::HistoryFull => RunError::HistoryFull,
+        BookError::UnknownHandler => unreachable!(),
+        BookError::StoreRefused => RunError::Store(KeeperError::Refused),
+        BookError::OutOfMemory => RunError::OutOfMemory,
     }
 }
 
-fn runs_after(note: Note) -> bool
-    ensures { result ≡ runs_after note }
+// What every handler but its own does with a datagram's message.
+fn elsewhere(datagram: &[u8]) -> Note
+    ensures { (v : Version) (m : Message) → IsFrame v m datagram.now → result ≡ note_elsewhere m }
 {
-    matches!(note, Note::Greeted | Note::Took(_) | Note::Known)
+    match decode(datagram) {
+        Ok((_, message)) if message.for_handler() => Note::Dropped(Reason::WrongHandler),
+        _ => Note::Dropped(Reason::NotForHandlers),
+    }
 }
 
-/// Gives a datagram to a handler, and stores its state where the datagram is the frame of a message to it.
-/// The frame of the reply, in the version of the datagram, is written to the front of the buffer.
+// The handler of a datagram's message, where it may have something to run after this note.
+fn runs_by(note: Note, datagram: &[u8]) -> Option<HandlerId>
+    ensures { (v : Version) (m : Message) → IsFrame v m datagram.now → result ≡ runs_by note (handler_of m) }
+{
+    match decode(datagram) {
+        Ok((_, message)) if runs_after(note) => Some(message.handler()),
+        _ => None,
+    }
+}
+
+// The same after this answer.
+fn runs_next(answered: Answered, datagram: &[u8]) -> Option<HandlerId>
+    ensures refused { (e : FrameError) → answered ≡ Answered.RefusedFrame e → result ≡ None }
+    ensures silent { (note : Note) (v : Version) (m : Message) → answered ≡ Answered.Silent note → IsFrame v m datagram.now → result ≡ runs_by note (handler_of m) }
+    ensures replied { (n : ℕ) (note : Note) (v : Version) (m : Message) → answered ≡ Answered.Reply n note → IsFrame v m datagram.now → result ≡ runs_by note (handler_of m) }
+{
+    match answered {
+        Answered::Reply(_, note) | Answered::Silent(note) => runs_by(note, datagram),
+        Answered::RefusedFrame(_) => None,
+    }
+}
+
+/// Gives a datagram to the book, for its one pass. Answers what is to be told of it, and the handler that may have
+/// something to run now. The frame of a reply is at the front of the buffer.
 ///
-/// `OutOfMemory` comes where the message makes the handler keep more than before, and changes nothing; or,
-/// as `Store` with `Refused`, where the handler has heard the message and its state isn't stored.
-pub fn answer_one<B: Behaviour, K: Keeper<Global>>(
-    handler: &mut Handler<B>,
-    keeper: &mut K,
+/// Refused as the book refuses the message, with handlers, history and record as they were; but a message to a
+/// handler that isn't here is answered as every other handler would answer it.
+pub fn answer<B: Behaviour, K: Keeper<Global>>(
+    book: &mut Book<B, K>,
     datagram: &[u8],
     out: &mut [u8; BUFFER_LEN],
-) -> Result<Answered, RunError>
-    ensures ok { IfOk result (λ answered.
-        AnswersDatagram handler.old datagram.now handler.new answered out.old out.new) }
-    ensures only { IfOk result (λ answered.
-        PrintsOnly handler.old datagram.now handler.new (note_of answered) (line_of answered out.new)) }
-    ensures err { IfErr result (FailsToAnswer handler.old datagram.now handler.new) }
-
-    // What the keeper has.
-    ensures stored { K.is_honest keeper.new → OnOk result (StoresIf (IsTo handler.old.state.number datagram.now)
-        handler.old.state handler.new.state (K.handlers keeper.old) (K.handlers keeper.new)) }
-    ensures refused { K.is_honest keeper.new → OnErr result (Stays (K.handlers keeper.old) (K.handlers keeper.new)) }
-    ensures incarnations { K.is_honest keeper.new → IsSame (K.incarnations keeper.old) (K.incarnations keeper.new) }
-    ensures honest { K.is_honest keeper.new → K.is_honest keeper.old }
-
-    // What follows for those who only lock.
-    ensures confirms { IfOk result (λ answered. ConfirmsHolder answered out.new handler.new) }
-    ensures moves { IfOk result (λ _.
-        handler.new.state.holder ≢ handler.old.state.holder
-        → MovesHolder handler.old.state.holder datagram.now handler.new.state.holder) }
-    ensures leaves { IfOk result (LeavesState handler.old handler.new) }
-    ensures short { IfOk result IsShort }
+) -> Result<(Answered, Option<HandlerId>), RunError>
+    ensures ok { IfOk result (λ told. Prints datagram.now book.old book.new told.1 (line_of told.0 out.new)) }
+    ensures limit { IfOk result (λ told. IsWithinBuffer told.0) }
+    ensures err { IfErr result (Unheard datagram.now book.old book.new) }
+    ensures others { KeepsElsewhere K.handlers K.incarnations K.is_honest book.old.handlers book.old.keeper book.new.keeper }
+    ensures sound { IsBook K.handlers K.is_honest book.old → IsBook K.handlers K.is_honest book.new }
 {
-    let (version, message) = match decode(datagram) {
-        Ok(read) => read,
-        Err(error) => return Ok(Answered::RefusedFrame(error)),
-    };
-    let Heard { reply, note } = match hear_stored(handler, keeper, &message) {
-        Ok(heard) => heard,
-        Err(error) => return Err(error),
-    };
-    match reply {
-        Some(reply) => Ok(Answered::Reply(encode(version, &reply, out), note)),
-        None => Ok(Answered::Silent(note)),
+    match answer_datagram(book, PASS, datagram, out) {
+        Ok(answered) => Ok((answered, runs_next(answered, datagram))),
+        Err(BookError::UnknownHandler) => Ok((Answered::Silent(elsewhere(datagram)), None)),
+        Err(error) => Err(refusal_of(error)),
+    }
+}
+
+/// Runs a handler that is here until nothing can run, for the book's one pass.
+///
+/// Refused as the book refuses. What has run stands.
+pub fn run_dry<B: Behaviour, K: Keeper<Global>>(
+    book: &mut Book<B, K>,
+    handler: HandlerId,
+) -> Result<(), RunError>
+    requires { IsHere book.old.handlers handler }
+    ensures ok { OnOk result (RunsDry 0 handler book.old book.new) }
+    ensures err { IfErr result (StopsRunning handler book.old book.new) }
+    ensures others { KeepsElsewhere K.handlers K.incarnations K.is_honest book.old.handlers book.old.keeper book.new.keeper }
+    ensures sound { IsBook K.handlers K.is_honest book.new }
+{
+    match run_out(book, PASS, handler) {
+        Ok(()) => Ok(()),
+        Err(error) => Err(refusal_of(error)),
     }
 }

@@ -104,6 +104,10 @@ pub enum RunError {
     Store(KeeperError),
     /// The object hasn't the handler's class, or the stored words are not as many as the class has.
     WrongClass(HandlerId),
+    /// The keeper had refused a state before, so that the book enters nothing any more.
+    NodeFailed,
+    /// The book's history has as many entries as it may have.
+    HistoryFull,
 }
 
 impl RunError {
@@ -118,7 +122,9 @@ impl RunError {
             RunError::Write
             | RunError::OutOfMemory
             | RunError::Store(_)
-            | RunError::WrongClass(_) => 3,
+            | RunError::WrongClass(_)
+            | RunError::NodeFailed
+            | RunError::HistoryFull => 3,
         }
     }
 }
@@ -136,6 +142,8 @@ impl fmt::Display for RunError {
             RunError::OutOfMemory => f.write_str("out of memory"),
             RunError::Store(refusal) => write!(f, "store: {refusal}"),
             RunError::WrongClass(handler) => write!(f, "store: WrongClass {handler}"),
+            RunError::NodeFailed => f.write_str("store: NodeFailed"),
+            RunError::HistoryFull => f.write_str("store: HistoryFull"),
         }
     }
 }

@@ -1,24 +1,26 @@
 //! A run over the lines of an input, one answer for each.
 
 ghost use Rattle.std.specs.Prelude.{◌≡◌, ◌≤◌, ◌∷◌, ◌++◌, [], length, None, IfErr, OnOk};
-ghost use Rattle.std.specs.Io.KnownBytes.{Appends, Keeps};
-ghost use Rattle.scoop_record.specs.Keeper.{IsSame};
+ghost use Rattle.std.specs.Io.KnownBytes.{Appends};
+ghost use Rattle.scoop_message.specs.declared.limits.TheConstants.{BUFFER_LEN};
 ghost use Rattle.hex.specs.Hex.{encode_lower};
+ghost use Rattle.scoop_book.specs.Books.{IsBook};
+ghost use Rattle.scoop_netloop.specs.Answering.{IsWithinBuffer};
 ghost use Rattle.scoop_demo.specs.Line.{limit_fault};
-ghost use Rattle.scoop_demo.specs.Answer.{IsShort, line_of};
-ghost use Rattle.scoop_demo.specs.Storing.{Stores};
-ghost use Rattle.scoop_demo.specs.Run.{AnswersAll, StopsEarly, WritesAnswer, StopsInLine, words_text, words_line, numbers_text};
+ghost use Rattle.scoop_demo.specs.Answer.{line_of};
+ghost use Rattle.scoop_demo.specs.Storing.{KeepsElsewhere};
+ghost use Rattle.scoop_demo.specs.Run.{AnswersAll, StopsEarly, WritesAnswer, StopsInLine, words_text, words_line, shown_line, numbers_text};
 
-use crate::answer::{Answered, answer_one};
+use crate::answer::{answer, run_dry};
 use crate::datagram::{MAX_DATAGRAM_LEN, read_datagram};
 use crate::fault::RunError;
-use crate::keeping::run_out;
 use crate::lines::Lines;
 use crate::source::LineBytes;
 use arrayvec::ArrayVec;
-use scoop_handler::Handler;
-use scoop_message::Words;
-use scoop_message::limits::{BUFFER_LEN, MAX_FRAME};
+use scoop_book::Book;
+use scoop_message::limits::BUFFER_LEN;
+use scoop_message::{HandlerId, Words};
+use scoop_netloop::Answered;
 use scoop_object::Behaviour;
 use scoop_record::Keeper;
 use std::alloc::Global;
@@ -27,31 +29,32 @@ use std::io::{Read, Write};
 
 /// Answers the datagrams of an input, one in hex digits on each line, with one line for each: the reply
 /// in lower-case hex digits; or `none` and what the handler did; or `refused` and why the datagram is no
-/// frame. Once a line is answered, the handler runs until nothing can run, where the datagram may have
-/// made something ready. After the last line the object's words are shown, if asked for: `words` and the
-/// words in decimal.
+/// frame. Once a line is answered, the handler that heard it runs until nothing can run, where the datagram may
+/// have made something ready. After the last line the words of the object of `shown` are shown, where it names a
+/// handler of the book: `words` and the words in decimal.
 ///
-/// The keeper gets the handler's state with each message to the handler, before the answer is written, and
-/// after each entry that has run. Nothing is stored for what is no frame or is to another handler.
+/// Each message to a handler of the book and each entry that runs is in the history, for pass 0, and the keeper
+/// gets the handler's state before the answer is written. What is no frame, or is to a handler that isn't here,
+/// is in neither; the second is answered as any other handler would.
 ///
-/// The error names the first line that has a fault, or says that the output failed, that the keeper refused or
-/// that memory was wanted. Unless the output failed, the answers to earlier lines stand; no words are shown. The
-/// writer is flushed before each read of the input, which may wait for the user, and at the end.
+/// The error names the first line that has a fault, or says that the output failed, that the keeper refused, that
+/// the history is full or that memory was wanted. Unless the output failed, the answers to earlier lines stand; no
+/// words are shown. The writer is flushed before each read of the input, which may wait for the user, and at the
+/// end.
 pub fn answer_run<B: Behaviour, K: Keeper<Global>, R: Read + Drop, W: Write>(
-    handler: &mut Handler<B>,
-    keeper: &mut K,
-    shows_words: bool,
+    book: &mut Book<B, K>,
+    shown: Option<HandlerId>,
     reader: R,
     writer: &mut W,
 ) -> Result<(), RunError>
-    ensures ok { OnOk result (AnswersAll (R.remaining reader) handler.old handler.new (Stores (K.is_honest keeper.new) (K.handlers keeper.old) (K.handlers keeper.new))
-        (words_line shows_words handler.new.state.words) (W.contents writer.old) (W.contents writer.new)) }
-    ensures err { IfErr result (StopsEarly (R.remaining reader) handler.old handler.new (Stores (K.is_honest keeper.new) (K.handlers keeper.old) (K.handlers keeper.new))
-        (W.contents writer.old) (W.contents writer.new)) }
-    ensures incarnations { K.is_honest keeper.new → IsSame (K.incarnations keeper.old) (K.incarnations keeper.new) }
-    ensures honest { K.is_honest keeper.new → K.is_honest keeper.old }
+    ensures ok { OnOk result (AnswersAll (R.remaining reader) book.old book.new (words_line shown book.new.handlers) (W.contents writer.old) (W.contents writer.new)) }
+    ensures err { IfErr result (StopsEarly (R.remaining reader) book.old book.new (W.contents writer.old) (W.contents writer.new)) }
+
+    // What the keeper has.
+    ensures sound { IsBook K.handlers K.is_honest book.old → IsBook K.handlers K.is_honest book.new }
+    ensures others { KeepsElsewhere K.handlers K.incarnations K.is_honest book.old.handlers book.old.keeper book.new.keeper }
 {
-    let answered = answer_all(handler, keeper, shows_words, reader, writer);
+    let answered = answer_all(book, shown, reader, writer);
     let flushed = writer.flush();
     match answered {
         Ok(()) if flushed.is_err() => Err(RunError::Write),
@@ -61,27 +64,25 @@ pub fn answer_run<B: Behaviour, K: Keeper<Global>, R: Read + Drop, W: Write>(
 
 // Answers the lines of an input, and shows the words.
 fn answer_all<B: Behaviour, K: Keeper<Global>, R: Read + Drop, W: Write>(
-    handler: &mut Handler<B>,
-    keeper: &mut K,
-    shows_words: bool,
+    book: &mut Book<B, K>,
+    shown: Option<HandlerId>,
     reader: R,
     writer: &mut W,
 ) -> Result<(), RunError>
-    ensures ok { OnOk result (AnswersAll (R.remaining reader) handler.old handler.new (Stores (K.is_honest keeper.new) (K.handlers keeper.old) (K.handlers keeper.new))
-        (words_line shows_words handler.new.state.words) (W.contents writer.old) (W.contents writer.new)) }
-    ensures err { IfErr result (StopsEarly (R.remaining reader) handler.old handler.new (Stores (K.is_honest keeper.new) (K.handlers keeper.old) (K.handlers keeper.new))
-        (W.contents writer.old) (W.contents writer.new)) }
-    ensures incarnations { K.is_honest keeper.new → IsSame (K.incarnations keeper.old) (K.incarnations keeper.new) }
-    ensures honest { K.is_honest keeper.new → K.is_honest keeper.old }
+    ensures ok { OnOk result (AnswersAll (R.remaining reader) book.old book.new (words_line shown book.new.handlers) (W.contents writer.old) (W.contents writer.new)) }
+    ensures err { IfErr result (StopsEarly (R.remaining reader) book.old book.new (W.contents writer.old) (W.contents writer.new)) }
+    ensures sound { IsBook K.handlers K.is_honest book.old → IsBook K.handlers K.is_honest book.new }
+    ensures others { KeepsElsewhere K.handlers K.incarnations K.is_honest book.old.handlers book.old.keeper book.new.keeper }
 {
-    match answer_lines(handler, keeper, reader, writer) {
+    match answer_lines(book, reader, writer) {
         Ok(()) => {}
         Err(error) => return Err(error),
     }
-    if !shows_words {
-        return Ok(());
-    }
-    match print_words(&handler.words(), writer) {
+    let words = match shown {
+        Some(handler) => book.words(handler),
+        None => None,
+    };
+    match print_shown(&words, writer) {
         Ok(()) => Ok(()),
         Err(_) => Err(RunError::Write),
     }
@@ -89,17 +90,14 @@ fn answer_all<B: Behaviour, K: Keeper<Global>, R: Read + Drop, W: Write>(
 
 // Answers the lines of an input until one has a fault.
 fn answer_lines<B: Behaviour, K: Keeper<Global>, R: Read + Drop, W: Write>(
-    handler: &mut Handler<B>,
-    keeper: &mut K,
+    book: &mut Book<B, K>,
     reader: R,
     writer: &mut W,
 ) -> Result<(), RunError>
-    ensures ok { OnOk result (AnswersAll (R.remaining reader) handler.old handler.new (Stores (K.is_honest keeper.new) (K.handlers keeper.old) (K.handlers keeper.new)) []
-        (W.contents writer.old) (W.contents writer.new)) }
-    ensures err { IfErr result (StopsEarly (R.remaining reader) handler.old handler.new (Stores (K.is_honest keeper.new) (K.handlers keeper.old) (K.handlers keeper.new))
-        (W.contents writer.old) (W.contents writer.new)) }
-    ensures incarnations { K.is_honest keeper.new → IsSame (K.incarnations keeper.old) (K.incarnations keeper.new) }
-    ensures honest { K.is_honest keeper.new → K.is_honest keeper.old }
+    ensures ok { OnOk result (AnswersAll (R.remaining reader) book.old book.new [] (W.contents writer.old) (W.contents writer.new)) }
+    ensures err { IfErr result (StopsEarly (R.remaining reader) book.old book.new (W.contents writer.old) (W.contents writer.new)) }
+    ensures sound { IsBook K.handlers K.is_honest book.old → IsBook K.handlers K.is_honest book.new }
+    ensures others { KeepsElsewhere K.handlers K.incarnations K.is_honest book.old.handlers book.old.keeper book.new.keeper }
 {
     let mut lines = Lines::new(reader);
     let mut line = ArrayVec::new();
@@ -109,7 +107,7 @@ fn answer_lines<B: Behaviour, K: Keeper<Global>, R: Read + Drop, W: Write>(
             Ok(false) => return Ok(()),
             Err(error) => return Err(error),
         }
-        match answer_line(handler, keeper, lines.number(), &mut line, writer) {
+        match answer_line(book, lines.number(), &mut line, writer) {
             Ok(()) => {}
             Err(error) => return Err(error),
         }
@@ -118,19 +116,16 @@ fn answer_lines<B: Behaviour, K: Keeper<Global>, R: Read + Drop, W: Write>(
 
 // Answers the datagram of the line of this number, which is within the limits, and runs the handler.
 fn answer_line<B: Behaviour, K: Keeper<Global>, W: Write>(
-    handler: &mut Handler<B>,
-    keeper: &mut K,
+    book: &mut Book<B, K>,
     number: u32,
     line: &mut LineBytes,
     writer: &mut W,
 ) -> Result<(), RunError>
     requires { limit_fault number line.old.items ≡ None }
-    ensures ok { OnOk result (WritesAnswer number handler.old line.old.items handler.new (Stores (K.is_honest keeper.new) (K.handlers keeper.old) (K.handlers keeper.new))
-        (W.contents writer.old) (W.contents writer.new)) }
-    ensures err { IfErr result (StopsInLine number handler.old line.old.items handler.new (Stores (K.is_honest keeper.new) (K.handlers keeper.old) (K.handlers keeper.new))
-        (W.contents writer.old) (W.contents writer.new)) }
-    ensures incarnations { K.is_honest keeper.new → IsSame (K.incarnations keeper.old) (K.incarnations keeper.new) }
-    ensures honest { K.is_honest keeper.new → K.is_honest keeper.old }
+    ensures ok { OnOk result (WritesAnswer number book.old line.old.items book.new (W.contents writer.old) (W.contents writer.new)) }
+    ensures err { IfErr result (StopsInLine number book.old line.old.items book.new (W.contents writer.old) (W.contents writer.new)) }
+    ensures sound { IsBook K.handlers K.is_honest book.old → IsBook K.handlers K.is_honest book.new }
+    ensures others { KeepsElsewhere K.handlers K.incarnations K.is_honest book.old.handlers book.old.keeper book.new.keeper }
 {
     let mut buffer = [0; MAX_DATAGRAM_LEN];
     let datagram = match read_datagram(line, &mut buffer) {
@@ -143,18 +138,18 @@ fn answer_line<B: Behaviour, K: Keeper<Global>, W: Write>(
         }
     };
     let mut out = [0; BUFFER_LEN];
-    let answered = match answer_one(handler, keeper, datagram, &mut out) {
-        Ok(answered) => answered,
+    let (answered, runs_next) = match answer(book, datagram, &mut out) {
+        Ok(told) => told,
         Err(error) => return Err(error),
     };
     match print_answer(answered, &out, writer) {
         Ok(()) => {}
         Err(_) => return Err(RunError::Write),
     }
-    if answered.runs_next() {
-        return run_out(handler, keeper);
+    match runs_next {
+        Some(handler) => run_dry(book, handler),
+        None => Ok(()),
     }
-    Ok(())
 }
 
 // Writes the line of an answer.
@@ -163,7 +158,7 @@ fn print_answer<W: Write>(
     out: &[u8; BUFFER_LEN],
     writer: &mut W,
 ) -> io::Result<()>
-    requires { IsShort answered }
+    requires { IsWithinBuffer answered }
     ensures { OnOk result (Appends (W.contents writer.old) (W.contents writer.new) (line_of answered out.now ++ 10 ∷ [])) }
 {
     match answered {
@@ -175,14 +170,24 @@ fn print_answer<W: Write>(
 
 // Writes the bytes of a frame as a line of hex digits.
 pub(crate) fn print_frame<W: Write>(frame: &[u8], writer: &mut W) -> io::Result<()>
-    requires { length frame.now ≤ MAX_FRAME }
+    requires { length frame.now ≤ BUFFER_LEN }
     ensures { OnOk result (Appends (W.contents writer.old) (W.contents writer.new) (encode_lower frame.now ++ 10 ∷ [])) }
 {
-    let mut digits = [0; 2 * MAX_FRAME];
+    let mut digits = [0; 2 * BUFFER_LEN];
     let digits = &mut digits[..2 * frame.len()];
     hex::encode_to_slice(frame, digits).unwrap();
     writer.write_all(digits)?;
     writer.write_all(b"\n")
+}
+
+// Writes the line of an object's words, if there are any to show.
+fn print_shown<W: Write>(words: &Option<Words>, writer: &mut W) -> io::Result<()>
+    ensures { OnOk result (Appends (W.contents writer.old) (W.contents writer.new) (shown_line words.now)) }
+{
+    match words {
+        Some(words) => print_words(words, writer),
+        None => Ok(()),
+    }
 }
 
 // Writes the line of an object's words.

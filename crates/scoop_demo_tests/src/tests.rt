@@ -1,3 +1,4 @@
+use scoop_book::Book;
 use scoop_demo::*;
 use scoop_message::{HandlerId, Words};
 use scoop_object::{Behaviour, Boxed, Table};
@@ -38,21 +39,35 @@ struct Case<'a> {
     output: &'a str,
 }
 
-// How a run of handler 1 with an object of that class ends, over what a keeper has, and what it writes.
+// How a run ended, what it wrote, and the keeper behind it.
+#[derive(Drop)]
+struct Ended<K: Drop> {
+    result: Result<(), RunError>,
+    output: Vec<u8>,
+    keeper: K,
+}
+
+// A run of handler 1 with an object of that class, over what a keeper has; or why it doesn't open.
 fn run_of<B: Behaviour, K: Keeper<Global>>(
     rt: &impl Abort,
     alloc: Global,
-    keeper: &mut K,
+    keeper: K,
     (class, object): (&str, B),
     input: &[u8],
-) -> Result<(Result<(), RunError>, Vec<u8>), Fail> {
+) -> Result<Result<Ended<K>, RunError>, Fail> {
     let class = demo_class(alloc, class)?.expect(rt, "it has a name");
     let mut output = Vec::new(alloc);
-    let ended = match open_handler(alloc, keeper, HandlerId(1), class, object) {
-        Ok(mut handler) => answer_run(&mut handler, keeper, true, input, &mut output),
-        Err(error) => Err(error),
+    let mut book = match open_book(alloc, keeper, HandlerId(1), class, object) {
+        Ok(book) => book,
+        Err(error) => return Ok(Err(error)),
     };
-    Ok((ended, output))
+    let result = answer_run(&mut book, Some(HandlerId(1)), input, &mut output);
+    let keeper = book.into_keeper();
+    Ok(Ok(Ended {
+        result,
+        output,
+        keeper,
+    }))
 }
 
 // Runs handler 1 with an object of that class over an input.
@@ -62,10 +77,10 @@ fn runs<B: Behaviour>(
     object: (&str, B),
     case: Case<'_>,
 ) -> Result<(), Fail> {
-    let mut keeper = MemoryKeeper::new(alloc);
-    let (ended, output) = run_of(rt, alloc, &mut keeper, object, case.input.as_bytes())?;
-    assert_eq!(rt; ended, case.ended);
-    assert_eq!(rt; output.as_slice(), case.output.as_bytes());
+    let keeper = MemoryKeeper::new(alloc);
+    let ended = run_of(rt, alloc, keeper, object, case.input.as_bytes())??;
+    assert_eq!(rt; ended.result, case.ended);
+    assert_eq!(rt; ended.output.as_slice(), case.output.as_bytes());
     Ok(())
 }
 
@@ -106,6 +121,48 @@ fn runs_a_block_of_calls(rt: HostRuntime) -> Result<(), Fail> {
             output: &output,
         },
     )
+}
+
+// A book of handler 1 with a cell.
+fn cell_book<K: Keeper<Global>>(
+    rt: &impl Abort,
+    alloc: Global,
+    keeper: K,
+) -> Result<Book<Table, K>, Fail> {
+    let class = demo_class(alloc, "cell")?.expect(rt, "it has a name");
+    let cell = Table::new(class.copy()?, Words::of(&[0])?)?;
+    Ok(open_book(alloc, keeper, HandlerId(1), class, cell)?)
+}
+
+#[test]
+fn enters_what_its_handler_hears_and_runs(rt: HostRuntime) -> Result<(), Fail> {
+    let alloc = rt.alloc();
+    // A Hello to handler 2, a Welcome from it, and no frame; then a block of client 7 with one call.
+    let input = format!(in alloc;
+        "5351010100000002000000070000000100000000000000000000\n\
+        5351010200000002000000070000000100000000000000000000\n\
+        00\n\
+        {OPENING}\
+        5351010a0000000100000007000000010000000100000001000c010001010000000000000005\n"
+    )?;
+    let output = format!(in alloc;
+        "none Dropped WrongHandler\nnone Dropped NotForHandlers\nrefused Short\n{OPENED}\
+        5351010b00000001000000070000000100000001000000010000\n"
+    )?;
+    let mut book = cell_book(&rt, alloc, MemoryKeeper::new(alloc))?;
+    let mut written = Vec::new(alloc);
+    let ended = answer_run(
+        &mut book,
+        Some(HandlerId(2)),
+        input.as_bytes(),
+        &mut written,
+    );
+    assert_eq!(rt; ended, Ok(()));
+    assert_eq!(rt; written.as_slice(), output.as_bytes());
+    // Each message to handler 1 is an entry. The greeting lets the handler look for something to run, and the call lets
+    // it begin, finish, and look again.
+    assert_eq!(rt; book.history().len(), 5 + 1 + 3);
+    Ok(())
 }
 
 #[test]
@@ -251,13 +308,8 @@ fn answers_all<R: Read + Drop, W: Write>(
     reader: R,
     writer: &mut W,
 ) -> Result<Result<(), RunError>, Fail> {
-    let class = demo_class(alloc, "cell")?.expect(rt, "it has a name");
-    let cell = Table::new(class.copy()?, Words::of(&[0])?)?;
-    let mut keeper = MemoryKeeper::new(alloc);
-    match open_handler(alloc, &mut keeper, HandlerId(1), class, cell) {
-        Ok(mut handler) => Ok(answer_run(&mut handler, &mut keeper, true, reader, writer)),
-        Err(_) => panic!(rt; "it is of its class"),
-    }
+    let mut book = cell_book(rt, alloc, MemoryKeeper::new(alloc))?;
+    Ok(answer_run(&mut book, Some(HandlerId(1)), reader, writer))
 }
 
 // Gives newlines, each time as many as there is room for, and then an error of this kind or the end.
@@ -397,6 +449,8 @@ fn errors_have_a_text_and_a_status(rt: HostRuntime) -> Result<(), Fail> {
             "store: WrongSchema",
         ),
         (RunError::WrongClass(HandlerId(1)), "store: WrongClass 1"),
+        (RunError::NodeFailed, "store: NodeFailed"),
+        (RunError::HistoryFull, "store: HistoryFull"),
     ] {
         assert_eq!(rt; format!(in rt.alloc(); "{error}")?.as_str(), text);
         assert_eq!(rt; error.status(), 3);

@@ -1,8 +1,8 @@
 //! A book that answers datagrams.
 
-ghost use Rattle.std.specs.Prelude.{◌≡◌, IfOk, IfErr, OnErr};
+ghost use Rattle.std.specs.Prelude.{◌≡◌, ◌||◌, IfOk, IfErr, OnErr};
 ghost use Rattle.scoop_record.specs.Keeper.{IsSame, Stays as KeeperStays};
-ghost use Rattle.scoop_book.specs.Books.{Stays};
+ghost use Rattle.scoop_book.specs.Books.{IsBook, Stays, fails};
 ghost use Rattle.scoop_netloop.specs.Answering.{AnswersDatagram, IsUnheard, IsWithinBuffer, KeepsAnswered, runs_after};
 
 use scoop_book::{Book, BookError, Event, Reply};
@@ -24,8 +24,8 @@ pub enum Answered {
     RefusedFrame(FrameError),
 }
 
-// Whether something may have become ready to run by a message with this note.
-pub(crate) fn runs_after(note: Note) -> bool
+/// Whether something may have become ready to run by a message with this note.
+pub fn runs_after(note: Note) -> bool
     ensures { result ≡ runs_after note }
 {
     matches!(note, Note::Greeted | Note::Took(_) | Note::Known)
@@ -47,10 +47,12 @@ pub fn answer_datagram<B: Behaviour, K: Keeper<A>, A: Allocator + Copy>(
     ensures stored { K.is_honest book.new.keeper → IfOk result (λ _. KeepsAnswered datagram.now book.new.handlers (K.handlers book.old.keeper) (K.handlers book.new.keeper)) }
     ensures refused { IfErr result (IsUnheard datagram.now book.old) }
     ensures stays { OnErr result (Stays book.old book.new) }
+    ensures failed { IfErr result (λ e. book.new.failed ≡ (book.old.failed || fails e)) }
     ensures buffer { OnErr result (out.new ≡ out.old) }
     ensures kept { K.is_honest book.new.keeper → OnErr result (KeeperStays (K.handlers book.old.keeper) (K.handlers book.new.keeper)) }
     ensures incarnations { K.is_honest book.new.keeper → IsSame (K.incarnations book.old.keeper) (K.incarnations book.new.keeper) }
     ensures honest { K.is_honest book.new.keeper → K.is_honest book.old.keeper }
+    ensures sound { IsBook K.handlers K.is_honest book.old → IsBook K.handlers K.is_honest book.new }
 {
     let (version, message) = match decode(datagram) {
         Ok(read) => read,

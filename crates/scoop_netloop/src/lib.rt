@@ -14,7 +14,7 @@ mod receiver;
 mod running;
 mod stop;
 
-pub use answer::{Answered, answer_datagram};
+pub use answer::{Answered, answer_datagram, runs_after};
 pub use executor::{Gate, OpenGate};
 pub use loop_link::LoopLink;
 pub use node_loop::serve;

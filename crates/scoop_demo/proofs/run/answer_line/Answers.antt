@@ -1,48 +1,37 @@
-use Rattle.std.proofs.Common.{None, Some, refl, sym, ◌∙◌}
-use Rattle.scoop_record.proofs.KeeperLemmas.{stays_same}
-use Rattle.scoop_demo.specs.Answer.{note_of}
-use Rattle.scoop_demo.specs.Run.StopsInLine.{in_digits, in_output}
-use Rattle.scoop_demo.specs.Running.RunsBehind.{rests}
-use Rattle.scoop_demo.proofs.RunLemmas.{digits_fault, hears_line, keeps_all, not_answered, ran_behind, stopped_behind}
-use Rattle.scoop_demo.proofs.StoringLemmas.{line_stores, stores_none}
+use Rattle.std.proofs.Common.{Some, refl}
+use Rattle.scoop_demo.specs.Run.StopsInLine.{in_digits, in_book, in_output}
+use Rattle.scoop_demo.proofs.AnswerLemmas.{absent_printed, elsewhere_more, here_printed}
+use Rattle.scoop_demo.proofs.RunLemmas.{digits_fault, hears_line, is_datagram, keeps_all, ran_behind, rested_behind, stopped_behind}
 use Rattle.scoop_demo.proofs.run.answer_line.Goals as goal
 
 pub returns-in-Err-clause-err : goal.returns-in-Err-clause-err
-returns-in-Err-clause-err g c =
-    in_digits (digits_fault c.args.number c.args.line.now.items (Some c.in-Err.fault) c.requires c.in-Err.ensures.fault) refl (keeps_all _)
-    (λ honest. stores_none _ _ _ (stays_same _))
+returns-in-Err-clause-err g c = in_digits (digits_fault c.args.number c.args.line.now.items (Some c.in-Err.fault) c.requires c.in-Err.ensures.fault) refl (keeps_all _)
 
-pub returns-in-Err-answer_one-clause-err : goal.returns-in-Err-answer_one-clause-err
-returns-in-Err-answer_one-clause-err g c =
-    not_answered c.args.number c.args.line.now.items c.in-Ok.datagram.now _ _ _ _ _ _ _
-    (digits_fault c.args.number c.args.line.now.items None c.requires c.in-Ok.ensures.fault) c.in-Ok.ensures.ok c.in-Err-answer_one.ensures.err c.in-Err-answer_one.ensures.refused
+pub returns-in-Err-answer-clause-err : goal.returns-in-Err-answer-clause-err
+returns-in-Err-answer-clause-err g c =
+    in_book c.in-Ok.datagram.now (is_datagram c.args.number c.args.line.now.items c.in-Ok.datagram.now c.requires c.in-Ok.ensures.fault c.in-Ok.ensures.ok) c.in-Err-answer.ensures.err (keeps_all _)
 
 pub returns-in-Err-print_answer-clause-err : goal.returns-in-Err-print_answer-clause-err
-returns-in-Err-print_answer-clause-err g c =
-    in_output _ _ (hears_line _ _ _ _ _ _ _ _ c.requires c.in-Ok.ensures.fault c.in-Ok.ensures.ok c.in-Ok-answer_one.ensures.ok c.in-Ok-answer_one.ensures.only)
-    (λ honest. line_stores _ _ _ _ _ _ c.in-Ok.ensures.ok (c.in-Ok-answer_one.ensures.stored honest))
+returns-in-Err-print_answer-clause-err g c = in_output _ _ (hears_line _ _ _ _ _ _ _ c.requires c.in-Ok.ensures.fault c.in-Ok.ensures.ok c.in-Ok-answer.ensures.ok)
 
-pub returns-then-runs_next-clause-ok : goal.returns-then-runs_next-clause-ok
-returns-then-runs_next-clause-ok g c =
-    let hears = hears_line _ _ _ _ _ _ _ _ c.requires c.in-Ok.ensures.fault c.in-Ok.ensures.ok c.in-Ok-answer_one.ensures.ok c.in-Ok-answer_one.ensures.only in
-    ran_behind c.run_out.result _ _ _ _ _ _ _ _ _ _ _ _ _ hears (sym c.runs_next.ensures ∙ c.if-runs_next.true) c.in-Ok-print_answer.ensures
-    (λ honest. line_stores _ _ _ _ _ _ c.in-Ok.ensures.ok (c.in-Ok-answer_one.ensures.stored (c.run_out.ensures.honest honest))) c.run_out.ensures.ok c.run_out.ensures.stored
+pub run_dry-requires : goal.run_dry-requires
+run_dry-requires g c = here_printed _ _ _ _ _ _ c.in-Ok-answer.ensures.ok c.in-Some.is
 
-pub returns-then-runs_next-clause-err : goal.returns-then-runs_next-clause-err
-returns-then-runs_next-clause-err g c =
-    let hears = hears_line _ _ _ _ _ _ _ _ c.requires c.in-Ok.ensures.fault c.in-Ok.ensures.ok c.in-Ok-answer_one.ensures.ok c.in-Ok-answer_one.ensures.only in
-    stopped_behind c.run_out.result _ _ _ _ _ _ _ _ _ _ _ _ _ hears (sym c.runs_next.ensures ∙ c.if-runs_next.true) c.in-Ok-print_answer.ensures
-    (λ honest. line_stores _ _ _ _ _ _ c.in-Ok.ensures.ok (c.in-Ok-answer_one.ensures.stored (c.run_out.ensures.honest honest))) c.run_out.ensures.named c.run_out.ensures.stopped
+pub returns-in-Some-clause-ok : goal.returns-in-Some-clause-ok
+returns-in-Some-clause-ok g c =
+    let hears = hears_line _ _ _ _ _ _ _ c.requires c.in-Ok.ensures.fault c.in-Ok.ensures.ok c.in-Ok-answer.ensures.ok in
+    ran_behind _ _ _ _ _ _ _ _ hears c.in-Ok-print_answer.ensures c.run_dry.result _ _ c.in-Some.is c.run_dry.ensures.ok
 
-pub returns-clause-ok : goal.returns-clause-ok
-returns-clause-ok g c = record {
-  text = _;
-  answers = record {
-    heard = c.answer_one.new.handler;
-    note = note_of c.in-Ok-answer_one.answered;
-    hears = hears_line _ _ _ _ _ _ _ _ c.requires c.in-Ok.ensures.fault c.in-Ok.ensures.ok c.in-Ok-answer_one.ensures.ok c.in-Ok-answer_one.ensures.only;
-    runs = rests (sym c.runs_next.ensures ∙ c.if-runs_next.false) refl;
-  };
-  writes = c.in-Ok-print_answer.ensures;
-  keeps = λ honest. line_stores _ _ _ _ _ _ c.in-Ok.ensures.ok (c.in-Ok-answer_one.ensures.stored honest);
-}
+pub returns-in-Some-clause-err : goal.returns-in-Some-clause-err
+returns-in-Some-clause-err g c =
+    let hears = hears_line _ _ _ _ _ _ _ c.requires c.in-Ok.ensures.fault c.in-Ok.ensures.ok c.in-Ok-answer.ensures.ok in
+    stopped_behind _ _ _ _ _ _ _ _ hears c.in-Ok-print_answer.ensures c.run_dry.result _ _ c.in-Some.is c.run_dry.ensures.err
+
+pub returns-in-Some-clause-others : goal.returns-in-Some-clause-others
+returns-in-Some-clause-others g c =
+    elsewhere_more _ _ _ _ _ _ _ _ (λ h none. absent_printed _ _ _ _ _ h c.in-Ok-answer.ensures.ok none) c.answer.ensures.others c.run_dry.ensures.others
+
+pub returns-in-None-clause-ok : goal.returns-in-None-clause-ok
+returns-in-None-clause-ok g c =
+    let hears = hears_line _ _ _ _ _ _ _ c.requires c.in-Ok.ensures.fault c.in-Ok.ensures.ok c.in-Ok-answer.ensures.ok in
+    rested_behind _ _ _ _ _ _ _ _ hears c.in-Ok-print_answer.ensures c.in-None.is

@@ -1,16 +1,18 @@
-use Rattle.std.proofs.Common.{◌-◌}
-use Rattle.scoop_record.specs.Keeper.{IsSame}
+use Rattle.std.proofs.Common.{◌≡◌, ◌-◌, None}
+use Rattle.scoop_message.specs.declared.name.HandlerId.{HandlerId}
+use Rattle.scoop_book.specs.Books.{IsBook}
+use Rattle.scoop_book.specs.Moves.{handler_in}
 use Rattle.scoop_demo.specs.Line.{count_limit}
-use Rattle.scoop_demo.specs.Storing.{Stores}
+use Rattle.scoop_demo.specs.Storing.{KeepsElsewhere}
 use Rattle.scoop_demo.proofs.RunLemmas.{Progress}
 use Rattle.scoop_demo.proofs.run.answer_lines.Given as goal
 
 abbrev pub invariant-loop-lines : goal.invariant-loop-lines
 invariant-loop-lines g l = record {
-  progress : Progress (g.R.Read.remaining l.fn.reader) l.lines l.initial.handler l.handler
-      (Stores (g.K.Keeper.is_honest l.keeper) (g.K.Keeper.handlers l.initial.keeper) (g.K.Keeper.handlers l.keeper)) (g.W.Write.contents l.initial.writer) (g.W.Write.contents l.writer);
-  incarnations : g.K.Keeper.is_honest l.keeper → IsSame (g.K.Keeper.incarnations l.initial.keeper) (g.K.Keeper.incarnations l.keeper);
-  honest : g.K.Keeper.is_honest l.keeper → g.K.Keeper.is_honest l.initial.keeper;
+  progress : Progress (g.R.Read.remaining l.fn.reader) l.lines l.initial.book l.book (g.W.Write.contents l.initial.writer) (g.W.Write.contents l.writer);
+  others : KeepsElsewhere g.K.Keeper.handlers g.K.Keeper.incarnations g.K.Keeper.is_honest l.initial.book.handlers l.initial.book.keeper l.book.keeper;
+  absent : (h : HandlerId) → handler_in h l.initial.book.handlers ≡ None → handler_in h l.book.handlers ≡ None;
+  sound : IsBook g.K.Keeper.handlers g.K.Keeper.is_honest l.initial.book → IsBook g.K.Keeper.handlers g.K.Keeper.is_honest l.book;
 }
 
 abbrev pub decreases-loop-lines : goal.decreases-loop-lines
