@@ -1,8 +1,9 @@
 //! `scoop answer`: one handler, and the datagrams of standard input.
 
-ghost use Rattle.std.specs.Prelude.{◌≡◌, ◌∷◌, [], IfOk};
+ghost use Rattle.std.specs.Prelude.{◌≡◌, ◌∷◌, [], IfOk, IfErr};
 ghost use Rattle.scoop_book.specs.Opening.{AllOpen};
 ghost use Rattle.scoop_demo.specs.Classes.{table_of};
+ghost use Rattle.scoop_demo.specs.Storing.{FailsToOpen};
 
 use crate::failure::Failure;
 use crate::storing::{FiledStore, adopt, close, create};
@@ -158,7 +159,8 @@ fn open_with<B: Behaviour, K: Keeper<Global>>(
     object: B,
 ) -> Result<Book<B, K>, RunError>
     requires { table_of class ≡ B.class object }
-    ensures { IfOk result (λ b. AllOpen B.words (K.handlers keeper) (K.is_honest b.keeper) ((number, B.class object, object) ∷ []) b.opening) }
+    ensures opens { IfOk result (λ b. AllOpen B.words (K.handlers keeper) (K.is_honest b.keeper) ((number, B.class object, object) ∷ []) b.opening) }
+    ensures fails { IfErr result (FailsToOpen (K.handlers keeper) ((k : K) → K.is_honest k) number (B.class object) (B.class object)) }
 {
     let class = class.class(alloc)?;
     open_book(alloc, keeper, number, class, object)

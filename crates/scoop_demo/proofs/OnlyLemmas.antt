@@ -209,7 +209,7 @@ module _ {K : Type 0} where
       clash : (s : LocalHandler) → None ≡ Some s → ⊥
       clash s e = cc
 
-  prints_only : (d : List ℕ) (a b c e : BookValue K) (next other : Option HandlerId) (text again : List ℕ) → Rests a c
+  pub prints_only : (d : List ℕ) (a b c e : BookValue K) (next other : Option HandlerId) (text again : List ℕ) → Rests a c
       → Prints d a b next text → Prints d c e other again → Rests b e × (next ≡ other) × (text ≡ again)
   prints_only d a b c e next other text again same (refused x) (refused y) = refused_only d a b c e next other text again same x y
   prints_only d a b c e next other text again same (refused x) (heard y) = absurd (no_frame d x.error y.version y.message x.first_fault y.carried)

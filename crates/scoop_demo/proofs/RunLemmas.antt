@@ -21,7 +21,7 @@ use Rattle.scoop_demo.specs.Run.StopsInLine.{in_digits, in_book, in_output, in_r
 use Rattle.scoop_demo.specs.Run.StopsBehind.{read_fault, line_fault}
 use Rattle.scoop_demo.specs.Run.StopsEarly.{at_line, at_output, at_answer, at_book, at_run}
 use Rattle.scoop_demo.proofs.InputLemmas.{begins_with}
-use Rattle.scoop_demo.proofs.OnlyLemmas.{answers_first}
+use Rattle.scoop_demo.proofs.OnlyLemmas.{answers_first, prints_only, rests_same}
 
 -- ---- known bytes
 
@@ -94,7 +94,13 @@ is_datagram number line datagram none found stands = record { faultless = digits
 module _ {K : Type 0} (number : ℕ) (line : List ℕ) (old heard : BookValue K) where
   pub hears_line : (datagram text : List ℕ) (next : Option HandlerId) → limit_fault number line ≡ None → hex_fault line ≡ None → StandsFor line datagram → Prints datagram old heard next text
       → HearsLine number old line heard next text
-  hears_line datagram text next none found stands prints = record { datagram = datagram; is_datagram = is_datagram number line datagram none found stands; prints = prints }
+  hears_line datagram text next none found stands prints =
+      record {
+        datagram = datagram;
+        is_datagram = is_datagram number line datagram none found stands;
+        prints = prints;
+        only = λ other after again others. prints_only datagram old heard old other next after text again (rests_same old) prints others;
+      }
 
   module _ (next : Option HandlerId) (text : List ℕ) (before after : Option (List ℕ)) (hears : HearsLine number old line heard next text) (writes : Appends before after (text ++ 10 ∷ [])) where
     hears_as : (other : Option HandlerId) → next ≡ other → HearsLine number old line heard other text

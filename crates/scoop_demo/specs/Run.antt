@@ -30,11 +30,13 @@ pub record IsDatagram (number : ℕ) (line datagram : List ℕ) : Type 0 where
   pub faultless : fault_of number line ≡ None
   pub stands : StandsFor line datagram
 
--- the book behind the line's datagram, the handler that may have something to run then, and the text of the answer
+-- the book behind the line's datagram, the handler that may have something to run then, and the text of the answer.
+-- Nothing else answers the datagram: no other handlers or history, no other handler to run, no other text
 pub record HearsLine {K : Type 0} (number : ℕ) (old : BookValue K) (line : List ℕ) (new : BookValue K) (next : Option HandlerId) (text : List ℕ) : Type 0 where
   pub datagram : List ℕ
   pub is_datagram : IsDatagram number line datagram
   pub prints : Prints datagram old new next text
+  pub only : (other : BookValue K) (after : Option HandlerId) (again : List ℕ) → Prints datagram old other after again → Rests new other × (next ≡ after) × (text ≡ again)
 
 -- the handler runs until nothing can run, where there is one
 abbrev pub RunsBehind : {K : Type 0} → Option HandlerId → (heard new : BookValue K) → Type 0
