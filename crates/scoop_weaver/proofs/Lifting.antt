@@ -49,19 +49,22 @@ after_first p ms parties i = if p == i then ms else parties i
 
 lift : (order : List (ℕ × Traffic)) (parties : ℕ → List LocalMove) → ((i : ℕ) → own i order ≡ map traffic_of (parties i)) → Lifted order parties
 lift [] parties whole = record { moves = []; is = refl; whole = λ i. nothing (parties i) (whole i) }
-lift ((p, t) ∷ order) parties whole = joined (after_first p f.rest parties) ...
+lift ((p, t) ∷ order) parties whole = joined (lift order (after_first p f.rest parties) others_whole)
   where
     its : t ∷ own p order ≡ map traffic_of (parties p)
     its = subst (λ b. (if b then t ∷ own p order else own p order) ≡ map traffic_of (parties p)) (number_itself p) (whole p)
+
     f : Front t (own p order) (parties p)
     f = front t (own p order) (parties p) its
-    others_whole : (i : ℕ) → own i order ≡ map traffic_of (others i)
+
+    others_whole : (i : ℕ) → own i order ≡ map traffic_of (after_first p f.rest parties i)
     others_whole i =
         by_test (λ b. (p == i) ≡ b → (if b then t ∷ own i order else own i order) ≡ map traffic_of (parties i) → own i order ≡ map traffic_of (if b then f.rest else parties i)) (p == i)
         (λ _ e w. let same : p ≡ i = (Decides-eqb p i).0 e in subst (λ j. own j order ≡ map traffic_of f.rest) same f.more)
         (λ _ e w. w)
         refl (whole i)
-    joined : Lifted order others → Lifted ((p, t) ∷ order) parties
+
+    joined : Lifted order (after_first p f.rest parties) → Lifted ((p, t) ∷ order) parties
     joined l =
         record {
           moves = (p, f.first) ∷ l.moves;
