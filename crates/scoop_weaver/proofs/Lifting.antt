@@ -15,10 +15,10 @@ use Rattle.scoop_running.proofs.Nodes.{number_itself}
 use Rattle.scoop_running.proofs.Systems.{is_a_world}
 use Rattle.scoop_weaver.specs.declared.traffic.Traffic.{Traffic}
 use Rattle.scoop_weaver.specs.Weaving.{AllSent, IsWoven, sent_by}
-use Rattle.scoop_weaver.specs.Passing.{traffic_of, traffic_by, AreLives, IsOfWorld}
+use Rattle.scoop_weaver.specs.Passing.{traffic_of, tagged, traffic_by, AreLives, IsOfWorld}
 
-abbrev tagged : ℕ × LocalMove → ℕ × Traffic
-tagged x = (x.0, traffic_of x.1)
+abbrev put : ℕ → Traffic → List (ℕ × Traffic) → List (ℕ × Traffic)
+put p t xs = (p, t) ∷ xs
 
 record Lifted (order : List (ℕ × Traffic)) (parties : ℕ → List LocalMove) : Type 0 where
   moves : List (ℕ × LocalMove)
@@ -68,7 +68,7 @@ lift ((p, t) ∷ order) parties whole = joined (lift order (after_first p f.rest
     joined l =
         record {
           moves = (p, f.first) ∷ l.moves;
-          is = ap (λ x. (p, x) ∷ map tagged l.moves) f.seen ∙ ap (λ xs. (p, t) ∷ xs) l.is;
+          is = ap (λ (x : Traffic). put p x (map tagged l.moves)) f.seen ∙ ap (put p t) l.is;
           whole = λ i.
               by_test (λ b. (p == i) ≡ b → own i l.moves ≡ (if b then f.rest else parties i) → (if b then f.first ∷ own i l.moves else own i l.moves) ≡ parties i) (p == i)
               (λ _ e w. let same : p ≡ i = (Decides-eqb p i).0 e in ap (λ xs. f.first ∷ xs) w ∙ (sym f.is ∙ ap parties same))
@@ -77,7 +77,8 @@ lift ((p, t) ∷ order) parties whole = joined (lift order (after_first p f.rest
         }
 
 party_seen : (parties : List (List LocalMove)) (i : ℕ) → party_at (map (λ ms. map traffic_of ms) parties) i ≡ map traffic_of (party_at parties i)
-party_seen [] i = refl
+party_seen [] zero = refl
+party_seen [] (suc i) = refl
 party_seen (ms ∷ parties) zero = refl
 party_seen (ms ∷ parties) (suc i) = party_seen parties i
 

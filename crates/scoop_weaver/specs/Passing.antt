@@ -21,6 +21,10 @@ traffic_of (Sent c h m) = record { heard = None; sent = m }
 traffic_of (ClientHeard c m note) = record { heard = Some m; sent = None }
 traffic_of (ClientRestarted c) = silent
 
+-- the same of a move with its party
+abbrev pub tagged : ℕ × LocalMove → ℕ × Traffic
+tagged x = (x.0, traffic_of x.1)
+
 -- what all parties let through, as the checker takes it
 abbrev pub traffic_by : List NodeLife → List ClientLife → List (List Traffic)
 traffic_by nodes clients = map (λ ms. map traffic_of ms) (parties_of nodes clients)
@@ -34,5 +38,5 @@ pub record AreLives (nodes : List NodeLife) (clients : List ClientLife) : Type 0
 -- the order is that of moves that are a world
 pub record IsOfWorld (nodes : List NodeLife) (clients : List ClientLife) (order : List (ℕ × Traffic)) : Type 0 where
   pub moves : List (ℕ × LocalMove)
-  pub is : map (λ x. (x.0, traffic_of x.1)) moves ≡ order
+  pub is : map tagged moves ≡ order
   pub world : IsWorld (placements_of nodes) (newcomers_of clients) (map (λ x. x.1) moves) (system_of nodes clients)

@@ -1,8 +1,5 @@
 //! Why there is no order.
 
-ghost use Rattle.std.specs.Prelude.{◌≡◌};
-
-use scoop_message::OutOfMemory;
 use thiserror::Error;
 
 /// Why what parties did isn't woven.
@@ -15,25 +12,4 @@ pub enum NoWeave {
     /// Memory ran out.
     #[error("out of memory")]
     OutOfMemory,
-}
-
-/// Why a diary tells nothing of a client.
-#[derive(Clone, Copy, Debug, PartialEq, Eq, Error)]
-pub enum NoParty {
-    /// The client doesn't take a command of the diary.
-    #[error("the client doesn't take a command of its diary")]
-    NotDriven,
-    /// Memory ran out.
-    #[error("out of memory")]
-    OutOfMemory,
-}
-
-impl From<OutOfMemory> for NoParty {
-    ghost use Rattle.scoop_weaver.specs.declared.error.NoParty.TheVariants as variants;
-
-    ghost from_gives = { λ _ e. e ≡ variants.OutOfMemory };
-
-    fn from(_: OutOfMemory) -> NoParty {
-        NoParty::OutOfMemory
-    }
 }

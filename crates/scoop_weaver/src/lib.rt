@@ -8,7 +8,7 @@ mod sent;
 mod traffic;
 mod weaving;
 
-pub use error::{NoParty, NoWeave};
+pub use error::NoWeave;
 pub use law::woven_is_a_world;
 pub use traffic::{Party, Traffic};
 pub use weaving::weave;

@@ -5,11 +5,11 @@ mod counters;
 use counters::{COUNT, node};
 use scoop_book::{Event, Reply};
 use scoop_client::Client;
-use scoop_driver::{Driver, DriverError, Step, StepList};
+use scoop_driver::{Command, Driver, DriverError, Received, Step, StepList};
 use scoop_link::{Party as Name, Peers, UdpLink};
 use scoop_message::{Answer, Args, ClientId, HandlerId, Request};
 use scoop_netloop::{OpenGate, ServeEnd, Stop, serve};
-use scoop_weaver::{NoParty, NoWeave, Party, weave};
+use scoop_weaver::{NoWeave, Party, Traffic, weave};
 use std::alloc::Global;
 use std::process::Abort;
 use std::test::Fail;
@@ -61,6 +61,43 @@ fn works(client: Client, link: UdpLink, alloc: Global, request: Request) -> (Dia
     (driver, counted)
 }
 
+// The client takes a command of its diary.
+fn give(client: &mut Client, command: &Command) -> bool {
+    match *command {
+        Command::Reserve(handlers) => client.reserve(handlers.as_slice()).is_ok(),
+        Command::Call(handler, request) => client.call(handler, request).is_ok(),
+        Command::Query(handler, request) => client.query(handler, request).is_ok(),
+        Command::End => client.end().is_ok(),
+        Command::GiveUp => client.give_up().is_ok(),
+    }
+}
+
+// What a client let through by the steps in its diary, in which it runs anew: a turn sends all that is due, handler by
+// handler, and then hears what came.
+fn of_client(alloc: Global, client: Client, steps: &[Step]) -> Option<Party> {
+    let mut client = client;
+    let mut moves = Vec::new(alloc);
+    for step in steps {
+        if let Step::Gave(command) = step {
+            if !give(&mut client, command) {
+                return None;
+            }
+        }
+        if let Step::Turned(received) = step {
+            for handler in &[ONE, TWO] {
+                let sent = client.due(*handler);
+                moves.push(Traffic { heard: None, sent }).ok()?;
+            }
+            if let Received::Frame(_, message) = received {
+                client.hear(message);
+                let heard = Some(*message);
+                moves.push(Traffic { heard, sent: None }).ok()?;
+            }
+        }
+    }
+    Some(Party::of_moves(moves))
+}
+
 // What all of them let through: the two nodes first, and then the two clients.
 fn parties(
     rt: &impl Abort,
@@ -69,24 +106,17 @@ fn parties(
     second: &[(u32, Event, Reply)],
     seven: &[Step],
     eight: &[Step],
-) -> Result<Vec<Party>, NoParty> {
-    let one = Party::of_node(alloc, first)?;
-    let two = Party::of_node(alloc, second)?;
-    let seven = Party::of_client(alloc, client(rt, alloc, SEVEN), seven)?;
-    let eight = Party::of_client(alloc, client(rt, alloc, EIGHT), eight)?;
-    match vec![in alloc; one, two, seven, eight] {
-        Ok(parties) => Ok(parties),
-        Err(_) => Err(NoParty::OutOfMemory),
-    }
+) -> Option<Vec<Party>> {
+    let one = Party::of_node(alloc, first).ok()?;
+    let two = Party::of_node(alloc, second).ok()?;
+    let seven = of_client(alloc, client(rt, alloc, SEVEN), seven)?;
+    let eight = of_client(alloc, client(rt, alloc, EIGHT), eight)?;
+    vec![in alloc; one, two, seven, eight].ok()
 }
 
 // How many moves are woven, or why they aren't.
-fn woven(
-    rt: &impl Abort,
-    alloc: Global,
-    parties: Result<Vec<Party>, NoParty>,
-) -> Result<usize, NoWeave> {
-    let Ok(parties) = parties else {
+fn woven(rt: &impl Abort, alloc: Global, parties: Option<Vec<Party>>) -> Result<usize, NoWeave> {
+    let Some(parties) = parties else {
         panic!(rt; "no parties")
     };
     Ok(weave(alloc, &parties)?.len())
