@@ -1,5 +1,5 @@
 -- A node's histories lead its handlers as moves of its own.
-use Rattle.std.proofs.Common.{◌≡◌, ℕ, ◌==◌, ◌||◌, Bool, true, false, List, [], ◌∷◌, ◌++◌, map, find, Some, refl, sym, ap, ◌∙◌, subst}
+use Rattle.std.proofs.Common.{◌≡◌, ℕ, ◌==◌, true, false, List, [], ◌∷◌, ◌++◌, map, refl, sym, ap, ◌∙◌, subst}
 use Rattle.std.specs.Prelude.{if◌then◌else◌}
 use Rattle.std.specs.List.{AllByRecursion}
 use Rattle.std.specs.Option.{option_map}
@@ -13,13 +13,12 @@ use Rattle.scoop_handler.specs.Hearing.{hear}
 use Rattle.scoop_handler.proofs.TableRows.{row}
 use Rattle.scoop_handler.proofs.TableLaws.{number-row}
 use Rattle.scoop_model.specs.Safe.{NoRepeats}
-use Rattle.scoop_model.proofs.Basics.{by_test}
 use Rattle.scoop_book.specs.declared.event.Event.{Event}
 use Rattle.scoop_book.specs.declared.event.Event.TheVariants.{Hear, Begin, Finish}
 use Rattle.scoop_book.specs.declared.event.Reply.{Reply}
 use Rattle.scoop_book.specs.declared.event.Reply.TheVariants as reply
 use Rattle.scoop_book.specs.Moves as book
-use Rattle.scoop_book.specs.Moves.{LocalHandler, Entry, Replays, handler_at, newer_handler}
+use Rattle.scoop_book.specs.Moves.{LocalHandler, Entry, Replays, handler_at}
 use Rattle.scoop_book.specs.Opening.{opening_state}
 use Rattle.scoop_weave.specs.System as weave
 use Rattle.scoop_weave.specs.System.{number_in, after_reopening}

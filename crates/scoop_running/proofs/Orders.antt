@@ -1,9 +1,9 @@
 -- What one list has of each party, and of all of them.
-use Rattle.std.proofs.Common.{◌≡◌, ℕ, zero, suc, ◌+◌, ◌==◌, Bool, true, false, List, [], ◌∷◌, ◌++◌, map, filter, length, slice_get, Some, None, refl, sym, ap, ◌∙◌, subst, arith}
-use Rattle.std.specs.Prelude.{if◌then◌else◌, unwrap_or}
+use Rattle.std.proofs.Common.{◌≡◌, ℕ, zero, suc, ◌+◌, ◌==◌, Bool, List, [], ◌∷◌, ◌++◌, map, filter, length, slice_get, Some, refl, ap, ◌∙◌, subst, arith}
+use Rattle.std.specs.Prelude.{if◌then◌else◌}
 use Rattle.std.specs.List.{AllByRecursion}
 use Rattle.scoop_model.proofs.Basics.{by_test}
-use Rattle.scoop_running.specs.Order.{own, party_at, IsOrder}
+use Rattle.scoop_running.specs.Order.{own, party_at}
 use Rattle.scoop_running.proofs.Nodes.{number_itself}
 
 module _ {A : Type 0} where

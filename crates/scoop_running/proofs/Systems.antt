@@ -1,5 +1,5 @@
 -- Running nodes and clients, in one order of what they did, are a world.
-use Rattle.std.proofs.Common.{◌≡◌, ℕ, zero, suc, ◌+◌, ◌<◌, ◌≤◌, ◌==◌, ◌||◌, Bool, true, false, true≢false, List, [], ◌∷◌, ◌++◌, map, find, flat_map, filter, length, slice_get, Some, None, refl, sym, ap, ◌∙◌, subst, arith}
+use Rattle.std.proofs.Common.{◌≡◌, ℕ, zero, suc, ◌+◌, ◌≤◌, ◌==◌, ◌||◌, Bool, true, false, true≢false, List, [], ◌∷◌, ◌++◌, map, find, flat_map, filter, length, slice_get, Some, refl, sym, ap, ◌∙◌, subst, arith}
 use Rattle.std.specs.Prelude.{if◌then◌else◌, unwrap_or}
 use Rattle.std.specs.List.{AllByRecursion, list_any}
 use Rattle.std.specs.Option.{option_map}
@@ -20,21 +20,21 @@ use Rattle.scoop_model.specs.Opening.{MayOpen}
 use Rattle.scoop_model.specs.Safe.{NoRepeats}
 use Rattle.scoop_model.proofs.Basics.{by_test}
 use Rattle.scoop_model.proofs.Keys.{key_found}
-use Rattle.scoop_weave.specs.System.{LocalHandler, LocalClient, System, number_in, id_in, is_handler, new_handler, new_client, new_system}
+use Rattle.scoop_weave.specs.System.{LocalHandler, number_in, id_in, is_handler, new_handler, new_client}
 use Rattle.scoop_weave.specs.Moves.{LocalMove, Heard, Began, Finished, NodeReopened, Commanded, Sent, ClientHeard, ClientRestarted}
 use Rattle.scoop_weave.specs.Parties.{ClientRuns, EachClient, IsMember, is_by, moves_by, has_handler, has_node, has_client}
 use Rattle.scoop_weave.specs.Nodes.{Node, NodeRuns, IsNode, IsWovenOfNodes, is_of}
 use Rattle.scoop_weave.specs.Weave.{IsWorld}
 use Rattle.scoop_weave.proofs.Lists as Lists
-use Rattle.scoop_weave.proofs.Lists.{itself, apart, from_false, rest_once, has_found, found_has}
+use Rattle.scoop_weave.proofs.Lists.{itself, apart, rest_once, has_found, found_has}
 use Rattle.scoop_weave.proofs.NodeLists.{AllStored, numbers, front_once, back_once, nodes_are_woven}
 use Rattle.scoop_weave.proofs.Woven.{stored_open, woven_is_weave}
 use Rattle.scoop_weave.proofs.Headline.{weave_is_a_world}
 use Rattle.scoop_running.specs.Nodes.{first_opened, local_of}
 use Rattle.scoop_running.specs.Order.{own, party_at}
-use Rattle.scoop_running.specs.System.{NodeLife, ClientLife, Runs, IsNodeLife, IsClientLife, placements_of, newcomers_of, words_in, newly, moves_of_node, moves_of_client, parties_of, handlers_of, system_of}
+use Rattle.scoop_running.specs.System.{NodeLife, ClientLife, Runs, IsNodeLife, IsClientLife, placements_of, newcomers_of, words_in, newly, moves_of_node, moves_of_client, handlers_of, system_of}
 use Rattle.scoop_running.proofs.Clients.{IsClients, lives_run, not_of, is_its}
-use Rattle.scoop_running.proofs.Nodes.{NodeGoes, lives_go, number_itself}
+use Rattle.scoop_running.proofs.Nodes.{NodeGoes, lives_go}
 use Rattle.scoop_running.proofs.Orders.{filtered, all_through, all_items, at_place, by_place, in_front, behind, there, nobody_there, within, past, place_of, Place}
 
 -- ---- lists

@@ -1,5 +1,5 @@
 -- A node's histories as moves: the entries of its book, one history after another, with a reopening between.
-use Rattle.std.specs.Prelude.{◌≡◌, ℕ, List, [], ◌∷◌, ◌++◌, map, None}
+use Rattle.std.specs.Prelude.{ℕ, List, [], ◌∷◌, ◌++◌, map, None}
 use Rattle.scoop_message.specs.declared.name.HandlerId.{HandlerId}
 use Rattle.scoop_message.specs.Message.{handler_of}
 use Rattle.scoop_model.specs.Step.{Placement}

@@ -1,6 +1,6 @@
 //! Running nodes and clients.
 
-ghost use Rattle.std.specs.Prelude.{◌≡◌, ℕ, List, map};
+ghost use Rattle.std.specs.Prelude.{ℕ, List, map};
 ghost use Rattle.scoop_message.specs.declared.name.HandlerId.{HandlerId};
 ghost use Rattle.scoop_model.specs.Opening.{MayOpen};
 ghost use Rattle.scoop_book.specs.Moves.{LocalHandler, Entry, Replays};

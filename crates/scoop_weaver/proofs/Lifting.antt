@@ -1,9 +1,8 @@
 -- An order of what moves let through is an order of the moves.
-use Rattle.std.proofs.Common.{◌≡◌, ℕ, zero, suc, ◌==◌, Bool, true, false, List, [], ◌∷◌, ◌++◌, map, flat_map, slice_get, refl, sym, ap, ◌∙◌, subst}
+use Rattle.std.proofs.Common.{◌≡◌, ℕ, zero, suc, ◌==◌, List, [], ◌∷◌, ◌++◌, map, refl, sym, ap, ◌∙◌, subst}
 use Rattle.std.specs.Prelude.{if◌then◌else◌, Contains, option_to_list}
 use Rattle.std.proofs.lemmas.Bool.Decides.{Decides-eqb}
 use Rattle.std.proofs.lemmas.List.{map-append}
-use Rattle.scoop_message.specs.declared.message.Message.{Message}
 use Rattle.scoop_model.specs.Opening.{MayOpen}
 use Rattle.scoop_model.proofs.Basics.{by_test}
 use Rattle.scoop_weave.specs.Moves as weave

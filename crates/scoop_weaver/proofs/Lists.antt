@@ -1,10 +1,9 @@
 -- What each party did, as a list of moves grows.
-use Rattle.std.proofs.Common.{◌≡◌, ℕ, zero, suc, ◌+◌, ◌≤◌, ◌==◌, Bool, true, false, List, [], ◌∷◌, ◌++◌, map, length, slice_get, Some, refl, sym, ap, ◌∙◌, subst, append_assoc, append-nil, arith}
+use Rattle.std.proofs.Common.{◌≡◌, ℕ, ◌+◌, ◌≤◌, ◌==◌, false, List, [], ◌∷◌, ◌++◌, map, length, slice_get, Some, refl, sym, ap, ◌∙◌, subst, append_assoc, append-nil, arith}
 use Rattle.std.specs.Prelude.{if◌then◌else◌}
 use Rattle.std.specs.List.{AllByRecursion}
-use Rattle.std.proofs.lemmas.Bool.Decides.{Decides-eqb}
 use Rattle.scoop_model.proofs.Basics.{by_test}
-use Rattle.scoop_running.specs.Order.{own, party_at}
+use Rattle.scoop_running.specs.Order.{own}
 use Rattle.scoop_running.proofs.Nodes.{number_itself}
 use Rattle.scoop_weaver.specs.Weaving.{IsStart}
 

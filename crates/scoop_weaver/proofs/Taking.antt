@@ -1,5 +1,5 @@
 -- Moves that are taken are a beginning of every order, and where none can be taken no order goes on.
-use Rattle.std.proofs.Common.{◌≡◌, ◌⊎◌, inl, inr, ℕ, zero, suc, ◌+◌, ◌-◌, ◌<◌, ◌≤◌, ◌==◌, true≢false, Bool, true, false, List, [], ◌∷◌, ◌++◌, map, flat_map, length, get_or, set, slice_get, Option, Some, None, refl, sym, ap, ◌∙◌, subst, append_assoc, append-nil, arith, get_or-set_same, get_or-set_other, length-append}
+use Rattle.std.proofs.Common.{◌≡◌, ◌⊎◌, inl, inr, ℕ, zero, suc, ◌+◌, ◌-◌, ◌<◌, ◌≤◌, ◌==◌, true≢false, true, false, List, [], ◌∷◌, ◌++◌, map, length, get_or, set, slice_get, Option, Some, None, refl, sym, ap, ◌∙◌, subst, append_assoc, append-nil, arith, get_or-set_same, get_or-set_other, length-append}
 use Rattle.std.specs.Prelude.{◌↔◌, Contains, IfSome, option_to_list, slice_index, unwrap_or}
 use Rattle.std.specs.List.{AllByRecursion}
 use Rattle.std.proofs.lemmas.Bool.Decides.{Decides-eqb}
@@ -9,11 +9,11 @@ use Rattle.std.proofs.lemmas.Option.{slice_get_within, slice_get_past}
 use Rattle.scoop_message.specs.declared.message.Message.{Message}
 use Rattle.scoop_model.proofs.Basics.{by_test}
 use Rattle.scoop_weave.proofs.Lists.{flat_map_snoc}
-use Rattle.scoop_running.specs.Order.{own, party_at, IsOrder}
+use Rattle.scoop_running.specs.Order.{own, party_at}
 use Rattle.scoop_running.proofs.Orders.{all_through, all_items}
 use Rattle.scoop_weaver.specs.declared.traffic.Traffic.{Traffic}
 use Rattle.scoop_weaver.specs.Weaving.{sent_by, AllSent, IsWoven, IsStart, Begins, IsUnexplained, IsReady, next_at, party_len, left, IsRun}
-use Rattle.scoop_weaver.proofs.Lists.{own_snoc, own_more, own_same, own_split, next_is, start_more, cancel, start_len, start_whole, of_nothing, all_start, all_own}
+use Rattle.scoop_weaver.proofs.Lists.{own_more, own_same, own_split, next_is, start_more, cancel, start_len, start_whole, of_nothing, all_start, all_own}
 
 abbrev items : List (ℕ × Traffic) → List Traffic
 items order = map (λ x. x.1) order

@@ -2,11 +2,12 @@
 use Rattle.std.specs.Prelude.{◌≡◌, ℕ, List, map, Some, None}
 use Rattle.std.specs.List.{AllByRecursion}
 use Rattle.scoop_model.specs.Safe.{NoRepeats}
+use Rattle.scoop_book.specs.Moves.{Entry}
 use Rattle.scoop_weave.specs.Moves.{LocalMove, Heard, Began, Finished, NodeReopened, Commanded, Sent, ClientHeard, ClientRestarted}
 use Rattle.scoop_weave.specs.Weave.{IsWorld}
+use Rattle.scoop_running.specs.Nodes.{move_in}
 use Rattle.scoop_running.specs.System.{NodeLife, ClientLife, IsNodeLife, IsClientLife, placements_of, newcomers_of, words_in, parties_of, system_of}
 use Rattle.scoop_weaver.specs.declared.traffic.Traffic.{Traffic}
-use Rattle.scoop_weaver.specs.Weaving.{IsWoven}
 
 abbrev pub silent : Traffic
 silent = record { heard = None; sent = None }
@@ -21,7 +22,11 @@ traffic_of (Sent c h m) = record { heard = None; sent = m }
 traffic_of (ClientHeard c m note) = record { heard = Some m; sent = None }
 traffic_of (ClientRestarted c) = silent
 
--- the same of a move with its party
+-- what an entry of a history lets through
+unfoldable pub traffic_in : Entry → Traffic
+traffic_in e = traffic_of (move_in e)
+
+-- a move with its party
 abbrev pub tagged : ℕ × LocalMove → ℕ × Traffic
 tagged x = (x.0, traffic_of x.1)
 

@@ -1,8 +1,7 @@
 //! What the moves of a party let through.
 
 ghost use Rattle.std.specs.Prelude.{◌≡◌, map, IfOk};
-ghost use Rattle.scoop_running.specs.Nodes.{move_in};
-ghost use Rattle.scoop_weaver.specs.Passing.{silent, traffic_of};
+ghost use Rattle.scoop_weaver.specs.Passing.{silent, traffic_in};
 
 use crate::traffic::{Party, Traffic};
 use scoop_book::{Event, Reply};
@@ -20,8 +19,9 @@ fn silent() -> Traffic
 }
 
 // What an entry of a history hears and sends.
-fn traffic_in(entry: &(u32, Event, Reply)) -> Traffic
-    ensures { result ≡ traffic_of (move_in entry.now) }
+#[tactic(auto, unfolding(crate::specs::Passing::traffic_in))]
+fn entry_traffic(entry: &(u32, Event, Reply)) -> Traffic
+    ensures { result ≡ traffic_in entry.now }
 {
     match entry.1 {
         Event::Hear(message) => match entry.2 {
@@ -40,12 +40,13 @@ fn traffic_in(entry: &(u32, Event, Reply)) -> Traffic
 impl<A: Allocator + Copy> Party<A> {
     /// What a node lets through by the entries of its history.
     pub fn of_node(alloc: A, history: &[(u32, Event, Reply)]) -> Result<Party<A>, OutOfMemory>
-        ensures { IfOk result (λ p. p ≡ map (λ e. traffic_of (move_in e)) history.now) }
+        ensures { IfOk result (λ p. p ≡ map traffic_in history.now) }
     {
-        let moves = history
-            .iter()
-            .map(|entry| traffic_in(entry))
-            .collect(alloc)?;
+        let mut moves = Vec::new(alloc);
+        for entry in history {
+            let next = entry_traffic(entry);
+            moves.push(next)?;
+        }
         Ok(Party { moves })
     }
 

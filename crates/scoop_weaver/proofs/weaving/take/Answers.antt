@@ -1,4 +1,4 @@
-use Rattle.std.proofs.Common.{◌≡◌, ◌<◌, Some, length, slice_get, sym, subst, ◌++◌, ◌∷◌, [], ◌+◌, set}
+use Rattle.std.proofs.Common.{◌≡◌, ◌<◌, Some, slice_get, sym, subst, ◌+◌, set}
 use Rattle.std.specs.Prelude.{slice_index}
 use Rattle.scoop_running.specs.Order.{party_at}
 use Rattle.scoop_weaver.specs.Weaving.{IsReady, IsRun}
