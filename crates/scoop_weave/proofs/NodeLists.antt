@@ -21,14 +21,14 @@ use Rattle.scoop_weave.proofs.Lists.{itself, apart, from_false, rest_once, none_
 use Rattle.scoop_weave.proofs.Steps.{StepAt, goes, stays}
 use Rattle.scoop_weave.proofs.Woven.{HandlerKept, handler_kept, stored_open}
 
-abbrev AllStored : List LocalHandler → Type 0
+abbrev pub AllStored : List LocalHandler → Type 0
 AllStored xs = AllByRecursion (λ s. s.stored ≡ s.core.state) xs
 
-abbrev numbers : List LocalHandler → List HandlerId
+abbrev pub numbers : List LocalHandler → List HandlerId
 numbers xs = map number_in xs
 
 -- each handler that the move concerns goes on, and the others stay
-abbrev EachKept : LocalMove → List LocalHandler → List LocalHandler → Type 0
+abbrev pub EachKept : LocalMove → List LocalHandler → List LocalHandler → Type 0
 EachKept m [] [] = ⊤
 EachKept m [] (u ∷ us) = ⊥
 EachKept m (x ∷ xs) [] = ⊥
@@ -119,7 +119,7 @@ reopens n (x ∷ xs) is =
     (λ _ e. stays) refl in
     (step, handler_kept m x (after_reopening n x) is.0 refl, reopens n xs is.1)
 
-node_step : (m : LocalMove) (hs us : List LocalHandler) → AllStored hs → NoRepeats (numbers hs) → NodeMoves m hs us → EachKept m hs us
+pub node_step : (m : LocalMove) (hs us : List LocalHandler) → AllStored hs → NoRepeats (numbers hs) → NodeMoves m hs us → EachKept m hs us
 node_step (Heard h x told) hs us is once r = at_one (Heard h x told) h (λ s. refl) hs us is once r
 node_step (Began h told) hs us is once r = at_one (Began h told) h (λ s. refl) hs us is once r
 node_step (Finished h ran) hs us is once r = at_one (Finished h ran) h (λ s. refl) hs us is once r
@@ -175,13 +175,13 @@ before m ms (x ∷ xs) (u ∷ us) (k ∷ ks) steps each =
     let part : moves_at (number_in u) u.node ms ≡ moves_at (number_in x) x.node ms = λ i. moves_at (number i) (node i) ms in
     (one_before m x u k (moves_at (number_in x) x.node ms) (is_at (number_in x) x.node m) steps.0 (subst (λ xs. HandlerRuns u xs k) part each.0), before m ms xs us ks steps.2 each.1)
 
-kept_numbers : (m : LocalMove) (hs us : List LocalHandler) → EachKept m hs us → numbers us ≡ numbers hs
+pub kept_numbers : (m : LocalMove) (hs us : List LocalHandler) → EachKept m hs us → numbers us ≡ numbers hs
 kept_numbers m [] [] steps = refl
 kept_numbers m [] (u ∷ us) steps = absurd steps
 kept_numbers m (x ∷ xs) [] steps = absurd steps
 kept_numbers m (x ∷ xs) (u ∷ us) steps = ap (λ k. k ∷ numbers us) steps.1.number ∙ ap (λ ks. number_in x ∷ ks) (kept_numbers m xs us steps.2)
 
-kept_stored : (m : LocalMove) (hs us : List LocalHandler) → EachKept m hs us → AllStored us
+pub kept_stored : (m : LocalMove) (hs us : List LocalHandler) → EachKept m hs us → AllStored us
 kept_stored m [] [] steps = tt
 kept_stored m [] (u ∷ us) steps = absurd steps
 kept_stored m (x ∷ xs) [] steps = absurd steps
@@ -221,7 +221,7 @@ both_each ms [] (k ∷ ks) gs ls a b = absurd a
 both_each ms (h ∷ hs) [] gs ls a b = absurd a
 both_each ms (h ∷ hs) (k ∷ ks) gs ls a b = (a.0, both_each ms hs ks gs ls a.1 b)
 
-front_stored : (hs gs : List LocalHandler) → AllStored (hs ++ gs) → AllStored hs × AllStored gs
+pub front_stored : (hs gs : List LocalHandler) → AllStored (hs ++ gs) → AllStored hs × AllStored gs
 front_stored [] gs is = (tt, is)
 front_stored (h ∷ hs) gs is = let r = front_stored hs gs is.1 in ((is.0, r.0), r.1)
 
@@ -230,10 +230,10 @@ in_front [] gs i h e = absurd (cc)
 in_front (x ∷ xs) gs zero h e = e
 in_front (x ∷ xs) gs (suc i) h e = in_front xs gs i h e
 
-front_once : (hs gs : List LocalHandler) → NoRepeats (numbers (hs ++ gs)) → NoRepeats (numbers hs)
+pub front_once : (hs gs : List LocalHandler) → NoRepeats (numbers (hs ++ gs)) → NoRepeats (numbers hs)
 front_once hs gs once i j k e f = once i j k (in_front hs gs i k e) (in_front hs gs j k f)
 
-back_once : (hs gs : List LocalHandler) → NoRepeats (numbers (hs ++ gs)) → NoRepeats (numbers gs)
+pub back_once : (hs gs : List LocalHandler) → NoRepeats (numbers (hs ++ gs)) → NoRepeats (numbers gs)
 back_once [] gs once = once
 back_once (h ∷ hs) gs once = back_once hs gs (rest_once number_in same_handler handler_decides h (hs ++ gs) once)
 

@@ -112,7 +112,7 @@ module _ (m : LocalMove) (ms : List LocalMove) where
 
   -- ---- a client
 
-  client_kept : (c d : LocalClient) → ClientMoves m c d → id_in d ≡ id_in c
+  pub client_kept : (c d : LocalClient) → ClientMoves m c d → id_in d ≡ id_in c
   client_kept = kept m
     where
       kept : (x : LocalMove) (c d : LocalClient) → ClientMoves x c d → id_in d ≡ id_in c

@@ -5,10 +5,9 @@ ghost use Rattle.scoop_model.specs.declared.event.Event.{Event as WorldEvent};
 ghost use Rattle.scoop_model.specs.Step.{Placement, Newcomer, opening};
 ghost use Rattle.scoop_model.specs.Reach.{steps};
 ghost use Rattle.scoop_model.specs.Opening.{MayOpen};
-ghost use Rattle.scoop_weave.specs.System.{LocalClient, System};
+ghost use Rattle.scoop_weave.specs.System.{System};
 ghost use Rattle.scoop_weave.specs.Moves.{LocalMove};
-ghost use Rattle.scoop_weave.specs.Parties.{ClientRuns, IsWoven};
-ghost use Rattle.scoop_weave.specs.Driving.{DriverStep, AllCan, walk, moves_of_steps};
+ghost use Rattle.scoop_weave.specs.Parties.{IsWoven};
 ghost use Rattle.scoop_weave.specs.Nodes.{IsWovenOfNodes};
 ghost use Rattle.scoop_weave.specs.Weave.{Weave, IsWorld, IsOfWeave};
 
@@ -42,9 +41,4 @@ pub fn nodes_are_woven()
 /// written rules.
 pub fn system_is_a_world()
     ensures { (placements : List Placement) (newcomers : List Newcomer) (moves : List LocalMove) (now : System) → MayOpen placements newcomers → IsWovenOfNodes placements newcomers moves now → IsWorld placements newcomers moves now }
-{}
-
-/// What a driver does by steps, its commands and its turns, is what its client's own moves do.
-pub fn drivers_move()
-    ensures { (client : LocalClient) (steps : List DriverStep) → AllCan client steps → ClientRuns client (moves_of_steps client steps) (walk client steps) }
 {}

@@ -1,0 +1,162 @@
+-- A driver's steps lead its client as moves of its own.
+use Rattle.std.proofs.Common.{◌≡◌, ℕ, ◌+◌, Bool, true, false, ◌||◌, List, [], ◌∷◌, ◌++◌, take, drop, Option, Some, None, Ok, Err, refl, sym, ap, ◌∙◌, subst, append-nil, append_assoc}
+use Rattle.std.specs.List.{AllByRecursion}
+use Rattle.std.proofs.lemmas.List.{take-append-drop}
+use Rattle.scoop_message.specs.declared.name.ClientId.{ClientId}
+use Rattle.scoop_message.specs.declared.name.HandlerId.{HandlerId}
+use Rattle.scoop_message.specs.declared.message.Message.{Message}
+use Rattle.scoop_message.specs.Message.{same_handler, same_client}
+use Rattle.scoop_message.proofs.Same.{handler_decides}
+use Rattle.scoop_reserve.specs.Handlers.{has}
+use Rattle.scoop_client.specs.State.{ClientState}
+use Rattle.scoop_client.specs.Commands as client
+use Rattle.scoop_driver.specs.declared.step.Step.{Step}
+use Rattle.scoop_driver.specs.declared.step.Step.TheVariants.{Gave, Turned, Broke}
+use Rattle.scoop_driver.specs.Steps.{AllCan, Can, after, after_command, after_message, message_in}
+use Rattle.scoop_weave.specs.System.{LocalClient, id_in, after_step, after_restart}
+use Rattle.scoop_weave.specs.Moves.{LocalMove, Heard, Began, Finished, NodeReopened, Commanded, Sent, ClientHeard, ClientRestarted}
+use Rattle.scoop_weave.specs.Parties.{ClientRuns, is_by}
+use Rattle.scoop_weave.specs.Nodes.{is_of}
+use Rattle.scoop_weave.proofs.Lists.{itself}
+use Rattle.scoop_weave.proofs.Woven.{client_kept}
+use Rattle.scoop_running.specs.Clients.{sends_to, hears, moves_at, moves_by, driven, moves_of, Lives}
+
+pub all_both : {A : Type 0} (P : A → Type 0) (xs ys : List A) → AllByRecursion P xs → AllByRecursion P ys → AllByRecursion P (xs ++ ys)
+all_both P [] ys a b = b
+all_both P (x ∷ xs) ys a b = (a.0, all_both P xs ys a.1 b)
+
+-- ---- a list of moves
+
+runs_both : (c d e : LocalClient) (ms ns : List LocalMove) → ClientRuns c ms d → ClientRuns d ns e → ClientRuns c (ms ++ ns) e
+runs_both c d e [] ns same more = subst (λ x. ClientRuns x ns e) (sym same) more
+runs_both c d e (m ∷ ms) ns r more = (r.0, r.1, runs_both r.0 d e ms ns r.2 more)
+
+runs_kept : (c d : LocalClient) (ms : List LocalMove) → ClientRuns c ms d → id_in d ≡ id_in c
+runs_kept c d [] same = ap id_in (sym same)
+runs_kept c d (m ∷ ms) r = runs_kept r.0 d ms r.2 ∙ client_kept m [] c r.0 r.1
+
+-- ---- one step
+
+or_true : (b : Bool) → (b || true) ≡ true
+or_true true = refl
+or_true false = refl
+
+stands : (ys : List HandlerId) (x : HandlerId) (zs : List HandlerId) → has (ys ++ x ∷ zs) x ≡ true
+stands [] x zs = ap (λ t. t || has zs x) (itself same_handler handler_decides x)
+stands (y ∷ ys) x zs = ap (λ t. same_handler y x || t) (stands ys x zs) ∙ or_true (same_handler y x)
+
+all_in : (ys xs zs : List HandlerId) → AllByRecursion (λ h. has (ys ++ (xs ++ zs)) h ≡ true) xs
+all_in ys [] zs = tt
+all_in ys (x ∷ xs) zs =
+    (stands ys x (xs ++ zs), subst (λ hs. AllByRecursion (λ h. has hs h ≡ true) xs) (append_assoc ys (x ∷ []) (xs ++ zs)) (all_in (ys ++ x ∷ []) xs zs))
+
+sends_run : (c : LocalClient) (hs : List HandlerId) → AllByRecursion (λ h. has c.client.handlers h ≡ true) hs → ClientRuns c (sends_to c.client hs) c
+sends_run c [] named = refl
+sends_run c (h ∷ hs) named = (c, record { named = named.0; tells = refl; after = refl }, sends_run c hs named.1)
+
+hears_run : (c : LocalClient) (got : Option Message) → ClientRuns c (hears c.client got) (after_step (after_message c.client got) c)
+hears_run c None = refl
+hears_run c (Some m) = (after_step (after_message c.client (Some m)) c, record { tells = refl; after = refl }, refl)
+
+taken : (c d : ClientState) (o : client.Outcome) → o ≡ Ok d → o ≡ Ok (after_command c o)
+taken c d (Ok x) is = refl
+taken c d (Err e) is = cc
+
+step_runs : (c : LocalClient) (s : Step) → Can c.client s → ClientRuns c (moves_at c.client s) (after_step (after c.client s) c)
+step_runs c (Gave x) can =
+    let new = after c.client (Gave x) in
+    (after_step new c, record { new = new; taken = taken c.client can.0 _ can.1; tells = refl; after = refl }, refl)
+step_runs c (Turned got) can =
+    let hs = c.client.handlers in
+    let own = subst (λ xs. AllByRecursion (λ h. has xs h ≡ true) hs) (append-nil hs) (all_in [] hs []) in
+    runs_both c c (after_step (after c.client (Turned got)) c) (sends_to c.client hs) (hears c.client (message_in got)) (sends_run c hs own) (hears_run c (message_in got))
+step_runs c (Broke place) can =
+    let hs = c.client.handlers in
+    let front = take (place + 1) hs in
+    sends_run c front (subst (λ xs. AllByRecursion (λ h. has xs h ≡ true) front) (take-append-drop (place + 1) hs) (all_in [] front (drop (place + 1) hs)))
+
+pub steps_run : (c : LocalClient) (ss : List Step) → AllCan c.client ss → ClientRuns c (moves_by c.client ss) (driven c ss)
+steps_run c [] can = refl
+steps_run c (s ∷ ss) can =
+    let d : LocalClient = after_step (after c.client s) c in
+    runs_both c d (driven d ss) (moves_at c.client s) (moves_by d.client ss) (step_runs c s can.0) (steps_run d ss can.1)
+
+-- ---- whose moves they are
+
+-- the move is that of this client
+abbrev pub IsClients : ClientId → LocalMove → Type 0
+IsClients d (Heard h m told) = ⊥
+IsClients d (Began h told) = ⊥
+IsClients d (Finished h ran) = ⊥
+IsClients d (NodeReopened n) = ⊥
+IsClients d (Commanded c x b) = c ≡ d
+IsClients d (Sent c h m) = c ≡ d
+IsClients d (ClientHeard c m note) = c ≡ d
+IsClients d (ClientRestarted c) = c ≡ d
+
+all_of : (c d : ClientId) (ms : List LocalMove) → c ≡ d → AllByRecursion (IsClients c) ms → AllByRecursion (IsClients d) ms
+all_of c d ms e all = subst (λ k. AllByRecursion (IsClients k) ms) e all
+
+sends_own : (c : ClientState) (hs : List HandlerId) → AllByRecursion (IsClients c.id) (sends_to c hs)
+sends_own c [] = tt
+sends_own c (h ∷ hs) = (refl, sends_own c hs)
+
+hears_own : (c : ClientState) (got : Option Message) → AllByRecursion (IsClients c.id) (hears c got)
+hears_own c None = tt
+hears_own c (Some m) = (refl, tt)
+
+step_own : (c : ClientState) (s : Step) → AllByRecursion (IsClients c.id) (moves_at c s)
+step_own c (Gave x) = (refl, tt)
+step_own c (Turned got) = all_both (IsClients c.id) (sends_to c c.handlers) (hears c (message_in got)) (sends_own c c.handlers) (hears_own c (message_in got))
+step_own c (Broke place) = sends_own c (take (place + 1) c.handlers)
+
+steps_own : (c : LocalClient) (ss : List Step) → AllCan c.client ss → AllByRecursion (IsClients (id_in c)) (moves_by c.client ss)
+steps_own c [] can = tt
+steps_own c (s ∷ ss) can =
+    let d : LocalClient = after_step (after c.client s) c in
+    let kept : id_in d ≡ id_in c = runs_kept c d (moves_at c.client s) (step_runs c s can.0) in
+    all_both (IsClients (id_in c)) (moves_at c.client s) (moves_by d.client ss) (step_own c.client s)
+    (all_of (id_in d) (id_in c) (moves_by d.client ss) kept (steps_own d ss can.1))
+
+-- ---- all drivers
+
+pub record ClientGoes (c : LocalClient) (ms : List LocalMove) (now : LocalClient) : Type 0 where
+  pub runs : ClientRuns c ms now
+  pub own : AllByRecursion (IsClients (id_in c)) ms
+
+pub lives_run : (c : LocalClient) (first : List Step) (more : List (List Step)) (now : LocalClient) → Lives c first more now → ClientGoes c (moves_of c first more) now
+lives_run c first [] now life =
+    record { runs = subst (ClientRuns c (moves_by c.client first)) life.1 (steps_run c first life.0); own = steps_own c first life.0 }
+lives_run c first (steps ∷ more) now life =
+    let d : LocalClient = driven c first in
+    let e : LocalClient = after_restart d in
+    let here = steps_run c first life.0 in
+    let rest = lives_run e steps more now life.2 in
+    let kept : id_in e ≡ id_in c = runs_kept c d (moves_by c.client first) here in
+    let again : ClientRuns d (ClientRestarted (id_in c) ∷ moves_of e steps more) now = (e, record { room = life.1; after = refl }, rest.runs) in
+    record {
+      runs = runs_both c d now (moves_by c.client first) (ClientRestarted (id_in c) ∷ moves_of e steps more) here again;
+      own =
+          all_both (IsClients (id_in c)) (moves_by c.client first) (ClientRestarted (id_in c) ∷ moves_of e steps more) (steps_own c first life.0)
+          (refl, all_of (id_in e) (id_in c) (moves_of e steps more) kept rest.own);
+    }
+
+pub not_of : (d : ClientId) (n : ℕ) (hs : List HandlerId) (m : LocalMove) → IsClients d m → is_of n hs m ≡ false
+not_of d n hs (Heard h m told) own = absurd own
+not_of d n hs (Began h told) own = absurd own
+not_of d n hs (Finished h ran) own = absurd own
+not_of d n hs (NodeReopened k) own = absurd own
+not_of d n hs (Commanded c x b) own = refl
+not_of d n hs (Sent c h m) own = refl
+not_of d n hs (ClientHeard c m note) own = refl
+not_of d n hs (ClientRestarted c) own = refl
+
+pub is_its : (d e : ClientId) (m : LocalMove) → IsClients d m → is_by e m ≡ same_client d e
+is_its d e (Heard h m told) own = absurd own
+is_its d e (Began h told) own = absurd own
+is_its d e (Finished h ran) own = absurd own
+is_its d e (NodeReopened k) own = absurd own
+is_its d e (Commanded c x b) own = ap (λ k. same_client k e) own
+is_its d e (Sent c h m) own = ap (λ k. same_client k e) own
+is_its d e (ClientHeard c m note) own = ap (λ k. same_client k e) own
+is_its d e (ClientRestarted c) own = ap (λ k. same_client k e) own

@@ -1,0 +1,4 @@
+pub mod Clients
+pub mod Nodes
+pub mod Orders
+pub mod Systems

@@ -1,0 +1,165 @@
+-- A node's histories lead its handlers as moves of its own.
+use Rattle.std.proofs.Common.{◌≡◌, ℕ, ◌==◌, true, false, List, [], ◌∷◌, ◌++◌, map, refl, sym, ap, ◌∙◌, subst}
+use Rattle.std.specs.Prelude.{if◌then◌else◌}
+use Rattle.std.specs.List.{AllByRecursion}
+use Rattle.std.specs.Option.{option_map}
+use Rattle.std.proofs.lemmas.Bool.Decides.{Decides-eqb}
+use Rattle.scoop_message.specs.declared.name.HandlerId.{HandlerId}
+use Rattle.scoop_message.specs.Message.{same_handler}
+use Rattle.scoop_reserve.specs.Handlers.{has}
+use Rattle.scoop_handler.specs.State.{HandlerState}
+use Rattle.scoop_handler.specs.Core.{core_of}
+use Rattle.scoop_handler.specs.Hearing.{hear}
+use Rattle.scoop_handler.proofs.TableRows.{row}
+use Rattle.scoop_handler.proofs.TableLaws.{number-row}
+use Rattle.scoop_model.specs.Safe.{NoRepeats}
+use Rattle.scoop_book.specs.declared.event.Event.{Event}
+use Rattle.scoop_book.specs.declared.event.Event.TheVariants.{Hear, Begin, Finish}
+use Rattle.scoop_book.specs.declared.event.Reply.{Reply}
+use Rattle.scoop_book.specs.declared.event.Reply.TheVariants as reply
+use Rattle.scoop_book.specs.Moves as book
+use Rattle.scoop_book.specs.Moves.{LocalHandler, Entry, Replays, handler_at}
+use Rattle.scoop_book.specs.Opening.{opening_state}
+use Rattle.scoop_weave.specs.System as weave
+use Rattle.scoop_weave.specs.System.{number_in, after_reopening}
+use Rattle.scoop_weave.specs.Moves.{LocalMove, Heard, Began, Finished, NodeReopened, HandlerMoves}
+use Rattle.scoop_weave.specs.Nodes.{AtOne, NodeMoves, NodeRuns, is_of}
+use Rattle.scoop_weave.proofs.Lists.{find_through, set_through, found_has}
+use Rattle.scoop_weave.proofs.NodeLists.{AllStored, numbers, node_step, kept_numbers, kept_stored}
+use Rattle.scoop_running.specs.Nodes.{move_of, move_in, moves_of, reopened, Lives, local_of}
+use Rattle.scoop_running.proofs.Clients.{all_both}
+
+pub number_itself : (n : ℕ) → (n == n) ≡ true
+number_itself n = (Decides-eqb n n).1 refl
+
+runs_both : (hs us ks : List weave.LocalHandler) (ms ns : List LocalMove) → NodeRuns hs ms us → NodeRuns us ns ks → NodeRuns hs (ms ++ ns) ks
+runs_both hs us ks [] ns same more = subst (λ x. NodeRuns x ns ks) (sym same) more
+runs_both hs us ks (m ∷ ms) ns r more = (r.0, r.1, runs_both r.0 us ks ms ns r.2 more)
+
+module _ (words : HandlerId → List ℕ) (n : ℕ) where
+  abbrev local : LocalHandler → weave.LocalHandler
+  local s = local_of words n s
+
+  abbrev all : List LocalHandler → List weave.LocalHandler
+  all hs = map local hs
+
+  -- ---- one handler
+
+  handler_moves : (e : Event) (r : Reply) (s t : LocalHandler) → book.HandlerMoves e r s t → HandlerMoves (move_of e r) (local s) (local t)
+  handler_moves (Hear m) (reply.Heard told) s t moves =
+      let x : HandlerState = (hear s.core.state m).0 in
+      let number = number-row s.core.state m (hear s.core.state m) (row s.core.state m) in
+      let same : local (book.after_hearing x s) ≡ weave.after_hearing x (local s) = λ i. record { node = n; placed = words (number i); core = (book.after_hearing x s).core; stored = x } in
+      record { tells = moves.tells; after = ap local moves.after ∙ same }
+  handler_moves (Hear m) (reply.Began told) s t moves = absurd moves
+  handler_moves (Hear m) (reply.Finished ran) s t moves = absurd moves
+  handler_moves (Begin h) (reply.Heard told) s t moves = absurd moves
+  handler_moves (Begin h) (reply.Began told) s t moves = record { tells = moves.tells; after = ap local moves.after }
+  handler_moves (Begin h) (reply.Finished ran) s t moves = absurd moves
+  handler_moves (Finish h) (reply.Heard told) s t moves = absurd moves
+  handler_moves (Finish h) (reply.Began told) s t moves = absurd moves
+  handler_moves (Finish h) (reply.Finished ran) s t moves = record { task = moves.task; out = moves.out; tells = moves.tells; after = ap local moves.after }
+
+  -- ---- one entry
+
+  at_one : (e : Event) (r : Reply) (hs ks : List LocalHandler) (x : book.Moves e r hs ks) → AtOne (handler_at e) (move_of e r) (all hs) (all ks)
+  at_one e r hs ks x =
+      record {
+        handler = local x.handler;
+        here = find_through number_in same_handler local (handler_at e) hs ∙ ap (option_map local) x.here;
+        new = local x.new;
+        moves = handler_moves e r x.handler x.new x.moves;
+        after = ap all x.after ∙ sym (set_through number_in same_handler local local (local x.new) x.new hs refl (λ y other. refl));
+      }
+
+  node_moves : (e : Event) (r : Reply) (hs ks : List LocalHandler) → book.Moves e r hs ks → NodeMoves (move_of e r) (all hs) (all ks)
+  node_moves (Hear m) (reply.Heard told) hs ks x = at_one (Hear m) (reply.Heard told) hs ks x
+  node_moves (Hear m) (reply.Began told) hs ks x = absurd x.moves
+  node_moves (Hear m) (reply.Finished ran) hs ks x = absurd x.moves
+  node_moves (Begin h) (reply.Heard told) hs ks x = absurd x.moves
+  node_moves (Begin h) (reply.Began told) hs ks x = at_one (Begin h) (reply.Began told) hs ks x
+  node_moves (Begin h) (reply.Finished ran) hs ks x = absurd x.moves
+  node_moves (Finish h) (reply.Heard told) hs ks x = absurd x.moves
+  node_moves (Finish h) (reply.Began told) hs ks x = absurd x.moves
+  node_moves (Finish h) (reply.Finished ran) hs ks x = at_one (Finish h) (reply.Finished ran) hs ks x
+
+  is_here : (e : Event) (r : Reply) (hs ks : List LocalHandler) → book.Moves e r hs ks → has (numbers (all hs)) (handler_at e) ≡ true
+  is_here e r hs ks x =
+      found_has number_in same_handler (handler_at e) (all hs) (local x.handler) (find_through number_in same_handler local (handler_at e) hs ∙ ap (option_map local) x.here)
+
+  node_owns : (e : Event) (r : Reply) (hs ks : List LocalHandler) → book.Moves e r hs ks → is_of n (numbers (all hs)) (move_of e r) ≡ true
+  node_owns (Hear m) (reply.Heard told) hs ks x = is_here (Hear m) (reply.Heard told) hs ks x
+  node_owns (Hear m) (reply.Began told) hs ks x = absurd x.moves
+  node_owns (Hear m) (reply.Finished ran) hs ks x = absurd x.moves
+  node_owns (Begin h) (reply.Heard told) hs ks x = absurd x.moves
+  node_owns (Begin h) (reply.Began told) hs ks x = is_here (Begin h) (reply.Began told) hs ks x
+  node_owns (Begin h) (reply.Finished ran) hs ks x = absurd x.moves
+  node_owns (Finish h) (reply.Heard told) hs ks x = absurd x.moves
+  node_owns (Finish h) (reply.Began told) hs ks x = absurd x.moves
+  node_owns (Finish h) (reply.Finished ran) hs ks x = is_here (Finish h) (reply.Finished ran) hs ks x
+
+  -- ---- one history
+
+  pub record NodeGoes (hs : List LocalHandler) (ms : List LocalMove) (ks : List LocalHandler) : Type 0 where
+    pub runs : NodeRuns (all hs) ms (all ks)
+    pub own : AllByRecursion (λ m. is_of n (numbers (all hs)) m ≡ true) ms
+    pub names : numbers (all ks) ≡ numbers (all hs)
+    pub stored : AllStored (all ks)
+
+  owned : (hs us : List LocalHandler) (ms : List LocalMove) → numbers (all us) ≡ numbers (all hs) → AllByRecursion (λ m. is_of n (numbers (all us)) m ≡ true) ms → AllByRecursion (λ m. is_of n (numbers (all hs)) m ≡ true) ms
+  owned hs us ms names own = subst (λ xs. AllByRecursion (λ m. is_of n xs m ≡ true) ms) names own
+
+  pub replays_run : (hs : List LocalHandler) (es : List Entry) (ks : List LocalHandler) → Replays hs es ks → NodeRuns (all hs) (map move_in es) (all ks)
+  replays_run hs [] ks same = ap all same
+  replays_run hs (e ∷ es) ks r = (all r.0, node_moves e.1 e.2 hs r.0 r.1, replays_run r.0 es ks r.2)
+
+  replays_go : (hs : List LocalHandler) (es : List Entry) (ks : List LocalHandler) → AllStored (all hs) → NoRepeats (numbers (all hs)) → Replays hs es ks → NodeGoes hs (map move_in es) ks
+  replays_go hs [] ks is once same =
+      record { runs = ap all same; own = tt; names = ap (λ xs. numbers (all xs)) (sym same); stored = subst (λ xs. AllStored (all xs)) same is }
+  replays_go hs (e ∷ es) ks is once r =
+      let us = r.0 in
+      let move = node_moves e.1 e.2 hs us r.1 in
+      let kept = node_step (move_in e) (all hs) (all us) is once move in
+      let names = kept_numbers (move_in e) (all hs) (all us) kept in
+      let rest = replays_go us es ks (kept_stored (move_in e) (all hs) (all us) kept) (subst NoRepeats (sym names) once) r.2 in
+      record {
+        runs = (all us, move, rest.runs);
+        own = (node_owns e.1 e.2 hs us r.1, owned hs us (map move_in es) names rest.own);
+        names = rest.names ∙ names;
+        stored = rest.stored;
+      }
+
+  -- ---- all histories
+
+  opens_again : (s : LocalHandler) → (local s).stored ≡ (local s).core.state → local (reopened words s) ≡ after_reopening n (local s)
+  opens_again s is =
+      let q : HandlerState = (local s).stored in
+      let number : q.number ≡ s.core.state.number = ap (λ (x : HandlerState). x.number) is in
+      let anew : weave.LocalHandler = record { node = n; placed = (local s).placed; core = core_of s.core.class q false; stored = q } in
+      let opened : local (reopened words s) ≡ anew =
+      λ i. record { node = n; placed = words (number i); core = core_of s.core.class q false; stored = opening_state (number i) (words (number i)) s.stored } in
+      opened ∙ ap (λ t. if t then anew else local s) (sym (number_itself n))
+
+  all_open_again : (hs : List LocalHandler) → AllStored (all hs) → all (map (reopened words) hs) ≡ map (after_reopening n) (all hs)
+  all_open_again [] is = refl
+  all_open_again (s ∷ hs) is = λ i. opens_again s is.0 i ∷ all_open_again hs is.1 i
+
+  pub lives_go : (hs : List LocalHandler) (first : List Entry) (more : List (List Entry)) (now : List LocalHandler) → AllStored (all hs) → NoRepeats (numbers (all hs)) → Lives words hs first more now → NodeGoes hs (moves_of n first more) now
+  lives_go hs first [] now is once life = replays_go hs first now is once life
+  lives_go hs first (es ∷ more) now is once life =
+      let last = life.0 in
+      let us = map (reopened words) last in
+      let here = replays_go hs first last is once life.1 in
+      let again : NodeMoves (NodeReopened n) (all last) (all us) = all_open_again last here.stored in
+      let apart = subst NoRepeats (sym here.names) once in
+      let kept = node_step (NodeReopened n) (all last) (all us) here.stored apart again in
+      let names = kept_numbers (NodeReopened n) (all last) (all us) kept in
+      let rest = lives_go us es more now (kept_stored (NodeReopened n) (all last) (all us) kept) (subst NoRepeats (sym names) apart) life.2 in
+      record {
+        runs = runs_both (all hs) (all last) (all now) (map move_in first) (NodeReopened n ∷ moves_of n es more) here.runs (all us, again, rest.runs);
+        own =
+            all_both (λ m. is_of n (numbers (all hs)) m ≡ true) (map move_in first) (NodeReopened n ∷ moves_of n es more) here.own
+            (number_itself n, owned hs us (moves_of n es more) (names ∙ here.names) rest.own);
+        names = rest.names ∙ (names ∙ here.names);
+        stored = rest.stored;
+      }

@@ -1,0 +1,4 @@
+pub mod Nodes
+pub mod Clients
+pub mod Order
+pub mod System

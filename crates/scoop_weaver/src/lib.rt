@@ -1,0 +1,14 @@
+//! Finds an order of what nodes and clients did, in which each message that is heard was sent before.
+#![tactic(auto)]
+
+mod error;
+mod law;
+mod parties;
+mod sent;
+mod traffic;
+mod weaving;
+
+pub use error::NoWeave;
+pub use law::woven_is_a_world;
+pub use traffic::{Party, Traffic};
+pub use weaving::weave;
