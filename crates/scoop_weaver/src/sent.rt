@@ -31,7 +31,7 @@ impl<A: Allocator> Sent<A> {
         }
     }
 
-    /// Whether the message was sent. The newest ones are looked at first.
+    /// Whether the message was sent. It is held against each different message that was.
     pub(crate) fn has(&self, message: &Message) -> bool
         ensures { IsTrue result ↔ Contains self.now message.now }
     {
