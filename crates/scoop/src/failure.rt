@@ -5,6 +5,7 @@ use clap::error::ErrorKind;
 use scoop_demo::{RunError, WordsError};
 use scoop_message::OutOfMemory;
 use scoop_record::KeeperError;
+use scoop_show::ShowError;
 use std::alloc::{AllocError, AllocFailed};
 
 /// Why the program ends early.
@@ -20,6 +21,8 @@ pub enum Failure {
     Words(WordsError),
     /// The work on the input ended early.
     Run(RunError),
+    /// The demo ended early.
+    Show(ShowError),
 }
 
 impl Failure {
@@ -41,6 +44,10 @@ impl Failure {
                 2
             }
             Failure::Run(error) => report_run(rt, error),
+            Failure::Show(error) => {
+                let _ = eprintln!(rt; "scoop: {error}");
+                error.status()
+            }
         }
     }
 }
@@ -65,6 +72,12 @@ fn report_command_line<R: Print + Eprint>(rt: &R, error: &Error) -> u8 {
 impl From<RunError> for Failure {
     fn from(error: RunError) -> Failure {
         Failure::Run(error)
+    }
+}
+
+impl From<ShowError> for Failure {
+    fn from(error: ShowError) -> Failure {
+        Failure::Show(error)
     }
 }
 
