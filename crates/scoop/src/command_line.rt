@@ -253,3 +253,6 @@ fn words_flag<'a>(alloc: Global) -> Arg<'a> {
         .help("Shows the object's words in decimal after the last line")
         .action(ArgAction::SetTrue)
 }
+
+#[cfg(test)]
+mod tests;
