@@ -1,8 +1,9 @@
 //! The clients of a demo.
 
-ghost use Rattle.std.specs.Prelude.{◌≡◌, OnOk};
+ghost use Rattle.std.specs.Prelude.{◌≡◌, IfOk, OnOk, is_some};
 ghost use Rattle.scoop_client.specs.State.{phase_of};
 ghost use Rattle.scoop_client.specs.declared.phase.Phase.TheVariants.{Idle as AtIdle};
+ghost use Rattle.scoop_show.specs.Plans.{TakesNext};
 
 use crate::alarm::Alarm;
 use crate::error::ShowError;
@@ -62,7 +63,9 @@ pub(crate) fn open_client<'a, R: Net>(
     peers: Peers<'_>,
     turns: u64,
     alarm: &'a Alarm,
-) -> Result<Driver<Wire<'a>>, ShowError> {
+) -> Result<Driver<Wire<'a>>, ShowError>
+    ensures { IfOk result (λ _. TakesNext keeper.old keeper.new number) }
+{
     let socket = match UdpLink::open(rt, alloc, peers) {
         Ok(socket) => socket,
         Err(error) => return Err(ShowError::from(error)),
@@ -177,7 +180,9 @@ pub(crate) fn read<L: Link>(
     driver: &mut Driver<L>,
     turns: u64,
     withdrew: Option<bool>,
-) -> Result<Outcome, DriverError> {
+) -> Result<Outcome, DriverError>
+    ensures { IfOk result (λ outcome. is_some outcome.waited ≡ is_some withdrew) }
+{
     greet(driver, turns)?;
     let waited = match withdrew {
         None => {

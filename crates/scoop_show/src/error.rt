@@ -1,9 +1,10 @@
 //! Why a demo ends early.
 
+ghost use Rattle.std.specs.Prelude.{◌≡◌};
 ghost use Rattle.scoop_show.specs.ErrorText.{client_name, client_number, close_name, close_number, driver_name, driver_number, loop_name, reserve_name, reserve_number};
 
-use scoop_book::{CloseRefusal, OpenError};
-use scoop_client::{BeginError, ClientError};
+use scoop_book::CloseRefusal;
+use scoop_client::ClientError;
 use scoop_link::OpenLinkError;
 use scoop_message::{HandlerId, OutOfMemory};
 use scoop_netloop::{DriverError, ServeEnd};
@@ -189,7 +190,6 @@ fn close_number(cause: CloseRefusal) -> Option<u32>
 // What the demo tells of the errors of others. Want of memory is always told as such.
 
 impl From<OutOfMemory> for ShowError {
-    ghost use Rattle.std.specs.Prelude.{◌≡◌};
     ghost use Rattle.scoop_show.specs.declared.error.ShowError.TheVariants.{OutOfMemory as out_of_memory};
 
     ghost from_gives = { λ _ e. e ≡ out_of_memory };
@@ -200,7 +200,6 @@ impl From<OutOfMemory> for ShowError {
 }
 
 impl From<DriverError> for ShowError {
-    ghost use Rattle.std.specs.Prelude.{◌≡◌};
     ghost use Rattle.scoop_show.specs.Errors.{driver_told};
 
     ghost from_gives = { λ error e. e ≡ driver_told error };
@@ -217,7 +216,6 @@ impl From<DriverError> for ShowError {
 }
 
 impl From<ServeEnd> for ShowError {
-    ghost use Rattle.std.specs.Prelude.{◌≡◌};
     ghost use Rattle.scoop_show.specs.Errors.{loop_told};
 
     ghost from_gives = { λ end e. e ≡ loop_told end };
@@ -232,7 +230,6 @@ impl From<ServeEnd> for ShowError {
 }
 
 impl From<CloseRefusal> for ShowError {
-    ghost use Rattle.std.specs.Prelude.{◌≡◌};
     ghost use Rattle.scoop_show.specs.Errors.{close_told};
 
     ghost from_gives = { λ cause e. e ≡ close_told cause };
@@ -246,7 +243,6 @@ impl From<CloseRefusal> for ShowError {
 }
 
 impl From<KeeperError> for ShowError {
-    ghost use Rattle.std.specs.Prelude.{◌≡◌};
     ghost use Rattle.scoop_show.specs.Errors.{keeper_told};
 
     ghost from_gives = { λ refusal e. e ≡ keeper_told refusal };
@@ -260,7 +256,6 @@ impl From<KeeperError> for ShowError {
 }
 
 impl From<OpenLinkError> for ShowError {
-    ghost use Rattle.std.specs.Prelude.{◌≡◌};
     ghost use Rattle.scoop_show.specs.Errors.{link_told};
 
     ghost from_gives = { λ error e. e ≡ link_told error };

@@ -1,5 +1,8 @@
 //! What is shown.
 
+ghost use Rattle.std.specs.Prelude.{◌≡◌};
+ghost use Rattle.scoop_show.specs.Plans.{node_turns};
+
 use scoop_message::{ClientId, HandlerId};
 use scoop_object::Class;
 

@@ -1,5 +1,7 @@
 //! What the parties of a demo do beside each other.
 
+ghost use Rattle.std.specs.Prelude.{◌≡◌, IfOk, is_some};
+
 use crate::alarm::Alarm;
 use crate::client::{Wire, deposit, paint, read, withdraw};
 use crate::error::ShowError;
@@ -118,7 +120,9 @@ fn play<W: Write + Drop + Send, R: Threads + Wait + Sync>(
     waits: bool,
     progress: Option<W>,
     alarm: &Alarm,
-) -> Result<Outcome, ShowError> {
+) -> Result<Outcome, ShowError>
+    ensures { IfOk result (λ outcome. is_some outcome.waited ≡ waits) }
+{
     let Clients {
         mut seven,
         mut eight,
@@ -158,19 +162,26 @@ where
     B: Behaviour + Send,
     W: Write + Drop + Send,
     R: Threads + Wait + Clock + Sync,
+    ensures { IfOk result (λ outcome. is_some outcome.waited ≡ waits) }
 {
     let turns = plan.node_turns();
-    thread::scope(thread::scope_env(), rt, move |scope| {
-        let served = scope.spawn(move || first.serve(rt, alloc, turns, alarm));
-        if served.is_err() {
-            alarm.ring(rt, ShowError::NoThread);
-        }
-        let served = scope.spawn(move || second.serve(rt, alloc, turns, alarm));
-        if served.is_err() {
-            alarm.ring(rt, ShowError::NoThread);
-        }
-        let outcome = play(rt, clients, plan, waits, progress, alarm);
-        alarm.stop().ask();
-        outcome
-    })
+    thread::scope(
+        thread::scope_env(),
+        rt,
+        move |scope| -> Result<Outcome, ShowError>
+            ensures { IfOk result (λ outcome. is_some outcome.waited ≡ waits) }
+        {
+            let served = scope.spawn(move || first.serve(rt, alloc, turns, alarm));
+            if served.is_err() {
+                alarm.ring(rt, ShowError::NoThread);
+            }
+            let served = scope.spawn(move || second.serve(rt, alloc, turns, alarm));
+            if served.is_err() {
+                alarm.ring(rt, ShowError::NoThread);
+            }
+            let outcome = play(rt, clients, plan, waits, progress, alarm);
+            alarm.stop().ask();
+            outcome
+        },
+    )
 }

@@ -1,5 +1,8 @@
 //! A demo from its opening to its end.
 
+ghost use Rattle.std.specs.Prelude.{◌≡◌, ◌≤◌, length, IfOk, is_some};
+ghost use Rattle.scoop_show.specs.Plans.{HaveBegun};
+
 use crate::alarm::Alarm;
 use crate::client::open_client;
 use crate::error::ShowError;
@@ -82,23 +85,22 @@ fn open_clients<'a, R: Net>(
     plan: &Plan,
     waits: bool,
     alarm: &'a Alarm,
-) -> Result<Clients<'a>, ShowError> {
+) -> Result<Clients<'a>, ShowError>
+    ensures { IfOk result (λ _. HaveBegun keeper.old keeper.new) }
+{
     let [one, two] = plan.ports.nodes;
     let table = [
         (Party::Handler(FIRST_CELL), one),
         (Party::Handler(SECOND_CELL), two),
         (Party::Handler(ACCOUNT), one),
     ];
+    let to = |own| Peers { own, table: &table };
     let [seven, eight, nine] = plan.ports.clients;
-    let mut client = |number, own| {
-        let peers = Peers { own, table: &table };
-        open_client(rt, alloc, keeper, number, waits, peers, plan.turns, alarm)
-    };
-    Ok(Clients {
-        seven: client(SEVEN, seven)?,
-        eight: client(EIGHT, eight)?,
-        nine: client(NINE, nine)?,
-    })
+    let turns = plan.turns;
+    let seven = open_client(rt, alloc, keeper, SEVEN, waits, to(seven), turns, alarm)?;
+    let eight = open_client(rt, alloc, keeper, EIGHT, waits, to(eight), turns, alarm)?;
+    let nine = open_client(rt, alloc, keeper, NINE, waits, to(nine), turns, alarm)?;
+    Ok(Clients { seven, eight, nine })
 }
 
 /// Shows two nodes over UDP of this machine, each served by three threads, and three clients: clients 7 and 8, each in a
@@ -123,6 +125,8 @@ where
     B: Behaviour + Send,
     W: Write + Drop + Send,
     R: Threads + Wait + Clock + Net + Sync,
+    ensures waited { IfOk result (λ outcome. is_some outcome.waited ≡ is_some objects.account) }
+    ensures begun { IfOk result (λ _. HaveBegun keeper.old keeper.new) }
 {
     let waits = objects.account.is_some();
     let (mut first, mut second) = open_hosts(rt, alloc, objects, &plan.ports)?;
