@@ -9,7 +9,7 @@ use crate::alarm::Alarm;
 use crate::error::ShowError;
 use crate::guarded_link::GuardedLink;
 use crate::outcome::{Outcome, Waited};
-use crate::plan::{ACCOUNT, FIRST_CELL, SECOND_CELL};
+use crate::plan::{ACCOUNT, FIRST_CELL, Plan, SECOND_CELL};
 use crate::progress::Progress;
 use scoop_client::{BeginError, Client, Phase};
 use scoop_link::{Link, PacedLink, Peers, UdpLink};
@@ -125,26 +125,25 @@ fn paint_once<L: Link>(driver: &mut Driver<L>, colour: u64) -> Result<(), Driver
     driver.end()
 }
 
-/// The client is greeted, and then paints both cells in so many joint blocks. It tells each.
-pub(crate) fn paint<L: Link, W: Write + Drop, R: Wait>(
+// The client is greeted, and then paints both cells in as many joint blocks as the plan says. It tells each.
+fn paint<L: Link, W: Write + Drop, R: Wait>(
     rt: &R,
     driver: &mut Driver<L>,
     number: ClientId,
     colour: u64,
-    rounds: u64,
-    turns: u64,
+    plan: &Plan,
     progress: &Progress<W>,
 ) -> Result<(), DriverError> {
-    greet(driver, turns)?;
-    for round in 0..rounds {
+    greet(driver, plan.turns)?;
+    for round in 0..plan.rounds {
         paint_once(driver, colour)?;
         progress.tell(rt, number, round + 1);
     }
     Ok(())
 }
 
-/// Deposits in two blocks.
-pub(crate) fn deposit<L: Link>(driver: &mut Driver<L>) -> Result<(), DriverError> {
+// Deposits in two blocks.
+fn deposit<L: Link>(driver: &mut Driver<L>) -> Result<(), DriverError> {
     for _ in 0..2u8 {
         driver.reserve(&[ACCOUNT])?;
         driver.call(ACCOUNT, request(DEPOSIT, DEPOSITED))?;
@@ -153,8 +152,8 @@ pub(crate) fn deposit<L: Link>(driver: &mut Driver<L>) -> Result<(), DriverError
     Ok(())
 }
 
-/// Withdraws once the balance is at least as much. Answers whether it was, in any of its tries.
-pub(crate) fn withdraw<L: Link>(driver: &mut Driver<L>) -> Result<bool, DriverError> {
+// Withdraws once the balance is at least as much. Answers whether it was, in any of its tries.
+fn withdraw<L: Link>(driver: &mut Driver<L>) -> Result<bool, DriverError> {
     let condition = Condition {
         handler: ACCOUNT,
         request: question(BALANCE),
@@ -165,6 +164,76 @@ pub(crate) fn withdraw<L: Link>(driver: &mut Driver<L>) -> Result<bool, DriverEr
         Ok(_) => Ok(true),
         Err(DriverError::ConditionFailed(_)) => Ok(false),
         Err(error) => Err(error),
+    }
+}
+
+/// What a client does once the cells are painted, where there is an account.
+#[derive(Clone, Copy)]
+pub(crate) enum Part {
+    /// It deposits.
+    Deposits,
+    /// It waits for the balance and withdraws.
+    Withdraws,
+}
+
+/// A client that paints.
+#[derive(Drop)]
+pub(crate) struct Painter<L: Link> {
+    driver: Driver<L>,
+    number: ClientId,
+    colour: u64,
+    part: Part,
+    has_met: bool,
+}
+
+impl<L: Link> Painter<L> {
+    /// This client, which paints with this colour.
+    pub(crate) fn new(driver: Driver<L>, number: ClientId, colour: u64, part: Part) -> Painter<L> {
+        Painter {
+            driver,
+            number,
+            colour,
+            part,
+            has_met: true,
+        }
+    }
+
+    /// Whether it never waited in vain.
+    pub(crate) fn has_met(&self) -> bool {
+        self.has_met
+    }
+
+    /// Paints. An error rings the alarm.
+    pub(crate) fn paint<W: Write + Drop, R: Wait>(
+        &mut self,
+        rt: &R,
+        plan: &Plan,
+        progress: &Progress<W>,
+        alarm: &Alarm,
+    ) {
+        let painted = paint(
+            rt,
+            &mut self.driver,
+            self.number,
+            self.colour,
+            plan,
+            progress,
+        );
+        if let Err(error) = painted {
+            alarm.ring(rt, ShowError::from(error));
+        }
+    }
+
+    /// Deposits, or waits and withdraws. An error rings the alarm.
+    pub(crate) fn wait<R: Wait>(&mut self, rt: &R, alarm: &Alarm) {
+        let met = match self.part {
+            Part::Deposits => deposit(&mut self.driver).map(|()| true),
+            Part::Withdraws => withdraw(&mut self.driver),
+        };
+        match met {
+            Ok(met) => self.has_met = met,
+            Err(error) => alarm.ring(rt, ShowError::from(error)),
+        }
     }
 }
 

@@ -13,6 +13,9 @@ use scoop_reserve::ReserveError;
 use std::error::Error;
 use std::fmt;
 
+// The status of a program that ends early.
+const STATUS: u8 = 3;
+
 /// Why a demo ends early: of several reasons the first that came up. It is printed as what the program tells behind
 /// `scoop: `.
 #[derive(Clone, Copy, Debug, PartialEq, Eq)]
@@ -42,7 +45,7 @@ impl ShowError {
     pub fn status(self) -> u8
         ensures { result ≡ 3 }
     {
-        3
+        STATUS
     }
 }
 

@@ -4,7 +4,7 @@ ghost use Rattle.std.specs.Prelude.{◌≡◌, ◌≤◌, length, IfOk, is_some}
 ghost use Rattle.scoop_show.specs.Plans.{HaveBegun};
 
 use crate::alarm::Alarm;
-use crate::client::open_client;
+use crate::client::{Painter, Part, Wire, open_client};
 use crate::error::ShowError;
 use crate::host::Host;
 use crate::outcome::Outcome;
@@ -57,7 +57,7 @@ fn open_hosts<B: Behaviour, R: Net>(
     alloc: Global,
     objects: Objects<B>,
     ports: &Ports,
-) -> Result<(Host<B>, Host<B>), ShowError> {
+) -> Result<Vec<Host<B>>, ShowError> {
     let Objects {
         first,
         second,
@@ -74,7 +74,10 @@ fn open_hosts<B: Behaviour, R: Net>(
     let own = ports.nodes[1];
     let peers = Peers { own, table: &table };
     let second = Host::open(rt, alloc, on_second(alloc, second)?, peers)?;
-    Ok((first, second))
+    let mut hosts = Vec::with_capacity(alloc, 2).map_err(OutOfMemory::from)?;
+    hosts.push_reserved(first);
+    hosts.push_reserved(second);
+    Ok(hosts)
 }
 
 // The clients, with the ports of the handlers that they know.
@@ -85,22 +88,30 @@ fn open_clients<'a, R: Net>(
     plan: &Plan,
     waits: bool,
     alarm: &'a Alarm,
-) -> Result<Clients<'a>, ShowError>
+) -> Result<Clients<Wire<'a>>, ShowError>
     ensures { IfOk result (λ _. HaveBegun keeper.old keeper.new) }
 {
     let [one, two] = plan.ports.nodes;
-    let table = [
+    let table: &[(Party, u16)] = &[
         (Party::Handler(FIRST_CELL), one),
         (Party::Handler(SECOND_CELL), two),
         (Party::Handler(ACCOUNT), one),
     ];
-    let to = |own| Peers { own, table: &table };
     let [seven, eight, nine] = plan.ports.clients;
     let turns = plan.turns;
-    let seven = open_client(rt, alloc, keeper, SEVEN, waits, to(seven), turns, alarm)?;
-    let eight = open_client(rt, alloc, keeper, EIGHT, waits, to(eight), turns, alarm)?;
-    let nine = open_client(rt, alloc, keeper, NINE, waits, to(nine), turns, alarm)?;
-    Ok(Clients { seven, eight, nine })
+    let peers = Peers { own: seven, table };
+    let seven = open_client(rt, alloc, keeper, SEVEN, waits, peers, turns, alarm)?;
+    let peers = Peers { own: eight, table };
+    let eight = open_client(rt, alloc, keeper, EIGHT, waits, peers, turns, alarm)?;
+    let peers = Peers { own: nine, table };
+    let nine = open_client(rt, alloc, keeper, NINE, waits, peers, turns, alarm)?;
+    let mut painters = Vec::with_capacity(alloc, 2).map_err(OutOfMemory::from)?;
+    painters.push_reserved(Painter::new(seven, SEVEN, 1, Part::Deposits));
+    painters.push_reserved(Painter::new(eight, EIGHT, 2, Part::Withdraws));
+    Ok(Clients {
+        painters,
+        reader: nine,
+    })
 }
 
 /// Shows two nodes over UDP of this machine, each served by three threads, and three clients: clients 7 and 8, each in a
@@ -129,24 +140,17 @@ where
     ensures begun { IfOk result (λ _. HaveBegun keeper.old keeper.new) }
 {
     let waits = objects.account.is_some();
-    let (mut first, mut second) = open_hosts(rt, alloc, objects, &plan.ports)?;
+    let mut hosts = open_hosts(rt, alloc, objects, &plan.ports)?;
     let alarm = Alarm::new();
     let clients = open_clients(rt, alloc, keeper, plan, waits, &alarm)?;
     let played = play_beside(
-        rt,
-        alloc,
-        &mut first,
-        &mut second,
-        clients,
-        plan,
-        waits,
-        progress,
-        &alarm,
+        rt, alloc, &mut hosts, clients, plan, waits, progress, &alarm,
     );
     if let Some(error) = alarm.into_first() {
         return Err(error);
     }
-    first.close(rt)?;
-    second.close(rt)?;
+    for host in hosts {
+        host.close(rt)?;
+    }
     played
 }
