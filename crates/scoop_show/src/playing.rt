@@ -29,35 +29,39 @@ pub(crate) struct Clients<L: Link> {
 // The clients paint, each in a thread.
 fn paint_all<L: Link + Send, W: Write + Drop + Send, R: Threads + Wait + Sync>(
     rt: &R,
-    painters: &mut [Painter<L>],
+    mut painters: Vec<Painter<L>>,
     plan: &Plan,
     progress: &Progress<W>,
     alarm: &Alarm,
-) {
+) -> Vec<Painter<L>> {
+    let lent = painters.as_mut_slice();
     thread::scope(thread::scope_env(), rt, move |scope| {
-        for painter in painters.iter_mut() {
+        for painter in lent.iter_mut() {
             let spawned = scope.spawn(move || painter.paint(rt, plan, progress, alarm));
             if spawned.is_err() {
                 alarm.ring(rt, ShowError::NoThread);
             }
         }
     });
+    painters
 }
 
 // One client deposits while the other one waits and withdraws, each in a thread.
 fn wait_all<L: Link + Send, R: Threads + Wait + Sync>(
     rt: &R,
-    painters: &mut [Painter<L>],
+    mut painters: Vec<Painter<L>>,
     alarm: &Alarm,
-) {
+) -> Vec<Painter<L>> {
+    let lent = painters.as_mut_slice();
     thread::scope(thread::scope_env(), rt, move |scope| {
-        for painter in painters.iter_mut() {
+        for painter in lent.iter_mut() {
             let spawned = scope.spawn(move || painter.wait(rt, alarm));
             if spawned.is_err() {
                 alarm.ring(rt, ShowError::NoThread);
             }
         }
     });
+    painters
 }
 
 // What the clients do, one part after the other. An error has rung the alarm.
@@ -72,14 +76,14 @@ fn play<L: Link + Send, W: Write + Drop + Send, R: Threads + Wait + Sync>(
     ensures { IfOk result (λ outcome. is_some outcome.waited ≡ waits) }
 {
     let Clients {
-        mut painters,
+        painters,
         mut reader,
     } = clients;
     let progress = Progress::new(progress, plan.rounds);
-    paint_all(rt, &mut painters, plan, &progress, alarm);
+    let painters = paint_all(rt, painters, plan, &progress, alarm);
     progress.finish();
     let withdrew = if waits {
-        wait_all(rt, &mut painters, alarm);
+        let painters = wait_all(rt, painters, alarm);
         Some(painters.iter().all(|painter| painter.has_met()))
     } else {
         None
@@ -94,32 +98,34 @@ fn play<L: Link + Send, W: Write + Drop + Send, R: Threads + Wait + Sync>(
     }
 }
 
-/// Serves the nodes, each in a thread, while the clients play, and waits for all. An error has rung the alarm.
+/// Serves the nodes, each in a thread, while the clients play, and waits for all. The nodes are handed back. An error has
+/// rung the alarm.
 pub(crate) fn play_beside<B, L, W, R>(
     rt: &R,
     alloc: Global,
-    hosts: &mut [Host<B>],
+    mut hosts: Vec<Host<B>>,
     clients: Clients<L>,
     plan: &Plan,
     waits: bool,
     progress: Option<W>,
     alarm: &Alarm,
-) -> Result<Outcome, ShowError>
+) -> (Result<Outcome, ShowError>, Vec<Host<B>>)
 where
     B: Behaviour + Send,
     L: Link + Send,
     W: Write + Drop + Send,
     R: Threads + Wait + Clock + Sync,
-    ensures { IfOk result (λ outcome. is_some outcome.waited ≡ waits) }
+    ensures { IfOk result.0 (λ outcome. is_some outcome.waited ≡ waits) }
 {
     let turns = plan.node_turns();
-    thread::scope(
+    let lent = hosts.as_mut_slice();
+    let outcome = thread::scope(
         thread::scope_env(),
         rt,
         move |scope| -> Result<Outcome, ShowError>
             ensures { IfOk result (λ outcome. is_some outcome.waited ≡ waits) }
         {
-            for host in hosts.iter_mut() {
+            for host in lent.iter_mut() {
                 let spawned = scope.spawn(move || host.serve(rt, alloc, turns, alarm));
                 if spawned.is_err() {
                     alarm.ring(rt, ShowError::NoThread);
@@ -129,5 +135,6 @@ where
             alarm.stop().ask();
             outcome
         },
-    )
+    );
+    (outcome, hosts)
 }

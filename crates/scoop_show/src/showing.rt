@@ -140,12 +140,10 @@ where
     ensures begun { IfOk result (λ _. HaveBegun keeper.old keeper.new) }
 {
     let waits = objects.account.is_some();
-    let mut hosts = open_hosts(rt, alloc, objects, &plan.ports)?;
+    let hosts = open_hosts(rt, alloc, objects, &plan.ports)?;
     let alarm = Alarm::new();
     let clients = open_clients(rt, alloc, keeper, plan, waits, &alarm)?;
-    let played = play_beside(
-        rt, alloc, &mut hosts, clients, plan, waits, progress, &alarm,
-    );
+    let (played, hosts) = play_beside(rt, alloc, hosts, clients, plan, waits, progress, &alarm);
     if let Some(error) = alarm.into_first() {
         return Err(error);
     }
