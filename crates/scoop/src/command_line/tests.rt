@@ -22,24 +22,33 @@ const WRONG: [Case; 9] = [
     ),
     (
         &["answer", "--class", "shelf"],
-        &["error: invalid value 'shelf' for '--class <NAME>'", "cell, counter, account, exchange"],
+        &[
+            "error: invalid value 'shelf' for '--class <NAME>'",
+            "cell, counter, account, exchange",
+        ],
     ),
     (
         &["demo", "--rounds", "five"],
         &["error: invalid value 'five' for '--rounds <R>'"],
     ),
-    (
-        &["demo", "--turns", "-1"],
-        &["error: ", "-1"],
-    ),
+    (&["demo", "--turns", "-1"], &["error: ", "-1"]),
     (&["answers"], &["error: unrecognized subcommand 'answers'"]),
-    (&["world", "--loud"], &["error: unexpected argument '--loud' found"]),
-    (&["demo", "again"], &["error: unexpected argument 'again' found"]),
+    (
+        &["world", "--loud"],
+        &["error: unexpected argument '--loud' found"],
+    ),
+    (
+        &["demo", "again"],
+        &["error: unexpected argument 'again' found"],
+    ),
 ];
 
 // Each help says what the command is for, its input, its output and its statuses, with an example.
 const HELP: [Case; 5] = [
-    (&["--help"], &["Runs SCOOP handlers", "answer", "world", "frame", "demo"]),
+    (
+        &["--help"],
+        &["Runs SCOOP handlers", "answer", "world", "frame", "demo"],
+    ),
     (
         &["answer", "--help"],
         &[
@@ -64,7 +73,12 @@ const HELP: [Case; 5] = [
     ),
     (
         &["frame", "--help"],
-        &["Prints the frame", "Statuses: 0; 1 ", "Example: scoop frame Lock 1 7.1.1", "Usage: scoop frame"],
+        &[
+            "Prints the frame",
+            "Statuses: 0; 1 ",
+            "Example: scoop frame Lock 1 7.1.1",
+            "Usage: scoop frame",
+        ],
     ),
     (
         &["demo", "--help"],
