@@ -27,7 +27,8 @@ pub fn command<'a>(alloc: Global, class_names: &'a [&'a str]) -> Result<Command<
         .arg_required_else_help(true)
         .subcommand(answer_command(alloc, class_names)?)?
         .subcommand(world_command(alloc)?)?
-        .subcommand(frame_command(alloc)?)
+        .subcommand(frame_command(alloc)?)?
+        .subcommand(demo_command(alloc)?)
 }
 
 // The help of a command that runs objects, with the table of classes inside.
@@ -122,6 +123,58 @@ fn frame_command<'a>(alloc: Global) -> Result<Command<'a>, AllocError> {
         .arg(words_argument(alloc))
 }
 
+fn demo_command<'a>(alloc: Global) -> Result<Command<'a>, AllocError> {
+    Command::new(alloc, "demo")
+        .about("Shows two nodes and three clients, which paint the same cells over UDP")
+        .long_about(
+            "Shows the runtime at work in one process, over UDP of this machine: nodes 1 and 2, served by threads, hold \
+            one cell each, and clients 7 and 8, each in a thread, paint both cells, one with 1 and the other with 2, in \
+            R blocks that reserve both. Then client 9 reads both cells in one block. However the blocks of the two came \
+            between each other, both cells hold one value. Ports 47101, 47102 and 47107 to 47109 have to be free.\n\n\
+            With --wait node 1 holds an account too. Client 7 deposits 50 in each of two blocks, while client 8 waits for \
+            a balance of 100, in at most 10,000 tries, and withdraws it.\n\n\
+            Input: none.\n\n\
+            Output: with --wait `balance` and what client 9 reads, or `condition failed` where client 8 waited in vain; \
+            `cells same` or `cells different`; `node 1 closed` and `node 2 closed`, where a node's history is what its \
+            threads say of it. Where standard error is a terminal, a line there says how many rounds are done.\n\n\
+            Statuses: 0; 1 where the cells are different or the condition failed; 2 for the command line; 3 for links and \
+            threads, told as `scoop: link: NAME`, for memory or output.\n\n\
+            Example: scoop demo --rounds 100 --wait",
+        )
+        .arg(rounds_option(alloc))?
+        .arg(turns_option(alloc))?
+        .arg(wait_flag(alloc))
+}
+
+fn rounds_option<'a>(alloc: Global) -> Arg<'a> {
+    Arg::new(alloc, "rounds")
+        .long("rounds")
+        .value_name("R")
+        .help("In how many blocks clients 7 and 8 paint the cells, each of them")
+        .action(ArgAction::Set)
+        .value_parser(value_parser!(u64))
+        .default_value("5")
+}
+
+fn turns_option<'a>(alloc: Global) -> Arg<'a> {
+    Arg::new(alloc, "turns")
+        .long("turns")
+        .value_name("T")
+        .help(
+            "How many turns a client's call takes at most; a node's loop takes at most 100 times as many",
+        )
+        .action(ArgAction::Set)
+        .value_parser(value_parser!(u64))
+        .default_value("100000")
+}
+
+fn wait_flag<'a>(alloc: Global) -> Arg<'a> {
+    Arg::new(alloc, "wait")
+        .long("wait")
+        .help("Shows a client that waits for a condition too")
+        .action(ArgAction::SetTrue)
+}
+
 fn words_argument<'a>(alloc: Global) -> Arg<'a> {
     Arg::new(alloc, "words")
         .value_name("WORD")
@@ -209,3 +262,6 @@ fn words_flag<'a>(alloc: Global) -> Arg<'a> {
         .help("Shows the object's words in decimal after the last line")
         .action(ArgAction::SetTrue)
 }
+
+#[cfg(test)]
+mod tests;

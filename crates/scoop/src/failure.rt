@@ -5,6 +5,7 @@ use clap::error::ErrorKind;
 use scoop_demo::{RunError, WordsError};
 use scoop_message::OutOfMemory;
 use scoop_record::KeeperError;
+use scoop_show::ShowError;
 use std::alloc::{AllocError, AllocFailed};
 
 /// Why the program ends early.
@@ -24,6 +25,8 @@ pub enum Failure {
     LongChart,
     /// The work on the input ended early.
     Run(RunError),
+    /// The demo ended early.
+    Show(ShowError),
 }
 
 impl Failure {
@@ -55,6 +58,10 @@ impl Failure {
                 1
             }
             Failure::Run(error) => report_run(rt, error),
+            Failure::Show(error) => {
+                let _ = eprintln!(rt; "scoop: {error}");
+                error.status()
+            }
         }
     }
 }
@@ -79,6 +86,12 @@ fn report_command_line<R: Print + Eprint>(rt: &R, error: &Error) -> u8 {
 impl From<RunError> for Failure {
     fn from(error: RunError) -> Failure {
         Failure::Run(error)
+    }
+}
+
+impl From<ShowError> for Failure {
+    fn from(error: ShowError) -> Failure {
+        Failure::Show(error)
     }
 }
 

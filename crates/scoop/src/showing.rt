@@ -1,0 +1,86 @@
+//! `scoop demo`: two nodes and three clients over UDP, in one process.
+
+use crate::failure::Failure;
+use clap::ArgMatches;
+use scoop_demo::{AccountObject, CellObject, DemoClass};
+use scoop_message::OutOfMemory;
+use scoop_object::{Behaviour, Boxed};
+use scoop_record::MemoryKeeper;
+use scoop_show::{Objects, PORTS, Plan, demo_run};
+use std::alloc::Global;
+use std::io;
+use std::io::{BufWriter, IsTerminal};
+use std::net::Net;
+use std::sync::Wait;
+use std::thread::Threads;
+use std::time::Clock;
+
+/// Shows the demo that is asked for, with objects in boxes, and answers the program's status. Where standard error is a
+/// terminal, a line there says how far it is. The second handle
+/// starts threads and opens sockets.
+pub fn demonstrate<T: Threads + Wait + Clock + Net + Sync>(
+    rt: &HostRuntime,
+    threads: &T,
+    given: &ArgMatches<'_>,
+) -> Result<u8, Failure> {
+    let alloc = rt.alloc();
+    let first = Boxed::new(Box::new(alloc, CellObject::new(0))?);
+    let second = Boxed::new(Box::new(alloc, CellObject::new(0))?);
+    let account = if given.get_flag("wait") {
+        Some(Boxed::new(Box::new(alloc, AccountObject::new(0))?))
+    } else {
+        None
+    };
+    let plan = Plan {
+        rounds: given.get_one::<u64>("rounds").unwrap_or(5),
+        turns: given.get_one::<u64>("turns").unwrap_or(100_000),
+        ports: PORTS,
+    };
+    let objects = with_classes(alloc, first, second, account)?;
+    demonstrate_with(rt, threads, &plan, objects)
+}
+
+// The objects with the classes that they have.
+fn with_classes<B: Behaviour>(
+    alloc: Global,
+    first: B,
+    second: B,
+    account: Option<B>,
+) -> Result<Objects<B>, OutOfMemory> {
+    let account = match account {
+        Some(account) => Some((DemoClass::Account.class(alloc)?, account)),
+        None => None,
+    };
+    Ok(Objects {
+        first: (DemoClass::Cell.class(alloc)?, first),
+        second: (DemoClass::Cell.class(alloc)?, second),
+        account,
+    })
+}
+
+// Shows the demo, with a line of progress where somebody reads it.
+fn demonstrate_with<B: Behaviour + Send, T: Threads + Wait + Clock + Net + Sync>(
+    rt: &HostRuntime,
+    threads: &T,
+    plan: &Plan,
+    objects: Objects<B>,
+) -> Result<u8, Failure> {
+    let alloc = rt.alloc();
+    let progress = if rt.stderr().is_terminal() {
+        Some(BufWriter::new(alloc, rt.stderr()).map_err(|_| OutOfMemory)?)
+    } else {
+        None
+    };
+    let mut keeper = MemoryKeeper::new(alloc);
+    let mut output = BufWriter::new(alloc, io::writer(rt)).map_err(|_| OutOfMemory)?;
+    let outcome = demo_run(
+        threads,
+        alloc,
+        objects,
+        &mut keeper,
+        plan,
+        progress,
+        &mut output,
+    )?;
+    Ok(outcome.status())
+}

@@ -1,0 +1,4 @@
+pub mod Errors
+pub mod ErrorText
+pub mod Outcomes
+pub mod Plans

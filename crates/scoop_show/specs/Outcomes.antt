@@ -1,0 +1,43 @@
+-- What is printed of a demo, and the status with which the program ends.
+use Rattle.std.specs.Prelude.{◌==◌, if◌then◌else◌, ℕ, Bool, true, false, List, [], ◌∷◌, ◌++◌, codes, Option, Some, None}
+use Rattle.std.specs.Fmt.{decimal}
+use Rattle.scoop_message.specs.Text.{answer_text}
+use Rattle.scoop_message.specs.declared.request.Answer.{Answer}
+use Rattle.scoop_message.specs.declared.request.Answer.TheVariants.{Refused, Value}
+use Rattle.scoop_show.specs.declared.outcome.Outcome.{Outcome}
+use Rattle.scoop_show.specs.declared.outcome.Waited.{Waited}
+use Rattle.scoop_show.specs.declared.outcome.Waited.TheVariants.{Balance, ConditionFailed}
+
+-- both are the same value
+abbrev pub are_same : Answer → Answer → Bool
+are_same (Value x) (Value y) = x == y
+are_same (Value x) Refused = false
+are_same Refused y = false
+
+abbrev pub wait_text : Option Waited → List ℕ
+wait_text None = []
+wait_text (Some (Balance answer)) = codes "balance " ++ answer_text answer ++ 10 ∷ []
+wait_text (Some ConditionFailed) = codes "condition failed" ++ 10 ∷ []
+
+abbrev pub cells_text : Answer → Answer → List ℕ
+cells_text x y = (if are_same x y then codes "cells same" else codes "cells different") ++ 10 ∷ []
+
+-- the lines of a demo
+abbrev pub outcome_text : Outcome → List ℕ
+outcome_text o = wait_text o.waited ++ cells_text o.first o.second ++ codes "node 1 closed" ++ 10 ∷ codes "node 2 closed" ++ 10 ∷ []
+
+-- 1 where client 8 waited in vain
+abbrev pub wait_status : Option Waited → ℕ
+wait_status None = 0
+wait_status (Some (Balance answer)) = 0
+wait_status (Some ConditionFailed) = 1
+
+-- 1 where that is so or the cells differ, else 0
+abbrev pub outcome_status : Outcome → ℕ
+outcome_status o = if are_same o.first o.second then wait_status o.waited else 1
+
+-- how many rounds the clients have done of all, over the line before
+abbrev pub progress_text : ℕ → ℕ → ℕ → List ℕ
+progress_text seven eight all =
+    13 ∷ codes "client 7: " ++ decimal seven ++ codes " of " ++ decimal all ++ codes " rounds, client 8: "
+    ++ decimal eight ++ codes " of " ++ decimal all ++ codes " rounds"

@@ -1,0 +1,52 @@
+//! What the parties of a demo tell each other when one of them can't go on.
+
+use crate::error::ShowError;
+use scoop_netloop::Stop;
+use std::sync::atomic::{AtomicBool, Ordering};
+use std::sync::{Mutex, Wait};
+
+/// Rung by the first party that can't go on. Then the nodes are asked to stop, and the links of the clients fail, so
+/// that no party waits for another in vain.
+#[derive(Drop)]
+pub(crate) struct Alarm {
+    is_rung: AtomicBool,
+    first: Mutex<Option<ShowError>>,
+    stop: Stop,
+}
+
+impl Alarm {
+    /// An alarm that nobody has rung.
+    pub(crate) fn new() -> Alarm {
+        Alarm {
+            is_rung: AtomicBool::new(false),
+            first: Mutex::new(None),
+            stop: Stop::new(),
+        }
+    }
+
+    /// Keeps the error, if it is the first, and stops every party.
+    pub(crate) fn ring<R: Wait>(&self, rt: &R, error: ShowError) {
+        let mut first = self.first.lock(rt);
+        if first.is_none() {
+            *first = Some(error);
+        }
+        drop(first);
+        self.is_rung.store(true, Ordering::SeqCst);
+        self.stop.ask();
+    }
+
+    /// Whether it was rung.
+    pub(crate) fn is_rung(&self) -> bool {
+        self.is_rung.load(Ordering::SeqCst)
+    }
+
+    /// What asks the nodes to stop.
+    pub(crate) fn stop(&self) -> &Stop {
+        &self.stop
+    }
+
+    /// The first error, if it was rung.
+    pub(crate) fn into_first(self) -> Option<ShowError> {
+        self.first.into_inner()
+    }
+}

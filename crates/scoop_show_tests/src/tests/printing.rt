@@ -1,0 +1,105 @@
+//! The texts of a demo.
+
+use scoop_book::CloseRefusal;
+use scoop_client::ClientError;
+use scoop_message::{Answer, HandlerId};
+use scoop_netloop::{DriverError, ServeEnd};
+use scoop_record::KeeperError;
+use scoop_show::{Outcome, ShowError, Waited, print_outcome};
+use std::alloc::Global;
+use std::process::Abort;
+use std::test::Fail;
+
+// The outcome is printed like this, and the program ends with this status.
+fn prints(
+    rt: &impl Abort,
+    alloc: Global,
+    outcome: &Outcome,
+    text: &[u8],
+    status: u8,
+) -> Result<(), Fail> {
+    let mut output = Vec::new(alloc);
+    print_outcome(outcome, &mut output)?;
+    assert!(rt; output.as_slice() == text);
+    assert_eq!(rt; outcome.status(), status);
+    Ok(())
+}
+
+#[test]
+fn outcomes_are_lines(rt: HostRuntime) -> Result<(), Fail> {
+    let alloc = rt.alloc();
+    let mut outcome = Outcome {
+        waited: None,
+        first: Answer::Value(1),
+        second: Answer::Value(2),
+    };
+    let text = b"cells different\nnode 1 closed\nnode 2 closed\n";
+    prints(&rt, alloc, &outcome, text, 1)?;
+    outcome.waited = Some(Waited::ConditionFailed);
+    outcome.second = Answer::Value(1);
+    let text = b"condition failed\ncells same\nnode 1 closed\nnode 2 closed\n";
+    prints(&rt, alloc, &outcome, text, 1)?;
+    outcome.waited = Some(Waited::Balance(Answer::Value(0)));
+    outcome.first = Answer::Refused;
+    outcome.second = Answer::Refused;
+    let text = b"balance 0\ncells different\nnode 1 closed\nnode 2 closed\n";
+    prints(&rt, alloc, &outcome, text, 1)
+}
+
+fn reads(rt: &impl Abort, alloc: Global, error: ShowError, text: &str) -> Result<(), Fail> {
+    let printed = format!(in alloc; "{error}")?;
+    assert_eq!(rt; printed.as_str(), text);
+    assert_eq!(rt; error.status(), 3);
+    Ok(())
+}
+
+#[test]
+fn errors_are_names(rt: HostRuntime) -> Result<(), Fail> {
+    let alloc = rt.alloc();
+    let not_reserved = DriverError::Client(ClientError::NotReserved(HandlerId(3)));
+    reads(&rt, alloc, ShowError::NoLink, "link: Fault")?;
+    reads(&rt, alloc, ShowError::NoThread, "link: NoThread")?;
+    reads(
+        &rt,
+        alloc,
+        ShowError::from(DriverError::TurnsOver),
+        "link: TurnsOver",
+    )?;
+    reads(
+        &rt,
+        alloc,
+        ShowError::from(not_reserved),
+        "link: NotReserved 3",
+    )?;
+    reads(
+        &rt,
+        alloc,
+        ShowError::from(ServeEnd::HistoryFull),
+        "link: HistoryFull",
+    )?;
+    reads(
+        &rt,
+        alloc,
+        ShowError::from(CloseRefusal::PassDiffers(2)),
+        "link: PassDiffers 2",
+    )?;
+    reads(
+        &rt,
+        alloc,
+        ShowError::from(KeeperError::IncarnationsSpent),
+        "store: IncarnationsSpent",
+    )?;
+    reads(
+        &rt,
+        alloc,
+        ShowError::WrongClass(HandlerId(1)),
+        "store: WrongClass 1",
+    )?;
+    reads(
+        &rt,
+        alloc,
+        ShowError::from(ServeEnd::OutOfMemory),
+        "out of memory",
+    )?;
+    reads(&rt, alloc, ShowError::Write, "write fault")
+}
