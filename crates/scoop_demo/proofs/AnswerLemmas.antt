@@ -12,6 +12,7 @@ use Rattle.scoop_frame.specs.Buffer.{written}
 use Rattle.scoop_frame.specs.Frame.{frame, IsFrame}
 use Rattle.scoop_handler.specs.declared.note.Note.{Note}
 use Rattle.scoop_record.specs.Keeper.{Keeps, Stored, StaysAt, Stays as KeeperStays}
+use Rattle.scoop_record.proofs.Keyed.{by_test}
 use Rattle.scoop_record.proofs.KeeperLemmas.{is_same_same, is_same_more}
 use Rattle.scoop_book.specs.declared.error.BookError.{BookError}
 use Rattle.scoop_book.specs.declared.error.BookError.TheVariants.{UnknownHandler}
@@ -21,7 +22,7 @@ use Rattle.scoop_book.specs.declared.event.Reply.{Reply}
 use Rattle.scoop_book.specs.declared.event.Reply.TheVariants.{Heard}
 use Rattle.scoop_book.specs.Moves.{LocalHandler, Moves, handler_in, number_in, with_handler}
 use Rattle.scoop_book.specs.Books.{BookValue, Gains, KeepsNew}
-use Rattle.scoop_book.proofs.Places.{by_test, key_found}
+use Rattle.scoop_book.proofs.Places.{key_found}
 use Rattle.scoop_netloop.specs.declared.answer.Answered.{Answered}
 use Rattle.scoop_netloop.specs.declared.answer.Answered.TheVariants as answered
 use Rattle.scoop_netloop.specs.Answering.{AnswersDatagram, KeepsAnswered, answered_of, frame_of, runs_after}

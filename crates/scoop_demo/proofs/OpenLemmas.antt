@@ -5,10 +5,11 @@ use Rattle.std.specs.List.{Any}
 use Rattle.scoop_message.specs.declared.name.HandlerId.{HandlerId}
 use Rattle.scoop_object.specs.Class.{ClassTable}
 use Rattle.scoop_record.specs.Keeper.{Stored}
+use Rattle.scoop_record.specs.Keyed.{IsFirstRepeat}
 use Rattle.scoop_record.specs.declared.keeper.KeeperError.TheVariants as keeper
 use Rattle.scoop_book.specs.declared.error.OpenError.{OpenError}
 use Rattle.scoop_book.specs.declared.error.OpenError.TheVariants.{NoPasses, WrongClass, Repeated, Keeper, OutOfMemory}
-use Rattle.scoop_book.specs.Opening.{Handed, IsFirstRepeat, IsFirstWrong, IsLoadRefusal, IsUnloaded, IsUnopened}
+use Rattle.scoop_book.specs.Opening.{Handed, IsFirstWrong, IsLoadRefusal, IsUnloaded, IsUnopened}
 use Rattle.scoop_demo.specs.declared.fault.RunError.{RunError}
 use Rattle.scoop_demo.specs.declared.fault.RunError.TheVariants as run
 use Rattle.scoop_demo.specs.Storing.{FailsToOpen, OpensOne, TellsUnopened}

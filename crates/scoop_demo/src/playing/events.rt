@@ -53,7 +53,7 @@ fn happen(
     picture: &mut Picture,
 ) -> Result<Result<WorldNote, WorldError>, Stop> {
     let outcome = world.step(event);
-    match picture.note(world, event, &outcome) {
+    match picture.note(world, event, outcome) {
         Ok(()) => Ok(outcome),
         Err(OutOfMemory) => Err(Stop::OutOfMemory),
     }

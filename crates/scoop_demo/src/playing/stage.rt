@@ -268,10 +268,7 @@ impl Stage {
         if self.world.is_some() {
             return Ok(());
         }
-        match self.begin(picture) {
-            Ok(()) => self.open(number),
-            Err(_) => Err(RunError::OutOfMemory),
-        }
+        self.open(number, picture)
     }
 
     // The picture begins with the parties that are there.
@@ -284,7 +281,7 @@ impl Stage {
     }
 
     // Opens the world, at the line of this number.
-    fn open(&mut self, number: u32) -> Result<(), RunError>
+    fn open(&mut self, number: u32, picture: &mut Picture) -> Result<(), RunError>
         ensures ok { OnOk result (is_some self.new.world ≡ true) }
         ensures opens { (parties : Parties) (stored : ℕ → Option ℕ)
             → IsWaiting ⟦<Table as Behaviour>⟧.class self.old.placements.items self.old.clients.items (incarnation_at self.old.keeper) parties stored
@@ -293,6 +290,9 @@ impl Stage {
             → IsWaiting ⟦<Table as Behaviour>⟧.class self.old.placements.items self.old.clients.items (incarnation_at self.old.keeper) parties stored
             → IfErr result (StopsOpening number parties stored) }
     {
+        if self.begin(picture).is_err() {
+            return Err(RunError::OutOfMemory);
+        }
         let placements = mem::replace(&mut self.placements, Vec::new(self.alloc));
         let keeper = mem::replace(&mut self.keeper, MemoryKeeper::new(self.alloc));
         match World::open(self.alloc, placements, &self.clients, keeper) {

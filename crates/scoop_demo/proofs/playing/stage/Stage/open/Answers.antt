@@ -2,6 +2,9 @@ use Rattle.scoop_demo.specs.Script.StopsOpening.{of_parties, of_memory}
 use Rattle.scoop_demo.proofs.StagingLemmas.{closed_to, opens_with}
 use Rattle.scoop_demo.proofs.playing.stage.Stage.open.Goals as goal
 
+pub returns-then-is_err-clause-err : goal.returns-then-is_err-clause-err
+returns-then-is_err-clause-err c parties stored w = of_memory
+
 pub returns-in-Ok-clause-opens : goal.returns-in-Ok-clause-opens
 returns-in-Ok-clause-opens c parties stored w =
     opens_with _ _ _ _ parties stored w (rw (c.replace-placements.ensures.value, c.deref.ensures.value) at c.in-Ok.ensures.placed)
