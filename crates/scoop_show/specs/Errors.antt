@@ -12,7 +12,7 @@ use Rattle.scoop_netloop.specs.declared.stop.ServeEnd.TheVariants as served
 use Rattle.scoop_record.specs.declared.keeper.KeeperError.{KeeperError}
 use Rattle.scoop_record.specs.declared.keeper.KeeperError.TheVariants as keeper
 use Rattle.scoop_show.specs.declared.error.ShowError.{ShowError}
-use Rattle.scoop_show.specs.declared.error.ShowError.TheVariants.{NoLink, NoThread, Driver, Loop, NotClosed, WrongClass, Store, OutOfMemory, Write}
+use Rattle.scoop_show.specs.declared.error.ShowError.TheVariants.{NoLink, NoThread, Driver, Loop, NotClosed, Store, OutOfMemory}
 
 -- want of memory is told as such, whoever wants it
 

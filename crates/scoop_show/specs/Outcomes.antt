@@ -1,5 +1,5 @@
 -- What is printed of a demo, and the status with which the program ends.
-use Rattle.std.specs.Prelude.{◌==◌, if◌then◌else◌, ℕ, Bool, true, false, List, [], ◌∷◌, ◌++◌, codes, Option, Some, None}
+use Rattle.std.specs.Prelude.{◌==◌, if◌then◌else◌, ℕ, Bool, false, List, [], ◌∷◌, ◌++◌, codes, Option, Some, None}
 use Rattle.std.specs.Fmt.{decimal}
 use Rattle.scoop_message.specs.Text.{answer_text}
 use Rattle.scoop_message.specs.declared.request.Answer.{Answer}
