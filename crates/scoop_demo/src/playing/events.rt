@@ -49,11 +49,11 @@ pub fn play<W: Write>(
 // One event, which the picture is told.
 fn happen(
     world: &mut World<Table>,
-    event: Event,
+    event: &Event,
     picture: &mut Picture,
 ) -> Result<Result<WorldNote, WorldError>, Stop> {
-    let outcome = world.step(event);
-    match picture.note(world, event, outcome) {
+    let outcome = world.step(*event);
+    match picture.note(world, event, &outcome) {
         Ok(()) => Ok(outcome),
         Err(OutOfMemory) => Err(Stop::OutOfMemory),
     }
@@ -71,7 +71,7 @@ fn step<W: Write>(
         Event::Take(place) => world.sent(place).copied(),
         _ => None,
     };
-    match happen(world, event, picture)? {
+    match happen(world, &event, picture)? {
         Ok(note) => {
             written(Echo::print(echo, subject(taken, &note), writer))?;
             tell(world, &note, writer)
@@ -138,7 +138,7 @@ fn run<W: Write>(
     picture: &mut Picture,
     writer: &mut W,
 ) -> Result<Outcome, Stop> {
-    if let Err(error) = happen(world, Event::Begin(handler), picture)? {
+    if let Err(error) = happen(world, &Event::Begin(handler), picture)? {
         written(Echo::print(echo, Subject::Nothing, writer))?;
         return refuse(error, writer);
     }
@@ -173,7 +173,7 @@ fn send<W: Write>(
     picture: &mut Picture,
     writer: &mut W,
 ) -> Result<Outcome, Stop> {
-    match happen(world, Event::Tick(client, handler), picture)? {
+    match happen(world, &Event::Tick(client, handler), picture)? {
         Ok(note) => {
             let sent = match sent_by(&note) {
                 Some(place) => world.sent(place).copied(),

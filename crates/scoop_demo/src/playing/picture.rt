@@ -72,18 +72,18 @@ impl Picture {
     pub(super) fn note(
         &mut self,
         world: &World<Table>,
-        event: Event,
-        outcome: Result<WorldNote, WorldError>,
+        event: &Event,
+        outcome: &Result<WorldNote, WorldError>,
     ) -> Result<(), OutOfMemory> {
         let Some(chart) = &mut self.chart else {
             return Ok(());
         };
         let mut label = Vec::new(self.alloc);
-        if print_outcome(world, &outcome, &mut label).is_err() {
+        if print_outcome(world, outcome, &mut label).is_err() {
             return Err(OutOfMemory);
         }
         label.pop();
-        match chart.note(&event, &outcome, &label) {
+        match chart.note(event, outcome, &label) {
             Ok(()) => Ok(()),
             Err(ChartError::TooLong) => {
                 self.chart = None;
