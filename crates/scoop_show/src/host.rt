@@ -2,7 +2,7 @@
 
 ghost use Rattle.std.specs.Prelude.{◌≤◌, vec_len, length};
 ghost use Rattle.scoop_message.specs.declared.limits.TheConstants.{MAX_HANDLERS};
-ghost use Rattle.scoop_book.specs.Moves.{NoRepeats};
+ghost use Rattle.scoop_record.specs.Keyed.{NoRepeats};
 ghost use Rattle.scoop_book.specs.Opening.{numbers_of};
 
 use crate::alarm::Alarm;

@@ -1,7 +1,7 @@
 //! A demo from its opening to its end.
 
 ghost use Rattle.std.specs.Prelude.{◌≡◌, ◌≤◌, length, IfOk, is_some};
-ghost use Rattle.scoop_book.specs.Moves.{NoRepeats};
+ghost use Rattle.scoop_record.specs.Keyed.{NoRepeats};
 ghost use Rattle.scoop_book.specs.Opening.{numbers_of};
 ghost use Rattle.scoop_show.specs.Plans.{HaveBegun};
 
