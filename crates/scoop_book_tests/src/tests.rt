@@ -6,8 +6,6 @@ ghost use Rattle.scoop_book.specs.Books.{IsHear};
 mod growths;
 mod limits;
 mod refusing;
-mod stopped;
-mod stored;
 mod threads;
 
 use scoop_book::{Book, Event, OpenError};

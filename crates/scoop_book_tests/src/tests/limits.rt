@@ -8,14 +8,10 @@ use scoop_message::limits::MAX_HISTORY;
 use scoop_object::Table;
 use scoop_record::MemoryKeeper;
 use std::alloc::Global;
-use std::mem::size_of;
 use std::process::Abort;
 use std::test::Fail;
 
 const ONE: HandlerId = HandlerId(1);
-
-// The bytes of an entry, whatever has happened.
-const _: () = prove!(size_of::<(u32, Event, Reply)>() == 560);
 
 /// Whether the handler heard the message.
 fn is_heard(book: &mut Book<Table, MemoryKeeper>, event: Event) -> bool {

@@ -15,7 +15,7 @@ use std::thread::Threads;
 type MemoryNode = Node<Table, MemoryKeeper>;
 
 /// The node hears the message.
-pub fn hears<K: Keeper<Global>, R: Wait>(
+fn hears<K: Keeper<Global>, R: Wait>(
     rt: &R,
     node: &Node<Table, K>,
     pass: &mut Pass,
@@ -55,7 +55,7 @@ fn work<K: Keeper<Global>, R: Wait>(
 }
 
 /// Two threads, each with its pass.
-pub fn both_work<K: Keeper<Global> + Send, R: Threads + Wait + Sync>(
+fn both_work<K: Keeper<Global> + Send, R: Threads + Wait + Sync>(
     rt: &R,
     node: &Node<Table, K>,
     first: Pass,
@@ -68,8 +68,8 @@ pub fn both_work<K: Keeper<Global> + Send, R: Threads + Wait + Sync>(
     )
 }
 
-/// A node of two cells over this keeper, with its passes.
-pub fn opened<K: Keeper<Global>>(
+/// A node of two cells over this keeper, with its passes from the last to the first.
+fn opened<K: Keeper<Global>>(
     alloc: Global,
     keeper: K,
     passes: u32,
