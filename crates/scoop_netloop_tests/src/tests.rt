@@ -5,7 +5,6 @@ mod frames;
 mod gate;
 mod growths;
 mod painting;
-mod refused;
 mod tape;
 mod waits;
 

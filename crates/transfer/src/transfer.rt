@@ -19,6 +19,22 @@ const TO: HandlerId = HandlerId(2);
 
 const BOTH: [HandlerId; 2] = [FROM, TO];
 
+// What an event sent, and its place in the list of sent messages.
+#[derive(Clone, Copy)]
+enum Told {
+    Sent(usize),
+    Replied(usize),
+    Nothing,
+}
+
+fn sent_by(note: &WorldNote) -> Told {
+    match note {
+        WorldNote::Sent(place) => Told::Sent(*place),
+        WorldNote::Handler(_, Some(reply)) => Told::Replied(*reply),
+        _ => Told::Nothing,
+    }
+}
+
 /// Two accounts on two nodes, and a client that pays from the first to the second.
 #[derive(Drop)]
 pub struct Transfer {
@@ -93,10 +109,13 @@ impl Transfer {
     }
 
     // One event, which the chart is told.
-    fn step(&mut self, event: Event) -> Result<WorldNote, TransferError> {
+    fn step(&mut self, event: Event) -> Result<Told, TransferError> {
         let outcome = self.world.step(event);
         self.chart.note(&event, &outcome, b"")?;
-        Ok(outcome?)
+        match outcome {
+            Ok(note) => Ok(sent_by(&note)),
+            Err(error) => Err(TransferError::Event(error)),
+        }
     }
 
     fn tell(&mut self, command: Command) -> Result<(), TransferError> {
@@ -107,7 +126,7 @@ impl Transfer {
     // The client sends what it owes to the handler. The answer is the message's place.
     fn send(&mut self, handler: HandlerId) -> Result<usize, TransferError> {
         match self.step(Event::Tick(CLIENT, handler))? {
-            WorldNote::Sent(place) => Ok(place),
+            Told::Sent(place) => Ok(place),
             _ => Err(TransferError::NothingSent),
         }
     }
@@ -115,7 +134,7 @@ impl Transfer {
     // A message comes to its receiver. The answer is the place of the reply, if it has one.
     fn take(&mut self, place: usize) -> Result<Option<usize>, TransferError> {
         match self.step(Event::Take(place))? {
-            WorldNote::Handler(_, reply) => Ok(reply),
+            Told::Replied(place) => Ok(Some(place)),
             _ => Ok(None),
         }
     }

@@ -1,9 +1,11 @@
 //! Two handlers that run side by side, over UDP.
 
+ghost use Rattle.std.specs.Prelude.{◌≤◌, vec_len};
+
 use super::accounts::{BALANCE, node};
 use super::frames::{FIRST, deposit, feed, first_messages, sends};
 use super::{EIGHT, ONE, SEVEN, TWO, client, request};
-use scoop_book::Reply;
+use scoop_book::{Pass, Reply};
 use scoop_client::Client;
 use scoop_link::{Link, PacedLink, Party, Peers, TapeLink, UdpLink};
 use scoop_message::{Answer, HandlerId, Message, Request};
@@ -81,6 +83,13 @@ fn open<R: Net>(rt: &R, alloc: Global, own: u16, table: &[(Party, u16)]) -> Resu
     Ok(UdpLink::open(rt, alloc, Peers { own, table })?)
 }
 
+// Passes enough for a loop.
+#[derive(Drop)]
+struct Passes {
+    list: Vec<Pass>,
+    ghost enough: { 2 ≤ vec_len list },
+}
+
 /// Client 7 asks handler 1, which is held at the gate until client 8 has its answer from handler 2.
 fn one_is_held<R, L, M>(rt: &R, alloc: Global, link: &mut L, first: M, second: M, gate: &Held)
 where
@@ -94,9 +103,10 @@ where
     let eight = client(rt, alloc, EIGHT, TWO);
     let balance = request(rt, BALANCE, 0);
     assert!(rt; passes.len() == 3);
+    let passes = Passes { list: passes };
     let ((end, passes), (one, two)) = thread::join(
         rt,
-        || serve(rt, alloc, &node, link, passes, gate, &stop, 100_000),
+        || serve(rt, alloc, &node, link, passes.list, gate, &stop, 100_000),
         || {
             let answers = thread::join(
                 rt,
