@@ -1,9 +1,8 @@
 //! `scoop answer`: one handler, and the datagrams of standard input.
 
-ghost use Rattle.std.specs.Prelude.{◌≡◌, ◌∷◌, [], IfOk, IfErr};
+ghost use Rattle.std.specs.Prelude.{◌≡◌, ◌∷◌, [], IfOk};
 ghost use Rattle.scoop_book.specs.Opening.{AllOpen};
 ghost use Rattle.scoop_demo.specs.Classes.{table_of};
-ghost use Rattle.scoop_demo.specs.Storing.{FailsToOpen};
 
 use crate::failure::Failure;
 use crate::storing::{FiledStore, adopt, close, create};
@@ -149,8 +148,7 @@ fn answer_lines<B: Behaviour, K: Keeper<Global>, R: Input + Print + AllocGlobal>
     Ok(())
 }
 
-// The book of the handler over what the keeper has for it, with an object of the class. As the object has the
-// class, `WrongClass` comes only where the stored words are not as many as the class has.
+// The book of the handler over what the keeper has for it, with an object of the class. Refused as `open_book` is.
 fn open_with<B: Behaviour, K: Keeper<Global>>(
     alloc: Global,
     keeper: K,
@@ -159,8 +157,7 @@ fn open_with<B: Behaviour, K: Keeper<Global>>(
     object: B,
 ) -> Result<Book<B, K>, RunError>
     requires { table_of class ≡ B.class object }
-    ensures opens { IfOk result (λ b. AllOpen B.words (K.handlers keeper) (K.is_honest b.keeper) ((number, B.class object, object) ∷ []) b.opening) }
-    ensures fails { IfErr result (FailsToOpen (K.handlers keeper) ((k : K) → K.is_honest k) number (B.class object) (B.class object)) }
+    ensures { IfOk result (λ b. AllOpen B.words (K.handlers keeper) (K.is_honest b.keeper) ((number, B.class object, object) ∷ []) b.opening) }
 {
     let class = class.class(alloc)?;
     open_book(alloc, keeper, number, class, object)
