@@ -5,11 +5,12 @@ ghost use Rattle.std.specs.Prelude.{◌≤◌, vec_len};
 use super::accounts::{BALANCE, node};
 use super::frames::{FIRST, deposit, feed, first_messages, sends};
 use super::{EIGHT, ONE, SEVEN, TWO, client, request};
-use scoop_book::{Pass, Reply};
+use scoop_book::{Node, Pass, Reply};
 use scoop_client::Client;
 use scoop_link::{Link, PacedLink, Party, Peers, TapeLink, UdpLink};
 use scoop_message::{Answer, HandlerId, Message, Request};
 use scoop_netloop::{Driver, DriverError, Gate, OpenGate, ServeEnd, Stop, serve};
+use scoop_object::Table;
 use scoop_record::MemoryKeeper;
 use scoop_seal::{Key, SealedLink};
 use std::alloc::Global;
@@ -90,6 +91,22 @@ struct Passes {
     ghost enough: { 2 ≤ vec_len list },
 }
 
+fn serves<R, L>(
+    rt: &R,
+    alloc: Global,
+    node: &Node<Table, MemoryKeeper>,
+    link: &mut L,
+    passes: Passes,
+    gate: &Held,
+    stop: &Stop,
+) -> (ServeEnd, Vec<Pass>)
+where
+    R: Threads + Wait + Clock + Sync,
+    L: Link + Send,
+{
+    serve(rt, alloc, node, link, passes.list, gate, stop, 100_000)
+}
+
 /// Client 7 asks handler 1, which is held at the gate until client 8 has its answer from handler 2.
 fn one_is_held<R, L, M>(rt: &R, alloc: Global, link: &mut L, first: M, second: M, gate: &Held)
 where
@@ -106,7 +123,7 @@ where
     let passes = Passes { list: passes };
     let ((end, passes), (one, two)) = thread::join(
         rt,
-        || serve(rt, alloc, &node, link, passes.list, gate, &stop, 100_000),
+        || serves(rt, alloc, &node, link, passes, gate, &stop),
         || {
             let answers = thread::join(
                 rt,
