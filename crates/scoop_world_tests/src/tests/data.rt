@@ -120,7 +120,7 @@ fn refusals_are_printed(rt: HostRuntime) -> Result<(), Fail> {
         (WorldOpenError::TooManyClients, "TooManyClients"),
         (WorldOpenError::RepeatedClient(SEVEN), "RepeatedClient"),
         (WorldOpenError::IncarnationsSpent, "IncarnationsSpent"),
-        (WorldOpenError::OutOfMemory, "OutOfMemory"),
+        (WorldOpenError::OutOfMemory, "out of memory"),
     ];
     for (refusal, text) in refusals {
         assert_eq!(rt; format!(in rt.alloc(); "{refusal}")?.as_str(), text);
