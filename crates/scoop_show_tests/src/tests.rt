@@ -1,5 +1,7 @@
 //! Demos over UDP, with objects of types of their own.
 
+ghost use Rattle.std.specs.Prelude.{◌<◌};
+
 mod printing;
 
 use scoop_demo::{AccountObject, CellObject, DemoClass};
