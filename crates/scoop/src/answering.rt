@@ -2,19 +2,17 @@
 
 ghost use Rattle.std.specs.Prelude.{◌≡◌, ◌∷◌, [], IfOk};
 ghost use Rattle.scoop_book.specs.Opening.{AllOpen};
-ghost use Rattle.scoop_demo.specs.Classes.{table_of};
+ghost use Rattle.scoop_classes.specs.Classes.{table_of};
 
 use crate::failure::Failure;
 use crate::storing::{FiledStore, adopt, close, create};
 use clap::ArgMatches;
 use scoop_book::Book;
-use scoop_demo::{
-    AccountObject, CellObject, CounterObject, DemoClass, ExchangeObject, RunError, answer_run,
-    open_book,
-};
+use scoop_classes::{AccountObject, CellObject, CounterObject, DemoClass, ExchangeObject};
+use scoop_demo::{RunError, answer_run, open_book};
+use scoop_keeper::{Keeper, MemoryKeeper};
 use scoop_message::{HandlerId, OutOfMemory};
 use scoop_object::{Behaviour, Boxed};
-use scoop_record::{Keeper, MemoryKeeper};
 use std::alloc::Global;
 use std::io;
 use std::io::BufWriter;

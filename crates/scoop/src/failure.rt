@@ -3,8 +3,8 @@
 use clap::Error;
 use clap::error::ErrorKind;
 use scoop_demo::{RunError, WordsError};
+use scoop_keeper::KeeperError;
 use scoop_message::OutOfMemory;
-use scoop_record::KeeperError;
 use scoop_show::ShowError;
 use std::alloc::{AllocError, AllocFailed};
 

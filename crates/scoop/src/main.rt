@@ -2,7 +2,7 @@
 #![tactic(auto)]
 
 mod answering;
-mod command_line;
+mod arguments;
 mod failure;
 mod framing;
 mod playing;
@@ -10,11 +10,13 @@ mod showing;
 mod storing;
 
 use answering::answer;
-use command_line::{command, words};
+use arguments::words;
+use clap::ArgMatches;
 use failure::Failure;
 use framing::frame;
 use playing::play;
-use scoop_demo::DemoClass;
+use scoop_classes::DemoClass;
+use scoop_command_line::command;
 use showing::demonstrate;
 use std::net::Net;
 use std::process::ExitCode;
@@ -38,6 +40,16 @@ fn scoop<T: Threads + Wait + Clock + Net + Sync>(
     let words = words(rt)?;
     let class_names = DemoClass::names();
     let matches = command(rt.alloc(), &class_names)?.try_get_matches_from(words.as_slice())?;
+    run(rt, threads, &matches)
+}
+
+// Runs the subcommand that was given. What it was found in is lent, so that no way out of here has it to drop: the proof
+// of each would follow all that the command line holds.
+fn run<T: Threads + Wait + Clock + Net + Sync>(
+    rt: &HostRuntime,
+    threads: &T,
+    matches: &ArgMatches<'_>,
+) -> Result<u8, Failure> {
     match matches.subcommand() {
         Some(("answer", given)) => answer(rt, given)?,
         Some(("world", given)) => play(rt, given)?,

@@ -3,8 +3,8 @@
 use crate::failure::Failure;
 use clap::ArgMatches;
 use scoop_demo::{Picture, PlayOptions, world_run_charted};
+use scoop_keeper::MemoryKeeper;
 use scoop_message::OutOfMemory;
-use scoop_record::MemoryKeeper;
 use std::fs::File;
 use std::io;
 use std::io::{BufWriter, Write};
@@ -14,6 +14,7 @@ pub fn play(rt: &HostRuntime, given: &ArgMatches<'_>) -> Result<(), Failure> {
     let options = PlayOptions {
         echoes: given.get_flag("echo"),
         is_strict: given.get_flag("strict"),
+        settles: given.get_flag("settle"),
     };
     let keeper = MemoryKeeper::new(rt.alloc());
     let mut output = BufWriter::new(rt.alloc(), io::writer(rt)).map_err(|_| OutOfMemory)?;

@@ -2,10 +2,10 @@
 
 use crate::failure::Failure;
 use clap::ArgMatches;
-use scoop_demo::{AccountObject, CellObject, DemoClass};
+use scoop_classes::{AccountObject, CellObject, DemoClass};
+use scoop_keeper::MemoryKeeper;
 use scoop_message::OutOfMemory;
 use scoop_object::{Behaviour, Boxed};
-use scoop_record::MemoryKeeper;
 use scoop_show::{Objects, PORTS, Plan, demo_run};
 use std::alloc::Global;
 use std::io;
@@ -35,6 +35,7 @@ pub fn demonstrate<T: Threads + Wait + Clock + Net + Sync>(
         rounds: given.get_one::<u64>("rounds").unwrap_or(5),
         turns: given.get_one::<u64>("turns").unwrap_or(100_000),
         ports: PORTS,
+        weaves: given.get_flag("weave"),
     };
     let objects = with_classes(alloc, first, second, account)?;
     demonstrate_with(rt, threads, &plan, objects)

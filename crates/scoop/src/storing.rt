@@ -1,6 +1,7 @@
 //! Stores that are in files.
 
-use scoop_record::{KeeperError, Store};
+use scoop_keeper::KeeperError;
+use scoop_record::Store;
 use sqlite::{Connection, Error, ErrorCode, File, FileStore};
 use std::fs;
 

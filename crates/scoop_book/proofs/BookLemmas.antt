@@ -14,17 +14,18 @@ use Rattle.scoop_handler.specs.Running.{Task, after, job_out, ran_of}
 use Rattle.scoop_handler.specs.Hearing.{hear}
 use Rattle.scoop_handler.proofs.TableRows.{row}
 use Rattle.scoop_handler.proofs.TableLaws.{number-row}
-use Rattle.scoop_record.specs.declared.keeper.KeeperError.{KeeperError}
-use Rattle.scoop_record.specs.Keeper.{Stored, Holds, stored_of, Keeps, Stays}
+use Rattle.scoop_keeper.specs.declared.keeper.KeeperError.{KeeperError}
+use Rattle.scoop_keeper.specs.Keeper.{Stored, Holds, stored_of, Keeps, Stays}
 use Rattle.scoop_book.specs.declared.event.Event.{Event}
 use Rattle.scoop_book.specs.declared.event.Event.TheVariants.{Hear, Begin, Finish}
 use Rattle.scoop_book.specs.declared.event.Reply.{Reply}
 use Rattle.scoop_book.specs.declared.event.Reply.TheVariants.{Heard, Began, Finished}
-use Rattle.scoop_record.specs.Keyed.{IsFirst, NoRepeats}
-use Rattle.scoop_record.proofs.Keyed.{all_newer, all_set_at, item_at, key_at, put_again, set_newer, some_at}
+use Rattle.scoop_message.specs.Lists.{NoRepeats}
+use Rattle.scoop_keeper.specs.Keyed.{IsFirst}
+use Rattle.scoop_keeper.proofs.Keyed.{all_newer, all_set_at, item_at, key_at, put_again, set_newer, some_at}
 use Rattle.scoop_book.specs.Moves.{LocalHandler, Entry, number_in, is_handler, handler_in, with_handler, handler_at, after_hearing, after_finish, HandlerMoves, Moves, Replays}
-use Rattle.scoop_record.specs.declared.running.JobRefusal.{JobRefusal}
-use Rattle.scoop_record.specs.declared.running.JobRefusal.TheVariants as jobs
+use Rattle.scoop_keeper.specs.declared.running.JobRefusal.{JobRefusal}
+use Rattle.scoop_keeper.specs.declared.running.JobRefusal.TheVariants as jobs
 use Rattle.scoop_book.specs.declared.error.BookError.{BookError}
 use Rattle.scoop_book.specs.declared.error.BookError.TheVariants.{StoreRefused, OutOfMemory}
 use Rattle.scoop_book.specs.declared.error.FinishRefusal.{FinishRefusal}
@@ -34,7 +35,8 @@ use Rattle.scoop_book.specs.Kept.{IsHeld, HandlersValue, handlers_kept, book_kep
 use Rattle.scoop_book.proofs.Places.{key_found, own_found, all_at}
 
 -- a replay goes on by a move
-pub replays_more : (hs : List LocalHandler) (es : List Entry) (e : Entry) (ks ls : List LocalHandler) → Replays hs es ks → Moves e.1 e.2 ks ls → Replays hs (es ++ e ∷ []) ls
+pub replays_more : (hs : List LocalHandler) (es : List Entry) (e : Entry) (ks ls : List LocalHandler) → Replays hs es ks → Moves e.1 e.2 ks ls
+    → Replays hs (es ++ e ∷ []) ls
 replays_more hs [] e ks ls is moves = (ls, subst (λ (xs : List LocalHandler). Moves e.1 e.2 xs ls) (sym is) moves, refl)
 replays_more hs (x ∷ xs) e ks ls is moves = (is.0, is.1, replays_more is.0 xs e ks ls is.2 moves)
 
@@ -50,14 +52,16 @@ moved_number (Finish h) (Heard told) s t moves = absurd moves
 moved_number (Finish h) (Began told) s t moves = absurd moves
 moved_number (Finish h) (Finished ran) s t moves = ap number_in moves.after
 
-numbers_stay : (hs : List LocalHandler) (i : ℕ) (old new : LocalHandler) → slice_get hs i ≡ Some old → number_in new ≡ number_in old → map number_in (set hs i new) ≡ map number_in hs
+numbers_stay : (hs : List LocalHandler) (i : ℕ) (old new : LocalHandler) → slice_get hs i ≡ Some old → number_in new ≡ number_in old
+    → map number_in (set hs i new) ≡ map number_in hs
 numbers_stay [] i old new at same = absurd (cc)
 numbers_stay (h ∷ hs) zero old new at same = let is : h ≡ old = cc in ap (λ n. n ∷ map number_in hs) (same ∙ ap number_in (sym is))
 numbers_stay (h ∷ hs) (suc i) old new at same = ap (λ ns. number_in h ∷ ns) (numbers_stay hs i old new at same)
 
 -- the handler at this place moves
 module _ (hs : List LocalHandler) (i : ℕ) (old new : LocalHandler) (event : Event) (reply : Reply)
-    (apart : NoRepeats (map number_in hs)) (first : IsFirst (is_handler (handler_at event)) hs i) (is : old ≡ get_or hs i old) (moves : HandlerMoves event reply old new) where
+    (apart : NoRepeats (map number_in hs)) (first : IsFirst (is_handler (handler_at event)) hs i) (is : old ≡ get_or hs i old)
+    (moves : HandlerMoves event reply old new) where
   at : slice_get hs i ≡ Some old
   at = item_at hs i old first.within is
 
@@ -74,11 +78,15 @@ module _ (hs : List LocalHandler) (i : ℕ) (old new : LocalHandler) (event : Ev
   apart_still = subst NoRepeats (sym (numbers_stay hs i old new at same_number)) apart
 
   -- what the keeper has, once the new state is put
-  kept_put : (has now : ℕ → Stored → Type 0) (t : HandlerState) → new.stored ≡ Some t → t.number ≡ number_in new → Keeps has now t → AllByRecursion (HasStored has) hs → AllByRecursion (HasStored now) (set hs i new)
+  kept_put : (has now : ℕ → Stored → Type 0) (t : HandlerState) → new.stored ≡ Some t → t.number ≡ number_in new → Keeps has now t
+      → AllByRecursion (HasStored has) hs → AllByRecursion (HasStored now) (set hs i new)
   kept_put has now t stored own keeps all =
       subst (AllByRecursion (HasStored now)) (sym newer_is)
       (all_newer number_in same_handler handler_decides (HasStored has) (HasStored now) new hs
-      (record { has_stored = subst (λ (o : Option HandlerState). now (number_in new).0 (stored_of o)) (sym stored) (subst (λ (h : HandlerId). now h.0 (Holds t)) own keeps.there) })
+      (record {
+        has_stored = subst (λ (o : Option HandlerState). now (number_in new).0 (stored_of o)) (sym stored)
+            (subst (λ (h : HandlerId). now h.0 (Holds t)) own keeps.there);
+      })
       (λ x other was.
       let off : (number_in x).0 ≡ t.number.0 → ⊥ = λ e. apart_by x other (e ∙ ap (λ (h : HandlerId). h.0) own) in
       record { has_stored = (keeps.others (number_in x).0 off (stored_of x.stored)).0 was.has_stored })
@@ -93,10 +101,14 @@ module _ (hs : List LocalHandler) (i : ℕ) (old new : LocalHandler) (event : Ev
   kept_same : (has : ℕ → Stored → Type 0) → new.stored ≡ old.stored → AllByRecursion (HasStored has) hs → AllByRecursion (HasStored has) (set hs i new)
   kept_same has stored all =
       all_set_at (HasStored has) hs i new all
-      (record { has_stored = subst (λ (o : Option HandlerState). has (number_in new).0 (stored_of o)) (sym stored) (subst (λ (h : HandlerId). has h.0 (stored_of old.stored)) (sym same_number) (all_at (HasStored has) hs i old at all).has_stored) })
+      (record {
+        has_stored = subst (λ (o : Option HandlerState). has (number_in new).0 (stored_of o)) (sym stored)
+            (subst (λ (h : HandlerId). has h.0 (stored_of old.stored)) (sym same_number) (all_at (HasStored has) hs i old at all).has_stored);
+      })
 
   module _ {K : Type 0} (has : K → ℕ → Stored → Type 0) (is_honest : K → Type 0) (k l : K) (kept : is_honest k → AllByRecursion (HasStored (has k)) hs) where
-    pub held_put : (t : HandlerState) → new.stored ≡ Some t → t.number ≡ number_in new → (is_honest l → is_honest k) → (is_honest l → Keeps (has k) (has l) t) → IsHeld has is_honest (handlers_kept (set hs i new) l)
+    pub held_put : (t : HandlerState) → new.stored ≡ Some t → t.number ≡ number_in new → (is_honest l → is_honest k) → (is_honest l → Keeps (has k) (has l) t)
+        → IsHeld has is_honest (handlers_kept (set hs i new) l)
     held_put t stored own honest keeps = record { apart = apart_still; kept = λ h. kept_put (has k) (has l) t stored own (keeps h) (kept (honest h)) }
 
     pub held_left : new.stored ≡ old.stored → IsHeld has is_honest (handlers_kept (set hs i new) k)
@@ -105,7 +117,8 @@ module _ (hs : List LocalHandler) (i : ℕ) (old new : LocalHandler) (event : Ev
   -- the event's handler is found, as it is now
   new_found : handler_in (handler_at event) (set hs i new) ≡ Some new
   new_found =
-      let named : number_in new ≡ handler_at event = same_number ∙ key_found number_in same_handler handler_decides (handler_at event) hs old (first.found ∙ at) in
+      let named : number_in new ≡ handler_at event = same_number
+      ∙ key_found number_in same_handler handler_decides (handler_at event) hs old (first.found ∙ at) in
       let was : handler_in (number_in new) hs ≡ Some old = ap (λ (h : HandlerId). handler_in h hs) named ∙ first.found ∙ at in
       ap (handler_in (handler_at event)) newer_is
       ∙ ap (λ (h : HandlerId). handler_in h (with_handler new hs)) (sym named)
@@ -116,12 +129,20 @@ module _ (hs : List LocalHandler) (i : ℕ) (old new : LocalHandler) (event : Ev
       subst (λ (o : Option LocalHandler). IfSome o (λ s. Keeps has now s.core.state)) (sym new_found) keeps
 
 -- a keeper that has what it had
-pub kept_stays : (has now : ℕ → Stored → Type 0) (hs : List LocalHandler) → Stays has now → AllByRecursion (HasStored has) hs → AllByRecursion (HasStored now) hs
+pub kept_stays : (has now : ℕ → Stored → Type 0) (hs : List LocalHandler) → Stays has now → AllByRecursion (HasStored has) hs
+    → AllByRecursion (HasStored now) hs
 kept_stays has now [] stays all = tt
-kept_stays has now (h ∷ hs) stays all = (record { has_stored = (stays.each (number_in h).0 (stored_of h.stored)).0 all.0.has_stored }, kept_stays has now hs stays all.1)
+kept_stays has now (h ∷ hs) stays all = (
+  record {
+    has_stored =
+        (stays.each (number_in h).0 (stored_of h.stored)).0 all.0.has_stored;
+  },
+  kept_stays has now hs stays all.1,
+)
 
 pub held_refused : {K : Type 0} (has : K → ℕ → Stored → Type 0) (is_honest : K → Type 0) (hs ks : List LocalHandler) (k l : K)
-    → IsHeld has is_honest (handlers_kept hs k) → ks ≡ hs → (is_honest l → is_honest k) → (is_honest l → Stays (has k) (has l)) → IsHeld has is_honest (handlers_kept ks l)
+    → IsHeld has is_honest (handlers_kept hs k) → ks ≡ hs → (is_honest l → is_honest k) → (is_honest l → Stays (has k) (has l))
+    → IsHeld has is_honest (handlers_kept ks l)
 held_refused has is_honest hs ks k l held same honest stays =
     subst (λ (xs : List LocalHandler). IsHeld has is_honest (handlers_kept xs l)) (sym same)
     (record { apart = held.apart; kept = λ h. kept_stays (has k) (has l) hs (stays h) (held.kept (honest h)) })
@@ -132,7 +153,8 @@ if_read P xs i x within is p = subst (λ o. IfSome o P) (sym (item_at xs i x wit
 
 -- ---- one call on a handler, among those of a book
 
-module _ {K : Type 0} (has : K → ℕ → Stored → Type 0) (is_honest : K → Type 0) (hs : List LocalHandler) (k : K) (v : HandlersValue K) (view : handlers_kept hs k ≡ v) (h : HandlerId) (i : ℕ) (old : LocalHandler)
+module _ {K : Type 0} (has : K → ℕ → Stored → Type 0) (is_honest : K → Type 0) (hs : List LocalHandler) (k : K) (v : HandlersValue K)
+    (view : handlers_kept hs k ≡ v) (h : HandlerId) (i : ℕ) (old : LocalHandler)
     (first : IsFirst (is_handler h) v.handlers i) (is : old ≡ get_or hs i old) where
   first_here : IsFirst (is_handler h) hs i
   first_here = subst (λ (w : HandlersValue K). IsFirst (is_handler h) w.handlers i) (sym view) first
@@ -152,20 +174,25 @@ module _ {K : Type 0} (has : K → ℕ → Stored → Type 0) (is_honest : K →
       first_event = subst (λ (x : HandlerId). IsFirst (is_handler x) hs i) (sym at_h) first_here
 
       pub call_moves : Moves event reply v.handlers (set hs i new)
-      call_moves = subst (λ (w : HandlersValue K). Moves event reply w.handlers (set hs i new)) view (moves_at hs i old new event reply held_here.apart first_event is moves)
+      call_moves = subst (λ (w : HandlersValue K). Moves event reply w.handlers (set hs i new)) view
+          (moves_at hs i old new event reply held_here.apart first_event is moves)
 
       pub call_left : new.stored ≡ old.stored → IsHeld has is_honest (handlers_kept (set hs i new) k)
       call_left stored = held_left hs i old new event reply held_here.apart first_event is moves has is_honest k k held_here.kept stored
 
-      pub call_put : (l : K) (t : HandlerState) → new.stored ≡ Some t → t.number ≡ number_in new → (is_honest l → is_honest k) → (is_honest l → Keeps (has k) (has l) t) → IsHeld has is_honest (handlers_kept (set hs i new) l)
-      call_put l t stored own honest keeps = held_put hs i old new event reply held_here.apart first_event is moves has is_honest k l held_here.kept t stored own honest keeps
+      pub call_put : (l : K) (t : HandlerState) → new.stored ≡ Some t → t.number ≡ number_in new → (is_honest l → is_honest k)
+          → (is_honest l → Keeps (has k) (has l) t) → IsHeld has is_honest (handlers_kept (set hs i new) l)
+      call_put l t stored own honest keeps = held_put hs i old new event reply held_here.apart first_event is moves has is_honest k l held_here.kept t stored
+          own honest keeps
 
       pub call_keeps : (l : K) → Keeps (has k) (has l) new.core.state → KeepsNew h (set hs i new) (has v.keeper) (has l)
       call_keeps l keeps =
           subst (λ (w : HandlersValue K). KeepsNew h (set hs i new) (has w.keeper) (has l)) view
-          (subst (λ (x : HandlerId). KeepsNew x (set hs i new) (has k) (has l)) at_h (keeps_new hs i old new event reply held_here.apart first_event is moves (has k) (has l) keeps))
+          (subst (λ (x : HandlerId). KeepsNew x (set hs i new) (has k) (has l)) at_h
+          (keeps_new hs i old new event reply held_here.apart first_event is moves (has k) (has l) keeps))
 
-    pub call_refused : (l : K) (new : LocalHandler) → new ≡ old → (is_honest l → is_honest k) → (is_honest l → Stays (has k) (has l)) → IsHeld has is_honest (handlers_kept (set hs i new) l)
+    pub call_refused : (l : K) (new : LocalHandler) → new ≡ old → (is_honest l → is_honest k) → (is_honest l → Stays (has k) (has l))
+        → IsHeld has is_honest (handlers_kept (set hs i new) l)
     call_refused l new same honest stays = held_refused has is_honest hs (set hs i new) k l held_here (put_back new same) honest stays
 
     -- what the handler had stored
@@ -178,23 +205,29 @@ module _ {K : Type 0} (has : K → ℕ → Stored → Type 0) (is_honest : K →
       pub heard_moves : IfOk r (λ told. Moves (Hear m) (Heard told) v.handlers (set hs i new))
       heard_moves = by r heard moved
         where
-          by : (q : Result Note KeeperError) → IfOk q (λ told. told ≡ (hear old.core.state m).1) → OnOk q (new ≡ after_hearing (hear old.core.state m).0 old) → IfOk q (λ told. Moves (Hear m) (Heard told) v.handlers (set hs i new))
+          by : (q : Result Note KeeperError) → IfOk q (λ told. told ≡ (hear old.core.state m).1) → OnOk q (new ≡ after_hearing (hear old.core.state m).0 old)
+              → IfOk q (λ told. Moves (Hear m) (Heard told) v.handlers (set hs i new))
           by (Ok told) tells after = call_moves new (Hear m) (Heard told) at_h (record { tells = tells; after = after })
           by (Err e) tells after = tt
 
-      pub heard_held : OnErr r (new ≡ old) → (is_honest l → is_honest k) → (is_honest l → OnOk r (Keeps (has k) (has l) (hear old.core.state m).0)) → (is_honest l → OnErr r (Stays (has k) (has l))) → IsHeld has is_honest (handlers_kept (set hs i new) l)
+      pub heard_held : OnErr r (new ≡ old) → (is_honest l → is_honest k) → (is_honest l → OnOk r (Keeps (has k) (has l) (hear old.core.state m).0))
+          → (is_honest l → OnErr r (Stays (has k) (has l))) → IsHeld has is_honest (handlers_kept (set hs i new) l)
       heard_held same honest keeps stays = by r heard moved same keeps stays
         where
-          by : (q : Result Note KeeperError) → IfOk q (λ told. told ≡ (hear old.core.state m).1) → OnOk q (new ≡ after_hearing (hear old.core.state m).0 old) → OnErr q (new ≡ old)
-              → (is_honest l → OnOk q (Keeps (has k) (has l) (hear old.core.state m).0)) → (is_honest l → OnErr q (Stays (has k) (has l))) → IsHeld has is_honest (handlers_kept (set hs i new) l)
+          by : (q : Result Note KeeperError) → IfOk q (λ told. told ≡ (hear old.core.state m).1) → OnOk q (new ≡ after_hearing (hear old.core.state m).0 old)
+              → OnErr q (new ≡ old)
+              → (is_honest l → OnOk q (Keeps (has k) (has l) (hear old.core.state m).0)) → (is_honest l → OnErr q (Stays (has k) (has l)))
+              → IsHeld has is_honest (handlers_kept (set hs i new) l)
           by (Ok told) tells after same keeps stays =
-              call_put new (Hear m) (Heard told) at_h (record { tells = tells; after = after }) l (hear old.core.state m).0 (ap (λ (s : LocalHandler). s.stored) after) (sym (ap number_in after)) honest keeps
+              call_put new (Hear m) (Heard told) at_h (record { tells = tells; after = after }) l (hear old.core.state m).0
+              (ap (λ (s : LocalHandler). s.stored) after) (sym (ap number_in after)) honest keeps
           by (Err e) tells after same keeps stays = call_refused l new same honest stays
 
       pub heard_keeps : OnOk r (Keeps (has k) (has l) (hear old.core.state m).0) → OnOk r (KeepsNew h (set hs i new) (has v.keeper) (has l))
       heard_keeps keeps = by r heard moved keeps
         where
-          by : (q : Result Note KeeperError) → IfOk q (λ told. told ≡ (hear old.core.state m).1) → OnOk q (new ≡ after_hearing (hear old.core.state m).0 old) → OnOk q (Keeps (has k) (has l) (hear old.core.state m).0) → OnOk q (KeepsNew h (set hs i new) (has v.keeper) (has l))
+          by : (q : Result Note KeeperError) → IfOk q (λ told. told ≡ (hear old.core.state m).1) → OnOk q (new ≡ after_hearing (hear old.core.state m).0 old)
+              → OnOk q (Keeps (has k) (has l) (hear old.core.state m).0) → OnOk q (KeepsNew h (set hs i new) (has v.keeper) (has l))
           by (Ok told) tells after keeps =
               call_keeps new (Hear m) (Heard told) at_h (record { tells = tells; after = after }) l
               (subst (λ (s : LocalHandler). Keeps (has k) (has l) s.core.state) (sym after) keeps)
@@ -203,47 +236,57 @@ module _ {K : Type 0} (has : K → ℕ → Stored → Type 0) (is_honest : K →
     -- a job that is finished, or refused
     module _ {E : Type 0} (done : Task) (at_h : done.handler ≡ h) (new : LocalHandler) (l : K) (r : Result Ran E)
         (ran : IfOk r (λ x. x ≡ ran_of done)) (out : OnOk r (job_out old.core ≡ Some done)) (moved : OnOk r (new ≡ after_finish done old)) where
-      finishes : (x : Ran) → x ≡ ran_of done → job_out old.core ≡ Some done → new ≡ after_finish done old → HandlerMoves (Finish done.handler) (Finished x) old new
+      finishes : (x : Ran) → x ≡ ran_of done → job_out old.core ≡ Some done → new ≡ after_finish done old
+          → HandlerMoves (Finish done.handler) (Finished x) old new
       finishes x tells here after = record { task = done; out = here; tells = tells; after = after }
 
       pub finished_moves : IfOk r (λ x. Moves (Finish done.handler) (Finished x) v.handlers (set hs i new))
       finished_moves = by r ran out moved
         where
-          by : (q : Result Ran E) → IfOk q (λ x. x ≡ ran_of done) → OnOk q (job_out old.core ≡ Some done) → OnOk q (new ≡ after_finish done old) → IfOk q (λ x. Moves (Finish done.handler) (Finished x) v.handlers (set hs i new))
+          by : (q : Result Ran E) → IfOk q (λ x. x ≡ ran_of done) → OnOk q (job_out old.core ≡ Some done) → OnOk q (new ≡ after_finish done old)
+              → IfOk q (λ x. Moves (Finish done.handler) (Finished x) v.handlers (set hs i new))
           by (Ok x) tells here after = call_moves new (Finish done.handler) (Finished x) at_h (finishes x tells here after)
           by (Err e) tells here after = tt
 
-      pub finished_held : OnErr r (new ≡ old) → (is_honest l → is_honest k) → (is_honest l → OnOk r (Keeps (has k) (has l) (after done old.core.state))) → (is_honest l → OnErr r (Stays (has k) (has l))) → IsHeld has is_honest (handlers_kept (set hs i new) l)
+      pub finished_held : OnErr r (new ≡ old) → (is_honest l → is_honest k) → (is_honest l → OnOk r (Keeps (has k) (has l) (after done old.core.state)))
+          → (is_honest l → OnErr r (Stays (has k) (has l))) → IsHeld has is_honest (handlers_kept (set hs i new) l)
       finished_held same honest keeps stays = by r ran out moved same keeps stays
         where
-          by : (q : Result Ran E) → IfOk q (λ x. x ≡ ran_of done) → OnOk q (job_out old.core ≡ Some done) → OnOk q (new ≡ after_finish done old) → OnErr q (new ≡ old)
-              → (is_honest l → OnOk q (Keeps (has k) (has l) (after done old.core.state))) → (is_honest l → OnErr q (Stays (has k) (has l))) → IsHeld has is_honest (handlers_kept (set hs i new) l)
+          by : (q : Result Ran E) → IfOk q (λ x. x ≡ ran_of done) → OnOk q (job_out old.core ≡ Some done) → OnOk q (new ≡ after_finish done old)
+              → OnErr q (new ≡ old)
+              → (is_honest l → OnOk q (Keeps (has k) (has l) (after done old.core.state))) → (is_honest l → OnErr q (Stays (has k) (has l)))
+              → IsHeld has is_honest (handlers_kept (set hs i new) l)
           by (Ok x) tells here moves same keeps stays =
-              call_put new (Finish done.handler) (Finished x) at_h (finishes x tells here moves) l (after done old.core.state) (ap (λ (s : LocalHandler). s.stored) moves) (sym (ap number_in moves)) honest keeps
+              call_put new (Finish done.handler) (Finished x) at_h (finishes x tells here moves) l (after done old.core.state)
+              (ap (λ (s : LocalHandler). s.stored) moves) (sym (ap number_in moves)) honest keeps
           by (Err e) tells here moves same keeps stays = call_refused l new same honest stays
 
       pub finished_keeps : OnOk r (Keeps (has k) (has l) (after done old.core.state)) → OnOk r (KeepsNew h (set hs i new) (has v.keeper) (has l))
       finished_keeps keeps = by r ran out moved keeps
         where
-          by : (q : Result Ran E) → IfOk q (λ x. x ≡ ran_of done) → OnOk q (job_out old.core ≡ Some done) → OnOk q (new ≡ after_finish done old) → OnOk q (Keeps (has k) (has l) (after done old.core.state)) → OnOk q (KeepsNew h (set hs i new) (has v.keeper) (has l))
+          by : (q : Result Ran E) → IfOk q (λ x. x ≡ ran_of done) → OnOk q (job_out old.core ≡ Some done) → OnOk q (new ≡ after_finish done old)
+              → OnOk q (Keeps (has k) (has l) (after done old.core.state)) → OnOk q (KeepsNew h (set hs i new) (has v.keeper) (has l))
           by (Ok x) tells here moves keeps =
               call_keeps new (Finish done.handler) (Finished x) at_h (finishes x tells here moves) l
               (subst (λ (s : LocalHandler). Keeps (has k) (has l) s.core.state) (sym moves) keeps)
           by (Err e) tells here moves keeps = tt
 
 -- the same of a refusal
-pub refused_there : {K E : Type 0} (hs : List LocalHandler) (k : K) (v : HandlersValue K) (view : handlers_kept hs k ≡ v) (h : HandlerId) (i : ℕ) (old : LocalHandler) → IsFirst (is_handler h) v.handlers i → old ≡ get_or hs i old
+pub refused_there : {K E : Type 0} (hs : List LocalHandler) (k : K) (v : HandlersValue K) (view : handlers_kept hs k ≡ v) (h : HandlerId) (i : ℕ)
+    (old : LocalHandler) → IsFirst (is_handler h) v.handlers i → old ≡ get_or hs i old
     → (P : E → LocalHandler → Type 0) (r : Result Ran E) → IfErr r (λ e. P e old) → IfErr r (λ e. IfSome (slice_get v.handlers i) (P e))
 refused_there hs k v view h i old first is P (Ok x) p = tt
 refused_there hs k v view h i old first is P (Err e) p = if_there {K = _} (λ _ _ _. ⊤) (λ _. ⊤) hs k v view h i old first is (P e) p
 
 -- ---- a book
 
-pub entered : (es xs fs : List Entry) (pass : ℕ) (event : Event) (reply told : Reply) → fs ≡ xs ++ (pass, event, told) ∷ [] → xs ≡ es → told ≡ reply → fs ≡ es ++ (pass, event, reply) ∷ []
+pub entered : (es xs fs : List Entry) (pass : ℕ) (event : Event) (reply told : Reply) → fs ≡ xs ++ (pass, event, told) ∷ [] → xs ≡ es → told ≡ reply
+    → fs ≡ es ++ (pass, event, reply) ∷ []
 entered es xs fs pass event reply told put items same =
     put ∙ ap (λ (ys : List Entry). ys ++ (pass, event, told) ∷ []) items ∙ ap (λ (r : Reply). es ++ (pass, event, r) ∷ []) same
 
-module _ {K : Type 0} (opening : List LocalHandler) (v : HandlersValue K) (es : List Entry) (limit : ℕ) (failed : Bool) (b : BookValue K) (view : book_kept opening v.handlers es limit failed v.keeper ≡ b) where
+module _ {K : Type 0} (opening : List LocalHandler) (v : HandlersValue K) (es : List Entry) (limit : ℕ) (failed : Bool) (b : BookValue K)
+    (view : book_kept opening v.handlers es limit failed v.keeper ≡ b) where
   pub keeper_is : v.keeper ≡ b.keeper
   keeper_is = ap (λ (x : BookValue K). x.keeper) view
 
@@ -256,27 +299,32 @@ module _ {K : Type 0} (opening : List LocalHandler) (v : HandlersValue K) (es : 
       subst (λ (x : BookValue K). MayHappen x h) view (record { enter = record { works = works; room = room }; handler = s.0; here = first.found ∙ s.1 })
 
   -- one more entry
-  module _ (w : HandlersValue K) (fs : List Entry) (pass : ℕ) (event : Event) (reply : Reply) (moves : Moves event reply v.handlers w.handlers) (entered : fs ≡ es ++ (pass, event, reply) ∷ []) where
+  module _ (w : HandlersValue K) (fs : List Entry) (pass : ℕ) (event : Event) (reply : Reply) (moves : Moves event reply v.handlers w.handlers)
+      (entered : fs ≡ es ++ (pass, event, reply) ∷ []) where
     pub gains : Gains pass event reply b (book_kept opening w.handlers fs limit failed w.keeper)
     gains =
         subst (λ (x : BookValue K). Gains pass event reply x (book_kept opening w.handlers fs limit failed w.keeper)) view
         (record { moves = moves; history = entered; opening = refl; limit = refl; failed = refl })
 
-    pub book_more : (has : K → ℕ → Stored → Type 0) (is_honest : K → Type 0) → Replays opening es v.handlers → length es < limit → IsHeld has is_honest w → IsBook has is_honest (book_kept opening w.handlers fs limit failed w.keeper)
+    pub book_more : (has : K → ℕ → Stored → Type 0) (is_honest : K → Type 0) → Replays opening es v.handlers → length es < limit → IsHeld has is_honest w
+        → IsBook has is_honest (book_kept opening w.handlers fs limit failed w.keeper)
     book_more has is_honest replays room held =
         let longer : length fs ≡ length es + 1 = ap length entered ∙ length-append es ((pass, event, reply) ∷ []) in
         record {
-          replays = subst (λ (xs : List Entry). Replays opening xs w.handlers) (sym entered) (replays_more opening es (pass, event, reply) v.handlers w.handlers replays moves);
+          replays = subst (λ (xs : List Entry). Replays opening xs w.handlers) (sym entered)
+              (replays_more opening es (pass, event, reply) v.handlers w.handlers replays moves);
           apart = held.apart;
           room = omega (arith, longer, room);
           kept = held.kept;
         }
 
   -- none
-  pub book_same : (has : K → ℕ → Stored → Type 0) (is_honest : K → Type 0) (w : HandlersValue K) (fs : List Entry) (fails : Bool) → IsBook has is_honest (book_kept opening v.handlers es limit failed v.keeper) → w.handlers ≡ v.handlers → fs ≡ es → IsHeld has is_honest w
+  pub book_same : (has : K → ℕ → Stored → Type 0) (is_honest : K → Type 0) (w : HandlersValue K) (fs : List Entry) (fails : Bool)
+      → IsBook has is_honest (book_kept opening v.handlers es limit failed v.keeper) → w.handlers ≡ v.handlers → fs ≡ es → IsHeld has is_honest w
       → IsBook has is_honest (book_kept opening w.handlers fs limit fails w.keeper)
   book_same has is_honest w fs fails book same entries held = record {
-    replays = subst (λ (xs : List Entry). Replays opening xs w.handlers) (sym entries) (subst (λ (ks : List LocalHandler). Replays opening es ks) (sym same) book.replays);
+    replays = subst (λ (xs : List Entry). Replays opening xs w.handlers) (sym entries)
+        (subst (λ (ks : List LocalHandler). Replays opening es ks) (sym same) book.replays);
     apart = held.apart;
     room = subst (λ (xs : List Entry). length xs ≤ limit) (sym entries) book.room;
     kept = held.kept;
@@ -287,17 +335,21 @@ pub put_refusal : {K : Type 0} (b : BookValue K) (h : HandlerId) (e : BookError)
 put_refusal b h e which may = ⊎_elim (λ is. subst (IsRefused b h) (sym is) may) (λ is. subst (IsRefused b h) (sym is) may) which
 
 not_failed : (failed : Bool) (e : FinishRefusal) → (e ≡ unfinished.Stranger) ⊎ (e ≡ unfinished.OutOfMemory) → failed ≡ (failed || fails_to_finish e)
-not_failed failed e which = ⊎_elim (λ is. sym (ap (λ x. failed || fails_to_finish x) is ∙ or_false failed)) (λ is. sym (ap (λ x. failed || fails_to_finish x) is ∙ or_false failed)) which
+not_failed failed e which = ⊎_elim (λ is. sym (ap (λ x. failed || fails_to_finish x) is ∙ or_false failed))
+    (λ is. sym (ap (λ x. failed || fails_to_finish x) is ∙ or_false failed)) which
   where
     or_false : (t : Bool) → (t || false) ≡ t
     or_false true = refl
     or_false false = refl
 
-pub still_works : {K : Type 0} (b : BookValue K) (failed : Bool) (e f : FinishRefusal) → failed ≡ b.failed → e ≡ f → (f ≡ unfinished.Stranger) ⊎ (f ≡ unfinished.OutOfMemory) → failed ≡ (b.failed || fails_to_finish e)
-still_works b failed e f same is which = subst (λ x. x ≡ (b.failed || fails_to_finish e)) (sym same) (subst (λ x. b.failed ≡ (b.failed || fails_to_finish x)) (sym is) (not_failed b.failed f which))
+pub still_works : {K : Type 0} (b : BookValue K) (failed : Bool) (e f : FinishRefusal) → failed ≡ b.failed → e ≡ f → (f ≡ unfinished.Stranger)
+    ⊎ (f ≡ unfinished.OutOfMemory) → failed ≡ (b.failed || fails_to_finish e)
+still_works b failed e f same is which = subst (λ x. x ≡ (b.failed || fails_to_finish e)) (sym same)
+    (subst (λ x. b.failed ≡ (b.failed || fails_to_finish x)) (sym is) (not_failed b.failed f which))
 
 -- why a job isn't finished, where its event may happen: what is out at the handler at this place tells
-module _ {K : Type 0} (b : BookValue K) (done : Task) (hs : List LocalHandler) (i : ℕ) (same : hs ≡ b.handlers) (first : IsFirst (is_handler done.handler) hs i) (may : MayHappen b done.handler) where
+module _ {K : Type 0} (b : BookValue K) (done : Task) (hs : List LocalHandler) (i : ℕ) (same : hs ≡ b.handlers) (first : IsFirst (is_handler done.handler) hs i)
+    (may : MayHappen b done.handler) where
   here_is : (s : LocalHandler) → handler_in done.handler b.handlers ≡ Some s → slice_get hs i ≡ Some s
   here_is s found = sym first.found ∙ ap (handler_in done.handler) same ∙ found
 
@@ -319,11 +371,14 @@ module _ {K : Type 0} (b : BookValue K) (done : Task) (hs : List LocalHandler) (
   if_only None f p = tt
   if_only (Some s) f p = f s p
 
-  pub room_refusal : (e : FinishRefusal) → IfSome (slice_get hs i) (λ s. (e ≡ unfinished.Stranger) ↔ (job_out s.core ≢ Some done)) → (e ≡ unfinished.Stranger) ⊎ (e ≡ unfinished.OutOfMemory) → IsUnfinished b done e
+  pub room_refusal : (e : FinishRefusal) → IfSome (slice_get hs i) (λ s. (e ≡ unfinished.Stranger) ↔ (job_out s.core ≢ Some done)) → (e ≡ unfinished.Stranger)
+      ⊎ (e ≡ unfinished.OutOfMemory) → IsUnfinished b done e
   room_refusal e tells which =
       ⊎_elim
       (λ (is : e ≡ unfinished.Stranger). subst (IsUnfinished b done) (sym is) (is_stranger (if_only (slice_get hs i) (λ s t. t.0 is) tells)))
-      (λ (is : e ≡ unfinished.OutOfMemory). subst (IsUnfinished b done) (sym is) (no_stranger (if_only (slice_get hs i) (λ s t other. let no : e ≡ unfinished.Stranger = t.1 other in let clash : unfinished.OutOfMemory ≡ unfinished.Stranger = sym is ∙ no in cc) tells)))
+      (λ (is : e ≡ unfinished.OutOfMemory). subst (IsUnfinished b done) (sym is)
+      (no_stranger (if_only (slice_get hs i) (λ s t other. let no : e ≡ unfinished.Stranger = t.1 other in
+      let clash : unfinished.OutOfMemory ≡ unfinished.Stranger = sym is ∙ no in cc) tells)))
       which
 
   pub job_refusal : (e : JobRefusal) → IfSome (slice_get hs i) (λ s. (e ≡ jobs.Stranger) ↔ (job_out s.core ≢ Some done)) → IsUnfinished b done (refusal_of e)

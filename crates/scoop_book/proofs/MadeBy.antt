@@ -7,7 +7,8 @@ use Rattle.scoop_book.specs.declared.event.Event.{Event}
 use Rattle.scoop_book.specs.declared.event.Reply.{Reply}
 use Rattle.scoop_book.specs.Moves.{Entry, made_by}
 
-kept_if : {A : Type 0} (b : Bool) (x : A) (all front back : List A) → all ≡ front ++ back → (if b then x ∷ all else all) ≡ (if b then x ∷ front else front) ++ back
+kept_if : {A : Type 0} (b : Bool) (x : A) (all front back : List A) → all ≡ front ++ back
+    → (if b then x ∷ all else all) ≡ (if b then x ∷ front else front) ++ back
 kept_if true x all front back is = ap (λ xs. x ∷ xs) is
 kept_if false x all front back is = is
 

@@ -6,11 +6,11 @@ use Rattle.std.proofs.lemmas.Slice.Zip.{all_zipped_more}
 use Rattle.scoop_message.specs.declared.name.HandlerId.{HandlerId}
 use Rattle.scoop_object.specs.Class.{ClassTable}
 use Rattle.scoop_handler.specs.State.{HandlerState}
-use Rattle.scoop_record.specs.Keeper.{Stored, Holds, Damaged, stored_of, IsTheOne, IsSame, Stays}
-use Rattle.scoop_record.specs.declared.keeper.KeeperError.TheVariants as keeper
+use Rattle.scoop_keeper.specs.Keeper.{Stored, Holds, Damaged, stored_of, IsTheOne, IsSame, Stays}
+use Rattle.scoop_keeper.specs.declared.keeper.KeeperError.TheVariants as keeper
 use Rattle.scoop_book.specs.declared.error.OpenError.{OpenError}
 use Rattle.scoop_book.specs.declared.error.OpenError.TheVariants.{NoPasses, WrongClass, Repeated, Keeper, OutOfMemory}
-use Rattle.scoop_record.specs.Keyed.{NoRepeats}
+use Rattle.scoop_message.specs.Lists.{NoRepeats}
 use Rattle.scoop_book.specs.Moves.{LocalHandler, Entry, number_in}
 use Rattle.scoop_book.specs.Books.{HasStored, IsBook}
 use Rattle.scoop_book.specs.Kept.{HandlersValue, handlers_kept, book_kept}
@@ -32,7 +32,11 @@ module _ (old new : ℕ → Stored → Type 0) (honest later : Type 0) (back : l
 
   pub refused_back : (h : HandlerId) (class : ClassTable) (e : OpenError) → IsLoadRefusal new honest h class e → IsLoadRefusal old later h class e
   refused_back h class NoPasses is = is
-  refused_back h class (WrongClass k) is = (is.0, λ l. let m = is.1 (back l) in record { state = m.state; is = the_one_back old new h.0 (Holds m.state) (stays l) m.is; misfits = m.misfits })
+  refused_back h class (WrongClass k) is = (
+    is.0,
+    λ l. let m = is.1 (back l) in
+        record { state = m.state; is = the_one_back old new h.0 (Holds m.state) (stays l) m.is; misfits = m.misfits },
+  )
   refused_back h class (Repeated k) is = is
   refused_back h class (Keeper keeper.OutOfMemory) is = is
   refused_back h class (Keeper keeper.Refused) is = is
@@ -42,12 +46,21 @@ module _ (old new : ℕ → Stored → Type 0) (honest later : Type 0) (back : l
   refused_back h class OutOfMemory is = is
 
 -- fewer keepers are honest later
-pub all_open_later : {B : Type 0} (words : B → List ℕ) (has : ℕ → Stored → Type 0) (honest later : Type 0) → (later → honest) → (ps : List (Handed B)) (hs : List LocalHandler) → AllOpen words has honest ps hs → AllOpen words has later ps hs
+pub all_open_later : {B : Type 0} (words : B → List ℕ) (has : ℕ → Stored → Type 0) (honest later : Type 0) → (later → honest)
+    → (ps : List (Handed B)) (hs : List LocalHandler) → AllOpen words has honest ps hs → AllOpen words has later ps hs
 all_open_later words has honest later back [] [] all = tt
 all_open_later words has honest later back [] (h ∷ hs) all = absurd all
 all_open_later words has honest later back (p ∷ ps) [] all = absurd all
-all_open_later words has honest later back (p ∷ ps) (h ∷ hs) all =
-    (record { loaded = λ l. all.0.loaded (back l); own = all.0.own; fits = all.0.fits; opens = all.0.opens }, all_open_later words has honest later back ps hs all.1)
+all_open_later words has honest later back (p ∷ ps) (h ∷ hs) all = (
+  record {
+    loaded = λ l. all.0.loaded (back l);
+    own = all.0.own;
+    fits = all.0.fits;
+    opens =
+        all.0.opens;
+  },
+  all_open_later words has honest later back ps hs all.1,
+)
 
 pub any_there : {A : Type 0} (P : A → Type 0) (done : List A) (x : A) (left : List A) → P x → Any P (done ++ x ∷ left)
 any_there P [] x left is = (zero, x, omega arith, refl, is)
@@ -55,7 +68,8 @@ any_there P (y ∷ done) x left is = let a = any_there P done x left is in let w
 
 -- ---- a book that has opened
 
-opened_number : {B : Type 0} (words : B → List ℕ) (has : ℕ → Stored → Type 0) (honest : Type 0) (p : Handed B) (s : LocalHandler) → OpensAs words has honest p s → number_in s ≡ p.0
+opened_number : {B : Type 0} (words : B → List ℕ) (has : ℕ → Stored → Type 0) (honest : Type 0) (p : Handed B) (s : LocalHandler) → OpensAs words has honest p s
+    → number_in s ≡ p.0
 opened_number words has honest p s is = ap number_in is.opens ∙ state_number s.stored is.own
   where
     state_number : (o : Option HandlerState) → IfSome o (λ t. t.number ≡ p.0) → (opening_state p.0 (words p.2) o).number ≡ p.0
@@ -75,11 +89,16 @@ module _ {B : Type 0} (words : B → List ℕ) (has now : ℕ → Stored → Typ
   are_stored (p ∷ ps) [] all stays h = absurd all
   are_stored (p ∷ ps) (k ∷ ks) all stays h =
       let there = (all.0.loaded h).there in
-      let named : (number_in k).0 ≡ p.0.0 = ap (λ (n : HandlerId). n.0) (opened_number words has honest p k all.0) in
-      (record { has_stored = subst (λ n. now n (stored_of k.stored)) (sym named) ((stays.each p.0.0 (stored_of k.stored)).0 there) }, are_stored ps ks all.1 stays h)
+      let named : (number_in k).0 ≡ p.0.0 = ap (λ (n : HandlerId). n.0) (opened_number words has honest p k all.0) in (
+        record { has_stored = subst (λ n. now n (stored_of k.stored)) (sym named) ((stays.each p.0.0 (stored_of k.stored)).0 there) },
+        are_stored ps ks all.1
+            stays h,
+      )
 
-pub opened_book : {B K : Type 0} (words : B → List ℕ) (has : K → ℕ → Stored → Type 0) (is_honest : K → Type 0) (k l : K) (ps : List (Handed B)) (opening hs : List LocalHandler) (limit : ℕ) (failed : Bool)
-    → AllOpen words (has k) (is_honest l) ps hs → opening ≡ hs → NoRepeats (numbers_of ps) → (is_honest l → Stays (has k) (has l)) → IsBook has is_honest (book_kept opening hs [] limit failed l)
+pub opened_book : {B K : Type 0} (words : B → List ℕ) (has : K → ℕ → Stored → Type 0) (is_honest : K → Type 0) (k l : K) (ps : List (Handed B))
+    (opening hs : List LocalHandler) (limit : ℕ) (failed : Bool)
+    → AllOpen words (has k) (is_honest l) ps hs → opening ≡ hs → NoRepeats (numbers_of ps) → (is_honest l → Stays (has k) (has l))
+    → IsBook has is_honest (book_kept opening hs [] limit failed l)
 opened_book words has is_honest k l ps opening hs limit failed all same apart stays = record {
   replays = same;
   apart = subst NoRepeats (sym (numbers_are words (has k) (has l) (is_honest l) ps hs all)) apart;
@@ -87,25 +106,31 @@ opened_book words has is_honest k l ps opening hs limit failed all same apart st
   kept = λ h. are_stored words (has k) (has l) (is_honest l) ps hs all (stays h) h;
 }
 
-pub opened_book_of : {B K : Type 0} (words : B → List ℕ) (has : K → ℕ → Stored → Type 0) (is_honest : K → Type 0) (k l : K) (ps : List (Handed B)) (opening hs : List LocalHandler) (limit : ℕ) (failed : Bool) (v : HandlersValue K) (es : List Entry)
-    → v ≡ handlers_kept hs l → es ≡ [] → AllOpen words (has k) (is_honest l) ps hs → opening ≡ hs → NoRepeats (numbers_of ps) → (is_honest l → Stays (has k) (has l)) → IsBook has is_honest (book_kept opening v.handlers es limit failed v.keeper)
+pub opened_book_of : {B K : Type 0} (words : B → List ℕ) (has : K → ℕ → Stored → Type 0) (is_honest : K → Type 0) (k l : K) (ps : List (Handed B))
+    (opening hs : List LocalHandler) (limit : ℕ) (failed : Bool) (v : HandlersValue K) (es : List Entry)
+    → v ≡ handlers_kept hs l → es ≡ [] → AllOpen words (has k) (is_honest l) ps hs → opening ≡ hs → NoRepeats (numbers_of ps)
+    → (is_honest l → Stays (has k) (has l)) → IsBook has is_honest (book_kept opening v.handlers es limit failed v.keeper)
 opened_book_of words has is_honest k l ps opening hs limit failed v es is none all same apart stays =
     subst (λ (w : HandlersValue _). IsBook has is_honest (book_kept opening w.handlers es limit failed w.keeper)) (sym is)
     (subst (λ (xs : List Entry). IsBook has is_honest (book_kept opening hs xs limit failed l)) (sym none)
     (opened_book words has is_honest k l ps opening hs limit failed all same apart stays))
 
 -- why they don't open, where fewer keepers are honest
-pub unloaded : {B : Type 0} (class : B → ClassTable) (has : ℕ → Stored → Type 0) (honest later : Type 0) → (later → honest) → (ps : List (Handed B)) (e : OpenError) → MayOpen class ps → (e ≡ OutOfMemory) ⊎ Any (λ p. IsLoadRefusal has honest p.0 p.1 e) ps → IsUnopened class has later ps e
+pub unloaded : {B : Type 0} (class : B → ClassTable) (has : ℕ → Stored → Type 0) (honest later : Type 0) → (later → honest)
+    → (ps : List (Handed B)) (e : OpenError) → MayOpen class ps → (e ≡ OutOfMemory) ⊎ Any (λ p. IsLoadRefusal has honest p.0 p.1 e) ps
+    → IsUnopened class has later ps e
 unloaded class has honest later back ps e may why =
     inr (record {
       may = may;
-      refused = ⊎_elim inl (λ (a : Any (λ p. IsLoadRefusal has honest p.0 p.1 e) ps). inr (a.0, a.1, a.2, a.3, refused_back has has honest later back (λ _. record { each = λ h v. (λ x. x, λ x. x) }) a.1.0 a.1.1 e a.4)) why;
+      refused = ⊎_elim inl (λ (a : Any (λ p. IsLoadRefusal has honest p.0 p.1 e) ps). inr
+          (a.0, a.1, a.2, a.3, refused_back has has honest later back (λ _. record { each = λ h v. (λ x. x, λ x. x) }) a.1.0 a.1.1 e a.4)) why;
     })
 
 -- ---- the loop over them
 
 -- the handlers so far have opened
-pub record Opened {B K : Type 0} (words : B → List ℕ) (has : K → ℕ → Stored → Type 0) (is_honest : K → Type 0) (k l : K) (ps : List (Handed B)) (hs os : List LocalHandler) : Type 0 where
+pub record Opened {B K : Type 0} (words : B → List ℕ) (has : K → ℕ → Stored → Type 0) (is_honest : K → Type 0) (k l : K) (ps : List (Handed B))
+    (hs os : List LocalHandler) : Type 0 where
   pub opens : AllOpen words (has k) (is_honest l) ps hs
   pub kept : os ≡ hs
   pub honest : is_honest l → is_honest k
@@ -114,8 +139,10 @@ pub record Opened {B K : Type 0} (words : B → List ℕ) (has : K → ℕ → S
 stays_more : (a b c : ℕ → Stored → Type 0) → Stays a b → Stays b c → Stays a c
 stays_more a b c f s = record { each = λ h v. (λ x. (s.each h v).0 ((f.each h v).0 x), λ x. (f.each h v).1 ((s.each h v).1 x)) }
 
-module _ {B K : Type 0} (words : B → List ℕ) (has : K → ℕ → Stored → Type 0) (is_honest : K → Type 0) (k l m : K) (ps : List (Handed B)) (hs os : List LocalHandler) (so : Opened words has is_honest k l ps hs os) where
-  pub opened_more : (p : Handed B) (s o : LocalHandler) (ks rs : List LocalHandler) → OpensAs words (has l) (is_honest m) p s → o ≡ s → (is_honest m → is_honest l) → (is_honest m → Stays (has l) (has m)) → ks ≡ hs ++ s ∷ [] → rs ≡ os ++ o ∷ []
+module _ {B K : Type 0} (words : B → List ℕ) (has : K → ℕ → Stored → Type 0) (is_honest : K → Type 0) (k l m : K) (ps : List (Handed B))
+    (hs os : List LocalHandler) (so : Opened words has is_honest k l ps hs os) where
+  pub opened_more : (p : Handed B) (s o : LocalHandler) (ks rs : List LocalHandler) → OpensAs words (has l) (is_honest m) p s → o ≡ s
+      → (is_honest m → is_honest l) → (is_honest m → Stays (has l) (has m)) → ks ≡ hs ++ s ∷ [] → rs ≡ os ++ o ∷ []
       → Opened words has is_honest k m (ps ++ p ∷ []) ks rs
   opened_more p s o ks rs is same honest stays more most = record {
     opens = subst (λ xs. AllOpen words (has k) (is_honest m) (ps ++ p ∷ []) xs) (sym more)
@@ -127,7 +154,8 @@ module _ {B K : Type 0} (words : B → List ℕ) (has : K → ℕ → Stored →
     handlers = λ h. stays_more (has k) (has l) (has m) (so.handlers (honest h)) (stays h);
   }
 
-  pub not_opened : (p : Handed B) (left all : List (Handed B)) (e : OpenError) → all ≡ ps ++ p ∷ left → IsLoadRefusal (has l) (is_honest m) p.0 p.1 e → (is_honest m → is_honest l)
+  pub not_opened : (p : Handed B) (left all : List (Handed B)) (e : OpenError) → all ≡ ps ++ p ∷ left → IsLoadRefusal (has l) (is_honest m) p.0 p.1 e
+      → (is_honest m → is_honest l)
       → (e ≡ OutOfMemory) ⊎ Any (λ q. IsLoadRefusal (has k) (is_honest m) q.0 q.1 e) all
   not_opened p left all e is refused honest =
       inr (subst (λ xs. Any (λ q. IsLoadRefusal (has k) (is_honest m) q.0 q.1 e) xs) (sym is)
@@ -137,10 +165,12 @@ module _ {B K : Type 0} (words : B → List ℕ) (has : K → ℕ → Stored →
   pub stays_on : (is_honest m → is_honest l) → (is_honest m → Stays (has l) (has m)) → is_honest m → Stays (has k) (has m)
   stays_on honest stays h = stays_more (has k) (has l) (has m) (so.handlers (honest h)) (stays h)
 
-pub same_on : {K : Type 0} (incs : K → ℕ → Option ℕ) (is_honest : K → Type 0) (k l m : K) → (is_honest l → IsSame (incs k) (incs l)) → (is_honest m → is_honest l) → (is_honest m → IsSame (incs l) (incs m)) → is_honest m → IsSame (incs k) (incs m)
+pub same_on : {K : Type 0} (incs : K → ℕ → Option ℕ) (is_honest : K → Type 0) (k l m : K) → (is_honest l → IsSame (incs k) (incs l))
+    → (is_honest m → is_honest l) → (is_honest m → IsSame (incs l) (incs m)) → is_honest m → IsSame (incs k) (incs m)
 same_on incs is_honest k l m before honest same h = record { each = λ client. (same h).each client ∙ (before (honest h)).each client }
 
-pub none_opened : {B K : Type 0} (words : B → List ℕ) (has : K → ℕ → Stored → Type 0) (is_honest : K → Type 0) (k : K) (hs os : List LocalHandler) → hs ≡ [] → os ≡ [] → Opened words has is_honest k k [] hs os
+pub none_opened : {B K : Type 0} (words : B → List ℕ) (has : K → ℕ → Stored → Type 0) (is_honest : K → Type 0) (k : K) (hs os : List LocalHandler) → hs ≡ []
+    → os ≡ [] → Opened words has is_honest k k [] hs os
 none_opened words has is_honest k hs os none neither = record {
   opens = subst (λ xs. AllOpen words (has k) (is_honest k) [] xs) (sym none) tt;
   kept = neither ∙ sym none;

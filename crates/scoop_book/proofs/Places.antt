@@ -3,7 +3,7 @@ use Rattle.std.proofs.Common.{◌≡◌, ℕ, zero, suc, ◌+◌, ◌<◌, Bool,
 use Rattle.std.specs.Prelude.{if◌then◌else◌}
 use Rattle.std.specs.Bool.{Decides}
 use Rattle.std.specs.List.{AllByRecursion}
-use Rattle.scoop_record.proofs.Keyed.{by_test, newer}
+use Rattle.scoop_keeper.proofs.Keyed.{by_test, newer}
 
 pub all_at : {A : Type 0} (P : A → Type 0) (xs : List A) (k : ℕ) (a : A) → slice_get xs k ≡ Some a → AllByRecursion P xs → P a
 all_at P [] k a e all = absurd (cc)
@@ -50,7 +50,8 @@ get_last : {A : Type 0} (xs : List A) (x : A) → slice_get (xs ++ x ∷ []) (le
 get_last [] x = refl
 get_last (y ∷ ys) x = get_last ys x
 
-pub each_more : {A : Type 0} (f : ℕ → A) (xs : List A) (x : A) (k : ℕ) → length xs ≡ k → x ≡ f k → ((n : ℕ) → n < k → slice_get xs n ≡ Some (f n)) → (n : ℕ) → n < k + 1 → slice_get (xs ++ x ∷ []) n ≡ Some (f n)
+pub each_more : {A : Type 0} (f : ℕ → A) (xs : List A) (x : A) (k : ℕ) → length xs ≡ k → x ≡ f k → ((n : ℕ) → n < k → slice_get xs n ≡ Some (f n)) → (n : ℕ)
+    → n < k + 1 → slice_get (xs ++ x ∷ []) n ≡ Some (f n)
 each_more f xs x k count is before =
     below_more (λ (n : ℕ). slice_get (xs ++ x ∷ []) n ≡ Some (f n)) k
     (λ n lt. get_front xs x n (omega (arith, lt, count)) ∙ before n lt)

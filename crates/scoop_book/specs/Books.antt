@@ -3,10 +3,10 @@ use Rattle.std.specs.Prelude.{◌≡◌, ◌≢◌, ◌≤◌, ◌<◌, ⊤, ℕ
 use Rattle.std.specs.List.{AllByRecursion}
 use Rattle.scoop_message.specs.declared.name.HandlerId.{HandlerId}
 use Rattle.scoop_handler.specs.Running.{Task, job_out}
-use Rattle.scoop_record.specs.Keeper.{Stored, stored_of, Keeps}
-use Rattle.scoop_record.specs.declared.running.JobRefusal.{JobRefusal}
-use Rattle.scoop_record.specs.declared.running.JobRefusal.TheVariants as jobs
-use Rattle.scoop_record.specs.declared.running.JobRefusal.TheVariants.{Stranger, Refused}
+use Rattle.scoop_keeper.specs.Keeper.{Stored, stored_of, Keeps}
+use Rattle.scoop_keeper.specs.declared.running.JobRefusal.{JobRefusal}
+use Rattle.scoop_keeper.specs.declared.running.JobRefusal.TheVariants as jobs
+use Rattle.scoop_keeper.specs.declared.running.JobRefusal.TheVariants.{Stranger, Refused}
 use Rattle.scoop_book.specs.declared.event.Event.{Event}
 use Rattle.scoop_book.specs.declared.event.Event.TheVariants.{Hear, Begin, Finish}
 use Rattle.scoop_book.specs.declared.event.Reply.{Reply}
@@ -15,7 +15,7 @@ use Rattle.scoop_book.specs.declared.error.BookError.{BookError}
 use Rattle.scoop_book.specs.declared.error.BookError.TheVariants.{NodeFailed, HistoryFull, UnknownHandler, StoreRefused, OutOfMemory}
 use Rattle.scoop_book.specs.declared.error.FinishRefusal.{FinishRefusal}
 use Rattle.scoop_book.specs.declared.error.FinishRefusal.TheVariants as unfinished
-use Rattle.scoop_record.specs.Keyed.{NoRepeats}
+use Rattle.scoop_message.specs.Lists.{NoRepeats}
 use Rattle.scoop_book.specs.Moves.{LocalHandler, Entry, number_in, handler_in, Moves, Replays}
 
 -- the handlers as they opened and as they are now, what has happened between, how many entries that may have, whether

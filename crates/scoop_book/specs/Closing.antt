@@ -1,7 +1,7 @@
 -- What a closed node's history is.
 use Rattle.std.specs.Prelude.{◌≡◌, ◌⊎◌, ◌<◌, ◌≤◌, ℕ, Some, List, length, slice_get}
 use Rattle.std.specs.List.{All, AllByRecursion, Any}
-use Rattle.scoop_record.specs.Keeper.{Stored}
+use Rattle.scoop_keeper.specs.Keeper.{Stored}
 use Rattle.scoop_book.specs.declared.event.Event.{Event}
 use Rattle.scoop_book.specs.declared.event.Reply.{Reply}
 use Rattle.scoop_book.specs.Moves.{LocalHandler, Entry, Replays, made_by}
@@ -47,7 +47,8 @@ pub record IsEntered {K : Type 0} (has : K → ℕ → Stored → Type 0) (is_ho
 
 -- There are so many passes, of the numbers from 0 on and with no events. The first keeps the handlers, which have opened
 -- with what the keeper, as it stands now, had of them.
-pub record HasOpened {B K : Type 0} (words : B → List ℕ) (has : K → ℕ → Stored → Type 0) (is_honest : K → Type 0) (keeper : K) (ps : List (Handed B)) (count : ℕ) (passes : List PassValue) : Type 0 where
+pub record HasOpened {B K : Type 0} (words : B → List ℕ) (has : K → ℕ → Stored → Type 0) (is_honest : K → Type 0) (keeper : K) (ps : List (Handed B))
+    (count : ℕ) (passes : List PassValue) : Type 0 where
   pub opening : List LocalHandler
   pub now : K
   pub count_is : length passes ≡ count

@@ -3,8 +3,8 @@ use Rattle.std.specs.Prelude.{◌≡◌, ◌<◌, ℕ, Bool, if◌then◌else◌
 use Rattle.std.specs.List.{AllByRecursion}
 use Rattle.scoop_handler.specs.State.{HandlerState}
 use Rattle.scoop_handler.specs.Core.{Core}
-use Rattle.scoop_record.specs.Keeper.{Stored}
-use Rattle.scoop_record.specs.Keyed.{NoRepeats}
+use Rattle.scoop_keeper.specs.Keeper.{Stored}
+use Rattle.scoop_message.specs.Lists.{NoRepeats}
 use Rattle.scoop_book.specs.Moves.{LocalHandler, Entry, local_handler, number_in}
 use Rattle.scoop_book.specs.Books.{BookValue, HasStored}
 

@@ -6,11 +6,12 @@ use Rattle.scoop_object.specs.Class.{ClassTable}
 use Rattle.scoop_handler.specs.State.{HandlerState, new_state}
 use Rattle.scoop_handler.specs.Core.{core_of}
 use Rattle.scoop_handler.specs.Running.{FitsClass}
-use Rattle.scoop_record.specs.Keeper.{Stored, Holds, Damaged, stored_of, IsTheOne}
-use Rattle.scoop_record.specs.declared.keeper.KeeperError.TheVariants as keeper
+use Rattle.scoop_keeper.specs.Keeper.{Stored, Holds, Damaged, stored_of, IsTheOne}
+use Rattle.scoop_keeper.specs.declared.keeper.KeeperError.TheVariants as keeper
 use Rattle.scoop_book.specs.declared.error.OpenError.{OpenError}
 use Rattle.scoop_book.specs.declared.error.OpenError.TheVariants.{NoPasses, WrongClass, Repeated, Keeper, OutOfMemory}
-use Rattle.scoop_record.specs.Keyed.{NoRepeats, IsFirstRepeat}
+use Rattle.scoop_message.specs.Lists.{NoRepeats}
+use Rattle.scoop_keeper.specs.Keyed.{IsFirstRepeat}
 use Rattle.scoop_book.specs.Moves.{LocalHandler, local_handler}
 
 -- a handler as it is handed over: its number, and its object with the object's class

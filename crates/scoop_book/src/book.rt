@@ -10,9 +10,9 @@ use crate::event::{Event, Reply};
 use crate::handlers::Handlers;
 use crate::opening::Opening;
 pub(crate) use entering::{entry_left, finished};
+use scoop_keeper::Keeper;
 use scoop_message::{Entry, HandlerId, Request, Words};
 use scoop_object::Behaviour;
-use scoop_record::Keeper;
 use std::alloc::{Allocator, Global};
 use std::marker::Model;
 

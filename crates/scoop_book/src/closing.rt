@@ -10,7 +10,7 @@ use crate::event::{Event, Reply};
 use crate::law::{same_event, same_reply};
 use crate::opening::Opening;
 use crate::pass::Pass;
-use scoop_record::Keeper;
+use scoop_keeper::Keeper;
 use std::alloc::{Allocator, Global};
 
 /// The history of a closed node, each event with the number of its pass and its reply, and the keeper.

@@ -5,9 +5,9 @@ ghost use Rattle.std.specs.Prelude.{◌≡◌};
 use crate::node::Node;
 use crate::pass::Pass;
 use scoop_handler::Done;
+use scoop_keeper::{Keeper, KeeperError};
 use scoop_message::{HandlerId, OutOfMemory};
 use scoop_object::Behaviour;
-use scoop_record::{Keeper, KeeperError};
 use std::alloc::{AllocError, AllocFailed, Allocator, Global};
 use thiserror::Error;
 

@@ -4,18 +4,18 @@ ghost use Rattle.std.specs.Prelude.{◌≡◌, ◌≢◌, ◌↔◌, ◌⊎◌, 
 ghost use Rattle.std.specs.Option.{option_map};
 ghost use Rattle.scoop_message.specs.Message.{handler_of};
 ghost use Rattle.scoop_handler.specs.Running.{job_out, ran_of, ready};
-ghost use Rattle.scoop_record.specs.Keeper.{IsPutError, IsSame, Stays};
+ghost use Rattle.scoop_keeper.specs.Keeper.{IsPutError, IsSame, Stays};
 ghost use Rattle.scoop_book.specs.Moves.{Moves, is_handler, leaves};
 ghost use Rattle.scoop_book.specs.Books.{KeepsNew};
-ghost use Rattle.scoop_record.specs.Keyed.{IsFirst};
+ghost use Rattle.scoop_keeper.specs.Keyed.{IsFirst};
 
 use crate::error::FinishRefusal;
 use crate::event::{Event, Reply};
 use crate::local::Local;
 use scoop_handler::{Done, Heard, Job, Ran};
+use scoop_keeper::{JobRefusal, Keeper, KeeperError, Unfinished};
 use scoop_message::{HandlerId, Message, Words};
 use scoop_object::Behaviour;
-use scoop_record::{JobRefusal, Keeper, KeeperError, Unfinished};
 use std::alloc::Allocator;
 use std::marker::Model;
 

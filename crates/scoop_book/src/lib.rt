@@ -1,9 +1,28 @@
-//! A node's handlers over a keeper, with the history of what has happened at them, and the node that shares
-//! them between threads.
+//! A node's handlers over a keeper, with the history of what has happened at them, and the node that shares them
+//! between threads.
 //!
 //! Each message heard, each entry begun and each one finished is one entry of the history, which replays: each
-//! reply and each new state is that of the handler's own rules. A thread keeps what it did in a pass, and a
-//! node is closed only where its passes say together what its history says.
+//! reply and each new state is that of the handler's own rules. In a [`Book`] one thread does that. Threads that
+//! share a [`Node`] do it each in a [`Pass`], which keeps what was done in it, and a node is closed only where its
+//! passes say together what its history says.
+//!
+//! ```
+//! // handler 1 has a cell, and a block of client 7 makes its word 5
+//! let mut book = Book::open(alloc, handlers, MemoryKeeper::new(alloc))?;
+//! book.step(0, Event::Hear(Message::Hello(ONE, ClientId(7), 1)))?;
+//! book.step(0, Event::Hear(Message::Lock(ONE, block)))?;
+//! book.step(0, Event::Hear(Message::Open(ONE, block)))?;
+//! let entries = Entries::of(&[Entry::Call(Request { op: SET, args })])?;
+//! book.step(0, Event::Hear(Message::Log(ONE, block, 1, entries)))?;
+//! // the entry runs outside the book
+//! let job = book.begin(0, ONE)?.ok_or("nothing to run")?;
+//! let ran = book.finish(0, job.work()).ok().ok_or("refused")?;
+//! assert_eq!(rt; (ran.block, ran.number), (block, 1));
+//! assert_eq!(rt; book.history().len(), 6);
+//! // what the handler has come to is stored
+//! let state = book.into_keeper().load_handler(ONE)?.ok_or("not stored")?;
+//! assert_eq!(rt; state.words().get(0), Some(5));
+//! ```
 #![tactic(auto)]
 
 mod book;

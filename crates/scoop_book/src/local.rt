@@ -4,14 +4,14 @@ ghost use Rattle.std.specs.Prelude.{◌≡◌, ◌≢◌, ◌↔◌, ◌⊎◌, 
 ghost use Rattle.scoop_handler.specs.Core.{IsCore};
 ghost use Rattle.scoop_handler.specs.Hearing.{hear};
 ghost use Rattle.scoop_handler.specs.Running.{after, job_out, ran_of, ready};
-ghost use Rattle.scoop_record.specs.Keeper.{IsPutError, IsSame, Keeps, Stays, stored_of};
+ghost use Rattle.scoop_keeper.specs.Keeper.{IsPutError, IsSame, Keeps, Stays, stored_of};
 ghost use Rattle.scoop_book.specs.Moves.{after_begin, after_finish, after_hearing, number_in};
 
 use crate::error::FinishRefusal;
-use scoop_handler::{AfterError, Done, Handler, Heard, Job, Ran};
+use scoop_handler::{AfterError, Done, Handler, HandlerState, Heard, Job, Ran};
+use scoop_keeper::{JobRefusal, Keeper, KeeperError, Unfinished, finish_beside, hear_beside};
 use scoop_message::{HandlerId, Message, Words};
 use scoop_object::Behaviour;
-use scoop_record::{JobRefusal, Keeper, KeeperError, Unfinished, finish_and_store, hear_and_store};
 use std::alloc::Allocator;
 use std::marker::Model;
 
@@ -20,16 +20,21 @@ use std::marker::Model;
 #[derive(Drop)]
 pub(crate) struct Local<B: Behaviour, A: Allocator> {
     handler: Handler<B, A>,
+    // The handler's state, or none: the room in which the next one is made.
+    beside: Option<HandlerState<A>>,
     is_stored: bool,
 }
 
 impl<B: Behaviour, A: Allocator> Model for Local<B, A> {
+    ghost use Rattle.std.specs.Prelude.{◌≡◌, IfSome};
     ghost use Rattle.scoop_book.specs.Moves.{LocalHandler};
     ghost use Rattle.scoop_book.specs.Kept.{local_kept};
 
     ghost Value = { LocalHandler };
 
     ghost view = { λ l. local_kept l.handler l.is_stored };
+
+    ghost invariant = { λ l. IfSome l.beside (λ s. s ≡ l.handler.state) };
 }
 
 impl<B: Behaviour, A: Allocator + Copy> Local<B, A> {
@@ -39,7 +44,11 @@ impl<B: Behaviour, A: Allocator + Copy> Local<B, A> {
     pub(crate) fn new(handler: Handler<B, A>, is_stored: bool) -> Local<B, A>
         ensures { result ≡ local_kept handler is_stored }
     {
-        Local { handler, is_stored }
+        Local {
+            handler,
+            beside: None,
+            is_stored,
+        }
     }
 
     /// Its number.
@@ -84,7 +93,13 @@ impl<B: Behaviour, A: Allocator + Copy> Local<B, A> {
         ensures named { IfErr result IsPutError }
         ensures honest { K.is_honest keeper.new → K.is_honest keeper.old }
     {
-        let heard = match hear_and_store(&mut self.handler, keeper, self.is_stored, message) {
+        let heard = match hear_beside(
+            &mut self.handler,
+            &mut self.beside,
+            keeper,
+            self.is_stored,
+            message,
+        ) {
             Ok(heard) => heard,
             Err(error) => return Err(error),
         };
@@ -117,7 +132,7 @@ impl<B: Behaviour, A: Allocator + Copy> Local<B, A> {
         ensures incarnations { K.is_honest keeper.new → IsSame (K.incarnations keeper.old) (K.incarnations keeper.new) }
         ensures honest { K.is_honest keeper.new → K.is_honest keeper.old }
     {
-        let ran = match finish_and_store(&mut self.handler, keeper, done) {
+        let ran = match finish_beside(&mut self.handler, &mut self.beside, keeper, done) {
             Ok(ran) => ran,
             Err(error) => return Err(error),
         };

@@ -15,10 +15,10 @@ use crate::error::{BookError, CloseError, CloseRefusal, FinishError, FinishRefus
 use crate::event::{Event, Reply};
 use crate::pass::{Pass, fresh_passes, put_down};
 use scoop_handler::{Done, Job, Ran};
+use scoop_keeper::Keeper;
 use scoop_message::HandlerId;
 use scoop_message::limits::MAX_HISTORY;
 use scoop_object::{Behaviour, Class};
-use scoop_record::Keeper;
 use std::alloc::{Allocator, Global};
 use std::marker::Model;
 use std::sync::{Mutex, Wait};

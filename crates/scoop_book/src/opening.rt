@@ -7,17 +7,18 @@ ghost use Rattle.scoop_object.specs.Class.{ClassTable};
 ghost use Rattle.scoop_handler.specs.Core.{core_of};
 ghost use Rattle.scoop_handler.specs.Running.{FitsClass};
 ghost use Rattle.scoop_handler.specs.State.{new_state};
-ghost use Rattle.scoop_record.specs.Keeper.{IsSame, IsTheOne, Stays, stored_of};
-ghost use Rattle.scoop_record.specs.Keyed.{IsFirstRepeat, NoRepeats};
+ghost use Rattle.scoop_keeper.specs.Keeper.{IsSame, IsTheOne, Stays, stored_of};
+ghost use Rattle.scoop_message.specs.Lists.{NoRepeats};
+ghost use Rattle.scoop_keeper.specs.Keyed.{IsFirstRepeat};
 ghost use Rattle.scoop_book.specs.Moves.{local_handler};
 ghost use Rattle.scoop_book.specs.Opening.{AllOpen, IsFirstWrong, IsHandedWrongly, IsLoadRefusal, IsOfClass, MayOpen, OpensAs, numbers_of};
 
 use crate::error::OpenError;
 use crate::local::Local;
 use scoop_handler::{Handler, HandlerState};
+use scoop_keeper::{Keeper, KeeperError};
 use scoop_message::{HandlerId, OutOfMemory};
 use scoop_object::{Behaviour, Class};
-use scoop_record::{Keeper, KeeperError};
 use std::alloc::Allocator;
 use std::marker::Model;
 

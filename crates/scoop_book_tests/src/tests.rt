@@ -3,17 +3,22 @@
 ghost use Rattle.std.specs.Prelude.{◌≤◌, IfSome, vec_len};
 ghost use Rattle.scoop_book.specs.Books.{IsHear};
 
+mod examples;
 mod growths;
 mod limits;
 mod refusing;
 mod threads;
 
-use scoop_book::{Book, Event, OpenError};
+use scoop_book::{Book, BookError, Event, OpenError, Reply};
+use scoop_handler::Note;
+use scoop_keeper::{Keeper, MemoryKeeper};
 use scoop_message::limits::MAX_HANDLERS;
 use scoop_message::{Args, Block, ClientId, Entries, Entry, HandlerId, Message, Request, Words};
 use scoop_object::{Class, OpRow, Table, Term, Write, Writes};
-use scoop_record::MemoryKeeper;
 use std::alloc::Global;
+use std::process::Abort;
+
+const ONE: HandlerId = HandlerId(1);
 
 /// Makes the word the argument.
 const SET: u16 = 1;
@@ -104,8 +109,47 @@ fn log(handler: u32, client: u32, number: u32) -> Option<Event>
     Some(Event::Hear(Message::Log(HandlerId(handler), block(client), number, entries)))
 }
 
+type MemoryBook = Book<Table, MemoryKeeper>;
+
 /// A book of these cells over memory.
-fn book(alloc: Global, numbers: &[u32]) -> Option<Result<Book<Table, MemoryKeeper>, OpenError>> {
+fn book(alloc: Global, numbers: &[u32]) -> Option<Result<MemoryBook, OpenError>> {
     let handlers = cells(alloc, numbers)?;
     Some(Book::open(alloc, handlers, MemoryKeeper::new(alloc)))
+}
+
+// These stand alone, so that the tests don't carry what a step says.
+
+/// Why the book refuses the message, if it does.
+fn refusal<K: Keeper<Global>>(book: &mut Book<Table, K>, event: Event) -> Option<BookError> {
+    let Event::Hear(_) = event else {
+        return Some(BookError::OutOfMemory);
+    };
+    book.step(0, event).err()
+}
+
+/// Whether the handler heard the message with this note.
+fn notes<K: Keeper<Global>>(book: &mut Book<Table, K>, event: Event, note: Note) -> bool {
+    let Event::Hear(_) = event else {
+        return false;
+    };
+    match book.step(0, event) {
+        Ok(Reply::Heard(heard)) => heard.note == note,
+        _ => false,
+    }
+}
+
+/// Whether handler 1 heard client 7's first call with this note.
+fn notes_log(book: &mut MemoryBook, note: Note) -> bool {
+    match log(1, 7, 1) {
+        Some(event) => notes(book, event, note),
+        None => false,
+    }
+}
+
+/// Client 7 greets handler 1, and its block sends it a call, which is pending.
+fn sends(rt: &impl Abort, book: &mut MemoryBook) {
+    assert!(rt; notes(book, hello(1, 7), Note::Greeted));
+    assert!(rt; notes(book, lock(1, 7), Note::Granted));
+    assert!(rt; notes(book, open(1, 7), Note::Opened(block(7))));
+    assert!(rt; notes_log(book, Note::Took(1)));
 }

@@ -47,14 +47,16 @@ or_holder false u e f = absurd (true≢false (sym e ∙ f))
 -- an unfinished block isn't shut
 not_shut : (s : HandlerState) (k : Mark) → IsState s → mark_of k.client s.marks ≡ Some k → is_unfinished s k ≡ true → k.stage ≡ AtShut → ⊥
 not_shut s k is found unfinished at =
-    let holds : s.holder ≡ Some (block_of k) = holder_from_test s.holder (block_of k) (or_holder (is_holder s.holder (block_of k)) _ unfinished (shut_open (not k.ended) k.stage at)) in
+    let holds : s.holder ≡ Some (block_of k) = holder_from_test s.holder (block_of k)
+    (or_holder (is_holder s.holder (block_of k)) _ unfinished (shut_open (not k.ended) k.stage at)) in
     let way : HolderIsUnderWay (Some (block_of k)) s.marks = subst (λ o. HolderIsUnderWay o s.marks) holds is.holder in
     let one : way.mark ≡ k = some_is way.mark k (sym way.found ∙ found) in
     let stage : IsFalse (is_shut k.stage) = subst (λ (x : Mark). IsFalse (is_shut x.stage)) one way.stage in
     true≢false (sym (ap is_shut at) ∙ stage)
 
-module _ (w : World) (r : IsReached w) (e : Everything (map (λ (p : Placement). p.handler) r.placements) w) (p : Party) (at : party_of (id_of p) w ≡ Some p) where
-  pub mark_at : (h : HandlerId) → has p.client.handlers h ≡ true → has p.client.left h ≡ false → MarkAt w p h
+module _ (w : World) (r : IsReached w) (e : Everything (map (λ (p : Placement). p.handler) r.placements) w) (p : Party)
+    (at : party_of (id_of p) w ≡ Some p) where
+  pub mark_at : (h : HandlerId) → has p.client.handlers h ≡ true → has p.client.unwelcomed h ≡ false → MarkAt w p h
   mark_at h named welcome =
       let g = e.background in
       let hs = map (λ (q : Placement). q.handler) r.placements in

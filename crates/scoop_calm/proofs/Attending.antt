@@ -14,7 +14,7 @@ use Rattle.scoop_reserve.specs.declared.stage.Stage.{Stage}
 use Rattle.scoop_reserve.specs.declared.stage.Stage.TheVariants.{Locking, Opening, Unlocking, GivingUp}
 use Rattle.scoop_reserve.specs.Handlers.{has, is_lowest}
 use Rattle.scoop_reserve.specs.State.{ReservationState}
-use Rattle.scoop_client.specs.Line.{LineState, line_of}
+use Rattle.scoop_client.specs.Window.{WindowState, window_of}
 use Rattle.scoop_client.specs.State.{ClientState}
 use Rattle.scoop_model.specs.World.{World, Site, Party, number_of, id_of, is_site, is_party, site_of, party_of, set_site, set_party, count_in, greatest_count}
 use Rattle.scoop_model.specs.Step.{reopened}
@@ -45,7 +45,8 @@ at_set P w s old here more h a =
     record { site = s; found = refl; so = more (subst (λ (x : Site). P x.core.state) one a.so) })
     (λ apart. a)
 
-at_first : (P : HandlerState → Type 0) (h : HandlerId) (x y : Site) (xs ys : List Site) → y.core.state ≡ x.core.state → (AtSite P (find (is_site h) xs) → AtSite P (find (is_site h) ys))
+at_first : (P : HandlerState → Type 0) (h : HandlerId) (x y : Site) (xs ys : List Site) → y.core.state ≡ x.core.state
+    → (AtSite P (find (is_site h) xs) → AtSite P (find (is_site h) ys))
     → AtSite P (find (is_site h) (x ∷ xs)) → AtSite P (find (is_site h) (y ∷ ys))
 at_first P h x y xs ys same later a =
     let k : number_of y ≡ number_of x = ap (λ (st : HandlerState). st.number) same in
@@ -59,7 +60,8 @@ at_first P h x y xs ys same later a =
     some_is : (p q : Site) → Some p ≡ Some q → p ≡ q
     some_is p q e = cc
 
-pub at_anew : (P : HandlerState → Type 0) (js : List Block) (n : ℕ) (h : HandlerId) (xs : List Site) → AllByRecursion (SiteFits js) xs → AtSite P (find (is_site h) xs) → AtSite P (find (is_site h) (map (reopened n) xs))
+pub at_anew : (P : HandlerState → Type 0) (js : List Block) (n : ℕ) (h : HandlerId) (xs : List Site) → AllByRecursion (SiteFits js) xs
+    → AtSite P (find (is_site h) xs) → AtSite P (find (is_site h) (map (reopened n) xs))
 at_anew P js n h [] all a = a
 at_anew P js n h (x ∷ xs) all a = at_first P h x (reopened n x) xs (map (reopened n) xs) (state_anew js n x all.0) (at_anew P js n h xs all.1) a
 
@@ -112,8 +114,8 @@ Attends w (Unlock h b) = ⊤
 -- what is acknowledged was told to be received, by a handler that had given back the lock
 pub record ClientAttends (w : World) (c : ClientState) (r : ReservationState) : Type 0 where
   pub unlocked : r.stage ≡ Unlocking → (h : HandlerId) → has r.handlers h ≡ true → has r.left h ≡ false → IsReleased w h r.block
-  pub acked : (h : HandlerId) (l : LineState) → line_of h c.lines ≡ Some l → 0 < l.acked → IsReleased w h r.block
-  pub counts : (h : HandlerId) (l : LineState) → line_of h c.lines ≡ Some l → l.acked ≤ greatest_count h r.block w.sent
+  pub acked : (h : HandlerId) (l : WindowState) → window_of h c.windows ≡ Some l → 0 < l.acked → IsReleased w h r.block
+  pub counts : (h : HandlerId) (l : WindowState) → window_of h c.windows ≡ Some l → l.acked ≤ greatest_count h r.block w.sent
 
 abbrev pub PartyAttends : World → ClientState → Type 0
 PartyAttends w c = (r : ReservationState) → c.reservation ≡ Some r → ClientAttends w c r
@@ -201,7 +203,8 @@ work_set w v c p q at same parties own h b a =
 -- the clients of the world, where one changes
 pub parties_set :
     (w v : World) (c : ClientId) (p q : Party) → party_of c w ≡ Some p → id_of q ≡ id_of p → v.parties ≡ set_party q w.parties
-    → PartyAttends v q.client → ((x : ClientState) → PartyAttends w x → PartyAttends v x) → ((d : ClientId) (x : Party) → party_of d w ≡ Some x → PartyAttends w x.client)
+    → PartyAttends v q.client → ((x : ClientState) → PartyAttends w x → PartyAttends v x)
+    → ((d : ClientId) (x : Party) → party_of d w ≡ Some x → PartyAttends w x.client)
     → (d : ClientId) (x : Party) → party_of d v ≡ Some x → PartyAttends v x.client
 parties_set w v c p q at same parties own more all d x found =
     by_party (λ o. o ≡ Some x → PartyAttends v x.client) w q p d

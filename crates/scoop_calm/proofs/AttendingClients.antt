@@ -18,8 +18,8 @@ use Rattle.scoop_reserve.specs.Hearing.{is_gone, given_up, given_up_in}
 use Rattle.scoop_reserve.specs.Hearing as reservation
 use Rattle.scoop_reserve.proofs.Rows.{HeardRow as StepRow, passed_over as steps_over, one_is_locked, all_are_locked, is_busy, one_is_opened, all_are_opened, is_unlocked, is_given_back, heard_row as step_row}
 use Rattle.scoop_client.specs.declared.phase.ClientNote.{ClientNote}
-use Rattle.scoop_client.specs.Line.{LineState, with_entry, with_end, acknowledged, line_of, at_line, all_over}
-use Rattle.scoop_client.specs.State.{ClientState, with_lines, with_reservation, idle}
+use Rattle.scoop_client.specs.Window.{WindowState, with_entry, with_end, acknowledged, window_of, at_window, all_over}
+use Rattle.scoop_client.specs.State.{ClientState, with_windows, with_reservation, idle}
 use Rattle.scoop_client.specs.Hearing.{heard, stepped, after_step, up_to}
 use Rattle.scoop_client.specs.Commands.{Outcome}
 use Rattle.scoop_client.specs.Rows.{HeardRow, passed_over, is_welcomed, takes_step, is_acknowledged, is_accepted}
@@ -27,8 +27,8 @@ use Rattle.scoop_client.proofs.Rows.{heard_row}
 use Rattle.scoop_model.specs.World.{World, greatest_count}
 use Rattle.scoop_model.proofs.Basics.{by_test}
 use Rattle.scoop_model.proofs.Order.Clients.{has_without, is_gone_one, none_in_empty}
-use Rattle.scoop_model.proofs.Logging.Facts.{LineFits, LinesFit}
-use Rattle.scoop_model.proofs.Logging.Lines.{handlers_at, by_line, by_all, handlers_at_line, fits_acknowledged}
+use Rattle.scoop_model.proofs.Logging.Facts.{WindowFits, WindowsFit}
+use Rattle.scoop_model.proofs.Logging.Windows.{handlers_at, by_window, by_all, handlers_at_window, fits_acknowledged}
 use Rattle.scoop_model.proofs.Logging.OpeningClients.{unlocking_is}
 use Rattle.scoop_calm.proofs.Handlers.{gone_without, lowest_has, lowest_below}
 use Rattle.scoop_calm.proofs.Attending.{IsOver, IsReleased, AskedAt, Goes, Attends, ClientAttends, PartyAttends}
@@ -40,34 +40,38 @@ pub record Follows (w : World) (c d : ClientState) : Type 0 where
   pub goes : (h : HandlerId) (b : Block) → Goes c h b → IsOver w h b ⊎ Goes d h b
   pub attends : PartyAttends w d
 
--- the lines of a block: what each holds, and what was told of it
-pub record LinesTold (w : World) (r : ReservationState) (ls : List LineState) : Type 0 where
+-- the windows of a block: what each holds, and what was told of it
+pub record WindowsTold (w : World) (r : ReservationState) (ls : List WindowState) : Type 0 where
   pub handlers : handlers_at ls ≡ r.handlers
-  pub fits : (h : HandlerId) (l : LineState) → line_of h ls ≡ Some l → LineFits (log_of r.block h w) l
-  pub released : (h : HandlerId) (l : LineState) → line_of h ls ≡ Some l → 0 < l.acked → IsReleased w h r.block
-  pub counts : (h : HandlerId) (l : LineState) → line_of h ls ≡ Some l → l.acked ≤ greatest_count h r.block w.sent
+  pub fits : (h : HandlerId) (l : WindowState) → window_of h ls ≡ Some l → WindowFits (log_of r.block h w) l
+  pub released : (h : HandlerId) (l : WindowState) → window_of h ls ≡ Some l → 0 < l.acked → IsReleased w h r.block
+  pub counts : (h : HandlerId) (l : WindowState) → window_of h ls ≡ Some l → l.acked ≤ greatest_count h r.block w.sent
 
 -- what the world tells of a client and of a message
 pub record Around (w : World) (c : ClientState) (m : Message) : Type 0 where
-  pub lines : (r : ReservationState) → c.reservation ≡ Some r → LinesFit w c r
+  pub windows : (r : ReservationState) → c.reservation ≡ Some r → WindowsFit w c r
   pub counted : (h : HandlerId) (b : Block) (n : ℕ) → m ≡ Logged h b n → n ≤ greatest_count h b w.sent
   pub answered : (h : HandlerId) (b : Block) (n : ℕ) (a : ObjectAnswer) → m ≡ Answer h b n a → n ≤ greatest_count h b w.sent
   pub given_over : (r : ReservationState) → c.reservation ≡ Some r → r.stage ≡ GivingUp → (h : HandlerId) → IsReleased w h r.block → IsOver w h r.block
-  pub ends_over : (r : ReservationState) (ls : List LineState) → LinesTold w r ls → all_over ls ≡ true → (h : HandlerId) → has r.handlers h ≡ true → IsOver w h r.block
+  pub ends_over : (r : ReservationState) (ls : List WindowState) → WindowsTold w r ls → all_over ls ≡ true → (h : HandlerId) → has r.handlers h ≡ true
+      → IsOver w h r.block
 
--- ---- the reservation stays, and lines too
+-- ---- the reservation stays, and windows too
 
 module _ (w : World) (c : ClientState) (f : PartyAttends w c) where
   same_reservation : (d : ClientState) → d.reservation ≡ c.reservation → PartyAttends w d → Follows w c d
-  same_reservation d same g = record { goes = λ h b a. inr (record { reservation = a.reservation; held = same ∙ a.held; block = a.block; asked = a.asked }); attends = g }
+  same_reservation d same g = record {
+    goes = λ h b a. inr (record { reservation = a.reservation; held = same ∙ a.held; block = a.block; asked = a.asked });
+    attends = g;
+  }
 
-  stays : (d : ClientState) → d.reservation ≡ c.reservation → d.lines ≡ c.lines → Follows w c d
-  stays d same lines = same_reservation d same (λ r held.
+  stays : (d : ClientState) → d.reservation ≡ c.reservation → d.windows ≡ c.windows → Follows w c d
+  stays d same windows = same_reservation d same (λ r held.
       let g = f r (sym same ∙ held) in
       record {
         unlocked = g.unlocked;
-        acked = λ h l found. g.acked h l (ap (line_of h) (sym lines) ∙ found);
-        counts = λ h l found. g.counts h l (ap (line_of h) (sym lines) ∙ found);
+        acked = λ h l found. g.acked h l (ap (window_of h) (sym windows) ∙ found);
+        counts = λ h l found. g.counts h l (ap (window_of h) (sym windows) ∙ found);
       })
 
   -- ---- a step of the reservation
@@ -91,7 +95,8 @@ module _ (w : World) (c : ClientState) (f : PartyAttends w c) where
         (λ _ on. record {
           goes = λ h b a.
               let own = own_asked h b a in
-              ⊎_elim (λ (o : IsOver w h r.block). inl (subst (IsOver w h) own.1 o)) (λ (n : AskedAt s h s.stage). inr (record { reservation = s; held = refl; block = block ∙ own.1; asked = n })) (asks h own.0);
+              ⊎_elim (λ (o : IsOver w h r.block). inl (subst (IsOver w h) own.1 o))
+              (λ (n : AskedAt s h s.stage). inr (record { reservation = s; held = refl; block = block ∙ own.1; asked = n })) (asks h own.0);
           attends = λ q e.
               let g = f r held in
               subst (ClientAttends w (with_reservation c s)) (some_is s q e) (record {
@@ -109,9 +114,11 @@ module _ (w : World) (c : ClientState) (f : PartyAttends w c) where
       (handler_decides h x).0 (grind (arith, nat_tests))
 
   not_without : (h x : HandlerId) (hs : List HandlerId) → has hs x ≡ false → has (without h hs) x ≡ false
-  not_without h x hs e = by_test (λ t. has (without h hs) x ≡ t → t ≡ false) (has (without h hs) x) (λ _ is. absurd (true≢false (sym (has_without h x hs is) ∙ e))) (λ _ is. refl) refl
+  not_without h x hs e = by_test (λ t. has (without h hs) x ≡ t → t ≡ false) (has (without h hs) x)
+      (λ _ is. absurd (true≢false (sym (has_without h x hs is) ∙ e))) (λ _ is. refl) refl
 
-  step_follows : (m : Message) → Around w c m → (r s : ReservationState) (st : Step) → c.reservation ≡ Some r → StepRow r m s st → Attends w m → Follows w c (after_step c s st).0
+  step_follows : (m : Message) → Around w c m → (r s : ReservationState) (st : Step) → c.reservation ≡ Some r → StepRow r m s st → Attends w m
+      → Follows w c (after_step c s st).0
   step_follows m round r s st held (steps_over n) t = stays c refl refl
   step_follows m round r s st held (one_is_locked h at low more) t =
       stepped_follows r (at_stage r Locking (without h r.left)) held refl
@@ -120,7 +127,8 @@ module _ (w : World) (c : ClientState) (f : PartyAttends w c) where
       inr (
         old.0,
         inl (⊎_elim (λ (gone : has r.left x ≡ false). not_without h x r.left gone)
-            (λ (lowest : is_lowest x r.left ≡ true). subst (λ y. has (without h r.left) y ≡ false) (lowest_one h x r.left low lowest) (gone_without h r.left)) old.1),
+            (λ (lowest : is_lowest x r.left ≡ true). subst (λ y. has (without h r.left) y ≡ false) (lowest_one h x r.left low lowest) (gone_without h r.left))
+            old.1),
       ))
       (λ e. absurd (cc)) (λ gone x a. absurd (true≢false (sym gone)))
   step_follows m round r s st held (all_are_locked h at low none_left) t =
@@ -160,7 +168,7 @@ module _ (w : World) (c : ClientState) (f : PartyAttends w c) where
       subst (λ z. IsOver w z r.block) (is_gone_one h x r.left old (none_in_empty (without h r.left) x gone)) over)
 
   module _ (m : Message) (round : Around w c m) where
-    -- ---- lines
+    -- ---- windows
 
     up_to_le : (h : HandlerId) (n : ℕ) (o : Option (HandlerId × ℕ)) → up_to h n o ≤ n
     up_to_le h n None = omega arith
@@ -176,36 +184,41 @@ module _ (w : World) (c : ClientState) (f : PartyAttends w c) where
         below : nat_le q.1 n ≡ true → q.1 - 1 ≤ n
         below e = grind (arith, nat_tests)
 
-    module _ (r : ReservationState) (held : c.reservation ≡ Some r) (h : HandlerId) (k : ℕ) (told : IsReleased w h r.block) (le : k ≤ greatest_count h r.block w.sent) where
-      abbrev news : List LineState
-      news = at_line h (acknowledged k) c.lines
+    module _ (r : ReservationState) (held : c.reservation ≡ Some r) (h : HandlerId) (k : ℕ) (told : IsReleased w h r.block)
+        (le : k ≤ greatest_count h r.block w.sent) where
+      abbrev news : List WindowState
+      news = at_window h (acknowledged k) c.windows
 
-      raised : (l : LineState) → l.acked ≤ greatest_count h r.block w.sent → (acknowledged k l).acked ≤ greatest_count h r.block w.sent
+      raised : (l : WindowState) → l.acked ≤ greatest_count h r.block w.sent → (acknowledged k l).acked ≤ greatest_count h r.block w.sent
       raised l was = omega (arith, was, le)
 
-      news_told : LinesTold w r news
+      news_told : WindowsTold w r news
       news_told =
           let g = f r held in
-          let lines = round.lines r held in
+          let windows = round.windows r held in
           record {
-            handlers = handlers_at_line h (acknowledged k) (λ l. refl) c.lines ∙ lines.handlers;
-            fits = by_line (λ x l. LineFits (log_of r.block x w) l) h (acknowledged k) (λ l. refl) c.lines (λ l found. fits_acknowledged (log_of r.block h w) k l (lines.lines h l found)) (λ x l apart found. lines.lines x l found);
-            released = by_line (λ x l. 0 < l.acked → IsReleased w x r.block) h (acknowledged k) (λ l. refl) c.lines (λ l found some. told) (λ x l apart found. g.acked x l found);
-            counts = by_line (λ x l. l.acked ≤ greatest_count x r.block w.sent) h (acknowledged k) (λ l. refl) c.lines (λ l found. raised l (g.counts h l found)) (λ x l apart found. g.counts x l found);
+            handlers = handlers_at_window h (acknowledged k) (λ l. refl) c.windows ∙ windows.handlers;
+            fits = by_window (λ x l. WindowFits (log_of r.block x w) l) h (acknowledged k) (λ l. refl) c.windows
+                (λ l found. fits_acknowledged (log_of r.block h w) k l (windows.windows h l found)) (λ x l apart found. windows.windows x l found);
+            released = by_window (λ x l. 0 < l.acked → IsReleased w x r.block) h (acknowledged k) (λ l. refl) c.windows (λ l found some. told)
+                (λ x l apart found. g.acked x l found);
+            counts = by_window (λ x l. l.acked ≤ greatest_count x r.block w.sent) h (acknowledged k) (λ l. refl) c.windows
+                (λ l found. raised l (g.counts h l found)) (λ x l apart found. g.counts x l found);
           }
 
-      news_attend : (waits : Option (HandlerId × ℕ)) → PartyAttends w (with_lines c news waits)
+      news_attend : (waits : Option (HandlerId × ℕ)) → PartyAttends w (with_windows c news waits)
       news_attend waits q e =
           let one : r ≡ q = some_is r q (sym held ∙ e) in
           let t = news_told in
-          subst (ClientAttends w (with_lines c news waits)) one (record { unlocked = (f r held).unlocked; acked = t.released; counts = t.counts })
+          subst (ClientAttends w (with_windows c news waits)) one (record { unlocked = (f r held).unlocked; acked = t.released; counts = t.counts })
 
-      news_follow : (waits : Option (HandlerId × ℕ)) → Follows w c (with_lines c news waits)
-      news_follow waits = same_reservation (with_lines c news waits) refl (news_attend waits)
+      news_follow : (waits : Option (HandlerId × ℕ)) → Follows w c (with_windows c news waits)
+      news_follow waits = same_reservation (with_windows c news waits) refl (news_attend waits)
 
-      settled_follows : r.stage ≡ Unlocking → (waits : Option (HandlerId × ℕ)) → Follows w c (if all_over news then idle (with_lines c news waits) else with_lines c news waits)
+      settled_follows : r.stage ≡ Unlocking → (waits : Option (HandlerId × ℕ))
+          → Follows w c (if all_over news then idle (with_windows c news waits) else with_windows c news waits)
       settled_follows at waits =
-          by_test (λ t. all_over news ≡ t → Follows w c (if t then idle (with_lines c news waits) else with_lines c news waits)) (all_over news)
+          by_test (λ t. all_over news ≡ t → Follows w c (if t then idle (with_windows c news waits) else with_windows c news waits)) (all_over news)
           (λ _ over. record {
             goes = λ x b a.
                 let one : a.reservation ≡ r = some_is a.reservation r (sym a.held ∙ held) in
@@ -219,7 +232,7 @@ module _ (w : World) (c : ClientState) (f : PartyAttends w c) where
   row_follows m round d note (passed_over n) t = stays c refl refl
   row_follows m round d note (is_welcomed h left) t = stays d refl refl
   row_follows m round d note (takes_step n r held) t = step_follows n round r (reservation.heard r n).0 (reservation.heard r n).1 held (step_row r n) t
-  row_follows m round d note (is_acknowledged h n r l held opened line new_count) t =
+  row_follows m round d note (is_acknowledged h n r l held opened window new_count) t =
       let up = up_to_le m round h n c.waits in
       let le = round.counted h r.block n refl in
       settled_follows m round r held h (up_to h n c.waits) t (omega (arith, up, le)) (unlocking_is r.stage opened) c.waits
@@ -234,20 +247,22 @@ ok_is : (c d : ClientState) → ◌≡◌ {A = Outcome} (Ok c) (Ok d) → c ≡ 
 ok_is c d e = cc
 
 module _ (w : World) (c : ClientState) (f : PartyAttends w c) where
-  pub log_attends : (h : HandlerId) (e : Entry) (waits : Option (HandlerId × ℕ)) → PartyAttends w (with_lines c (at_line h (with_entry e) c.lines) waits)
+  pub log_attends : (h : HandlerId) (e : Entry) (waits : Option (HandlerId × ℕ)) → PartyAttends w (with_windows c (at_window h (with_entry e) c.windows) waits)
   log_attends h e waits r held =
       let g = f r held in
       record {
         unlocked = g.unlocked;
-        acked = by_line (λ x l. 0 < l.acked → IsReleased w x r.block) h (with_entry e) (λ l. refl) c.lines (λ l found. g.acked h l found) (λ x l apart found. g.acked x l found);
-        counts = by_line (λ x l. l.acked ≤ greatest_count x r.block w.sent) h (with_entry e) (λ l. refl) c.lines (λ l found. g.counts h l found) (λ x l apart found. g.counts x l found);
+        acked = by_window (λ x l. 0 < l.acked → IsReleased w x r.block) h (with_entry e) (λ l. refl) c.windows (λ l found. g.acked h l found)
+            (λ x l apart found. g.acked x l found);
+        counts = by_window (λ x l. l.acked ≤ greatest_count x r.block w.sent) h (with_entry e) (λ l. refl) c.windows (λ l found. g.counts h l found)
+            (λ x l apart found. g.counts x l found);
       }
 
-  pub end_attends : PartyAttends w (with_lines c (map with_end c.lines) None)
+  pub end_attends : PartyAttends w (with_windows c (map with_end c.windows) None)
   end_attends r held =
       let g = f r held in
       record {
         unlocked = g.unlocked;
-        acked = by_all (λ x l. 0 < l.acked → IsReleased w x r.block) with_end (λ l. refl) c.lines (λ h l found. g.acked h l found);
-        counts = by_all (λ x l. l.acked ≤ greatest_count x r.block w.sent) with_end (λ l. refl) c.lines (λ h l found. g.counts h l found);
+        acked = by_all (λ x l. 0 < l.acked → IsReleased w x r.block) with_end (λ l. refl) c.windows (λ h l found. g.acked h l found);
+        counts = by_all (λ x l. l.acked ≤ greatest_count x r.block w.sent) with_end (λ l. refl) c.windows (λ h l found. g.counts h l found);
       }

@@ -11,15 +11,15 @@ use Rattle.scoop_reserve.specs.State.{ReservationState, at_stage}
 use Rattle.scoop_reserve.specs.Starting.{fresh}
 use Rattle.scoop_reserve.specs.Hearing.{given_up_in}
 use Rattle.scoop_client.specs.declared.phase.Phase.TheVariants.{Greeting, Idle}
-use Rattle.scoop_client.specs.Line.{LineState, with_entry, with_end, at_line, is_ended}
-use Rattle.scoop_client.specs.State.{ClientState, phase_of, phase_of_block, phase_at, with_lines, with_reservation}
+use Rattle.scoop_client.specs.Window.{WindowState, with_entry, with_end, at_window, is_ended}
+use Rattle.scoop_client.specs.State.{ClientState, phase_of, phase_of_block, phase_at, with_windows, with_reservation}
 use Rattle.scoop_client.specs.Commands.{Command, Outcome, command, Reserve, DoCall, DoQuery, DoEnd, GiveUp, next_block, with_block}
 use Rattle.scoop_client.specs.Rows.{ReserveRow, begins_block, LogRow, is_logged, EndRow, ends_block, GiveUpRow, gives_up}
 use Rattle.scoop_client.proofs.CommandRows.{command_row}
 use Rattle.scoop_model.specs.World.{World}
 use Rattle.scoop_model.proofs.Basics.{by_test}
 use Rattle.scoop_model.proofs.Order.Commands.{started_fresh}
-use Rattle.scoop_model.proofs.Logging.Lines.{fresh_found}
+use Rattle.scoop_model.proofs.Logging.Windows.{fresh_found}
 use Rattle.scoop_calm.proofs.Handlers.{in_asked}
 use Rattle.scoop_calm.proofs.Attending.{AskedAt, ClientAttends, PartyAttends}
 use Rattle.scoop_calm.proofs.AttendingClients.{Follows, log_attends, end_attends}
@@ -38,8 +38,8 @@ phase_busy GivingUp t e = cc
 
 pub idle_none : (c : ClientState) (r : ReservationState) → phase_of c ≡ Idle → c.reservation ≡ Some r → ⊥
 idle_none c r e held =
-    by_test (λ t. (if t then phase_of_block c.lines c.reservation else Greeting) ≡ Idle → ⊥) (is_empty c.left)
-    (λ greeted f. phase_busy r.stage (is_ended c.lines) (ap (phase_of_block c.lines) (sym held) ∙ f))
+    by_test (λ t. (if t then phase_of_block c.windows c.reservation else Greeting) ≡ Idle → ⊥) (is_empty c.unwelcomed)
+    (λ greeted f. phase_busy r.stage (is_ended c.windows) (ap (phase_of_block c.windows) (sym held) ∙ f))
     (λ greeting f. cc) e
 
 module _ (w : World) (c : ClientState) (f : PartyAttends w c) where
@@ -54,18 +54,20 @@ module _ (w : World) (c : ClientState) (f : PartyAttends w c) where
             let one : fresh (next_block c) hs ≡ q = started_fresh (next_block c) hs c.handlers r begins ∙ some_is r q held in
             record {
               unlocked = λ at. absurd (let g : Locking ≡ Unlocking = ap (λ (y : ReservationState). y.stage) one ∙ at in cc);
-              acked = λ h l found some. absurd (let z : 0 ≡ l.acked = ap (λ (y : LineState). y.acked) (fresh_found hs h l found) in omega (arith, z, some));
-              counts = λ h l found. let z : 0 ≡ l.acked = ap (λ (y : LineState). y.acked) (fresh_found hs h l found) in omega (arith, z);
+              acked = λ h l found some. absurd (let z : 0 ≡ l.acked = ap (λ (y : WindowState). y.acked) (fresh_found hs h l found) in omega (arith, z, some));
+              counts = λ h l found. let z : 0 ≡ l.acked = ap (λ (y : WindowState). y.acked) (fresh_found hs h l found) in omega (arith, z);
             };
       })
   reserve_follows d hs o row e = absurd (cc)
 
   log_follows : (d : ClientState) (h : HandlerId) (n : Entry) (o : Outcome) → LogRow c h n o → o ≡ Ok d → Follows w c d
-  log_follows d h n o (is_logged l running free line room more) e = subst (Follows w c) (ok_is _ d e) (keeps (with_lines c (at_line h (with_entry n) c.lines) _) refl (log_attends w c f h n _))
+  log_follows d h n o (is_logged l running free window room more) e =
+      subst (Follows w c) (ok_is _ d e) (keeps (with_windows c (at_window h (with_entry n) c.windows) _) refl (log_attends w c f h n _))
   log_follows d h n o row e = absurd (cc)
 
   end_follows : (d : ClientState) (o : Outcome) → EndRow c o → o ≡ Ok d → Follows w c d
-  end_follows d o (ends_block running free room) e = subst (Follows w c) (ok_is (with_lines c (map with_end c.lines) None) d e) (keeps (with_lines c (map with_end c.lines) None) refl (end_attends w c f))
+  end_follows d o (ends_block running free room) e = subst (Follows w c) (ok_is (with_windows c (map with_end c.windows) None) d e)
+      (keeps (with_windows c (map with_end c.windows) None) refl (end_attends w c f))
   end_follows d o row e = absurd (cc)
 
   or_true : (t u : Bool) → (t ≡ false) ⊎ (u ≡ true) → (not t || u) ≡ true

@@ -20,7 +20,7 @@ use Rattle.scoop_handler.proofs.TableLaws.{number-row}
 use Rattle.scoop_reserve.specs.Handlers.{has}
 use Rattle.scoop_reserve.specs.State.{ReservationState}
 use Rattle.scoop_reserve.specs.Due as reserve
-use Rattle.scoop_client.specs.Line.{LineState, first_entries}
+use Rattle.scoop_client.specs.Window.{WindowState, first_entries}
 use Rattle.scoop_client.specs.Due.{due}
 use Rattle.scoop_client.specs.Hearing.{heard}
 use Rattle.scoop_client.specs.Rows.{DueRow, owes_nothing, greets, reserves, logs}
@@ -39,8 +39,8 @@ use Rattle.scoop_model.proofs.Order.Facts.{PartyFits, Ordered, all_found, all_pu
 use Rattle.scoop_model.proofs.Order.Handlers.{sent_tells}
 use Rattle.scoop_model.proofs.Order.Clients.{keeps_row}
 use Rattle.scoop_model.proofs.Order.Commands.{goes_on}
-use Rattle.scoop_model.proofs.Logging.Facts.{LinesFit, PartyLogs, Logging}
-use Rattle.scoop_model.proofs.Logging.Lines.{line_handler, found_has}
+use Rattle.scoop_model.proofs.Logging.Facts.{WindowsFit, PartyLogs, Logging}
+use Rattle.scoop_model.proofs.Logging.Windows.{window_handler, found_has}
 use Rattle.scoop_model.proofs.Logging.Greetings.{place}
 use Rattle.scoop_model.proofs.Logging.Openings.{StageOpened, Openings}
 use Rattle.scoop_model.proofs.Logging.OpeningClients.{unlocking_is}
@@ -94,7 +94,8 @@ module _ (ms : List Message) (h : HandlerId) where
   all_told [] all = tt
   all_told (r ∷ rs) all = (all.0, all_told rs all.1)
 
-  has_counted : (rs : List Ran) → AllByRecursion (λ (r : Ran). IsCounted (untold r)) rs → (b : Block) (n : ℕ) (a : ObjectAnswer) → HasRun rs b n a → n ≤ greatest_count h b ms
+  has_counted : (rs : List Ran) → AllByRecursion (λ (r : Ran). IsCounted (untold r)) rs → (b : Block) (n : ℕ) (a : ObjectAnswer) → HasRun rs b n a
+      → n ≤ greatest_count h b ms
   has_counted rs all b n a has =
       let P : Ran → Type 0 = λ r. r.number ≤ greatest_count h r.block ms in
       let at : has.ran.number ≤ greatest_count h has.ran.block ms = All-contains P rs has.ran (All-from_recursion P rs all) has.at in
@@ -112,13 +113,14 @@ answer_counted w tape h b n a has = at (site_of h w) refl has
         let number = number_found h w s e in
         has_counted w.sent h s.ran
         (all_told w.sent h s.ran (subst (AllByRecursion (IsCounted w.sent h)) (sym t.tape.ran)
-        (slots_counted w.sent h s.core.state.marks t.slots (subst (λ j. AllByRecursion (SlotWhole w.sent j s.core.state.marks) t.slots) number t.whole)))) b n a has
+        (slots_counted w.sent h s.core.state.marks t.slots (subst (λ j. AllByRecursion (SlotWhole w.sent j s.core.state.marks) t.slots) number t.whole))))
+        b n a has
 
 -- ---- what a client hears
 
 around : (w : World) → Background w → (k : ℕ) (m : Message) (p : Party) → sent_at k w ≡ Some m → party_of (client_of m) w ≡ Some p → Around w p.client m
 around w g k m p was at = record {
-  lines = λ r held. (all_found (PartyLogs w) (is_party (client_of m)) w.parties p g.logging.parties at).block r held;
+  windows = λ r held. (all_found (PartyLogs w) (is_party (client_of m)) w.parties p g.logging.parties at).block r held;
   counted = λ h b n e. told_count h b n w.sent (subst (λ x. Member x w.sent) e (sent_member w k m was));
   answered = λ h b n a e. answer_counted w g.taped h b n a (subst (TellsAnswer w) e (sent_all w k m was (TellsAnswer w) g.answering.messages));
   given_over = λ r held giving h a.
@@ -129,7 +131,8 @@ around w g k m p was at = record {
 
 -- ---- what a client sends
 
-owed_attends : (w : World) (c : ClientId) (p : Party) (r : ReservationState) (h : HandlerId) (m : Message) → party_of c w ≡ Some p → p.client.reservation ≡ Some r → r.block.client ≡ c → Reserves p.client.handlers r → OwedRow r h m → Attends w m
+owed_attends : (w : World) (c : ClientId) (p : Party) (r : ReservationState) (h : HandlerId) (m : Message) → party_of c w ≡ Some p
+    → p.client.reservation ≡ Some r → r.block.client ≡ c → Reserves p.client.handlers r → OwedRow r h m → Attends w m
 owed_attends w c p r h m at held own f (asks stage low) =
     inr (inr (record {
       party = p;
@@ -144,19 +147,21 @@ none_left : (t : Bool) (n : Message) → (if t then Some n else None) ≡ None �
 none_left true n e = absurd (cc)
 none_left false n e = refl
 
-due_attends : (w : World) (c : ClientId) (p : Party) (h : HandlerId) (o : Option Message) → party_of c w ≡ Some p → PartyAttends w p.client → ClientFits p.client → ((r : ReservationState) → p.client.reservation ≡ Some r → LinesFit w p.client r) → DueRow p.client h o
+due_attends : (w : World) (c : ClientId) (p : Party) (h : HandlerId) (o : Option Message) → party_of c w ≡ Some p → PartyAttends w p.client
+    → ClientFits p.client → ((r : ReservationState) → p.client.reservation ≡ Some r → WindowsFit w p.client r) → DueRow p.client h o
     → (m : Message) → o ≡ Some m → Attends w m
-due_attends w c p h o at f fits lines owes_nothing m e = absurd (cc)
-due_attends w c p h o at f fits lines (greets left) m e = let same : Hello h p.client.id p.client.inc ≡ m = cc in subst (Attends w) same tt
-due_attends w c p h o at f fits lines (reserves r n greeted held owes) m e =
-    let own : r.block.client ≡ c = ap (λ (y : Block). y.client) (lines r held).block ∙ id_found c w p at in
+due_attends w c p h o at f fits windows owes_nothing m e = absurd (cc)
+due_attends w c p h o at f fits windows (greets left) m e = let same : Hello h p.client.id p.client.inc ≡ m = cc in subst (Attends w) same tt
+due_attends w c p h o at f fits windows (reserves r n greeted held owes) m e =
+    let own : r.block.client ≡ c = ap (λ (y : Block). y.client) (windows r held).block ∙ id_found c w p at in
     owed_attends w c p r h m at held own (fits.block r held).reserves (owed_row r h m (owes ∙ e))
-due_attends w c p h o at f fits lines (logs r l greeted held free opened line some) m e =
+due_attends w c p h o at f fits windows (logs r l greeted held free opened window some) m e =
     let same : Log l.handler r.block (l.acked + 1) (first_entries p.client.batch l.unacked) ≡ m = cc in
     let stage = unlocking_is r.stage opened in
     let gone : has r.left h ≡ false = none_left (has r.left h) (Unlock h r.block) (sym (ap (reserve.due_in r h) stage) ∙ free) in
-    let named : has r.handlers h ≡ true = ap (λ hs. has hs h) (sym (lines r held).handlers) ∙ found_has (λ (y : LineState). y.handler) h p.client.lines l line in
-    subst (Attends w) same (subst (λ j. IsReleased w j r.block) (sym (line_handler h p.client.lines l line)) ((f r held).unlocked stage h named gone))
+    let named : has r.handlers h ≡ true = ap (λ hs. has hs h) (sym (windows r held).handlers)
+    ∙ found_has (λ (y : WindowState). y.handler) h p.client.windows l window in
+    subst (Attends w) same (subst (λ j. IsReleased w j r.block) (sym (window_handler h p.client.windows l window)) ((f r held).unlocked stage h named gone))
 
 -- ---- one client changes, and nothing is sent
 
@@ -165,7 +170,8 @@ party_put : (w : World) (c : ClientId) (p q : Party) → party_of c w ≡ Some p
 party_put w c p q at same =
     by_party (λ o. o ≡ Some q) w q p (id_of q) (ap (λ d. party_of d w) (same ∙ id_found c w p at) ∙ at) (λ is. refl) (λ apart. absurd (apart refl))
 
-module _ (w : World) (i : Attending w) (c : ClientId) (p q : Party) (at : party_of c w ≡ Some p) (same : id_of q ≡ id_of p) (ls : List BlockLog) (later : p.client.inc ≤ q.client.inc)
+module _ (w : World) (i : Attending w) (c : ClientId) (p q : Party) (at : party_of c w ≡ Some p) (same : id_of q ≡ id_of p) (ls : List BlockLog)
+    (later : p.client.inc ≤ q.client.inc)
     (block : (r : ReservationState) → p.client.reservation ≡ Some r → r.block ≡ newest_block p.client)
     (own : (h : HandlerId) (b : Block) → Goes p.client h b → (IsOver w h b ⊎ Goes q.client h b) ⊎ (p.client.inc < q.client.inc)) where
   abbrev pub next_world : World
@@ -188,7 +194,8 @@ module _ (w : World) (i : Attending w) (c : ClientId) (p q : Party) (at : party_
       let client : b.client ≡ id_of q = sym (ap (λ (y : Block). y.client) is) ∙ sym same in
       let there : party_of b.client next_world ≡ Some q = ap (λ d. find (is_party d) (set_party q w.parties)) client ∙ own_put in
       ⊎_elim
-      (λ (e : IsOver w h b ⊎ Goes q.client h b). ⊎_elim (λ (o : IsOver w h b). inr (inl o)) (λ (n : Goes q.client h b). inr (inr (record { party = q; at = there; goes = n }))) e)
+      (λ (e : IsOver w h b ⊎ Goes q.client h b). ⊎_elim (λ (o : IsOver w h b). inr (inl o))
+      (λ (n : Goes q.client h b). inr (inr (record { party = q; at = there; goes = n }))) e)
       (λ (older : p.client.inc < q.client.inc).
       let inc : p.client.inc ≡ b.inc = ap (λ (y : Block). y.inc) is in
       let now : inc_of next_world b.client ≡ q.client.inc = ap (λ o. option_map_or (λ (y : Party). y.client.inc) o 0) there in
@@ -219,7 +226,8 @@ same_attends w v i x sent parties = record {
   parties = λ c p at. client_more w v x p.client (i.parties c p (ap (find (is_party c)) (sym parties) ∙ at));
 }
 
-module _ (w : World) (g : Background w) (i : Attending w) (k : ℕ) (m : Message) (s : Site) (was : sent_at k w ≡ Some m) (found : site_of (handler_of m) w ≡ Some s) where
+module _ (w : World) (g : Background w) (i : Attending w) (k : ℕ) (m : Message) (s : Site) (was : sent_at k w ≡ Some m)
+    (found : site_of (handler_of m) w ≡ Some s) where
   abbrev now : Hearing
   now = hear s.core.state m
 
@@ -234,7 +242,9 @@ module _ (w : World) (g : Background w) (i : Attending w) (k : ℕ) (m : Message
 
   onto_heard : Onto w heard_now
   onto_heard = record {
-    over = λ h b o. at_set (λ st. IsOverIn st b) w site_now s still_here (over-row s.core.state m now (row s.core.state m) (all_found (λ (x : Site). IsCore x.core) (is_site (handler_of m)) w.sites s g.sound.sites found).state b) h o;
+    over = λ h b o. at_set (λ st. IsOverIn st b) w site_now s still_here
+        (over-row s.core.state m now (row s.core.state m) (all_found (λ (x : Site). IsCore x.core) (is_site (handler_of m)) w.sites s g.sound.sites found).state
+        b) h o;
     released = λ h b o. at_set (λ st. IsReleasedIn st b) w site_now s still_here (released-row s.core.state m now (row s.core.state m) b) h o;
     counts = λ h b. counts_more h b w.sent (option_to_list now.1.reply);
     incs = λ c. omega arith;
@@ -245,7 +255,12 @@ module _ (w : World) (g : Background w) (i : Attending w) (k : ℕ) (m : Message
   by_log x b t = onto_heard.released x b (subst (Attends w) t.is (sent_all w k m was (Attends w) i.messages))
 
   reply_attends : (n : Message) → TellsReleased now.0 m (Some n) → Attends heard_now n
-  reply_attends (Unlocked x b) t = record { site = site_now; found = ap (λ j. find (is_site j) (set_site site_now w.sites)) t.0 ∙ site_put w site_now s still_here; so = t.1 }
+  reply_attends (Unlocked x b) t = record {
+    site = site_now;
+    found = ap (λ j. find (is_site j) (set_site site_now w.sites)) t.0
+        ∙ site_put w site_now s still_here;
+    so = t.1;
+  }
   reply_attends (Logged x b n) t = by_log x b t
   reply_attends (Answer x b n a) t = by_log x b t
   reply_attends (Hello x c inc) t = tt
@@ -263,7 +278,8 @@ module _ (w : World) (g : Background w) (i : Attending w) (k : ℕ) (m : Message
       let is = (all_found (λ (x : Site). IsCore x.core) (is_site (handler_of m)) w.sites s g.sound.sites found).state in
       let told = released-reply s.core.state m now (row s.core.state m) is in
       record {
-        messages = all_pushed (Attends heard_now) w.sent now.1.reply (messages_more w heard_now onto_heard w.sent i.messages) (λ reply e. reply_attends reply (subst (TellsReleased now.0 m) e told));
+        messages = all_pushed (Attends heard_now) w.sent now.1.reply (messages_more w heard_now onto_heard w.sent i.messages)
+            (λ reply e. reply_attends reply (subst (TellsReleased now.0 m) e told));
         parties = λ c p at. client_more w heard_now onto_heard p.client (i.parties c p at);
       }
 
@@ -290,13 +306,15 @@ attending_kept w g i = record {
       let logs = all_found (PartyLogs w) (is_party c) w.parties p g.logging.parties at in
       record {
         messages = all_pushed (Attends v) w.sent (due p.client h) (messages_more w v onto w.sent i.messages)
-            (λ m e. attends_more w v onto m (due_attends w c p h (due p.client h) at (i.parties c p at) (all_found PartyFitsWell (is_party c) w.parties p g.fit at) logs.block (due_row p.client h) m e));
+            (λ m e. attends_more w v onto m (due_attends w c p h (due p.client h) at (i.parties c p at)
+            (all_found PartyFitsWell (is_party c) w.parties p g.fit at) logs.block (due_row p.client h) m e));
         parties = λ d x there. client_more w v onto x.client (i.parties d x there);
       });
   hears = λ k m s was goes here. hears_attending w g i k m s was here;
   notices = λ k m p was goes at. (
       let c = client_of m in
-      let kept = keeps_row w p.client (all_found (PartyFits w) (is_party c) w.parties p g.ordered.parties at).reservation m (heard p.client m).0 (heard p.client m).1 (heard_row p.client m) (sent_tells w k m was g.ordered.messages) in
+      let kept = keeps_row w p.client (all_found (PartyFits w) (is_party c) w.parties p g.ordered.parties at).reservation m (heard p.client m).0
+      (heard p.client m).1 (heard_row p.client m) (sent_tells w k m was g.ordered.messages) in
       let logs = all_found (PartyLogs w) (is_party c) w.parties p g.logging.parties at in
       let follows = heard_follows w p.client m (i.parties c p at) (around w g k m p was at) (sent_all w k m was (Attends w) i.messages) in
       let inc = kept.inc in

@@ -42,7 +42,8 @@ use Rattle.scoop_calm.proofs.Resting.{IsSettled, HasGivenBack, GaveBack}
 use Rattle.scoop_calm.proofs.Totals.{Member, all_member, distinct, member_found, found_member, some_is}
 use Rattle.scoop_calm.proofs.Handlers.{Filled, none, some, filled, has_head}
 use Rattle.scoop_calm.proofs.Reserving.{IsSettingOut, opens}
-use Rattle.scoop_calm.proofs.Engine.{Useful}
+use Rattle.scoop_calm.specs.declared.next.Next.TheVariants as next
+use Rattle.scoop_calm.proofs.Engine.{Useful, useful}
 use Rattle.scoop_calm.proofs.Marked.{MarkFits}
 use Rattle.scoop_calm.proofs.MarkedRuns.{SiteMarked}
 use Rattle.scoop_calm.proofs.AtMark.{MarkAt, mark_at}
@@ -81,17 +82,20 @@ queue_there b (y ∷ ys) x m e =
     (λ _ is. refl)
     (λ _ is.
     ⊎_elim
-    (λ (same : y ≡ x). absurd (true≢false (sym (subst (λ (z : Block). same_block b z ≡ true) (sym (ap (λ (z : PrivateQueue). z.block) same ∙ e)) (same_block_itself b)) ∙ is)))
+    (λ (same : y ≡ x). absurd (true≢false (sym (subst (λ (z : Block). same_block b z ≡ true) (sym (ap (λ (z : PrivateQueue). z.block) same ∙ e))
+    (same_block_itself b)) ∙ is)))
     (λ (n : Member x ys). queue_there b ys x n e) m) refl
 
-pub queue_found : (b : Block) (qs : List PrivateQueue) (o : Option PrivateQueue) → queue_of b qs ≡ o → is_some o ≡ true → (x : PrivateQueue) × (queue_of b qs ≡ Some x)
+pub queue_found : (b : Block) (qs : List PrivateQueue) (o : Option PrivateQueue) → queue_of b qs ≡ o → is_some o ≡ true → (x : PrivateQueue)
+    × (queue_of b qs ≡ Some x)
 queue_found b qs None is e = absurd (true≢false (sym e))
 queue_found b qs (Some x) is e = (x, is)
 
 pub found_in : {A : Type 0} (f : A → Bool) (xs : List A) (x : A) → find f xs ≡ Some x → Member x xs
 found_in f [] x e = absurd (cc)
 found_in f (y ∷ ys) x e =
-    by_test (λ t. (if t then Some y else find f ys) ≡ Some x → Member x (y ∷ ys)) (f y) (λ here g. inl (let p : y ≡ x = cc in p)) (λ there g. inr (found_in f ys x g)) e
+    by_test (λ t. (if t then Some y else find f ys) ≡ Some x → Member x (y ∷ ys)) (f y) (λ here g. inl (let p : y ≡ x = cc in p))
+    (λ there g. inr (found_in f ys x g)) e
 
 -- a client that has greeted is in the world
 pub party_there : (w : World) (c : ClientId) → 1 ≤ inc_of w c → (p : Party) × (party_of c w ≡ Some p)
@@ -105,8 +109,10 @@ number_has : (s : Site) (ss : List Site) → Member s ss → has (map number_of 
 number_has s [] m = absurd m
 number_has s (x ∷ xs) m =
     ⊎_elim
-    (λ (same : x ≡ s). ap (λ t. t || has (map number_of xs) (number_of s)) (ap (λ (y : Site). same_handler (number_of y) (number_of s)) same ∙ (handler_decides (number_of s) (number_of s)).1 refl))
-    (λ (n : Member s xs). let rest = number_has s xs n in by_test (λ t. (t || has (map number_of xs) (number_of s)) ≡ true) (same_handler (number_of x) (number_of s)) (λ _. refl) (λ _. rest)) m
+    (λ (same : x ≡ s). ap (λ t. t || has (map number_of xs) (number_of s))
+    (ap (λ (y : Site). same_handler (number_of y) (number_of s)) same ∙ (handler_decides (number_of s) (number_of s)).1 refl))
+    (λ (n : Member s xs). let rest = number_has s xs n in by_test (λ t. (t || has (map number_of xs) (number_of s)) ≡ true)
+    (same_handler (number_of x) (number_of s)) (λ _. refl) (λ _. rest)) m
 
 -- an open queue
 pub must_be_open : (q : PrivateQueue) → IsQueue q → q.entries ≡ [] → takes_more q.state ≡ true
@@ -117,14 +123,32 @@ must_be_open q is nothing = at q.state refl
     at Ended e = absurd (true≢false (sym (sym (ap ends nothing) ∙ is.ended ∙ ap is_ended e)))
     at Cut e = let positive = is.some (ap is_cut e) in let size = ap length nothing in absurd (omega (arith, positive, size))
 
-module _ (w : World) (r : IsReached w) (e : Everything (map (λ (p : Placement). p.handler) r.placements) w) (settled : AllByRecursion IsSettled w.parties) where
+module _ (w : World) (r : IsReached w) (e : Everything (map (λ (p : Placement). p.handler) r.placements) w) where
   pub site_found : (s : Site) → Member s w.sites → site_of (number_of s) w ≡ Some s
   site_found s m = member_found number_of same_handler handler_decides w.sites s (distinct number_of same_handler handler_decides w.sites (sites_apart w r)) m
 
   pub found_site : (h : HandlerId) (s : Site) → site_of h w ≡ Some s → Member s w.sites
   found_site h s here = found_member number_of same_handler handler_decides h w.sites s here
 
-  pub welcome_all : (p : Party) → Member p w.parties → p.client.left ≡ []
+  -- ---- blocks of which no Open was sent
+
+  pub no_open_mark : (s : Site) → Member s w.sites → (k : Mark) → mark_of k.client s.core.state.marks ≡ Some k → NoOpen w (block_of k) → k.stage ≡ AtOpen → ⊥
+  no_open_mark s m k found never at =
+      let f = all_member (SiteOpened w) w.sites s e.background.openings.sites m in
+      let fits = all_member (SiteFits w.joint) w.sites s e.background.ordered.sites m in
+      let there = (All-mark_of (IsMarkOpened s.opened) k.client s.core.state.marks k f.marks found).opened at in
+      true≢false (sym (e.background.standing.joint (block_of k) (left_has fits.left (block_of k) there)) ∙ never)
+
+  pub is_open_at : (stage : MarkStage) (t : Bool) → (is_open stage && t) ≡ true → stage ≡ AtOpen
+  is_open_at stage t f = by_cases stage f
+    where
+      by_cases : (stage : MarkStage) → (is_open stage && t) ≡ true → stage ≡ AtOpen
+      by_cases AtHeld f = absurd (true≢false (sym f))
+      by_cases AtOpen f = refl
+      by_cases AtShut f = absurd (true≢false (sym f))
+
+module _ (w : World) (r : IsReached w) (e : Everything (map (λ (p : Placement). p.handler) r.placements) w) (settled : AllByRecursion IsSettled w.parties) where
+  pub welcome_all : (p : Party) → Member p w.parties → p.client.unwelcomed ≡ []
   welcome_all p m = (all_member IsSettled w.parties p settled m).welcome.left
 
   -- a client with a mark at a site, in its own incarnation or past it
@@ -133,7 +157,8 @@ module _ (w : World) (r : IsReached w) (e : Everything (map (λ (p : Placement).
       let at = party_found w r e p mp in
       let hs = map (λ (q : Placement). q.handler) r.placements in
       let known = all_member (PartyKnown hs w.sites) w.parties p e.knowing.parties mp in
-      mark_at w r e p at (number_of s) (ap (λ ks. has ks (number_of s)) (known.handlers ∙ sym (sites_placed w r)) ∙ number_has s w.sites m) (ap (λ ks. has ks (number_of s)) (welcome_all p mp))
+      mark_at w r e p at (number_of s) (ap (λ ks. has ks (number_of s)) (known.handlers ∙ sym (sites_placed w r)) ∙ number_has s w.sites m)
+      (ap (λ ks. has ks (number_of s)) (welcome_all p mp))
 
   -- the client of a mark, and that mark
   pub record Owner (s : Site) (k : Mark) : Type 0 where
@@ -155,7 +180,7 @@ module _ (w : World) (r : IsReached w) (e : Everything (map (λ (p : Placement).
       let mp : Member p w.parties = found_in _ w.parties p there.1 in
       let id : id_of p ≡ k.client = id_found k.client w p there.1 in
       let a = mark_there s m p mp in
-      let site : a.site ≡ s = some_is a.site s (sym a.found ∙ site_found s m) in
+      let site : a.site ≡ s = some_is a.site s (sym a.found ∙ site_found w r e s m) in
       record {
         party = p;
         in_world = mp;
@@ -165,29 +190,16 @@ module _ (w : World) (r : IsReached w) (e : Everything (map (λ (p : Placement).
         own = some_is a.mark k (sym a.there ∙ (λ i. mark_of (id i) (site i).core.state.marks) ∙ found);
       }
 
-  -- ---- blocks of which no Open was sent
-
-  pub no_open_mark : (s : Site) → Member s w.sites → (k : Mark) → mark_of k.client s.core.state.marks ≡ Some k → NoOpen w (block_of k) → k.stage ≡ AtOpen → ⊥
-  no_open_mark s m k found never at =
-      let f = all_member (SiteOpened w) w.sites s e.background.openings.sites m in
-      let fits = all_member (SiteFits w.joint) w.sites s e.background.ordered.sites m in
-      let there = (All-mark_of (IsMarkOpened s.opened) k.client s.core.state.marks k f.marks found).opened at in
-      true≢false (sym (e.background.standing.joint (block_of k) (left_has fits.left (block_of k) there)) ∙ never)
-
-  pub is_open_at : (stage : MarkStage) (t : Bool) → (is_open stage && t) ≡ true → stage ≡ AtOpen
-  is_open_at stage t f = by_cases stage f
-    where
-      by_cases : (stage : MarkStage) → (is_open stage && t) ≡ true → stage ≡ AtOpen
-      by_cases AtHeld f = absurd (true≢false (sym f))
-      by_cases AtOpen f = refl
-      by_cases AtShut f = absurd (true≢false (sym f))
-
   -- ---- what a client that opens, or has opened, can do
 
   open_step : (p : Party) (at : party_of (id_of p) w ≡ Some p) (q : ReservationState) (held : p.client.reservation ≡ Some q) → q.stage ≡ Opening
-      → ((s : Site) → Member s w.sites → IsHeldIn s.core.state.marks q.block → (length s.core.state.queues == MAX_QUEUES) ≡ false) → (hs : List HandlerId) → q.left ≡ hs → Filled hs → Useful w
-  open_step p at q held stage room _ is none = absurd (true≢false (sym (ap is_empty is) ∙ (block_fits w r e p at q held).reserves.stays (subst IsSettingOut (sym stage) opens)))
-  open_step p at q held stage room _ is (some h hs) = open_useful w r e p at q held stage h (ap (λ ks. has ks h) is ∙ has_head h hs) (λ s here. room s (found_site h s here))
+      → ((s : Site) → Member s w.sites → IsHeldIn s.core.state.marks q.block → (length s.core.state.queues == MAX_QUEUES) ≡ false) → (hs : List HandlerId)
+      → q.left ≡ hs → Filled hs → Useful w
+  open_step p at q held stage room _ is none = absurd (true≢false
+      (sym (ap is_empty is) ∙ (block_fits w r e p at q held).reserves.stays (subst IsSettingOut (sym stage) opens)))
+  open_step p at q held stage room _ is (some h hs) =
+      useful w (next.Ask (id_of p) h) (open_useful w r e p at q held stage h (ap (λ ks. has ks h) is ∙ has_head h hs)
+      (λ s here. room s (found_site w r e h s here)))
 
   pub by_stage : (p : Party) (mp : Member p w.parties) (at : party_of (id_of p) w ≡ Some p) (q : ReservationState) (held : p.client.reservation ≡ Some q)
       → ((s : Site) → Member s w.sites → IsHeldIn s.core.state.marks q.block → (length s.core.state.queues == MAX_QUEUES) ≡ false)
@@ -197,7 +209,7 @@ module _ (w : World) (r : IsReached w) (e : Everything (map (λ (p : Placement).
   by_stage p mp at q held room idle Opening is = inr (open_step p at q held is room q.left refl (filled q.left))
   by_stage p mp at q held room idle Unlocking is =
       let back : q.left ≡ [] = subst (GaveBack q) is (subst HasGivenBack held (all_member IsSettled w.parties p settled mp).back) in
-      inr (run_useful w r e p at q held is back (λ h s here. idle s (found_site h s here)))
+      inr (run_useful w r e p at q held is back (λ h s here. idle s (found_site w r e h s here)))
   by_stage p mp at q held room idle GivingUp is =
       let back : q.left ≡ [] = subst (GaveBack q) is (subst HasGivenBack held (all_member IsSettled w.parties p settled mp).back) in
       absurd (true≢false (sym ((λ i. is_given_up_in (is i) && is_empty (back i))) ∙ (block_fits w r e p at q held).on))

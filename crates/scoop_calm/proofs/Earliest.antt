@@ -23,7 +23,8 @@ Before a b (x ∷ xs) = ((x ≡ a) × (has_block xs b ≡ true)) ⊎ Before a b 
 pub left_before : {xs ys : List Block} → IsSubsequence xs ys → (a b : Block) → Before a b xs → Before a b ys
 left_before nothing a b f = f
 left_before (left_out y xs ys s) a b f = inr (left_before s a b f)
-left_before (taken y xs ys s) a b f = ⊎_elim (λ (g : (y ≡ a) × (has_block xs b ≡ true)). inl (g.0, left_has s b g.1)) (λ (g : Before a b xs). inr (left_before s a b g)) f
+left_before (taken y xs ys s) a b f = ⊎_elim (λ (g : (y ≡ a) × (has_block xs b ≡ true)). inl (g.0, left_has s b g.1))
+    (λ (g : Before a b xs). inr (left_before s a b g)) f
 
 before_pushed : (xs : List Block) (a b : Block) → has_block xs a ≡ true → Before a b (xs ++ b ∷ [])
 before_pushed [] a b e = absurd (true≢false (sym e))
@@ -86,19 +87,24 @@ first_or test (x ∷ xs) apart =
 -- ---- the first private queue
 
 -- the block of a queue is one that has opened
-queue_step : (t : Slot) (ts : List Slot) (x : PrivateQueue) → (Member x (queues_of ts) → has_block (blocks_of ts) x.block ≡ true) → (o : Option QueueState) → Member x (queue_at t o ++ queues_of ts) → (same_block t.block x.block || has_block (blocks_of ts) x.block) ≡ true
-queue_step t ts x later None m = let rest = later m in by_test (λ y. (y || has_block (blocks_of ts) x.block) ≡ true) (same_block t.block x.block) (λ _. refl) (λ _. rest)
+queue_step : (t : Slot) (ts : List Slot) (x : PrivateQueue) → (Member x (queues_of ts) → has_block (blocks_of ts) x.block ≡ true) → (o : Option QueueState)
+    → Member x (queue_at t o ++ queues_of ts) → (same_block t.block x.block || has_block (blocks_of ts) x.block) ≡ true
+queue_step t ts x later None m = let rest = later m in by_test (λ y. (y || has_block (blocks_of ts) x.block) ≡ true) (same_block t.block x.block) (λ _. refl)
+    (λ _. rest)
 queue_step t ts x later (Some q) m =
     ⊎_elim
-    (λ (e : slot_queue t q ≡ x). ap (λ y. y || has_block (blocks_of ts) x.block) (ap (λ (z : PrivateQueue). same_block t.block z.block) (sym e) ∙ same_block_itself t.block))
-    (λ (n : Member x (queues_of ts)). let rest = later n in by_test (λ y. (y || has_block (blocks_of ts) x.block) ≡ true) (same_block t.block x.block) (λ _. refl) (λ _. rest))
+    (λ (e : slot_queue t q ≡ x). ap (λ y. y || has_block (blocks_of ts) x.block)
+    (ap (λ (z : PrivateQueue). same_block t.block z.block) (sym e) ∙ same_block_itself t.block))
+    (λ (n : Member x (queues_of ts)). let rest = later n in by_test (λ y. (y || has_block (blocks_of ts) x.block) ≡ true) (same_block t.block x.block)
+    (λ _. refl) (λ _. rest))
     m
 
 queue_block : (ss : List Slot) (x : PrivateQueue) → Member x (queues_of ss) → has_block (blocks_of ss) x.block ≡ true
 queue_block [] x m = absurd m
 queue_block (t ∷ ts) x m = queue_step t ts x (queue_block ts x) t.state m
 
-pub opened_queue : (qs : List PrivateQueue) (bs : List Block) (ss : List Slot) → qs ≡ queues_of ss → bs ≡ blocks_of ss → (x : PrivateQueue) → Member x qs → has_block bs x.block ≡ true
+pub opened_queue : (qs : List PrivateQueue) (bs : List Block) (ss : List Slot) → qs ≡ queues_of ss → bs ≡ blocks_of ss → (x : PrivateQueue) → Member x qs
+    → has_block bs x.block ≡ true
 opened_queue qs bs ss queues opened x m = ap (λ ys. has_block ys x.block) opened ∙ queue_block ss x (subst (Member x) queues m)
 
 -- of a queue behind the first one, the first one's block comes before
@@ -108,18 +114,22 @@ first_is y z ys zs f = cc
 rest_is : (y z : PrivateQueue) (ys zs : List PrivateQueue) → y ∷ ys ≡ z ∷ zs → ys ≡ zs
 rest_is y z ys zs f = cc
 
-before_step : (t : Slot) (ts : List Slot) (y : PrivateQueue) (ys : List PrivateQueue) (x : PrivateQueue) → Member x ys → (y ∷ ys ≡ queues_of ts → Before y.block x.block (blocks_of ts)) → (o : Option QueueState) → y ∷ ys ≡ queue_at t o ++ queues_of ts → Before y.block x.block (blocks_of (t ∷ ts))
+before_step : (t : Slot) (ts : List Slot) (y : PrivateQueue) (ys : List PrivateQueue) (x : PrivateQueue) → Member x ys
+    → (y ∷ ys ≡ queues_of ts → Before y.block x.block (blocks_of ts)) → (o : Option QueueState) → y ∷ ys ≡ queue_at t o ++ queues_of ts
+    → Before y.block x.block (blocks_of (t ∷ ts))
 before_step t ts y ys x m later None f = inr (later f)
 before_step t ts y ys x m later (Some q) f =
     let head = first_is y (slot_queue t q) ys (queues_of ts) f in
     let tail = rest_is y (slot_queue t q) ys (queues_of ts) f in
     inl (sym (ap (λ (z : PrivateQueue). z.block) head), queue_block ts x (subst (Member x) tail m))
 
-first_before : (ss : List Slot) (y : PrivateQueue) (ys : List PrivateQueue) → y ∷ ys ≡ queues_of ss → (x : PrivateQueue) → Member x ys → Before y.block x.block (blocks_of ss)
+first_before : (ss : List Slot) (y : PrivateQueue) (ys : List PrivateQueue) → y ∷ ys ≡ queues_of ss → (x : PrivateQueue) → Member x ys
+    → Before y.block x.block (blocks_of ss)
 first_before [] y ys e x m = absurd (cc)
 first_before (t ∷ ts) y ys e x m = before_step t ts y ys x m (λ f. first_before ts y ys f x m) t.state e
 
-pub order_of : (qs : List PrivateQueue) (bs : List Block) (ss : List Slot) → qs ≡ queues_of ss → bs ≡ blocks_of ss → (y : PrivateQueue) (ys : List PrivateQueue) → qs ≡ y ∷ ys → (x : PrivateQueue) → Member x ys → Before y.block x.block bs
+pub order_of : (qs : List PrivateQueue) (bs : List Block) (ss : List Slot) → qs ≡ queues_of ss → bs ≡ blocks_of ss → (y : PrivateQueue) (ys : List PrivateQueue)
+    → qs ≡ y ∷ ys → (x : PrivateQueue) → Member x ys → Before y.block x.block bs
 order_of qs bs ss queues opened y ys is x m = subst (Before y.block x.block) (sym opened) (first_before ss y ys (sym is ∙ queues) x m)
 
 -- where nothing can run, the first queue has nothing pending

@@ -1,21 +1,30 @@
 -- What is so of a reached world wherever it is so of each in which less is left to do, is so of all of them.
-use Rattle.std.proofs.Common.{ℕ, zero, suc, ◌<◌, ◌≤◌, List, [], arith}
+use Rattle.std.proofs.Common.{ℕ, zero, suc, ◌<◌, ◌≤◌, List, ◌++◌, arith}
 use Rattle.scoop_model.specs.declared.event.Event.{Event}
 use Rattle.scoop_model.specs.World.{World}
 use Rattle.scoop_model.specs.Reach.{IsReached}
 use Rattle.scoop_calm.specs.Left.{clients_left, room_left, work_left}
-use Rattle.scoop_calm.specs.Next.{choices}
-use Rattle.scoop_calm.specs.Settling.{Settles, stays}
-use Rattle.scoop_calm.proofs.Totals.{Member}
+use Rattle.scoop_calm.specs.declared.next.Next.{Next}
+use Rattle.scoop_calm.specs.Next.{events_of}
+use Rattle.scoop_calm.specs.Settling.{Settles}
+use Rattle.scoop_calm.proofs.Chosen.{IsChoice}
 use Rattle.scoop_calm.proofs.Measures.{Less, for_clients, for_room, for_work}
 
--- some events, of those that may be done, after which less is left to do
-pub record Useful (w : World) : Type 0 where
+-- it may be next, and leaves less to do
+pub record Helps (w : World) (x : Next) : Type 0 where
   pub after : World
   pub reached : IsReached after
   pub less : Less after w
-  pub goes : (es : List Event) (u : World) → Settles after es u → (fs : List Event) × Settles w fs u
-  pub choice : Member (goes [] after (stays after)).0 (choices w)
+  pub goes : (es : List Event) (u : World) → Settles after es u → Settles w (events_of w x ++ es) u
+  pub choice : IsChoice w x
+
+-- something does
+pub record Useful (w : World) : Type 0 where
+  pub next : Next
+  pub helps : Helps w next
+
+pub useful : (w : World) (x : Next) → Helps w x → Useful w
+useful w x h = record { next = x; helps = h }
 
 module _ (Good : World → Type 0) where
   by_less :

@@ -35,7 +35,8 @@ Played w = Base w × (Answering w × Taped w)
 played_kept : (w : World) → Played w → Changes Played w
 played_kept w i =
     let t = i.0.0.0 in
-    both_kept Base (λ v. Answering v × Taped v) w (base_kept w i.0) (both_kept Answering Taped w (answering_kept w t.0.0 t.1 i.1.0) (taped_kept w t.0.0 t.0.1 t.1 i.1.1))
+    both_kept Base (λ v. Answering v × Taped v) w (base_kept w i.0)
+    (both_kept Answering Taped w (answering_kept w t.0.0 t.1 i.1.0) (taped_kept w t.0.0 t.0.1 t.1 i.1.1))
 
 abbrev Kept : World → Type 0
 Kept w = Played w × (Marked w × AllFit w)
@@ -76,7 +77,15 @@ all_kept hs w i =
 
 parties_known : (hs : List HandlerId) (ss : List Site) (ns : List Newcomer) → AllByRecursion (PartyKnown hs ss) (map (new_party hs) ns)
 parties_known hs ss [] = tt
-parties_known hs ss (n ∷ ns) = (record { handlers = refl; greeted = λ h e f. absurd (true≢false (sym e ∙ f)); block = λ r e. absurd (cc) }, parties_known hs ss ns)
+parties_known hs ss (n ∷ ns) = (
+  record {
+    handlers = refl;
+    greeted = λ h e f. absurd (true≢false (sym e ∙ f));
+    block =
+        λ r e. absurd (cc);
+  },
+  parties_known hs ss ns,
+)
 
 opens_knowing : (ps : List Placement) (ns : List Newcomer) → Knowing (map (λ (p : Placement). p.handler) ps) (opening ps ns)
 opens_knowing ps ns = let hs = map (λ (p : Placement). p.handler) ps in record { messages = tt; parties = parties_known hs (opening ps ns).sites ns }
@@ -95,6 +104,14 @@ everything w r =
     let ns = r.newcomers in
     let i : All hs w =
     subst (All hs) (ap (λ (x : Run). x.0) r.leads)
-    (steps_kept (All hs) (all_kept hs) (opening ps ns) r.events
-    ((((((opens_told_more ps ns r.opens, opens_standing ps ns), (opens_answering ps ns, opens_taped ps ns)), (opens_marked ps ns, opens_fit ps ns)), opens_attending ps ns), tt), opens_knowing ps ns)) in
+    (steps_kept (All hs) (all_kept hs) (opening ps ns) r.events (
+      (
+        (
+          (((opens_told_more ps ns r.opens, opens_standing ps ns), (opens_answering ps ns, opens_taped ps ns)), (opens_marked ps ns, opens_fit ps ns)),
+          opens_attending ps ns,
+        ),
+        tt,
+      ),
+      opens_knowing ps ns,
+    )) in
     record { background = background w i.0.0.0; told = i.0.0.0.0.0.0; attending = i.0.0.1; apart = i.0.1; knowing = i.1 }

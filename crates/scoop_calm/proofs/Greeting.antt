@@ -1,5 +1,5 @@
 -- A client that a handler hasn't welcomed can greet it.
-use Rattle.std.proofs.Common.{◌≡◌, ℕ, ◌≤◌, ◌==◌, ◌&&◌, true, false, nat_lt, length, map, Option, Some, None, refl, sym, ap, ◌∙◌, arith}
+use Rattle.std.proofs.Common.{◌≡◌, ℕ, ◌≤◌, ◌==◌, ◌&&◌, true, false, nat_lt, length, map, Option, Some, None, refl, sym, ap, ◌∙◌, arith, subst}
 use Rattle.std.specs.Prelude.{if◌then◌else◌}
 use Rattle.std.proofs.lemmas.Bool.Decides.{nat_tests}
 use Rattle.std.proofs.lemmas.Bool.{eq-eqb}
@@ -19,7 +19,7 @@ use Rattle.scoop_handler.specs.Hearing.{hear_hello, dropped, known, greeted_firs
 use Rattle.scoop_handler.proofs.MarkLists.{All-mark_of, mark_of-client}
 use Rattle.scoop_reserve.specs.Handlers.{has, without}
 use Rattle.scoop_client.specs.declared.phase.ClientNote.TheVariants.{Welcomed}
-use Rattle.scoop_client.specs.State.{ClientState, with_left}
+use Rattle.scoop_client.specs.State.{ClientState, with_unwelcomed}
 use Rattle.scoop_client.specs.Due.{due_in_block}
 use Rattle.scoop_client.specs.Hearing.{heard, hear_welcome, ignored}
 use Rattle.scoop_model.specs.World.{World, Site, Party, number_of, id_of, is_site, is_party, site_of, party_of}
@@ -35,14 +35,16 @@ use Rattle.scoop_model.proofs.Knowing.Facts.{PartyKnown}
 use Rattle.scoop_calm.proofs.Handlers.{itself, less_without}
 use Rattle.scoop_calm.proofs.Clients.{PartyFitsWell}
 use Rattle.scoop_calm.proofs.MarkedRuns.{SiteMarked}
-use Rattle.scoop_calm.proofs.Engine.{Useful}
+use Rattle.scoop_calm.specs.declared.next.Next.TheVariants as next
+use Rattle.scoop_calm.proofs.Engine.{Helps}
 use Rattle.scoop_calm.proofs.Room.{has_room}
 use Rattle.scoop_calm.proofs.Talk.{Replies, asks_useful, site_there}
 use Rattle.scoop_calm.proofs.Everything.{Everything}
 
 -- ---- the handler
 
-hello_heard : (s : HandlerState) (c : ClientId) (inc : ℕ) (o : Option Mark) → (o ≡ None → (length s.marks == MAX_CLIENTS) ≡ false) → ((k : Mark) → o ≡ Some k → k.inc ≤ inc) → mark_of c s.marks ≡ o → Replies s (Hello s.number c inc) (Welcome s.number c inc)
+hello_heard : (s : HandlerState) (c : ClientId) (inc : ℕ) (o : Option Mark) → (o ≡ None → (length s.marks == MAX_CLIENTS) ≡ false)
+    → ((k : Mark) → o ≡ Some k → k.inc ≤ inc) → mark_of c s.marks ≡ o → Replies s (Hello s.number c inc) (Welcome s.number c inc)
 hello_heard s c inc None room le found = record {
   state = with_mark s (greeting_mark c inc);
   told = Greeted;
@@ -71,14 +73,16 @@ hello_heard s c inc (Some k) room le found =
 
 -- ---- the client
 
-welcome_heard : (c : ClientState) (h : HandlerId) → has c.left h ≡ true → heard c (Welcome h c.id c.inc) ≡ (with_left c (without h c.left), Welcomed h)
+welcome_heard : (c : ClientState) (h : HandlerId) → has c.unwelcomed h ≡ true
+    → heard c (Welcome h c.id c.inc) ≡ (with_unwelcomed c (without h c.unwelcomed), Welcomed h)
 welcome_heard c h left =
     let own : (same_client c.id c.id && c.inc == c.inc) ≡ true = (λ i. (client_decides c.id c.id).1 refl i && eq-eqb c.inc c.inc refl i) in
-    ap (λ t. if t then hear_welcome c h else ignored c) own ∙ ap (λ t. if t then (with_left c (without h c.left), Welcomed h) else ignored c) left
+    ap (λ t. if t then hear_welcome c h else ignored c) own ∙ ap (λ t. if t then (with_unwelcomed c (without h c.unwelcomed), Welcomed h) else ignored c) left
 
 -- ---- both
 
-pub greet_useful : (w : World) (r : IsReached w) → Everything (map (λ (p : Placement). p.handler) r.placements) w → (p : Party) → party_of (id_of p) w ≡ Some p → (h : HandlerId) → has p.client.left h ≡ true → Useful w
+pub greet_useful : (w : World) (r : IsReached w) → Everything (map (λ (p : Placement). p.handler) r.placements) w → (p : Party) → party_of (id_of p) w ≡ Some p
+    → (h : HandlerId) → has p.client.unwelcomed h ≡ true → Helps w (next.Ask (id_of p) h)
 greet_useful w r e p at h left =
     let g = e.background in
     let c = p.client in
@@ -90,7 +94,7 @@ greet_useful w r e p at h left =
     let s : Site = there.0 in
     let number : number_of s ≡ h = number_found h w s there.1 in
     let here : site_of (number_of s) w ≡ Some s = place w h s there.1 in
-    let left_here : has c.left (number_of s) ≡ true = ap (has c.left) number ∙ left in
+    let left_here : has c.unwelcomed (number_of s) ≡ true = ap (has c.unwelcomed) number ∙ left in
     let core = all_found (λ (x : Site). IsCore x.core) (is_site h) w.sites s g.sound.sites there.1 in
     let marks = all_found (SiteMarked w) (is_site h) w.sites s g.marked.sites there.1 in
     let upto = all_found (MarksUpto w) (is_site h) w.sites s e.told.1.0.marks there.1 in
@@ -103,8 +107,9 @@ greet_useful w r e p at h left =
     let own = ap (inc_of w) (mark_of-client c.id s.core.state.marks k found) in
     omega (arith, le, own, inc))
     refl in
-    let shorter = less_without (number_of s) c.left left_here in
-    asks_useful w r p s (Hello (number_of s) c.id c.inc) (Welcome (number_of s) c.id c.inc) at here
+    let shorter = less_without (number_of s) c.unwelcomed left_here in
+    subst (λ n. Helps w (next.Ask (id_of p) n)) number
+    (asks_useful w r p s (Hello (number_of s) c.id c.inc) (Welcome (number_of s) c.id c.inc) at here
     (ap (λ t. if t then Some (Hello (number_of s) c.id c.inc) else due_in_block c (number_of s) c.reservation) left_here)
-    refl refl replies refl refl
-    (with_left c (without (number_of s) c.left), Welcomed (number_of s)) (welcome_heard c (number_of s) left_here) refl (omega (arith, shorter))
+    refl refl replies refl refl refl
+    (with_unwelcomed c (without (number_of s) c.unwelcomed), Welcomed (number_of s)) (welcome_heard c (number_of s) left_here) refl (omega (arith, shorter)))

@@ -34,7 +34,8 @@ pub shorter_without : (h : HandlerId) (hs : List HandlerId) → length (without 
 shorter_without h [] = omega arith
 shorter_without h (x ∷ xs) =
     let rest = shorter_without h xs in
-    by_test (λ t. length (if not t then x ∷ without h xs else without h xs) ≤ length (x ∷ xs)) (same_handler x h) (λ gone. omega (arith, rest)) (λ stays. omega (arith, rest))
+    by_test (λ t. length (if not t then x ∷ without h xs else without h xs) ≤ length (x ∷ xs)) (same_handler x h) (λ gone. omega (arith, rest))
+    (λ stays. omega (arith, rest))
 
 pub less_without : (h : HandlerId) (hs : List HandlerId) → has hs h ≡ true → length (without h hs) < length hs
 less_without h [] e = absurd (true≢false (sym e))
@@ -53,7 +54,8 @@ gone_without h (x ∷ xs) =
 -- ---- the lowest
 
 pub lowest_has : (h : HandlerId) (hs : List HandlerId) → is_lowest h hs ≡ true → has hs h ≡ true
-lowest_has h hs e = by_test (λ t. has hs h ≡ t → (t && list_all (λ x. nat_le h.0 x.0) hs) ≡ true → t ≡ true) (has hs h) (λ is _ _. refl) (λ is _ f. absurd (true≢false (sym f))) refl e
+lowest_has h hs e = by_test (λ t. has hs h ≡ t → (t && list_all (λ x. nat_le h.0 x.0) hs) ≡ true → t ≡ true) (has hs h) (λ is _ _. refl)
+    (λ is _ f. absurd (true≢false (sym f))) refl e
 
 all_of : (h : HandlerId) (hs : List HandlerId) (x : HandlerId) → list_all (λ y. nat_le h.0 y.0) hs ≡ true → has hs x ≡ true → h.0 ≤ x.0
 all_of h [] x all e = absurd (true≢false (sym e))
@@ -77,7 +79,8 @@ pub record Lowest (hs : List HandlerId) : Type 0 where
 all_higher : (h g : HandlerId) (hs : List HandlerId) → h.0 ≤ g.0 → list_all (λ x. nat_le g.0 x.0) hs ≡ true → list_all (λ x. nat_le h.0 x.0) hs ≡ true
 all_higher h g [] le e = refl
 all_higher h g (x ∷ xs) le e =
-    by_test (λ u. nat_le g.0 x.0 ≡ u → (u && list_all (λ z. nat_le g.0 z.0) xs) ≡ true → (nat_le h.0 x.0 && list_all (λ z. nat_le h.0 z.0) xs) ≡ true) (nat_le g.0 x.0)
+    by_test (λ u. nat_le g.0 x.0 ≡ u → (u && list_all (λ z. nat_le g.0 z.0) xs) ≡ true → (nat_le h.0 x.0 && list_all (λ z. nat_le h.0 z.0) xs) ≡ true)
+    (nat_le g.0 x.0)
     (λ _ is f. let here : nat_le h.0 x.0 ≡ true = grind (arith, nat_tests) in ap (λ t. t && list_all (λ z. nat_le h.0 z.0) xs) here ∙ all_higher h g xs le f)
     (λ _ is f. absurd (true≢false (sym f))) refl e
 
@@ -157,7 +160,8 @@ NoTwice (x ∷ xs) = (has xs x ≡ false) × NoTwice xs
 
 has_before : (xs ys : List HandlerId) (h : HandlerId) → has xs h ≡ true → has (xs ++ ys) h ≡ true
 has_before [] ys h e = absurd (true≢false (sym e))
-has_before (x ∷ xs) ys h e = by_test (λ t. (t || has xs h) ≡ true → (t || has (xs ++ ys) h) ≡ true) (same_handler x h) (λ _ _. refl) (λ _ f. has_before xs ys h f) e
+has_before (x ∷ xs) ys h e = by_test (λ t. (t || has xs h) ≡ true → (t || has (xs ++ ys) h) ≡ true) (same_handler x h) (λ _ _. refl)
+    (λ _ f. has_before xs ys h f) e
 
 has_pushed : (xs : List HandlerId) (h : HandlerId) → has (xs ++ h ∷ []) h ≡ true
 has_pushed [] h = has_head h []
@@ -182,7 +186,8 @@ apart_after seen (x ∷ xs) e =
       new = λ h m.
           by_test (λ t. same_handler x h ≡ t → (t || has xs h) ≡ true → has seen h ≡ false) (same_handler x h)
           (λ _ same _. subst (λ y. has seen y ≡ false) ((handler_decides x h).0 same) is)
-          (λ _ other g. by_test (λ t. has seen h ≡ t → t ≡ false) (has seen h) (λ _ there. absurd (true≢false (sym (has_before seen (x ∷ []) h there) ∙ rest.new h g))) (λ _ there. refl) refl) refl m;
+          (λ _ other g. by_test (λ t. has seen h ≡ t → t ≡ false) (has seen h)
+          (λ _ there. absurd (true≢false (sym (has_before seen (x ∷ []) h there) ∙ rest.new h g))) (λ _ there. refl) refl) refl m;
     }) refl e
 
 pub none_repeated : (hs : List HandlerId) → first_repeated hs ≡ None → NoTwice hs

@@ -11,7 +11,8 @@ use Rattle.scoop_model.specs.Step.{step}
 use Rattle.scoop_model.specs.Reach.{Run, next, run_after, Leads}
 use Rattle.scoop_calm.specs.Settling.{Settles, stays, begins, finishes, ends, asks}
 
-one : (n : ℕ) (w v u : World) (es : List Event) (x : Event) (t : WorldNote) → step w x ≡ Ok (v, t) → run_after (n + 1) v es ≡ (u, Ok (n + 1 + length es)) → run_after n w (x ∷ es) ≡ (u, Ok (n + length (x ∷ es)))
+one : (n : ℕ) (w v u : World) (es : List Event) (x : Event) (t : WorldNote) → step w x ≡ Ok (v, t) → run_after (n + 1) v es ≡ (u, Ok (n + 1 + length es))
+    → run_after n w (x ∷ es) ≡ (u, Ok (n + length (x ∷ es)))
 one n w v u es x t e rest =
     let made : ℕ → Run = λ k. (u, Ok k) in
     let more : n + 1 + length es ≡ n + length (x ∷ es) = omega arith in

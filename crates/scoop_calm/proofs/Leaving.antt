@@ -17,7 +17,7 @@ use Rattle.scoop_handler.specs.State.{HandlerState, IsState, is_holder, is_unfin
 use Rattle.scoop_handler.specs.Hearing.{Hearing, greeting_mark, holder_without}
 use Rattle.scoop_handler.specs.Running.{Task, mark_after, after, ran_of}
 use Rattle.scoop_handler.specs.Growing.{MarksGrow}
-use Rattle.scoop_handler.specs.Rows.{Row, first_greeting, newer_greeting, lock_granted, open_granted, unlock_new, unlock_holder, log_taken}
+use Rattle.scoop_handler.specs.Rows.{Row, first_greeting, newer_greeting, lock_granted, is_opened, unlock_of_a_block_never_held, is_freed, is_taken}
 use Rattle.scoop_handler.proofs.MarkLists.{mark_of-client, mark_of-set_mark_own, mark_of-set_mark_other, mark_of-add_mark_other, client_from_same}
 use Rattle.scoop_handler.proofs.After.{mark_of-after, MarksGrow-after}
 use Rattle.scoop_handler.proofs.Beside.{apart_blocks}
@@ -53,7 +53,8 @@ or_right true u e = absurd (true≢false e)
 or_right false u e = e
 
 -- another holder
-unless_holder : (o p : Option Block) (k : Mark) → (is_holder o (block_of k) ≡ false → is_holder p (block_of k) ≡ false) → unfinished o k ≡ false → unfinished p k ≡ false
+unless_holder : (o p : Option Block) (k : Mark) → (is_holder o (block_of k) ≡ false → is_holder p (block_of k) ≡ false) → unfinished o k ≡ false
+    → unfinished p k ≡ false
 unless_holder o p k less e = ap (λ t. t || (is_open k.stage && not k.ended)) (less (or_left _ _ e)) ∙ or_right (is_holder o (block_of k)) _ e
 
 held_unfinished : (o : Option Block) (b : Block) (k : Mark) → o ≡ Some b → block_of k ≡ b → unfinished o k ≡ false → ⊥
@@ -68,7 +69,8 @@ open_unfinished o k at on e =
 
 -- a mark is as it was, or the one that is new
 set_case :
-    (Q : Mark → Mark → Type 0) (y old : Mark) (marks : List Mark) (c : ClientId) (k x : Mark) → mark_of y.client marks ≡ Some old → mark_of c marks ≡ Some k → mark_of c (set_mark y marks) ≡ Some x
+    (Q : Mark → Mark → Type 0) (y old : Mark) (marks : List Mark) (c : ClientId) (k x : Mark) → mark_of y.client marks ≡ Some old → mark_of c marks ≡ Some k
+    → mark_of c (set_mark y marks) ≡ Some x
     → Q old y → (same_client c y.client ≡ false → Q k k) → Q k x
 set_case Q y old marks c k x was here now own other =
     by_test (λ t. same_client c y.client ≡ t → Q k x) (same_client c y.client)
@@ -93,13 +95,17 @@ without_less None c b e = refl
 without_less (Some y) c b e = by_test (λ t. is_holder (if t then None else Some y) b ≡ false) (same_client y.client c) (λ _. refl) (λ _. e)
 
 turned : (c d : ClientId) → same_client c d ≡ false → same_client d c ≡ false
-turned c d e = by_test (λ t. same_client d c ≡ t → t ≡ false) (same_client d c) (λ _ is. absurd (true≢false (sym ((client_decides c d).1 (sym ((client_decides d c).0 is))) ∙ e))) (λ _ is. refl) refl
+turned c d e = by_test (λ t. same_client d c ≡ t → t ≡ false) (same_client d c)
+    (λ _ is. absurd (true≢false (sym ((client_decides c d).1 (sym ((client_decides d c).0 is))) ∙ e))) (λ _ is. refl) refl
 
 -- a block of another client
-other_block : (b : Block) (c : ClientId) (k : Mark) (marks : List Mark) → mark_of c marks ≡ Some k → same_client c b.client ≡ false → same_block b (block_of k) ≡ false
-other_block b c k marks found apart = apart_blocks b (block_of k) (subst (λ d. same_client b.client d ≡ false) (sym (mark_of-client c marks k found)) (turned c b.client apart))
+other_block : (b : Block) (c : ClientId) (k : Mark) (marks : List Mark) → mark_of c marks ≡ Some k → same_client c b.client ≡ false
+    → same_block b (block_of k) ≡ false
+other_block b c k marks found apart = apart_blocks b (block_of k)
+    (subst (λ d. same_client b.client d ≡ false) (sym (mark_of-client c marks k found)) (turned c b.client apart))
 
-finished-row : (s : HandlerState) (m : Message) (h : Hearing) → Row s m h → IsState s → (c : ClientId) (k x : Mark) → mark_of c s.marks ≡ Some k → mark_of c h.0.marks ≡ Some x → StaysFinished s.holder h.0.holder k x
+finished-row : (s : HandlerState) (m : Message) (h : Hearing) → Row s m h → IsState s → (c : ClientId) (k x : Mark) → mark_of c s.marks ≡ Some k
+    → mark_of c h.0.marks ≡ Some x → StaysFinished s.holder h.0.holder k x
 finished-row s m h (first_greeting y d inc here none room) is = λ c k x found now inc_same num_same e.
     let apart : same_client d c ≡ false = by_test (λ t. same_client d c ≡ t → t ≡ false) (same_client d c)
     (λ _ same. absurd (let both : None ≡ Some k = sym none ∙ ap (λ z. mark_of z s.marks) (client_from_same d c same) ∙ found in cc)) (λ _ same. refl) refl in
@@ -113,19 +119,19 @@ finished-row s m h (lock_granted y b k0 here at new free clear) is = λ c k x fo
     set_case (StaysFinished s.holder (Some b)) (fresh_mark b AtHeld) k0 s.marks c k x at.found found now
     (λ _ same _. absurd (omega (arith, same, new)))
     (λ apart _ _ e. unless_holder s.holder (Some b) k (λ _. other_block b c k s.marks found apart) e)
-finished-row s m h (open_granted y b k0 here at same was room) is = λ c k x found now.
+finished-row s m h (is_opened y b k0 here at same was room) is = λ c k x found now.
     set_case (StaysFinished s.holder s.holder) (opened_mark k0) k0 s.marks c k x (own_place b k0 s.marks at.found) found now
     (λ _ _ e. absurd (held_unfinished s.holder b k0 (held_holds s b k0 is at same was) (block_of-same s b k0 at same) e))
     (λ apart _ _ e. e)
-finished-row s m h (unlock_new y b k0 here at new clear) is = λ c k x found now.
+finished-row s m h (unlock_of_a_block_never_held y b k0 here at new clear) is = λ c k x found now.
     set_case (StaysFinished s.holder s.holder) (fresh_mark b AtShut) k0 s.marks c k x at.found found now
     (λ _ same _. absurd (omega (arith, same, new)))
     (λ apart _ _ e. e)
-finished-row s m h (unlock_holder y b k0 here at same holds) is = λ c k x found now.
+finished-row s m h (is_freed y b k0 here at same holds) is = λ c k x found now.
     set_case (StaysFinished s.holder None) (without_hold k0) k0 s.marks c k x (own_place b k0 s.marks at.found) found now
     (λ _ _ e. absurd (held_unfinished s.holder b k0 holds (block_of-same s b k0 at same) e))
     (λ apart _ _ e. unless_holder s.holder None k (λ _. refl) e)
-finished-row s m h (log_taken y b n es k0 here at next goes_on room) is = λ c k x found now.
+finished-row s m h (is_taken y b n es k0 here at next goes_on room) is = λ c k x found now.
     set_case (StaysFinished s.holder s.holder) (with_received _ _ k0) k0 s.marks c k x (own_place b k0 s.marks at.heard.found) found now
     (λ _ _ e. absurd (open_unfinished s.holder k0 at.stage (roomy k0 (last_number n es) es goes_on).ended e))
     (λ apart _ _ e. e)
@@ -157,7 +163,8 @@ module _ (s t : HandlerState) (grows : MarksGrow s.marks t.marks)
     finished = λ x found is.
         let k = o.reached.mark in
         let later = reached_more s.marks t.marks (block_of k) grows (own_mark b k s.marks o.reached.found) in
-        let there : mark_of b.client t.marks ≡ Some later.mark = ap (λ c. mark_of c t.marks) (sym (mark_of-client b.client s.marks k o.reached.found)) ∙ later.found in
+        let there : mark_of b.client t.marks ≡ Some later.mark = ap (λ c. mark_of c t.marks) (sym (mark_of-client b.client s.marks k o.reached.found))
+        ∙ later.found in
         let one : later.mark ≡ x = some_is later.mark x (sym there ∙ found) in
         let onward : Upto k.inc k.num x.inc x.num = subst (λ (z : Mark). Upto k.inc k.num z.inc z.num) one later.upto in
         let same = same_later b k x o.reached.upto onward is in
@@ -182,7 +189,7 @@ free-row s m h (newer_greeting y d inc k here found newer) b f e = without_some 
 free-row s m h (lock_granted y d k here at new free clear) b f e =
     let same : d ≡ b = some_is d b e in
     below_at s.marks d k at.found (older_num d k at.inc new) (subst (IsReachedIn s.marks) (sym same) f.reached)
-free-row s m h (unlock_holder y d k here at same holds) b f e = absurd (cc)
+free-row s m h (is_freed y d k here at same holds) b f e = absurd (cc)
 free-row s m h r b f e = f.free e
 
 pub released-row : (s : HandlerState) (m : Message) (h : Hearing) → Row s m h → (b : Block) → IsReleasedIn s b → IsReleasedIn h.0 b
@@ -190,7 +197,8 @@ released-row s m h r b f = record { reached = reached_more s.marks h.0.marks b (
 
 -- ---- an entry runs
 
-after_stays : (o : Option Block) (r : Ran) (marks : List Mark) (c : ClientId) (k x : Mark) → mark_of c marks ≡ Some k → mark_of c (map (mark_after r) marks) ≡ Some x → StaysFinished o o k x
+after_stays : (o : Option Block) (r : Ran) (marks : List Mark) (c : ClientId) (k x : Mark) → mark_of c marks ≡ Some k
+    → mark_of c (map (mark_after r) marks) ≡ Some x → StaysFinished o o k x
 after_stays o r marks c k x found now _ _ e =
     let both : Some (mark_after r k) ≡ Some x = sym (ap (option_map (mark_after r)) found) ∙ sym (mark_of-after r c marks) ∙ now in
     let one : mark_after r k ≡ x = some_is (mark_after r k) x both in

@@ -1,7 +1,7 @@
 mod Totals
 mod Handlers
 mod Reserving
-mod LinesGo
+mod WindowsGo
 mod Clients
 mod Members
 mod Marked
@@ -34,12 +34,11 @@ mod Queues
 mod Locking
 mod Leads
 mod NeverStuck
+mod Helping
 mod NextEvents
 mod Measures
+mod Chosen
 mod Engine
-mod Choices
-mod Playing
-mod OfKind
 mod Moves
 mod Resting
 mod Running

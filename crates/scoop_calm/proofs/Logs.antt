@@ -18,9 +18,9 @@ use Rattle.scoop_reserve.specs.Handlers.{has}
 use Rattle.scoop_reserve.specs.Hearing.{is_open, is_open_in}
 use Rattle.scoop_reserve.specs.State.{ReservationState}
 use Rattle.scoop_reserve.specs.Due as owed
-use Rattle.scoop_client.specs.Line.{LineState, logged, first_entries, line_of}
+use Rattle.scoop_client.specs.Window.{WindowState, logged, first_entries, window_of}
 use Rattle.scoop_client.specs.State.{ClientState}
-use Rattle.scoop_client.specs.Due.{due, due_in_block, due_after, due_line}
+use Rattle.scoop_client.specs.Due.{due, due_in_block, due_after, due_window}
 use Rattle.scoop_client.proofs.Batches.{is_batch}
 use Rattle.scoop_model.specs.World.{World, Site, Party, number_of, id_of, is_site, is_party, party_of, has_block, log_of, greatest_count}
 use Rattle.scoop_model.specs.Step.{Placement}
@@ -28,15 +28,15 @@ use Rattle.scoop_model.specs.Reach.{IsReached}
 use Rattle.scoop_model.proofs.Basics.{by_test}
 use Rattle.scoop_model.proofs.Sound.Facts.{HasBatch}
 use Rattle.scoop_model.proofs.Order.Facts.{all_found}
-use Rattle.scoop_model.proofs.Logging.Facts.{LineFits}
-use Rattle.scoop_model.proofs.Logging.Lines.{line_handler, first_of_all}
+use Rattle.scoop_model.proofs.Logging.Facts.{WindowFits}
+use Rattle.scoop_model.proofs.Logging.Windows.{window_handler, first_of_all}
 use Rattle.scoop_model.proofs.Logging.Openings.{StageOpened}
 use Rattle.scoop_model.proofs.Whole.Marks.{MarkTold}
 use Rattle.scoop_model.proofs.Whole.Facts.{SiteTaped}
 use Rattle.scoop_calm.proofs.Marked.{MarkFits}
 use Rattle.scoop_calm.proofs.MarkedRuns.{SiteMarked}
 use Rattle.scoop_calm.proofs.Sending.{IsDue}
-use Rattle.scoop_calm.proofs.Unlocking.{own_lines}
+use Rattle.scoop_calm.proofs.Unlocking.{own_windows}
 use Rattle.scoop_calm.proofs.Opening.{OwnMark, beside, client_is, is_open_there}
 use Rattle.scoop_calm.proofs.Everything.{Everything}
 use Rattle.scoop_calm.proofs.Totals.{none_long}
@@ -62,23 +62,26 @@ end_only (x ∷ z ∷ zs) ys only e = end_only (z ∷ zs) ys (second (not (is_en
 none_owed : (q : ReservationState) (h : HandlerId) → q.stage ≡ Unlocking → has q.left h ≡ false → owed.due q h ≡ None
 none_owed q h stage free = ap (owed.due_in q h) stage ∙ ap (λ t. if t then Some (Unlock h q.block) else None) free
 
-pub log_due : (c : ClientState) (q : ReservationState) (h : HandlerId) (l : LineState) → has c.left h ≡ false → c.reservation ≡ Some q → q.stage ≡ Unlocking → has q.left h ≡ false → line_of h c.lines ≡ Some l → (length l.unacked == 0) ≡ false
+pub log_due : (c : ClientState) (q : ReservationState) (h : HandlerId) (l : WindowState) → has c.unwelcomed h ≡ false → c.reservation ≡ Some q
+    → q.stage ≡ Unlocking → has q.left h ≡ false → window_of h c.windows ≡ Some l → (length l.unacked == 0) ≡ false
     → due c h ≡ Some (Log h q.block (l.acked + 1) (first_entries c.batch l.unacked))
-log_due c q h l greeted held stage free line some =
+log_due c q h l greeted held stage free window some =
     ap (λ t. if t then Some (Hello h c.id c.inc) else due_in_block c h c.reservation) greeted
     ∙ ap (due_in_block c h) held
     ∙ ap (due_after c h q) (none_owed q h stage free)
-    ∙ (λ i. if owed_open i then due_line c.batch q.block (line i) else None)
+    ∙ (λ i. if owed_open i then due_window c.batch q.block (window i) else None)
     ∙ ap (λ t. if t then None else Some (Log l.handler q.block (l.acked + 1) (first_entries c.batch l.unacked))) some
-    ∙ ap (λ j. Some (Log j q.block (l.acked + 1) (first_entries c.batch l.unacked))) (line_handler h c.lines l line)
+    ∙ ap (λ j. Some (Log j q.block (l.acked + 1) (first_entries c.batch l.unacked))) (window_handler h c.windows l window)
   where
     owed_open : is_open q ≡ true
     owed_open = ap is_open_in stage
 
 -- ---- both
 
-module _ (w : World) (r : IsReached w) (e : Everything (map (λ (p : Placement). p.handler) r.placements) w) (p : Party) (at : party_of (id_of p) w ≡ Some p) (q : ReservationState) (held : p.client.reservation ≡ Some q) (stage : q.stage ≡ Unlocking)
-    (h : HandlerId) (named : has q.handlers h ≡ true) (free : has q.left h ≡ false) (l : LineState) (line : line_of h p.client.lines ≡ Some l) (some : 0 < length l.unacked) where
+module _ (w : World) (r : IsReached w) (e : Everything (map (λ (p : Placement). p.handler) r.placements) w) (p : Party) (at : party_of (id_of p) w ≡ Some p)
+    (q : ReservationState) (held : p.client.reservation ≡ Some q) (stage : q.stage ≡ Unlocking)
+    (h : HandlerId) (named : has q.handlers h ≡ true) (free : has q.left h ≡ false) (l : WindowState) (window : window_of h p.client.windows ≡ Some l)
+    (some : 0 < length l.unacked) where
   abbrev c : ClientState
   c = p.client
 
@@ -97,8 +100,8 @@ module _ (w : World) (r : IsReached w) (e : Everything (map (λ (p : Placement).
   abbrev log : List Entry
   log = log_of q.block h w
 
-  pub fits : LineFits log l
-  fits = (own_lines w r e p at q held).lines h l line
+  pub fits : WindowFits log l
+  fits = (own_windows w r e p at q held).windows h l window
 
   pub opened : has_block s.opened q.block ≡ true
   opened =
@@ -116,10 +119,11 @@ module _ (w : World) (r : IsReached w) (e : Everything (map (λ (p : Placement).
   pub received : greatest_count h q.block w.sent ≡ k.received
   received =
       let tape = all_found (SiteTaped w) (is_site h) w.sites s e.background.taped own.mark.found in
-      (λ i. greatest_count (sym own.mark.number i) (sym own_block i) w.sent) ∙ (All-mark_of (MarkTold w.sent (number_of s)) q.block.client s.core.state.marks k tape.told.each own.found).received
+      (λ i. greatest_count (sym own.mark.number i) (sym own_block i) w.sent)
+      ∙ (All-mark_of (MarkTold w.sent (number_of s)) q.block.client s.core.state.marks k tape.told.each own.found).received
 
   pub acked_le : l.acked ≤ k.received
-  acked_le = subst (λ (n : ℕ). l.acked ≤ n) received ((e.attending.parties (id_of p) p at q held).counts h l line)
+  acked_le = subst (λ (n : ℕ). l.acked ≤ n) received ((e.attending.parties (id_of p) p at q held).counts h l window)
 
   pub log_long : length log ≡ logged l
   log_long =
@@ -129,7 +133,8 @@ module _ (w : World) (r : IsReached w) (e : Everything (map (λ (p : Placement).
       omega (arith, count, all, parts)
 
   pub mark_fits : MarkFits w (number_of s) s.ran k
-  mark_fits = All-mark_of (MarkFits w (number_of s) s.ran) q.block.client s.core.state.marks k (all_found (SiteMarked w) (is_site h) w.sites s e.background.marked.sites own.mark.found) own.found
+  mark_fits = All-mark_of (MarkFits w (number_of s) s.ran) q.block.client s.core.state.marks k
+      (all_found (SiteMarked w) (is_site h) w.sites s e.background.marked.sites own.mark.found) own.found
 
   taken_all : mark_fits.taken.taken ++ mark_fits.taken.behind ≡ log
   taken_all = mark_fits.taken.all ∙ (λ i. log_of (own_block i) (own.mark.number i) w)
@@ -177,7 +182,8 @@ module _ (w : World) (r : IsReached w) (e : Everything (map (λ (p : Placement).
       by_ended true is =
           let n = fits.numbers.last in
           let le = last_le in
-          by_test (λ t. nat_lt (last_number (l.acked + 1) es) (logged l) ≡ t → last_number (l.acked + 1) es < 2 ^ 32 - 1) (nat_lt (last_number (l.acked + 1) es) (logged l))
+          by_test (λ t. nat_lt (last_number (l.acked + 1) es) (logged l) ≡ t → last_number (l.acked + 1) es < 2 ^ 32 - 1)
+          (nat_lt (last_number (l.acked + 1) es) (logged l))
           (λ _ lt. let less : last_number (l.acked + 1) es < logged l = grind (arith, nat_tests) in omega (arith, n, less))
           (λ _ ge.
           let least : logged l ≤ last_number (l.acked + 1) es = grind (arith, nat_tests) in
@@ -204,7 +210,8 @@ module _ (w : World) (r : IsReached w) (e : Everything (map (λ (p : Placement).
         num = there_open.0;
         open_here = there_open.1;
         next = omega (arith, le);
-        goes_on = λ more. by_test (λ t. k.ended ≡ t → t ≡ false) k.ended (λ _ on. let same = ended_all on in absurd (omega (arith, more, same, all))) (λ _ off. refl) refl;
+        goes_on = λ more. by_test (λ t. k.ended ≡ t → t ≡ false) k.ended (λ _ on. let same = ended_all on in absurd (omega (arith, more, same, all)))
+            (λ _ off. refl) refl;
         low = omega (arith, all, n);
         end = ends_last;
         few = omega (arith, limit, most);

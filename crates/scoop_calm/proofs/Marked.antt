@@ -23,7 +23,7 @@ use Rattle.scoop_handler.specs.Marks.{is_held, block_of, fresh_mark, opened_mark
 use Rattle.scoop_handler.specs.State.{HandlerState}
 use Rattle.scoop_handler.specs.Hearing.{Hearing, IsHeardAt, greeting_mark}
 use Rattle.scoop_handler.specs.Running.{mark_after}
-use Rattle.scoop_handler.specs.Rows.{Row, first_greeting, newer_greeting, lock_granted, open_granted, unlock_new, unlock_holder, log_taken}
+use Rattle.scoop_handler.specs.Rows.{Row, first_greeting, newer_greeting, lock_granted, is_opened, unlock_of_a_block_never_held, is_freed, is_taken}
 use Rattle.scoop_handler.proofs.MarkLists.{mark_of-client, All-mark_of, All-set_mark, All-add_mark}
 use Rattle.scoop_handler.proofs.TableLaws.{block_of-same}
 use Rattle.scoop_model.specs.World.{World, log_of, handlers_of}
@@ -80,9 +80,11 @@ module _ (v w : World) (x : Further v w) where
       let g = x.logs (block_of k) h in
       record {
         inc = f.inc;
-        named = ⊎_elim (λ (e : k.num ≡ 0). inl e) (λ (n : IsNamed v h (block_of k)). inr (record { handlers = n.handlers; set = x.sets (block_of k) n.handlers n.set; member = n.member })) f.named;
+        named = ⊎_elim (λ (e : k.num ≡ 0). inl e) (λ (n : IsNamed v h (block_of k)). inr
+            (record { handlers = n.handlers; set = x.sets (block_of k) n.handlers n.set; member = n.member })) f.named;
         locked = ⊎_elim (λ (e : k.stage ≡ AtShut). inl e) (λ (m : Member (Lock h (block_of k)) v.sent). inr (x.sent (Lock h (block_of k)) m)) f.locked;
-        unlocked = λ at. ⊎_elim (λ (e : k.num ≡ 0). inl e) (λ (m : Member (Unlock h (block_of k)) v.sent). inr (x.sent (Unlock h (block_of k)) m)) (f.unlocked at);
+        unlocked = λ at. ⊎_elim (λ (e : k.num ≡ 0). inl e) (λ (m : Member (Unlock h (block_of k)) v.sent). inr (x.sent (Unlock h (block_of k)) m))
+            (f.unlocked at);
         taken = record {
           taken = f.taken.taken;
           behind = f.taken.behind ++ g.0;
@@ -145,10 +147,12 @@ module _ (w : World) (s : HandlerState) (ran : List Ran) (reached : RanReached r
   has_lock k off f = ⊎_elim (λ (e : k.stage ≡ AtShut). absurd (off e)) (λ (m : Member (Lock s.number (block_of k)) w.sent). m) f.locked
 
   freed_locked : (k : Mark) → Fits k → ((without_hold k).stage ≡ AtShut) ⊎ Member (Lock s.number (block_of k)) w.sent
-  freed_locked k f = ⊎_elim (λ (e : k.stage ≡ AtShut). inl (ap (λ (t : Stage). if is_held t then AtShut else t) e)) (λ (m : Member (Lock s.number (block_of k)) w.sent). inr m) f.locked
+  freed_locked k f = ⊎_elim (λ (e : k.stage ≡ AtShut). inl (ap (λ (t : Stage). if is_held t then AtShut else t) e))
+      (λ (m : Member (Lock s.number (block_of k)) w.sent). inr m) f.locked
 
   module _ (m : Message) (given : IsGiven w m) where
-    greeted : (h : HandlerId) (c : ClientId) (inc : ℕ) → m ≡ Hello h c inc → (IsReachedIn s.marks (block_of (greeting_mark c inc)) → ⊥) → Fits (greeting_mark c inc)
+    greeted : (h : HandlerId) (c : ClientId) (inc : ℕ) → m ≡ Hello h c inc → (IsReachedIn s.marks (block_of (greeting_mark c inc)) → ⊥)
+        → Fits (greeting_mark c inc)
     greeted h c inc is new = record {
       inc = given.hello h c inc is;
       named = inl refl;
@@ -158,7 +162,8 @@ module _ (w : World) (s : HandlerState) (ran : List Ran) (reached : RanReached r
       kept = sym (reached (block_of (greeting_mark c inc)) new);
     }
 
-    next_block : (b : Block) (k : Mark) (stage : Stage) → IsHeardAt s b k → k.num < b.num → IsNamed w s.number b → (stage ≡ AtShut) ⊎ Member (Lock s.number b) w.sent → (stage ≡ AtShut → Member (Unlock s.number b) w.sent) → Fits (fresh_mark b stage)
+    next_block : (b : Block) (k : Mark) (stage : Stage) → IsHeardAt s b k → k.num < b.num → IsNamed w s.number b → (stage ≡ AtShut)
+        ⊎ Member (Lock s.number b) w.sent → (stage ≡ AtShut → Member (Unlock s.number b) w.sent) → Fits (fresh_mark b stage)
     next_block b k stage at newer named locked unlocked =
         let f = found_fits b.client k at.found in
         let one = f.inc in
@@ -172,34 +177,64 @@ module _ (w : World) (s : HandlerState) (ran : List Ran) (reached : RanReached r
           kept = sym (reached b (below_at s.marks b k at.found (older_num b k at.inc newer)));
         }
 
-pub marked-row : (w : World) (s : HandlerState) (ran : List Ran) (m : Message) (h : Hearing) → Row s m h → RanReached ran s.marks → IsGiven w m → MarksFit w s.number ran s.marks → MarksFit w s.number ran h.0.marks
+pub marked-row : (w : World) (s : HandlerState) (ran : List Ran) (m : Message) (h : Hearing) → Row s m h → RanReached ran s.marks → IsGiven w m
+    → MarksFit w s.number ran s.marks → MarksFit w s.number ran h.0.marks
 marked-row w s ran m h (first_greeting x c inc here none room) reached given all =
     All-add_mark (MarkFits w s.number ran) (MarkFits w s.number ran) (greeting_mark c inc) s.marks
     (greeted w s ran reached all (Hello x c inc) given x c inc refl (none_at s.marks (block_of (greeting_mark c inc)) none)) (λ y f. f) all
 marked-row w s ran m h (newer_greeting x c inc k here found newer) reached given all =
     in_place w s ran reached all (greeting_mark c inc)
-    (greeted w s ran reached all (Hello x c inc) given x c inc refl (below_at s.marks (block_of (greeting_mark c inc)) k found (older_inc (block_of (greeting_mark c inc)) k newer)))
+    (greeted w s ran reached all (Hello x c inc) given x c inc refl
+    (below_at s.marks (block_of (greeting_mark c inc)) k found (older_inc (block_of (greeting_mark c inc)) k newer)))
 marked-row w s ran m h (lock_granted x b k here at new free clear) reached given all =
     let g = given.lock x b refl in
     in_place w s ran reached all (fresh_mark b AtHeld)
-    (next_block w s ran reached all (Lock x b) given b k AtHeld at new (subst (λ j. IsNamed w j b) here g.0) (inr (subst (λ j. Member (Lock j b) w.sent) here g.1)) (λ shut. absurd (held_not_shut shut)))
-marked-row w s ran m h (open_granted x b k here at same was room) reached given all =
+    (next_block w s ran reached all (Lock x b) given b k AtHeld at new (subst (λ j. IsNamed w j b) here g.0)
+    (inr (subst (λ j. Member (Lock j b) w.sent) here g.1)) (λ shut. absurd (held_not_shut shut)))
+marked-row w s ran m h (is_opened x b k here at same was room) reached given all =
     let f = found_fits w s ran reached all b.client k at.found in
     in_place w s ran reached all (opened_mark k)
-    (record { inc = f.inc; named = f.named; locked = inr (has_lock w s ran reached all k (λ e. held_not_shut (sym was ∙ e)) f); unlocked = λ shut. absurd (open_not_shut shut); taken = record { taken = f.taken.taken; behind = f.taken.behind; all = f.taken.all; count = f.taken.count; ended = f.taken.ended }; kept = f.kept })
-marked-row w s ran m h (unlock_new x b k here at new clear) reached given all =
+    (record {
+      inc = f.inc;
+      named = f.named;
+      locked = inr (has_lock w s ran reached all k (λ e. held_not_shut (sym was ∙ e)) f);
+      unlocked =
+          λ shut. absurd (open_not_shut shut);
+      taken = record {
+        taken = f.taken.taken;
+        behind = f.taken.behind;
+        all = f.taken.all;
+        count = f.taken.count;
+        ended =
+            f.taken.ended;
+      };
+      kept = f.kept;
+    })
+marked-row w s ran m h (unlock_of_a_block_never_held x b k here at new clear) reached given all =
     let g = given.unlock x b refl in
-    in_place w s ran reached all (fresh_mark b AtShut) (next_block w s ran reached all (Unlock x b) given b k AtShut at new (subst (λ j. IsNamed w j b) here g.0) (inl refl) (λ _. subst (λ j. Member (Unlock j b) w.sent) here g.1))
-marked-row w s ran m h (unlock_holder x b k here at same holds) reached given all =
+    in_place w s ran reached all (fresh_mark b AtShut) (next_block w s ran reached all (Unlock x b) given b k AtShut at new
+    (subst (λ j. IsNamed w j b) here g.0) (inl refl) (λ _. subst (λ j. Member (Unlock j b) w.sent) here g.1))
+marked-row w s ran m h (is_freed x b k here at same holds) reached given all =
     let f = found_fits w s ran reached all b.client k at.found in
     in_place w s ran reached all (without_hold k)
-    (record { inc = f.inc; named = f.named; locked = freed_locked w s ran reached all k f; unlocked = λ _. inr (subst (λ y. Member (Unlock s.number y) w.sent) (sym (block_of-same s b k at same)) (subst (λ j. Member (Unlock j b) w.sent) here (given.unlock x b refl).1)); taken = record { taken = f.taken.taken; behind = f.taken.behind; all = f.taken.all; count = f.taken.count; ended = f.taken.ended }; kept = f.kept })
-marked-row w s ran m h (log_taken x b n es k here at next goes_on room) reached given all =
+    (record {
+      inc = f.inc;
+      named = f.named;
+      locked = freed_locked w s ran reached all k f;
+      unlocked =
+          λ _. inr (subst (λ y. Member (Unlock s.number y) w.sent) (sym (block_of-same s b k at same))
+          (subst (λ j. Member (Unlock j b) w.sent) here (given.unlock x b refl).1));
+      taken =
+          record { taken = f.taken.taken; behind = f.taken.behind; all = f.taken.all; count = f.taken.count; ended = f.taken.ended };
+      kept = f.kept;
+    })
+marked-row w s ran m h (is_taken x b n es k here at next goes_on room) reached given all =
     let f = found_fits w s ran reached all b.client k at.heard.found in
     let client = mark_of-client b.client s.marks k at.heard.found in
     let same : block_of k ≡ b = λ i. record { client = client i; inc = at.heard.inc i; num = at.num i } in
     let g = given.log x b n es refl in
-    let st : Stands (log_of (block_of k) s.number w) n es = subst (λ y. Stands (log_of y s.number w) n es) (sym same) (subst (λ j. Stands (log_of b j w) n es) here g.0) in
+    let st : Stands (log_of (block_of k) s.number w) n es = subst (λ y. Stands (log_of y s.number w) n es) (sym same)
+    (subst (λ j. Stands (log_of b j w) n es) here g.0) in
     let number = st.number in
     in_place w s ran reached all (with_received (last_number n es) (ends es) k)
     (record {
@@ -220,11 +255,13 @@ marked-row w s ran m h r reached given all = all
 
 -- ---- an entry runs
 
-last_pushed : (b : Block) (rs : List Ran) (r : Ran) (kept : Option (ℕ × ObjectAnswer)) → last_answer b (rs ++ r ∷ []) kept ≡ next_answer b r (last_answer b rs kept)
+last_pushed : (b : Block) (rs : List Ran) (r : Ran) (kept : Option (ℕ × ObjectAnswer))
+    → last_answer b (rs ++ r ∷ []) kept ≡ next_answer b r (last_answer b rs kept)
 last_pushed b [] r kept = refl
 last_pushed b (x ∷ xs) r kept = last_pushed b xs r (next_answer b x kept)
 
-pub marked-after : (w : World) (h : HandlerId) (ran : List Ran) (r : Ran) (marks : List Mark) → MarksFit w h ran marks → MarksFit w h (ran ++ r ∷ []) (map (mark_after r) marks)
+pub marked-after : (w : World) (h : HandlerId) (ran : List Ran) (r : Ran) (marks : List Mark) → MarksFit w h ran marks
+    → MarksFit w h (ran ++ r ∷ []) (map (mark_after r) marks)
 marked-after w h ran r [] all = tt
 marked-after w h ran r (k ∷ ks) all =
     let f = all.0 in (
@@ -245,9 +282,11 @@ all_numbered : (P : Block → Type 0) (b : Block) (n : ℕ) (es : List Entry) �
 all_numbered P b n [] p = tt
 all_numbered P b n (e ∷ es) p = (p, all_numbered P b (n + 1) es p)
 
-slots_reached : (P : Block → Type 0) (ss : List Slot) → AllByRecursion (λ (t : Slot). P t.block) ss → AllByRecursion (λ (u : Block × ℕ × Entry). P u.0) (ran_of ss)
+slots_reached : (P : Block → Type 0) (ss : List Slot) → AllByRecursion (λ (t : Slot). P t.block) ss
+    → AllByRecursion (λ (u : Block × ℕ × Entry). P u.0) (ran_of ss)
 slots_reached P [] all = tt
-slots_reached P (t ∷ ts) all = all_append (λ (u : Block × ℕ × Entry). P u.0) (ran_in t) (ran_of ts) (all_numbered P t.block 1 t.ran all.0) (slots_reached P ts all.1)
+slots_reached P (t ∷ ts) all = all_append (λ (u : Block × ℕ × Entry). P u.0) (ran_in t) (ran_of ts) (all_numbered P t.block 1 t.ran all.0)
+    (slots_reached P ts all.1)
 
 all_told : (P : Block → Type 0) (rs : List Ran) → AllByRecursion (λ (u : Block × ℕ × Entry). P u.0) (map untold rs) → AllByRecursion (λ (r : Ran). P r.block) rs
 all_told P [] all = tt
@@ -257,7 +296,8 @@ and_false : (t : Bool) → (t && false) ≡ false
 and_false true = refl
 and_false false = refl
 
-pub none_answered : (P : Block → Type 0) (b : Block) (rs : List Ran) (kept : Option (ℕ × ObjectAnswer)) → (P b → ⊥) → AllByRecursion (λ (r : Ran). P r.block) rs → last_answer b rs kept ≡ kept
+pub none_answered : (P : Block → Type 0) (b : Block) (rs : List Ran) (kept : Option (ℕ × ObjectAnswer)) → (P b → ⊥) → AllByRecursion (λ (r : Ran). P r.block) rs
+    → last_answer b rs kept ≡ kept
 none_answered P b [] kept off all = refl
 none_answered P b (r ∷ rs) kept off all =
     by_test (λ t. same_block b r.block ≡ t → last_answer b rs (next_answer b r kept) ≡ kept) (same_block b r.block)
@@ -267,7 +307,9 @@ none_answered P b (r ∷ rs) kept off all =
     ∙ ap (λ t. last_answer b rs (if t then option_map (λ a. (r.number, a)) r.answer else kept)) (and_false (is_query r.entry))
     ∙ none_answered P b rs kept off all.1) refl
 
-pub ran_reached : (marks : List Mark) (ran : List Ran) (ss : List Slot) → map untold ran ≡ ran_of ss → AllByRecursion (λ (t : Slot). IsReachedIn marks t.block) ss → RanReached ran marks
+pub ran_reached : (marks : List Mark) (ran : List Ran) (ss : List Slot) → map untold ran ≡ ran_of ss
+    → AllByRecursion (λ (t : Slot). IsReachedIn marks t.block) ss → RanReached ran marks
 ran_reached marks ran ss told all b off =
     none_answered (IsReachedIn marks) b ran None off
-    (all_told (IsReachedIn marks) ran (subst (AllByRecursion (λ (u : Block × ℕ × Entry). IsReachedIn marks u.0)) (sym told) (slots_reached (IsReachedIn marks) ss all)))
+    (all_told (IsReachedIn marks) ran (subst (AllByRecursion (λ (u : Block × ℕ × Entry). IsReachedIn marks u.0)) (sym told)
+    (slots_reached (IsReachedIn marks) ss all)))

@@ -70,7 +70,8 @@ sends_further v w o sent same = record {
 silent_further : (v w : World) → w.sent ≡ v.sent → v.logs ≡ w.logs → Further v w
 silent_further v w sent same = sends_further v w None (sent ∙ sym (append-nil v.sent)) same
 
-hellos_more : (v w : World) (o : Option Message) → w.sent ≡ v.sent ++ option_to_list o → Marked v → ((h : HandlerId) (c : ClientId) (inc : ℕ) → o ≡ Some (Hello h c inc) → 1 ≤ inc)
+hellos_more : (v w : World) (o : Option Message) → w.sent ≡ v.sent ++ option_to_list o → Marked v
+    → ((h : HandlerId) (c : ClientId) (inc : ℕ) → o ≡ Some (Hello h c inc) → 1 ≤ inc)
     → (h : HandlerId) (c : ClientId) (inc : ℕ) → Member (Hello h c inc) w.sent → 1 ≤ inc
 hellos_more v w o sent i new h c inc m =
     ⊎_elim (λ (k : Member (Hello h c inc) v.sent). i.hellos h c inc k) (λ (e : o ≡ Some (Hello h c inc)). new h c inc e)
@@ -85,22 +86,26 @@ owed_hello r k m (opens at is) h c inc e = cc
 owed_hello r k m (unlocks at is) h c inc e = cc
 owed_hello r k m (gives_back at is) h c inc e = cc
 
-due_hello : (c : ClientState) (k : HandlerId) (o : Option Message) → DueRow c k o → 1 ≤ c.inc → (h : HandlerId) (d : ClientId) (inc : ℕ) → o ≡ Some (Hello h d inc) → 1 ≤ inc
+due_hello : (c : ClientState) (k : HandlerId) (o : Option Message) → DueRow c k o → 1 ≤ c.inc → (h : HandlerId) (d : ClientId) (inc : ℕ)
+    → o ≡ Some (Hello h d inc) → 1 ≤ inc
 due_hello c k o owes_nothing one h d inc e = absurd (cc)
 due_hello c k o (greets left) one h d inc e =
     let same : Hello k c.id c.inc ≡ Hello h d inc = cc in
     let at = same_hello c.id d k h c.inc inc same in
     omega (arith, one, at)
-due_hello c k o (reserves r n greeted held owes) one h d inc e = absurd (let same : n ≡ Hello h d inc = cc in owed_hello r k n (owed_row r k n owes) h d inc same)
-due_hello c k o (logs r l greeted held free opened line some) one h d inc e = absurd (cc)
+due_hello c k o (reserves r n greeted held owes) one h d inc e =
+    absurd (let same : n ≡ Hello h d inc = cc in owed_hello r k n (owed_row r k n owes) h d inc same)
+due_hello c k o (logs r l greeted held free opened window some) one h d inc e = absurd (cc)
 
 -- ---- sites
 
 sites_more : (v w : World) → Further v w → (ss : List Site) → AllByRecursion (SiteMarked v) ss → AllByRecursion (SiteMarked w) ss
 sites_more v w x ss all =
-    all_more_of (SiteMarked v) (SiteMarked w) (λ s f. all_more_of (MarkFits v (number_of s) s.ran) (MarkFits w (number_of s) s.ran) (mark_more v w x (number_of s) s.ran) s.core.state.marks f) ss all
+    all_more_of (SiteMarked v) (SiteMarked w) (λ s f. all_more_of (MarkFits v (number_of s) s.ran) (MarkFits w (number_of s) s.ran)
+    (mark_more v w x (number_of s) s.ran) s.core.state.marks f) ss all
 
-marked_anew : (w v : World) (n : ℕ) (js : List Block) → Further w v → (ss : List Site) → AllByRecursion (SiteFits js) ss → AllByRecursion (SiteMarked w) ss → AllByRecursion (SiteMarked v) (map (reopened n) ss)
+marked_anew : (w v : World) (n : ℕ) (js : List Block) → Further w v → (ss : List Site) → AllByRecursion (SiteFits js) ss → AllByRecursion (SiteMarked w) ss
+    → AllByRecursion (SiteMarked v) (map (reopened n) ss)
 marked_anew w v n js x [] fits all = tt
 marked_anew w v n js x (s ∷ ss) fits all = (
   by_test (λ t. SiteMarked v (if t then record s { core = core_of s.core.class s.stored false } else s)) (s.node == n)
@@ -119,26 +124,34 @@ given_message w o sound l openings i k m was =
       hello = λ h c inc e. i.hellos h c inc (subst (λ n. Member n w.sent) e is);
       lock = λ h b e. (subst (Tells w) e (sent_tells w k m was o.messages), subst (λ n. Member n w.sent) e is);
       unlock = λ h b e. ((subst (Shows w) e (sent_all w k m was (Shows w) openings.messages)).0, subst (λ n. Member n w.sent) e is);
-      log = λ h b n es e. (subst (Carries w) e (sent_all w k m was (Carries w) l.messages), (subst HasEntries e (sent_all w k m was HasEntries sound.messages)).0);
+      log = λ h b n es e. (
+        subst (Carries w) e (sent_all w k m was (Carries w) l.messages),
+        (subst HasEntries e (sent_all w k m was HasEntries sound.messages)).0,
+      );
     }
 
 all_reached : (w : World) (s : Site) (t : SiteTaped w s) → AllByRecursion (λ (x : Slot). IsReachedIn s.core.state.marks x.block) t.slots
-all_reached w s t = all_more_of (SlotWhole w.sent (number_of s) s.core.state.marks) (λ (x : Slot). IsReachedIn s.core.state.marks x.block) (λ x g. g.reached) t.slots t.whole
+all_reached w s t = all_more_of (SlotWhole w.sent (number_of s) s.core.state.marks) (λ (x : Slot). IsReachedIn s.core.state.marks x.block)
+    (λ x g. g.reached) t.slots t.whole
 
-hears_marked : (w : World) → Ordered w → Sound w → Logging w → Openings w → Taped w → Marked w → (i : ℕ) (m : Message) (s : Site) → sent_at i w ≡ Some m → site_of (handler_of m) w ≡ Some s → Marked (heard_world w s (hear s.core.state m))
+hears_marked : (w : World) → Ordered w → Sound w → Logging w → Openings w → Taped w → Marked w → (i : ℕ) (m : Message) (s : Site) → sent_at i w ≡ Some m
+    → site_of (handler_of m) w ≡ Some s → Marked (heard_world w s (hear s.core.state m))
 hears_marked w o sound l openings tape i k m s was here =
     let now : Hearing = hear s.core.state m in
     let by = row s.core.state m in
     let v : World = heard_world w s now in
     let x = sends_further w v now.1.reply refl refl in
     let t = all_found (SiteTaped w) (is_site (handler_of m)) w.sites s tape here in
-    let own = marked-row w s.core.state s.ran m now by (ran_reached s.core.state.marks s.ran t.slots t.tape.ran (all_reached w s t)) (given_message w o sound l openings i k m was)
+    let own = marked-row w s.core.state s.ran m now by (ran_reached s.core.state.marks s.ran t.slots t.tape.ran (all_reached w s t))
+    (given_message w o sound l openings i k m was)
     (all_found (SiteMarked w) (is_site (handler_of m)) w.sites s i.sites here) in
     let own_now : MarksFit w now.0.number s.ran now.0.marks = subst (λ j. MarksFit w j s.ran now.0.marks) (sym (number-row s.core.state m now by)) own in
     let replies = replies-row s.core.state m now by (sent_all w k m was HasEntries sound.messages) in
     record {
-      hellos = hellos_more w v now.1.reply refl i (λ h c inc e. absurd (let back : IsFalse (is_for_handler (Hello h c inc)) = (replies (Hello h c inc) e).to_client in true≢false back));
-      sites = sites_more w v x (set_site (heard_site s now) w.sites) (all_set_site (SiteMarked w) (SiteMarked w) (heard_site s now) w.sites own_now (λ y f. f) i.sites);
+      hellos = hellos_more w v now.1.reply refl i (λ h c inc e. absurd
+          (let back : IsFalse (is_for_handler (Hello h c inc)) = (replies (Hello h c inc) e).to_client in true≢false back));
+      sites = sites_more w v x (set_site (heard_site s now) w.sites)
+          (all_set_site (SiteMarked w) (SiteMarked w) (heard_site s now) w.sites own_now (λ y f. f) i.sites);
       parties = i.parties;
     }
 
@@ -154,8 +167,14 @@ marked_kept w o sound l openings tape i = record {
       let g = goes_on w p x d is (all_found (PartyFits w) (is_party c) w.parties p o.parties at) in
       let one = (all_found PartyBegun (is_party c) w.parties p i.parties at).inc in
       let same = g.inc in
-      let further : Further w v = record { sets = λ b hs e. handlers_after x (newest_block d) b w.logs hs e; sent = λ m k. k; logs = commanded_grown w p x d } in
-      record { hellos = i.hellos; sites = sites_more w v further w.sites i.sites; parties = set_begun (record p { client = d }) w.parties (omega (arith, one, same)) i.parties });
+      let further : Further w v = record { sets = λ b hs e. handlers_after x (newest_block d) b w.logs hs e; sent = λ m k. k; logs = commanded_grown w p x d }
+      in
+      record {
+        hellos = i.hellos;
+        sites = sites_more w v further w.sites i.sites;
+        parties =
+            set_begun (record p { client = d }) w.parties (omega (arith, one, same)) i.parties;
+      });
   sends = λ c p h s at here. (
       let v : World = with_sent w (due p.client h) in
       let one = (all_found PartyBegun (is_party c) w.parties p i.parties at).inc in
@@ -167,7 +186,8 @@ marked_kept w o sound l openings tape i = record {
   hears = λ k m s was goes here. hears_marked w o sound l openings tape i k m s was here;
   notices = λ k m p was goes at. (
       let v : World = with_party w (heard_party p (heard p.client m)) in
-      let kept = keeps_row w p.client (all_found (PartyFits w) (is_party (client_of m)) w.parties p o.parties at).reservation m (heard p.client m).0 (heard p.client m).1 (heard_row p.client m) (sent_tells w k m was o.messages) in
+      let kept = keeps_row w p.client (all_found (PartyFits w) (is_party (client_of m)) w.parties p o.parties at).reservation m (heard p.client m).0
+      (heard p.client m).1 (heard_row p.client m) (sent_tells w k m was o.messages) in
       let one = (all_found PartyBegun (is_party (client_of m)) w.parties p i.parties at).inc in
       let same = kept.inc in
       record {
@@ -180,7 +200,8 @@ marked_kept w o sound l openings tape i = record {
       record {
         hellos = i.hellos;
         sites = sites_more w v (silent_further w v refl refl) (set_site (begun_site s) w.sites)
-            (all_set_site (SiteMarked w) (SiteMarked w) (begun_site s) w.sites (all_found (SiteMarked w) (is_site h) w.sites s i.sites here) (λ y f. f) i.sites);
+            (all_set_site (SiteMarked w) (SiteMarked w) (begun_site s) w.sites (all_found (SiteMarked w) (is_site h) w.sites s i.sites here)
+            (λ y f. f) i.sites);
         parties = i.parties;
       });
   finishes = λ h s t here is. (
@@ -189,7 +210,8 @@ marked_kept w o sound l openings tape i = record {
         hellos = i.hellos;
         sites = sites_more w v (silent_further w v refl refl) (set_site (finished_site s t) w.sites)
             (all_set_site (SiteMarked w) (SiteMarked w) (finished_site s t) w.sites
-            (marked-after w (number_of s) s.ran (ran_of t) s.core.state.marks (all_found (SiteMarked w) (is_site h) w.sites s i.sites here)) (λ y f. f) i.sites);
+            (marked-after w (number_of s) s.ran (ran_of t) s.core.state.marks (all_found (SiteMarked w) (is_site h) w.sites s i.sites here))
+            (λ y f. f) i.sites);
         parties = i.parties;
       });
   restarts = λ c p at room. (
@@ -213,4 +235,9 @@ all_begun hs [] = tt
 all_begun hs (n ∷ ns) = (record { inc = omega arith }, all_begun hs ns)
 
 pub opens_marked : (ps : List Placement) (ns : List Newcomer) → Marked (opening ps ns)
-opens_marked ps ns = record { hellos = λ h c inc m. absurd m; sites = no_marks (opening ps ns) ps; parties = all_begun (map (λ (p : Placement). p.handler) ps) ns }
+opens_marked ps ns = record {
+  hellos = λ h c inc m. absurd m;
+  sites = no_marks (opening ps ns) ps;
+  parties =
+      all_begun (map (λ (p : Placement). p.handler) ps) ns;
+}

@@ -19,7 +19,9 @@ pub data Less (v w : World) : Type 0 where
 
 module _ (w : World) (reached : IsReached w) where
   pub sites_total : (f : Site → ℕ) (s old : Site) → site_of (number_of s) w ≡ Some old → total f (set_site s w.sites) + f old ≡ total f w.sites + f s
-  sites_total f s old here = total_newer number_of same_handler handler_decides f s old w.sites (distinct number_of same_handler handler_decides w.sites (sites_apart w reached)) here
+  sites_total f s old here = total_newer number_of same_handler handler_decides f s old w.sites
+      (distinct number_of same_handler handler_decides w.sites (sites_apart w reached)) here
 
   pub parties_total : (f : Party → ℕ) (p old : Party) → party_of (id_of p) w ≡ Some old → total f (set_party p w.parties) + f old ≡ total f w.parties + f p
-  parties_total f p old at = total_newer id_of same_client client_decides f p old w.parties (distinct id_of same_client client_decides w.parties (parties_apart w reached)) at
+  parties_total f p old at = total_newer id_of same_client client_decides f p old w.parties
+      (distinct id_of same_client client_decides w.parties (parties_apart w reached)) at

@@ -13,7 +13,8 @@ member_more x (z ∷ zs) ys m = ⊎_elim (λ (e : z ≡ x). inl e) (λ (n : Memb
 pub member_pushed : {A : Type 0} (x : A) (xs : List A) (o : Option A) → Member x (xs ++ option_to_list o) → Member x xs ⊎ (o ≡ Some x)
 member_pushed x [] None m = absurd m
 member_pushed x [] (Some y) m = ⊎_elim (λ (e : y ≡ x). inr (ap Some e)) (λ n. absurd n) m
-member_pushed x (z ∷ zs) o m = ⊎_elim (λ (e : z ≡ x). inl (inl e)) (λ (n : Member x (zs ++ option_to_list o)). ⊎_elim (λ (k : Member x zs). inl (inr k)) (λ (e : o ≡ Some x). inr e) (member_pushed x zs o n)) m
+member_pushed x (z ∷ zs) o m = ⊎_elim (λ (e : z ≡ x). inl (inl e))
+    (λ (n : Member x (zs ++ option_to_list o)). ⊎_elim (λ (k : Member x zs). inl (inr k)) (λ (e : o ≡ Some x). inr e) (member_pushed x zs o n)) m
 
 pub member_last : {A : Type 0} (x : A) (xs : List A) → Member x (xs ++ x ∷ [])
 member_last x [] = inl refl

@@ -1,10 +1,13 @@
 -- What the kinds of events that a world settles by make of it.
-use Rattle.std.proofs.Common.{◌≡◌, ℕ, ◌+◌, ◌-◌, ◌==◌, true, false, List, [], ◌∷◌, ◌++◌, length, slice_get, Some, None, refl, ap, ◌∙◌, subst, arith}
-use Rattle.std.specs.Prelude.{if◌then◌else◌, Ok}
+use Rattle.std.proofs.Common.{◌≡◌, ℕ, ◌+◌, ◌-◌, ◌==◌, true, false, List, [], ◌∷◌, ◌++◌, length, slice_get, Some, None, refl, sym, ap, ◌∙◌, subst, arith}
+use Rattle.std.specs.Prelude.{if◌then◌else◌, is_some, Ok}
+use Rattle.std.specs.Option.{option_map_or}
+use Rattle.std.specs.Result.{is_ok}
 use Rattle.std.proofs.lemmas.List.{length-append}
 use Rattle.std.proofs.lemmas.Bool.Decides.{nat_tests}
 use Rattle.scoop_message.specs.declared.message.Message.{Message}
-use Rattle.scoop_message.specs.Message.{handler_of, client_of, is_for_handler}
+use Rattle.scoop_message.specs.Message.{same_client, same_handler, handler_of, client_of, is_for_handler}
+use Rattle.scoop_message.proofs.Same.{handler_decides, client_decides}
 use Rattle.scoop_handler.specs.declared.note.Note.{Note}
 use Rattle.scoop_handler.specs.State.{HandlerState}
 use Rattle.scoop_handler.specs.Hearing.{Hearing, hear}
@@ -21,11 +24,21 @@ use Rattle.scoop_model.specs.Step.{step, do_at, commanded, commanded_world, with
 use Rattle.scoop_model.specs.Reach.{IsReached}
 use Rattle.scoop_model.proofs.Reaching.{reached_more}
 use Rattle.scoop_calm.specs.Settling as settling
-use Rattle.scoop_calm.specs.Next.{choices}
-use Rattle.scoop_calm.proofs.Totals.{Member}
-use Rattle.scoop_calm.proofs.Choices.{may_finish, may_begin, may_end, may_ask}
+use Rattle.scoop_calm.specs.declared.next.Next.TheVariants as next
+use Rattle.scoop_calm.specs.Next.{can_do, can_begin, can_end}
+use Rattle.scoop_calm.proofs.Totals.{Member, found_member}
 use Rattle.scoop_calm.proofs.Measures.{Less}
-use Rattle.scoop_calm.proofs.Engine.{Useful}
+use Rattle.scoop_calm.proofs.Chosen.{finishes as finish_chosen, begins as begin_chosen, asks as ask_chosen, ends as end_chosen}
+use Rattle.scoop_calm.proofs.Engine.{Helps}
+
+-- ---- sites and parties
+
+module _ (w : World) where
+  site_in : (s : Site) → site_of (number_of s) w ≡ Some s → Member s w.sites
+  site_in s here = found_member number_of same_handler handler_decides (number_of s) w.sites s here
+
+  party_in : (p : Party) → party_of (id_of p) w ≡ Some p → Member p w.parties
+  party_in p at = found_member id_of same_client client_decides (id_of p) w.parties p at
 
 -- ---- a job goes out, and is finished
 
@@ -33,43 +46,44 @@ module _ (w : World) (reached : IsReached w) (s : Site) (t : Task) (here : site_
   begin_step : ready s.core ≡ Some t → step w (Begin (number_of s)) ≡ Ok (with_site w (begun_site s), note.Began t.block t.number)
   begin_step is = ap (begin_at w) here ∙ ap (begins w s) is
 
-  pub begin_useful : ready s.core ≡ Some t → Less (with_site w (begun_site s)) w → Useful w
+  pub begin_useful : ready s.core ≡ Some t → Less (with_site w (begun_site s)) w → Helps w (next.Begin (number_of s))
   begin_useful is less = record {
     after = with_site w (begun_site s);
     reached = reached_more w (Begin (number_of s)) (with_site w (begun_site s), note.Began t.block t.number) reached (begin_step is);
     less = less;
-    goes = λ es u later. (Begin (number_of s) ∷ es, settling.begins w (with_site w (begun_site s)) u es (number_of s) t.block t.number (begin_step is) later);
-    choice = may_begin w s here;
+    goes = λ es u later. settling.begins w (with_site w (begun_site s)) u es (number_of s) t.block t.number (begin_step is) later;
+    choice = begin_chosen s (site_in w s here) (ap is_some is);
   }
 
   finish_step : job_out s.core ≡ Some t → step w (Finish (number_of s)) ≡ Ok (with_site w (finished_site s t), note.Ran (ran_of t))
   finish_step is = ap (finish_at w) here ∙ ap (finishes w s) is
 
-  pub finish_useful : job_out s.core ≡ Some t → Less (with_site w (finished_site s t)) w → Useful w
-  finish_useful is less = record {
+  pub finish_useful : s.core.out ≡ true → job_out s.core ≡ Some t → Less (with_site w (finished_site s t)) w → Helps w (next.Finish (number_of s))
+  finish_useful out is less = record {
     after = with_site w (finished_site s t);
     reached = reached_more w (Finish (number_of s)) (with_site w (finished_site s t), note.Ran (ran_of t)) reached (finish_step is);
     less = less;
-    goes = λ es u later. (Finish (number_of s) ∷ es, settling.finishes w (with_site w (finished_site s t)) u es (number_of s) (ran_of t) (finish_step is) later);
-    choice = may_finish w s here;
+    goes = λ es u later. settling.finishes w (with_site w (finished_site s t)) u es (number_of s) (ran_of t) (finish_step is) later;
+    choice = finish_chosen s (site_in w s here) out;
   }
 
 -- ---- a client ends its block
 
-module _ (w : World) (reached : IsReached w) (p : Party) (c : ClientState) (at : party_of (id_of p) w ≡ Some p) (ends : client.command p.client client.DoEnd ≡ Ok c) where
+module _ (w : World) (reached : IsReached w) (p : Party) (c : ClientState) (at : party_of (id_of p) w ≡ Some p)
+    (ends : client.command p.client client.DoEnd ≡ Ok c) where
   abbrev pub ended_world : World
   ended_world = commanded_world w p End c
 
   end_step : step w (Do (id_of p) End) ≡ Ok (ended_world, note.Done)
   end_step = ap (do_at w End) at ∙ ap (commanded w p End) ends
 
-  pub end_useful : Less ended_world w → Useful w
+  pub end_useful : Less ended_world w → Helps w (next.End (id_of p))
   end_useful less = record {
     after = ended_world;
     reached = reached_more w (Do (id_of p) End) (ended_world, note.Done) reached end_step;
     less = less;
-    goes = λ es u later. (Do (id_of p) End ∷ es, settling.ends w ended_world u es (id_of p) end_step later);
-    choice = may_end w p at;
+    goes = λ es u later. settling.ends w ended_world u es (id_of p) end_step later;
+    choice = end_chosen p (party_in w p at) (ap is_ok ends);
   }
 
 -- ---- a client asks, and hears the reply
@@ -87,6 +101,7 @@ sent_last w ms m =
 module _ (w : World) (reached : IsReached w) (p : Party) (s : Site) (m reply : Message) (t : HandlerState) (told : Note) (d : Notice)
     (at : party_of (id_of p) w ≡ Some p) (here : site_of (number_of s) w ≡ Some s) (owes : due p.client (number_of s) ≡ Some m) (goes : is_for_handler m ≡ true)
     (to : handler_of m ≡ number_of s) (hears : hear s.core.state m ≡ (t, record { reply = Some reply; note = told })) (back : is_for_handler reply ≡ false)
+    (can : can_do s.core.state m ≡ true)
     (own : client_of reply ≡ id_of p) (takes : heard p.client reply ≡ d) where
   abbrev hearing : Hearing
   hearing = (t, record { reply = Some reply; note = told })
@@ -112,13 +127,14 @@ module _ (w : World) (reached : IsReached w) (p : Party) (s : Site) (m reply : M
   notice : step answered (Take (length asked.sent + 1)) ≡ Ok (replied_world, note.Client d.1)
   notice =
       ap (taken answered) (sent_last answered asked.sent reply)
-      ∙ ap (λ b. if b then taken_by_handler answered reply (site_of (handler_of reply) answered) else taken_by_client answered reply (party_of (client_of reply) w)) back
+      ∙ ap (λ b. if b then taken_by_handler answered reply (site_of (handler_of reply) answered)
+      else taken_by_client answered reply (party_of (client_of reply) w)) back
       ∙ ap (λ c. taken_by_client answered reply (party_of c w)) own ∙ ap (taken_by_client answered reply) at ∙ ap (at_client answered p) takes
 
   reply_place : length w.sent + 2 ≡ length asked.sent + 1
   reply_place = let more = length-append w.sent (m ∷ []) in omega (arith, more)
 
-  pub ask_useful : Less replied_world w → Useful w
+  pub ask_useful : Less replied_world w → Helps w (next.Ask (id_of p) (number_of s))
   ask_useful less = record {
     after = replied_world;
     reached =
@@ -126,9 +142,8 @@ module _ (w : World) (reached : IsReached w) (p : Party) (s : Site) (m reply : M
         (reached_more asked (Take (length w.sent + 1)) (answered, note.Handler told (Some (length asked.sent + 1)))
         (reached_more w (Tick (id_of p) (number_of s)) (asked, note.Sent (length w.sent + 1)) reached tick) take) notice;
     less = less;
-    goes = λ es u later. (
-      Tick (id_of p) (number_of s) ∷ Take (length w.sent + 1) ∷ Take (length asked.sent + 1) ∷ es,
-      settling.asks w asked answered replied_world u es (id_of p) (number_of s) (length w.sent + 1) (length asked.sent + 1) told d.1 tick take notice later,
-    );
-    choice = subst (λ (n : ℕ). Member (Tick (id_of p) (number_of s) ∷ Take (length w.sent + 1) ∷ Take n ∷ []) (choices w)) reply_place (may_ask w p s at here);
+    goes = λ es u later.
+        subst (λ (n : ℕ). settling.Settles w (Tick (id_of p) (number_of s) ∷ Take (length w.sent + 1) ∷ Take n ∷ es) u) (sym reply_place)
+        (settling.asks w asked answered replied_world u es (id_of p) (number_of s) (length w.sent + 1) (length asked.sent + 1) told d.1 tick take notice later);
+    choice = ask_chosen p s (party_in w p at) (site_in w s here) (ap (λ o. option_map_or (can_do s.core.state) o false) owes ∙ can);
   }

@@ -1,22 +1,38 @@
 -- The events that are next, again and again, lead from every reached world to a calm one.
 use Rattle.std.proofs.Common.{◌≡◌, ◌⊎◌, inl, inr, ℕ, zero, suc, ◌<◌, ◌≤◌, Bool, true, false, true≢false, ◌&&◌, ◌||◌, nat_lt, List, [], ◌∷◌, ◌++◌, length, find, Option, Some, None, refl, sym, ap, ◌∙◌, subst, ⊎_elim, arith}
-use Rattle.std.specs.Prelude.{if◌then◌else◌, nat_le, unwrap_or, Ok}
+use Rattle.std.specs.Prelude.{◌↔◌, if◌then◌else◌, is_some, nat_le, Ok}
+use Rattle.std.specs.Option.{option_map, option_map_or, option_or}
 use Rattle.std.specs.Result.{is_ok}
 use Rattle.std.proofs.lemmas.List.{append-nil}
 use Rattle.std.proofs.lemmas.Bool.Decides.{nat_tests}
+use Rattle.scoop_message.specs.declared.message.Message.TheVariants.{Hello}
+use Rattle.scoop_queue.specs.Queue.{front}
+use Rattle.scoop_handler.specs.Running.{task_of, first_task}
+use Rattle.scoop_reserve.specs.declared.stage.Stage.{Stage}
+use Rattle.scoop_reserve.specs.declared.stage.Stage.TheVariants.{Locking, Opening, Unlocking, GivingUp}
+use Rattle.scoop_reserve.specs.Handlers.{has, is_empty}
+use Rattle.scoop_reserve.specs.State.{ReservationState}
+use Rattle.scoop_client.specs.declared.phase.Phase.TheVariants.{Greeting, Idle}
+use Rattle.scoop_client.specs.Window.{is_ended}
+use Rattle.scoop_client.specs.State.{ClientState, phase_at, phase_of, phase_of_block}
+use Rattle.scoop_client.specs.Due.{due, due_in_block}
+use Rattle.scoop_client.specs.Commands.{end_block}
 use Rattle.scoop_model.specs.declared.event.Event.{Event}
-use Rattle.scoop_model.specs.World.{World}
+use Rattle.scoop_model.specs.World.{World, Site, Party, number_of, id_of}
 use Rattle.scoop_model.specs.Reach.{Run, run, steps, Leads, IsReached}
 use Rattle.scoop_model.proofs.Basics.{by_test}
+use Rattle.scoop_model.proofs.Order.Clients.{none_in_empty}
+use Rattle.scoop_calm.specs.declared.next.Next.{Next}
+use Rattle.scoop_calm.specs.declared.next.Next.TheVariants as next
 use Rattle.scoop_calm.specs.Left.{clients_left, room_left, work_left, has_less}
-use Rattle.scoop_calm.specs.Next.{choices, helps, next_events, settling}
-use Rattle.scoop_calm.specs.Settling.{Settles, stays, Calm}
-use Rattle.scoop_calm.proofs.Totals.{Member}
+use Rattle.scoop_calm.specs.Next.{events_of, can_do, asks_well, is_out, can_begin, can_end, next_finish, next_begin, ask_of, next_ask, next_end, next_of, next_events, settling}
+use Rattle.scoop_calm.specs.Settling.{Settles, stays, IsIdle, IsFree, Calm}
+use Rattle.scoop_calm.proofs.Totals.{Member, all_member}
 use Rattle.scoop_calm.proofs.Measures.{Less, for_clients, for_room, for_work}
-use Rattle.scoop_calm.proofs.Engine.{Useful, by_what_is_left}
-use Rattle.scoop_calm.proofs.Leads.{leads_from, settles_leads}
-use Rattle.scoop_calm.proofs.Playing.{LeadTo, goes}
-use Rattle.scoop_calm.proofs.OfKind.{of_kind}
+use Rattle.scoop_calm.proofs.Chosen.{chosen, none_chosen, none_found, none_or}
+use Rattle.scoop_calm.proofs.Engine.{Helps, Useful, by_what_is_left}
+use Rattle.scoop_calm.proofs.Leads.{settles_leads}
+use Rattle.scoop_calm.proofs.Helping.{helping}
 use Rattle.scoop_calm.proofs.Everything.{everything}
 use Rattle.scoop_calm.proofs.NeverStuck.{calm_or}
 
@@ -30,29 +46,11 @@ both_true : (t u : Bool) → t ≡ true → u ≡ true → (t && u) ≡ true
 both_true true u s e = e
 both_true false u s e = absurd (true≢false (sym s))
 
-first_of : (t u : Bool) → (t && u) ≡ true → t ≡ true
-first_of true u e = refl
-first_of false u e = e
-
-second_of : (t u : Bool) → (t && u) ≡ true → u ≡ true
-second_of true u e = e
-second_of false u e = absurd (true≢false (sym e))
-
-or_else : (t u : Bool) → (t || u) ≡ true → (t ≡ true) ⊎ (u ≡ true)
-or_else true u e = inl refl
-or_else false u e = inr e
-
 lt_true : (a b : ℕ) → a < b → nat_lt a b ≡ true
 lt_true a b l = grind (arith, nat_tests)
 
 le_true : (a b : ℕ) → a ≤ b → nat_le a b ≡ true
 le_true a b l = grind (arith, nat_tests)
-
-true_lt : (a b : ℕ) → nat_lt a b ≡ true → a < b
-true_lt a b l = grind (arith, nat_tests)
-
-true_le : (a b : ℕ) → nat_le a b ≡ true → a ≤ b
-true_le a b l = grind (arith, nat_tests)
 
 module _ (v w : World) where
   abbrev c : Bool
@@ -70,61 +68,105 @@ module _ (v w : World) where
   abbrev t : Bool
   t = nat_lt (work_left v) (work_left w)
 
-  less_has : Less v w → has_less v w ≡ true
+  pub less_has : Less v w → has_less v w ≡ true
   less_has (for_clients l) = ap (λ x. x || (d && (r || (s && t)))) (lt_true (clients_left v) (clients_left w) l)
-  less_has (for_room l m) = or_right c (d && (r || (s && t))) (both_true d (r || (s && t)) (le_true (clients_left v) (clients_left w) l) (ap (λ x. x || (s && t)) (lt_true (room_left v) (room_left w) m)))
+  less_has (for_room l m) = or_right c (d && (r || (s && t)))
+      (both_true d (r || (s && t)) (le_true (clients_left v) (clients_left w) l) (ap (λ x. x || (s && t)) (lt_true (room_left v) (room_left w) m)))
   less_has (for_work l m n) =
       or_right c (d && (r || (s && t)))
       (both_true d (r || (s && t)) (le_true (clients_left v) (clients_left w) l)
       (or_right r (s && t) (both_true s t (le_true (room_left v) (room_left w) m) (lt_true (work_left v) (work_left w) n))))
 
-  has_is_less : has_less v w ≡ true → Less v w
-  has_is_less e =
-      ⊎_elim
-      (λ (l : c ≡ true). for_clients (true_lt (clients_left v) (clients_left w) l))
-      (λ (f : (d && (r || (s && t))) ≡ true).
-      let m = true_le (clients_left v) (clients_left w) (first_of d (r || (s && t)) f) in
-      ⊎_elim
-      (λ (l : r ≡ true). for_room m (true_lt (room_left v) (room_left w) l))
-      (λ (g : (s && t) ≡ true). for_work m (true_le (room_left v) (room_left w) (first_of s t g)) (true_lt (work_left v) (work_left w) (second_of s t g)))
-      (or_else r (s && t) (second_of d (r || (s && t)) f)))
-      (or_else c (d && (r || (s && t))) e)
+-- ---- where something is next
 
--- ---- the first that helps
+-- it may be next, so it leaves less to do
+next_helps : (w : World) → IsReached w → (x : Next) → next_of w ≡ Some x → Helps w x
+next_helps w r x is = helping w r (everything w r) x (chosen w x is)
 
-found_in : {A : Type 0} (test : A → Bool) (xs : List A) (x : A) → find test xs ≡ Some x → Member x xs
-found_in test [] x e = absurd (cc)
-found_in test (y ∷ ys) x e =
-    by_test (λ b. (if b then Some y else find test ys) ≡ Some x → Member x (y ∷ ys)) (test y)
-    (λ _ f. inl (let same : y ≡ x = cc in same))
-    (λ _ f. inr (found_in test ys x f)) e
+leads_there : (w : World) (x : Next) (h : Helps w x) → steps w (events_of w x) ≡ h.after
+leads_there w x h =
+    let es : List Event = events_of w x in
+    let all : es ++ [] ≡ es = append-nil es in
+    let leads : run w (es ++ []) ≡ (h.after, Ok (length (es ++ []))) = settles_leads w h.after (es ++ []) (h.goes [] h.after (stays h.after)) in
+    ap (λ xs. (run w xs).0) (sym all) ∙ ap (λ (y : Run). y.0) leads
 
-found_test : {A : Type 0} (test : A → Bool) (xs : List A) (x : A) → find test xs ≡ Some x → test x ≡ true
-found_test test [] x e = absurd (cc)
-found_test test (y ∷ ys) x e =
-    by_test (λ b. (if b then Some y else find test ys) ≡ Some x → test y ≡ b → test x ≡ true) (test y)
-    (λ _ f is. let same : y ≡ x = cc in ap test (sym same) ∙ is)
-    (λ _ f is. found_test test ys x f) e refl
+pub leaves_less : (w : World) → IsReached w → (x : Next) → next_of w ≡ Some x → has_less (steps w (events_of w x)) w ≡ true
+leaves_less w r x is =
+    let h = next_helps w r x is in
+    ap (λ v. has_less v w) (leads_there w x h) ∙ less_has h.after w h.less
 
-finds : {A : Type 0} (test : A → Bool) (xs : List A) (x : A) → Member x xs → test x ≡ true → find test xs ≡ None → ⊥
-finds test [] x m is e = m
-finds test (y ∷ ys) x m is e =
-    by_test (λ b. (if b then Some y else find test ys) ≡ None → test y ≡ b → ⊥) (test y)
-    (λ _ f here. absurd (cc))
-    (λ _ f here. ⊎_elim (λ (same : y ≡ x). true≢false (sym is ∙ ap test (sym same) ∙ here)) (λ (n : Member x ys). finds test ys x n is f) m) e refl
+-- ---- where nothing is
 
-module _ (w : World) where
-  useful_helps : (u : Useful w) → helps w (u.goes [] u.after (stays u.after)).0 ≡ true
-  useful_helps u =
-      let g = u.goes [] u.after (stays u.after) in
-      let leads : run w g.0 ≡ (u.after, Ok (length g.0)) = settles_leads w u.after g.0 g.1 in
-      ap (λ (x : Run). is_ok x.1 && has_less x.0 w) leads ∙ less_has u.after w u.less
+calm_where_none : (w : World) → IsReached w → next_of w ≡ None → Calm w
+calm_where_none w r none =
+    ⊎_elim (λ (calm : Calm w). calm)
+    (λ (u : Useful w). absurd (none_chosen w none u.next u.helps.choice))
+    (calm_or w r)
 
-  calm_where_none : IsReached w → find (helps w) (choices w) ≡ None → Calm w
-  calm_where_none r none =
-      ⊎_elim (λ (calm : Calm w). calm)
-      (λ (u : Useful w). absurd (finds (helps w) (choices w) (u.goes [] u.after (stays u.after)).0 u.choice (useful_helps u) none))
-      (calm_or w r)
+-- an idle client is welcomed, and has no block
+record HasNothing (c : ClientState) : Type 0 where
+  pub welcome : is_empty c.unwelcomed ≡ true
+  pub none : c.reservation ≡ None
+
+has_nothing : (c : ClientState) → phase_of c ≡ Idle → HasNothing c
+has_nothing c idle =
+    by_test (λ t. is_empty c.unwelcomed ≡ t → (if t then phase_of_block c.windows c.reservation else Greeting) ≡ Idle → HasNothing c) (is_empty c.unwelcomed)
+    (λ _ is f. record { welcome = is; none = by_block c.reservation f })
+    (λ _ is f. absurd (cc)) refl idle
+  where
+    by_stage : (t : Bool) (stage : Stage) → phase_at stage t ≡ Idle → ⊥
+    by_stage t Locking f = cc
+    by_stage t Opening f = cc
+    by_stage true Unlocking f = cc
+    by_stage false Unlocking f = cc
+    by_stage t GivingUp f = cc
+
+    by_block : (o : Option ReservationState) → phase_of_block c.windows o ≡ Idle → o ≡ None
+    by_block None f = refl
+    by_block (Some r) f = absurd (by_stage (is_ended c.windows) r.stage f)
+
+module _ (w : World) (calm : Calm w) where
+  free : (s : Site) → Member s w.sites → IsFree s
+  free s m = all_member IsFree w.sites s calm.sites m
+
+  idle : (p : Party) → Member p w.parties → IsIdle p
+  idle p m = all_member IsIdle w.parties p calm.parties m
+
+  begins_nothing : (s : Site) → Member s w.sites → can_begin s ≡ false
+  begins_nothing s m =
+      ap (λ b. is_some (if b then None else first_task s.core)) (free s m).here
+      ∙ ap (λ qs. is_some (option_map (task_of s.core) (front qs))) (free s m).queues
+
+  asks_nothing : (p : Party) → Member p w.parties → (s : Site) → asks_well p s ≡ false
+  asks_nothing p m s =
+      let n = has_nothing p.client (idle p m).idle in
+      let h = number_of s in
+      let welcome : has p.client.unwelcomed h ≡ false = none_in_empty p.client.unwelcomed h n.welcome in
+      let none : due p.client h ≡ None =
+      ap (λ t. if t then Some (Hello h p.client.id p.client.inc) else due_in_block p.client h p.client.reservation) welcome
+      ∙ ap (due_in_block p.client h) n.none in
+      ap (λ o. option_map_or (can_do s.core.state) o false) none
+
+  no_asks : (ps : List Party) → ((p : Party) → Member p ps → Member p w.parties) → next_ask w.sites ps ≡ None
+  no_asks [] within = refl
+  no_asks (p ∷ ps) within =
+      none_or (ask_of w.sites p) (next_ask w.sites ps)
+      (none_found (asks_well p) (λ (s : Site). next.Ask (id_of p) (number_of s)) w.sites (λ s n. asks_nothing p (within p (inl refl)) s))
+      (no_asks ps (λ q m. within q (inr m)))
+
+  none_where_calm : next_of w ≡ None
+  none_where_calm =
+      none_or (next_finish w) (option_or (next_begin w) (option_or (next_ask w.sites w.parties) (next_end w)))
+      (none_found is_out (λ (s : Site). next.Finish (number_of s)) w.sites (λ s m. (free s m).here))
+      (none_or (next_begin w) (option_or (next_ask w.sites w.parties) (next_end w))
+      (none_found can_begin (λ (s : Site). next.Begin (number_of s)) w.sites begins_nothing)
+      (none_or (next_ask w.sites w.parties) (next_end w) (no_asks w.parties (λ p m. m))
+      (none_found can_end (λ (p : Party). next.End (id_of p)) w.parties (λ p m. ap (λ x. is_ok (end_block p.client x)) (idle p m).idle))))
+
+pub calm_exactly : (w : World) → IsReached w → (next_of w ≡ None) ↔ Calm w
+calm_exactly w r = (calm_where_none w r, none_where_calm w)
+
+-- ---- again and again
 
 -- so many times the next events, to a calm world where nothing is next
 record Settled (w : World) : Type 0 where
@@ -135,29 +177,28 @@ record Settled (w : World) : Type 0 where
   pub calm : Calm after
 
 progress : (w : World) → IsReached w → ((u : World) → IsReached u → Less u w → Settled u) → Settled w
-progress w reached rest = by_found (find (helps w) (choices w)) refl
+progress w reached rest = by_next (next_of w) refl
   where
-    by_found : (o : Option (List Event)) → find (helps w) (choices w) ≡ o → Settled w
-    by_found None is = record { rounds = zero; after = w; settles = stays w; none = ap (λ o. unwrap_or o []) is; calm = calm_where_none w reached is }
-    by_found (Some es) is =
-        let next : next_events w ≡ es = ap (λ o. unwrap_or o []) is in
-        let test = found_test (helps w) (choices w) es is in
-        let ok = first_of (is_ok (run w es).1) (has_less (run w es).0 w) test in
-        let g = goes zero w es ok in
-        let k = of_kind w (everything w reached).background.sound es ok (found_in (helps w) (choices w) es is) in
-        let to : steps w es ≡ g.after = ap (λ (x : Run). x.0) (g.leads zero) in
-        let one : LeadTo w (es ++ []) k.after = λ n. leads_from n w k.after (es ++ []) (k.goes [] k.after (stays k.after)) in
-        let all : es ++ [] ≡ es = append-nil es in
-        let there : k.after ≡ g.after = sym (ap (λ (x : Run). x.0) (one zero)) ∙ ap (λ xs. (run w xs).0) all ∙ to in
-        let less : has_less g.after w ≡ true = ap (λ v. has_less v w) (sym to) ∙ second_of (is_ok (run w es).1) (has_less (run w es).0 w) test in
-        let s = rest g.after (g.reached reached) (has_is_less g.after w less) in
-        let path : settling (suc s.rounds) w ≡ es ++ settling s.rounds g.after = ap (λ xs. xs ++ settling s.rounds (steps w xs)) next ∙ ap (λ v. es ++ settling s.rounds v) to in
+    by_next : (o : Option Next) → next_of w ≡ o → Settled w
+    by_next None is = record {
+      rounds = zero;
+      after = w;
+      settles = stays w;
+      none = ap (λ o. option_map_or (events_of w) o []) is;
+      calm =
+          calm_where_none w reached is;
+    }
+    by_next (Some x) is =
+        let es : List Event = events_of w x in
+        let h = next_helps w reached x is in
+        let now : next_events w ≡ es = ap (λ o. option_map_or (events_of w) o []) is in
+        let s = rest h.after h.reached h.less in
+        let path : settling (suc s.rounds) w ≡ es ++ settling s.rounds h.after =
+        ap (λ xs. xs ++ settling s.rounds (steps w xs)) now ∙ ap (λ v. es ++ settling s.rounds v) (leads_there w x h) in
         record {
           rounds = suc s.rounds;
           after = s.after;
-          settles =
-              subst (λ (xs : List Event). Settles w xs s.after) (sym path)
-              (k.goes (settling s.rounds g.after) s.after (subst (λ (v : World). Settles v (settling s.rounds g.after) s.after) (sym there) s.settles));
+          settles = subst (λ (xs : List Event). Settles w xs s.after) (sym path) (h.goes (settling s.rounds h.after) s.after s.settles);
           none = s.none;
           calm = s.calm;
         }

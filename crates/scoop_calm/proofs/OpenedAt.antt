@@ -58,7 +58,8 @@ some_if_ends (x ∷ xs) e = omega arith
 
 -- ---- the mark
 
-module _ (w : World) (s : Site) (is : IsState s.core.state) (tape : SiteTaped w s) (b : Block) (k : Mark) (found : mark_of b.client s.core.state.marks ≡ Some k) (opened : has_block s.opened b ≡ true) where
+module _ (w : World) (s : Site) (is : IsState s.core.state) (tape : SiteTaped w s) (b : Block) (k : Mark) (found : mark_of b.client s.core.state.marks ≡ Some k)
+    (opened : has_block s.opened b ≡ true) where
   own_slot : SlotOf tape.slots b
   own_slot = slot_of tape.slots b (ap (λ bs. has_block bs b) (sym tape.tape.opened) ∙ opened)
 
@@ -76,7 +77,8 @@ module _ (w : World) (s : Site) (is : IsState s.core.state) (tape : SiteTaped w 
     not_closed : IsUnused k → is_open k.stage ≡ false → (o : Option QueueState) → own_slot.slot.state ≡ o → ⊥
     not_closed unused closed (Some q) at =
         let t = own_slot.slot in
-        let m : Member (slot_queue t q) s.core.state.queues = subst (Member (slot_queue t q)) (sym tape.tape.queues) (queue_member tape.slots t q own_slot.in_list at) in
+        let m : Member (slot_queue t q) s.core.state.queues =
+        subst (Member (slot_queue t q)) (sym tape.tape.queues) (queue_member tape.slots t q own_slot.in_list at) in
         let sound = all_member IsQueue s.core.state.queues (slot_queue t q) is.queues.each m in
         let marked = all_member (HasMark s.core.state.marks) s.core.state.queues (slot_queue t q) is.marked m in
         let there : mark_of t.block.client s.core.state.marks ≡ Some k = ap (λ (y : Block). mark_of y.client s.core.state.marks) own_slot.block ∙ found in
@@ -88,7 +90,8 @@ module _ (w : World) (s : Site) (is : IsState s.core.state) (tape : SiteTaped w 
         (λ (e : IsTrue (ends t.ran)).
         let told = (All-mark_of (MarkTold w.sent (number_of s)) b.client s.core.state.marks k tape.told.each found).received in
         let count = own_whole.received in
-        let alike : greatest_count (number_of s) (block_of k) w.sent ≡ greatest_count (number_of s) t.block w.sent = ap (λ y. greatest_count (number_of s) y w.sent) (own ∙ sym own_slot.block) in
+        let alike : greatest_count (number_of s) (block_of k) w.sent ≡ greatest_count (number_of s) t.block w.sent =
+        ap (λ y. greatest_count (number_of s) y w.sent) (own ∙ sym own_slot.block) in
         let some = some_if_ends t.ran e in
         let none = unused.received in
         omega (arith, told, count, alike, some, none))
@@ -104,4 +107,5 @@ module _ (w : World) (s : Site) (is : IsState s.core.state) (tape : SiteTaped w 
     opened_open =
         by_test (λ t. is_open k.stage ≡ t → t ≡ true) (is_open k.stage)
         (λ _ _. refl)
-        (λ _ closed. absurd (not_closed ((All-mark_of IsUnusedUnlessOpen b.client s.core.state.marks k is.unused found).unused closed) closed own_slot.slot.state refl)) refl
+        (λ _ closed. absurd (not_closed ((All-mark_of IsUnusedUnlessOpen b.client s.core.state.marks k is.unused found).unused closed)
+        closed own_slot.slot.state refl)) refl

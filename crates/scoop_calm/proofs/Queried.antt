@@ -28,10 +28,12 @@ and_false true = refl
 and_false false = refl
 
 -- entries of other blocks leave the last answer
-pub own_answers : (b : Block) (rs : List Ran) (kept : Option (ℕ × ObjectAnswer)) → last_answer b rs kept ≡ last_answer b (filter (λ r. same_block r.block b) rs) kept
+pub own_answers : (b : Block) (rs : List Ran) (kept : Option (ℕ × ObjectAnswer))
+    → last_answer b rs kept ≡ last_answer b (filter (λ r. same_block r.block b) rs) kept
 own_answers b [] kept = refl
 own_answers b (r ∷ rs) kept =
-    by_test (λ t. same_block r.block b ≡ t → last_answer b rs (next_answer b r kept) ≡ last_answer b (if t then r ∷ filter (λ x. same_block x.block b) rs else filter (λ x. same_block x.block b) rs) kept) (same_block r.block b)
+    by_test (λ t. same_block r.block b ≡ t → last_answer b rs (next_answer b r kept)
+    ≡ last_answer b (if t then r ∷ filter (λ x. same_block x.block b) rs else filter (λ x. same_block x.block b) rs) kept) (same_block r.block b)
     (λ _ is. own_answers b rs (next_answer b r kept))
     (λ _ is.
     let other : same_block b r.block ≡ false = same_block-sym r.block b is in
@@ -75,12 +77,14 @@ last_ran (r ∷ rs) b n (x ∷ es) e told =
       entry = l.entry;
     }
 
-last_pushed : (b : Block) (rs : List Ran) (r : Ran) (kept : Option (ℕ × ObjectAnswer)) → last_answer b (rs ++ r ∷ []) kept ≡ next_answer b r (last_answer b rs kept)
+last_pushed : (b : Block) (rs : List Ran) (r : Ran) (kept : Option (ℕ × ObjectAnswer))
+    → last_answer b (rs ++ r ∷ []) kept ≡ next_answer b r (last_answer b rs kept)
 last_pushed b [] r kept = refl
 last_pushed b (x ∷ xs) r kept = last_pushed b xs r (next_answer b x kept)
 
 -- a query that ran last has its answer kept
-pub query_last : (rs : List Ran) (b : Block) (n : ℕ) (e : Entry) (l : LastRan rs b n e) → is_query e ≡ true → (kept : Option (ℕ × ObjectAnswer)) → last_answer b rs kept ≡ option_map (λ a. (n, a)) l.ran.answer
+pub query_last : (rs : List Ran) (b : Block) (n : ℕ) (e : Entry) (l : LastRan rs b n e) → is_query e ≡ true → (kept : Option (ℕ × ObjectAnswer))
+    → last_answer b rs kept ≡ option_map (λ a. (n, a)) l.ran.answer
 query_last rs b n e l query kept =
     let both : (is_query l.ran.entry && same_block b l.ran.block) ≡ true =
     (λ i. (ap is_query l.entry ∙ query) i && (ap (same_block b) l.block ∙ same_block_itself b) i) in
@@ -93,18 +97,24 @@ query_last rs b n e l query kept =
 pub record IsAnsweredRan (r : Ran) : Type 0 where
   pub answered : is_query r.entry ≡ true → (a : ObjectAnswer) × (r.answer ≡ Some a)
 
-query_effect : (class : ClassTable) (words : List ℕ) (e : Entry) (o : Option ObjectAnswer) → o ≡ (entry_effect class words e).1 → is_query e ≡ true → (a : ObjectAnswer) × (o ≡ Some a)
+query_effect : (class : ClassTable) (words : List ℕ) (e : Entry) (o : Option ObjectAnswer) → o ≡ (entry_effect class words e).1 → is_query e ≡ true
+    → (a : ObjectAnswer) × (o ≡ Some a)
 query_effect class words (Call r) o is q = absurd (true≢false (sym q))
 query_effect class words (Query r) o is q = ((eff class words r).1, is)
 query_effect class words End o is q = absurd (true≢false (sym q))
 
 pub all_answered : (class : ClassTable) (words : List ℕ) (rs : List Ran) → AnswersFrom class words rs → AllByRecursion IsAnsweredRan rs
 all_answered class words [] all = tt
-all_answered class words (r ∷ rs) all = (record { answered = query_effect class words r.entry r.answer all.0 }, all_answered class (entry_effect class words r.entry).0 rs all.1)
+all_answered class words (r ∷ rs) all = (
+  record { answered = query_effect class words r.entry r.answer all.0 },
+  all_answered class
+      (entry_effect class words r.entry).0 rs all.1,
+)
 
 pub all_filtered : {A : Type 0} (P : A → Type 0) (f : A → Bool) (xs : List A) → AllByRecursion P xs → AllByRecursion P (filter f xs)
 all_filtered P f [] all = tt
-all_filtered P f (x ∷ xs) all = by_test (λ t. AllByRecursion P (if t then x ∷ filter f xs else filter f xs)) (f x) (λ _. (all.0, all_filtered P f xs all.1)) (λ _. all_filtered P f xs all.1)
+all_filtered P f (x ∷ xs) all = by_test (λ t. AllByRecursion P (if t then x ∷ filter f xs else filter f xs)) (f x) (λ _. (all.0, all_filtered P f xs all.1))
+    (λ _. all_filtered P f xs all.1)
 
 -- ---- what has run stands in the log
 
@@ -120,7 +130,8 @@ module _ (log : Block → List Entry) where
   abbrev pub IsLoggedAt : Block × ℕ × Entry → Type 0
   IsLoggedAt u = slice_get (log u.0) (u.1 - 1) ≡ Some u.2
 
-  numbered_logged : (b : Block) (before es behind : List Entry) → before ++ (es ++ behind) ≡ log b → AllByRecursion IsLoggedAt (numbered b (length before + 1) es)
+  numbered_logged : (b : Block) (before es behind : List Entry) → before ++ (es ++ behind) ≡ log b
+      → AllByRecursion IsLoggedAt (numbered b (length before + 1) es)
   numbered_logged b before [] behind all = tt
   numbered_logged b before (e ∷ es) behind all =
       let place : length before + 1 - 1 ≡ length before = omega arith in
@@ -138,14 +149,16 @@ module _ (log : Block → List Entry) where
   slots_logged [] all = tt
   slots_logged (t ∷ ts) all =
       let b = all.0 in
-      all_joined (ran_in t) (ran_of ts) (numbered_logged t.block [] t.ran (t.rest ++ b.behind) (sym (append_assoc t.ran t.rest b.behind) ∙ b.all)) (slots_logged ts all.1)
+      all_joined (ran_in t) (ran_of ts) (numbered_logged t.block [] t.ran (t.rest ++ b.behind) (sym (append_assoc t.ran t.rest b.behind) ∙ b.all))
+      (slots_logged ts all.1)
 
   all_told : (rs : List Ran) → AllByRecursion IsLoggedAt (map untold rs) → AllByRecursion (λ (r : Ran). IsLoggedAt (untold r)) rs
   all_told [] all = tt
   all_told (r ∷ rs) all = (all.0, all_told rs all.1)
 
   -- what ran of a block stands in its log at its number
-  pub ran_logged : (rs : List Ran) (ss : List Slot) → map untold rs ≡ ran_of ss → AllByRecursion (IsBegun log) ss → (r : Ran) → Contains rs r → slice_get (log r.block) (r.number - 1) ≡ Some r.entry
+  pub ran_logged : (rs : List Ran) (ss : List Slot) → map untold rs ≡ ran_of ss → AllByRecursion (IsBegun log) ss → (r : Ran) → Contains rs r
+      → slice_get (log r.block) (r.number - 1) ≡ Some r.entry
   ran_logged rs ss told begun r at =
       let P : Ran → Type 0 = λ x. slice_get (log x.block) (x.number - 1) ≡ Some x.entry in
       All-contains P rs r (All-from_recursion P rs (all_told rs (subst (AllByRecursion IsLoggedAt) (sym told) (slots_logged ss begun)))) at

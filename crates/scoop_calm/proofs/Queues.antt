@@ -34,7 +34,8 @@ use Rattle.scoop_queue.proofs.Found.{block-found}
 use Rattle.scoop_calm.proofs.Everything.{Everything}
 use Rattle.scoop_calm.proofs.Clearing.{party_found}
 
-module _ (w : World) (r : IsReached w) (e : Everything (map (λ (p : Placement). p.handler) r.placements) w) (ran : AllByRecursion HasRunOut w.sites) (settled : AllByRecursion IsSettled w.parties) where
+module _ (w : World) (r : IsReached w) (e : Everything (map (λ (p : Placement). p.handler) r.placements) w) (ran : AllByRecursion HasRunOut w.sites)
+    (settled : AllByRecursion IsSettled w.parties) where
   -- the block has a private queue somewhere
   abbrev waits : Block → Bool
   waits b = list_any (λ (s : Site). has_queue b s.core.state.queues) w.sites
@@ -62,7 +63,8 @@ module _ (w : World) (r : IsReached w) (e : Everything (map (λ (p : Placement).
         at [] is = absurd (subst (Member x) is mx)
         at (y ∷ ys) is =
             ⊎_elim
-            (λ (same : y ≡ x). subst (λ (z : PrivateQueue). z.entries ≡ []) same (first_empty y ys (ap front (sym is) ∙ (all_member HasRunOut w.sites s ran m).none)))
+            (λ (same : y ≡ x). subst (λ (z : PrivateQueue). z.entries ≡ []) same
+            (first_empty y ys (ap front (sym is) ∙ (all_member HasRunOut w.sites s ran m).none)))
             (λ (later : Member x ys).
             let tape = all_member (SiteTaped w) w.sites s e.background.taped m in
             let fits = all_member (SiteFits w.joint) w.sites s e.background.ordered.sites m in
@@ -104,18 +106,21 @@ module _ (w : World) (r : IsReached w) (e : Everything (map (λ (p : Placement).
         let own : block_of k ≡ x.0.block =
         by_test (λ t. same_block (block_of k) x.0.block ≡ t → block_of k ≡ x.0.block) (same_block (block_of k) x.0.block)
         (λ _ same. same_block_is (block_of k) x.0.block same)
-        (λ _ other. absurd (true≢false (sym more ∙ marked.fits.older (λ same. true≢false (sym (ap (λ z. same_block z x.0.block) same ∙ same_block_itself x.0.block) ∙ other))))) refl in
+        (λ _ other. absurd (true≢false (sym more ∙ marked.fits.older
+        (λ same. true≢false (sym (ap (λ z. same_block z x.0.block) same ∙ same_block_itself x.0.block) ∙ other))))) refl in
         let going : (is_open k.stage && not k.ended) ≡ true = (marked.fits.newest own).unfinished more in
         let unfinished : is_unfinished s.core.state k ≡ true = or_right (is_holder s.core.state.holder (block_of k)) (is_open k.stage && not k.ended) going in
         let o = owner w r e settled s m k found in
-        let a : Goes o.party.client (number_of s) (block_of o.mark.mark) = at_work w r e o.party o.at (number_of s) o.mark ((λ i. is_unfinished (o.site i).core.state (o.own i)) ∙ unfinished) in
+        let a : Goes o.party.client (number_of s) (block_of o.mark.mark) =
+        at_work w r e o.party o.at (number_of s) o.mark ((λ i. is_unfinished (o.site i).core.state (o.own i)) ∙ unfinished) in
         let block : a.reservation.block ≡ b = a.block ∙ ap block_of o.own ∙ own ∙ is in
         let joined : has_block w.joint b ≡ true = ap (has_block w.joint) (sym is) ∙ queue_joint s m x.0 mx in
         ⊎_elim
         (λ (locking : a.reservation.stage ≡ Locking).
-        let never : NoOpen w a.reservation.block = subst (StageOpened w a.reservation) locking (e.background.openings.parties (id_of o.party) o.party o.at a.reservation a.held).stage in
+        let never : NoOpen w a.reservation.block = subst (StageOpened w a.reservation) locking
+        (e.background.openings.parties (id_of o.party) o.party o.at a.reservation a.held).stage in
         let own_never : NoOpen w (block_of k) = subst (NoOpen w) (block ∙ sym is ∙ sym own) never in
-        absurd (no_open_mark w r e settled s m k found own_never (is_open_at w r e settled k.stage (not k.ended) going)))
+        absurd (no_open_mark w r e s m k found own_never (is_open_at w r e k.stage (not k.ended) going)))
         (λ (u : Useful w). u)
         (by_stage w r e settled o.party o.in_world o.at a.reservation a.held
         (λ t mt h. first_room joined t mt (subst (IsHeldIn t.core.state.marks) block h))
@@ -131,11 +136,13 @@ module _ (w : World) (r : IsReached w) (e : Everything (map (λ (p : Placement).
   pub queues_or : AllByRecursion (λ (s : Site). s.core.state.queues ≡ []) w.sites ⊎ Useful w
   queues_or =
       ⊎_elim
-      (λ (nowhere : (a : Block) → has_block w.joint a ≡ true → waits a ≡ false). each_or (λ (s : Site). s.core.state.queues ≡ []) (Useful w) w.sites (λ s m. inl (gone nowhere s m s.core.state.queues refl)))
+      (λ (nowhere : (a : Block) → has_block w.joint a ≡ true → waits a ≡ false). each_or (λ (s : Site). s.core.state.queues ≡ []) (Useful w) w.sites
+      (λ s m. inl (gone nowhere s m s.core.state.queues refl)))
       (λ (f : First waits w.joint). inr (first_useful f))
       (first_or waits w.joint e.apart)
     where
-      gone : ((a : Block) → has_block w.joint a ≡ true → waits a ≡ false) → (s : Site) → Member s w.sites → (qs : List PrivateQueue) → s.core.state.queues ≡ qs → s.core.state.queues ≡ []
+      gone : ((a : Block) → has_block w.joint a ≡ true → waits a ≡ false) → (s : Site) → Member s w.sites → (qs : List PrivateQueue) → s.core.state.queues ≡ qs
+          → s.core.state.queues ≡ []
       gone nowhere s m [] is = is
       gone nowhere s m (y ∷ ys) is =
           let my : Member y s.core.state.queues = subst (Member y) (sym is) (inl refl) in
@@ -147,7 +154,8 @@ pub data IsLockingOrNone (p : Party) : Type 0 where
   has_none : p.client.reservation ≡ None → IsLockingOrNone p
   is_locking : (q : ReservationState) → p.client.reservation ≡ Some q → q.stage ≡ Locking → IsLockingOrNone p
 
-module _ (w : World) (r : IsReached w) (e : Everything (map (λ (p : Placement). p.handler) r.placements) w) (settled : AllByRecursion IsSettled w.parties) (empty : AllByRecursion (λ (s : Site). s.core.state.queues ≡ []) w.sites) where
+module _ (w : World) (r : IsReached w) (e : Everything (map (λ (p : Placement). p.handler) r.placements) w) (settled : AllByRecursion IsSettled w.parties)
+    (empty : AllByRecursion (λ (s : Site). s.core.state.queues ≡ []) w.sites) where
   locking_or : (p : Party) → Member p w.parties → (o : Option ReservationState) → p.client.reservation ≡ o → IsLockingOrNone p ⊎ Useful w
   locking_or p m None held = inl (has_none held)
   locking_or p m (Some q) held =

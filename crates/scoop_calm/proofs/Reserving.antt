@@ -57,14 +57,18 @@ record Starts (hs known : List HandlerId) : Type 0 where
 
 starts : (b : Block) (hs known : List HandlerId) (s : ReservationState) → started b hs known ≡ Ok s → Starts hs known
 starts b hs known s e =
-    by_test (λ t. (length hs == 0) ≡ t → (if t then Err error.Empty else if nat_lt MAX_BLOCK_HANDLERS (length hs) then Err error.TooMany else unless_repeated (fresh b hs) (first_repeated hs) (first_unknown known hs)) ≡ Ok s → Starts hs known) (length hs == 0)
+    by_test (λ t. (length hs == 0) ≡ t → (if t then Err error.Empty else if nat_lt MAX_BLOCK_HANDLERS (length hs) then Err error.TooMany
+    else unless_repeated (fresh b hs) (first_repeated hs) (first_unknown known hs)) ≡ Ok s → Starts hs known) (length hs == 0)
     (λ _ is f. absurd (cc))
     (λ _ is f.
-    by_test (λ t. (if t then Err error.TooMany else unless_repeated (fresh b hs) (first_repeated hs) (first_unknown known hs)) ≡ Ok s → Starts hs known) (nat_lt MAX_BLOCK_HANDLERS (length hs))
+    by_test (λ t. (if t then Err error.TooMany else unless_repeated (fresh b hs) (first_repeated hs) (first_unknown known hs)) ≡ Ok s → Starts hs known)
+    (nat_lt MAX_BLOCK_HANDLERS (length hs))
     (λ many g. absurd (cc))
-    (λ few g. let n = repeated_none (fresh b hs) s (first_repeated hs) (first_unknown known hs) g in record { none_unknown = n.1; none_again = n.0; one = is }) f) refl e
+    (λ few g. let n = repeated_none (fresh b hs) s (first_repeated hs) (first_unknown known hs) g in record { none_unknown = n.1; none_again = n.0; one = is })
+    f) refl e
 
-pub fresh_reserves : (b : Block) (hs known : List HandlerId) (s : ReservationState) → started b hs known ≡ Ok s → Reserves known (fresh b hs) × (is_gone (fresh b hs) ≡ false)
+pub fresh_reserves : (b : Block) (hs known : List HandlerId) (s : ReservationState) → started b hs known ≡ Ok s → Reserves known (fresh b hs)
+    × (is_gone (fresh b hs) ≡ false)
 fresh_reserves b hs known s e =
     let f = starts b hs known s e in (
       record {
@@ -99,7 +103,8 @@ step_reserves known r s m st (one_is_locked h at low more) f = record {
       (λ _ is.
       let one : h ≡ x = is_gone_one h x r.left is gone in
       subst (λ (z : HandlerId). z.0 < y.0) one
-      (lower_or_same h y (lowest_below h r.left y low y_left) (λ e. true≢false (sym (subst (λ z. has (without h r.left) z ≡ true) (sym e) there) ∙ gone_without h r.left))))
+      (lower_or_same h y (lowest_below h r.left y low y_left)
+      (λ e. true≢false (sym (subst (λ z. has (without h r.left) z ≡ true) (sym e) there) ∙ gone_without h r.left))))
       (λ _ is. f.order at x y in_set is y_left) refl;
 }
 step_reserves known r s m st (all_are_locked h at low none_left) f = record {
@@ -152,13 +157,15 @@ heard_reserves = step_reserves
 lowest_asked : (hs left : List HandlerId) (h : HandlerId) → has hs h ≡ true → is_lowest h left ≡ true → has (asked hs left) h ≡ true
 lowest_asked hs left h e low = in_asked hs left h e (by_test (λ t. (t || is_lowest h left) ≡ true) (not (has left h)) (λ _. refl) (λ _. low))
 
-asked_some : (hs left : List HandlerId) → ((h : HandlerId) → has left h ≡ true → has hs h ≡ true) → is_empty left ≡ false → Filled left → is_empty (asked hs left) ≡ false
+asked_some : (hs left : List HandlerId) → ((h : HandlerId) → has left h ≡ true → has hs h ≡ true) → is_empty left ≡ false → Filled left
+    → is_empty (asked hs left) ≡ false
 asked_some hs _ inside empty none = absurd (true≢false empty)
 asked_some hs _ inside empty (some h rest) =
     let l = lowest_of h rest in
     some_in (asked hs (h ∷ rest)) l.handler (lowest_asked hs (h ∷ rest) l.handler (inside l.handler (lowest_has l.handler (h ∷ rest) l.is)) l.is)
 
-given_reserves : (known : List HandlerId) (r s : ReservationState) (stage : Stage) → r.stage ≡ stage → given_up_in r stage ≡ Ok s → Reserves known r → Reserves known s × (is_gone s ≡ false)
+given_reserves : (known : List HandlerId) (r s : ReservationState) (stage : Stage) → r.stage ≡ stage → given_up_in r stage ≡ Ok s → Reserves known r
+    → Reserves known s × (is_gone s ≡ false)
 given_reserves known r s Locking at e f =
     let given : at_stage r GivingUp (asked r.handlers r.left) ≡ s = cc in
     let left = asked_some r.handlers r.left f.within (f.stays (subst IsSettingOut (sym at) locks)) (filled r.left) in

@@ -13,7 +13,7 @@ pub record HasRunOut (s : Site) : Type 0 where
 
 -- every handler has welcomed the client
 pub record IsWelcome (p : Party) : Type 0 where
-  pub left : p.client.left ≡ []
+  pub left : p.client.unwelcomed ≡ []
 
 -- no lock is left to be given back
 abbrev pub GaveBack : ReservationState → Stage → Type 0

@@ -28,7 +28,8 @@ use Rattle.scoop_calm.proofs.Marked.{MarkFits}
 -- ---- a list without repeats is no longer than one that has all its items
 
 stays_without : (k x : HandlerId) (hs : List HandlerId) → has hs x ≡ true → (k ≡ x → ⊥) → has (without k hs) x ≡ true
-stays_without k x hs e apart = by_test (λ t. has (without k hs) x ≡ t → t ≡ true) (has (without k hs) x) (λ _ _. refl) (λ _ is. absurd (apart (is_gone_one k x hs e is))) refl
+stays_without k x hs e apart = by_test (λ t. has (without k hs) x ≡ t → t ≡ true) (has (without k hs) x) (λ _ _. refl)
+    (λ _ is. absurd (apart (is_gone_one k x hs e is))) refl
 
 within_length : (ks hs : List HandlerId) → NoTwice ks → ((x : HandlerId) → has ks x ≡ true → has hs x ≡ true) → length ks ≤ length hs
 within_length [] hs once all = omega arith
@@ -73,12 +74,14 @@ marks_once (k ∷ ks) up = (
 none_named : (c : ClientId) (marks : List Mark) → mark_of c marks ≡ None → has (names marks) (name c) ≡ false
 none_named c [] e = refl
 none_named c (k ∷ ks) e =
-    by_test (λ t. (if t then Some k else mark_of c ks) ≡ None → (t || has (names ks) (name c)) ≡ false) (same_client k.client c) (λ here f. absurd (cc)) (λ there f. none_named c ks f) e
+    by_test (λ t. (if t then Some k else mark_of c ks) ≡ None → (t || has (names ks) (name c)) ≡ false) (same_client k.client c) (λ here f. absurd (cc))
+    (λ there f. none_named c ks f) e
 
 found_named : (c : ClientId) (ps : List Party) (p : Party) → find (is_party c) ps ≡ Some p → has (people ps) (name c) ≡ true
 found_named c [] p e = absurd (cc)
 found_named c (x ∷ xs) p e =
-    by_test (λ t. (if t then Some x else find (is_party c) xs) ≡ Some p → (t || has (people xs) (name c)) ≡ true) (is_party c x) (λ here f. refl) (λ there f. found_named c xs p f) e
+    by_test (λ t. (if t then Some x else find (is_party c) xs) ≡ Some p → (t || has (people xs) (name c)) ≡ true) (is_party c x) (λ here f. refl)
+    (λ there f. found_named c xs p f) e
 
 -- a client with a mark is in the world
 is_there : (w : World) (c : ClientId) → 1 ≤ inc_of w c → has (people w.parties) (name c) ≡ true
@@ -88,7 +91,8 @@ is_there w c le = at (party_of c w) refl le
     at None e le = absurd (omega (arith, le))
     at (Some p) e le = found_named c w.parties p e
 
-all_there : (w : World) (h : HandlerId) (ran : _) (marks : List Mark) → AllByRecursion (MarkFits w h ran) marks → AllByRecursion (IsMarkUpto (inc_of w)) marks → (x : HandlerId) → has (names marks) x ≡ true → has (people w.parties) x ≡ true
+all_there : (w : World) (h : HandlerId) (ran : _) (marks : List Mark) → AllByRecursion (MarkFits w h ran) marks → AllByRecursion (IsMarkUpto (inc_of w)) marks
+    → (x : HandlerId) → has (names marks) x ≡ true → has (people w.parties) x ≡ true
 all_there w h ran [] fits upto x e = absurd (true≢false (sym e))
 all_there w h ran (k ∷ ks) fits upto x e =
     by_test (λ t. same_handler (name k.client) x ≡ t → (t || has (names ks) x) ≡ true → has (people w.parties) x ≡ true) (same_handler (name k.client) x)
@@ -117,12 +121,14 @@ parties_few w r =
     let v : World = opening r.placements r.newcomers in
     let same : length w.parties ≡ length r.newcomers =
     subst (λ (u : World). length u.parties ≡ length r.newcomers) (ap (λ (x : Run). x.0) r.leads)
-    (steps_kept (λ u. length u.parties ≡ length r.newcomers) (many_kept (length r.newcomers)) v r.events (length-map r.newcomers (new_party (map (λ (p : Placement). p.handler) r.placements)))) in
+    (steps_kept (λ u. length u.parties ≡ length r.newcomers) (many_kept (length r.newcomers)) v r.events
+    (length-map r.newcomers (new_party (map (λ (p : Placement). p.handler) r.placements)))) in
     let few = r.opens.few_clients in
     omega (arith, same, few)
 
 -- a handler that has no mark of a client of the world has room for one
-pub has_room : (w : World) → IsReached w → (h : HandlerId) (ran : _) (marks : List Mark) → AllByRecursion (MarkFits w h ran) marks → AllByRecursion (IsMarkUpto (inc_of w)) marks → IsAscending marks
+pub has_room : (w : World) → IsReached w → (h : HandlerId) (ran : _) (marks : List Mark) → AllByRecursion (MarkFits w h ran) marks
+    → AllByRecursion (IsMarkUpto (inc_of w)) marks → IsAscending marks
     → (c : ClientId) (p : Party) → party_of c w ≡ Some p → mark_of c marks ≡ None → (length marks == MAX_CLIENTS) ≡ false
 has_room w r h ran marks fits upto up c p at none =
     let few = parties_few w r in

@@ -21,7 +21,8 @@ use Rattle.scoop_calm.specs.Left.{mark_room, queue_work, runs_left, site_room, s
 use Rattle.scoop_calm.proofs.Resting.{HasRunOut}
 use Rattle.scoop_calm.proofs.Totals.{each_or, all_member, distinct, member_found}
 use Rattle.scoop_calm.proofs.Measures.{Less, for_work, sites_total}
-use Rattle.scoop_calm.proofs.Engine.{Useful}
+use Rattle.scoop_calm.specs.declared.next.Next.TheVariants as next
+use Rattle.scoop_calm.proofs.Engine.{Helps, Useful, useful}
 use Rattle.scoop_calm.proofs.Moves.{begin_useful, finish_useful}
 
 -- ---- what is left to run
@@ -33,7 +34,8 @@ total_append f (x ∷ xs) ys = let rest = total_append f xs ys in omega (arith, 
 first_left : (q : PrivateQueue) (es : List Entry) → total queue_work (left_by_first q es) + 1 ≤ length es ⊎ (es ≡ [])
 first_left q [] = inr refl
 first_left q (e ∷ es) =
-    inl (by_test (λ t. total queue_work (if t then [] else record { block = q.block; first = q.first + 1; entries = es; state = q.state } ∷ []) + 1 ≤ length (e ∷ es)) (goes_with q.state e es)
+    inl (by_test (λ t. total queue_work (if t then [] else record { block = q.block; first = q.first + 1; entries = es; state = q.state } ∷ []) + 1 ≤ length
+    (e ∷ es)) (goes_with q.state e es)
     (λ gone. omega arith)
     (λ stays. omega arith))
 
@@ -53,7 +55,7 @@ room_after t (k ∷ ks) = ap (λ n. mark_room k + n) (room_after t ks)
 -- ---- one site
 
 module _ (w : World) (reached : IsReached w) (s : Site) (here : site_of (number_of s) w ≡ Some s) where
-  begun_less : (t : Task) → s.core.out ≡ false → ready s.core ≡ Some t → Less (with_site w (begun_site s)) w
+  pub begun_less : (t : Task) → s.core.out ≡ false → ready s.core ≡ Some t → Less (with_site w (begun_site s)) w
   begun_less t out is =
       let n = begun_site s in
       let room = sites_total w reached site_room n s here in
@@ -63,7 +65,7 @@ module _ (w : World) (reached : IsReached w) (s : Site) (here : site_of (number_
       let was : site_work s ≡ total queue_work s.core.state.queues + total queue_work s.core.state.queues + 1 = ap (runs_left s.core.state.queues) out in
       for_work (omega arith) (omega (arith, room)) (omega (arith, work, now, was))
 
-  finished_less : (t : Task) → s.core.out ≡ true → job_out s.core ≡ Some t → Less (with_site w (finished_site s t)) w
+  pub finished_less : (t : Task) → s.core.out ≡ true → job_out s.core ≡ Some t → Less (with_site w (finished_site s t)) w
   finished_less t out is =
       let n = finished_site s t in
       let room = sites_total w reached site_room n s here in
@@ -71,7 +73,8 @@ module _ (w : World) (reached : IsReached w) (s : Site) (here : site_of (number_
       let same = room_after t s.core.state.marks in
       let some : is_some (front s.core.state.queues) ≡ true = ap is_some (job-front s.core t is) in
       let less = advance_less s.core.state.queues some in
-      let was : site_work s ≡ total queue_work s.core.state.queues + total queue_work s.core.state.queues = ap (runs_left s.core.state.queues) out ∙ omega arith in
+      let was : site_work s ≡ total queue_work s.core.state.queues + total queue_work s.core.state.queues = ap (runs_left s.core.state.queues) out
+      ∙ omega arith in
       for_work (omega arith) (omega (arith, room, same)) (omega (arith, work, less, was))
 
   -- the site has run out, or its first entry can go on
@@ -80,17 +83,18 @@ module _ (w : World) (reached : IsReached w) (s : Site) (here : site_of (number_
   at_front is false (Some f) out is_front =
       let t : Task = task_of s.core f in
       let can : ready s.core ≡ Some t = ap (λ b. if b then None else first_task s.core) out ∙ ap (option_map (task_of s.core)) is_front in
-      inr (begin_useful w reached s t here can (begun_less t out can))
+      inr (useful w (next.Begin (number_of s)) (begin_useful w reached s t here can (begun_less t out can)))
   at_front is true None out is_front =
       let job : IsTrue (is_some (front s.core.state.queues)) = is.job out in
       absurd (true≢false (sym job ∙ ap is_some is_front))
   at_front is true (Some f) out is_front =
       let t : Task = task_of s.core f in
       let can : job_out s.core ≡ Some t = ap (λ b. if b then first_task s.core else None) out ∙ ap (option_map (task_of s.core)) is_front in
-      inr (finish_useful w reached s t here can (finished_less t out can))
+      inr (useful w (next.Finish (number_of s)) (finish_useful w reached s t here out can (finished_less t out can)))
 
 pub sites_run_out : (w : World) → IsReached w → AllByRecursion (λ s. IsCore s.core) w.sites → AllByRecursion HasRunOut w.sites ⊎ Useful w
 sites_run_out w reached sound =
     each_or HasRunOut (Useful w) w.sites (λ s m.
-    let found = member_found number_of same_handler handler_decides w.sites s (distinct number_of same_handler handler_decides w.sites (sites_apart w reached)) m in
+    let found = member_found number_of same_handler handler_decides w.sites s
+    (distinct number_of same_handler handler_decides w.sites (sites_apart w reached)) m in
     at_front w reached s found (all_member (λ x. IsCore x.core) w.sites s sound m) s.core.out (front s.core.state.queues) refl refl)

@@ -44,7 +44,8 @@ marks_distinct [] up = tt
 marks_distinct (k ∷ ks) up = (none_later k ks up, marks_distinct ks (tail_of k ks up))
 
 -- a mark in the place of its client's takes more
-pub less_room : (k old : Mark) (marks : List Mark) → IsAscending marks → mark_of k.client marks ≡ Some old → old.received < k.received → k.received ≤ 2 ^ 32 → total mark_room (set_mark k marks) < total mark_room marks
+pub less_room : (k old : Mark) (marks : List Mark) → IsAscending marks → mark_of k.client marks ≡ Some old → old.received < k.received → k.received ≤ 2 ^ 32
+    → total mark_room (set_mark k marks) < total mark_room marks
 less_room k old marks up found more fits =
     let sum = total_newer (λ (x : Mark). x.client) same_client client_decides mark_room k old marks (marks_distinct marks up) found in
     omega (arith, sum, more, fits)
@@ -66,9 +67,12 @@ pub record IsDue (s : HandlerState) (b : Block) (k : Mark) (n : ℕ) (es : List 
 
 -- the entries are taken; or they were before, and the count comes back, or an answer
 pub data LogReply (s : HandlerState) (b : Block) (k : Mark) (n : ℕ) (es : List Entry) : Type 0 where
-  taken : k.received < last_number n es → (r : Replies s (Log s.number b n es) (Logged s.number b (last_number n es))) → r.state ≡ with_entries s b n es k → LogReply s b k n es
-  counted_before : last_number n es ≤ k.received → kept_answer (last_number n es) k.kept ≡ None → Replies s (Log s.number b n es) (Logged s.number b k.received) → LogReply s b k n es
-  answered_before : (a : ObjectAnswer) → kept_answer (last_number n es) k.kept ≡ Some a → Replies s (Log s.number b n es) (Answer s.number b (last_number n es) a) → LogReply s b k n es
+  taken : k.received < last_number n es → (r : Replies s (Log s.number b n es) (Logged s.number b (last_number n es))) → r.state ≡ with_entries s b n es k
+      → LogReply s b k n es
+  counted_before : last_number n es ≤ k.received → kept_answer (last_number n es) k.kept ≡ None → Replies s (Log s.number b n es) (Logged s.number b k.received)
+      → LogReply s b k n es
+  answered_before : (a : ObjectAnswer) → kept_answer (last_number n es) k.kept ≡ Some a
+      → Replies s (Log s.number b n es) (Answer s.number b (last_number n es) a) → LogReply s b k n es
 
 module _ (s : HandlerState) (b : Block) (k : Mark) (n : ℕ) (es : List Entry) (d : IsDue s b k n es) where
   abbrev last : ℕ

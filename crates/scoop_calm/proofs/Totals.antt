@@ -3,7 +3,7 @@ use Rattle.std.proofs.Common.{◌++◌, length, ◌≡◌, ◌⊎◌, inl, inr, 
 use Rattle.std.specs.Prelude.{⊤, if◌then◌else◌}
 use Rattle.std.specs.Bool.{Decides}
 use Rattle.std.specs.List.{AllByRecursion}
-use Rattle.scoop_model.specs.Safe.{NoRepeats}
+use Rattle.scoop_message.specs.Lists.{NoRepeats}
 use Rattle.scoop_model.proofs.Basics.{by_test}
 use Rattle.scoop_calm.specs.Left.{total}
 
@@ -76,7 +76,8 @@ module _ {A K : Type 0} (key : A → K) (same : K → K → Bool) (decides : (a 
   member_found [] x d m = absurd m
   member_found (y ∷ ys) x d m =
       ⊎_elim
-      (λ (e : y ≡ x). subst (λ (z : A). (if has_key (key z) y then Some y else find (has_key (key z)) ys) ≡ Some z) e (ap (λ t. if t then Some y else find (has_key (key y)) ys) ((decides (key y) (key y)).1 refl)))
+      (λ (e : y ≡ x). subst (λ (z : A). (if has_key (key z) y then Some y else find (has_key (key z)) ys) ≡ Some z) e
+      (ap (λ t. if t then Some y else find (has_key (key y)) ys) ((decides (key y) (key y)).1 refl)))
       (λ (n : Member x ys).
       let rest = member_found ys x d.1 n in
       by_test (λ t. has_key (key x) y ≡ t → (if t then Some y else find (has_key (key x)) ys) ≡ Some x) (has_key (key x) y)
@@ -102,11 +103,13 @@ module _ {A K : Type 0} (key : A → K) (same : K → K → Bool) (decides : (a 
       (λ there f. ap (λ ys. x ∷ ys) (none_newer a xs f)) e
 
   -- one item in the place of another
-  pub total_newer : (f : A → ℕ) (a old : A) (xs : List A) → Distinct xs → find (has_key (key a)) xs ≡ Some old → total f (map (newer a) xs) + f old ≡ total f xs + f a
+  pub total_newer : (f : A → ℕ) (a old : A) (xs : List A) → Distinct xs → find (has_key (key a)) xs ≡ Some old
+      → total f (map (newer a) xs) + f old ≡ total f xs + f a
   total_newer f a old [] d e = absurd (cc)
   total_newer f a old (x ∷ xs) d e =
       by_test
-      (λ t. (if t then Some x else find (has_key (key a)) xs) ≡ Some old → has_key (key a) x ≡ t → f (if t then a else x) + total f (map (newer a) xs) + f old ≡ f x + total f xs + f a)
+      (λ t. (if t then Some x else find (has_key (key a)) xs) ≡ Some old → has_key (key a) x ≡ t
+      → f (if t then a else x) + total f (map (newer a) xs) + f old ≡ f x + total f xs + f a)
       (has_key (key a) x)
       (λ here g is.
       let one : x ≡ old = cc in

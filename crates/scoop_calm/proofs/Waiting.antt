@@ -20,7 +20,7 @@ use Rattle.scoop_handler.proofs.MarkLists.{All-mark_of}
 use Rattle.scoop_reserve.specs.declared.stage.Stage.TheVariants.{Unlocking}
 use Rattle.scoop_reserve.specs.Handlers.{has}
 use Rattle.scoop_reserve.specs.State.{ReservationState}
-use Rattle.scoop_client.specs.Line.{LineState, logged, line_of}
+use Rattle.scoop_client.specs.Window.{WindowState, logged, window_of}
 use Rattle.scoop_model.specs.World.{World, Site, Party, number_of, id_of, is_site, party_of, has_block, log_of, greatest_count}
 use Rattle.scoop_model.specs.Step.{Placement}
 use Rattle.scoop_model.specs.Safe.{HasRun, numbered}
@@ -39,7 +39,7 @@ use Rattle.scoop_calm.proofs.Members.{member_last}
 use Rattle.scoop_calm.proofs.Marked.{last_answer}
 use Rattle.scoop_calm.proofs.OpenedAt.{SlotOf, slot_of, queue_member}
 use Rattle.scoop_calm.proofs.Opening.{OwnMark, beside}
-use Rattle.scoop_calm.proofs.Unlocking.{block_fits, own_lines}
+use Rattle.scoop_calm.proofs.Unlocking.{block_fits, own_windows}
 use Rattle.scoop_calm.proofs.Queried.{own_answers, LastRan, last_ran, query_last, IsAnsweredRan, all_answered, all_filtered, get_behind, ran_logged}
 use Rattle.scoop_calm.proofs.Logs.{fits, own_block, received, log_long, mark_fits, opened}
 use Rattle.scoop_calm.proofs.Everything.{Everything}
@@ -48,8 +48,10 @@ use Rattle.scoop_calm.proofs.Everything.{Everything}
 abbrev pub IsIdleIn : List PrivateQueue → Block → Type 0
 IsIdleIn qs b = (x : PrivateQueue) → Member x qs → x.block ≡ b → x.entries ≡ []
 
-module _ (w : World) (r : IsReached w) (e : Everything (map (λ (p : Placement). p.handler) r.placements) w) (p : Party) (at : party_of (id_of p) w ≡ Some p) (q : ReservationState) (held : p.client.reservation ≡ Some q) (stage : q.stage ≡ Unlocking)
-    (h : HandlerId) (named : has q.handlers h ≡ true) (free : has q.left h ≡ false) (l : LineState) (line : line_of h p.client.lines ≡ Some l) (some : 0 < length l.unacked) where
+module _ (w : World) (r : IsReached w) (e : Everything (map (λ (p : Placement). p.handler) r.placements) w) (p : Party) (at : party_of (id_of p) w ≡ Some p)
+    (q : ReservationState) (held : p.client.reservation ≡ Some q) (stage : q.stage ≡ Unlocking)
+    (h : HandlerId) (named : has q.handlers h ≡ true) (free : has q.left h ≡ false) (l : WindowState) (window : window_of h p.client.windows ≡ Some l)
+    (some : 0 < length l.unacked) where
   abbrev o : OwnMark w r e p at q held h
   o = beside w r e p at q held h named
 
@@ -66,14 +68,15 @@ module _ (w : World) (r : IsReached w) (e : Everything (map (λ (p : Placement).
   tape = all_found (SiteTaped w) (is_site h) w.sites s e.background.taped o.mark.found
 
   slot : SlotOf tape.slots b
-  slot = slot_of tape.slots b (ap (λ bs. has_block bs b) (sym tape.tape.opened) ∙ opened w r e p at q held stage h named free l line some)
+  slot = slot_of tape.slots b (ap (λ bs. has_block bs b) (sym tape.tape.opened) ∙ opened w r e p at q held stage h named free l window some)
 
   whole : SlotWhole w.sent (number_of s) s.core.state.marks slot.slot
   whole = all_member (SlotWhole w.sent (number_of s) s.core.state.marks) tape.slots slot.slot tape.whole slot.in_list
 
   -- nothing is left to run of the block
   no_rest : IsIdleIn s.core.state.queues b → (t : Option QueueState) → slot.slot.state ≡ t → slot.slot.rest ≡ []
-  no_rest idle (Some t) is = idle (slot_queue slot.slot t) (subst (Member (slot_queue slot.slot t)) (sym tape.tape.queues) (queue_member tape.slots slot.slot t slot.in_list is)) slot.block
+  no_rest idle (Some t) is = idle (slot_queue slot.slot t) (subst (Member (slot_queue slot.slot t)) (sym tape.tape.queues)
+      (queue_member tape.slots slot.slot t slot.in_list is)) slot.block
   no_rest idle None is = (whole.gone is).rest
 
   ran_all : IsIdleIn s.core.state.queues b → o.mark.mark.received ≡ logged l → slot.slot.ran ≡ log
@@ -82,22 +85,25 @@ module _ (w : World) (r : IsReached w) (e : Everything (map (λ (p : Placement).
       let rest = no_rest idle t.state refl in
       let none : length t.rest ≡ 0 = ap length rest in
       let count : greatest_count (number_of s) t.block w.sent ≡ length t.ran + length t.rest = whole.received in
-      let same : greatest_count h b w.sent ≡ greatest_count (number_of s) t.block w.sent = (λ i. greatest_count (sym o.mark.number i) (sym slot.block i) w.sent) in
-      let told = received w r e p at q held stage h named free l line some in
-      let long = log_long w r e p at q held stage h named free l line some in
+      let same : greatest_count h b w.sent ≡ greatest_count (number_of s) t.block w.sent =
+      (λ i. greatest_count (sym o.mark.number i) (sym slot.block i) w.sent) in
+      let told = received w r e p at q held stage h named free l window some in
+      let long = log_long w r e p at q held stage h named free l window some in
       let begun = all_member _ tape.slots t tape.tape.begun slot.in_list in
       let here : (t.ran ++ t.rest) ++ begun.behind ≡ log = begun.all ∙ (λ i. log_of (slot.block i) (o.mark.number i) w) in
       let size : length ((t.ran ++ t.rest) ++ begun.behind) ≡ length log = ap length here in
       let parts = length-append (t.ran ++ t.rest) begun.behind in
       let inner = length-append t.ran t.rest in
       let none_behind = none_long begun.behind (omega (arith, none, count, same, told, long, size, parts, inner, all)) in
-      sym (append-nil t.ran) ∙ ap (λ xs. t.ran ++ xs) (sym rest) ∙ sym (append-nil (t.ran ++ t.rest)) ∙ ap (λ xs. (t.ran ++ t.rest) ++ xs) (sym none_behind) ∙ here
+      sym (append-nil t.ran) ∙ ap (λ xs. t.ran ++ xs) (sym rest) ∙ sym (append-nil (t.ran ++ t.rest)) ∙ ap (λ xs. (t.ran ++ t.rest) ++ xs) (sym none_behind)
+      ∙ here
 
   -- a query that waits and has run isn't without its answer
-  pub has_answer : IsIdleIn s.core.state.queues b → p.client.waits ≡ Some (h, logged l) → o.mark.mark.received ≡ logged l → kept_answer (logged l) o.mark.mark.kept ≡ None → ⊥
+  pub has_answer : IsIdleIn s.core.state.queues b → p.client.waits ≡ Some (h, logged l) → o.mark.mark.received ≡ logged l
+      → kept_answer (logged l) o.mark.mark.kept ≡ None → ⊥
   has_answer idle waits all none =
       let t = slot.slot in
-      let g = (own_lines w r e p at q held).waits h (logged l) waits in
+      let g = (own_windows w r e p at q held).waits h (logged l) waits in
       let before = g.query.before in
       let entry : Entry = Query g.query.request in
       let ran : t.ran ≡ before ++ entry ∷ [] = ran_all idle all ∙ sym g.query.last in
@@ -111,12 +117,12 @@ module _ (w : World) (r : IsReached w) (e : Everything (map (λ (p : Placement).
       let own : IsAnsweredRan last.ran = all_member IsAnsweredRan rs last.ran answered (subst (Member last.ran) last.all (member_last last.ran last.before)) in
       let a = own.answered (ap is_query last.entry) in
       let kept : o.mark.mark.kept ≡ Some (1 + length before, a.0) =
-      (mark_fits w r e p at q held stage h named free l line some).kept
-      ∙ ap (λ y. last_answer y s.ran None) (own_block w r e p at q held stage h named free l line some ∙ sym slot.block)
+      (mark_fits w r e p at q held stage h named free l window some).kept
+      ∙ ap (λ y. last_answer y s.ran None) (own_block w r e p at q held stage h named free l window some ∙ sym slot.block)
       ∙ own_answers t.block s.ran None ∙ query_last rs t.block (1 + length before) entry last refl None ∙ ap (option_map (λ x. (1 + length before, x))) a.1 in
       let size : length (before ++ entry ∷ []) ≡ length log = ap length g.query.last in
       let parts = length-append before (entry ∷ []) in
-      let long = log_long w r e p at q held stage h named free l line some in
+      let long = log_long w r e p at q held stage h named free l window some in
       let number : 1 + length before ≡ logged l = omega (arith, size, parts, long) in
       let same : (1 + length before == logged l) ≡ true = eq-eqb (1 + length before) (logged l) number in
       let found : kept_answer (logged l) o.mark.mark.kept ≡ Some a.0 = ap (kept_answer (logged l)) kept ∙ ap (λ t. if t then Some a.0 else None) same in
@@ -134,14 +140,15 @@ module _ (w : World) (r : IsReached w) (e : Everything (map (λ (p : Placement).
           let has_run : HasRun s.ran (block_of o.mark.mark) m x = keeps.has m x kept in
           let x_ran = has_run.ran in
           let there = ran_logged (λ y. log_of y (number_of s) w) s.ran tape.slots tape.tape.ran tape.tape.begun x_ran has_run.at in
-          let own = own_block w r e p at q held stage h named free l line some in
-          let in_log : slice_get log (m - 1) ≡ Some x_ran.entry = (λ i. slice_get (log_of ((sym own ∙ sym has_run.block) i) (sym o.mark.number i) w) (sym has_run.number i - 1)) ∙ there in
-          let f = fits w r e p at q held stage h named free l line some in
+          let own = own_block w r e p at q held stage h named free l window some in
+          let in_log : slice_get log (m - 1) ≡ Some x_ran.entry =
+          (λ i. slice_get (log_of ((sym own ∙ sym has_run.block) i) (sym o.mark.number i) w) (sym has_run.number i - 1)) ∙ there in
+          let f = fits w r e p at q held stage h named free l window some in
           let count = f.count in
           let place : m - 1 ≡ length f.acknowledged + (m - 1 - l.acked) = omega (arith, count, more) in
-          let in_line : slice_get l.unacked (m - 1 - l.acked) ≡ Some x_ran.entry =
+          let in_window : slice_get l.unacked (m - 1 - l.acked) ≡ Some x_ran.entry =
           sym (get_behind f.acknowledged l.unacked (m - 1 - l.acked)) ∙ (λ i. slice_get (f.all i) (sym place i)) ∙ in_log in
-          let waits = (block_fits w r e p at q held).lines.awaited h l line (m - 1 - l.acked) x_ran.entry in_line has_run.query in
+          let waits = (block_fits w r e p at q held).windows.awaited h l window (m - 1 - l.acked) x_ran.entry in_window has_run.query in
           let number : l.acked + (m - 1 - l.acked) + 1 ≡ m = omega (arith, more) in
           waits ∙ ap (λ (k : ℕ). Some (h, k)) number
 

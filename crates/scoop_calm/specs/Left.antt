@@ -6,7 +6,7 @@ use Rattle.scoop_handler.specs.declared.mark.Mark.{Mark}
 use Rattle.scoop_reserve.specs.declared.stage.Stage.{Stage}
 use Rattle.scoop_reserve.specs.declared.stage.Stage.TheVariants.{Locking, Opening, Unlocking, GivingUp}
 use Rattle.scoop_reserve.specs.State.{ReservationState}
-use Rattle.scoop_client.specs.Line.{LineState}
+use Rattle.scoop_client.specs.Window.{WindowState}
 use Rattle.scoop_client.specs.State.{ClientState}
 use Rattle.scoop_model.specs.World.{World, Site, Party}
 
@@ -18,11 +18,11 @@ total f (x ∷ xs) = f x + total f xs
 -- ---- a client
 
 -- the entries that aren't acknowledged, and an End to come, which is two steps
-abbrev pub line_work : LineState → ℕ
-line_work l = length l.unacked + (if l.ended then 0 else 2)
+abbrev pub window_work : WindowState → ℕ
+window_work l = length l.unacked + (if l.ended then 0 else 2)
 
-abbrev pub lines_work : List LineState → ℕ
-lines_work ls = total line_work ls
+abbrev pub windows_work : List WindowState → ℕ
+windows_work ls = total window_work ls
 
 -- the handlers that are left in this stage, and all of them in each later one
 abbrev pub stage_work : ReservationState → Stage → ℕ
@@ -31,9 +31,9 @@ stage_work r Opening = length r.left + length r.handlers
 stage_work r Unlocking = length r.left
 stage_work r GivingUp = length r.left
 
-abbrev pub block_work : List LineState → Option ReservationState → ℕ
+abbrev pub block_work : List WindowState → Option ReservationState → ℕ
 block_work ls None = 0
-block_work ls (Some r) = stage_work r r.stage + lines_work ls
+block_work ls (Some r) = stage_work r r.stage + windows_work ls
 
 -- a query that waits
 abbrev pub wait_work : Option (HandlerId × ℕ) → ℕ
@@ -41,7 +41,7 @@ wait_work None = 0
 wait_work (Some q) = 1
 
 abbrev pub client_work : ClientState → ℕ
-client_work c = length c.left + block_work c.lines c.reservation + wait_work c.waits
+client_work c = length c.unwelcomed + block_work c.windows c.reservation + wait_work c.waits
 
 -- ---- a handler
 

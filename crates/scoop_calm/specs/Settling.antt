@@ -23,7 +23,8 @@ use Rattle.scoop_model.specs.Step.{step}
 -- taken twice, nothing old is taken, and nobody restarts.
 pub data Settles : World → List Event → World → Type 0 where
   stays : (w : World) → Settles w [] w
-  begins : (w v u : World) (es : List Event) (h : HandlerId) (b : Block) (n : ℕ) → step w (Begin h) ≡ Ok (v, note.Began b n) → Settles v es u → Settles w (Begin h ∷ es) u
+  begins : (w v u : World) (es : List Event) (h : HandlerId) (b : Block) (n : ℕ) → step w (Begin h) ≡ Ok (v, note.Began b n) → Settles v es u
+      → Settles w (Begin h ∷ es) u
   finishes : (w v u : World) (es : List Event) (h : HandlerId) (r : Ran) → step w (Finish h) ≡ Ok (v, note.Ran r) → Settles v es u → Settles w (Finish h ∷ es) u
   ends : (w v u : World) (es : List Event) (c : ClientId) → step w (Do c End) ≡ Ok (v, note.Done) → Settles v es u → Settles w (Do c End ∷ es) u
   asks : (w x y v u : World) (es : List Event) (c : ClientId) (h : HandlerId) (i j : ℕ) (told : Note) (heard : ClientNote)

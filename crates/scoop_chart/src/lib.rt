@@ -23,6 +23,3 @@ mod lifeline;
 
 pub use chart::{Chart, MAX_ROWS};
 pub use error::ChartError;
-
-#[cfg(test)]
-mod tests;

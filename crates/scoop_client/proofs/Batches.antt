@@ -5,7 +5,7 @@ use Rattle.scoop_message.specs.declared.request.Entry.{Entry}
 use Rattle.scoop_message.specs.declared.request.Entry.TheVariants.{Call, Query, End}
 use Rattle.scoop_message.specs.Entry.{is_end}
 use Rattle.scoop_message.specs.Entries.{EndOnlyLast}
-use Rattle.scoop_client.specs.Line.{up_to_end, first_entries}
+use Rattle.scoop_client.specs.Window.{up_to_end, first_entries}
 
 call_first : (e : Entry) (es : List Entry) → is_end e ≡ false → EndOnlyLast es → EndOnlyLast (e ∷ es)
 call_first e [] no_end last = refl

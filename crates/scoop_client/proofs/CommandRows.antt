@@ -11,13 +11,13 @@ use Rattle.scoop_reserve.specs.Starting.{started}
 use Rattle.scoop_reserve.specs.Hearing.{given_up, given_up_in}
 use Rattle.scoop_client.specs.declared.phase.Phase.{Phase}
 use Rattle.scoop_client.specs.declared.phase.Phase.TheVariants.{Greeting, Idle, Locking, Opening, Running, Ending, GivingUp}
-use Rattle.scoop_client.specs.declared.error.ClientError.TheVariants.{NotGreeted, NotIdle, NoBlock, TooLate, WindowFull, Spent}
+use Rattle.scoop_client.specs.declared.error.ClientError.TheVariants.{NotIdle, NoBlock, TooLate, WindowFull, Spent}
 use Rattle.scoop_reserve.specs.declared.stage.Stage.{Stage}
 use Rattle.scoop_reserve.specs.declared.stage.Stage.TheVariants as stage
-use Rattle.scoop_client.specs.Line.{LineState, is_ended, is_full, logged, with_entry, at_line, line_of, lowest_full}
+use Rattle.scoop_client.specs.Window.{WindowState, is_ended, is_full, logged, with_entry, at_window, window_of, lowest_full}
 use Rattle.scoop_reserve.specs.Handlers.{is_empty}
-use Rattle.scoop_client.specs.State.{ClientState, phase_of, phase_at, phase_of_block, with_lines, with_reservation}
-use Rattle.scoop_client.specs.Commands.{Command, Outcome, Reserve, DoCall, DoQuery, DoEnd, GiveUp, command, reserve, reserved, next_block, log, log_unless, log_line, waits_for, end_block, end_unless_waiting, end_unless_full, give_up, give_up_block, without_block}
+use Rattle.scoop_client.specs.State.{ClientState, phase_of, phase_at, phase_of_block, with_windows}
+use Rattle.scoop_client.specs.Commands.{Command, Outcome, Reserve, DoCall, DoQuery, DoEnd, GiveUp, command, reserve, reserved, next_block, log, log_unless, log_window, waits_for, end_block, end_unless_waiting, end_unless_full, give_up, give_up_block, without_block}
 use Rattle.scoop_client.specs.Rows.{ReserveRow, reserve_not_greeted, reserve_not_idle, reserve_spent, reserve_refused, begins_block, LogRow, log_not_greeted, log_no_block, log_waiting, log_not_reserved, log_window_full, log_spent, is_logged, EndRow, end_not_greeted, end_no_block, end_waiting, end_window_full, ends_block, GiveUpRow, give_up_not_greeted, give_up_no_block, give_up_too_late, gives_up, CommandRow}
 
 by_test : (P : Outcome → Type 0) (b : Bool) (s t : Outcome) → (b ≡ true → P s) → (b ≡ false → P t) → P (if b then s else t)
@@ -37,14 +37,16 @@ locking_stage stage.Unlocking true e = cc
 locking_stage stage.Unlocking false e = cc
 locking_stage stage.GivingUp ended e = cc
 
-locking_block : (b : Bool) (ls : List LineState) (r : Option ReservationState) → (if b then phase_of_block ls r else Greeting) ≡ Locking → r ≡ None → ⊥
+locking_block : (b : Bool) (ls : List WindowState) (r : Option ReservationState) → (if b then phase_of_block ls r else Greeting) ≡ Locking → r ≡ None → ⊥
 locking_block true ls None e none = cc
 locking_block true ls (Some r) e none = cc
 locking_block false ls r e none = cc
 
-locking_reservation : (b : Bool) (ls : List LineState) (o : Option ReservationState) (r : ReservationState) → (if b then phase_of_block ls o else Greeting) ≡ Locking → o ≡ Some r → r.stage ≡ stage.Locking
+locking_reservation : (b : Bool) (ls : List WindowState) (o : Option ReservationState) (r : ReservationState)
+    → (if b then phase_of_block ls o else Greeting) ≡ Locking → o ≡ Some r → r.stage ≡ stage.Locking
 locking_reservation true ls None r e held = cc
-locking_reservation true ls (Some x) r e held = let same : x ≡ r = cc in subst (λ (y : ReservationState). y.stage ≡ stage.Locking) same (locking_stage x.stage (is_ended ls) e)
+locking_reservation true ls (Some x) r e held = let same : x ≡ r = cc in
+    subst (λ (y : ReservationState). y.stage ≡ stage.Locking) same (locking_stage x.stage (is_ended ls) e)
 locking_reservation false ls o r e held = cc
 
 no_refusal : (r : ReservationState) (e : AfterLocking) → r.stage ≡ stage.Locking → given_up r ≡ Err e → ⊥
@@ -53,7 +55,8 @@ no_refusal r e at gone = let one : given_up_in r stage.Locking ≡ Err e = rw at
 module _ (c : ClientState) where
   -- ---- each answer has its case
 
-  begin_row : (hs : List HandlerId) (r : Result ReservationState ReserveError) → phase_of c ≡ Idle → (c.last == 2 ^ 32 - 1) ≡ false → started (next_block c) hs c.handlers ≡ r → ReserveRow c hs (reserved c hs r)
+  begin_row : (hs : List HandlerId) (r : Result ReservationState ReserveError) → phase_of c ≡ Idle → (c.last == 2 ^ 32 - 1) ≡ false
+      → started (next_block c) hs c.handlers ≡ r → ReserveRow c hs (reserved c hs r)
   begin_row hs (Err e) idle free is = reserve_refused e idle free is
   begin_row hs (Ok r) idle free is = begins_block r idle free is
 
@@ -68,16 +71,17 @@ module _ (c : ClientState) where
   reserve_is hs Ending is = reserve_not_idle (other is (λ e. cc)) (other is (λ e. cc))
   reserve_is hs GivingUp is = reserve_not_idle (other is (λ e. cc)) (other is (λ e. cc))
 
-  line_is : (h : HandlerId) (e : Entry) (l : Option LineState) → phase_of c ≡ Running → c.waits ≡ None → line_of h c.lines ≡ l → LogRow c h e (log_line c h e l)
-  line_is h e None run free line = log_not_reserved run free line
-  line_is h e (Some l) run free line =
-      let taken : Outcome = Ok (with_lines c (at_line h (with_entry e) c.lines) (waits_for h (logged l + 1) e)) in
-      by_test (LogRow c h e) (is_full l) (Err (WindowFull h)) (if nat_le (2 ^ 32 - 2) (logged l) then Err Spent else taken) (log_window_full l run free line)
-      (λ room. by_test (LogRow c h e) (nat_le (2 ^ 32 - 2) (logged l)) (Err Spent) taken (log_spent l run free line room) (is_logged l run free line room))
+  window_is : (h : HandlerId) (e : Entry) (l : Option WindowState) → phase_of c ≡ Running → c.waits ≡ None → window_of h c.windows ≡ l
+      → LogRow c h e (log_window c h e l)
+  window_is h e None run free window = log_not_reserved run free window
+  window_is h e (Some l) run free window =
+      let taken : Outcome = Ok (with_windows c (at_window h (with_entry e) c.windows) (waits_for h (logged l + 1) e)) in
+      by_test (LogRow c h e) (is_full l) (Err (WindowFull h)) (if nat_le (2 ^ 32 - 2) (logged l) then Err Spent else taken) (log_window_full l run free window)
+      (λ room. by_test (LogRow c h e) (nat_le (2 ^ 32 - 2) (logged l)) (Err Spent) taken (log_spent l run free window room) (is_logged l run free window room))
 
   running_is : (h : HandlerId) (e : Entry) (w : Option (HandlerId × ℕ)) → phase_of c ≡ Running → c.waits ≡ w → LogRow c h e (log_unless c h e w)
   running_is h e (Some w) run waits = log_waiting w run waits
-  running_is h e None run waits = line_is h e (line_of h c.lines) run waits refl
+  running_is h e None run waits = window_is h e (window_of h c.windows) run waits refl
 
   log_is : (h : HandlerId) (e : Entry) (p : Phase) → phase_of c ≡ p → LogRow c h e (log c h e p)
   log_is h e Greeting is = log_not_greeted is
@@ -88,13 +92,13 @@ module _ (c : ClientState) where
   log_is h e Ending is = log_no_block (other is (λ e. cc)) (other is (λ e. cc))
   log_is h e GivingUp is = log_no_block (other is (λ e. cc)) (other is (λ e. cc))
 
-  full_is : (f : Option HandlerId) → phase_of c ≡ Running → c.waits ≡ None → lowest_full c.lines ≡ f → EndRow c (end_unless_full c f)
+  full_is : (f : Option HandlerId) → phase_of c ≡ Running → c.waits ≡ None → lowest_full c.windows ≡ f → EndRow c (end_unless_full c f)
   full_is (Some h) run free full = end_window_full h run free full
   full_is None run free full = ends_block run free full
 
   waiting_is : (w : Option (HandlerId × ℕ)) → phase_of c ≡ Running → c.waits ≡ w → EndRow c (end_unless_waiting c w)
   waiting_is (Some w) run waits = end_waiting w run waits
-  waiting_is None run waits = full_is (lowest_full c.lines) run waits refl
+  waiting_is None run waits = full_is (lowest_full c.windows) run waits refl
 
   end_is : (p : Phase) → phase_of c ≡ p → EndRow c (end_block c p)
   end_is Greeting is = end_not_greeted is
@@ -105,12 +109,13 @@ module _ (c : ClientState) where
   end_is Ending is = end_no_block (other is (λ e. cc)) (other is (λ e. cc))
   end_is GivingUp is = end_no_block (other is (λ e. cc)) (other is (λ e. cc))
 
-  without_is : (r : ReservationState) (s : Result ReservationState AfterLocking) → phase_of c ≡ Locking → c.reservation ≡ Some r → given_up r ≡ s → GiveUpRow c (without_block c s)
+  without_is : (r : ReservationState) (s : Result ReservationState AfterLocking) → phase_of c ≡ Locking → c.reservation ≡ Some r → given_up r ≡ s
+      → GiveUpRow c (without_block c s)
   without_is r (Ok s) is held gone = gives_up r s is held gone
-  without_is r (Err e) is held gone = absurd (no_refusal r e (locking_reservation (is_empty c.left) c.lines c.reservation r is held) gone)
+  without_is r (Err e) is held gone = absurd (no_refusal r e (locking_reservation (is_empty c.unwelcomed) c.windows c.reservation r is held) gone)
 
   locking_is : (r : Option ReservationState) → phase_of c ≡ Locking → c.reservation ≡ r → GiveUpRow c (give_up_block c r)
-  locking_is None is held = absurd (locking_block (is_empty c.left) c.lines c.reservation is held)
+  locking_is None is held = absurd (locking_block (is_empty c.unwelcomed) c.windows c.reservation is held)
   locking_is (Some r) is held = without_is r (given_up r) is held refl
 
   give_up_is : (p : Phase) → phase_of c ≡ p → GiveUpRow c (give_up c p)
@@ -164,10 +169,13 @@ module _ (c : ClientState) where
   log_gives h e o (log_not_greeted is) = at_phase (log c h e) Greeting _ is refl
   log_gives h e o (log_no_block g r) = no_running h e (phase_of c) g r
   log_gives h e o (log_waiting w is waits) = at_phase (log c h e) Running _ is (ap (log_unless c h e) waits)
-  log_gives h e o (log_not_reserved is free line) = at_phase (log c h e) Running _ is (ap (log_unless c h e) free ∙ ap (log_line c h e) line)
-  log_gives h e o (log_window_full l is free line full) = at_phase (log c h e) Running _ is (ap (log_unless c h e) free ∙ ap (log_line c h e) line ∙ rw full refl)
-  log_gives h e o (log_spent l is free line room spent) = at_phase (log c h e) Running _ is (ap (log_unless c h e) free ∙ ap (log_line c h e) line ∙ rw (room, spent) refl)
-  log_gives h e o (is_logged l is free line room more) = at_phase (log c h e) Running _ is (ap (log_unless c h e) free ∙ ap (log_line c h e) line ∙ rw (room, more) refl)
+  log_gives h e o (log_not_reserved is free window) = at_phase (log c h e) Running _ is (ap (log_unless c h e) free ∙ ap (log_window c h e) window)
+  log_gives h e o (log_window_full l is free window full) = at_phase (log c h e) Running _ is
+      (ap (log_unless c h e) free ∙ ap (log_window c h e) window ∙ rw full refl)
+  log_gives h e o (log_spent l is free window room spent) = at_phase (log c h e) Running _ is
+      (ap (log_unless c h e) free ∙ ap (log_window c h e) window ∙ rw (room, spent) refl)
+  log_gives h e o (is_logged l is free window room more) = at_phase (log c h e) Running _ is
+      (ap (log_unless c h e) free ∙ ap (log_window c h e) window ∙ rw (room, more) refl)
 
   no_end : (p : Phase) → p ≢ Greeting → p ≢ Running → end_block c p ≡ Err NoBlock
   no_end Greeting g r = absurd (g refl)

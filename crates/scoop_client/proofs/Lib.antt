@@ -1,5 +1,5 @@
 pub mod Places
-pub mod Windows
+pub mod FullWindows
 pub mod Batches
 pub mod Retained
 pub mod Ordering

@@ -20,9 +20,9 @@ use Rattle.scoop_reserve.specs.Hearing.{is_open, is_open_in}
 use Rattle.scoop_reserve.specs.Hearing as reservation
 use Rattle.scoop_reserve.specs.Due as owed
 use Rattle.scoop_client.specs.declared.phase.ClientNote.TheVariants.{Welcomed, Acknowledged, Accepted}
-use Rattle.scoop_client.specs.Line.{LineState, line_of, logged, acknowledged, at_line}
-use Rattle.scoop_client.specs.State.{ClientState, with_lines, with_left}
-use Rattle.scoop_client.specs.Due.{due, due_in_block, due_after, due_line}
+use Rattle.scoop_client.specs.Window.{WindowState, window_of, logged, acknowledged, at_window}
+use Rattle.scoop_client.specs.State.{ClientState, with_windows, with_unwelcomed}
+use Rattle.scoop_client.specs.Due.{due, due_in_block, due_after, due_window}
 use Rattle.scoop_client.specs.Hearing.{Notice, heard, ignored, is_own, hear_welcome, after_step, hear_step, hear_logged, hear_count, hear_answer, hear_answer_to, is_open_block, settled, up_to}
 use Rattle.scoop_client.specs.Laws.{DueInOrder, AcceptsOnce}
 
@@ -46,24 +46,25 @@ step_once : (c : ClientState) (m : Message) (r : Option ReservationState) → On
 step_once c m None = tt
 step_once c m (Some r) = after_step_once c (reservation.heard r m).0 (reservation.heard r m).1
 
-count_once : (c : ClientState) (h : HandlerId) (n k : ℕ) (l : Option LineState) → Once c (hear_count c h n k l)
+count_once : (c : ClientState) (h : HandlerId) (n k : ℕ) (l : Option WindowState) → Once c (hear_count c h n k l)
 count_once c h n k None = tt
 count_once c h n k (Some l) =
-    let counted : Notice = (settled (with_lines c (at_line h (acknowledged k) c.lines) c.waits), Acknowledged h k) in
+    let counted : Notice = (settled (with_windows c (at_window h (acknowledged k) c.windows) c.waits), Acknowledged h k) in
     once_of c (nat_lt (logged l) n || nat_le k l.acked) (ignored c) counted tt tt
 
 logged_once : (c : ClientState) (h : HandlerId) (b : Block) (n : ℕ) (r : Option ReservationState) → Once c (hear_logged c h b n r)
 logged_once c h b n None = tt
-logged_once c h b n (Some r) = once_of c (is_open_block b r) _ (ignored c) (count_once c h n (up_to h n c.waits) (line_of h c.lines)) tt
+logged_once c h b n (Some r) = once_of c (is_open_block b r) _ (ignored c) (count_once c h n (up_to h n c.waits) (window_of h c.windows)) tt
 
-taken_once : (c d : ClientState) (h : HandlerId) (n : ℕ) (a : ObjectAnswer) (w : HandlerId × ℕ) (b : Bool) → c.waits ≡ Some w → d.waits ≡ None → (b ≡ true → w ≡ (h, n)) → Once c (if b then (d, Accepted h n a) else ignored c)
+taken_once : (c d : ClientState) (h : HandlerId) (n : ℕ) (a : ObjectAnswer) (w : HandlerId × ℕ) (b : Bool) → c.waits ≡ Some w → d.waits ≡ None
+    → (b ≡ true → w ≡ (h, n)) → Once c (if b then (d, Accepted h n a) else ignored c)
 taken_once c d h n a w true waits over is = (waits ∙ ap Some (is refl), over)
 taken_once c d h n a w false waits over is = tt
 
 answer_once : (c : ClientState) (h : HandlerId) (n : ℕ) (a : ObjectAnswer) (w : Option (HandlerId × ℕ)) → c.waits ≡ w → Once c (hear_answer_to c h n a w)
 answer_once c h n a None waits = tt
 answer_once c h n a (Some w) waits =
-    taken_once c (with_lines c (at_line h (acknowledged n) c.lines) None) h n a w (same_handler w.0 h && w.1 == n) waits refl
+    taken_once c (with_windows c (at_window h (acknowledged n) c.windows) None) h n a w (same_handler w.0 h && w.1 == n) waits refl
     (pair_decides w.0 h w.1 n (handler_decides w.0 h) (Decides-eqb w.1 n)).0
 
 block_answer_once : (c : ClientState) (h : HandlerId) (b : Block) (n : ℕ) (a : ObjectAnswer) (r : Option ReservationState) → Once c (hear_answer c h b n a r)
@@ -73,8 +74,8 @@ block_answer_once c h b n a (Some r) = once_of c (is_open_block b r) _ (ignored 
 pub accepts_once : (c : ClientState) (m : Message) → AcceptsOnce c (heard c m).0 (heard c m).1
 accepts_once c (Hello h x inc) = tt
 accepts_once c (Welcome h x inc) =
-    let welcomed : Notice = (with_left c (without h c.left), Welcomed h) in
-    once_of c (is_own c x inc) (hear_welcome c h) (ignored c) (once_of c (has c.left h) welcomed (ignored c) tt tt) tt
+    let welcomed : Notice = (with_unwelcomed c (without h c.unwelcomed), Welcomed h) in
+    once_of c (is_own c x inc) (hear_welcome c h) (ignored c) (once_of c (has c.unwelcomed h) welcomed (ignored c) tt tt) tt
 accepts_once c (Lock h b) = tt
 accepts_once c (Locked h b) = step_once c (Locked h b) c.reservation
 accepts_once c (Busy h b) = step_once c (Busy h b) c.reservation
@@ -109,18 +110,21 @@ reserved_in_order c h r stage.Opening = some_of (DueInOrder c h) (has r.left h) 
 reserved_in_order c h r stage.Unlocking = some_of (DueInOrder c h) (has r.left h) _ None tt tt
 reserved_in_order c h r stage.GivingUp = some_of (DueInOrder c h) (has r.left h) _ None tt tt
 
-line_in_order : (c : ClientState) (h : HandlerId) (r : ReservationState) (l : Option LineState) → c.reservation ≡ Some r → is_open r ≡ true → has r.left h ≡ false → line_of h c.lines ≡ l → IfSome (due_line c.batch r.block l) (DueInOrder c h)
-line_in_order c h r None held opened unlocked e = tt
-line_in_order c h r (Some l) held opened unlocked e =
+window_in_order : (c : ClientState) (h : HandlerId) (r : ReservationState) (l : Option WindowState) → c.reservation ≡ Some r → is_open r ≡ true
+    → has r.left h ≡ false → window_of h c.windows ≡ l → IfSome (due_window c.batch r.block l) (DueInOrder c h)
+window_in_order c h r None held opened unlocked e = tt
+window_in_order c h r (Some l) held opened unlocked e =
     some_of (DueInOrder c h) (length l.unacked == 0) None _ tt
-    (r, l, record { reservation = held; opened = opened; unlocked = unlocked; line = e; number = refl; entries = refl })
+    (r, l, record { reservation = held; opened = opened; unlocked = unlocked; window = e; number = refl; entries = refl })
 
-opened_in_order : (c : ClientState) (h : HandlerId) (r : ReservationState) (b : Bool) → c.reservation ≡ Some r → owed.due r h ≡ None → is_open r ≡ b → IfSome (if b then due_line c.batch r.block (line_of h c.lines) else None) (DueInOrder c h)
+opened_in_order : (c : ClientState) (h : HandlerId) (r : ReservationState) (b : Bool) → c.reservation ≡ Some r → owed.due r h ≡ None → is_open r ≡ b
+    → IfSome (if b then due_window c.batch r.block (window_of h c.windows) else None) (DueInOrder c h)
 opened_in_order c h r true held none e =
-    line_in_order c h r (line_of h c.lines) held e (unlocked_there r h r.stage e none) refl
+    window_in_order c h r (window_of h c.windows) held e (unlocked_there r h r.stage e none) refl
 opened_in_order c h r false held none e = tt
 
-after_in_order : (c : ClientState) (h : HandlerId) (r : ReservationState) (m : Option Message) → c.reservation ≡ Some r → owed.due r h ≡ m → IfSome m (DueInOrder c h) → IfSome (due_after c h r m) (DueInOrder c h)
+after_in_order : (c : ClientState) (h : HandlerId) (r : ReservationState) (m : Option Message) → c.reservation ≡ Some r → owed.due r h ≡ m
+    → IfSome m (DueInOrder c h) → IfSome (due_after c h r m) (DueInOrder c h)
 after_in_order c h r None held e s = opened_in_order c h r (is_open r) held e refl
 after_in_order c h r (Some m) held e s = s
 
@@ -129,4 +133,4 @@ block_in_order c h None held = tt
 block_in_order c h (Some r) held = after_in_order c h r (owed.due r h) held refl (reserved_in_order c h r r.stage)
 
 pub due_in_order : (c : ClientState) (h : HandlerId) → IfSome (due c h) (DueInOrder c h)
-due_in_order c h = some_of (DueInOrder c h) (has c.left h) _ _ tt (block_in_order c h c.reservation refl)
+due_in_order c h = some_of (DueInOrder c h) (has c.unwelcomed h) _ _ tt (block_in_order c h c.reservation refl)

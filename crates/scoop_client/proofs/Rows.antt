@@ -14,8 +14,8 @@ use Rattle.scoop_reserve.specs.Handlers.{has, without}
 use Rattle.scoop_reserve.specs.State.{ReservationState}
 use Rattle.scoop_reserve.specs.Hearing.{is_open}
 use Rattle.scoop_client.specs.declared.phase.ClientNote.TheVariants.{Welcomed, Acknowledged, Accepted, Ignored}
-use Rattle.scoop_client.specs.Line.{LineState, line_of, logged, acknowledged, at_line}
-use Rattle.scoop_client.specs.State.{ClientState, with_left, with_lines}
+use Rattle.scoop_client.specs.Window.{WindowState, window_of, logged, acknowledged, at_window}
+use Rattle.scoop_client.specs.State.{ClientState, with_unwelcomed, with_windows}
 use Rattle.scoop_reserve.specs.Hearing as reservation
 use Rattle.scoop_reserve.specs.Rows as reservation_rows
 use Rattle.scoop_reserve.specs.Rows.{awaits_lock, awaits_refusal, awaits_opening, awaits_unlocking, awaits_giving_back}
@@ -43,25 +43,28 @@ module _ (c : ClientState) where
 
   welcome_row : (h : HandlerId) (x : ClientId) (inc : ℕ) → Row (Welcome h x inc) (heard c (Welcome h x inc))
   welcome_row h x inc =
-      let next : Notice = (with_left c (without h c.left), Welcomed h) in
-      let P : ClientId × ℕ → Type 0 = λ p. Row (Welcome h p.0 p.1) (if has c.left h then next else ignored c) in
-      by_test _ (is_own c x inc) (if has c.left h then next else ignored c) (ignored c)
-      (λ own. subst P (sym ((pair_decides x c.id inc c.inc (client_decides x c.id) (Decides-eqb inc c.inc)).0 own)) (by_test _ (has c.left h) next (ignored c) (is_welcomed h) (λ other. over _)))
+      let next : Notice = (with_unwelcomed c (without h c.unwelcomed), Welcomed h) in
+      let P : ClientId × ℕ → Type 0 = λ p. Row (Welcome h p.0 p.1) (if has c.unwelcomed h then next else ignored c) in
+      by_test _ (is_own c x inc) (if has c.unwelcomed h then next else ignored c) (ignored c)
+      (λ own. subst P (sym ((pair_decides x c.id inc c.inc (client_decides x c.id) (Decides-eqb inc c.inc)).0 own))
+      (by_test _ (has c.unwelcomed h) next (ignored c) (is_welcomed h) (λ other. over _)))
       (λ other. over _)
 
   step_row : (m : Message) (r : Option ReservationState) → c.reservation ≡ r → Row m (hear_step c m r)
   step_row m None held = over m
   step_row m (Some r) held = takes_step m r held
 
-  count_row : (h : HandlerId) (n : ℕ) (r : ReservationState) (l : Option LineState) → c.reservation ≡ Some r → is_open r ≡ true → line_of h c.lines ≡ l → Row (Logged h r.block n) (hear_count c h n (up_to h n c.waits) l)
-  count_row h n r None held opened line = over _
-  count_row h n r (Some l) held opened line =
+  count_row : (h : HandlerId) (n : ℕ) (r : ReservationState) (l : Option WindowState) → c.reservation ≡ Some r → is_open r ≡ true → window_of h c.windows ≡ l
+      → Row (Logged h r.block n) (hear_count c h n (up_to h n c.waits) l)
+  count_row h n r None held opened window = over _
+  count_row h n r (Some l) held opened window =
       let k = up_to h n c.waits in
-      let counted : Notice = (settled (with_lines c (at_line h (acknowledged k) c.lines) c.waits), Acknowledged h k) in
-      by_test _ (nat_lt (logged l) n || nat_le k l.acked) (ignored c) counted (λ past. over _) (λ new. is_acknowledged h n r l held opened line new)
+      let counted : Notice = (settled (with_windows c (at_window h (acknowledged k) c.windows) c.waits), Acknowledged h k) in
+      by_test _ (nat_lt (logged l) n || nat_le k l.acked) (ignored c) counted (λ past. over _) (λ new. is_acknowledged h n r l held opened window new)
 
   -- a message of another block, or of one that isn't opened, is passed over
-  in_block : (tell : Block → Message) (b : Block) (r : ReservationState) (n : Notice) → (is_open r ≡ true → Row (tell r.block) n) → Row (tell b) (if is_open_block b r then n else ignored c)
+  in_block : (tell : Block → Message) (b : Block) (r : ReservationState) (n : Notice) → (is_open r ≡ true → Row (tell r.block) n)
+      → Row (tell b) (if is_open_block b r then n else ignored c)
   in_block tell b r n row =
       let P : Block → Type 0 = λ d. Row (tell d) n in
       by_test (tell b) (is_open_block b r) n (ignored c)
@@ -71,17 +74,20 @@ module _ (c : ClientState) where
   logged_row : (h : HandlerId) (b : Block) (n : ℕ) (r : Option ReservationState) → c.reservation ≡ r → Row (Logged h b n) (hear_logged c h b n r)
   logged_row h b n None held = over _
   logged_row h b n (Some r) held =
-      in_block (λ d. Logged h d n) b r (hear_count c h n (up_to h n c.waits) (line_of h c.lines)) (λ opened. count_row h n r (line_of h c.lines) held opened refl)
+      in_block (λ d. Logged h d n) b r (hear_count c h n (up_to h n c.waits) (window_of h c.windows))
+      (λ opened. count_row h n r (window_of h c.windows) held opened refl)
 
-  answer_row : (h : HandlerId) (n : ℕ) (a : ObjectAnswer) (r : ReservationState) (w : Option (HandlerId × ℕ)) → c.reservation ≡ Some r → is_open r ≡ true → c.waits ≡ w → Row (Answer h r.block n a) (hear_answer_to c h n a w)
+  answer_row : (h : HandlerId) (n : ℕ) (a : ObjectAnswer) (r : ReservationState) (w : Option (HandlerId × ℕ)) → c.reservation ≡ Some r → is_open r ≡ true
+      → c.waits ≡ w → Row (Answer h r.block n a) (hear_answer_to c h n a w)
   answer_row h n a r None held opened waits = over _
   answer_row h n a r (Some w) held opened waits =
-      let taken : Notice = (with_lines c (at_line h (acknowledged n) c.lines) None, Accepted h n a) in
+      let taken : Notice = (with_windows c (at_window h (acknowledged n) c.windows) None, Accepted h n a) in
       by_test _ (same_handler w.0 h && w.1 == n) taken (ignored c)
       (λ e. is_accepted h n a r held opened (waits ∙ ap Some ((pair_decides w.0 h w.1 n (handler_decides w.0 h) (Decides-eqb w.1 n)).0 e)))
       (λ other. over _)
 
-  block_answer_row : (h : HandlerId) (b : Block) (n : ℕ) (a : ObjectAnswer) (r : Option ReservationState) → c.reservation ≡ r → Row (Answer h b n a) (hear_answer c h b n a r)
+  block_answer_row : (h : HandlerId) (b : Block) (n : ℕ) (a : ObjectAnswer) (r : Option ReservationState) → c.reservation ≡ r
+      → Row (Answer h b n a) (hear_answer c h b n a r)
   block_answer_row h b n a None held = over _
   block_answer_row h b n a (Some r) held =
       in_block (λ d. Answer h d n a) b r (hear_answer_to c h n a c.waits) (λ opened. answer_row h n a r c.waits held opened refl)
@@ -121,9 +127,10 @@ module _ (c : ClientState) where
   quiet m d note (passed_over n) out = (refl, refl)
   quiet m d note (is_welcomed h left) out = absurd (out (awaits_welcome h left))
   quiet m d note (takes_step n r held) out =
-      let is = passed r (reservation.heard r m).0 (reservation.heard r m).1 (reserved.quiet r m (reservation.heard r m).0 (reservation.heard r m).1 (reserved.heard_row r m) (λ awaited. out (awaits_step m r held awaited))) in
+      let is = passed r (reservation.heard r m).0 (reservation.heard r m).1
+      (reserved.quiet r m (reservation.heard r m).0 (reservation.heard r m).1 (reserved.heard_row r m) (λ awaited. out (awaits_step m r held awaited))) in
       (ap (λ (n : Notice). n.0) is, ap (λ (n : Notice). n.1) is)
-  quiet m d note (is_acknowledged h n r l held opened line new) out = absurd (out (awaits_count h n r l held opened line new))
+  quiet m d note (is_acknowledged h n r l held opened window new) out = absurd (out (awaits_count h n r l held opened window new))
   quiet m d note (is_accepted h n a r held opened waits) out = absurd (out (awaits_answer h n a r held opened waits))
 
   step_told : (s : ReservationState) (st : Step) → (after_step c s st).1 ≡ Ignored → st ≡ step.Ignored
@@ -133,33 +140,43 @@ module _ (c : ClientState) where
   step_told s (step.Unlocked h) e = cc
   step_told s step.Ignored e = refl
 
-  step_heard : (m : Message) (r : ReservationState) → c.reservation ≡ Some r → reservation_rows.Awaits r m → heard c m ≡ after_step c (reservation.heard r m).0 (reservation.heard r m).1
+  step_heard : (m : Message) (r : ReservationState) → c.reservation ≡ Some r → reservation_rows.Awaits r m
+      → heard c m ≡ after_step c (reservation.heard r m).0 (reservation.heard r m).1
   step_heard m r held (awaits_lock h at low) = ap (hear_step c (Locked h r.block)) held
   step_heard m r held (awaits_refusal h at low) = ap (hear_step c (Busy h r.block)) held
   step_heard m r held (awaits_opening h at among) = ap (hear_step c (Opened h r.block)) held
   step_heard m r held (awaits_unlocking h at among) = ap (hear_step c (Unlocked h r.block)) held
   step_heard m r held (awaits_giving_back h at among) = ap (hear_step c (Unlocked h r.block)) held
 
-  welcome_gives : (h : HandlerId) → has c.left h ≡ true → heard c (Welcome h c.id c.inc) ≡ (with_left c (without h c.left), Welcomed h)
+  welcome_gives : (h : HandlerId) → has c.unwelcomed h ≡ true → heard c (Welcome h c.id c.inc) ≡ (with_unwelcomed c (without h c.unwelcomed), Welcomed h)
   welcome_gives h left = rw (own_name, left) refl
 
-  count_gives : (h : HandlerId) (n : ℕ) (r : ReservationState) (l : LineState) → c.reservation ≡ Some r → is_open r ≡ true → line_of h c.lines ≡ Some l → (nat_lt (logged l) n || nat_le (up_to h n c.waits) l.acked) ≡ false
-      → heard c (Logged h r.block n) ≡ (settled (with_lines c (at_line h (acknowledged (up_to h n c.waits)) c.lines) c.waits), Acknowledged h (up_to h n c.waits))
-  count_gives h n r l held opened line new = ap (hear_logged c h r.block n) held ∙ rw (own_block r.block, opened) (ap (hear_count c h n (up_to h n c.waits)) line ∙ rw new refl)
+  count_gives : (h : HandlerId) (n : ℕ) (r : ReservationState) (l : WindowState) → c.reservation ≡ Some r → is_open r ≡ true → window_of h c.windows ≡ Some l
+      → (nat_lt (logged l) n || nat_le (up_to h n c.waits) l.acked) ≡ false
+      → heard c (Logged h r.block n) ≡ (
+        settled (with_windows c (at_window h (acknowledged (up_to h n c.waits)) c.windows) c.waits),
+        Acknowledged h
+            (up_to h n c.waits),
+      )
+  count_gives h n r l held opened window new = ap (hear_logged c h r.block n) held
+      ∙ rw (own_block r.block, opened) (ap (hear_count c h n (up_to h n c.waits)) window ∙ rw new refl)
 
   answer_gives : (h : HandlerId) (n : ℕ) (a : ObjectAnswer) (r : ReservationState) → c.reservation ≡ Some r → is_open r ≡ true → c.waits ≡ Some (h, n)
-      → heard c (Answer h r.block n a) ≡ (with_lines c (at_line h (acknowledged n) c.lines) None, Accepted h n a)
+      → heard c (Answer h r.block n a) ≡ (with_windows c (at_window h (acknowledged n) c.windows) None, Accepted h n a)
   answer_gives h n a r held opened waits =
-      ap (hear_answer c h r.block n a) held ∙ rw (own_block r.block, opened) (ap (hear_answer_to c h n a) waits ∙ rw ((pair_decides h h n n (handler_decides h h) (Decides-eqb n n)).1 refl) refl)
+      ap (hear_answer c h r.block n a) held ∙ rw (own_block r.block, opened)
+      (ap (hear_answer_to c h n a) waits ∙ rw ((pair_decides h h n n (handler_decides h h) (Decides-eqb n n)).1 refl) refl)
 
   -- what is awaited isn't ignored
   told : (m : Message) → Awaits c m → (heard c m).1 ≡ Ignored → ⊥
   told m (awaits_welcome h left) e = let no : Welcomed h ≡ Ignored = sym (ap (λ (n : Notice). n.1) (welcome_gives h left)) ∙ e in cc
   told m (awaits_step n r held awaited) e =
-      reserved.told r m awaited (step_told (reservation.heard r m).0 (reservation.heard r m).1 (sym (ap (λ (n : Notice). n.1) (step_heard m r held awaited)) ∙ e))
-  told m (awaits_count h n r l held opened line new) e =
-      let no : Acknowledged h (up_to h n c.waits) ≡ Ignored = sym (ap (λ (n : Notice). n.1) (count_gives h n r l held opened line new)) ∙ e in cc
-  told m (awaits_answer h n a r held opened waits) e = let no : Accepted h n a ≡ Ignored = sym (ap (λ (n : Notice). n.1) (answer_gives h n a r held opened waits)) ∙ e in cc
+      reserved.told r m awaited (step_told (reservation.heard r m).0 (reservation.heard r m).1
+      (sym (ap (λ (n : Notice). n.1) (step_heard m r held awaited)) ∙ e))
+  told m (awaits_count h n r l held opened window new) e =
+      let no : Acknowledged h (up_to h n c.waits) ≡ Ignored = sym (ap (λ (n : Notice). n.1) (count_gives h n r l held opened window new)) ∙ e in cc
+  told m (awaits_answer h n a r held opened waits) e = let no : Accepted h n a ≡ Ignored =
+      sym (ap (λ (n : Notice). n.1) (answer_gives h n a r held opened waits)) ∙ e in cc
 
   -- ---- the table gives one outcome
 
@@ -167,7 +184,8 @@ module _ (c : ClientState) where
   over_gives m out = let is = quiet m (heard c m).0 (heard c m).1 (heard_row m) out in λ i. (is.0 i, is.1 i)
 
   -- of other kinds than the reservation's nothing is awaited by it, and no step is taken
-  step_gives : (m : Message) (r : ReservationState) → c.reservation ≡ Some r → ((after_step c (reservation.heard r m).0 (reservation.heard r m).1).1 ≡ Ignored → Awaits c m → ⊥)
+  step_gives : (m : Message) (r : ReservationState) → c.reservation ≡ Some r
+      → ((after_step c (reservation.heard r m).0 (reservation.heard r m).1).1 ≡ Ignored → Awaits c m → ⊥)
       → heard c m ≡ after_step c (reservation.heard r m).0 (reservation.heard r m).1
   step_gives (Locked h b) r held out = ap (hear_step c (Locked h b)) held
   step_gives (Busy h b) r held out = ap (hear_step c (Busy h b)) held
@@ -186,7 +204,7 @@ module _ (c : ClientState) where
   row_gives m d note (passed_over n) out = over_gives m (out refl)
   row_gives m d note (is_welcomed h left) out = welcome_gives h left
   row_gives m d note (takes_step n r held) out = step_gives m r held out
-  row_gives m d note (is_acknowledged h n r l held opened line new) out = count_gives h n r l held opened line new
+  row_gives m d note (is_acknowledged h n r l held opened window new) out = count_gives h n r l held opened window new
   row_gives m d note (is_accepted h n a r held opened waits) out = answer_gives h n a r held opened waits
 
   pub heard_exactly : (m : Message) (d : ClientState) (note : ClientNote) → (heard c m ≡ (d, note)) ↔ IsHeard c m d note

@@ -11,7 +11,7 @@ use Rattle.scoop_client.specs.State.{ClientState}
 -- a client that no handler has welcomed yet
 abbrev pub greeting : ClientId → ℕ → List HandlerId → ℕ → ℕ → ClientState
 greeting id inc hs last batch =
-    record { id = id; inc = inc; batch = batch; handlers = hs; left = hs; last = last; reservation = None; lines = []; waits = None }
+    record { id = id; inc = inc; batch = batch; handlers = hs; unwelcomed = hs; last = last; reservation = None; windows = []; waits = None }
 
 abbrev pub unless_repeated : ClientState → Option HandlerId → Result ClientState BeginError
 unless_repeated c (Some h) = Err (Repeated h)

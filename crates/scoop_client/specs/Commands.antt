@@ -14,8 +14,8 @@ use Rattle.scoop_client.specs.declared.phase.Phase.{Phase}
 use Rattle.scoop_client.specs.declared.phase.Phase.TheVariants.{Greeting, Idle, Locking, Opening, Running, Ending, GivingUp}
 use Rattle.scoop_client.specs.declared.error.ClientError.{ClientError}
 use Rattle.scoop_client.specs.declared.error.ClientError.TheVariants.{NotGreeted, NotIdle, NoBlock, Waiting, NotReserved, WindowFull, TooLate, Spent, Reserve as NotReservable, OutOfMemory}
-use Rattle.scoop_client.specs.Line.{LineState, fresh_line, logged, is_full, with_entry, with_end, line_of, at_line, lowest_full}
-use Rattle.scoop_client.specs.State.{ClientState, phase_of, block_named, with_reservation, with_lines}
+use Rattle.scoop_client.specs.Window.{WindowState, fresh_window, logged, is_full, with_entry, with_end, window_of, at_window, lowest_full}
+use Rattle.scoop_client.specs.State.{ClientState, phase_of, block_named, with_reservation, with_windows}
 
 pub data Command : Type 0 where
   Reserve : List HandlerId → Command
@@ -33,10 +33,9 @@ Outcome = Result ClientState ClientError
 abbrev pub next_block : ClientState → Block
 next_block c = block_named c.id c.inc (c.last + 1)
 
--- the block number is used up, and each handler gets a line
+-- the block number is used up, and each handler gets a window
 abbrev pub with_block : ClientState → List HandlerId → ReservationState → ClientState
-with_block c hs r =
-    record { id = c.id; inc = c.inc; batch = c.batch; handlers = c.handlers; left = c.left; last = c.last + 1; reservation = Some r; lines = map fresh_line hs; waits = None }
+with_block c hs r = record c { last = c.last + 1; reservation = Some r; windows = map fresh_window hs; waits = None }
 
 abbrev pub reserved : ClientState → List HandlerId → Result ReservationState ReserveError → Outcome
 reserved c hs (Err e) = Err (NotReservable e)
@@ -62,19 +61,19 @@ waits_for h n End = None
 
 -- the entry is logged with this number
 abbrev pub with_logged : ClientState → HandlerId → Entry → ℕ → ClientState
-with_logged c h e n = with_lines c (at_line h (with_entry e) c.lines) (waits_for h n e)
+with_logged c h e n = with_windows c (at_window h (with_entry e) c.windows) (waits_for h n e)
 
 -- the number 2^32-1 is kept for the End
-abbrev pub log_line : ClientState → HandlerId → Entry → Option LineState → Outcome
-log_line c h e None = Err (NotReserved h)
-log_line c h e (Some l) =
+abbrev pub log_window : ClientState → HandlerId → Entry → Option WindowState → Outcome
+log_window c h e None = Err (NotReserved h)
+log_window c h e (Some l) =
     if is_full l then Err (WindowFull h)
     else if nat_le (2 ^ 32 - 2) (logged l) then Err Spent
     else Ok (with_logged c h e (logged l + 1))
 
 abbrev pub log_unless : ClientState → HandlerId → Entry → Option (HandlerId × ℕ) → Outcome
 log_unless c h e (Some w) = Err (Waiting w.0)
-log_unless c h e None = log_line c h e (line_of h c.lines)
+log_unless c h e None = log_window c h e (window_of h c.windows)
 
 abbrev pub log : ClientState → HandlerId → Entry → Phase → Outcome
 log c h e Greeting = Err NotGreeted
@@ -89,7 +88,7 @@ log c h e GivingUp = Err NoBlock
 
 -- an End is logged at every reserved handler
 abbrev pub with_ends : ClientState → ClientState
-with_ends c = with_lines c (map with_end c.lines) None
+with_ends c = with_windows c (map with_end c.windows) None
 
 abbrev pub end_unless_full : ClientState → Option HandlerId → Outcome
 end_unless_full c (Some h) = Err (WindowFull h)
@@ -97,7 +96,7 @@ end_unless_full c None = Ok (with_ends c)
 
 abbrev pub end_unless_waiting : ClientState → Option (HandlerId × ℕ) → Outcome
 end_unless_waiting c (Some w) = Err (Waiting w.0)
-end_unless_waiting c None = end_unless_full c (lowest_full c.lines)
+end_unless_waiting c None = end_unless_full c (lowest_full c.windows)
 
 abbrev pub end_block : ClientState → Phase → Outcome
 end_block c Greeting = Err NotGreeted

@@ -15,8 +15,8 @@ use Rattle.scoop_reserve.specs.Hearing.{is_open, is_gone}
 use Rattle.scoop_reserve.specs.Hearing as reservation
 use Rattle.scoop_client.specs.declared.phase.ClientNote.{ClientNote}
 use Rattle.scoop_client.specs.declared.phase.ClientNote.TheVariants.{Welcomed, Locked as LockedNote, Busy as BusyNote, Opened as OpenedNote, Unlocked as UnlockedNote, Acknowledged, Accepted, Ignored}
-use Rattle.scoop_client.specs.Line.{LineState, logged, acknowledged, line_of, at_line, all_over}
-use Rattle.scoop_client.specs.State.{ClientState, with_left, with_reservation, with_lines, idle}
+use Rattle.scoop_client.specs.Window.{WindowState, logged, acknowledged, window_of, at_window, all_over}
+use Rattle.scoop_client.specs.State.{ClientState, with_unwelcomed, with_reservation, with_windows, idle}
 
 abbrev pub Notice : Type 0
 Notice = ClientState × ClientNote
@@ -27,7 +27,7 @@ ignored c = (c, Ignored)
 
 -- a handler that hasn't welcomed the client yet
 abbrev pub hear_welcome : ClientState → HandlerId → Notice
-hear_welcome c h = if has c.left h then (with_left c (without h c.left), Welcomed h) else ignored c
+hear_welcome c h = if has c.unwelcomed h then (with_unwelcomed c (without h c.unwelcomed), Welcomed h) else ignored c
 
 -- a block that was given up is over once it is unlocked wherever it was asked
 abbrev pub stepped : ClientState → ReservationState → ClientState
@@ -47,18 +47,18 @@ hear_step c m (Some r) = after_step c (reservation.heard r m).0 (reservation.hea
 
 -- a block is over once every End is acknowledged
 abbrev pub settled : ClientState → ClientState
-settled c = if all_over c.lines then idle c else c
+settled c = if all_over c.windows then idle c else c
 
 -- a count acknowledges no query that waits
 abbrev pub up_to : HandlerId → ℕ → Option (HandlerId × ℕ) → ℕ
 up_to h n None = n
 up_to h n (Some w) = if same_handler w.0 h && nat_le w.1 n then w.1 - 1 else n
 
-abbrev pub hear_count : ClientState → HandlerId → ℕ → ℕ → Option LineState → Notice
+abbrev pub hear_count : ClientState → HandlerId → ℕ → ℕ → Option WindowState → Notice
 hear_count c h n k None = ignored c
 hear_count c h n k (Some l) =
     if nat_lt (logged l) n || nat_le k l.acked then ignored c
-    else (settled (with_lines c (at_line h (acknowledged k) c.lines) c.waits), Acknowledged h k)
+    else (settled (with_windows c (at_window h (acknowledged k) c.windows) c.waits), Acknowledged h k)
 
 -- the block is the client's, and all its handlers are opened
 abbrev pub is_open_block : Block → ReservationState → Bool
@@ -67,13 +67,13 @@ is_open_block b r = same_block b r.block && is_open r
 abbrev pub hear_logged : ClientState → HandlerId → Block → ℕ → Option ReservationState → Notice
 hear_logged c h b n None = ignored c
 hear_logged c h b n (Some r) =
-    if is_open_block b r then hear_count c h n (up_to h n c.waits) (line_of h c.lines) else ignored c
+    if is_open_block b r then hear_count c h n (up_to h n c.waits) (window_of h c.windows) else ignored c
 
 -- the answer to the query that waits
 abbrev pub hear_answer_to : ClientState → HandlerId → ℕ → ObjectAnswer → Option (HandlerId × ℕ) → Notice
 hear_answer_to c h n a None = ignored c
 hear_answer_to c h n a (Some w) =
-    if same_handler w.0 h && w.1 == n then (with_lines c (at_line h (acknowledged n) c.lines) None, Accepted h n a)
+    if same_handler w.0 h && w.1 == n then (with_windows c (at_window h (acknowledged n) c.windows) None, Accepted h n a)
     else ignored c
 
 abbrev pub hear_answer : ClientState → HandlerId → Block → ℕ → ObjectAnswer → Option ReservationState → Notice

@@ -9,21 +9,21 @@ use Rattle.scoop_reserve.specs.State.{ReservationState}
 use Rattle.scoop_reserve.specs.Hearing.{is_open}
 use Rattle.scoop_client.specs.declared.phase.ClientNote.{ClientNote}
 use Rattle.scoop_client.specs.declared.phase.ClientNote.TheVariants.{Accepted}
-use Rattle.scoop_client.specs.Line.{LineState, first_entries, line_of}
+use Rattle.scoop_client.specs.Window.{WindowState, first_entries, window_of}
 use Rattle.scoop_client.specs.State.{ClientState}
 
 -- entries are due once all handlers are opened and this one is unlocked, and they are the first that
 -- aren't acknowledged, with the number that follows the acknowledged ones
-pub record IsLoggedAt (c : ClientState) (h : HandlerId) (n : ℕ) (es : List Entry) (r : ReservationState) (l : LineState) : Type 0 where
+pub record IsLoggedAt (c : ClientState) (h : HandlerId) (n : ℕ) (es : List Entry) (r : ReservationState) (l : WindowState) : Type 0 where
   pub reservation : c.reservation ≡ Some r
   pub opened : is_open r ≡ true
   pub unlocked : has r.left h ≡ false
-  pub line : line_of h c.lines ≡ Some l
+  pub window : window_of h c.windows ≡ Some l
   pub number : n ≡ l.acked + 1
   pub entries : es ≡ first_entries c.batch l.unacked
 
 abbrev pub DueInOrder : ClientState → HandlerId → Message → Type 0
-DueInOrder c h (Log x b n es) = (r : ReservationState) × (l : LineState) × IsLoggedAt c h n es r l
+DueInOrder c h (Log x b n es) = (r : ReservationState) × (l : WindowState) × IsLoggedAt c h n es r l
 DueInOrder c h m = ⊤
 
 -- an answer is accepted for the query that waits, and then no query waits any more

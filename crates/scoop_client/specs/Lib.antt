@@ -1,4 +1,4 @@
-pub mod Line
+pub mod Window
 pub mod State
 pub mod Due
 pub mod Hearing

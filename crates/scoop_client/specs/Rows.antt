@@ -19,8 +19,8 @@ use Rattle.scoop_client.specs.declared.phase.Phase.TheVariants.{Greeting, Idle, 
 use Rattle.scoop_client.specs.declared.phase.ClientNote.{ClientNote}
 use Rattle.scoop_client.specs.declared.phase.ClientNote.TheVariants.{Welcomed, Acknowledged, Accepted, Ignored}
 use Rattle.scoop_client.specs.declared.error.ClientError.TheVariants.{NotGreeted, NotIdle, NoBlock, Waiting, NotReserved, WindowFull, TooLate, Spent, Reserve as NotReservable}
-use Rattle.scoop_client.specs.Line.{LineState, first_entries, is_full, logged, with_entry, with_end, acknowledged, line_of, at_line, lowest_full}
-use Rattle.scoop_client.specs.State.{ClientState, phase_of, with_left, with_lines, with_reservation}
+use Rattle.scoop_client.specs.Window.{WindowState, first_entries, is_full, logged, with_entry, with_end, acknowledged, window_of, at_window, lowest_full}
+use Rattle.scoop_client.specs.State.{ClientState, phase_of, with_unwelcomed, with_windows, with_reservation}
 use Rattle.scoop_client.specs.Hearing.{after_step, settled, up_to}
 use Rattle.scoop_client.specs.Commands.{Command, Outcome, Reserve, DoCall, DoQuery, DoEnd, GiveUp, next_block, with_block, waits_for}
 
@@ -28,17 +28,20 @@ use Rattle.scoop_client.specs.Commands.{Command, Outcome, Reserve, DoCall, DoQue
 
 -- nothing is due to a handler that has welcomed the client
 pub data OwesNothing (c : ClientState) (h : HandlerId) : Type 0 where
-  has_no_block : has c.left h ≡ false → c.reservation ≡ None → OwesNothing c h
-  waits_for_others : (r : ReservationState) → has c.left h ≡ false → c.reservation ≡ Some r → owed.due r h ≡ None → is_open r ≡ false → OwesNothing c h
-  is_elsewhere : (r : ReservationState) → has c.left h ≡ false → c.reservation ≡ Some r → owed.due r h ≡ None → is_open r ≡ true → line_of h c.lines ≡ None → OwesNothing c h
-  all_acknowledged : (r : ReservationState) (l : LineState) → has c.left h ≡ false → c.reservation ≡ Some r → owed.due r h ≡ None → is_open r ≡ true → line_of h c.lines ≡ Some l → (length l.unacked == 0) ≡ true → OwesNothing c h
+  has_no_block : has c.unwelcomed h ≡ false → c.reservation ≡ None → OwesNothing c h
+  waits_for_others : (r : ReservationState) → has c.unwelcomed h ≡ false → c.reservation ≡ Some r → owed.due r h ≡ None → is_open r ≡ false → OwesNothing c h
+  is_elsewhere : (r : ReservationState) → has c.unwelcomed h ≡ false → c.reservation ≡ Some r → owed.due r h ≡ None → is_open r ≡ true →
+      window_of h c.windows ≡ None → OwesNothing c h
+  all_acknowledged : (r : ReservationState) (l : WindowState) → has c.unwelcomed h ≡ false → c.reservation ≡ Some r → owed.due r h ≡ None →
+      is_open r ≡ true → window_of h c.windows ≡ Some l → (length l.unacked == 0) ≡ true → OwesNothing c h
 
 -- the cases, of which `owes_nothing` is that of one of these
 pub data DueRow (c : ClientState) (h : HandlerId) : Option Message → Type 0 where
   owes_nothing : DueRow c h None
-  greets : has c.left h ≡ true → DueRow c h (Some (Hello h c.id c.inc))
-  reserves : (r : ReservationState) (m : Message) → has c.left h ≡ false → c.reservation ≡ Some r → owed.due r h ≡ Some m → DueRow c h (Some m)
-  logs : (r : ReservationState) (l : LineState) → has c.left h ≡ false → c.reservation ≡ Some r → owed.due r h ≡ None → is_open r ≡ true → line_of h c.lines ≡ Some l → (length l.unacked == 0) ≡ false →
+  greets : has c.unwelcomed h ≡ true → DueRow c h (Some (Hello h c.id c.inc))
+  reserves : (r : ReservationState) (m : Message) → has c.unwelcomed h ≡ false → c.reservation ≡ Some r → owed.due r h ≡ Some m → DueRow c h (Some m)
+  logs : (r : ReservationState) (l : WindowState) → has c.unwelcomed h ≡ false → c.reservation ≡ Some r → owed.due r h ≡ None →
+      is_open r ≡ true → window_of h c.windows ≡ Some l → (length l.unacked == 0) ≡ false →
       DueRow c h (Some (Log l.handler r.block (l.acked + 1) (first_entries c.batch l.unacked)))
 
 -- the table: one of the cases, and nothing is due only where nothing is owed
@@ -50,21 +53,27 @@ pub record IsDue (c : ClientState) (h : HandlerId) (message : Option Message) : 
 
 -- the messages that are awaited
 pub data Awaits (c : ClientState) : Message → Type 0 where
-  awaits_welcome : (h : HandlerId) → has c.left h ≡ true → Awaits c (Welcome h c.id c.inc)
+  awaits_welcome : (h : HandlerId) → has c.unwelcomed h ≡ true → Awaits c (Welcome h c.id c.inc)
   awaits_step : (m : Message) (r : ReservationState) → c.reservation ≡ Some r → reservation_rows.Awaits r m → Awaits c m
-  awaits_count : (h : HandlerId) (n : ℕ) (r : ReservationState) (l : LineState) → c.reservation ≡ Some r → is_open r ≡ true → line_of h c.lines ≡ Some l → (nat_lt (logged l) n || nat_le (up_to h n c.waits) l.acked) ≡ false → Awaits c (Logged h r.block n)
-  awaits_answer : (h : HandlerId) (n : ℕ) (a : ObjectAnswer) (r : ReservationState) → c.reservation ≡ Some r → is_open r ≡ true → c.waits ≡ Some (h, n) → Awaits c (Answer h r.block n a)
+  awaits_count : (h : HandlerId) (n : ℕ) (r : ReservationState) (l : WindowState) → c.reservation ≡ Some r → is_open r ≡ true →
+      window_of h c.windows ≡ Some l → (nat_lt (logged l) n || nat_le (up_to h n c.waits) l.acked) ≡ false →
+      Awaits c (Logged h r.block n)
+  awaits_answer : (h : HandlerId) (n : ℕ) (a : ObjectAnswer) (r : ReservationState) → c.reservation ≡ Some r → is_open r ≡ true → c.waits ≡ Some (h, n) →
+      Awaits c (Answer h r.block n a)
 
 -- the cases, of which `passed_over` is that of a message that isn't awaited; a step of the reservation that it
 -- doesn't await is one too
 pub data HeardRow (c : ClientState) : Message → ClientState → ClientNote → Type 0 where
   passed_over : (m : Message) → HeardRow c m c Ignored
-  is_welcomed : (h : HandlerId) → has c.left h ≡ true → HeardRow c (Welcome h c.id c.inc) (with_left c (without h c.left)) (Welcomed h)
+  is_welcomed : (h : HandlerId) → has c.unwelcomed h ≡ true → HeardRow c (Welcome h c.id c.inc) (with_unwelcomed c (without h c.unwelcomed)) (Welcomed h)
   takes_step : (m : Message) (r : ReservationState) → c.reservation ≡ Some r →
       HeardRow c m (after_step c (reservation.heard r m).0 (reservation.heard r m).1).0 (after_step c (reservation.heard r m).0 (reservation.heard r m).1).1
-  is_acknowledged : (h : HandlerId) (n : ℕ) (r : ReservationState) (l : LineState) → c.reservation ≡ Some r → is_open r ≡ true → line_of h c.lines ≡ Some l → (nat_lt (logged l) n || nat_le (up_to h n c.waits) l.acked) ≡ false →
-      HeardRow c (Logged h r.block n) (settled (with_lines c (at_line h (acknowledged (up_to h n c.waits)) c.lines) c.waits)) (Acknowledged h (up_to h n c.waits))
-  is_accepted : (h : HandlerId) (n : ℕ) (a : ObjectAnswer) (r : ReservationState) → c.reservation ≡ Some r → is_open r ≡ true → c.waits ≡ Some (h, n) → HeardRow c (Answer h r.block n a) (with_lines c (at_line h (acknowledged n) c.lines) None) (Accepted h n a)
+  is_acknowledged : (h : HandlerId) (n : ℕ) (r : ReservationState) (l : WindowState) → c.reservation ≡ Some r → is_open r ≡ true →
+      window_of h c.windows ≡ Some l → (nat_lt (logged l) n || nat_le (up_to h n c.waits) l.acked) ≡ false →
+      HeardRow c (Logged h r.block n)
+      (settled (with_windows c (at_window h (acknowledged (up_to h n c.waits)) c.windows) c.waits)) (Acknowledged h (up_to h n c.waits))
+  is_accepted : (h : HandlerId) (n : ℕ) (a : ObjectAnswer) (r : ReservationState) → c.reservation ≡ Some r → is_open r ≡ true → c.waits ≡ Some (h, n) →
+      HeardRow c (Answer h r.block n a) (with_windows c (at_window h (acknowledged n) c.windows) None) (Accepted h n a)
 
 -- the table: one of the cases, and only what isn't awaited is ignored
 pub record IsHeard (c : ClientState) (m : Message) (d : ClientState) (note : ClientNote) : Type 0 where
@@ -77,26 +86,32 @@ pub data ReserveRow (c : ClientState) (hs : List HandlerId) : Outcome → Type 0
   reserve_not_greeted : phase_of c ≡ Greeting → ReserveRow c hs (Err NotGreeted)
   reserve_not_idle : phase_of c ≢ Greeting → phase_of c ≢ Idle → ReserveRow c hs (Err NotIdle)
   reserve_spent : phase_of c ≡ Idle → (c.last == 2 ^ 32 - 1) ≡ true → ReserveRow c hs (Err Spent)
-  reserve_refused : (e : ReserveError) → phase_of c ≡ Idle → (c.last == 2 ^ 32 - 1) ≡ false → started (next_block c) hs c.handlers ≡ Err e → ReserveRow c hs (Err (NotReservable e))
-  begins_block : (r : ReservationState) → phase_of c ≡ Idle → (c.last == 2 ^ 32 - 1) ≡ false → started (next_block c) hs c.handlers ≡ Ok r → ReserveRow c hs (Ok (with_block c hs r))
+  reserve_refused : (e : ReserveError) → phase_of c ≡ Idle → (c.last == 2 ^ 32 - 1) ≡ false → started (next_block c) hs c.handlers ≡ Err e →
+      ReserveRow c hs (Err (NotReservable e))
+  begins_block : (r : ReservationState) → phase_of c ≡ Idle → (c.last == 2 ^ 32 - 1) ≡ false → started (next_block c) hs c.handlers ≡ Ok r →
+      ReserveRow c hs (Ok (with_block c hs r))
 
 -- a call or a query
 pub data LogRow (c : ClientState) (h : HandlerId) (e : Entry) : Outcome → Type 0 where
   log_not_greeted : phase_of c ≡ Greeting → LogRow c h e (Err NotGreeted)
   log_no_block : phase_of c ≢ Greeting → phase_of c ≢ Running → LogRow c h e (Err NoBlock)
   log_waiting : (w : HandlerId × ℕ) → phase_of c ≡ Running → c.waits ≡ Some w → LogRow c h e (Err (Waiting w.0))
-  log_not_reserved : phase_of c ≡ Running → c.waits ≡ None → line_of h c.lines ≡ None → LogRow c h e (Err (NotReserved h))
-  log_window_full : (l : LineState) → phase_of c ≡ Running → c.waits ≡ None → line_of h c.lines ≡ Some l → is_full l ≡ true → LogRow c h e (Err (WindowFull h))
-  log_spent : (l : LineState) → phase_of c ≡ Running → c.waits ≡ None → line_of h c.lines ≡ Some l → is_full l ≡ false → nat_le (2 ^ 32 - 2) (logged l) ≡ true → LogRow c h e (Err Spent)
-  is_logged : (l : LineState) → phase_of c ≡ Running → c.waits ≡ None → line_of h c.lines ≡ Some l → is_full l ≡ false → nat_le (2 ^ 32 - 2) (logged l) ≡ false →
-      LogRow c h e (Ok (with_lines c (at_line h (with_entry e) c.lines) (waits_for h (logged l + 1) e)))
+  log_not_reserved : phase_of c ≡ Running → c.waits ≡ None → window_of h c.windows ≡ None → LogRow c h e (Err (NotReserved h))
+  log_window_full : (l : WindowState) → phase_of c ≡ Running → c.waits ≡ None → window_of h c.windows ≡ Some l → is_full l ≡ true →
+      LogRow c h e (Err (WindowFull h))
+  log_spent : (l : WindowState) → phase_of c ≡ Running → c.waits ≡ None → window_of h c.windows ≡ Some l → is_full l ≡ false →
+      nat_le (2 ^ 32 - 2) (logged l) ≡ true →
+      LogRow c h e (Err Spent)
+  is_logged : (l : WindowState) → phase_of c ≡ Running → c.waits ≡ None → window_of h c.windows ≡ Some l → is_full l ≡ false →
+      nat_le (2 ^ 32 - 2) (logged l) ≡ false →
+      LogRow c h e (Ok (with_windows c (at_window h (with_entry e) c.windows) (waits_for h (logged l + 1) e)))
 
 pub data EndRow (c : ClientState) : Outcome → Type 0 where
   end_not_greeted : phase_of c ≡ Greeting → EndRow c (Err NotGreeted)
   end_no_block : phase_of c ≢ Greeting → phase_of c ≢ Running → EndRow c (Err NoBlock)
   end_waiting : (w : HandlerId × ℕ) → phase_of c ≡ Running → c.waits ≡ Some w → EndRow c (Err (Waiting w.0))
-  end_window_full : (h : HandlerId) → phase_of c ≡ Running → c.waits ≡ None → lowest_full c.lines ≡ Some h → EndRow c (Err (WindowFull h))
-  ends_block : phase_of c ≡ Running → c.waits ≡ None → lowest_full c.lines ≡ None → EndRow c (Ok (with_lines c (map with_end c.lines) None))
+  end_window_full : (h : HandlerId) → phase_of c ≡ Running → c.waits ≡ None → lowest_full c.windows ≡ Some h → EndRow c (Err (WindowFull h))
+  ends_block : phase_of c ≡ Running → c.waits ≡ None → lowest_full c.windows ≡ None → EndRow c (Ok (with_windows c (map with_end c.windows) None))
 
 pub data GiveUpRow (c : ClientState) : Outcome → Type 0 where
   give_up_not_greeted : phase_of c ≡ Greeting → GiveUpRow c (Err NotGreeted)

@@ -10,20 +10,20 @@ use Rattle.scoop_reserve.specs.Handlers.{is_empty}
 use Rattle.scoop_reserve.specs.State.{ReservationState}
 use Rattle.scoop_client.specs.declared.phase.Phase.{Phase}
 use Rattle.scoop_client.specs.declared.phase.Phase.TheVariants.{Greeting, Idle, Locking, Opening, Running, Ending, GivingUp}
-use Rattle.scoop_client.specs.Line.{LineState, is_ended}
+use Rattle.scoop_client.specs.Window.{WindowState, is_ended}
 
 -- its handlers and those of them that haven't welcomed it, the last block number used, and of the block
--- that it has the reservation, a line for each reserved handler, and the query that waits, by handler
+-- that it has the reservation, a window for each reserved handler, and the query that waits, by handler
 -- and number
 pub record ClientState : Type 0 where
   pub id : ClientId
   pub inc : ℕ
   pub batch : ℕ
   pub handlers : List HandlerId
-  pub left : List HandlerId
+  pub unwelcomed : List HandlerId
   pub last : ℕ
   pub reservation : Option ReservationState
-  pub lines : List LineState
+  pub windows : List WindowState
   pub waits : Option (HandlerId × ℕ)
 
 abbrev pub phase_at : Stage → Bool → Phase
@@ -32,34 +32,30 @@ phase_at stage.Opening ended = Opening
 phase_at stage.Unlocking ended = if ended then Ending else Running
 phase_at stage.GivingUp ended = GivingUp
 
-abbrev pub phase_of_block : List LineState → Option ReservationState → Phase
-phase_of_block lines None = Idle
-phase_of_block lines (Some r) = phase_at r.stage (is_ended lines)
+abbrev pub phase_of_block : List WindowState → Option ReservationState → Phase
+phase_of_block windows None = Idle
+phase_of_block windows (Some r) = phase_at r.stage (is_ended windows)
 
 abbrev pub phase_of : ClientState → Phase
-phase_of c = if is_empty c.left then phase_of_block c.lines c.reservation else Greeting
+phase_of c = if is_empty c.unwelcomed then phase_of_block c.windows c.reservation else Greeting
 
 -- the block that it has
 abbrev pub block_of : Option ReservationState → Option Block
 block_of None = None
 block_of (Some r) = Some r.block
 
-abbrev pub with_left : ClientState → List HandlerId → ClientState
-with_left c left =
-    record { id = c.id; inc = c.inc; batch = c.batch; handlers = c.handlers; left = left; last = c.last; reservation = c.reservation; lines = c.lines; waits = c.waits }
+abbrev pub with_unwelcomed : ClientState → List HandlerId → ClientState
+with_unwelcomed c hs = record c { unwelcomed = hs }
 
 abbrev pub with_reservation : ClientState → ReservationState → ClientState
-with_reservation c r =
-    record { id = c.id; inc = c.inc; batch = c.batch; handlers = c.handlers; left = c.left; last = c.last; reservation = Some r; lines = c.lines; waits = c.waits }
+with_reservation c r = record c { reservation = Some r }
 
-abbrev pub with_lines : ClientState → List LineState → Option (HandlerId × ℕ) → ClientState
-with_lines c lines waits =
-    record { id = c.id; inc = c.inc; batch = c.batch; handlers = c.handlers; left = c.left; last = c.last; reservation = c.reservation; lines = lines; waits = waits }
+abbrev pub with_windows : ClientState → List WindowState → Option (HandlerId × ℕ) → ClientState
+with_windows c windows waits = record c { windows = windows; waits = waits }
 
 -- its block is over
 abbrev pub idle : ClientState → ClientState
-idle c =
-    record { id = c.id; inc = c.inc; batch = c.batch; handlers = c.handlers; left = c.left; last = c.last; reservation = None; lines = []; waits = None }
+idle c = record c { reservation = None; windows = []; waits = None }
 
 -- the name of a block of this client
 abbrev pub block_named : ClientId → ℕ → ℕ → Block

@@ -8,9 +8,9 @@ ghost use Rattle.scoop_client.specs.Laws.{DueInOrder};
 ghost use Rattle.scoop_client.specs.Beginning.{begun, Begins};
 
 use crate::error::BeginError;
-use crate::line::Line;
-use crate::lines::{is_ended, line_of};
 use crate::phase::Phase;
+use crate::window::Window;
+use crate::windows::{is_ended, window_of};
 use scoop_message::limits::{MAX_ENTRIES, MAX_HANDLERS};
 use scoop_message::{Block, ClientId, HandlerId, Message};
 use scoop_reserve::{Reservation, Stage, first_repeated, has};
@@ -20,7 +20,7 @@ use std::marker::Model;
 /// A client, which has one block at a time.
 ///
 /// Contracts see it as its identity and limits, its handlers and those of them that haven't welcomed
-/// it, the last block number used, and of its block the reservation, the lines and the query that
+/// it, the last block number used, and of its block the reservation, the windows and the query that
 /// waits.
 #[derive(Drop)]
 pub struct Client<A: Allocator = Global> {
@@ -28,10 +28,10 @@ pub struct Client<A: Allocator = Global> {
     pub(crate) inc: u32,
     batch: u8,
     pub(crate) handlers: Vec<HandlerId, A>,
-    pub(crate) left: Vec<HandlerId, A>,
+    pub(crate) unwelcomed: Vec<HandlerId, A>,
     pub(crate) last: u32,
     pub(crate) reservation: Option<Reservation>,
-    pub(crate) lines: Vec<Line<A>, A>,
+    pub(crate) windows: Vec<Window<A>, A>,
     pub(crate) waits: Option<(HandlerId, u32)>,
 }
 
@@ -40,7 +40,7 @@ impl<A: Allocator> Model for Client<A> {
 
     ghost Value = { ClientState };
 
-    ghost view = { λ c. record { id = c.id; inc = c.inc; batch = c.batch; handlers = c.handlers.items; left = c.left.items; last = c.last; reservation = c.reservation; lines = c.lines.items; waits = c.waits } };
+    ghost view = { λ c. record { id = c.id; inc = c.inc; batch = c.batch; handlers = c.handlers.items; unwelcomed = c.unwelcomed.items; last = c.last; reservation = c.reservation; windows = c.windows.items; waits = c.waits } };
 
     ghost invariant = { λ c. IsClient c.id c.inc c.batch c.last c.reservation };
 }
@@ -66,7 +66,7 @@ impl<A: Allocator> Client<A> {
     pub fn phase(&self) -> Phase
         ensures { result ≡ phase_of self.now }
     {
-        if !self.left.is_empty() {
+        if !self.unwelcomed.is_empty() {
             return Phase::Greeting;
         }
         let Some(reservation) = self.reservation else {
@@ -76,7 +76,7 @@ impl<A: Allocator> Client<A> {
             Stage::Locking => Phase::Locking,
             Stage::Opening => Phase::Opening,
             Stage::Unlocking => {
-                if is_ended(&self.lines) {
+                if is_ended(&self.windows) {
                     Phase::Ending
                 } else {
                     Phase::Running
@@ -104,7 +104,7 @@ impl<A: Allocator> Client<A> {
         // an entry only once the handler is unlocked, and at its number
         ensures order { IfSome result (DueInOrder self.now handler) }
     {
-        if has(&self.left, handler) {
+        if has(&self.unwelcomed, handler) {
             Some(Message::Hello(handler, self.id, self.inc))
         } else {
             self.due_in_block(handler)
@@ -125,8 +125,8 @@ impl<A: Allocator> Client<A> {
         if !reservation.is_open() {
             return None;
         }
-        match line_of(&self.lines, handler) {
-            Some(line) => line.due(reservation.block(), self.batch),
+        match window_of(&self.windows, handler) {
+            Some(window) => window.due(reservation.block(), self.batch),
             None => None,
         }
     }
@@ -136,7 +136,7 @@ impl<A: Allocator> Client<A> {
         ensures { self.new ≡ idle self.old }
     {
         self.reservation = None;
-        self.lines.clear();
+        self.windows.clear();
         self.waits = None;
     }
 }
@@ -165,16 +165,16 @@ impl<A: Allocator + Clone> Client<A> {
             return Err(BeginError::Repeated(handler));
         }
         let known = Vec::from_slice(alloc.clone()?, handlers)?;
-        let left = Vec::from_slice(alloc.clone()?, handlers)?;
+        let unwelcomed = Vec::from_slice(alloc.clone()?, handlers)?;
         Ok(Client {
             id,
             inc,
             batch,
             handlers: known,
-            left,
+            unwelcomed,
             last,
             reservation: None,
-            lines: Vec::new(alloc),
+            windows: Vec::new(alloc),
             waits: None,
         })
     }

@@ -3,14 +3,14 @@
 ghost use Rattle.std.specs.Prelude.{◌≡◌, ◌+◌, ◌<◌, ◌^◌, IfOk, IfErr, IfSome, OnOk, Ok, Err, None, false};
 ghost use Rattle.scoop_message.specs.declared.request.Entry.{Entry as LoggedEntry};
 ghost use Rattle.scoop_client.specs.Commands.{Commanded, CommandedAlways, AnswersAlways, Foretells, command, log, waits_for, with_block, with_ends, with_logged};
-ghost use Rattle.scoop_client.specs.Line.{HasRoom, is_ended, line_of, lowest_full};
+ghost use Rattle.scoop_client.specs.Window.{HasRoom, is_ended, window_of, lowest_full};
 ghost use Rattle.scoop_client.specs.Commands.Command.{Reserve, DoCall, DoQuery, DoEnd, GiveUp};
 ghost use Rattle.scoop_client.specs.State.{phase_of};
 
 use crate::client::Client;
 use crate::error::ClientError;
-use crate::lines::{end_all, fresh_lines, line_of, log_at, lowest_full};
 use crate::phase::Phase;
+use crate::windows::{end_all, fresh_windows, log_at, lowest_full, window_of};
 use scoop_message::{Block, Entry, HandlerId, Request};
 use scoop_reserve::Reservation;
 use std::alloc::Allocator;
@@ -32,16 +32,13 @@ impl<A: Allocator + Clone> Client<A> {
     pub fn reserve(&mut self, handlers: &[HandlerId]) -> Result<(), ClientError>
         ensures { Commanded (Reserve handlers.now) result self.old self.new }
     {
-        let reservation = match self.next_reservation(handlers) {
-            Ok(reservation) => reservation,
-            Err(error) => return Err(error),
-        };
-        let Ok(lines) = fresh_lines(self.handlers.allocator(), handlers) else {
+        let reservation = self.next_reservation(handlers)?;
+        let Ok(windows) = fresh_windows(self.handlers.allocator(), handlers) else {
             return Err(ClientError::OutOfMemory);
         };
         self.last += 1;
         self.reservation = Some(reservation);
-        self.lines = lines;
+        self.windows = windows;
         self.waits = None;
         Ok(())
     }
@@ -88,7 +85,7 @@ impl<A: Allocator> Client<A> {
     fn last_logged(&self, handler: HandlerId) -> Result<u32, ClientError>
         ensures logs { (entry : LoggedEntry) → IfOk result (λ last. log self.now handler entry (phase_of self.now) ≡ Ok (with_logged self.now handler entry (last + 1))) }
         ensures number { IfOk result (λ last. last + 1 < 2 ^ 32) }
-        ensures room { OnOk result (IfSome (line_of handler self.now.lines) HasRoom) }
+        ensures room { OnOk result (IfSome (window_of handler self.now.windows) HasRoom) }
         ensures refused { (entry : LoggedEntry) → IfErr result (λ e. log self.now handler entry (phase_of self.now) ≡ Err e) }
     {
         match self.phase() {
@@ -99,13 +96,13 @@ impl<A: Allocator> Client<A> {
         if let Some((asked, _)) = self.waits {
             return Err(ClientError::Waiting(asked));
         }
-        let Some(line) = line_of(&self.lines, handler) else {
+        let Some(window) = window_of(&self.windows, handler) else {
             return Err(ClientError::NotReserved(handler));
         };
-        if line.is_full() {
+        if window.is_full() {
             return Err(ClientError::WindowFull(handler));
         }
-        let last = line.logged();
+        let last = window.logged();
         if last >= u32::MAX - 1 {
             return Err(ClientError::Spent);
         }
@@ -141,11 +138,8 @@ impl<A: Allocator> Client<A> {
     fn log(&mut self, handler: HandlerId, entry: Entry) -> Result<(), ClientError>
         ensures { AnswersAlways (log self.old handler entry (phase_of self.old)) result self.old self.new }
     {
-        let last = match self.last_logged(handler) {
-            Ok(last) => last,
-            Err(error) => return Err(error),
-        };
-        log_at(&mut self.lines, handler, entry);
+        let last = self.last_logged(handler)?;
+        log_at(&mut self.windows, handler, entry);
         self.waits = waits_for(handler, last + 1, &entry);
         Ok(())
     }
@@ -156,10 +150,8 @@ impl<A: Allocator> Client<A> {
     pub fn end(&mut self) -> Result<(), ClientError>
         ensures { CommandedAlways DoEnd result self.old self.new }
     {
-        if let Err(error) = self.may_end() {
-            return Err(error);
-        }
-        end_all(&mut self.lines);
+        self.may_end()?;
+        end_all(&mut self.windows);
         Ok(())
     }
 
@@ -167,8 +159,8 @@ impl<A: Allocator> Client<A> {
     pub fn may_end(&self) -> Result<(), ClientError>
         ensures told { Foretells (command self.now DoEnd) result }
         ensures ends { OnOk result (command self.now DoEnd ≡ Ok (with_ends self.now)) }
-        ensures room { OnOk result (lowest_full self.now.lines ≡ None) }
-        ensures goes_on { OnOk result (is_ended self.now.lines ≡ false) }
+        ensures room { OnOk result (lowest_full self.now.windows ≡ None) }
+        ensures goes_on { OnOk result (is_ended self.now.windows ≡ false) }
     {
         match self.phase() {
             Phase::Greeting => return Err(ClientError::NotGreeted),
@@ -178,7 +170,7 @@ impl<A: Allocator> Client<A> {
         if let Some((asked, _)) = self.waits {
             return Err(ClientError::Waiting(asked));
         }
-        if let Some(handler) = lowest_full(&self.lines) {
+        if let Some(handler) = lowest_full(&self.windows) {
             return Err(ClientError::WindowFull(handler));
         }
         Ok(())

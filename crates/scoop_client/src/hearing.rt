@@ -6,8 +6,8 @@ ghost use Rattle.scoop_client.specs.Laws.{AcceptsOnce};
 ghost use Rattle.scoop_client.specs.Hearing.{heard, hear_welcome, hear_step, hear_logged, hear_answer, settled, up_to};
 
 use crate::client::Client;
-use crate::lines::{acknowledge_at, all_over, line_of};
 use crate::phase::ClientNote;
+use crate::windows::{acknowledge_at, all_over, window_of};
 use scoop_message::{Answer, Block, HandlerId, Message};
 use scoop_reserve::{Step, has};
 use std::alloc::Allocator;
@@ -68,10 +68,10 @@ impl<A: Allocator> Client<A> {
     fn hear_welcome(&mut self, handler: HandlerId) -> ClientNote
         ensures { hear_welcome self.old handler ≡ (self.new, result) }
     {
-        if !has(&self.left, handler) {
+        if !has(&self.unwelcomed, handler) {
             return ClientNote::Ignored;
         }
-        remove(&mut self.left, handler);
+        remove(&mut self.unwelcomed, handler);
         ClientNote::Welcomed(handler)
     }
 
@@ -108,13 +108,13 @@ impl<A: Allocator> Client<A> {
             return ClientNote::Ignored;
         }
         let count = up_to(handler, number, self.waits);
-        let Some(line) = line_of(&self.lines, handler) else {
+        let Some(window) = window_of(&self.windows, handler) else {
             return ClientNote::Ignored;
         };
-        if line.logged() < number || count <= line.acked() {
+        if window.logged() < number || count <= window.acked() {
             return ClientNote::Ignored;
         }
-        acknowledge_at(&mut self.lines, handler, count);
+        acknowledge_at(&mut self.windows, handler, count);
         self.settle();
         ClientNote::Acknowledged(handler, count)
     }
@@ -140,7 +140,7 @@ impl<A: Allocator> Client<A> {
         if asked != handler || waited != number {
             return ClientNote::Ignored;
         }
-        acknowledge_at(&mut self.lines, handler, number);
+        acknowledge_at(&mut self.windows, handler, number);
         self.waits = None;
         ClientNote::Accepted(handler, number, answer)
     }
@@ -149,7 +149,7 @@ impl<A: Allocator> Client<A> {
     fn settle(&mut self)
         ensures { self.new ≡ settled self.old }
     {
-        if all_over(&self.lines) {
+        if all_over(&self.windows) {
             self.leave();
         }
     }

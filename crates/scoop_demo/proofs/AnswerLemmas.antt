@@ -11,9 +11,9 @@ use Rattle.scoop_frame.specs.declared.version.Version.{Version}
 use Rattle.scoop_frame.specs.Buffer.{written}
 use Rattle.scoop_frame.specs.Frame.{frame, IsFrame}
 use Rattle.scoop_handler.specs.declared.note.Note.{Note}
-use Rattle.scoop_record.specs.Keeper.{Keeps, Stored, StaysAt, Stays as KeeperStays}
-use Rattle.scoop_record.proofs.Keyed.{by_test}
-use Rattle.scoop_record.proofs.KeeperLemmas.{is_same_same, is_same_more}
+use Rattle.scoop_keeper.specs.Keeper.{Keeps, Stored, StaysAt, Stays as KeeperStays}
+use Rattle.scoop_keeper.proofs.Keyed.{by_test}
+use Rattle.scoop_keeper.proofs.KeeperLemmas.{is_same_same, is_same_more}
 use Rattle.scoop_book.specs.declared.error.BookError.{BookError}
 use Rattle.scoop_book.specs.declared.error.BookError.TheVariants.{UnknownHandler}
 use Rattle.scoop_book.specs.declared.event.Event.{Event}
@@ -38,7 +38,8 @@ use Rattle.scoop_demo.proofs.OnlyLemmas.{rests_same}
 
 -- ---- what is printed
 
-heard_line : (v : Version) (reply : Option Message) (note : Note) (buffer : List ℕ) → line_of (answered_of v reply note) (written (frame_of v reply) buffer) ≡ text_of v reply note
+heard_line : (v : Version) (reply : Option Message) (note : Note) (buffer : List ℕ)
+    → line_of (answered_of v reply note) (written (frame_of v reply) buffer) ≡ text_of v reply note
 heard_line v None note buffer = refl
 heard_line v (Some reply) note buffer = ap encode_lower (take_at (frame v reply) (drop (length (frame v reply)) buffer) (length (frame v reply)) refl)
 
@@ -48,12 +49,14 @@ pub record Follows (d : List ℕ) (a : Answered) (next : Option HandlerId) : Typ
   pub silent : (note : Note) (v : Version) (m : Message) → a ≡ answered.Silent note → IsFrame v m d → next ≡ runs_by note (handler_of m)
   pub replied : (n : ℕ) (note : Note) (v : Version) (m : Message) → a ≡ answered.Reply n note → IsFrame v m d → next ≡ runs_by note (handler_of m)
 
-follows_heard : (d : List ℕ) (a : Answered) (next : Option HandlerId) (v : Version) (m : Message) (reply : Option Message) (note : Note) → Follows d a next → a ≡ answered_of v reply note
+follows_heard : (d : List ℕ) (a : Answered) (next : Option HandlerId) (v : Version) (m : Message) (reply : Option Message) (note : Note) → Follows d a next
+    → a ≡ answered_of v reply note
     → IsFrame v m d → next ≡ runs_by note (handler_of m)
 follows_heard d a next v m None note follows is carried = follows.silent note v m is carried
 follows_heard d a next v m (Some reply) note follows is carried = follows.replied (length (frame v reply)) note v m is carried
 
-pub printed : {K : Type 0} (d : List ℕ) (old new : BookValue K) (a : Answered) (buffer out : List ℕ) (next : Option HandlerId) → Follows d a next → AnswersDatagram 0 d old new a buffer out
+pub printed : {K : Type 0} (d : List ℕ) (old new : BookValue K) (a : Answered) (buffer out : List ℕ) (next : Option HandlerId) → Follows d a next
+    → AnswersDatagram 0 d old new a buffer out
     → Prints d old new next (line_of a out)
 printed d old new a buffer out next follows (refuses r) =
     refused (record {
@@ -84,7 +87,8 @@ some_none x e = cc
 absent_newer : (s : LocalHandler) (hs : List LocalHandler) (h : HandlerId) → handler_in h hs ≡ None → handler_in h (with_handler s hs) ≡ None
 absent_newer s [] h none = refl
 absent_newer s (x ∷ xs) h none =
-    by_test (λ (t : Bool). (if t then Some x else handler_in h xs) ≡ None → same_handler (number_in x) h ≡ t → handler_in h (with_handler s (x ∷ xs)) ≡ None) (same_handler (number_in x) h)
+    by_test (λ (t : Bool). (if t then Some x else handler_in h xs) ≡ None → same_handler (number_in x) h ≡ t → handler_in h (with_handler s (x ∷ xs)) ≡ None)
+    (same_handler (number_in x) h)
     (λ here f is. absurd (some_none x f))
     (λ there f is.
     by_test
@@ -97,7 +101,8 @@ absent_newer s (x ∷ xs) h none =
     (λ _ other. ap (λ t. if t then Some x else handler_in h (with_handler s xs)) is ∙ absent_newer s xs h f) refl)
     none refl
 
-absent_moved : (event : Event) (reply : Reply) (hs ks : List LocalHandler) (h : HandlerId) → Moves event reply hs ks → handler_in h hs ≡ None → handler_in h ks ≡ None
+absent_moved : (event : Event) (reply : Reply) (hs ks : List LocalHandler) (h : HandlerId) → Moves event reply hs ks → handler_in h hs ≡ None
+    → handler_in h ks ≡ None
 absent_moved event reply hs ks h moves none = ap (handler_in h) moves.after ∙ absent_newer moves.new hs h none
 
 module _ {K : Type 0} where
@@ -107,25 +112,34 @@ module _ {K : Type 0} where
       absent_moved _ _ last.between.handlers b.handlers h last.finishes.moves
       (absent_moved _ _ y.handlers last.between.handlers h last.begins.moves (absent_entries pass k h a y before none))
 
-  absent_behind : (next : Option HandlerId) (h : HandlerId) (a b : BookValue K) → RunsBehind next a b → handler_in h a.handlers ≡ None → handler_in h b.handlers ≡ None
+  absent_behind : (next : Option HandlerId) (h : HandlerId) (a b : BookValue K) → RunsBehind next a b → handler_in h a.handlers ≡ None
+      → handler_in h b.handlers ≡ None
   absent_behind None h a b same none = subst (λ (x : BookValue K). handler_in h x.handlers ≡ None) (sym same) none
   absent_behind (Some k) h a b dry none = absent_moved _ _ dry.last.handlers b.handlers h dry.nothing.moves (absent_entries 0 k h a dry.last dry.ran none)
 
-  pub absent_printed : (d : List ℕ) (a b : BookValue K) (next : Option HandlerId) (text : List ℕ) (h : HandlerId) → Prints d a b next text → handler_in h a.handlers ≡ None → handler_in h b.handlers ≡ None
+  pub absent_printed : (d : List ℕ) (a b : BookValue K) (next : Option HandlerId) (text : List ℕ) (h : HandlerId) → Prints d a b next text
+      → handler_in h a.handlers ≡ None → handler_in h b.handlers ≡ None
   absent_printed d a b next text h (refused r) none = ap (handler_in h) r.rests.stays.handlers ∙ none
   absent_printed d a b next text h (heard r) none = absent_moved _ _ a.handlers b.handlers h r.gains.moves none
   absent_printed d a b next text h (elsewhere r) none = ap (handler_in h) r.rests.stays.handlers ∙ none
 
-  pub absent_line : (number : ℕ) (line text : List ℕ) (a b : BookValue K) (h : HandlerId) → AnswersLine number a line b text → handler_in h a.handlers ≡ None → handler_in h b.handlers ≡ None
-  absent_line number line text a b h is none = absent_behind is.next h is.heard b is.runs (absent_printed is.hears.datagram a is.heard is.next text h is.hears.prints none)
+  pub absent_line : (number : ℕ) (line text : List ℕ) (a b : BookValue K) (h : HandlerId) → AnswersLine number a line b text → handler_in h a.handlers ≡ None
+      → handler_in h b.handlers ≡ None
+  absent_line number line text a b h is none = absent_behind is.next h is.heard b is.runs
+      (absent_printed is.hears.datagram a is.heard is.next text h is.hears.prints none)
 
   -- the handler that has something to run is here
-  pub here_printed : (d : List ℕ) (a b : BookValue K) (next : Option HandlerId) (h : HandlerId) (text : List ℕ) → Prints d a b next text → next ≡ Some h → IsHere b.handlers h
+  pub here_printed : (d : List ℕ) (a b : BookValue K) (next : Option HandlerId) (h : HandlerId) (text : List ℕ) → Prints d a b next text → next ≡ Some h
+      → IsHere b.handlers h
   here_printed d a b next h text (refused r) some = absurd (some_none h (sym some ∙ r.nothing))
   here_printed d a b next h text (elsewhere r) some = absurd (some_none h (sym some ∙ r.nothing))
   here_printed d a b next h text (heard r) some =
       let own : handler_of r.message ≡ h = named (runs_after r.heard.note) (sym r.runs ∙ some) in
-      record { handler = r.gains.moves.new; here = ap (λ (k : HandlerId). handler_in k b.handlers) (sym own) ∙ moved_there (Hear r.message) (Heard r.heard) a.handlers b.handlers r.gains.moves }
+      record {
+        handler = r.gains.moves.new;
+        here = ap (λ (k : HandlerId). handler_in k b.handlers) (sym own)
+            ∙ moved_there (Hear r.message) (Heard r.heard) a.handlers b.handlers r.gains.moves;
+      }
     where
       named : (t : Bool) → (if t then Some (handler_of r.message) else None) ≡ Some h → handler_of r.message ≡ h
       named true e = cc
@@ -140,13 +154,15 @@ absent_apart : (hs : List LocalHandler) (h k : HandlerId) (s : LocalHandler) →
 absent_apart hs h k s none some same = some_none s (sym some ∙ subst (λ (x : HandlerId). handler_in x hs ≡ None) same none)
 
 -- what a keeper has of the handlers elsewhere
-others_heard : {K : Type 0} (pass : ℕ) (m : Message) (reply : Reply) (old new : BookValue K) (was now : ℕ → Stored → Type 0) → Gains pass (Hear m) reply old new → KeepsNew (handler_of m) new.handlers was now
+others_heard : {K : Type 0} (pass : ℕ) (m : Message) (reply : Reply) (old new : BookValue K) (was now : ℕ → Stored → Type 0) → Gains pass (Hear m) reply old new
+    → KeepsNew (handler_of m) new.handlers was now
     → (h : HandlerId) → handler_in h old.handlers ≡ None → StaysAt was now h.0
 others_heard pass m reply old new was now gains keeps h none =
     let moves = gains.moves in
     let found = moved_there (Hear m) reply old.handlers new.handlers moves in
     let number : number_in moves.new ≡ handler_of m = key_found number_in same_handler handler_decides (handler_of m) new.handlers moves.new found in
-    let state : Keeps was now moves.new.core.state = if_here (λ (s : LocalHandler). Keeps was now s.core.state) (handler_in (handler_of m) new.handlers) moves.new found keeps in
+    let state : Keeps was now moves.new.core.state = if_here (λ (s : LocalHandler). Keeps was now s.core.state)
+    (handler_in (handler_of m) new.handlers) moves.new found keeps in
     state.others h.0 (number_apart h (number_in moves.new) (λ same. absent_apart old.handlers h (handler_of m) moves.handler none moves.here (same ∙ number)))
 
 others_refused : (was now : ℕ → Stored → Type 0) → KeeperStays was now → (h : HandlerId) → StaysAt was now h.0
@@ -155,9 +171,12 @@ others_refused was now stays h = stays.each h.0
 stays_at : (a : ℕ → Stored → Type 0) (n : ℕ) → StaysAt a a n
 stays_at a n v = (λ x. x, λ x. x)
 
-pub others_answered : {K : Type 0} (pass : ℕ) (d : List ℕ) (old new : BookValue K) (a : Answered) (buffer out : List ℕ) (has : K → ℕ → Stored → Type 0) → AnswersDatagram pass d old new a buffer out
-    → KeepsAnswered d new.handlers (has old.keeper) (has new.keeper) → (h : HandlerId) → handler_in h old.handlers ≡ None → StaysAt (has old.keeper) (has new.keeper) h.0
-others_answered pass d old new a buffer out has (refuses r) keeps h none = subst (λ (b : BookValue _). StaysAt (has old.keeper) (has b.keeper) h.0) (sym r.stays) (stays_at (has old.keeper) h.0)
+pub others_answered : {K : Type 0} (pass : ℕ) (d : List ℕ) (old new : BookValue K) (a : Answered) (buffer out : List ℕ) (has : K → ℕ → Stored → Type 0)
+    → AnswersDatagram pass d old new a buffer out
+    → KeepsAnswered d new.handlers (has old.keeper) (has new.keeper) → (h : HandlerId) → handler_in h old.handlers ≡ None
+    → StaysAt (has old.keeper) (has new.keeper) h.0
+others_answered pass d old new a buffer out has (refuses r) keeps h none =
+    subst (λ (b : BookValue _). StaysAt (has old.keeper) (has b.keeper) h.0) (sym r.stays) (stays_at (has old.keeper) h.0)
 others_answered pass d old new a buffer out has (answers f) keeps h none =
     others_heard pass f.message (Heard f.heard) old new (has old.keeper) (has new.keeper) f.gains (keeps f.version f.message f.carried) h none
 
@@ -166,7 +185,8 @@ module _ {K : Type 0} (has : K → ℕ → Stored → Type 0) (incs : K → ℕ 
   elsewhere_same hs a = record { honest = λ is. is; handlers = λ is h none. stays_at (has a) h.0; clients = λ is. is_same_same (incs a) }
 
   -- one behind the other, where no handler comes
-  pub elsewhere_more : (hs ks : List LocalHandler) (a b c : K) → ((h : HandlerId) → handler_in h hs ≡ None → handler_in h ks ≡ None) → KeepsElsewhere has incs is_honest hs a b
+  pub elsewhere_more : (hs ks : List LocalHandler) (a b c : K) → ((h : HandlerId) → handler_in h hs ≡ None → handler_in h ks ≡ None)
+      → KeepsElsewhere has incs is_honest hs a b
       → KeepsElsewhere has incs is_honest ks b c → KeepsElsewhere has incs is_honest hs a c
   elsewhere_more hs ks a b c absent first second = record {
     honest = λ is. first.honest (second.honest is);
@@ -178,7 +198,8 @@ module _ {K : Type 0} (has : K → ℕ → Stored → Type 0) (incs : K → ℕ 
   }
 
   -- a handler that is here ran
-  pub elsewhere_ran : (hs : List LocalHandler) (h : HandlerId) (a b : K) → IsHere hs h → KeepsOthers has incs is_honest h a b → KeepsElsewhere has incs is_honest hs a b
+  pub elsewhere_ran : (hs : List LocalHandler) (h : HandlerId) (a b : K) → IsHere hs h → KeepsOthers has incs is_honest h a b
+      → KeepsElsewhere has incs is_honest hs a b
   elsewhere_ran hs h a b here others = record {
     honest = others.honest;
     handlers = λ is k none. others.handlers is k.0 (number_apart k h (absent_apart hs k h here.handler none here.here));

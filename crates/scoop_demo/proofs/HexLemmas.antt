@@ -19,7 +19,8 @@ pairs_decode digits room are twice =
     record { bytes = found.0; whole = found.1; sized = decode_sized-twice digits room twice ∙ found.1 }
 
 -- what `retain` leaves, where the closure is a test that changes nothing
-pub retains_filter : {S : Type 0} (R : S → ℕ → Bool → S → ℕ → Type 0) (test : ℕ → Bool) → ((s : S) (x : ℕ) (b : Bool) (t : S) (y : ℕ) → R s x b t y → (b ≡ test x) × (y ≡ x))
+pub retains_filter : {S : Type 0} (R : S → ℕ → Bool → S → ℕ → Type 0) (test : ℕ → Bool)
+    → ((s : S) (x : ℕ) (b : Bool) (t : S) (y : ℕ) → R s x b t y → (b ≡ test x) × (y ≡ x))
     → (s : S) (xs ys : List ℕ) → RetainsInTurn R s xs ys → ys ≡ filter test xs
 retains_filter R test says s [] ys r = r
 retains_filter R test says s (x ∷ xs) ys r =

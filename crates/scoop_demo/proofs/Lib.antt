@@ -6,7 +6,6 @@ mod OpenLemmas
 mod OnlyLemmas
 mod AnswerLemmas
 mod RunLemmas
-mod ClassLemmas
 mod PartyLemmas
 mod WordLemmas
 mod NumberLemmas

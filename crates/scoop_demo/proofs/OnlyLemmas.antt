@@ -112,7 +112,8 @@ module _ {K : Type 0} where
   rests_aside : (a b c d : BookValue K) → Rests a b → Rests c d → Rests a c → Rests b d
   rests_aside a b c d r s same = rests_more b a d (rests_back a b r) (rests_more a c d same s)
 
-  gains_only : (pass : ℕ) (event : Event) (r q : Reply) (a b c d : BookValue K) → Rests a c → Gains pass event r a b → Gains pass event q c d → (r ≡ q) × Rests b d
+  gains_only : (pass : ℕ) (event : Event) (r q : Reply) (a b c d : BookValue K) → Rests a c → Gains pass event r a b → Gains pass event q c d → (r ≡ q)
+      × Rests b d
   gains_only pass event r q a b c d same x y =
       let moves = subst (λ (hs : List LocalHandler). Moves event q hs d.handlers) same.stays.handlers y.moves in
       let one = moves_only event r q a.handlers b.handlers d.handlers x.moves moves in (
@@ -141,12 +142,14 @@ module _ {K : Type 0} where
   to_front pass h a b c (none_ran x) front = front
   to_front pass h a b c (then_ran x y z before last) front = to_front pass h a y c before (more y b c last front)
 
-  front_only : (pass : ℕ) (h : HandlerId) (a b c d e f : BookValue K) → Rests a d → RunsFront pass h a b → FindsNothing pass h b c → RunsFront pass h d e → FindsNothing pass h e f → Rests c f
+  front_only : (pass : ℕ) (h : HandlerId) (a b c d e f : BookValue K) → Rests a d → RunsFront pass h a b → FindsNothing pass h b c → RunsFront pass h d e
+      → FindsNothing pass h e f → Rests c f
   front_only pass h a b c d e f same (stop x) none (stop y) again = (gains_only pass (Begin h) (Began None) (Began None) a c d f same none again).1
   front_only pass h a b c d e f same (stop x) none (more y z w one rest) again =
       absurd (nothing_left (leaves one.task) (gains_only pass (Begin h) (Began None) (Began (Some (leaves one.task))) a c d one.between same none one.begins).0)
   front_only pass h a b c d e f same (more x z w one rest) none (stop y) again =
-      absurd (nothing_left (leaves one.task) (sym (gains_only pass (Begin h) (Began (Some (leaves one.task))) (Began None) a one.between d f same one.begins again).0))
+      absurd (nothing_left (leaves one.task) (sym (gains_only pass (Begin h) (Began (Some (leaves one.task)))
+      (Began None) a one.between d f same one.begins again).0))
   front_only pass h a b c d e f same (more x z w one rest) none (more y u v two rests) again =
       front_only pass h z b c u e f (entry_only pass h a z d u same one two) rest none rests again
 
@@ -172,7 +175,8 @@ module _ {K : Type 0} where
       let one = gains_only 0 (Hear x.message) (Heard x.heard) (Heard y.heard) a b c e same x.gains gains in
       let told : y.heard ≡ x.heard = told_same x.heard y.heard one.0 in (
         one.1,
-        x.runs ∙ sym (y.runs ∙ ap (λ (t : Told). runs_by t.note (handler_of y.message)) told ∙ ap (λ (m : Message). runs_by x.heard.note (handler_of m)) message),
+        x.runs ∙ sym (y.runs ∙ ap (λ (t : Told). runs_by t.note (handler_of y.message)) told
+            ∙ ap (λ (m : Message). runs_by x.heard.note (handler_of m)) message),
         x.is ∙ sym (y.is ∙ ap (λ (t : Told). text_of y.version t.reply t.note) told ∙ ap (λ (v : Version). text_of v x.heard.reply x.heard.note) version),
       )
     where
@@ -197,7 +201,8 @@ module _ {K : Type 0} where
   )
 
   -- a handler that is here isn't elsewhere
-  not_both : (d : List ℕ) (a b c e : BookValue K) (next other : Option HandlerId) (text again : List ℕ) → Rests a c → PrintsHeard d a b next text → PrintsElsewhere d c e other again → ⊥
+  not_both : (d : List ℕ) (a b c e : BookValue K) (next other : Option HandlerId) (text again : List ℕ) → Rests a c → PrintsHeard d a b next text
+      → PrintsElsewhere d c e other again → ⊥
   not_both d a b c e next other text again same x y =
       let message = ap (λ (f : Version × Message). f.1) (one_frame d x.version y.version x.message y.message x.carried y.carried) in
       let away : handler_in (handler_of x.message) a.handlers ≡ None =
@@ -221,7 +226,8 @@ module _ {K : Type 0} where
   prints_only d a b c e next other text again same (elsewhere x) (heard y) = absurd (not_both d c e a b other next again text (rests_back a c same) y x)
   prints_only d a b c e next other text again same (elsewhere x) (elsewhere y) = elsewhere_only d a b c e next other text again same x y
 
-  line_only : (number : ℕ) (line : List ℕ) (a b c e : BookValue K) (text again : List ℕ) → Rests a c → AnswersLine number a line b text → AnswersLine number c line e again
+  line_only : (number : ℕ) (line : List ℕ) (a b c e : BookValue K) (text again : List ℕ) → Rests a c → AnswersLine number a line b text
+      → AnswersLine number c line e again
       → Rests b e × (text ≡ again)
   line_only number line a b c e text again same x y =
       let datagram : y.hears.datagram ≡ x.hears.datagram =
@@ -231,7 +237,8 @@ module _ {K : Type 0} where
       let runs = subst (λ (n : Option HandlerId). RunsBehind n y.heard e) (sym one.1) y.runs in
       (behind_only x.next x.heard b y.heard e one.0 x.runs runs, one.2)
 
-  lines_only : (number : ℕ) (lines : List (List ℕ)) (a b c e : BookValue K) (text again : List ℕ) → Rests a c → AnswersLines number a lines b text → AnswersLines number c lines e again
+  lines_only : (number : ℕ) (lines : List (List ℕ)) (a b c e : BookValue K) (text again : List ℕ) → Rests a c → AnswersLines number a lines b text
+      → AnswersLines number c lines e again
       → Rests b e × (text ≡ again)
   lines_only number [] a b c e text again same x y =
       (rests_aside a b c e (subst (Rests a) (sym x.0) (rests_same a)) (subst (Rests c) (sym y.0) (rests_same c)) same, x.1 ∙ sym y.1)

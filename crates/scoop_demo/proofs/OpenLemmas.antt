@@ -4,9 +4,9 @@ use Rattle.std.specs.Prelude.{Contains, slice_get, take}
 use Rattle.std.specs.List.{Any}
 use Rattle.scoop_message.specs.declared.name.HandlerId.{HandlerId}
 use Rattle.scoop_object.specs.Class.{ClassTable}
-use Rattle.scoop_record.specs.Keeper.{Stored}
-use Rattle.scoop_record.specs.Keyed.{IsFirstRepeat}
-use Rattle.scoop_record.specs.declared.keeper.KeeperError.TheVariants as keeper
+use Rattle.scoop_keeper.specs.Keeper.{Stored}
+use Rattle.scoop_keeper.specs.Keyed.{IsFirstRepeat}
+use Rattle.scoop_keeper.specs.declared.keeper.KeeperError.TheVariants as keeper
 use Rattle.scoop_book.specs.declared.error.OpenError.{OpenError}
 use Rattle.scoop_book.specs.declared.error.OpenError.TheVariants.{NoPasses, WrongClass, Repeated, Keeper, OutOfMemory}
 use Rattle.scoop_book.specs.Opening.{Handed, IsFirstWrong, IsLoadRefusal, IsUnloaded, IsUnopened}
@@ -60,7 +60,8 @@ module _ {B : Type 0} (class : B → ClassTable) (has : ℕ → Stored → Type 
       subst (λ (k : HandlerId). FailsToOpen has honest number own (class object) (run.WrongClass k)) (sym named)
       (wrong_class (λ same. w.wrong (ap (λ (p : Handed B). class p.2) is ∙ same ∙ sym (ap (λ (p : Handed B). p.1) is))))
 
-  unloaded : (e : OpenError) (told : RunError) → class object ≡ own → IsLoadRefusal has honest number own e → TellsUnopened e told → FailsToOpen has honest number own (class object) told
+  unloaded : (e : OpenError) (told : RunError) → class object ≡ own → IsLoadRefusal has honest number own e → TellsUnopened e told
+      → FailsToOpen has honest number own (class object) told
   unloaded NoPasses told same r t = absurd r
   unloaded (WrongClass h) told same r t =
       subst (FailsToOpen has honest number own (class object)) (sym (t ∙ ap run.WrongClass r.0)) (wrong_words same r.1)
@@ -73,7 +74,8 @@ module _ {B : Type 0} (class : B → ClassTable) (has : ℕ → Stored → Type 
   unloaded (Keeper keeper.WrongSchema) told same r t = absurd r
   unloaded OutOfMemory told same r t = subst (FailsToOpen has honest number own (class object)) (sym t) no_memory
 
-  pub fails_to_open : (e : OpenError) (told : RunError) → IsUnopened class has honest handed e → TellsUnopened e told → FailsToOpen has honest number own (class object) told
+  pub fails_to_open : (e : OpenError) (told : RunError) → IsUnopened class has honest handed e → TellsUnopened e told
+      → FailsToOpen has honest number own (class object) told
   fails_to_open NoPasses told (inl w) t = absurd w
   fails_to_open (WrongClass h) told (inl w) t = subst (FailsToOpen has honest number own (class object)) (sym t) (wrong h w)
   fails_to_open (Repeated h) told (inl w) t = absurd t

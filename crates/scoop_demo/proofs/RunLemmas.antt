@@ -42,7 +42,8 @@ splits_more (Some xs) None left' taken line s t = absurd s
 splits_more (Some xs) (Some ys) None taken line s t = absurd t
 splits_more (Some xs) (Some ys) (Some zs) taken line s t = s ∙ ap (λ v. taken ++ v) t ∙ sym (append_assoc taken (line ∷ []) (lines_of zs))
 
-pub splits_all : (input left : Option (List ℕ)) (taken : List (List ℕ)) → Splits input taken left → IsAtEnd left → IfSome input (λ bytes. lines_of bytes ≡ taken)
+pub splits_all : (input left : Option (List ℕ)) (taken : List (List ℕ)) → Splits input taken left → IsAtEnd left
+    → IfSome input (λ bytes. lines_of bytes ≡ taken)
 splits_all None left taken s e = tt
 splits_all (Some xs) None taken s e = absurd s
 splits_all (Some xs) (Some ys) taken s e = s ∙ ap (λ v. taken ++ lines_of v) e ∙ append-nil taken
@@ -85,14 +86,17 @@ appends_keeps (Some ws) (Some bs) (Some cs) xs f s = s ∙ f
 -- ---- answers
 
 -- within the limits, a line's fault is that of its digits
-pub digits_fault : (number : ℕ) (line : List ℕ) (fault : Option InputFault) → limit_fault number line ≡ None → hex_fault line ≡ fault → fault_of number line ≡ fault
+pub digits_fault : (number : ℕ) (line : List ℕ) (fault : Option InputFault) → limit_fault number line ≡ None → hex_fault line ≡ fault
+    → fault_of number line ≡ fault
 digits_fault number line fault none found = ap (λ f. first_fault f (hex_fault line)) none ∙ found
 
-pub is_datagram : (number : ℕ) (line datagram : List ℕ) → limit_fault number line ≡ None → hex_fault line ≡ None → StandsFor line datagram → IsDatagram number line datagram
+pub is_datagram : (number : ℕ) (line datagram : List ℕ) → limit_fault number line ≡ None → hex_fault line ≡ None → StandsFor line datagram
+    → IsDatagram number line datagram
 is_datagram number line datagram none found stands = record { faultless = digits_fault number line None none found; stands = stands }
 
 module _ {K : Type 0} (number : ℕ) (line : List ℕ) (old heard : BookValue K) where
-  pub hears_line : (datagram text : List ℕ) (next : Option HandlerId) → limit_fault number line ≡ None → hex_fault line ≡ None → StandsFor line datagram → Prints datagram old heard next text
+  pub hears_line : (datagram text : List ℕ) (next : Option HandlerId) → limit_fault number line ≡ None → hex_fault line ≡ None → StandsFor line datagram
+      → Prints datagram old heard next text
       → HearsLine number old line heard next text
   hears_line datagram text next none found stands prints =
       record {
@@ -102,16 +106,24 @@ module _ {K : Type 0} (number : ℕ) (line : List ℕ) (old heard : BookValue K)
         only = λ other after again others. prints_only datagram old heard old other next after text again (rests_same old) prints others;
       }
 
-  module _ (next : Option HandlerId) (text : List ℕ) (before after : Option (List ℕ)) (hears : HearsLine number old line heard next text) (writes : Appends before after (text ++ 10 ∷ [])) where
+  module _ (next : Option HandlerId) (text : List ℕ) (before after : Option (List ℕ)) (hears : HearsLine number old line heard next text)
+      (writes : Appends before after (text ++ 10 ∷ [])) where
     hears_as : (other : Option HandlerId) → next ≡ other → HearsLine number old line heard other text
     hears_as other is = subst (λ (n : Option HandlerId). HearsLine number old line heard n text) is hears
 
     -- the handler runs behind the answer
-    pub ran_behind : (r : Result Unit RunError) (h : HandlerId) (new : BookValue K) → next ≡ Some h → OnOk r (RunsDry 0 h heard new) → OnOk r (WritesAnswer number old line new before after)
-    ran_behind (Ok u) h new is dry = record { text = text; answers = record { heard = heard; next = Some h; hears = hears_as (Some h) is; runs = dry }; writes = writes }
+    pub ran_behind : (r : Result Unit RunError) (h : HandlerId) (new : BookValue K) → next ≡ Some h → OnOk r (RunsDry 0 h heard new)
+        → OnOk r (WritesAnswer number old line new before after)
+    ran_behind (Ok u) h new is dry = record {
+      text = text;
+      answers = record { heard = heard; next = Some h; hears = hears_as (Some h) is; runs = dry };
+      writes =
+          writes;
+    }
     ran_behind (Err e) h new is dry = tt
 
-    pub stopped_behind : (r : Result Unit RunError) (h : HandlerId) (new : BookValue K) → next ≡ Some h → IfErr r (StopsRunning h heard new) → IfErr r (StopsInLine number old line new before after)
+    pub stopped_behind : (r : Result Unit RunError) (h : HandlerId) (new : BookValue K) → next ≡ Some h → IfErr r (StopsRunning h heard new)
+        → IfErr r (StopsInLine number old line new before after)
     stopped_behind (Ok u) h new is stops = tt
     stopped_behind (Err e) h new is stops = in_run heard h text (hears_as (Some h) is) stops writes
 
@@ -120,7 +132,8 @@ module _ {K : Type 0} (number : ℕ) (line : List ℕ) (old heard : BookValue K)
     rested_behind is = record { text = text; answers = record { heard = heard; next = None; hears = hears_as None is; runs = refl }; writes = writes }
 
 -- one line more has its answer
-answers_more : {K : Type 0} (number : ℕ) (first mid last : BookValue K) (lines : List (List ℕ)) (text line answer : List ℕ) → AnswersLines number first lines mid text
+answers_more : {K : Type 0} (number : ℕ) (first mid last : BookValue K) (lines : List (List ℕ)) (text line answer : List ℕ)
+    → AnswersLines number first lines mid text
     → AnswersLine (number + length lines) mid line last answer → AnswersLines number first (lines ++ line ∷ []) last (text ++ (answer ++ 10 ∷ []))
 answers_more {K} number first mid last [] text line answer a l =
     let here : AnswersLine number first line last answer =
@@ -163,7 +176,8 @@ progress_none input before s = record {
 pub few_lines : (number : ℕ) (line : List ℕ) → limit_fault number line ≡ None → number ≤ count_limit
 few_lines number line none = grind (arith, nat_tests)
 
-module _ {K : Type 0} {input : Option (List ℕ)} {lines : Input} {first mid : BookValue K} {before after : Option (List ℕ)} (p : Progress input lines first mid before after) where
+module _ {K : Type 0} {input : Option (List ℕ)} {lines : Input} {first mid : BookValue K} {before after : Option (List ℕ)}
+    (p : Progress input lines first mid before after) where
   module _ {next : Input} (line : List ℕ) (t : TakesLine lines line next) where
     next_number : next.taken ≡ length p.taken + 1
     next_number = let c = t.count in let d = p.count in omega (arith, c, d)
@@ -171,7 +185,8 @@ module _ {K : Type 0} {input : Option (List ℕ)} {lines : Input} {first mid : B
     goes_on : BeginsWithLines input (p.taken ++ line ∷ [])
     goes_on = splits_next _ _ p.taken line p.splits (begins_with _ _ line t.bytes)
 
-    answers_next : (last : BookValue K) (text : List ℕ) → AnswersLine next.taken mid line last text → AnswersLines 1 first (p.taken ++ line ∷ []) last (p.text ++ (text ++ 10 ∷ []))
+    answers_next : (last : BookValue K) (text : List ℕ) → AnswersLine next.taken mid line last text
+        → AnswersLines 1 first (p.taken ++ line ∷ []) last (p.text ++ (text ++ 10 ∷ []))
     answers_next last text a =
         let c = t.count in let d = p.count in
         let at : next.taken ≡ 1 + length p.taken = omega (arith, c, d) in
@@ -179,7 +194,8 @@ module _ {K : Type 0} {input : Option (List ℕ)} {lines : Input} {first mid : B
         answers_more 1 first mid last p.taken p.text line text p.answers (subst P at a)
 
     -- a line was taken, and has its answer
-    pub progress_more : {last : BookValue K} {kept more : Option (List ℕ)} → Keeps after kept → WritesAnswer next.taken mid line last kept more → Progress input next first last before more
+    pub progress_more : {last : BookValue K} {kept more : Option (List ℕ)} → Keeps after kept → WritesAnswer next.taken mid line last kept more
+        → Progress input next first last before more
     progress_more {last} k w = record {
       taken = p.taken ++ line ∷ [];
       text = p.text ++ (w.text ++ 10 ∷ []);
@@ -191,17 +207,20 @@ module _ {K : Type 0} {input : Option (List ℕ)} {lines : Input} {first mid : B
     }
 
     answers_same : (last : BookValue K) → last ≡ mid → AnswersFirst first p.taken last p.text
-    answers_same last same = let P : BookValue K → Type 0 = λ s. AnswersFirst first p.taken s p.text in subst P (sym same) (answers_first p.taken first mid p.text p.answers)
+    answers_same last same = let P : BookValue K → Type 0 = λ s. AnswersFirst first p.taken s p.text in
+        subst P (sym same) (answers_first p.taken first mid p.text p.answers)
 
     -- the line that was taken was not answered to the end
-    pub progress_stops_in : {last : BookValue K} {kept more : Option (List ℕ)} (e : RunError) → Keeps after kept → StopsInLine next.taken mid line last kept more e → StopsEarly input first last before more e
+    pub progress_stops_in : {last : BookValue K} {kept more : Option (List ℕ)} (e : RunError) → Keeps after kept
+        → StopsInLine next.taken mid line last kept more e → StopsEarly input first last before more e
     progress_stops_in {last} e k (in_digits {fault} found same kept) =
         let P : ℕ → Type 0 = λ n. fault_of n line ≡ Some fault → StopsBehind input p.taken (InputError n fault) in
         let stops : P (length p.taken + 1) = λ f. line_fault line f goes_on in
         at_line p.taken p.text (answers_same last same) (appends_keeps _ _ _ _ (appends_keeps _ _ _ _ p.writes k) kept) (subst P (sym next_number) stops found)
     progress_stops_in {last} e k (in_book datagram is unheard kept) =
         let P : ℕ → Type 0 = λ n. IsDatagram n line datagram in
-        at_book p.taken p.text mid line datagram (answers_first p.taken first mid p.text p.answers) (appends_keeps _ _ _ _ (appends_keeps _ _ _ _ p.writes k) kept) (subst P next_number is) unheard goes_on
+        at_book p.taken p.text mid line datagram (answers_first p.taken first mid p.text p.answers)
+        (appends_keeps _ _ _ _ (appends_keeps _ _ _ _ p.writes k) kept) (subst P next_number is) unheard goes_on
     progress_stops_in {last} e k (in_output runs text hears) =
         let P : ℕ → Type 0 = λ n. HearsLine n mid line last runs text in
         at_answer p.taken p.text mid line runs text (answers_first p.taken first mid p.text p.answers) (subst P next_number hears) goes_on
@@ -224,10 +243,12 @@ module _ {K : Type 0} {input : Option (List ℕ)} {lines : Input} {first mid : B
   pub progress_stops : {kept : Option (List ℕ)} (e : RunError) → StopsAtNext lines e → Keeps after kept → StopsEarly input first mid before kept e
   progress_stops e next_unread k =
       let P : ℕ → Type 0 = λ n. StopsBehind input p.taken (InputError (n + 1) ReadFault) in
-      at_line p.taken p.text (answers_first p.taken first mid p.text p.answers) (appends_keeps _ _ _ _ p.writes k) (subst P p.count (read_fault (splits_first _ _ p.taken p.splits)))
+      at_line p.taken p.text (answers_first p.taken first mid p.text p.answers) (appends_keeps _ _ _ _ p.writes k)
+      (subst P p.count (read_fault (splits_first _ _ p.taken p.splits)))
   progress_stops e (past_limit {fault} b) k =
       let P : ℕ → Type 0 = λ n. limit_fault (n + 1) b.line ≡ Some fault → StopsBehind input p.taken (InputError (n + 1) fault) in
-      let stops : P (length p.taken) = λ found. line_fault b.line (ap (λ f. first_fault f (hex_fault b.line)) found) (splits_next _ _ p.taken b.line p.splits b.next) in
+      let stops : P (length p.taken) = λ found. line_fault b.line (ap (λ f. first_fault f (hex_fault b.line)) found)
+      (splits_next _ _ p.taken b.line p.splits b.next) in
       at_line p.taken p.text (answers_first p.taken first mid p.text p.answers) (appends_keeps _ _ _ _ p.writes k) (subst P p.count stops b.found)
   progress_stops e write_fault k = at_output p.taken p.text (answers_first p.taken first mid p.text p.answers) (splits_first _ _ p.taken p.splits)
 
@@ -235,30 +256,42 @@ module _ {K : Type 0} {input : Option (List ℕ)} {lines : Input} {first mid : B
 
 module _ {K : Type 0} (input : Option (List ℕ)) (first last : BookValue K) where
   -- the writer is flushed behind a run that stopped early
-  flushed : (before after kept : Option (List ℕ)) (e : RunError) → StopsEarly input first last before after e → Keeps after kept → StopsEarly input first last before kept e
+  flushed : (before after kept : Option (List ℕ)) (e : RunError) → StopsEarly input first last before after e → Keeps after kept
+      → StopsEarly input first last before kept e
   flushed before after kept e (at_line lines text a w s) k = at_line lines text a (appends_keeps _ _ _ _ w k) s
   flushed before after kept e (at_output lines text a b) k = at_output lines text a b
   flushed before after kept e (at_answer lines text mid line next answer a l b) k = at_answer lines text mid line next answer a l b
   flushed before after kept e (at_book lines text mid line datagram a w d u b) k = at_book lines text mid line datagram a (appends_keeps _ _ _ _ w k) d u b
-  flushed before after kept e (at_run lines text mid line heard h answer a l w s b) k = at_run lines text mid line heard h answer a l (appends_keeps _ _ _ _ w k) s b
+  flushed before after kept e (at_run lines text mid line heard h answer a l w s b) k =
+      at_run lines text mid line heard h answer a l (appends_keeps _ _ _ _ w k) s b
 
-  pub stops_flushed : (r : Result Unit RunError) (before after kept : Option (List ℕ)) → IfErr r (StopsEarly input first last before after) → Keeps after kept → IfErr r (StopsEarly input first last before kept)
+  pub stops_flushed : (r : Result Unit RunError) (before after kept : Option (List ℕ)) → IfErr r (StopsEarly input first last before after) → Keeps after kept
+      → IfErr r (StopsEarly input first last before kept)
   stops_flushed (Ok u) before after kept s k = tt
   stops_flushed (Err e) before after kept s k = flushed before after kept e s k
 
   -- the writer is flushed behind a whole run
-  pub all_flushed : (r : Result Unit RunError) (shown : List ℕ) (before after kept : Option (List ℕ)) → OnOk r (AnswersAll input first last shown before after) → Keeps after kept
+  pub all_flushed : (r : Result Unit RunError) (shown : List ℕ) (before after kept : Option (List ℕ)) → OnOk r (AnswersAll input first last shown before after)
+      → Keeps after kept
       → OnOk r (AnswersAll input first last shown before kept)
-  all_flushed (Ok u) shown before after kept a k = record { lines = a.lines; text = a.text; answers = a.answers; writes = appends_keeps _ _ _ _ a.writes k; all = a.all }
+  all_flushed (Ok u) shown before after kept a k = record {
+    lines = a.lines;
+    text = a.text;
+    answers = a.answers;
+    writes = appends_keeps _ _ _ _ a.writes k;
+    all = a.all;
+  }
   all_flushed (Err e) shown before after kept a k = tt
 
   -- what is shown is written behind the answers
-  pub all_shown : (shown : List ℕ) (before after more : Option (List ℕ)) → AnswersAll input first last [] before after → Appends after more shown → AnswersAll input first last shown before more
+  pub all_shown : (shown : List ℕ) (before after more : Option (List ℕ)) → AnswersAll input first last [] before after → Appends after more shown
+      → AnswersAll input first last shown before more
   all_shown shown before after more a w =
       let P : List ℕ → Type 0 = λ v. Appends before more (v ++ shown) in
       let writes = subst P (append-nil a.text) (appends_more _ _ _ _ _ a.writes w) in
       record { lines = a.lines; text = a.text; answers = a.answers; writes = writes; all = a.all }
 
   -- all lines have their answers, but the writer may have lost some
-  pub all_but_output : (shown : List ℕ) (before after kept : Option (List ℕ)) → AnswersAll input first last shown before after → StopsEarly input first last before kept Write
+  pub all_but_output : (shown : List ℕ) (before after kept : Option (List ℕ)) → AnswersAll input first last shown before after
+      → StopsEarly input first last before kept Write
   all_but_output shown before after kept a = at_output a.lines a.text a.answers (all_begin input a.lines a.all)

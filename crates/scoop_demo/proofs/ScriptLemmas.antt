@@ -8,7 +8,7 @@ use Rattle.scoop_demo.specs.declared.fault.InputFault.{InputFault}
 use Rattle.scoop_demo.specs.declared.fault.InputFault.TheVariants.{ReadFault, UnknownLine, TooLateForParty, CannotOpen, Refused}
 use Rattle.scoop_demo.specs.declared.script.kind.LineKind.{LineKind}
 use Rattle.scoop_demo.specs.declared.fault.RunError.{RunError}
-use Rattle.scoop_demo.specs.declared.fault.RunError.TheVariants.{Input as InputError, Write}
+use Rattle.scoop_demo.specs.declared.fault.RunError.TheVariants.{Input as InputError, Write, OutOfMemory}
 use Rattle.scoop_demo.specs.Line.{count_limit, limit_fault}
 use Rattle.scoop_demo.specs.Input.{Input, TakesLine, StopsAtNext}
 use Rattle.scoop_demo.specs.Input.StopsAtNext.{read_fault as next_unread, past_limit, write_fault}
@@ -43,14 +43,16 @@ module _ (parties : Parties) (stored : ℕ → Option ℕ) where
   party_stops number false found fault e is has told = rw told (in_words has (λ opens. cc))
 
   -- the first event doesn't open the world
-  pub closed_stops : (number : ℕ) (opened : Bool) (found : Option InputFault) (e : RunError) → StopsClosed opened number parties stored e → StopsAtLine number (not opened) found parties stored e
+  pub closed_stops : (number : ℕ) (opened : Bool) (found : Option InputFault) (e : RunError) → StopsClosed opened number parties stored e
+      → StopsAtLine number (not opened) found parties stored e
   closed_stops number opened found e s = opening_stops (not opened) (ap not s.closed) e s.stops where
     opening_stops : (opens : Bool) → opens ≡ true → (e : RunError) → StopsOpening number parties stored e → StopsAtLine number opens found parties stored e
     opening_stops opens is (InputError n f) (of_parties why) = in_opening is why
     opening_stops opens is e of_memory = in_memory
 
   -- in the world only output and memory stop a line
-  pub inside_stops : (number : ℕ) (opens : Bool) (found : Option InputFault) (e : RunError) → StopsAtLine number false None parties stored e → StopsAtLine number opens found parties stored e
+  pub inside_stops : (number : ℕ) (opens : Bool) (found : Option InputFault) (e : RunError) → StopsAtLine number false None parties stored e
+      → StopsAtLine number opens found parties stored e
   inside_stops number opens found e (in_words has opened) = cc
   inside_stops number opens found e (in_opening is why) = cc
   inside_stops number opens found e in_output = in_output
@@ -73,7 +75,8 @@ unknown_found opened true kind is unknown = cc
 unknown_found opened false None is unknown = refl
 unknown_found opened false (Some kind) is unknown = cc
 
-pub unknown_stops : (number : ℕ) (opened : Bool) (line : List ℕ) (parties : Parties) (stored : ℕ → Option ℕ) (e : RunError) → is_blank line ≡ false → kind_of (words_of line) ≡ None
+pub unknown_stops : (number : ℕ) (opened : Bool) (line : List ℕ) (parties : Parties) (stored : ℕ → Option ℕ) (e : RunError) → is_blank line ≡ false
+    → kind_of (words_of line) ≡ None
     → e ≡ InputError number UnknownLine → StopsAtLine number (opens_at opened line) (words_fault opened line) parties stored e
 unknown_stops number opened line parties stored e blank unknown told =
     rw told (in_words (unknown_found opened (is_blank line) (kind_of (words_of line)) blank unknown) (λ opens. absurd (no_event_here opens)))
@@ -91,9 +94,10 @@ unknown_stops number opened line parties stored e blank unknown told =
 
 -- ---- several lines
 
--- the lines that were taken have no fault, an event stands among them where the world has opened, and the stage stands
+-- the lines that were taken have no fault, an event stands among them where the world has opened, and the cast stands
 -- for the parties that they name
-pub record Taken {B : Type 0} (class : B → ClassTable) (input : Option (List ℕ)) (stored : ℕ → Option ℕ) (lines : Input) (opened : Bool) (kept : List (Placement B)) (clients : List (ClientId × ℕ))
+pub record Taken {B : Type 0} (class : B → ClassTable) (input : Option (List ℕ)) (stored : ℕ → Option ℕ) (lines : Input) (opened : Bool)
+    (kept : List (Placement B)) (clients : List (ClientId × ℕ))
     (own : ℕ → Option ℕ) : Type 0 where
   pub taken : List (List ℕ)
   pub count : length taken ≡ lines.taken
@@ -103,8 +107,10 @@ pub record Taken {B : Type 0} (class : B → ClassTable) (input : Option (List �
   pub splits : Splits input taken lines.left
   pub staged : IsStaged class opened kept clients own (parties_of taken) stored
 
-pub taken_none : {B : Type 0} (class : B → ClassTable) (input : Option (List ℕ)) (stored : ℕ → Option ℕ) (opened : Bool) (kept : List (Placement B)) (clients : List (ClientId × ℕ)) (own : ℕ → Option ℕ)
-    → opened ≡ false → IsWaiting class kept clients own (parties_of []) stored → Taken class input stored (record { taken = 0; left = input }) opened kept clients own
+pub taken_none : {B : Type 0} (class : B → ClassTable) (input : Option (List ℕ)) (stored : ℕ → Option ℕ) (opened : Bool) (kept : List (Placement B))
+    (clients : List (ClientId × ℕ)) (own : ℕ → Option ℕ)
+    → opened ≡ false → IsWaiting class kept clients own (parties_of []) stored
+    → Taken class input stored (record { taken = 0; left = input }) opened kept clients own
 taken_none class input stored opened kept clients own is waits = record {
   taken = [];
   count = refl;
@@ -134,8 +140,11 @@ faultless_more number opened [] line f none =
 faultless_more number opened (x ∷ xs) line f none =
     let at : number + length (x ∷ xs) ≡ (number + 1) + length xs = omega arith in
     let P : ℕ → Type 0 = λ n. script_fault n (opened || (is_event x || list_any is_event xs)) line ≡ None in
-    let Q : Bool → Type 0 = λ o. script_fault ((number + 1) + length xs) o line ≡ None in
-    (f.0, faultless_more (number + 1) (opened || is_event x) xs line f.1 (subst Q (sym (or_assoc opened (is_event x) (list_any is_event xs))) (subst P at none)))
+    let Q : Bool → Type 0 = λ o. script_fault ((number + 1) + length xs) o line ≡ None in (
+      f.0,
+      faultless_more (number + 1) (opened || is_event x) xs line f.1
+          (subst Q (sym (or_assoc opened (is_event x) (list_any is_event xs))) (subst P at none)),
+    )
 
 -- within the limits, a line's fault is that of its words
 words_found : (number : ℕ) (opened : Bool) (line : List ℕ) (found : Option InputFault) → limit_fault number line ≡ None → words_fault opened line ≡ found
@@ -146,18 +155,25 @@ not_true : (a : Bool) → not a ≡ true → a ≡ false
 not_true true is = cc
 not_true false is = refl
 
-module _ {B : Type 0} {class : B → ClassTable} {input : Option (List ℕ)} {stored : ℕ → Option ℕ} {lines : Input} {opened : Bool} {kept : List (Placement B)} {clients : List (ClientId × ℕ)}
+module _ {B : Type 0} {class : B → ClassTable} {input : Option (List ℕ)} {stored : ℕ → Option ℕ} {lines : Input} {opened : Bool} {kept : List (Placement B)}
+    {clients : List (ClientId × ℕ)}
     {own : ℕ → Option ℕ} (strict : Bool) (p : Taken class input stored lines opened kept clients own) where
   next_number : {next : Input} {line : List ℕ} → TakesLine lines line next → next.taken ≡ length p.taken + 1
   next_number t = omega (arith, t.count, p.count)
 
   -- where an event stands among them, the world has opened
   first_lines : PlaysFirst stored p.taken
-  first_lines = record { faultless = p.faultless; opens = λ is. staged_opens class opened kept clients own (parties_of p.taken) stored (sym p.events ∙ is) p.staged }
+  first_lines = record {
+    faultless = p.faultless;
+    opens = λ is. staged_opens class opened kept clients own (parties_of p.taken) stored
+        (sym p.events ∙ is) p.staged;
+  }
 
   -- a line was taken, and has no fault
-  pub taken_more : {next : Input} {after : Bool} (line : List ℕ) (kept' : List (Placement B)) (clients' : List (ClientId × ℕ)) (own' : ℕ → Option ℕ) → TakesLine lines line next
-      → words_fault opened line ≡ None → after ≡ (opened || is_event line) → IsStaged class after kept' clients' own' (with_line (parties_of p.taken) line) stored
+  pub taken_more : {next : Input} {after : Bool} (line : List ℕ) (kept' : List (Placement B)) (clients' : List (ClientId × ℕ)) (own' : ℕ → Option ℕ)
+      → TakesLine lines line next
+      → words_fault opened line ≡ None → after ≡ (opened || is_event line)
+      → IsStaged class after kept' clients' own' (with_line (parties_of p.taken) line) stored
       → Taken class input stored next after kept' clients' own'
   taken_more {next = next} {after = after} line kept' clients' own' t none is staged =
       let at : next.taken ≡ 1 + length p.taken = omega (arith, t.count, p.count) in
@@ -169,7 +185,8 @@ module _ {B : Type 0} {class : B → ClassTable} {input : Option (List ℕ)} {st
         count = omega (arith, length_push p.taken line, t.count, p.count);
         limit = few_lines next.taken line t.limits;
         faultless = faultless_more 1 false p.taken line p.faultless (subst Q (sym p.events) here);
-        events = list_any-append is_event p.taken (line ∷ []) ∙ ap (λ o. o || (is_event line || false)) p.events ∙ ap (λ o. opened || o) (or_false (is_event line)) ∙ sym is;
+        events = list_any-append is_event p.taken (line ∷ []) ∙ ap (λ o. o || (is_event line || false)) p.events
+            ∙ ap (λ o. opened || o) (or_false (is_event line)) ∙ sym is;
         splits = splits_more _ _ _ _ _ p.splits t.bytes;
         staged = subst (λ (ps : Parties). IsStaged class after kept' clients' own' ps stored) (parties_more p.taken line) staged;
       }
@@ -179,7 +196,8 @@ module _ {B : Type 0} {class : B → ClassTable} {input : Option (List ℕ)} {st
   taken_all e opens = record { lines = p.taken; plays = record { faultless = p.faultless; opens = opens }; all = splits_all _ _ p.taken p.splits e }
 
   -- the world doesn't open at the end of the input
-  pub end_stops : (number : ℕ) (e : RunError) → IsAtEnd lines.left → number ≡ max lines.taken 1 → StopsClosed opened number (parties_of p.taken) stored e → StopsPlaying strict input stored e
+  pub end_stops : (number : ℕ) (e : RunError) → IsAtEnd lines.left → number ≡ max lines.taken 1 → StopsClosed opened number (parties_of p.taken) stored e
+      → StopsPlaying strict input stored e
   end_stops number e end at s = at_end number e at s.stops where
     at_end : (n : ℕ) (e : RunError) → n ≡ max lines.taken 1 → StopsOpening n (parties_of p.taken) stored e → StopsPlaying strict input stored e
     at_end n (InputError m f) at (of_parties {error} why) =
@@ -188,7 +206,8 @@ module _ {B : Type 0} {class : B → ClassTable} {input : Option (List ℕ)} {st
         subst P (sym last) (no_event p.taken first_lines (p.events ∙ s.closed) why (splits_all _ _ p.taken p.splits end))
     at_end n e at of_memory = memory p.taken first_lines (splits_first _ _ p.taken p.splits)
 
-  pub end_if : (number : ℕ) (r : Result Unit RunError) → IsAtEnd lines.left → number ≡ max lines.taken 1 → IfErr r (StopsClosed opened number (parties_of p.taken) stored)
+  pub end_if : (number : ℕ) (r : Result Unit RunError) → IsAtEnd lines.left → number ≡ max lines.taken 1
+      → IfErr r (StopsClosed opened number (parties_of p.taken) stored)
       → IfErr r (StopsPlaying strict input stored)
   end_if number (Ok u) end at s = tt
   end_if number (Err e) end at s = end_stops number e end at s
@@ -211,7 +230,8 @@ module _ {B : Type 0} {class : B → ClassTable} {input : Option (List ℕ)} {st
   -- where the line is that of an event, the world has opened before, or opens by it
   opens_by : (line : List ℕ) → (opens_at opened line ≡ true → Opens (parties_of p.taken) stored) → is_event line ≡ true → Opens (parties_of p.taken) stored
   opens_by line here is = by_then opened p.staged here where
-    by_then : (before : Bool) → IsStaged class before kept clients own (parties_of p.taken) stored → (opens_at before line ≡ true → Opens (parties_of p.taken) stored) → Opens (parties_of p.taken) stored
+    by_then : (before : Bool) → IsStaged class before kept clients own (parties_of p.taken) stored
+        → (opens_at before line ≡ true → Opens (parties_of p.taken) stored) → Opens (parties_of p.taken) stored
     by_then true staged here = staged
     by_then false staged here = here is
 
@@ -219,14 +239,17 @@ module _ {B : Type 0} {class : B → ClassTable} {input : Option (List ℕ)} {st
   pub line_stops : {next : Input} (e : RunError) (line : List ℕ) → TakesLine lines line next
       → StopsAtLine next.taken (opens_at opened line) (words_fault opened line) (parties_of p.taken) stored e → StopsPlaying strict input stored e
   line_stops {next = next} e line t (in_words {fault} found here) =
-      let P : ℕ → Type 0 = λ n. limit_fault n line ≡ None → words_fault (list_any is_event p.taken) line ≡ Some fault → StopsPlaying strict input stored (InputError n fault) in
-      let stops : P (length p.taken + 1) = λ none f. line_fault p.taken line first_lines none f (opens_by line here) (splits_next _ _ p.taken line p.splits (begins_with _ _ line t.bytes)) in
+      let P : ℕ → Type 0 = λ n. limit_fault n line ≡ None → words_fault (list_any is_event p.taken) line ≡ Some fault
+      → StopsPlaying strict input stored (InputError n fault) in
+      let stops : P (length p.taken + 1) = λ none f. line_fault p.taken line first_lines none f (opens_by line here)
+      (splits_next _ _ p.taken line p.splits (begins_with _ _ line t.bytes)) in
       subst P (sym (next_number t)) stops t.limits (ap (λ o. words_fault o line) p.events ∙ found)
   line_stops {next = next} e line t (in_opening {error} is why) =
       let first = and_true (not opened) (is_event line) is in
       let P : ℕ → Type 0 = λ n. limit_fault n line ≡ None → StopsPlaying strict input stored (InputError n (CannotOpen error)) in
       let stops : P (length p.taken + 1) = λ none.
-      first_event p.taken line first_lines none (p.events ∙ not_true opened first.0) first.1 why (splits_next _ _ p.taken line p.splits (begins_with _ _ line t.bytes)) in
+      first_event p.taken line first_lines none (p.events ∙ not_true opened first.0) first.1 why
+      (splits_next _ _ p.taken line p.splits (begins_with _ _ line t.bytes)) in
       subst P (sym (next_number t)) stops t.limits
   line_stops e line t in_output = output p.taken first_lines (splits_first _ _ p.taken p.splits)
   line_stops e line t in_memory = memory p.taken first_lines (splits_first _ _ p.taken p.splits)
@@ -240,3 +263,7 @@ module _ {B : Type 0} {class : B → ClassTable} {input : Option (List ℕ)} {st
 -- all lines were played, but the writer may have lost some of what they wrote
 pub output_stops : (strict : Bool) (input : Option (List ℕ)) (stored : ℕ → Option ℕ) → PlaysAll input stored → StopsPlaying strict input stored Write
 output_stops strict input stored a = output a.lines (record { faultless = a.plays.faultless; opens = λ is. a.plays.opens }) (all_begin input a.lines a.all)
+
+-- the same where memory was wanted behind them
+pub memory_stops : (strict : Bool) (input : Option (List ℕ)) (stored : ℕ → Option ℕ) → PlaysAll input stored → StopsPlaying strict input stored OutOfMemory
+memory_stops strict input stored a = memory a.lines (record { faultless = a.plays.faultless; opens = λ is. a.plays.opens }) (all_begin input a.lines a.all)

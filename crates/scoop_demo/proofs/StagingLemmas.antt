@@ -15,9 +15,9 @@ use Rattle.scoop_world.specs.declared.error.WorldOpenError.TheVariants.{NoHandle
 use Rattle.scoop_world.specs.declared.placing.Placement.{Placement}
 use Rattle.scoop_model.specs.Opening.{IsJoining}
 use Rattle.scoop_world.specs.Placing.{newcomers_of}
-use Rattle.scoop_record.specs.Keyed.{IsFirstRepeat}
+use Rattle.scoop_keeper.specs.Keyed.{IsFirstRepeat}
 use Rattle.scoop_world.specs.OpenRefusal.{IsOfClass, IsFirstWrong, IsCounted, MayPlace, IsUnopened, handlers_of}
-use Rattle.scoop_model.specs.Safe.{NoRepeats}
+use Rattle.scoop_message.specs.Lists.{NoRepeats}
 use Rattle.std.specs.Result.{result_ok, result_err}
 use Rattle.scoop_demo.specs.declared.fault.RunError.{RunError}
 use Rattle.scoop_demo.specs.declared.script.kind.EventKind.{EventKind}
@@ -34,11 +34,13 @@ use Rattle.scoop_demo.specs.Staging.{seen_by, AreFirst, AreFirstClients, IsWaiti
 handlers_seen : {B : Type 0} (class : B → ClassTable) (ps : List (Placement B)) → handlers_of ps ≡ handlers_of (map (seen_by class) ps)
 handlers_seen class ps = sym (map-map (λ p. p.handler) (seen_by class) ps)
 
-classes_seen : {B : Type 0} (class : B → ClassTable) (ps : List (Placement B)) → AllByRecursion (IsOfClass class) ps → AllByRecursion (IsOfClass own_class) (map (seen_by class) ps)
+classes_seen : {B : Type 0} (class : B → ClassTable) (ps : List (Placement B)) → AllByRecursion (IsOfClass class) ps
+    → AllByRecursion (IsOfClass own_class) (map (seen_by class) ps)
 classes_seen class [] all = tt
 classes_seen class (p ∷ ps) all = (all.0, classes_seen class ps all.1)
 
-may_place_seen : {B : Type 0} (class : B → ClassTable) (ps : List (Placement B)) (cs : List (ClientId × ℕ)) → MayPlace class ps cs → MayPlace own_class (map (seen_by class) ps) cs
+may_place_seen : {B : Type 0} (class : B → ClassTable) (ps : List (Placement B)) (cs : List (ClientId × ℕ)) → MayPlace class ps cs
+    → MayPlace own_class (map (seen_by class) ps) cs
 may_place_seen class ps cs m = record {
   some = omega (arith, m.some, length-map ps (seen_by class));
   few = omega (arith, m.few, length-map ps (seen_by class));
@@ -63,7 +65,8 @@ none_first : {A : Type 0} (n : ℕ) (xs : List A) → length (take (n + 1) xs) �
 none_first n [] none = refl
 none_first n (x ∷ xs) none = absurd (omega (arith, length-take (n + 1) (x ∷ xs), none))
 
-wrong_seen : {B : Type 0} (class : B → ClassTable) (ps : List (Placement B)) (h : HandlerId) → IsFirstWrong class ps h → IsFirstWrong own_class (map (seen_by class) ps) h
+wrong_seen : {B : Type 0} (class : B → ClassTable) (ps : List (Placement B)) (h : HandlerId) → IsFirstWrong class ps h
+    → IsFirstWrong own_class (map (seen_by class) ps) h
 wrong_seen class ps h w = record {
   place = w.place;
   placement = seen_by class w.placement;
@@ -76,7 +79,8 @@ wrong_seen class ps h w = record {
 no_handlers_seen : {B : Type 0} (class : B → ClassTable) (ps : List (Placement B)) → ps ≡ [] → map (seen_by class) ps ≡ []
 no_handlers_seen class ps none = ap (map (seen_by class)) none
 
-unopened_seen : {B : Type 0} (class : B → ClassTable) (ps : List (Placement B)) (cs : List (ClientId × ℕ)) (stored : ℕ → Option ℕ) (e : WorldOpenError) → IsUnopened class ps cs stored e
+unopened_seen : {B : Type 0} (class : B → ClassTable) (ps : List (Placement B)) (cs : List (ClientId × ℕ)) (stored : ℕ → Option ℕ) (e : WorldOpenError)
+    → IsUnopened class ps cs stored e
     → IsUnopened own_class (map (seen_by class) ps) cs stored e
 unopened_seen class ps cs stored NoHandlers u = no_handlers_seen class ps u
 unopened_seen class ps cs stored TooManyHandlers u = omega (arith, u, length-map ps (seen_by class))
@@ -93,18 +97,21 @@ FirstHandlers ps = take (MAX_HANDLERS + 1) ps
 abbrev FirstClients : List (ClientId × ℕ) → List (ClientId × ℕ)
 FirstClients cs = take (MAX_CLIENTS + 1) cs
 
-may_place_first : (ps : List (Placement ClassTable)) (cs : List (ClientId × ℕ)) → MayPlace own_class (FirstHandlers ps) (FirstClients cs) → MayPlace own_class ps cs
+may_place_first : (ps : List (Placement ClassTable)) (cs : List (ClientId × ℕ)) → MayPlace own_class (FirstHandlers ps) (FirstClients cs)
+    → MayPlace own_class ps cs
 may_place_first ps cs m =
     subst (λ qs. MayPlace own_class qs cs) (same_first MAX_HANDLERS ps m.few)
     (subst (λ ds. MayPlace own_class (FirstHandlers ps) ds) (same_first MAX_CLIENTS cs m.few_clients) m)
 
-all_handlers : (ps : List (Placement ClassTable)) (P : List (Placement ClassTable) → Type 0) → length (FirstHandlers ps) ≤ MAX_HANDLERS → P (FirstHandlers ps) → P ps
+all_handlers : (ps : List (Placement ClassTable)) (P : List (Placement ClassTable) → Type 0) → length (FirstHandlers ps) ≤ MAX_HANDLERS → P (FirstHandlers ps)
+    → P ps
 all_handlers ps P few p = subst P (same_first MAX_HANDLERS ps few) p
 
 all_clients : (cs : List (ClientId × ℕ)) (P : List (ClientId × ℕ) → Type 0) → length (FirstClients cs) ≤ MAX_CLIENTS → P (FirstClients cs) → P cs
 all_clients cs P few p = subst P (same_first MAX_CLIENTS cs few) p
 
-unopened_first : (ps : List (Placement ClassTable)) (cs : List (ClientId × ℕ)) (stored : ℕ → Option ℕ) (e : WorldOpenError) → IsUnopened own_class (FirstHandlers ps) (FirstClients cs) stored e
+unopened_first : (ps : List (Placement ClassTable)) (cs : List (ClientId × ℕ)) (stored : ℕ → Option ℕ) (e : WorldOpenError)
+    → IsUnopened own_class (FirstHandlers ps) (FirstClients cs) stored e
     → IsUnopened own_class ps cs stored e
 unopened_first ps cs stored NoHandlers u = none_first MAX_HANDLERS ps (ap (λ (qs : List (Placement ClassTable)). length qs) u)
 unopened_first ps cs stored TooManyHandlers u = more_first MAX_HANDLERS ps u
@@ -119,13 +126,15 @@ unopened_first ps cs stored IncarnationsSpent u =
     (all_clients cs (λ ds. IsUnopened own_class (FirstHandlers ps) ds stored IncarnationsSpent) u.0.few_clients u)
 unopened_first ps cs stored OutOfMemory u = may_place_first ps cs u
 
-joining_first : (cs : List (ClientId × ℕ)) (stored : ℕ → Option ℕ) → length (FirstClients cs) ≤ MAX_CLIENTS → AllByRecursion IsJoining (newcomers_of stored (FirstClients cs))
+joining_first : (cs : List (ClientId × ℕ)) (stored : ℕ → Option ℕ) → length (FirstClients cs) ≤ MAX_CLIENTS
+    → AllByRecursion IsJoining (newcomers_of stored (FirstClients cs))
     → AllByRecursion IsJoining (newcomers_of stored cs)
 joining_first cs stored few all = all_clients cs (λ ds. AllByRecursion IsJoining (newcomers_of stored ds)) few all
 
 -- ---- the world of what is kept
 
-module _ {B : Type 0} (class : B → ClassTable) (ps : List (Placement B)) (cs : List (ClientId × ℕ)) (own : ℕ → Option ℕ) (parties : Parties) (stored : ℕ → Option ℕ) (w : IsWaiting class ps cs own parties stored) where
+module _ {B : Type 0} (class : B → ClassTable) (ps : List (Placement B)) (cs : List (ClientId × ℕ)) (own : ℕ → Option ℕ) (parties : Parties)
+    (stored : ℕ → Option ℕ) (w : IsWaiting class ps cs own parties stored) where
   -- why it doesn't open
   pub closed_to : (e : WorldOpenError) → IsUnopened class ps cs own e → IsClosed parties stored e
   closed_to e u =
@@ -134,15 +143,18 @@ module _ {B : Type 0} (class : B → ClassTable) (ps : List (Placement B)) (cs :
       let named : IsUnopened own_class (FirstHandlers (map placement_of parties.placed)) (FirstClients parties.clients) own e =
       subst (λ ds. IsUnopened own_class (FirstHandlers (map placement_of parties.placed)) ds own e) w.joined seen in
       unopened_first (map placement_of parties.placed) parties.clients stored e
-      (subst (λ (s : ℕ → Option ℕ). IsUnopened own_class (FirstHandlers (map placement_of parties.placed)) (FirstClients parties.clients) s e) w.stored_is named)
+      (subst (λ (s : ℕ → Option ℕ). IsUnopened own_class (FirstHandlers (map placement_of parties.placed)) (FirstClients parties.clients) s e)
+      w.stored_is named)
 
   -- with what it opens
   pub opens_with : MayPlace class ps cs → AllByRecursion IsJoining (newcomers_of own cs) → Opens parties stored
   opens_with m j =
-      let seen : MayPlace own_class (FirstHandlers (map placement_of parties.placed)) cs = subst (λ qs. MayPlace own_class qs cs) w.placed (may_place_seen class ps cs m) in
+      let seen : MayPlace own_class (FirstHandlers (map placement_of parties.placed)) cs =
+      subst (λ qs. MayPlace own_class qs cs) w.placed (may_place_seen class ps cs m) in
       let named : MayPlace own_class (FirstHandlers (map placement_of parties.placed)) (FirstClients parties.clients) =
       subst (λ ds. MayPlace own_class (FirstHandlers (map placement_of parties.placed)) ds) w.joined seen in
-      let joins : AllByRecursion IsJoining (newcomers_of own (FirstClients parties.clients)) = subst (λ ds. AllByRecursion IsJoining (newcomers_of own ds)) w.joined j in
+      let joins : AllByRecursion IsJoining (newcomers_of own (FirstClients parties.clients)) =
+      subst (λ ds. AllByRecursion IsJoining (newcomers_of own ds)) w.joined j in
       record {
         placed = may_place_first (map placement_of parties.placed) parties.clients named;
         joining = joining_first parties.clients stored named.few_clients
@@ -172,41 +184,50 @@ no_more xs (Some x) is = cc
 pub same_parties : (parties : Parties) (line : List ℕ) → placed_by line ≡ None → joined_by line ≡ None → parties ≡ with_line parties line
 same_parties parties line no_handler no_client =
     ap (λ (ps : List Placed). record { placed = ps; clients = parties.clients }) (sym (no_more parties.placed (placed_by line) no_handler))
-    ∙ ap (λ (cs : List (ClientId × ℕ)). record { placed = parties.placed ++ cons_option (placed_by line) []; clients = cs }) (sym (no_more parties.clients (joined_by line) no_client))
+    ∙ ap (λ (cs : List (ClientId × ℕ)). record { placed = parties.placed ++ cons_option (placed_by line) []; clients = cs })
+    (sym (no_more parties.clients (joined_by line) no_client))
 
 -- the parties of one line more
 pub parties_more : (lines : List (List ℕ)) (line : List ℕ) → with_line (parties_of lines) line ≡ parties_of (lines ++ line ∷ [])
 parties_more lines line =
-    ap (λ (ps : List Placed). record { placed = ps; clients = filter_map joined_by lines ++ cons_option (joined_by line) [] }) (sym (filter_map-append placed_by lines (line ∷ [])))
-    ∙ ap (λ (cs : List (ClientId × ℕ)). record { placed = filter_map placed_by (lines ++ line ∷ []); clients = cs }) (sym (filter_map-append joined_by lines (line ∷ [])))
+    ap (λ (ps : List Placed). record { placed = ps; clients = filter_map joined_by lines ++ cons_option (joined_by line) [] })
+    (sym (filter_map-append placed_by lines (line ∷ [])))
+    ∙ ap (λ (cs : List (ClientId × ℕ)). record { placed = filter_map placed_by (lines ++ line ∷ []); clients = cs })
+    (sym (filter_map-append joined_by lines (line ∷ [])))
 
 -- a world that has opened
-pub staged_opens : {B : Type 0} (class : B → ClassTable) (opened : Bool) (ps : List (Placement B)) (cs : List (ClientId × ℕ)) (own : ℕ → Option ℕ) (parties : Parties) (stored : ℕ → Option ℕ)
+pub staged_opens : {B : Type 0} (class : B → ClassTable) (opened : Bool) (ps : List (Placement B)) (cs : List (ClientId × ℕ)) (own : ℕ → Option ℕ)
+    (parties : Parties) (stored : ℕ → Option ℕ)
     → opened ≡ true → IsStaged class opened ps cs own parties stored → Opens parties stored
 staged_opens class true ps cs own parties stored is s = s
 staged_opens class false ps cs own parties stored is s = cc
 
-pub staged_waits : {B : Type 0} (class : B → ClassTable) (opened : Bool) (ps : List (Placement B)) (cs : List (ClientId × ℕ)) (own : ℕ → Option ℕ) (parties : Parties) (stored : ℕ → Option ℕ)
+pub staged_waits : {B : Type 0} (class : B → ClassTable) (opened : Bool) (ps : List (Placement B)) (cs : List (ClientId × ℕ)) (own : ℕ → Option ℕ)
+    (parties : Parties) (stored : ℕ → Option ℕ)
     → opened ≡ false → IsStaged class opened ps cs own parties stored → IsWaiting class ps cs own parties stored
 staged_waits class false ps cs own parties stored is s = s
 staged_waits class true ps cs own parties stored is s = cc
 
-pub staged_if_opens : {B : Type 0} (class : B → ClassTable) (opened : Bool) (ps : List (Placement B)) (cs : List (ClientId × ℕ)) (own : ℕ → Option ℕ) (parties : Parties) (stored : ℕ → Option ℕ)
+pub staged_if_opens : {B : Type 0} (class : B → ClassTable) (opened : Bool) (ps : List (Placement B)) (cs : List (ClientId × ℕ)) (own : ℕ → Option ℕ)
+    (parties : Parties) (stored : ℕ → Option ℕ)
     → opened ≡ true → Opens parties stored → IsStaged class opened ps cs own parties stored
 staged_if_opens class true ps cs own parties stored is o = o
 staged_if_opens class false ps cs own parties stored is o = cc
 
-pub staged_if_waits : {B : Type 0} (class : B → ClassTable) (opened : Bool) (ps : List (Placement B)) (cs : List (ClientId × ℕ)) (own : ℕ → Option ℕ) (parties : Parties) (stored : ℕ → Option ℕ)
+pub staged_if_waits : {B : Type 0} (class : B → ClassTable) (opened : Bool) (ps : List (Placement B)) (cs : List (ClientId × ℕ)) (own : ℕ → Option ℕ)
+    (parties : Parties) (stored : ℕ → Option ℕ)
     → opened ≡ false → IsWaiting class ps cs own parties stored → IsStaged class opened ps cs own parties stored
 staged_if_waits class false ps cs own parties stored is w = w
 staged_if_waits class true ps cs own parties stored is w = cc
 
 -- ---- one line more
 
-placed_is : (line : List ℕ) (kind : Option (LineKind × List (List ℕ))) → is_blank line ≡ false → kind_of (words_of line) ≡ kind → placed_by_kind kind ≡ placed_by line
+placed_is : (line : List ℕ) (kind : Option (LineKind × List (List ℕ))) → is_blank line ≡ false → kind_of (words_of line) ≡ kind
+    → placed_by_kind kind ≡ placed_by line
 placed_is line kind blank is = rw (blank, is) refl
 
-joined_is : (line : List ℕ) (kind : Option (LineKind × List (List ℕ))) → is_blank line ≡ false → kind_of (words_of line) ≡ kind → joined_by_kind kind ≡ joined_by line
+joined_is : (line : List ℕ) (kind : Option (LineKind × List (List ℕ))) → is_blank line ≡ false → kind_of (words_of line) ≡ kind
+    → joined_by_kind kind ≡ joined_by line
 joined_is line kind blank is = rw (blank, is) refl
 
 blank_places : (line : List ℕ) → is_blank line ≡ true → placed_by line ≡ None
@@ -215,11 +236,13 @@ blank_places line blank = rw blank refl
 blank_joins : (line : List ℕ) → is_blank line ≡ true → joined_by line ≡ None
 blank_joins line blank = rw blank refl
 
-module _ {B : Type 0} (class : B → ClassTable) (before after : Bool) (ps ps' : List (Placement B)) (cs cs' : List (ClientId × ℕ)) (own own' : ℕ → Option ℕ) (parties : Parties) (stored : ℕ → Option ℕ)
+module _ {B : Type 0} (class : B → ClassTable) (before after : Bool) (ps ps' : List (Placement B)) (cs cs' : List (ClientId × ℕ)) (own own' : ℕ → Option ℕ)
+    (parties : Parties) (stored : ℕ → Option ℕ)
     (line : List ℕ) (words : List (List ℕ)) (staged : IsStaged class before ps cs own parties stored) where
   -- a line that says nothing
   pub blank_staged : is_blank line ≡ true → IsStaged class before ps cs own (with_line parties line) stored
-  blank_staged blank = subst (λ (p : Parties). IsStaged class before ps cs own p stored) (same_parties parties line (blank_places line blank) (blank_joins line blank)) staged
+  blank_staged blank = subst (λ (p : Parties). IsStaged class before ps cs own p stored)
+      (same_parties parties line (blank_places line blank) (blank_joins line blank)) staged
 
   -- a line of a handler
   pub handler_staged : (r : Result (Unit {0}) RunError) → is_blank line ≡ false → kind_of (words_of line) ≡ Some (Handler, words) → after ≡ before
@@ -234,7 +257,8 @@ module _ {B : Type 0} (class : B → ClassTable) (before after : Bool) (ps ps' :
     go false same ok w =
         let no_client : joined_by line ≡ None = sym (joined_is line (Some (Handler, words)) blank kind) in
         staged_if_waits class after ps' cs' own' (with_line parties line) stored same (record {
-          placed = subst (λ (found : Option Placed). AreFirst class ps' (parties.placed ++ cons_option found [])) (placed_is line (Some (Handler, words)) blank kind) (kept parties.placed w.placed);
+          placed = subst (λ (found : Option Placed). AreFirst class ps' (parties.placed ++ cons_option found []))
+              (placed_is line (Some (Handler, words)) blank kind) (kept parties.placed w.placed);
           joined = clients ∙ w.joined ∙ ap (λ (ds : List (ClientId × ℕ)). take (MAX_CLIENTS + 1) ds) (sym (no_more parties.clients (joined_by line) no_client));
           stored_is = keeper ∙ w.stored_is;
         })
@@ -242,7 +266,8 @@ module _ {B : Type 0} (class : B → ClassTable) (before after : Bool) (ps ps' :
   -- a line of a client
   pub client_staged : (r : Result (Unit {0}) RunError) → is_blank line ≡ false → kind_of (words_of line) ≡ Some (Client, words) → after ≡ before
       → OnOk r (party_fault before (result_err (client_line words)) ≡ None)
-      → ((clients : List (ClientId × ℕ)) → AreFirstClients cs clients → OnOk r (AreFirstClients cs' (clients ++ cons_option (result_ok (client_line words)) [])))
+      → ((clients : List (ClientId × ℕ)) → AreFirstClients cs clients
+      → OnOk r (AreFirstClients cs' (clients ++ cons_option (result_ok (client_line words)) [])))
       → ps' ≡ ps → own' ≡ own → OnOk r (IsStaged class after ps' cs' own' (with_line parties line) stored)
   client_staged (Err e) blank kind same ok kept handlers keeper = tt
   client_staged (Ok u) blank kind same ok kept handlers keeper = go before same ok staged where
@@ -252,29 +277,37 @@ module _ {B : Type 0} (class : B → ClassTable) (before after : Bool) (ps ps' :
     go false same ok w =
         let no_handler : placed_by line ≡ None = sym (placed_is line (Some (Client, words)) blank kind) in
         staged_if_waits class after ps' cs' own' (with_line parties line) stored same (record {
-          placed = ap (map (seen_by class)) handlers ∙ w.placed ∙ ap (λ (qs : List Placed). take (MAX_HANDLERS + 1) (map placement_of qs)) (sym (no_more parties.placed (placed_by line) no_handler));
-          joined = subst (λ (found : Option (ClientId × ℕ)). AreFirstClients cs' (parties.clients ++ cons_option found [])) (joined_is line (Some (Client, words)) blank kind) (kept parties.clients w.joined);
+          placed = ap (map (seen_by class)) handlers ∙ w.placed
+              ∙ ap (λ (qs : List Placed). take (MAX_HANDLERS + 1) (map placement_of qs)) (sym (no_more parties.placed (placed_by line) no_handler));
+          joined = subst (λ (found : Option (ClientId × ℕ)). AreFirstClients cs' (parties.clients ++ cons_option found []))
+              (joined_is line (Some (Client, words)) blank kind) (kept parties.clients w.joined);
           stored_is = keeper ∙ w.stored_is;
         })
 
   -- a line of an event
-  pub event_staged : (what : EventKind) (r : Result (Unit {0}) RunError) → is_blank line ≡ false → kind_of (words_of line) ≡ Some (Event what, words) → OnOk r (after ≡ true) → OnOk r (Opens parties stored)
+  pub event_staged : (what : EventKind) (r : Result (Unit {0}) RunError) → is_blank line ≡ false → kind_of (words_of line) ≡ Some (Event what, words)
+      → OnOk r (after ≡ true) → OnOk r (Opens parties stored)
       → OnOk r (IsStaged class after ps' cs' own' (with_line parties line) stored)
   event_staged what (Err e) blank kind is opens = tt
   event_staged what (Ok u) blank kind is opens =
       let no_client : joined_by line ≡ None = sym (joined_is line (Some (Event what, words)) blank kind) in
       let no_handler : placed_by line ≡ None = sym (placed_is line (Some (Event what, words)) blank kind) in
-      staged_if_opens class after ps' cs' own' (with_line parties line) stored is (subst (λ (p : Parties). Opens p stored) (same_parties parties line no_handler no_client) opens)
+      staged_if_opens class after ps' cs' own' (with_line parties line) stored is
+      (subst (λ (p : Parties). Opens p stored) (same_parties parties line no_handler no_client) opens)
 
 -- the world doesn't open at this line
-pub closed_if : {B : Type 0} (class : B → ClassTable) (opened : Bool) (ps : List (Placement B)) (cs : List (ClientId × ℕ)) (own : ℕ → Option ℕ) (parties : Parties) (stored : ℕ → Option ℕ) (number : ℕ)
-    (r : Result (Unit {0}) RunError) → opened ≡ false → (IsWaiting class ps cs own parties stored → IfErr r (StopsOpening number parties stored)) → IsStaged class opened ps cs own parties stored
+pub closed_if : {B : Type 0} (class : B → ClassTable) (opened : Bool) (ps : List (Placement B)) (cs : List (ClientId × ℕ)) (own : ℕ → Option ℕ)
+    (parties : Parties) (stored : ℕ → Option ℕ) (number : ℕ)
+    (r : Result (Unit {0}) RunError) → opened ≡ false → (IsWaiting class ps cs own parties stored → IfErr r (StopsOpening number parties stored))
+    → IsStaged class opened ps cs own parties stored
     → IfErr r (StopsClosed opened number parties stored)
 closed_if class opened ps cs own parties stored number (Ok u) is stops staged = tt
-closed_if class opened ps cs own parties stored number (Err e) is stops staged = record { closed = is; stops = stops (staged_waits class opened ps cs own parties stored is staged) }
+closed_if class opened ps cs own parties stored number (Err e) is stops staged =
+    record { closed = is; stops = stops (staged_waits class opened ps cs own parties stored is staged) }
 
 -- a handler more: it is kept, or there are too many already
-pub placed_full : {B : Type 0} (class : B → ClassTable) (ps : List (Placement B)) (before : List Placed) (p : Placed) → AreFirst class ps before → MAX_HANDLERS < length ps → AreFirst class ps (before ++ p ∷ [])
+pub placed_full : {B : Type 0} (class : B → ClassTable) (ps : List (Placement B)) (before : List Placed) (p : Placed) → AreFirst class ps before
+    → MAX_HANDLERS < length ps → AreFirst class ps (before ++ p ∷ [])
 placed_full class ps before p are full =
     first_full MAX_HANDLERS (map (seen_by class) ps) (map placement_of before) (placement_of p) are (omega (arith, full, length-map ps (seen_by class)))
     ∙ ap (λ (qs : List (Placement ClassTable)). take (MAX_HANDLERS + 1) qs) (sym (map-append placement_of before (p ∷ [])))
@@ -282,9 +315,11 @@ placed_full class ps before p are full =
 abbrev pub placement : {B : Type 0} → ℕ → HandlerId → ClassTable → B → Placement B
 placement node handler table object = record { node = node; handler = handler; class = table; object = object }
 
-pub placed_more : {B : Type 0} (class : B → ClassTable) (ps : List (Placement B)) (o : B) (before : List Placed) (p : Placed) → AreFirst class ps before → length ps ≤ MAX_HANDLERS
+pub placed_more : {B : Type 0} (class : B → ClassTable) (ps : List (Placement B)) (o : B) (before : List Placed) (p : Placed) → AreFirst class ps before
+    → length ps ≤ MAX_HANDLERS
     → class o ≡ p.class → AreFirst class (ps ++ placement p.node p.handler p.class o ∷ []) (before ++ p ∷ [])
 placed_more class ps o before p are few same =
-    map-append (seen_by class) ps (placement p.node p.handler p.class o ∷ []) ∙ ap (λ (k : ClassTable). map (seen_by class) ps ++ placement p.node p.handler p.class k ∷ []) same
+    map-append (seen_by class) ps (placement p.node p.handler p.class o ∷ [])
+    ∙ ap (λ (k : ClassTable). map (seen_by class) ps ++ placement p.node p.handler p.class k ∷ []) same
     ∙ first_more MAX_HANDLERS (map (seen_by class) ps) (map placement_of before) (placement_of p) are (omega (arith, few, length-map ps (seen_by class)))
     ∙ ap (λ (qs : List (Placement ClassTable)). take (MAX_HANDLERS + 1) qs) (sym (map-append placement_of before (p ∷ [])))

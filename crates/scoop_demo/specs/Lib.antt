@@ -6,7 +6,6 @@ pub mod Hex
 pub mod Storing
 pub mod Answer
 pub mod Run
-pub mod Classes
 pub mod ScriptWords
 pub mod ScriptNumber
 pub mod ScriptKind

@@ -36,7 +36,8 @@ pub record HearsLine {K : Type 0} (number : ℕ) (old : BookValue K) (line : Lis
   pub datagram : List ℕ
   pub is_datagram : IsDatagram number line datagram
   pub prints : Prints datagram old new next text
-  pub only : (other : BookValue K) (after : Option HandlerId) (again : List ℕ) → Prints datagram old other after again → Rests new other × (next ≡ after) × (text ≡ again)
+  pub only : (other : BookValue K) (after : Option HandlerId) (again : List ℕ) → Prints datagram old other after again → Rests new other × (next ≡ after)
+      × (text ≡ again)
 
 -- the handler runs until nothing can run, where there is one
 abbrev pub RunsBehind : {K : Type 0} → Option HandlerId → (heard new : BookValue K) → Type 0
@@ -57,9 +58,11 @@ pub record WritesAnswer {K : Type 0} (number : ℕ) (old : BookValue K) (line : 
   pub writes : Appends before after (text ++ 10 ∷ [])
 
 -- why the line of this number, which is within the limits, was not answered to the end
-pub data StopsInLine {K : Type 0} (number : ℕ) (old : BookValue K) (line : List ℕ) (new : BookValue K) (before after : Option (List ℕ)) : RunError → Type 0 where
+pub data StopsInLine {K : Type 0} (number : ℕ) (old : BookValue K) (line : List ℕ) (new : BookValue K) (before after : Option (List ℕ)) : RunError
+    → Type 0 where
   -- its digits have a fault, and nothing has changed
-  in_digits : {fault : InputFault} → fault_of number line ≡ Some fault → new ≡ old → Keeps before after → StopsInLine number old line new before after (Input number fault)
+  in_digits : {fault : InputFault} → fault_of number line ≡ Some fault → new ≡ old → Keeps before after
+      → StopsInLine number old line new before after (Input number fault)
   -- the book refuses its message, and nothing is written
   in_book : {e : RunError} (datagram : List ℕ) → IsDatagram number line datagram → Unheard datagram old new e → Keeps before after
       → StopsInLine number old line new before after e
@@ -132,13 +135,17 @@ pub data StopsEarly {K : Type 0} (input : Option (List ℕ)) (old new : BookValu
   at_line : {e : RunError} (lines : List (List ℕ)) (text : List ℕ) → AnswersFirst old lines new text → Appends before after text → StopsBehind input lines e
       → StopsEarly input old new before after e
   -- the output failed between two lines: some of the answers may be lost
-  at_output : (lines : List (List ℕ)) (text : List ℕ) → AnswersFirst old lines new text → BeginsWithLines input lines → StopsEarly input old new before after Write
+  at_output : (lines : List (List ℕ)) (text : List ℕ) → AnswersFirst old lines new text → BeginsWithLines input lines
+      → StopsEarly input old new before after Write
   -- or at the answer to one more line, whose message the book has, and nothing has run for it
-  at_answer : (lines : List (List ℕ)) (text : List ℕ) (mid : BookValue K) (line : List ℕ) (next : Option HandlerId) (answer : List ℕ) → AnswersFirst old lines mid text
+  at_answer : (lines : List (List ℕ)) (text : List ℕ) (mid : BookValue K) (line : List ℕ) (next : Option HandlerId) (answer : List ℕ)
+      → AnswersFirst old lines mid text
       → HearsLine (length lines + 1) mid line new next answer → BeginsWithLines input (lines ++ line ∷ []) → StopsEarly input old new before after Write
   -- the book refuses the message of one more line: the writer has gained the answers before
-  at_book : {e : RunError} (lines : List (List ℕ)) (text : List ℕ) (mid : BookValue K) (line datagram : List ℕ) → AnswersFirst old lines mid text → Appends before after text
-      → IsDatagram (length lines + 1) line datagram → Unheard datagram mid new e → BeginsWithLines input (lines ++ line ∷ []) → StopsEarly input old new before after e
+  at_book : {e : RunError} (lines : List (List ℕ)) (text : List ℕ) (mid : BookValue K) (line datagram : List ℕ) → AnswersFirst old lines mid text
+      → Appends before after text
+      → IsDatagram (length lines + 1) line datagram → Unheard datagram mid new e → BeginsWithLines input (lines ++ line ∷ [])
+      → StopsEarly input old new before after e
   -- one more line is answered, but the book refuses as its handler runs
   at_run : {e : RunError} (lines : List (List ℕ)) (text : List ℕ) (mid : BookValue K) (line : List ℕ) (heard : BookValue K) (h : HandlerId) (answer : List ℕ)
       → AnswersFirst old lines mid text → HearsLine (length lines + 1) mid line heard (Some h) answer → Appends before after (text ++ (answer ++ 10 ∷ []))

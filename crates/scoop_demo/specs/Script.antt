@@ -109,8 +109,10 @@ IsClosed parties stored error = IsUnopened own_class (map placement_of parties.p
 -- why the line of this number stops a run: its words have this fault, and the world opens where it is the first event's;
 -- or it is, and the world doesn't open; or the output failed, or memory was wanted
 pub data StopsAtLine (number : ℕ) (opens : Bool) (found : Option InputFault) (parties : Parties) (stored : ℕ → Option ℕ) : RunError → Type 0 where
-  in_words : {fault : InputFault} → found ≡ Some fault → (opens ≡ true → Opens parties stored) → StopsAtLine number opens found parties stored (Input number fault)
-  in_opening : {error : WorldOpenError} → opens ≡ true → IsClosed parties stored error → StopsAtLine number opens found parties stored (Input number (CannotOpen error))
+  in_words : {fault : InputFault} → found ≡ Some fault → (opens ≡ true → Opens parties stored)
+      → StopsAtLine number opens found parties stored (Input number fault)
+  in_opening : {error : WorldOpenError} → opens ≡ true → IsClosed parties stored error
+      → StopsAtLine number opens found parties stored (Input number (CannotOpen error))
   in_output : StopsAtLine number opens found parties stored Write
   in_memory : StopsAtLine number opens found parties stored OutOfMemory
 
@@ -167,6 +169,7 @@ pub data StopsPlaying (strict : Bool) (input : Option (List ℕ)) (stored : ℕ 
   no_event : {error : WorldOpenError} (lines : List (List ℕ)) → PlaysFirst stored lines → list_any is_event lines ≡ false
       → IsClosed (parties_of lines) stored error → IfSome input (λ bytes. lines_of bytes ≡ lines)
       → StopsPlaying strict input stored (Input (max (length lines) 1) (CannotOpen error))
-  event_refused : (lines : List (List ℕ)) → strict ≡ true → PlaysFirst stored lines → BeginsWithLines input lines → StopsPlaying strict input stored (Input (length lines) Refused)
+  event_refused : (lines : List (List ℕ)) → strict ≡ true → PlaysFirst stored lines → BeginsWithLines input lines
+      → StopsPlaying strict input stored (Input (length lines) Refused)
   output : (lines : List (List ℕ)) → PlaysFirst stored lines → BeginsWithLines input lines → StopsPlaying strict input stored Write
   memory : (lines : List (List ℕ)) → PlaysFirst stored lines → BeginsWithLines input lines → StopsPlaying strict input stored OutOfMemory

@@ -5,7 +5,7 @@ use Rattle.scoop_demo.specs.declared.script.kind.LineKind.{LineKind}
 use Rattle.scoop_demo.specs.declared.script.kind.LineKind.TheVariants.{Handler, Client, Event}
 use Rattle.scoop_demo.specs.declared.script.kind.EventKind.{EventKind}
 use Rattle.scoop_demo.specs.declared.script.kind.EventKind.TheVariants as event
-use Rattle.scoop_demo.specs.Classes.{same_text}
+use Rattle.scoop_classes.specs.Classes.{same_text}
 
 -- what happens, by one word
 abbrev pub event_kind : List ℕ → Option EventKind

@@ -13,7 +13,7 @@ use Rattle.scoop_demo.specs.declared.script.event.EventLine.{EventLine}
 use Rattle.scoop_demo.specs.declared.script.event.EventLine.TheVariants.{One, Run, Trip}
 use Rattle.scoop_demo.specs.declared.script.kind.EventKind.{EventKind}
 use Rattle.scoop_demo.specs.declared.script.kind.EventKind.TheVariants as kind
-use Rattle.scoop_demo.specs.Classes.{class_named}
+use Rattle.scoop_classes.specs.Classes.{class_named}
 use Rattle.scoop_demo.specs.ScriptWords.{one_of, two_of}
 use Rattle.scoop_demo.specs.ScriptNumber.{Word, Read, ◌>>=◌, number_below, number_of, each_of}
 
@@ -68,7 +68,8 @@ request_line (c ∷ []) = Err WrongNumberOfWords
 request_line (c ∷ h ∷ []) = Err WrongNumberOfWords
 request_line (c ∷ h ∷ o ∷ ws) =
     if nat_lt MAX_ARGS (length ws) then Err TooManyArguments
-    else (client_of c >>= λ client. handler_of h >>= λ handler. number_below (2 ^ 16) o >>= λ op. each_of number_of ws >>= λ args. Ok (asked client handler op args))
+    else (client_of c >>= λ client. handler_of h >>= λ handler. number_below (2 ^ 16) o >>= λ op. each_of number_of ws >>= λ args. Ok
+    (asked client handler op args))
 
 -- what a line of an event asks for, by the words behind those that say its kind
 abbrev pub event_line : EventKind → List Word → Read EventLine

@@ -2,9 +2,9 @@
 use Rattle.std.specs.Prelude.{◌≡◌, ◌≢◌, ⊤, ℕ, List, Option, None}
 use Rattle.scoop_message.specs.declared.name.HandlerId.{HandlerId}
 use Rattle.scoop_object.specs.Class.{ClassTable}
-use Rattle.scoop_record.specs.declared.keeper.KeeperError.{KeeperError}
-use Rattle.scoop_record.specs.declared.keeper.KeeperError.TheVariants as keeper
-use Rattle.scoop_record.specs.Keeper.{Stored, Damaged, IsTheOne, StaysAt, IsSame}
+use Rattle.scoop_keeper.specs.declared.keeper.KeeperError.{KeeperError}
+use Rattle.scoop_keeper.specs.declared.keeper.KeeperError.TheVariants as keeper
+use Rattle.scoop_keeper.specs.Keeper.{Stored, Damaged, IsTheOne, StaysAt, IsSame}
 use Rattle.scoop_book.specs.declared.error.BookError.{BookError}
 use Rattle.scoop_book.specs.declared.error.BookError.TheVariants as book
 use Rattle.scoop_book.specs.declared.error.OpenError.{OpenError}
@@ -16,7 +16,8 @@ use Rattle.scoop_demo.specs.declared.fault.RunError.TheVariants.{OutOfMemory, St
 
 -- While the keeper is honest it was so before, of the handlers that aren't among these it has what it had, and of all
 -- clients.
-pub record KeepsElsewhere {K : Type 0} (has : K → ℕ → Stored → Type 0) (incarnations : K → ℕ → Option ℕ) (is_honest : K → Type 0) (hs : List LocalHandler) (old new : K) : Type 0 where
+pub record KeepsElsewhere {K : Type 0} (has : K → ℕ → Stored → Type 0) (incarnations : K → ℕ → Option ℕ) (is_honest : K → Type 0) (hs : List LocalHandler)
+    (old new : K) : Type 0 where
   pub honest : is_honest new → is_honest old
   pub handlers : is_honest new → (h : HandlerId) → handler_in h hs ≡ None → StaysAt (has old) (has new) h.0
   pub clients : is_honest new → IsSame (incarnations old) (incarnations new)

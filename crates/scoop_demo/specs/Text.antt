@@ -1,7 +1,7 @@
 -- What is printed of an error, and the status with which the program ends.
 use Rattle.std.specs.Prelude.{ℕ, List, ◌++◌, codes}
 use Rattle.std.specs.Fmt.{decimal}
-use Rattle.scoop_record.specs.Text.{error_text as keeper_text}
+use Rattle.scoop_keeper.specs.Text.{error_text as keeper_text}
 use Rattle.scoop_demo.specs.declared.fault.InputFault.{InputFault}
 use Rattle.scoop_demo.specs.declared.fault.InputFault.TheVariants.{LineTooLong, TooManyLines, ReadFault, NotHex, OddDigits}
 use Rattle.scoop_demo.specs.declared.fault.InputFault.TheVariants.{UnknownLine, WrongNumberOfWords, NotANumber, NoSuchClass, TooLateForParty, CannotOpen, TooManyArguments, TooManyHandlers, NoSuchKind, Refused}

@@ -17,11 +17,11 @@ use crate::fault::RunError;
 use scoop_book::{Book, BookError};
 use scoop_frame::decode;
 use scoop_handler::{Note, Reason};
+use scoop_keeper::{Keeper, KeeperError};
 use scoop_message::HandlerId;
 use scoop_message::limits::BUFFER_LEN;
 use scoop_netloop::{Answered, answer_datagram, run_out, runs_after};
 use scoop_object::Behaviour;
-use scoop_record::{Keeper, KeeperError};
 use std::alloc::Global;
 
 // The one pass of a run's book.

@@ -3,8 +3,8 @@
 ghost use Rattle.std.specs.Prelude.{◌≡◌};
 ghost use Rattle.scoop_demo.specs.OpenErrorText.{open_error_name};
 
+use scoop_keeper::KeeperError;
 use scoop_message::{HandlerId, OutOfMemory};
-use scoop_record::KeeperError;
 use scoop_world::WorldOpenError;
 use std::error::Error;
 use std::fmt;

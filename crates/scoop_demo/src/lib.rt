@@ -3,7 +3,7 @@
 //! [`answer_run`] lets the handlers of a book answer the datagrams of an input, one in hex digits on each line, with one
 //! line for each; what they hear and run is in the book's history, and a state is stored before the answer is written.
 //! [`open_book`] opens the book of one handler. [`world_run`] plays a script in a world of handlers and
-//! clients. Beside them stand the demo classes, and for each of them an object of a type of its own.
+//! clients.
 //!
 //! ```
 //! let script = "\
@@ -31,12 +31,10 @@
 #![tactic(auto)]
 
 mod answer;
-mod classes;
 mod datagram;
 mod fault;
 mod framing;
 mod lines;
-mod objects;
 mod opening;
 mod playing;
 mod printing;
@@ -44,14 +42,12 @@ mod run;
 mod script;
 mod source;
 
-pub use classes::{DemoClass, demo_class};
 pub use datagram::{MAX_DATAGRAM_LEN, read_datagram};
 pub use fault::{InputFault, RunError};
 pub use framing::{
     WordsError, print_frame_of, print_message, read_message, tell_frame, tell_frames,
 };
 pub use lines::{Lines, MAX_LINES};
-pub use objects::{AccountObject, CellObject, CounterObject, ExchangeObject};
 pub use opening::open_book;
 pub use playing::{Picture, PlayOptions, world_run, world_run_charted, world_run_with};
 pub use printing::{print_accepted, print_all_ran, print_blocks, print_note};

@@ -2,7 +2,7 @@
 
 ghost use Rattle.std.specs.Prelude.{◌≡◌, ◌≢◌, ◌∷◌, [], false, IfOk, IfErr, OnOk};
 ghost use Rattle.scoop_message.specs.declared.limits.TheConstants.{MAX_HISTORY};
-ghost use Rattle.scoop_record.specs.Keeper.{IsSame, Stays};
+ghost use Rattle.scoop_keeper.specs.Keeper.{IsSame, Stays};
 ghost use Rattle.scoop_book.specs.Books.{IsBook};
 ghost use Rattle.scoop_book.specs.Kept.{book_kept};
 ghost use Rattle.scoop_book.specs.Opening.{AllOpen};
@@ -10,9 +10,9 @@ ghost use Rattle.scoop_demo.specs.Storing.{FailsToOpen, OpensOne, TellsUnopened}
 
 use crate::fault::RunError;
 use scoop_book::{Book, OpenError};
+use scoop_keeper::Keeper;
 use scoop_message::HandlerId;
 use scoop_object::{Behaviour, Class};
-use scoop_record::Keeper;
 use std::alloc::Global;
 
 // What a run says of a refusal to open a book of one handler.

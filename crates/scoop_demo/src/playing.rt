@@ -1,22 +1,24 @@
 //! A script that is played.
 
+mod cast;
 mod echo;
 mod events;
 mod picture;
-mod stage;
+mod settling;
 
 ghost use Rattle.std.specs.Prelude.{◌≡◌, IfErr, OnOk, false, [], is_some};
 ghost use Rattle.scoop_demo.specs.Script.{PlaysAll, StopsPlaying, parties_of};
 ghost use Rattle.scoop_demo.specs.Staging.{IsWaiting};
-ghost use Rattle.scoop_record.specs.Memory.{incarnation_at};
+ghost use Rattle.scoop_keeper.specs.Memory.{incarnation_at};
 
 use crate::fault::{InputFault, RunError};
 use crate::lines::Lines;
 use arrayvec::ArrayVec;
+use cast::Cast;
+use events::Stop;
 pub use picture::Picture;
+use scoop_keeper::MemoryKeeper;
 use scoop_object::{Behaviour, Table};
-use scoop_record::MemoryKeeper;
-use stage::Stage;
 use std::alloc::Global;
 use std::io::{Read, Write};
 
@@ -28,6 +30,10 @@ pub struct PlayOptions {
     pub echoes: bool,
     /// An event that is refused ends the run, as a fault of its line.
     pub is_strict: bool,
+    /// After the last line, what is next in the world is played until the world is calm: jobs go out and are finished,
+    /// clients ask handlers for what these can do, and end their blocks. Each event is told as any other; where lines are
+    /// told, as `settle: trip 7 1 = Unlock 7.1.1 to 1`.
+    pub settles: bool,
 }
 
 /// Plays a script: its first lines place handlers and let clients join, and open a world over the keeper at
@@ -49,6 +55,7 @@ pub fn world_run<R: Read + Drop, W: Write>(
     let options = PlayOptions {
         echoes: false,
         is_strict: false,
+        settles: false,
     };
     world_run_with(alloc, keeper, options, reader, writer)
 }
@@ -106,29 +113,30 @@ fn play_all<R: Read + Drop, W: Write>(
     ensures ok { OnOk result (PlaysAll (R.remaining reader) (incarnation_at keeper)) }
     ensures err { IfErr result (StopsPlaying options.is_strict (R.remaining reader) (incarnation_at keeper)) }
 {
-    let mut stage = Stage::new(alloc, keeper);
-    match play_lines(&mut stage, options, reader, picture, writer) {
+    let mut cast = Cast::new(alloc, keeper);
+    match play_lines(&mut cast, options, reader, picture, writer) {
         Ok(()) => {}
         Err(error) => return Err(error),
     }
-    match stage.print_histories(writer) {
+    match cast.finish(options, picture, writer) {
         Ok(()) => Ok(()),
-        Err(_) => Err(RunError::Write),
+        Err(Stop::Write) => Err(RunError::Write),
+        Err(Stop::OutOfMemory) => Err(RunError::OutOfMemory),
     }
 }
 
 // Plays the lines of a script until one stops the run. Where none is that of an event, the world opens at the end.
 fn play_lines<R: Read + Drop, W: Write>(
-    stage: &mut Stage,
+    cast: &mut Cast,
     options: PlayOptions,
     reader: R,
     picture: &mut Picture,
     writer: &mut W,
 ) -> Result<(), RunError>
-    requires closed { is_some stage.old.world ≡ false }
-    requires waits { IsWaiting ⟦<Table as Behaviour>⟧.class stage.old.placements.items stage.old.clients.items (incarnation_at stage.old.keeper) (parties_of []) (incarnation_at stage.old.keeper) }
-    ensures ok { OnOk result (PlaysAll (R.remaining reader) (incarnation_at stage.old.keeper)) }
-    ensures err { IfErr result (StopsPlaying options.is_strict (R.remaining reader) (incarnation_at stage.old.keeper)) }
+    requires closed { is_some cast.old.world ≡ false }
+    requires waits { IsWaiting ⟦<Table as Behaviour>⟧.class cast.old.placements.items cast.old.clients.items (incarnation_at cast.old.keeper) (parties_of []) (incarnation_at cast.old.keeper) }
+    ensures ok { OnOk result (PlaysAll (R.remaining reader) (incarnation_at cast.old.keeper)) }
+    ensures err { IfErr result (StopsPlaying options.is_strict (R.remaining reader) (incarnation_at cast.old.keeper)) }
 {
     let mut lines = Lines::new(reader);
     let mut line = ArrayVec::new();
@@ -136,15 +144,15 @@ fn play_lines<R: Read + Drop, W: Write>(
         let taken = lines.number();
         match lines.next_line(&mut line, writer) {
             Ok(true) => {}
-            Ok(false) => return stage.open_by(taken.max(1), picture),
+            Ok(false) => return cast.open_by(taken.max(1), picture),
             Err(error) => return Err(error),
         }
         let number = lines.number();
-        match stage.play_line(number, line.as_slice(), options.echoes, picture, writer) {
+        match cast.play_line(number, line.as_slice(), options.echoes, picture, writer) {
             Ok(()) => {}
             Err(error) => return Err(error),
         }
-        if options.is_strict && stage.is_refused {
+        if options.is_strict && cast.is_refused {
             return Err(RunError::Input {
                 line: number,
                 fault: InputFault::Refused,

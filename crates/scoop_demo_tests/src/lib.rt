@@ -1,12 +1,10 @@
 #![tactic(auto)]
 
-//! Tests of `scoop_demo`, by its public calls. They stand in a crate of their own so that the gate proves
-//! them over that crate, and doesn't prove that crate once more with them.
+//! Tests of `scoop_demo` and `scoop_command_line`, by their public calls. They stand in a crate of their own so that
+//! the gate proves them over these crates, and doesn't prove any of these once more with them.
 
 #[cfg(test)]
 mod framing;
-#[cfg(test)]
-mod objects;
 #[cfg(test)]
 mod script;
 #[cfg(test)]

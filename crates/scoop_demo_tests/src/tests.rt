@@ -1,8 +1,9 @@
 use scoop_book::Book;
+use scoop_classes::{AccountObject, CellObject, demo_class};
 use scoop_demo::*;
+use scoop_keeper::{Keeper, KeeperError, MemoryKeeper};
 use scoop_message::{HandlerId, Words};
 use scoop_object::{Behaviour, Boxed, Table};
-use scoop_record::{Keeper, KeeperError, MemoryKeeper};
 use std::alloc::Global;
 use std::cell::Cell;
 use std::io;
@@ -10,6 +11,7 @@ use std::io::{ErrorKind, Read, Write};
 use std::process::Abort;
 use std::test::Fail;
 
+mod command_line;
 mod played;
 mod reads;
 mod stored;

@@ -20,8 +20,8 @@ use Rattle.scoop_reserve.proofs.Rows as reserved
 use Rattle.scoop_client.specs.declared.phase.ClientNote.{ClientNote}
 use Rattle.scoop_client.specs.declared.phase.ClientNote.TheVariants.{Welcomed, Locked, Busy, Opened, Unlocked, Acknowledged, Accepted, Ignored}
 use Rattle.scoop_client.specs.declared.phase.Phase.TheVariants.{Greeting, Running}
-use Rattle.scoop_client.specs.Line.{LineState, all_over, acknowledged, at_line}
-use Rattle.scoop_client.specs.State.{ClientState, phase_of, phase_of_block, block_of, idle, with_lines, with_reservation}
+use Rattle.scoop_client.specs.Window.{WindowState, all_over, acknowledged, at_window}
+use Rattle.scoop_client.specs.State.{ClientState, phase_of, phase_of_block, block_of, idle, with_windows, with_reservation}
 use Rattle.scoop_client.specs.Hearing.{heard, after_step, stepped, up_to}
 use Rattle.scoop_client.specs.Commands.{Outcome, Reserve, command, next_block}
 use Rattle.scoop_client.specs.Rows.{HeardRow, passed_over, is_welcomed, takes_step, is_acknowledged, is_accepted, ReserveRow, reserve_not_greeted, reserve_not_idle, reserve_spent, reserve_refused, begins_block}
@@ -77,10 +77,11 @@ row_keeps : (c d : ClientState) (m : Message) (told : ClientNote) → HeardRow c
 row_keeps c d m told (passed_over x) = same c
 row_keeps c d m told (is_welcomed h among) = record { block = inl refl; waits = inl refl }
 row_keeps c d m told (takes_step x r held) =
-    step_keeps c r (reservation.heard r m).0 (reservation.heard r m).1 held (block_stays r (reservation.heard r m).0 m (reservation.heard r m).1 (reserved.heard_row r m))
-row_keeps c d m told (is_acknowledged h n r l held opened line new) =
-    let d = with_lines c (at_line h (acknowledged (up_to h n c.waits)) c.lines) c.waits in
-    by_test (all_over d.lines) c (idle d) d (record { block = inr refl; waits = inr refl }) (record { block = inl refl; waits = inl refl })
+    step_keeps c r (reservation.heard r m).0 (reservation.heard r m).1 held
+    (block_stays r (reservation.heard r m).0 m (reservation.heard r m).1 (reserved.heard_row r m))
+row_keeps c d m told (is_acknowledged h n r l held opened window new) =
+    let d = with_windows c (at_window h (acknowledged (up_to h n c.waits)) c.windows) c.waits in
+    by_test (all_over d.windows) c (idle d) d (record { block = inr refl; waits = inr refl }) (record { block = inl refl; waits = inl refl })
 row_keeps c d m told (is_accepted h n a r held opened waits) = record { block = inl refl; waits = inr refl }
 
 heard_keeps : (c : ClientState) (m : Message) → Keeps c (heard c m).0
@@ -112,20 +113,21 @@ walk_keeps (Broke place ∷ ss) c silent = walk_keeps ss c silent
 
 -- ---- a block that runs
 
-idle_or_not : (b : Bool) (ls : List LineState) (r : Option ReservationState) → block_of r ≡ None → (if b then phase_of_block ls r else Greeting) ≡ Running → ⊥
+idle_or_not : (b : Bool) (ls : List WindowState) (r : Option ReservationState) → block_of r ≡ None → (if b then phase_of_block ls r else Greeting) ≡ Running → ⊥
 idle_or_not true ls None none is = cc
 idle_or_not true ls (Some r) none is = cc
 idle_or_not false ls r none is = cc
 
 has_block : (d : ClientState) → phase_of d ≡ Running → block_of d.reservation ≡ None → ⊥
-has_block d running none = idle_or_not (is_empty d.left) d.lines d.reservation none running
+has_block d running none = idle_or_not (is_empty d.unwelcomed) d.windows d.reservation none running
 
 started_anew : (b : Block) (hs : List HandlerId) (o p : Option HandlerId) (r : ReservationState) → unless_repeated (fresh b hs) o p ≡ Ok r → r.block ≡ b
 started_anew b hs (Some h) p r is = cc
 started_anew b hs None (Some h) r is = cc
 started_anew b hs None None r is = (let new : fresh b hs ≡ r = cc in sym (ap (λ (x : ReservationState). x.block) new))
 
-in_both : (x y : Bool) (b : Block) (r : ReservationState) (o : Result ReservationState ReserveError) → (o ≡ Ok r → r.block ≡ b) → (if x then Err Empty else if y then Err TooMany else o) ≡ Ok r → r.block ≡ b
+in_both : (x y : Bool) (b : Block) (r : ReservationState) (o : Result ReservationState ReserveError) → (o ≡ Ok r → r.block ≡ b)
+    → (if x then Err Empty else if y then Err TooMany else o) ≡ Ok r → r.block ≡ b
 in_both true y b r o h is = cc
 in_both false true b r o h is = cc
 in_both false false b r o h is = h is
@@ -147,7 +149,8 @@ reserves_next c d hs o (reserve_refused x i f s) is = cc
 reserves_next c d hs o (begins_block r i f s) is = sym (ap block_after is) ∙ ap Some (started_block (next_block c) hs c.handlers r s)
 
 -- once it runs, the block that was reserved is the next one
-pub runs_next : (hs : List HandlerId) (ss : List Step) (c d e : ClientState) → command c (Reserve hs) ≡ Ok d → commands_by ss ≡ [] → e ≡ walk d ss → phase_of e ≡ Running → RunsNext c e
+pub runs_next : (hs : List HandlerId) (ss : List Step) (c d e : ClientState) → command c (Reserve hs) ≡ Ok d → commands_by ss ≡ [] → e ≡ walk d ss
+    → phase_of e ≡ Running → RunsNext c e
 runs_next hs ss c d e reserved silent is running =
     let first = reserves_next c d hs (command c (Reserve hs)) (command_row c (Reserve hs)) reserved in
     let kept : Keeps d e = subst (Keeps d) (sym is) (walk_keeps ss d silent) in
@@ -172,11 +175,12 @@ step_accepts c r (step.Opened k) h n a is = cc
 step_accepts c r (step.Unlocked k) h n a is = cc
 step_accepts c r step.Ignored h n a is = cc
 
-accepts : (c d : ClientState) (m : Message) (told : ClientNote) (h : HandlerId) (n : ℕ) (a : ObjectAnswer) → HeardRow c m d told → told ≡ Accepted h n a → c.waits ≡ Some (h, n)
+accepts : (c d : ClientState) (m : Message) (told : ClientNote) (h : HandlerId) (n : ℕ) (a : ObjectAnswer) → HeardRow c m d told → told ≡ Accepted h n a
+    → c.waits ≡ Some (h, n)
 accepts c d m told h n a (passed_over x) is = cc
 accepts c d m told h n a (is_welcomed k among) is = cc
 accepts c d m told h n a (takes_step x r held) is = absurd (step_accepts c (reservation.heard r m).0 (reservation.heard r m).1 h n a is)
-accepts c d m told h n a (is_acknowledged k i r l held opened line new) is = cc
+accepts c d m told h n a (is_acknowledged k i r l held opened window new) is = cc
 accepts c d m told h n a (is_accepted k i b r held opened waits) is = waits ∙ ap asked_by is
 
 nothing_in : {X P : Type 0} (x : X) → Contains [] x → P
@@ -185,7 +189,8 @@ nothing_in x (k, within, is) = absurd (omega (arith, within))
 only_one : {X : Type 0} (x y : X) → Contains (y ∷ []) x → y ≡ x
 only_one x y h = elim (Contains-push_cases [] y x h) [ inl none ↦ nothing_in x none | inr is ↦ is ]
 
-message_accepts : (c : ClientState) (o : Option Message) (h : HandlerId) (n : ℕ) (a : ObjectAnswer) → Contains (note_of c o) (Accepted h n a) → c.waits ≡ Some (h, n)
+message_accepts : (c : ClientState) (o : Option Message) (h : HandlerId) (n : ℕ) (a : ObjectAnswer) → Contains (note_of c o) (Accepted h n a)
+    → c.waits ≡ Some (h, n)
 message_accepts c None h n a there = nothing_in (Accepted h n a) there
 message_accepts c (Some m) h n a there = accepts c (heard c m).0 m (heard c m).1 h n a (heard_row c m) (only_one (Accepted h n a) (heard c m).1 there)
 
@@ -194,7 +199,8 @@ still_waits x y w (inl is) waits = sym is ∙ waits
 still_waits x y w (inr none) waits = cc
 
 -- an answer that is accepted in turns alone is that of the query that waited before them
-pub accepted_waits : (ss : List Step) (c : ClientState) (h : HandlerId) (n : ℕ) (a : ObjectAnswer) → commands_by ss ≡ [] → Contains (notes_by c ss) (Accepted h n a) → c.waits ≡ Some (h, n)
+pub accepted_waits : (ss : List Step) (c : ClientState) (h : HandlerId) (n : ℕ) (a : ObjectAnswer) → commands_by ss ≡ []
+    → Contains (notes_by c ss) (Accepted h n a) → c.waits ≡ Some (h, n)
 accepted_waits [] c h n a silent there = nothing_in (Accepted h n a) there
 accepted_waits (Gave x ∷ ss) c h n a silent there = cc
 accepted_waits (Turned got ∷ ss) c h n a silent there =

@@ -69,12 +69,14 @@ sound_step (Gave x) c told is = absurd is
 sound_step (Turned got) c told is = sound_turn got c told (λ x. x) is
 sound_step (Broke place) c told is = absurd (let e : Ok told ≡ Err LinkFault = is in cc)
 
-one_step : (steps : List Step) (c : ClientState) (told : Option ClientNote) → TurnAnswers c steps (Ok told) → (s : Step) × (steps ≡ s ∷ []) × StepAnswers c s (Ok told)
+one_step : (steps : List Step) (c : ClientState) (told : Option ClientNote) → TurnAnswers c steps (Ok told) → (s : Step) × (steps ≡ s ∷ [])
+    × StepAnswers c s (Ok told)
 one_step [] c told is = absurd (let e : Ok told ≡ Err (Client OutOfMemory) = is in cc)
 one_step (s ∷ []) c told is = (s, refl, is)
 one_step (s ∷ t ∷ ss) c told is = absurd is
 
-turn_more : (n : ℕ) (xs ys : List Step) (s : Step) (a b d : Seen) → IsTurning n xs a b → Goes ys b d → ys ≡ s ∷ [] → OneTurn s → IsTurning (n + 1) (xs ++ ys) a d
+turn_more : (n : ℕ) (xs ys : List Step) (s : Step) (a b d : Seen) → IsTurning n xs a b → Goes ys b d → ys ≡ s ∷ [] → OneTurn s
+    → IsTurning (n + 1) (xs ++ ys) a d
 turn_more n xs ys s a b d so_far goes is one = record {
   goes = goes_on xs ys a b d so_far.goes goes;
   silent = both_silent xs ys so_far.silent (ap commands_by is ∙ one.silent);
@@ -105,7 +107,8 @@ wants_before : (left : List client.Command) (c d : ClientState) → d ≡ c → 
 wants_before [] c d same h = refl
 wants_before (x ∷ xs) c d same h = subst (λ y. IsTakeable (client.command y x)) (sym same) h
 
-faulted : (s : Step) (left : List client.Command) (t u : Seen) → commands_by (s ∷ []) ≡ [] → turns_in (s ∷ []) ≡ 1 → faults_at s ≡ 1 → Stopped left LinkFault (s ∷ []) t u
+faulted : (s : Step) (left : List client.Command) (t u : Seen) → commands_by (s ∷ []) ≡ [] → turns_in (s ∷ []) ≡ 1 → faults_at s ≡ 1
+    → Stopped left LinkFault (s ∷ []) t u
 faulted s left t u silent count fault = record {
   silent = silent;
   stops = tt;
@@ -127,7 +130,8 @@ of_turn e = Err e
 is_error : (e x : DriverError) (P : DriverError → Type 0) → of_turn e ≡ of_turn x → P x → P e
 is_error e x P is h = (let same : e ≡ x = cc in rw same h)
 
-turned_fault : (got : Received) (c : ClientState) (e : DriverError) (left : List client.Command) (t u : Seen) → StepAnswers c (Turned got) (Err e) → Stopped left e (Turned got ∷ []) t u
+turned_fault : (got : Received) (c : ClientState) (e : DriverError) (left : List client.Command) (t u : Seen) → StepAnswers c (Turned got) (Err e)
+    → Stopped left e (Turned got ∷ []) t u
 turned_fault Nothing c e left t u is = absurd (let x : Err e ≡ Ok None = is in cc)
 turned_fault (Frame v m) c e left t u is = absurd (let x : Err e ≡ Ok (Some (heard c m).1) = is in cc)
 turned_fault (NoFrame d) c e left t u is = absurd (let x : Err e ≡ Ok None = is in cc)
@@ -138,13 +142,15 @@ fault_step (Gave x) c e left t u is = absurd is
 fault_step (Turned got) c e left t u is = turned_fault got c e left t u is
 fault_step (Broke place) c e left t u is = is_error e LinkFault (λ x. Stopped left x (Broke place ∷ []) t u) is (faulted (Broke place) left t u refl refl refl)
 
-stopped : (ys : List Step) (e : DriverError) (left : List client.Command) (t u : Seen) → Goes ys t u → TurnAnswers t.client ys (Err e) → MayWant left t.client → Stopped left e ys t u
+stopped : (ys : List Step) (e : DriverError) (left : List client.Command) (t u : Seen) → Goes ys t u → TurnAnswers t.client ys (Err e) → MayWant left t.client
+    → Stopped left e ys t u
 stopped [] e left t u goes is may = is_error e (Client OutOfMemory) (λ x. Stopped left x [] t u) is (wanting left t u goes may)
 stopped (s ∷ []) e left t u goes is may = fault_step s t.client e left t u is
 stopped (s ∷ r ∷ ss) e left t u goes is may = absurd is
 
 -- a call that ends by a turn's error, before these commands
-pub turning_stops : (left : List client.Command) (n bound : ℕ) (e : DriverError) (s t u : Seen) → n < bound → Turning n s t → MayWant left t.client → TakesTurn (Err e) t u
+pub turning_stops : (left : List client.Command) (n bound : ℕ) (e : DriverError) (s t u : Seen) → n < bound → Turning n s t → MayWant left t.client
+    → TakesTurn (Err e) t u
     → (steps : List Step) × Does {T = Unit {0}} left bound (Err e) steps s u
 turning_stops left n bound e s t u below (xs, so_far) may (ys, goes, answers) =
     let last = stopped ys e left t u goes answers may in (
@@ -158,7 +164,8 @@ turning_stops left n bound e s t u below (xs, so_far) may (ys, goes, answers) =
     )
 
 -- a call whose turns are over before these commands
-pub turning_over : (left : List client.Command) (n : ℕ) (s t : Seen) → Turning n s t → (steps : List Step) × Does {T = Unit {0}} left n (Err TurnsOver) steps s t
+pub turning_over : (left : List client.Command) (n : ℕ) (s t : Seen) → Turning n s t → (steps : List Step)
+    × Does {T = Unit {0}} left n (Err TurnsOver) steps s t
 turning_over left n s t (xs, so_far) = (
   xs,
   record {
@@ -223,19 +230,22 @@ faults_on (Err LinkFault) xs ys none h = record {
 }
 faults_on (Err (ConditionFailed t)) xs ys none h = faults_in-append xs ys ∙ (ap (λ k. k + faults_in ys) none ∙ (zero-add (faults_in ys) ∙ h))
 
-bound_on : {T : Type 0} (r : Result T DriverError) (n left bound : ℕ) (xs ys : List Step) → turns_in xs ≡ n → n + left ≡ bound → TakesTurns r left ys → TakesTurns r bound (xs ++ ys)
+bound_on : {T : Type 0} (r : Result T DriverError) (n left bound : ℕ) (xs ys : List Step) → turns_in xs ≡ n → n + left ≡ bound → TakesTurns r left ys
+    → TakesTurns r bound (xs ++ ys)
 bound_on (Ok v) n left bound xs ys is sum h = omega (arith, turns_in-append xs ys, is, sum, h)
 bound_on (Err (Client e)) n left bound xs ys is sum h = omega (arith, turns_in-append xs ys, is, sum, h)
 bound_on (Err TurnsOver) n left bound xs ys is sum h = omega (arith, turns_in-append xs ys, is, sum, h)
 bound_on (Err LinkFault) n left bound xs ys is sum h = omega (arith, turns_in-append xs ys, is, sum, h)
 bound_on (Err (ConditionFailed t)) n left bound xs ys is sum h = omega (arith, turns_in-append xs ys, is, sum, h)
 
-commands_on : {T : Type 0} (r : Result T DriverError) (xs : List client.Command) (ss ts : List Step) (u : Seen) → commands_by ss ≡ xs → GivesCommands [] r ts u → GivesCommands xs r (ss ++ ts) u
+commands_on : {T : Type 0} (r : Result T DriverError) (xs : List client.Command) (ss ts : List Step) (u : Seen) → commands_by ss ≡ xs → GivesCommands [] r ts u
+    → GivesCommands xs r (ss ++ ts) u
 commands_on (Ok v) xs ss ts u first second = commands_by-append ss ts ∙ (ap (λ zs. zs ++ commands_by ts) first ∙ (ap (λ zs. xs ++ zs) second ∙ append-nil xs))
 commands_on (Err e) xs ss ts u first second =
     let none = nothing_left (commands_by ts) second.0 second.1 in (
       [],
-      sym (append-nil (commands_by (ss ++ ts)) ∙ (commands_by-append ss ts ∙ (ap (λ zs. zs ++ commands_by ts) first ∙ (ap (λ zs. xs ++ zs) none.0 ∙ append-nil xs)))),
+      sym (append-nil (commands_by (ss ++ ts)) ∙ (commands_by-append ss ts
+          ∙ (ap (λ zs. zs ++ commands_by ts) first ∙ (ap (λ zs. xs ++ zs) none.0 ∙ append-nil xs)))),
       subst (λ zs. StopsBefore u.client zs e) none.1 second.2,
     )
 
@@ -259,9 +269,11 @@ taken_is c u (Err e) (d, is) same = cc
 pub given_is : (x : Command) (t u : Seen) → Goes (Gave x ∷ []) t u → client.command t.client (core_command x) ≡ Ok u.client
 given_is x t u goes = taken_is t.client u.client (client.command t.client (core_command x)) goes.can.0 goes.client
 
-pub logged_after : (x : Command) (n left bound : ℕ) (s t u : Seen) → Turning n s t → n + left ≡ bound → Goes (Gave x ∷ []) t u → Logged (core_command x) bound (Ok left) s u
+pub logged_after : (x : Command) (n left bound : ℕ) (s t u : Seen) → Turning n s t → n + left ≡ bound → Goes (Gave x ∷ []) t u
+    → Logged (core_command x) bound (Ok left) s u
 logged_after x n left bound s t u (xs, so_far) sum goes =
-    let one : commands_by (xs ++ Gave x ∷ []) ≡ core_command x ∷ [] = commands_by-append xs (Gave x ∷ []) ∙ ap (λ zs. zs ++ core_command x ∷ []) so_far.silent in
+    let one : commands_by (xs ++ Gave x ∷ []) ≡ core_command x ∷ [] = commands_by-append xs (Gave x ∷ [])
+    ∙ ap (λ zs. zs ++ core_command x ∷ []) so_far.silent in
     let count : turns_in (xs ++ Gave x ∷ []) ≡ n = turns_in-append xs (Gave x ∷ []) ∙ (add-zero (turns_in xs) ∙ so_far.count) in (
       xs ++ Gave x ∷ [],
       record {
@@ -297,7 +309,8 @@ refused_after x n bound (ConditionFailed k) s t within so_far refuses = absurd r
 pub turning_same : (n : ℕ) (s t u : Seen) → u ≡ t → Turning n s t → Turning n s u
 turning_same n s t u same h = subst (Turning n s) (sym same) h
 
-pub refused_same : (x : client.Command) (n bound : ℕ) (e : DriverError) (s t u : Seen) → n ≤ bound → Turning n s t → RefusesWith (client.command t.client x) e × (u ≡ t)
+pub refused_same : (x : client.Command) (n bound : ℕ) (e : DriverError) (s t u : Seen) → n ≤ bound → Turning n s t → RefusesWith (client.command t.client x) e
+    × (u ≡ t)
     → (steps : List Step) × Does {T = Unit {0}} (x ∷ []) bound (Err e) steps s u
 refused_same x n bound e s t u within so_far (refuses, same) =
     let P : Seen → Type 0 = λ v. (steps : List Step) × Does {T = Unit {0}} (x ∷ []) bound (Err e) steps s v in
@@ -327,12 +340,14 @@ turn_notes [] c told is = cc
 turn_notes (s ∷ []) c told is = step_notes s c told is
 turn_notes (s ∷ r ∷ ss) c told is = absurd is
 
-last_told : (xs ys : List Step) (s t : Seen) (told : ClientNote) → t.client ≡ walk s.client xs → notes_by t.client ys ≡ told ∷ [] → Contains (notes_by s.client (xs ++ ys)) told
+last_told : (xs ys : List Step) (s t : Seen) (told : ClientNote) → t.client ≡ walk s.client xs → notes_by t.client ys ≡ told ∷ []
+    → Contains (notes_by s.client (xs ++ ys)) told
 last_told xs ys s t told is last =
     let there : notes_by (walk s.client xs) ys ≡ told ∷ [] = subst (λ c. notes_by c ys ≡ told ∷ []) is last in
     rw (notes_by-append xs ys s.client, there) (Contains-push (notes_by s.client xs) told)
 
-answered_now : (h : HandlerId) (k : ℕ) (x : Answer) (n bound : ℕ) (s t u : Seen) → n < bound → Turning n s t → TakesTurn (Ok (Some (Accepted h k x))) t u → Answered h bound (Ok x) s u
+answered_now : (h : HandlerId) (k : ℕ) (x : Answer) (n bound : ℕ) (s t u : Seen) → n < bound → Turning n s t → TakesTurn (Ok (Some (Accepted h k x))) t u
+    → Answered h bound (Ok x) s u
 answered_now h k x n bound s t u below (xs, so_far) (ys, goes, answers) =
     let one = one_step ys t.client (Some (Accepted h k x)) answers in
     let all = turn_more n xs ys one.0 s t u so_far goes one.1 (sound_step one.0 t.client (Some (Accepted h k x)) one.2) in (
@@ -351,7 +366,8 @@ answered_over h n s t so_far =
     let all = turning_over [] n s t so_far in
     (all.0, does_err (Unit {0}) Answer [] n TurnsOver all.0 s t all.1, tt)
 
-pub answered_not : (h : HandlerId) (n bound : ℕ) (e : DriverError) (s t u : Seen) → n < bound → Turning n s t → TakesTurn (Err e) t u → Answered h bound (Err e) s u
+pub answered_not : (h : HandlerId) (n bound : ℕ) (e : DriverError) (s t u : Seen) → n < bound → Turning n s t → TakesTurn (Err e) t u
+    → Answered h bound (Err e) s u
 answered_not h n bound e s t u below so_far turn =
     let all = turning_stops [] n bound e s t u below so_far (tt {0}) turn in
     (all.0, does_err (Unit {0}) Answer [] bound e all.0 s u all.1, tt)
@@ -368,18 +384,22 @@ pub refused_now : (x : client.Command) (bound : ℕ) (e : ClientError) (s t : Se
 refused_now x bound e s t refuses same = refused_same x 0 bound (Client e) s s t (omega arith) (turning_none s) (refuses, same)
 
 -- a command, and then turns up to a phase
-pub given_reached : (x : Command) (phase : Phase) (turns : ℕ) (r : Result (Unit {0}) DriverError) (s t u : Seen) → Goes (Gave x ∷ []) s t → Reached phase turns r t u → Called (core_command x) turns r s u
+pub given_reached : (x : Command) (phase : Phase) (turns : ℕ) (r : Result (Unit {0}) DriverError) (s t u : Seen) → Goes (Gave x ∷ []) s t
+    → Reached phase turns r t u → Called (core_command x) turns r s u
 given_reached x phase turns r s t u goes (ys, does, there) =
     (Gave x ∷ ys, does_on (tt {0}) r (core_command x ∷ []) 0 turns turns (Gave x ∷ []) ys s t u (given_does x s t goes) (zero-add turns) does)
 
-pub logged_reached : (x : client.Command) (phase : Phase) (left turns : ℕ) (r : Result (Unit {0}) DriverError) (s t u : Seen) → Logged x turns (Ok left) s t → Reached phase left r t u → Called x turns r s u
+pub logged_reached : (x : client.Command) (phase : Phase) (left turns : ℕ) (r : Result (Unit {0}) DriverError) (s t u : Seen) → Logged x turns (Ok left) s t
+    → Reached phase left r t u → Called x turns r s u
 logged_reached x phase left turns r s t u (xs, logs) (ys, does, there) =
     (xs ++ ys, does_on left r (x ∷ []) turns left turns xs ys s t u logs.does logs.rest does)
 
-pub reached_there : (phase : Phase) (turns : ℕ) (r : Result (Unit {0}) DriverError) (s t : Seen) → Reached phase turns r s t → OnOk r (phase_of t.client ≡ phase)
+pub reached_there : (phase : Phase) (turns : ℕ) (r : Result (Unit {0}) DriverError) (s t : Seen) → Reached phase turns r s t
+    → OnOk r (phase_of t.client ≡ phase)
 reached_there phase turns r s t (ys, does, there) = there
 
-runs_where : (hs : List HandlerId) (turns : ℕ) (r : Result (Unit {0}) DriverError) (c : ClientState) (ys : List Step) (s t : Seen) → client.command c (client.Reserve hs) ≡ Ok s.client
+runs_where : (hs : List HandlerId) (turns : ℕ) (r : Result (Unit {0}) DriverError) (c : ClientState) (ys : List Step) (s t : Seen)
+    → client.command c (client.Reserve hs) ≡ Ok s.client
     → Does [] turns r ys s t → OnOk r (phase_of t.client ≡ Running) → OnOk r (RunsNext c t.client)
 runs_where hs turns (Ok u) c ys s t taken does there = runs_next hs ys c s.client t.client taken does.commands does.goes.client there
 runs_where hs turns (Err e) c ys s t taken does there = there
@@ -390,7 +410,8 @@ pub reserve_runs : (x : Command) (hs : List HandlerId) (turns : ℕ) (r : Result
 reserve_runs x hs turns r s t u is goes (ys, does, there) =
     runs_where hs turns r s.client ys t u (subst (λ y. client.command s.client y ≡ Ok t.client) is (given_is x s t goes)) does there
 
-query_answers : (h : HandlerId) (q : Request) (r : Result Answer DriverError) (left : ℕ) (xs ys : List Step) (s t u : Seen) → t.client ≡ walk s.client xs → commands_by xs ≡ client.DoQuery h q ∷ []
+query_answers : (h : HandlerId) (q : Request) (r : Result Answer DriverError) (left : ℕ) (xs ys : List Step) (s t u : Seen) → t.client ≡ walk s.client xs
+    → commands_by xs ≡ client.DoQuery h q ∷ []
     → (n : ℕ) × (t.client.waits ≡ Some (h, n)) → Does [] left r ys t u → AnswerComes t.client ys h r → QueryAnswers s.client (xs ++ ys) h q r
 query_answers h q (Ok a) left xs ys s t u is asks (n, waits) does (k, there) =
     let asked : t.client.waits ≡ Some (h, k) = accepted_waits ys t.client h k a does.commands there in
@@ -406,14 +427,16 @@ query_answers h q (Ok a) left xs ys s t u is asks (n, waits) does (k, there) =
     }
 query_answers h q (Err e) left xs ys s t u is asks waits does there = tt
 
-pub queried_answered : (h : HandlerId) (q : Request) (left turns : ℕ) (r : Result Answer DriverError) (s t u : Seen) → Logged (client.DoQuery h q) turns (Ok left) s t → Answered h left r t u → Queried h q turns r s u
+pub queried_answered : (h : HandlerId) (q : Request) (left turns : ℕ) (r : Result Answer DriverError) (s t u : Seen)
+    → Logged (client.DoQuery h q) turns (Ok left) s t → Answered h left r t u → Queried h q turns r s u
 queried_answered h q left turns r s t u (xs, logs) (ys, does, comes) = (
   xs ++ ys,
   does_on left r (client.DoQuery h q ∷ []) turns left turns xs ys s t u logs.does logs.rest does,
   query_answers h q r left xs ys s t u logs.does.goes.client logs.does.commands (query_waits logs.from t.client h q logs.taken) does comes,
 )
 
-pub queried_not : (h : HandlerId) (q : Request) (turns : ℕ) (e : DriverError) (s t : Seen) → Called {T = Unit {0}} (client.DoQuery h q) turns (Err e) s t → Queried h q turns (Err e) s t
+pub queried_not : (h : HandlerId) (q : Request) (turns : ℕ) (e : DriverError) (s t : Seen) → Called {T = Unit {0}} (client.DoQuery h q) turns (Err e) s t
+    → Queried h q turns (Err e) s t
 queried_not h q turns e s t (xs, does) = (xs, does_err (Unit {0}) Answer (client.DoQuery h q ∷ []) turns e xs s t does, tt)
 
 -- a call that was logged
@@ -422,7 +445,8 @@ called_logged x left turns s t (xs, logs) =
     (xs, record { goes = logs.does.goes; commands = logs.does.commands; faults = logs.does.faults; bound = logs.does.bound })
 
 -- a reserve of handlers that are handed over as a list
-pub reserve_reached : (x : Command) (hs : List HandlerId) (n turns : ℕ) (r : Result (Unit {0}) DriverError) (s t u : Seen) → core_command x ≡ client.Reserve hs → n ≡ turns
+pub reserve_reached : (x : Command) (hs : List HandlerId) (n turns : ℕ) (r : Result (Unit {0}) DriverError) (s t u : Seen) → core_command x ≡ client.Reserve hs
+    → n ≡ turns
     → Goes (Gave x ∷ []) s t → Reached Running n r t u → Called (client.Reserve hs) turns r s u
 reserve_reached x hs n turns r s t u is same goes reached =
     subst (λ y. Called y turns r s u) is (subst (λ k. Called (core_command x) k r s u) same (given_reached x Running n r s t u goes reached))
@@ -436,5 +460,6 @@ reserve_refused x hs turns e s t is (refused, same) =
 pub gave_up : (s t : Seen) → Goes (Gave given.GiveUp ∷ []) s t → Called client.GiveUp 0 (Ok (tt {0})) s t
 gave_up s t goes = (Gave given.GiveUp ∷ [], given_does given.GiveUp s t goes)
 
-pub not_given_up : (e : ClientError) (s t : Seen) → client.IsRefused (client.command s.client client.GiveUp) e × (t ≡ s) → Called {T = Unit {0}} client.GiveUp 0 (Err (Client e)) s t
+pub not_given_up : (e : ClientError) (s t : Seen) → client.IsRefused (client.command s.client client.GiveUp) e × (t ≡ s)
+    → Called {T = Unit {0}} client.GiveUp 0 (Err (Client e)) s t
 not_given_up e s t (refused, same) = refused_now client.GiveUp 0 e s t (give_up_refuses s.client e refused) same

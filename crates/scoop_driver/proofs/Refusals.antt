@@ -14,7 +14,7 @@ use Rattle.scoop_reserve.specs.Handlers.{first_repeated, first_unknown}
 use Rattle.scoop_reserve.specs.Starting.{started, unless_repeated, fresh}
 use Rattle.scoop_client.specs.declared.error.ClientError.{ClientError}
 use Rattle.scoop_client.specs.declared.error.ClientError.TheVariants.{NotGreeted, NotIdle, NoBlock, Waiting, NotReserved, WindowFull, TooLate, Spent, Reserve as NotReservable, OutOfMemory}
-use Rattle.scoop_client.specs.Line.{logged}
+use Rattle.scoop_client.specs.Window.{logged}
 use Rattle.scoop_client.specs.State.{ClientState}
 use Rattle.scoop_client.specs.Commands.{Command, Outcome, Reserve, DoCall, DoQuery, DoEnd, GiveUp, command, next_block, IsRefused, CommandedAlways}
 use Rattle.scoop_client.specs.Rows.{CommandRow, ReserveRow, LogRow, EndRow, GiveUpRow, reserve_not_greeted, reserve_not_idle, reserve_spent, reserve_refused, begins_block, log_not_greeted, log_no_block, log_waiting, log_not_reserved, log_window_full, log_spent, is_logged, end_not_greeted, end_no_block, end_waiting, end_window_full, ends_block, give_up_not_greeted, give_up_no_block, give_up_too_late, gives_up}
@@ -68,17 +68,20 @@ give_up_refuses c e h = refusal_of (command c GiveUp) (λ x is. give_up_refusal 
 
 -- ---- what a reserve that is taken says
 
-few : (b : Bool) (n : ℕ) (rest : Result ReservationState ReserveError) → nat_lt MAX_BLOCK_HANDLERS n ≡ b → IsOk (if b then Err TooMany else rest) → n ≤ MAX_BLOCK_HANDLERS
+few : (b : Bool) (n : ℕ) (rest : Result ReservationState ReserveError) → nat_lt MAX_BLOCK_HANDLERS n ≡ b → IsOk (if b then Err TooMany else rest)
+    → n ≤ MAX_BLOCK_HANDLERS
 few true n rest is h = not_ok h
 few false n rest is h = grind (arith, nat_tests, is)
 
-few_or_none : (b : Bool) (n : ℕ) (rest : Result ReservationState ReserveError) → IsOk (if b then Err Empty else if nat_lt MAX_BLOCK_HANDLERS n then Err TooMany else rest) → n ≤ MAX_BLOCK_HANDLERS
+few_or_none : (b : Bool) (n : ℕ) (rest : Result ReservationState ReserveError)
+    → IsOk (if b then Err Empty else if nat_lt MAX_BLOCK_HANDLERS n then Err TooMany else rest) → n ≤ MAX_BLOCK_HANDLERS
 few_or_none true n rest h = not_ok h
 few_or_none false n rest h = few (nat_lt MAX_BLOCK_HANDLERS n) n rest refl h
 
 few_started : (c : ClientState) (hs : List HandlerId) (r : ReservationState) → started (next_block c) hs c.handlers ≡ Ok r → length hs ≤ MAX_BLOCK_HANDLERS
 few_started c hs r is =
-    few_or_none (length hs == 0) (length hs) (unless_repeated (fresh (next_block c) hs) (first_repeated hs) (first_unknown c.handlers hs)) (subst IsOk (sym is) refl)
+    few_or_none (length hs == 0) (length hs) (unless_repeated (fresh (next_block c) hs) (first_repeated hs) (first_unknown c.handlers hs))
+    (subst IsOk (sym is) refl)
 
 few_taken : (c : ClientState) (hs : List HandlerId) (o : Outcome) → ReserveRow c hs o → IsOk o → length hs ≤ MAX_BLOCK_HANDLERS
 few_taken c hs o (reserve_not_greeted g) h = not_ok h

@@ -73,7 +73,7 @@ one_carries : (c : ClientState) (h : HandlerId) (o : Option Message) → c.batch
 one_carries c h o one owes_nothing = tt
 one_carries c h o one (greets greeted) = tt
 one_carries c h o one (reserves r m greeted held owes) = subst (CarriesAny One) owes (reserved_carries r h r.stage)
-one_carries c h o one (logs r l greeted held free opened line some) =
+one_carries c h o one (logs r l greeted held free opened window some) =
     let full : 0 < length l.unacked = grind (arith, nat_tests, some) in
     let batch = is_batch c.batch l.unacked (omega arith) full in
     omega (arith, batch.some, batch.limit)
@@ -112,7 +112,8 @@ sending_passes : (c : ClientState) (i : ℕ) (d : HandlerId) (a b : Option Told)
     → i < length c.handlers → due c (get_or c.handlers i d) ≡ None → Sending c i a b n k → Sending c (i + 1) a b n k
 sending_passes c i d a b n k within none so_far =
     let same : dues c (take (i + 1) c.handlers) ≡ dues c (take i c.handlers) =
-    dues_more c i d within ∙ (ap (λ o. dues c (take i c.handlers) ++ with_due c.batch (get_or c.handlers i d) o []) none ∙ append-nil (dues c (take i c.handlers))) in
+    dues_more c i d within ∙ (ap (λ o. dues c (take i c.handlers) ++ with_due c.batch (get_or c.handlers i d) o []) none
+    ∙ append-nil (dues c (take i c.handlers))) in
     record { sent = rw same so_far.sent; faults = so_far.faults }
 
 sending_sends : (c : ClientState) (i : ℕ) (d : HandlerId) (m : Message) (a b e : Option Told) (n k l : ℕ)
@@ -153,18 +154,21 @@ module _ (c : ClientState) (hs : List HandlerId) (is : hs ≡ c.handlers) (i : �
       sending_sends c i d m a b e n k l (own (λ xs. i < length xs) within) (own (λ xs. due c (get_or xs i d) ≡ Some m) some)
       (own (λ xs. Exchanges b e [] ((Handler (get_or xs i d), frame (version_for c.batch) m) ∷ [])) one) same so_far
 
-  pub list_breaks : (m : Message) (a b e : Option Told) (n k : ℕ) → due c (get_or hs i d) ≡ Some m → Exchanges b e [] [] → Sending c i a b n k → SentDue (Err i) c a e
+  pub list_breaks : (m : Message) (a b e : Option Told) (n k : ℕ) → due c (get_or hs i d) ≡ Some m → Exchanges b e [] [] → Sending c i a b n k
+      → SentDue (Err i) c a e
   list_breaks m a b e n k some sent so_far =
       sending_breaks c i d m a b e n k (own (λ xs. i < length xs) within) (own (λ xs. due c (get_or xs i d) ≡ Some m) some) sent so_far
 
 -- the front of the buffer is the frame, and a link keeps it whole
-pub frame_kept : (v w : Version) (m : Message) (buffer rest : List ℕ) (n : ℕ) → w ≡ v → buffer ≡ frame w m ++ rest → n ≡ length (frame w m) → n ≤ MAX_FRAME → kept (take n buffer) ≡ frame v m
+pub frame_kept : (v w : Version) (m : Message) (buffer rest : List ℕ) (n : ℕ) → w ≡ v → buffer ≡ frame w m ++ rest → n ≡ length (frame w m) → n ≤ MAX_FRAME
+    → kept (take n buffer) ≡ frame v m
 frame_kept v w m buffer rest n same is len short =
     ap (λ b. kept (take n b)) is
     ∙ (ap kept (take_at (frame w m) rest n (sym len)) ∙ (take_all BUFFER_LEN (frame w m) (omega (arith, len, short)) ∙ ap (λ u. frame u m) same))
 
 -- what came is no frame, and is kept whole
-pub no_frame : (d bytes : List ℕ) (a b : Option Told) → length bytes ≤ BUFFER_LEN → d ≡ kept bytes → IsNoFrame bytes → Exchanges a b (bytes ∷ []) [] → Receives (NoFrame d) a b
+pub no_frame : (d bytes : List ℕ) (a b : Option Told) → length bytes ≤ BUFFER_LEN → d ≡ kept bytes → IsNoFrame bytes → Exchanges a b (bytes ∷ []) []
+    → Receives (NoFrame d) a b
 no_frame d bytes a b short is none took =
     let same : d ≡ bytes = is ∙ take_all BUFFER_LEN bytes short in
     rw same (record { can = none; took = took })

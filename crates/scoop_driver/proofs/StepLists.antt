@@ -22,7 +22,8 @@ can_append (x ∷ xs) ys c first second = (first.0, can_append xs ys (after c x)
 pub sent_by-append : (xs ys : List Step) (c : ClientState) → sent_by c (xs ++ ys) ≡ sent_by c xs ++ sent_by (walk c xs) ys
 sent_by-append [] ys c = refl
 sent_by-append (x ∷ xs) ys c =
-    ap (λ ds. sent_at c x ++ ds) (sent_by-append xs ys (after c x)) ∙ sym (append_assoc (sent_at c x) (sent_by (after c x) xs) (sent_by (walk (after c x) xs) ys))
+    ap (λ ds. sent_at c x ++ ds) (sent_by-append xs ys (after c x))
+    ∙ sym (append_assoc (sent_at c x) (sent_by (after c x) xs) (sent_by (walk (after c x) xs) ys))
 
 pub taken_by-append : (xs ys : List Step) → taken_by (xs ++ ys) ≡ taken_by xs ++ taken_by ys
 taken_by-append [] ys = refl
@@ -36,7 +37,8 @@ commands_by-append (x ∷ xs) ys =
 pub notes_by-append : (xs ys : List Step) (c : ClientState) → notes_by c (xs ++ ys) ≡ notes_by c xs ++ notes_by (walk c xs) ys
 notes_by-append [] ys c = refl
 notes_by-append (x ∷ xs) ys c =
-    ap (λ zs. note_at c x ++ zs) (notes_by-append xs ys (after c x)) ∙ sym (append_assoc (note_at c x) (notes_by (after c x) xs) (notes_by (walk (after c x) xs) ys))
+    ap (λ zs. note_at c x ++ zs) (notes_by-append xs ys (after c x))
+    ∙ sym (append_assoc (note_at c x) (notes_by (after c x) xs) (notes_by (walk (after c x) xs) ys))
 
 pub faults_in-append : (xs ys : List Step) → faults_in (xs ++ ys) ≡ faults_in xs + faults_in ys
 faults_in-append [] ys = sym (zero-add (faults_in ys))
@@ -74,7 +76,8 @@ goes_on xs ys s t u first second =
       link =
           rw (taken_by-append xs ys, sent_by-append xs ys s.client)
           (exchanges-append s.told t.told u.told _ _ _ _ first.link (from (λ c. Exchanges t.told u.told (taken_by ys) (sent_by c ys)) second.link));
-      faults = second.faults ∙ (ap (λ n. n + faults_in ys) first.faults ∙ (add_assoc s.faults (faults_in xs) (faults_in ys) ∙ ap (λ n. s.faults + n) (sym (faults_in-append xs ys))));
+      faults = second.faults ∙ (ap (λ n. n + faults_in ys) first.faults
+          ∙ (add_assoc s.faults (faults_in xs) (faults_in ys) ∙ ap (λ n. s.faults + n) (sym (faults_in-append xs ys))));
       diary = second.diary ∙ (ap (λ o. noted o ys) first.diary ∙ noted-append s.diary xs ys);
     }
 

@@ -23,7 +23,8 @@ use Rattle.scoop_driver.proofs.StepLists.{goes_nothing}
 abbrev pub seen : ClientState → Option Told → ℕ → Option (List Step) → Seen
 seen c told faults diary = record { client = c; told = told; faults = faults; diary = diary }
 
-pub turned_not : (c : ClientState) (a : Option Told) (n : ℕ) (o p : Option (List Step)) → p ≡ o → TakesTurn (Err (Client OutOfMemory)) (seen c a n o) (seen c a n p)
+pub turned_not : (c : ClientState) (a : Option Told) (n : ℕ) (o p : Option (List Step)) → p ≡ o
+    → TakesTurn (Err (Client OutOfMemory)) (seen c a n o) (seen c a n p)
 turned_not c a n o p same = ([], subst (λ x. Goes [] (seen c a n o) (seen c a n x)) (sym same) (goes_nothing (seen c a n o)), refl)
 
 pub turned_broken : (c : ClientState) (a b : Option Told) (n k place : ℕ) (o m p : Option (List Step))
@@ -40,7 +41,8 @@ turned_broken c a b n k place o m p sent faults same kept = (
   refl,
 )
 
-pub turned_whole : (r : Result (Option ClientNote) DriverError) (got : Received) (c d : ClientState) (a b e : Option Told) (n k l : ℕ) (o m p : Option (List Step))
+pub turned_whole : (r : Result (Option ClientNote) DriverError) (got : Received) (c d : ClientState) (a b e : Option Told) (n k l : ℕ)
+    (o m p : Option (List Step))
     → SentDue (Ok (tt {0})) c a b → k ≡ n + 0 → Receives got b e → l ≡ k + receive_faults got → m ≡ o → p ≡ noted m (Turned got ∷ [])
     → d ≡ after_message c (message_in got) → NoteAnswers c got r → TakesTurn r (seen c a n o) (seen d e l p)
 turned_whole r got c d a b e n k l o m p sent first took second same kept hears answers = (
@@ -62,7 +64,8 @@ pub record Hears (got : Received) (c d : ClientState) (r : Result (Option Client
   pub after : d ≡ after_message c (message_in got)
   pub answers : NoteAnswers c got r
 
-pub hears_message : (got : Received) (c d : ClientState) (m : Message) (note : ClientNote) → TellsMessage got (Ok (Some m)) → heard c m ≡ (d, note) → Hears got c d (Ok (Some note))
+pub hears_message : (got : Received) (c d : ClientState) (m : Message) (note : ClientNote) → TellsMessage got (Ok (Some m)) → heard c m ≡ (d, note)
+    → Hears got c d (Ok (Some note))
 hears_message Nothing c d m note is hears = absurd (let e : Ok (Some m) ≡ Ok None = is in cc)
 hears_message (Frame v x) c d m note is hears =
     let same : m ≡ x = cc in

@@ -67,17 +67,21 @@ logging_item n body i x s t below is (xs, part, so_far) =
     ap calls (drop_more body i x below) ∙ ap (λ (y : HandlerId × Request). DoCall y.0 y.1 ∷ calls (drop (i + 1) body)) (sym is) in
     (xs, part, so_far ∙ ap (λ zs. commands_by xs ++ zs) next)
 
-one_more : (all left : List Command) (x : Command) (xs ys : List Step) → all ≡ commands_by xs ++ x ∷ left → commands_by ys ≡ x ∷ [] → all ≡ commands_by (xs ++ ys) ++ left
+one_more : (all left : List Command) (x : Command) (xs ys : List Step) → all ≡ commands_by xs ++ x ∷ left → commands_by ys ≡ x ∷ []
+    → all ≡ commands_by (xs ++ ys) ++ left
 one_more all left x xs ys so_far one =
-    so_far ∙ (sym (append_assoc (commands_by xs) (x ∷ []) left) ∙ ap (λ zs. zs ++ left) (ap (λ zs. commands_by xs ++ zs) (sym one) ∙ sym (commands_by-append xs ys)))
+    so_far ∙ (sym (append_assoc (commands_by xs) (x ∷ []) left)
+    ∙ ap (λ zs. zs ++ left) (ap (λ zs. commands_by xs ++ zs) (sym one) ∙ sym (commands_by-append xs ys)))
 
 times_more : (n turns : ℕ) → n * turns + turns ≡ (n + 1) * turns
 times_more n turns = grind arith
 
-pub logging_more : (i turns : ℕ) (all left : List Command) (x : Command) (s t u : Seen) → Logging (i * turns) all (x ∷ left) s t → Called x turns (Ok (tt {0})) t u → Logging ((i + 1) * turns) all left s u
+pub logging_more : (i turns : ℕ) (all left : List Command) (x : Command) (s t u : Seen) → Logging (i * turns) all (x ∷ left) s t
+    → Called x turns (Ok (tt {0})) t u → Logging ((i + 1) * turns) all left s u
 logging_more i turns all left x s t u (xs, part, so_far) (ys, does) = (
   xs ++ ys,
-  part_as (i * turns + turns) ((i + 1) * turns) (xs ++ ys) s u (times_more i turns) (part_on (i * turns) turns xs ys s t u part (part_of (tt {0}) (x ∷ []) turns ys t u does)),
+  part_as (i * turns + turns) ((i + 1) * turns) (xs ++ ys) s u (times_more i turns)
+      (part_on (i * turns) turns xs ys s t u part (part_of (tt {0}) (x ∷ []) turns ys t u does)),
   one_more all left x xs ys so_far does.commands,
 )
 
@@ -93,12 +97,25 @@ logged_not body i turns left x e s t u below (xs, part, so_far) (ys, does) = (
   record {
     goes = goes_on xs ys s t u part.goes does.goes;
     faults = faults_on {T = Unit {0}} (Err e) xs ys part.sound does.faults;
-    bound = times_at_most i (length body) turns (turns_in (xs ++ ys)) below (omega (arith, turns_in-append xs ys, part.bound, within {T = Unit {0}} (Err e) turns ys does.bound));
-    gives = record { done = commands_by xs; next = x; left = left; are = so_far; earlier = xs; last = ys; steps_are = refl; gives = refl; stops = does.commands };
+    bound = times_at_most i (length body) turns (turns_in (xs ++ ys)) below
+        (omega (arith, turns_in-append xs ys, part.bound, within {T = Unit {0}} (Err e) turns ys does.bound));
+    gives = record {
+      done = commands_by xs;
+      next = x;
+      left = left;
+      are = so_far;
+      earlier = xs;
+      last = ys;
+      steps_are = refl;
+      gives = refl;
+      stops =
+          does.commands;
+    };
   },
 )
 
-pub logged_all : (body : List (HandlerId × Request)) (i turns : ℕ) (s t : Seen) → i ≤ length body → Logging (i * turns) (calls body) [] s t → LoggedBody body turns (Ok (tt {0})) s t
+pub logged_all : (body : List (HandlerId × Request)) (i turns : ℕ) (s t : Seen) → i ≤ length body → Logging (i * turns) (calls body) [] s t
+    → LoggedBody body turns (Ok (tt {0})) s t
 logged_all body i turns s t below (xs, part, so_far) =
     let more : i * turns ≤ length body * turns = mul-le-mul_right turns below in (
       xs,
@@ -162,7 +179,8 @@ rest_of_body w turns t u (ys, logs) = (
   },
 )
 
-pub block_done : (w : Wish) (held : Bool) (turns : ℕ) (s t u v : Seen) → Testing w held turns s t → Rest w held turns t u → Called DoEnd turns (Ok (tt {0})) u v → phase_of v.client ≡ Idle
+pub block_done : (w : Wish) (held : Bool) (turns : ℕ) (s t u v : Seen) → Testing w held turns s t → Rest w held turns t u → Called DoEnd turns (Ok (tt {0})) u v
+    → phase_of v.client ≡ Idle
     → Tried w turns (Ok held) s v
 block_done w held turns s t u v (xs, test) (ys, more) (zs, does) idle =
     let finish = part_on (length w.body * turns) turns ys zs t u v more.part (part_of (tt {0}) (DoEnd ∷ []) turns zs u v does) in
@@ -183,7 +201,8 @@ block_done w held turns s t u v (xs, test) (ys, more) (zs, does) idle =
       },
     )
 
-pub block_broke_ending : (w : Wish) (held : Bool) (turns : ℕ) (e : DriverError) (s t u v : Seen) → Testing w held turns s t → Rest w held turns t u → Called {T = Unit {0}} DoEnd turns (Err e) u v
+pub block_broke_ending : (w : Wish) (held : Bool) (turns : ℕ) (e : DriverError) (s t u v : Seen) → Testing w held turns s t → Rest w held turns t u
+    → Called {T = Unit {0}} DoEnd turns (Err e) u v
     → Tried w turns (Err e) s v
 block_broke_ending w held turns e s t u v (xs, test) (ys, more) (zs, does) =
     let front = part_on (turns + turns) (length w.body * turns) xs ys s t u test.part more.part in
@@ -192,8 +211,10 @@ block_broke_ending w held turns e s t u v (xs, test) (ys, more) (zs, does) =
       xs ++ (ys ++ zs),
       record {
         goes = subst (λ ss. Goes ss s v) same (goes_on (xs ++ ys) zs s u v front.goes does.goes);
-        faults = subst (TellsFault {T = Bool} (Err e)) same (faults_on {T = Bool} (Err e) (xs ++ ys) zs front.sound (faults_as (Unit {0}) Bool e zs does.faults));
-        bound = block_bound (length w.body) turns (turns_in (xs ++ (ys ++ zs))) (omega (arith, ap turns_in same, turns_in-append (xs ++ ys) zs, front.bound, last));
+        faults = subst (TellsFault {T = Bool} (Err e)) same (faults_on {T = Bool} (Err e) (xs ++ ys) zs front.sound
+            (faults_as (Unit {0}) Bool e zs does.faults));
+        bound = block_bound (length w.body) turns (turns_in (xs ++ (ys ++ zs)))
+            (omega (arith, ap turns_in same, turns_in-append (xs ++ ys) zs, front.bound, last));
         block = inr (
           held,
           record {
@@ -201,7 +222,18 @@ block_broke_ending w held turns e s t u v (xs, test) (ys, more) (zs, does) =
             finishing = ys ++ zs;
             are = refl;
             tested = test.tested;
-            stops = record { done = commands_by ys; next = DoEnd; left = []; are = more.gives; earlier = ys; last = zs; steps_are = refl; gives = refl; stops = does.commands };
+            stops = record {
+              done = commands_by ys;
+              next = DoEnd;
+              left = [];
+              are = more.gives;
+              earlier = ys;
+              last = zs;
+              steps_are = refl;
+              gives = refl;
+              stops =
+                  does.commands;
+            };
           },
         );
       },
@@ -220,37 +252,72 @@ stopped_more xs more e steps new h = record {
   stops = h.stops;
 }
 
-pub block_broke_body : (w : Wish) (turns : ℕ) (e : DriverError) (s t u : Seen) → Testing w true turns s t → LoggedBody w.body turns (Err e) t u → Tried w turns (Err e) s u
+pub block_broke_body : (w : Wish) (turns : ℕ) (e : DriverError) (s t u : Seen) → Testing w true turns s t → LoggedBody w.body turns (Err e) t u
+    → Tried w turns (Err e) s u
 block_broke_body w turns e s t u (xs, test) (ys, logs) = (
   xs ++ ys,
   record {
     goes = goes_on xs ys s t u test.part.goes logs.goes;
     faults = faults_on {T = Bool} (Err e) xs ys test.part.sound (faults_as (Unit {0}) Bool e ys logs.faults);
     bound = block_bound (length w.body) turns (turns_in (xs ++ ys)) (omega (arith, turns_in-append xs ys, test.part.bound, logs.bound));
-    block = inr (true, record { testing = xs; finishing = ys; are = refl; tested = test.tested; stops = stopped_more (calls w.body) (DoEnd ∷ []) e ys u logs.gives });
+    block = inr (
+      true,
+      record {
+        testing = xs;
+        finishing = ys;
+        are = refl;
+        tested = test.tested;
+        stops =
+            stopped_more (calls w.body) (DoEnd ∷ []) e ys u logs.gives;
+      },
+    );
   },
 )
 
-pub block_broke_reserving : (w : Wish) (turns : ℕ) (e : DriverError) (s t : Seen) → Called {T = Unit {0}} (Reserve w.handlers) turns (Err e) s t → Tried w turns (Err e) s t
+pub block_broke_reserving : (w : Wish) (turns : ℕ) (e : DriverError) (s t : Seen) → Called {T = Unit {0}} (Reserve w.handlers) turns (Err e) s t
+    → Tried w turns (Err e) s t
 block_broke_reserving w turns e s t (xs, does) = (
   xs,
   record {
     goes = does.goes;
     faults = faults_as (Unit {0}) Bool e xs does.faults;
     bound = block_bound (length w.body) turns (turns_in xs) (omega (arith, within {T = Unit {0}} (Err e) turns xs does.bound));
-    block = inl (record { done = []; next = Reserve w.handlers; left = query_of w ∷ []; are = refl; earlier = []; last = xs; steps_are = refl; gives = refl; stops = does.commands });
+    block = inl (record {
+      done = [];
+      next = Reserve w.handlers;
+      left = query_of w ∷ [];
+      are = refl;
+      earlier = [];
+      last = xs;
+      steps_are = refl;
+      gives = refl;
+      stops = does.commands;
+    });
   },
 )
 
-pub block_broke_asking : (w : Wish) (turns : ℕ) (e : DriverError) (s t u : Seen) → Called (Reserve w.handlers) turns (Ok (tt {0})) s t → Queried w.condition.handler w.condition.request turns (Err e) t u
+pub block_broke_asking : (w : Wish) (turns : ℕ) (e : DriverError) (s t u : Seen) → Called (Reserve w.handlers) turns (Ok (tt {0})) s t
+    → Queried w.condition.handler w.condition.request turns (Err e) t u
     → Tried w turns (Err e) s u
 block_broke_asking w turns e s t u (xs, does) (ys, asks, none) = (
   xs ++ ys,
   record {
     goes = goes_on xs ys s t u does.goes asks.goes;
     faults = faults_on {T = Bool} (Err e) xs ys does.faults (faults_as Answer Bool e ys asks.faults);
-    bound = block_bound (length w.body) turns (turns_in (xs ++ ys)) (omega (arith, turns_in-append xs ys, does.bound, within {T = Answer} (Err e) turns ys asks.bound));
-    block = inl (record { done = Reserve w.handlers ∷ []; next = query_of w; left = []; are = refl; earlier = xs; last = ys; steps_are = refl; gives = does.commands; stops = asks.commands });
+    bound = block_bound (length w.body) turns (turns_in (xs ++ ys))
+        (omega (arith, turns_in-append xs ys, does.bound, within {T = Answer} (Err e) turns ys asks.bound));
+    block = inl (record {
+      done = Reserve w.handlers ∷ [];
+      next = query_of w;
+      left = [];
+      are = refl;
+      earlier = xs;
+      last = ys;
+      steps_are = refl;
+      gives =
+          does.commands;
+      stops = asks.commands;
+    });
   },
 )
 
@@ -279,7 +346,8 @@ failing_more w turns n s t u (xs, so_far) (ys, try) =
       },
     )
 
-pub waits_done : (w : Wish) (turns n tries : ℕ) (s t u : Seen) → n < tries → Failing w turns n s t → Tried w turns (Ok true) t u → Waits w turns tries (Ok (n + 1)) s u
+pub waits_done : (w : Wish) (turns n tries : ℕ) (s t u : Seen) → n < tries → Failing w turns n s t → Tried w turns (Ok true) t u
+    → Waits w turns tries (Ok (n + 1)) s u
 waits_done w turns n tries s t u below (xs, so_far) (ys, try) =
     let k = calls_in_block w * turns in
     let same : n + 1 - 1 ≡ n = omega arith in (
@@ -307,13 +375,15 @@ never_waits : {P : Type 0} (w : Wish) (t : ℕ) (c : ClientState) (steps : List 
 never_waits w t c steps new (inl stopped) = absurd stopped.stops.2
 never_waits w t c steps new (inr later) = absurd later.1.stops.stops.2
 
-gives_breaks : (w : Wish) (tries : ℕ) (e : DriverError) (c d : ClientState) (steps last : List Step) (new : Seen) → BrokeOff w e d last new → BreaksOff w tries e c steps new → WaitGives w tries (Err e) c steps new
+gives_breaks : (w : Wish) (tries : ℕ) (e : DriverError) (c d : ClientState) (steps last : List Step) (new : Seen) → BrokeOff w e d last new
+    → BreaksOff w tries e c steps new → WaitGives w tries (Err e) c steps new
 gives_breaks w tries (Client x) c d steps last new broke h = h
 gives_breaks w tries TurnsOver c d steps last new broke h = h
 gives_breaks w tries LinkFault c d steps last new broke h = h
 gives_breaks w tries (ConditionFailed t) c d steps last new broke h = never_waits w t d last new broke
 
-pub waits_broke : (w : Wish) (turns n tries : ℕ) (e : DriverError) (s t u : Seen) → n < tries → Failing w turns n s t → Tried w turns (Err e) t u → Waits w turns tries (Err e) s u
+pub waits_broke : (w : Wish) (turns n tries : ℕ) (e : DriverError) (s t u : Seen) → n < tries → Failing w turns n s t → Tried w turns (Err e) t u
+    → Waits w turns tries (Err e) s u
 waits_broke w turns n tries e s t u below (xs, so_far) (ys, try) =
     let k = calls_in_block w * turns in
     let broke : BrokeOff w e (walk s.client xs) ys u = subst (λ c. BrokeOff w e c ys u) so_far.part.goes.client try.block in (

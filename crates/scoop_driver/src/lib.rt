@@ -1,8 +1,23 @@
 //! The driver of a client over a link: it takes turns, in each of which the client sends all that is due
 //! and receives once, until what the client was told to do is done.
 //!
-//! `Driver` reserves, calls, queries and ends, and `when` waits for a condition by trying blocks. A `Diary`
-//! is handed each step that a driver makes: `NoDiary` keeps none, a `StepList` keeps all.
+//! [`Driver`] reserves, calls, queries and ends, and `when` waits for a condition by trying blocks. A [`Diary`]
+//! is handed each step that a driver makes: [`NoDiary`] keeps none, a [`StepList`] keeps all.
+//!
+//! ```
+//! // the link leads to handler 1, whose object is an account, and each call takes ten turns at most
+//! let mut driver = Driver::new(client, link, 10);
+//! assert_eq!(rt; driver.turn()?, Some(ClientNote::Welcomed(ONE)));
+//! driver.reserve(&[ONE])?;
+//! let args = Args::of(&[150])?;
+//! driver.call(ONE, Request { op: DEPOSIT, args })?;
+//! // a query comes after the calls before it, and waits for its answer
+//! let args = Args::of(&[])?;
+//! let balance = driver.query(ONE, Request { op: BALANCE, args })?;
+//! assert_eq!(rt; balance, Answer::Value(150));
+//! driver.end()?;
+//! assert_eq!(rt; driver.phase(), Phase::Idle);
+//! ```
 #![tactic(auto)]
 
 mod block_handlers;

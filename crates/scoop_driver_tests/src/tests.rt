@@ -2,6 +2,7 @@
 
 mod calls;
 mod diaries;
+mod examples;
 mod growths;
 mod node;
 mod turns;

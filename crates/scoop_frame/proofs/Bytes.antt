@@ -34,7 +34,8 @@ front-drop i zero b le = ap (λ (k : ℕ). drop k b) (let e : i + 0 ≡ i = omeg
 front-drop i (suc n) b le =
     let more : drop i b ≡ get_or b i 0 ∷ drop (suc i) b = drop_more b i 0 (omega arith) ∙ ap (λ (k : ℕ). get_or b i 0 ∷ drop k b) (add-one i) in
     let k-is : i + suc n ≡ suc i + n = omega arith in
-    ap (λ (k : ℕ). get_or b i 0 ∷ (front (suc i) n b ++ drop k b)) k-is ∙ ap (λ (xs : List ℕ). get_or b i 0 ∷ xs) (front-drop (suc i) n b (omega arith)) ∙ sym more
+    ap (λ (k : ℕ). get_or b i 0 ∷ (front (suc i) n b ++ drop k b)) k-is ∙ ap (λ (xs : List ℕ). get_or b i 0 ∷ xs) (front-drop (suc i) n b (omega arith))
+    ∙ sym more
 
 pub front_2 : (at n : ℕ) (b : List ℕ) → IsBytes b → n ≡ big_from at 2 b → front at 2 b ≡ to_be_bytes w16 n
 front_2 at n b h e = sym (be_bytes_2 (front at 2 b) n refl (IsBytes-front at 2 b h) (omega arith))
@@ -74,7 +75,8 @@ front-append i (suc m) n b =
     ap (λ (k : ℕ). front i k b) e ∙ ap (λ (xs : List ℕ). get_or b i 0 ∷ xs) (front-append (suc i) m n b ∙ ap (λ (k : ℕ). front (suc i) m b ++ front k n b) f)
 
 -- one word more
-pub words_more : (b items : List ℕ) (i word : ℕ) → IsBytes b → i < length items → word ≡ big_from (3 + 8 * i) 8 b → flat_map (to_be_bytes w64) (take i items) ≡ front 3 (8 * i) b
+pub words_more : (b items : List ℕ) (i word : ℕ) → IsBytes b → i < length items → word ≡ big_from (3 + 8 * i) 8 b
+    → flat_map (to_be_bytes w64) (take i items) ≡ front 3 (8 * i) b
     → flat_map (to_be_bytes w64) (take (i + 1) (set items i word)) ≡ front 3 (8 * (i + 1)) b
 words_more b items i word bytes lt word-is so_far =
     let len : 8 * i + 8 ≡ 8 * (i + 1) = omega arith in
@@ -82,11 +84,13 @@ words_more b items i word bytes lt word-is so_far =
     ∙ (λ j. so_far j ++ sym (front_8 (3 + 8 * i) word b bytes word-is) j) ∙ sym (front-append 3 (8 * i) 8 b) ∙ ap (λ (n : ℕ). front 3 n b) len
 
 -- the request that begins bytes
-pub request_is : (b : List ℕ) (op n : ℕ) (words : List ℕ) → IsBytes b → 3 + 8 * n ≤ length b → op ≡ big_from 0 2 b → get_or b 2 0 ≡ length words → flat_map (to_be_bytes w64) words ≡ front 3 (8 * n) b
+pub request_is : (b : List ℕ) (op n : ℕ) (words : List ℕ) → IsBytes b → 3 + 8 * n ≤ length b → op ≡ big_from 0 2 b → get_or b 2 0 ≡ length words
+    → flat_map (to_be_bytes w64) words ≡ front 3 (8 * n) b
     → b ≡ (to_be_bytes w16 op ++ length words ∷ flat_map (to_be_bytes w64) words) ++ drop (3 + 8 * n) b
 request_is b op n words bytes long op-is count words-is =
     let op2 = front_2 0 op b bytes op-is in
-    let all : front 0 (3 + 8 * n) b ++ drop (3 + 8 * n) b ≡ b = ap (λ (k : ℕ). front 0 (3 + 8 * n) b ++ drop k b) (let e : 3 + 8 * n ≡ 0 + (3 + 8 * n) = omega arith in e) ∙ front-drop 0 (3 + 8 * n) b (omega arith) in
+    let all : front 0 (3 + 8 * n) b ++ drop (3 + 8 * n) b ≡ b =
+    ap (λ (k : ℕ). front 0 (3 + 8 * n) b ++ drop k b) (let e : 3 + 8 * n ≡ 0 + (3 + 8 * n) = omega arith in e) ∙ front-drop 0 (3 + 8 * n) b (omega arith) in
     sym all ∙ ap (λ (xs : List ℕ). xs ++ drop (3 + 8 * n) b) (front-append 0 3 (8 * n) b) ∙ (λ j. (op2 j ++ count j ∷ sym words-is j) ++ drop (3 + 8 * n) b)
 
 -- what an array of words holds

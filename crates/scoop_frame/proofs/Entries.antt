@@ -40,7 +40,8 @@ words_first (x ∷ xs) (y ∷ ys) a b l p q e =
 
 request_first : (r s : Request) (a b : List ℕ) → IsRequest r → IsRequest s → request_bytes r ++ a ≡ request_bytes s ++ b → (r ≡ s) × (a ≡ b)
 request_first r s a b p q e =
-    let op : r.op ≡ s.op = sym (from_be_bytes-to_be_bytes_2 r.op p.op) ∙ ap (λ (x : List ℕ). from_be_bytes w16 (take 2 x)) e ∙ from_be_bytes-to_be_bytes_2 s.op q.op in
+    let op : r.op ≡ s.op = sym (from_be_bytes-to_be_bytes_2 r.op p.op) ∙ ap (λ (x : List ℕ). from_be_bytes w16 (take 2 x)) e
+    ∙ from_be_bytes-to_be_bytes_2 s.op q.op in
     let count : length r.args ≡ length s.args = ap (λ (x : List ℕ). get_or x 2 0) e in
     let args = words_first r.args s.args a b count p.args q.args (ap (drop 3) e) in
     (λ i. record { op = op i; args = args.0 i }, args.1)
@@ -59,7 +60,8 @@ entry_first End (Query s) a b p q h = absurd cc
 pub answer_first : (x y : Answer) (a b : List ℕ) → IsAnswer x → IsAnswer y → answer_bytes x ++ a ≡ answer_bytes y ++ b → (x ≡ y) × (a ≡ b)
 answer_first Refused Refused a b p q h = (refl, ap (drop 1) h)
 answer_first (Value x) (Value y) a b p q h =
-    let value : x ≡ y = sym (from_be_bytes-to_be_bytes_8 x p) ∙ ap (λ (s : List ℕ). from_be_bytes w64 (take 8 (drop 1 s))) h ∙ from_be_bytes-to_be_bytes_8 y q in
+    let value : x ≡ y = sym (from_be_bytes-to_be_bytes_8 x p) ∙ ap (λ (s : List ℕ). from_be_bytes w64 (take 8 (drop 1 s))) h
+    ∙ from_be_bytes-to_be_bytes_8 y q in
     (ap Value value, ap (drop 9) h)
 answer_first Refused (Value y) a b p q h = absurd cc
 answer_first (Value x) Refused a b p q h = absurd cc
@@ -101,5 +103,6 @@ pub next_entry : (ds es : List Entry) (rest : List ℕ) → length ds < length e
 next_entry ds [] rest l p q h = absurd (omega (arith, l))
 next_entry [] (e ∷ es) rest l p q h = record { entry = e; behind = flat_map entry_bytes es; range = q.0; bytes = h }
 next_entry (d ∷ ds) (e ∷ es) rest l p q h =
-    let f = entry_first d e (flat_map entry_bytes ds ++ rest) (flat_map entry_bytes es) p.0 q.0 (sym (append_assoc (entry_bytes d) (flat_map entry_bytes ds) rest) ∙ h) in
+    let f = entry_first d e (flat_map entry_bytes ds ++ rest) (flat_map entry_bytes es) p.0 q.0
+    (sym (append_assoc (entry_bytes d) (flat_map entry_bytes ds) rest) ∙ h) in
     next_entry ds es rest (omega (arith, l)) p.1 q.1 f.1

@@ -59,7 +59,8 @@ block_numbers h b p = record { block = p; number = omega arith }
 abbrev head_of : Version → Kind → HandlerId → Block → ℕ → Header
 head_of v x h b n = record { version = v; kind = x; handler = h; block = b; number = n }
 
-greeting_good : (v : Version) (x : Kind) (h : HandlerId) (c : ClientId) (i : ℕ) → code x < 3 → 1 ≤ i → IsClient h c i → HasItsBody (head_of v x h (no_block c i) 0) [] → IsGood (layout v (code x) h (no_block c i) 0 [])
+greeting_good : (v : Version) (x : Kind) (h : HandlerId) (c : ClientId) (i : ℕ) → code x < 3 → 1 ≤ i → IsClient h c i
+    → HasItsBody (head_of v x h (no_block c i) 0) [] → IsGood (layout v (code x) h (no_block c i) 0 [])
 greeting_good v x h c i lt some p body =
     let sound : IsSound (head_of v x h (no_block c i) 0) = record {
       numbers = greeting_numbers h c i p;
@@ -68,7 +69,8 @@ greeting_good v x h c i lt some p body =
     } in
     good (head_of v x h (no_block c i) 0) [] sound (omega arith) body
 
-block_good : (v : Version) (x : Kind) (h : HandlerId) (b : Block) → code x < 10 → 3 ≤ code x → IsNumbered b → IsBlock h b → HasItsBody (head_of v x h b 0) [] → IsGood (layout v (code x) h b 0 [])
+block_good : (v : Version) (x : Kind) (h : HandlerId) (b : Block) → code x < 10 → 3 ≤ code x → IsNumbered b → IsBlock h b → HasItsBody (head_of v x h b 0) []
+    → IsGood (layout v (code x) h b 0 [])
 block_good v x h b lt le some p body =
     let sound : IsSound (head_of v x h b 0) = record {
       numbers = block_numbers h b p;
@@ -77,12 +79,17 @@ block_good v x h b lt le some p body =
     } in
     good (head_of v x h b 0) [] sound (omega arith) body
 
-entry_good : (v : Version) (x : Kind) (h : HandlerId) (b : Block) (n : ℕ) (body : List ℕ) → 10 ≤ code x → IsEntryOf b n → IsNumberOf h b n → length body < 2 ^ 16 → HasItsBody (head_of v x h b n) body → IsGood (layout v (code x) h b n body)
+entry_good : (v : Version) (x : Kind) (h : HandlerId) (b : Block) (n : ℕ) (body : List ℕ) → 10 ≤ code x → IsEntryOf b n → IsNumberOf h b n
+    → length body < 2 ^ 16 → HasItsBody (head_of v x h b n) body → IsGood (layout v (code x) h b n body)
 entry_good v x h b n bytes le some p short body =
     let sound : IsSound (head_of v x h b n) = record {
       numbers = p;
       unused = λ u. elim u [ inl v ↦ v.0 (omega (arith, le)) | inr v ↦ v.0 le ];
-      lacking = λ l. elim l [ inl e ↦ omega (arith, e, some.block.inc) | inr v ↦ elim v [ inl w ↦ omega (arith, w.1, some.block.num) | inr w ↦ omega (arith, w.1, some.number) ] ];
+      lacking = λ l. elim l [
+        | inl e ↦ omega (arith, e, some.block.inc)
+        | inr v ↦
+            elim v [ inl w ↦ omega (arith, w.1, some.block.num) | inr w ↦ omega (arith, w.1, some.number) ]
+      ];
     } in
     good (head_of v x h b n) bytes sound short body
 
@@ -94,7 +101,8 @@ answer_short : (a : Answer) → length (answer_bytes a) < 2 ^ 16
 answer_short Refused = omega arith
 answer_short (Value x) = omega arith
 
-log_body : (v : Version) (b : Block) (n : ℕ) (es : List Entry) → IsEntries es → CarriesCount v (length es) → IsLogOf b n (length es) → HasBody (version_byte v) 10 n (log_bytes v es)
+log_body : (v : Version) (b : Block) (n : ℕ) (es : List Entry) → IsEntries es → CarriesCount v (length es) → IsLogOf b n (length es)
+    → HasBody (version_byte v) 10 n (log_bytes v es)
 log_body One b n es p c f = (es, p, c, f.last, refl)
 log_body Two b n es p c f = (es, p, c, f.last, refl)
 
@@ -126,7 +134,8 @@ record SameParts (h j : HandlerId) (b d : Block) (n o : ℕ) (body other : List 
   number : n ≡ o
   rest : body ≡ other
 
-same_parts : (v : Version) (c x : ℕ) (h j : HandlerId) (b d : Block) (n o : ℕ) (body other : List ℕ) → IsNumberOf h b n → IsNumberOf j d o → layout v c h b n body ≡ layout v x j d o other → SameParts h j b d n o body other
+same_parts : (v : Version) (c x : ℕ) (h j : HandlerId) (b d : Block) (n o : ℕ) (body other : List ℕ) → IsNumberOf h b n → IsNumberOf j d o
+    → layout v c h b n body ≡ layout v x j d o other → SameParts h j b d n o body other
 unfolding header
 same_parts v c x h j b d n o body other p q e =
     let field = λ (i : ℕ) (s : List ℕ). from_be_bytes w32 (take 4 (drop i s)) in
@@ -144,18 +153,18 @@ same_parts v c x h j b d n o body other p q e =
     }
 
 kind_code : Message → ℕ
-kind_code (m.Hello h c i) = 1
-kind_code (m.Welcome h c i) = 2
-kind_code (m.Lock h b) = 3
-kind_code (m.Locked h b) = 4
-kind_code (m.Busy h b) = 5
-kind_code (m.Open h b) = 6
-kind_code (m.Opened h b) = 7
-kind_code (m.Unlock h b) = 8
-kind_code (m.Unlocked h b) = 9
-kind_code (m.Log h b n es) = 10
-kind_code (m.Logged h b n) = 11
-kind_code (m.Answer h b n a) = 12
+kind_code (m.Hello h c i) = code k.Hello
+kind_code (m.Welcome h c i) = code k.Welcome
+kind_code (m.Lock h b) = code k.Lock
+kind_code (m.Locked h b) = code k.Locked
+kind_code (m.Busy h b) = code k.Busy
+kind_code (m.Open h b) = code k.Open
+kind_code (m.Opened h b) = code k.Opened
+kind_code (m.Unlock h b) = code k.Unlock
+kind_code (m.Unlocked h b) = code k.Unlocked
+kind_code (m.Log h b n es) = code k.Log
+kind_code (m.Logged h b n) = code k.Logged
+kind_code (m.Answer h b n a) = code k.Answer
 
 kind_is : (v : Version) (x : Message) → kind_at (frame v x) ≡ kind_code x
 unfolding header kind_code
@@ -187,9 +196,11 @@ version_is v (m.Log h b n es) = refl
 version_is v (m.Logged h b n) = refl
 version_is v (m.Answer h b n a) = refl
 
-log_same : (v : Version) (es fs : List Entry) → CarriesCount v (length es) → CarriesCount v (length fs) → IsEntries es → IsEntries fs → log_bytes v es ≡ log_bytes v fs → es ≡ fs
+log_same : (v : Version) (es fs : List Entry) → CarriesCount v (length es) → CarriesCount v (length fs) → IsEntries es → IsEntries fs
+    → log_bytes v es ≡ log_bytes v fs → es ≡ fs
 log_same One es fs s t p q e = (entries_end es fs [] (s ∙ sym t) p.entries q.entries (append-nil (flat_map entry_bytes es) ∙ e)).0
-log_same Two es fs s t p q e = (entries_end es fs [] (ap (λ (xs : List ℕ). get_or xs 0 0) e) p.entries q.entries (append-nil (flat_map entry_bytes es) ∙ ap (drop 1) e)).0
+log_same Two es fs s t p q e = (entries_end es fs [] (ap (λ (xs : List ℕ). get_or xs 0 0) e) p.entries q.entries
+    (append-nil (flat_map entry_bytes es) ∙ ap (drop 1) e)).0
 
 answer_same : (a b : Answer) → IsAnswer a → IsAnswer b → answer_bytes a ≡ answer_bytes b → a ≡ b
 answer_same a b p q e = (answer_first a b [] [] p q (append-nil (answer_bytes a) ∙ e ∙ sym (append-nil (answer_bytes b)))).0

@@ -20,7 +20,8 @@ unfolding header
 length-header v k h b n l = refl
 
 -- only Logs and Answers have a body
-pub no_body : (v : Version) (x : Message) → ((h : HandlerId) (b : Block) (n : ℕ) (es : List Entry) → x ≢ m.Log h b n es) → ((h : HandlerId) (b : Block) (n : ℕ) (a : Answer) → x ≢ m.Answer h b n a) → body_of v x ≡ []
+pub no_body : (v : Version) (x : Message) → ((h : HandlerId) (b : Block) (n : ℕ) (es : List Entry) → x ≢ m.Log h b n es)
+    → ((h : HandlerId) (b : Block) (n : ℕ) (a : Answer) → x ≢ m.Answer h b n a) → body_of v x ≡ []
 no_body v (m.Log h b n es) p q = absurd (p h b n es refl)
 no_body v (m.Answer h b n a) p q = absurd (q h b n a refl)
 no_body v (m.Hello h c i) p q = refl
@@ -34,7 +35,8 @@ no_body v (m.Unlock h b) p q = refl
 no_body v (m.Unlocked h b) p q = refl
 no_body v (m.Logged h b n) p q = refl
 
-pub body_in_range : (x : Message) → ((h : HandlerId) (b : Block) (n : ℕ) (es : List Entry) → x ≢ m.Log h b n es) → ((h : HandlerId) (b : Block) (n : ℕ) (a : Answer) → x ≢ m.Answer h b n a) → IsBodyOf x
+pub body_in_range : (x : Message) → ((h : HandlerId) (b : Block) (n : ℕ) (es : List Entry) → x ≢ m.Log h b n es)
+    → ((h : HandlerId) (b : Block) (n : ℕ) (a : Answer) → x ≢ m.Answer h b n a) → IsBodyOf x
 body_in_range (m.Log h b n es) p q = absurd (p h b n es refl)
 body_in_range (m.Answer h b n a) p q = absurd (q h b n a refl)
 body_in_range (m.Hello h c i) p q = tt
@@ -80,8 +82,12 @@ module _ (h : Header) (x : Kind) (kind-is : h.kind ≡ x) (sound : IsSound h) wh
       × (layout h.version (code x) h.handler (no_block h.block.client h.block.inc) 0 [] ≡ framed h [])
   of_greeting lt =
       let num = no_num lt in
-      let number = no_number (omega (arith, lt)) in
-      (has_inc, sound.numbers.block.client, λ j. layout h.version (sym code-is j) h.handler (record { client = h.block.client; inc = h.block.inc; num = sym num j }) (sym number j) [])
+      let number = no_number (omega (arith, lt)) in (
+        has_inc,
+        sound.numbers.block.client,
+        λ j. layout h.version (sym code-is j) h.handler
+            (record { client = h.block.client; inc = h.block.inc; num = sym num j }) (sym number j) [],
+      )
 
   pub of_block : 3 ≤ code x → code x < 10 → IsNumbered h.block × IsBlock h.handler h.block
       × (layout h.version (code x) h.handler h.block 0 [] ≡ framed h [])
@@ -91,5 +97,8 @@ module _ (h : Header) (x : Kind) (kind-is : h.kind ≡ x) (sound : IsSound h) wh
 
   pub of_entry : 10 ≤ code x → (body : List ℕ) → IsEntryOf h.block h.number
       × (layout h.version (code x) h.handler h.block h.number body ≡ framed h body)
-  of_entry le body =
-      (record { block = record { inc = has_inc; num = has_num (omega (arith, le)) }; number = has_number le }, λ j. layout h.version (sym code-is j) h.handler h.block h.number body)
+  of_entry le body = (
+    record { block = record { inc = has_inc; num = has_num (omega (arith, le)) }; number = has_number le },
+    λ j. layout h.version
+        (sym code-is j) h.handler h.block h.number body,
+  )

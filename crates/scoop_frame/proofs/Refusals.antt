@@ -121,7 +121,8 @@ module _ (b : List ℕ) (h : Header) (p : IsHeader b h) where
   }
 
   passes_seven : IsSound h → PassesBelow 8 b
-  passes_seven s = passes_more 7 b (passes_six s.unused) (λ e r f. let g : IsFault FieldZero b = at_seven e b r f in s.lacking (rw (kind_is, inc_is, num_is, number_is) at g))
+  passes_seven s = passes_more 7 b (passes_six s.unused) (λ e r f. let g : IsFault FieldZero b = at_seven e b r f in
+      s.lacking (rw (kind_is, inc_is, num_is, number_is) at g))
 
   pub is_bad_body : IsSound h → (HasItsBody h (drop 26 b) → ⊥) → IsFirstFault BadBody b
   is_bad_body s other = record {
@@ -132,4 +133,5 @@ module _ (b : List ℕ) (h : Header) (p : IsHeader b h) where
   -- no refusal applies
   pub passes_all : IsSound h → HasItsBody h (drop 26 b) → (e : FrameError) → IsFault e b → ⊥
   passes_all s body e f =
-      passes_more 8 b (passes_seven s) (λ d r g. let bad : IsFault BadBody b = at_eight d b r g in bad (rw (version_is, kind_is, number_is) body)) e (rank_limit e) f
+      passes_more 8 b (passes_seven s) (λ d r g. let bad : IsFault BadBody b = at_eight d b r g in bad (rw (version_is, kind_is, number_is) body)) e
+      (rank_limit e) f

@@ -4,11 +4,13 @@ use Rattle.byteorder.specs.Endian.{big_from}
 use Rattle.scoop_message.specs.declared.request.Entry.{Entry}
 use Rattle.scoop_message.specs.declared.request.Answer.{Answer}
 use Rattle.scoop_message.specs.Range.{IsEntries, IsAnswer}
+use Rattle.scoop_frame.specs.declared.kind.Kind.TheVariants as of_kind
 use Rattle.scoop_frame.specs.declared.version.Version.{Version}
 use Rattle.scoop_frame.specs.declared.version.Version.TheVariants.{One, Two}
 use Rattle.scoop_frame.specs.declared.error.FrameError.{FrameError}
 use Rattle.scoop_frame.specs.declared.error.FrameError.TheVariants.{Short, BadMagic, BadVersion, BadKind, LengthWrong, FieldNotZero, FieldZero, BadBody}
 use Rattle.scoop_frame.specs.Body.{log_bytes, answer_bytes}
+use Rattle.scoop_frame.specs.Kind.{code}
 use Rattle.scoop_frame.specs.Version.{CarriesCount}
 
 -- the fields, by their places
@@ -30,12 +32,12 @@ number_at b = big_from 20 4 b
 abbrev pub body_len_at : List ℕ → ℕ
 body_len_at b = big_from 24 2 b
 
--- kinds from 3 on use a block number, and kinds from 10 on an entry number
+-- kinds from Lock on use a block number, and kinds from Log on an entry number
 abbrev pub UsesBlock : ℕ → Type 0
-UsesBlock kind = 3 ≤ kind
+UsesBlock kind = code of_kind.Lock ≤ kind
 
 abbrev pub UsesNumber : ℕ → Type 0
-UsesNumber kind = 10 ≤ kind
+UsesNumber kind = code of_kind.Log ≤ kind
 
 -- a block or entry number that the kind doesn't use isn't 0
 abbrev pub HasUnused : (kind num number : ℕ) → Type 0
@@ -53,18 +55,18 @@ HasLog v number body = (es : List Entry) × IsEntries es × CarriesCount v (leng
 abbrev pub HasAnswer : List ℕ → Type 0
 HasAnswer body = (a : Answer) × IsAnswer a × (body ≡ answer_bytes a)
 
--- the body of kind 10 is that of a Log, that of kind 12 an answer, and the others' is empty
+-- the body of a Log is its entries, that of an Answer an answer, and the others' is empty
 abbrev pub HasBody : (version kind number : ℕ) → List ℕ → Type 0
 HasBody version kind number body =
-    MatchBool (kind == 10) (MatchBool (version == 1) (HasLog One number body) (HasLog Two number body))
-    (MatchBool (kind == 12) (HasAnswer body) (body ≡ []))
+    MatchBool (kind == code of_kind.Log) (MatchBool (version == 1) (HasLog One number body) (HasLog Two number body))
+    (MatchBool (kind == code of_kind.Answer) (HasAnswer body) (body ≡ []))
 
 -- what each refusal says of the bytes
 abbrev pub IsFault : FrameError → List ℕ → Type 0
 IsFault Short b = length b < 26
 IsFault BadMagic b = take 2 b ≢ 0x53 ∷ 0x51 ∷ []
 IsFault (BadVersion v) b = (version_at b ≡ v) × (v ≢ 1) × (v ≢ 2)
-IsFault (BadKind k) b = (kind_at b ≡ k) × ((k < 1) ⊎ (12 < k))
+IsFault (BadKind k) b = (kind_at b ≡ k) × ((k < code of_kind.Hello) ⊎ (code of_kind.Answer < k))
 IsFault LengthWrong b = length b ≢ 26 + body_len_at b
 IsFault FieldNotZero b = HasUnused (kind_at b) (num_at b) (number_at b)
 IsFault FieldZero b = LacksNumber (kind_at b) (inc_at b) (num_at b) (number_at b)

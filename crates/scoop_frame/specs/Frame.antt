@@ -8,7 +8,9 @@ use Rattle.scoop_message.specs.declared.message.Message.{Message}
 use Rattle.scoop_message.specs.declared.message.Message.TheVariants.{Hello, Welcome, Lock, Locked, Busy, Open, Opened, Unlock, Unlocked, Log, Logged, Answer}
 use Rattle.scoop_message.specs.Message.{Fits}
 use Rattle.scoop_message.specs.Range.{IsMessage}
+use Rattle.scoop_frame.specs.declared.kind.Kind.TheVariants as of_kind
 use Rattle.scoop_frame.specs.declared.version.Version.{Version}
+use Rattle.scoop_frame.specs.Kind.{code}
 use Rattle.scoop_frame.specs.Version.{version_byte, Carries}
 use Rattle.scoop_frame.specs.Body.{log_bytes, answer_bytes}
 
@@ -27,33 +29,24 @@ no_block c inc = record { client = c; inc = inc; num = 0 }
 
 -- each kind with the fields that it uses and its body; the other fields are 0
 abbrev pub frame : Version → Message → List ℕ
-frame v (Hello h c inc) = layout v 1 h (no_block c inc) 0 []
-frame v (Welcome h c inc) = layout v 2 h (no_block c inc) 0 []
-frame v (Lock h b) = layout v 3 h b 0 []
-frame v (Locked h b) = layout v 4 h b 0 []
-frame v (Busy h b) = layout v 5 h b 0 []
-frame v (Open h b) = layout v 6 h b 0 []
-frame v (Opened h b) = layout v 7 h b 0 []
-frame v (Unlock h b) = layout v 8 h b 0 []
-frame v (Unlocked h b) = layout v 9 h b 0 []
-frame v (Log h b n es) = layout v 10 h b n (log_bytes v es)
-frame v (Logged h b n) = layout v 11 h b n []
-frame v (Answer h b n a) = layout v 12 h b n (answer_bytes a)
+frame v (Hello h c inc) = layout v (code of_kind.Hello) h (no_block c inc) 0 []
+frame v (Welcome h c inc) = layout v (code of_kind.Welcome) h (no_block c inc) 0 []
+frame v (Lock h b) = layout v (code of_kind.Lock) h b 0 []
+frame v (Locked h b) = layout v (code of_kind.Locked) h b 0 []
+frame v (Busy h b) = layout v (code of_kind.Busy) h b 0 []
+frame v (Open h b) = layout v (code of_kind.Open) h b 0 []
+frame v (Opened h b) = layout v (code of_kind.Opened) h b 0 []
+frame v (Unlock h b) = layout v (code of_kind.Unlock) h b 0 []
+frame v (Unlocked h b) = layout v (code of_kind.Unlocked) h b 0 []
+frame v (Log h b n es) = layout v (code of_kind.Log) h b n (log_bytes v es)
+frame v (Logged h b n) = layout v (code of_kind.Logged) h b n []
+frame v (Answer h b n a) = layout v (code of_kind.Answer) h b n (answer_bytes a)
 
--- the body of a message's frame
+-- the body of a message's frame, which is empty but for two kinds
 abbrev pub body_of : Version → Message → List ℕ
-body_of v (Hello h c inc) = []
-body_of v (Welcome h c inc) = []
-body_of v (Lock h b) = []
-body_of v (Locked h b) = []
-body_of v (Busy h b) = []
-body_of v (Open h b) = []
-body_of v (Opened h b) = []
-body_of v (Unlock h b) = []
-body_of v (Unlocked h b) = []
 body_of v (Log h b n es) = log_bytes v es
-body_of v (Logged h b n) = []
 body_of v (Answer h b n a) = answer_bytes a
+body_of v m = []
 
 -- the bytes are the frame of a message that fits, in a version that carries it
 pub record IsFrame (v : Version) (m : Message) (bytes : List ℕ) : Type 0 where

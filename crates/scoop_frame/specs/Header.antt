@@ -36,18 +36,9 @@ pub record IsMessageOf (h : Header) (body : List ℕ) (m : Message) : Type 0 whe
 
 -- the values in a message's body are in range
 abbrev pub IsBodyOf : Message → Type 0
-IsBodyOf (m.Hello h c inc) = ⊤
-IsBodyOf (m.Welcome h c inc) = ⊤
-IsBodyOf (m.Lock h b) = ⊤
-IsBodyOf (m.Locked h b) = ⊤
-IsBodyOf (m.Busy h b) = ⊤
-IsBodyOf (m.Open h b) = ⊤
-IsBodyOf (m.Opened h b) = ⊤
-IsBodyOf (m.Unlock h b) = ⊤
-IsBodyOf (m.Unlocked h b) = ⊤
 IsBodyOf (m.Log h b n es) = IsEntries es
-IsBodyOf (m.Logged h b n) = ⊤
 IsBodyOf (m.Answer h b n a) = IsAnswer a
+IsBodyOf x = ⊤
 
 -- the kind has such a body
 abbrev pub HasItsBody : Header → List ℕ → Type 0

@@ -1,7 +1,7 @@
 -- The two versions of frames.
 use Rattle.std.specs.Prelude.{◌≡◌, ℕ, ⊤, length}
 use Rattle.scoop_message.specs.declared.message.Message.{Message}
-use Rattle.scoop_message.specs.declared.message.Message.TheVariants.{Hello, Welcome, Lock, Locked, Busy, Open, Opened, Unlock, Unlocked, Log, Logged, Answer}
+use Rattle.scoop_message.specs.declared.message.Message.TheVariants.{Log}
 use Rattle.scoop_frame.specs.declared.version.Version.{Version}
 use Rattle.scoop_frame.specs.declared.version.Version.TheVariants.{One, Two}
 
@@ -17,15 +17,5 @@ CarriesCount Two count = ⊤
 
 -- everything else is carried by both versions
 abbrev pub Carries : Version → Message → Type 0
-Carries v (Hello h c inc) = ⊤
-Carries v (Welcome h c inc) = ⊤
-Carries v (Lock h b) = ⊤
-Carries v (Locked h b) = ⊤
-Carries v (Busy h b) = ⊤
-Carries v (Open h b) = ⊤
-Carries v (Opened h b) = ⊤
-Carries v (Unlock h b) = ⊤
-Carries v (Unlocked h b) = ⊤
 Carries v (Log h b n es) = CarriesCount v (length es)
-Carries v (Logged h b n) = ⊤
-Carries v (Answer h b n a) = ⊤
+Carries v m = ⊤

@@ -35,13 +35,15 @@ use Rattle.scoop_handler.proofs.MarkLists.{none_some, same_client-refl}
 pub mark_of-after : (r : Ran) (c : ClientId) (marks : List Mark) → mark_of c (map (mark_after r) marks) ≡ option_map (mark_after r) (mark_of c marks)
 mark_of-after r c [] = refl
 mark_of-after r c (x ∷ xs) =
-    elim (same_client x.client c) as (λ b. cond b (Some (mark_after r x)) (mark_of c (map (mark_after r) xs)) ≡ option_map (mark_after r) (cond b (Some x) (mark_of c xs))) [
+    elim (same_client x.client c) as (λ b. cond b (Some (mark_after r x)) (mark_of c (map (mark_after r) xs))
+    ≡ option_map (mark_after r) (cond b (Some x) (mark_of c xs))) [
       | true ↦ refl
       | false ↦ mark_of-after r c xs
     ]
 
 -- a client's mark stays but for the answer that is kept
-pub found-after : (r : Ran) (c : ClientId) (marks : List Mark) (k : Mark) → mark_of c marks ≡ Some k → mark_of c (map (mark_after r) marks) ≡ Some (mark_after r k)
+pub found-after : (r : Ran) (c : ClientId) (marks : List Mark) (k : Mark) → mark_of c marks ≡ Some k
+    → mark_of c (map (mark_after r) marks) ≡ Some (mark_after r k)
 found-after r c marks k found = mark_of-after r c marks ∙ ap (option_map (mark_after r)) found
 
 IsAscending-after : (r : Ran) (marks : List Mark) → IsAscending marks → IsAscending (map (mark_after r) marks)
@@ -49,7 +51,8 @@ IsAscending-after r [] up = tt
 IsAscending-after r (x ∷ []) up = tt
 IsAscending-after r (x ∷ y ∷ ys) up = (up.0, IsAscending-after r (y ∷ ys) up.1)
 
-All-after : (P Q : Mark → Type 0) (r : Ran) (marks : List Mark) → ((k : Mark) → P k → Q (mark_after r k)) → AllByRecursion P marks → AllByRecursion Q (map (mark_after r) marks)
+All-after : (P Q : Mark → Type 0) (r : Ran) (marks : List Mark) → ((k : Mark) → P k → Q (mark_after r k)) → AllByRecursion P marks
+    → AllByRecursion Q (map (mark_after r) marks)
 All-after P Q r [] kept all = tt
 All-after P Q r (x ∷ xs) kept all = (kept x all.0, All-after P Q r xs kept all.1)
 
@@ -96,7 +99,8 @@ All-found [] up = tt
 All-found (x ∷ xs) up =
     (rw (same_client-refl x.client) refl, found-later x xs xs (tail-above x xs up) (All-found xs (tail-ascending x xs up)))
 
-All-and : (P Q R : Mark → Type 0) (marks : List Mark) → ((k : Mark) → P k → Q k → R k) → AllByRecursion P marks → AllByRecursion Q marks → AllByRecursion R marks
+All-and : (P Q R : Mark → Type 0) (marks : List Mark) → ((k : Mark) → P k → Q k → R k) → AllByRecursion P marks → AllByRecursion Q marks
+    → AllByRecursion R marks
 All-and P Q R [] both p q = tt
 All-and P Q R (x ∷ xs) both p q = (both x p.0 q.0, All-and P Q R xs both p.1 q.1)
 
@@ -132,7 +136,8 @@ open-goes q e es sound are more goes =
     true≢false (sym goes ∙ rw (end, open-not-cut q.state more) refl)
 
 -- what the first queue's first entry leaves of it takes more where the queue did
-left-open : (b : Block) (q : PrivateQueue) (es : List Entry) (qs : List PrivateQueue) → IsQueue q → q.entries ≡ es → IsTrue (has_open b (q ∷ qs)) → IsTrue (has_open b (left_by_first q es ++ qs))
+left-open : (b : Block) (q : PrivateQueue) (es : List Entry) (qs : List PrivateQueue) → IsQueue q → q.entries ≡ es → IsTrue (has_open b (q ∷ qs))
+    → IsTrue (has_open b (left_by_first q es ++ qs))
 left-open b q [] qs sound are has = has
 left-open b q (e ∷ es) qs sound are has = by (is_queue_of b q) refl (goes_with q.state e es) refl
   where
@@ -156,7 +161,8 @@ newest-used q k e es sound are fits none =
     omega (arith, next, first, none)
 
 -- where the first entry's block is a mark's, that mark is of an open block
-same-block-open : (marks : List Mark) (q : PrivateQueue) (e : Entry) (es : List Entry) (k : Mark) → IsQueue q → q.entries ≡ e ∷ es → HasMark marks q → IsFound marks k → IsUnusedUnlessOpen k → IsFalse (is_open k.stage) → same_block (block_of k) q.block ≡ true → ⊥
+same-block-open : (marks : List Mark) (q : PrivateQueue) (e : Entry) (es : List Entry) (k : Mark) → IsQueue q → q.entries ≡ e ∷ es → HasMark marks q
+    → IsFound marks k → IsUnusedUnlessOpen k → IsFalse (is_open k.stage) → same_block (block_of k) q.block ≡ true → ⊥
 same-block-open marks q e es k sound are has found unless shut same =
     let block : block_of k ≡ q.block = same_block-true (block_of k) q.block same in
     let client : k.client ≡ q.block.client = ap (λ (b : Block). b.client) block in
@@ -179,7 +185,8 @@ kept-other r k other =
       | false ↦ refl
     ]
 
-not-open-kept : (marks : List Mark) (qs : List PrivateQueue) (r : Ran) (k : Mark) → IsQueues qs → AllByRecursion (HasMark marks) qs → IsFirst r qs → IsFound marks k → IsUnusedUnlessOpen k → IsFalse (is_open k.stage) → kept_after r k ≡ k.kept
+not-open-kept : (marks : List Mark) (qs : List PrivateQueue) (r : Ran) (k : Mark) → IsQueues qs → AllByRecursion (HasMark marks) qs → IsFirst r qs
+    → IsFound marks k → IsUnusedUnlessOpen k → IsFalse (is_open k.stage) → kept_after r k ≡ k.kept
 not-open-kept marks [] r k sound marked first found unless shut = absurd (none_some first)
 not-open-kept marks (q ∷ qs) r k sound marked first found unless shut = by q.entries refl first
   where
@@ -194,7 +201,8 @@ not-open-kept marks (q ∷ qs) r k sound marked first found unless shut = by q.e
           | inr other ↦ kept-other r k other
         ]
 
-unused-after : (marks : List Mark) (qs : List PrivateQueue) (r : Ran) → IsQueues qs → AllByRecursion (HasMark marks) qs → IsFirst r qs → (k : Mark) → IsFound marks k → IsUnusedUnlessOpen k → IsUnusedUnlessOpen (mark_after r k)
+unused-after : (marks : List Mark) (qs : List PrivateQueue) (r : Ran) → IsQueues qs → AllByRecursion (HasMark marks) qs → IsFirst r qs → (k : Mark)
+    → IsFound marks k → IsUnusedUnlessOpen k → IsUnusedUnlessOpen (mark_after r k)
 unused-after marks qs r sound marked first k found unless = record {
   unused = λ shut.
       let before : IsUnused k = unless.unused shut in
@@ -225,7 +233,8 @@ mark-after r marks q has = record {
   fits = fits-after r q has.mark has.fits;
 }
 
-marked-rest : (r : Ran) (marks : List Mark) (qs : List PrivateQueue) → AllByRecursion (HasMark marks) qs → AllByRecursion (HasMark (map (mark_after r) marks)) qs
+marked-rest : (r : Ran) (marks : List Mark) (qs : List PrivateQueue) → AllByRecursion (HasMark marks) qs
+    → AllByRecursion (HasMark (map (mark_after r) marks)) qs
 marked-rest r marks [] all = tt
 marked-rest r marks (q ∷ qs) all = (mark-after r marks q all.0, marked-rest r marks qs all.1)
 
@@ -246,7 +255,8 @@ fits-without q e es k are fits = record {
 mark-without : (marks : List Mark) (q : PrivateQueue) (e : Entry) (es : List Entry) → q.entries ≡ e ∷ es → HasMark marks q → HasMark marks (without_first q es)
 mark-without marks q e es are has = record { mark = has.mark; found = has.found; fits = fits-without q e es has.mark are has.fits }
 
-marked-left : (marks : List Mark) (q : PrivateQueue) (es : List Entry) (qs : List PrivateQueue) → q.entries ≡ es → HasMark marks q → AllByRecursion (HasMark marks) qs → AllByRecursion (HasMark marks) (left_by_first q es ++ qs)
+marked-left : (marks : List Mark) (q : PrivateQueue) (es : List Entry) (qs : List PrivateQueue) → q.entries ≡ es → HasMark marks q
+    → AllByRecursion (HasMark marks) qs → AllByRecursion (HasMark marks) (left_by_first q es ++ qs)
 marked-left marks q [] qs are has all = (has, all)
 marked-left marks q (e ∷ es) qs are has all =
     elim (goes_with q.state e es) as (λ t. AllByRecursion (HasMark marks) (cond t [] (without_first q es ∷ []) ++ qs)) [
@@ -260,7 +270,8 @@ marked-advance marks (q ∷ qs) all = marked-left marks q q.entries qs refl all.
 
 -- ---- the state
 
-pub IsState-after_ran : (r : Ran) (words : List ℕ) (s : HandlerState) → IsFirst r s.queues → length words ≡ length s.words → IsState s → IsState (after_ran r words s)
+pub IsState-after_ran : (r : Ran) (words : List ℕ) (s : HandlerState) → IsFirst r s.queues → length words ≡ length s.words → IsState s
+    → IsState (after_ran r words s)
 IsState-after_ran r words s first same sound = record {
   room = rw (length-map s.marks (mark_after r)) sound.room;
   ascending = IsAscending-after r s.marks sound.ascending;
@@ -268,7 +279,8 @@ IsState-after_ran r words s first same sound = record {
   held = All-after (HoldsIfHeld s.holder) (HoldsIfHeld s.holder) r s.marks (λ k h. record { holds = h.holds }) sound.held;
   unused = All-after (λ k. IsFound s.marks k × IsUnusedUnlessOpen k) IsUnusedUnlessOpen r s.marks
       (λ k both. unused-after s.marks s.queues r sound.queues sound.marked first k both.0 both.1)
-      (All-and (IsFound s.marks) IsUnusedUnlessOpen (λ k. IsFound s.marks k × IsUnusedUnlessOpen k) s.marks (λ k found unless. (found, unless)) (All-found s.marks sound.ascending) sound.unused);
+      (All-and (IsFound s.marks) IsUnusedUnlessOpen (λ k. IsFound s.marks k × IsUnusedUnlessOpen k) s.marks (λ k found unless. (found, unless))
+      (All-found s.marks sound.ascending) sound.unused);
   opened = All-after (HasQueueIfOpen s.queues) (HasQueueIfOpen (advance s.queues)) r s.marks (λ k has. opened-after s.queues r sound.queues k has) sound.opened;
   queues = IsQueues-advance s.queues sound.queues;
   marked = marked-advance (map (mark_after r) s.marks) s.queues (marked-rest r s.marks s.queues sound.marked);
@@ -319,7 +331,8 @@ IsCore-finished c t first sound = record {
 }
 
 -- the handler whose parts have changed as a run changes them
-pub IsCore-ran : (c : Core) (r : Ran) (words : List ℕ) (marks : List Mark) (queues : List PrivateQueue) → IsCore c → IsFirst r c.state.queues → marks ≡ map (mark_after r) c.state.marks → queues ≡ advance c.state.queues
+pub IsCore-ran : (c : Core) (r : Ran) (words : List ℕ) (marks : List Mark) (queues : List PrivateQueue) → IsCore c → IsFirst r c.state.queues
+    → marks ≡ map (mark_after r) c.state.marks → queues ≡ advance c.state.queues
     → words ≡ (entry_effect c.class c.state.words r.entry).0 → IsCore (core_of c.class (state_of c.state.number c.state.holder marks queues words) false)
 IsCore-ran c r words marks queues sound first in_marks in_queues in_words =
     let same : length words ≡ length c.state.words = ap length in_words ∙ length-entry_effect c.class c.state.words r.entry in
@@ -353,7 +366,8 @@ job-class c t is = by (front c.state.queues) refl
         sym (ap (λ (x : Task). x.class) same)
 
 -- the handler whose parts have changed as the job that was out says
-pub IsCore-done : (c : Core) (t : Task) (words : List ℕ) (marks : List Mark) (queues : List PrivateQueue) → IsCore c → job_out c ≡ Some t → marks ≡ map (mark_after (ran_of t)) c.state.marks → queues ≡ advance c.state.queues
+pub IsCore-done : (c : Core) (t : Task) (words : List ℕ) (marks : List Mark) (queues : List PrivateQueue) → IsCore c → job_out c ≡ Some t
+    → marks ≡ map (mark_after (ran_of t)) c.state.marks → queues ≡ advance c.state.queues
     → words ≡ (task_effect t).0 → IsCore (core_of c.class (state_of c.state.number c.state.holder marks queues words) false)
 IsCore-done c t words marks queues sound is in_marks in_queues in_words = rw (in_marks, in_queues, in_words) (IsCore-finished c t (job-first c t is) sound)
 
@@ -386,7 +400,8 @@ pub job-front : (c : Core) (t : Task) → job_out c ≡ Some t → front c.state
 job-front c t is = first-entry c t (job-first c t is)
 
 -- a state that is the handler's, whose parts have changed as the job that is out says
-pub IsState-done : (c : Core) (t : Task) (s : HandlerState) (words : List ℕ) (marks : List Mark) (queues : List PrivateQueue) → IsState s → s ≡ c.state → job_out c ≡ Some t → marks ≡ map (mark_after (ran_of t)) s.marks → queues ≡ advance s.queues
+pub IsState-done : (c : Core) (t : Task) (s : HandlerState) (words : List ℕ) (marks : List Mark) (queues : List PrivateQueue) → IsState s → s ≡ c.state
+    → job_out c ≡ Some t → marks ≡ map (mark_after (ran_of t)) s.marks → queues ≡ advance s.queues
     → words ≡ (task_effect t).0 → IsState (state_of s.number s.holder marks queues words)
 IsState-done c t s words marks queues sound same is in_marks in_queues in_words =
     let first : IsFirst (ran_of t) s.queues = subst (λ (x : HandlerState). IsFirst (ran_of t) x.queues) (sym same) (job-front c t is) in
@@ -402,3 +417,11 @@ map-same r (k ∷ ks) other =
 
 pub marks-unless-query : (r : Ran) (marks : List Mark) → is_query r.entry ≡ false → marks ≡ map (mark_after r) marks
 marks-unless-query r marks other = sym (map-same r marks other)
+
+-- the mark of another block stays
+pub mark-of-another : (r : Ran) (k : Mark) → same_block (block_of k) r.block ≡ false → mark_after r k ≡ k
+mark-of-another r k other = by (is_query r.entry) refl
+  where
+    by : (t : Bool) → is_query r.entry ≡ t → mark_after r k ≡ k
+    by true is = rw (is, other) refl
+    by false is = rw is refl

@@ -122,13 +122,19 @@ HasMark-fits marks q k found has =
     subst (FitsMark q) same has.fits
 
 -- one client's mark changes
-pub HasMark-set : (k old : Mark) (marks : List Mark) (q : PrivateQueue) → mark_of k.client marks ≡ Some old → (q.block.client ≡ k.client → FitsMark q old → FitsMark q k) → HasMark marks q → HasMark (set_mark k marks) q
+pub HasMark-set : (k old : Mark) (marks : List Mark) (q : PrivateQueue) → mark_of k.client marks ≡ Some old
+    → (q.block.client ≡ k.client → FitsMark q old → FitsMark q k) → HasMark marks q → HasMark (set_mark k marks) q
 HasMark-set k old marks q found fits has = elim (cases_Bool (same_client q.block.client k.client)) [
   | inl same ↦
       let of : q.block.client ≡ k.client = client_from_same q.block.client k.client same in
       let one : Some has.mark ≡ Some old = sym has.found ∙ (ap (λ c. mark_of c marks) of ∙ found) in
       let is : has.mark ≡ old = cc in
-      record { mark = k; found = ap (λ c. mark_of c (set_mark k marks)) of ∙ mark_of-set_mark_own k old marks found; fits = fits of (subst (FitsMark q) is has.fits) }
+      record {
+        mark = k;
+        found = ap (λ c. mark_of c (set_mark k marks)) of
+            ∙ mark_of-set_mark_own k old marks found;
+        fits = fits of (subst (FitsMark q) is has.fits);
+      }
   | inr apart ↦
       record { mark = has.mark; found = mark_of-set_mark_other q.block.client k marks apart ∙ has.found; fits = has.fits }
 ]
@@ -146,7 +152,8 @@ HasMark-add k marks q none has = elim (cases_Bool (same_client k.client q.block.
 
 -- ---- all private queues
 
-pub All-queues : (P Q R : PrivateQueue → Type 0) (qs : List PrivateQueue) → ((q : PrivateQueue) → P q → Q q → R q) → AllByRecursion P qs → AllByRecursion Q qs → AllByRecursion R qs
+pub All-queues : (P Q R : PrivateQueue → Type 0) (qs : List PrivateQueue) → ((q : PrivateQueue) → P q → Q q → R q) → AllByRecursion P qs → AllByRecursion Q qs
+    → AllByRecursion R qs
 All-queues P Q R [] each ps qs = tt
 All-queues P Q R (x ∷ xs) each ps qs = (each x ps.0 qs.0, All-queues P Q R xs each ps.1 qs.1)
 
@@ -154,11 +161,13 @@ pub All-append : (P : PrivateQueue → Type 0) (xs ys : List PrivateQueue) → A
 All-append P [] ys all more = more
 All-append P (x ∷ xs) ys all more = (all.0, All-append P xs ys all.1 more)
 
-All-absent : (P Q : PrivateQueue → Type 0) (b : Block) (qs : List PrivateQueue) → has_queue b qs ≡ false → ((q : PrivateQueue) → is_queue_of b q ≡ false → P q → Q q) → AllByRecursion P qs → AllByRecursion Q qs
+All-absent : (P Q : PrivateQueue → Type 0) (b : Block) (qs : List PrivateQueue) → has_queue b qs ≡ false
+    → ((q : PrivateQueue) → is_queue_of b q ≡ false → P q → Q q) → AllByRecursion P qs → AllByRecursion Q qs
 All-absent P Q b [] none others all = tt
 All-absent P Q b (q ∷ qs) none others all = (others q (absent-first b q qs none) all.0, All-absent P Q b qs (absent-rest b q qs none) others all.1)
 
-All-at_first : (P Q : PrivateQueue → Type 0) (b : Block) (change : PrivateQueue → List PrivateQueue) (q : PrivateQueue) (qs : List PrivateQueue) → AreApart (q ∷ qs)
+All-at_first : (P Q : PrivateQueue → Type 0) (b : Block) (change : PrivateQueue → List PrivateQueue) (q : PrivateQueue) (qs : List PrivateQueue)
+    → AreApart (q ∷ qs)
     → ((r : PrivateQueue) → is_queue_of b r ≡ true → P r → AllByRecursion Q (change r)) → ((r : PrivateQueue) → is_queue_of b r ≡ false → P r → Q r)
     → AllByRecursion P (q ∷ qs) → AllByRecursion Q (at_block b change qs) → AllByRecursion Q (at_block b change (q ∷ qs))
 All-at_first P Q b change q qs apart own others all rest = by_test (is_queue_of b q) refl where
@@ -173,14 +182,17 @@ pub All-at_block : (P Q : PrivateQueue → Type 0) (b : Block) (change : Private
     → ((q : PrivateQueue) → is_queue_of b q ≡ true → P q → AllByRecursion Q (change q)) → ((q : PrivateQueue) → is_queue_of b q ≡ false → P q → Q q)
     → AllByRecursion P qs → AllByRecursion Q (at_block b change qs)
 All-at_block P Q b change [] apart own others all = tt
-All-at_block P Q b change (q ∷ qs) apart own others all = All-at_first P Q b change q qs apart own others all (All-at_block P Q b change qs apart.1 own others all.1)
+All-at_block P Q b change (q ∷ qs) apart own others all = All-at_first P Q b change q qs apart own others all
+    (All-at_block P Q b change qs apart.1 own others all.1)
 
 -- no private queue is of the block
-pub none_of : (P : PrivateQueue → Type 0) (b : Block) (qs : List PrivateQueue) → ((q : PrivateQueue) → P q → is_queue_of b q ≡ false) → AllByRecursion P qs → has_queue b qs ≡ false
+pub none_of : (P : PrivateQueue → Type 0) (b : Block) (qs : List PrivateQueue) → ((q : PrivateQueue) → P q → is_queue_of b q ≡ false) → AllByRecursion P qs
+    → has_queue b qs ≡ false
 none_of P b [] apart all = refl
 none_of P b (q ∷ qs) apart all = rw (apart q all.0) (none_of P b qs apart all.1)
 
-found-first : (P : PrivateQueue → Type 0) (b : Block) (q x : PrivateQueue) (qs : List PrivateQueue) → P x → queue_of b (x ∷ qs) ≡ Some q → (queue_of b qs ≡ Some q → P q) → P q
+found-first : (P : PrivateQueue → Type 0) (b : Block) (q x : PrivateQueue) (qs : List PrivateQueue) → P x → queue_of b (x ∷ qs) ≡ Some q
+    → (queue_of b qs ≡ Some q → P q) → P q
 found-first P b q x qs first found rest = by_test (is_queue_of b x) refl found where
   by_test : (t : Bool) → is_queue_of b x ≡ t → cond t (Some x) (queue_of b qs) ≡ Some q → P q
   by_test true is here = let same : x ≡ q = cc in subst P same first
@@ -194,6 +206,7 @@ All-found P b q (x ∷ xs) all found = found-first P b q x xs all.0 found (λ la
 -- a private queue that takes more
 pub open_queue : (b : Block) (qs : List PrivateQueue) → has_open b qs ≡ true → (q : PrivateQueue) × (queue_of b qs ≡ Some q) × (takes_more q.state ≡ true)
 open_queue b qs has = by_found (queue_of b qs) refl has where
-  by_found : (o : Option PrivateQueue) → queue_of b qs ≡ o → option_map_or (λ (q : PrivateQueue). takes_more q.state) o false ≡ true → (q : PrivateQueue) × (queue_of b qs ≡ Some q) × (takes_more q.state ≡ true)
+  by_found : (o : Option PrivateQueue) → queue_of b qs ≡ o → option_map_or (λ (q : PrivateQueue). takes_more q.state) o false ≡ true → (q : PrivateQueue)
+      × (queue_of b qs ≡ Some q) × (takes_more q.state ≡ true)
   by_found None is e = absurd (true_false (sym e))
   by_found (Some q) is e = (q, is, e)

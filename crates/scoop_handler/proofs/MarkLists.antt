@@ -31,8 +31,16 @@ newer_mark-other k x e = rw e refl
 -- ---- changing in place
 
 -- a loop that rewrites each element by a function
-pub map_in_place : {X : Type 0} (f : X → X) (xs ys : List X) (i : ℕ) (d : X) → i < length xs → i < length ys → ys ≡ map f (take i xs) ++ drop i xs → set ys i (f (get_or ys i d)) ≡ map f (take (i + 1) xs) ++ drop (i + 1) xs
+pub map_in_place : {X : Type 0} (f : X → X) (xs ys : List X) (i : ℕ) (d : X) → i < length xs → i < length ys → ys ≡ map f (take i xs) ++ drop i xs
+    → set ys i (f (get_or ys i d)) ≡ map f (take (i + 1) xs) ++ drop (i + 1) xs
 map_in_place f xs ys i d in_xs in_ys so_far = map_over_more f xs ys i (get_or ys i d) in_xs so_far (get_or_default ys i d _ in_ys)
+
+-- where the function leaves the element, it may be written back
+pub map_left_in_place : {X : Type 0} (f : X → X) (xs ys : List X) (i : ℕ) (d : X) → i < length xs → i < length ys → f (get_or ys i d) ≡ get_or ys i d
+    → ys ≡ map f (take i xs) ++ drop i xs
+    → set ys i (get_or ys i d) ≡ map f (take (i + 1) xs) ++ drop (i + 1) xs
+map_left_in_place f xs ys i d in_xs in_ys same so_far =
+    subst (λ x. set ys i x ≡ map f (take (i + 1) xs) ++ drop (i + 1) xs) same (map_in_place f xs ys i d in_xs in_ys so_far)
 
 -- inserting at the client's place keeps the order of the clients
 pub insert-add_mark : (k : Mark) (marks : List Mark) → insert marks (place_of k.client marks) k ≡ add_mark k marks
@@ -128,7 +136,8 @@ IsAscending-set_mark k (x ∷ []) up = tt
 IsAscending-set_mark k (x ∷ y ∷ ys) up =
     (rw (newer_mark-client k x, newer_mark-client k y) up.0, IsAscending-set_mark k (y ∷ ys) up.1)
 
-above-add_mark : (k x : Mark) (marks : List Mark) → x.client.0 < k.client.0 → mark_of k.client marks ≡ None → IsAscending (x ∷ marks) → IsAscending (x ∷ add_mark k marks)
+above-add_mark : (k x : Mark) (marks : List Mark) → x.client.0 < k.client.0 → mark_of k.client marks ≡ None → IsAscending (x ∷ marks)
+    → IsAscending (x ∷ add_mark k marks)
 above-add_mark k x [] lt none up = (lt, tt)
 above-add_mark k x (y ∷ ys) lt none up =
     elim (cases_Bool (same_client y.client k.client)) [
@@ -170,7 +179,8 @@ All-mark_of P c (x ∷ xs) k all found =
       | false ↦ λ later. All-mark_of P c xs k all.1 later
     ] found
 
-pub All-set_mark : (P Q : Mark → Type 0) (k : Mark) (marks : List Mark) → Q k → ((x : Mark) → same_client x.client k.client ≡ false → P x → Q x) → AllByRecursion P marks → AllByRecursion Q (set_mark k marks)
+pub All-set_mark : (P Q : Mark → Type 0) (k : Mark) (marks : List Mark) → Q k → ((x : Mark) → same_client x.client k.client ≡ false → P x → Q x)
+    → AllByRecursion P marks → AllByRecursion Q (set_mark k marks)
 All-set_mark P Q k [] own others all = tt
 All-set_mark P Q k (x ∷ xs) own others all = (
   elim (same_client x.client k.client) as (λ b. same_client x.client k.client ≡ b → Q (cond b k x)) [
@@ -180,7 +190,8 @@ All-set_mark P Q k (x ∷ xs) own others all = (
   All-set_mark P Q k xs own others all.1,
 )
 
-pub All-add_mark : (P Q : Mark → Type 0) (k : Mark) (marks : List Mark) → Q k → ((x : Mark) → P x → Q x) → AllByRecursion P marks → AllByRecursion Q (add_mark k marks)
+pub All-add_mark : (P Q : Mark → Type 0) (k : Mark) (marks : List Mark) → Q k → ((x : Mark) → P x → Q x) → AllByRecursion P marks
+    → AllByRecursion Q (add_mark k marks)
 All-add_mark P Q k [] own others all = (own, tt)
 All-add_mark P Q k (x ∷ xs) own others all =
     elim (nat_lt x.client.0 k.client.0) as (λ b. AllByRecursion Q (cond b (x ∷ add_mark k xs) (k ∷ x ∷ xs))) [

@@ -49,7 +49,8 @@ none_above c x (y ∷ ys) up past =
     let other : same_client y.client c ≡ false = grind (arith, nat_tests) in
     rw other (none_above c y ys up.1 later)
 
-found : (c : ClientId) (xs : List Mark) (d e : Mark) → IsAscending xs → place_of c xs < length xs → same_client (get_or xs (place_of c xs) d).client c ≡ true → mark_of c xs ≡ Some (get_or xs (place_of c xs) e)
+found : (c : ClientId) (xs : List Mark) (d e : Mark) → IsAscending xs → place_of c xs < length xs → same_client (get_or xs (place_of c xs) d).client c ≡ true
+    → mark_of c xs ≡ Some (get_or xs (place_of c xs) e)
 found c [] d e up within same = absurd (omega arith)
 found c (x ∷ xs) d e up within same =
     elim (cases_Bool (nat_lt x.client.0 c.0)) [
@@ -62,7 +63,8 @@ found c (x ∷ xs) d e up within same =
       | inr past ↦ let here = rw past at same in rw (past, here) refl
     ]
 
-none : (c : ClientId) (xs : List Mark) (d : Mark) → IsAscending xs → (place_of c xs < length xs → same_client (get_or xs (place_of c xs) d).client c ≡ false) → mark_of c xs ≡ None
+none : (c : ClientId) (xs : List Mark) (d : Mark) → IsAscending xs → (place_of c xs < length xs → same_client (get_or xs (place_of c xs) d).client c ≡ false)
+    → mark_of c xs ≡ None
 none c [] d up apart = refl
 none c (x ∷ xs) d up apart =
     elim (cases_Bool (nat_lt x.client.0 c.0)) [
@@ -90,7 +92,8 @@ kept k (x ∷ xs) gone =
       some_none : {y : Mark} → Some y ≡ None → ⊥
       some_none e = cc
 
-changed : (k : Mark) (xs : List Mark) (d : Mark) → IsAscending xs → place_of k.client xs < length xs → same_client (get_or xs (place_of k.client xs) d).client k.client ≡ true
+changed : (k : Mark) (xs : List Mark) (d : Mark) → IsAscending xs → place_of k.client xs < length xs
+    → same_client (get_or xs (place_of k.client xs) d).client k.client ≡ true
     → set_mark k xs ≡ set xs (place_of k.client xs) k
 changed k [] d up within same = absurd (omega arith)
 changed k (x ∷ xs) d up within same =
@@ -109,20 +112,24 @@ changed k (x ∷ xs) d up within same =
 of_client : (P : ClientId → Type 0) (c d : ClientId) → d ≡ c → P c → P d
 of_client P c d e p = subst P (sym e) p
 
-pub is_place : (c : ClientId) (xs : List Mark) (i : ℕ) (d : Mark) → IsAscending xs → i ≡ place_of c xs → i < length xs → same_client (get_or xs i d).client c ≡ true → IsPlaceOf c xs i
+pub is_place : (c : ClientId) (xs : List Mark) (i : ℕ) (d : Mark) → IsAscending xs → i ≡ place_of c xs → i < length xs
+    → same_client (get_or xs i d).client c ≡ true → IsPlaceOf c xs i
 is_place c xs i d up at within same =
     let inside = rw at at within in
     let here = rw at at same in
     record {
       within = within;
       found = λ e. rw at (found c xs d e up inside here);
-      change = λ k is. rw at (subst (λ (x : ClientId). place_of x xs < length xs → same_client (get_or xs (place_of x xs) d).client x ≡ true → set_mark k xs ≡ set xs (place_of x xs) k) is (λ in_xs own. changed k xs d up in_xs own) inside here);
+      change = λ k is. rw at (subst (λ (x : ClientId). place_of x xs < length xs → same_client (get_or xs (place_of x xs) d).client x ≡ true
+          → set_mark k xs ≡ set xs (place_of x xs) k) is (λ in_xs own. changed k xs d up in_xs own) inside here);
     }
 
-pub is_nowhere : (c : ClientId) (xs : List Mark) (i : ℕ) (d : Mark) → IsAscending xs → i ≡ place_of c xs → (i < length xs → same_client (get_or xs i d).client c ≡ false) → IsNowhere c xs
+pub is_nowhere : (c : ClientId) (xs : List Mark) (i : ℕ) (d : Mark) → IsAscending xs → i ≡ place_of c xs
+    → (i < length xs → same_client (get_or xs i d).client c ≡ false) → IsNowhere c xs
 is_nowhere c xs i d up at apart =
     let gone = none c xs d up (rw at at apart) in
     record { found = gone; change = λ k is. kept k xs (rw is gone) }
 
 pub is_outside : (c : ClientId) (xs : List Mark) (i : ℕ) → IsAscending xs → i ≡ place_of c xs → length xs ≤ i → IsNowhere c xs
-is_outside c xs i up at out = is_nowhere c xs i (fresh_mark (record { client = c; inc = 0; num = 0 }) Shut) up at (λ within. absurd (omega (arith, within, out)))
+is_outside c xs i up at out = is_nowhere c xs i (fresh_mark (record { client = c; inc = 0; num = 0 }) Shut) up at
+    (λ within. absurd (omega (arith, within, out)))

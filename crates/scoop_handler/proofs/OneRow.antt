@@ -20,7 +20,7 @@ use Rattle.scoop_handler.specs.declared.note.Reason.TheVariants.{NotForHandlers,
 use Rattle.scoop_handler.specs.Marks.{mark_of, is_held, is_open}
 use Rattle.scoop_handler.specs.State.{HandlerState, is_holder, is_unfinished}
 use Rattle.scoop_handler.specs.Hearing.{Hearing, IsHeardAt, hear, hear_hello, hear_lock, hear_open, hear_unlock, hear_log, hear_of, hear_at, mark_for, if_here, is_new, dropped, took, received_before, kept_answer, new_entries, is_closed, has_no_room}
-use Rattle.scoop_handler.specs.Rows.{Row, asking_block, IsUngreeted, IsPast, not_for_handlers, wrong_handler, too_many_clients, first_greeting, newer_greeting, same_greeting, older_greeting, ungreeted, past, lock_granted, lock_busy, lock_again, lock_over, open_not_holder, open_no_room, open_granted, open_again, unlock_unfinished, unlock_new, unlock_holder, unlock_again, IsLogAt, IsNext, log_not_open, log_answered, log_again, log_gap, log_closed, log_no_room, log_taken}
+use Rattle.scoop_handler.specs.Rows.{Row, asking_block, IsUngreeted, IsPast, kind_for_clients, another_handler, too_many_clients, first_greeting, newer_greeting, repeated_greeting, stale_greeting, ungreeted, stale, lock_granted, lock_refused, repeated_lock, late_lock, open_without_lock, no_room_for_a_queue, is_opened, repeated_open, unlock_while_unfinished, unlock_of_a_block_never_held, is_freed, repeated_unlock, IsLogAt, IsNext, log_of_a_block_not_open, is_answered, already_received, has_gap, after_the_end, pending_full, is_taken}
 use Rattle.scoop_handler.proofs.TableRows.{handler_from_same, row}
 
 -- ---- tests, from what they say
@@ -113,7 +113,8 @@ module _ (s : HandlerState) where
   at_mark : (b : Block) (k : Mark) (heard : Mark → Hearing) → IsHeardAt s b k → hear_of s b heard ≡ heard k
   at_mark b k heard at =
       let greeted : nat_lt k.inc b.inc ≡ false = not_below k.inc b.inc (omega (arith, at.inc)) in
-      let newest : (nat_lt b.inc k.inc || nat_lt b.num k.num) ≡ false = neither _ _ (not_below b.inc k.inc (omega (arith, at.inc))) (not_below b.num k.num at.num) in
+      let newest : (nat_lt b.inc k.inc || nat_lt b.num k.num) ≡ false =
+      neither _ _ (not_below b.inc k.inc (omega (arith, at.inc))) (not_below b.num k.num at.num) in
       ap (λ m. hear_at s (mark_for b m) heard) at.found ∙ rw (greeted, newest) refl
 
   ungreeted_gives : (b : Block) (heard : Mark → Hearing) → IsUngreeted b (mark_of b.client s.marks) → hear_of s b heard ≡ dropped s Ungreeted
@@ -140,7 +141,8 @@ module _ (s : HandlerState) where
   unlock_is : (h : HandlerId) (b : Block) (k : Mark) (n : Hearing) → h ≡ s.number → IsHeardAt s b k → hear_unlock s b k ≡ n → hear s (Unlock h b) ≡ n
   unlock_is h b k n here at is = here_gives h _ n here (at_mark b k (hear_unlock s b) at ∙ is)
 
-  log_is : (h : HandlerId) (b : Block) (i : ℕ) (es : List Entry) (k : Mark) (n : Hearing) → h ≡ s.number → IsHeardAt s b k → hear_log s b i es k ≡ n → hear s (Log h b i es) ≡ n
+  log_is : (h : HandlerId) (b : Block) (i : ℕ) (es : List Entry) (k : Mark) (n : Hearing) → h ≡ s.number → IsHeardAt s b k → hear_log s b i es k ≡ n
+      → hear s (Log h b i es) ≡ n
   log_is h b i es k n here at is = here_gives h _ n here (at_mark b k (hear_log s b i es) at ∙ is)
 
   -- ---- rows of all kinds
@@ -174,7 +176,8 @@ module _ (s : HandlerState) where
   to_another (Answer h b n a) is apart = cc
 
   -- what is answered to the block that asks, whatever it asks
-  asked : (m : Message) (b : Block) (n : Hearing) → handler_of m ≡ s.number → asking_block m ≡ Some b → ((heard : Mark → Hearing) → hear_of s b heard ≡ n) → hear s m ≡ n
+  asked : (m : Message) (b : Block) (n : Hearing) → handler_of m ≡ s.number → asking_block m ≡ Some b → ((heard : Mark → Hearing) → hear_of s b heard ≡ n)
+      → hear s m ≡ n
   asked (Hello h c inc) b n here asks gives = cc
   asked (Welcome h c inc) b n here asks gives = cc
   asked (Lock h d) b n here asks gives =
@@ -212,7 +215,8 @@ module _ (s : HandlerState) where
 
   -- entries some of which are new come to the tests behind these
   next_is : (b : Block) (i : ℕ) (es : List Entry) (k : Mark) (n : Hearing) → IsLogAt s b k → IsNext k i es
-      → cond (is_closed k (last_number i es) es) (dropped s NotOpen) (cond (has_no_room s b (length (new_entries i es k))) (dropped s PendingFull) (took s b i es k)) ≡ n → hear_log s b i es k ≡ n
+      → cond (is_closed k (last_number i es) es) (dropped s NotOpen)
+      (cond (has_no_room s b (length (new_entries i es k))) (dropped s PendingFull) (took s b i es k)) ≡ n → hear_log s b i es k ≡ n
   next_is b i es k n at next is =
       passed (is_new b k || not (is_open k.stage)) _ _ (takes b k at)
       ∙ passed (nat_le (last_number i es) k.received) _ _ (above (last_number i es) k.received next.new)
@@ -231,79 +235,87 @@ module _ (s : HandlerState) where
   -- ---- every row
 
   row_gives : (m : Message) (n : Hearing) → Row s m n → hear s m ≡ n
-  row_gives m n (not_for_handlers x is) = to_clients m is
-  row_gives m n (wrong_handler x is apart) = to_another m is apart
+  row_gives m n (kind_for_clients x is) = to_clients m is
+  row_gives m n (another_handler x is apart) = to_another m is apart
   row_gives m n (too_many_clients h c inc here none full) =
       here_gives h _ n here (ap (hear_hello s c inc) none ∙ chosen (length s.marks == MAX_MARKS) _ _ (eq-eqb (length s.marks) MAX_MARKS full))
   row_gives m n (first_greeting h c inc here none room) =
       here_gives h _ n here (ap (hear_hello s c inc) none ∙ passed (length s.marks == MAX_MARKS) _ _ (apart_numbers (length s.marks) MAX_MARKS room))
   row_gives m n (newer_greeting h c inc k here found newer) =
       here_gives h _ n here (ap (hear_hello s c inc) found ∙ chosen (nat_lt k.inc inc) _ _ (is_below k.inc inc newer))
-  row_gives m n (same_greeting h c inc k here found same) =
+  row_gives m n (repeated_greeting h c inc k here found same) =
       here_gives h _ n here
-      (ap (hear_hello s c inc) found ∙ passed (nat_lt k.inc inc) _ _ (not_below k.inc inc (omega (arith, same))) ∙ chosen (k.inc == inc) _ _ (eq-eqb k.inc inc same))
-  row_gives m n (older_greeting h c inc k here found older) =
+      (ap (hear_hello s c inc) found ∙ passed (nat_lt k.inc inc) _ _ (not_below k.inc inc (omega (arith, same)))
+      ∙ chosen (k.inc == inc) _ _ (eq-eqb k.inc inc same))
+  row_gives m n (stale_greeting h c inc k here found older) =
       here_gives h _ n here
       (ap (hear_hello s c inc) found ∙ passed (nat_lt k.inc inc) _ _ (not_below k.inc inc (omega (arith, older)))
       ∙ passed (k.inc == inc) _ _ (apart_numbers k.inc inc (λ same. omega (arith, older, same))))
   row_gives m n (ungreeted x b here asks out) = asked m b n here asks (λ heard. ungreeted_gives b heard out)
-  row_gives m n (past x b k here asks found is) = asked m b n here asks (λ heard. past_gives b k heard found is)
+  row_gives m n (stale x b k here asks found is) = asked m b n here asks (λ heard. past_gives b k heard found is)
   row_gives m n (lock_granted h b k here at newer free clear) =
       lock_is h b k n here at
       (chosen (is_new b k && (is_none s.holder && not (is_unfinished s k))) _ _ (both _ _ (is_newer b k newer) (both _ _ (ap is_none free) (ap not clear))))
-  row_gives m n (lock_busy h b k here at newer taken) =
+  row_gives m n (lock_refused h b k here at newer taken) =
       lock_is h b k n here at
       (passed (is_new b k && (is_none s.holder && not (is_unfinished s k))) _ _ (not_second _ _ taken) ∙ chosen (is_new b k) _ _ (is_newer b k newer))
-  row_gives m n (lock_again h b k here at same held) =
+  row_gives m n (repeated_lock h b k here at same held) =
       lock_is h b k n here at
-      (passed (is_new b k && (is_none s.holder && not (is_unfinished s k))) _ _ (not_first _ _ (is_newest b k same)) ∙ passed (is_new b k) _ _ (is_newest b k same)
+      (passed (is_new b k && (is_none s.holder && not (is_unfinished s k))) _ _ (not_first _ _ (is_newest b k same))
+      ∙ passed (is_new b k) _ _ (is_newest b k same)
       ∙ chosen (is_held k.stage) _ _ (ap is_held held))
-  row_gives m n (lock_over h b k here at same other) =
+  row_gives m n (late_lock h b k here at same other) =
       lock_is h b k n here at
-      (passed (is_new b k && (is_none s.holder && not (is_unfinished s k))) _ _ (not_first _ _ (is_newest b k same)) ∙ passed (is_new b k) _ _ (is_newest b k same)
+      (passed (is_new b k && (is_none s.holder && not (is_unfinished s k))) _ _ (not_first _ _ (is_newest b k same))
+      ∙ passed (is_new b k) _ _ (is_newest b k same)
       ∙ passed (is_held k.stage) _ _ (not_held k.stage other))
-  row_gives m n (open_not_holder h b k here at (inl newer)) = open_is h b k n here at (chosen (is_new b k) _ _ (is_newer b k newer))
-  row_gives m n (open_not_holder h b k here at (inr shut)) = open_is h b k n here at (shut_gives b k shut)
-  row_gives m n (open_no_room h b k here at same held full) =
+  row_gives m n (open_without_lock h b k here at (inl newer)) = open_is h b k n here at (chosen (is_new b k) _ _ (is_newer b k newer))
+  row_gives m n (open_without_lock h b k here at (inr shut)) = open_is h b k n here at (shut_gives b k shut)
+  row_gives m n (no_room_for_a_queue h b k here at same held full) =
       open_is h b k n here at
-      (passed (is_new b k) _ _ (is_newest b k same) ∙ passed (is_open k.stage) _ _ (ap is_open held) ∙ passed (not (is_held k.stage)) _ _ (ap (λ x. not (is_held x)) held)
+      (passed (is_new b k) _ _ (is_newest b k same) ∙ passed (is_open k.stage) _ _ (ap is_open held)
+      ∙ passed (not (is_held k.stage)) _ _ (ap (λ x. not (is_held x)) held)
       ∙ chosen (length s.queues == MAX_QUEUES) _ _ (eq-eqb (length s.queues) MAX_QUEUES full))
-  row_gives m n (open_granted h b k here at same held room) =
+  row_gives m n (is_opened h b k here at same held room) =
       open_is h b k n here at
-      (passed (is_new b k) _ _ (is_newest b k same) ∙ passed (is_open k.stage) _ _ (ap is_open held) ∙ passed (not (is_held k.stage)) _ _ (ap (λ x. not (is_held x)) held)
+      (passed (is_new b k) _ _ (is_newest b k same) ∙ passed (is_open k.stage) _ _ (ap is_open held)
+      ∙ passed (not (is_held k.stage)) _ _ (ap (λ x. not (is_held x)) held)
       ∙ passed (length s.queues == MAX_QUEUES) _ _ (apart_numbers (length s.queues) MAX_QUEUES room))
-  row_gives m n (open_again h b k here at same is) =
+  row_gives m n (repeated_open h b k here at same is) =
       open_is h b k n here at (passed (is_new b k) _ _ (is_newest b k same) ∙ chosen (is_open k.stage) _ _ (ap is_open is))
-  row_gives m n (unlock_unfinished h b k here at newer busy) =
+  row_gives m n (unlock_while_unfinished h b k here at newer busy) =
       unlock_is h b k n here at (chosen (is_new b k && is_unfinished s k) _ _ (both _ _ (is_newer b k newer) busy))
-  row_gives m n (unlock_new h b k here at newer clear) =
+  row_gives m n (unlock_of_a_block_never_held h b k here at newer clear) =
       unlock_is h b k n here at (passed (is_new b k && is_unfinished s k) _ _ (not_second _ _ clear) ∙ chosen (is_new b k) _ _ (is_newer b k newer))
-  row_gives m n (unlock_holder h b k here at same held) =
+  row_gives m n (is_freed h b k here at same held) =
       unlock_is h b k n here at
-      (passed (is_new b k && is_unfinished s k) _ _ (not_first _ _ (is_newest b k same)) ∙ passed (is_new b k) _ _ (is_newest b k same) ∙ chosen (is_holder s.holder b) _ _ (holds s.holder b held))
-  row_gives m n (unlock_again h b k here at same other) =
+      (passed (is_new b k && is_unfinished s k) _ _ (not_first _ _ (is_newest b k same)) ∙ passed (is_new b k) _ _ (is_newest b k same)
+      ∙ chosen (is_holder s.holder b) _ _ (holds s.holder b held))
+  row_gives m n (repeated_unlock h b k here at same other) =
       unlock_is h b k n here at
       (passed (is_new b k && is_unfinished s k) _ _ (not_first _ _ (is_newest b k same)) ∙ passed (is_new b k) _ _ (is_newest b k same)
       ∙ passed (is_holder s.holder b) _ _ (holds_not s.holder b other))
-  row_gives m n (log_not_open h b i es k here at shut) =
+  row_gives m n (log_of_a_block_not_open h b i es k here at shut) =
       log_is h b i es k n here at (chosen (is_new b k || not (is_open k.stage)) _ _ (not_taking b k shut))
-  row_gives m n (log_answered h b i es k a here at before kept) =
+  row_gives m n (is_answered h b i es k a here at before kept) =
       log_is h b i es k n here at.heard
       (before_is b i es k n at before
       (ap (λ o. received_before s b (last_number i es) k (kept_answer (last_number i es) o)) kept
-      ∙ ap (received_before s b (last_number i es) k) (chosen (last_number i es == last_number i es) (Some a) None (eq-eqb (last_number i es) (last_number i es) refl))))
-  row_gives m n (log_again h b i es k here at before none) =
+      ∙ ap (received_before s b (last_number i es) k) (chosen (last_number i es == last_number i es) (Some a) None
+      (eq-eqb (last_number i es) (last_number i es) refl))))
+  row_gives m n (already_received h b i es k here at before none) =
       log_is h b i es k n here at.heard (before_is b i es k n at before (ap (received_before s b (last_number i es) k) none))
-  row_gives m n (log_gap h b i es k here at new gap) =
+  row_gives m n (has_gap h b i es k here at new gap) =
       log_is h b i es k n here at.heard
-      (passed (is_new b k || not (is_open k.stage)) _ _ (takes b k at) ∙ passed (nat_le (last_number i es) k.received) _ _ (above (last_number i es) k.received new)
+      (passed (is_new b k || not (is_open k.stage)) _ _ (takes b k at)
+      ∙ passed (nat_le (last_number i es) k.received) _ _ (above (last_number i es) k.received new)
       ∙ chosen (nat_lt (k.received + 1) i) _ _ (is_below (k.received + 1) i gap))
-  row_gives m n (log_closed h b i es k here at next shut) =
+  row_gives m n (after_the_end h b i es k here at next shut) =
       log_is h b i es k n here at.heard (next_is b i es k n at next (chosen (is_closed k (last_number i es) es) _ _ shut))
-  row_gives m n (log_no_room h b i es k here at next goes_on full) =
+  row_gives m n (pending_full h b i es k here at next goes_on full) =
       log_is h b i es k n here at.heard
       (next_is b i es k n at next (passed (is_closed k (last_number i es) es) _ _ goes_on ∙ chosen (has_no_room s b (length (new_entries i es k))) _ _ full))
-  row_gives m n (log_taken h b i es k here at next goes_on room) =
+  row_gives m n (is_taken h b i es k here at next goes_on room) =
       log_is h b i es k n here at.heard
       (next_is b i es k n at next (passed (is_closed k (last_number i es) es) _ _ goes_on ∙ passed (has_no_room s b (length (new_entries i es k))) _ _ room))
 

@@ -20,7 +20,8 @@ use Rattle.scoop_handler.specs.State.{FitsMark, HasMark}
 -- ---- looking for a block's queue from the front
 
 -- no queue of the block so far, and none at the next place
-pub none-next : (b : Block) (qs : List PrivateQueue) (i : ℕ) → queue_of b (take i qs) ≡ None → IfSome (head_at i qs) (λ h. same_block b h.block ≡ false) → queue_of b (take (suc i) qs) ≡ None
+pub none-next : (b : Block) (qs : List PrivateQueue) (i : ℕ) → queue_of b (take i qs) ≡ None → IfSome (head_at i qs) (λ h. same_block b h.block ≡ false)
+    → queue_of b (take (suc i) qs) ≡ None
 none-next b [] i none other = refl
 none-next b (q ∷ qs) zero none other = rw other refl
 none-next b (q ∷ qs) (suc i) none other =
@@ -30,7 +31,8 @@ none-next b (q ∷ qs) (suc i) none other =
     ]
 
 -- no queue of the block so far, and one at the next place
-pub has_open-next : (b : Block) (qs : List PrivateQueue) (i : ℕ) (h : Head) → queue_of b (take i qs) ≡ None → head_at i qs ≡ Some h → same_block b h.block ≡ true → has_open b qs ≡ is_open h.state
+pub has_open-next : (b : Block) (qs : List PrivateQueue) (i : ℕ) (h : Head) → queue_of b (take i qs) ≡ None → head_at i qs ≡ Some h
+    → same_block b h.block ≡ true → has_open b qs ≡ is_open h.state
 has_open-next b [] i h none at same = cc
 has_open-next b (q ∷ qs) zero h none at same =
     let here : head_of q ≡ h = same_Some (head_of q) h at in
@@ -44,7 +46,8 @@ has_open-next b (q ∷ qs) (suc i) h none at same =
 
 -- ---- facts of each queue
 
-pub All-next : {X : Type 0} (P : X → Type 0) (xs : List X) (i : ℕ) → AllByRecursion P (take i xs) → IfSome (slice_get xs i) P → AllByRecursion P (take (suc i) xs)
+pub All-next : {X : Type 0} (P : X → Type 0) (xs : List X) (i : ℕ) → AllByRecursion P (take i xs) → IfSome (slice_get xs i) P
+    → AllByRecursion P (take (suc i) xs)
 All-next P [] i so_far next = tt
 All-next P (x ∷ xs) zero so_far next = (next, tt)
 All-next P (x ∷ xs) (suc i) so_far next = (so_far.0, All-next P xs i so_far.1 next)
@@ -83,8 +86,10 @@ pending-limit b qs sound = by (queue_of b qs) refl
     by None is = omega arith
     by (Some q) is = (IsQueue-found b q qs sound.each is).limit
 
-at-mark : (marks : List Mark) (qs : List PrivateQueue) (q : PrivateQueue) (k : Mark) (next : ℕ) (r : Bool) → queue_of q.block qs ≡ Some q → mark_of q.block.client marks ≡ Some k
-    → next ≡ q.first + pending q.block qs → ((es : List Entry) → next ≡ q.first + length es → IsTrue r ↔ FitsMark (queue_with (head_of q) es) k) → IsTrue r ↔ HasMark marks q
+at-mark : (marks : List Mark) (qs : List PrivateQueue) (q : PrivateQueue) (k : Mark) (next : ℕ) (r : Bool) → queue_of q.block qs ≡ Some q
+    → mark_of q.block.client marks ≡ Some k
+    → next ≡ q.first + pending q.block qs → ((es : List Entry) → next ≡ q.first + length es → IsTrue r ↔ FitsMark (queue_with (head_of q) es) k)
+    → IsTrue r ↔ HasMark marks q
 at-mark marks qs q k next r own found is fits =
     let by_mark : IsTrue r ↔ FitsMark q k = fits q.entries (rw own at is) in (
       (λ t. record { mark = k; found = found; fits = by_mark.0 t }),
@@ -94,8 +99,10 @@ at-mark marks qs q k next r own found is fits =
     )
 
 -- the queue at a place fits its client's mark, where the test by its head says so
-pub mark-at : (marks : List Mark) (qs : List PrivateQueue) (i : ℕ) (h : Head) (k : Mark) (next : ℕ) (r : Bool) → IsQueues qs → head_at i qs ≡ Some h → mark_of h.block.client marks ≡ Some k
-    → next ≡ h.first + pending h.block qs → ((es : List Entry) → next ≡ h.first + length es → IsTrue r ↔ FitsMark (queue_with h es) k) → IsTrue r ↔ IfSome (slice_get qs i) (HasMark marks)
+pub mark-at : (marks : List Mark) (qs : List PrivateQueue) (i : ℕ) (h : Head) (k : Mark) (next : ℕ) (r : Bool) → IsQueues qs → head_at i qs ≡ Some h
+    → mark_of h.block.client marks ≡ Some k
+    → next ≡ h.first + pending h.block qs → ((es : List Entry) → next ≡ h.first + length es → IsTrue r ↔ FitsMark (queue_with h es) k)
+    → IsTrue r ↔ IfSome (slice_get qs i) (HasMark marks)
 mark-at marks qs i h k next r sound at found is fits = by (slice_get qs i) refl at
   where
     by : (o : Option PrivateQueue) → slice_get qs i ≡ o → option_map head_of o ≡ Some h → IsTrue r ↔ IfSome o (HasMark marks)

@@ -81,7 +81,8 @@ front_fewer : (c : Core) (x : Option (Block × ℕ × Entry)) → front c.state.
 front_fewer c None is some = cc
 front_fewer c (Some f) is some = advance_fewer c.state.queues f is
 
-ready_front : (c : Core) (b : Bool) → IsTrue (is_some (option_map ran_of (if b then None else first_task c))) → IsTrue (is_some (option_map ran_of (first_task c)))
+ready_front : (c : Core) (b : Bool) → IsTrue (is_some (option_map ran_of (if b then None else first_task c)))
+    → IsTrue (is_some (option_map ran_of (first_task c)))
 ready_front c true some = cc
 ready_front c false some = some
 

@@ -54,14 +54,17 @@ pub record IsChange (s : HandlerState) (holder : Option Block) (k old : Mark) (a
   pub queues : IsQueues after
   pub marked : AllByRecursion (HasMark (set_mark k s.marks)) after
 
-pub IsState-changed : (s : HandlerState) (holder : Option Block) (k old : Mark) (queues : List PrivateQueue) → IsState s → IsChange s holder k old queues → IsState (state_of s.number holder (set_mark k s.marks) queues s.words)
+pub IsState-changed : (s : HandlerState) (holder : Option Block) (k old : Mark) (queues : List PrivateQueue) → IsState s → IsChange s holder k old queues
+    → IsState (state_of s.number holder (set_mark k s.marks) queues s.words)
 IsState-changed s holder k old queues is change = record {
   room = rw (length-set_mark k s.marks) is.room;
   ascending = IsAscending-set_mark k s.marks is.ascending;
   holder = change.under_way;
-  held = All-set_mark (HoldsIfHeld s.holder) (HoldsIfHeld holder) k s.marks (record { holds = change.own }) (λ x apart p. record { holds = λ held. change.others (block_of x) apart (p.holds held) }) is.held;
+  held = All-set_mark (HoldsIfHeld s.holder) (HoldsIfHeld holder) k s.marks (record { holds = change.own })
+      (λ x apart p. record { holds = λ held. change.others (block_of x) apart (p.holds held) }) is.held;
   unused = All-set_mark IsUnusedUnlessOpen IsUnusedUnlessOpen k s.marks change.unused (λ x apart p. p) is.unused;
-  opened = All-set_mark (HasQueueIfOpen s.queues) (HasQueueIfOpen queues) k s.marks change.opened (λ x apart p. record { has = λ stage more. sym (change.others_open (block_of x) apart) ∙ p.has stage more }) is.opened;
+  opened = All-set_mark (HasQueueIfOpen s.queues) (HasQueueIfOpen queues) k s.marks change.opened
+      (λ x apart p. record { has = λ stage more. sym (change.others_open (block_of x) apart) ∙ p.has stage more }) is.opened;
   queues = change.queues;
   marked = change.marked;
   words = is.words;
@@ -82,13 +85,16 @@ never_open : (queues : List PrivateQueue) (k : Mark) → is_open k.stage ≡ fal
 never_open queues k closed = record { has = λ stage more. absurd (true_false (sym stage ∙ closed)) }
 
 -- all private queues beside a changed mark
-marked-set : (s : HandlerState) (k old : Mark) → IsState s → mark_of k.client s.marks ≡ Some old → ((q : PrivateQueue) → IsQueue q → FitsMark q old → FitsMark q k) → AllByRecursion (HasMark (set_mark k s.marks)) s.queues
+marked-set : (s : HandlerState) (k old : Mark) → IsState s → mark_of k.client s.marks ≡ Some old
+    → ((q : PrivateQueue) → IsQueue q → FitsMark q old → FitsMark q k) → AllByRecursion (HasMark (set_mark k s.marks)) s.queues
 marked-set s k old is found fits =
-    All-queues IsQueue (HasMark s.marks) (HasMark (set_mark k s.marks)) s.queues (λ q sound has. HasMark-set k old s.marks q found (λ of fit. fits q sound fit) has) is.queues.each is.marked
+    All-queues IsQueue (HasMark s.marks) (HasMark (set_mark k s.marks)) s.queues
+    (λ q sound has. HasMark-set k old s.marks q found (λ of fit. fits q sound fit) has) is.queues.each is.marked
 
 -- ---- a newer incarnation
 
-holder_without-under_way : (c : ClientId) (k : Mark) (holder : Option Block) (marks : List Mark) → k.client ≡ c → HolderIsUnderWay holder marks → HolderIsUnderWay (holder_without c holder) (set_mark k marks)
+holder_without-under_way : (c : ClientId) (k : Mark) (holder : Option Block) (marks : List Mark) → k.client ≡ c → HolderIsUnderWay holder marks
+    → HolderIsUnderWay (holder_without c holder) (set_mark k marks)
 holder_without-under_way c k None marks of was = tt
 holder_without-under_way c k (Some b) marks of was =
     elim (same_client b.client c) as (λ t. same_client b.client c ≡ t → HolderIsUnderWay (cond t None (Some b)) (set_mark k marks)) [
@@ -113,7 +119,8 @@ module _ (s : HandlerState) (c : ClientId) (inc : ℕ) (k : Mark) (is : IsState 
   left_fits q fits done = let before = FitsMark-inc q k fits in FitsMark-incarnation q (greeting_mark c inc) (omega arith) done
 
   others_fit : (q : PrivateQueue) → is_queue_of (block_of k) q ≡ false → FitsMark q k → FitsMark q (greeting_mark c inc)
-  others_fit q apart fits = left_fits q fits (fits.older (λ same. true_false (sym (same_block-refl (block_of k)) ∙ (ap (same_block (block_of k)) same ∙ apart))))
+  others_fit q apart fits = left_fits q fits (fits.older (λ same. true_false
+      (sym (same_block-refl (block_of k)) ∙ (ap (same_block (block_of k)) same ∙ apart))))
 
   others_marked : (q : PrivateQueue) → is_queue_of (block_of k) q ≡ false → HasMark s.marks q → HasMark (set_mark (greeting_mark c inc) s.marks) q
   others_marked q apart has = HasMark-set (greeting_mark c inc) k s.marks q found (λ same fits. others_fit q apart fits) has
@@ -123,7 +130,8 @@ module _ (s : HandlerState) (c : ClientId) (inc : ℕ) (k : Mark) (is : IsState 
       let client : k.client ≡ q.block.client = ap (λ (b : Block). b.client) (same_block-true (block_of k) q.block mine) in
       HasMark-fits s.marks q k (ap (λ d. mark_of d s.marks) (sym client ∙ of) ∙ found) has
 
-  own_marked : (q : PrivateQueue) → is_queue_of (block_of k) q ≡ true → HasMark s.marks q → AllByRecursion (HasMark (set_mark (greeting_mark c inc) s.marks)) (left_by_cut q)
+  own_marked : (q : PrivateQueue) → is_queue_of (block_of k) q ≡ true → HasMark s.marks q
+      → AllByRecursion (HasMark (set_mark (greeting_mark c inc) s.marks)) (left_by_cut q)
   own_marked q mine has = by_state (takes_more q.state) refl q.entries where
     block : block_of k ≡ q.block
     block = same_block-true (block_of k) q.block mine
@@ -134,12 +142,18 @@ module _ (s : HandlerState) (c : ClientId) (inc : ℕ) (k : Mark) (is : IsState 
     marked : (r : PrivateQueue) → r.block ≡ q.block → FitsMark r (greeting_mark c inc) → HasMark (set_mark (greeting_mark c inc) s.marks) r
     marked r same fits =
         let there : r.block.client ≡ c = ap (λ (b : Block). b.client) same ∙ client in
-        record { mark = greeting_mark c inc; found = ap (λ d. mark_of d (set_mark (greeting_mark c inc) s.marks)) there ∙ mark_of-set_mark_own (greeting_mark c inc) k s.marks found; fits = fits }
+        record {
+          mark = greeting_mark c inc;
+          found = ap (λ d. mark_of d (set_mark (greeting_mark c inc) s.marks)) there
+              ∙ mark_of-set_mark_own (greeting_mark c inc) k s.marks found;
+          fits = fits;
+        }
 
     below : q.block.inc < inc
     below = let before = FitsMark-inc q k (own_fits q mine has) in omega arith
 
-    by_state : (t : Bool) → takes_more q.state ≡ t → (es : List Entry) → AllByRecursion (HasMark (set_mark (greeting_mark c inc) s.marks)) (cond t (cut_open q es) (q ∷ []))
+    by_state : (t : Bool) → takes_more q.state ≡ t → (es : List Entry)
+        → AllByRecursion (HasMark (set_mark (greeting_mark c inc) s.marks)) (cond t (cut_open q es) (q ∷ []))
     by_state true takes [] = tt
     by_state true takes (e ∷ es) = (marked _ refl (FitsMark-incarnation _ (greeting_mark c inc) below refl), tt)
     by_state false done es = (marked q refl (FitsMark-incarnation q (greeting_mark c inc) below done), tt)
@@ -154,20 +168,24 @@ module _ (s : HandlerState) (c : ClientId) (inc : ℕ) (k : Mark) (is : IsState 
     opened = never_open _ (greeting_mark c inc) refl;
     others_open = others_has_open;
     queues = IsQueues-cut (block_of k) s.queues is.queues;
-    marked = All-at_block (HasMark s.marks) (HasMark (set_mark (greeting_mark c inc) s.marks)) (block_of k) left_by_cut s.queues is.queues.apart own_marked others_marked is.marked;
+    marked = All-at_block (HasMark s.marks) (HasMark (set_mark (greeting_mark c inc) s.marks))
+        (block_of k) left_by_cut s.queues is.queues.apart own_marked others_marked is.marked;
   })
 
 -- ---- a newer block
 
 -- the client's newest block is done with, and the private queues bear a newer one
-newer_block-fits : (s : HandlerState) (b : Block) (k : Mark) (stage : Stage) → IsHeardAt s b k → k.num < b.num → is_unfinished s k ≡ false → (q : PrivateQueue) → IsQueue q → FitsMark q k → FitsMark q (fresh_mark b stage)
-newer_block-fits s b k stage at new clear q sound fits = FitsMark-block q k (fresh_mark b stage) at.inc new fits (takes_none q k fits (right (is_holder s.holder (block_of k)) _ clear)) where
-  right : (t u : Bool) → (t || u) ≡ false → u ≡ false
-  right true u e = cc
-  right false u e = e
+newer_block-fits : (s : HandlerState) (b : Block) (k : Mark) (stage : Stage) → IsHeardAt s b k → k.num < b.num → is_unfinished s k ≡ false → (q : PrivateQueue)
+    → IsQueue q → FitsMark q k → FitsMark q (fresh_mark b stage)
+newer_block-fits s b k stage at new clear q sound fits = FitsMark-block q k (fresh_mark b stage) at.inc new fits
+    (takes_none q k fits (right (is_holder s.holder (block_of k)) _ clear)) where
+      right : (t u : Bool) → (t || u) ≡ false → u ≡ false
+      right true u e = cc
+      right false u e = e
 
 -- a lock is granted
-pub IsState-granted : (s : HandlerState) (b : Block) (k : Mark) → IsState s → IsHeardAt s b k → k.num < b.num → s.holder ≡ None → is_unfinished s k ≡ false → IsState (moved s (Some b) (fresh_mark b Held))
+pub IsState-granted : (s : HandlerState) (b : Block) (k : Mark) → IsState s → IsHeardAt s b k → k.num < b.num → s.holder ≡ None → is_unfinished s k ≡ false
+    → IsState (moved s (Some b) (fresh_mark b Held))
 IsState-granted s b k is at new free clear = IsState-changed s (Some b) (fresh_mark b Held) k s.queues is (record {
   found = at.found;
   under_way = under_way-own (fresh_mark b Held) k s.marks at.found refl;
@@ -188,7 +206,8 @@ holder_is_newest s b k is found e = let was : IsUnderWay b s.marks = subst (λ h
     ap block_of same ∙ was.newest
 
 -- a block is passed over
-pub IsState-skipped : (s : HandlerState) (b : Block) (k : Mark) → IsState s → IsHeardAt s b k → k.num < b.num → is_unfinished s k ≡ false → IsState (moved s s.holder (fresh_mark b Shut))
+pub IsState-skipped : (s : HandlerState) (b : Block) (k : Mark) → IsState s → IsHeardAt s b k → k.num < b.num → is_unfinished s k ≡ false
+    → IsState (moved s s.holder (fresh_mark b Shut))
 IsState-skipped s b k is at new clear = IsState-changed s s.holder (fresh_mark b Shut) k s.queues is (record {
   found = at.found;
   under_way = by_holder s.holder refl;
@@ -235,12 +254,17 @@ still_open Shut = refl
 without_hold-fits : (k : Mark) (q : PrivateQueue) → IsQueue q → FitsMark q k → FitsMark q (without_hold k)
 without_hold-fits k q sound fits = record {
   not_above = fits.not_above;
-  newest = λ same. let was = fits.newest same in record { received = was.received; unfinished = λ takes. ap (λ t. t && not k.ended) (still_open k.stage) ∙ was.unfinished takes };
+  newest = λ same. let was = fits.newest same in record {
+    received = was.received;
+    unfinished = λ takes. ap (λ t. t && not k.ended) (still_open k.stage)
+        ∙ was.unfinished takes;
+  };
   older = fits.older;
   cut = fits.cut;
 }
 
-pub IsState-freed : (s : HandlerState) (b : Block) (k : Mark) → IsState s → IsHeardAt s b k → is_holder s.holder b ≡ true → IsState (moved s None (without_hold k))
+pub IsState-freed : (s : HandlerState) (b : Block) (k : Mark) → IsState s → IsHeardAt s b k → is_holder s.holder b ≡ true
+    → IsState (moved s None (without_hold k))
 IsState-freed s b k is at holds =
     let of : k.client ≡ b.client = mark_of-client b.client s.marks k at.found in
     let own : mark_of k.client s.marks ≡ Some k = ap (λ c. mark_of c s.marks) of ∙ at.found in
@@ -266,16 +290,20 @@ IsState-freed s b k is at holds =
 
 -- ---- a first greeting
 
-pub IsState-first : (s : HandlerState) (c : ClientId) (inc : ℕ) → IsState s → mark_of c s.marks ≡ None → length s.marks < MAX_MARKS → IsState (with_mark s (greeting_mark c inc))
+pub IsState-first : (s : HandlerState) (c : ClientId) (inc : ℕ) → IsState s → mark_of c s.marks ≡ None → length s.marks < MAX_MARKS
+    → IsState (with_mark s (greeting_mark c inc))
 IsState-first s c inc is none room = record {
   room = rw (length-add_mark (greeting_mark c inc) s.marks) (omega arith);
   ascending = IsAscending-add_mark (greeting_mark c inc) s.marks none is.ascending;
   holder = by_holder s.holder is.holder;
-  held = All-add_mark (HoldsIfHeld s.holder) (HoldsIfHeld s.holder) (greeting_mark c inc) s.marks (record { holds = λ held. absurd (false_true held) }) (λ x p. p) is.held;
+  held = All-add_mark (HoldsIfHeld s.holder) (HoldsIfHeld s.holder) (greeting_mark c inc) s.marks (record { holds = λ held. absurd (false_true held) })
+      (λ x p. p) is.held;
   unused = All-add_mark IsUnusedUnlessOpen IsUnusedUnlessOpen (greeting_mark c inc) s.marks (fresh_unused _ Shut) (λ x p. p) is.unused;
-  opened = All-add_mark (HasQueueIfOpen s.queues) (HasQueueIfOpen s.queues) (greeting_mark c inc) s.marks (never_open s.queues (greeting_mark c inc) refl) (λ x p. p) is.opened;
+  opened = All-add_mark (HasQueueIfOpen s.queues) (HasQueueIfOpen s.queues) (greeting_mark c inc) s.marks (never_open s.queues (greeting_mark c inc) refl)
+      (λ x p. p) is.opened;
   queues = is.queues;
-  marked = All-queues IsQueue (HasMark s.marks) (HasMark (add_mark (greeting_mark c inc) s.marks)) s.queues (λ q sound has. HasMark-add (greeting_mark c inc) s.marks q none has) is.queues.each is.marked;
+  marked = All-queues IsQueue (HasMark s.marks) (HasMark (add_mark (greeting_mark c inc) s.marks)) s.queues
+      (λ q sound has. HasMark-add (greeting_mark c inc) s.marks q none has) is.queues.each is.marked;
   words = is.words;
 } where
   apart : (b : Block) (m : Mark) → mark_of b.client s.marks ≡ Some m → same_client c b.client ≡ false
@@ -286,11 +314,18 @@ IsState-first s c inc is none room = record {
 
   by_holder : (h : Option Block) → HolderIsUnderWay h s.marks → HolderIsUnderWay h (add_mark (greeting_mark c inc) s.marks)
   by_holder None was = tt
-  by_holder (Some b) was = record { mark = was.mark; found = mark_of-add_mark_other b.client (greeting_mark c inc) s.marks (apart b was.mark was.found) ∙ was.found; newest = was.newest; stage = was.stage }
+  by_holder (Some b) was = record {
+    mark = was.mark;
+    found = mark_of-add_mark_other b.client (greeting_mark c inc) s.marks (apart b was.mark was.found)
+        ∙ was.found;
+    newest = was.newest;
+    stage = was.stage;
+  }
 
 -- ---- a private queue is opened
 
-module _ (s : HandlerState) (b : Block) (k : Mark) (is : IsState s) (at : IsHeardAt s b k) (same_num : k.num ≡ b.num) (held : k.stage ≡ Held) (room : length s.queues < MAX_QUEUES) where
+module _ (s : HandlerState) (b : Block) (k : Mark) (is : IsState s) (at : IsHeardAt s b k) (same_num : k.num ≡ b.num) (held : k.stage ≡ Held)
+    (room : length s.queues < MAX_QUEUES) where
   of_client : k.client ≡ b.client
   of_client = mark_of-client b.client s.marks k at.found
 
@@ -308,15 +343,16 @@ module _ (s : HandlerState) (b : Block) (k : Mark) (is : IsState s) (at : IsHear
 
   -- the block has no private queue yet
   pub absent : has_queue b s.queues ≡ false
-  absent = none_of (λ q. is_queue_of b q ≡ false) b s.queues (λ q e. e) (All-queues IsQueue (HasMark s.marks) (λ q. is_queue_of b q ≡ false) s.queues apart is.queues.each is.marked) where
-    apart : (q : PrivateQueue) → IsQueue q → HasMark s.marks q → is_queue_of b q ≡ false
-    apart q sound has = elim (cases_Bool (is_queue_of b q)) [
-      | inl mine ↦
-          let block : b ≡ q.block = same_block-true b q.block mine in
-          let found : mark_of q.block.client s.marks ≡ Some k = ap (λ (d : Block). mark_of d.client s.marks) (sym block) ∙ at.found in
-          absurd (no_queue_yet q k sound (HasMark-fits s.marks q k found has) unused closed (is_newest ∙ block))
-      | inr other ↦ other
-    ]
+  absent = none_of (λ q. is_queue_of b q ≡ false) b s.queues (λ q e. e)
+      (All-queues IsQueue (HasMark s.marks) (λ q. is_queue_of b q ≡ false) s.queues apart is.queues.each is.marked) where
+        apart : (q : PrivateQueue) → IsQueue q → HasMark s.marks q → is_queue_of b q ≡ false
+        apart q sound has = elim (cases_Bool (is_queue_of b q)) [
+          | inl mine ↦
+              let block : b ≡ q.block = same_block-true b q.block mine in
+              let found : mark_of q.block.client s.marks ≡ Some k = ap (λ (d : Block). mark_of d.client s.marks) (sym block) ∙ at.found in
+              absurd (no_queue_yet q k sound (HasMark-fits s.marks q k found has) unused closed (is_newest ∙ block))
+          | inr other ↦ other
+        ]
 
   new_queue_fits : FitsMark (new_queue b) (opened_mark k)
   new_queue_fits = record {
@@ -337,8 +373,15 @@ module _ (s : HandlerState) (b : Block) (k : Mark) (is : IsState s) (at : IsHear
     others_open = λ x apart. others x (apart_blocks x b (ap (same_client x.client) (sym of_client) ∙ apart));
     queues = IsQueues-opened b s.queues is.queues fits;
     marked = All-append (HasMark (set_mark (opened_mark k) s.marks)) s.queues (new_queue b ∷ [])
-        (marked-set s (opened_mark k) k is own_mark (λ q sound fit. FitsMark-other q k (opened_mark k) refl (no_queue_yet q k sound fit unused closed) fit))
-        (record { mark = opened_mark k; found = ap (λ c. mark_of c (set_mark (opened_mark k) s.marks)) (sym of_client) ∙ mark_of-set_mark_own (opened_mark k) k s.marks own_mark; fits = new_queue_fits }, tt);
+        (marked-set s (opened_mark k) k is own_mark (λ q sound fit. FitsMark-other q k (opened_mark k) refl (no_queue_yet q k sound fit unused closed) fit)) (
+          record {
+            mark = opened_mark k;
+            found = ap (λ c. mark_of c (set_mark (opened_mark k) s.marks)) (sym of_client)
+                ∙ mark_of-set_mark_own (opened_mark k) k s.marks own_mark;
+            fits = new_queue_fits;
+          },
+          tt,
+        );
   }) where
     holds : s.holder ≡ Some (block_of k)
     holds = let was : HoldsIfHeld s.holder k = All-mark_of (HoldsIfHeld s.holder) b.client s.marks k is.held at.found in was.holds (ap is_held held)
@@ -410,7 +453,8 @@ roomy k last es e = record {
     by_test false apart f = grind (arith, nat_tests)
 
 module _ (s : HandlerState) (b : Block) (n : ℕ) (es : List Entry) (k : Mark) (is : IsState s) (at : IsLogAt s b k) (next : IsNext k n es)
-    (some : 0 < length es) (end : EndOnlyLast es) (goes_on : IsRoomy k (last_number n es) es) (room : pending b s.queues + length (new_entries n es k) ≤ MAX_PENDING) where
+    (some : 0 < length es) (end : EndOnlyLast es) (goes_on : IsRoomy k (last_number n es) es)
+    (room : pending b s.queues + length (new_entries n es k) ≤ MAX_PENDING) where
   abbrev last : ℕ
   last = last_number n es
 
@@ -462,8 +506,10 @@ module _ (s : HandlerState) (b : Block) (n : ℕ) (es : List Entry) (k : Mark) (
 
   pub numbers_new : HasNumbersFor b (new_entries n es k) s.queues
   numbers_new = λ q found takes. record { next = by_end q found takes (ends new) refl } where
-    by_end : (q : PrivateQueue) → queue_of b s.queues ≡ Some q → takes_more q.state ≡ true → (t : Bool) → ends new ≡ t → q.first + length (q.entries ++ new) ≤ number_limit (cond t Ended q.state)
-    by_end q found takes true is_end = let number = next_new q (sym (block-found b q s.queues found)) (fits_found q found) in let low = goes_on.low in omega arith
+    by_end : (q : PrivateQueue) → queue_of b s.queues ≡ Some q → takes_more q.state ≡ true → (t : Bool) → ends new ≡ t
+        → q.first + length (q.entries ++ new) ≤ number_limit (cond t Ended q.state)
+    by_end q found takes true is_end = let number = next_new q (sym (block-found b q s.queues found)) (fits_found q found) in let low = goes_on.low in
+        omega arith
     by_end q found takes false more =
         let number = next_new q (sym (block-found b q s.queues found)) (fits_found q found) in
         let low = goes_on.end (sym ends_new ∙ more) in
@@ -496,17 +542,26 @@ module _ (s : HandlerState) (b : Block) (n : ℕ) (es : List Entry) (k : Mark) (
     still true cut_off = absurd (false_true cut_off)
     still false cut_off = fits.cut cut_off
 
-  own_marked_taken : (q : PrivateQueue) → is_queue_of b q ≡ true → HasMark s.marks q → AllByRecursion (HasMark (set_mark taken_mark s.marks)) (queue_with_entries new q ∷ [])
+  own_marked_taken : (q : PrivateQueue) → is_queue_of b q ≡ true → HasMark s.marks q
+      → AllByRecursion (HasMark (set_mark taken_mark s.marks)) (queue_with_entries new q ∷ [])
   own_marked_taken q mine has =
       let block : b ≡ q.block = same_block-true b q.block mine in
       let fits : FitsMark q k = HasMark-fits s.marks q k (ap (λ (d : Block). mark_of d.client s.marks) (sym block) ∙ at.heard.found) has in
-      let client : q.block.client ≡ k.client = ap (λ (d : Block). d.client) (sym block) ∙ sym log_client in
-      (record { mark = taken_mark; found = ap (λ c. mark_of c (set_mark taken_mark s.marks)) client ∙ mark_of-set_mark_own taken_mark k s.marks log_mark; fits = own_taken q mine fits }, tt)
+      let client : q.block.client ≡ k.client = ap (λ (d : Block). d.client) (sym block) ∙ sym log_client in (
+        record {
+          mark = taken_mark;
+          found = ap (λ c. mark_of c (set_mark taken_mark s.marks)) client
+              ∙ mark_of-set_mark_own taken_mark k s.marks log_mark;
+          fits = own_taken q mine fits;
+        },
+        tt,
+      )
 
   others_taken : (q : PrivateQueue) → is_queue_of b q ≡ false → HasMark s.marks q → HasMark (set_mark taken_mark s.marks) q
   others_taken q apart has =
       HasMark-set taken_mark k s.marks q log_mark
-      (λ same fits. FitsMark-other q k taken_mark refl (λ block. true_false (sym (same_block-refl b) ∙ (ap (same_block b) (sym log_newest ∙ block) ∙ apart))) fits)
+      (λ same fits. FitsMark-other q k taken_mark refl (λ block. true_false (sym (same_block-refl b) ∙ (ap (same_block b) (sym log_newest ∙ block) ∙ apart)))
+      fits)
       has
 
   pub IsState-taken : IsState (with_entries s b n es k)
@@ -519,7 +574,8 @@ module _ (s : HandlerState) (b : Block) (n : ℕ) (es : List Entry) (k : Mark) (
     opened = record { has = λ stage more. ap (λ d. has_open d (put_all b new s.queues)) log_newest ∙ by_queue (open_queue b s.queues has_it) more };
     others_open = λ x apart. others x (apart_blocks x b (ap (same_client x.client) (sym log_client) ∙ apart));
     queues = IsQueues-put_all b new s.queues is.queues some_new end_new numbers_new fits_queue;
-    marked = All-at_block (HasMark s.marks) (HasMark (set_mark taken_mark s.marks)) b (λ q. queue_with_entries new q ∷ []) s.queues is.queues.apart own_marked_taken others_taken is.marked;
+    marked = All-at_block (HasMark s.marks) (HasMark (set_mark taken_mark s.marks)) b
+        (λ q. queue_with_entries new q ∷ []) s.queues is.queues.apart own_marked_taken others_taken is.marked;
   }) where
     never : (stage : Stage) → stage ≡ Open → IsTrue (is_held stage) → ⊥
     never stage e held = false_true (sym (ap is_held e) ∙ held)

@@ -21,7 +21,7 @@ use Rattle.scoop_handler.specs.Growing.{MarksGrow}
 use Rattle.scoop_handler.specs.Marks.{mark_of, block_of, is_held, fresh_mark, opened_mark, with_received, without_hold}
 use Rattle.scoop_handler.specs.State.{HandlerState, IsState, HoldsIfHeld, is_holder}
 use Rattle.scoop_handler.specs.Hearing.{Hearing, IsHeardAt, hear, holder_without, greeting_mark, new_entries}
-use Rattle.scoop_handler.specs.Rows.{Row, first_greeting, newer_greeting, same_greeting, lock_granted, lock_busy, lock_again, open_granted, open_again, unlock_new, unlock_holder, unlock_again, log_answered, log_again, log_taken}
+use Rattle.scoop_handler.specs.Rows.{Row, first_greeting, newer_greeting, repeated_greeting, lock_granted, lock_refused, repeated_lock, is_opened, repeated_open, unlock_of_a_block_never_held, is_freed, repeated_unlock, is_answered, already_received, is_taken}
 use Rattle.scoop_handler.specs.Locking.{ConfirmsOnlyHolder, HolderMoves, DroppedChangesNothing}
 use Rattle.scoop_handler.specs.Replies.{IsReplyTo, RepliesTo, HasEntries, named_block}
 use Rattle.scoop_handler.proofs.MarkLists.{mark_of-client, client_from_same, All-mark_of}
@@ -43,10 +43,10 @@ pub IsState-row : (s : HandlerState) (m : Message) (h : Hearing) → Row s m h �
 IsState-row s m h (first_greeting x c inc here none room) has is = IsState-first s c inc is none (omega (arith, is.room))
 IsState-row s m h (newer_greeting x c inc k here found newer) has is = IsState-newer s c inc k is found newer
 IsState-row s m h (lock_granted x b k here at new free clear) has is = IsState-granted s b k is at new free clear
-IsState-row s m h (open_granted x b k here at same held room) has is = IsState-opened s b k is at same held (omega (arith, is.queues.limit))
-IsState-row s m h (unlock_new x b k here at new clear) has is = IsState-skipped s b k is at new clear
-IsState-row s m h (unlock_holder x b k here at same holds) has is = IsState-freed s b k is at (ap (λ h. is_holder h b) holds ∙ same_block-refl b)
-IsState-row s m h (log_taken x b n es k here at next goes_on room) has is = (may_take s b n es k is at next has.0 has.1 goes_on room).state
+IsState-row s m h (is_opened x b k here at same held room) has is = IsState-opened s b k is at same held (omega (arith, is.queues.limit))
+IsState-row s m h (unlock_of_a_block_never_held x b k here at new clear) has is = IsState-skipped s b k is at new clear
+IsState-row s m h (is_freed x b k here at same holds) has is = IsState-freed s b k is at (ap (λ h. is_holder h b) holds ∙ same_block-refl b)
+IsState-row s m h (is_taken x b n es k here at next goes_on room) has is = (may_take s b n es k is at next has.0 has.1 goes_on room).state
 IsState-row s m h r has is = is
 
 pub IsState-hear : (s : HandlerState) (m : Message) → HasEntries m → IsState s → IsState (hear s m).0
@@ -58,27 +58,27 @@ pub number-row : (s : HandlerState) (m : Message) (h : Hearing) → Row s m h �
 number-row s m h (first_greeting x c inc here none room) = refl
 number-row s m h (newer_greeting x c inc k here found newer) = refl
 number-row s m h (lock_granted x b k here at new free clear) = refl
-number-row s m h (open_granted x b k here at same held room) = refl
-number-row s m h (unlock_new x b k here at new clear) = refl
-number-row s m h (unlock_holder x b k here at same holds) = refl
-number-row s m h (log_taken x b n es k here at next goes_on room) = refl
+number-row s m h (is_opened x b k here at same held room) = refl
+number-row s m h (unlock_of_a_block_never_held x b k here at new clear) = refl
+number-row s m h (is_freed x b k here at same holds) = refl
+number-row s m h (is_taken x b n es k here at next goes_on room) = refl
 number-row s m h r = refl
 
 pub words-row : (s : HandlerState) (m : Message) (h : Hearing) → Row s m h → h.0.words ≡ s.words
 words-row s m h (first_greeting x c inc here none room) = refl
 words-row s m h (newer_greeting x c inc k here found newer) = refl
 words-row s m h (lock_granted x b k here at new free clear) = refl
-words-row s m h (open_granted x b k here at same held room) = refl
-words-row s m h (unlock_new x b k here at new clear) = refl
-words-row s m h (unlock_holder x b k here at same holds) = refl
-words-row s m h (log_taken x b n es k here at next goes_on room) = refl
+words-row s m h (is_opened x b k here at same held room) = refl
+words-row s m h (unlock_of_a_block_never_held x b k here at new clear) = refl
+words-row s m h (is_freed x b k here at same holds) = refl
+words-row s m h (is_taken x b n es k here at next goes_on room) = refl
 words-row s m h r = refl
 
 -- the entry that runs next
 pub front-row : (s : HandlerState) (m : Message) (h : Hearing) → Row s m h → FrontStays s.queues h.0.queues
 front-row s m h (newer_greeting x c inc k here found newer) = FrontStays-cut (block_of k) s.queues
-front-row s m h (open_granted x b k here at same held room) = FrontStays-opened b s.queues
-front-row s m h (log_taken x b n es k here at next goes_on room) = FrontStays-put_all b (new_entries n es k) s.queues
+front-row s m h (is_opened x b k here at same held room) = FrontStays-opened b s.queues
+front-row s m h (is_taken x b n es k here at next goes_on room) = FrontStays-put_all b (new_entries n es k) s.queues
 front-row s m h r = λ f e. e
 
 pub IsCore-hear : (c : Core) (m : Message) → HasEntries m → IsCore c → IsCore (with_state (hear c.state m).0 c)
@@ -103,17 +103,18 @@ pub grows-row : (s : HandlerState) (m : Message) (h : Hearing) → Row s m h →
 grows-row s m h (first_greeting x c inc here none room) = MarksGrow-add (greeting_mark c inc) s.marks none
 grows-row s m h (newer_greeting x c inc k here found newer) = MarksGrow-set (greeting_mark c inc) k s.marks found (inl (inl newer))
 grows-row s m h (lock_granted x b k here at new free clear) = MarksGrow-set (fresh_mark b AtHeld) k s.marks at.found (inl (inr (at.inc, new)))
-grows-row s m h (open_granted x b k here at same held room) =
+grows-row s m h (is_opened x b k here at same held room) =
     let own = ap (λ c. mark_of c s.marks) (mark_of-client b.client s.marks k at.found) ∙ at.found in
     MarksGrow-set (opened_mark k) k s.marks own (inr (record { inc = refl; num = refl; stage = inr held; received = omega arith; ended = λ t. t }))
-grows-row s m h (unlock_new x b k here at new clear) = MarksGrow-set (fresh_mark b AtShut) k s.marks at.found (inl (inr (at.inc, new)))
-grows-row s m h (unlock_holder x b k here at same holds) =
+grows-row s m h (unlock_of_a_block_never_held x b k here at new clear) = MarksGrow-set (fresh_mark b AtShut) k s.marks at.found (inl (inr (at.inc, new)))
+grows-row s m h (is_freed x b k here at same holds) =
     let own = ap (λ c. mark_of c s.marks) (mark_of-client b.client s.marks k at.found) ∙ at.found in
     MarksGrow-set (without_hold k) k s.marks own (inr (record { inc = refl; num = refl; stage = freed_stage k.stage; received = omega arith; ended = λ t. t }))
-grows-row s m h (log_taken x b n es k here at next goes_on room) =
+grows-row s m h (is_taken x b n es k here at next goes_on room) =
     let own = ap (λ c. mark_of c s.marks) (mark_of-client b.client s.marks k at.heard.found) ∙ at.heard.found in
     let new = next.new in
-    MarksGrow-set (with_received (last_number n es) _ k) k s.marks own (inr (record { inc = refl; num = refl; stage = inl refl; received = omega arith; ended = λ t. absurd (not_ended k.ended _ t goes_on) }))
+    MarksGrow-set (with_received (last_number n es) _ k) k s.marks own
+    (inr (record { inc = refl; num = refl; stage = inl refl; received = omega arith; ended = λ t. absurd (not_ended k.ended _ t goes_on) }))
 grows-row s m h r = MarksGrow-refl s.marks
 
 -- ---- a lock is confirmed to its holder alone
@@ -131,7 +132,7 @@ held_holds s b k is at same held =
 
 pub confirms-row : (s : HandlerState) (m : Message) (h : Hearing) → Row s m h → IsState s → ConfirmsOnlyHolder h.0 h.1
 confirms-row s m h (lock_granted x b k here at new free clear) is = λ y z e. cc
-confirms-row s m h (lock_again x b k here at same held) is = λ y z e. let holds = held_holds s b k is at same held in cc
+confirms-row s m h (repeated_lock x b k here at same held) is = λ y z e. let holds = held_holds s b k is at same held in cc
 confirms-row s m h r is = λ y z e. absurd (let f = e in cc)
 
 -- ---- how the holder moves
@@ -154,7 +155,7 @@ holder-row s m h (newer_greeting x c inc k here found newer) is = by_holder s.ho
         | false ↦ λ apart. refl
       ] refl
 holder-row s m h (lock_granted x b k here at new free clear) is = subst (λ holder. HolderMoves holder (Lock x b) (Some b)) (sym free) refl
-holder-row s m h (unlock_holder x b k here at same holds) is = subst (λ holder. HolderMoves holder (Unlock x b) None) (sym holds) refl
+holder-row s m h (is_freed x b k here at same holds) is = subst (λ holder. HolderMoves holder (Unlock x b) None) (sym holds) refl
 holder-row s m h r is = stays s.holder m
 
 -- ---- a drop changes nothing
@@ -162,23 +163,24 @@ holder-row s m h r is = stays s.holder m
 pub drops-row : (s : HandlerState) (m : Message) (h : Hearing) → Row s m h → DroppedChangesNothing s h.0 h.1
 drops-row s m h (first_greeting x c inc here none room) = λ why e. absurd (let f = e in cc)
 drops-row s m h (newer_greeting x c inc k here found newer) = λ why e. absurd (let f = e in cc)
-drops-row s m h (same_greeting x c inc k here found same) = λ why e. absurd (let f = e in cc)
+drops-row s m h (repeated_greeting x c inc k here found same) = λ why e. absurd (let f = e in cc)
 drops-row s m h (lock_granted x b k here at new free clear) = λ why e. absurd (let f = e in cc)
-drops-row s m h (lock_busy x b k here at new busy) = λ why e. absurd (let f = e in cc)
-drops-row s m h (lock_again x b k here at same held) = λ why e. absurd (let f = e in cc)
-drops-row s m h (open_granted x b k here at same held room) = λ why e. absurd (let f = e in cc)
-drops-row s m h (open_again x b k here at same stage) = λ why e. absurd (let f = e in cc)
-drops-row s m h (unlock_new x b k here at new clear) = λ why e. absurd (let f = e in cc)
-drops-row s m h (unlock_holder x b k here at same holds) = λ why e. absurd (let f = e in cc)
-drops-row s m h (unlock_again x b k here at same free) = λ why e. absurd (let f = e in cc)
-drops-row s m h (log_answered x b n es k a here at before kept) = λ why e. absurd (let f = e in cc)
-drops-row s m h (log_again x b n es k here at before kept) = λ why e. absurd (let f = e in cc)
-drops-row s m h (log_taken x b n es k here at next goes_on room) = λ why e. absurd (let f = e in cc)
+drops-row s m h (lock_refused x b k here at new busy) = λ why e. absurd (let f = e in cc)
+drops-row s m h (repeated_lock x b k here at same held) = λ why e. absurd (let f = e in cc)
+drops-row s m h (is_opened x b k here at same held room) = λ why e. absurd (let f = e in cc)
+drops-row s m h (repeated_open x b k here at same stage) = λ why e. absurd (let f = e in cc)
+drops-row s m h (unlock_of_a_block_never_held x b k here at new clear) = λ why e. absurd (let f = e in cc)
+drops-row s m h (is_freed x b k here at same holds) = λ why e. absurd (let f = e in cc)
+drops-row s m h (repeated_unlock x b k here at same free) = λ why e. absurd (let f = e in cc)
+drops-row s m h (is_answered x b n es k a here at before kept) = λ why e. absurd (let f = e in cc)
+drops-row s m h (already_received x b n es k here at before kept) = λ why e. absurd (let f = e in cc)
+drops-row s m h (is_taken x b n es k here at next goes_on room) = λ why e. absurd (let f = e in cc)
 drops-row s m h r = λ why e. (refl, refl)
 
 -- ---- replies
 
-given : (m r : Message) → handler_of r ≡ handler_of m → client_of r ≡ client_of m → inc_of r ≡ inc_of m → named_block r ≡ named_block m → IsFalse (is_for_handler r) → (Fits m → Fits r) → (reply : Message) → Some r ≡ Some reply → IsReplyTo m reply
+given : (m r : Message) → handler_of r ≡ handler_of m → client_of r ≡ client_of m → inc_of r ≡ inc_of m → named_block r ≡ named_block m
+    → IsFalse (is_for_handler r) → (Fits m → Fits r) → (reply : Message) → Some r ≡ Some reply → IsReplyTo m reply
 given m r handler client inc block to_client fits reply e =
     let same : r ≡ reply = cc in
     subst (IsReplyTo m) same (record { handler = handler; client = client; incarnation = inc; block = block; to_client = to_client; fits = fits })
@@ -190,18 +192,21 @@ numbered b n es fits some i behind = let first = fits.entry.number in record { b
 pub replies-row : (s : HandlerState) (m : Message) (h : Hearing) → Row s m h → HasEntries m → RepliesTo m h.1
 replies-row s m h (first_greeting x c inc here none room) has = given (Hello x c inc) (Welcome s.number c inc) (sym here) refl refl refl refl (λ f. f)
 replies-row s m h (newer_greeting x c inc k here found newer) has = given (Hello x c inc) (Welcome s.number c inc) (sym here) refl refl refl refl (λ f. f)
-replies-row s m h (same_greeting x c inc k here found same) has = given (Hello x c inc) (Welcome s.number c inc) (sym here) refl refl refl refl (λ f. f)
+replies-row s m h (repeated_greeting x c inc k here found same) has = given (Hello x c inc) (Welcome s.number c inc) (sym here) refl refl refl refl (λ f. f)
 replies-row s m h (lock_granted x b k here at new free clear) has = given (Lock x b) (Locked s.number b) (sym here) refl refl refl refl (λ f. f)
-replies-row s m h (lock_busy x b k here at new busy) has = given (Lock x b) (Busy s.number b) (sym here) refl refl refl refl (λ f. f)
-replies-row s m h (lock_again x b k here at same held) has = given (Lock x b) (Locked s.number b) (sym here) refl refl refl refl (λ f. f)
-replies-row s m h (open_granted x b k here at same held room) has = given (Open x b) (Opened s.number b) (sym here) refl refl refl refl (λ f. f)
-replies-row s m h (open_again x b k here at same stage) has = given (Open x b) (Opened s.number b) (sym here) refl refl refl refl (λ f. f)
-replies-row s m h (unlock_new x b k here at new clear) has = given (Unlock x b) (Unlocked s.number b) (sym here) refl refl refl refl (λ f. f)
-replies-row s m h (unlock_holder x b k here at same holds) has = given (Unlock x b) (Unlocked s.number b) (sym here) refl refl refl refl (λ f. f)
-replies-row s m h (unlock_again x b k here at same free) has = given (Unlock x b) (Unlocked s.number b) (sym here) refl refl refl refl (λ f. f)
-replies-row s m h (log_answered x b n es k a here at before kept) has = given (Log x b n es) (Answer s.number b (last_number n es) a) (sym here) refl refl refl refl (λ f. numbered b n es f has.0 (last_number n es) (omega arith))
-replies-row s m h (log_again x b n es k here at before kept) has = given (Log x b n es) (Logged s.number b k.received) (sym here) refl refl refl refl (λ f. numbered b n es f has.0 k.received before)
-replies-row s m h (log_taken x b n es k here at next goes_on room) has = given (Log x b n es) (Logged s.number b (last_number n es)) (sym here) refl refl refl refl (λ f. numbered b n es f has.0 (last_number n es) (omega arith))
+replies-row s m h (lock_refused x b k here at new busy) has = given (Lock x b) (Busy s.number b) (sym here) refl refl refl refl (λ f. f)
+replies-row s m h (repeated_lock x b k here at same held) has = given (Lock x b) (Locked s.number b) (sym here) refl refl refl refl (λ f. f)
+replies-row s m h (is_opened x b k here at same held room) has = given (Open x b) (Opened s.number b) (sym here) refl refl refl refl (λ f. f)
+replies-row s m h (repeated_open x b k here at same stage) has = given (Open x b) (Opened s.number b) (sym here) refl refl refl refl (λ f. f)
+replies-row s m h (unlock_of_a_block_never_held x b k here at new clear) has = given (Unlock x b) (Unlocked s.number b) (sym here) refl refl refl refl (λ f. f)
+replies-row s m h (is_freed x b k here at same holds) has = given (Unlock x b) (Unlocked s.number b) (sym here) refl refl refl refl (λ f. f)
+replies-row s m h (repeated_unlock x b k here at same free) has = given (Unlock x b) (Unlocked s.number b) (sym here) refl refl refl refl (λ f. f)
+replies-row s m h (is_answered x b n es k a here at before kept) has =
+    given (Log x b n es) (Answer s.number b (last_number n es) a) (sym here) refl refl refl refl (λ f. numbered b n es f has.0 (last_number n es) (omega arith))
+replies-row s m h (already_received x b n es k here at before kept) has =
+    given (Log x b n es) (Logged s.number b k.received) (sym here) refl refl refl refl (λ f. numbered b n es f has.0 k.received before)
+replies-row s m h (is_taken x b n es k here at next goes_on room) has =
+    given (Log x b n es) (Logged s.number b (last_number n es)) (sym here) refl refl refl refl (λ f. numbered b n es f has.0 (last_number n es) (omega arith))
 replies-row s m h r has = λ reply e. absurd (none_some e)
 
 -- ---- where a call has heard
@@ -212,31 +217,43 @@ pub record HasHeard (old : Core) (m : Message) (new : Core) (result : Result Hea
   pub stays : new ≡ with_state new.state old
   pub err : OnErr result (new ≡ old)
 
-pub sound-heard : (old : Core) (m : Message) (new : Core) (result : Result Heard OutOfMemory) → HasEntries m → IsCore old → HasHeard old m new result → IsCore new
+pub sound-heard : (old : Core) (m : Message) (new : Core) (result : Result Heard OutOfMemory) → HasEntries m → IsCore old → HasHeard old m new result
+    → IsCore new
 sound-heard old m new (Ok heard) has is done =
     subst IsCore (sym done.stays) (subst (λ (h : Hearing). IsCore (with_state h.0 old)) done.ok (IsCore-hear old m has is))
 sound-heard old m new (Err e) has is done = subst IsCore (sym done.err) is
 
-pub confirms-heard : (old : Core) (m : Message) (new : Core) (result : Result Heard OutOfMemory) → IsCore old → HasHeard old m new result → IfOk result (ConfirmsOnlyHolder new.state)
-confirms-heard old m new (Ok heard) is done = subst (λ (h : Hearing). ConfirmsOnlyHolder h.0 h.1) done.ok (confirms-row old.state m (hear old.state m) (row old.state m) is.state)
+pub confirms-heard : (old : Core) (m : Message) (new : Core) (result : Result Heard OutOfMemory) → IsCore old → HasHeard old m new result
+    → IfOk result (ConfirmsOnlyHolder new.state)
+confirms-heard old m new (Ok heard) is done = subst (λ (h : Hearing). ConfirmsOnlyHolder h.0 h.1) done.ok
+    (confirms-row old.state m (hear old.state m) (row old.state m) is.state)
 confirms-heard old m new (Err e) is done = tt
 
-pub holder-heard : (old : Core) (m : Message) (new : Core) (result : Result Heard OutOfMemory) → IsCore old → HasHeard old m new result → HolderMoves old.state.holder m new.state.holder
-holder-heard old m new (Ok heard) is done = subst (λ (h : Hearing). HolderMoves old.state.holder m h.0.holder) done.ok (holder-row old.state m (hear old.state m) (row old.state m) is.state)
+pub holder-heard : (old : Core) (m : Message) (new : Core) (result : Result Heard OutOfMemory) → IsCore old → HasHeard old m new result
+    → HolderMoves old.state.holder m new.state.holder
+holder-heard old m new (Ok heard) is done = subst (λ (h : Hearing). HolderMoves old.state.holder m h.0.holder) done.ok
+    (holder-row old.state m (hear old.state m) (row old.state m) is.state)
 holder-heard old m new (Err e) is done = subst (λ (c : Core). HolderMoves old.state.holder m c.state.holder) (sym done.err) (stays old.state.holder m)
 
-pub drops-heard : (old : Core) (m : Message) (new : Core) (result : Result Heard OutOfMemory) → HasHeard old m new result → IfOk result (DroppedChangesNothing old.state new.state)
-drops-heard old m new (Ok heard) done = subst (λ (h : Hearing). DroppedChangesNothing old.state h.0 h.1) done.ok (drops-row old.state m (hear old.state m) (row old.state m))
+pub drops-heard : (old : Core) (m : Message) (new : Core) (result : Result Heard OutOfMemory) → HasHeard old m new result
+    → IfOk result (DroppedChangesNothing old.state new.state)
+drops-heard old m new (Ok heard) done = subst (λ (h : Hearing). DroppedChangesNothing old.state h.0 h.1) done.ok
+    (drops-row old.state m (hear old.state m) (row old.state m))
 drops-heard old m new (Err e) done = tt
 
-pub replies-heard : (old : Core) (m : Message) (new : Core) (result : Result Heard OutOfMemory) → HasEntries m → HasHeard old m new result → IfOk result (RepliesTo m)
-replies-heard old m new (Ok heard) has done = subst (λ (h : Hearing). RepliesTo m h.1) done.ok (replies-row old.state m (hear old.state m) (row old.state m) has)
+pub replies-heard : (old : Core) (m : Message) (new : Core) (result : Result Heard OutOfMemory) → HasEntries m → HasHeard old m new result
+    → IfOk result (RepliesTo m)
+replies-heard old m new (Ok heard) has done = subst (λ (h : Hearing). RepliesTo m h.1) done.ok
+    (replies-row old.state m (hear old.state m) (row old.state m) has)
 replies-heard old m new (Err e) has done = tt
 
-pub grows-heard : (old : Core) (m : Message) (new : Core) (result : Result Heard OutOfMemory) → HasHeard old m new result → MarksGrow old.state.marks new.state.marks
-grows-heard old m new (Ok heard) done = subst (λ (h : Hearing). MarksGrow old.state.marks h.0.marks) done.ok (grows-row old.state m (hear old.state m) (row old.state m))
+pub grows-heard : (old : Core) (m : Message) (new : Core) (result : Result Heard OutOfMemory) → HasHeard old m new result
+    → MarksGrow old.state.marks new.state.marks
+grows-heard old m new (Ok heard) done = subst (λ (h : Hearing). MarksGrow old.state.marks h.0.marks) done.ok
+    (grows-row old.state m (hear old.state m) (row old.state m))
 grows-heard old m new (Err e) done = subst (λ (c : Core). MarksGrow old.state.marks c.state.marks) (sym done.err) (MarksGrow-refl old.state.marks)
 
 pub words-heard : (old : Core) (m : Message) (new : Core) (result : Result Heard OutOfMemory) → HasHeard old m new result → new.state.words ≡ old.state.words
-words-heard old m new (Ok heard) done = subst (λ (h : Hearing). h.0.words ≡ old.state.words) done.ok (words-row old.state m (hear old.state m) (row old.state m))
+words-heard old m new (Ok heard) done = subst (λ (h : Hearing). h.0.words ≡ old.state.words) done.ok
+    (words-row old.state m (hear old.state m) (row old.state m))
 words-heard old m new (Err e) done = ap (λ (c : Core). c.state.words) done.err

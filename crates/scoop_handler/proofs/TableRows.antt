@@ -20,7 +20,7 @@ use Rattle.scoop_handler.specs.declared.mark.Stage.TheVariants.{Held as AtHeld, 
 use Rattle.scoop_handler.specs.Marks.{mark_of, is_held, is_open}
 use Rattle.scoop_handler.specs.State.{HandlerState, is_holder, is_unfinished}
 use Rattle.scoop_handler.specs.Hearing.{Hearing, IsHeardAt, hear, hear_hello, hear_lock, hear_open, hear_unlock, hear_log, hear_of, hear_at, mark_for, if_here, is_new, granted, received_before, kept_answer, new_entries, is_closed, has_no_room}
-use Rattle.scoop_handler.specs.Rows.{Row, asking_block, IsUngreeted, IsPast, not_for_handlers, wrong_handler, too_many_clients, first_greeting, newer_greeting, same_greeting, older_greeting, ungreeted, past, lock_granted, lock_busy, lock_again, lock_over, open_not_holder, open_no_room, open_granted, open_again, unlock_unfinished, unlock_new, unlock_holder, unlock_again, IsLogAt, IsNext, log_not_open, log_answered, log_again, log_gap, log_closed, log_no_room, log_taken}
+use Rattle.scoop_handler.specs.Rows.{Row, asking_block, IsUngreeted, IsPast, kind_for_clients, another_handler, too_many_clients, first_greeting, newer_greeting, repeated_greeting, stale_greeting, ungreeted, stale, lock_granted, lock_refused, repeated_lock, late_lock, open_without_lock, no_room_for_a_queue, is_opened, repeated_open, unlock_while_unfinished, unlock_of_a_block_never_held, is_freed, repeated_unlock, IsLogAt, IsNext, log_of_a_block_not_open, is_answered, already_received, has_gap, after_the_end, pending_full, is_taken}
 
 -- ---- tests, and what they say
 
@@ -100,7 +100,8 @@ not_holder_from_test (Some x) b e same = let one : x ≡ b = cc in
 
 -- ---- rows of each kind
 
-hello_row : (s : HandlerState) (h : HandlerId) (c : ClientId) (inc : ℕ) (k : Option Mark) → h ≡ s.number → mark_of c s.marks ≡ k → Row s (Hello h c inc) (hear_hello s c inc k)
+hello_row : (s : HandlerState) (h : HandlerId) (c : ClientId) (inc : ℕ) (k : Option Mark) → h ≡ s.number → mark_of c s.marks ≡ k
+    → Row s (Hello h c inc) (hear_hello s c inc k)
 hello_row s h c inc None here is =
     split (Row s (Hello h c inc)) (length s.marks == MAX_MARKS) _ _
     (λ e. too_many_clients h c inc here is (eqb-true (length s.marks) MAX_MARKS e))
@@ -111,8 +112,8 @@ hello_row s h c inc (Some k) here is =
     split (Row s (Hello h c inc)) (nat_lt k.inc inc) _ _
     (λ below. newer_greeting h c inc k here is (lt_of k.inc inc below))
     (λ at_least. split (Row s (Hello h c inc)) (k.inc == inc) _ _
-    (λ same. same_greeting h c inc k here is (eqb-true k.inc inc same))
-    (λ apart. older_greeting h c inc k here is (above at_least apart))) where
+    (λ same. repeated_greeting h c inc k here is (eqb-true k.inc inc same))
+    (λ apart. stale_greeting h c inc k here is (above at_least apart))) where
       above : nat_lt k.inc inc ≡ false → (k.inc == inc) ≡ false → inc < k.inc
       above e f = grind (arith, nat_tests)
 
@@ -121,10 +122,10 @@ lock_row s h b k here at =
     let P = Row s (Lock h b) in
     split P (is_new b k && (is_none s.holder && not (is_unfinished s k))) _ _ grants
     (λ busy. split P (is_new b k) _ _
-    (λ new. lock_busy h b k here at (lt_of k.num b.num new) (rest new busy))
+    (λ new. lock_refused h b k here at (lt_of k.num b.num new) (rest new busy))
     (λ old. split P (is_held k.stage) _ _
-    (λ held. lock_again h b k here at (same_num old) (held_from_test k.stage held))
-    (λ over. lock_over h b k here at (same_num old) (not_held_from_test k.stage over)))) where
+    (λ held. repeated_lock h b k here at (same_num old) (held_from_test k.stage held))
+    (λ over. late_lock h b k here at (same_num old) (not_held_from_test k.stage over)))) where
       grants : (is_new b k && (is_none s.holder && not (is_unfinished s k))) ≡ true → Row s (Lock h b) (granted s b)
       grants e =
           let t = and_true _ _ e in
@@ -141,14 +142,15 @@ open_row : (s : HandlerState) (h : HandlerId) (b : Block) (k : Mark) → h ≡ s
 open_row s h b k here at =
     let P = Row s (Open h b) in
     split P (is_new b k) _ _
-    (λ new. open_not_holder h b k here at (inl (lt_of k.num b.num new)))
+    (λ new. open_without_lock h b k here at (inl (lt_of k.num b.num new)))
     (λ old. split P (is_open k.stage) _ _
-    (λ again. open_again h b k here at (same_num old) (open_from_test k.stage again))
+    (λ again. repeated_open h b k here at (same_num old) (open_from_test k.stage again))
     (λ closed. split P (not (is_held k.stage)) _ _
-    (λ over. open_not_holder h b k here at (inr (shut_from_tests k.stage closed (not_true (is_held k.stage) over))))
+    (λ over. open_without_lock h b k here at (inr (shut_from_tests k.stage closed (not_true (is_held k.stage) over))))
     (λ holds. split P (length s.queues == MAX_QUEUES) _ _
-    (λ many. open_no_room h b k here at (same_num old) (held_from_test k.stage (not_false (is_held k.stage) holds)) (eqb-true (length s.queues) MAX_QUEUES many))
-    (λ room. open_granted h b k here at (same_num old) (held_from_test k.stage (not_false (is_held k.stage) holds)) (λ same. has_room same room))))) where
+    (λ many. no_room_for_a_queue h b k here at (same_num old) (held_from_test k.stage (not_false (is_held k.stage) holds))
+    (eqb-true (length s.queues) MAX_QUEUES many))
+    (λ room. is_opened h b k here at (same_num old) (held_from_test k.stage (not_false (is_held k.stage) holds)) (λ same. has_room same room))))) where
       has_room : length s.queues ≡ MAX_QUEUES → (length s.queues == MAX_QUEUES) ≡ false → ⊥
       has_room same e = grind (arith, nat_tests)
 
@@ -159,12 +161,12 @@ unlock_row : (s : HandlerState) (h : HandlerId) (b : Block) (k : Mark) → h ≡
 unlock_row s h b k here at =
     let P = Row s (Unlock h b) in
     split P (is_new b k && is_unfinished s k) _ _
-    (λ busy. let t = and_true _ _ busy in unlock_unfinished h b k here at (lt_of k.num b.num t.0) t.1)
+    (λ busy. let t = and_true _ _ busy in unlock_while_unfinished h b k here at (lt_of k.num b.num t.0) t.1)
     (λ clear. split P (is_new b k) _ _
-    (λ new. unlock_new h b k here at (lt_of k.num b.num new) (rest new clear))
+    (λ new. unlock_of_a_block_never_held h b k here at (lt_of k.num b.num new) (rest new clear))
     (λ old. split P (is_holder s.holder b) _ _
-    (λ holds. unlock_holder h b k here at (same_num old) (holder_from_test s.holder b holds))
-    (λ free. unlock_again h b k here at (same_num old) (not_holder_from_test s.holder b free)))) where
+    (λ holds. is_freed h b k here at (same_num old) (holder_from_test s.holder b holds))
+    (λ free. repeated_unlock h b k here at (same_num old) (not_holder_from_test s.holder b free)))) where
       rest : is_new b k ≡ true → (is_new b k && is_unfinished s k) ≡ false → is_unfinished s k ≡ false
       rest new e = sym (ap (λ t. t && is_unfinished s k) new) ∙ e
 
@@ -172,31 +174,34 @@ unlock_row s h b k here at =
       same_num e = let le = le_of k.num b.num e in omega (arith, at.num)
 
 -- entries that were all received
-received_row : (s : HandlerState) (h : HandlerId) (b : Block) (n : ℕ) (es : List Entry) (k : Mark) → h ≡ s.number → IsLogAt s b k → last_number n es ≤ k.received
+received_row : (s : HandlerState) (h : HandlerId) (b : Block) (n : ℕ) (es : List Entry) (k : Mark) → h ≡ s.number → IsLogAt s b k
+    → last_number n es ≤ k.received
     → Row s (Log h b n es) (received_before s b (last_number n es) k (kept_answer (last_number n es) k.kept))
 received_row s h b n es k here at before = by_kept k.kept refl where
-  by_kept : (kept : Option (ℕ × QueryAnswer)) → k.kept ≡ kept → Row s (Log h b n es) (received_before s b (last_number n es) k (kept_answer (last_number n es) kept))
-  by_kept None e = log_again h b n es k here at before (ap (kept_answer (last_number n es)) e)
+  by_kept : (kept : Option (ℕ × QueryAnswer)) → k.kept ≡ kept
+      → Row s (Log h b n es) (received_before s b (last_number n es) k (kept_answer (last_number n es) kept))
+  by_kept None e = already_received h b n es k here at before (ap (kept_answer (last_number n es)) e)
   by_kept (Some kept) e =
       let make : ℕ → Option (ℕ × QueryAnswer) = λ i. Some (i, kept.1) in
       split (λ o. Row s (Log h b n es) (received_before s b (last_number n es) k o)) (kept.0 == last_number n es) (Some kept.1) None
-      (λ same. log_answered h b n es k kept.1 here at before (e ∙ ap make (eqb-true kept.0 (last_number n es) same)))
-      (λ other. log_again h b n es k here at before (ap (kept_answer (last_number n es)) e ∙ rw other refl))
+      (λ same. is_answered h b n es k kept.1 here at before (e ∙ ap make (eqb-true kept.0 (last_number n es) same)))
+      (λ other. already_received h b n es k here at before (ap (kept_answer (last_number n es)) e ∙ rw other refl))
 
-log_row : (s : HandlerState) (h : HandlerId) (b : Block) (n : ℕ) (es : List Entry) (k : Mark) → h ≡ s.number → IsHeardAt s b k → Row s (Log h b n es) (hear_log s b n es k)
+log_row : (s : HandlerState) (h : HandlerId) (b : Block) (n : ℕ) (es : List Entry) (k : Mark) → h ≡ s.number → IsHeardAt s b k
+    → Row s (Log h b n es) (hear_log s b n es k)
 log_row s h b n es k here at =
     let P = Row s (Log h b n es) in
     split P (is_new b k || not (is_open k.stage)) _ _
-    (λ shut. log_not_open h b n es k here at (not_taking (or_true _ _ shut)))
+    (λ shut. log_of_a_block_not_open h b n es k here at (not_taking (or_true _ _ shut)))
     (λ takes. split P (nat_le (last_number n es) k.received) _ _
     (λ before. received_row s h b n es k here (is_at takes) (at_most before))
     (λ beyond. split P (nat_lt (k.received + 1) n) _ _
-    (λ gap. log_gap h b n es k here (is_at takes) (above beyond) (lt_of (k.received + 1) n gap))
+    (λ gap. has_gap h b n es k here (is_at takes) (above beyond) (lt_of (k.received + 1) n gap))
     (λ follows. split P (is_closed k (last_number n es) es) _ _
-    (λ closed. log_closed h b n es k here (is_at takes) (is_next beyond follows) closed)
+    (λ closed. after_the_end h b n es k here (is_at takes) (is_next beyond follows) closed)
     (λ goes_on. split P (has_no_room s b (length (new_entries n es k))) _ _
-    (λ crowded. log_no_room h b n es k here (is_at takes) (is_next beyond follows) goes_on crowded)
-    (λ room. log_taken h b n es k here (is_at takes) (is_next beyond follows) goes_on room))))) where
+    (λ crowded. pending_full h b n es k here (is_at takes) (is_next beyond follows) goes_on crowded)
+    (λ room. is_taken h b n es k here (is_at takes) (is_next beyond follows) goes_on room))))) where
       not_taking : (is_new b k ≡ true) ⊎ (not (is_open k.stage) ≡ true) → (k.num < b.num) ⊎ (k.stage ≢ AtOpen)
       not_taking (inl new) = inl (lt_of k.num b.num new)
       not_taking (inr shut) = inr (not_open_from_test k.stage shut)
@@ -220,7 +225,8 @@ log_row s h b n es k here at =
 
 -- ---- which row a message comes to
 
-block_row : (s : HandlerState) (m : Message) (b : Block) (heard : Mark → Hearing) → handler_of m ≡ s.number → asking_block m ≡ Some b → ((k : Mark) → IsHeardAt s b k → Row s m (heard k)) → Row s m (hear_of s b heard)
+block_row : (s : HandlerState) (m : Message) (b : Block) (heard : Mark → Hearing) → handler_of m ≡ s.number → asking_block m ≡ Some b
+    → ((k : Mark) → IsHeardAt s b k → Row s m (heard k)) → Row s m (hear_of s b heard)
 block_row s m b heard here asks row = by_mark (mark_of b.client s.marks) refl where
   by_mark : (k : Option Mark) → mark_of b.client s.marks ≡ k → Row s m (hear_at s (mark_for b k) heard)
   by_mark None is = ungreeted m b here asks (subst (IsUngreeted b) (sym is) tt)
@@ -228,7 +234,7 @@ block_row s m b heard here asks row = by_mark (mark_of b.client s.marks) refl wh
       split (λ r. Row s m (hear_at s r heard)) (nat_lt k.inc b.inc) _ _
       (λ below. ungreeted m b here asks (subst (IsUngreeted b) (sym is) (lt_of k.inc b.inc below)))
       (λ greeted. split (λ r. Row s m (hear_at s r heard)) (nat_lt b.inc k.inc || nat_lt b.num k.num) _ _
-      (λ stale. past m b k here asks is (is_past greeted stale))
+      (λ late. stale m b k here asks is (is_past greeted late))
       (λ new. row k (record { found = is; inc = same_inc greeted new; num = reached greeted new }))) where
         is_past : nat_lt k.inc b.inc ≡ false → (nat_lt b.inc k.inc || nat_lt b.num k.num) ≡ true → IsPast b k
         is_past e f = grind (arith, nat_tests)
@@ -239,22 +245,24 @@ block_row s m b heard here asks row = by_mark (mark_of b.client s.marks) refl wh
         reached : nat_lt k.inc b.inc ≡ false → (nat_lt b.inc k.inc || nat_lt b.num k.num) ≡ false → k.num ≤ b.num
         reached e f = grind (arith, nat_tests)
 
-here_row : (s : HandlerState) (m : Message) (h : HandlerId) (heard : Hearing) → IsTrue (is_for_handler m) → handler_of m ≡ h → (h ≡ s.number → Row s m heard) → Row s m (if_here s h heard)
+here_row : (s : HandlerState) (m : Message) (h : HandlerId) (heard : Hearing) → IsTrue (is_for_handler m) → handler_of m ≡ h → (h ≡ s.number → Row s m heard)
+    → Row s m (if_here s h heard)
 here_row s m h heard to_handler names row =
     split (Row s m) (same_handler h s.number) _ _
     (λ same. row (handler_from_same h s.number same))
-    (λ apart. wrong_handler m to_handler (λ e. handlers_apart h s.number apart (sym names ∙ e)))
+    (λ apart. another_handler m to_handler (λ e. handlers_apart h s.number apart (sym names ∙ e)))
 
 pub row : (s : HandlerState) (m : Message) → Row s m (hear s m)
 row s (Hello h c inc) = here_row s (Hello h c inc) h _ refl refl (λ here. hello_row s h c inc (mark_of c s.marks) here refl)
-row s (Welcome h c inc) = not_for_handlers (Welcome h c inc) refl
+row s (Welcome h c inc) = kind_for_clients (Welcome h c inc) refl
 row s (Lock h b) = here_row s (Lock h b) h _ refl refl (λ here. block_row s (Lock h b) b (hear_lock s b) here refl (λ k at. lock_row s h b k here at))
-row s (Locked h b) = not_for_handlers (Locked h b) refl
-row s (Busy h b) = not_for_handlers (Busy h b) refl
+row s (Locked h b) = kind_for_clients (Locked h b) refl
+row s (Busy h b) = kind_for_clients (Busy h b) refl
 row s (Open h b) = here_row s (Open h b) h _ refl refl (λ here. block_row s (Open h b) b (hear_open s b) here refl (λ k at. open_row s h b k here at))
-row s (Opened h b) = not_for_handlers (Opened h b) refl
+row s (Opened h b) = kind_for_clients (Opened h b) refl
 row s (Unlock h b) = here_row s (Unlock h b) h _ refl refl (λ here. block_row s (Unlock h b) b (hear_unlock s b) here refl (λ k at. unlock_row s h b k here at))
-row s (Unlocked h b) = not_for_handlers (Unlocked h b) refl
-row s (Log h b n es) = here_row s (Log h b n es) h _ refl refl (λ here. block_row s (Log h b n es) b (hear_log s b n es) here refl (λ k at. log_row s h b n es k here at))
-row s (Logged h b n) = not_for_handlers (Logged h b n) refl
-row s (Answer h b n a) = not_for_handlers (Answer h b n a) refl
+row s (Unlocked h b) = kind_for_clients (Unlocked h b) refl
+row s (Log h b n es) = here_row s (Log h b n es) h _ refl refl
+    (λ here. block_row s (Log h b n es) b (hear_log s b n es) here refl (λ k at. log_row s h b n es k here at))
+row s (Logged h b n) = kind_for_clients (Logged h b n) refl
+row s (Answer h b n a) = kind_for_clients (Answer h b n a) refl

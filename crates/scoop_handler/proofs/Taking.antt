@@ -48,5 +48,6 @@ IsCore-reset c s sound given may = record {
 }
 
 -- the handler with the parts of the state that it takes
-pub given-parts : (c : Core) (s : HandlerState) (number : HandlerId) (words : List ℕ) (out : Bool) → number ≡ s.number → words ≡ s.words → out ≡ c.out → core_of c.class (state_of number s.holder s.marks s.queues words) out ≡ with_state s c
+pub given-parts : (c : Core) (s : HandlerState) (number : HandlerId) (words : List ℕ) (out : Bool) → number ≡ s.number → words ≡ s.words → out ≡ c.out
+    → core_of c.class (state_of number s.holder s.marks s.queues words) out ≡ with_state s c
 given-parts c s number words out same_number same_words same_out = rw (same_number, same_words, same_out) refl

@@ -2,8 +2,8 @@
 use Rattle.std.specs.Prelude.{◌≡◌, ℕ, Bool, true, false, IsTrue, List, length, is_some, ⊤}
 use Rattle.scoop_object.specs.Class.{ClassTable}
 use Rattle.scoop_queue.specs.Queue.{front}
-use Rattle.scoop_handler.specs.declared.held.Held.{Held}
-use Rattle.scoop_handler.specs.declared.held.Held.TheVariants.{Here, Out}
+use Rattle.scoop_handler.specs.declared.presence.Presence.{Presence}
+use Rattle.scoop_handler.specs.declared.presence.Presence.TheVariants.{Here, Out}
 use Rattle.scoop_handler.specs.State.{HandlerState, IsState}
 
 -- a job that is out is that of the first entry of the first private queue, which is still pending
@@ -28,15 +28,15 @@ pub record IsCore (c : Core) : Type 0 where
 -- ---- the object, which is here or with a job
 
 -- the words of the object, or those with which it left
-abbrev pub held_words : {B : Type 0} → (B → List ℕ) → Held B → List ℕ
+abbrev pub held_words : {B : Type 0} → (B → List ℕ) → Presence B → List ℕ
 held_words words (Here object) = words object
-held_words words (Out left) = left
+held_words words (Out old) = old
 
-abbrev pub is_out : {B : Type 0} → Held B → Bool
+abbrev pub is_out : {B : Type 0} → Presence B → Bool
 is_out (Here object) = false
-is_out (Out left) = true
+is_out (Out old) = true
 
 -- the object, where it is here, has a property
-abbrev pub IfHere : {B : Type 0} → Held B → (B → Type 0) → Type 0
+abbrev pub IfHere : {B : Type 0} → Presence B → (B → Type 0) → Type 0
 IfHere (Here object) P = P object
-IfHere (Out left) P = ⊤
+IfHere (Out old) P = ⊤

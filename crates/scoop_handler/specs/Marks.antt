@@ -31,7 +31,7 @@ abbrev pub fresh_mark : Block → Stage → Mark
 fresh_mark b stage = record { client = b.client; inc = b.inc; num = b.num; stage = stage; received = 0; ended = false; kept = None }
 
 abbrev pub with_stage : Stage → Mark → Mark
-with_stage stage k = record { client = k.client; inc = k.inc; num = k.num; stage = stage; received = k.received; ended = k.ended; kept = k.kept }
+with_stage stage k = record k { stage = stage }
 
 -- the mark once a private queue is opened for its block
 abbrev pub opened_mark : Mark → Mark
@@ -39,7 +39,7 @@ opened_mark k = with_stage Open k
 
 -- the mark once entries up to this number were received; `ended` says whether the last is an End
 abbrev pub with_received : ℕ → Bool → Mark → Mark
-with_received last ended k = record { client = k.client; inc = k.inc; num = k.num; stage = k.stage; received = last; ended = ended; kept = k.kept }
+with_received last ended k = record k { received = last; ended = ended }
 
 -- a held mark that is freed is shut
 abbrev pub without_hold : Mark → Mark

@@ -44,31 +44,66 @@ pub record IsNext (k : Mark) (n : ℕ) (es : List Entry) : Type 0 where
   pub no_gap : n ≤ k.received + 1
 
 pub data Row (s : HandlerState) : Message → Hearing → Type 0 where
-  not_for_handlers : (m : Message) → IsFalse (is_for_handler m) → Row s m (dropped s NotForHandlers)
-  wrong_handler : (m : Message) → IsTrue (is_for_handler m) → handler_of m ≢ s.number → Row s m (dropped s WrongHandler)
-  too_many_clients : (h : HandlerId) (c : ClientId) (inc : ℕ) → h ≡ s.number → mark_of c s.marks ≡ None → length s.marks ≡ MAX_MARKS → Row s (Hello h c inc) (dropped s TooManyClients)
-  first_greeting : (h : HandlerId) (c : ClientId) (inc : ℕ) → h ≡ s.number → mark_of c s.marks ≡ None → length s.marks ≢ MAX_MARKS → Row s (Hello h c inc) (greeted_first s c inc)
-  newer_greeting : (h : HandlerId) (c : ClientId) (inc : ℕ) (k : Mark) → h ≡ s.number → mark_of c s.marks ≡ Some k → k.inc < inc → Row s (Hello h c inc) (greeted_newer s c inc k)
-  same_greeting : (h : HandlerId) (c : ClientId) (inc : ℕ) (k : Mark) → h ≡ s.number → mark_of c s.marks ≡ Some k → k.inc ≡ inc → Row s (Hello h c inc) (known s (Welcome s.number c inc))
-  older_greeting : (h : HandlerId) (c : ClientId) (inc : ℕ) (k : Mark) → h ≡ s.number → mark_of c s.marks ≡ Some k → inc < k.inc → Row s (Hello h c inc) (dropped s Stale)
-  ungreeted : (m : Message) (b : Block) → handler_of m ≡ s.number → asking_block m ≡ Some b → IsUngreeted b (mark_of b.client s.marks) → Row s m (dropped s Ungreeted)
-  past : (m : Message) (b : Block) (k : Mark) → handler_of m ≡ s.number → asking_block m ≡ Some b → mark_of b.client s.marks ≡ Some k → IsPast b k → Row s m (dropped s Stale)
-  lock_granted : (h : HandlerId) (b : Block) (k : Mark) → h ≡ s.number → IsHeardAt s b k → k.num < b.num → s.holder ≡ None → IsFalse (is_unfinished s k) → Row s (Lock h b) (granted s b)
-  lock_busy : (h : HandlerId) (b : Block) (k : Mark) → h ≡ s.number → IsHeardAt s b k → k.num < b.num → IsFalse (is_none s.holder && not (is_unfinished s k)) → Row s (Lock h b) (replied s (Busy s.number b) Held)
-  lock_again : (h : HandlerId) (b : Block) (k : Mark) → h ≡ s.number → IsHeardAt s b k → k.num ≡ b.num → k.stage ≡ AtHeld → Row s (Lock h b) (known s (Locked s.number b))
-  lock_over : (h : HandlerId) (b : Block) (k : Mark) → h ≡ s.number → IsHeardAt s b k → k.num ≡ b.num → k.stage ≢ AtHeld → Row s (Lock h b) (dropped s Stale)
-  open_not_holder : (h : HandlerId) (b : Block) (k : Mark) → h ≡ s.number → IsHeardAt s b k → (k.num < b.num) ⊎ (k.stage ≡ AtShut) → Row s (Open h b) (dropped s NotHolder)
-  open_no_room : (h : HandlerId) (b : Block) (k : Mark) → h ≡ s.number → IsHeardAt s b k → k.num ≡ b.num → k.stage ≡ AtHeld → length s.queues ≡ MAX_QUEUES → Row s (Open h b) (dropped s QueueFull)
-  open_granted : (h : HandlerId) (b : Block) (k : Mark) → h ≡ s.number → IsHeardAt s b k → k.num ≡ b.num → k.stage ≡ AtHeld → length s.queues ≢ MAX_QUEUES → Row s (Open h b) (opened_here s b k)
-  open_again : (h : HandlerId) (b : Block) (k : Mark) → h ≡ s.number → IsHeardAt s b k → k.num ≡ b.num → k.stage ≡ AtOpen → Row s (Open h b) (known s (Opened s.number b))
-  unlock_unfinished : (h : HandlerId) (b : Block) (k : Mark) → h ≡ s.number → IsHeardAt s b k → k.num < b.num → IsTrue (is_unfinished s k) → Row s (Unlock h b) (dropped s NotHolder)
-  unlock_new : (h : HandlerId) (b : Block) (k : Mark) → h ≡ s.number → IsHeardAt s b k → k.num < b.num → IsFalse (is_unfinished s k) → Row s (Unlock h b) (skipped s b)
-  unlock_holder : (h : HandlerId) (b : Block) (k : Mark) → h ≡ s.number → IsHeardAt s b k → k.num ≡ b.num → s.holder ≡ Some b → Row s (Unlock h b) (freed s b k)
-  unlock_again : (h : HandlerId) (b : Block) (k : Mark) → h ≡ s.number → IsHeardAt s b k → k.num ≡ b.num → s.holder ≢ Some b → Row s (Unlock h b) (known s (Unlocked s.number b))
-  log_not_open : (h : HandlerId) (b : Block) (n : ℕ) (es : List Entry) (k : Mark) → h ≡ s.number → IsHeardAt s b k → (k.num < b.num) ⊎ (k.stage ≢ AtOpen) → Row s (Log h b n es) (dropped s NotOpen)
-  log_answered : (h : HandlerId) (b : Block) (n : ℕ) (es : List Entry) (k : Mark) (a : QueryAnswer) → h ≡ s.number → IsLogAt s b k → last_number n es ≤ k.received → k.kept ≡ Some (last_number n es, a) → Row s (Log h b n es) (known s (Answer s.number b (last_number n es) a))
-  log_again : (h : HandlerId) (b : Block) (n : ℕ) (es : List Entry) (k : Mark) → h ≡ s.number → IsLogAt s b k → last_number n es ≤ k.received → kept_answer (last_number n es) k.kept ≡ None → Row s (Log h b n es) (known s (Logged s.number b k.received))
-  log_gap : (h : HandlerId) (b : Block) (n : ℕ) (es : List Entry) (k : Mark) → h ≡ s.number → IsLogAt s b k → k.received < last_number n es → k.received + 1 < n → Row s (Log h b n es) (dropped s Gap)
-  log_closed : (h : HandlerId) (b : Block) (n : ℕ) (es : List Entry) (k : Mark) → h ≡ s.number → IsLogAt s b k → IsNext k n es → IsTrue (is_closed k (last_number n es) es) → Row s (Log h b n es) (dropped s NotOpen)
-  log_no_room : (h : HandlerId) (b : Block) (n : ℕ) (es : List Entry) (k : Mark) → h ≡ s.number → IsLogAt s b k → IsNext k n es → IsFalse (is_closed k (last_number n es) es) → IsTrue (has_no_room s b (length (new_entries n es k))) → Row s (Log h b n es) (dropped s PendingFull)
-  log_taken : (h : HandlerId) (b : Block) (n : ℕ) (es : List Entry) (k : Mark) → h ≡ s.number → IsLogAt s b k → IsNext k n es → IsFalse (is_closed k (last_number n es) es) → IsFalse (has_no_room s b (length (new_entries n es k))) → Row s (Log h b n es) (took s b n es k)
+  kind_for_clients : (m : Message) → IsFalse (is_for_handler m) → Row s m (dropped s NotForHandlers)
+  another_handler : (m : Message) → IsTrue (is_for_handler m) → handler_of m ≢ s.number → Row s m (dropped s WrongHandler)
+  too_many_clients : (h : HandlerId) (c : ClientId) (inc : ℕ) → h ≡ s.number → mark_of c s.marks ≡ None → length s.marks ≡ MAX_MARKS →
+      Row s (Hello h c inc) (dropped s TooManyClients)
+  first_greeting : (h : HandlerId) (c : ClientId) (inc : ℕ) → h ≡ s.number → mark_of c s.marks ≡ None → length s.marks ≢ MAX_MARKS →
+      Row s (Hello h c inc) (greeted_first s c inc)
+  newer_greeting : (h : HandlerId) (c : ClientId) (inc : ℕ) (k : Mark) → h ≡ s.number → mark_of c s.marks ≡ Some k → k.inc < inc →
+      Row s (Hello h c inc) (greeted_newer s c inc k)
+  repeated_greeting : (h : HandlerId) (c : ClientId) (inc : ℕ) (k : Mark) → h ≡ s.number → mark_of c s.marks ≡ Some k → k.inc ≡ inc →
+      Row s (Hello h c inc) (known s (Welcome s.number c inc))
+  stale_greeting : (h : HandlerId) (c : ClientId) (inc : ℕ) (k : Mark) → h ≡ s.number → mark_of c s.marks ≡ Some k → inc < k.inc →
+      Row s (Hello h c inc) (dropped s Stale)
+  ungreeted : (m : Message) (b : Block) → handler_of m ≡ s.number → asking_block m ≡ Some b → IsUngreeted b (mark_of b.client s.marks) →
+      Row s m (dropped s Ungreeted)
+  stale : (m : Message) (b : Block) (k : Mark) → handler_of m ≡ s.number → asking_block m ≡ Some b → mark_of b.client s.marks ≡ Some k → IsPast b k →
+      Row s m (dropped s Stale)
+  lock_granted : (h : HandlerId) (b : Block) (k : Mark) → h ≡ s.number → IsHeardAt s b k → k.num < b.num → s.holder ≡ None → IsFalse (is_unfinished s k) →
+      Row s (Lock h b) (granted s b)
+  lock_refused : (h : HandlerId) (b : Block) (k : Mark) → h ≡ s.number → IsHeardAt s b k → k.num < b.num →
+      IsFalse (is_none s.holder && not (is_unfinished s k)) →
+      Row s (Lock h b) (replied s (Busy s.number b) Held)
+  repeated_lock : (h : HandlerId) (b : Block) (k : Mark) → h ≡ s.number → IsHeardAt s b k → k.num ≡ b.num → k.stage ≡ AtHeld →
+      Row s (Lock h b) (known s (Locked s.number b))
+  late_lock : (h : HandlerId) (b : Block) (k : Mark) → h ≡ s.number → IsHeardAt s b k → k.num ≡ b.num → k.stage ≢ AtHeld →
+      Row s (Lock h b) (dropped s Stale)
+  open_without_lock : (h : HandlerId) (b : Block) (k : Mark) → h ≡ s.number → IsHeardAt s b k → (k.num < b.num) ⊎ (k.stage ≡ AtShut) →
+      Row s (Open h b) (dropped s NotHolder)
+  no_room_for_a_queue : (h : HandlerId) (b : Block) (k : Mark) → h ≡ s.number → IsHeardAt s b k → k.num ≡ b.num → k.stage ≡ AtHeld →
+      length s.queues ≡ MAX_QUEUES →
+      Row s (Open h b) (dropped s QueueFull)
+  is_opened : (h : HandlerId) (b : Block) (k : Mark) → h ≡ s.number → IsHeardAt s b k → k.num ≡ b.num → k.stage ≡ AtHeld → length s.queues ≢ MAX_QUEUES →
+      Row s (Open h b) (opened_here s b k)
+  repeated_open : (h : HandlerId) (b : Block) (k : Mark) → h ≡ s.number → IsHeardAt s b k → k.num ≡ b.num → k.stage ≡ AtOpen →
+      Row s (Open h b) (known s (Opened s.number b))
+  unlock_while_unfinished : (h : HandlerId) (b : Block) (k : Mark) → h ≡ s.number → IsHeardAt s b k → k.num < b.num → IsTrue (is_unfinished s k) →
+      Row s (Unlock h b) (dropped s NotHolder)
+  unlock_of_a_block_never_held : (h : HandlerId) (b : Block) (k : Mark) → h ≡ s.number → IsHeardAt s b k → k.num < b.num → IsFalse (is_unfinished s k) →
+      Row s (Unlock h b) (skipped s b)
+  is_freed : (h : HandlerId) (b : Block) (k : Mark) → h ≡ s.number → IsHeardAt s b k → k.num ≡ b.num → s.holder ≡ Some b →
+      Row s (Unlock h b) (freed s b k)
+  repeated_unlock : (h : HandlerId) (b : Block) (k : Mark) → h ≡ s.number → IsHeardAt s b k → k.num ≡ b.num → s.holder ≢ Some b →
+      Row s (Unlock h b) (known s (Unlocked s.number b))
+  log_of_a_block_not_open : (h : HandlerId) (b : Block) (n : ℕ) (es : List Entry) (k : Mark) → h ≡ s.number → IsHeardAt s b k →
+      (k.num < b.num) ⊎ (k.stage ≢ AtOpen) →
+      Row s (Log h b n es) (dropped s NotOpen)
+  is_answered : (h : HandlerId) (b : Block) (n : ℕ) (es : List Entry) (k : Mark) (a : QueryAnswer) → h ≡ s.number → IsLogAt s b k →
+      last_number n es ≤ k.received → k.kept ≡ Some (last_number n es, a) →
+      Row s (Log h b n es) (known s (Answer s.number b (last_number n es) a))
+  already_received : (h : HandlerId) (b : Block) (n : ℕ) (es : List Entry) (k : Mark) → h ≡ s.number → IsLogAt s b k → last_number n es ≤ k.received →
+      kept_answer (last_number n es) k.kept ≡ None →
+      Row s (Log h b n es) (known s (Logged s.number b k.received))
+  has_gap : (h : HandlerId) (b : Block) (n : ℕ) (es : List Entry) (k : Mark) → h ≡ s.number → IsLogAt s b k → k.received < last_number n es →
+      k.received + 1 < n →
+      Row s (Log h b n es) (dropped s Gap)
+  after_the_end : (h : HandlerId) (b : Block) (n : ℕ) (es : List Entry) (k : Mark) → h ≡ s.number → IsLogAt s b k → IsNext k n es →
+      IsTrue (is_closed k (last_number n es) es) →
+      Row s (Log h b n es) (dropped s NotOpen)
+  pending_full : (h : HandlerId) (b : Block) (n : ℕ) (es : List Entry) (k : Mark) → h ≡ s.number → IsLogAt s b k → IsNext k n es →
+      IsFalse (is_closed k (last_number n es) es) → IsTrue (has_no_room s b (length (new_entries n es k))) →
+      Row s (Log h b n es) (dropped s PendingFull)
+  is_taken : (h : HandlerId) (b : Block) (n : ℕ) (es : List Entry) (k : Mark) → h ≡ s.number → IsLogAt s b k → IsNext k n es →
+      IsFalse (is_closed k (last_number n es) es) → IsFalse (has_no_room s b (length (new_entries n es k))) →
+      Row s (Log h b n es) (took s b n es k)

@@ -56,11 +56,11 @@ kept_after r k =
     if is_query r.entry && same_block (block_of k) r.block then option_map (λ a. (r.number, a)) r.answer else k.kept
 
 abbrev pub mark_after : Ran → Mark → Mark
-mark_after r k = record { client = k.client; inc = k.inc; num = k.num; stage = k.stage; received = k.received; ended = k.ended; kept = kept_after r k }
+mark_after r k = record k { kept = kept_after r k }
 
 -- the state once the first entry has run: it is taken, its answer is kept, and the words are new
 abbrev pub after_ran : Ran → List ℕ → HandlerState → HandlerState
-after_ran r words s = record { number = s.number; holder = s.holder; marks = map (mark_after r) s.marks; queues = advance s.queues; words = words }
+after_ran r words s = record s { marks = map (mark_after r) s.marks; queues = advance s.queues; words = words }
 
 abbrev pub after : Task → HandlerState → HandlerState
 after t s = after_ran (ran_of t) (task_effect t).0 s

@@ -4,6 +4,7 @@ ghost use Rattle.std.specs.Prelude.{◌≡◌};
 ghost use Rattle.scoop_handler.specs.Core.{IsCore};
 
 mod changing;
+mod exchanging;
 mod greeting;
 mod hearing;
 mod locking;
@@ -13,8 +14,8 @@ mod opening;
 mod recalling;
 mod running;
 
-use crate::held::Held;
 use crate::mark::Mark;
+use crate::presence::Presence;
 use scoop_message::{Block, HandlerId, Words};
 use scoop_object::{Behaviour, Class};
 use scoop_queue::QueueOfQueues;
@@ -30,7 +31,7 @@ pub struct Handler<B: Behaviour, A: Allocator = Global> {
     holder: Option<Block>,
     marks: Vec<Mark, A>,
     queues: QueueOfQueues<A>,
-    held: Held<B>,
+    presence: Presence<B>,
 }
 
 impl<B: Behaviour, A: Allocator> Model for Handler<B, A> {
@@ -40,11 +41,11 @@ impl<B: Behaviour, A: Allocator> Model for Handler<B, A> {
 
     ghost Value = { Core };
 
-    ghost view = { λ h. core_of h.class (state_of h.number h.holder h.marks.items h.queues (held_words B.words h.held)) (is_out h.held) };
+    ghost view = { λ h. core_of h.class (state_of h.number h.holder h.marks.items h.queues (held_words B.words h.presence)) (is_out h.presence) };
 
     ghost invariant = { λ h.
-        IsCore (core_of h.class (state_of h.number h.holder h.marks.items h.queues (held_words B.words h.held)) (is_out h.held))
-        × IfHere h.held (λ object. B.class object ≡ h.class) };
+        IsCore (core_of h.class (state_of h.number h.holder h.marks.items h.queues (held_words B.words h.presence)) (is_out h.presence))
+        × IfHere h.presence (λ object. B.class object ≡ h.class) };
 }
 
 impl<B: Behaviour, A: Allocator> Handler<B, A> {
@@ -67,9 +68,9 @@ impl<B: Behaviour, A: Allocator> Handler<B, A> {
     pub fn words(&self) -> Words
         ensures { result ≡ self.now.state.words }
     {
-        match &self.held {
-            Held::Here(object) => object.words(),
-            Held::Out(left) => *left,
+        match &self.presence {
+            Presence::Here(object) => object.words(),
+            Presence::Out(words) => *words,
         }
     }
 }

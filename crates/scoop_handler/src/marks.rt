@@ -75,6 +75,8 @@ pub(crate) fn keep_answer_in<A: Allocator>(marks: &mut Vec<Mark, A>, ran: &Ran)
         return;
     }
     for k in marks.iter_mut() {
-        *k = k.after(ran);
+        if k.block() == ran.block {
+            *k = k.after(ran);
+        }
     }
 }

@@ -1,10 +1,11 @@
 //! What a handler keeps, as a value of its own.
 
-ghost use Rattle.std.specs.Prelude.{◌≡◌, ◌↔◌, length, slice_get, IsTrue, IfErr, IfOk, OnOk};
+ghost use Rattle.std.specs.Prelude.{◌≡◌, ◌↔◌, length, slice_get, IsTrue, IfErr, IfOk, OnOk, OnErr};
 ghost use Rattle.scoop_handler.specs.State.{state_of, IsState};
 
 mod conditions;
 
+use crate::copying::copy_parts;
 use crate::mark::Mark;
 use conditions::is_state;
 use scoop_message::{Block, HandlerId, OutOfMemory, Words, same_words};
@@ -150,19 +151,53 @@ fn same_marks(left: &[Mark], right: &[Mark]) -> bool
 }
 
 impl<A: Allocator + Copy> HandlerState<A> {
+    /// The state of copies of these parts, kept with the allocator of the marks.
+    pub(crate) fn copied(
+        number: HandlerId,
+        holder: Option<Block>,
+        marks: &Vec<Mark, A>,
+        queues: &QueueOfQueues<A>,
+        words: Words,
+    ) -> Result<HandlerState<A>, OutOfMemory>
+        requires { IsState (state_of number holder marks.now.items queues.now words) }
+        ensures { IfOk result (λ copy. copy ≡ state_of number holder marks.now.items queues.now words) }
+    {
+        Ok(HandlerState {
+            number,
+            holder,
+            marks: Vec::from_slice(*marks.allocator(), marks.as_slice())?,
+            queues: queues.copy()?,
+            words,
+        })
+    }
+
     /// The same state, kept with the same allocator. `OutOfMemory` is the one refusal.
     pub fn copy(&self) -> Result<HandlerState<A>, OutOfMemory>
         ensures { IfOk result (λ copy. copy ≡ self.now) }
     {
-        let mut marks = Vec::with_capacity(*self.marks.allocator(), self.marks.len())?;
-        marks.extend_from_slice(self.marks.as_slice())?;
-        let queues = self.queues.copy()?;
-        Ok(HandlerState {
-            number: self.number,
-            holder: self.holder,
-            marks,
-            queues,
-            words: self.words,
-        })
+        HandlerState::copied(
+            self.number,
+            self.holder,
+            &self.marks,
+            &self.queues,
+            self.words,
+        )
+    }
+    /// Takes the other state, in the room that it has where that is enough. An `Err` changes nothing; `OutOfMemory`
+    /// is the one refusal.
+    pub fn copy_from(&mut self, other: &HandlerState<A>) -> Result<(), OutOfMemory>
+        ensures ok { OnOk result (self.new ≡ other.now) }
+        ensures err { OnErr result (self.new ≡ self.old) }
+    {
+        copy_parts(
+            &mut self.marks,
+            &mut self.queues,
+            &other.marks,
+            &other.queues,
+        )?;
+        self.number = other.number;
+        self.holder = other.holder;
+        self.words = other.words;
+        Ok(())
     }
 }

@@ -11,7 +11,8 @@ use Rattle.scoop_link.specs.Party.{same_party}
 use Rattle.scoop_link.specs.Pace.{PaceValue, silenced, last_to, passes_after, passes, after_silence}
 
 -- a loop that notes a silence behind each
-pub silenced_in_place : (xs ys : List Last) (i : ℕ) (d : Last) → i < length xs → i < length ys → ys ≡ map silenced (take i xs) ++ drop i xs → set ys i (silenced (get_or ys i d)) ≡ map silenced (take (i + 1) xs) ++ drop (i + 1) xs
+pub silenced_in_place : (xs ys : List Last) (i : ℕ) (d : Last) → i < length xs → i < length ys → ys ≡ map silenced (take i xs) ++ drop i xs
+    → set ys i (silenced (get_or ys i d)) ≡ map silenced (take (i + 1) xs) ++ drop (i + 1) xs
 silenced_in_place xs ys i d in_xs in_ys so_far = map_over_more silenced xs ys i (get_or ys i d) in_xs so_far (get_or_default ys i d _ in_ys)
 
 silenced-passes : (p : PaceValue) (lasts : List Last) (to : Party) (datagram : List ℕ) → passes_after p datagram (last_to (map silenced lasts) to) ≡ true

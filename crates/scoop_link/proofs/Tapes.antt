@@ -24,6 +24,7 @@ tape_exchanges faults after was now taken gone keeps lists =
     told_then (faults == 2 ^ 64 - 1) (after == 2 ^ 64 - 1) was now taken gone (λ e. grind (arith, nat_tests)) lists
 
 -- what was taken first stood before what is left
-pub taken_by-first : (got : Option ℕ) (old new : List (List ℕ)) (before after : List ℕ) → TakesFirst got old new before after → old ≡ taken_by (Ok got) after ++ new
+pub taken_by-first : (got : Option ℕ) (old new : List (List ℕ)) (before after : List ℕ) → TakesFirst got old new before after
+    → old ≡ taken_by (Ok got) after ++ new
 taken_by-first None old new before after (was, is, same) = was ∙ sym is
 taken_by-first (Some n) old new before after (fits, was, others) = was

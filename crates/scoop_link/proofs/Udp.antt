@@ -9,7 +9,8 @@ use Rattle.scoop_link.specs.Party.{same_party}
 use Rattle.scoop_link.specs.Udp.{Address, address_of, reached_at, socket_addr_to, address_to}
 
 -- a party's address is that of its socket address
-address_to-reached : (addresses : List (Party × SocketAddr)) (to : Party) → address_to (map reached_at addresses) to ≡ option_map address_of (socket_addr_to addresses to)
+address_to-reached : (addresses : List (Party × SocketAddr)) (to : Party)
+    → address_to (map reached_at addresses) to ≡ option_map address_of (socket_addr_to addresses to)
 address_to-reached [] to = refl
 address_to-reached (p ∷ ps) to =
     elim (cases_Bool (same_party p.0 to)) [
@@ -18,7 +19,8 @@ address_to-reached (p ∷ ps) to =
     ]
 
 -- a party with a socket address has an address
-pub listed : (addresses : List (Party × SocketAddr)) (to : Party) (a : SocketAddr) (P : Type 0) → Some a ≡ socket_addr_to addresses to → IfNone (address_to (map reached_at addresses) to) P
+pub listed : (addresses : List (Party × SocketAddr)) (to : Party) (a : SocketAddr) (P : Type 0) → Some a ≡ socket_addr_to addresses to
+    → IfNone (address_to (map reached_at addresses) to) P
 listed addresses to a P is =
     let Q : Option Address → Type 0 = λ o. IfNone o P in
     subst Q (sym (address_to-reached addresses to ∙ ap (option_map address_of) (sym is))) tt

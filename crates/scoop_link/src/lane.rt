@@ -71,6 +71,3 @@ impl<A: Allocator> Lane<A> {
         take_first(&mut self.datagrams, buffer)
     }
 }
-
-#[cfg(test)]
-mod tests;

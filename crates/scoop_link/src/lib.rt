@@ -1,9 +1,27 @@
 //! Links: ways to send and receive datagrams, none of which is sure to arrive.
 //!
-//! `Link` is what every link keeps. `UdpLink` carries datagrams over UDP, and `PacedLink` holds repeated
+//! [`Link`] is what every link keeps. [`UdpLink`] carries datagrams over UDP, and [`PacedLink`] holds repeated
 //! ones back while an earlier one may be on its way. The others are for tests: the two ends of a
-//! `ScriptLink` share lanes that drop and double by a script, and a `TapeLink` gives what it was fed and
+//! [`ScriptLink`] share lanes that drop and double by a script, and a [`TapeLink`] gives what it was fed and
 //! keeps what it was sent. No send and no receive takes memory.
+//!
+//! ```
+//! // of what the client sends each third datagram is lost, and each second one comes twice
+//! let lossy = Script {
+//!     drop_every: 3,
+//!     double_every: 2,
+//!     fail_at: 0,
+//! };
+//! let (mut client, mut node) = ScriptLink::pair(alloc, lossy, Script::default(), 16)?;
+//! for byte in 1..=4u8 {
+//!     client.send(HANDLER, &[byte])?;
+//! }
+//! let mut buffer = [0; BUFFER_LEN];
+//! for byte in [1, 2, 2, 4, 4] {
+//!     assert_eq!(rt; node.receive(&mut buffer), Ok(Some(1)));
+//!     assert_eq!(rt; buffer[0], byte);
+//! }
+//! ```
 #![tactic(auto)]
 
 mod datagram;
@@ -26,6 +44,3 @@ pub use script::Script;
 pub use script_link::ScriptLink;
 pub use tape_link::TapeLink;
 pub use udp_link::{Addresses, OpenLinkError, Peers, UdpLink};
-
-#[cfg(test)]
-mod tests;

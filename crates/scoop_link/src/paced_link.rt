@@ -106,6 +106,3 @@ impl<L: Link, A: Allocator> Link for PacedLink<L, A> {
         self.inner.faults()
     }
 }
-
-#[cfg(test)]
-mod tests;

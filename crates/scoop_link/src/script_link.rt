@@ -129,6 +129,3 @@ impl<A: Allocator> Link for ScriptLink<A> {
         u64::from(self.script.fail_at != 0 && self.script.fail_at <= self.calls)
     }
 }
-
-#[cfg(test)]
-mod tests;

@@ -119,6 +119,3 @@ impl<A: Allocator> Link for TapeLink<A> {
         self.faults
     }
 }
-
-#[cfg(test)]
-mod tests;

@@ -216,6 +216,3 @@ impl<A: Allocator> Link for UdpLink<A> {
         self.faults
     }
 }
-
-#[cfg(test)]
-mod tests;

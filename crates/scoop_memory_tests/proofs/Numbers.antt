@@ -27,7 +27,9 @@ fits es q sound young few = record {
   next = omega (arith, length-append q.entries es, few, young, sound.limit, least-limit (if ends es then Ended else q.state));
 }
 
-pub numbers_for_few : (b : Block) (es : List Entry) (qs : List PrivateQueue) → IsQueues qs → length qs ≡ 1 → IfSome (head_at 0 qs) (λ h. h.first < 1000) → length es ≤ 4 → HasNumbersFor b es qs
+pub numbers_for_few : (b : Block) (es : List Entry) (qs : List PrivateQueue) → IsQueues qs → length qs ≡ 1 → IfSome (head_at 0 qs) (λ h. h.first < 1000)
+    → length es ≤ 4 → HasNumbersFor b es qs
 numbers_for_few b es [] sound one young few = absurd (omega (arith, one))
-numbers_for_few b es (q ∷ []) sound one young few = λ x found is_open. subst (λ p. FitsNumbers (with_entries es p)) (the_only b q x found) (fits es q sound.each.0 young few)
+numbers_for_few b es (q ∷ []) sound one young few = λ x found is_open. subst (λ p. FitsNumbers (with_entries es p)) (the_only b q x found)
+    (fits es q sound.each.0 young few)
 numbers_for_few b es (q ∷ r ∷ rs) sound one young few = absurd (omega (arith, one))

@@ -4,3 +4,4 @@ pub mod Entries
 pub mod Message
 pub mod Range
 pub mod Text
+pub mod Lists

@@ -2,7 +2,7 @@ pub mod Objects
 pub mod Kept
 pub mod Facts
 pub mod Handlers
-pub mod Lines
+pub mod Windows
 pub mod Onward
 pub mod Once
 pub mod Clients

@@ -51,7 +51,8 @@ own_queue :
     → entries_in s.block (queue_at s o ++ queues_of ss) ≡ s.rest
 own_queue s ss apart None gone = none_pending ss s.block apart ∙ sym (gone refl)
 own_queue s ss apart (Some u) gone =
-    ap (λ t. option_map_or (λ (q : PrivateQueue). q.entries) (if t then Some (slot_queue s u) else queue_of s.block (queues_of ss)) []) (same_block_itself s.block)
+    ap (λ t. option_map_or (λ (q : PrivateQueue). q.entries) (if t then Some (slot_queue s u) else queue_of s.block (queues_of ss)) [])
+    (same_block_itself s.block)
 
 -- ---- what has arrived of a block
 
@@ -77,7 +78,13 @@ module _ (w : World) (h : HandlerId) where
       by_test (λ t. (t || has_block (blocks_of ss) b) ≡ true → same_block s.block b ≡ t → PendingIn w h b (queues_of (s ∷ ss))) (same_block s.block b)
       (λ _ _ is.
       let own : s.block ≡ b = same_block_is s.block b is in
-      record { slot = s; block = own; has = all.0; pending = subst (λ d. entries_in d (queues_of (s ∷ ss)) ≡ s.rest) own (own_queue s ss apart.0 s.state all.0.gone.rest) })
+      record {
+        slot = s;
+        block = own;
+        has = all.0;
+        pending =
+            subst (λ d. entries_in d (queues_of (s ∷ ss)) ≡ s.rest) own (own_queue s ss apart.0 s.state all.0.gone.rest);
+      })
       (λ _ f is.
       let later = pending_slot ss b apart.1 all.1 f in
       record { slot = later.slot; block = later.block; has = later.has; pending = other_queue s (queues_of ss) b is s.state ∙ later.pending })
@@ -95,7 +102,8 @@ module _ (w : World) (h : HandlerId) where
         all_both (IsPart (ran_at h w)) (λ t. IsBegun (λ b. log_of b h w) t × (IsToldAs w h t × IsOverIfGone w h t)) (IsArrived w h)
         (λ t p k. record { part = p; begun = k.0; told = k.1.0; gone = k.1.1 }) here.slots
         (slot_parts (ran_at h w) here.slots here.ran apart)
-        (all_both (IsBegun (λ b. log_of b h w)) (λ t. IsToldAs w h t × IsOverIfGone w h t) (λ t. IsBegun (λ b. log_of b h w) t × (IsToldAs w h t × IsOverIfGone w h t)) (λ t x k. (x, k)) here.slots here.begun
+        (all_both (IsBegun (λ b. log_of b h w)) (λ t. IsToldAs w h t × IsOverIfGone w h t)
+        (λ t. IsBegun (λ b. log_of b h w) t × (IsToldAs w h t × IsOverIfGone w h t)) (λ t x k. (x, k)) here.slots here.begun
         (all_both (IsToldAs w h) (IsOverIfGone w h) (λ t. IsToldAs w h t × IsOverIfGone w h t) (λ t x k. (x, k)) here.slots here.told here.gone))
 
     no_slots : (ss : List Slot) → [] ≡ blocks_of ss → [] ≡ queues_of ss

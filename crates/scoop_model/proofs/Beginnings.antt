@@ -4,7 +4,8 @@ use Rattle.std.specs.List.{AllByRecursion}
 use Rattle.scoop_message.specs.declared.name.Block.{Block}
 use Rattle.scoop_model.specs.World.{World}
 use Rattle.scoop_model.specs.Step.{Placement, Newcomer, new_site, new_party, opening}
-use Rattle.scoop_model.specs.Safe.{Safe, nothing, IsSubsequence, Tape, WholeBeforeNext, RightAnswers, AcceptsRight, NoRepeats}
+use Rattle.scoop_message.specs.Lists.{NoRepeats}
+use Rattle.scoop_model.specs.Safe.{Safe, nothing, IsSubsequence, Tape, WholeBeforeNext, RightAnswers, AcceptsRight}
 
 all_made : {A B : Type 0} (f : A → B) (P : B → Type 0) → ((a : A) → P (f a)) → (xs : List A) → AllByRecursion P (map f xs)
 all_made f P p [] = tt

@@ -15,7 +15,7 @@ use Rattle.scoop_reserve.specs.State.{ReservationState}
 use Rattle.scoop_handler.specs.State.{HandlerState}
 use Rattle.scoop_handler.specs.Hearing.{hear}
 use Rattle.scoop_handler.proofs.TableRows.{row}
-use Rattle.scoop_client.specs.Line.{first_entries}
+use Rattle.scoop_client.specs.Window.{first_entries}
 use Rattle.scoop_client.specs.Due.{due}
 use Rattle.scoop_client.specs.Hearing.{heard}
 use Rattle.scoop_client.specs.Rows.{DueRow, owes_nothing, greets, reserves, logs}
@@ -84,7 +84,12 @@ module _
   owed_granted r held m (opens at is) = record {
     granted = λ x b e.
         let own : r.block ≡ b = cc in
-        subst (WasGrantedAtAll w) own (record { handlers = r.handlers; set = (fits.reservation r held).named; granted = subst (Locks (WasGranted w) r) at (i r held).stage });
+        subst (WasGrantedAtAll w) own (record {
+          handlers = r.handlers;
+          set = (fits.reservation r held).named;
+          granted =
+              subst (Locks (WasGranted w) r) at (i r held).stage;
+        });
   }
   owed_granted r held m (unlocks at is) = record { granted = λ x b e. absurd (cc) }
   owed_granted r held m (gives_back at is) = record { granted = λ x b e. absurd (cc) }
@@ -94,7 +99,7 @@ module _
   due_granted q (greets left) m e =
       let same : Hello h p.client.id p.client.inc ≡ m = cc in no_open_sent w (Hello h p.client.id p.client.inc) m same (λ x b is. cc)
   due_granted q (reserves r n greeted has_one owes) m e = owed_granted r has_one m (owed_row r h m (owes ∙ e))
-  due_granted q (logs r y greeted has_one free opened line some) m e =
+  due_granted q (logs r y greeted has_one free opened window some) m e =
       let same : Log y.handler r.block (y.acked + 1) (first_entries p.client.batch y.unacked) ≡ m = cc in
       no_open_sent w (Log y.handler r.block (y.acked + 1) (first_entries p.client.batch y.unacked)) m same (λ x b is. cc)
 
@@ -129,7 +134,8 @@ module _ (w : World) (i : Granting w) (c : ClientId) (p q : Party) (at : party_o
   }
 
 -- one message may be new
-module _ (w v : World) (i : Granting w) (o : Option Message) (sent : v.sent ≡ w.sent ++ option_to_list o) (parties : v.parties ≡ w.parties) (logs : v.logs ≡ w.logs)
+module _ (w v : World) (i : Granting w) (o : Option Message) (sent : v.sent ≡ w.sent ++ option_to_list o) (parties : v.parties ≡ w.parties)
+    (logs : v.logs ≡ w.logs)
     (new : (m : Message) → o ≡ Some m → TellsGranted w m) where
   longer : Onward w v
   longer = record {
@@ -140,7 +146,8 @@ module _ (w v : World) (i : Granting w) (o : Option Message) (sent : v.sent ≡ 
   sent_granted : Granting v
   sent_granted = record {
     messages = subst (AllByRecursion (TellsGranted v)) (sym sent)
-        (all_more_of (TellsGranted w) (TellsGranted v) (tells_more w v longer) (w.sent ++ option_to_list o) (all_pushed (TellsGranted w) w.sent o i.messages new));
+        (all_more_of (TellsGranted w) (TellsGranted v) (tells_more w v longer) (w.sent ++ option_to_list o)
+        (all_pushed (TellsGranted w) w.sent o i.messages new));
     parties = λ c p at r held. reservation_more w v longer r (i.parties c p (subst (λ ps. find (is_party c) ps ≡ Some p) parties at) r held);
   }
 
@@ -152,17 +159,20 @@ granting_kept w o i = record {
       (λ b hs e. handlers_after x (newest_block d) b w.logs hs e) (command_locks (WasGranted w) p.client (i.parties c p at) d (core_command x) is));
   sends = λ c p h s at here. (
       let fits = all_found (PartyFits w) (is_party c) w.parties p o.parties at in
-      sent_granted w (with_sent w (due p.client h)) i (due p.client h) refl refl refl (due_granted w c p fits (i.parties c p at) h (due p.client h) (due_row p.client h)));
+      sent_granted w (with_sent w (due p.client h)) i (due p.client h) refl refl refl
+      (due_granted w c p fits (i.parties c p at) h (due p.client h) (due_row p.client h)));
   hears = λ k m s was goes here. (
       let now = hear s.core.state m in
-      sent_granted w (heard_world w s now) i now.1.reply refl refl refl (reply_granted w now.0 now.1.reply (hears_row s.core.state m now (row s.core.state m)).tells));
+      sent_granted w (heard_world w s now) i now.1.reply refl refl refl
+      (reply_granted w now.0 now.1.reply (hears_row s.core.state m now (row s.core.state m)).tells));
   notices = λ k m p was goes at. (
       let c = client_of m in
       let fits = all_found (PartyFits w) (is_party c) w.parties p o.parties at in
       let now = heard p.client m in
       let kept = keeps_row w p.client fits.reservation m now.0 now.1 (heard_row p.client m) (sent_tells w k m was o.messages) in
       party_granted w i c p (heard_party p now) at kept.id w.logs (λ b hs e. e)
-      (heard_locks (WasGranted w) p.client (i.parties c p at) m now.0 now.1 (heard_row p.client m) (λ r held is h same. subst (Contains w.sent) same (sent_in w k m was))));
+      (heard_locks (WasGranted w) p.client (i.parties c p at) m now.0 now.1 (heard_row p.client m)
+      (λ r held is h same. subst (Contains w.sent) same (sent_in w k m was))));
   begins = λ h s t here is. sent_granted w (with_site w (begun_site s)) i None (sym (append-nil w.sent)) refl refl (λ m e. absurd (cc));
   finishes = λ h s t here is. sent_granted w (with_site w (finished_site s t)) i None (sym (append-nil w.sent)) refl refl (λ m e. absurd (cc));
   restarts = λ c p at room. party_granted w i c p (restarted_party p) at refl w.logs (λ b hs e. e) (λ s e. absurd (cc));

@@ -262,7 +262,8 @@ grant_new w e h b g r =
     let s = took.site in
     let now = hear s.core.state (Lock h b) in
     let same : r.site ≡ s = same_Some r.site s (sym r.found ∙ took.found) in
-    reached_not_new s (Lock h b) now b (subst (λ (x : Site). IsReachedIn x.core.state.marks b) same r.reached) (granting-row s.core.state (Lock h b) now (row s.core.state (Lock h b)) took.note h b refl).0
+    reached_not_new s (Lock h b) now b (subst (λ (x : Site). IsReachedIn x.core.state.marks b) same r.reached)
+    (granting-row s.core.state (Lock h b) now (row s.core.state (Lock h b)) took.note h b refl).0
 
 -- a block that opens is held before
 opening_held : (w : World) (e : Event) (h : HandlerId) (b : Block) → IsOpening w e h b → HeldAt w h b
@@ -325,7 +326,8 @@ module _ (ps : List Placement) (ns : List Newcomer) (es : List Event) (w : World
       ⊎_elim
       (λ (old : HeldAt now h b). still_held h b k held (held_since k (omega (arith, le)) h b old))
       (λ (grant : IsGrant now e.0 h b). just_granted h b k e.0 e.1 grant held)
-      (outcome (FromBefore now e.0) (step now e.0) (world_after v es (suc k)) c.told c.is (event_happens (FromBefore now) now (happens now (ordered_at k)) e.0) h b held)
+      (outcome (FromBefore now e.0) (step now e.0) (world_after v es (suc k)) c.told c.is
+      (event_happens (FromBefore now) now (happens now (ordered_at k)) e.0) h b held)
 
   pub opens_held : (j : ℕ) (h : HandlerId) (b : Block) → OpensAt v es j h b → HoldsSinceGrant v es j h b
   opens_held j h b o =

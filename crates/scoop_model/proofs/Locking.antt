@@ -17,8 +17,8 @@ use Rattle.scoop_reserve.specs.Hearing.{given_up_in, is_gone}
 use Rattle.scoop_reserve.specs.Hearing as reservation
 use Rattle.scoop_reserve.proofs.Rows.{HeardRow as StepRow, passed_over as steps_over, one_is_locked, all_are_locked, is_busy, one_is_opened, all_are_opened, is_unlocked, is_given_back, heard_row as step_row}
 use Rattle.scoop_client.specs.declared.phase.ClientNote.{ClientNote}
-use Rattle.scoop_client.specs.Line.{acknowledged, all_over, at_line}
-use Rattle.scoop_client.specs.State.{ClientState, idle, with_lines, with_reservation}
+use Rattle.scoop_client.specs.Window.{acknowledged, all_over, at_window}
+use Rattle.scoop_client.specs.State.{ClientState, idle, with_windows, with_reservation}
 use Rattle.scoop_client.specs.Hearing.{after_step, stepped, up_to}
 use Rattle.scoop_client.specs.Commands as client
 use Rattle.scoop_client.specs.Rows.{HeardRow, passed_over, is_welcomed, takes_step, is_acknowledged, is_accepted, ReserveRow, begins_block, LogRow, is_logged, EndRow, ends_block, GiveUpRow, gives_up}
@@ -97,9 +97,9 @@ module _ (G : HandlerId → Block → Type 0) (c : ClientState) (i : (r : Reserv
   heard_locks m d note (is_welcomed h left) t = i
   heard_locks m d note (takes_step n r held) t =
       after_locks (reservation.heard r n).0 (reservation.heard r n).1 (step_locks r held n (reservation.heard r n).0 (reservation.heard r n).1 (step_row r n) t)
-  heard_locks m d note (is_acknowledged h n r l held opened line new_count) t =
-      let e : ClientState = with_lines c (at_line h (acknowledged (up_to h n c.waits)) c.lines) c.waits in
-      by_test (λ t. AllLock (if t then idle e else e)) (all_over e.lines) (λ over. idle_locks e) (λ on. i)
+  heard_locks m d note (is_acknowledged h n r l held opened window new_count) t =
+      let e : ClientState = with_windows c (at_window h (acknowledged (up_to h n c.waits)) c.windows) c.waits in
+      by_test (λ t. AllLock (if t then idle e else e)) (all_over e.windows) (λ over. idle_locks e) (λ on. i)
   heard_locks m d note (is_accepted h n a r held opened waits) t = i
 
   -- ---- a client takes a command
@@ -112,11 +112,12 @@ module _ (G : HandlerId → Block → Type 0) (c : ClientState) (i : (r : Reserv
     reserve_locks hs q (begins_block r at_idle room begins) e =
         made (client.with_block c hs r) e
         (λ s held.
-        subst (HasLocks G) (started_fresh (client.next_block c) hs c.handlers r begins ∙ some_is r s held) (record { stage = λ h member gone. absurd (true≢false (sym member ∙ gone)) }))
+        subst (HasLocks G) (started_fresh (client.next_block c) hs c.handlers r begins ∙ some_is r s held)
+        (record { stage = λ h member gone. absurd (true≢false (sym member ∙ gone)) }))
     reserve_locks hs q r e = absurd (cc)
 
     log_locks : (h : HandlerId) (n : Entry) (q : client.Outcome) → LogRow c h n q → q ≡ Ok d → AllLock d
-    log_locks h n q (is_logged l running free line room more) e = made _ e i
+    log_locks h n q (is_logged l running free window room more) e = made _ e i
     log_locks h n q r e = absurd (cc)
 
     end_locks : (q : client.Outcome) → EndRow c q → q ≡ Ok d → AllLock d

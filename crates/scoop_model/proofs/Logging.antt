@@ -1,6 +1,6 @@
 pub mod Facts
 pub mod Logs
-pub mod Lines
+pub mod Windows
 pub mod Clients
 pub mod Commands
 pub mod Steps

@@ -4,7 +4,7 @@ use Rattle.scoop_message.specs.declared.name.ClientId.{ClientId}
 use Rattle.scoop_message.specs.declared.name.HandlerId.{HandlerId}
 use Rattle.scoop_model.specs.Step.{Placement, Newcomer}
 use Rattle.scoop_model.specs.Opening.{IsPlaced, IsJoining}
-use Rattle.scoop_model.specs.Safe.{NoRepeats}
+use Rattle.scoop_message.specs.Lists.{NoRepeats}
 use Rattle.scoop_model.specs.Examples.Parties.{CellsMayOpen, CounterMayOpen, handler, client, cell, counter, placed, joins}
 use Rattle.scoop_model.proofs.Beginnings.{no_repeats}
 use Rattle.scoop_model.proofs.Answering.Once.{once_more}
@@ -26,7 +26,8 @@ one_handler p = once_more (λ (x : Placement). x.handler) [] p no_repeats tt
 
 two_handlers : HandlersApart (placed cell 0 1 ∷ placed cell 0 2 ∷ [])
 two_handlers =
-    once_more (λ (x : Placement). x.handler) (placed cell 0 1 ∷ []) (placed cell 0 2) (one_handler (placed cell 0 1)) (other_handler 1 2 (λ e. omega (arith, e)), tt)
+    once_more (λ (x : Placement). x.handler) (placed cell 0 1 ∷ []) (placed cell 0 2) (one_handler (placed cell 0 1))
+    (other_handler 1 2 (λ e. omega (arith, e)), tt)
 
 three_handlers : HandlersApart (placed cell 0 1 ∷ placed cell 0 2 ∷ placed cell 0 3 ∷ [])
 three_handlers =

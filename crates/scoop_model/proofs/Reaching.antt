@@ -15,7 +15,7 @@ use Rattle.scoop_model.specs.World.{World, Site, Party, number_of, id_of, is_sit
 use Rattle.scoop_model.specs.Step.{Stepped, Placement, Newcomer, step, opening, new_site, new_party, begun_site, finished_site, heard_site, heard_party, restarted_party, reopened}
 use Rattle.scoop_model.specs.Opening.{MayOpen}
 use Rattle.scoop_model.specs.Reach.{Run, next, run_after, run, steps, Leads, IsReached}
-use Rattle.scoop_model.specs.Safe.{NoRepeats}
+use Rattle.scoop_message.specs.Lists.{NoRepeats}
 use Rattle.scoop_model.proofs.Basics.{by_test}
 use Rattle.scoop_model.proofs.Events.{Changes, steps_kept}
 use Rattle.scoop_model.proofs.Order.Facts.{SiteFits, Ordered}
@@ -34,7 +34,8 @@ one_more :
     → next n v (λ u. run_after (n + 1) u (xs ++ e ∷ [])) o ≡ (r.0, Ok (k + 1))
 one_more n v w xs e r (Err y) later k is leads = absurd (let f = ap (λ (x : Run). x.1) leads in cc)
 one_more n v w xs e r (Ok q) later k is leads =
-    subst (λ (j : ℕ). run_after (n + 1) q.0 (xs ++ e ∷ []) ≡ (r.0, Ok (j + 1))) (sym is) (later q.0 (subst (λ (j : ℕ). run_after (n + 1) q.0 xs ≡ (w, Ok j)) is leads))
+    subst (λ (j : ℕ). run_after (n + 1) q.0 (xs ++ e ∷ []) ≡ (r.0, Ok (j + 1))) (sym is)
+    (later q.0 (subst (λ (j : ℕ). run_after (n + 1) q.0 xs ≡ (w, Ok j)) is leads))
 
 leads_from :
     (n : ℕ) (v w : World) (es : List Event) (e : Event) (r : World × WorldNote) → run_after n v es ≡ (w, Ok (n + length es)) → step w e ≡ Ok r
@@ -76,7 +77,8 @@ record Known (hs : List HandlerId) (cs : List ClientId) (w : World) : Type 0 whe
 numbers_set : (s : Site) (sites : List Site) → map number_of (set_site s sites) ≡ map number_of sites
 numbers_set s [] = refl
 numbers_set s (x ∷ xs) =
-    by_test (λ t. is_site (number_of s) x ≡ t → number_of (if t then s else x) ∷ map number_of (set_site s xs) ≡ number_of x ∷ map number_of xs) (is_site (number_of s) x)
+    by_test (λ t. is_site (number_of s) x ≡ t → number_of (if t then s else x) ∷ map number_of (set_site s xs) ≡ number_of x ∷ map number_of xs)
+    (is_site (number_of s) x)
     (λ _ is.
     ap (λ n. n ∷ map number_of (set_site s xs)) (sym ((handler_decides (number_of x) (number_of s)).0 is)) ∙ ap (λ ns. number_of x ∷ ns) (numbers_set s xs))
     (λ _ is. ap (λ ns. number_of x ∷ ns) (numbers_set s xs)) refl
@@ -91,7 +93,8 @@ ids_set p (x ∷ xs) =
 numbers_reopened : (n : ℕ) (js : List _) (sites : List Site) → AllByRecursion (SiteFits js) sites → map number_of (map (reopened n) sites) ≡ map number_of sites
 numbers_reopened n js [] all = refl
 numbers_reopened n js (x ∷ xs) all =
-    by_test (λ t. number_of (if t then record x { core = core_of x.core.class x.stored false } else x) ∷ map number_of (map (reopened n) xs) ≡ number_of x ∷ map number_of xs) (x.node == n)
+    by_test (λ t. number_of (if t then record x { core = core_of x.core.class x.stored false } else x) ∷ map number_of (map (reopened n) xs)
+    ≡ number_of x ∷ map number_of xs) (x.node == n)
     (λ here.
     ap (λ (s : HandlerState). s.number ∷ map number_of (map (reopened n) xs)) (all.0.stored) ∙ ap (λ ns. number_of x ∷ ns) (numbers_reopened n js xs all.1))
     (λ there. ap (λ ns. number_of x ∷ ns) (numbers_reopened n js xs all.1))
@@ -102,8 +105,18 @@ known_kept hs cs w k =
     record {
       commands = λ c p x d at is. record { ordered = o.commands c p x d at is; numbers = k.numbers; ids = ids_set (record p { client = d }) w.parties ∙ k.ids };
       sends = λ c p h s at here. record { ordered = o.sends c p h s at here; numbers = k.numbers; ids = k.ids };
-      hears = λ i m s was goes here. record { ordered = o.hears i m s was goes here; numbers = numbers_set (heard_site s (hear s.core.state m)) w.sites ∙ k.numbers; ids = k.ids };
-      notices = λ i m p was goes at. record { ordered = o.notices i m p was goes at; numbers = k.numbers; ids = ids_set (heard_party p (heard p.client m)) w.parties ∙ k.ids };
+      hears = λ i m s was goes here. record {
+        ordered = o.hears i m s was goes here;
+        numbers = numbers_set (heard_site s (hear s.core.state m)) w.sites
+            ∙ k.numbers;
+        ids = k.ids;
+      };
+      notices = λ i m p was goes at. record {
+        ordered = o.notices i m p was goes at;
+        numbers = k.numbers;
+        ids =
+            ids_set (heard_party p (heard p.client m)) w.parties ∙ k.ids;
+      };
       begins = λ h s t here is. record { ordered = o.begins h s t here is; numbers = numbers_set (begun_site s) w.sites ∙ k.numbers; ids = k.ids };
       finishes = λ h s t here is. record { ordered = o.finishes h s t here is; numbers = numbers_set (finished_site s t) w.sites ∙ k.numbers; ids = k.ids };
       restarts = λ c p at room. record { ordered = o.restarts c p at room; numbers = k.numbers; ids = ids_set (restarted_party p) w.parties ∙ k.ids };

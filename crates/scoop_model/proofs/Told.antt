@@ -93,7 +93,8 @@ module _ (w : World) (f : Facts w) where
     own_held inc num AtHeld is = record {
       site = site;
       found = g.found;
-      is = inl ((all_found (SiteFits w.joint) (is_site h) w.sites site f.ordered.sites g.found).holds b (record { mark = mark; found = g.reached.found; inc = inc; num = num; stage = is }));
+      is = inl ((all_found (SiteFits w.joint) (is_site h) w.sites site f.ordered.sites g.found).holds b
+          (record { mark = mark; found = g.reached.found; inc = inc; num = num; stage = is }));
     }
     own_held inc num AtOpen is =
         let client : mark.client ≡ b.client = mark_of-client b.client site.core.state.marks mark g.reached.found in
@@ -139,7 +140,8 @@ module _ (w : World) (f : Facts w) where
 
   is_left : (b : Block) → IsGivenUp w b → IsLeft w b
   is_left b g = record {
-    unopened = λ h was. true≢false (sym (same_block_itself b) ∙ contained (λ m. is_open_of b m ≡ false) w.sent (Open h b) (none_any (is_open_of b) w.sent g.none) was);
+    unopened = λ h was. true≢false (sym (same_block_itself b)
+        ∙ contained (λ m. is_open_of b m ≡ false) w.sent (Open h b) (none_any (is_open_of b) w.sent g.none) was);
     given_up = λ p at r held own. g.left b.client p at r held own;
   }
 

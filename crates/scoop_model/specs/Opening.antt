@@ -4,7 +4,7 @@ use Rattle.std.specs.List.{AllByRecursion}
 use Rattle.scoop_message.specs.declared.limits.TheConstants.{MAX_HANDLERS, MAX_CLIENTS, MAX_ENTRIES}
 use Rattle.scoop_handler.specs.State.{AreWords}
 use Rattle.scoop_model.specs.Step.{Placement, Newcomer}
-use Rattle.scoop_model.specs.Safe.{NoRepeats}
+use Rattle.scoop_message.specs.Lists.{NoRepeats}
 
 -- an object of the class that is placed with it
 pub record IsPlaced (p : Placement) : Type 0 where

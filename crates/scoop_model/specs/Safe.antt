@@ -7,16 +7,13 @@ use Rattle.scoop_message.specs.declared.request.Answer.{Answer as ObjectAnswer}
 use Rattle.scoop_message.specs.declared.request.Entry.{Entry}
 use Rattle.scoop_message.specs.Entry.{is_query}
 use Rattle.scoop_message.specs.Entries.{ends}
+use Rattle.scoop_message.specs.Lists.{NoRepeats}
 use Rattle.scoop_message.specs.Message.{same_block}
 use Rattle.scoop_object.specs.Play.{entry_effect, play}
 use Rattle.scoop_handler.specs.declared.ran.Ran.{Ran}
 use Rattle.scoop_model.specs.World.{World, Site, Party, Accepted, number_of, id_of, ran_at, log_of, received, is_succeeded}
 
 -- ---- in order
-
--- no element stands at two places
-abbrev pub NoRepeats : {A : Type 0} → List A → Type 0
-NoRepeats {A} xs = (i j : ℕ) (x : A) → slice_get xs i ≡ Some x → slice_get xs j ≡ Some x → i ≡ j
 
 -- the first list is what is left of the second once some elements are taken out
 pub data IsSubsequence {A : Type 0} : List A → List A → Type 0 where

@@ -27,10 +27,12 @@ abbrev pub pending_at : HandlerId → List LocalHandler → ℕ
 pending_at h hs = option_map_or (λ (s : LocalHandler). all_pending s.core.state.queues) (handler_in h hs) 0
 
 -- the handler that moved is found as it is now
-pub moved_there : (event : Event) (reply : Reply) (hs ks : List LocalHandler) (moves : Moves event reply hs ks) → handler_in (handler_at event) ks ≡ Some moves.new
+pub moved_there : (event : Event) (reply : Reply) (hs ks : List LocalHandler) (moves : Moves event reply hs ks)
+    → handler_in (handler_at event) ks ≡ Some moves.new
 moved_there event reply hs ks moves =
     let named : number_in moves.new ≡ handler_at event =
-    moved_number event reply moves.handler moves.new moves.moves ∙ key_found number_in same_handler handler_decides (handler_at event) hs moves.handler moves.here in
+    moved_number event reply moves.handler moves.new moves.moves
+    ∙ key_found number_in same_handler handler_decides (handler_at event) hs moves.handler moves.here in
     let was : handler_in (number_in moves.new) hs ≡ Some moves.handler = ap (λ (h : HandlerId). handler_in h hs) named ∙ moves.here in
     ap (handler_in (handler_at event)) moves.after
     ∙ ap (λ (h : HandlerId). handler_in h (with_handler moves.new hs)) (sym named)
@@ -43,12 +45,14 @@ told_some : (x : Option Task) (l : Block × ℕ) → Some l ≡ option_map leave
 told_some None l e = cc
 told_some (Some t) l e = refl
 
-ran_queues : (c : Core) (x : Option Task) → IsTrue (is_some (option_map ran_of x)) → (option_map_or (λ t. finished t c) x c).state.queues ≡ advance c.state.queues
+ran_queues : (c : Core) (x : Option Task) → IsTrue (is_some (option_map ran_of x))
+    → (option_map_or (λ t. finished t c) x c).state.queues ≡ advance c.state.queues
 ran_queues c None some = cc
 ran_queues c (Some t) some = refl
 
 -- an entry that runs is pending no more
-pub entry_fewer : {K : Type 0} (pass : ℕ) (h : HandlerId) (old new : BookValue K) → RunsEntry pass h old new → pending_at h new.handlers < pending_at h old.handlers
+pub entry_fewer : {K : Type 0} (pass : ℕ) (h : HandlerId) (old new : BookValue K) → RunsEntry pass h old new
+    → pending_at h new.handlers < pending_at h old.handlers
 entry_fewer pass h old new runs =
     let b = runs.begins.moves in
     let f = runs.finishes.moves in
@@ -59,9 +63,11 @@ entry_fewer pass h old new runs =
     let same : f.handler ≡ after_begin b.handler =
     some_same f.handler b.new (sym f.here ∙ moved_there (Begin h) (Began (Some (leaves runs.task))) old.handlers runs.between.handlers b) ∙ b.moves.after in
     let now : pending_at h new.handlers ≡ all_pending (advance c.state.queues) =
-    ap (λ (o : Option LocalHandler). option_map_or (λ (s : LocalHandler). all_pending s.core.state.queues) o 0) (moved_there (Finish h) (Finished (ran_of runs.task)) runs.between.handlers new.handlers f)
+    ap (λ (o : Option LocalHandler). option_map_or (λ (s : LocalHandler). all_pending s.core.state.queues) o 0)
+    (moved_there (Finish h) (Finished (ran_of runs.task)) runs.between.handlers new.handlers f)
     ∙ (ap (λ (s : LocalHandler). all_pending s.core.state.queues) f.moves.after ∙ ap (λ (s : LocalHandler). all_pending (advance s.core.state.queues)) same) in
-    let was : pending_at h old.handlers ≡ all_pending c.state.queues = ap (λ (o : Option LocalHandler). option_map_or (λ (s : LocalHandler). all_pending s.core.state.queues) o 0) b.here in
+    let was : pending_at h old.handlers ≡ all_pending c.state.queues =
+    ap (λ (o : Option LocalHandler). option_map_or (λ (s : LocalHandler). all_pending s.core.state.queues) o 0) b.here in
     subst (λ n. n < pending_at h old.handlers) (sym now) (subst (λ n. all_pending (advance c.state.queues) < n) (sym was) less)
 
 -- ---- the job that has just left
@@ -71,7 +77,8 @@ out_now true x t e = cc
 out_now false None t e = cc
 out_now false (Some y) t e = e
 
-own_number : (c : Core) (o : Bool) (x : Option (Block × ℕ × Entry)) (t : Task) → (if o then None else option_map (task_of c) x) ≡ Some t → t.handler ≡ c.state.number
+own_number : (c : Core) (o : Bool) (x : Option (Block × ℕ × Entry)) (t : Task) → (if o then None else option_map (task_of c) x) ≡ Some t
+    → t.handler ≡ c.state.number
 own_number c true x t e = cc
 own_number c false None t e = cc
 own_number c false (Some f) t e = sym (ap (λ (u : Task). u.handler) (some_same (task_of c f) t e))
@@ -91,7 +98,8 @@ own_job pass h told old between t gains job =
 
 -- and no stranger there
 pub no_stranger : {K : Type 0} (pass : ℕ) (h : HandlerId) (told : Option (Block × ℕ)) (old between : BookValue K) (t : Task) (cause : FinishRefusal)
-    → Gains pass (Begin h) (Began told) old between → IfSome (handler_in h old.handlers) (λ s. Some t ≡ ready s.core) → IsUnfinished between t cause → cause ≢ Stranger
+    → Gains pass (Begin h) (Began told) old between → IfSome (handler_in h old.handlers) (λ s. Some t ≡ ready s.core) → IsUnfinished between t cause
+    → cause ≢ Stranger
 no_stranger pass h told old between t cause gains job why e =
     let b = gains.moves in
     let c = b.handler.core in

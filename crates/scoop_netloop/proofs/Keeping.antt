@@ -6,8 +6,8 @@ use Rattle.scoop_message.specs.Message.{same_handler}
 use Rattle.scoop_message.proofs.Same.{handler_decides}
 use Rattle.scoop_handler.specs.declared.ran.Ran.{Ran}
 use Rattle.scoop_handler.specs.Running.{Task, ran_of}
-use Rattle.scoop_record.specs.Keeper.{Stored, Keeps, IsSame}
-use Rattle.scoop_record.proofs.KeeperLemmas.{is_same_same, is_same_more}
+use Rattle.scoop_keeper.specs.Keeper.{Stored, Keeps, IsSame}
+use Rattle.scoop_keeper.proofs.KeeperLemmas.{is_same_same, is_same_more}
 use Rattle.scoop_book.specs.declared.event.Event.TheVariants.{Begin, Finish}
 use Rattle.scoop_book.specs.declared.event.Reply.{Reply}
 use Rattle.scoop_book.specs.declared.event.Reply.TheVariants.{Began, Finished}
@@ -91,11 +91,13 @@ not_there (Some y) x none some = cc
 pub finish_breaks : {K : Type 0} (pass : ℕ) (h : HandlerId) (told : Reply) (old between new : BookValue K) (t : Task) (cause : FinishRefusal) (e : BookError)
     → Gains pass (Begin h) told old between → MayHappen old h → t.handler ≡ h → IsUnfinished between t cause → Tells cause e → BookStays between new
     → new.failed ≡ (between.failed || fails_to_finish cause) → BreaksOff h old new e
-finish_breaks pass h told old between new t unfinished.NodeFailed e gains may own why tells stays failed = subst (BreaksOff h old new) (sym tells) (sym gains.failed ∙ why)
+finish_breaks pass h told old between new t unfinished.NodeFailed e gains may own why tells stays failed =
+    subst (BreaksOff h old new) (sym tells) (sym gains.failed ∙ why)
 finish_breaks pass h told old between new t unfinished.HistoryFull e gains may own why tells stays failed =
     subst (BreaksOff h old new) (sym tells) (failed ∙ ap (λ (b : Bool). b || false) why.0, full_stays between new stays why.1)
 finish_breaks pass h told old between new t unfinished.UnknownHandler e gains may own why tells stays failed =
-    absurd (not_there (handler_in h between.handlers) gains.moves.new (ap (λ (n : HandlerId). handler_in n between.handlers) (sym own) ∙ why.1) (moved_there (Begin h) told old.handlers between.handlers gains.moves))
+    absurd (not_there (handler_in h between.handlers) gains.moves.new (ap (λ (n : HandlerId). handler_in n between.handlers) (sym own) ∙ why.1)
+    (moved_there (Begin h) told old.handlers between.handlers gains.moves))
 finish_breaks pass h told old between new t unfinished.Stranger e gains may own why tells stays failed = absurd tells
 finish_breaks pass h told old between new t unfinished.StoreRefused e gains may own why tells stays failed =
     let works : between.failed ≡ false = why.happens.enter.works in
@@ -107,7 +109,8 @@ one_back : {K : Type 0} (pass : ℕ) (h : HandlerId) (a b new : BookValue K) (e 
 one_back pass h a b new NodeFailed ran is = sym (ran.finishes.failed ∙ ran.begins.failed) ∙ is
 one_back pass h a b new HistoryFull ran is = is
 one_back pass h a b new UnknownHandler ran is =
-    absurd (not_there (handler_in h b.handlers) ran.finishes.moves.new is.1 (moved_there (Finish h) (Finished (ran_of ran.task)) ran.between.handlers b.handlers ran.finishes.moves))
+    absurd (not_there (handler_in h b.handlers) ran.finishes.moves.new is.1
+    (moved_there (Finish h) (Finished (ran_of ran.task)) ran.between.handlers b.handlers ran.finishes.moves))
 one_back pass h a b new StoreRefused ran is = (sym (ran.finishes.failed ∙ ran.begins.failed) ∙ is.0, is.1)
 one_back pass h a b new OutOfMemory ran is =
     let more : length a.history ≤ length ran.between.history = longer a.history ran.between.history _ ran.begins.history in
@@ -121,6 +124,7 @@ one_back pass h a b new OutOfMemory ran is =
     }
 
 -- some did
-pub breaks_back : {K : Type 0} (pass : ℕ) (h : HandlerId) (a b new : BookValue K) (e : BookError) → RunsEntries pass h a b → BreaksOff h b new e → BreaksOff h a new e
+pub breaks_back : {K : Type 0} (pass : ℕ) (h : HandlerId) (a b new : BookValue K) (e : BookError) → RunsEntries pass h a b → BreaksOff h b new e
+    → BreaksOff h a new e
 breaks_back pass h a b new e (none_ran c) is = is
 breaks_back pass h a b new e (then_ran x y z before last) is = breaks_back pass h a y new e before (one_back pass h y b new e last is)

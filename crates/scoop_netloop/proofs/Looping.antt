@@ -33,7 +33,8 @@ queued v (Some reply) own note n buffer out was now e is queue =
     let front : take n out ≡ frame v reply = ap (take n) is ∙ take_at (frame v reply) (drop (length (frame v reply)) buffer) n (sym len) in
     (subst (λ (bs : List ℕ). (now ≡ was ++ kept bs ∷ []) ⊎ (now ≡ was)) front queue, same)
 
-unqueued : (v : Version) (o : Option Message) (own note : Note) (was now : List (List ℕ)) → Silent note ≡ answered_of v o own → now ≡ was → QueuesReply v o was now × (note ≡ own)
+unqueued : (v : Version) (o : Option Message) (own note : Note) (was now : List (List ℕ)) → Silent note ≡ answered_of v o own → now ≡ was
+    → QueuesReply v o was now × (note ≡ own)
 unqueued v None own note was now e same = let is : note ≡ own = cc in (same, is)
 unqueued v (Some reply) own note was now e same = absurd (let f = e in cc)
 
@@ -43,7 +44,8 @@ is_answer v (Some reply) own error e = cc
 
 module _ {K : Type 0} (pass : ℕ) (d : List ℕ) (old between new : BookValue K) (was now : List (List ℕ)) (buffer out : List ℕ) where
   back : (m : Message) (note : Note) (answered : Answered) (a : AnswersFrame pass d old between answered buffer out) → a.message ≡ m
-      → QueuesReply a.version a.heard.reply was now × (note ≡ a.heard.note) → RunsThen (runs_after note) pass (handler_of m) between new → Loops pass d old was new now
+      → QueuesReply a.version a.heard.reply was now × (note ≡ a.heard.note) → RunsThen (runs_after note) pass (handler_of m) between new
+      → Loops pass d old was new now
   back m note answered a same queue runs =
       let here : RunsThen (runs_after a.heard.note) pass (handler_of m) between new =
       subst (λ (x : Note). RunsThen (runs_after x) pass (handler_of m) between new) queue.1 runs in
@@ -58,14 +60,17 @@ module _ {K : Type 0} (pass : ℕ) (d : List ℕ) (old between new : BookValue K
       })
 
   -- the datagram was replied to
-  pub loops_replied : (m : Message) (n : ℕ) (note : Note) → ((v : Version) (x : Message) → IsFrame v x d → x ≡ m) → AnswersDatagram pass d old between (Reply n note) buffer out
+  pub loops_replied : (m : Message) (n : ℕ) (note : Note) → ((v : Version) (x : Message) → IsFrame v x d → x ≡ m)
+      → AnswersDatagram pass d old between (Reply n note) buffer out
       → (now ≡ was ++ kept (take n out) ∷ []) ⊎ (now ≡ was) → RunsThen (runs_after note) pass (handler_of m) between new → Loops pass d old was new now
   loops_replied m n note one (refuses r) queue runs = absurd (let f = r.answer in cc)
   loops_replied m n note one (answers a) queue runs =
-      back m note (Reply n note) a (one a.version a.message a.carried) (queued a.version a.heard.reply a.heard.note note n buffer out was now a.answer a.bytes queue) runs
+      back m note (Reply n note) a (one a.version a.message a.carried)
+      (queued a.version a.heard.reply a.heard.note note n buffer out was now a.answer a.bytes queue) runs
 
   -- it was heard in silence
-  pub loops_silent : (m : Message) (note : Note) → ((v : Version) (x : Message) → IsFrame v x d → x ≡ m) → AnswersDatagram pass d old between (Silent note) buffer out
+  pub loops_silent : (m : Message) (note : Note) → ((v : Version) (x : Message) → IsFrame v x d → x ≡ m)
+      → AnswersDatagram pass d old between (Silent note) buffer out
       → now ≡ was → RunsThen (runs_after note) pass (handler_of m) between new → Loops pass d old was new now
   loops_silent m note one (refuses r) same runs = absurd (let f = r.answer in cc)
   loops_silent m note one (answers a) same runs =

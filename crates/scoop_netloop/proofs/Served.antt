@@ -8,7 +8,8 @@ use Rattle.scoop_book.specs.declared.event.Reply.{Reply}
 use Rattle.scoop_book.specs.Passes.{PassValue, pass_value}
 use Rattle.scoop_netloop.specs.Serving.{Serves, nothing, passes_over, hears, Sends, ServesPass, reply_datagrams, with_events}
 
-serves_more : (ds es : List (List ℕ)) (xs ys : List (Event × Reply)) (gone more : Datagrams) → Serves ds xs gone → Serves es ys more → Serves (ds ++ es) (xs ++ ys) (gone ++ more)
+serves_more : (ds es : List (List ℕ)) (xs ys : List (Event × Reply)) (gone more : Datagrams) → Serves ds xs gone → Serves es ys more
+    → Serves (ds ++ es) (xs ++ ys) (gone ++ more)
 serves_more ds es xs ys gone more nothing second = second
 serves_more ds es xs ys gone more (passes_over d front fronts went first) second =
     passes_over d (front ++ es) (xs ++ ys) (gone ++ more) (serves_more front es xs ys gone more first second)

@@ -47,7 +47,8 @@ serves_passed c p d a b exchanges = unchanged c p (d ∷ []) a b (passes_over d 
 
 -- a turn that heard a message
 serves_one : (c : Bool) (p q : PassValue) (v : Version) (m : Message) (told : HeardMessage) (d : List ℕ) (gone : Datagrams) (a b : Option Told)
-    → IsFrame v m d → q ≡ with_event (Hear m) (Heard told) p → Exchanges a b (d ∷ []) gone → Sends c (reply_datagrams v told.reply ++ []) gone → ServesPass c p q a b
+    → IsFrame v m d → q ≡ with_event (Hear m) (Heard told) p → Exchanges a b (d ∷ []) gone → Sends c (reply_datagrams v told.reply ++ []) gone
+    → ServesPass c p q a b
 serves_one c p q v m told d gone a b is gains exchanges sends = record {
   taken = d ∷ [];
   gained = (Hear m, Heard told) ∷ [];

@@ -15,7 +15,7 @@ use Rattle.scoop_handler.specs.declared.note.Note.TheVariants.{Greeted, Granted,
 use Rattle.scoop_book.specs.declared.event.Event.TheVariants.{Hear}
 use Rattle.scoop_book.specs.declared.event.Reply.TheVariants.{Heard}
 use Rattle.scoop_book.specs.declared.error.BookError.{BookError}
-use Rattle.scoop_record.specs.Keeper.{Stored}
+use Rattle.scoop_keeper.specs.Keeper.{Stored}
 use Rattle.scoop_book.specs.Moves.{LocalHandler}
 use Rattle.scoop_book.specs.Books.{BookValue, Gains, IsRefused, KeepsNew}
 use Rattle.scoop_netloop.specs.declared.answer.Answered.{Answered}

@@ -36,7 +36,8 @@ RunsThen true pass h old new = RunsDry pass h old new ⊎ RunsSome pass h old ne
 RunsThen false pass h old new = new ≡ old
 
 -- the bytes are a frame, which the book answers as a datagram; the reply waits to be received, and the handler runs
-pub record LoopsBack {K : Type 0} (pass : ℕ) (datagram : List ℕ) (old : BookValue K) (was : List (List ℕ)) (new : BookValue K) (now : List (List ℕ)) : Type 0 where
+pub record LoopsBack {K : Type 0} (pass : ℕ) (datagram : List ℕ) (old : BookValue K) (was : List (List ℕ)) (new : BookValue K)
+    (now : List (List ℕ)) : Type 0 where
   pub between : BookValue K
   pub answered : Answered
   pub buffer : List ℕ

@@ -11,7 +11,7 @@ use Rattle.scoop_book.specs.declared.error.BookError.{BookError}
 use Rattle.scoop_book.specs.declared.error.BookError.TheVariants.{NodeFailed, HistoryFull, UnknownHandler, StoreRefused, OutOfMemory}
 use Rattle.scoop_book.specs.declared.error.FinishRefusal.{FinishRefusal}
 use Rattle.scoop_book.specs.declared.error.FinishRefusal.TheVariants as unfinished
-use Rattle.scoop_record.specs.Keeper.{Stored, StaysAt, IsSame}
+use Rattle.scoop_keeper.specs.Keeper.{Stored, StaysAt, IsSame}
 
 -- an entry of the handler leaves, and runs
 pub record RunsEntry {K : Type 0} (pass : ℕ) (h : HandlerId) (old new : BookValue K) : Type 0 where
@@ -69,7 +69,8 @@ BreaksOff h old new StoreRefused = (old.failed ≡ false) × (new.failed ≡ tru
 BreaksOff h old new OutOfMemory = MayHappen old h
 
 -- While the keeper is honest it was so before, of the other handlers it has what it had, and of all clients.
-pub record KeepsOthers {K : Type 0} (has : K → ℕ → Stored → Type 0) (incarnations : K → ℕ → Option ℕ) (is_honest : K → Type 0) (h : HandlerId) (old new : K) : Type 0 where
+pub record KeepsOthers {K : Type 0} (has : K → ℕ → Stored → Type 0) (incarnations : K → ℕ → Option ℕ) (is_honest : K → Type 0) (h : HandlerId)
+    (old new : K) : Type 0 where
   pub honest : is_honest new → is_honest old
   pub handlers : is_honest new → (other : ℕ) → other ≢ h.0 → StaysAt (has old) (has new) other
   pub clients : is_honest new → IsSame (incarnations old) (incarnations new)

@@ -1,16 +1,16 @@
 //! A book that answers datagrams.
 
 ghost use Rattle.std.specs.Prelude.{◌≡◌, ◌||◌, IfOk, IfErr, OnErr};
-ghost use Rattle.scoop_record.specs.Keeper.{IsSame, Stays as KeeperStays};
+ghost use Rattle.scoop_keeper.specs.Keeper.{IsSame, Stays as KeeperStays};
 ghost use Rattle.scoop_book.specs.Books.{IsBook, Stays, fails};
 ghost use Rattle.scoop_netloop.specs.Answering.{AnswersDatagram, IsUnheard, IsWithinBuffer, KeepsAnswered, runs_after};
 
 use scoop_book::{Book, BookError, Event, Reply};
 use scoop_frame::{FrameError, decode, encode};
 use scoop_handler::{Heard, Note};
+use scoop_keeper::Keeper;
 use scoop_message::limits::BUFFER_LEN;
 use scoop_object::Behaviour;
-use scoop_record::Keeper;
 use std::alloc::Allocator;
 
 /// What a handler did with a datagram.

@@ -3,9 +3,9 @@
 use crate::stop::{ServeEnd, Stop, end_after, end_after_job};
 use crossbeam_channel::Receiver;
 use scoop_book::{Node, Pass};
+use scoop_keeper::Keeper;
 use scoop_message::HandlerId;
 use scoop_object::Behaviour;
-use scoop_record::Keeper;
 use std::alloc::Allocator;
 use std::sync::Wait;
 use std::time::Clock;

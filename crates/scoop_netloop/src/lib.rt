@@ -1,9 +1,24 @@
 //! A node's loop: it answers the datagrams that come over a link, and runs handlers in threads beside that.
 //!
-//! `answer_datagram` is bytes to bytes: it gives a datagram to a book and writes the datagram that answers it.
-//! `serve` does the same over a link at a node that threads share, and hands each handler that may have
-//! something to run to an executor, which works outside the node's lock. `LoopLink` is a node without a
+//! [`answer_datagram`] is bytes to bytes: it gives a datagram to a book and writes the datagram that answers it.
+//! [`serve`] does the same over a link at a node that threads share, and hands each handler that may have
+//! something to run to an executor, which works outside the node's lock. [`LoopLink`] is a node without a
 //! network, for tests.
+//!
+//! ```
+//! // client 7 greets handler 1 of the book, and the handler's reply is a frame too
+//! let hello = b"SQ\x01\x01\0\0\0\x01\0\0\0\x07\0\0\0\x01\0\0\0\0\0\0\0\0\0\0";
+//! let mut reply = [0; BUFFER_LEN];
+//! let answered = answer_datagram(&mut book, 0, hello, &mut reply)?;
+//! assert_eq!(rt; answered, Answered::Reply(26, Note::Greeted));
+//! // what is no frame is told as such, and nothing has happened
+//! let cut = answer_datagram(&mut book, 0, &hello[..25], &mut reply)?;
+//! assert_eq!(rt; cut, Answered::RefusedFrame(FrameError::Short));
+//! // a client's driver reaches the same book without a network
+//! let mut driver = Driver::new(client, LoopLink::new(alloc, book, 0), 10);
+//! assert_eq!(rt; driver.turn()?, Some(ClientNote::Welcomed(ONE)));
+//! driver.reserve(&[ONE])?;
+//! ```
 #![tactic(auto)]
 
 mod answer;

@@ -17,11 +17,11 @@ use crossbeam_channel::{SendError, Sender};
 use scoop_book::{BookError, Event, Node, Pass, Reply};
 use scoop_frame::{Version, decode, encode};
 use scoop_handler::Heard;
+use scoop_keeper::Keeper;
 use scoop_link::{Link, LinkFault, Party};
 use scoop_message::limits::BUFFER_LEN;
 use scoop_message::{HandlerId, Message};
 use scoop_object::Behaviour;
-use scoop_record::Keeper;
 use std::alloc::Allocator;
 use std::sync::Wait;
 

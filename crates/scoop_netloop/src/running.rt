@@ -5,9 +5,9 @@ ghost use Rattle.scoop_book.specs.Books.{IsBook};
 ghost use Rattle.scoop_netloop.specs.RunningOut.{Breaks, BreaksOff, KeepsOthers, RunsDry, RunsNext, RunsSome, Tells};
 
 use scoop_book::{Book, BookError, FinishRefusal};
+use scoop_keeper::Keeper;
 use scoop_message::HandlerId;
 use scoop_object::Behaviour;
-use scoop_record::Keeper;
 use std::alloc::Allocator;
 
 // Why an entry that has just left doesn't run.

@@ -1,9 +1,11 @@
 //! The tests of loops.
 
 mod accounts;
+mod examples;
 mod frames;
 mod gate;
 mod growths;
+mod loops;
 mod painting;
 mod tape;
 mod waits;

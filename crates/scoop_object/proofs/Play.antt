@@ -12,7 +12,8 @@ play-append class words [] fs = refl
 play-append class words (e ∷ es) fs = play-append class (entry_effect class words e).0 es fs
 
 -- one more entry
-pub play-snoc : (class : ClassTable) (words : List ℕ) (es : List Entry) (e : Entry) → play class words (es ++ e ∷ []) ≡ (entry_effect class (play class words es) e).0
+pub play-snoc : (class : ClassTable) (words : List ℕ) (es : List Entry) (e : Entry)
+    → play class words (es ++ e ∷ []) ≡ (entry_effect class (play class words es) e).0
 play-snoc class words es e = play-append class words es (e ∷ [])
 
 -- an object keeps its number of words

@@ -45,7 +45,8 @@ writes_decides xs ys = slice_eq-Decides write_decides xs ys _ refl
 terms_decides : (a b : Term × Term) → Decides (on_term.eq-value.it a.0 b.0 && on_term.eq-value.it a.1 b.1) (a ≡ b)
 terms_decides a b = pair_decides a.0 b.0 a.1 b.1 (term_decides a.0 b.0) (term_decides a.1 b.1)
 
-test_decides : (a b : Option (Term × Term)) → Decides (option_eq (λ (x y : Term × Term). on_term.eq-value.it x.0 y.0 && on_term.eq-value.it x.1 y.1) a b) (a ≡ b)
+test_decides : (a b : Option (Term × Term)) → Decides (option_eq (λ (x y : Term × Term). on_term.eq-value.it x.0 y.0 && on_term.eq-value.it x.1 y.1) a b)
+    (a ≡ b)
 test_decides None None = ((λ e. refl), (λ e. refl))
 test_decides None (Some y) = ((λ e. cc), (λ e. cc))
 test_decides (Some x) None = ((λ e. cc), (λ e. cc))

@@ -18,7 +18,8 @@ so_far_none value words new e = record {
   rest = λ k h. ap (λ ws. get_or ws k 0) e;
 }
 
-pub so_far_more : (value : ℕ → ℕ → ℕ) (words new next : List ℕ) (i : ℕ) → i < length words → SoFar value words new i → next ≡ set new i (value i (get_or words i 0)) → SoFar value words next (i + 1)
+pub so_far_more : (value : ℕ → ℕ → ℕ) (words new next : List ℕ) (i : ℕ) → i < length words → SoFar value words new i
+    → next ≡ set new i (value i (get_or words i 0)) → SoFar value words next (i + 1)
 so_far_more value words new next i h so e =
     let within : i < length new = omega (arith, so.len) in
     record {
@@ -32,15 +33,18 @@ so_far_more value words new next i h so e =
     }
 
 -- where a word keeps its value, the words stay
-pub so_far_same : (value : ℕ → ℕ → ℕ) (words new next : List ℕ) (i : ℕ) → SoFar value words new i → value i (get_or words i 0) ≡ get_or words i 0 → next ≡ new → next ≡ set new i (value i (get_or words i 0))
+pub so_far_same : (value : ℕ → ℕ → ℕ) (words new next : List ℕ) (i : ℕ) → SoFar value words new i → value i (get_or words i 0) ≡ get_or words i 0 → next ≡ new
+    → next ≡ set new i (value i (get_or words i 0))
 so_far_same value words new next i so e f =
     f ∙ sym (set-get_or new i 0) ∙ ap (set new i) (so.rest i (omega arith) ∙ sym e)
 
-pub so_far_all : (value : ℕ → ℕ → ℕ) (words new : List ℕ) (n : ℕ) → length words ≤ n → SoFar value words new n → new ≡ map (λ (place : ℕ × ℕ). value place.0 place.1) (enumerate_from 0 words)
+pub so_far_all : (value : ℕ → ℕ → ℕ) (words new : List ℕ) (n : ℕ) → length words ≤ n → SoFar value words new n
+    → new ≡ map (λ (place : ℕ × ℕ). value place.0 place.1) (enumerate_from 0 words)
 so_far_all value words new n h so =
     let f : ℕ × ℕ → ℕ = λ place. value place.0 place.1 in
     same_lists new (map f (enumerate_from 0 words)) (so.len ∙ sym (length-map (enumerate_from 0 words) f ∙ length-enumerate_from 0 words)) (λ k d below.
     let inside : k < length words = omega (arith, so.len) in
     let listed : k < length (enumerate_from 0 words) = rw (length-enumerate_from 0 words) inside in
     get_or_default new k d 0 below ∙ so.done k (omega arith)
-    ∙ sym (get_or-map f (enumerate_from 0 words) k (0, 0) d listed ∙ ap f (get_or-enumerate_from 0 words k (0, 0) inside) ∙ ap (λ j. value j (get_or words k 0)) (zero-add k)))
+    ∙ sym (get_or-map f (enumerate_from 0 words) k (0, 0) d listed ∙ ap f (get_or-enumerate_from 0 words k (0, 0) inside)
+    ∙ ap (λ j. value j (get_or words k 0)) (zero-add k)))

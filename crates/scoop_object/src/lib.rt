@@ -47,6 +47,3 @@ pub use row::OpRow;
 pub use table::Table;
 pub use term::{Term, Write};
 pub use writes::{TooManyWrites, Writes};
-
-#[cfg(test)]
-mod tests;

@@ -10,14 +10,16 @@ use Rattle.scoop_queue.specs.Sound.{AreApart, IsQueue}
 use Rattle.scoop_queue.proofs.Lookup.{absent-first, absent-rest, same_block-refl, same_block-true}
 use Rattle.scoop_queue.proofs.Keeping.{Leaves, leaves-cut, leaves-first}
 
-leaves-other : (c : Block) (q : PrivateQueue) (left qs : List PrivateQueue) → Leaves q left → is_queue_of c q ≡ false → queue_of c (left ++ qs) ≡ queue_of c (q ∷ qs)
+leaves-other : (c : Block) (q : PrivateQueue) (left qs : List PrivateQueue) → Leaves q left → is_queue_of c q ≡ false
+    → queue_of c (left ++ qs) ≡ queue_of c (q ∷ qs)
 leaves-other c q [] qs leaves other = rw other refl
 leaves-other c q (r ∷ []) qs leaves other =
     let still : is_queue_of c r ≡ false = subst (λ (d : Block). same_block c d ≡ false) (sym leaves) other in
     rw (still, other) refl
 leaves-other c q (r ∷ s ∷ rs) qs leaves other = absurd leaves
 
-other-first : (b c : Block) (change : PrivateQueue → List PrivateQueue) (q : PrivateQueue) (qs : List PrivateQueue) → Leaves q (change q) → same_block c b ≡ false
+other-first : (b c : Block) (change : PrivateQueue → List PrivateQueue) (q : PrivateQueue) (qs : List PrivateQueue) → Leaves q (change q)
+    → same_block c b ≡ false
     → queue_of c (at_block b change qs) ≡ queue_of c qs → queue_of c (at_block b change (q ∷ qs)) ≡ queue_of c (q ∷ qs)
 other-first b c change q qs leaves other rest = by (is_queue_of b q) refl
   where
@@ -33,7 +35,8 @@ pub queue_of-other : (b c : Block) (change : PrivateQueue → List PrivateQueue)
 queue_of-other b c change leaves other [] = refl
 queue_of-other b c change leaves other (q ∷ qs) = other-first b c change q qs (leaves q) other (queue_of-other b c change leaves other qs)
 
-changed-first : (b : Block) (change : PrivateQueue → List PrivateQueue) (x q r : PrivateQueue) (qs : List PrivateQueue) → queue_of b (x ∷ qs) ≡ Some q → change q ≡ r ∷ []
+changed-first : (b : Block) (change : PrivateQueue → List PrivateQueue) (x q r : PrivateQueue) (qs : List PrivateQueue) → queue_of b (x ∷ qs) ≡ Some q
+    → change q ≡ r ∷ []
     → r.block ≡ q.block → (queue_of b qs ≡ Some q → queue_of b (at_block b change qs) ≡ Some r) → queue_of b (at_block b change (x ∷ qs)) ≡ Some r
 changed-first b change x q r qs found becomes same rest = by (is_queue_of b x) refl
   where
@@ -47,13 +50,15 @@ changed-first b change x q r qs found becomes same rest = by (is_queue_of b x) r
     by false is = rw (is, is) (rest (rw is at found))
 
 -- the block's own queue is what the change makes of it
-pub queue_of-changed : (b : Block) (change : PrivateQueue → List PrivateQueue) (q r : PrivateQueue) (qs : List PrivateQueue) → queue_of b qs ≡ Some q → change q ≡ r ∷ []
+pub queue_of-changed : (b : Block) (change : PrivateQueue → List PrivateQueue) (q r : PrivateQueue) (qs : List PrivateQueue) → queue_of b qs ≡ Some q
+    → change q ≡ r ∷ []
     → r.block ≡ q.block → queue_of b (at_block b change qs) ≡ Some r
 queue_of-changed b change q r [] found becomes same = cc
 queue_of-changed b change q r (x ∷ qs) found becomes same =
     changed-first b change x q r qs found becomes same (λ later. queue_of-changed b change q r qs later becomes same)
 
-gone-first : (b : Block) (change : PrivateQueue → List PrivateQueue) (x q : PrivateQueue) (qs : List PrivateQueue) → AreApart (x ∷ qs) → queue_of b (x ∷ qs) ≡ Some q → change q ≡ []
+gone-first : (b : Block) (change : PrivateQueue → List PrivateQueue) (x q : PrivateQueue) (qs : List PrivateQueue) → AreApart (x ∷ qs)
+    → queue_of b (x ∷ qs) ≡ Some q → change q ≡ []
     → (queue_of b qs ≡ Some q → has_queue b (at_block b change qs) ≡ false) → has_queue b (at_block b change (x ∷ qs)) ≡ false
 gone-first b change x q qs apart found goes rest = by (is_queue_of b x) refl
   where
@@ -65,20 +70,23 @@ gone-first b change x q qs apart found goes rest = by (is_queue_of b x) refl
     by false is = rw (is, is) (rest (rw is at found))
 
 -- or is gone
-pub queue_of-gone : (b : Block) (change : PrivateQueue → List PrivateQueue) (q : PrivateQueue) (qs : List PrivateQueue) → AreApart qs → queue_of b qs ≡ Some q → change q ≡ []
+pub queue_of-gone : (b : Block) (change : PrivateQueue → List PrivateQueue) (q : PrivateQueue) (qs : List PrivateQueue) → AreApart qs → queue_of b qs ≡ Some q
+    → change q ≡ []
     → has_queue b (at_block b change qs) ≡ false
 queue_of-gone b change q [] apart found goes = cc
 queue_of-gone b change q (x ∷ qs) apart found goes =
     gone-first b change x q qs apart found goes (λ later. queue_of-gone b change q qs apart.1 later goes)
 
 -- put_all
-pub queue_of-put_all : (b : Block) (es : List Entry) (q : PrivateQueue) (qs : List PrivateQueue) → queue_of b qs ≡ Some q → queue_of b (put_all b es qs) ≡ Some (with_entries es q)
+pub queue_of-put_all : (b : Block) (es : List Entry) (q : PrivateQueue) (qs : List PrivateQueue) → queue_of b qs ≡ Some q
+    → queue_of b (put_all b es qs) ≡ Some (with_entries es q)
 queue_of-put_all b es q qs found = queue_of-changed b (λ r. with_entries es r ∷ []) q (with_entries es q) qs found refl refl
 
 pub queue_of-put_all-other : (b c : Block) (es : List Entry) (qs : List PrivateQueue) → same_block c b ≡ false → queue_of c (put_all b es qs) ≡ queue_of c qs
 queue_of-put_all-other b c es qs other = queue_of-other b c (λ r. with_entries es r ∷ []) (λ r. refl) other qs
 
-pub pending-put_all : (b : Block) (es : List Entry) (q : PrivateQueue) (qs : List PrivateQueue) → queue_of b qs ≡ Some q → pending b (put_all b es qs) ≡ pending b qs + length es
+pub pending-put_all : (b : Block) (es : List Entry) (q : PrivateQueue) (qs : List PrivateQueue) → queue_of b qs ≡ Some q
+    → pending b (put_all b es qs) ≡ pending b qs + length es
 pending-put_all b es q qs found =
     rw (queue_of-put_all b es q qs found, found) (length-append q.entries es)
 
@@ -104,19 +112,23 @@ pub queue_of-opened-other : (b c : Block) (qs : List PrivateQueue) → same_bloc
 queue_of-opened-other b c qs other = queue_of-append-other c (new_queue b) qs other
 
 -- advance
-pub queue_of-advance-other : (c : Block) (q : PrivateQueue) (qs : List PrivateQueue) → is_queue_of c q ≡ false → queue_of c (advance (q ∷ qs)) ≡ queue_of c (q ∷ qs)
+pub queue_of-advance-other : (c : Block) (q : PrivateQueue) (qs : List PrivateQueue) → is_queue_of c q ≡ false
+    → queue_of c (advance (q ∷ qs)) ≡ queue_of c (q ∷ qs)
 queue_of-advance-other c q qs other = leaves-other c q (left_by_first q q.entries) qs (leaves-first q q.entries) other
 
-pub queue_of-advance : (q r : PrivateQueue) (qs : List PrivateQueue) → left_by_first q q.entries ≡ r ∷ [] → r.block ≡ q.block → queue_of q.block (advance (q ∷ qs)) ≡ Some r
+pub queue_of-advance : (q r : PrivateQueue) (qs : List PrivateQueue) → left_by_first q q.entries ≡ r ∷ [] → r.block ≡ q.block
+    → queue_of q.block (advance (q ∷ qs)) ≡ Some r
 queue_of-advance q r qs left same =
     let mine : is_queue_of q.block r ≡ true = ap (same_block q.block) same ∙ same_block-refl q.block in
     rw (left, mine) refl
 
-pub queue_of-advance-gone : (q : PrivateQueue) (qs : List PrivateQueue) → AreApart (q ∷ qs) → left_by_first q q.entries ≡ [] → has_queue q.block (advance (q ∷ qs)) ≡ false
+pub queue_of-advance-gone : (q : PrivateQueue) (qs : List PrivateQueue) → AreApart (q ∷ qs) → left_by_first q q.entries ≡ []
+    → has_queue q.block (advance (q ∷ qs)) ≡ false
 queue_of-advance-gone q qs apart left = rw left (apart.0)
 
 -- what is found is a private queue as all are
-found-first : (b : Block) (x q : PrivateQueue) (qs : List PrivateQueue) → IsQueue x → queue_of b (x ∷ qs) ≡ Some q → (queue_of b qs ≡ Some q → IsQueue q) → IsQueue q
+found-first : (b : Block) (x q : PrivateQueue) (qs : List PrivateQueue) → IsQueue x → queue_of b (x ∷ qs) ≡ Some q → (queue_of b qs ≡ Some q → IsQueue q)
+    → IsQueue q
 found-first b x q qs sound found rest = by (is_queue_of b x) refl
   where
     by : (t : Bool) → is_queue_of b x ≡ t → IsQueue q

@@ -1,21 +1,23 @@
 -- What is true of the private queues at any time is kept by each change of them.
-use Rattle.std.proofs.Common.{◌≡◌, ℕ, ◌+◌, ◌-◌, ◌^◌, ◌<◌, ◌≤◌, Bool, true, false, not, ◌&&◌, ◌||◌, ◌==◌, nat_le, nat_lt, if◌then◌else◌, IsTrue, List, [], ◌∷◌, ◌++◌, length, Option, None, Some, refl, sym, ◌∙◌, subst, arith, true≢false, length-append}
+use Rattle.std.proofs.Common.{◌≡◌, ℕ, ◌+◌, ◌-◌, ◌^◌, ◌<◌, ◌≤◌, Bool, true, false, ◌&&◌, ◌||◌, ◌==◌, nat_le, nat_lt, if◌then◌else◌, IsTrue, List, [], ◌∷◌, ◌++◌, length, Option, None, Some, refl, sym, ◌∙◌, subst, arith, true≢false, length-append}
 use Rattle.std.specs.Bool.{⊤}
 use Rattle.std.specs.List.{AllByRecursion}
-use Rattle.std.proofs.lemmas.Bool.{leb-true, leb-false, ltb-true, ltb-false}
+use Rattle.std.proofs.lemmas.Bool.{leb-false, lt-leb, ltb-false}
 use Rattle.scoop_message.specs.declared.limits.TheConstants.{MAX_QUEUES, MAX_PENDING}
 use Rattle.scoop_message.specs.declared.name.Block.{Block}
 use Rattle.scoop_message.specs.declared.request.Entry.{Entry}
 use Rattle.scoop_message.specs.Entry.{is_end}
-use Rattle.scoop_message.specs.Entries.{EndOnlyLast, end_only_last, ends}
+use Rattle.scoop_message.specs.Entries.{EndOnlyLast, ends}
 use Rattle.scoop_message.specs.Message.{same_block}
+use Rattle.scoop_queue.specs.declared.error.AppendError.{AppendError}
+use Rattle.scoop_queue.specs.declared.error.AppendError.TheVariants.{QueueFull, AlreadyThere, BadQueue, OutOfMemory}
 use Rattle.scoop_queue.specs.declared.state.Head.{Head}
 use Rattle.scoop_queue.specs.declared.state.QueueState.{QueueState}
 use Rattle.scoop_queue.specs.declared.state.QueueState.TheVariants.{Open, Ended, Cut}
-use Rattle.scoop_queue.specs.Queue.{PrivateQueue, advance, at_block, cut, cut_open, goes_with, has_queue, is_cut, is_ended, is_open, is_queue_of, left_by_cut, left_by_first, new_queue, next_number, opened, put_all, queue_of, queue_with, with_entries}
-use Rattle.scoop_queue.specs.Refusal.{HasNumbersFor, append_refusal, has_ending, is_queue, open_refusal, put_refusal, refusal_at}
+use Rattle.scoop_queue.specs.Queue.{PrivateQueue, advance, at_block, cut, cut_open, goes_with, has_queue, head_of, is_cut, is_ended, is_open, is_queue_of, left_by_cut, left_by_first, new_queue, opened, put_all, queue_of, queue_with, with_entries}
+use Rattle.scoop_queue.specs.Refusal.{AppendRefused, HasNumbersFor, MayAppend, open_refusal, put_refusal, refusal_at}
 use Rattle.scoop_queue.specs.Sound.{AreApart, FitsNumbers, IsQueue, IsQueues, number_limit}
-use Rattle.scoop_queue.proofs.Ends.{EndOnlyLast-append, EndOnlyLast-tail, both, ends-append}
+use Rattle.scoop_queue.proofs.Ends.{EndOnlyLast-append, EndOnlyLast-tail, ends-append}
 use Rattle.scoop_queue.proofs.Lookup.{absent-first, absent-rest, same_block-sym}
 
 -- a change leaves at most one queue, which is of the same block
@@ -34,9 +36,11 @@ leaves-cut q = by (is_open q.state) q.entries
 
 pub leaves-first : (q : PrivateQueue) (es : List Entry) → Leaves q (left_by_first q es)
 leaves-first q [] = refl
-leaves-first q (e ∷ es) = elim (goes_with q.state e es) as (λ t. Leaves q (if t then [] else record { block = q.block; first = q.first + 1; entries = es; state = q.state } ∷ [])) [ true ↦ tt | false ↦ refl ]
+leaves-first q (e ∷ es) = elim (goes_with q.state e es) as (λ t. Leaves q
+    (if t then [] else record { block = q.block; first = q.first + 1; entries = es; state = q.state } ∷ [])) [ true ↦ tt | false ↦ refl ]
 
-leaves-absent : (b : Block) (q : PrivateQueue) (left qs : List PrivateQueue) → Leaves q left → is_queue_of b q ≡ false → has_queue b qs ≡ false → has_queue b (left ++ qs) ≡ false
+leaves-absent : (b : Block) (q : PrivateQueue) (left qs : List PrivateQueue) → Leaves q left → is_queue_of b q ≡ false → has_queue b qs ≡ false
+    → has_queue b (left ++ qs) ≡ false
 leaves-absent b q [] qs leaves other none = none
 leaves-absent b q (r ∷ []) qs leaves other none =
     let still : is_queue_of b r ≡ false = subst (λ (d : Block). same_block b d ≡ false) (sym leaves) other in
@@ -98,7 +102,8 @@ at_block-each b change (q ∷ qs) each kept =
     (λ is. at_block-each b change qs each.1 (λ r found sound. kept r (rw is found) sound))
 
 -- a change of one block's queue keeps what is true of all
-pub IsQueues-at_block : (b : Block) (change : PrivateQueue → List PrivateQueue) (qs : List PrivateQueue) → IsQueues qs → ((q : PrivateQueue) → Leaves q (change q))
+pub IsQueues-at_block : (b : Block) (change : PrivateQueue → List PrivateQueue) (qs : List PrivateQueue) → IsQueues qs
+    → ((q : PrivateQueue) → Leaves q (change q))
     → ((q : PrivateQueue) → queue_of b qs ≡ Some q → IsQueue q → AllByRecursion IsQueue (change q)) → IsQueues (at_block b change qs)
 IsQueues-at_block b change qs sound leaves kept = record {
   limit = omega (arith, at_block-length b change leaves qs, sound.limit);
@@ -133,7 +138,8 @@ IsQueue-with_entries es q sound is some end room numbers =
 pub put-fits : (n : ℕ) (q : PrivateQueue) → refusal_at n (Some q) ≡ None → (is_open q.state ≡ true) × (length q.entries + n ≤ MAX_PENDING)
 put-fits n q fits = by (is_open q.state) refl (nat_lt MAX_PENDING (length q.entries + n)) refl
   where
-    by : (s : Bool) → is_open q.state ≡ s → (t : Bool) → nat_lt MAX_PENDING (length q.entries + n) ≡ t → (is_open q.state ≡ true) × (length q.entries + n ≤ MAX_PENDING)
+    by : (s : Bool) → is_open q.state ≡ s → (t : Bool) → nat_lt MAX_PENDING (length q.entries + n) ≡ t → (is_open q.state ≡ true)
+        × (length q.entries + n ≤ MAX_PENDING)
     by true is true full = let none = rw (is, full) at fits in cc
     by true is false room = (is, ltb-false _ _ room)
     by false is t full = let none = rw is at fits in cc
@@ -238,7 +244,8 @@ apart-append q (r ∷ qs) apart none =
     let other : is_queue_of r.block q ≡ false = same_block-sym q.block r.block (absent-first q.block r qs none) in
     (absent-append r.block q qs apart.0 other, apart-append q qs apart.1 (absent-rest q.block r qs none))
 
-pub IsQueues-append : (q : PrivateQueue) (qs : List PrivateQueue) → IsQueues qs → length qs < MAX_QUEUES → has_queue q.block qs ≡ false → IsQueue q → IsQueues (qs ++ q ∷ [])
+pub IsQueues-append : (q : PrivateQueue) (qs : List PrivateQueue) → IsQueues qs → length qs < MAX_QUEUES → has_queue q.block qs ≡ false → IsQueue q
+    → IsQueues (qs ++ q ∷ [])
 IsQueues-append q qs sound room none each = record {
   limit = omega (arith, length-append qs (q ∷ []), room);
   apart = apart-append q qs sound.apart none;
@@ -268,52 +275,10 @@ IsQueues-opened b qs sound fits =
     let room = open-fits b qs fits in
     IsQueues-append (new_queue b) qs sound room.0 room.1 (IsQueue-new b)
 
--- the test of a queue that is handed over whole
-not-true : (t : Bool) → not t ≡ true → t ≡ false
-not-true true h = absurd (true≢false (sym h))
-not-true false h = refl
-
-ending-true : (wanted : Bool) (es : List Entry) → has_ending wanted es ≡ true → EndOnlyLast es × (ends es ≡ wanted)
-ending-true true es h = both (end_only_last es) (ends es) h
-ending-true false es h =
-    let p = both (end_only_last es) (not (ends es)) h in
-    (p.0, not-true (ends es) p.1)
-
-pub IsQueue-test : (q : PrivateQueue) → is_queue q ≡ true → IsQueue q
-IsQueue-test q h =
-    let first = nat_le 1 q.first in
-    let limit = nat_le (length q.entries) MAX_PENDING in
-    let numbers = nat_le (next_number q) (number_limit q.state) in
-    let end = has_ending (is_ended q.state) q.entries in
-    let some = not (is_cut q.state) || nat_lt 0 (length q.entries) in
-    let by_some = both (first && limit && numbers && end) some h in
-    let by_end = both (first && limit && numbers) end by_some.0 in
-    let by_numbers = both (first && limit) numbers by_end.0 in
-    let by_limit = both first limit by_numbers.0 in
-    let ending = ending-true (is_ended q.state) q.entries by_end.1 in
-    record {
-      first = leb-true _ _ by_limit.0;
-      limit = leb-true _ _ by_limit.1;
-      numbers = record { next = leb-true _ _ by_numbers.1 };
-      end = ending.0;
-      ended = ending.1;
-      some = λ is. ltb-true _ _ (rw is at by_some.1);
-    }
-
-pub append-fits : (h : Head) (es : List Entry) (qs : List PrivateQueue) → append_refusal h es qs ≡ None → (length qs < MAX_QUEUES) × (has_queue h.block qs ≡ false) × IsQueue (queue_with h es)
-append-fits h es qs fits = by (nat_le MAX_QUEUES (length qs)) refl (has_queue h.block qs) refl (is_queue (queue_with h es)) refl
-  where
-    by : (s : Bool) → nat_le MAX_QUEUES (length qs) ≡ s → (t : Bool) → has_queue h.block qs ≡ t → (u : Bool) → is_queue (queue_with h es) ≡ u
-        → (length qs < MAX_QUEUES) × (has_queue h.block qs ≡ false) × IsQueue (queue_with h es)
-    by true full t there u is = let none = rw full at fits in cc
-    by false room true there u is = let none = rw (room, there) at fits in cc
-    by false room false there false bad = let none = rw (room, there, bad) at fits in cc
-    by false room false there true is = (leb-false _ _ room, there, IsQueue-test (queue_with h es) is)
-
-pub IsQueues-appended : (h : Head) (es : List Entry) (qs : List PrivateQueue) → IsQueues qs → append_refusal h es qs ≡ None → IsQueues (qs ++ queue_with h es ∷ [])
+pub IsQueues-appended : (h : Head) (es : List Entry) (qs : List PrivateQueue) → IsQueues qs → MayAppend h es qs → IsQueues (qs ++ queue_with h es ∷ [])
 IsQueues-appended h es qs sound fits =
-    let room = append-fits h es qs fits in
-    IsQueues-append (queue_with h es) qs sound room.0 room.1 room.2
+    let room = open-fits h.block qs fits.0 in
+    IsQueues-append (queue_with h es) qs sound room.0 room.1 fits.1
 
 -- a block in the middle has no queue before
 absent-inside : (b : Block) (q : PrivateQueue) (xs ys : List PrivateQueue) → has_queue b (xs ++ q ∷ ys) ≡ false → is_queue_of b q ≡ false
@@ -326,6 +291,24 @@ apart-before q (x ∷ xs) ys apart =
     let other : is_queue_of q.block x ≡ false = same_block-sym x.block q.block (absent-inside x.block q xs ys apart.0) in
     rw other (apart-before q xs ys apart.1)
 
+pub each-inside : (q : PrivateQueue) (xs ys : List PrivateQueue) → AllByRecursion IsQueue (xs ++ q ∷ ys) → IsQueue q
+each-inside q [] ys each = each.0
+each-inside q (x ∷ xs) ys each = each-inside q xs ys each.1
+
+-- one of the private queues may be appended to those before it
+pub may-append : (q : PrivateQueue) (xs ys : List PrivateQueue) → IsQueues (xs ++ q ∷ ys) → MayAppend (head_of q) q.entries xs
+may-append q xs ys sound =
+    let room : nat_le MAX_QUEUES (length xs) ≡ false = lt-leb _ _ (omega (arith, length-append xs (q ∷ ys), sound.limit)) in
+    let none : has_queue q.block xs ≡ false = apart-before q xs ys sound.apart in
+    (rw (room, none) refl, each-inside q xs ys sound.each)
+
+-- what may be appended is refused for want of memory alone
+pub memory-alone : (h : Head) (es : List Entry) (qs : List PrivateQueue) (e : AppendError) → MayAppend h es qs → AppendRefused h es qs e → e ≡ OutOfMemory
+memory-alone h es qs QueueFull may refused = let clash = sym may.0 ∙ refused in cc
+memory-alone h es qs AlreadyThere may refused = let clash = sym may.0 ∙ refused in cc
+memory-alone h es qs BadQueue may refused = absurd (refused.1 may.1)
+memory-alone h es qs OutOfMemory may refused = refl
+
 -- the number behind the first one
 pub number-fits : (q : PrivateQueue) (e : Entry) (es : List Entry) → IsQueue q → q.entries ≡ e ∷ es → goes_with q.state e es ≡ false → q.first + 1 < 2 ^ 32
 number-fits q e es sound are stays = by q.state es left.ended left.some left.numbers.next
@@ -333,7 +316,8 @@ number-fits q e es sound are stays = by q.state es left.ended left.some left.num
     left : IsQueue (record { block = q.block; first = q.first + 1; entries = es; state = q.state })
     left = IsQueue-tail q e es sound are stays
 
-    by : (s : QueueState) (fs : List Entry) → ends fs ≡ is_ended s → (IsTrue (is_cut s) → 0 < length fs) → q.first + 1 + length fs ≤ number_limit s → q.first + 1 < 2 ^ 32
+    by : (s : QueueState) (fs : List Entry) → ends fs ≡ is_ended s → (IsTrue (is_cut s) → 0 < length fs) → q.first + 1 + length fs ≤ number_limit s
+        → q.first + 1 < 2 ^ 32
     by Open fs ended some numbers = omega (arith, numbers)
     by Ended [] ended some numbers = absurd (true≢false (sym ended))
     by Ended (f ∷ fs) ended some numbers = omega (arith, numbers)
@@ -341,7 +325,8 @@ number-fits q e es sound are stays = by q.state es left.ended left.some left.num
 
 -- the block plays no part
 pub IsQueue-rebound : (b d : Block) (first : ℕ) (entries : List Entry) (state : QueueState)
-    → IsQueue (record { block = d; first = first; entries = entries; state = state }) → IsQueue (record { block = b; first = first; entries = entries; state = state })
+    → IsQueue (record { block = d; first = first; entries = entries; state = state })
+    → IsQueue (record { block = b; first = first; entries = entries; state = state })
 IsQueue-rebound b d first entries state sound = record {
   first = sound.first;
   limit = sound.limit;

@@ -25,7 +25,8 @@ same_key = on_key.eq-value.it
 module _ {A : Type 0} where
   -- the first key that passes is that of the block's queue
   place-first : (k : Key) (e : Key × Pending A) (es : List (Key × Pending A)) (n : ℕ) → position_or_len (same_key k) (keys_of (e ∷ es)) ≡ n
-      → ((m : ℕ) → position_or_len (same_key k) (keys_of es) ≡ m → suc m ≡ n → IsPlaceOf (block_of k) (queues_kept es) m) → IsPlaceOf (block_of k) (queues_kept (e ∷ es)) n
+      → ((m : ℕ) → position_or_len (same_key k) (keys_of es) ≡ m → suc m ≡ n → IsPlaceOf (block_of k) (queues_kept es) m)
+      → IsPlaceOf (block_of k) (queues_kept (e ∷ es)) n
   place-first k e es n is rest = by (same_key k e.0) refl
     where
       by : (t : Bool) → same_key k e.0 ≡ t → IsPlaceOf (block_of k) (queues_kept (e ∷ es)) n
@@ -36,13 +37,15 @@ module _ {A : Type 0} where
           let next : suc m ≡ n = omega (arith, later) in
           subst (IsPlaceOf (block_of k) (queues_kept (e ∷ es))) next (other, rest m refl next)
 
-  place-position : (k : Key) (es : List (Key × Pending A)) (n : ℕ) → position_or_len (same_key k) (keys_of es) ≡ n → n < length es → IsPlaceOf (block_of k) (queues_kept es) n
+  place-position : (k : Key) (es : List (Key × Pending A)) (n : ℕ) → position_or_len (same_key k) (keys_of es) ≡ n → n < length es
+      → IsPlaceOf (block_of k) (queues_kept es) n
   place-position k [] n is within = absurd (omega arith)
   place-position k (e ∷ es) n is within =
       place-first k e es n is (λ m at next. place-position k es m at (omega (arith, next, within)))
 
   none-first : (k : Key) (e : Key × Pending A) (es : List (Key × Pending A)) → length (e ∷ es) ≤ position_or_len (same_key k) (keys_of (e ∷ es))
-      → (length es ≤ position_or_len (same_key k) (keys_of es) → has_queue (block_of k) (queues_kept es) ≡ false) → has_queue (block_of k) (queues_kept (e ∷ es)) ≡ false
+      → (length es ≤ position_or_len (same_key k) (keys_of es) → has_queue (block_of k) (queues_kept es) ≡ false)
+      → has_queue (block_of k) (queues_kept (e ∷ es)) ≡ false
   none-first k e es past rest = by (same_key k e.0) refl
     where
       by : (t : Bool) → same_key k e.0 ≡ t → has_queue (block_of k) (queues_kept (e ∷ es)) ≡ false
@@ -52,14 +55,17 @@ module _ {A : Type 0} where
           let is : is_queue_of (block_of k) (queue_kept e) ≡ false = other in
           rw is (rest (omega (arith, later)))
 
-  none-position : (k : Key) (es : List (Key × Pending A)) → length es ≤ position_or_len (same_key k) (keys_of es) → has_queue (block_of k) (queues_kept es) ≡ false
+  none-position : (k : Key) (es : List (Key × Pending A)) → length es ≤ position_or_len (same_key k) (keys_of es)
+      → has_queue (block_of k) (queues_kept es) ≡ false
   none-position k [] past = refl
   none-position k (e ∷ es) past = none-first k e es past (none-position k es)
 
-  pub place-found : (k : Key) (es : List (Key × Pending A)) (r : Option ℕ) → r ≡ position (same_key k) (keys_of es) → MatchOption r (has_queue (block_of k) (queues_kept es) ≡ false) (IsPlaceOf (block_of k) (queues_kept es))
+  pub place-found : (k : Key) (es : List (Key × Pending A)) (r : Option ℕ) → r ≡ position (same_key k) (keys_of es)
+      → MatchOption r (has_queue (block_of k) (queues_kept es) ≡ false) (IsPlaceOf (block_of k) (queues_kept es))
   place-found k es r is = by (nat_lt (position_or_len (same_key k) (keys_of es)) (length (keys_of es))) refl
     where
-      by : (t : Bool) → nat_lt (position_or_len (same_key k) (keys_of es)) (length (keys_of es)) ≡ t → MatchOption r (has_queue (block_of k) (queues_kept es) ≡ false) (IsPlaceOf (block_of k) (queues_kept es))
+      by : (t : Bool) → nat_lt (position_or_len (same_key k) (keys_of es)) (length (keys_of es)) ≡ t
+          → MatchOption r (has_queue (block_of k) (queues_kept es) ≡ false) (IsPlaceOf (block_of k) (queues_kept es))
       by true inside =
           let n = position_or_len (same_key k) (keys_of es) in
           let at : r ≡ Some n = is ∙ ap (λ t. cond t (Some n) None) inside in
@@ -145,13 +151,15 @@ module _ {A : Type 0} where
   pending-place b p es i place is =
       ap (λ (o : Option PrivateQueue). option_map_or (λ q. length q.entries) o 0) (queue_of-place b p es i place is).1
 
-  pub put_refusal-place : (b : Block) (n : ℕ) (p : Pending A) (es : List (Key × Pending A)) (i : ℕ) → IsPlaceOf b (queues_kept es) i → slice_get (values_of es) i ≡ Some p
+  pub put_refusal-place : (b : Block) (n : ℕ) (p : Pending A) (es : List (Key × Pending A)) (i : ℕ) → IsPlaceOf b (queues_kept es) i
+      → slice_get (values_of es) i ≡ Some p
       → put_refusal b n (queues_kept es) ≡ refusal_at n (Some (queue_at b p))
   put_refusal-place b n p es i place is =
       ap (λ (o : Option PrivateQueue). refusal_at n o) (queue_of-place b p es i place is).1
 
   -- what is left of the first queue once its first entry is taken
-  left-now : (b : Block) (p x : Pending A) (left : List PrivateQueue) → p ≡ x → left_by_first (queue_at b p) p.entries.items ≡ left → left_by_first (queue_at b x) x.entries.items ≡ left
+  left-now : (b : Block) (p x : Pending A) (left : List PrivateQueue) → p ≡ x → left_by_first (queue_at b p) p.entries.items ≡ left
+      → left_by_first (queue_at b x) x.entries.items ≡ left
   left-now b p x left is was = subst (λ (y : Pending A). left_by_first (queue_at b y) y.entries.items ≡ left) is was
 
   pub kept-stays : (p w : Pending A) (es : List (Key × Pending A)) → slice_get (values_of es) 0 ≡ Some p
@@ -169,7 +177,8 @@ module _ {A : Type 0} where
       ap (λ (qs : List PrivateQueue). qs ++ queues_kept es) (sym (left-now (block_of e.0) p e.1 [] here (left (block_of e.0))))
 
   -- the first entry of the first queue
-  pub front-at : (es : List (Key × Pending A)) (k : Key) (p : Pending A) → slice_get es 0 ≡ Some (k, p) → front (queues_kept es) ≡ first_of (queue_at (block_of k) p) p.entries.items
+  pub front-at : (es : List (Key × Pending A)) (k : Key) (p : Pending A) → slice_get es 0 ≡ Some (k, p)
+      → front (queues_kept es) ≡ first_of (queue_at (block_of k) p) p.entries.items
   front-at [] k p is = cc
   front-at (e ∷ es) k p is =
       let pair : Key × Pending A = (k, p) in
@@ -177,7 +186,8 @@ module _ {A : Type 0} where
       ap (λ (x : Key × Pending A). first_of (queue_kept x) x.1.entries.items) here
 
   -- the first queue is as all are
-  pub first-sound : (p : Pending A) (es : List (Key × Pending A)) → slice_get (values_of es) 0 ≡ Some p → IsQueues (queues_kept es) → (b : Block) → IsQueue (queue_at b p)
+  pub first-sound : (p : Pending A) (es : List (Key × Pending A)) → slice_get (values_of es) 0 ≡ Some p → IsQueues (queues_kept es) → (b : Block)
+      → IsQueue (queue_at b p)
   first-sound p [] is sound b = cc
   first-sound p (e ∷ es) is sound b =
       let here : e.1 ≡ p = same_Some e.1 p is in
@@ -191,7 +201,8 @@ module _ {A : Type 0} where
       sym (ap (λ (es : List (Key × Pending A)). done ++ queues_kept es) next) ∙ is
 
   pub copied-next : (done new all : List PrivateQueue) (left rest : List (Key × Pending A)) (b : Block) (k : Key) (p copy : Pending A) → left ≡ (k, p) ∷ rest
-      → b ≡ block_of k → ((d : Block) → queue_at d copy ≡ queue_at d p) → new ≡ done ++ queue_at b copy ∷ [] → done ++ queues_kept left ≡ all → new ++ queues_kept rest ≡ all
+      → b ≡ block_of k → ((d : Block) → queue_at d copy ≡ queue_at d p) → new ≡ done ++ queue_at b copy ∷ [] → done ++ queues_kept left ≡ all
+      → new ++ queues_kept rest ≡ all
   copied-next done new all left rest b k p copy next of_key same is so_far =
       ap (λ (qs : List PrivateQueue). qs ++ queues_kept rest) is
       ∙ ap (λ (q : PrivateQueue). (done ++ q ∷ []) ++ queues_kept rest) (same b)

@@ -1,3 +1,4 @@
+pub mod OneChange
 pub mod Ends
 pub mod Found
 pub mod Keeping

@@ -2,7 +2,8 @@
 use Rattle.std.proofs.Common.{◌≡◌, Bool, true, false, Result, Ok, Err, OnOk, OnErr, IfErr, true≢false, sym}
 use Rattle.std.specs.Bool.{OnTrue, OnFalse}
 
-pub kept-or : {T E : Type 0} (r : Result T E) {Fits Changed Same Goal : Type 0} → OnOk r Fits → OnOk r Changed → OnErr r Same → (Fits → Changed → Goal) → (Same → Goal) → Goal
+pub kept-or : {T E : Type 0} (r : Result T E) {Fits Changed Same Goal : Type 0} → OnOk r Fits → OnOk r Changed → OnErr r Same → (Fits → Changed → Goal)
+    → (Same → Goal) → Goal
 kept-or (Ok x) fits changed same by_ok by_err = by_ok fits changed
 kept-or (Err e) fits changed same by_ok by_err = by_err same
 

@@ -81,7 +81,7 @@ opened b qs = qs ++ new_queue b ∷ []
 
 -- the queue with these entries behind its own, which an End closes
 abbrev pub with_entries : List Entry → PrivateQueue → PrivateQueue
-with_entries es q = record { block = q.block; first = q.first; entries = q.entries ++ es; state = if ends es then Ended else q.state }
+with_entries es q = record q { entries = q.entries ++ es; state = if ends es then Ended else q.state }
 
 abbrev pub put_all : Block → List Entry → List PrivateQueue → List PrivateQueue
 put_all b es qs = at_block b (λ q. with_entries es q ∷ []) qs
@@ -89,7 +89,7 @@ put_all b es qs = at_block b (λ q. with_entries es q ∷ []) qs
 -- what a cut leaves of a queue: an open one is cut, and goes at once where it is empty
 abbrev pub cut_open : PrivateQueue → List Entry → List PrivateQueue
 cut_open q [] = []
-cut_open q (e ∷ es) = record { block = q.block; first = q.first; entries = e ∷ es; state = Cut } ∷ []
+cut_open q (e ∷ es) = record q { entries = e ∷ es; state = Cut } ∷ []
 
 abbrev pub left_by_cut : PrivateQueue → List PrivateQueue
 left_by_cut q = if is_open q.state then cut_open q q.entries else q ∷ []
@@ -113,7 +113,7 @@ goes_with s e es = is_end e || (is_cut s && length es == 0)
 -- what is left of a queue once its first entry is taken
 abbrev pub left_by_first : PrivateQueue → List Entry → List PrivateQueue
 left_by_first q [] = q ∷ []
-left_by_first q (e ∷ es) = if goes_with q.state e es then [] else record { block = q.block; first = q.first + 1; entries = es; state = q.state } ∷ []
+left_by_first q (e ∷ es) = if goes_with q.state e es then [] else record q { first = q.first + 1; entries = es } ∷ []
 
 abbrev pub advance : List PrivateQueue → List PrivateQueue
 advance [] = []

@@ -1,8 +1,9 @@
 //! Where an End stands in a list of entries, and whether a list is that of a private queue.
 
-ghost use Rattle.std.specs.Prelude.{◌≡◌, length};
+ghost use Rattle.std.specs.Prelude.{◌≡◌, ◌↔◌, ◌&&◌, not, if◌then◌else◌, length, IsTrue};
+ghost use Rattle.scoop_message.specs.Entries.{end_only_last, ends};
 ghost use Rattle.scoop_queue.specs.Queue.{queue_with};
-ghost use Rattle.scoop_queue.specs.Refusal.{has_ending, is_queue};
+ghost use Rattle.scoop_queue.specs.Sound.{IsQueue};
 
 use crate::state::{Head, QueueState};
 use scoop_message::Entry;
@@ -10,7 +11,7 @@ use scoop_message::limits::MAX_PENDING;
 
 // Whether no End stands before the last entry, and one stands there exactly where it is wanted.
 fn has_ending(wanted: bool, entries: &[Entry]) -> bool
-    ensures { result ≡ has_ending wanted entries.now }
+    ensures { result ≡ end_only_last entries.now && (if wanted then ends entries.now else not (ends entries.now)) }
 {
     match entries {
         [] => !wanted,
@@ -21,7 +22,7 @@ fn has_ending(wanted: bool, entries: &[Entry]) -> bool
 
 /// Whether these are the head and the entries of a private queue.
 pub(crate) fn is_queue(head: Head, entries: &[Entry]) -> bool
-    ensures { result ≡ is_queue (queue_with head entries.now) }
+    ensures { IsTrue result ↔ IsQueue (queue_with head entries.now) }
 {
     let limit = match head.state {
         QueueState::Open => u64::from(u32::MAX),

@@ -15,6 +15,7 @@
 //! ```
 #![tactic(auto)]
 
+mod copying;
 mod ending;
 mod error;
 mod key;
@@ -26,6 +27,3 @@ mod table;
 pub use error::{AppendError, OpenQueueError, PutError};
 pub use queues::QueueOfQueues;
 pub use state::{Head, QueueState};
-
-#[cfg(test)]
-mod tests;

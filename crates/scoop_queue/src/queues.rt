@@ -3,13 +3,13 @@
 ghost use Rattle.std.specs.Prelude.{◌≡◌, ◌<◌, ◌↔◌, ◌++◌, [], ◌∷◌, None, IsTrue, length, unwrap_or, IfErr, IfOk, OnOk, OnErr};
 ghost use Rattle.scoop_message.specs.Entries.{EndOnlyLast};
 ghost use Rattle.scoop_queue.specs.Queue.{advance, cut, entry_at, front, has_open, head_at, opened, pending, put_all, queue_with};
-ghost use Rattle.scoop_queue.specs.Refusal.{append_refusal, open_refusal, put_refusal, HasNumbersFor};
+ghost use Rattle.scoop_queue.specs.Refusal.{open_refusal, put_refusal, AppendRefused, HasNumbersFor, MayAppend};
 ghost use Rattle.scoop_queue.specs.Sound.{IsQueues};
 
 use crate::error::{AppendError, OpenQueueError, PutError};
 use crate::state::Head;
-use crate::table;
 use crate::table::Table;
+use crate::{copying, table};
 use indexmap::IndexMap;
 use scoop_message::{Block, Entry, OutOfMemory};
 use std::alloc::{Allocator, Global};
@@ -66,9 +66,9 @@ impl<A: Allocator + Copy> QueueOfQueues<A> {
     /// number is above 2^32-1 or an open queue's next one would be, a cut queue is empty, an End isn't the
     /// last entry of an ended queue, or an ended queue has none; `OutOfMemory`.
     pub fn append(&mut self, head: Head, entries: &[Entry]) -> Result<(), AppendError>
-        ensures fits { OnOk result (append_refusal head entries.now self.old ≡ None) }
+        ensures fits { OnOk result (MayAppend head entries.now self.old) }
         ensures appended { OnOk result (self.new ≡ self.old ++ queue_with head entries.now ∷ []) }
-        ensures err { IfErr result (λ e. e ≡ unwrap_or (append_refusal head entries.now self.old) AppendError.OutOfMemory) }
+        ensures err { IfErr result (AppendRefused head entries.now self.old) }
         ensures same { OnErr result (self.new ≡ self.old) }
     {
         table::append(&mut self.table, head, entries)
@@ -80,6 +80,15 @@ impl<A: Allocator + Copy> QueueOfQueues<A> {
     {
         let table = table::copied(&self.table)?;
         Ok(QueueOfQueues { table })
+    }
+
+    /// Takes the private queues of the other one, in the room that it has where that is enough. An `Err` changes
+    /// nothing; `OutOfMemory` is the one refusal.
+    pub fn copy_from(&mut self, other: &QueueOfQueues<A>) -> Result<(), OutOfMemory>
+        ensures ok { OnOk result (self.new ≡ other.now) }
+        ensures err { OnErr result (self.new ≡ self.old) }
+    {
+        copying::copy_from(&mut self.table, &other.table)
     }
 }
 

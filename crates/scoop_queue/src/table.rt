@@ -4,7 +4,7 @@ ghost use Rattle.std.specs.Prelude.{◌≡◌, ◌<◌, ◌↔◌, ◌++◌, [],
 ghost use Rattle.indexmap.specs.IndexMap.{index_map_len};
 ghost use Rattle.scoop_queue.specs.Kept.{queue_at, queues_kept, IsPlaceOf};
 ghost use Rattle.scoop_queue.specs.Queue.{advance, cut, entry_at, front, has_open, has_queue, head_at, opened, pending, put_all, queue_with};
-ghost use Rattle.scoop_queue.specs.Refusal.{append_refusal, open_refusal, put_refusal};
+ghost use Rattle.scoop_queue.specs.Refusal.{open_refusal, put_refusal, AppendRefused, MayAppend};
 ghost use Rattle.scoop_queue.specs.Sound.{IsQueues, AreApart};
 
 use crate::ending::is_queue;
@@ -84,9 +84,9 @@ pub(crate) fn append<A: Allocator + Copy>(
     head: Head,
     entries: &[Entry],
 ) -> Result<(), AppendError>
-    ensures fits { OnOk result (append_refusal head entries.now (queues_kept table.old.entries) ≡ None) }
+    ensures fits { OnOk result (MayAppend head entries.now (queues_kept table.old.entries)) }
     ensures appended { OnOk result (queues_kept table.new.entries ≡ queues_kept table.old.entries ++ queue_with head entries.now ∷ []) }
-    ensures err { IfErr result (λ e. e ≡ unwrap_or (append_refusal head entries.now (queues_kept table.old.entries)) AppendError.OutOfMemory) }
+    ensures err { IfErr result (AppendRefused head entries.now (queues_kept table.old.entries)) }
     ensures same { OnErr result (queues_kept table.new.entries ≡ queues_kept table.old.entries) }
 {
     if len(table) >= MAX_QUEUES {
@@ -214,8 +214,8 @@ pub(crate) fn copied<A: Allocator + Copy>(table: &Table<A>) -> Result<Table<A>, 
     Ok(copy)
 }
 
-// Whether two tables have the same private queue, or none, at a place.
-fn same_at<A: Allocator>(left: &Table<A>, right: &Table<A>, i: usize) -> bool
+/// Whether two tables have the same private queue, or none, at a place.
+pub(crate) fn same_at<A: Allocator>(left: &Table<A>, right: &Table<A>, i: usize) -> bool
     ensures { IsTrue result ↔ (slice_get (queues_kept left.now.entries) i ≡ slice_get (queues_kept right.now.entries) i) }
 {
     match (left.get_index(i), right.get_index(i)) {

@@ -55,13 +55,16 @@ unfolding mark_bytes block_bytes
 mark_len k = omega arith
 
 pub mark_is : (b : List ℕ) (k : Mark) (n : ℕ) → IsBytes b → 18 ≤ length b → drop 0 b ≡ block_bytes (block_of k) ++ drop (0 + 12) b
-    → stage_byte k.stage ≡ get_or b 12 0 → k.received ≡ big_from 13 4 b → flag_byte k.ended ≡ get_or b 17 0 → drop 18 b ≡ kept_bytes k.kept ++ drop n (drop 18 b)
+    → stage_byte k.stage ≡ get_or b 12 0 → k.received ≡ big_from 13 4 b → flag_byte k.ended ≡ get_or b 17 0
+    → drop 18 b ≡ kept_bytes k.kept ++ drop n (drop 18 b)
     → b ≡ mark_bytes k ++ drop (18 + n) b
 unfolding mark_bytes block_bytes
 mark_is b k n bytes long block stage received ended kept =
     let r4 = front_4 13 k.received b bytes received in
     let end : drop n (drop 18 b) ≡ drop (18 + n) b = drop-drop n 18 b in
-    block ∙ ap (λ (s : List ℕ). block_bytes (block_of k) ++ s) (sym (front-drop 12 6 b (omega (arith, long))) ∙ (λ j. sym stage j ∷ (r4 j ++ (sym ended j ∷ (kept ∙ ap (λ (s : List ℕ). kept_bytes k.kept ++ s) end) j))))
+    block ∙ ap (λ (s : List ℕ). block_bytes (block_of k) ++ s)
+    (sym (front-drop 12 6 b (omega (arith, long))) ∙ (λ j. sym stage j ∷
+    (r4 j ++ (sym ended j ∷ (kept ∙ ap (λ (s : List ℕ). kept_bytes k.kept ++ s) end) j))))
 
 -- ---- a head
 
@@ -80,12 +83,14 @@ pub head_is : (b : List ℕ) (h : Head) (pending : ℕ) → IsBytes b → 18 ≤
 unfolding head_bytes block_bytes
 head_is b h pending bytes long block state first count =
     let f4 = front_4 13 h.first b bytes first in
-    block ∙ ap (λ (s : List ℕ). block_bytes h.block ++ s) (sym (front-drop 12 6 b (omega (arith, long))) ∙ (λ j. sym state j ∷ (f4 j ++ (sym count j ∷ drop 18 b))))
+    block ∙ ap (λ (s : List ℕ). block_bytes h.block ++ s) (sym (front-drop 12 6 b (omega (arith, long)))
+    ∙ (λ j. sym state j ∷ (f4 j ++ (sym count j ∷ drop 18 b))))
 
 -- ---- words
 
 -- one word more
-pub words_more : (b items : List ℕ) (i word : ℕ) → IsBytes b → i < length items → word ≡ big_from (1 + 8 * i) 8 b → flat_map (to_be_bytes w64) (take i items) ≡ front 1 (8 * i) b
+pub words_more : (b items : List ℕ) (i word : ℕ) → IsBytes b → i < length items → word ≡ big_from (1 + 8 * i) 8 b
+    → flat_map (to_be_bytes w64) (take i items) ≡ front 1 (8 * i) b
     → flat_map (to_be_bytes w64) (take (i + 1) (set items i word)) ≡ front 1 (8 * (i + 1)) b
 words_more b items i word bytes lt word-is so_far =
     let len : 8 * i + 8 ≡ 8 * (i + 1) = omega arith in
@@ -95,5 +100,6 @@ words_more b items i word bytes lt word-is so_far =
 pub words_is : (b : List ℕ) (n : ℕ) (words : List ℕ) → 1 + 8 * n ≤ length b → get_or b 0 0 ≡ length words → flat_map (to_be_bytes w64) words ≡ front 1 (8 * n) b
     → b ≡ words_bytes words ++ drop (1 + 8 * n) b
 words_is b n words long count words-are =
-    let all : front 0 (1 + 8 * n) b ++ drop (1 + 8 * n) b ≡ b = ap (λ (k : ℕ). front 0 (1 + 8 * n) b ++ drop k b) (let e : 1 + 8 * n ≡ 0 + (1 + 8 * n) = omega arith in e) ∙ front-drop 0 (1 + 8 * n) b (omega arith) in
+    let all : front 0 (1 + 8 * n) b ++ drop (1 + 8 * n) b ≡ b =
+    ap (λ (k : ℕ). front 0 (1 + 8 * n) b ++ drop k b) (let e : 1 + 8 * n ≡ 0 + (1 + 8 * n) = omega arith in e) ∙ front-drop 0 (1 + 8 * n) b (omega arith) in
     sym all ∙ ap (λ (xs : List ℕ). xs ++ drop (1 + 8 * n) b) (front-append 0 1 (8 * n) b) ∙ (λ j. (count j ∷ sym words-are j) ++ drop (1 + 8 * n) b)

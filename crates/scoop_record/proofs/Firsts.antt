@@ -33,7 +33,8 @@ pub record IsNext {X : Type 0} (f : X → List ℕ) (P : X → Type 0) (xs ys : 
   pub bytes : rest ≡ f value ++ behind
 
 module _ {X : Type 0} (f : X → List ℕ) (P : X → Type 0) (apart : TellsApart f P) where
-  pub lists_apart : (xs ys : List X) (a b : List ℕ) → length xs ≡ length ys → AllByRecursion P xs → AllByRecursion P ys → flat_map f xs ++ a ≡ flat_map f ys ++ b → (xs ≡ ys) × (a ≡ b)
+  pub lists_apart : (xs ys : List X) (a b : List ℕ) → length xs ≡ length ys → AllByRecursion P xs → AllByRecursion P ys
+      → flat_map f xs ++ a ≡ flat_map f ys ++ b → (xs ≡ ys) × (a ≡ b)
   lists_apart [] [] a b l p q e = (refl, e)
   lists_apart [] (y ∷ ys) a b l p q e = absurd (omega (arith, l))
   lists_apart (x ∷ xs) [] a b l p q e = absurd (omega (arith, l))
@@ -114,8 +115,19 @@ mark_apart x y a b p q e =
     let stage = stage_same x.stage y.stage (ap (λ (s : List ℕ). get_or s 12 0) e) in
     let received = number_apart x.received y.received _ _ p.received q.received (ap (drop 13) e) in
     let ended = flag_same x.ended y.ended (ap (λ (s : List ℕ). get_or s 17 0) e) in
-    let kept = kept_apart x.kept y.kept a b p.kept q.kept (ap (drop 18) e) in
-    (λ i. record { client = (block.0 i).client; inc = (block.0 i).inc; num = (block.0 i).num; stage = stage i; received = received.0 i; ended = ended i; kept = kept.0 i }, kept.1)
+    let kept = kept_apart x.kept y.kept a b p.kept q.kept (ap (drop 18) e) in (
+      λ i. record {
+        client = (block.0 i).client;
+        inc = (block.0 i).inc;
+        num = (block.0 i).num;
+        stage = stage i;
+        received = received.0 i;
+        ended = ended i;
+        kept =
+            kept.0 i;
+      },
+      kept.1,
+    )
 
 pub head_apart : (x y : Head) (m n : ℕ) (a b : List ℕ) → HeadInRange x → HeadInRange y → head_bytes x m ++ a ≡ head_bytes y n ++ b → (x ≡ y) × (m ≡ n) × (a ≡ b)
 unfolding head_bytes block_bytes

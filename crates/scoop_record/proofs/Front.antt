@@ -25,12 +25,16 @@ front_is b v h words n holder m marks k queues bytes long version handler w o l 
     let start : b ≡ v ∷ (to_be_bytes w32 h ++ drop 5 b) = sym (front-drop 0 5 b long) ∙ (λ j. version j ∷ (front_4 1 h b bytes handler j ++ drop 5 b)) in
     let by_words : drop 5 b ≡ words_bytes words ++ drop (5 + n) b = w ∙ ap (λ (s : List ℕ). words_bytes words ++ s) (drop-drop n 5 b) in
     let by_holder : drop (5 + n) b ≡ holder_bytes holder ++ drop (5 + n + m) b = o ∙ ap (λ (s : List ℕ). holder_bytes holder ++ s) (drop-drop m (5 + n) b) in
-    let by_marks : drop (5 + n + m) b ≡ marks_bytes marks ++ drop (5 + n + m + k) b = l ∙ ap (λ (s : List ℕ). marks_bytes marks ++ s) (drop-drop k (5 + n + m) b) in
-    let by_last : drop (5 + n + m + k) b ≡ queues ∷ drop (5 + n + m + k + 1) b = drop_more b (5 + n + m + k) 0 lt ∙ ap (λ (x : ℕ). x ∷ drop (5 + n + m + k + 1) b) (sym last) in
+    let by_marks : drop (5 + n + m) b ≡ marks_bytes marks ++ drop (5 + n + m + k) b = l
+    ∙ ap (λ (s : List ℕ). marks_bytes marks ++ s) (drop-drop k (5 + n + m) b) in
+    let by_last : drop (5 + n + m + k) b ≡ queues ∷ drop (5 + n + m + k + 1) b = drop_more b (5 + n + m + k) 0 lt
+    ∙ ap (λ (x : ℕ). x ∷ drop (5 + n + m + k + 1) b) (sym last) in
     start ∙ ap (λ (s : List ℕ). v ∷ (to_be_bytes w32 h ++ s))
-    (by_words ∙ ap (λ (s : List ℕ). words_bytes words ++ s) (by_holder ∙ ap (λ (s : List ℕ). holder_bytes holder ++ s) (by_marks ∙ ap (λ (s : List ℕ). marks_bytes marks ++ s) by_last)))
+    (by_words ∙ ap (λ (s : List ℕ). words_bytes words ++ s) (by_holder
+    ∙ ap (λ (s : List ℕ). holder_bytes holder ++ s) (by_marks ∙ ap (λ (s : List ℕ). marks_bytes marks ++ s) by_last)))
 
-module _ (b : List ℕ) (v : ℕ) (h : HandlerId) (words : List ℕ) (holder : Option Block) (marks : List Mark) (queues : ℕ) (rest : List ℕ) (e : b ≡ parts v h words holder marks queues rest) where
+module _ (b : List ℕ) (v : ℕ) (h : HandlerId) (words : List ℕ) (holder : Option Block) (marks : List Mark) (queues : ℕ) (rest : List ℕ)
+    (e : b ≡ parts v h words holder marks queues rest) where
   pub front_long : 5 ≤ length b
   unfolding parts
   front_long = omega (arith, ap length e)
@@ -52,16 +56,20 @@ module _ (b : List ℕ) (v : ℕ) (h : HandlerId) (words : List ℕ) (holder : O
   module _ (fits : AreObjectWords words) (w : List ℕ) (n : ℕ) (read : ReadsFirst words_bytes AreObjectWords (drop 5 b) (Some (w, n))) where
     pub behind_words : (w ≡ words) × (drop (5 + n) b ≡ holder_bytes holder ++ (marks_bytes marks ++ (queues ∷ rest)))
     behind_words =
-        let p = past words_bytes AreObjectWords words_apart (drop 5 b) w n read words (holder_bytes holder ++ (marks_bytes marks ++ (queues ∷ rest))) fits front_rest in
+        let p = past words_bytes AreObjectWords words_apart (drop 5 b) w n read words
+        (holder_bytes holder ++ (marks_bytes marks ++ (queues ∷ rest))) fits front_rest in
         (p.0, sym (drop-drop n 5 b) ∙ p.1)
 
     module _ (range : HolderInRange holder) (o : Option Block) (m : ℕ) (found : ReadsFirst holder_bytes HolderInRange (drop (5 + n) b) (Some (o, m))) where
       pub behind_holder : (o ≡ holder) × (drop (5 + n + m) b ≡ marks_bytes marks ++ (queues ∷ rest))
       behind_holder =
-          let p = past holder_bytes HolderInRange holder_apart (drop (5 + n) b) o m found holder (marks_bytes marks ++ (queues ∷ rest)) range (behind_words.1) in
+          let p = past holder_bytes HolderInRange holder_apart (drop (5 + n) b) o m found holder (marks_bytes marks ++ (queues ∷ rest)) range
+          (behind_words.1) in
           (p.0, sym (drop-drop m (5 + n) b) ∙ p.1)
 
-      pub behind_marks : (cells : List Mark) (count k : ℕ) → AreMarks marks → ReadsMarks (drop (5 + n + m) b) cells (Some (count, k)) → (take count cells ≡ marks) × (drop (5 + n + m + k) b ≡ queues ∷ rest)
+      pub behind_marks : (cells : List Mark) (count k : ℕ) → AreMarks marks → ReadsMarks (drop (5 + n + m) b) cells (Some (count, k))
+          → (take count cells ≡ marks) × (drop (5 + n + m + k) b ≡ queues ∷ rest)
       behind_marks cells count k are got =
-          let p = past marks_bytes AreMarks marks_apart (drop (5 + n + m) b) (take count cells) k (got.1, got.2, got.3) marks (queues ∷ rest) are behind_holder.1 in
+          let p = past marks_bytes AreMarks marks_apart (drop (5 + n + m) b) (take count cells) k (got.1, got.2, got.3) marks
+          (queues ∷ rest) are behind_holder.1 in
           (p.0, sym (drop-drop k (5 + n + m) b) ∙ p.1)

@@ -1,6 +1,3 @@
-pub mod Lists
-pub mod Keyed
-pub mod UsedUp
 pub mod Places
 pub mod Firsts
 pub mod Bytes
@@ -9,9 +6,7 @@ pub mod Front
 pub mod Queues
 pub mod WithEntries
 pub mod Stored
-pub mod KeeperLemmas
 pub mod MapLemmas
-pub mod MemoryLemmas
 pub mod MigrateLemmas
 pub mod NumberLemmas
 pub mod RowLemmas
@@ -21,4 +16,3 @@ pub mod StoringLemmas
 pub mod TableLemmas
 pub mod Texts
 pub mod UpsertLemmas
-pub mod RunningLemmas

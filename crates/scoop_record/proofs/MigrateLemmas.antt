@@ -14,7 +14,7 @@ use Rattle.scoop_handler.specs.State.{HandlerState, IsState}
 use Rattle.scoop_record.specs.Range.{InRange}
 use Rattle.scoop_record.specs.Image.{image, pending_row}
 use Rattle.scoop_record.specs.Reading.{IsStored, IsStoredWithEntries}
-use Rattle.scoop_record.specs.Keeper.{Stored, Missing, Holds, Damaged, IsTheOne}
+use Rattle.scoop_keeper.specs.Keeper.{Stored, Missing, Holds, Damaged, IsTheOne}
 use Rattle.scoop_record.specs.Tables.{first_schema, record_schema, value_at, Puts, Makes}
 use Rattle.scoop_record.specs.Store.{handlers_in, Saves}
 use Rattle.scoop_record.specs.Migrate.{FirstHas, first_handlers_in, SavesAll, IsFirstRow, IsRising, keyed_value, IsNumber, AreHandlers, IsCarried, Migrates}
@@ -28,27 +28,32 @@ own_rows : (s : HandlerState) → IsState s → InRange s → IsStored s.number 
 own_rows s state range = record { state = state; range = range; number = refl; image = refl; pending = refl }
 
 -- a handler that is not among the states keeps what it has
-others_stay : (old new : Database) (all : List HandlerState) (handler : ℕ) → AllByRecursion (λ (s : HandlerState). s.number.0 ≢ handler) all → SavesAll old new all
+others_stay : (old new : Database) (all : List HandlerState) (handler : ℕ) → AllByRecursion (λ (s : HandlerState). s.number.0 ≢ handler) all
+    → SavesAll old new all
     → (v : Stored) → handlers_in old.trees handler v → handlers_in new.trees handler v
 others_stay old new [] handler apart same v h = ((stays old new same).each handler v).0 h
 others_stay old new (s ∷ more) handler apart (state, range, mid, first, rest) v h =
     let step = saved old mid s (image s) (pending_row s) (own_rows s state range) first in
     others_stay mid new more handler apart.1 rest v ((step.others handler (λ e. apart.0 (sym e)) v).0 h)
 
-pub saves_push : (old mid new : Database) (all : List HandlerState) (it : HandlerState) → SavesAll old mid all → IsState it → InRange it → Saves mid new it → SavesAll old new (all ++ it ∷ [])
+pub saves_push : (old mid new : Database) (all : List HandlerState) (it : HandlerState) → SavesAll old mid all → IsState it → InRange it → Saves mid new it
+    → SavesAll old new (all ++ it ∷ [])
 saves_push old mid new [] it same state range saves = (state, range, new, subst (λ (d : Database). Saves d new it) same saves, refl)
-saves_push old mid new (s ∷ more) it (state, range, half, first, rest) own_state own_range saves = (state, range, half, first, saves_push half mid new more it rest own_state own_range saves)
+saves_push old mid new (s ∷ more) it (state, range, half, first, rest) own_state own_range saves =
+    (state, range, half, first, saves_push half mid new more it rest own_state own_range saves)
 
 pub schema_stays : (old new : Database) (all : List HandlerState) → SavesAll old new all → new.schema ≡ old.schema
 schema_stays old new [] same = ap (λ (d : Database). d.schema) same
 schema_stays old new (s ∷ more) (state, range, mid, (half, first, second), rest) = schema_stays mid new more rest ∙ second.schema ∙ first.schema
 
-above_apart : (it : HandlerState) (more : List HandlerState) → AllByRecursion (λ (b : HandlerState). it.number.0 < b.number.0) more → AllByRecursion (λ (b : HandlerState). b.number.0 ≢ it.number.0) more
+above_apart : (it : HandlerState) (more : List HandlerState) → AllByRecursion (λ (b : HandlerState). it.number.0 < b.number.0) more
+    → AllByRecursion (λ (b : HandlerState). b.number.0 ≢ it.number.0) more
 above_apart it [] all = tt
 above_apart it (b ∷ more) all = (λ e. omega (arith, e, all.0), above_apart it more all.1)
 
 -- a handler among the states has its own
-own_stands : (old new : Database) (all : List HandlerState) (it : HandlerState) → IsRising all → Has all it → SavesAll old new all → handlers_in new.trees it.number.0 (Holds it)
+own_stands : (old new : Database) (all : List HandlerState) (it : HandlerState) → IsRising all → Has all it → SavesAll old new all
+    → handlers_in new.trees it.number.0 (Holds it)
 own_stands old new [] it rising here saves = absurd here
 own_stands old new (s ∷ more) it rising here (state, range, mid, first, rest) = elim here [
   | inl same ↦
@@ -59,7 +64,8 @@ own_stands old new (s ∷ more) it rising here (state, range, mid, first, rest) 
 ]
 
 -- the state of a row that is there
-pub state_of_row : (rows : List Row) (all : List HandlerState) → AllZip IsFirstRow rows all → (row : Row) → Has rows row → (it : HandlerState) × Has all it × IsFirstRow row it
+pub state_of_row : (rows : List Row) (all : List HandlerState) → AllZip IsFirstRow rows all → (row : Row) → Has rows row → (it : HandlerState) × Has all it
+    × IsFirstRow row it
 state_of_row [] all zip row here = absurd here
 state_of_row (r ∷ rows) [] zip row here = absurd zip
 state_of_row (r ∷ rows) (it ∷ all) zip row here = elim here [
@@ -68,7 +74,8 @@ state_of_row (r ∷ rows) (it ∷ all) zip row here = elim here [
 ]
 
 -- the row of a state
-row_of_state : (rows : List Row) (all : List HandlerState) → AllZip IsFirstRow rows all → (P : HandlerState → Type 0) → ((row : Row) (it : HandlerState) → Has rows row → IsFirstRow row it → P it) → AllByRecursion P all
+row_of_state : (rows : List Row) (all : List HandlerState) → AllZip IsFirstRow rows all → (P : HandlerState → Type 0)
+    → ((row : Row) (it : HandlerState) → Has rows row → IsFirstRow row it → P it) → AllByRecursion P all
 row_of_state [] [] zip P f = tt
 row_of_state [] (it ∷ all) zip P f = absurd zip
 row_of_state (r ∷ rows) [] zip P f = absurd zip
@@ -85,7 +92,8 @@ has_source f (x ∷ xs) y (inl same) = (x, inl refl, same)
 has_source f (x ∷ xs) y (inr later) = let found = has_source f xs y later in (found.0, inr found.1, found.2)
 
 pub has_permuted : {X : Type 0} (xs ys : List X) (x : X) → IsPermutation xs ys → Has xs x → Has ys x
-has_permuted xs ys x same here = all_has (Has ys) xs x (recursion_from_All (Has ys) xs (All-permutation (Has ys) ys xs (IsPermutation-sym xs ys same) (All-from_recursion (Has ys) ys (all_from (Has ys) ys (λ y at. at))))) here
+has_permuted xs ys x same here = all_has (Has ys) xs x (recursion_from_All (Has ys) xs
+    (All-permutation (Has ys) ys xs (IsPermutation-sym xs ys same) (All-from_recursion (Has ys) ys (all_from (Has ys) ys (λ y at. at))))) here
 
 pub none_has : (p : Row → Bool) (rows : List Row) (r : Row) → find p rows ≡ None → Has rows r → p r ≡ true → ⊥
 none_has p [] r none here is = here
@@ -106,7 +114,8 @@ missing_one handler value is = record { there = is; only = only }
     only Damaged h = absurd (h.some is)
 
 -- the state whose image is there is the one thing that it has
-held_one : (handler : ℕ) (value : Option Value) (bytes : List ℕ) (it : HandlerState) → value ≡ Some (Blob bytes) → it.number.0 ≡ handler → IsStoredWithEntries it.number bytes it
+held_one : (handler : ℕ) (value : Option Value) (bytes : List ℕ) (it : HandlerState) → value ≡ Some (Blob bytes) → it.number.0 ≡ handler
+    → IsStoredWithEntries it.number bytes it
     → ((t : HandlerState) → IsStoredWithEntries it.number bytes t → t ≡ it) → IsTheOne (FirstHas handler value) (Holds it)
 held_one handler value bytes it is own stored unique = record { there = record { number = own; bytes = bytes; there = is; stored = stored }; only = only }
   where
@@ -127,26 +136,37 @@ pub held_found : (handler : ℕ) (rows : List Row) (r : Row) (it : HandlerState)
     → (it.number.0 ≡ handler) × IsTheOne (FirstHas handler (value_at rows handler)) (Holds it)
 held_found handler rows r it some is =
     let key : rowid r ≡ Int (pos it.number.0) = is.key in
-    let own : it.number.0 ≡ handler = pos_same it.number.0 handler (int_key handler (pos it.number.0) (rw key at (has_found (has_rowid (pos handler)) rows r some).1)) in
+    let own : it.number.0 ≡ handler = pos_same it.number.0 handler
+    (int_key handler (pos it.number.0) (rw key at (has_found (has_rowid (pos handler)) rows r some).1)) in
     let value : value_at rows handler ≡ Some (Blob is.bytes) = ap (option_map (λ (x : Row). column x 2)) some ∙ ap Some is.there in
     (own, held_one handler (value_at rows handler) is.bytes it value own is.stored is.only)
 
 -- what the migration writes is what was read
-module _ (db new : Database) (rows : List Row) (all : List HandlerState) (same : IsPermutation (map keyed_value (db.trees 1)) rows) (zip : AllZip IsFirstRow rows all) (rising : IsRising all) (saves : SavesAll db new all) where
+module _ (db new : Database) (rows : List Row) (all : List HandlerState) (same : IsPermutation (map keyed_value (db.trees 1)) rows)
+    (zip : AllZip IsFirstRow rows all) (rising : IsRising all) (saves : SavesAll db new all) where
   pub states_kept : (handler : ℕ) → IsCarried (first_handlers_in db.trees handler) (handlers_in new.trees handler)
   states_kept handler = go (find (has_rowid (pos handler)) (db.trees 1)) refl
     where
-      go : (found : Option Row) → find (has_rowid (pos handler)) (db.trees 1) ≡ found → IsCarried (first_handlers_in db.trees handler) (handlers_in new.trees handler)
+      go : (found : Option Row) → find (has_rowid (pos handler)) (db.trees 1) ≡ found
+          → IsCarried (first_handlers_in db.trees handler) (handlers_in new.trees handler)
       go None none =
-          let apart : AllByRecursion (λ (it : HandlerState). it.number.0 ≢ handler) all = row_of_state rows all zip (λ it. it.number.0 ≢ handler) (λ row it here is own.
-          let source = has_source keyed_value (db.trees 1) row (has_permuted rows (map keyed_value (db.trees 1)) row (IsPermutation-sym (map keyed_value (db.trees 1)) rows same) here) in
+          let apart : AllByRecursion (λ (it : HandlerState). it.number.0 ≢ handler) all =
+          row_of_state rows all zip (λ it. it.number.0 ≢ handler) (λ row it here is own.
+          let source = has_source keyed_value (db.trees 1) row
+          (has_permuted rows (map keyed_value (db.trees 1)) row (IsPermutation-sym (map keyed_value (db.trees 1)) rows same) here) in
           let key : rowid source.0 ≡ Int (pos handler) = ap (λ (r : Row). column r 0) (sym source.2) ∙ is.key ∙ ap (λ n. Int (pos n)) own in
           none_has (has_rowid (pos handler)) (db.trees 1) source.0 none source.1 (rw key (find_own handler))) in
           let empty : value_at (db.trees 1) handler ≡ None = ap (option_map (λ (r : Row). column r 2)) none in
-          record { found = None; before = missing_one handler (value_at (db.trees 1) handler) empty; after = others_stay db new all handler apart saves Missing (missing_there handler (value_at (db.trees 1) handler) (value_at (db.trees 3) handler) empty) }
+          record {
+            found = None;
+            before = missing_one handler (value_at (db.trees 1) handler) empty;
+            after =
+                others_stay db new all handler apart saves Missing (missing_there handler (value_at (db.trees 1) handler) (value_at (db.trees 3) handler) empty);
+          }
       go (Some r) some =
           let stands = has_found (has_rowid (pos handler)) (db.trees 1) r some in
-          let it = state_of_row rows all zip (keyed_value r) (has_permuted (map keyed_value (db.trees 1)) rows (keyed_value r) same (has_mapped keyed_value (db.trees 1) r stands.0)) in
+          let it = state_of_row rows all zip (keyed_value r)
+          (has_permuted (map keyed_value (db.trees 1)) rows (keyed_value r) same (has_mapped keyed_value (db.trees 1) r stands.0)) in
           let held = held_found handler (db.trees 1) r it.0 some it.2 in
           record {
             found = Some it.0;
@@ -157,21 +177,26 @@ module _ (db new : Database) (rows : List Row) (all : List HandlerState) (same :
   -- each number in the table is that of a state
   pub numbers_known : AreHandlers (db.trees 1)
   numbers_known = all_from (λ (r : Row). IsNumber (rowid r)) (db.trees 1) (λ r here.
-      let it = state_of_row rows all zip (keyed_value r) (has_permuted (map keyed_value (db.trees 1)) rows (keyed_value r) same (has_mapped keyed_value (db.trees 1) r here)) in
+      let it = state_of_row rows all zip (keyed_value r) (has_permuted (map keyed_value (db.trees 1)) rows (keyed_value r) same
+      (has_mapped keyed_value (db.trees 1) r here)) in
       record { number = it.0.number.0; small = it.2.stored.range.parts.number; is = it.2.key })
 
 -- what there is for a handler in each version rests on the rows of these tables alone
-carried_on : (a b c d : Trees) (handler : ℕ) → a 1 ≡ b 1 → c 1 ≡ d 1 → c 3 ≡ d 3 → IsCarried (first_handlers_in b handler) (handlers_in d handler) → IsCarried (first_handlers_in a handler) (handlers_in c handler)
+carried_on : (a b c d : Trees) (handler : ℕ) → a 1 ≡ b 1 → c 1 ≡ d 1 → c 3 ≡ d 3 → IsCarried (first_handlers_in b handler) (handlers_in d handler)
+    → IsCarried (first_handlers_in a handler) (handlers_in c handler)
 carried_on a b c d handler one two three h = rw (one, two, three) h
 
 -- the other tables stay while the states are stored
 tree_stays : (old new : Database) (all : List HandlerState) (tree : ℕ) → tree ≢ 1 → tree ≢ 3 → SavesAll old new all → new.trees tree ≡ old.trees tree
 tree_stays old new [] tree one three same = ap (λ (d : Database). d.trees tree) same
-tree_stays old new (it ∷ more) tree one three (state, range, mid, (half, first, second), rest) = tree_stays mid new more tree one three rest ∙ second.trees tree three ∙ first.trees tree one
+tree_stays old new (it ∷ more) tree one three (state, range, mid, (half, first, second), rest) = tree_stays mid new more tree one three rest
+    ∙ second.trees tree three ∙ first.trees tree one
 
 -- the whole migration
-pub migrated : (old db mid new : Database) (rows : List Row) (all : List HandlerState) → Makes old db first_schema record_schema 3 → IsPermutation (map keyed_value (db.trees 1)) rows → AllZip IsFirstRow rows all → IsRising all
-    → SavesAll db mid all → Puts mid new 0 1 (Int (pos 2)) → IsDatabase new → old.schema ≡ first_schema → value_at (old.trees 0) 1 ≡ Some (Int (pos 1)) → Migrates old new
+pub migrated : (old db mid new : Database) (rows : List Row) (all : List HandlerState) → Makes old db first_schema record_schema 3
+    → IsPermutation (map keyed_value (db.trees 1)) rows → AllZip IsFirstRow rows all → IsRising all
+    → SavesAll db mid all → Puts mid new 0 1 (Int (pos 2)) → IsDatabase new → old.schema ≡ first_schema → value_at (old.trees 0) 1 ≡ Some (Int (pos 1))
+    → Migrates old new
 migrated old db mid new rows all makes same zip rising saves put whole was version =
     let images : db.trees 1 ≡ old.trees 1 = makes.others.1.0 in
     let clients : db.trees 2 ≡ old.trees 2 = makes.others.1.1.0 in
@@ -182,18 +207,24 @@ migrated old db mid new rows all makes same zip rising saves put whole was versi
       schema = put.schema ∙ schema_stays db mid all saves ∙ makes.schema;
       whole = whole;
       version = put.there;
-      handlers = λ handler. carried_on old.trees db.trees new.trees mid.trees handler (sym images) (put.trees 1 (λ e. omega (arith, e))) (put.trees 3 (λ e. omega (arith, e))) (states_kept db mid rows all same zip rising saves handler);
+      handlers = λ handler. carried_on old.trees db.trees new.trees mid.trees handler (sym images) (put.trees 1 (λ e. omega (arith, e)))
+          (put.trees 3 (λ e. omega (arith, e))) (states_kept db mid rows all same zip rising saves handler);
       clients = put.trees 2 (λ e. omega (arith, e)) ∙ tree_stays db mid all 2 (λ e. omega (arith, e)) (λ e. omega (arith, e)) saves ∙ clients;
     }
 
-pub zip_push : (rows : List Row) (all : List HandlerState) (row : Row) (it : HandlerState) → AllZip IsFirstRow rows all → IsFirstRow row it → AllZip IsFirstRow (rows ++ row ∷ []) (all ++ it ∷ [])
+pub zip_push : (rows : List Row) (all : List HandlerState) (row : Row) (it : HandlerState) → AllZip IsFirstRow rows all → IsFirstRow row it
+    → AllZip IsFirstRow (rows ++ row ∷ []) (all ++ it ∷ [])
 zip_push [] [] row it zip is = (is, tt)
 zip_push [] (s ∷ all) row it zip is = absurd zip
 zip_push (r ∷ rows) [] row it zip is = absurd zip
 zip_push (r ∷ rows) (s ∷ all) row it zip is = (zip.0, zip_push rows all row it zip.1 is)
 
 -- the version stands while the states are stored
-pub version_before : (old db mid : Database) (all : List HandlerState) (version : Value) → Makes old db first_schema record_schema 3 → SavesAll db mid all → value_at (old.trees 0) 1 ≡ Some version
+pub version_before : (old db mid : Database) (all : List HandlerState) (version : Value) → Makes old db first_schema record_schema 3 → SavesAll db mid all
+    → value_at (old.trees 0) 1 ≡ Some version
     → (mid.schema ≡ record_schema) × (value_at (mid.trees 0) 1 ≡ Some version)
-version_before old db mid all version makes saves there =
-    (schema_stays db mid all saves ∙ makes.schema, ap (λ rows. value_at rows 1) (tree_stays db mid all 0 (λ e. omega (arith, e)) (λ e. omega (arith, e)) saves ∙ makes.others.0) ∙ there)
+version_before old db mid all version makes saves there = (
+  schema_stays db mid all saves ∙ makes.schema,
+  ap (λ rows. value_at rows 1)
+      (tree_stays db mid all 0 (λ e. omega (arith, e)) (λ e. omega (arith, e)) saves ∙ makes.others.0) ∙ there,
+)

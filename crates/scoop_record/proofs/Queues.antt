@@ -1,5 +1,6 @@
 -- Private queues that are read one behind the other.
 use Rattle.std.proofs.Common.{◌≡◌, ℕ, ◌+◌, ◌<◌, ◌≤◌, Bool, true, false, not, ◌&&◌, ◌||◌, nat_le, nat_lt, IsTrue, List, [], ◌∷◌, ◌++◌, length, take, drop, Option, None, Some, unwrap_or, refl, sym, ap, subst, ◌∙◌, append_assoc, arith}
+use Rattle.std.proofs.Math.Path.{subst₂}
 use Rattle.std.specs.List.{flat_map, AllByRecursion}
 use Rattle.std.proofs.lemmas.Bool.{leb-false, leb-true, ltb-false}
 use Rattle.std.proofs.lemmas.List.{append-nil, drop-drop, length-append}
@@ -14,67 +15,16 @@ use Rattle.scoop_queue.specs.declared.error.AppendError.{AppendError}
 use Rattle.scoop_queue.specs.declared.error.AppendError.TheVariants as of_append
 use Rattle.scoop_queue.specs.declared.state.Head.{Head}
 use Rattle.scoop_queue.specs.Queue.{PrivateQueue, has_queue, head_of, is_cut, is_ended, next_number, queue_with}
-use Rattle.scoop_queue.specs.Refusal.{append_refusal, has_ending, is_queue}
+use Rattle.scoop_queue.specs.Refusal.{AppendRefused, MayAppend}
 use Rattle.scoop_queue.specs.Sound.{IsQueue, IsQueues, number_limit}
-use Rattle.scoop_queue.proofs.Keeping.{apart-before}
+use Rattle.scoop_queue.proofs.Keeping.{each-inside, may-append, memory-alone}
 use Rattle.scoop_record.specs.declared.images.error.ReadError.TheVariants.{BadImage}
 use Rattle.scoop_record.specs.Faults.{fault_of_append}
 use Rattle.scoop_record.specs.Image.{bare_bytes, block_bytes, entries_bytes, head_bytes}
 use Rattle.scoop_record.specs.Range.{BareInRange, EntriesInRange}
 use Rattle.scoop_record.specs.Reading.{AreQueues, HasNoQueue, IfHasQueue, ReadsEntries, ReadsHead}
 use Rattle.scoop_record.proofs.Firsts.{head_apart, lists_apart}
-use Rattle.scoop_record.proofs.Lists.{all_more}
-
--- ---- a private queue of a state may be appended
-
-le-true : (a b : ℕ) → a ≤ b → nat_le a b ≡ true
-le-true a b le = by (nat_le a b) refl
-  where
-    by : (t : Bool) → nat_le a b ≡ t → nat_le a b ≡ true
-    by true is = is
-    by false is = absurd (omega (arith, le, leb-false a b is))
-
-le-false : (a b : ℕ) → b < a → nat_le a b ≡ false
-le-false a b lt = by (nat_le a b) refl
-  where
-    by : (t : Bool) → nat_le a b ≡ t → nat_le a b ≡ false
-    by true is = absurd (omega (arith, lt, leb-true a b is))
-    by false is = is
-
-lt-true : (a b : ℕ) → a < b → nat_lt a b ≡ true
-lt-true a b lt = by (nat_lt a b) refl
-  where
-    by : (t : Bool) → nat_lt a b ≡ t → nat_lt a b ≡ true
-    by true is = is
-    by false is = absurd (omega (arith, lt, ltb-false a b is))
-
-ending : (wanted : Bool) (es : List Entry) → end_only_last es ≡ true → ends es ≡ wanted → has_ending wanted es ≡ true
-ending true es last is = rw (last, is) refl
-ending false es last is = rw (last, is) refl
-
-some-left : (cut : Bool) (n : ℕ) → (IsTrue cut → 0 < n) → (not cut || nat_lt 0 n) ≡ true
-some-left true n some = lt-true 0 n (some refl)
-some-left false n some = refl
-
-is_queue-true : (q : PrivateQueue) → IsQueue q → is_queue q ≡ true
-is_queue-true q sound =
-    let first : nat_le 1 q.first ≡ true = le-true 1 q.first sound.first in
-    let limit : nat_le (length q.entries) MAX_PENDING ≡ true = le-true (length q.entries) MAX_PENDING sound.limit in
-    let numbers : nat_le (next_number q) (number_limit q.state) ≡ true = le-true (next_number q) (number_limit q.state) sound.numbers.next in
-    let end : has_ending (is_ended q.state) q.entries ≡ true = ending (is_ended q.state) q.entries sound.end sound.ended in
-    let some : (not (is_cut q.state) || nat_lt 0 (length q.entries)) ≡ true = some-left (is_cut q.state) (length q.entries) sound.some in
-    λ i. first i && limit i && numbers i && end i && some i
-
-pub each-inside : (q : PrivateQueue) (xs ys : List PrivateQueue) → AllByRecursion IsQueue (xs ++ q ∷ ys) → IsQueue q
-each-inside q [] ys each = each.0
-each-inside q (x ∷ xs) ys each = each-inside q xs ys each.1
-
-pub append-takes : (q : PrivateQueue) (xs ys : List PrivateQueue) → IsQueues (xs ++ q ∷ ys) → append_refusal (head_of q) q.entries xs ≡ None
-append-takes q xs ys sound =
-    let room : nat_le MAX_QUEUES (length xs) ≡ false = le-false MAX_QUEUES (length xs) (omega (arith, length-append xs (q ∷ ys), sound.limit)) in
-    let none : has_queue q.block xs ≡ false = apart-before q xs ys sound.apart in
-    let is : is_queue q ≡ true = is_queue-true q (each-inside q xs ys sound.each) in
-    rw (room, none, is) refl
+use Rattle.scoop_keeper.proofs.Lists.{all_more}
 
 -- ---- where a private queue can't be read or appended, none begins the bytes
 
@@ -94,12 +44,12 @@ module _ (old : List PrivateQueue) (heads row : List ℕ) where
         none q.entries b entries (sym same.1) r
 
     pub none-append : (cells : List Entry) (len : ℕ) → ReadsEntries count row cells (Some len) → (e : AppendError)
-        → e ≡ unwrap_or (append_refusal h (take count cells) old) of_append.OutOfMemory → fault_of_append e ≡ BadImage → HasNoQueue old heads row
-    none-append cells len got e err bad = λ q more a b sound bare entries at r.
+        → AppendRefused h (take count cells) old e → fault_of_append e ≡ BadImage → HasNoQueue old heads row
+    none-append cells len got e refused bad = λ q more a b sound bare entries at r.
         let same = head_apart h (head_of q) count (length q.entries) (drop 18 heads) a read.0 bare (sym read.1 ∙ at) in
         let here = lists_apart entry_bytes IsEntry entry_first (take count cells) q.entries (drop len row) b (got.1 ∙ same.1) got.0 entries (sym got.3 ∙ r) in
-        let takes : append_refusal h (take count cells) old ≡ None = (λ i. append_refusal (same.0 i) (here.0 i) old) ∙ append-takes q old more sound in
-        let memory : e ≡ of_append.OutOfMemory = err ∙ ap (λ (o : Option AppendError). unwrap_or o of_append.OutOfMemory) takes in
+        let may : MayAppend h (take count cells) old = subst₂ (λ g es. MayAppend g es old) (sym same.0) (sym here.0) (may-append q old more sound) in
+        let memory = memory-alone h (take count cells) old e may refused in
         let clash = sym bad ∙ ap fault_of_append memory in
         cc
 
@@ -118,12 +68,14 @@ queue_apart x y a b c d p q r s e f =
 
 pub queues_apart : (xs ys : List PrivateQueue) (a b c d : List ℕ) → length xs ≡ length ys → AllByRecursion BareInRange xs → AllByRecursion BareInRange ys
     → AllByRecursion EntriesInRange xs → AllByRecursion EntriesInRange ys
-    → flat_map bare_bytes xs ++ a ≡ flat_map bare_bytes ys ++ b → flat_map entries_bytes xs ++ c ≡ flat_map entries_bytes ys ++ d → (xs ≡ ys) × (a ≡ b) × (c ≡ d)
+    → flat_map bare_bytes xs ++ a ≡ flat_map bare_bytes ys ++ b → flat_map entries_bytes xs ++ c ≡ flat_map entries_bytes ys ++ d → (xs ≡ ys) × (a ≡ b)
+    × (c ≡ d)
 queues_apart [] [] a b c d l p q r s e f = (refl, e, f)
 queues_apart [] (y ∷ ys) a b c d l p q r s e f = absurd (omega (arith, l))
 queues_apart (x ∷ xs) [] a b c d l p q r s e f = absurd (omega (arith, l))
 queues_apart (x ∷ xs) (y ∷ ys) a b c d l p q r s e f =
-    let here = queue_apart x y (flat_map bare_bytes xs ++ a) (flat_map bare_bytes ys ++ b) (flat_map entries_bytes xs ++ c) (flat_map entries_bytes ys ++ d) p.0 q.0 r.0 s.0
+    let here = queue_apart x y (flat_map bare_bytes xs ++ a) (flat_map bare_bytes ys ++ b) (flat_map entries_bytes xs ++ c)
+    (flat_map entries_bytes ys ++ d) p.0 q.0 r.0 s.0
     (sym (parted bare_bytes x xs a) ∙ e ∙ parted bare_bytes y ys b) (sym (parted entries_bytes x xs c) ∙ f ∙ parted entries_bytes y ys d) in
     let rest = queues_apart xs ys a b c d (omega (arith, l)) p.1 q.1 r.1 s.1 here.1 here.2 in
     ((λ i. here.0 i ∷ rest.0 i), rest.1, rest.2)
@@ -156,7 +108,8 @@ next_queue [] (y ∷ ys) heads row l p q r s e f = record {
   begins = f;
 }
 next_queue (x ∷ xs) (y ∷ ys) heads row l p q r s e f =
-    let here = queue_apart x y (flat_map bare_bytes xs ++ heads) (flat_map bare_bytes ys) (flat_map entries_bytes xs ++ row) (flat_map entries_bytes ys) p.0 q.0 r.0 s.0
+    let here = queue_apart x y (flat_map bare_bytes xs ++ heads) (flat_map bare_bytes ys) (flat_map entries_bytes xs ++ row)
+    (flat_map entries_bytes ys) p.0 q.0 r.0 s.0
     (sym (parted bare_bytes x xs heads) ∙ e) (sym (parted entries_bytes x xs row) ∙ f) in
     let next = next_queue xs ys heads row (omega (arith, l)) p.1 q.1 r.1 s.1 here.1 here.2 in
     record {
@@ -222,7 +175,8 @@ within front b at e is = omega (arith, ap length e, length-append front (drop at
 
 -- the queues that were read can't be others where something is left
 pub nothing_left : (xs ys : List PrivateQueue) (count : ℕ) (heads row : List ℕ) (at place : ℕ) → length xs ≡ count → AreQueues count heads row ys
-    → AllByRecursion BareInRange xs → AllByRecursion EntriesInRange xs → heads ≡ flat_map bare_bytes xs ++ drop at heads → row ≡ flat_map entries_bytes xs ++ drop place row
+    → AllByRecursion BareInRange xs → AllByRecursion EntriesInRange xs → heads ≡ flat_map bare_bytes xs ++ drop at heads
+    → row ≡ flat_map entries_bytes xs ++ drop place row
     → (xs ≡ ys) × (drop at heads ≡ []) × (drop place row ≡ [])
 nothing_left xs ys count heads row at place l are p q e f =
     queues_apart xs ys (drop at heads) [] (drop place row) [] (omega (arith, l, are.count_is)) p are.bare q are.entries

@@ -66,7 +66,8 @@ module _ (key : ℕ) (new : Row) (keyed : rowid new ≡ Int (pos key)) where
           rw (other_key key other new own apart, other_key key other r same apart) refl
       go Greater is later = rw (other_key key other new own apart) refl
 
-pub find_without : (key other : ℕ) (rows : List Row) → other ≢ key → find (has_rowid (pos other)) (without_rowid (pos key) rows) ≡ find (has_rowid (pos other)) rows
+pub find_without : (key other : ℕ) (rows : List Row) → other ≢ key
+    → find (has_rowid (pos other)) (without_rowid (pos key) rows) ≡ find (has_rowid (pos other)) rows
 find_without key other [] apart = refl
 find_without key other (r ∷ rows) apart = go (has_rowid (pos key) r) refl (find_without key other rows apart)
   where

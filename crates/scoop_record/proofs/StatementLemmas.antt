@@ -32,48 +32,59 @@ use Rattle.scoop_record.proofs.RowLemmas.{find_own}
 use Rattle.scoop_record.proofs.UpsertLemmas.{upsert, does_put, insert_version, does_version, raise, does_raise, went, same_value}
 
 -- a plain query changes nothing
-pub still : (sql : List ℕ) (params : Row) (old new : State) (rows : List Row) → old.now.schema ≡ record_schema → IsPlain (understood record_schema sql) → Shown sql params old new rows → IsUnchanged old new
+pub still : (sql : List ℕ) (params : Row) (old new : State) (rows : List Row) → old.now.schema ≡ record_schema → IsPlain (understood record_schema sql)
+    → Shown sql params old new rows → IsUnchanged old new
 unfolding Shown
 still sql params old new rows has plain h =
     let known = sym h.1.is ∙ ap (λ s. understood s sql) has in
     let bare = subst IsPlain (sym known) plain in
     let it = rw bare.0 at h.2 in it.3
 
-as_rows : (params : Row) (found : Option Row) → map (λ r. eval_all (col 1 2 ∷ []) (params ∷ r ∷ [])) (option_to_list found) ≡ map (λ v. v ∷ []) (option_to_list (option_map (λ row. column row 2) found))
+as_rows : (params : Row) (found : Option Row) → map (λ r. eval_all (col 1 2 ∷ []) (params ∷ r ∷ [])) (option_to_list found)
+    ≡ map (λ v. v ∷ []) (option_to_list (option_map (λ row. column row 2) found))
 as_rows params None = refl
 as_rows params (Some r) = refl
 
 -- what a look up by key answers
-pub shows_where : (schema : Schema) (sql : List ℕ) (tree key : ℕ) (filter_is : Term) (name : List ℕ) (params : Row) → ((r : Row) → holds (params ∷ r ∷ []) filter_is ≡ has_rowid (pos key) r)
+pub shows_where : (schema : Schema) (sql : List ℕ) (tree key : ℕ) (filter_is : Term) (name : List ℕ) (params : Row)
+    → ((r : Row) → holds (params ∷ r ∷ []) filter_is ≡ has_rowid (pos key) r)
     → (old new : State) (rows : List Row) → nat_le (2 ^ 31) tree ≡ false → old.now.schema ≡ schema → length rows ≤ 1
-    → (command_of (understood schema sql) ≡ Select (record { lets = []; body = query_of tree filter_is (col 1 2 ∷ []) }) (name ∷ [])) × (reads_listing schema sql ≡ false)
+    → (command_of (understood schema sql) ≡ Select (record { lets = []; body = query_of tree filter_is (col 1 2 ∷ []) }) (name ∷ []))
+    × (reads_listing schema sql ≡ false)
     → IsPlain (understood schema sql) → Shown sql params old new rows → rows ≡ map (λ v. v ∷ []) (option_to_list (value_at (old.now.trees tree) key))
 shows_where schema sql tree key filter_is name params given old new rows low has few is plain h =
     let read = reads_as sql params old new schema has _ is.0 plain is.1 rows h in
     looked_up old.now.trees tree key filter_is low params given (col 1 2 ∷ []) rows few (read.answer Null)
     ∙ as_rows params (find (has_rowid (pos key)) (old.now.trees tree))
 
-pub shows : (sql : List ℕ) (tree key : ℕ) (name : List ℕ) (old new : State) (rows : List Row) → nat_le (2 ^ 31) tree ≡ false → old.now.schema ≡ record_schema → length rows ≤ 1
-    → (command_of (understood record_schema sql) ≡ Select (record { lets = []; body = query_of tree (key_is 0) (col 1 2 ∷ []) }) (name ∷ [])) × (reads_listing record_schema sql ≡ false)
-    → IsPlain (understood record_schema sql) → Shown sql (Int (pos key) ∷ []) old new rows → rows ≡ map (λ v. v ∷ []) (option_to_list (value_at (old.now.trees tree) key))
+pub shows : (sql : List ℕ) (tree key : ℕ) (name : List ℕ) (old new : State) (rows : List Row) → nat_le (2 ^ 31) tree ≡ false → old.now.schema ≡ record_schema
+    → length rows ≤ 1
+    → (command_of (understood record_schema sql) ≡ Select (record { lets = []; body = query_of tree (key_is 0) (col 1 2 ∷ []) }) (name ∷ []))
+    × (reads_listing record_schema sql ≡ false)
+    → IsPlain (understood record_schema sql) → Shown sql (Int (pos key) ∷ []) old new rows
+    → rows ≡ map (λ v. v ∷ []) (option_to_list (value_at (old.now.trees tree) key))
 shows sql tree key name old new rows low has few is plain h =
-    shows_where record_schema sql tree key (key_is 0) name (Int (pos key) ∷ []) (λ r. tests_key key (rowid r) (Int (pos key)) (find_own key)) old new rows low has few is plain h
+    shows_where record_schema sql tree key (key_is 0) name (Int (pos key) ∷ [])
+    (λ r. tests_key key (rowid r) (Int (pos key)) (find_own key)) old new rows low has few is plain h
 
 -- what the query of the version answers, where the tables are some version's
 pub shows_version : (schema : Schema) (sql : List ℕ) (old new : State) (rows : List Row) → old.now.schema ≡ schema → length rows ≤ 1
-    → (command_of (understood schema sql) ≡ Select (record { lets = []; body = query_of 0 first_key_is (col 1 2 ∷ []) }) (codes "version" ∷ [])) × (reads_listing schema sql ≡ false)
+    → (command_of (understood schema sql) ≡ Select (record { lets = []; body = query_of 0 first_key_is (col 1 2 ∷ []) }) (codes "version" ∷ []))
+    × (reads_listing schema sql ≡ false)
     → IsPlain (understood schema sql) → Shown sql [] old new rows → rows ≡ map (λ v. v ∷ []) (option_to_list (value_at (old.now.trees 0) 1))
 shows_version schema sql old new rows has few is plain h =
     shows_where schema sql 0 1 first_key_is (codes "version") [] (λ r. tests_key 1 (rowid r) (Int (pos 1)) (find_own 1)) old new rows refl has few is plain h
 
 -- what an upsert does
-pub puts : (sql name key_name column_name : List ℕ) (kind : Kind) (tree : ℕ) → nat_le (2 ^ 31) tree ≡ false → slice_get record_schema.tables tree ≡ Some (keyed_table name tree key_name column_name kind)
+pub puts : (sql name key_name column_name : List ℕ) (kind : Kind) (tree : ℕ) → nat_le (2 ^ 31) tree ≡ false
+    → slice_get record_schema.tables tree ≡ Some (keyed_table name tree key_name column_name kind)
     → command_of (understood record_schema sql) ≡ upsert tree → IsPlain (understood record_schema sql)
     → (key : ℕ) (value : Value) → cast kind value ≡ value → (old new : State) (count : ℕ) → old.now.schema ≡ record_schema
     → Executes sql (Int (pos key) ∷ value ∷ []) old new (Ok count) → Puts old.now new.now tree key value
 puts sql name key_name column_name kind tree low at is plain key value kept old new count has h =
     let w = runs_as sql (Int (pos key) ∷ value ∷ []) old new record_schema has (upsert tree) is plain count h in
-    does_put name key_name column_name kind tree low at old.step_limit (mode_of old) key value kept old.now new.now has (statement_of sql (understood record_schema sql)) w.tally w.changed
+    does_put name key_name column_name kind tree low at old.step_limit (mode_of old) key value kept old.now new.now has
+    (statement_of sql (understood record_schema sql)) w.tally w.changed
 
 pub ok_then : {V E : Type 0} (r : Result V E) (P Q : V → Type 0) → ((v : V) → P v → Q v) → IfOk r P → IfOk r Q
 ok_then (Ok v) P Q f h = f v h
@@ -93,7 +104,11 @@ pub undone_keeps : (old new : State) → IsRolledBack old new → KeepsCommit ol
 undone_keeps old new back = record { was_open = back.was_open; committed = λ live. (back.undone live).1 }
 
 pub keeps_then : (a b c : State) → KeepsCommit a b → KeepsCommit b c → KeepsCommit a c
-keeps_then a b c one two = record { was_open = λ live. one.was_open (two.was_open live); committed = λ live. two.committed live ∙ one.committed (two.was_open live) }
+keeps_then a b c one two = record {
+  was_open = λ live. one.was_open (two.was_open live);
+  committed = λ live. two.committed live
+      ∙ one.committed (two.was_open live);
+}
 
 -- a query that showed rows ran on an open connection
 pub was_open : (sql : List ℕ) (params : Row) (old new : State) (rows : List Row) → Shown sql params old new rows → IsTrue old.is_open
@@ -114,7 +129,8 @@ not_run_keeps old new sql params e (inl it) = unchanged_keeps old new it.1
 not_run_keeps old new sql params e (inr it) = undone_keeps old new it.3
 
 -- a query that fails commits nothing
-pub fails_keep : (sql : List ℕ) (params : Row) (old new : State) (e : Error) → FailsToQuery sql params old new e ⊎ IsTooLate sql params old new e → KeepsCommit old new
+pub fails_keep : (sql : List ℕ) (params : Row) (old new : State) (e : Error) → FailsToQuery sql params old new e ⊎ IsTooLate sql params old new e
+    → KeepsCommit old new
 unfolding FailsToQuery
 fails_keep sql params old new e (inl (inl it)) = not_run_keeps old new sql params e it
 fails_keep sql params old new e (inl (inr it)) = go it.0.returning it.2
@@ -125,7 +141,8 @@ fails_keep sql params old new e (inl (inr it)) = go it.0.returning it.2
 fails_keep sql params old new e (inr it) = unchanged_keeps old new it.5
 
 -- what a query did, of whatever kind, no commit
-pub shown_keeps : (sql : List ℕ) (params : Row) (old new : State) (rows : List Row) → IsTrue old.in_transaction → Shown sql params old new rows → KeepsCommit old new
+pub shown_keeps : (sql : List ℕ) (params : Row) (old new : State) (rows : List Row) → IsTrue old.in_transaction → Shown sql params old new rows
+    → KeepsCommit old new
 unfolding Shown
 shown_keeps sql params old new rows inside h = go h.0.returning h.2
   where
@@ -133,33 +150,39 @@ shown_keeps sql params old new rows inside h = go h.0.returning h.2
     go None it = unchanged_keeps old new it.3
     go (Some what) it = record { was_open = λ _. it.1.shown.was_open; committed = λ _. it.1.shown.committed_is ∙ ap (λ b. cond b old.committed new.now) inside }
 
-pub any_query_keeps : {V : Type 0} (sql : List ℕ) (params : Row) (old new : State) (r : Result V Error) (rows_of : V → List Row) → IsTrue old.in_transaction → IfOk r (λ v. Shown sql params old new (rows_of v))
+pub any_query_keeps : {V : Type 0} (sql : List ℕ) (params : Row) (old new : State) (r : Result V Error) (rows_of : V → List Row) → IsTrue old.in_transaction
+    → IfOk r (λ v. Shown sql params old new (rows_of v))
     → IfErr r (λ e. FailsToQuery sql params old new e ⊎ IsTooLate sql params old new e) → KeepsCommit old new
 any_query_keeps sql params old new (Ok v) rows_of inside shown fails = shown_keeps sql params old new (rows_of v) inside shown
 any_query_keeps sql params old new (Err e) rows_of inside shown fails = fails_keep sql params old new e fails
 
-pub query_keeps : {V : Type 0} (sql : List ℕ) (params : Row) (old new : State) (r : Result V Error) → IfOk r (λ _. IsUnchanged old new) → IfErr r (λ e. FailsToQuery sql params old new e ⊎ IsTooLate sql params old new e) → KeepsCommit old new
+pub query_keeps : {V : Type 0} (sql : List ℕ) (params : Row) (old new : State) (r : Result V Error) → IfOk r (λ _. IsUnchanged old new)
+    → IfErr r (λ e. FailsToQuery sql params old new e ⊎ IsTooLate sql params old new e) → KeepsCommit old new
 query_keeps sql params old new (Ok v) same fails = unchanged_keeps old new same
 query_keeps sql params old new (Err e) same fails = fails_keep sql params old new e fails
 
 -- what an upsert inside a transaction does, where it is not refused
-pub puts_inside : (sql name key_name column_name : List ℕ) (kind : Kind) (tree : ℕ) → nat_le (2 ^ 31) tree ≡ false → slice_get record_schema.tables tree ≡ Some (keyed_table name tree key_name column_name kind)
+pub puts_inside : (sql name key_name column_name : List ℕ) (kind : Kind) (tree : ℕ) → nat_le (2 ^ 31) tree ≡ false
+    → slice_get record_schema.tables tree ≡ Some (keyed_table name tree key_name column_name kind)
     → command_of (understood record_schema sql) ≡ upsert tree → IsPlain (understood record_schema sql)
-    → (key : ℕ) (value : Value) → cast kind value ≡ value → (old new : State) (r : Result ℕ Error) → HasCleanDisk old → (IsSound old → old.now.schema ≡ record_schema)
+    → (key : ℕ) (value : Value) → cast kind value ≡ value → (old new : State) (r : Result ℕ Error) → HasCleanDisk old
+    → (IsSound old → old.now.schema ≡ record_schema)
     → (old.in_transaction ≡ false → IsErr r) → (IsTrue old.in_transaction → ExecutesInside 0 sql (Int (pos key) ∷ value ∷ []) old new r)
     → OnOk r (Puts old.now new.now tree key value × Shows old new new.now old.committed true)
 puts_inside sql name key_name column_name kind tree low at is plain key value kept old new (Err e) clean ready ended runs = tt
-puts_inside sql name key_name column_name kind tree low at is plain key value kept old new (Ok count) clean ready ended runs = elim (cases_Bool old.in_transaction) [
-  | inl inside ↦
-      let ran = runs inside in
-      let has = ready (clean, ran.1.was_open) in
-      (puts sql name key_name column_name kind tree low at is plain key value kept old new count has ran.0, ran.1)
-  | inr outside ↦ absurd (let e = ended outside in cc)
-]
+puts_inside sql name key_name column_name kind tree low at is plain key value kept old new (Ok count) clean ready ended runs =
+    elim (cases_Bool old.in_transaction) [
+      | inl inside ↦
+          let ran = runs inside in
+          let has = ready (clean, ran.1.was_open) in
+          (puts sql name key_name column_name kind tree low at is plain key value kept old new count has ran.0, ran.1)
+      | inr outside ↦ absurd (let e = ended outside in cc)
+    ]
 
 -- what CREATE TABLE makes
 pub makes : (sql : List ℕ) (before : Schema) (table : Table) (old new : State) (r : Result ℕ Error) → HasCleanDisk old → (IsSound old → old.now.schema ≡ before)
-    → (command_of (understood before sql) ≡ CreateTable) × (statement_of sql (understood before sql) ≡ sql) × (table_defined_by sql ≡ Ok table) → IsPlain (understood before sql) → lacks_sequence (created before table) ≡ false
+    → (command_of (understood before sql) ≡ CreateTable) × (statement_of sql (understood before sql) ≡ sql) × (table_defined_by sql ≡ Ok table)
+    → IsPlain (understood before sql) → lacks_sequence (created before table) ≡ false
     → (old.in_transaction ≡ false → IsErr r) → (IsTrue old.in_transaction → ExecutesInside 0 sql [] old new r)
     → OnOk r (Makes old.now new.now before (created before table) (next_tree before) × Shows old new new.now old.committed true)
 makes sql before table old new (Err e) clean ready is plain uncounted ended runs = tt
@@ -175,16 +198,25 @@ makes sql before table old new (Ok count) clean ready is plain uncounted ended r
       let same : made.table ≡ table = cc in
       let schema : first.0.schema ≡ created before table = made.is ∙ ap (λ s. created s made.table) has ∙ ap (created before) same in
       let plain : lacks_sequence first.0.schema ≡ false = ap lacks_sequence schema ∙ uncounted in
-      let now : new.now ≡ first.0 = ap (λ (p : Tally × Database). p.1) (same_value all.2) ∙ same_value (rw plain at first.2) in
-      (rw now (record { schema = schema; empty = subst (λ s. first.0.trees (next_tree s) ≡ []) has made.empty; others = subst (λ (s : Schema). KeepsRows s.tables old.now.trees first.0.trees) has made.others }), ran.1)
+      let now : new.now ≡ first.0 = ap (λ (p : Tally × Database). p.1) (same_value all.2) ∙ same_value (rw plain at first.2) in (
+        rw now (record {
+          schema = schema;
+          empty = subst (λ s. first.0.trees (next_tree s) ≡ []) has made.empty;
+          others =
+              subst (λ (s : Schema). KeepsRows s.tables old.now.trees first.0.trees) has made.others;
+        }),
+        ran.1,
+      )
   | inr outside ↦ absurd (let e = ended outside in cc)
 ]
 
 -- what the INSERT of the version does
-pub puts_version : (sql : List ℕ) (version : ℕ) (old new : State) (r : Result ℕ Error) → command_of (understood record_schema sql) ≡ insert_version → IsPlain (understood record_schema sql)
+pub puts_version : (sql : List ℕ) (version : ℕ) (old new : State) (r : Result ℕ Error) → command_of (understood record_schema sql) ≡ insert_version
+    → IsPlain (understood record_schema sql)
     → HasCleanDisk old → (IsSound old → old.now.schema ≡ record_schema)
     → (old.in_transaction ≡ false → IsErr r) → (IsTrue old.in_transaction → ExecutesInside 0 sql (Int (pos version) ∷ []) old new r)
-    → OnOk r ((Puts old.now new.now 0 1 (Int (pos version)) × IsDatabase new.now × (old.now.trees 0 ≡ [] → new.now.trees 0 ≡ row_of 1 (Int (pos version)) ∷ [])) × Shows old new new.now old.committed true)
+    → OnOk r ((Puts old.now new.now 0 1 (Int (pos version)) × IsDatabase new.now × (old.now.trees 0 ≡ [] → new.now.trees 0 ≡ row_of 1 (Int (pos version)) ∷ []))
+    × Shows old new new.now old.committed true)
 puts_version sql version old new (Err e) is plain clean ready ended runs = tt
 puts_version sql version old new (Ok count) is plain clean ready ended runs = elim (cases_Bool old.in_transaction) [
   | inl inside ↦
@@ -202,14 +234,16 @@ if_later (Err e) Given P h = tt
 
 -- what the query of all images answers
 pub shows_all : (sql : List ℕ) (old new : State) (rows : List Row) → old.now.schema ≡ record_schema
-    → (command_of (understood record_schema sql) ≡ Select (record { lets = []; body = all_images }) (codes "h" ∷ codes "image" ∷ [])) × (reads_listing record_schema sql ≡ false)
+    → (command_of (understood record_schema sql) ≡ Select (record { lets = []; body = all_images }) (codes "h" ∷ codes "image" ∷ []))
+    × (reads_listing record_schema sql ≡ false)
     → IsPlain (understood record_schema sql) → Shown sql [] old new rows → IsPermutation (map keyed_value (old.now.trees 1)) rows
 shows_all sql old new rows has is plain h =
     let read = reads_as sql [] old new record_schema has _ is.0 plain is.1 rows h in
     all_answered old.now.trees rows (read.answer Null)
 
 -- what the UPDATE of the version does
-pub raises_version : (sql : List ℕ) (version : ℕ) (before : Value) (old new : State) (r : Result ℕ Error) → command_of (understood record_schema sql) ≡ raise → IsPlain (understood record_schema sql)
+pub raises_version : (sql : List ℕ) (version : ℕ) (before : Value) (old new : State) (r : Result ℕ Error) → command_of (understood record_schema sql) ≡ raise
+    → IsPlain (understood record_schema sql)
     → HasCleanDisk old → (IsSound old → (old.now.schema ≡ record_schema) × (value_at (old.now.trees 0) 1 ≡ Some before))
     → (old.in_transaction ≡ false → IsErr r) → (IsTrue old.in_transaction → ExecutesInside 0 sql (Int (pos version) ∷ []) old new r)
     → OnOk r ((Puts old.now new.now 0 1 (Int (pos version)) × IsDatabase new.now) × Shows old new new.now old.committed true)
@@ -218,7 +252,13 @@ raises_version sql version before old new (Ok count) is plain clean ready ended 
   | inl inside ↦
       let ran = runs inside in
       let has = ready (clean, ran.1.was_open) in
-      let w = runs_as sql (Int (pos version) ∷ []) old new record_schema has.0 raise is plain count ran.0 in
-      ((does_raise old.step_limit (mode_of old) version old.now new.now before has.0 has.1 (statement_of sql (understood record_schema sql)) w.tally w.changed, w.sound), ran.1)
+      let w = runs_as sql (Int (pos version) ∷ []) old new record_schema has.0 raise is plain count ran.0 in (
+        (
+          does_raise old.step_limit (mode_of old) version old.now new.now before has.0 has.1
+              (statement_of sql (understood record_schema sql)) w.tally w.changed,
+          w.sound,
+        ),
+        ran.1,
+      )
   | inr outside ↦ absurd (let e = ended outside in cc)
 ]

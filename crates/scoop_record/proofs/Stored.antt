@@ -26,7 +26,8 @@ pub record SameParts (w x : List ℕ) (o p : Option Block) (ms ns : List Mark) (
   pub rest : a ≡ b
 
 -- the beginning of an image tells its parts
-pub parts_same : (v : ℕ) (h : HandlerId) (w x : List ℕ) (o p : Option Block) (ms ns : List Mark) (q r : ℕ) (a b : List ℕ) → AreObjectWords w → AreObjectWords x → HolderInRange o → HolderInRange p → AreMarks ms → AreMarks ns
+pub parts_same : (v : ℕ) (h : HandlerId) (w x : List ℕ) (o p : Option Block) (ms ns : List Mark) (q r : ℕ) (a b : List ℕ) → AreObjectWords w → AreObjectWords x
+    → HolderInRange o → HolderInRange p → AreMarks ms → AreMarks ns
     → parts v h w o ms q a ≡ parts v h x p ns r b → SameParts w x o p ms ns q r a b
 unfolding parts
 parts_same v h w x o p ms ns q r a b w-is x-is o-is p-is ms-are ns-are e =
@@ -72,16 +73,19 @@ one_state : (v : ℕ) (handler : HandlerId) (bytes a b : List ℕ) (s t : Handle
     → (length s.queues ≡ length t.queues → a ≡ b → s.queues ≡ t.queues) → s ≡ t
 one_state v handler bytes a b s t p q same =
     let parts = parts_same v handler s.words t.words s.holder t.holder s.marks t.marks (length s.queues) (length t.queues) a b
-    (words_are v handler bytes a s p) (words_are v handler bytes b t q) p.range.parts.holder q.range.parts.holder (marks_are v handler bytes a s p) (marks_are v handler bytes b t q)
+    (words_are v handler bytes a s p) (words_are v handler bytes b t q) p.range.parts.holder q.range.parts.holder (marks_are v handler bytes a s p)
+    (marks_are v handler bytes b t q)
     (sym (parts_are v handler bytes a s p) ∙ parts_are v handler bytes b t q) in
     let queues = same parts.queues parts.rest in
     let number : s.number ≡ t.number = p.number ∙ sym q.number in
     λ i. state_of (number i) (parts.holder i) (parts.marks i) (queues i) (parts.words i)
 
 -- what was read is a state that has these parts
-read_parts : (v : ℕ) (handler : HandlerId) (bytes rest : List ℕ) (cells : List Mark) (f : Front) (qs : List PrivateQueue) → handler.0 < 2 ^ 32 → IsFront v handler bytes cells f
+read_parts : (v : ℕ) (handler : HandlerId) (bytes rest : List ℕ) (cells : List Mark) (f : Front) (qs : List PrivateQueue) → handler.0 < 2 ^ 32
+    → IsFront v handler bytes cells f
     → length qs ≡ f.queues → AllByRecursion BareInRange qs → AllByRecursion EntriesInRange qs → drop f.len bytes ≡ rest
-    → IsState (state_of handler f.holder (take f.marks cells) qs f.words) → HasParts v handler bytes rest (state_of handler f.holder (take f.marks cells) qs f.words)
+    → IsState (state_of handler f.holder (take f.marks cells) qs f.words)
+    → HasParts v handler bytes rest (state_of handler f.holder (take f.marks cells) qs f.words)
 read_parts v handler bytes rest cells f qs lt front count bare entries rest-is state = record {
   state = state;
   range = record {
@@ -103,7 +107,8 @@ module _ (handler : HandlerId) (image row : List ℕ) (s : HandlerState) (stored
   its_parts = record { state = stored.state; range = stored.range; number = stored.number; bytes_are = stored.image }
 
   module _ (cells : List Mark) (f : Front) (front : IsFront 2 handler image cells f) where
-    same_front : SameParts f.words s.words f.holder s.holder (take f.marks cells) s.marks f.queues (length s.queues) (drop f.len image) (flat_map bare_bytes s.queues)
+    same_front : SameParts f.words s.words f.holder s.holder (take f.marks cells) s.marks f.queues (length s.queues) (drop f.len image)
+        (flat_map bare_bytes s.queues)
     same_front = front_same 2 handler image (flat_map bare_bytes s.queues) s its_parts cells f front
 
     pub no_queues : AreNoQueues f.queues (drop f.len image) row → ⊥
@@ -115,15 +120,18 @@ module _ (handler : HandlerId) (image row : List ℕ) (s : HandlerState) (stored
       row_is = stored.pending;
     })
 
-    pub no_state : (qs : List PrivateQueue) → AreQueues f.queues (drop f.len image) row qs → (IsState (state_of handler f.holder (take f.marks cells) qs f.words) → ⊥) → ⊥
+    pub no_state : (qs : List PrivateQueue) → AreQueues f.queues (drop f.len image) row qs
+        → (IsState (state_of handler f.holder (take f.marks cells) qs f.words) → ⊥) → ⊥
     no_state qs are refused =
         let same = queues_apart qs s.queues [] [] [] [] (are.count_is ∙ same_front.queues) are.bare stored.range.parts.heads are.entries stored.range.entries
         (ap (λ (b : List ℕ). b ++ []) (sym are.heads_are ∙ same_front.rest)) (ap (λ (b : List ℕ). b ++ []) (sym are.row_is ∙ stored.pending)) in
         not_refused 2 handler image (flat_map bare_bytes s.queues) s its_parts cells f front qs same.0 refused
 
 -- what was read is a state that has the image
-pub stored_is : (handler : HandlerId) (image row : List ℕ) (cells : List Mark) (f : Front) (qs : List PrivateQueue) → handler.0 < 2 ^ 32 → IsFront 2 handler image cells f → AreQueues f.queues (drop f.len image) row qs
-    → IsState (state_of handler f.holder (take f.marks cells) qs f.words) → IsStored handler image row (state_of handler f.holder (take f.marks cells) qs f.words)
+pub stored_is : (handler : HandlerId) (image row : List ℕ) (cells : List Mark) (f : Front) (qs : List PrivateQueue) → handler.0 < 2 ^ 32
+    → IsFront 2 handler image cells f → AreQueues f.queues (drop f.len image) row qs
+    → IsState (state_of handler f.holder (take f.marks cells) qs f.words)
+    → IsStored handler image row (state_of handler f.holder (take f.marks cells) qs f.words)
 stored_is handler image row cells f qs lt front are state =
     let has = read_parts 2 handler image (flat_map bare_bytes qs) cells f qs lt front are.count_is are.bare are.entries are.heads_are state in
     record { state = has.state; range = has.range; number = has.number; image = has.bytes_are; pending = are.row_is }
@@ -131,7 +139,8 @@ stored_is handler image row cells f qs lt front are state =
 -- an image with its pending entries is that of one state alone
 pub same_state : (handler : HandlerId) (image row : List ℕ) (s t : HandlerState) → IsStored handler image row s → IsStored handler image row t → s ≡ t
 same_state handler image row s t p q =
-    one_state 2 handler image (flat_map bare_bytes s.queues) (flat_map bare_bytes t.queues) s t (its_parts handler image row s p) (its_parts handler image row t q) (λ count rest.
+    one_state 2 handler image (flat_map bare_bytes s.queues) (flat_map bare_bytes t.queues) s t (its_parts handler image row s p)
+    (its_parts handler image row t q) (λ count rest.
     (queues_apart s.queues t.queues [] [] [] [] count p.range.parts.heads q.range.parts.heads p.range.entries q.range.entries
     (ap (λ (b : List ℕ). b ++ []) rest) (ap (λ (b : List ℕ). b ++ []) (sym p.pending ∙ q.pending))).0)
 
@@ -142,7 +151,8 @@ module _ (handler : HandlerId) (bytes : List ℕ) (s : HandlerState) (stored : I
   whole_parts = record { state = stored.state; range = stored.range; number = stored.number; bytes_are = stored.image }
 
   module _ (cells : List Mark) (f : Front) (front : IsFront 1 handler bytes cells f) where
-    whole_front : SameParts f.words s.words f.holder s.holder (take f.marks cells) s.marks f.queues (length s.queues) (drop f.len bytes) (flat_map queue_bytes s.queues)
+    whole_front : SameParts f.words s.words f.holder s.holder (take f.marks cells) s.marks f.queues (length s.queues) (drop f.len bytes)
+        (flat_map queue_bytes s.queues)
     whole_front = front_same 1 handler bytes (flat_map queue_bytes s.queues) s whole_parts cells f front
 
     pub no_wholes : AreNoneWithEntries f.queues (drop f.len bytes) → ⊥
@@ -153,19 +163,23 @@ module _ (handler : HandlerId) (bytes : List ℕ) (s : HandlerState) (stored : I
       bytes_are = whole_front.rest;
     })
 
-    pub no_whole_state : (qs : List PrivateQueue) → AreWithEntries f.queues (drop f.len bytes) qs → (IsState (state_of handler f.holder (take f.marks cells) qs f.words) → ⊥) → ⊥
+    pub no_whole_state : (qs : List PrivateQueue) → AreWithEntries f.queues (drop f.len bytes) qs
+        → (IsState (state_of handler f.holder (take f.marks cells) qs f.words) → ⊥) → ⊥
     no_whole_state qs are refused =
         let same = wholes_apart qs s.queues are.bare stored.range.parts.heads are.entries stored.range.entries [] [] (are.count_is ∙ whole_front.queues)
         (ap (λ (b : List ℕ). b ++ []) (sym are.bytes_are ∙ whole_front.rest)) in
         not_refused 1 handler bytes (flat_map queue_bytes s.queues) s whole_parts cells f front qs same.0 refused
 
-pub whole_is : (handler : HandlerId) (bytes : List ℕ) (cells : List Mark) (f : Front) (qs : List PrivateQueue) → handler.0 < 2 ^ 32 → IsFront 1 handler bytes cells f → AreWithEntries f.queues (drop f.len bytes) qs
-    → IsState (state_of handler f.holder (take f.marks cells) qs f.words) → IsStoredWithEntries handler bytes (state_of handler f.holder (take f.marks cells) qs f.words)
+pub whole_is : (handler : HandlerId) (bytes : List ℕ) (cells : List Mark) (f : Front) (qs : List PrivateQueue) → handler.0 < 2 ^ 32
+    → IsFront 1 handler bytes cells f → AreWithEntries f.queues (drop f.len bytes) qs
+    → IsState (state_of handler f.holder (take f.marks cells) qs f.words)
+    → IsStoredWithEntries handler bytes (state_of handler f.holder (take f.marks cells) qs f.words)
 whole_is handler bytes cells f qs lt front are state =
     let has = read_parts 1 handler bytes (flat_map queue_bytes qs) cells f qs lt front are.count_is are.bare are.entries are.bytes_are state in
     record { state = has.state; range = has.range; number = has.number; image = has.bytes_are }
 
 pub same_whole : (handler : HandlerId) (bytes : List ℕ) (s t : HandlerState) → IsStoredWithEntries handler bytes s → IsStoredWithEntries handler bytes t → s ≡ t
 same_whole handler bytes s t p q =
-    one_state 1 handler bytes (flat_map queue_bytes s.queues) (flat_map queue_bytes t.queues) s t (whole_parts handler bytes s p) (whole_parts handler bytes t q) (λ count rest.
+    one_state 1 handler bytes (flat_map queue_bytes s.queues) (flat_map queue_bytes t.queues) s t (whole_parts handler bytes s p)
+    (whole_parts handler bytes t q) (λ count rest.
     (wholes_apart s.queues t.queues p.range.parts.heads q.range.parts.heads p.range.entries q.range.entries [] [] count (ap (λ (b : List ℕ). b ++ []) rest)).0)

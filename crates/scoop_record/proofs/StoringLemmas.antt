@@ -18,7 +18,15 @@ pub record HasStored (old new : State) (all : List HandlerState) : Type 0 where
 pub none_stored : (s : State) → HasStored s s []
 none_stored s = record {
   kept = λ clean. record { was_open = λ live. live; committed = λ live. refl };
-  survives = record { clean = omega arith; shield = λ shielded. shielded; counts = omega arith; limit = refl; closes = λ clean live. inl live; crash = λ clean db may. inl may };
+  survives = record {
+    clean = omega arith;
+    shield = λ shielded. shielded;
+    counts = omega arith;
+    limit = refl;
+    closes = λ clean live. inl live;
+    crash =
+        λ clean db may. inl may;
+  };
   saved = λ sound. refl;
 }
 
@@ -29,7 +37,8 @@ pub still_record : (old new : State) (all : List HandlerState) → HasStored old
 still_record old new all h was sound = schema_stays old.now new.now all (h.saved sound) ∙ was (sound_before old new h.kept h.survives sound)
 
 -- a call behind them that commits nothing
-module _ (old mid new : State) (all : List HandlerState) (h : HasStored old mid all) (kept : HasCleanDisk new → KeepsCommit mid new) (survives : Survives mid new (λ _. ⊥)) where
+module _ (old mid new : State) (all : List HandlerState) (h : HasStored old mid all) (kept : HasCleanDisk new → KeepsCommit mid new)
+    (survives : Survives mid new (λ _. ⊥)) where
   pub then_kept : HasCleanDisk new → KeepsCommit old new
   then_kept clean = keeps_then old mid new (h.kept (clean_before mid new _ survives clean)) (kept clean)
 

@@ -87,7 +87,8 @@ never_null key (Text t) is = refl
 never_null key (Blob b) is = refl
 
 -- `=` on a value that is the key
-pub tests_key : (key : ℕ) (v w : Value) → is_eq (value_cmp w (Int (pos key))) ≡ true → is_true (binary (Compare Eq Binary) v w) ≡ is_eq (value_cmp v (Int (pos key)))
+pub tests_key : (key : ℕ) (v w : Value) → is_eq (value_cmp w (Int (pos key))) ≡ true
+    → is_true (binary (Compare Eq Binary) v w) ≡ is_eq (value_cmp v (Int (pos key)))
 tests_key key v w is = tests v w (never_null key w is) ∙ ap is_eq (alike_right value_cmp_total w (Int (pos key)) v (equal_is _ is))
 
 pub int_key : (key : ℕ) (m : ℤ) → is_eq (value_cmp (Int m) (Int (pos key))) ≡ true → Int m ≡ Int (pos key)
@@ -104,7 +105,8 @@ cast_key key (Int m) is int = go (is_eq (value_cmp (Int m) (Int m)) && is_lt (va
     go false = int_key key m is
 cast_key key (Real x) is int = go (is_eq (value_cmp (Int (to_int x)) (Real x)) && is_lt (value_cmp (Real (minus_two_to 63)) (Real x))) refl int
   where
-    go : (b : Bool) → (is_eq (value_cmp (Int (to_int x)) (Real x)) && is_lt (value_cmp (Real (minus_two_to 63)) (Real x))) ≡ b → is_int (cond b (Int (to_int x)) (Real x)) ≡ true → cond b (Int (to_int x)) (Real x) ≡ Int (pos key)
+    go : (b : Bool) → (is_eq (value_cmp (Int (to_int x)) (Real x)) && is_lt (value_cmp (Real (minus_two_to 63)) (Real x))) ≡ b
+        → is_int (cond b (Int (to_int x)) (Real x)) ≡ true → cond b (Int (to_int x)) (Real x) ≡ Int (pos key)
     go true h int =
         let near = equal_is _ (and_parts _ _ h).0 in
         int_key key (to_int x) (ap is_eq (value_cmp_total.congr (Int (to_int x)) (Real x) (Int (pos key)) near) ∙ is)
@@ -113,8 +115,10 @@ cast_key key (Text t) is int = absurd (let e = rw (value_cmp-apart (Text t) (Int
 cast_key key (Blob t) is int = absurd (let e = rw (value_cmp-apart (Blob t) (Int (pos key)) (λ e. omega (arith, e))) at is in cc)
 
 -- the matches of a look up by key
-module _ (lost : Value) (db : Trees) (key : ℕ) (filter_is : Term) (params : Row) (given : (r : Row) → holds (params ∷ r ∷ []) filter_is ≡ has_rowid (pos key) r) where
-  matched : (rows : List Row) → flat_map (λ r. matches_as lost db (filter_is ∷ []) end (params ∷ r ∷ [])) rows ≡ map (λ r. params ∷ r ∷ []) (filter (has_rowid (pos key)) rows)
+module _ (lost : Value) (db : Trees) (key : ℕ) (filter_is : Term) (params : Row)
+    (given : (r : Row) → holds (params ∷ r ∷ []) filter_is ≡ has_rowid (pos key) r) where
+  matched : (rows : List Row) → flat_map (λ r. matches_as lost db (filter_is ∷ []) end (params ∷ r ∷ [])) rows
+      ≡ map (λ r. params ∷ r ∷ []) (filter (has_rowid (pos key)) rows)
   matched [] = refl
   matched (r ∷ rows) =
       let same : holds (params ∷ r ∷ []) filter_is ≡ has_rowid (pos key) r = given r in
@@ -132,17 +136,21 @@ twice_mapped g f [] = refl
 twice_mapped g f (x ∷ xs) = ap (λ ys. g (f x) ∷ ys) (twice_mapped g f xs)
 
 -- what a look up by key shows
-module _ (trees : Trees) (tree key : ℕ) (filter_is : Term) (low : nat_le (2 ^ 31) tree ≡ false) (params : Row) (given : (r : Row) → holds (params ∷ r ∷ []) filter_is ≡ has_rowid (pos key) r) (project : List Term) where
+module _ (trees : Trees) (tree key : ℕ) (filter_is : Term) (low : nat_le (2 ^ 31) tree ≡ false) (params : Row)
+    (given : (r : Row) → holds (params ∷ r ∷ []) filter_is ≡ has_rowid (pos key) r) (project : List Term) where
   abbrev shown_of : Row → Row
   shown_of r = eval_all project (params ∷ r ∷ [])
 
   -- the rows that have the key, in some order
-  pub answered : (rows : List Row) → IsAnswer (query_of tree filter_is project) (overlay trees []) params rows → IsPermutation (map shown_of (filter (has_rowid (pos key)) (trees tree))) rows
+  pub answered : (rows : List Row) → IsAnswer (query_of tree filter_is project) (overlay trees []) params rows
+      → IsPermutation (map shown_of (filter (has_rowid (pos key)) (trees tree))) rows
   answered rows a =
       let q = query_of tree filter_is project in
-      let staged : a.staged ≡ map (λ r. params ∷ r ∷ []) (filter (has_rowid (pos key)) (trees tree)) = a.grouped ∙ rw low (matched Null (overlay trees []) key filter_is params given (trees tree)) in
+      let staged : a.staged ≡ map (λ r. params ∷ r ∷ []) (filter (has_rowid (pos key)) (trees tree)) = a.grouped
+      ∙ rw low (matched Null (overlay trees []) key filter_is params given (trees tree)) in
       let kept : map (λ (o : Output). o.1) a.kept ≡ map shown_of (filter (has_rowid (pos key)) (trees tree)) =
-      ap (map (λ (o : Output). o.1)) (a.distinct ∙ ap (map (output q)) staged) ∙ ap (map (λ (o : Output). o.1)) (twice_mapped (output q) (λ r. params ∷ r ∷ []) (filter (has_rowid (pos key)) (trees tree)))
+      ap (map (λ (o : Output). o.1)) (a.distinct ∙ ap (map (output q)) staged)
+      ∙ ap (map (λ (o : Output). o.1)) (twice_mapped (output q) (λ r. params ∷ r ∷ []) (filter (has_rowid (pos key)) (trees tree)))
       ∙ twice_mapped (λ (o : Output). o.1) (λ r. output q (params ∷ r ∷ [])) (filter (has_rowid (pos key)) (trees tree)) in
       let same = IsPermutation-map (λ (o : Output). o.1) a.kept a.ordered a.same in
       subst (λ xs. IsPermutation xs rows) kept (subst (λ ys. IsPermutation (map (λ (o : Output). o.1) a.kept) ys) (sym a.shown) same)
@@ -157,7 +165,8 @@ module _ (trees : Trees) (tree key : ℕ) (filter_is : Term) (low : nat_le (2 ^ 
       go (r ∷ []) same = one_permutation (shown_of r) rows same
       go (r ∷ s ∷ found) same = absurd (omega (arith, few, length_permutation (map shown_of (r ∷ s ∷ found)) rows same))
 
-all_matched : (lost : Value) (db : Trees) (params : Row) (rows : List Row) → flat_map (λ r. matches_as lost db [] end (params ∷ r ∷ [])) rows ≡ map (λ r. params ∷ r ∷ []) rows
+all_matched : (lost : Value) (db : Trees) (params : Row) (rows : List Row)
+    → flat_map (λ r. matches_as lost db [] end (params ∷ r ∷ [])) rows ≡ map (λ r. params ∷ r ∷ []) rows
 all_matched lost db params [] = refl
 all_matched lost db params (r ∷ rows) = rw (all_matched lost db params rows) refl
 
@@ -166,7 +175,8 @@ pub all_answered : (trees : Trees) (rows : List Row) → IsAnswer all_images (ov
 all_answered trees rows a =
     let staged : a.staged ≡ map (λ r. [] ∷ r ∷ []) (trees 1) = a.grouped ∙ all_matched Null (overlay trees []) [] (trees 1) in
     let kept : map (λ (o : Output). o.1) a.kept ≡ map keyed_value (trees 1) =
-    ap (map (λ (o : Output). o.1)) (a.distinct ∙ ap (map (output all_images)) staged) ∙ ap (map (λ (o : Output). o.1)) (twice_mapped (output all_images) (λ r. [] ∷ r ∷ []) (trees 1))
+    ap (map (λ (o : Output). o.1)) (a.distinct ∙ ap (map (output all_images)) staged)
+    ∙ ap (map (λ (o : Output). o.1)) (twice_mapped (output all_images) (λ r. [] ∷ r ∷ []) (trees 1))
     ∙ twice_mapped (λ (o : Output). o.1) (λ r. output all_images ([] ∷ r ∷ [])) (trees 1) in
     let same = IsPermutation-map (λ (o : Output). o.1) a.kept a.ordered a.same in
     subst (λ xs. IsPermutation xs rows) kept (subst (λ ys. IsPermutation (map (λ (o : Output). o.1) a.kept) ys) (sym a.shown) same)

@@ -24,11 +24,13 @@ select_inc = codes "SELECT inc FROM clients WHERE c = ?1"
 abbrev pub put_inc : List ℕ
 put_inc = codes "INSERT INTO clients (c, inc) VALUES (?1, ?2) ON CONFLICT (c) DO UPDATE SET inc = excluded.inc"
 
-pub select_image_is : (command_of (understood record_schema select_image) ≡ Select (record { lets = []; body = query_of 1 (key_is 0) (col 1 2 ∷ []) }) (codes "image" ∷ [])) × (reads_listing record_schema select_image ≡ false)
+pub select_image_is : (command_of (understood record_schema select_image)
+    ≡ Select (record { lets = []; body = query_of 1 (key_is 0) (col 1 2 ∷ []) }) (codes "image" ∷ [])) × (reads_listing record_schema select_image ≡ false)
 unfolding understood everything
 select_image_is = (refl, refl)
 
-pub select_inc_is : (command_of (understood record_schema select_inc) ≡ Select (record { lets = []; body = query_of 2 (key_is 0) (col 1 2 ∷ []) }) (codes "inc" ∷ [])) × (reads_listing record_schema select_inc ≡ false)
+pub select_inc_is : (command_of (understood record_schema select_inc)
+    ≡ Select (record { lets = []; body = query_of 2 (key_is 0) (col 1 2 ∷ []) }) (codes "inc" ∷ [])) × (reads_listing record_schema select_inc ≡ false)
 unfolding understood everything
 select_inc_is = (refl, refl)
 
@@ -66,7 +68,8 @@ abbrev pub create_clients : List ℕ
 create_clients = codes "CREATE TABLE clients (c INTEGER PRIMARY KEY, inc INTEGER NOT NULL) STRICT"
 
 abbrev Creates : Schema → List ℕ → Table → Type 0
-Creates schema text table = (command_of (understood schema text) ≡ CreateTable) × (statement_of text (understood schema text) ≡ text) × (table_defined_by text ≡ Ok table)
+Creates schema text table = (command_of (understood schema text) ≡ CreateTable) × (statement_of text (understood schema text) ≡ text)
+    × (table_defined_by text ≡ Ok table)
 
 pub create_meta_is : Creates no_schema create_meta (meta 0)
 unfolding understood everything
@@ -108,7 +111,8 @@ select_version = codes "SELECT version FROM meta WHERE id = 1"
 
 abbrev AsksVersion : Schema → Type 0
 AsksVersion schema =
-    (command_of (understood schema select_version) ≡ Select (record { lets = []; body = query_of 0 first_key_is (col 1 2 ∷ []) }) (codes "version" ∷ [])) × (reads_listing schema select_version ≡ false)
+    (command_of (understood schema select_version) ≡ Select (record { lets = []; body = query_of 0 first_key_is (col 1 2 ∷ []) }) (codes "version" ∷ []))
+    × (reads_listing schema select_version ≡ false)
 
 pub select_version_is : AsksVersion record_schema
 unfolding understood everything
@@ -129,7 +133,8 @@ select_version_plain = (refl, refl)
 abbrev pub select_entries : List ℕ
 select_entries = codes "SELECT entries FROM pending WHERE h = ?1"
 
-pub select_entries_is : (command_of (understood record_schema select_entries) ≡ Select (record { lets = []; body = query_of 3 (key_is 0) (col 1 2 ∷ []) }) (codes "entries" ∷ [])) × (reads_listing record_schema select_entries ≡ false)
+pub select_entries_is : (command_of (understood record_schema select_entries)
+    ≡ Select (record { lets = []; body = query_of 3 (key_is 0) (col 1 2 ∷ []) }) (codes "entries" ∷ [])) × (reads_listing record_schema select_entries ≡ false)
 unfolding understood everything
 select_entries_is = (refl, refl)
 
@@ -165,7 +170,8 @@ select_images = codes "SELECT h, image FROM handlers ORDER BY h"
 abbrev pub raise_version : List ℕ
 raise_version = codes "UPDATE meta SET version = ?1 WHERE id = 1"
 
-pub select_images_is : (command_of (understood record_schema select_images) ≡ Select (record { lets = []; body = all_images }) (codes "h" ∷ codes "image" ∷ [])) × (reads_listing record_schema select_images ≡ false)
+pub select_images_is : (command_of (understood record_schema select_images) ≡ Select (record { lets = []; body = all_images }) (codes "h" ∷ codes "image" ∷ []))
+    × (reads_listing record_schema select_images ≡ false)
 unfolding understood everything
 select_images_is = (refl, refl)
 

@@ -46,7 +46,11 @@ given_row = Values (col 0 0 ∷ lit Null ∷ col 0 1 ∷ []) 3
 
 -- `ON CONFLICT (key) DO UPDATE SET value = excluded.value`
 abbrev pub overwrites : ℕ → Upsert
-overwrites tree = record { target = Some (0 ∷ []); update = Some (record { lets = []; body = query_of tree (key_is 2) (col 1 0 ∷ col 1 0 ∷ lit Null ∷ col 0 5 ∷ []) }) }
+overwrites tree = record {
+  target = Some (0 ∷ []);
+  update = Some
+      (record { lets = []; body = query_of tree (key_is 2) (col 1 0 ∷ col 1 0 ∷ lit Null ∷ col 0 5 ∷ []) });
+}
 
 abbrev pub upsert : ℕ → Command
 upsert tree = InsertOr tree Abort given_row (overwrites tree ∷ [])
@@ -72,9 +76,11 @@ pub same_value : {B E : Type 0} {a b : B} → ◌≡◌ {A = Result B E} (Ok a) 
 same_value e = cc
 
 second_fresh : (rows : List Row) (a b : Row) (more : List Row) → are_fresh rows (a ∷ b ∷ more) ≡ true → not (is_taken (put_row a rows) b) ≡ true
-second_fresh rows a b more fresh = (and_parts (not (is_taken (put_row a rows) b)) (are_fresh (put_row b (put_row a rows)) more) (and_parts (not (is_taken rows a)) (not (is_taken (put_row a rows) b) && are_fresh (put_row b (put_row a rows)) more) fresh).1).0
+second_fresh rows a b more fresh = (and_parts (not (is_taken (put_row a rows) b)) (are_fresh (put_row b (put_row a rows)) more)
+    (and_parts (not (is_taken rows a)) (not (is_taken (put_row a rows) b) && are_fresh (put_row b (put_row a rows)) more) fresh).1).0
 
-module _ (name key_name column_name : List ℕ) (kind : Kind) (tree : ℕ) (low : nat_le (2 ^ 31) tree ≡ false) (limit : Option ℕ) (mode : Mode) (key : ℕ) (value : Value) (kept : cast kind value ≡ value)
+module _ (name key_name column_name : List ℕ) (kind : Kind) (tree : ℕ) (low : nat_le (2 ^ 31) tree ≡ false) (limit : Option ℕ) (mode : Mode) (key : ℕ)
+    (value : Value) (kept : cast kind value ≡ value)
     (db : Trees) where
   abbrev table : Table
   table = keyed_table name tree key_name column_name kind
@@ -97,7 +103,8 @@ module _ (name key_name column_name : List ℕ) (kind : Kind) (tree : ℕ) (low 
     others : (other : ℕ) → other ≢ key → value_at (next tree) other ≡ value_at (db tree) other
     trees : (t : ℕ) → t ≢ tree → next t ≡ db t
 
-  put_over : (next : Trees) (rows : List Row) → next tree ≡ put_row new rows → ((other : ℕ) → other ≢ key → find (has_rowid (pos other)) rows ≡ find (has_rowid (pos other)) (db tree))
+  put_over : (next : Trees) (rows : List Row) → next tree ≡ put_row new rows
+      → ((other : ℕ) → other ≢ key → find (has_rowid (pos other)) rows ≡ find (has_rowid (pos other)) (db tree))
       → ((t : ℕ) → t ≢ tree → next t ≡ db t) → IsPut next
   put_over next rows is same trees = record {
     there = rw (is, find_put key new refl rows) refl;
@@ -127,7 +134,8 @@ module _ (name key_name column_name : List ℕ) (kind : Kind) (tree : ℕ) (low 
   edit rows = edit_of db table (ids_of rows) Given 1 rows
 
   -- one row had the key
-  put_one : (x : Row) → Has (db tree) x → has_rowid (pos key) x ≡ true → (next : Trees) → Applies record_schema mode.keys db (edit (renewed x ∷ [])) next → IsPut next
+  put_one : (x : Row) → Has (db tree) x → has_rowid (pos key) x ≡ true → (next : Trees) → Applies record_schema mode.keys db (edit (renewed x ∷ [])) next
+      → IsPut next
   put_one x here has next step =
       let made = renews x has (and_parts _ _ step.keyed).0 in
       let left = without_rowid (id_in (rowid x)) (db tree) in
@@ -144,7 +152,8 @@ module _ (name key_name column_name : List ℕ) (kind : Kind) (tree : ℕ) (low 
       ]
 
   -- two rows cannot have had it
-  put_two : (x y : Row) (more : List Row) → has_rowid (pos key) x ≡ true → has_rowid (pos key) y ≡ true → (next : Trees) → ¬ Applies record_schema mode.keys db (edit (renewed x ∷ renewed y ∷ more)) next
+  put_two : (x y : Row) (more : List Row) → has_rowid (pos key) x ≡ true → has_rowid (pos key) y ≡ true → (next : Trees)
+      → ¬ Applies record_schema mode.keys db (edit (renewed x ∷ renewed y ∷ more)) next
   put_two x y more hasx hasy next step =
       let ints = and_parts _ _ step.keyed in
       let first = renews x hasx ints.0 in
@@ -169,13 +178,17 @@ module _ (name key_name column_name : List ℕ) (kind : Kind) (tree : ℕ) (low 
       go [] here none = here
       go (x ∷ found) here none = absurd (omega (arith, none))
 
-  put_all_of : (rows : List Row) → AllByRecursion Renewed rows → ¬ (length rows ≡ 0) → (next : Trees) → Applies record_schema mode.keys db (edit rows) next → IsPut next
+  put_all_of : (rows : List Row) → AllByRecursion Renewed rows → ¬ (length rows ≡ 0) → (next : Trees) → Applies record_schema mode.keys db (edit rows) next
+      → IsPut next
   put_all_of [] all some next step = absurd (some refl)
-  put_all_of (a ∷ []) all some next step = put_one all.0.0 all.0.1 all.0.2 next (subst (λ r. Applies record_schema mode.keys db (edit (r ∷ [])) next) all.0.3 step)
+  put_all_of (a ∷ []) all some next step = put_one all.0.0 all.0.1 all.0.2 next
+      (subst (λ r. Applies record_schema mode.keys db (edit (r ∷ [])) next) all.0.3 step)
   put_all_of (a ∷ b ∷ more) all some next step =
-      absurd (put_two all.0.0 all.1.0.0 more all.0.2 all.1.0.2 next (subst₂ (λ r s. Applies record_schema mode.keys db (edit (r ∷ s ∷ more)) next) all.0.3 all.1.0.3 step))
+      absurd (put_two all.0.0 all.1.0.0 more all.0.2 all.1.0.2 next
+      (subst₂ (λ r s. Applies record_schema mode.keys db (edit (r ∷ s ∷ more)) next) all.0.3 all.1.0.3 step))
 
-  put_matches : (rows : List Row) → IsPermutation (map renewed (filter (has_rowid (pos key)) (db tree))) rows → (r : Row) × Has (db tree) r × (has_rowid (pos key) r ≡ true)
+  put_matches : (rows : List Row) → IsPermutation (map renewed (filter (has_rowid (pos key)) (db tree))) rows → (r : Row) × Has (db tree) r
+      × (has_rowid (pos key) r ≡ true)
       → (next : Trees) → Applies record_schema mode.keys db (edit rows) next → IsPut next
   put_matches rows same (r, here, has) next step =
       let all = are_renewed (filter (has_rowid (pos key)) (db tree)) (λ x kept. has_filtered (has_rowid (pos key)) (db tree) x kept) in
@@ -184,13 +197,16 @@ module _ (name key_name column_name : List ℕ) (kind : Kind) (tree : ℕ) (low 
       put_all_of rows each some next step
 
   put_again : (there : Row) → (r : Row) → Has (db tree) r → has_rowid (pos key) r ≡ true → there ≡ rowid r ∷ [] → (one : Written)
-      → Updates task (record { lets = []; body = query_of tree (key_is 2) (col 1 0 ∷ col 1 0 ∷ lit Null ∷ col 0 5 ∷ []) }) (params ++ rowid there ∷ (Int (pos key) ∷ Int (pos key) ∷ value ∷ [])) db (Ok one) → IsPut one.trees
+      → Updates task (record { lets = []; body = query_of tree (key_is 2) (col 1 0 ∷ col 1 0 ∷ lit Null ∷ col 0 5 ∷ []) })
+      (params ++ rowid there ∷ (Int (pos key) ∷ Int (pos key) ∷ value ∷ [])) db (Ok one) → IsPut one.trees
   put_again there r here has is one h =
       let own : is_eq (value_cmp (rowid there) (Int (pos key))) ≡ true = ap (λ (x : Row). is_eq (value_cmp (rowid x) (Int (pos key)))) is ∙ has in
       let asked = went h in
       let done = went asked.2 in
       let given : Row = params ++ rowid there ∷ (Int (pos key) ∷ Int (pos key) ∷ value ∷ []) in
-      let same : IsPermutation (map renewed (filter (has_rowid (pos key)) (db tree))) asked.0 = answered db tree key (key_is 2) low given (λ x. tests_key key (rowid x) (rowid there) own) (col 1 0 ∷ col 1 0 ∷ lit Null ∷ col 0 5 ∷ []) asked.0 (asked.1.answer Null) in
+      let same : IsPermutation (map renewed (filter (has_rowid (pos key)) (db tree))) asked.0 =
+      answered db tree key (key_is 2) low given (λ x. tests_key key (rowid x) (rowid there) own) (col 1 0 ∷ col 1 0 ∷ lit Null ∷ col 0 5 ∷ []) asked.0
+      (asked.1.answer Null) in
       let step = one_step record_schema mode.keys db done.0 (edit asked.0) refl done.1 in
       let trees : one.trees ≡ done.0 = ap (λ (w : Written). w.trees) (same_value done.2) in
       rw trees (put_matches asked.0 same (r, here, has) done.0 step)
@@ -233,19 +249,23 @@ module _ (name key_name column_name : List ℕ) (kind : Kind) (tree : ℕ) (low 
       (λ done. Then (Counts task done.0.trees counter.0 done.1) (λ next. Gives (record done.0 { trees = next }))) (Ok one)) sourced.1.1 counter.2) in
       let row = went each.1 in
       let next = went each.2 in
-      let first : IsPut row.0.trees = tried row.0 (subst (λ r. Tries task Abort (overwrites tree ∷ []) r db (Ok row.0)) (rw (cast_int (pos key), cast_null, kept) refl) row.1) in
+      let first : IsPut row.0.trees = tried row.0 (subst (λ r. Tries task Abort (overwrites tree ∷ []) r db (Ok row.0))
+      (rw (cast_int (pos key), cast_null, kept) refl) row.1) in
       let mid : each.0.0.trees ≡ row.0.trees = ap (λ (d : Written × ℤ). d.0.trees) (same_value row.2) in
       let last : one.trees ≡ each.0.0.trees = ap (λ (w : Written). w.trees) (same_value next.2) ∙ same_value next.1 in
       rw (last, mid) first
 
 -- what an upsert that ran has made of the database
-pub does_put : (name key_name column_name : List ℕ) (kind : Kind) (tree : ℕ) → nat_le (2 ^ 31) tree ≡ false → slice_get record_schema.tables tree ≡ Some (keyed_table name tree key_name column_name kind)
+pub does_put : (name key_name column_name : List ℕ) (kind : Kind) (tree : ℕ) → nat_le (2 ^ 31) tree ≡ false
+    → slice_get record_schema.tables tree ≡ Some (keyed_table name tree key_name column_name kind)
     → (limit : Option ℕ) (mode : Mode) (key : ℕ) (value : Value) → cast kind value ≡ value → (db after : Database) → db.schema ≡ record_schema
-    → (text : List ℕ) (tally : Tally) → Does limit mode (Int (pos key) ∷ value ∷ []) db text None (upsert tree) (Ok (tally, after)) → Puts db after tree key value
+    → (text : List ℕ) (tally : Tally) → Does limit mode (Int (pos key) ∷ value ∷ []) db text None (upsert tree) (Ok (tally, after))
+    → Puts db after tree key value
 does_put name key_name column_name kind tree low is limit mode key value kept db after has text tally h =
     let given : Row = Int (pos key) ∷ value ∷ [] in
     let under = subst (λ s. Does limit mode given (record db { schema = s }) text None (upsert tree) (Ok (tally, after))) has h in
-    let done = went (subst (λ o. AtPlace (λ t. OnRows (record { limit = limit; keys = mode.keys; schema = record_schema; table = t; params = given }) mode None (upsert tree) db.trees) o (Ok (tally, after))) is under) in
+    let done = went (subst (λ o. AtPlace (λ t. OnRows (record { limit = limit; keys = mode.keys; schema = record_schema; table = t; params = given }) mode None
+    (upsert tree) db.trees) o (Ok (tally, after))) is under) in
     let now : after ≡ record { schema = record_schema; trees = done.0.trees } = ap (λ (p : Tally × Database). p.1) (same_value (went (went done.2).2).2) in
     let put = inserted name key_name column_name kind tree low limit mode key value kept db.trees done.0 done.1 in
     rw now (record { schema = sym has; there = put.there; others = put.others; trees = put.trees })
@@ -255,7 +275,8 @@ insert_version = Insert 0 (Values (lit (Int (pos 1)) ∷ lit Null ∷ col 0 0 �
 
 -- what the INSERT of the version has made of the database
 pub does_version : (limit : Option ℕ) (mode : Mode) (version : ℕ) (db after : Database) → db.schema ≡ record_schema
-    → (text : List ℕ) (tally : Tally) → Does limit mode (Int (pos version) ∷ []) db text None insert_version (Ok (tally, after)) → Puts db after 0 1 (Int (pos version)) × (after.trees 0 ≡ put_row (row_of 1 (Int (pos version))) (db.trees 0))
+    → (text : List ℕ) (tally : Tally) → Does limit mode (Int (pos version) ∷ []) db text None insert_version (Ok (tally, after))
+    → Puts db after 0 1 (Int (pos version)) × (after.trees 0 ≡ put_row (row_of 1 (Int (pos version))) (db.trees 0))
 does_version limit mode version db after has text tally h =
     let given : Row = Int (pos version) ∷ [] in
     let done = went (subst (λ s. Does limit mode given (record db { schema = s }) text None insert_version (Ok (tally, after))) has h) in
@@ -267,15 +288,18 @@ does_version limit mode version db after has text tally h =
     let trees : done.0.trees ≡ write.0 = ap (λ (w : Written). w.trees) (same_value next.2) ∙ same_value next.1 in
     let step = one_step record_schema mode.keys db.trees write.0 (edit_of db.trees (meta 0) [] Chosen 0 sourced.0) refl write.1 in
     let rows : write.0 0 ≡ put_row (row_of 1 (Int (pos version))) (db.trees 0) =
-    step.rows ∙ ap (λ all. edited db.trees (edit_of db.trees (meta 0) [] Chosen 0 all)) sourced.1.1 ∙ rw (cast_int (pos 1), cast_null, cast_int (pos version)) refl in
-    let put = put_over (codes "meta") (codes "id") (codes "version") Integer 0 refl limit mode 1 (Int (pos version)) (cast_int (pos version)) db.trees write.0 (db.trees 0) rows (λ other apart. refl) (λ t apart. step.others t apart tt) in
+    step.rows ∙ ap (λ all. edited db.trees (edit_of db.trees (meta 0) [] Chosen 0 all)) sourced.1.1
+    ∙ rw (cast_int (pos 1), cast_null, cast_int (pos version)) refl in
+    let put = put_over (codes "meta") (codes "id") (codes "version") Integer 0 refl limit mode 1 (Int (pos version)) (cast_int (pos version)) db.trees write.0
+    (db.trees 0) rows (λ other apart. refl) (λ t apart. step.others t apart tt) in
     rw (now, trees) (record { schema = sym has; there = put.there; others = put.others; trees = put.trees }, rows)
 
 abbrev pub raise : Command
 raise = Update 0 (record { lets = []; body = query_of 0 first_key_is (col 1 0 ∷ col 1 0 ∷ lit Null ∷ col 0 0 ∷ []) })
 
 -- what the UPDATE of the version has made of the database, where there is a version
-pub does_raise : (limit : Option ℕ) (mode : Mode) (version : ℕ) (db after : Database) (before : Value) → db.schema ≡ record_schema → value_at (db.trees 0) 1 ≡ Some before
+pub does_raise : (limit : Option ℕ) (mode : Mode) (version : ℕ) (db after : Database) (before : Value) → db.schema ≡ record_schema
+    → value_at (db.trees 0) 1 ≡ Some before
     → (text : List ℕ) (tally : Tally) → Does limit mode (Int (pos version) ∷ []) db text None raise (Ok (tally, after)) → Puts db after 0 1 (Int (pos version))
 does_raise limit mode version db after before has there text tally h =
     let given : Row = Int (pos version) ∷ [] in
@@ -286,9 +310,12 @@ does_raise limit mode version db after before has there text tally h =
     let trees : done.0.trees ≡ write.0 = ap (λ (w : Written). w.trees) (same_value write.2) in
     let made = renewed (codes "meta") (codes "id") (codes "version") Integer 0 refl limit mode 1 (Int (pos version)) (cast_int (pos version)) db.trees in
     let same : IsPermutation (map made (filter (has_rowid (pos 1)) (db.trees 0))) asked.0 =
-    answered db.trees 0 1 first_key_is refl given (λ x. tests_key 1 (rowid x) (Int (pos 1)) (find_own 1)) (col 1 0 ∷ col 1 0 ∷ lit Null ∷ col 0 0 ∷ []) asked.0 (asked.1.answer Null) in
-    let put = put_matches (codes "meta") (codes "id") (codes "version") Integer 0 refl limit mode 1 (Int (pos version)) (cast_int (pos version)) db.trees asked.0 same (row_of_value db.trees before there) write.0
-    (one_step record_schema mode.keys db.trees write.0 (edit (codes "meta") (codes "id") (codes "version") Integer 0 refl limit mode 1 (Int (pos version)) (cast_int (pos version)) db.trees asked.0) refl write.1) in
+    answered db.trees 0 1 first_key_is refl given (λ x. tests_key 1 (rowid x) (Int (pos 1)) (find_own 1)) (col 1 0 ∷ col 1 0 ∷ lit Null ∷ col 0 0 ∷ []) asked.0
+    (asked.1.answer Null) in
+    let put = put_matches (codes "meta") (codes "id") (codes "version") Integer 0 refl limit mode 1 (Int (pos version))
+    (cast_int (pos version)) db.trees asked.0 same (row_of_value db.trees before there) write.0
+    (one_step record_schema mode.keys db.trees write.0 (edit (codes "meta") (codes "id") (codes "version") Integer 0 refl limit mode 1 (Int (pos version))
+    (cast_int (pos version)) db.trees asked.0) refl write.1) in
     rw (now, trees) (record { schema = sym has; there = put.there; others = put.others; trees = put.trees })
   where
     row_of_value : (trees : Trees) (before : Value) → value_at (trees 0) 1 ≡ Some before → (r : Row) × Has (trees 0) r × (has_rowid (pos 1) r ≡ true)

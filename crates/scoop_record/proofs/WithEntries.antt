@@ -7,7 +7,7 @@ use Rattle.scoop_record.specs.Image.{bare_bytes, block_bytes, entries_bytes, hea
 use Rattle.scoop_record.specs.Range.{BareInRange, EntriesInRange}
 use Rattle.scoop_record.specs.Reading.{IfHasQueue}
 use Rattle.scoop_record.proofs.Firsts.{IsNext, TellsApart, lists_apart, next_value}
-use Rattle.scoop_record.proofs.Lists.{all_both}
+use Rattle.scoop_keeper.proofs.Lists.{all_both}
 use Rattle.scoop_record.proofs.Queues.{bare_len, bytes_grown, place_grown, queue_apart}
 
 abbrev pub QueueInRange : PrivateQueue → Type 0
@@ -33,7 +33,8 @@ whole_apart x y a b p q e =
     let same = queue_apart x y (entries_bytes x ++ a) (entries_bytes y ++ b) a b p.0 q.0 p.1 q.1 bare entries in
     (same.0, same.2)
 
-module _ (xs ys : List PrivateQueue) (xs_bare : AllByRecursion BareInRange xs) (ys_bare : AllByRecursion BareInRange ys) (xs_entries : AllByRecursion EntriesInRange xs) (ys_entries : AllByRecursion EntriesInRange ys) where
+module _ (xs ys : List PrivateQueue) (xs_bare : AllByRecursion BareInRange xs) (ys_bare : AllByRecursion BareInRange ys)
+    (xs_entries : AllByRecursion EntriesInRange xs) (ys_entries : AllByRecursion EntriesInRange ys) where
   xs_in : AllByRecursion QueueInRange xs
   xs_in = all_both BareInRange EntriesInRange xs xs_bare xs_entries
 
@@ -63,12 +64,14 @@ module _ (old new : List PrivateQueue) (bytes : List ℕ) (at len : ℕ) (got : 
       drop-drop len (at + 18) bytes ∙ ap (λ (k : ℕ). drop k bytes) behind_at ∙ sym (drop-drop (18 + len) at bytes) in
       let entries : drop 18 (drop at bytes) ≡ entries_bytes got.queue ++ drop (18 + len) (drop at bytes) =
       drop-drop 18 at bytes ∙ got.begins ∙ ap (λ (s : List ℕ). entries_bytes got.queue ++ s) behind in
-      got.head ∙ ap (λ (s : List ℕ). bare_bytes got.queue ++ s) entries ∙ sym (append_assoc (bare_bytes got.queue) (entries_bytes got.queue) (drop (18 + len) (drop at bytes)))
+      got.head ∙ ap (λ (s : List ℕ). bare_bytes got.queue ++ s) entries
+      ∙ sym (append_assoc (bare_bytes got.queue) (entries_bytes got.queue) (drop (18 + len) (drop at bytes)))
 
   pub whole_bytes : bytes ≡ flat_map queue_bytes old ++ drop at bytes → bytes ≡ flat_map queue_bytes new ++ drop (at + (18 + len)) bytes
   whole_bytes e = bytes_grown old new got.queue got.appended queue_bytes bytes at (18 + len) follows e
 
   pub whole_place : at ≡ length (flat_map queue_bytes old) → at + (18 + len) ≡ length (flat_map queue_bytes new)
   whole_place e =
-      let long : 18 + len ≡ length (queue_bytes got.queue) = omega (arith, got.len_is, length-append (bare_bytes got.queue) (entries_bytes got.queue), bare_len got.queue) in
+      let long : 18 + len ≡ length (queue_bytes got.queue) =
+      omega (arith, got.len_is, length-append (bare_bytes got.queue) (entries_bytes got.queue), bare_len got.queue) in
       place_grown old new got.queue got.appended queue_bytes at (18 + len) long e

@@ -2,14 +2,8 @@ pub use Rattle.scoop_handler.specs.State
 pub mod Range
 pub mod Image
 pub mod Places
-pub mod Keyed
 pub mod Reading
 pub mod Faults
-pub mod Keeper
-pub mod Running
-pub mod Text
-pub mod Memory
-pub mod Failing
 pub mod Tables
 pub mod Store
 pub mod Migrate

@@ -51,7 +51,8 @@ abbrev pub ReadsEntries : (count : ℕ) → List ℕ → (cells : List Entry) �
 ReadsEntries count bytes cells (Some n) =
     AllByRecursion IsEntry (take count cells) × (length (take count cells) ≡ count) × (n ≡ length (flat_map entry_bytes (take count cells)))
     × (bytes ≡ flat_map entry_bytes (take count cells) ++ drop n bytes)
-ReadsEntries count bytes cells None = (es : List Entry) (rest : List ℕ) → AllByRecursion IsEntry es → length es ≡ count → bytes ≢ flat_map entry_bytes es ++ rest
+ReadsEntries count bytes cells None = (es : List Entry) (rest : List ℕ) → AllByRecursion IsEntry es → length es ≡ count
+    → bytes ≢ flat_map entry_bytes es ++ rest
 
 -- a private queue was appended whose head begins the bytes `heads` and whose entries begin the bytes `row`
 pub record IfHasQueue (old new : List PrivateQueue) (heads row : List ℕ) (len : ℕ) : Type 0 where
@@ -66,7 +67,8 @@ pub record IfHasQueue (old new : List PrivateQueue) (heads row : List ℕ) (len 
 -- no private queue that may be appended begins the bytes
 abbrev pub HasNoQueue : List PrivateQueue → (heads row : List ℕ) → Type 0
 HasNoQueue old heads row =
-    (q : PrivateQueue) (more : List PrivateQueue) (a b : List ℕ) → IsQueues (old ++ q ∷ more) → BareInRange q → EntriesInRange q → heads ≡ bare_bytes q ++ a → row ≡ entries_bytes q ++ b → ⊥
+    (q : PrivateQueue) (more : List PrivateQueue) (a b : List ℕ) → IsQueues (old ++ q ∷ more) → BareInRange q → EntriesInRange q → heads ≡ bare_bytes q ++ a
+    → row ≡ entries_bytes q ++ b → ⊥
 
 -- so many private queues that the bytes are, their heads all of `heads` and their entries all of `row`
 pub record AreQueues (count : ℕ) (heads row : List ℕ) (queues : List PrivateQueue) : Type 0 where

@@ -10,7 +10,7 @@ use Rattle.sqlite.specs.State.{State, HasCleanDisk}
 use Rattle.scoop_handler.specs.State.{HandlerState}
 use Rattle.scoop_record.specs.Image.{image, pending_row}
 use Rattle.scoop_record.specs.Reading.{IsStored}
-use Rattle.scoop_record.specs.Keeper.{Stored, Missing, Holds, Damaged, last_incarnation, next_of}
+use Rattle.scoop_keeper.specs.Keeper.{Stored, Missing, Holds, Damaged, last_incarnation, next_of}
 use Rattle.scoop_record.specs.Tables.{first_schema, record_schema, row_of, value_at, Puts}
 
 -- what is no incarnation counts as the last one, after which none comes

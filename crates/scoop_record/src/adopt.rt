@@ -4,14 +4,14 @@ ghost use Rattle.std.specs.Prelude.{◌≡◌, IsTrue, false, IfErr, OnOk, OnErr
 ghost use Rattle.sqlite.specs.Effect.{Database};
 ghost use Rattle.sqlite.specs.Held.{state};
 ghost use Rattle.sqlite.specs.State.{Survives};
-ghost use Rattle.scoop_record.specs.Keeper.{IsAdoptError};
+ghost use Rattle.scoop_keeper.specs.Keeper.{IsAdoptError};
 ghost use Rattle.scoop_record.specs.Migrate.{Migrates, Adopts, IsLowestBad, IsWrongSchema};
 ghost use Rattle.scoop_record.specs.Store.{IsSound, IsReady, IsIdle, IsOpenOnOk, IsLaidOut};
 
-use crate::keeper::KeeperError;
 use crate::migrate::migrate;
 use crate::schema::{is_first_schema, is_record_schema};
 use crate::version::version;
+use scoop_keeper::KeeperError;
 use scoop_message::HandlerId;
 use sqlite::{Alter, Connection};
 use std::alloc::Global;

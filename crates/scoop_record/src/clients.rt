@@ -9,10 +9,10 @@ ghost use Rattle.sqlite.specs.declared.types.Value.{Value as SqlValue};
 ghost use Rattle.sqlite.specs.declared.types.Value.TheVariants.{Int};
 ghost use Rattle.scoop_record.specs.Tables.{value_at, Puts};
 ghost use Rattle.scoop_record.specs.Store.{inc_in, incs_in, IsRecord, IsSound, IsReady, IsOpenOnOk, Advances};
-ghost use Rattle.scoop_record.specs.Keeper.{next_of, last_incarnation, IsPutError};
+ghost use Rattle.scoop_keeper.specs.Keeper.{next_of, last_incarnation, IsPutError};
 
-use crate::keeper::KeeperError;
 use crate::refusal::refusal;
+use scoop_keeper::KeeperError;
 use sqlite::{Alter, Connection, Error, Row, Transaction, params};
 
 /// The rows with the client's incarnation: none or one.

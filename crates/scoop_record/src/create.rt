@@ -7,12 +7,12 @@ ghost use Rattle.sqlite.specs.State.{HasCleanDisk, KeepsCommit, Shows, Survives}
 ghost use Rattle.sqlite.specs.declared.types.Value.TheVariants.{Int};
 ghost use Rattle.scoop_record.specs.Tables.{no_schema, meta_schema, two_schema, first_schema, record_schema, row_of, Makes, Puts};
 ghost use Rattle.scoop_record.specs.Store.{IsSound, IsIdle, IsOpenOnOk, IsNewRecord};
-ghost use Rattle.scoop_record.specs.Keeper.{IsPutError};
+ghost use Rattle.scoop_keeper.specs.Keeper.{IsPutError};
 
-use crate::keeper::KeeperError;
 use crate::refusal::refusal;
 use crate::schema::is_blank;
 use crate::version::VERSION;
+use scoop_keeper::KeeperError;
 use sqlite::{Alter, Connection, Error, Transaction, params};
 
 fn create_meta<S: Alter>(tx: &mut Transaction<'_, S>) -> Result<usize, Error>

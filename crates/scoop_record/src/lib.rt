@@ -1,7 +1,7 @@
-//! Keeps what has to outlive a restart: the states of handlers, and the incarnations of clients.
+//! Keeps what has to outlive a restart in the tables of a database: the states of handlers, and the incarnations of
+//! clients.
 //!
-//! A [`Keeper`] takes and gives them: a [`MemoryKeeper`] in memory, a [`Store`] in the tables of a database, a
-//! [`FailingKeeper`] over another one, for tests. What a store writes for a handler are the bytes of [`image`] and
+//! A [`Store`] is a [`Keeper`], as the one in memory is. What it writes for a handler are the bytes of [`image`] and
 //! [`pending_row`].
 //!
 //! ```
@@ -22,14 +22,10 @@
 mod adopt;
 mod clients;
 mod create;
-mod failing;
 mod handlers;
 mod images;
-mod keeper;
-mod memory;
 mod migrate;
 mod refusal;
-mod running;
 mod schema;
 mod sound;
 mod store;
@@ -37,10 +33,10 @@ mod version;
 
 pub use adopt::adopt_tables;
 pub use create::create_tables;
-pub use failing::FailingKeeper;
 pub use images::{ReadError, image, pending_row, read_image, read_image_with_entries};
-pub use keeper::{Keeper, KeeperError};
-pub use memory::MemoryKeeper;
-pub use running::{JobRefusal, Unfinished, finish_and_store, hear_and_store};
+pub use scoop_keeper::{
+    FailingKeeper, JobRefusal, Keeper, KeeperError, MemoryKeeper, Unfinished, finish_and_store,
+    finish_beside, hear_and_store, hear_beside,
+};
 pub use sound::memory_is_sound;
 pub use store::Store;

@@ -11,15 +11,15 @@ ghost use Rattle.scoop_handler.specs.State.{IsState};
 ghost use Rattle.scoop_record.specs.Range.{InRange};
 ghost use Rattle.scoop_record.specs.Store.{IsSound, IsOpenOnOk, IsRecord, IsFirstRecord, Saves};
 ghost use Rattle.scoop_record.specs.Tables.{value_at, Puts};
-ghost use Rattle.scoop_record.specs.Keeper.{IsPutError, IsAdoptError};
+ghost use Rattle.scoop_keeper.specs.Keeper.{IsPutError, IsAdoptError};
 ghost use Rattle.scoop_record.specs.Migrate.{keyed_value, SavesAll, Migrates, IsFirstRow, IsRising, IsNumber, AreNumbers, AreNumbered, IsBadRow, IsFirstBad, IsLowestBad, HasOtherNumber};
 
 use crate::create::create_pending;
 use crate::handlers::{images_of, put_both};
 use crate::images::{ReadError, read_image_with_entries};
-use crate::keeper::KeeperError;
 use crate::refusal::refusal;
 use scoop_handler::HandlerState;
+use scoop_keeper::KeeperError;
 use scoop_message::HandlerId;
 use sqlite::{Alter, Connection, Error, Row, Transaction, params};
 use std::alloc::Global;

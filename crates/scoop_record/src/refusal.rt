@@ -1,8 +1,8 @@
 //! What a refusal of the database is to a keeper.
 
-ghost use Rattle.scoop_record.specs.Keeper.{IsPutError};
+ghost use Rattle.scoop_keeper.specs.Keeper.{IsPutError};
 
-use crate::keeper::KeeperError;
+use scoop_keeper::KeeperError;
 use sqlite::{Error, ErrorCode};
 
 /// The keeper's word for an error of the database.

@@ -5,9 +5,9 @@ ghost use Rattle.scoop_record.specs.Tables.{no_schema};
 
 use crate::adopt::adopt_tables;
 use crate::create::create_tables;
-use crate::keeper::{Keeper, KeeperError};
 use crate::{clients, handlers};
 use scoop_handler::HandlerState;
+use scoop_keeper::{Keeper, KeeperError};
 use scoop_message::{ClientId, HandlerId};
 use sqlite::{Alter, Connection};
 use std::alloc::Global;
@@ -38,7 +38,7 @@ impl<S: Alter + Drop> Store<S> {
     ghost use Rattle.sqlite.specs.Effect.{Database};
     ghost use Rattle.sqlite.specs.Held.{Held, state};
     ghost use Rattle.sqlite.specs.State.{HasCleanDisk, Survives};
-    ghost use Rattle.scoop_record.specs.Keeper.{IsPutError, IsAdoptError};
+    ghost use Rattle.scoop_keeper.specs.Keeper.{IsPutError, IsAdoptError};
     ghost use Rattle.scoop_record.specs.Migrate.{Migrates, Adopts, IsLowestBad, IsWrongSchema};
     ghost use Rattle.scoop_record.specs.Store.{IsSound, IsOpenOnOk, IsLaidOut, IsNewRecord};
 
@@ -97,7 +97,7 @@ impl<S: Alter + Drop> Keeper<Global> for Store<S> {
     ghost use Rattle.sqlite.specs.Held.{state as seen};
     ghost use Rattle.sqlite.specs.Effect.{Database};
     ghost use Rattle.sqlite.specs.State.{HasCleanDisk, Survives};
-    ghost use Rattle.scoop_record.specs.Keeper.{Damaged, Keeps, Stays, IsSame, IsTheOne, Sets, IsPutError, next_of, last_incarnation, stored_of};
+    ghost use Rattle.scoop_keeper.specs.Keeper.{Damaged, Keeps, Stays, IsSame, IsTheOne, Sets, IsPutError, next_of, last_incarnation, stored_of};
     ghost use Rattle.scoop_record.specs.Store.{handlers_in, incs_in, IsSound, IsOpenOnOk, Advances, Saves};
 
     ghost handlers = { λ s. handlers_in (seen S.Store s).now.trees };

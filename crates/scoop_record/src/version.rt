@@ -5,12 +5,12 @@ ghost use Rattle.std.specs.Option.{option_to_list};
 ghost use Rattle.sqlite.specs.declared.types.Value.{Value as SqlValue};
 ghost use Rattle.sqlite.specs.Held.{state};
 ghost use Rattle.sqlite.specs.State.{HasCleanDisk, KeepsCommit, Survives};
-ghost use Rattle.scoop_record.specs.Keeper.{IsPutError};
+ghost use Rattle.scoop_keeper.specs.Keeper.{IsPutError};
 ghost use Rattle.scoop_record.specs.Store.{IsSound, IsLaidOut, IsOpenOnOk, number_of, TellsVersion};
 ghost use Rattle.scoop_record.specs.Tables.{value_at};
 
-use crate::keeper::KeeperError;
 use crate::refusal::refusal;
+use scoop_keeper::KeeperError;
 use sqlite::{Alter, Connection, Error, ErrorCode, Row, Transaction};
 
 /// The version of the tables that a store makes. Contracts name the number itself, so no other may stand here.

@@ -1,4 +1,15 @@
 //! An allocator that refuses one growth, for tests.
+//!
+//! ```
+//! // the second growth is refused
+//! let heap = Refusing::new(alloc, 2);
+//! let mut list = Vec::new(&heap);
+//! list.push(5u64)?;
+//! assert!(rt; list.reserve(100).is_err() && heap.has_refused());
+//! // nothing has changed, and the next growth is granted
+//! assert_eq!(rt; list.get(0).copied(), Some(5));
+//! list.reserve(100)?;
+//! ```
 #![tactic(auto)]
 
 use std::alloc::{AllocError, Allocator};

@@ -26,3 +26,18 @@ fn one_growth_is_refused(rt: HostRuntime) -> Result<(), Fail> {
     }
     Ok(())
 }
+
+/// The example of the crate's doc.
+#[test]
+fn a_list_keeps_what_it_has(rt: HostRuntime) -> Result<(), Fail> {
+    let alloc = rt.alloc();
+    // the second growth is refused
+    let heap = Refusing::new(alloc, 2);
+    let mut list = Vec::new(&heap);
+    list.push(5u64)?;
+    assert!(rt; list.reserve(100).is_err() && heap.has_refused());
+    // nothing has changed, and the next growth is granted
+    assert_eq!(rt; list.get(0).copied(), Some(5));
+    list.reserve(100)?;
+    Ok(())
+}

@@ -33,7 +33,8 @@ or_right false b e = e
 same : (a b : HandlerId) → same_handler a b ≡ true → a ≡ b
 same a b e = (handler_decides a b).0 e
 
-kept : (y h x : HandlerId) (ys : List HandlerId) (here : Bool) → (here ≡ true → y ≡ h) → (same_handler y x ≡ true) ⊎ (has ys x ≡ true) → (has ys x ≡ true → (x ≡ h) ⊎ (has (without h ys) x ≡ true)) → (x ≡ h) ⊎ (has (if not here then y ∷ without h ys else without h ys) x ≡ true)
+kept : (y h x : HandlerId) (ys : List HandlerId) (here : Bool) → (here ≡ true → y ≡ h) → (same_handler y x ≡ true) ⊎ (has ys x ≡ true)
+    → (has ys x ≡ true → (x ≡ h) ⊎ (has (without h ys) x ≡ true)) → (x ≡ h) ⊎ (has (if not here then y ∷ without h ys else without h ys) x ≡ true)
 kept y h x ys true is (inl e) rest = inl (sym (same y x e) ∙ is refl)
 kept y h x ys true is (inr e) rest = rest e
 kept y h x ys false is (inl e) rest = inr (ap (λ b. b || has (without h ys) x) e)
@@ -78,15 +79,18 @@ record Sound (b : Block) (hs : List HandlerId) (past : List Event) (r : Reservat
 abbrev of_parts : Block → List HandlerId → Stage → List HandlerId → ReservationState
 of_parts b hs stage left = record { block = b; handlers = hs; stage = stage; left = left }
 
-sound : (b : Block) (hs : List HandlerId) (past : List Event) (stage : Stage) (left : List HandlerId) → Stands b hs past stage left → Sound b hs past (of_parts b hs stage left)
+sound : (b : Block) (hs : List HandlerId) (past : List Event) (stage : Stage) (left : List HandlerId) → Stands b hs past stage left
+    → Sound b hs past (of_parts b hs stage left)
 sound b hs past stage left s = record { block = refl; handlers = refl; stands = s }
 
-more_left : (told : HandlerId → Message) (hs left : List HandlerId) (past : List Event) (e : Event) → LeftOr told hs left past → LeftOr told hs left (past ++ e ∷ [])
+more_left : (told : HandlerId → Message) (hs left : List HandlerId) (past : List Event) (e : Event) → LeftOr told hs left past
+    → LeftOr told hs left (past ++ e ∷ [])
 more_left told hs left past e s = record {
   told_or = λ x among. ⊎_elim inl (λ k. inr (Contains-append_left past (e ∷ []) (Hears (told x)) k)) (s.told_or x among);
 }
 
-more : (b : Block) (hs : List HandlerId) (past : List Event) (stage : Stage) (left : List HandlerId) (e : Event) → Stands b hs past stage left → Stands b hs (past ++ e ∷ []) stage left
+more : (b : Block) (hs : List HandlerId) (past : List Event) (stage : Stage) (left : List HandlerId) (e : Event) → Stands b hs past stage left
+    → Stands b hs (past ++ e ∷ []) stage left
 more b hs past Locking left e s = more_left (locked b) hs left past e s
 more b hs past Opening left e s = (more_left (locked b) hs [] past e s.0, more_left (opened b) hs left past e s.1)
 more b hs past Unlocking left e s = more_left (opened b) hs [] past e s
@@ -95,10 +99,12 @@ more b hs past GivingUp left e s = Contains-append_left past (e ∷ []) GivesUp 
 last_one : (past : List Event) (e : Event) → Contains (past ++ e ∷ []) e
 last_one past e = Contains-append_right past (e ∷ []) e (0, omega arith, refl)
 
-one_less : (told : HandlerId → Message) (hs left : List HandlerId) (past : List Event) (h : HandlerId) → LeftOr told hs left past → LeftOr told hs (without h left) (past ++ Hears (told h) ∷ [])
+one_less : (told : HandlerId → Message) (hs left : List HandlerId) (past : List Event) (h : HandlerId) → LeftOr told hs left past
+    → LeftOr told hs (without h left) (past ++ Hears (told h) ∷ [])
 one_less told hs left past h s = record {
   told_or = λ x among. ⊎_elim
-      (λ in_left. ⊎_elim (λ is. inr (let P : HandlerId → Type 0 = λ y. Contains (past ++ Hears (told h) ∷ []) (Hears (told y)) in subst P (sym is) (last_one past (Hears (told h))))) inl (has-without left h x in_left))
+      (λ in_left. ⊎_elim (λ is. inr (let P : HandlerId → Type 0 = λ y. Contains (past ++ Hears (told h) ∷ []) (Hears (told y)) in
+      subst P (sym is) (last_one past (Hears (told h))))) inl (has-without left h x in_left))
       (λ k. inr (Contains-append_left past (Hears (told h) ∷ []) (Hears (told x)) k))
       (s.told_or x among);
 }
@@ -111,15 +117,19 @@ all_left told hs past = record { told_or = λ x among. inl among }
 
 -- ---- one message or giving up
 
-lock_one : (b : Block) (hs : List HandlerId) (past : List Event) (left : List HandlerId) (h : HandlerId) (lowest : Bool) (over : Bool) → (over ≡ true → without h left ≡ []) → LeftOr (locked b) hs left past →
-    Sound b hs (past ++ Hears (Locked h b) ∷ []) (if lowest then (if over then of_parts b hs Opening hs else of_parts b hs Locking (without h left)) else of_parts b hs Locking left)
+lock_one : (b : Block) (hs : List HandlerId) (past : List Event) (left : List HandlerId) (h : HandlerId) (lowest : Bool) (over : Bool)
+    → (over ≡ true → without h left ≡ []) → LeftOr (locked b) hs left past →
+    Sound b hs (past ++ Hears (Locked h b) ∷ []) (if lowest then (if over then of_parts b hs Opening hs else of_parts b hs Locking (without h left))
+    else of_parts b hs Locking left)
 lock_one b hs past left h false over none s = sound b hs _ Locking left (more_left (locked b) hs left past (Hears (Locked h b)) s)
 lock_one b hs past left h true false none s = sound b hs _ Locking (without h left) (one_less (locked b) hs left past h s)
 lock_one b hs past left h true true none s =
     sound b hs _ Opening hs (none_less (locked b) hs (without h left) _ (none refl) (one_less (locked b) hs left past h s), all_left (opened b) hs _)
 
-open_one : (b : Block) (hs : List HandlerId) (past : List Event) (left : List HandlerId) (h : HandlerId) (among over : Bool) → (over ≡ true → without h left ≡ []) → Stands b hs past Opening left →
-    Sound b hs (past ++ Hears (Opened h b) ∷ []) (if among then (if over then of_parts b hs Unlocking hs else of_parts b hs Opening (without h left)) else of_parts b hs Opening left)
+open_one : (b : Block) (hs : List HandlerId) (past : List Event) (left : List HandlerId) (h : HandlerId) (among over : Bool)
+    → (over ≡ true → without h left ≡ []) → Stands b hs past Opening left →
+    Sound b hs (past ++ Hears (Opened h b) ∷ []) (if among then (if over then of_parts b hs Unlocking hs else of_parts b hs Opening (without h left))
+    else of_parts b hs Opening left)
 open_one b hs past left h false over none s = sound b hs _ Opening left (more b hs past Opening left (Hears (Opened h b)) s)
 open_one b hs past left h true false none s =
     sound b hs _ Opening (without h left) (more_left (locked b) hs [] past (Hears (Opened h b)) s.0, one_less (opened b) hs left past h s.1)
@@ -131,7 +141,8 @@ first_of_choice : (c : Bool) (m n : Notice) → (if c then m.0 else n.0) ≡ (if
 first_of_choice true m n = refl
 first_of_choice false m n = refl
 
-choice : (b : Block) (hs : List HandlerId) (past : List Event) (c : Bool) (q r : ReservationState) → Sound b hs past q → Sound b hs past r → Sound b hs past (if c then q else r)
+choice : (b : Block) (hs : List HandlerId) (past : List Event) (c : Bool) (q r : ReservationState) → Sound b hs past q → Sound b hs past r
+    → Sound b hs past (if c then q else r)
 choice b hs past true q r s t = s
 choice b hs past false q r s t = t
 
@@ -145,28 +156,32 @@ module _ (b : Block) (hs : List HandlerId) (past : List Event) where
   by_choice : (e : Event) (c : Bool) (m n : Notice) → Kept e (if c then m.0 else n.0) → Kept e (if c then m else n).0
   by_choice e c m n s = subst (Kept e) (first_of_choice c m n) s
 
-  lock_heard : (h : HandlerId) (stage : Stage) (left : List HandlerId) → Stands b hs past stage left → Kept (Hears (Locked h b)) (hear_locked (of_parts b hs stage left) h stage).0
+  lock_heard : (h : HandlerId) (stage : Stage) (left : List HandlerId) → Stands b hs past stage left
+      → Kept (Hears (Locked h b)) (hear_locked (of_parts b hs stage left) h stage).0
   lock_heard h Locking left s =
       by_choice _ (is_lowest h left) _ _ (lock_one b hs past left h (is_lowest h left) (is_empty (without h left)) (none_left (without h left)) s)
   lock_heard h Opening left s = stays _ Opening left s
   lock_heard h Unlocking left s = stays _ Unlocking left s
   lock_heard h GivingUp left s = stays _ GivingUp left s
 
-  busy_heard : (h : HandlerId) (stage : Stage) (left : List HandlerId) → Stands b hs past stage left → Kept (Hears (Busy h b)) (hear_busy (of_parts b hs stage left) h stage).0
+  busy_heard : (h : HandlerId) (stage : Stage) (left : List HandlerId) → Stands b hs past stage left
+      → Kept (Hears (Busy h b)) (hear_busy (of_parts b hs stage left) h stage).0
   busy_heard h Locking left s =
       by_choice _ (is_lowest h left) _ _ (choice b hs _ (is_lowest h left) _ _ (stays _ Locking left s) (stays _ Locking left s))
   busy_heard h Opening left s = stays _ Opening left s
   busy_heard h Unlocking left s = stays _ Unlocking left s
   busy_heard h GivingUp left s = stays _ GivingUp left s
 
-  open_heard : (h : HandlerId) (stage : Stage) (left : List HandlerId) → Stands b hs past stage left → Kept (Hears (Opened h b)) (hear_opened (of_parts b hs stage left) h stage).0
+  open_heard : (h : HandlerId) (stage : Stage) (left : List HandlerId) → Stands b hs past stage left
+      → Kept (Hears (Opened h b)) (hear_opened (of_parts b hs stage left) h stage).0
   open_heard h Locking left s = stays _ Locking left s
   open_heard h Opening left s =
       by_choice _ (has left h) _ _ (open_one b hs past left h (has left h) (is_empty (without h left)) (none_left (without h left)) s)
   open_heard h Unlocking left s = stays _ Unlocking left s
   open_heard h GivingUp left s = stays _ GivingUp left s
 
-  unlock_heard : (h : HandlerId) (stage : Stage) (left : List HandlerId) → Stands b hs past stage left → Kept (Hears (Unlocked h b)) (hear_unlocked (of_parts b hs stage left) h stage).0
+  unlock_heard : (h : HandlerId) (stage : Stage) (left : List HandlerId) → Stands b hs past stage left
+      → Kept (Hears (Unlocked h b)) (hear_unlocked (of_parts b hs stage left) h stage).0
   unlock_heard h Locking left s = stays _ Locking left s
   unlock_heard h Opening left s = stays _ Opening left s
   unlock_heard h Unlocking left s =
@@ -175,7 +190,8 @@ module _ (b : Block) (hs : List HandlerId) (past : List Event) where
       by_choice _ (has left h) _ _ (choice b hs _ (has left h) _ _ (stays _ GivingUp (without h left) s) (stays _ GivingUp left s))
 
   -- a message of another block changes nothing
-  in_block : (tell : Block → Message) (d : Block) (c : Bool) → (c ≡ true → d ≡ b) → (notice : Notice) (r : ReservationState) → Kept (Hears (tell b)) notice.0 → Kept (Hears (tell d)) r → Kept (Hears (tell d)) (if c then notice else ignored r).0
+  in_block : (tell : Block → Message) (d : Block) (c : Bool) → (c ≡ true → d ≡ b) → (notice : Notice) (r : ReservationState) → Kept (Hears (tell b)) notice.0
+      → Kept (Hears (tell d)) r → Kept (Hears (tell d)) (if c then notice else ignored r).0
   in_block tell d true is notice r own other = let P : Block → Type 0 = λ x. Kept (Hears (tell x)) notice.0 in subst P (sym (is refl)) own
   in_block tell d false is notice r own other = other
 
@@ -228,26 +244,30 @@ no_other : (c : Bool) (m n : Message) → (m ≡ n → ⊥) → (if c then Some 
 no_other true m n other e = other cc
 no_other false m n other e = cc
 
-open_due : (b : Block) (hs : List HandlerId) (past : List Event) (stage : Stage) (left : List HandlerId) (h : HandlerId) → due_in (of_parts b hs stage left) h stage ≡ Some (Open h b) → Stands b hs past stage left → LeftOr (locked b) hs [] past
+open_due : (b : Block) (hs : List HandlerId) (past : List Event) (stage : Stage) (left : List HandlerId) (h : HandlerId)
+    → due_in (of_parts b hs stage left) h stage ≡ Some (Open h b) → Stands b hs past stage left → LeftOr (locked b) hs [] past
 open_due b hs past Locking left h e s = absurd (no_other (is_lowest h left) (Lock h b) (Open h b) (λ m. cc) e)
 open_due b hs past Opening left h e s = s.0
 open_due b hs past Unlocking left h e s = absurd (no_other (has left h) (Unlock h b) (Open h b) (λ m. cc) e)
 open_due b hs past GivingUp left h e s = absurd (no_other (has left h) (Unlock h b) (Open h b) (λ m. cc) e)
 
-unlock_due : (b : Block) (hs : List HandlerId) (past : List Event) (stage : Stage) (left : List HandlerId) (h : HandlerId) → due_in (of_parts b hs stage left) h stage ≡ Some (Unlock h b) → Stands b hs past stage left → LeftOr (opened b) hs [] past ⊎ (stage ≡ GivingUp)
+unlock_due : (b : Block) (hs : List HandlerId) (past : List Event) (stage : Stage) (left : List HandlerId) (h : HandlerId)
+    → due_in (of_parts b hs stage left) h stage ≡ Some (Unlock h b) → Stands b hs past stage left → LeftOr (opened b) hs [] past ⊎ (stage ≡ GivingUp)
 unlock_due b hs past Locking left h e s = absurd (no_other (is_lowest h left) (Lock h b) (Unlock h b) (λ m. cc) e)
 unlock_due b hs past Opening left h e s = absurd (no_other (has left h) (Open h b) (Unlock h b) (λ m. cc) e)
 unlock_due b hs past Unlocking left h e s = inl s
 unlock_due b hs past GivingUp left h e s = inr refl
 
-all_told : (told : HandlerId → Message) (hs : List HandlerId) (past : List Event) → LeftOr told hs [] past → (x : HandlerId) → has hs x ≡ true → Contains past (Hears (told x))
+all_told : (told : HandlerId → Message) (hs : List HandlerId) (past : List Event) → LeftOr told hs [] past → (x : HandlerId) → has hs x ≡ true
+    → Contains past (Hears (told x))
 all_told told hs past s x among = ⊎_elim (λ nowhere. absurd (false≢true nowhere)) (λ k. k) (s.told_or x among)
 
 -- where it stands after a run from the start
 at_last : (b : Block) (hs : List HandlerId) (es : List Event) → Sound b hs es (after (fresh b hs) es)
 at_last b hs es = all b hs [] es (fresh b hs) (sound b hs [] Locking hs (all_left (locked b) hs []))
 
-due_at_last : (b : Block) (hs : List HandlerId) (es : List Event) (h : HandlerId) (m : Option Message) (q : ReservationState) → Sound b hs es q → due q h ≡ m → due_in (of_parts b hs q.stage q.left) h q.stage ≡ m
+due_at_last : (b : Block) (hs : List HandlerId) (es : List Event) (h : HandlerId) (m : Option Message) (q : ReservationState) → Sound b hs es q → due q h ≡ m
+    → due_in (of_parts b hs q.stage q.left) h q.stage ≡ m
 due_at_last b hs es h m q s e = sym (ap (λ (r : ReservationState). due r h) (parts b hs es q s)) ∙ e
 
 pub keeps_order : (b : Block) (hs : List HandlerId) → KeepsOrder (fresh b hs)

@@ -13,7 +13,17 @@ use Rattle.scoop_reserve.specs.declared.stage.Step.{Step}
 use Rattle.scoop_reserve.specs.declared.stage.Step.TheVariants.{Locked as LockedStep, Busy as BusyStep, Opened as OpenedStep, Unlocked as UnlockedStep, Ignored}
 use Rattle.scoop_reserve.specs.Handlers.{has, without, is_lowest, is_empty}
 use Rattle.scoop_reserve.specs.State.{ReservationState, at_stage}
-pub use Rattle.scoop_reserve.specs.Rows.{HeardRow, passed_over, one_is_locked, all_are_locked, is_busy, one_is_opened, all_are_opened, is_unlocked, is_given_back}
+pub use Rattle.scoop_reserve.specs.Rows.{
+  HeardRow,
+  passed_over,
+  one_is_locked,
+  all_are_locked,
+  is_busy,
+  one_is_opened,
+  all_are_opened,
+  is_unlocked,
+  is_given_back,
+}
 use Rattle.scoop_reserve.specs.Rows.{Awaits, awaits_lock, awaits_refusal, awaits_opening, awaits_unlocking, awaits_giving_back, IsHeard}
 use Rattle.scoop_reserve.specs.Hearing.{Notice, heard, ignored, one_locked, one_opened, hear_locked, hear_busy, hear_opened, hear_unlocked}
 
@@ -25,7 +35,8 @@ module _ (r : ReservationState) where
   by_test m true s t p q = p refl
   by_test m false s t p q = q refl
 
-  by_state : (m : Message) (b : Bool) (x y : ReservationState) (s : Step) → (b ≡ true → HeardRow r m x s) → (b ≡ false → HeardRow r m y s) → HeardRow r m (if b then x else y) s
+  by_state : (m : Message) (b : Bool) (x y : ReservationState) (s : Step) → (b ≡ true → HeardRow r m x s) → (b ≡ false → HeardRow r m y s)
+      → HeardRow r m (if b then x else y) s
   by_state m true x y s p q = p refl
   by_state m false x y s p q = q refl
 
@@ -116,7 +127,8 @@ told r m (awaits_giving_back h at among) e = let no : UnlockedStep h ≡ Ignored
 
 -- ---- the table gives one outcome
 
-row_gives : (r : ReservationState) (m : Message) (s : ReservationState) (step : Step) → HeardRow r m s step → (step ≡ Ignored → Awaits r m → ⊥) → heard r m ≡ (s, step)
+row_gives : (r : ReservationState) (m : Message) (s : ReservationState) (step : Step) → HeardRow r m s step → (step ≡ Ignored → Awaits r m → ⊥)
+    → heard r m ≡ (s, step)
 row_gives r m s step (passed_over n) out = let is = quiet r m (heard r m).0 (heard r m).1 (heard_row r m) (out refl) in λ i. (is.0 i, is.1 i)
 row_gives r m s step (one_is_locked h at low more) out = rw (own r.block, at, low, more) refl
 row_gives r m s step (all_are_locked h at low none) out = rw (own r.block, at, low, none) refl

@@ -21,13 +21,19 @@ pub data Awaits (r : ReservationState) : Message → Type 0 where
 -- the cases, of which `passed_over` is that of a message that isn't awaited
 pub data HeardRow (r : ReservationState) : Message → ReservationState → Step → Type 0 where
   passed_over : (m : Message) → HeardRow r m r Ignored
-  one_is_locked : (h : HandlerId) → r.stage ≡ Locking → is_lowest h r.left ≡ true → is_empty (without h r.left) ≡ false → HeardRow r (Locked h r.block) (at_stage r Locking (without h r.left)) (LockedStep h)
-  all_are_locked : (h : HandlerId) → r.stage ≡ Locking → is_lowest h r.left ≡ true → is_empty (without h r.left) ≡ true → HeardRow r (Locked h r.block) (at_stage r Opening r.handlers) (LockedStep h)
+  one_is_locked : (h : HandlerId) → r.stage ≡ Locking → is_lowest h r.left ≡ true → is_empty (without h r.left) ≡ false →
+      HeardRow r (Locked h r.block) (at_stage r Locking (without h r.left)) (LockedStep h)
+  all_are_locked : (h : HandlerId) → r.stage ≡ Locking → is_lowest h r.left ≡ true → is_empty (without h r.left) ≡ true →
+      HeardRow r (Locked h r.block) (at_stage r Opening r.handlers) (LockedStep h)
   is_busy : (h : HandlerId) → r.stage ≡ Locking → is_lowest h r.left ≡ true → HeardRow r (Busy h r.block) r (BusyStep h)
-  one_is_opened : (h : HandlerId) → r.stage ≡ Opening → has r.left h ≡ true → is_empty (without h r.left) ≡ false → HeardRow r (Opened h r.block) (at_stage r Opening (without h r.left)) (OpenedStep h)
-  all_are_opened : (h : HandlerId) → r.stage ≡ Opening → has r.left h ≡ true → is_empty (without h r.left) ≡ true → HeardRow r (Opened h r.block) (at_stage r Unlocking r.handlers) (OpenedStep h)
-  is_unlocked : (h : HandlerId) → r.stage ≡ Unlocking → has r.left h ≡ true → HeardRow r (Unlocked h r.block) (at_stage r Unlocking (without h r.left)) (UnlockedStep h)
-  is_given_back : (h : HandlerId) → r.stage ≡ GivingUp → has r.left h ≡ true → HeardRow r (Unlocked h r.block) (at_stage r GivingUp (without h r.left)) (UnlockedStep h)
+  one_is_opened : (h : HandlerId) → r.stage ≡ Opening → has r.left h ≡ true → is_empty (without h r.left) ≡ false →
+      HeardRow r (Opened h r.block) (at_stage r Opening (without h r.left)) (OpenedStep h)
+  all_are_opened : (h : HandlerId) → r.stage ≡ Opening → has r.left h ≡ true → is_empty (without h r.left) ≡ true →
+      HeardRow r (Opened h r.block) (at_stage r Unlocking r.handlers) (OpenedStep h)
+  is_unlocked : (h : HandlerId) → r.stage ≡ Unlocking → has r.left h ≡ true →
+      HeardRow r (Unlocked h r.block) (at_stage r Unlocking (without h r.left)) (UnlockedStep h)
+  is_given_back : (h : HandlerId) → r.stage ≡ GivingUp → has r.left h ≡ true →
+      HeardRow r (Unlocked h r.block) (at_stage r GivingUp (without h r.left)) (UnlockedStep h)
 
 -- the table: one of the cases, and only what isn't awaited is passed over
 pub record IsHeard (r : ReservationState) (m : Message) (s : ReservationState) (step : Step) : Type 0 where

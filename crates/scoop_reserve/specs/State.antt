@@ -13,4 +13,4 @@ pub record ReservationState : Type 0 where
 
 -- a stage begins
 abbrev pub at_stage : ReservationState → Stage → List HandlerId → ReservationState
-at_stage r stage left = record { block = r.block; handlers = r.handlers; stage = stage; left = left }
+at_stage r stage left = record r { stage = stage; left = left }

@@ -30,6 +30,3 @@ pub use error::{ReserveError, TooLate};
 pub use handlers::{first_repeated, has};
 pub use reservation::Reservation;
 pub use stage::{Stage, Step};
-
-#[cfg(test)]
-mod tests;

@@ -93,10 +93,12 @@ RanMore v w b = (h : HandlerId) → count_of b (ran_at h v) ≤ count_of b (ran_
 module _ (v w : World) (b : Block) (same : (h : HandlerId) → log_of b h v ≡ log_of b h w) (more : RanMore v w b) where
   pub asked_more : (o : Option (HandlerId × ℕ)) → AskedFor v b o → AskedFor w b o
   asked_more None f =
-      λ h. subst (λ es. any_query (left_of w b h es) ≡ false) (same h) (none_later (count_of b (ran_at h v)) (count_of b (ran_at h w)) (log_of b h v) (more h) (f h))
+      λ h. subst (λ es. any_query (left_of w b h es) ≡ false) (same h)
+      (none_later (count_of b (ran_at h v)) (count_of b (ran_at h w)) (log_of b h v) (more h) (f h))
   asked_more (Some q) f = (
     (λ h apart.
-        subst (λ es. any_query (left_of w b h es) ≡ false) (same h) (none_later (count_of b (ran_at h v)) (count_of b (ran_at h w)) (log_of b h v) (more h) (f.0 h apart))),
+        subst (λ es. any_query (left_of w b h es) ≡ false) (same h)
+        (none_later (count_of b (ran_at h v)) (count_of b (ran_at h w)) (log_of b h v) (more h) (f.0 h apart))),
     subst (λ es. any_query (left_of w b q.0 (take (q.1 - 1) es)) ≡ false) (same q.0)
         (none_later (count_of b (ran_at q.0 v)) (count_of b (ran_at q.0 w)) (take (q.1 - 1) (log_of b q.0 v)) (more q.0) f.1),
   )

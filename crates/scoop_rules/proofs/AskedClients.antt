@@ -22,8 +22,8 @@ use Rattle.scoop_reserve.specs.Hearing.{given_up_in, is_gone}
 use Rattle.scoop_reserve.specs.Hearing as reservation
 use Rattle.scoop_reserve.proofs.Rows.{HeardRow as StepRow, passed_over as steps_over, one_is_locked, all_are_locked, is_busy, one_is_opened, all_are_opened, is_unlocked, is_given_back, heard_row as step_row}
 use Rattle.scoop_client.specs.declared.phase.ClientNote.{ClientNote}
-use Rattle.scoop_client.specs.Line.{logged, at_line, all_over, acknowledged, with_entry as with_line_entry, with_end}
-use Rattle.scoop_client.specs.State.{ClientState, idle, with_lines, with_reservation}
+use Rattle.scoop_client.specs.Window.{logged, at_window, all_over, acknowledged, with_entry as with_window_entry, with_end}
+use Rattle.scoop_client.specs.State.{ClientState, idle, with_windows, with_reservation}
 use Rattle.scoop_client.specs.Hearing.{heard, stepped, after_step, up_to}
 use Rattle.scoop_client.specs.Commands as client
 use Rattle.scoop_client.specs.Rows.{HeardRow, passed_over, is_welcomed, takes_step, is_acknowledged, is_accepted, ReserveRow, begins_block, LogRow, is_logged, EndRow, ends_block, GiveUpRow, gives_up}
@@ -37,7 +37,7 @@ use Rattle.scoop_rules.specs.Paper.{count_of}
 use Rattle.scoop_model.proofs.Basics.{ok_is, by_test}
 use Rattle.scoop_model.proofs.Order.Facts.{PartyFits, all_set_party}
 use Rattle.scoop_model.proofs.Order.Commands.{next_is_new, started_fresh}
-use Rattle.scoop_model.proofs.Logging.Facts.{LinesFit, PartyLogs}
+use Rattle.scoop_model.proofs.Logging.Facts.{WindowsFit, PartyLogs}
 use Rattle.scoop_model.proofs.Logging.Logs.{IsAdded, added, log_after, log_other, reserved_same, unreserved_empty}
 use Rattle.scoop_model.proofs.Answering.Facts.{TellsAnswer}
 use Rattle.scoop_model.proofs.Whole.Facts.{Taped}
@@ -58,14 +58,14 @@ step_block r m s st (is_given_back h at is) = refl
 
 -- the entries up to the query that was answered have run, and it was the last
 module _
-    (w : World) (tape : Taped w) (c : ClientState) (r : ReservationState) (lines : LinesFit w c r) (h : HandlerId) (n : ℕ)
+    (w : World) (tape : Taped w) (c : ClientState) (r : ReservationState) (windows : WindowsFit w c r) (h : HandlerId) (n : ℕ)
     (waits : c.waits ≡ Some (h, n)) where
   all_ran : n ≤ count_of r.block (ran_at h w) → any_query (unrun w r.block h) ≡ false
   all_ran ran =
-      let g = lines.waits h n waits in
-      let f = lines.lines h g.line g.found in
-      let long : length (f.acknowledged ++ g.line.unacked) ≡ length (log_of r.block h w) = ap length f.all in
-      let parts = length-append f.acknowledged g.line.unacked in
+      let g = windows.waits h n waits in
+      let f = windows.windows h g.window g.found in
+      let long : length (f.acknowledged ++ g.window.unacked) ≡ length (log_of r.block h w) = ap length f.all in
+      let parts = length-append f.acknowledged g.window.unacked in
       let count = f.count in
       let number = g.query.number in
       none_over (count_of r.block (ran_at h w)) (log_of r.block h w) (omega (arith, ran, long, parts, count, number))
@@ -77,7 +77,7 @@ module _
       (λ _ is. (subst (AskedFor w r.block) waits f).0 x (λ same. true≢false (sym ((handler_decides h x).1 same) ∙ is)))
       refl
 
-module _ (w : World) (tape : Taped w) (c : ClientState) (fits : (r : ReservationState) → c.reservation ≡ Some r → LinesFit w c r) (f : ClientAsked w c) where
+module _ (w : World) (tape : Taped w) (c : ClientState) (fits : (r : ReservationState) → c.reservation ≡ Some r → WindowsFit w c r) (f : ClientAsked w c) where
   idle_asked : (d : ClientState) → ClientAsked w (idle d)
   idle_asked d r e = absurd (cc)
 
@@ -104,9 +104,9 @@ module _ (w : World) (tape : Taped w) (c : ClientState) (fits : (r : Reservation
   heard_asked m d note (is_welcomed h left) t = f
   heard_asked m d note (takes_step n r held) t =
       step_asked r (reservation.heard r n).0 (reservation.heard r n).1 held (step_block r n (reservation.heard r n).0 (reservation.heard r n).1 (step_row r n))
-  heard_asked m d note (is_acknowledged h n r l held opened line new_count) t =
-      let e : ClientState = with_lines c (at_line h (acknowledged (up_to h n c.waits)) c.lines) c.waits in
-      by_test (λ t. ClientAsked w (if t then idle e else e)) (all_over e.lines) (λ over. idle_asked e) (λ on. f)
+  heard_asked m d note (is_acknowledged h n r l held opened window new_count) t =
+      let e : ClientState = with_windows c (at_window h (acknowledged (up_to h n c.waits)) c.windows) c.waits in
+      by_test (λ t. ClientAsked w (if t then idle e else e)) (all_over e.windows) (λ over. idle_asked e) (λ on. f)
   heard_asked m d note (is_accepted h n a r held opened waits) t = λ q e.
       let same : r ≡ q = some_is r q (sym held ∙ e) in
       subst (λ (y : ReservationState). AskedFor w y.block None) same
@@ -191,27 +191,28 @@ module _ (w : World) (p : Party) (d : ClientState) (fits : PartyFits w p) (logs 
       let block : b ≡ q.block = ap (λ (y : ReservationState). y.block) (started_fresh b hs c.handlers r begins ∙ same) in
       let v : World = commanded_world w p (Reserve hs) (client.with_block c hs r) in
       let none : log_of b h v ≡ [] = reserved_same hs b b h w.logs ∙ unreserved_empty b h w.logs (next_is_new w p fits (handlers_of b w) refl) in
-      subst (λ y. any_query (unrun v y h) ≡ false) block (subst (λ es. any_query (left_of w b h es) ≡ false) (sym none) (none_later 0 (count_of b (ran_at h w)) [] (omega arith) refl)))
+      subst (λ y. any_query (unrun v y h) ≡ false) block (subst (λ es. any_query (left_of w b h es) ≡ false) (sym none)
+      (none_later 0 (count_of b (ran_at h w)) [] (omega arith) refl)))
     where
       some_is : (a b : ReservationState) → Some a ≡ Some b → a ≡ b
       some_is a b e = cc
   reserve_asked hs o row e = absurd (cc)
 
   call_asked : (k : HandlerId) (s : Request) (o : client.Outcome) → LogRow c k (CallEntry s) o → o ≡ Ok d → ClientAsked (commanded_world w p (Call k s) d) d
-  call_asked k s o (is_logged l running free line room more) e =
-      let after : ClientState = with_lines c (at_line k (with_line_entry (CallEntry s)) c.lines) None in
+  call_asked k s o (is_logged l running free window room more) e =
+      let after : ClientState = with_windows c (at_window k (with_window_entry (CallEntry s)) c.windows) None in
       subst (λ y. ClientAsked (commanded_world w p (Call k s) y) y) (ok_is after d e)
       (λ r held h. quiet_none w p (Call k s) after r.block h ((subst (AskedFor w r.block) free (f.asked r held)) h) (call_none k h s))
   call_asked k s o row e = absurd (cc)
 
   query_asked : (k : HandlerId) (s : Request) (o : client.Outcome) → LogRow c k (QueryEntry s) o → o ≡ Ok d → ClientAsked (commanded_world w p (Query k s) d) d
-  query_asked k s o (is_logged l running free line room more) e =
-      let after : ClientState = with_lines c (at_line k (with_line_entry (QueryEntry s)) c.lines) (Some (k, logged l + 1)) in
+  query_asked k s o (is_logged l running free window room more) e =
+      let after : ClientState = with_windows c (at_window k (with_window_entry (QueryEntry s)) c.windows) (Some (k, logged l + 1)) in
       let v : World = commanded_world w p (Query k s) after in
       subst (λ y. ClientAsked (commanded_world w p (Query k s) y) y) (ok_is after d e)
       (λ r held.
       let none = subst (AskedFor w r.block) free (f.asked r held) in
-      let own = (logs.block r held).lines k l line in
+      let own = (logs.block r held).windows k l window in
       let all : length (own.acknowledged ++ l.unacked) ≡ length (log_of r.block k w) = ap length own.all in
       let parts = length-append own.acknowledged l.unacked in
       let count = own.count in
@@ -223,7 +224,7 @@ module _ (w : World) (p : Party) (d : ClientState) (fits : PartyFits w p) (logs 
 
   end_asked : (o : client.Outcome) → EndRow c o → o ≡ Ok d → ClientAsked (commanded_world w p End d) d
   end_asked o (ends_block running free room) e =
-      let after : ClientState = with_lines c (map with_end c.lines) None in
+      let after : ClientState = with_windows c (map with_end c.windows) None in
       subst (λ y. ClientAsked (commanded_world w p End y) y) (ok_is after d e)
       (λ r held h. quiet_none w p End after r.block h ((subst (AskedFor w r.block) free (f.asked r held)) h) refl)
   end_asked o row e = absurd (cc)

@@ -28,7 +28,8 @@ count_told b us = length (filter (is_told_of b) us)
 count_same : (b : Block) (rs : List Ran) → count_of b rs ≡ count_told b (map untold rs)
 count_same b [] = refl
 count_same b (r ∷ rs) =
-    by_test (λ t. length (if t then r ∷ filter (λ x. same_block x.block b) rs else filter (λ x. same_block x.block b) rs) ≡ length (if t then untold r ∷ filter (is_told_of b) (map untold rs) else filter (is_told_of b) (map untold rs))) (same_block r.block b)
+    by_test (λ t. length (if t then r ∷ filter (λ x. same_block x.block b) rs else filter (λ x. same_block x.block b) rs)
+    ≡ length (if t then untold r ∷ filter (is_told_of b) (map untold rs) else filter (is_told_of b) (map untold rs))) (same_block r.block b)
     (λ own. ap suc (count_same b rs))
     (λ other. count_same b rs)
 
@@ -38,7 +39,8 @@ count_both b us vs = ap length (filter-append (is_told_of b) us vs) ∙ length-a
 count_own : (b : Block) (n : ℕ) (es : List Entry) → count_told b (numbered b n es) ≡ length es
 count_own b n [] = refl
 count_own b n (e ∷ es) =
-    ap (λ t. length (if t then (b, n, e) ∷ filter (is_told_of b) (numbered b (n + 1) es) else filter (is_told_of b) (numbered b (n + 1) es))) (same_block_itself b)
+    ap (λ t. length (if t then (b, n, e) ∷ filter (is_told_of b) (numbered b (n + 1) es) else filter (is_told_of b) (numbered b (n + 1) es)))
+    (same_block_itself b)
     ∙ ap suc (count_own b (n + 1) es)
 
 -- the number isn't above how many of the block are in the list
@@ -61,7 +63,8 @@ all_upto (s ∷ ss) =
     count_both s.block (ran_in s) (ran_of ss) ∙ ap (λ n. n + count_told s.block (ran_of ss)) (count_own s.block 1 s.ran) in
     all_both_parts (IsUpto (ran_of (s ∷ ss))) (ran_in s) (ran_of ss)
     (numbers_upto (ran_of (s ∷ ss)) s.block 1 s.ran (omega (arith, own)))
-    (all_more_of (IsUpto (ran_of ss)) (IsUpto (ran_of (s ∷ ss))) (λ u le. let both = count_both u.0 (ran_in s) (ran_of ss) in omega (arith, le, both)) (ran_of ss) (all_upto ss))
+    (all_more_of (IsUpto (ran_of ss)) (IsUpto (ran_of (s ∷ ss))) (λ u le. let both = count_both u.0 (ran_in s) (ran_of ss) in omega (arith, le, both))
+    (ran_of ss) (all_upto ss))
 
 all_told : (P : Block × ℕ × Entry → Type 0) (rs : List Ran) → AllByRecursion P (map untold rs) → AllByRecursion (λ r. P (untold r)) rs
 all_told P [] all = tt

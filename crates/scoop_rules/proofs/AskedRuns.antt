@@ -48,7 +48,10 @@ goes_on :
     (v w : World) → v.logs ≡ w.logs → ((b : Block) → RanMore v w b) → (ps : List Party) → AllByRecursion (PartyAsked v) ps → AllByRecursion (PartyAsked w) ps
 goes_on v w same more ps = all_more_of (PartyAsked v) (PartyAsked w)
     (λ p f.
-    record { asked = λ r held. asked_more v w r.block (λ h. ap (λ ls. log_of r.block h (record v { logs = ls })) same) (more r.block) p.client.waits (f.asked r held) }) ps
+    record {
+      asked = λ r held. asked_more v w r.block (λ h. ap (λ ls. log_of r.block h (record v { logs = ls })) same) (more r.block) p.client.waits
+          (f.asked r held);
+    }) ps
 
 abbrev count_in : Block → Option Site → ℕ
 count_in b o = count_of b (option_map_or (λ s. s.ran) o [])
@@ -79,7 +82,8 @@ module _ (w : World) (h : HandlerId) (s : Site) (found : site_of h w ≡ Some s)
 pub asked_kept : (w : World) → Ordered w → Logging w → Answering w → Taped w → Asked w → Changes Asked w
 asked_kept w o l a tape i = record {
   commands = λ c p x d at is.
-      commands_asked w i l.parties p x d (all_found (PartyFits w) (is_party c) w.parties p o.parties at) (all_found (PartyLogs w) (is_party c) w.parties p l.parties at)
+      commands_asked w i l.parties p x d (all_found (PartyFits w) (is_party c) w.parties p o.parties at)
+      (all_found (PartyLogs w) (is_party c) w.parties p l.parties at)
       (all_found (PartyAsked w) (is_party c) w.parties p i at) is;
   sends = λ c p h s at here. goes_on w (with_sent w (due p.client h)) refl (λ b h. omega arith) w.parties i;
   hears = λ k m s was goes here.
@@ -91,9 +95,11 @@ asked_kept w o l a tape i = record {
       notices_asked w tape i m p (sent_tells w k m was a.messages) (all_found (PartyLogs w) (is_party (client_of m)) w.parties p l.parties at)
       (all_found (PartyAsked w) (is_party (client_of m)) w.parties p i at);
   begins = λ h s t here is. goes_on w (with_site w (begun_site s)) refl (λ b x. count_set w (begun_site s) s (place w h s here) b (omega arith) x) w.parties i;
-  finishes = λ h s t here is. goes_on w (with_site w (finished_site s t)) refl (λ b x. count_set w (finished_site s t) s (place w h s here) b (count_more b s.ran (ran_of t)) x) w.parties i;
+  finishes = λ h s t here is. goes_on w (with_site w (finished_site s t)) refl
+      (λ b x. count_set w (finished_site s t) s (place w h s here) b (count_more b s.ran (ran_of t)) x) w.parties i;
   restarts = λ c p at room. restarts_asked w i p;
-  reopens = λ n. goes_on w (reopened_world w n) refl (λ b h. let same = ap (count_of b) (ran_anew w.joint n h w.sites o.sites) in omega (arith, same)) w.parties i;
+  reopens = λ n. goes_on w (reopened_world w n) refl (λ b h. let same = ap (count_of b) (ran_anew w.joint n h w.sites o.sites) in omega (arith, same))
+      w.parties i;
 }
 
 parties_open : (w : World) (hs : List HandlerId) (ns : List Newcomer) → AllByRecursion (PartyAsked w) (map (new_party hs) ns)

@@ -171,7 +171,8 @@ parted f P u gone (s ∷ ss) (y ∷ ys) sub d placed all e = ⊎_elim
     let rest : blocks_of ss ≡ t.0 = cc in
     let left : IsSubsequence (blocks_of ss) ys = subst (λ zs. IsSubsequence zs ys) (sym rest) t.2 in
     subst (λ z. Parted f P u (z ∷ ys)) same
-    (on (subst (λ z. AreApart (z ∷ ys)) (sym same) d) (subst (λ z. (b : Block) → has_block (z ∷ ys) b ≡ true → IsPlaced f (blocks_of (s ∷ ss)) (z ∷ ys) b) (sym same) placed)
+    (on (subst (λ z. AreApart (z ∷ ys)) (sym same) d) (subst (λ z. (b : Block) → has_block (z ∷ ys) b ≡ true → IsPlaced f (blocks_of (s ∷ ss)) (z ∷ ys) b)
+    (sym same) placed)
     (λ apart at g. parted f P u gone ss ys left apart at all.1 g)
     (first_or_later s s.state ss u refl e)))
     (left_cases (blocks_of (s ∷ ss)) y ys sub)

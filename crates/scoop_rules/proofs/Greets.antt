@@ -57,7 +57,8 @@ newly_cut : (b : Block) (log : List Entry) (c r : ℕ) (over : Bool) → has_end
     → flat_map (cut_waiting b (r - c)) (queue_of b (as_seen log c over false r)) ≡ queue_of b (as_seen log c over true r)
 newly_cut b log c r true e = refl
 newly_cut b log c r false e =
-    ap (λ t. (if t then cut_queue b (take (r - c) (drop c log)) else record { block = b; entries = drop c log; state = if has_end log then Ended else Open } ∷ []) ++ []) (same_block_itself b)
+    ap (λ t. (if t then cut_queue b (take (r - c) (drop c log))
+    else record { block = b; entries = drop c log; state = if has_end log then Ended else Open } ∷ []) ++ []) (same_block_itself b)
     ∙ append-nil (cut_queue b (take (r - c) (drop c log)))
     ∙ ap (cut_queue b) (take_of_drop r c log)
     ∙ cut_by_length b (drop c (take r log))
@@ -66,7 +67,12 @@ newly_cut b log c r false e =
   where
     queue_by : Bool → List Waiting
     queue_by t =
-        if not t && nat_le (length (take r log)) c then [] else record { block = b; entries = drop c (if not t then take r log else log); state = if not t then Cut else if has_end log then Ended else Open } ∷ []
+        if not t && nat_le (length (take r log)) c then [] else record {
+          block = b;
+          entries = drop c (if not t then take r log else log);
+          state = if not t
+              then Cut else if has_end log then Ended else Open;
+        } ∷ []
 
 -- its End was received
 not_cut :
@@ -76,25 +82,30 @@ not_cut b log c r over e = ap queue_by e
   where
     queue_by : Bool → List Waiting
     queue_by t =
-        if over || not t && nat_le (length (take r log)) c then [] else record { block = b; entries = drop c (if not t then take r log else log); state = if not t then Cut else if has_end log then Ended else Open } ∷ []
+        if over || not t && nat_le (length (take r log)) c then []
+        else record { block = b; entries = drop c (if not t then take r log else log); state = if not t then Cut else if has_end log then Ended else Open }
+        ∷ []
 
 abbrev queue_if : Bool → Block → Seen → List Waiting
 queue_if named b s = if named then queue_of b s else []
 
 greet_one : (b : Block) (log : List Entry) (c r : ℕ) (over named old newer : Bool) → (old ≡ true → newer ≡ true)
     → queue_if named b (as_seen log c over newer r)
-    ≡ (if named && ((newer && not (has_end (take r log))) && not (old && not (has_end (take r log)))) then flat_map (cut_waiting b (r - c)) (queue_if named b (as_seen log c over old r)) else queue_if named b (as_seen log c over old r))
+    ≡ (if named && ((newer && not (has_end (take r log))) && not (old && not (has_end (take r log))))
+    then flat_map (cut_waiting b (r - c)) (queue_if named b (as_seen log c over old r)) else queue_if named b (as_seen log c over old r))
 greet_one b log c r over false old newer more = refl
 greet_one b log c r over true true false more = absurd (true≢false (sym (more refl)))
 greet_one b log c r over true false false more = refl
 greet_one b log c r over true true true more =
-    by_test (λ t. queue_of b (as_seen log c over true r) ≡ (if t && not t then flat_map (cut_waiting b (r - c)) (queue_of b (as_seen log c over true r)) else queue_of b (as_seen log c over true r))) (not (has_end (take r log)))
+    by_test (λ t. queue_of b (as_seen log c over true r) ≡ (if t && not t then flat_map (cut_waiting b (r - c)) (queue_of b (as_seen log c over true r))
+    else queue_of b (as_seen log c over true r))) (not (has_end (take r log)))
     (λ _. refl)
     (λ _. refl)
 greet_one b log c r over true false true more =
     by_test
     (λ t.
-    has_end (take r log) ≡ t → queue_of b (as_seen log c over true r) ≡ (if not t && true then flat_map (cut_waiting b (r - c)) (queue_of b (as_seen log c over false r)) else queue_of b (as_seen log c over false r)))
+    has_end (take r log) ≡ t → queue_of b (as_seen log c over true r)
+    ≡ (if not t && true then flat_map (cut_waiting b (r - c)) (queue_of b (as_seen log c over false r)) else queue_of b (as_seen log c over false r)))
     (has_end (take r log))
     (λ _ e. not_cut b log c r over e)
     (λ _ e. sym (newly_cut b log c r over e)) refl
@@ -144,7 +155,8 @@ module _
       (λ x.
       by_test
       (λ t. same_handler x h ≡ t
-      → (if t then cut_one b ((with_queues f).queues h) else (if t then flat_map f v.joint else flat_map (queue_at v x) v.joint)) ≡ (if t then flat_map (cut_once b f) v.joint else flat_map (queue_at v x) v.joint))
+      → (if t then cut_one b ((with_queues f).queues h) else (if t then flat_map f v.joint else flat_map (queue_at v x) v.joint))
+      ≡ (if t then flat_map (cut_once b f) v.joint else flat_map (queue_at v x) v.joint))
       (same_handler x h)
       (λ _ _.
       ap (cut_one b) (at_itself f) ∙ cut_over b (left_of b) f v.joint ∙ queues_same (λ y. cut_one b (f y)) (cut_once b f) v.joint (λ y _. once_is b f own y))
@@ -161,7 +173,8 @@ module _
   cut_all_first b bs f cuts new y =
       by_test
       (λ t. same_block b y ≡ t
-      → (if (t || has_block bs y) && is_cut_by v w h y then cut_one y (f y) else f y) ≡ (if has_block bs y && is_cut_by v w h y then cut_one y (if t then cut_one b (f y) else f y) else (if t then cut_one b (f y) else f y)))
+      → (if (t || has_block bs y) && is_cut_by v w h y then cut_one y (f y) else f y)
+      ≡ (if has_block bs y && is_cut_by v w h y then cut_one y (if t then cut_one b (f y) else f y) else (if t then cut_one b (f y) else f y)))
       (same_block b y)
       (λ _ same. subst
       (λ z.
@@ -188,11 +201,13 @@ module _
       → MovesLead o (with_queues f) (map (λ b. CutTo b h (received b h v)) (filter (is_cut_by v w h) bs)) end
   cuts [] d f own end e = e
   cuts (b ∷ bs) d f own end e =
-      by_test (λ t. is_cut_by v w h b ≡ t → MovesLead o (with_queues f) (map (λ x. CutTo x h (received x h v)) (if t then b ∷ filter (is_cut_by v w h) bs else filter (is_cut_by v w h) bs)) end) (is_cut_by v w h b)
+      by_test (λ t. is_cut_by v w h b ≡ t → MovesLead o (with_queues f)
+      (map (λ x. CutTo x h (received x h v)) (if t then b ∷ filter (is_cut_by v w h) bs else filter (is_cut_by v w h) bs)) end) (is_cut_by v w h b)
       (λ _ is. (
         may b is,
         subst (λ g. MovesLead o g (map (λ x. CutTo x h (received x h v)) (filter (is_cut_by v w h) bs)) end) (sym (cut_step b f own))
-            (cuts bs d.1 (cut_once b f) (own_once b f own) end (same_queues (cut_all bs (cut_once b f)) (cut_all (b ∷ bs) f) (λ y _. sym (cut_all_first b bs f is d.0 y)) ∙ e)),
+            (cuts bs d.1 (cut_once b f) (own_once b f own) end
+            (same_queues (cut_all bs (cut_once b f)) (cut_all (b ∷ bs) f) (λ y _. sym (cut_all_first b bs f is d.0 y)) ∙ e)),
       ))
       (λ _ not_so. cuts bs d.1 f own end (same_queues (cut_all bs f) (cut_all (b ∷ bs) f) (λ y _. sym (cut_all_not b bs f not_so y)) ∙ e)) refl
 
@@ -231,7 +246,14 @@ module _ (v : World) (sites : List Site) (same_ran : (j : HandlerId) → ran_in 
   other_place b x apart =
       let newer = same_elsewhere b x apart in
       let told = same_received b x in
-      λ i. if has (set_of b v) x then queue_of b (record { logged = log_of b x v; count = count_of b (same_ran x i); over = has_ended b (same_ran x i); newer = newer i; received = told i }) else []
+      λ i. if has (set_of b v) x then queue_of b (record {
+        logged = log_of b x v;
+        count = count_of b (same_ran x i);
+        over = has_ended b (same_ran x i);
+        newer =
+            newer i;
+        received = told i;
+      }) else []
 
   module _ (o : Objects) (ready : Ready v) (below : inc ≤ inc_of v c) where
     abbrev here : HandlerReady v h
@@ -273,17 +295,27 @@ module _ (v : World) (sites : List Site) (same_ran : (j : HandlerId) → ran_in 
     cut_is b m =
         sym (
         (λ i.
-        if has (set_of b v) h then queue_of b (record { logged = log_of b h v; count = count_of b (same_ran h i); over = has_ended b (same_ran h i); newer = is_succeeded b h greeted_world; received = same_received b h i }) else [])
-        ∙ greet_one b (log_of b h v) (count_of b (ran_at h v)) (received b h v) (has_ended b (ran_at h v)) (has (set_of b v) h) (is_succeeded b h v) (is_succeeded b h greeted_world) (still_succeeded b h)
+        if has (set_of b v) h then queue_of b (record {
+          logged = log_of b h v;
+          count = count_of b (same_ran h i);
+          over = has_ended b (same_ran h i);
+          newer =
+              is_succeeded b h greeted_world;
+          received = same_received b h i;
+        }) else [])
+        ∙ greet_one b (log_of b h v) (count_of b (ran_at h v)) (received b h v) (has_ended b (ran_at h v)) (has (set_of b v) h) (is_succeeded b h v)
+        (is_succeeded b h greeted_world) (still_succeeded b h)
         ∙ (λ i.
-        if sym m i && (has (set_of b v) h && ((is_succeeded b h greeted_world && not (has_end (take (sym (same_received b h) i) (log_of b h v)))) && not (is_cut_off (seen b h v))))
+        if sym m i && (has (set_of b v) h && ((is_succeeded b h greeted_world && not (has_end (take (sym (same_received b h) i) (log_of b h v)))) && not
+        (is_cut_off (seen b h v))))
         then flat_map (cut_waiting b (received b h v - count_of b (ran_at h v))) (queue_at v h b) else queue_at v h b))
 
     begins : with_queues o v greeted_world h may (queue_at v h) ≡ configuration_of v
     begins =
         same_configuration (with_queues o v greeted_world h may (queue_at v h)) (configuration_of v)
         (λ x.
-        by_test (λ t. same_handler x h ≡ t → (if t then flat_map (queue_at v h) v.joint else flat_map (queue_at v x) v.joint) ≡ flat_map (queue_at v x) v.joint) (same_handler x h)
+        by_test (λ t. same_handler x h ≡ t → (if t then flat_map (queue_at v h) v.joint else flat_map (queue_at v x) v.joint) ≡ flat_map (queue_at v x) v.joint)
+        (same_handler x h)
         (λ _ is. ap (λ j. flat_map (queue_at v j) v.joint) (sym ((handler_decides x h).0 is))) (λ _ _. refl) refl)
         (λ x. refl) refl (λ d. refl)
 
@@ -291,12 +323,14 @@ module _ (v : World) (sites : List Site) (same_ran : (j : HandlerId) → ran_in 
     ends =
         same_configuration (with_queues o v greeted_world h may (cut_all o v greeted_world h may v.joint (queue_at v h))) (configuration_of greeted_world)
         (λ x.
-        by_test (λ t. same_handler x h ≡ t → (if t then flat_map (cut_all o v greeted_world h may v.joint (queue_at v h)) v.joint else flat_map (queue_at v x) v.joint) ≡ flat_map (queue_at greeted_world x) v.joint) (same_handler x h)
+        by_test (λ t. same_handler x h ≡ t → (if t then flat_map (cut_all o v greeted_world h may v.joint (queue_at v h)) v.joint
+        else flat_map (queue_at v x) v.joint) ≡ flat_map (queue_at greeted_world x) v.joint) (same_handler x h)
         (λ _ is.
         queues_same (cut_all o v greeted_world h may v.joint (queue_at v h)) (queue_at greeted_world h) v.joint cut_is
         ∙ ap (λ j. flat_map (queue_at greeted_world j) v.joint) (sym ((handler_decides x h).0 is)))
         (λ _ other.
-        sym (queues_same (queue_at greeted_world x) (queue_at v x) v.joint (λ b m. other_place b x (λ same. true≢false (sym ((handler_decides x h).1 same) ∙ other))))) refl)
+        sym (queues_same (queue_at greeted_world x) (queue_at v x) v.joint
+        (λ b m. other_place b x (λ same. true≢false (sym ((handler_decides x h).1 same) ∙ other))))) refl)
         (λ x. sym (same_ran x)) refl (λ d. refl)
 
     pub greets_follows : MovesLead o (configuration_of v) (greeting_cuts v greeted_world h) (configuration_of greeted_world)

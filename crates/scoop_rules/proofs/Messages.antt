@@ -59,7 +59,8 @@ told_seen h b log count over ms =
 
 -- what was received matters only of a block that was succeeded
 not_succeeded : (b : Block) (log : List Entry) (count : ℕ) (over newer : Bool) (n k : ℕ) → newer ≡ false
-    → queue_of b (record { logged = log; count = count; over = over; newer = newer; received = n }) ≡ queue_of b (record { logged = log; count = count; over = over; newer = newer; received = k })
+    → queue_of b (record { logged = log; count = count; over = over; newer = newer; received = n })
+    ≡ queue_of b (record { logged = log; count = count; over = over; newer = newer; received = k })
 not_succeeded b log count over true n k e = absurd (true≢false e)
 not_succeeded b log count over false n k e = refl
 
@@ -69,7 +70,8 @@ quiet_queue h b log count over ms m q =
     ap (λ t. queue_of b (record { logged = log; count = count; over = over; newer = t; received = greatest_count h b (ms ++ m ∷ []) })) (quiet_newer h b ms m q)
     ∙ by_test
     (λ t. list_any (is_newer_welcome h b) ms ≡ t
-    → queue_of b (record { logged = log; count = count; over = over; newer = list_any (is_newer_welcome h b) ms; received = greatest_count h b (ms ++ m ∷ []) }) ≡ queue_of b (told_seen h b log count over ms))
+    → queue_of b (record { logged = log; count = count; over = over; newer = list_any (is_newer_welcome h b) ms; received = greatest_count h b (ms ++ m ∷ []) })
+    ≡ queue_of b (told_seen h b log count over ms))
     (list_any (is_newer_welcome h b) ms)
     (λ _ e.
     let least = q.tells h b e in
@@ -139,7 +141,8 @@ count_quiet ms x y n not_so = record {
       (λ _ is.
       let p = both_so (same_handler x h) (same_block y b) is in
       let there : list_any (is_newer_welcome x y) ms ≡ true =
-      subst (λ z. list_any (is_newer_welcome x z) ms ≡ true) (sym ((block_decides y b).0 p.1)) (subst (λ j. list_any (is_newer_welcome j b) ms ≡ true) (sym ((handler_decides x h).0 p.0)) e) in
+      subst (λ z. list_any (is_newer_welcome x z) ms ≡ true) (sym ((block_decides y b).0 p.1))
+      (subst (λ j. list_any (is_newer_welcome j b) ms ≡ true) (sym ((handler_decides x h).0 p.0)) e) in
       absurd (not_so there))
       (λ _ is. omega arith) refl;
 }

@@ -58,7 +58,8 @@ cut_behind w h b k qs new =
     flat_map-append (cut_waiting b k) (flat_map (queue_at w h) w.joint) qs
     ∙ ap (λ ps. ps ++ flat_map (cut_waiting b k) qs)
     (cut_over b k (queue_at w h) w.joint
-    ∙ queues_same (λ y. flat_map (cut_waiting b k) (queue_at w h y)) (queue_at w h) w.joint (λ y m. cut_other b y k (queue_at w h y) (other_than b y w.joint new m) (own_queue_at w h y)))
+    ∙ queues_same (λ y. flat_map (cut_waiting b k) (queue_at w h y)) (queue_at w h) w.joint
+    (λ y m. cut_other b y k (queue_at w h y) (other_than b y w.joint new m) (own_queue_at w h y)))
 
 module _
     (o : Objects) (w : World) (js : List Block) (b : Block) (new : has_block w.joint b ≡ false)
@@ -77,12 +78,14 @@ module _
       let k = 0 - count_of b (ran_at h w) in
       by_test
       (λ t. same_handler x h ≡ t
-      → (if t then flat_map (cut_waiting b k) (flat_map (queue_at w h) w.joint ++ last h) else flat_map (queue_at w x) w.joint ++ last x) ≡ flat_map (queue_at w x) w.joint ++ (if t then [] else last x))
+      → (if t then flat_map (cut_waiting b k) (flat_map (queue_at w h) w.joint ++ last h) else flat_map (queue_at w x) w.joint ++ last x)
+      ≡ flat_map (queue_at w x) w.joint ++ (if t then [] else last x))
       (same_handler x h)
       (λ _ same.
       cut_behind w h b k (last h) new
       ∙ ap (λ qs. flat_map (queue_at w h) w.joint ++ qs)
-      (⊎_elim (λ (p : last h ≡ []). ap (flat_map (cut_waiting b k)) p) (λ (p : last h ≡ new_queue b ∷ []). ap (flat_map (cut_waiting b k)) p ∙ cut_new b k) (is h))
+      (⊎_elim (λ (p : last h ≡ []). ap (flat_map (cut_waiting b k)) p) (λ (p : last h ≡ new_queue b ∷ []). ap (flat_map (cut_waiting b k)) p ∙ cut_new b k)
+      (is h))
       ∙ ap (λ j. flat_map (queue_at w j) w.joint ++ []) (sym ((handler_decides x h).0 same)))
       (λ _ other. refl) refl)
       (λ x. refl) refl (λ c. refl)
@@ -104,12 +107,14 @@ module _
   cut_where_first h hs last newer x =
       by_test
       (λ t.
-      same_handler h x ≡ t → (if (t || has hs x) && is_succeeded b x w then [] else last x) ≡ (if has hs x && is_succeeded b x w then [] else (if same_handler x h then [] else last x)))
+      same_handler h x ≡ t → (if (t || has hs x) && is_succeeded b x w then [] else last x)
+      ≡ (if has hs x && is_succeeded b x w then [] else (if same_handler x h then [] else last x)))
       (same_handler h x)
       (λ _ same.
       let one : h ≡ x = (handler_decides h x).0 same in
       ap (λ t. if t then [] else last x) (subst (λ j. is_succeeded b j w ≡ true) one newer)
-      ∙ sym (ap (λ t. if has hs x && is_succeeded b x w then [] else (if t then [] else last x)) (subst (λ j. same_handler j h ≡ true) one (handler_itself h)) ∙ either (has hs x && is_succeeded b x w)))
+      ∙ sym (ap (λ t. if has hs x && is_succeeded b x w then [] else (if t then [] else last x)) (subst (λ j. same_handler j h ≡ true) one (handler_itself h))
+      ∙ either (has hs x && is_succeeded b x w)))
       (λ _ other. ap (λ t. if has hs x && is_succeeded b x w then [] else (if t then [] else last x)) (sym (handlers_turned h x other))) refl
     where
       either : (t : Bool) → (if t then [] else (if true then [] else last x)) ≡ []
@@ -130,16 +135,19 @@ module _
       → MovesLead o (with_last w js last) (map (λ h. CutTo b h 0) (filter (λ h. is_succeeded b h w) hs)) end
   late [] last is end e = e
   late (h ∷ hs) last is end e =
-      by_test (λ t. is_succeeded b h w ≡ t → MovesLead o (with_last w js last) (map (λ j. CutTo b j 0) (if t then h ∷ filter (λ j. is_succeeded b j w) hs else filter (λ j. is_succeeded b j w) hs)) end) (is_succeeded b h w)
+      by_test (λ t. is_succeeded b h w ≡ t → MovesLead o (with_last w js last)
+      (map (λ j. CutTo b j 0) (if t then h ∷ filter (λ j. is_succeeded b j w) hs else filter (λ j. is_succeeded b j w) hs)) end) (is_succeeded b h w)
       (λ _ newer. (
         (below h newer, let n = none h in omega (arith, n)),
         subst (λ g. MovesLead o g (map (λ j. CutTo b j 0) (filter (λ j. is_succeeded b j w) hs)) end) (sym (cut_step h last is))
             (late hs (without_at h last) (still_new h last is) end
-            (same_configuration (with_last w js (cut_where hs (without_at h last))) (with_last w js (cut_where (h ∷ hs) last)) (λ x. ap (λ qs. flat_map (queue_at w x) w.joint ++ qs) (sym (cut_where_first h hs last newer x))) (λ x. refl) refl (λ c. refl) ∙ e)),
+            (same_configuration (with_last w js (cut_where hs (without_at h last))) (with_last w js (cut_where (h ∷ hs) last))
+            (λ x. ap (λ qs. flat_map (queue_at w x) w.joint ++ qs) (sym (cut_where_first h hs last newer x))) (λ x. refl) refl (λ c. refl) ∙ e)),
       ))
       (λ _ older.
       late hs last is end
-      (same_configuration (with_last w js (cut_where hs last)) (with_last w js (cut_where (h ∷ hs) last)) (λ x. ap (λ qs. flat_map (queue_at w x) w.joint ++ qs) (sym (cut_where_not h hs last older x))) (λ x. refl) refl (λ c. refl) ∙ e)) refl
+      (same_configuration (with_last w js (cut_where hs last)) (with_last w js (cut_where (h ∷ hs) last))
+      (λ x. ap (λ qs. flat_map (queue_at w x) w.joint ++ qs) (sym (cut_where_not h hs last older x))) (λ x. refl) refl (λ c. refl) ∙ e)) refl
 
 -- ---- an opening
 
@@ -196,7 +204,8 @@ module _
     begins =
         same_configuration (with_last w js at_each) (separate b (set_of b w) (configuration_of w))
         (λ x.
-        by_test (λ t. flat_map (queue_at w x) w.joint ++ (if t then new_queue b ∷ [] else []) ≡ (if t then flat_map (queue_at w x) w.joint ++ new_queue b ∷ [] else flat_map (queue_at w x) w.joint)) (has (set_of b w) x)
+        by_test (λ t. flat_map (queue_at w x) w.joint ++ (if t then new_queue b ∷ [] else [])
+        ≡ (if t then flat_map (queue_at w x) w.joint ++ new_queue b ∷ [] else flat_map (queue_at w x) w.joint)) (has (set_of b w) x)
         (λ _. refl)
         (λ _. append-nil (flat_map (queue_at w x) w.joint)))
         (λ x. refl) refl (λ c. refl)
@@ -205,7 +214,8 @@ module _
     ends =
         same_configuration (with_last w js (λ x. queue_at opened_world x b)) (configuration_of opened_world)
         (λ x.
-        ap (λ qs. qs ++ queue_at opened_world x b) (sym (queues_same (queue_at opened_world x) (queue_at w x) w.joint (λ y _. same_queue w sites m same_ran quiet (joined w.joint (b ∷ [])) x y)))
+        ap (λ qs. qs ++ queue_at opened_world x b) (sym (queues_same (queue_at opened_world x) (queue_at w x) w.joint
+        (λ y _. same_queue w sites m same_ran quiet (joined w.joint (b ∷ [])) x y)))
         ∙ sym (queues_last (queue_at opened_world x) w.joint b)
         ∙ ap (flat_map (queue_at opened_world x)) (sym longer))
         (λ x. sym (same_ran x)) (sym longer) (λ c. refl)
@@ -220,5 +230,6 @@ module _
           (λ _. inr refl)
           (λ _. inl refl))
           (configuration_of opened_world)
-          (same_configuration (with_last w js _) (with_last w js (λ x. queue_at opened_world x b)) (λ x. ap (λ qs. flat_map (queue_at w x) w.joint ++ qs) (own_after x)) (λ x. refl) refl (λ c. refl) ∙ ends)),
+          (same_configuration (with_last w js _) (with_last w js (λ x. queue_at opened_world x b))
+          (λ x. ap (λ qs. flat_map (queue_at w x) w.joint ++ qs) (own_after x)) (λ x. refl) refl (λ c. refl) ∙ ends)),
     )

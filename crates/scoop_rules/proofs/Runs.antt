@@ -95,7 +95,11 @@ queues_around f js xs ys b qs e none at = ap (flat_map f) e ∙ flat_map-append 
 first_runs :
     (o : Objects) (h : HandlerId) (g k : Configuration) (q : Waiting) (x : Entry) (es : List Entry) (qs : List Waiting) → q.entries ≡ x ∷ es
     → g.queues h ≡ q ∷ qs
-    → record g { queues = put_at_handler h (rest_of q x es ++ qs) g.queues; ran = put_at_handler h (g.ran h ++ next_ran (o.class h) (o.words h) (g.ran h) q.block x ∷ []) g.ran } ≡ k
+    → record g {
+      queues = put_at_handler h (rest_of q x es ++ qs) g.queues;
+      ran =
+          put_at_handler h (g.ran h ++ next_ran (o.class h) (o.words h) (g.ran h) q.block x ∷ []) g.ran;
+    } ≡ k
     → MovesLead o g (RunOne h ∷ []) k
 first_runs o h g k q x es qs entries first e = (
   ap has_entry first ∙ ap (λ ys. nat_le 1 (length ys)) entries ∙ some x es,
@@ -209,12 +213,26 @@ module _ (w : World) (h : HandlerId) (s : Site) (t : Task) (found : site_of h w 
       let over =
       ap (has_ended b) ran_here ∙ ended_pushed b (ran_at h w) (told_of t) ∙ ap (λ y. has_ended b (ran_at h w) || y && is_end t.entry) other
       ∙ or_nothing (has_ended b (ran_at h w)) in
-      λ i. if has (set_of b w) h then queue_of b (record { logged = log_of b h w; count = count i; over = over i; newer = is_succeeded b h w; received = received b h w }) else []
+      λ i. if has (set_of b w) h then queue_of b (record {
+        logged = log_of b h w;
+        count = count i;
+        over = over i;
+        newer = is_succeeded b h w;
+        received =
+            received b h w;
+      }) else []
 
   other_place : (j : HandlerId) (b : Block) → (j ≡ h → ⊥) → queue_at ran_world j b ≡ queue_at w j b
   other_place j b apart =
       let ran = ran_elsewhere j apart in
-      λ i. if has (set_of b w) j then queue_of b (record { logged = log_of b j w; count = count_of b (ran i); over = has_ended b (ran i); newer = is_succeeded b j w; received = received b j w }) else []
+      λ i. if has (set_of b w) j then queue_of b (record {
+        logged = log_of b j w;
+        count = count_of b (ran i);
+        over = has_ended b (ran i);
+        newer =
+            is_succeeded b j w;
+        received = received b j w;
+      }) else []
 
   own_block :
       (f : HasFirst (seen t.block h w) t.entry) → has (set_of t.block w) h ≡ true
@@ -225,7 +243,8 @@ module _ (w : World) (h : HandlerId) (s : Site) (t : Task) (found : site_of h w 
       let count = ap (count_of b) ran_here ∙ count_pushed b (ran_at h w) (told_of t) ∙ ap (λ y. count_of b (ran_at h w) + (if y then 1 else 0)) own in
       let over = ap (has_ended b) ran_here ∙ ended_pushed b (ran_at h w) (told_of t) ∙ ap (λ y. has_ended b (ran_at h w) || y && is_end t.entry) own in
       (λ i.
-      if named i then queue_of b (record { logged = log_of b h w; count = count i; over = over i; newer = is_succeeded b h w; received = received b h w }) else [])
+      if named i then queue_of b (record { logged = log_of b h w; count = count i; over = over i; newer = is_succeeded b h w; received = received b h w })
+      else [])
       ∙ ran_queue b (seen b h w) t.entry f
 
   module _ (ready : Ready w) (out : job_out s.core ≡ Some t) where
@@ -234,14 +253,16 @@ module _ (w : World) (h : HandlerId) (s : Site) (t : Task) (found : site_of h w 
 
     around : Parted (queue_at w h) (SlotReady w h) u w.joint
     around =
-        parted (queue_at w h) (SlotReady w h) u (gone_at w h ready) (ready.handlers h).slots w.joint (slots_left w h ready) ready.once (placed_at w h ready) (slots_ready w h ready)
+        parted (queue_at w h) (SlotReady w h) u (gone_at w h ready) (ready.handlers h).slots w.joint (slots_left w h ready) ready.once (placed_at w h ready)
+        (slots_ready w h ready)
         (sym (ap front ((ready.handlers h).queues s found)) ∙ job-front s.core t out)
 
     own_slot : around.slot.block ≡ t.block
     own_slot = around.first.block
 
     looks : seen t.block h w ≡ slot_seen around.slot.ran (t.entry ∷ around.first.later) around.has.seen.more (is_succeeded around.slot.block h w)
-    looks = ap (λ b. seen b h w) (sym own_slot) ∙ around.has.seen.is ∙ ap (λ es. slot_seen around.slot.ran es around.has.seen.more (is_succeeded around.slot.block h w)) around.first.rest
+    looks = ap (λ b. seen b h w) (sym own_slot) ∙ around.has.seen.is
+        ∙ ap (λ es. slot_seen around.slot.ran es around.has.seen.more (is_succeeded around.slot.block h w)) around.first.rest
 
     no_end : has_end around.slot.ran ≡ false
     no_end =
@@ -252,7 +273,8 @@ module _ (w : World) (h : HandlerId) (s : Site) (t : Task) (found : site_of h w 
         none_before v.ran t.entry (around.first.later ++ around.has.begun.behind) (subst EndOnlyLast (sym all) (ready.logs v.block h))
 
     first : HasFirst (seen t.block h w) t.entry
-    first = subst (λ x. HasFirst x t.entry) (sym looks) (first_queue around.slot.ran t.entry around.first.later around.has.seen.more (is_succeeded around.slot.block h w) no_end)
+    first = subst (λ x. HasFirst x t.entry) (sym looks) (first_queue around.slot.ran t.entry around.first.later around.has.seen.more
+        (is_succeeded around.slot.block h w) no_end)
 
     named : has (set_of t.block w) h ≡ true
     named = subst (λ b. has (set_of b w) h ≡ true) own_slot around.has.named.named
@@ -261,7 +283,8 @@ module _ (w : World) (h : HandlerId) (s : Site) (t : Task) (found : site_of h w 
     q = record { block = t.block; entries = t.entry ∷ first.later; state = state_of (seen t.block h w) }
 
     own_now : queue_at w h t.block ≡ q ∷ []
-    own_now = λ i. if named i then (if first.there i then [] else record { block = t.block; entries = first.entries i; state = state_of (seen t.block h w) } ∷ []) else []
+    own_now = λ i. if named i then (if first.there i then []
+        else record { block = t.block; entries = first.entries i; state = state_of (seen t.block h w) } ∷ []) else []
 
     stands : w.joint ≡ around.before ++ t.block ∷ around.behind
     stands = around.here ∙ ap (λ b. around.before ++ b ∷ around.behind) own_slot
@@ -277,7 +300,8 @@ module _ (w : World) (h : HandlerId) (s : Site) (t : Task) (found : site_of h w 
         let class : (objects_of w).class h ≡ s.core.class = ap (λ o. option_map_or (λ (x : Site). x.core.class) o no_class) found in
         let placed : (objects_of w).words h ≡ s.placed = ap (λ o. option_map_or (λ (x : Site). x.placed) o []) found in
         let words : play s.core.class s.placed (entries_of s.ran) ≡ t.words = sym (job_words s.core t out ∙ ready.words h s found) in
-        let told : (λ (x : ClassTable). entry_effect x (play x ((objects_of w).words h) (entries_of (ran_at h w))) t.entry) ((objects_of w).class h) ≡ entry_effect t.class t.words t.entry =
+        let told : (λ (x : ClassTable). entry_effect x (play x ((objects_of w).words h) (entries_of (ran_at h w))) t.entry) ((objects_of w).class h)
+        ≡ entry_effect t.class t.words t.entry =
         (λ i. entry_effect (class i) (play (class i) (placed i) (entries_of (ran_before i))) t.entry)
         ∙ ap (λ x. entry_effect s.core.class x t.entry) words
         ∙ ap (λ x. entry_effect x t.words t.entry) (sym (job-class s.core t out)) in
@@ -290,9 +314,11 @@ module _ (w : World) (h : HandlerId) (s : Site) (t : Task) (found : site_of h w 
     queues_here =
         sym (
         queues_around (queue_at ran_world h) w.joint around.before around.behind t.block (rest_of q t.entry first.later) stands
-        (queues_same (queue_at ran_world h) (queue_at w h) around.before (λ b m. other_block b (before_apart t.block b around.before around.behind no_repeats m)) ∙ around.empty)
+        (queues_same (queue_at ran_world h) (queue_at w h) around.before
+        (λ b m. other_block b (before_apart t.block b around.before around.behind no_repeats m)) ∙ around.empty)
         (own_block first named)
-        ∙ ap (λ qs. rest_of q t.entry first.later ++ qs) (queues_same (queue_at ran_world h) (queue_at w h) around.behind (λ b m. other_block b (behind_apart t.block b around.before around.behind no_repeats m))))
+        ∙ ap (λ qs. rest_of q t.entry first.later ++ qs) (queues_same (queue_at ran_world h) (queue_at w h) around.behind
+        (λ b m. other_block b (behind_apart t.block b around.before around.behind no_repeats m))))
 
     is_here : (j : HandlerId) → same_handler j h ≡ true → j ≡ h
     is_here j e = (handler_decides j h).0 e
@@ -303,15 +329,18 @@ module _ (w : World) (h : HandlerId) (s : Site) (t : Task) (found : site_of h w 
     queues_after :
         (j : HandlerId) → put_at_handler h (rest_of q t.entry first.later ++ later) (configuration_of w).queues j ≡ flat_map (queue_at ran_world j) w.joint
     queues_after j =
-        by_test (λ y. same_handler j h ≡ y → (if y then rest_of q t.entry first.later ++ later else flat_map (queue_at w j) w.joint) ≡ flat_map (queue_at ran_world j) w.joint) (same_handler j h)
+        by_test (λ y. same_handler j h ≡ y → (if y then rest_of q t.entry first.later ++ later else flat_map (queue_at w j) w.joint)
+        ≡ flat_map (queue_at ran_world j) w.joint) (same_handler j h)
         (λ _ is. queues_here ∙ ap (λ k. flat_map (queue_at ran_world k) w.joint) (sym (is_here j is)))
         (λ _ is. sym (queues_same (queue_at ran_world j) (queue_at w j) w.joint (λ b m. other_place j b (is_not_here j is)))) refl
 
     ran_after :
         (j : HandlerId)
-        → put_at_handler h (ran_at h w ++ next_ran ((objects_of w).class h) ((objects_of w).words h) (ran_at h w) t.block t.entry ∷ []) (configuration_of w).ran j ≡ ran_at j ran_world
+        → put_at_handler h (ran_at h w ++ next_ran ((objects_of w).class h) ((objects_of w).words h) (ran_at h w) t.block t.entry ∷ [])
+        (configuration_of w).ran j ≡ ran_at j ran_world
     ran_after j =
-        by_test (λ y. same_handler j h ≡ y → (if y then ran_at h w ++ next_ran ((objects_of w).class h) ((objects_of w).words h) (ran_at h w) t.block t.entry ∷ [] else ran_at j w) ≡ ran_at j ran_world) (same_handler j h)
+        by_test (λ y. same_handler j h ≡ y → (if y then ran_at h w ++ next_ran ((objects_of w).class h) ((objects_of w).words h)
+        (ran_at h w) t.block t.entry ∷ [] else ran_at j w) ≡ ran_at j ran_world) (same_handler j h)
         (λ _ is. ap (λ r. ran_at h w ++ r ∷ []) same_ran ∙ sym ran_here ∙ ap (λ k. ran_at k ran_world) (sym (is_here j is)))
         (λ _ is. sym (ran_elsewhere j (is_not_here j is))) refl
 

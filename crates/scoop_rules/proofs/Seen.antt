@@ -55,7 +55,8 @@ no_end_left (x ∷ xs) ys e =
 pub ended_part : (b : Block) (rs : List Ran) → has_ended b rs ≡ list_any (λ r. is_end r.entry) (part_of rs b)
 ended_part b [] = refl
 ended_part b (r ∷ rs) =
-    by_test (λ t. (t && is_end r.entry || has_ended b rs) ≡ list_any (λ x. is_end x.entry) (if t then r ∷ part_of rs b else part_of rs b)) (same_block r.block b)
+    by_test (λ t. (t && is_end r.entry || has_ended b rs) ≡ list_any (λ x. is_end x.entry) (if t then r ∷ part_of rs b else part_of rs b))
+    (same_block r.block b)
     (λ same. ap (λ t. is_end r.entry || t) (ended_part b rs))
     (λ other. ended_part b rs)
 
@@ -161,7 +162,12 @@ gone_queue b ran rest more newer none why =
         let no_end : has_end (take (length (ran ++ [])) ((ran ++ []) ++ more)) ≡ false = ap has_end took ∙ e in
         let all : nat_le (length (take (length (ran ++ [])) ((ran ++ []) ++ more))) (length ran) ≡ true =
         ap (λ es. nat_le (length es) (length ran)) took ∙ reflexive (length ran) in
-        ap (λ t. if t then [] else record { block = b; entries = drop (length ran) (kept (slot_seen ran [] more true)); state = state_of (slot_seen ran [] more true) } ∷ [])
+        ap (λ t. if t then [] else record {
+          block = b;
+          entries = drop (length ran) (kept (slot_seen ran [] more true));
+          state =
+              state_of (slot_seen ran [] more true);
+        } ∷ [])
         (λ i. e i || not (no_end i) && all i)
 
 -- the private queue has a first entry
@@ -178,12 +184,14 @@ first_queue ran x es more newer e =
     (λ _ c. record {
       there = (λ i. e i || is_cut_off s && (ap (λ ys. nat_le (length ys) (length ran)) took ∙ longer) i) ∙ and_false (is_cut_off s);
       later = es;
-      entries = ap (λ t. drop (length ran) (if t then take (length (ran ++ x ∷ es)) ((ran ++ x ∷ es) ++ more) else (ran ++ x ∷ es) ++ more)) c ∙ ap (drop (length ran)) took ∙ drop_all ran (x ∷ es);
+      entries = ap (λ t. drop (length ran) (if t then take (length (ran ++ x ∷ es)) ((ran ++ x ∷ es) ++ more) else (ran ++ x ∷ es) ++ more)) c
+          ∙ ap (drop (length ran)) took ∙ drop_all ran (x ∷ es);
     })
     (λ _ c. record {
       there = (λ i. e i || is_cut_off s && (ap (λ ys. nat_le (length ys) (length ran)) took ∙ longer) i) ∙ and_false (is_cut_off s);
       later = es ++ more;
-      entries = ap (λ t. drop (length ran) (if t then take (length (ran ++ x ∷ es)) ((ran ++ x ∷ es) ++ more) else (ran ++ x ∷ es) ++ more)) c ∙ ap (drop (length ran)) (append_assoc ran (x ∷ es) more) ∙ drop_all ran (x ∷ es ++ more);
+      entries = ap (λ t. drop (length ran) (if t then take (length (ran ++ x ∷ es)) ((ran ++ x ∷ es) ++ more) else (ran ++ x ∷ es) ++ more)) c
+          ∙ ap (drop (length ran)) (append_assoc ran (x ∷ es) more) ∙ drop_all ran (x ∷ es ++ more);
     }) refl
   where
     longer : nat_le (length (ran ++ x ∷ es)) (length ran) ≡ false
@@ -204,10 +212,12 @@ ran_queue b s x f =
     let over : s.over ≡ false = first_false s.over (is_cut_off s && nat_le (length (take s.received s.logged)) s.count) f.there in
     let q : Waiting = record { block = b; entries = x ∷ f.later; state = state_of s } in
     (λ i.
-    if (over i || is_end x) || is_cut_off s && nat_le (length (take s.received s.logged)) (s.count + 1) then [] else record { block = b; entries = next.0 i; state = state_of s } ∷ [])
+    if (over i || is_end x) || is_cut_off s && nat_le (length (take s.received s.logged)) (s.count + 1) then []
+    else record { block = b; entries = next.0 i; state = state_of s } ∷ [])
     ∙ by_test
     (λ t. is_cut_off s ≡ t
-    → (if is_end x || t && nat_le (length (take s.received s.logged)) (s.count + 1) then [] else record { block = b; entries = f.later; state = state_of s } ∷ []) ≡ rest_of q x f.later)
+    → (if is_end x || t && nat_le (length (take s.received s.logged)) (s.count + 1) then []
+    else record { block = b; entries = f.later; state = state_of s } ∷ []) ≡ rest_of q x f.later)
     (is_cut_off s)
     (λ _ c.
     let long : length (take s.received s.logged) ≡ s.count + 1 + length f.later =

@@ -12,7 +12,7 @@ use Rattle.scoop_handler.specs.declared.note.Note.TheVariants.{Greeted}
 use Rattle.scoop_handler.specs.declared.ran.Ran.{Ran}
 use Rattle.scoop_handler.specs.Marks.{mark_of}
 use Rattle.scoop_handler.specs.Hearing.{Hearing}
-use Rattle.scoop_handler.specs.Rows.{Row, first_greeting, newer_greeting, same_greeting, lock_granted, lock_busy, lock_again, open_granted, open_again, unlock_new, unlock_holder, unlock_again, log_answered, log_again, log_taken}
+use Rattle.scoop_handler.specs.Rows.{Row, first_greeting, newer_greeting, repeated_greeting, lock_granted, lock_refused, repeated_lock, is_opened, repeated_open, unlock_of_a_block_never_held, is_freed, repeated_unlock, is_answered, already_received, is_taken}
 use Rattle.scoop_handler.proofs.MarkLists.{none_some}
 use Rattle.scoop_reserve.specs.Handlers.{has}
 use Rattle.scoop_model.specs.World.{World, Site, number_of, is_site, site_of, ran_at, set_of, log_of}
@@ -36,19 +36,22 @@ module _ (w : World) (sites : List Site) (o : Option Message) (same_ran : (j : H
 
   same_told :
       (h : HandlerId) (b : Block) (rs : List Ran)
-      → queue_of b (told_seen h b (log_of b h w) (count_of b rs) (has_ended b rs) (w.sent ++ option_to_list o)) ≡ queue_of b (told_seen h b (log_of b h w) (count_of b rs) (has_ended b rs) w.sent)
+      → queue_of b (told_seen h b (log_of b h w) (count_of b rs) (has_ended b rs) (w.sent ++ option_to_list o))
+      ≡ queue_of b (told_seen h b (log_of b h w) (count_of b rs) (has_ended b rs) w.sent)
   same_told h b rs = of o quiet
     where
       of :
           (p : Option Message) → IsQuietIfSome w.sent p
-          → queue_of b (told_seen h b (log_of b h w) (count_of b rs) (has_ended b rs) (w.sent ++ option_to_list p)) ≡ queue_of b (told_seen h b (log_of b h w) (count_of b rs) (has_ended b rs) w.sent)
+          → queue_of b (told_seen h b (log_of b h w) (count_of b rs) (has_ended b rs) (w.sent ++ option_to_list p))
+          ≡ queue_of b (told_seen h b (log_of b h w) (count_of b rs) (has_ended b rs) w.sent)
       of None q = ap (λ ms. queue_of b (told_seen h b (log_of b h w) (count_of b rs) (has_ended b rs) ms)) (append-nil w.sent)
       of (Some m) q = quiet_queue h b (log_of b h w) (count_of b rs) (has_ended b rs) w.sent m (q m refl)
 
   pub same_queue : (js : List Block) (h : HandlerId) (b : Block) → queue_at (with_news js) h b ≡ queue_at w h b
   same_queue js h b =
       (λ i.
-      if has (set_of b w) h then queue_of b (told_seen h b (log_of b h w) (count_of b (same_ran h i)) (has_ended b (same_ran h i)) (w.sent ++ option_to_list o)) else [])
+      if has (set_of b w) h then queue_of b (told_seen h b (log_of b h w) (count_of b (same_ran h i)) (has_ended b (same_ran h i)) (w.sent ++ option_to_list o))
+      else [])
       ∙ ap (λ qs. if has (set_of b w) h then qs else []) (same_told h b (ran_at h w))
 
   pub quiet_same : configuration_of w ≡ configuration_of (with_news w.joint)
@@ -78,19 +81,20 @@ module _ (w : World) (s : Site) (here : site_of (number_of s) w ≡ Some s) (rea
   pub quiet-row : (m : Message) (h : Hearing) → Row s.core.state m h → (h.1.note ≡ Greeted → ⊥) → IsQuietIfSome w.sent h.1.reply
   quiet-row m h (first_greeting x c inc at none room) old = absurd (old refl)
   quiet-row m h (newer_greeting x c inc k at found newer) old = absurd (old refl)
-  quiet-row m h (same_greeting x c inc k at found same) old = λ n e.
+  quiet-row m h (repeated_greeting x c inc k at found same) old = λ n e.
       let is : Welcome (number_of s) c inc ≡ n = cc in
       subst (IsQuiet w.sent) is
-      (welcome_quiet w.sent (number_of s) c inc (λ b own below. (ready.marks (number_of s) s here).greeted c k b found own (let i = same in omega (arith, below, i))))
+      (welcome_quiet w.sent (number_of s) c inc (λ b own below. (ready.marks (number_of s) s here).greeted c k b found own
+      (let i = same in omega (arith, below, i))))
   quiet-row m h (lock_granted x b k at heard new free clear) old = plain_reply (Locked (number_of s) b) (λ j y. (refl, refl))
-  quiet-row m h (lock_busy x b k at heard new held) old = plain_reply (Busy (number_of s) b) (λ j y. (refl, refl))
-  quiet-row m h (lock_again x b k at heard same held) old = plain_reply (Locked (number_of s) b) (λ j y. (refl, refl))
-  quiet-row m h (open_granted x b k at heard same held room) old = plain_reply (Opened (number_of s) b) (λ j y. (refl, refl))
-  quiet-row m h (open_again x b k at heard same opened) old = plain_reply (Opened (number_of s) b) (λ j y. (refl, refl))
-  quiet-row m h (unlock_new x b k at heard new clear) old = plain_reply (Unlocked (number_of s) b) (λ j y. (refl, refl))
-  quiet-row m h (unlock_holder x b k at heard same holds) old = plain_reply (Unlocked (number_of s) b) (λ j y. (refl, refl))
-  quiet-row m h (unlock_again x b k at heard same other) old = plain_reply (Unlocked (number_of s) b) (λ j y. (refl, refl))
-  quiet-row m h (log_answered x b n es k a at heard upto kept) old = plain_reply (Answer (number_of s) b _ a) (λ j y. (refl, refl))
-  quiet-row m h (log_again x b n es k at heard upto none) old = count_reply b k _ heard.heard.found heard.heard.inc
-  quiet-row m h (log_taken x b n es k at heard next goes_on room) old = count_reply b k _ heard.heard.found heard.heard.inc
+  quiet-row m h (lock_refused x b k at heard new held) old = plain_reply (Busy (number_of s) b) (λ j y. (refl, refl))
+  quiet-row m h (repeated_lock x b k at heard same held) old = plain_reply (Locked (number_of s) b) (λ j y. (refl, refl))
+  quiet-row m h (is_opened x b k at heard same held room) old = plain_reply (Opened (number_of s) b) (λ j y. (refl, refl))
+  quiet-row m h (repeated_open x b k at heard same opened) old = plain_reply (Opened (number_of s) b) (λ j y. (refl, refl))
+  quiet-row m h (unlock_of_a_block_never_held x b k at heard new clear) old = plain_reply (Unlocked (number_of s) b) (λ j y. (refl, refl))
+  quiet-row m h (is_freed x b k at heard same holds) old = plain_reply (Unlocked (number_of s) b) (λ j y. (refl, refl))
+  quiet-row m h (repeated_unlock x b k at heard same other) old = plain_reply (Unlocked (number_of s) b) (λ j y. (refl, refl))
+  quiet-row m h (is_answered x b n es k a at heard upto kept) old = plain_reply (Answer (number_of s) b _ a) (λ j y. (refl, refl))
+  quiet-row m h (already_received x b n es k at heard upto none) old = count_reply b k _ heard.heard.found heard.heard.inc
+  quiet-row m h (is_taken x b n es k at heard next goes_on room) old = count_reply b k _ heard.heard.found heard.heard.inc
   quiet-row m h r old = λ n e. absurd (none_some e)

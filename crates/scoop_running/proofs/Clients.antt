@@ -69,7 +69,8 @@ step_runs c (Gave x) can =
 step_runs c (Turned got) can =
     let hs = c.client.handlers in
     let own = subst (λ xs. AllByRecursion (λ h. has xs h ≡ true) hs) (append-nil hs) (all_in [] hs []) in
-    runs_both c c (after_step (after c.client (Turned got)) c) (sends_to c.client hs) (hears c.client (message_in got)) (sends_run c hs own) (hears_run c (message_in got))
+    runs_both c c (after_step (after c.client (Turned got)) c) (sends_to c.client hs) (hears c.client (message_in got)) (sends_run c hs own)
+    (hears_run c (message_in got))
 step_runs c (Broke place) can =
     let hs = c.client.handlers in
     let front = take (place + 1) hs in
@@ -124,7 +125,8 @@ pub record ClientGoes (c : LocalClient) (ms : List LocalMove) (now : LocalClient
   pub runs : ClientRuns c ms now
   pub own : AllByRecursion (IsClients (id_in c)) ms
 
-pub lives_run : (c : LocalClient) (first : List Step) (more : List (List Step)) (now : LocalClient) → Lives c first more now → ClientGoes c (moves_of c first more) now
+pub lives_run : (c : LocalClient) (first : List Step) (more : List (List Step)) (now : LocalClient) → Lives c first more now
+    → ClientGoes c (moves_of c first more) now
 lives_run c first [] now life =
     record { runs = subst (ClientRuns c (moves_by c.client first)) life.1 (steps_run c first life.0); own = steps_own c first life.0 }
 lives_run c first (steps ∷ more) now life =

@@ -12,7 +12,7 @@ use Rattle.scoop_handler.specs.Core.{core_of}
 use Rattle.scoop_handler.specs.Hearing.{hear}
 use Rattle.scoop_handler.proofs.TableRows.{row}
 use Rattle.scoop_handler.proofs.TableLaws.{number-row}
-use Rattle.scoop_model.specs.Safe.{NoRepeats}
+use Rattle.scoop_message.specs.Lists.{NoRepeats}
 use Rattle.scoop_book.specs.declared.event.Event.{Event}
 use Rattle.scoop_book.specs.declared.event.Event.TheVariants.{Hear, Begin, Finish}
 use Rattle.scoop_book.specs.declared.event.Reply.{Reply}
@@ -49,7 +49,8 @@ module _ (words : HandlerId → List ℕ) (n : ℕ) where
   handler_moves (Hear m) (reply.Heard told) s t moves =
       let x : HandlerState = (hear s.core.state m).0 in
       let number = number-row s.core.state m (hear s.core.state m) (row s.core.state m) in
-      let same : local (book.after_hearing x s) ≡ weave.after_hearing x (local s) = λ i. record { node = n; placed = words (number i); core = (book.after_hearing x s).core; stored = x } in
+      let same : local (book.after_hearing x s) ≡ weave.after_hearing x (local s) =
+      λ i. record { node = n; placed = words (number i); core = (book.after_hearing x s).core; stored = x } in
       record { tells = moves.tells; after = ap local moves.after ∙ same }
   handler_moves (Hear m) (reply.Began told) s t moves = absurd moves
   handler_moves (Hear m) (reply.Finished ran) s t moves = absurd moves
@@ -85,7 +86,8 @@ module _ (words : HandlerId → List ℕ) (n : ℕ) where
 
   is_here : (e : Event) (r : Reply) (hs ks : List LocalHandler) → book.Moves e r hs ks → has (numbers (all hs)) (handler_at e) ≡ true
   is_here e r hs ks x =
-      found_has number_in same_handler (handler_at e) (all hs) (local x.handler) (find_through number_in same_handler local (handler_at e) hs ∙ ap (option_map local) x.here)
+      found_has number_in same_handler (handler_at e) (all hs) (local x.handler)
+      (find_through number_in same_handler local (handler_at e) hs ∙ ap (option_map local) x.here)
 
   node_owns : (e : Event) (r : Reply) (hs ks : List LocalHandler) → book.Moves e r hs ks → is_of n (numbers (all hs)) (move_of e r) ≡ true
   node_owns (Hear m) (reply.Heard told) hs ks x = is_here (Hear m) (reply.Heard told) hs ks x
@@ -106,14 +108,16 @@ module _ (words : HandlerId → List ℕ) (n : ℕ) where
     pub names : numbers (all ks) ≡ numbers (all hs)
     pub stored : AllStored (all ks)
 
-  owned : (hs us : List LocalHandler) (ms : List LocalMove) → numbers (all us) ≡ numbers (all hs) → AllByRecursion (λ m. is_of n (numbers (all us)) m ≡ true) ms → AllByRecursion (λ m. is_of n (numbers (all hs)) m ≡ true) ms
+  owned : (hs us : List LocalHandler) (ms : List LocalMove) → numbers (all us) ≡ numbers (all hs) → AllByRecursion (λ m. is_of n (numbers (all us)) m ≡ true) ms
+      → AllByRecursion (λ m. is_of n (numbers (all hs)) m ≡ true) ms
   owned hs us ms names own = subst (λ xs. AllByRecursion (λ m. is_of n xs m ≡ true) ms) names own
 
   pub replays_run : (hs : List LocalHandler) (es : List Entry) (ks : List LocalHandler) → Replays hs es ks → NodeRuns (all hs) (map move_in es) (all ks)
   replays_run hs [] ks same = ap all same
   replays_run hs (e ∷ es) ks r = (all r.0, node_moves e.1 e.2 hs r.0 r.1, replays_run r.0 es ks r.2)
 
-  replays_go : (hs : List LocalHandler) (es : List Entry) (ks : List LocalHandler) → AllStored (all hs) → NoRepeats (numbers (all hs)) → Replays hs es ks → NodeGoes hs (map move_in es) ks
+  replays_go : (hs : List LocalHandler) (es : List Entry) (ks : List LocalHandler) → AllStored (all hs) → NoRepeats (numbers (all hs)) → Replays hs es ks
+      → NodeGoes hs (map move_in es) ks
   replays_go hs [] ks is once same =
       record { runs = ap all same; own = tt; names = ap (λ xs. numbers (all xs)) (sym same); stored = subst (λ xs. AllStored (all xs)) same is }
   replays_go hs (e ∷ es) ks is once r =
@@ -144,7 +148,8 @@ module _ (words : HandlerId → List ℕ) (n : ℕ) where
   all_open_again [] is = refl
   all_open_again (s ∷ hs) is = λ i. opens_again s is.0 i ∷ all_open_again hs is.1 i
 
-  pub lives_go : (hs : List LocalHandler) (first : List Entry) (more : List (List Entry)) (now : List LocalHandler) → AllStored (all hs) → NoRepeats (numbers (all hs)) → Lives words hs first more now → NodeGoes hs (moves_of n first more) now
+  pub lives_go : (hs : List LocalHandler) (first : List Entry) (more : List (List Entry)) (now : List LocalHandler) → AllStored (all hs)
+      → NoRepeats (numbers (all hs)) → Lives words hs first more now → NodeGoes hs (moves_of n first more) now
   lives_go hs first [] now is once life = replays_go hs first now is once life
   lives_go hs first (es ∷ more) now is once life =
       let last = life.0 in

@@ -25,7 +25,8 @@ module _ {A : Type 0} where
       subst (λ t. AllByRecursion (P x.0) (if t then x.1 ∷ own x.0 xs else own x.0 xs)) (number_itself x.0) (each x.0) in (
         here.0,
         all_through P xs
-            (λ j. by_test (λ t. AllByRecursion (P j) (if t then x.1 ∷ own j xs else own j xs) → AllByRecursion (P j) (own j xs)) (x.0 == j) (λ _ both. both.1) (λ _ rest. rest) (each j)),
+            (λ j. by_test (λ t. AllByRecursion (P j) (if t then x.1 ∷ own j xs else own j xs) → AllByRecursion (P j) (own j xs)) (x.0 == j) (λ _ both. both.1)
+            (λ _ rest. rest) (each j)),
       )
 
   pub all_items : (P : A → Type 0) (order : List (ℕ × A)) → AllByRecursion (λ x. P x.1) order → AllByRecursion P (items order)
@@ -43,12 +44,14 @@ module _ {A : Type 0} where
   by_place P (x ∷ xs) each = (each 0 x refl, by_place P xs (λ i. each (suc i)))
 
   -- the party at a place of two lists of parties, which are seen through functions
-  pub in_front : {B : Type 0} (f : A → List B) (xs : List A) (rest : List (List B)) (j : ℕ) (x : A) → slice_get xs j ≡ Some x → party_at (map f xs ++ rest) j ≡ f x
+  pub in_front : {B : Type 0} (f : A → List B) (xs : List A) (rest : List (List B)) (j : ℕ) (x : A) → slice_get xs j ≡ Some x
+      → party_at (map f xs ++ rest) j ≡ f x
   in_front f [] rest j x e = absurd (cc)
   in_front f (y ∷ ys) rest zero x e = let same : y ≡ x = cc in ap f same
   in_front f (y ∷ ys) rest (suc j) x e = in_front f ys rest j x e
 
-  pub behind : {B : Type 0} (f : A → List B) (xs : List A) (rest : List (List B)) (k j : ℕ) → j ≡ length xs + k → party_at (map f xs ++ rest) j ≡ party_at rest k
+  pub behind : {B : Type 0} (f : A → List B) (xs : List A) (rest : List (List B)) (k j : ℕ) → j ≡ length xs + k
+      → party_at (map f xs ++ rest) j ≡ party_at rest k
   behind f [] rest k j e = ap (party_at rest) (let same : j ≡ k = omega arith in same)
   behind f (y ∷ ys) rest k zero e = let none : ⊥ = omega arith in absurd none
   behind f (y ∷ ys) rest k (suc j) e = behind f ys rest k j (omega arith)

@@ -17,7 +17,7 @@ use Rattle.scoop_handler.specs.State.{new_state}
 use Rattle.scoop_handler.specs.Core.{core_of}
 use Rattle.scoop_model.specs.Step.{Placement, Newcomer}
 use Rattle.scoop_model.specs.Opening.{MayOpen}
-use Rattle.scoop_model.specs.Safe.{NoRepeats}
+use Rattle.scoop_message.specs.Lists.{NoRepeats}
 use Rattle.scoop_model.proofs.Basics.{by_test}
 use Rattle.scoop_model.proofs.Keys.{key_found}
 use Rattle.scoop_weave.specs.System.{LocalHandler, number_in, id_in, is_handler, new_handler, new_client}
@@ -123,15 +123,18 @@ module _ (nodes : List NodeLife) (clients : List ClientLife) (opens : MayOpen (p
   abbrev Stand : NodeLife → Type 0
   Stand n = AllByRecursion (λ (p : Placement). p.node ≡ n.number) n.placed
 
-  open_placed : (n : ℕ) (qs : List Placement) → AllByRecursion (λ (p : Placement). p.node ≡ n) qs → AllByRecursion IsFoundPlaced qs → map (local_of (words_in ps) n) (map first_opened qs) ≡ map new_handler qs
+  open_placed : (n : ℕ) (qs : List Placement) → AllByRecursion (λ (p : Placement). p.node ≡ n) qs → AllByRecursion IsFoundPlaced qs
+      → map (local_of (words_in ps) n) (map first_opened qs) ≡ map new_handler qs
   open_placed n [] stand found = refl
   open_placed n (p ∷ qs) stand found =
       let words : words_in ps p.handler ≡ p.words = ap (λ o. unwrap_or (option_map (λ (q : Placement). q.words) o) []) found.0 in
       let one : local_of (words_in ps) n (first_opened p) ≡ new_handler p =
-      λ i. record { node = sym stand.0 i; placed = words i; core = core_of p.class (new_state p.handler p.words) false; stored = new_state p.handler (words i) } in
+      λ i. record { node = sym stand.0 i; placed = words i; core = core_of p.class (new_state p.handler p.words) false; stored = new_state p.handler (words i) }
+      in
       ap (λ s. s ∷ map (local_of (words_in ps) n) (map first_opened qs)) one ∙ ap (λ ss. new_handler p ∷ ss) (open_placed n qs stand.1 found.1)
 
-  all_open : (xs : List NodeLife) → AllByRecursion Stand xs → AllByRecursion IsFoundPlaced (flat_map (λ (n : NodeLife). n.placed) xs) → openings xs ≡ map new_handler (flat_map (λ (n : NodeLife). n.placed) xs)
+  all_open : (xs : List NodeLife) → AllByRecursion Stand xs → AllByRecursion IsFoundPlaced (flat_map (λ (n : NodeLife). n.placed) xs)
+      → openings xs ≡ map new_handler (flat_map (λ (n : NodeLife). n.placed) xs)
   all_open [] stand found = refl
   all_open (n ∷ xs) stand found =
       let rest = flat_map (λ (n : NodeLife). n.placed) xs in
@@ -173,14 +176,16 @@ module _ (nodes : List NodeLife) (clients : List ClientLife) (opens : MayOpen (p
     abbrev Front : List NodeLife → Type 0
     Front xs = AllStored (openings xs) × NoRepeats (numbers (openings xs)) × AllByRecursion IsFound (openings xs)
 
-    facts : (xs : List NodeLife) → AllStored (openings xs) → NoRepeats (numbers (openings xs)) → AllByRecursion IsFound (openings xs) → AllByRecursion (IsNodeLife (words_in ps)) xs → AllByRecursion Facts xs
+    facts : (xs : List NodeLife) → AllStored (openings xs) → NoRepeats (numbers (openings xs)) → AllByRecursion IsFound (openings xs)
+        → AllByRecursion (IsNodeLife (words_in ps)) xs → AllByRecursion Facts xs
     facts [] stored apart found all = tt
     facts (n ∷ xs) stored apart found all =
         let is = all_split (λ (s : LocalHandler). s.stored ≡ s.core.state) (opening_of n) (openings xs) stored in
         let here = all_split IsFound (opening_of n) (openings xs) found in (
           record {
             found = here.0;
-            goes = lives_go (words_in ps) n.number (map first_opened n.placed) n.first n.more n.now is.0 (front_once (opening_of n) (openings xs) apart) all.0.lives;
+            goes = lives_go (words_in ps) n.number (map first_opened n.placed) n.first n.more n.now is.0
+                (front_once (opening_of n) (openings xs) apart) all.0.lives;
             some = all.0.some;
           },
           facts xs is.1 (back_once (opening_of n) (openings xs) apart) here.1 all.1,
@@ -223,7 +228,8 @@ module _ (nodes : List NodeLife) (clients : List ClientLife) (opens : MayOpen (p
         (λ _ here. absurd (differ (same_node k n h (is_at k h g e) (is_at n h f here))))
         (λ _ there. refl) refl
 
-    not_its : (n k : NodeLife) (m : LocalMove) → Facts n → Facts k → (k.number ≡ n.number → ⊥) → is_of k.number (names k) m ≡ true → is_of n.number (names n) m ≡ false
+    not_its : (n k : NodeLife) (m : LocalMove) → Facts n → Facts k → (k.number ≡ n.number → ⊥) → is_of k.number (names k) m ≡ true
+        → is_of n.number (names n) m ≡ false
     not_its n k (Heard h m told) f g differ e = not_here n k h f g differ e
     not_its n k (Began h told) f g differ e = not_here n k h f g differ e
     not_its n k (Finished h ran) f g differ e = not_here n k h f g differ e
@@ -289,7 +295,8 @@ module _ (nodes : List NodeLife) (clients : List ClientLife) (opens : MayOpen (p
         (mapped (λ (x : NodeLife). x.number) nodes j k f ∙ ap Some same)
         (mapped (λ (x : NodeLife). x.number) nodes i n e)
 
-    nodes_test : (i j : ℕ) (n k : NodeLife) (m : LocalMove) → slice_get nodes i ≡ Some n → slice_get nodes j ≡ Some k → is_of k.number (names k) m ≡ true → is_of n.number (names n) m ≡ (j == i)
+    nodes_test : (i j : ℕ) (n k : NodeLife) (m : LocalMove) → slice_get nodes i ≡ Some n → slice_get nodes j ≡ Some k → is_of k.number (names k) m ≡ true
+        → is_of n.number (names n) m ≡ (j == i)
     nodes_test i j n k m e f own =
         by_test (λ t. (j == i) ≡ t → is_of n.number (names n) m ≡ t) (j == i)
         (λ _ here.
@@ -316,7 +323,8 @@ module _ (nodes : List NodeLife) (clients : List ClientLife) (opens : MayOpen (p
 
     -- ---- a client's own moves
 
-    clients_test : (k l : ℕ) (c d : ClientLife) (m : LocalMove) → slice_get clients k ≡ Some c → slice_get clients l ≡ Some d → IsClients (id_in (newly ps d)) m → is_by (id_in (newly ps c)) m ≡ (l == k)
+    clients_test : (k l : ℕ) (c d : ClientLife) (m : LocalMove) → slice_get clients k ≡ Some c → slice_get clients l ≡ Some d → IsClients (id_in (newly ps d)) m
+        → is_by (id_in (newly ps c)) m ≡ (l == k)
     clients_test k l c d m e f own =
         let id : ClientLife → ClientId = λ (x : ClientLife). x.joined.id in
         let ids_at : (i : ℕ) (x : ClientLife) → slice_get clients i ≡ Some x → slice_get (map (λ (n : Newcomer). n.id) ns) i ≡ Some (id x) =
@@ -362,11 +370,13 @@ module _ (nodes : List NodeLife) (clients : List ClientLife) (opens : MayOpen (p
     node_known : (n : NodeLife) (k : ℕ) → Facts n → (n.number == k) ≡ true → has_node ps k ≡ true
     node_known n k f e = known n.placed f.some f.found
       where
-        known : (qs : List Placement) → 1 ≤ length qs → AllByRecursion IsFound (map (local_of (words_in ps) n.number) (map first_opened qs)) → has_node ps k ≡ true
+        known : (qs : List Placement) → 1 ≤ length qs → AllByRecursion IsFound (map (local_of (words_in ps) n.number) (map first_opened qs))
+            → has_node ps k ≡ true
         known [] some found = let none : ⊥ = omega arith in absurd none
         known (q ∷ qs) some found =
             let s = local_of (words_in ps) n.number (first_opened q) in
-            sym (ap (λ ss. list_any (λ j. j == k) (map (λ (s : LocalHandler). s.node) ss)) opened ∙ ap (λ js. list_any (λ j. j == k) js) (map-map (λ (s : LocalHandler). s.node) new_handler ps))
+            sym (ap (λ ss. list_any (λ j. j == k) (map (λ (s : LocalHandler). s.node) ss)) opened
+            ∙ ap (λ js. list_any (λ j. j == k) js) (map-map (λ (s : LocalHandler). s.node) new_handler ps))
             ∙ any_found (λ (s : LocalHandler). s.node) (is_handler (number_in s)) (λ j. j == k) (openings nodes) s found.0 e
 
     client_known : (k : ℕ) (c : ClientLife) → slice_get clients k ≡ Some c → has_client ns c.joined.id ≡ true
@@ -413,7 +423,8 @@ module _ (nodes : List NodeLife) (clients : List ClientLife) (opens : MayOpen (p
     nodes_run [] all = tt
     nodes_run (n ∷ xs) all = (all.0, nodes_run xs all.1)
 
-    clients_run : (xs : List ClientLife) → AllByRecursion (λ (c : ClientLife). ClientRuns (newly ps c) (moves_by (id_in (newly ps c)) moves) c.now) xs → EachClient moves (map (new_client (map (λ (p : Placement). p.handler) ps)) (newcomers_of xs)) (map (λ (c : ClientLife). c.now) xs)
+    clients_run : (xs : List ClientLife) → AllByRecursion (λ (c : ClientLife). ClientRuns (newly ps c) (moves_by (id_in (newly ps c)) moves) c.now) xs
+        → EachClient moves (map (new_client (map (λ (p : Placement). p.handler) ps)) (newcomers_of xs)) (map (λ (c : ClientLife). c.now) xs)
     clients_run [] all = tt
     clients_run (c ∷ xs) all = (all.0, clients_run xs all.1)
 
@@ -442,4 +453,5 @@ module _ (nodes : List NodeLife) (clients : List ClientLife) (opens : MayOpen (p
     }
 
     pub is_a_world : IsWorld ps ns moves (system_of nodes clients)
-    is_a_world = weave_is_a_world ps ns moves (system_of nodes clients) opens (woven_is_weave ps ns opens moves (system_of nodes clients) (nodes_are_woven ps ns moves (system_of nodes clients) opens woven))
+    is_a_world = weave_is_a_world ps ns moves (system_of nodes clients) opens
+        (woven_is_weave ps ns opens moves (system_of nodes clients) (nodes_are_woven ps ns moves (system_of nodes clients) opens woven))

@@ -5,7 +5,7 @@ use Rattle.std.specs.Option.{option_map}
 use Rattle.scoop_message.specs.declared.name.HandlerId.{HandlerId}
 use Rattle.scoop_message.specs.Message.{same_handler}
 use Rattle.scoop_model.specs.Step.{Placement, Newcomer}
-use Rattle.scoop_model.specs.Safe.{NoRepeats}
+use Rattle.scoop_message.specs.Lists.{NoRepeats}
 use Rattle.scoop_book.specs.Moves.{LocalHandler, Entry}
 use Rattle.scoop_driver.specs.declared.step.Step.{Step}
 use Rattle.scoop_weave.specs.System as weave

@@ -31,12 +31,14 @@ so_far-nothing key at refused = record {
 }
 
 -- one datagram was taken and refused
-pub refuses_one : (key : List ℕ) (before after : Option Told) (refused now : ℕ) (d : List ℕ) → Exchanges before after (d ∷ []) [] → IsForged key d → now ≡ one_more refused → Refuses key before after refused now (d ∷ [])
+pub refuses_one : (key : List ℕ) (before after : Option Told) (refused now : ℕ) (d : List ℕ) → Exchanges before after (d ∷ []) [] → IsForged key d
+    → now ≡ one_more refused → Refuses key before after refused now (d ∷ [])
 refuses_one key before after refused now d taken forged counted =
     record { exchanged = taken; all_forged = All-one key d forged; counted = counted }
 
 -- and then one more
-so_far-also : (key : List ℕ) (a b c : Option Told) (refused now then n : ℕ) → SoFar key a b refused now n → (d : List ℕ) × Refuses key b c now then (d ∷ []) → SoFar key a c refused then (n + 1)
+so_far-also : (key : List ℕ) (a b c : Option Told) (refused now then n : ℕ) → SoFar key a b refused now n → (d : List ℕ) × Refuses key b c now then (d ∷ [])
+    → SoFar key a c refused then (n + 1)
 so_far-also key a b c refused now then n first (d, one) = record {
   forged = first.forged ++ d ∷ [];
   refuses = record {
@@ -48,7 +50,8 @@ so_far-also key a b c refused now then n first (d, one) = record {
 }
 
 -- the same, where a loop keeps the key
-pub so_far-more : (key same : List ℕ) (a b c : Option Told) (refused now then n : ℕ) → same ≡ key → SoFar key a b refused now n → (d : List ℕ) × Refuses same b c now then (d ∷ []) → SoFar key a c refused then (n + 1)
+pub so_far-more : (key same : List ℕ) (a b c : Option Told) (refused now then n : ℕ) → same ≡ key → SoFar key a b refused now n → (d : List ℕ)
+    × Refuses same b c now then (d ∷ []) → SoFar key a c refused then (n + 1)
 so_far-more key same a b c refused now then n is first more =
     let P : List ℕ → Type 0 = λ k. (d : List ℕ) × Refuses k b c now then (d ∷ []) in
     so_far-also key a b c refused now then n first (subst P is more)

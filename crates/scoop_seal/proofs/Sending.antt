@@ -10,7 +10,9 @@ use Rattle.scoop_link.proofs.Kept.{kept-short}
 use Rattle.scoop_seal.specs.Sealed.{gone}
 
 -- the bytes that the link behind was given went, where it counted no fault
-pub gone_by : (r : Result (Unit {0}) LinkFault) (before after : Option Told) (faults now : ℕ) (to : Party) (given datagram : List ℕ) → given ≡ datagram → length datagram ≤ BUFFER_LEN → CountsFault r faults now → Exchanges before after [] (sent_by r to given) → Exchanges before after [] (gone faults now to datagram)
+pub gone_by : (r : Result (Unit {0}) LinkFault) (before after : Option Told) (faults now : ℕ) (to : Party) (given datagram : List ℕ) → given ≡ datagram
+    → length datagram ≤ BUFFER_LEN → CountsFault r faults now → Exchanges before after [] (sent_by r to given)
+    → Exchanges before after [] (gone faults now to datagram)
 gone_by (Ok done) before after faults now to given datagram same fits counts went =
     let P : List ℕ → Type 0 = λ d. Exchanges before after [] ((to, d) ∷ []) in
     rw (eq-eqb faults now (sym counts)) (subst P (ap kept same ∙ kept-short datagram fits) went)

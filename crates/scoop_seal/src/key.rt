@@ -75,6 +75,3 @@ impl Key {
         &self.bytes
     }
 }
-
-#[cfg(test)]
-mod tests;

@@ -1,8 +1,25 @@
 //! Sealed datagrams: a link whose datagrams carry a tag that only a holder of the key can make.
 //!
-//! `hmac` is the code of RFC 2104 over SHA-256, `Key` a key of 32 bytes, and `SealedLink` puts 16 bytes of
+//! [`hmac`] is the code of RFC 2104 over SHA-256, [`Key`] a key of 32 bytes, and [`SealedLink`] puts 16 bytes of
 //! the code behind each datagram that it sends, and gives only datagrams that have the right ones behind
 //! them. Nothing is kept secret but the key. No call takes memory.
+//!
+//! ```
+//! let key = Key::new([5; 32]);
+//! let mut link = SealedLink::new(TapeLink::new(alloc, 1)?, key);
+//! link.send(HANDLER, b"lock")?;
+//! let (_, sealed) = link.inner().sent(0).ok_or("nothing sent")?;
+//! assert_eq!(rt; sealed.len(), 4 + TAG_LEN);
+//! // who has the key gets the bytes, and what came without their tag is passed over
+//! let mut tape = TapeLink::new(alloc, 0)?;
+//! tape.feed(b"forged")?;
+//! tape.feed(sealed)?;
+//! let mut other = SealedLink::new(tape, key);
+//! let mut buffer = [0; BUFFER_LEN];
+//! assert_eq!(rt; other.receive(&mut buffer), Ok(Some(4)));
+//! assert!(rt; buffer.starts_with(b"lock"));
+//! assert_eq!(rt; other.refused(), 1);
+//! ```
 #![tactic(auto)]
 
 mod key;

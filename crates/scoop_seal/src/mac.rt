@@ -61,6 +61,3 @@ pub fn hmac(key: &[u8], message: &[u8]) -> [u8; DIGEST_LEN]
     let inner = digest_of(&mix(&block, INNER), message);
     digest_of(&mix(&block, OUTER), &inner)
 }
-
-#[cfg(test)]
-mod tests;

@@ -153,6 +153,3 @@ impl<L: Link> Link for SealedLink<L> {
         self.count()
     }
 }
-
-#[cfg(test)]
-mod tests;

@@ -1,7 +1,7 @@
 -- What is printed of an error: the name of what went wrong, with the number that it names.
 use Rattle.std.specs.Prelude.{ℕ, List, ◌++◌, codes, Option, Some, None}
 use Rattle.std.specs.Fmt.{decimal}
-use Rattle.scoop_record.specs.Text.{error_text as keeper_text}
+use Rattle.scoop_keeper.specs.Text.{error_text as keeper_text}
 use Rattle.scoop_reserve.specs.declared.error.ReserveError.{ReserveError}
 use Rattle.scoop_reserve.specs.declared.error.ReserveError.TheVariants as reserve
 use Rattle.scoop_client.specs.declared.error.ClientError.{ClientError}

@@ -9,8 +9,8 @@ use Rattle.scoop_book.specs.declared.error.CloseRefusal.{CloseRefusal}
 use Rattle.scoop_book.specs.declared.error.CloseRefusal.TheVariants as close
 use Rattle.scoop_netloop.specs.declared.stop.ServeEnd.{ServeEnd}
 use Rattle.scoop_netloop.specs.declared.stop.ServeEnd.TheVariants as served
-use Rattle.scoop_record.specs.declared.keeper.KeeperError.{KeeperError}
-use Rattle.scoop_record.specs.declared.keeper.KeeperError.TheVariants as keeper
+use Rattle.scoop_keeper.specs.declared.keeper.KeeperError.{KeeperError}
+use Rattle.scoop_keeper.specs.declared.keeper.KeeperError.TheVariants as keeper
 use Rattle.scoop_show.specs.declared.error.ShowError.{ShowError}
 use Rattle.scoop_show.specs.declared.error.ShowError.TheVariants.{NoLink, NoThread, Driver, Loop, NotClosed, Store, OutOfMemory}
 

@@ -1,8 +1,8 @@
 -- What a demo is given, and what it takes from the record of the clients.
 use Rattle.std.specs.Prelude.{◌≡◌, ◌-◌, ◌*◌, ◌^◌, ℕ, min}
 use Rattle.scoop_message.specs.declared.name.ClientId.{ClientId}
-use Rattle.scoop_record.specs.Keeper.{Sets, next_of}
-use Rattle.scoop_record.specs.Memory.{MemoryRecord, incarnation_at}
+use Rattle.scoop_keeper.specs.Keeper.{Sets, next_of}
+use Rattle.scoop_keeper.specs.Memory.{MemoryRecord, incarnation_at}
 use Rattle.scoop_show.specs.declared.plan.Plan.{Plan}
 
 -- how many turns a node's loop takes at most

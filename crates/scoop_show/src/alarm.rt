@@ -46,7 +46,8 @@ impl Alarm {
     }
 
     /// The first error, if it was rung.
-    pub(crate) fn into_first(self) -> Option<ShowError> {
-        self.first.into_inner()
+    pub(crate) fn first<R: Wait>(&self, rt: &R) -> Option<ShowError> {
+        let first = self.first.lock(rt);
+        *first
     }
 }

@@ -1,9 +1,10 @@
 //! The clients of a demo.
 
-ghost use Rattle.std.specs.Prelude.{◌≡◌, IfOk, OnOk, is_some};
+ghost use Rattle.std.specs.Prelude.{◌≡◌, ◌≤◌, IfOk, OnOk, is_some};
 ghost use Rattle.scoop_client.specs.State.{phase_of};
 ghost use Rattle.scoop_client.specs.declared.phase.Phase.TheVariants.{Idle as AtIdle};
 ghost use Rattle.scoop_show.specs.Plans.{TakesNext};
+ghost use Rattle.scoop_show.specs.Orders.{as_begun, client_traffic};
 
 use crate::alarm::Alarm;
 use crate::error::ShowError;
@@ -12,10 +13,11 @@ use crate::outcome::{Outcome, Waited};
 use crate::plan::{ACCOUNT, FIRST_CELL, Plan, SECOND_CELL};
 use crate::progress::Progress;
 use scoop_client::{BeginError, Client, Phase};
-use scoop_link::{Link, PacedLink, Peers, UdpLink};
-use scoop_message::{Answer, Args, ClientId, HandlerId, Request};
-use scoop_netloop::{Condition, Driver, DriverError};
-use scoop_record::{Keeper, MemoryKeeper};
+use scoop_keeper::{Keeper, MemoryKeeper};
+use scoop_link::{Link, PacedLink, Party as LinkParty, Peers, UdpLink};
+use scoop_message::{Answer, Args, ClientId, HandlerId, OutOfMemory, Request};
+use scoop_netloop::{Condition, Diary, Driver, DriverError, StepList};
+use scoop_weaver::Party;
 use std::alloc::Global;
 use std::io::Write;
 use std::net::Net;
@@ -24,8 +26,10 @@ use std::sync::Wait;
 // How often a client repeats a datagram at once before it waits for a silence.
 const REPEATS: u64 = 8;
 
-// The handlers that clients know, the account's last.
-const HANDLERS: [HandlerId; 3] = [FIRST_CELL, SECOND_CELL, ACCOUNT];
+// The handlers that clients know, node by node, as they are placed: without an account, and with it.
+const CELLS: [HandlerId; 2] = [FIRST_CELL, SECOND_CELL];
+
+const HANDLERS: [HandlerId; 3] = [FIRST_CELL, ACCOUNT, SECOND_CELL];
 
 // How many parties a client sends to.
 const PARTIES: usize = 3;
@@ -52,36 +56,113 @@ const TRIES: u32 = 10_000;
 /// The link of a client: over UDP, paced, and guarded by the alarm.
 pub(crate) type Wire<'a> = GuardedLink<'a, PacedLink<UdpLink>>;
 
-/// A client of this number over its own port, with the incarnation that the keeper gives it. It knows the
-/// cells, and with a wait the account.
-pub(crate) fn open_client<'a, R: Net>(
+/// A client, which knows the cells, and with a wait the account.
+#[derive(Drop)]
+pub(crate) struct Player<L: Link, D: Diary<Global>> {
+    pub(crate) driver: Driver<L, D>,
+    pub(crate) number: ClientId,
+    inc: u32,
+    waits: bool,
+    ghost begun: { 1 ≤ inc },
+}
+
+// A client of this number and incarnation, as it begins.
+fn begin_client(
+    alloc: Global,
+    number: ClientId,
+    inc: u32,
+    waits: bool,
+) -> Result<Client, OutOfMemory>
+    requires { 1 ≤ inc }
+    ensures { IfOk result (λ client. client ≡ as_begun number inc waits) }
+{
+    let known: &[HandlerId] = if waits { &HANDLERS } else { &CELLS };
+    match Client::begin(alloc, number, inc, known) {
+        Ok(client) => Ok(client),
+        Err(BeginError::OutOfMemory) => Err(OutOfMemory),
+        Err(_) => unreachable!(),
+    }
+}
+
+/// What the clients of a demo have in common.
+#[derive(Clone, Copy)]
+pub(crate) struct Setting<'a, 'p> {
+    /// Whether there is an account.
+    pub(crate) waits: bool,
+    /// How many turns a call of a driver takes at most.
+    pub(crate) turns: u64,
+    /// What guards their links.
+    pub(crate) alarm: &'a Alarm,
+    /// The ports of the handlers.
+    pub(crate) table: &'p [(LinkParty, u16)],
+}
+
+// A link from this port.
+fn open_wire<'a, R: Net>(
     rt: &R,
     alloc: Global,
-    keeper: &mut MemoryKeeper,
-    number: ClientId,
-    waits: bool,
-    peers: Peers<'_>,
-    turns: u64,
-    alarm: &'a Alarm,
-) -> Result<Driver<Wire<'a>>, ShowError>
-    ensures { IfOk result (λ _. TakesNext keeper.old keeper.new number) }
-{
-    let socket = match UdpLink::open(rt, alloc, peers) {
+    setting: &Setting<'a, '_>,
+    own: u16,
+) -> Result<Wire<'a>, ShowError> {
+    let table = setting.table;
+    let socket = match UdpLink::open(rt, alloc, Peers { own, table }) {
         Ok(socket) => socket,
         Err(error) => return Err(ShowError::from(error)),
     };
     let Ok(link) = PacedLink::new(alloc, socket, PARTIES, REPEATS) else {
         return Err(ShowError::OutOfMemory);
     };
+    Ok(GuardedLink::new(link, setting.alarm))
+}
+
+// A client as it begins, with the incarnation that the keeper gives it.
+fn next_client(
+    alloc: Global,
+    keeper: &mut MemoryKeeper,
+    number: ClientId,
+    waits: bool,
+) -> Result<(Client, u32), ShowError>
+    ensures takes { IfOk result (λ _. TakesNext keeper.old keeper.new number) }
+    ensures begun { IfOk result (λ next. 1 ≤ next.1) }
+{
     let inc = match keeper.next_incarnation(number) {
         Ok(inc) => inc,
         Err(refusal) => return Err(ShowError::from(refusal)),
     };
-    let known: &[HandlerId] = if waits { &HANDLERS } else { &HANDLERS[..2] };
-    match Client::begin(alloc, number, inc, known) {
-        Ok(client) => Ok(Driver::new(client, GuardedLink::new(link, alarm), turns)),
-        Err(BeginError::OutOfMemory) => Err(ShowError::OutOfMemory),
-        Err(_) => unreachable!(),
+    let client = begin_client(alloc, number, inc, waits)?;
+    Ok((client, inc))
+}
+
+/// A client of this number over its own port, with the incarnation that the keeper gives it. Its driver hands its steps
+/// to the diary.
+pub(crate) fn open_client<'a, R: Net, D: Diary<Global>>(
+    rt: &R,
+    alloc: Global,
+    keeper: &mut MemoryKeeper,
+    setting: &Setting<'a, '_>,
+    number: ClientId,
+    own: u16,
+    diary: D,
+) -> Result<Player<Wire<'a>, D>, ShowError>
+    ensures { IfOk result (λ _. TakesNext keeper.old keeper.new number) }
+{
+    let link = open_wire(rt, alloc, setting, own)?;
+    let (client, inc) = next_client(alloc, keeper, number, setting.waits)?;
+    Ok(Player {
+        driver: Driver::with_diary(client, link, setting.turns, diary),
+        number,
+        inc,
+        waits: setting.waits,
+    })
+}
+
+impl<L: Link> Player<L, StepList> {
+    /// What the client let through, by its diary.
+    pub(crate) fn traffic(&self, alloc: Global) -> Result<Party, OutOfMemory>
+        ensures { IfOk result (λ p. p ≡ client_traffic self.now.number self.now.inc self.now.waits self.now.driver.diary.steps) }
+    {
+        let client = begin_client(alloc, self.number, self.inc, self.waits)?;
+        Party::of_client(alloc, client, self.driver.diary().steps())
     }
 }
 
@@ -102,7 +183,10 @@ fn question(op: u16) -> Request {
 }
 
 // Takes turns until each handler has greeted the client, as many as a call of its driver may take.
-fn greet<L: Link>(driver: &mut Driver<L>, turns: u64) -> Result<(), DriverError> {
+fn greet<L: Link, D: Diary<Global>>(
+    driver: &mut Driver<L, D>,
+    turns: u64,
+) -> Result<(), DriverError> {
     for _ in 0..turns {
         if driver.phase() != Phase::Greeting {
             return Ok(());
@@ -116,7 +200,10 @@ fn greet<L: Link>(driver: &mut Driver<L>, turns: u64) -> Result<(), DriverError>
 }
 
 // One joint block that sets both cells.
-fn paint_once<L: Link>(driver: &mut Driver<L>, colour: u64) -> Result<(), DriverError>
+fn paint_once<L: Link, D: Diary<Global>>(
+    driver: &mut Driver<L, D>,
+    colour: u64,
+) -> Result<(), DriverError>
     ensures { OnOk result (phase_of driver.new.seen.client ≡ AtIdle) }
 {
     driver.reserve(&[FIRST_CELL, SECOND_CELL])?;
@@ -126,9 +213,9 @@ fn paint_once<L: Link>(driver: &mut Driver<L>, colour: u64) -> Result<(), Driver
 }
 
 // The client is greeted, and then paints both cells in as many joint blocks as the plan says. It tells each.
-fn paint<L: Link, W: Write + Drop, R: Wait>(
+fn paint<L: Link, D: Diary<Global>, W: Write + Drop, R: Wait>(
     rt: &R,
-    driver: &mut Driver<L>,
+    driver: &mut Driver<L, D>,
     number: ClientId,
     colour: u64,
     plan: &Plan,
@@ -143,7 +230,7 @@ fn paint<L: Link, W: Write + Drop, R: Wait>(
 }
 
 // Deposits in two blocks.
-fn deposit<L: Link>(driver: &mut Driver<L>) -> Result<(), DriverError> {
+fn deposit<L: Link, D: Diary<Global>>(driver: &mut Driver<L, D>) -> Result<(), DriverError> {
     for _ in 0..2u8 {
         driver.reserve(&[ACCOUNT])?;
         driver.call(ACCOUNT, request(DEPOSIT, DEPOSITED))?;
@@ -153,7 +240,7 @@ fn deposit<L: Link>(driver: &mut Driver<L>) -> Result<(), DriverError> {
 }
 
 // Withdraws once the balance is at least as much. Answers whether it was, in any of its tries.
-fn withdraw<L: Link>(driver: &mut Driver<L>) -> Result<bool, DriverError> {
+fn withdraw<L: Link, D: Diary<Global>>(driver: &mut Driver<L, D>) -> Result<bool, DriverError> {
     let condition = Condition {
         handler: ACCOUNT,
         request: question(BALANCE),
@@ -178,20 +265,18 @@ pub(crate) enum Part {
 
 /// A client that paints.
 #[derive(Drop)]
-pub(crate) struct Painter<L: Link> {
-    driver: Driver<L>,
-    number: ClientId,
+pub(crate) struct Painter<L: Link, D: Diary<Global>> {
+    pub(crate) player: Player<L, D>,
     colour: u64,
     part: Part,
     has_met: bool,
 }
 
-impl<L: Link> Painter<L> {
+impl<L: Link, D: Diary<Global>> Painter<L, D> {
     /// This client, which paints with this colour.
-    pub(crate) fn new(driver: Driver<L>, number: ClientId, colour: u64, part: Part) -> Painter<L> {
+    pub(crate) fn new(player: Player<L, D>, colour: u64, part: Part) -> Painter<L, D> {
         Painter {
-            driver,
-            number,
+            player,
             colour,
             part,
             has_met: true,
@@ -213,8 +298,8 @@ impl<L: Link> Painter<L> {
     ) {
         let painted = paint(
             rt,
-            &mut self.driver,
-            self.number,
+            &mut self.player.driver,
+            self.player.number,
             self.colour,
             plan,
             progress,
@@ -227,8 +312,8 @@ impl<L: Link> Painter<L> {
     /// Deposits, or waits and withdraws. An error rings the alarm.
     pub(crate) fn wait<R: Wait>(&mut self, rt: &R, alarm: &Alarm) {
         let met = match self.part {
-            Part::Deposits => deposit(&mut self.driver).map(|()| true),
-            Part::Withdraws => withdraw(&mut self.driver),
+            Part::Deposits => deposit(&mut self.player.driver).map(|()| true),
+            Part::Withdraws => withdraw(&mut self.player.driver),
         };
         match met {
             Ok(met) => self.has_met = met,
@@ -238,15 +323,17 @@ impl<L: Link> Painter<L> {
 }
 
 // What both cells hold.
-fn read_cells<L: Link>(driver: &mut Driver<L>) -> Result<(Answer, Answer), DriverError> {
+fn read_cells<L: Link, D: Diary<Global>>(
+    driver: &mut Driver<L, D>,
+) -> Result<(Answer, Answer), DriverError> {
     let first = driver.query(FIRST_CELL, question(GET))?;
     let second = driver.query(SECOND_CELL, question(GET))?;
     Ok((first, second))
 }
 
 /// Reads what came out, in one block: both cells, and the balance where a client withdrew from the account.
-pub(crate) fn read<L: Link>(
-    driver: &mut Driver<L>,
+pub(crate) fn read<L: Link, D: Diary<Global>>(
+    driver: &mut Driver<L, D>,
     turns: u64,
     withdrew: Option<bool>,
 ) -> Result<Outcome, DriverError>
@@ -273,5 +360,6 @@ pub(crate) fn read<L: Link>(
         waited,
         first,
         second,
+        woven: None,
     })
 }

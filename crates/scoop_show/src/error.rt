@@ -5,10 +5,10 @@ ghost use Rattle.scoop_show.specs.ErrorText.{client_name, client_number, close_n
 
 use scoop_book::CloseRefusal;
 use scoop_client::ClientError;
+use scoop_keeper::KeeperError;
 use scoop_link::OpenLinkError;
 use scoop_message::{HandlerId, OutOfMemory};
 use scoop_netloop::{DriverError, ServeEnd};
-use scoop_record::KeeperError;
 use scoop_reserve::ReserveError;
 use std::error::Error;
 use std::fmt;

@@ -2,17 +2,17 @@
 
 ghost use Rattle.std.specs.Prelude.{◌≤◌, vec_len, length};
 ghost use Rattle.scoop_message.specs.declared.limits.TheConstants.{MAX_HANDLERS};
-ghost use Rattle.scoop_record.specs.Keyed.{NoRepeats};
+ghost use Rattle.scoop_message.specs.Lists.{NoRepeats};
 ghost use Rattle.scoop_book.specs.Opening.{numbers_of};
 
 use crate::alarm::Alarm;
 use crate::error::ShowError;
-use scoop_book::{CloseRefusal, Node, OpenError, Pass};
+use scoop_book::{CloseRefusal, Event, Node, OpenError, Pass, Reply};
+use scoop_keeper::MemoryKeeper;
 use scoop_link::{Peers, UdpLink};
 use scoop_message::HandlerId;
 use scoop_netloop::{OpenGate, ServeEnd, serve};
 use scoop_object::{Behaviour, Class};
-use scoop_record::MemoryKeeper;
 use std::alloc::Global;
 use std::net::Net;
 use std::sync::Wait;
@@ -109,14 +109,14 @@ impl<B: Behaviour> Host<B> {
         }
     }
 
-    /// Closes the node: its history is what its threads say of it.
-    pub(crate) fn close<R: Wait>(self, rt: &R) -> Result<(), ShowError> {
+    /// Closes the node: its history, which is what its threads say of it.
+    pub(crate) fn close<R: Wait>(self, rt: &R) -> Result<Vec<(u32, Event, Reply)>, ShowError> {
         let Host { node, passes, .. } = self;
         let Some(passes) = passes else {
             return Err(ShowError::NotClosed(CloseRefusal::MissingPass));
         };
         match node.close(rt, passes.list) {
-            Ok(_) => Ok(()),
+            Ok(closed) => Ok(closed.history),
             Err(error) => Err(ShowError::from(error.cause)),
         }
     }

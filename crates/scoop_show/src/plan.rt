@@ -48,6 +48,9 @@ pub struct Plan {
     pub turns: u64,
     /// The ports.
     pub ports: Ports,
+    /// Whether an order is found of what nodes and clients did. Then the clients keep diaries, which take memory with each
+    /// turn.
+    pub weaves: bool,
 }
 
 impl Plan {

@@ -3,14 +3,14 @@
 ghost use Rattle.std.specs.Prelude.{◌≡◌, IfOk, is_some};
 
 use crate::alarm::Alarm;
-use crate::client::{Painter, read};
+use crate::client::{Painter, Player, Wire, read};
 use crate::error::ShowError;
 use crate::host::Host;
 use crate::outcome::Outcome;
 use crate::plan::Plan;
 use crate::progress::Progress;
 use scoop_link::Link;
-use scoop_netloop::Driver;
+use scoop_netloop::Diary;
 use scoop_object::Behaviour;
 use std::alloc::Global;
 use std::io::Write;
@@ -21,19 +21,24 @@ use std::time::Clock;
 
 /// The clients: those that paint, and the one that reads.
 #[derive(Drop)]
-pub(crate) struct Clients<L: Link> {
-    pub(crate) painters: Vec<Painter<L>>,
-    pub(crate) reader: Driver<L>,
+pub(crate) struct Clients<L: Link, D: Diary<Global>> {
+    pub(crate) painters: Vec<Painter<L, D>>,
+    pub(crate) reader: Player<L, D>,
 }
 
 // The clients paint, each in a thread.
-fn paint_all<L: Link + Send, W: Write + Drop + Send, R: Threads + Wait + Sync>(
+fn paint_all<
+    L: Link + Send,
+    D: Diary<Global> + Send,
+    W: Write + Drop + Send,
+    R: Threads + Wait + Sync,
+>(
     rt: &R,
-    mut painters: Vec<Painter<L>>,
+    mut painters: Vec<Painter<L, D>>,
     plan: &Plan,
     progress: &Progress<W>,
     alarm: &Alarm,
-) -> Vec<Painter<L>> {
+) -> Vec<Painter<L, D>> {
     let lent = painters.as_mut_slice();
     thread::scope(thread::scope_env(), rt, move |scope| {
         for painter in lent.iter_mut() {
@@ -47,11 +52,11 @@ fn paint_all<L: Link + Send, W: Write + Drop + Send, R: Threads + Wait + Sync>(
 }
 
 // One client deposits while the other one waits and withdraws, each in a thread.
-fn wait_all<L: Link + Send, R: Threads + Wait + Sync>(
+fn wait_all<L: Link + Send, D: Diary<Global> + Send, R: Threads + Wait + Sync>(
     rt: &R,
-    mut painters: Vec<Painter<L>>,
+    mut painters: Vec<Painter<L, D>>,
     alarm: &Alarm,
-) -> Vec<Painter<L>> {
+) -> Vec<Painter<L, D>> {
     let lent = painters.as_mut_slice();
     thread::scope(thread::scope_env(), rt, move |scope| {
         for painter in lent.iter_mut() {
@@ -64,16 +69,38 @@ fn wait_all<L: Link + Send, R: Threads + Wait + Sync>(
     painters
 }
 
-// What the clients do, one part after the other. An error has rung the alarm.
-fn play<L: Link + Send, W: Write + Drop + Send, R: Threads + Wait + Sync>(
+// The wait, where there is one, and whether its condition was met.
+fn wait_where_asked<L: Link + Send, D: Diary<Global> + Send, R: Threads + Wait + Sync>(
     rt: &R,
-    clients: Clients<L>,
+    painters: Vec<Painter<L, D>>,
+    waits: bool,
+    alarm: &Alarm,
+) -> (Vec<Painter<L, D>>, Option<bool>)
+    ensures { is_some result.1 ≡ waits }
+{
+    if !waits {
+        return (painters, None);
+    }
+    let painters = wait_all(rt, painters, alarm);
+    let met = painters.iter().all(|painter| painter.has_met());
+    (painters, Some(met))
+}
+
+// What the clients do, one part after the other. They are handed back. An error has rung the alarm.
+fn play<L, D, W, R>(
+    rt: &R,
+    clients: Clients<L, D>,
     plan: &Plan,
     waits: bool,
     progress: Option<W>,
     alarm: &Alarm,
-) -> Result<Outcome, ShowError>
-    ensures { IfOk result (λ outcome. is_some outcome.waited ≡ waits) }
+) -> (Result<Outcome, ShowError>, Clients<L, D>)
+where
+    L: Link + Send,
+    D: Diary<Global> + Send,
+    W: Write + Drop + Send,
+    R: Threads + Wait + Sync,
+    ensures { IfOk result.0 (λ outcome. is_some outcome.waited ≡ waits) }
 {
     let Clients {
         painters,
@@ -82,48 +109,50 @@ fn play<L: Link + Send, W: Write + Drop + Send, R: Threads + Wait + Sync>(
     let progress = Progress::new(progress, plan.rounds);
     let painters = paint_all(rt, painters, plan, &progress, alarm);
     progress.finish();
-    let withdrew = if waits {
-        let painters = wait_all(rt, painters, alarm);
-        Some(painters.iter().all(|painter| painter.has_met()))
-    } else {
-        None
-    };
-    match read(&mut reader, plan.turns, withdrew) {
-        Ok(outcome) => Ok(outcome),
+    let (painters, withdrew) = wait_where_asked(rt, painters, waits, alarm);
+    match read(&mut reader.driver, plan.turns, withdrew) {
+        Ok(outcome) => (Ok(outcome), Clients { painters, reader }),
         Err(error) => {
             let error = ShowError::from(error);
             alarm.ring(rt, error);
-            Err(error)
+            (Err(error), Clients { painters, reader })
         }
     }
 }
 
-/// Serves the nodes, each in a thread, while the clients play, and waits for all. The nodes are handed back. An error has
-/// rung the alarm.
-pub(crate) fn play_beside<B, L, W, R>(
+/// What came out of the play of a demo's parties, and the parties.
+#[derive(Drop)]
+pub(crate) struct Played<B: Behaviour, L: Link, D: Diary<Global>> {
+    pub(crate) outcome: Result<Outcome, ShowError>,
+    pub(crate) hosts: Vec<Host<B>>,
+    pub(crate) clients: Clients<L, D>,
+}
+
+/// Serves the nodes, each in a thread, while the clients play, and waits for all. An error has rung the alarm.
+pub(crate) fn play_beside<'a, B, D, W, R>(
     rt: &R,
     alloc: Global,
     mut hosts: Vec<Host<B>>,
-    clients: Clients<L>,
+    clients: Clients<Wire<'a>, D>,
     plan: &Plan,
     waits: bool,
     progress: Option<W>,
     alarm: &Alarm,
-) -> (Result<Outcome, ShowError>, Vec<Host<B>>)
+) -> Played<B, Wire<'a>, D>
 where
     B: Behaviour + Send,
-    L: Link + Send,
+    D: Diary<Global> + Send,
     W: Write + Drop + Send,
     R: Threads + Wait + Clock + Sync,
-    ensures { IfOk result.0 (λ outcome. is_some outcome.waited ≡ waits) }
+    ensures { IfOk result.outcome (λ outcome. is_some outcome.waited ≡ waits) }
 {
     let turns = plan.node_turns();
     let lent = hosts.as_mut_slice();
-    let outcome = thread::scope(
+    let (outcome, clients) = thread::scope(
         thread::scope_env(),
         rt,
-        move |scope| -> Result<Outcome, ShowError>
-            ensures { IfOk result (λ outcome. is_some outcome.waited ≡ waits) }
+        move |scope| -> (Result<Outcome, ShowError>, Clients<Wire, D>)
+            ensures { IfOk result.0 (λ outcome. is_some outcome.waited ≡ waits) }
         {
             for host in lent.iter_mut() {
                 let spawned = scope.spawn(move || host.serve(rt, alloc, turns, alarm));
@@ -131,10 +160,14 @@ where
                     alarm.ring(rt, ShowError::NoThread);
                 }
             }
-            let outcome = play(rt, clients, plan, waits, progress, alarm);
+            let played = play(rt, clients, plan, waits, progress, alarm);
             alarm.stop().ask();
-            outcome
+            played
         },
     );
-    (outcome, hosts)
+    Played {
+        outcome,
+        hosts,
+        clients,
+    }
 }

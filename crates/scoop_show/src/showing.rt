@@ -1,21 +1,23 @@
 //! A demo from its opening to its end.
 
-ghost use Rattle.std.specs.Prelude.{◌≡◌, ◌≤◌, length, IfOk, is_some};
-ghost use Rattle.scoop_record.specs.Keyed.{NoRepeats};
-ghost use Rattle.scoop_book.specs.Opening.{numbers_of};
+ghost use Rattle.std.specs.Prelude.{◌≡◌, true, Ok, None, IfOk, is_some};
 ghost use Rattle.scoop_show.specs.Plans.{HaveBegun};
 
 use crate::alarm::Alarm;
-use crate::client::{Painter, Part, Wire, open_client};
+use crate::client::Wire;
 use crate::error::ShowError;
 use crate::host::Host;
+use crate::opening::{open_clients, open_hosts};
+use crate::order::{order_told, parties_of};
 use crate::outcome::Outcome;
-use crate::plan::{ACCOUNT, EIGHT, FIRST_CELL, NINE, Objects, Plan, Ports, SECOND_CELL, SEVEN};
-use crate::playing::{Clients, play_beside};
-use scoop_link::{Party, Peers};
-use scoop_message::{HandlerId, OutOfMemory};
-use scoop_object::{Behaviour, Class};
-use scoop_record::MemoryKeeper;
+use crate::plan::{Objects, Plan};
+use crate::playing::{Clients, Played, play_beside};
+use scoop_book::{Event, Reply};
+use scoop_keeper::MemoryKeeper;
+use scoop_message::OutOfMemory;
+use scoop_netloop::{Diary, NoDiary, StepList};
+use scoop_object::Behaviour;
+use scoop_weaver::Party;
 use std::alloc::Global;
 use std::io::Write;
 use std::net::Net;
@@ -23,109 +25,139 @@ use std::sync::Wait;
 use std::thread::Threads;
 use std::time::Clock;
 
-// The handlers of a node, with their classes and objects.
-type Handlers<B> = Vec<(HandlerId, Class, B)>;
+// The histories of nodes.
+type Histories = Vec<Vec<(u32, Event, Reply)>>;
 
-// The handlers of node 1: the first cell, and the account where there is one.
-fn on_first<B: Behaviour>(
+/// What is left of a demo: what came out, the histories of its nodes, and its clients.
+#[derive(Drop)]
+pub(crate) struct Shown<'a, D: Diary<Global>> {
+    pub(crate) outcome: Outcome,
+    pub(crate) histories: Histories,
+    pub(crate) clients: Clients<Wire<'a>, D>,
+}
+
+// Closes the nodes: their histories.
+fn close_all<B: Behaviour, R: Wait>(
+    rt: &R,
     alloc: Global,
-    cell: (Class, B),
-    account: Option<(Class, B)>,
-) -> Result<Handlers<B>, OutOfMemory>
-    ensures few { IfOk result (λ handlers. length handlers.items ≤ 2) }
-    ensures apart { IfOk result (λ handlers. NoRepeats (numbers_of handlers.items)) }
-{
-    let mut handlers = Vec::new(alloc);
-    let (class, object) = cell;
-    handlers.push((FIRST_CELL, class, object))?;
-    if let Some((class, object)) = account {
-        handlers.push((ACCOUNT, class, object))?;
+    hosts: Vec<Host<B>>,
+) -> Result<Histories, ShowError> {
+    let mut histories = Vec::new(alloc);
+    for host in hosts {
+        let history = host.close(rt)?;
+        histories.push(history).map_err(OutOfMemory::from)?;
     }
-    Ok(handlers)
+    Ok(histories)
 }
 
-// The handlers of node 2: the second cell.
-fn on_second<B: Behaviour>(alloc: Global, cell: (Class, B)) -> Result<Handlers<B>, OutOfMemory>
-    ensures few { IfOk result (λ handlers. length handlers.items ≤ 1) }
-    ensures apart { IfOk result (λ handlers. NoRepeats (numbers_of handlers.items)) }
+// What came out of a play, once the nodes are closed, and their histories. What rang the alarm is told before all else.
+fn end_all<B: Behaviour, R: Wait>(
+    rt: &R,
+    alloc: Global,
+    outcome: Result<Outcome, ShowError>,
+    hosts: Vec<Host<B>>,
+    alarm: &Alarm,
+) -> Result<(Outcome, Histories), ShowError>
+    ensures { IfOk result (λ ended. outcome ≡ Ok ended.0) }
 {
-    let mut handlers = Vec::new(alloc);
-    let (class, object) = cell;
-    handlers.push((SECOND_CELL, class, object))?;
-    Ok(handlers)
+    if let Some(error) = alarm.first(rt) {
+        return Err(error);
+    }
+    let histories = close_all(rt, alloc, hosts)?;
+    match outcome {
+        Ok(outcome) => Ok((outcome, histories)),
+        Err(error) => Err(error),
+    }
 }
 
-// The nodes, with the ports of the clients that they answer.
-fn open_hosts<B: Behaviour, R: Net>(
+// Shows the demo with these diaries, from its opening to the end of its nodes.
+fn show_with<'a, B, D, W, R>(
     rt: &R,
     alloc: Global,
     objects: Objects<B>,
-    ports: &Ports,
-) -> Result<Vec<Host<B>>, ShowError> {
-    let Objects {
-        first,
-        second,
-        account,
-    } = objects;
-    let table = [
-        (Party::Client(SEVEN), ports.clients[0]),
-        (Party::Client(EIGHT), ports.clients[1]),
-        (Party::Client(NINE), ports.clients[2]),
-    ];
-    let own = ports.nodes[0];
-    let peers = Peers { own, table: &table };
-    let first = Host::open(rt, alloc, on_first(alloc, first, account)?, peers)?;
-    let own = ports.nodes[1];
-    let peers = Peers { own, table: &table };
-    let second = Host::open(rt, alloc, on_second(alloc, second)?, peers)?;
-    let mut hosts = Vec::new(alloc);
-    hosts.push(first).map_err(OutOfMemory::from)?;
-    hosts.push(second).map_err(OutOfMemory::from)?;
-    Ok(hosts)
-}
-
-// The clients, with the ports of the handlers that they know.
-fn open_clients<'a, R: Net>(
-    rt: &R,
-    alloc: Global,
     keeper: &mut MemoryKeeper,
     plan: &Plan,
-    waits: bool,
+    progress: Option<W>,
     alarm: &'a Alarm,
-) -> Result<Clients<Wire<'a>>, ShowError>
-    ensures { IfOk result (λ _. HaveBegun keeper.old keeper.new) }
+    diaries: (D, D, D),
+) -> Result<Shown<'a, D>, ShowError>
+where
+    B: Behaviour + Send,
+    D: Diary<Global> + Send,
+    W: Write + Drop + Send,
+    R: Threads + Wait + Clock + Net + Sync,
+    ensures waited { IfOk result (λ shown. is_some shown.outcome.waited ≡ is_some objects.account) }
+    ensures begun { IfOk result (λ _. HaveBegun keeper.old keeper.new) }
 {
-    let [one, two] = plan.ports.nodes;
-    let table: &[(Party, u16)] = &[
-        (Party::Handler(FIRST_CELL), one),
-        (Party::Handler(SECOND_CELL), two),
-        (Party::Handler(ACCOUNT), one),
-    ];
-    let [seven, eight, nine] = plan.ports.clients;
-    let turns = plan.turns;
-    let peers = Peers { own: seven, table };
-    let seven = open_client(rt, alloc, keeper, SEVEN, waits, peers, turns, alarm)?;
-    let peers = Peers { own: eight, table };
-    let eight = open_client(rt, alloc, keeper, EIGHT, waits, peers, turns, alarm)?;
-    let peers = Peers { own: nine, table };
-    let nine = open_client(rt, alloc, keeper, NINE, waits, peers, turns, alarm)?;
-    let mut painters = Vec::new(alloc);
-    let first = Painter::new(seven, SEVEN, 1, Part::Deposits);
-    painters.push(first).map_err(OutOfMemory::from)?;
-    let second = Painter::new(eight, EIGHT, 2, Part::Withdraws);
-    painters.push(second).map_err(OutOfMemory::from)?;
-    Ok(Clients {
-        painters,
-        reader: nine,
+    let waits = objects.account.is_some();
+    let hosts = open_hosts(rt, alloc, objects, &plan.ports)?;
+    let clients = open_clients(rt, alloc, keeper, plan, waits, alarm, diaries)?;
+    let Played {
+        outcome,
+        hosts,
+        clients,
+    } = play_beside(rt, alloc, hosts, clients, plan, waits, progress, alarm);
+    let (outcome, histories) = end_all(rt, alloc, outcome, hosts, alarm)?;
+    Ok(Shown {
+        outcome,
+        histories,
+        clients,
     })
+}
+
+// Shows the demo with no diaries, and looks for no order.
+fn show_plainly<B, W, R>(
+    rt: &R,
+    alloc: Global,
+    objects: Objects<B>,
+    keeper: &mut MemoryKeeper,
+    plan: &Plan,
+    progress: Option<W>,
+) -> Result<Outcome, ShowError>
+where
+    B: Behaviour + Send,
+    W: Write + Drop + Send,
+    R: Threads + Wait + Clock + Net + Sync,
+    ensures waited { IfOk result (λ outcome. is_some outcome.waited ≡ is_some objects.account) }
+    ensures begun { IfOk result (λ _. HaveBegun keeper.old keeper.new) }
+    ensures woven { IfOk result (λ outcome. outcome.woven ≡ None) }
+{
+    let alarm = Alarm::new();
+    let diaries = (NoDiary, NoDiary, NoDiary);
+    let shown = show_with(rt, alloc, objects, keeper, plan, progress, &alarm, diaries)?;
+    let mut outcome = shown.outcome;
+    outcome.woven = None;
+    Ok(outcome)
+}
+
+// Shows the demo with diaries, and looks for an order.
+fn show_woven<B, W, R>(
+    rt: &R,
+    alloc: Global,
+    objects: Objects<B>,
+    keeper: &mut MemoryKeeper,
+    plan: &Plan,
+    progress: Option<W>,
+) -> Result<Outcome, ShowError>
+where
+    B: Behaviour + Send,
+    W: Write + Drop + Send,
+    R: Threads + Wait + Clock + Net + Sync,
+    ensures waited { IfOk result (λ outcome. is_some outcome.waited ≡ is_some objects.account) }
+    ensures begun { IfOk result (λ _. HaveBegun keeper.old keeper.new) }
+    ensures woven { IfOk result (λ outcome. is_some outcome.woven ≡ true) }
+{
+    let (mut outcome, parties) = show_parties(rt, alloc, objects, keeper, plan, progress)?;
+    outcome.woven = Some(order_told(alloc, &parties)?);
+    Ok(outcome)
 }
 
 /// Shows two nodes over UDP of this machine, each served by three threads, and three clients: clients 7 and 8, each in a
 /// thread, paint the cells of both nodes, one with 1 and the other with 2, in as many joint blocks as the plan says; then
 /// client 9 reads both cells in one block. With an account client 7 then deposits 50 in each of two blocks, while
 /// client 8 waits for a balance of 100, with 10,000 tries, and withdraws it, and client 9 reads the balance too. At the
-/// end both nodes are closed. Clients take their incarnations from the keeper, and tell the writer, where there is one,
-/// how many rounds they have done.
+/// end both nodes are closed, and where the plan says so an order is looked for of what nodes and clients did. Clients take
+/// their incarnations from the keeper, and tell the writer, where there is one, how many rounds they have done.
 ///
 /// It ends on every path with all threads joined. The first error is told: `NoLink`, `NoThread`, that of a client's
 /// driver, a node's loop that ends before it is asked to, a node that can't be closed, `WrongClass` where an object hasn't
@@ -144,17 +176,39 @@ where
     R: Threads + Wait + Clock + Net + Sync,
     ensures waited { IfOk result (λ outcome. is_some outcome.waited ≡ is_some objects.account) }
     ensures begun { IfOk result (λ _. HaveBegun keeper.old keeper.new) }
+    ensures woven { IfOk result (λ outcome. is_some outcome.woven ≡ plan.now.weaves) }
 {
-    let waits = objects.account.is_some();
-    let hosts = open_hosts(rt, alloc, objects, &plan.ports)?;
+    if plan.weaves {
+        show_woven(rt, alloc, objects, keeper, plan, progress)
+    } else {
+        show_plainly(rt, alloc, objects, keeper, plan, progress)
+    }
+}
+
+/// Shows a demo as [`show`] does, and answers what each party heard and sent, move by move, in place of an order of it: by
+/// the histories of nodes 1 and 2, and by the diaries of clients 7, 8 and 9.
+pub fn show_parties<B, W, R>(
+    rt: &R,
+    alloc: Global,
+    objects: Objects<B>,
+    keeper: &mut MemoryKeeper,
+    plan: &Plan,
+    progress: Option<W>,
+) -> Result<(Outcome, Vec<Party>), ShowError>
+where
+    B: Behaviour + Send,
+    W: Write + Drop + Send,
+    R: Threads + Wait + Clock + Net + Sync,
+    ensures waited { IfOk result (λ shown. is_some shown.0.waited ≡ is_some objects.account) }
+    ensures begun { IfOk result (λ _. HaveBegun keeper.old keeper.new) }
+{
     let alarm = Alarm::new();
-    let clients = open_clients(rt, alloc, keeper, plan, waits, &alarm)?;
-    let (played, hosts) = play_beside(rt, alloc, hosts, clients, plan, waits, progress, &alarm);
-    if let Some(error) = alarm.into_first() {
-        return Err(error);
-    }
-    for host in hosts {
-        host.close(rt)?;
-    }
-    played
+    let diaries = (
+        StepList::new(alloc),
+        StepList::new(alloc),
+        StepList::new(alloc),
+    );
+    let shown = show_with(rt, alloc, objects, keeper, plan, progress, &alarm, diaries)?;
+    let parties = parties_of(alloc, &shown)?;
+    Ok((shown.outcome, parties))
 }

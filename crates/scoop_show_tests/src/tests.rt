@@ -3,16 +3,18 @@
 ghost use Rattle.std.specs.Prelude.{◌<◌};
 
 mod printing;
+mod weaving;
 
-use scoop_demo::{AccountObject, CellObject, DemoClass};
+use scoop_classes::{AccountObject, CellObject, DemoClass};
+use scoop_keeper::{Keeper, KeeperError, MemoryKeeper};
 use scoop_link::{OpenLinkError, Peers, UdpLink};
 use scoop_message::{ClientId, HandlerId, OutOfMemory};
 use scoop_netloop::DriverError;
-use scoop_object::{Behaviour, Boxed};
-use scoop_record::{Keeper, KeeperError, MemoryKeeper};
-use scoop_show::{Objects, Outcome, Plan, Ports, ShowError, demo_run};
+use scoop_object::{Boxed, Class};
+use scoop_show::{Objects, Plan, Ports, ShowError, Woven, demo_run};
 use std::alloc::Global;
 use std::net::Net;
+use std::process::Abort;
 use std::sync::Wait;
 use std::test::Fail;
 use std::thread::Threads;
@@ -29,62 +31,68 @@ fn plan(first: u16) -> Plan
             nodes: [first, first + 1],
             clients: [first + 2, first + 3, first + 4],
         },
+        weaves: false,
     }
 }
 
-// Both cells, and the account where there is one, with their classes.
-fn objects<B: Behaviour>(
-    alloc: Global,
-    first: B,
-    second: B,
-    account: Option<B>,
-) -> Result<Objects<B>, OutOfMemory> {
-    let account = match account {
-        Some(account) => Some((DemoClass::Account.class(alloc)?, account)),
-        None => None,
-    };
+// A cell with its class.
+fn cell(alloc: Global) -> Result<(Class, Boxed), OutOfMemory> {
+    let class = DemoClass::Cell.class(alloc)?;
+    let object = Box::new(alloc, CellObject::new(0))?;
+    Ok((class, Boxed::new(object)))
+}
+
+// An account with its class.
+fn account(alloc: Global) -> Result<(Class, Boxed), OutOfMemory> {
+    let class = DemoClass::Account.class(alloc)?;
+    let object = Box::new(alloc, AccountObject::new(0))?;
+    Ok((class, Boxed::new(object)))
+}
+
+// Both cells, and no account.
+fn cells(alloc: Global) -> Result<Objects<Boxed>, OutOfMemory> {
+    let first = cell(alloc)?;
+    let second = cell(alloc)?;
     Ok(Objects {
-        first: (DemoClass::Cell.class(alloc)?, first),
-        second: (DemoClass::Cell.class(alloc)?, second),
-        account,
+        first,
+        second,
+        account: None,
     })
 }
 
-// Runs a demo, and answers how it ends and what it wrote: its output, and its line of rounds.
-fn run<B: Behaviour + Send, R: Threads + Wait + Clock + Net + Sync>(
+// Runs a demo that is refused: nothing is written.
+fn refuses<R: Threads + Wait + Clock + Net + Abort + Sync>(
     rt: &R,
     alloc: Global,
-    objects: Objects<B>,
+    objects: Objects<Boxed>,
     keeper: &mut MemoryKeeper,
     plan: &Plan,
-) -> (Result<Outcome, ShowError>, Vec<u8>, Vec<u8>) {
+    error: ShowError,
+) {
     let mut output = Vec::new(alloc);
-    let mut line = Vec::new(alloc);
-    let ended = demo_run(
-        rt,
-        alloc,
-        objects,
-        keeper,
-        plan,
-        Some(&mut line),
-        &mut output,
-    );
-    (ended, output, line)
+    let line: Option<Vec<u8>> = None;
+    let ended = demo_run(rt, alloc, objects, keeper, plan, line, &mut output);
+    assert_eq!(rt; ended, Err(error));
+    assert!(rt; output.is_empty());
 }
 
 #[test]
 fn two_clients_paint_two_cells_over_two_nodes(rt: HostRuntime) -> Result<(), Fail> {
     let alloc = rt.alloc();
-    let first = Boxed::new(Box::new(alloc, CellObject::new(0))?);
-    let second = Boxed::new(Box::new(alloc, CellObject::new(0))?);
-    let objects = objects(alloc, first, second, None)?;
+    // each node has a cell, and the clients take their incarnations from the keeper
+    let objects = cells(alloc)?;
     let mut keeper = MemoryKeeper::new(alloc).with_incarnation(ClientId(8), 4)?;
-    let (ended, output, line) = run(&rt, alloc, objects, &mut keeper, &plan(47501));
-    assert!(rt; output.as_slice() == "cells same\nnode 1 closed\nnode 2 closed\n".as_bytes());
+    let (mut line, mut output) = (Vec::new(alloc), Vec::new(alloc));
+    let (plan, told) = (plan(47501), Some(&mut line));
+    let outcome = demo_run(&rt, alloc, objects, &mut keeper, &plan, told, &mut output)?;
+    // both clients painted both cells in their blocks, so that a third one reads the same value in both
+    assert_eq!(rt; outcome.first, outcome.second);
+    assert_eq!(rt; outcome.status(), 0);
+    let lines = "cells same\nnode 1 closed\nnode 2 closed\n";
+    assert!(rt; output.as_slice() == lines.as_bytes());
     assert!(rt; line.ends_with(b"\rclient 7: 3 of 3 rounds, client 8: 3 of 3 rounds\n"));
-    assert_eq!(rt; ended.map(|outcome| outcome.status()), Ok(0));
-    assert_eq!(rt; keeper.next_incarnation(ClientId(7)), Ok(2));
     assert_eq!(rt; keeper.next_incarnation(ClientId(8)), Ok(6));
+    assert_eq!(rt; keeper.next_incarnation(ClientId(7)), Ok(2));
     assert_eq!(rt; keeper.next_incarnation(ClientId(9)), Ok(2));
     Ok(())
 }
@@ -92,16 +100,37 @@ fn two_clients_paint_two_cells_over_two_nodes(rt: HostRuntime) -> Result<(), Fai
 #[test]
 fn a_client_waits_for_the_balance(rt: HostRuntime) -> Result<(), Fail> {
     let alloc = rt.alloc();
-    let first = Boxed::new(Box::new(alloc, CellObject::new(0))?);
-    let second = Boxed::new(Box::new(alloc, CellObject::new(0))?);
-    let account = Boxed::new(Box::new(alloc, AccountObject::new(0))?);
-    let objects = objects(alloc, first, second, Some(account))?;
+    let mut objects = cells(alloc)?;
+    objects.account = Some(account(alloc)?);
     let mut keeper = MemoryKeeper::new(alloc);
-    let (ended, output, _) = run(&rt, alloc, objects, &mut keeper, &plan(47511));
-    assert!(rt;
-        output.as_slice() == "balance 0\ncells same\nnode 1 closed\nnode 2 closed\n".as_bytes()
-    );
-    assert_eq!(rt; ended.map(|outcome| outcome.status()), Ok(0));
+    let mut output = Vec::new(alloc);
+    let line: Option<Vec<u8>> = None;
+    let plan = plan(47511);
+    let outcome = demo_run(&rt, alloc, objects, &mut keeper, &plan, line, &mut output)?;
+    let lines = "balance 0\ncells same\nnode 1 closed\nnode 2 closed\n";
+    assert!(rt; output.as_slice() == lines.as_bytes());
+    assert_eq!(rt; outcome.status(), 0);
+    Ok(())
+}
+
+#[test]
+fn an_order_is_told_behind_the_other_lines(rt: HostRuntime) -> Result<(), Fail> {
+    let alloc = rt.alloc();
+    let objects = cells(alloc)?;
+    let mut keeper = MemoryKeeper::new(alloc);
+    let mut plan = plan(47561);
+    plan.weaves = true;
+    let mut output = Vec::new(alloc);
+    let line: Option<Vec<u8>> = None;
+    let outcome = demo_run(&rt, alloc, objects, &mut keeper, &plan, line, &mut output)?;
+    let Some(Woven::Moves(count)) = outcome.woven else {
+        panic!(rt; "no order");
+    };
+    let lines = format!(in alloc;
+        "cells same\nnode 1 closed\nnode 2 closed\nwoven: {count} moves\n"
+    )?;
+    assert!(rt; output.as_slice() == lines.as_bytes());
+    assert_eq!(rt; outcome.status(), 0);
     Ok(())
 }
 
@@ -110,56 +139,43 @@ fn a_port_in_use_is_told(rt: HostRuntime) -> Result<(), Fail> {
     let alloc = rt.alloc();
     let own = 47525;
     let _taken = UdpLink::open(&rt, alloc, Peers { own, table: &[] })?;
-    let first = Boxed::new(Box::new(alloc, CellObject::new(0))?);
-    let second = Boxed::new(Box::new(alloc, CellObject::new(0))?);
-    let objects = objects(alloc, first, second, None)?;
+    let objects = cells(alloc)?;
     let mut keeper = MemoryKeeper::new(alloc);
-    let (ended, output, _) = run(&rt, alloc, objects, &mut keeper, &plan(47521));
-    assert_eq!(rt; ended, Err(ShowError::NoLink));
-    assert!(rt; output.is_empty());
+    let plan = plan(47521);
+    refuses(&rt, alloc, objects, &mut keeper, &plan, ShowError::NoLink);
     Ok(())
 }
 
 #[test]
 fn too_few_turns_are_told(rt: HostRuntime) -> Result<(), Fail> {
     let alloc = rt.alloc();
-    let first = Boxed::new(Box::new(alloc, CellObject::new(0))?);
-    let second = Boxed::new(Box::new(alloc, CellObject::new(0))?);
-    let objects = objects(alloc, first, second, None)?;
+    let objects = cells(alloc)?;
     let mut keeper = MemoryKeeper::new(alloc);
     let mut plan = plan(47531);
     plan.turns = 1;
-    let (ended, output, _) = run(&rt, alloc, objects, &mut keeper, &plan);
-    assert_eq!(rt; ended, Err(ShowError::Driver(DriverError::TurnsOver)));
-    assert!(rt; output.is_empty());
+    let error = ShowError::Driver(DriverError::TurnsOver);
+    refuses(&rt, alloc, objects, &mut keeper, &plan, error);
     Ok(())
 }
 
 #[test]
 fn spent_incarnations_are_told(rt: HostRuntime) -> Result<(), Fail> {
     let alloc = rt.alloc();
-    let first = Boxed::new(Box::new(alloc, CellObject::new(0))?);
-    let second = Boxed::new(Box::new(alloc, CellObject::new(0))?);
-    let objects = objects(alloc, first, second, None)?;
+    let objects = cells(alloc)?;
     let mut keeper = MemoryKeeper::new(alloc).with_incarnation(ClientId(9), u32::MAX)?;
-    let (ended, output, _) = run(&rt, alloc, objects, &mut keeper, &plan(47541));
-    assert_eq!(rt;
-        ended,
-        Err(ShowError::Store(KeeperError::IncarnationsSpent))
-    );
-    assert!(rt; output.is_empty());
+    let error = ShowError::Store(KeeperError::IncarnationsSpent);
+    refuses(&rt, alloc, objects, &mut keeper, &plan(47541), error);
     Ok(())
 }
 
 #[test]
 fn an_object_of_another_class_is_told(rt: HostRuntime) -> Result<(), Fail> {
     let alloc = rt.alloc();
-    let first = Boxed::new(Box::new(alloc, CellObject::new(0))?);
-    let second = Boxed::new(Box::new(alloc, AccountObject::new(0))?);
-    let objects = objects(alloc, first, second, None)?;
+    let mut objects = cells(alloc)?;
+    let (_, other) = account(alloc)?;
+    objects.second.1 = other;
     let mut keeper = MemoryKeeper::new(alloc);
-    let (ended, output, _) = run(&rt, alloc, objects, &mut keeper, &plan(47551));
-    assert_eq!(rt; ended, Err(ShowError::WrongClass(HandlerId(2))));
-    assert!(rt; output.is_empty());
+    let error = ShowError::WrongClass(HandlerId(2));
+    refuses(&rt, alloc, objects, &mut keeper, &plan(47551), error);
     Ok(())
 }

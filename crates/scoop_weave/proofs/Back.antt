@@ -46,7 +46,8 @@ use Rattle.scoop_weave.proofs.Headline.{opens_same, weave_reached}
 -- ---- one move more
 
 longer :
-    (past ms : List LocalMove) (m : LocalMove) (v w u : System) → IsWeave past v ms w → HeardIn (sent_by (past ++ ms)) m → Moves m w u → IsWeave past v (ms ++ m ∷ []) u
+    (past ms : List LocalMove) (m : LocalMove) (v w u : System) → IsWeave past v ms w → HeardIn (sent_by (past ++ ms)) m → Moves m w u
+    → IsWeave past v (ms ++ m ∷ []) u
 longer past [] m v w u same sent r =
     (u, subst (λ xs. HeardIn (sent_by xs) m) (nothing_behind past) sent, subst (λ x. Moves m x u) (sym same) r, refl)
   where
@@ -75,7 +76,8 @@ site_from : (past : List LocalMove) (v : System) (h : HandlerId) (s : Site) → 
 site_from past v h s here = through (site_by past) (handler_in h v) s (sym (find_through number_of same_handler (site_by past) h v.handlers) ∙ here)
 
 party_from : (past : List LocalMove) (v : System) (c : ClientId) (p : Party) → party_of c (world_by past v) ≡ Some p → Through (party_by past) (client_in c v) p
-party_from past v c p at = through (party_by past) (client_in c v) p (sym (find_through (λ (p : Party). p.client.id) same_client (party_by past) c v.clients) ∙ at)
+party_from past v c p at = through (party_by past) (client_in c v) p
+    (sym (find_through (λ (p : Party). p.client.id) same_client (party_by past) c v.clients) ∙ at)
 
 was_sent : (w : World) (i : ℕ) (m : Message) → sent_at i w ≡ Some m → Contains w.sent m
 was_sent w i m was =
@@ -107,25 +109,37 @@ module _ (ps : List Placement) (ns : List Newcomer) (opens : MayOpen ps ns) wher
     more : (m : LocalMove) (u : System) (x : World) → HeardIn (sent_by ms) m → Moves m v u → x ≡ world_by (ms ++ m ∷ []) u → Woven x
     more m u x sent r is = record { moves = ms ++ m ∷ []; now = u; weave = longer [] ms m (new_system ps ns) v u weave sent r; is = is }
 
-    commands : (c : ClientId) (p : Party) (x : Command) (d : ClientState) → party_of c w ≡ Some p → client.command p.client (core_command x) ≡ Ok d → Woven (commanded_world w p x d)
+    commands : (c : ClientId) (p : Party) (x : Command) (d : ClientState) → party_of c w ≡ Some p → client.command p.client (core_command x) ≡ Ok d
+        → Woven (commanded_world w p x d)
     commands c p x d at is =
         let t = party_from ms v c p at in
         let y = core_command x in
         let taken : client.command t.it.client y ≡ Ok d = ap (λ (q : Party). client.command q.client y) t.is ∙ is in
         more (Commanded c y (newest_block d)) (with_client (after_step d t.it) v) (commanded_world w p x d) tt
         (record { client = t.it; here = t.found; new = after_step d t.it; moves = record { new = d; taken = taken; tells = refl; after = refl }; after = refl })
-        (ap (λ q. commanded_world w q x d) (sym t.is) ∙ ap (λ z. commanded_world w (party_by ms t.it) z d) (sym (forth x)) ∙ takes_world ms v c y t.it d t.found taken)
+        (ap (λ q. commanded_world w q x d) (sym t.is) ∙ ap (λ z. commanded_world w (party_by ms t.it) z d) (sym (forth x))
+        ∙ takes_world ms v c y t.it d t.found taken)
 
     sends : (c : ClientId) (p : Party) (h : HandlerId) (s : Site) → party_of c w ≡ Some p → site_of h w ≡ Some s → Woven (with_sent w (due p.client h))
     sends c p h s at here =
         let t = party_from ms v c p at in
-        let knows : p.client.handlers ≡ map number_of w.sites = all_found (λ (p : Party). p.client.handlers ≡ map number_of w.sites) (is_party c) w.parties p (clients_know w reached) at in
-        let named : has t.it.client.handlers h ≡ true = ap (λ (q : Party). has q.client.handlers h) t.is ∙ ap (λ hs. has hs h) knows ∙ found_has number_of same_handler h w.sites s here in
+        let knows : p.client.handlers ≡ map number_of w.sites =
+        all_found (λ (p : Party). p.client.handlers ≡ map number_of w.sites) (is_party c) w.parties p (clients_know w reached) at in
+        let named : has t.it.client.handlers h ≡ true = ap (λ (q : Party). has q.client.handlers h) t.is ∙ ap (λ hs. has hs h) knows
+        ∙ found_has number_of same_handler h w.sites s here in
         more (Sent c h (due t.it.client h)) v (with_sent w (due p.client h)) tt
-        (record { client = t.it; here = t.found; new = t.it; moves = record { named = named; tells = refl; after = refl }; after = sym (client_itself ms v reached c t.it t.found) })
+        (record {
+          client = t.it;
+          here = t.found;
+          new = t.it;
+          moves = record { named = named; tells = refl; after = refl };
+          after =
+              sym (client_itself ms v reached c t.it t.found);
+        })
         (ap (λ (q : Party). with_sent w (due q.client h)) (sym t.is) ∙ sent_world ms v c h t.it t.found (due t.it.client h))
 
-    hears : (i : ℕ) (m : Message) (s : Site) → sent_at i w ≡ Some m → is_for_handler m ≡ true → site_of (handler_of m) w ≡ Some s → Woven (heard_world w s (hear s.core.state m))
+    hears : (i : ℕ) (m : Message) (s : Site) → sent_at i w ≡ Some m → is_for_handler m ≡ true → site_of (handler_of m) w ≡ Some s
+        → Woven (heard_world w s (hear s.core.state m))
     hears i m s was goes here =
         let h = handler_of m in
         let t = site_from ms v h s here in
@@ -135,7 +149,8 @@ module _ (ps : List Placement) (ns : List Newcomer) (opens : MayOpen ps ns) wher
         (record { handler = t.it; here = t.found; new = after_hearing now.0 t.it; moves = record { tells = refl; after = refl }; after = refl })
         (ap (λ (x : Site). heard_world w x (hear x.core.state m)) (sym t.is) ∙ hearing.world_hears ms v h m t.it t.found own)
 
-    notices : (i : ℕ) (m : Message) (p : Party) → sent_at i w ≡ Some m → is_for_handler m ≡ false → party_of (client_of m) w ≡ Some p → Woven (with_party w (heard_party p (heard p.client m)))
+    notices : (i : ℕ) (m : Message) (p : Party) → sent_at i w ≡ Some m → is_for_handler m ≡ false → party_of (client_of m) w ≡ Some p
+        → Woven (with_party w (heard_party p (heard p.client m)))
     notices i m p was goes at =
         let c = client_of m in
         let t = party_from ms v c p at in
@@ -157,7 +172,14 @@ module _ (ps : List Placement) (ns : List Newcomer) (opens : MayOpen ps ns) wher
         let f = site_from ms v h s here in
         let own = key_found number_in same_handler handler_decides h v.handlers f.it f.found in
         more (Finished h (ran_of t)) (with_handler (after_finish t f.it) v) (with_site w (finished_site s t)) tt
-        (record { handler = f.it; here = f.found; new = after_finish t f.it; moves = record { task = t; out = ap (λ (x : Site). job_out x.core) f.is ∙ is; tells = refl; after = refl }; after = refl })
+        (record {
+          handler = f.it;
+          here = f.found;
+          new = after_finish t f.it;
+          moves =
+              record { task = t; out = ap (λ (x : Site). job_out x.core) f.is ∙ is; tells = refl; after = refl };
+          after = refl;
+        })
         (ap (λ x. with_site w (finished_site x t)) (sym f.is) ∙ run_world ms v h f.it t f.found own)
 
     restarts : (c : ClientId) (p : Party) → party_of c w ≡ Some p → (p.stored == 4294967295) ≡ false → Woven (with_party w (restarted_party p))
@@ -165,7 +187,14 @@ module _ (ps : List Placement) (ns : List Newcomer) (opens : MayOpen ps ns) wher
         let t = party_from ms v c p at in
         let m : LocalMove = ClientRestarted c in
         more m (with_client (after_restart t.it) v) (with_party w (restarted_party p)) tt
-        (record { client = t.it; here = t.found; new = after_restart t.it; moves = record { room = ap (λ (q : Party). q.stored == 4294967295) t.is ∙ room; after = refl }; after = refl })
+        (record {
+          client = t.it;
+          here = t.found;
+          new = after_restart t.it;
+          moves =
+              record { room = ap (λ (q : Party). q.stored == 4294967295) t.is ∙ room; after = refl };
+          after = refl;
+        })
         (ap (λ q. with_party w (restarted_party q)) (sym t.is)
         ∙ same_world _ _ _ _ _ _ _ _ _ _
         (sites_same ms m v (λ k. record { opened = refl; ran = refl }))
@@ -196,7 +225,17 @@ module _ (ps : List Placement) (ns : List Newcomer) (opens : MayOpen ps ns) wher
         refl
 
     all : Changes Woven w
-    all = record { commands = commands; sends = sends; hears = hears; notices = notices; begins = begins; finishes = finishes; restarts = restarts; reopens = reopens }
+    all = record {
+      commands = commands;
+      sends = sends;
+      hears = hears;
+      notices = notices;
+      begins = begins;
+      finishes = finishes;
+      restarts = restarts;
+      reopens =
+          reopens;
+    }
 
   woven_kept : (w : World) → Woven w → Changes Woven w
   woven_kept w i = subst (Changes Woven) (sym i.is) (all i.moves i.now i.weave)

@@ -31,7 +31,8 @@ back (client.DoQuery h r) = refl
 back client.DoEnd = refl
 back client.GiveUp = refl
 
-module _ (past : List LocalMove) (v : System) (c : ClientId) (x : client.Command) (d : LocalClient) (new : ClientState) (here : client_in c v ≡ Some d) (taken : client.command d.client x ≡ Ok new) where
+module _ (past : List LocalMove) (v : System) (c : ClientId) (x : client.Command) (d : LocalClient) (new : ClientState) (here : client_in c v ≡ Some d)
+    (taken : client.command d.client x ≡ Ok new) where
   abbrev move : LocalMove
   move = Commanded c x (newest_block new)
 
@@ -64,7 +65,8 @@ module _ (past : List LocalMove) (v : System) (c : ClientId) (x : client.Command
       ap (do_at w (world_command x)) (party_there past v c d here)
       ∙ ap (λ y. commanded w (party_by past d) (world_command x) (client.command d.client y)) (back x)
       ∙ ap (commanded w (party_by past d) (world_command x)) taken in
-      brings_one w (world_by more (with_client a v)) (commanded_world w (party_by past d) (world_command x) new) (Do c (world_command x)) note.Done is takes_world
+      brings_one w (world_by more (with_client a v)) (commanded_world w (party_by past d) (world_command x) new)
+      (Do c (world_command x)) note.Done is takes_world
 
 pub takes_brings :
     (past : List LocalMove) (v u : System) (c : ClientId) (x : client.Command) (b : Block) → AtClient c (Commanded c x b) v u
@@ -72,7 +74,8 @@ pub takes_brings :
 takes_brings past v u c x b r =
     let w : World = world_by past v in
     subst (λ t. Brings w (Do c (world_command x) ∷ []) (world_by (past ++ Commanded c x t ∷ []) u)) (sym r.moves.tells)
-    (subst (λ y. Brings w (Do c (world_command x) ∷ []) (world_by (past ++ Commanded c x (newest_block r.moves.new) ∷ []) y)) (sym (r.after ∙ ap (λ y. with_client y v) r.moves.after))
+    (subst (λ y. Brings w (Do c (world_command x) ∷ []) (world_by (past ++ Commanded c x (newest_block r.moves.new) ∷ []) y))
+    (sym (r.after ∙ ap (λ y. with_client y v) r.moves.after))
     (take_brings past v c x r.client r.moves.new r.here r.moves.taken))
 
 -- ---- a message that is due
@@ -86,9 +89,17 @@ module _ (past : List LocalMove) (v : System) (c : ClientId) (h : HandlerId) (d 
       (parties_same past move v (λ k. refl))
       (sym (sent_more past move)) (nothing_opened past move v refl) (nothing_logged past move v refl)
 
-  send_brings : (o : Option Message) → (some : _) → handler_in h v ≡ Some some → due d.client h ≡ o → Brings (world_by past v) (tick_event c h o) (world_by (past ++ Sent c h o ∷ []) v)
+  send_brings : (o : Option Message) → (some : _) → handler_in h v ≡ Some some → due d.client h ≡ o
+      → Brings (world_by past v) (tick_event c h o) (world_by (past ++ Sent c h o ∷ []) v)
   send_brings None s there e =
-      let silent : IsSilent past (Sent c h None) v = record { sent = refl; opened = refl; handlers = λ k. record { opened = refl; ran = refl }; clients = λ k. refl; logs = refl } in
+      let silent : IsSilent past (Sent c h None) v = record {
+        sent = refl;
+        opened = refl;
+        handlers = λ k. record { opened = refl; ran = refl };
+        clients =
+            λ k. refl;
+        logs = refl;
+      } in
       brings_none (world_by past v) (world_by (past ++ Sent c h None ∷ []) v) (told_nothing past (Sent c h None) v silent)
   send_brings (Some m) s there e =
       let w : World = world_by past v in
@@ -96,14 +107,17 @@ module _ (past : List LocalMove) (v : System) (c : ClientId) (h : HandlerId) (d 
       ap (λ p. tick_at w h p (site_of h w)) (party_there past v c d here)
       ∙ ap (tick_at w h (Some (party_by past d))) (site_there past v h s there)
       ∙ ap (sends w) e in
-      brings_one w (world_by (past ++ Sent c h (Some m) ∷ []) v) (with_sent w (Some m)) (Tick c h) (sent_or_silent (place_of w (Some m))) is (sent_world (Some m))
+      brings_one w (world_by (past ++ Sent c h (Some m) ∷ []) v) (with_sent w (Some m)) (Tick c h) (sent_or_silent (place_of w (Some m))) is
+      (sent_world (Some m))
 
 pub sends_brings :
     (past : List LocalMove) (v u : System) (c : ClientId) (h : HandlerId) (o : Option Message) → IsReached (world_by past v) → AtClient c (Sent c h o) v u
     → Brings (world_by past v) (event_in (sent_by past) (Sent c h o)) (world_by (past ++ Sent c h o ∷ []) u)
 sends_brings past v u c h o reached r =
-    subst (λ y. Brings (world_by past v) (tick_event c h o) (world_by (past ++ Sent c h o ∷ []) y)) (sym (r.after ∙ ap (λ y. with_client y v) r.moves.after ∙ client_itself past v reached c r.client r.here))
-    (let there = receiver_there past v reached c r.client h r.here r.moves.named in send_brings past v c h r.client r.here o there.0 there.1 (sym r.moves.tells))
+    subst (λ y. Brings (world_by past v) (tick_event c h o) (world_by (past ++ Sent c h o ∷ []) y))
+    (sym (r.after ∙ ap (λ y. with_client y v) r.moves.after ∙ client_itself past v reached c r.client r.here))
+    (let there = receiver_there past v reached c r.client h r.here r.moves.named in
+    send_brings past v c h r.client r.here o there.0 there.1 (sym r.moves.tells))
 
 -- ---- a restart
 
@@ -117,7 +131,8 @@ restarts_brings past v u c r =
     let p : Party = party_by past d in
     let told = note.Restarted (d.stored + 1) in
     let is : restart_client w (party_of c w) ≡ Ok (with_party w (restarted_party p), told) =
-    ap (restart_client w) (party_there past v c d r.here) ∙ ap (λ t. if t then Err IncarnationsSpent else Ok (with_party w (restarted_party p), told)) r.moves.room in
+    ap (restart_client w) (party_there past v c d r.here) ∙ ap
+    (λ t. if t then Err IncarnationsSpent else Ok (with_party w (restarted_party p), told)) r.moves.room in
     let same : with_party w (restarted_party p) ≡ world_by (past ++ m ∷ []) (with_client (after_restart d) v) =
     same_world _ _ _ _ _ _ _ _ _ _
     (sites_same past m v (λ k. record { opened = refl; ran = refl }))

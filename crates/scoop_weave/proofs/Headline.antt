@@ -61,12 +61,15 @@ module _ (ps : List Placement) (ns : List Newcomer) (opens : MayOpen ps ns) wher
 
   pub weave_reached : (ms : List LocalMove) (v : System) → Weave ps ns ms v → IsReached (world_by ms v)
   weave_reached ms v weave =
-      reached_by (events_of ms) (world_by ms v) (weave_brings [] [] ms (new_system ps ns) v (brings_none (opening ps ns) (world_by [] (new_system ps ns)) (opens_same ps ns)) weave)
+      reached_by (events_of ms) (world_by ms v) (weave_brings [] [] ms (new_system ps ns) v
+      (brings_none (opening ps ns) (world_by [] (new_system ps ns)) (opens_same ps ns)) weave)
 
-pub weave_is_a_world : (ps : List Placement) (ns : List Newcomer) (ms : List LocalMove) (now : System) → MayOpen ps ns → Weave ps ns ms now → IsWorld ps ns ms now
+pub weave_is_a_world : (ps : List Placement) (ns : List Newcomer) (ms : List LocalMove) (now : System) → MayOpen ps ns → Weave ps ns ms now
+    → IsWorld ps ns ms now
 weave_is_a_world ps ns ms now opens weave =
     let w : World = world_by ms now in
-    let brings = weave_brings ps ns opens [] [] ms (new_system ps ns) now (brings_none (opening ps ns) (world_by [] (new_system ps ns)) (opens_same ps ns)) weave in
+    let brings = weave_brings ps ns opens [] [] ms (new_system ps ns) now
+    (brings_none (opening ps ns) (world_by [] (new_system ps ns)) (opens_same ps ns)) weave in
     let leads : Leads (opening ps ns) (events_of ms) w = brings_leads (opening ps ns) w (events_of ms) brings in
     record {
       leads = leads;

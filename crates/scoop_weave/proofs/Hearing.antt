@@ -41,7 +41,8 @@ record IsDropped (s : HandlerState) (h : Hearing) : Type 0 where
   why : Reason
   is : h ≡ dropped s why
 
-not_here : (s : HandlerState) (h : HandlerId) (heard : Hearing) → same_handler h s.number ≡ false → IsDropped s (if same_handler h s.number then heard else dropped s WrongHandler)
+not_here : (s : HandlerState) (h : HandlerId) (heard : Hearing) → same_handler h s.number ≡ false
+    → IsDropped s (if same_handler h s.number then heard else dropped s WrongHandler)
 not_here s h heard e = record { why = WrongHandler; is = ap (λ t. if t then heard else dropped s WrongHandler) e }
 
 not_meant : (s : HandlerState) (m : Message) → is_for s.number m ≡ false → IsDropped s (hear s m)
@@ -95,7 +96,8 @@ module _ (past : List LocalMove) (v : System) (h : HandlerId) (m : Message) (s :
   site_hears : heard_site (site_by past s) now ≡ site_by more a
   site_hears =
       let opened_to : opened_by (number_in s) past ≡ opened_by (number_in a) past = ap (λ k. opened_by k past) number in
-      let ran_to : ran_by (number_in s) past ≡ ran_by (number_in a) past ++ [] = ap (λ k. ran_by k past) number ∙ sym (append-nil (ran_by (number_in a) past)) in
+      let ran_to : ran_by (number_in s) past ≡ ran_by (number_in a) past ++ [] = ap (λ k. ran_by k past) number
+      ∙ sym (append-nil (ran_by (number_in a) past)) in
       let to : heard_site (site_by past s) now ≡ site_with a (opened_by (number_in a) past ++ newly_opened now.1.note) (ran_by (number_in a) past ++ []) =
       λ i. site_with a (opened_to i ++ newly_opened now.1.note) (ran_to i) in
       to ∙ site_goes_on past move a (newly_opened now.1.note) [] opens refl
@@ -110,27 +112,32 @@ module _ (past : List LocalMove) (v : System) (h : HandlerId) (m : Message) (s :
   abbrev w : World
   w = world_by past v
 
-  takes : sent_at (place_in (sent_by past) m) w ≡ Some m → is_for_handler m ≡ true → handler_of m ≡ h → Brings w (Take (place_in (sent_by past) m) ∷ []) (world_by more (with_handler a v))
+  takes : sent_at (place_in (sent_by past) m) w ≡ Some m → is_for_handler m ≡ true → handler_of m ≡ h
+      → Brings w (Take (place_in (sent_by past) m) ∷ []) (world_by more (with_handler a v))
   takes was goes names =
       let receiver : site_of (handler_of m) w ≡ Some (site_by past s) = ap (λ k. site_of k w) names ∙ site_there past v h s here in
       let is : taken w (sent_at (place_in (sent_by past) m) w) ≡ Ok (heard_world w (site_by past s) now, note.Handler now.1.note (place_of w now.1.reply)) =
       ap (taken w) was
       ∙ ap (λ t. if t then taken_by_handler w m (site_of (handler_of m) w) else taken_by_client w m (party_of (client_of m) w)) goes
       ∙ ap (taken_by_handler w m) receiver in
-      brings_one w (world_by more (with_handler a v)) (heard_world w (site_by past s) now) (Take (place_in (sent_by past) m)) (note.Handler now.1.note (place_of w now.1.reply)) is world_hears
+      brings_one w (world_by more (with_handler a v)) (heard_world w (site_by past s) now) (Take (place_in (sent_by past) m))
+      (note.Handler now.1.note (place_of w now.1.reply)) is world_hears
 
   passes_over : IsReached w → is_for h m ≡ false → Brings w [] (world_by more (with_handler a v))
   passes_over reached e =
       let d = not_meant s.core.state m (ap (λ k. is_for k m) own ∙ e) in
       let state : now.0 ≡ s.core.state = ap (λ (x : Hearing). x.0) d.is in
-      let stays : a ≡ s = ap (λ t. after_hearing t s) state ∙ ap (λ t. let x : LocalHandler = record { node = s.node; placed = s.placed; core = s.core; stored = t } in x) (sym (stored_state past v reached h s here)) in
+      let stays : a ≡ s = ap (λ t. after_hearing t s) state ∙ ap
+      (λ t. let x : LocalHandler = record { node = s.node; placed = s.placed; core = s.core; stored = t } in x)
+      (sym (stored_state past v reached h s here)) in
       let same : with_handler a v ≡ v = ap (λ x. with_handler x v) stays ∙ handler_itself past v reached h s here in
       let told : now.1 ≡ (dropped s.core.state d.why).1 = ap (λ (x : Hearing). x.1) d.is in
       let silent : IsSilent past move v = record {
         sent = ap (λ (x : Reply). option_to_list x.reply) told;
         opened = ap (λ (x : Reply). newly_opened x.note) told;
         handlers = λ k. record {
-          opened = ap (λ (x : Reply). if same_handler h k then newly_opened x.note else []) told ∙ by_test (λ t. (if t then newly_opened (Dropped d.why) else []) ≡ []) (same_handler h k) (λ yes_here. refl) (λ not_there. refl);
+          opened = ap (λ (x : Reply). if same_handler h k then newly_opened x.note else []) told
+              ∙ by_test (λ t. (if t then newly_opened (Dropped d.why) else []) ≡ []) (same_handler h k) (λ yes_here. refl) (λ not_there. refl);
           ran = refl;
         };
         clients = λ c. refl;
@@ -146,7 +153,8 @@ module _ (past : List LocalMove) (v : System) (h : HandlerId) (m : Message) (s :
       refl
 
 pub hears_brings :
-    (past : List LocalMove) (v u : System) (h : HandlerId) (m : Message) (told : Reply) → IsReached (world_by past v) → Contains (sent_by past) m → AtHandler h (Heard h m told) v u
+    (past : List LocalMove) (v u : System) (h : HandlerId) (m : Message) (told : Reply) → IsReached (world_by past v) → Contains (sent_by past) m
+    → AtHandler h (Heard h m told) v u
     → Brings (world_by past v) (event_in (sent_by past) (Heard h m told)) (world_by (past ++ Heard h m told ∷ []) u)
 hears_brings past v u h m told reached sent r =
     let w : World = world_by past v in
@@ -154,5 +162,6 @@ hears_brings past v u h m told reached sent r =
     let was : sent_at (place_in (sent_by past) m) w ≡ Some m = sent_there w m sent in
     let answer : Reply = (hear r.handler.core.state m).1 in
     subst (λ t. Brings w (event_in (sent_by past) (Heard h m t)) (world_by (past ++ Heard h m t ∷ []) u)) (sym r.moves.tells)
-    (subst (λ x. Brings w (event_in (sent_by past) (Heard h m answer)) (world_by (past ++ Heard h m answer ∷ []) x)) (sym (r.after ∙ ap (λ x. with_handler x v) r.moves.after))
+    (subst (λ x. Brings w (event_in (sent_by past) (Heard h m answer)) (world_by (past ++ Heard h m answer ∷ []) x))
+    (sym (r.after ∙ ap (λ x. with_handler x v) r.moves.after))
     (brings past v h m r.handler r.here own reached was))

@@ -5,7 +5,7 @@ use Rattle.std.specs.List.{list_any}
 use Rattle.std.specs.Option.{option_map}
 use Rattle.std.specs.Bool.{Decides}
 use Rattle.std.proofs.lemmas.Grind.{flat_map-append}
-use Rattle.scoop_model.specs.Safe.{NoRepeats}
+use Rattle.scoop_message.specs.Lists.{NoRepeats}
 use Rattle.scoop_model.proofs.Basics.{by_test}
 
 -- what one more adds
@@ -31,7 +31,8 @@ module _ {A B K : Type 0} (key : B → K) (same : K → K → Bool) where
   pub find_through : (f : A → B) (k : K) (xs : List A) → find (λ b. same (key b) k) (map f xs) ≡ option_map f (find (λ a. same (key (f a)) k) xs)
   find_through f k [] = refl
   find_through f k (x ∷ xs) =
-      by_test (λ t. (if t then Some (f x) else find (λ b. same (key b) k) (map f xs)) ≡ option_map f (if t then Some x else find (λ a. same (key (f a)) k) xs)) (same (key (f x)) k)
+      by_test (λ t. (if t then Some (f x) else find (λ b. same (key b) k) (map f xs)) ≡ option_map f (if t then Some x else find (λ a. same (key (f a)) k) xs))
+      (same (key (f x)) k)
       (λ here. refl)
       (λ there. find_through f k xs)
 
@@ -50,7 +51,8 @@ module _ {B K : Type 0} (key : B → K) (same : K → K → Bool) where
   pub has_found : (k : K) (xs : List B) → list_any (λ j. same j k) (map key xs) ≡ true → (x : B) × (find (λ b. same (key b) k) xs ≡ Some x)
   has_found k [] e = absurd (cc)
   has_found k (x ∷ xs) e =
-      by_test (λ t. (t || list_any (λ j. same j k) (map key xs)) ≡ true → (y : B) × ((if t then Some x else find (λ b. same (key b) k) xs) ≡ Some y)) (same (key x) k)
+      by_test (λ t. (t || list_any (λ j. same j k) (map key xs)) ≡ true → (y : B) × ((if t then Some x else find (λ b. same (key b) k) xs) ≡ Some y))
+      (same (key x) k)
       (λ here f. (x, refl))
       (λ there f. has_found k xs f) e
 
@@ -83,10 +85,12 @@ module _ {A K : Type 0} (key : A → K) (same : K → K → Bool) (decides : (a 
       ap (λ t. (if t then s else x) ∷ map (λ x. if same (key x) (key s) then s else x) xs) (apart same decides (key x) (key s) (λ e. none 0 (ap Some e)))
       ∙ ap (λ ys. x ∷ ys) (untouched s xs (λ j e. none (suc j) e))
 
-  pub put_itself : (k : K) (xs : List A) (s : A) → NoRepeats (map key xs) → find (λ a. same (key a) k) xs ≡ Some s → map (λ x. if same (key x) (key s) then s else x) xs ≡ xs
+  pub put_itself : (k : K) (xs : List A) (s : A) → NoRepeats (map key xs) → find (λ a. same (key a) k) xs ≡ Some s
+      → map (λ x. if same (key x) (key s) then s else x) xs ≡ xs
   put_itself k [] s once found = refl
   put_itself k (x ∷ xs) s once found =
-      by_test (λ t. same (key x) k ≡ t → (if t then Some x else find (λ a. same (key a) k) xs) ≡ Some s → map (λ x. if same (key x) (key s) then s else x) (x ∷ xs) ≡ x ∷ xs) (same (key x) k)
+      by_test (λ t. same (key x) k ≡ t → (if t then Some x else find (λ a. same (key a) k) xs) ≡ Some s
+      → map (λ x. if same (key x) (key s) then s else x) (x ∷ xs) ≡ x ∷ xs) (same (key x) k)
       (λ _ here is.
       let own : x ≡ s = cc in
       subst (λ s. map (λ x. if same (key x) (key s) then s else x) (x ∷ xs) ≡ x ∷ xs) own

@@ -10,7 +10,7 @@ use Rattle.scoop_reserve.specs.Handlers.{has}
 use Rattle.scoop_handler.specs.Core.{core_of}
 use Rattle.scoop_model.specs.Step.{Placement, Newcomer}
 use Rattle.scoop_model.specs.Opening.{MayOpen}
-use Rattle.scoop_model.specs.Safe.{NoRepeats}
+use Rattle.scoop_message.specs.Lists.{NoRepeats}
 use Rattle.scoop_model.proofs.Basics.{by_test}
 use Rattle.scoop_model.proofs.Keys.{key_found}
 use Rattle.scoop_weave.specs.System.{LocalHandler, System, number_in, is_handler, newer_handler, on_node, after_reopening, new_handler, new_system}
@@ -50,7 +50,8 @@ module _ (m : LocalMove) where
 
   -- ---- at one handler
 
-  module _ (h : HandlerId) (at : (x : LocalHandler) → is_at (number_in x) x.node m ≡ same_handler h (number_in x)) (s new : LocalHandler) (own : number_in s ≡ h) (moves : HandlerMoves m s new) (stored : s.stored ≡ s.core.state) where
+  module _ (h : HandlerId) (at : (x : LocalHandler) → is_at (number_in x) x.node m ≡ same_handler h (number_in x)) (s new : LocalHandler)
+      (own : number_in s ≡ h) (moves : HandlerMoves m s new) (stored : s.stored ≡ s.core.state) where
     kept : HandlerKept s new
     kept = handler_kept m s new stored moves
 
@@ -63,13 +64,16 @@ module _ (m : LocalMove) where
     away : (x : LocalHandler) → (number_in x ≡ h → ⊥) → is_at (number_in x) x.node m ≡ false
     away x differ = at x ∙ apart same_handler handler_decides h (number_in x) (λ e. differ (sym e))
 
-    stays_here : (x : LocalHandler) → (number_in x ≡ h → ⊥) → x.stored ≡ x.core.state → StepAt (HandlerMoves m) x (is_at (number_in x) x.node m) (newer_handler new x) × HandlerKept x (newer_handler new x)
+    stays_here : (x : LocalHandler) → (number_in x ≡ h → ⊥) → x.stored ≡ x.core.state
+        → StepAt (HandlerMoves m) x (is_at (number_in x) x.node m) (newer_handler new x) × HandlerKept x (newer_handler new x)
     stays_here x differ is =
-        subst (λ y. StepAt (HandlerMoves m) x (is_at (number_in x) x.node m) y × HandlerKept x y) (sym (left x differ)) (rests x (away x differ), same_kept x is)
+        subst (λ y. StepAt (HandlerMoves m) x (is_at (number_in x) x.node m) y × HandlerKept x y) (sym (left x differ))
+        (rests x (away x differ), same_kept x is)
 
     goes_here : StepAt (HandlerMoves m) s (is_at (number_in s) s.node m) (newer_handler new s) × HandlerKept s (newer_handler new s)
     goes_here =
-        let own_name : same_handler (number_in s) (number_in new) ≡ true = ap (same_handler (number_in s)) kept.number ∙ itself same_handler handler_decides (number_in s) in
+        let own_name : same_handler (number_in s) (number_in new) ≡ true = ap (same_handler (number_in s)) kept.number
+        ∙ itself same_handler handler_decides (number_in s) in
         let put : newer_handler new s ≡ new = ap (λ t. if t then new else s) own_name in
         let concerned : is_at (number_in s) s.node m ≡ true = at s ∙ ap (same_handler h) own ∙ itself same_handler handler_decides h in
         subst (λ y. StepAt (HandlerMoves m) s (is_at (number_in s) s.node m) y × HandlerKept s y) (sym put) (went s new concerned moves, kept)
@@ -83,10 +87,12 @@ module _ (m : LocalMove) where
     one_goes : (xs : List LocalHandler) → AllStored xs → NoRepeats (numbers xs) → find (is_handler h) xs ≡ Some s → EachKept m xs (map (newer_handler new) xs)
     one_goes [] is once found = tt
     one_goes (x ∷ xs) is once found =
-        by_test (λ t. same_handler (number_in x) h ≡ t → (if t then Some x else find (is_handler h) xs) ≡ Some s → EachKept m (x ∷ xs) (map (newer_handler new) (x ∷ xs))) (same_handler (number_in x) h)
+        by_test (λ t. same_handler (number_in x) h ≡ t → (if t then Some x else find (is_handler h) xs) ≡ Some s
+        → EachKept m (x ∷ xs) (map (newer_handler new) (x ∷ xs))) (same_handler (number_in x) h)
         (λ _ here e.
         let this : x ≡ s = cc in
-        let one = subst (λ y. StepAt (HandlerMoves m) y (is_at (number_in y) y.node m) (newer_handler new y) × HandlerKept y (newer_handler new y)) (sym this) goes_here in
+        let one = subst (λ y. StepAt (HandlerMoves m) y (is_at (number_in y) y.node m) (newer_handler new y) × HandlerKept y (newer_handler new y))
+        (sym this) goes_here in
         let x_name : number_in x ≡ h = (handler_decides (number_in x) h).0 here in
         (one.0, one.1, none_goes xs is.1 (λ j f. none_later number_in same_handler handler_decides x xs once j (f ∙ ap Some (sym x_name)))))
         (λ _ there e.
@@ -94,7 +100,8 @@ module _ (m : LocalMove) where
         (one.0, one.1, one_goes xs is.1 (rest_once number_in same_handler handler_decides x xs once) e))
         refl found
 
-  at_one : (h : HandlerId) → ((x : LocalHandler) → is_at (number_in x) x.node m ≡ same_handler h (number_in x)) → (hs ks : List LocalHandler) → AllStored hs → NoRepeats (numbers hs) → AtOne h m hs ks → EachKept m hs ks
+  at_one : (h : HandlerId) → ((x : LocalHandler) → is_at (number_in x) x.node m ≡ same_handler h (number_in x)) → (hs ks : List LocalHandler) → AllStored hs
+      → NoRepeats (numbers hs) → AtOne h m hs ks → EachKept m hs ks
   at_one h at hs ks is once r =
       let own = key_found number_in same_handler handler_decides h hs r.handler r.here in
       subst (EachKept m hs) (sym r.after) (one_goes h at r.handler r.new own r.moves (stored_found hs is r.here) hs is once r.here)
@@ -102,7 +109,8 @@ module _ (m : LocalMove) where
       stored_found : (xs : List LocalHandler) → AllStored xs → find (is_handler h) xs ≡ Some r.handler → r.handler.stored ≡ r.handler.core.state
       stored_found [] is e = absurd (cc)
       stored_found (x ∷ xs) is e =
-          by_test (λ t. (if t then Some x else find (is_handler h) xs) ≡ Some r.handler → r.handler.stored ≡ r.handler.core.state) (same_handler (number_in x) h)
+          by_test (λ t. (if t then Some x else find (is_handler h) xs) ≡ Some r.handler → r.handler.stored ≡ r.handler.core.state)
+          (same_handler (number_in x) h)
           (λ here f. let this : x ≡ r.handler = cc in subst (λ y. y.stored ≡ y.core.state) this is.0)
           (λ there f. stored_found xs is.1 f) e
 
@@ -134,9 +142,14 @@ node_step (ClientRestarted c) hs us is once r = absurd r
 not_any : (h : HandlerId) (xs : List LocalHandler) → has (numbers xs) h ≡ false → AllByRecursion (λ x. same_handler h (number_in x) ≡ false) xs
 not_any h [] e = tt
 not_any h (x ∷ xs) e =
-    by_test (λ t. same_handler (number_in x) h ≡ t → (t || has (numbers xs) h) ≡ false → AllByRecursion (λ x. same_handler h (number_in x) ≡ false) (x ∷ xs)) (same_handler (number_in x) h)
+    by_test (λ t. same_handler (number_in x) h ≡ t → (t || has (numbers xs) h) ≡ false → AllByRecursion (λ x. same_handler h (number_in x) ≡ false) (x ∷ xs))
+    (same_handler (number_in x) h)
     (λ _ here f. absurd (cc))
-    (λ _ there f. (apart same_handler handler_decides h (number_in x) (λ i. from_false same_handler handler_decides (number_in x) h there (sym i)), not_any h xs f))
+    (λ _ there f. (
+      apart same_handler handler_decides h (number_in x)
+          (λ i. from_false same_handler handler_decides (number_in x) h there (sym i)),
+      not_any h xs f,
+    ))
     refl e
 
 elsewhere : (n k : ℕ) (xs : List LocalHandler) → (n == k) ≡ false → AllByRecursion (λ s. s.node ≡ n) xs → AllByRecursion (λ x. (x.node == k) ≡ false) xs
@@ -147,7 +160,8 @@ all_false : (xs : List LocalHandler) → AllByRecursion (λ (x : LocalHandler). 
 all_false [] = tt
 all_false (x ∷ xs) = (refl, all_false xs)
 
-not_of : (n : ℕ) (m : LocalMove) (xs : List LocalHandler) → is_of n (numbers xs) m ≡ false → AllByRecursion (λ s. s.node ≡ n) xs → AllByRecursion (λ x. is_at (number_in x) x.node m ≡ false) xs
+not_of : (n : ℕ) (m : LocalMove) (xs : List LocalHandler) → is_of n (numbers xs) m ≡ false → AllByRecursion (λ s. s.node ≡ n) xs
+    → AllByRecursion (λ x. is_at (number_in x) x.node m ≡ false) xs
 not_of n (Heard h x told) xs e stand = not_any h xs e
 not_of n (Began h told) xs e stand = not_any h xs e
 not_of n (Finished h ran) xs e stand = not_any h xs e
@@ -159,7 +173,8 @@ not_of n (ClientRestarted c) xs e stand = all_false xs
 
 -- ---- move after move
 
-one_before : (m : LocalMove) (x u k : LocalHandler) (part : List LocalMove) (b : Bool) → StepAt (HandlerMoves m) x b u → HandlerRuns u part k → HandlerRuns x (if b then m ∷ part else part) k
+one_before : (m : LocalMove) (x u k : LocalHandler) (part : List LocalMove) (b : Bool) → StepAt (HandlerMoves m) x b u → HandlerRuns u part k
+    → HandlerRuns x (if b then m ∷ part else part) k
 one_before m x u k part true (goes y r) rest = (u, r, rest)
 one_before m x u k part false stays rest = rest
 
@@ -172,8 +187,11 @@ before m ms (x ∷ xs) (u ∷ us) [] steps each = absurd each
 before m ms (x ∷ xs) (u ∷ us) (k ∷ ks) steps each =
     let number = steps.1.number in
     let node = steps.1.node in
-    let part : moves_at (number_in u) u.node ms ≡ moves_at (number_in x) x.node ms = λ i. moves_at (number i) (node i) ms in
-    (one_before m x u k (moves_at (number_in x) x.node ms) (is_at (number_in x) x.node m) steps.0 (subst (λ xs. HandlerRuns u xs k) part each.0), before m ms xs us ks steps.2 each.1)
+    let part : moves_at (number_in u) u.node ms ≡ moves_at (number_in x) x.node ms = λ i. moves_at (number i) (node i) ms in (
+      one_before m x u k (moves_at (number_in x) x.node ms) (is_at (number_in x) x.node m) steps.0
+          (subst (λ xs. HandlerRuns u xs k) part each.0),
+      before m ms xs us ks steps.2 each.1,
+    )
 
 pub kept_numbers : (m : LocalMove) (hs us : List LocalHandler) → EachKept m hs us → numbers us ≡ numbers hs
 kept_numbers m [] [] steps = refl
@@ -198,11 +216,13 @@ none_runs [] = tt
 none_runs (x ∷ xs) = (refl, none_runs xs)
 
 node_each :
-    (n : ℕ) (ks : List LocalHandler) (ms : List LocalMove) (hs : List LocalHandler) → AllStored hs → NoRepeats (numbers hs) → AllByRecursion (λ s. s.node ≡ n) hs
+    (n : ℕ) (ks : List LocalHandler) (ms : List LocalMove) (hs : List LocalHandler) → AllStored hs → NoRepeats (numbers hs)
+    → AllByRecursion (λ s. s.node ≡ n) hs
     → NodeRuns hs (filter (is_of n (numbers hs)) ms) ks → EachHandler ms hs ks
 node_each n ks [] hs is once stand = λ same. subst (EachHandler [] hs) same (none_runs hs)
 node_each n ks (m ∷ ms) hs is once stand =
-    by_test (λ b. is_of n (numbers hs) m ≡ b → NodeRuns hs (if b then m ∷ filter (is_of n (numbers hs)) ms else filter (is_of n (numbers hs)) ms) ks → EachHandler (m ∷ ms) hs ks) (is_of n (numbers hs) m)
+    by_test (λ b. is_of n (numbers hs) m ≡ b → NodeRuns hs (if b then m ∷ filter (is_of n (numbers hs)) ms else filter (is_of n (numbers hs)) ms) ks
+    → EachHandler (m ∷ ms) hs ks) (is_of n (numbers hs) m)
     (λ _ e r.
     let us = r.0 in
     let steps = node_step m hs us is once r.1 in
@@ -237,7 +257,8 @@ pub back_once : (hs gs : List LocalHandler) → NoRepeats (numbers (hs ++ gs)) �
 back_once [] gs once = once
 back_once (h ∷ hs) gs once = back_once hs gs (rest_once number_in same_handler handler_decides h (hs ++ gs) once)
 
-all_nodes : (ms : List LocalMove) (nodes : List Node) → AllStored (flat_map (λ (n : Node). n.opening) nodes) → NoRepeats (numbers (flat_map (λ (n : Node). n.opening) nodes)) → AllByRecursion (IsNode ms) nodes
+all_nodes : (ms : List LocalMove) (nodes : List Node) → AllStored (flat_map (λ (n : Node). n.opening) nodes)
+    → NoRepeats (numbers (flat_map (λ (n : Node). n.opening) nodes)) → AllByRecursion (IsNode ms) nodes
     → EachHandler ms (flat_map (λ (n : Node). n.opening) nodes) (flat_map (λ (n : Node). n.now) nodes)
 all_nodes ms [] is once each = tt
 all_nodes ms (n ∷ nodes) is once each =
@@ -247,7 +268,8 @@ all_nodes ms (n ∷ nodes) is once each =
     (node_each n.number n.now ms n.opening stored.0 (front_once n.opening rest once) each.0.stand each.0.runs)
     (all_nodes ms nodes stored.1 (back_once n.opening rest once) each.1)
 
-pub nodes_are_woven : (ps : List Placement) (ns : List Newcomer) (ms : List LocalMove) (now : System) → MayOpen ps ns → IsWovenOfNodes ps ns ms now → IsWoven ps ns ms now
+pub nodes_are_woven : (ps : List Placement) (ns : List Newcomer) (ms : List LocalMove) (now : System) → MayOpen ps ns → IsWovenOfNodes ps ns ms now
+    → IsWoven ps ns ms now
 nodes_are_woven ps ns ms now opens w =
     let opening : List LocalHandler = (new_system ps ns).handlers in
     let once : NoRepeats (numbers opening) = subst NoRepeats (sym (map-map number_in new_handler ps)) opens.apart in
@@ -255,7 +277,8 @@ nodes_are_woven ps ns ms now opens w =
       handlers =
           subst (λ hs. EachHandler ms hs now.handlers) w.opening
           (subst (EachHandler ms (flat_map (λ (n : Node). n.opening) w.nodes)) w.after
-          (all_nodes ms w.nodes (subst AllStored (sym w.opening) (stored_open ps ns opens ps)) (subst (λ hs. NoRepeats (numbers hs)) (sym w.opening) once) w.each));
+          (all_nodes ms w.nodes (subst AllStored (sym w.opening) (stored_open ps ns opens ps))
+          (subst (λ hs. NoRepeats (numbers hs)) (sym w.opening) once) w.each));
       clients = w.clients;
       sent = w.sent;
       members = w.members;

@@ -15,7 +15,7 @@ use Rattle.scoop_reserve.specs.Hearing as reservation
 use Rattle.scoop_client.specs.declared.phase.ClientNote.{ClientNote}
 use Rattle.scoop_client.specs.declared.phase.ClientNote.TheVariants.{Ignored}
 use Rattle.scoop_client.specs.State.{ClientState}
-use Rattle.scoop_client.specs.Line.{line_of}
+use Rattle.scoop_client.specs.Window.{window_of}
 use Rattle.scoop_client.specs.Hearing.{Notice, heard, ignored, hear_welcome, after_step as after_reserving, hear_step, hear_logged, hear_answer, hear_count, hear_answer_to, up_to}
 use Rattle.scoop_client.specs.Rows.{HeardRow, passed_over, is_welcomed, takes_step, is_acknowledged, is_accepted}
 use Rattle.scoop_client.proofs.Rows.{heard_row}
@@ -54,18 +54,21 @@ module _ (c : ClientState) (newest : HasNewest c) where
 
   -- a message of a block that another client has
   step_over : (m : Message) (b : Block) (n : ReservationState → reservation.Notice) (o : Option ReservationState)
-      → ((r : ReservationState) → reservation.heard r m ≡ reservation.of_block r b (n r)) → c.reservation ≡ o → same_client b.client c.id ≡ false → hear_step c m o ≡ ignored c
+      → ((r : ReservationState) → reservation.heard r m ≡ reservation.of_block r b (n r)) → c.reservation ≡ o → same_client b.client c.id ≡ false
+      → hear_step c m o ≡ ignored c
   step_over m b n None is held e = refl
   step_over m b n (Some r) is held e =
       ap (λ (x : reservation.Notice). after_reserving c x.0 x.1)
       (is r ∙ ap (λ t. if t then n r else reservation.ignored r) (other_block b r held e))
 
-  logged_over : (h : HandlerId) (b : Block) (n : ℕ) (o : Option ReservationState) → c.reservation ≡ o → same_client b.client c.id ≡ false → hear_logged c h b n o ≡ ignored c
+  logged_over : (h : HandlerId) (b : Block) (n : ℕ) (o : Option ReservationState) → c.reservation ≡ o → same_client b.client c.id ≡ false
+      → hear_logged c h b n o ≡ ignored c
   logged_over h b n None held e = refl
   logged_over h b n (Some r) held e =
-      ap (λ t. if t && reservation.is_open r then hear_count c h n (up_to h n c.waits) (line_of h c.lines) else ignored c) (other_block b r held e)
+      ap (λ t. if t && reservation.is_open r then hear_count c h n (up_to h n c.waits) (window_of h c.windows) else ignored c) (other_block b r held e)
 
-  answer_over : (h : HandlerId) (b : Block) (n : ℕ) (a : _) (o : Option ReservationState) → c.reservation ≡ o → same_client b.client c.id ≡ false → hear_answer c h b n a o ≡ ignored c
+  answer_over : (h : HandlerId) (b : Block) (n : ℕ) (a : _) (o : Option ReservationState) → c.reservation ≡ o → same_client b.client c.id ≡ false
+      → hear_answer c h b n a o ≡ ignored c
   answer_over h b n a None held e = refl
   answer_over h b n a (Some r) held e =
       ap (λ t. if t && reservation.is_open r then hear_answer_to c h n a c.waits else ignored c) (other_block b r held e)
@@ -93,11 +96,12 @@ module _ (c : ClientState) (newest : HasNewest c) where
   step_accepts b d r (step.Unlocked h) = refl
   step_accepts b d r step.Ignored = refl
 
-  accepts_named : (m : Message) (d : ClientState) (told : ClientNote) → HeardRow c m d told → newly_accepted (newest_block c) told ≡ newly_accepted (block_in m) told
+  accepts_named : (m : Message) (d : ClientState) (told : ClientNote) → HeardRow c m d told
+      → newly_accepted (newest_block c) told ≡ newly_accepted (block_in m) told
   accepts_named m d told (passed_over x) = refl
   accepts_named m d told (is_welcomed h left) = refl
   accepts_named m d told (takes_step x r held) = step_accepts (newest_block c) (block_in x) (reservation.heard r x).0 (reservation.heard r x).1
-  accepts_named m d told (is_acknowledged h n r l held opened line new) = refl
+  accepts_named m d told (is_acknowledged h n r l held opened window new) = refl
   accepts_named m d told (is_accepted h n a r held opened waits) = ap (λ b. let xs : List Accepted = (h, b, n, a) ∷ [] in xs) (sym (newest r held))
 
 -- ---- the move
@@ -108,7 +112,8 @@ newest_held past v c d reached here r held =
     let told : Told w = subst Told (ap (λ (x : Run). x.0) reached.leads) (always_told reached.placements reached.newcomers reached.events reached.opens) in
     ((all_found (PartyLogs w) (is_party c) w.parties (party_by past d) told.1.parties (party_there past v c d here)).block r held).block
 
-module _ (past : List LocalMove) (v : System) (c : ClientId) (m : Message) (d : LocalClient) (here : client_in c v ≡ Some d) (own : id_in d ≡ c) (reached : IsReached (world_by past v)) where
+module _ (past : List LocalMove) (v : System) (c : ClientId) (m : Message) (d : LocalClient) (here : client_in c v ≡ Some d) (own : id_in d ≡ c)
+    (reached : IsReached (world_by past v)) where
   abbrev now : Notice
   now = heard d.client m
 
@@ -158,14 +163,16 @@ module _ (past : List LocalMove) (v : System) (c : ClientId) (m : Message) (d : 
       (parties_changed past move v a (heard_party (party_by past d) now) party_hears elsewhere)
       (nothing_sent past move v refl) (nothing_opened past move v refl) (nothing_logged past move v refl)
 
-  takes : sent_at (place_in (sent_by past) m) w ≡ Some m → is_for_handler m ≡ false → client_of m ≡ c → Brings w (Take (place_in (sent_by past) m) ∷ []) (world_by more (with_client a v))
+  takes : sent_at (place_in (sent_by past) m) w ≡ Some m → is_for_handler m ≡ false → client_of m ≡ c
+      → Brings w (Take (place_in (sent_by past) m) ∷ []) (world_by more (with_client a v))
   takes was goes names =
       let receiver : party_of (client_of m) w ≡ Some (party_by past d) = ap (λ k. party_of k w) names ∙ party_there past v c d here in
       let is : taken w (sent_at (place_in (sent_by past) m) w) ≡ Ok (with_party w (heard_party (party_by past d) now), note.Client now.1) =
       ap (taken w) was
       ∙ ap (λ t. if t then taken_by_handler w m (site_of (handler_of m) w) else taken_by_client w m (party_of (client_of m) w)) goes
       ∙ ap (taken_by_client w m) receiver in
-      brings_one w (world_by more (with_client a v)) (with_party w (heard_party (party_by past d) now)) (Take (place_in (sent_by past) m)) (note.Client now.1) is world_hears
+      brings_one w (world_by more (with_client a v)) (with_party w (heard_party (party_by past d) now)) (Take (place_in (sent_by past) m))
+      (note.Client now.1) is world_hears
 
   passes_over : is_to c m ≡ false → Brings w [] (world_by more (with_client a v))
   passes_over e =
@@ -187,7 +194,8 @@ module _ (past : List LocalMove) (v : System) (c : ClientId) (m : Message) (d : 
   brings : sent_at (place_in (sent_by past) m) w ≡ Some m → Brings w (event_in (sent_by past) move) (world_by more (with_client a v))
   brings was =
       by_test (λ t. is_to c m ≡ t → Brings w (if t then Take (place_in (sent_by past) m) ∷ [] else []) (world_by more (with_client a v))) (is_to c m)
-      (λ _ e. let both = both_true (not (is_for_handler m)) (same_client (client_of m) c) e in takes was (is_not (is_for_handler m) both.0) ((client_decides (client_of m) c).0 both.1))
+      (λ _ e. let both = both_true (not (is_for_handler m)) (same_client (client_of m) c) e in
+      takes was (is_not (is_for_handler m) both.0) ((client_decides (client_of m) c).0 both.1))
       (λ _ e. passes_over e)
       refl
     where
@@ -196,7 +204,8 @@ module _ (past : List LocalMove) (v : System) (c : ClientId) (m : Message) (d : 
       is_not false e = refl
 
 pub notices_brings :
-    (past : List LocalMove) (v u : System) (c : ClientId) (m : Message) (told : ClientNote) → IsReached (world_by past v) → Contains (sent_by past) m → AtClient c (ClientHeard c m told) v u
+    (past : List LocalMove) (v u : System) (c : ClientId) (m : Message) (told : ClientNote) → IsReached (world_by past v) → Contains (sent_by past) m
+    → AtClient c (ClientHeard c m told) v u
     → Brings (world_by past v) (event_in (sent_by past) (ClientHeard c m told)) (world_by (past ++ ClientHeard c m told ∷ []) u)
 notices_brings past v u c m told reached sent r =
     let w : World = world_by past v in
@@ -204,5 +213,6 @@ notices_brings past v u c m told reached sent r =
     let was : sent_at (place_in (sent_by past) m) w ≡ Some m = sent_there w m sent in
     let shown : ClientNote = (heard r.client.client m).1 in
     subst (λ t. Brings w (event_in (sent_by past) (ClientHeard c m t)) (world_by (past ++ ClientHeard c m t ∷ []) u)) (sym r.moves.tells)
-    (subst (λ x. Brings w (event_in (sent_by past) (ClientHeard c m shown)) (world_by (past ++ ClientHeard c m shown ∷ []) x)) (sym (r.after ∙ ap (λ y. with_client y v) r.moves.after))
+    (subst (λ x. Brings w (event_in (sent_by past) (ClientHeard c m shown)) (world_by (past ++ ClientHeard c m shown ∷ []) x))
+    (sym (r.after ∙ ap (λ y. with_client y v) r.moves.after))
     (brings past v c m r.client r.here own reached was))

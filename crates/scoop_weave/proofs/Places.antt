@@ -17,7 +17,8 @@ record IsAt (xs : List Message) (m : Message) (p : ℕ) : Type 0 where
 later : (x : Message) (xs : List Message) (m : Message) (p : ℕ) → IsAt xs m p → IsAt (x ∷ xs) m (p + 1)
 later x xs m p at = record { place = suc at.place; next = (let e = at.next in omega arith); found = at.found }
 
-in_rest : (x : Message) (xs : List Message) (m : Message) (k : ℕ) → k < length (x ∷ xs) → get_or (x ∷ xs) k m ≡ m → on_message.eq-value.it x m ≡ false → Contains xs m
+in_rest : (x : Message) (xs : List Message) (m : Message) (k : ℕ) → k < length (x ∷ xs) → get_or (x ∷ xs) k m ≡ m → on_message.eq-value.it x m ≡ false
+    → Contains xs m
 in_rest x xs m zero within is other = absurd (true≢false (sym ((message_decides x m).1 is) ∙ other))
 in_rest x xs m (suc k) within is other = (k, omega arith, is)
 

@@ -36,13 +36,15 @@ module _ (ms : List LocalMove) (now : System) (safe : Safe (world_by ms now)) wh
 
   -- what ran at a handler in the world ran by the moves
   ran_there : (h : HandlerId) (o : Option LocalHandler) → handler_in h now ≡ o → (r : Ran) → ran_at h w ≡ option_map_or (λ s. ran_by (number_in s) ms) o []
-  ran_there h o found r = ap (λ (x : Option Site). option_map_or (λ s. s.ran) x []) (find_through number_of same_handler (site_by ms) h now.handlers ∙ ap (option_map (site_by ms)) found) ∙ both o
+  ran_there h o found r = ap (λ (x : Option Site). option_map_or (λ s. s.ran) x [])
+      (find_through number_of same_handler (site_by ms) h now.handlers ∙ ap (option_map (site_by ms)) found) ∙ both o
     where
       both : (o : Option LocalHandler) → option_map_or (λ (s : Site). s.ran) (option_map (site_by ms) o) [] ≡ option_map_or (λ s. ran_by (number_in s) ms) o []
       both None = refl
       both (Some s) = refl
 
-  has_run : (a : Accepted) (o : Option LocalHandler) → handler_in a.0 now ≡ o → HasRun (option_map_or (λ s. ran_by (number_in s) ms) o []) a.1 a.2 a.3 → HasRun (ran_by a.0 ms) a.1 a.2 a.3
+  has_run : (a : Accepted) (o : Option LocalHandler) → handler_in a.0 now ≡ o → HasRun (option_map_or (λ s. ran_by (number_in s) ms) o []) a.1 a.2 a.3
+      → HasRun (ran_by a.0 ms) a.1 a.2 a.3
   has_run a None found run = absurd (nowhere run.at.0 run.at.1)
     where
       nowhere : (k : ℕ) → k < length {A = Ran} [] → ⊥

@@ -45,19 +45,22 @@ module _ (past : List LocalMove) (v : System) (h : HandlerId) (s : LocalHandler)
   silent o = record { sent = refl; opened = refl; handlers = λ k. record { opened = refl; ran = refl }; clients = λ c. refl; logs = refl }
 
   no_more : (c : Core) → ready c ≡ None → begun c ≡ c
-  no_more c e = ap (λ o. core_of c.class c.state (c.out || is_some o)) e ∙ by_test (λ t. core_of c.class c.state (t || false) ≡ core_of c.class c.state t) c.out (λ out. refl) (λ free. refl)
+  no_more c e = ap (λ o. core_of c.class c.state (c.out || is_some o)) e
+      ∙ by_test (λ t. core_of c.class c.state (t || false) ≡ core_of c.class c.state t) c.out (λ out. refl) (λ free. refl)
 
   pub begun_world : (o : Option Task) → with_site w (begun_site (site_by past s)) ≡ after o
   begun_world o =
       let m : LocalMove = Began h (told o) in
       same_world _ _ _ _ _ _ _ _ _ _
-      (sites_changed past m v (after_begin s) (begun_site (site_by past s)) (site_stays past m (after_begin s) refl refl) (λ x e. record { opened = refl; ran = refl }))
+      (sites_changed past m v (after_begin s) (begun_site (site_by past s)) (site_stays past m (after_begin s) refl refl)
+      (λ x e. record { opened = refl; ran = refl }))
       (parties_same past m v (λ c. refl))
       (nothing_sent past m v refl) (nothing_opened past m v refl) (nothing_logged past m v refl)
 
   begin_brings : (o : Option Task) → IsReached w → ready s.core ≡ o → Brings w (begin_event h (told o)) (after o)
   begin_brings None reached e =
-      let stays : after_begin s ≡ s = ap (λ c. let x : LocalHandler = record { node = s.node; placed = s.placed; core = c; stored = s.stored } in x) (no_more s.core e) in
+      let stays : after_begin s ≡ s = ap (λ c. let x : LocalHandler = record { node = s.node; placed = s.placed; core = c; stored = s.stored } in x)
+      (no_more s.core e) in
       let same : with_handler (after_begin s) v ≡ v = ap (λ x. with_handler x v) stays ∙ handler_itself past v reached h s here in
       brings_none w (after None) (told_nothing past (Began h None) v (silent None) ∙ ap (world_by (past ++ Began h None ∷ [])) (sym same))
   begin_brings (Some t) reached e =
@@ -126,7 +129,8 @@ finishes_brings past v u h ran r =
     let w : World = world_by past v in
     let own = key_found number_in same_handler handler_decides h v.handlers r.handler r.here in
     subst (λ t. Brings w (Finish h ∷ []) (world_by (past ++ Finished h t ∷ []) u)) (sym r.moves.tells)
-    (subst (λ x. Brings w (Finish h ∷ []) (world_by (past ++ Finished h (ran_of r.moves.task) ∷ []) x)) (sym (r.after ∙ ap (λ x. with_handler x v) r.moves.after))
+    (subst (λ x. Brings w (Finish h ∷ []) (world_by (past ++ Finished h (ran_of r.moves.task) ∷ []) x))
+    (sym (r.after ∙ ap (λ x. with_handler x v) r.moves.after))
     (finish_brings past v h r.handler r.moves.task r.here own r.moves.out))
 
 -- ---- a node restarts
@@ -149,11 +153,13 @@ module _ (past : List LocalMove) (n : ℕ) where
       let opened_to : opened_by (number_in x) past ≡ opened_by (number_in back) past = ap (λ k. opened_by k past) number in
       let ran_to : ran_by (number_in x) past ≡ ran_by (number_in back) past = ap (λ k. ran_by k past) number in
       let to : site_with back (opened_by (number_in x) past) (ran_by (number_in x) past) ≡ site_by past back = λ i. site_with back (opened_to i) (ran_to i) in
-      by_test (λ t. (if t then site_with back (opened_by (number_in x) past) (ran_by (number_in x) past) else site_by past x) ≡ site_by then_on (if t then back else x)) (x.node == n)
+      by_test (λ t. (if t then site_with back (opened_by (number_in x) past) (ran_by (number_in x) past) else site_by past x)
+      ≡ site_by then_on (if t then back else x)) (x.node == n)
       (λ here. to ∙ site_stays past restart back refl refl)
       (λ there. site_stays past restart x refl refl)
 
-  pub all_reopen : (xs : List LocalHandler) (js : List Block) → AllByRecursion (SiteFits js) (map (site_by past) xs) → map (reopened n) (map (site_by past) xs) ≡ map (site_by then_on) (map (after_reopening n) xs)
+  pub all_reopen : (xs : List LocalHandler) (js : List Block) → AllByRecursion (SiteFits js) (map (site_by past) xs)
+      → map (reopened n) (map (site_by past) xs) ≡ map (site_by then_on) (map (after_reopening n) xs)
   all_reopen [] js all = refl
   all_reopen (x ∷ xs) js all =
       ap (λ s. s ∷ map (reopened n) (map (site_by past) xs)) (one_reopens x js all.0)
@@ -167,7 +173,8 @@ reopens_brings past v u n reached r =
     let m : LocalMove = NodeReopened n in
     let new : System = record { handlers = map (after_reopening n) v.handlers; clients = v.clients } in
     let some : list_any (λ (s : Site). s.node == n) w.sites ≡ true = any_through (site_by past) (λ (s : Site). s.node == n) v.handlers ∙ r.some in
-    let is : step w (NodeRestart n) ≡ Ok (reopened_world w n, note.Reopened) = ap (λ t. if t then Ok (reopened_world w n, note.Reopened) else Err NoSuchParty) some in
+    let is : step w (NodeRestart n) ≡ Ok (reopened_world w n, note.Reopened) =
+    ap (λ t. if t then Ok (reopened_world w n, note.Reopened) else Err NoSuchParty) some in
     let same : reopened_world w n ≡ world_by (past ++ m ∷ []) new =
     same_world _ _ _ _ _ _ _ _ _ _ (all_reopen past n v.handlers w.joint (reached_ordered w reached).sites) (parties_same past m v (λ c. refl))
     (nothing_sent past m v refl) (nothing_opened past m v refl) (nothing_logged past m v refl) in

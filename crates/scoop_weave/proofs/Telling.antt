@@ -50,7 +50,8 @@ module _ (past : List LocalMove) (m : LocalMove) where
       let a = sym (nothing_more (accepted_here (id_in c)) past m none) in
       λ i. party_with c (a i)
 
-  pub party_goes_on : (c : LocalClient) (xs : List Accepted) → accepted_here (id_in c) m ≡ xs → party_with c (accepted_by (id_in c) past ++ xs) ≡ party_by more c
+  pub party_goes_on : (c : LocalClient) (xs : List Accepted) → accepted_here (id_in c) m ≡ xs
+      → party_with c (accepted_by (id_in c) past ++ xs) ≡ party_by more c
   party_goes_on c xs accepted =
       let a = ap (λ x. accepted_by (id_in c) past ++ x) (sym accepted) ∙ sym (flat_map_snoc (accepted_here (id_in c)) past m) in
       λ i. party_with c (a i)

@@ -12,7 +12,7 @@ use Rattle.scoop_reserve.specs.Handlers.{has}
 use Rattle.scoop_model.specs.World.{World, is_party, Site, Party, BlockLog, number_of, id_of, is_site, site_of, party_of, set_site, set_party}
 use Rattle.scoop_model.specs.Step.{joined}
 use Rattle.scoop_model.specs.Reach.{IsReached}
-use Rattle.scoop_model.specs.Safe.{NoRepeats}
+use Rattle.scoop_message.specs.Lists.{NoRepeats}
 use Rattle.scoop_model.proofs.Order.Facts.{SiteFits, all_found}
 use Rattle.scoop_model.proofs.Knowing.Runs.{clients_know}
 use Rattle.scoop_model.proofs.Reaching.{reached_ordered, sites_apart, parties_apart}
@@ -26,15 +26,18 @@ use Rattle.scoop_weave.proofs.Telling.{sent_more, logged_more, joint_more, site_
 abbrev pub world_of : List Site → List Party → List Message → List Block → List BlockLog → World
 world_of sites parties sent joint logs = record { sites = sites; parties = parties; sent = sent; joint = joint; logs = logs }
 
-pub same_world : (a b : List Site) (c d : List Party) (e f : List Message) (g h : List Block) (k l : List BlockLog) → a ≡ b → c ≡ d → e ≡ f → g ≡ h → k ≡ l → world_of a c e g k ≡ world_of b d f h l
+pub same_world : (a b : List Site) (c d : List Party) (e f : List Message) (g h : List Block) (k l : List BlockLog) → a ≡ b → c ≡ d → e ≡ f → g ≡ h → k ≡ l
+    → world_of a c e g k ≡ world_of b d f h l
 same_world a b c d e f g h k l sites parties sent joint logs = λ i. world_of (sites i) (parties i) (sent i) (joint i) (logs i)
 
 -- ---- look-ups
 
-pub site_there : (past : List LocalMove) (v : System) (h : HandlerId) (s : LocalHandler) → handler_in h v ≡ Some s → site_of h (world_by past v) ≡ Some (site_by past s)
+pub site_there : (past : List LocalMove) (v : System) (h : HandlerId) (s : LocalHandler) → handler_in h v ≡ Some s
+    → site_of h (world_by past v) ≡ Some (site_by past s)
 site_there past v h s here = find_through number_of same_handler (site_by past) h v.handlers ∙ ap (option_map (site_by past)) here
 
-pub party_there : (past : List LocalMove) (v : System) (c : ClientId) (d : LocalClient) → client_in c v ≡ Some d → party_of c (world_by past v) ≡ Some (party_by past d)
+pub party_there : (past : List LocalMove) (v : System) (c : ClientId) (d : LocalClient) → client_in c v ≡ Some d
+    → party_of c (world_by past v) ≡ Some (party_by past d)
 party_there past v c d here = find_through id_of same_client (party_by past) c v.clients ∙ ap (option_map (party_by past)) here
 
 -- ---- in a world that is reached
@@ -53,17 +56,21 @@ module _ (past : List LocalMove) (v : System) (reached : IsReached (world_by pas
 
   pub handler_itself : (h : HandlerId) (s : LocalHandler) → handler_in h v ≡ Some s → with_handler s v ≡ v
   handler_itself h s here =
-      ap (λ hs. let u : System = record { handlers = hs; clients = v.clients } in u) (put_itself number_in same_handler handler_decides h v.handlers s handlers_apart here)
+      ap (λ hs. let u : System = record { handlers = hs; clients = v.clients } in u)
+      (put_itself number_in same_handler handler_decides h v.handlers s handlers_apart here)
 
   pub client_itself : (c : ClientId) (d : LocalClient) → client_in c v ≡ Some d → with_client d v ≡ v
   client_itself c d here =
-      ap (λ cs. let u : System = record { handlers = v.handlers; clients = cs } in u) (put_itself id_in same_client client_decides c v.clients d clients_apart here)
+      ap (λ cs. let u : System = record { handlers = v.handlers; clients = cs } in u)
+      (put_itself id_in same_client client_decides c v.clients d clients_apart here)
 
   -- a handler that a client knows is one of the handlers
-  pub receiver_there : (c : ClientId) (d : LocalClient) (h : HandlerId) → client_in c v ≡ Some d → has d.client.handlers h ≡ true → (s : LocalHandler) × (handler_in h v ≡ Some s)
+  pub receiver_there : (c : ClientId) (d : LocalClient) (h : HandlerId) → client_in c v ≡ Some d → has d.client.handlers h ≡ true → (s : LocalHandler)
+      × (handler_in h v ≡ Some s)
   receiver_there c d h here named =
       let w = world_by past v in
-      let all : d.client.handlers ≡ map number_of w.sites = all_found (λ (p : Party). p.client.handlers ≡ map number_of w.sites) (is_party c) w.parties (party_by past d) (clients_know w reached) (party_there past v c d here) in
+      let all : d.client.handlers ≡ map number_of w.sites = all_found (λ (p : Party). p.client.handlers ≡ map number_of w.sites) (is_party c) w.parties
+      (party_by past d) (clients_know w reached) (party_there past v c d here) in
       has_found number_in same_handler h v.handlers (ap (λ hs. has hs h) (sym (all ∙ map-map number_of (site_by past) v.handlers)) ∙ named)
 
 -- ---- one move more
@@ -82,7 +89,8 @@ module _ (past : List LocalMove) (m : LocalMove) (v : System) where
       → set_site t (map (site_by past) v.handlers) ≡ map (site_by more) (map (newer_handler a) v.handlers)
   sites_changed a t is others =
       subst (λ t. set_site t (map (site_by past) v.handlers) ≡ map (site_by more) (map (newer_handler a) v.handlers)) (sym is)
-      (set_through number_of same_handler (site_by past) (site_by more) (site_by more a) a v.handlers refl (λ x e. let f = others x e in site_stays past m x f.opened f.ran))
+      (set_through number_of same_handler (site_by past) (site_by more) (site_by more a) a v.handlers refl
+      (λ x e. let f = others x e in site_stays past m x f.opened f.ran))
 
   pub sites_same : ((h : HandlerId) → IsElsewhere h) → map (site_by past) v.handlers ≡ map (site_by more) v.handlers
   sites_same f = map_through (site_by past) (site_by more) v.handlers (λ x. site_stays past m x (f (number_in x)).opened (f (number_in x)).ran)

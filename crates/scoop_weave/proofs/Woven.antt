@@ -17,7 +17,7 @@ use Rattle.scoop_client.specs.Commands.{command}
 use Rattle.scoop_client.proofs.Rows.{heard_row}
 use Rattle.scoop_model.specs.Step.{Placement, Newcomer}
 use Rattle.scoop_model.specs.Opening.{MayOpen}
-use Rattle.scoop_model.specs.Safe.{NoRepeats}
+use Rattle.scoop_message.specs.Lists.{NoRepeats}
 use Rattle.scoop_model.proofs.Basics.{by_test}
 use Rattle.scoop_model.proofs.Keys.{key_found}
 use Rattle.scoop_model.proofs.Answering.Onward.{onward_heard, onward_commanded}
@@ -73,11 +73,17 @@ module _ (m : LocalMove) (ms : List LocalMove) where
 
   handler_step : (s t : LocalHandler) → s.stored ≡ s.core.state → HandlerRuns s (moves_at (number_in s) s.node (m ∷ ms)) t → HandlerStep s t
   handler_step s t is =
-      by_test (λ b. concerns s ≡ b → HandlerRuns s (if b then m ∷ moves_at (number_in s) s.node ms else moves_at (number_in s) s.node ms) t → HandlerStep s t) (concerns s)
+      by_test (λ b. concerns s ≡ b → HandlerRuns s (if b then m ∷ moves_at (number_in s) s.node ms else moves_at (number_in s) s.node ms) t → HandlerStep s t)
+      (concerns s)
       (λ _ e r.
       let kept = handler_kept m s r.0 is r.1 in
       record { new = r.0; step = subst (λ b. StepAt (HandlerMoves m) s b r.0) (sym e) (goes r.0 r.1); kept = kept; rest = its_rest s r.0 t kept r.2 })
-      (λ _ e r. record { new = s; step = subst (λ b. StepAt (HandlerMoves m) s b s) (sym e) stays; kept = record { number = refl; node = refl; stored = is }; rest = r })
+      (λ _ e r. record {
+        new = s;
+        step = subst (λ b. StepAt (HandlerMoves m) s b s) (sym e) stays;
+        kept = record { number = refl; node = refl; stored = is };
+        rest = r;
+      })
       refl
 
   abbrev AllStored : List LocalHandler → Type 0
@@ -140,7 +146,13 @@ module _ (m : LocalMove) (ms : List LocalMove) where
       by_test (λ b. is_its c ≡ b → ClientRuns c (if b then m ∷ moves_by (id_in c) ms else moves_by (id_in c) ms) d → ClientStep c d) (is_its c)
       (λ _ e r.
       let kept = client_kept c r.0 r.1 in
-      record { new = r.0; step = subst (λ b. StepAt (ClientMoves m) c b r.0) (sym e) (goes r.0 r.1); kept = kept; rest = subst (λ k. ClientRuns r.0 (moves_by k ms) d) (sym kept) r.2 })
+      record {
+        new = r.0;
+        step = subst (λ b. StepAt (ClientMoves m) c b r.0) (sym e) (goes r.0 r.1);
+        kept = kept;
+        rest =
+            subst (λ k. ClientRuns r.0 (moves_by k ms) d) (sym kept) r.2;
+      })
       (λ _ e r. record { new = c; step = subst (λ b. StepAt (ClientMoves m) c b c) (sym e) stays; kept = refl; rest = r })
       refl
 
@@ -175,30 +187,41 @@ module _ (ps : List Placement) (ns : List Newcomer) (opens : MayOpen ps ns) wher
 
   module _ (v : System) (fits : Fits v) (us : List LocalHandler) (ds : List LocalClient) where
     at_handler :
-        (h : HandlerId) (m : LocalMove) → ((s : LocalHandler) → is_at (number_in s) s.node m ≡ same_handler h (number_in s)) → ((c : LocalClient) → is_by (id_in c) m ≡ false)
+        (h : HandlerId) (m : LocalMove) → ((s : LocalHandler) → is_at (number_in s) s.node m ≡ same_handler h (number_in s))
+        → ((c : LocalClient) → is_by (id_in c) m ≡ false)
         → has_handler ps h ≡ true → HandlersStep m [] v.handlers us → ClientsStep m [] v.clients ds → AtHandler h m v (system us ds)
     at_handler h m at none member steps stay =
         let found = has_found number_in same_handler h v.handlers (ap (list_any (λ k. same_handler k h)) fits.numbers ∙ member) in
         let own = key_found number_in same_handler handler_decides h v.handlers found.0 found.1 in
-        let g = one_goes number_in same_handler handler_decides (HandlerMoves m) (concerns m []) h at v.handlers us found.0 steps (subst NoRepeats (sym fits.numbers) opens.apart) found.1 own in
+        let g = one_goes number_in same_handler handler_decides (HandlerMoves m) (concerns m []) h at v.handlers us found.0 steps
+        (subst NoRepeats (sym fits.numbers) opens.apart) found.1 own in
         let still = all_stay id_in same_client client_decides (ClientMoves m) (is_its m []) v.clients ds stay none in
         record { handler = found.0; here = found.1; new = g.new; moves = g.moves; after = λ i. system (g.after i) (still i) }
 
     at_client :
-        (c : ClientId) (m : LocalMove) → ((d : LocalClient) → is_by (id_in d) m ≡ same_client c (id_in d)) → ((s : LocalHandler) → is_at (number_in s) s.node m ≡ false)
+        (c : ClientId) (m : LocalMove) → ((d : LocalClient) → is_by (id_in d) m ≡ same_client c (id_in d))
+        → ((s : LocalHandler) → is_at (number_in s) s.node m ≡ false)
         → has_client ns c ≡ true → HandlersStep m [] v.handlers us → ClientsStep m [] v.clients ds → AtClient c m v (system us ds)
     at_client c m at none member stay steps =
         let found = has_found id_in same_client c v.clients (ap (list_any (λ k. same_client k c)) fits.ids ∙ member) in
         let own = key_found id_in same_client client_decides c v.clients found.0 found.1 in
-        let g = one_goes id_in same_client client_decides (ClientMoves m) (is_its m []) c at v.clients ds found.0 steps (subst NoRepeats (sym fits.ids) opens.clients_apart) found.1 own in
+        let g = one_goes id_in same_client client_decides (ClientMoves m) (is_its m []) c at v.clients ds found.0 steps
+        (subst NoRepeats (sym fits.ids) opens.clients_apart) found.1 own in
         let still = all_stay number_in same_handler handler_decides (HandlerMoves m) (concerns m []) v.handlers us stay none in
         record { client = found.0; here = found.1; new = g.new; moves = g.moves; after = λ i. system (still i) (g.after i) }
 
-    at_node : (n : ℕ) → has_node ps n ≡ true → HandlersStep (NodeReopened n) [] v.handlers us → ClientsStep (NodeReopened n) [] v.clients ds → AtNode n v (system us ds)
+    at_node : (n : ℕ) → has_node ps n ≡ true → HandlersStep (NodeReopened n) [] v.handlers us → ClientsStep (NodeReopened n) [] v.clients ds
+        → AtNode n v (system us ds)
     at_node n member steps stay =
         let m : LocalMove = NodeReopened n in
         let all = all_go number_in same_handler handler_decides (HandlerMoves m) (concerns m []) (after_reopening n) v.handlers us steps (λ x u r. r)
-        (λ x e. ap (λ t. if t then (let y : LocalHandler = record { node = x.node; placed = x.placed; core = core_of x.core.class x.stored false; stored = x.stored } in y) else x) e) in
+        (λ x e. ap (λ t. if t then (let y : LocalHandler = record {
+          node = x.node;
+          placed = x.placed;
+          core = core_of x.core.class x.stored false;
+          stored =
+              x.stored;
+        } in y) else x) e) in
         let still = all_stay id_in same_client client_decides (ClientMoves m) (is_its m []) v.clients ds stay (λ c. refl) in
         record {
           some = sym (any_through (λ (s : LocalHandler). s.node) (λ k. k == n) v.handlers) ∙ (ap (list_any (λ k. k == n)) fits.nodes ∙ member);
@@ -230,7 +253,8 @@ module _ (ps : List Placement) (ns : List Newcomer) (opens : MayOpen ps ns) wher
   clients_end (c ∷ cs) (d ∷ ds) each = ap (λ y. y ∷ cs) each.0 ∙ ap (λ ys. d ∷ ys) (clients_end cs ds each.1)
 
   weaves :
-      (past ms : List LocalMove) (v w : System) → Fits v → EachHandler ms v.handlers w.handlers → EachClient ms v.clients w.clients → HeardAfterSent past ms → AllByRecursion (IsMember ps ns) ms
+      (past ms : List LocalMove) (v w : System) → Fits v → EachHandler ms v.handlers w.handlers → EachClient ms v.clients w.clients → HeardAfterSent past ms
+      → AllByRecursion (IsMember ps ns) ms
       → IsWeave past v ms w
   weaves past [] v w fits hs cs sent members =
       let same_handlers = handlers_end v.handlers w.handlers hs in
@@ -244,8 +268,13 @@ module _ (ps : List Placement) (ns : List Newcomer) (opens : MayOpen ps ns) wher
         nodes = a.nodes ∙ fits.nodes;
         ids = keys_stay id_in same_client client_decides (ClientMoves m) (is_its m ms) v.clients b.new b.steps ∙ fits.ids;
         stored = a.stored;
-      } in
-      (system a.new b.new, sent.0, moves_on v fits a.new b.new m members.0 a.steps b.steps, weaves (past ++ m ∷ []) ms (system a.new b.new) w new a.rest b.rest sent.1 members.1)
+      } in (
+        system a.new b.new,
+        sent.0,
+        moves_on v fits a.new b.new m members.0 a.steps b.steps,
+        weaves (past ++ m ∷ []) ms
+            (system a.new b.new) w new a.rest b.rest sent.1 members.1,
+      )
 
   pub stored_open : (qs : List Placement) → AllByRecursion (λ s. s.stored ≡ s.core.state) (map new_handler qs)
   stored_open [] = tt

@@ -11,7 +11,8 @@ use Rattle.scoop_message.specs.Message.{same_block}
 use Rattle.scoop_object.specs.Play.{entry_effect, play}
 use Rattle.scoop_handler.specs.declared.ran.Ran.{Ran}
 use Rattle.scoop_model.specs.World.{Accepted, is_line_of, lines_of, is_newer_welcome, greatest_count}
-use Rattle.scoop_model.specs.Safe.{NoRepeats, IsSubsequence, HasRun, entries_of, untold, numbered, query_of}
+use Rattle.scoop_message.specs.Lists.{NoRepeats}
+use Rattle.scoop_model.specs.Safe.{IsSubsequence, HasRun, entries_of, untold, numbered, query_of}
 use Rattle.scoop_weave.specs.System.{LocalHandler, LocalClient, System, handler_in, client_in}
 use Rattle.scoop_weave.specs.Moves.{LocalMove, sent_by}
 use Rattle.scoop_weave.specs.Histories.{opened_by, ran_by, accepted_by, joint_by, logs_by}

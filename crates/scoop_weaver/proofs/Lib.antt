@@ -1,3 +1,5 @@
 pub mod Lists
 pub mod Taking
 pub mod Lifting
+pub mod Anew
+pub mod Found

@@ -58,7 +58,8 @@ lift ((p, t) ∷ order) parties whole = joined (lift order (after_first p f.rest
 
     others_whole : (i : ℕ) → own i order ≡ map traffic_of (after_first p f.rest parties i)
     others_whole i =
-        by_test (λ b. (p == i) ≡ b → (if b then t ∷ own i order else own i order) ≡ map traffic_of (parties i) → own i order ≡ map traffic_of (if b then f.rest else parties i)) (p == i)
+        by_test (λ b. (p == i) ≡ b → (if b then t ∷ own i order else own i order) ≡ map traffic_of (parties i)
+        → own i order ≡ map traffic_of (if b then f.rest else parties i)) (p == i)
         (λ _ e w. let same : p ≡ i = (Decides-eqb p i).0 e in subst (λ j. own j order ≡ map traffic_of f.rest) same f.more)
         (λ _ e w. w)
         refl (whole i)
@@ -69,7 +70,8 @@ lift ((p, t) ∷ order) parties whole = joined (lift order (after_first p f.rest
           moves = (p, f.first) ∷ l.moves;
           is = ap (λ (x : Traffic). put p x (map tagged l.moves)) f.seen ∙ ap (put p t) l.is;
           whole = λ i.
-              by_test (λ b. (p == i) ≡ b → own i l.moves ≡ (if b then f.rest else parties i) → (if b then f.first ∷ own i l.moves else own i l.moves) ≡ parties i) (p == i)
+              by_test (λ b. (p == i) ≡ b → own i l.moves ≡ (if b then f.rest else parties i)
+              → (if b then f.first ∷ own i l.moves else own i l.moves) ≡ parties i) (p == i)
               (λ _ e w. let same : p ≡ i = (Decides-eqb p i).0 e in ap (λ xs. f.first ∷ xs) w ∙ (sym f.is ∙ ap parties same))
               (λ _ e w. w)
               refl (l.whole i);
@@ -109,15 +111,19 @@ heard_before past (ClientRestarted c) ts all = tt
 
 heard_after : (past ms : List LocalMove) → AllSent (map traffic_of past) (map traffic_of ms) → HeardAfterSent past ms
 heard_after past [] all = tt
-heard_after past (m ∷ ms) all =
-    (heard_before past m (map traffic_of ms) all, heard_after (past ++ m ∷ []) ms (subst (λ xs. AllSent xs (map traffic_of ms)) (sym (map-append traffic_of past (m ∷ []))) all.1))
+heard_after past (m ∷ ms) all = (
+  heard_before past m (map traffic_of ms) all,
+  heard_after (past ++ m ∷ []) ms
+      (subst (λ xs. AllSent xs (map traffic_of ms)) (sym (map-append traffic_of past (m ∷ []))) all.1),
+)
 
 items_seen : (moves : List (ℕ × LocalMove)) → map (λ x. x.1) (map tagged moves) ≡ map traffic_of (map (λ x. x.1) moves)
 items_seen [] = refl
 items_seen (x ∷ xs) = ap (λ ys. traffic_of x.1 ∷ ys) (items_seen xs)
 
 pub woven_world :
-    (nodes : List NodeLife) (clients : List ClientLife) (order : List (ℕ × Traffic)) → MayOpen (placements_of nodes) (newcomers_of clients) → AreLives nodes clients → IsWoven (traffic_by nodes clients) order
+    (nodes : List NodeLife) (clients : List ClientLife) (order : List (ℕ × Traffic)) → MayOpen (placements_of nodes) (newcomers_of clients)
+    → AreLives nodes clients → IsWoven (traffic_by nodes clients) order
     → IsOfWorld nodes clients order
 woven_world nodes clients order opens lives woven =
     let parties = parties_of nodes clients in

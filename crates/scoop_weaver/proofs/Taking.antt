@@ -52,7 +52,8 @@ sent_more order p t = ap sent_by (items_more order p t) ∙ flat_map_snoc (λ (x
 -- ---- a move is taken
 
 module _ (parties : List (List Traffic)) where
-  begins_more : (order : List (ℕ × Traffic)) (p : ℕ) (t : Traffic) → Begins parties order → slice_get (party_at parties p) (length (own p order)) ≡ Some t → IfSome t.heard (Contains (sent_by (items order))) → Begins parties (order ++ (p, t) ∷ [])
+  begins_more : (order : List (ℕ × Traffic)) (p : ℕ) (t : Traffic) → Begins parties order → slice_get (party_at parties p) (length (own p order)) ≡ Some t
+      → IfSome t.heard (Contains (sent_by (items order))) → Begins parties (order ++ (p, t) ∷ [])
   begins_more order p t b next heard =
       record {
         starts = λ i.
@@ -84,7 +85,8 @@ module _ (parties : List (List Traffic)) where
             let same : p ≡ i = (Decides-eqb p i).0 e in
             let there : p < length places = subst (λ n. p < n) (sym run.count) within in
             subst (λ j. slice_index (set places p (slice_index places p + 1)) j ≡ length (own j (order ++ (p, t) ∷ []))) same
-            (get_or-set_same places p (slice_index places p + 1) 0 there ∙ (ap (λ n. n + 1) (run.taken p within) ∙ sym (ap (λ xs. length xs) (own_more p order t) ∙ length-append (own p order) (t ∷ [])))))
+            (get_or-set_same places p (slice_index places p + 1) 0 there
+            ∙ (ap (λ n. n + 1) (run.taken p within) ∙ sym (ap (λ xs. length xs) (own_more p order t) ∙ length-append (own p order) (t ∷ [])))))
             (λ _ e.
             let other : i ≡ p → ⊥ = λ same. true≢false (sym ((Decides-eqb p i).1 (sym same)) ∙ e) in
             get_or-set_other places p i (slice_index places p + 1) 0 other ∙ (run.taken i small ∙ sym (ap (λ xs. length xs) (own_same i p order t e))))
@@ -111,10 +113,12 @@ party_is [] p r within e = absurd (omega arith)
 party_is (q ∷ qs) zero r within e = sym e
 party_is (q ∷ qs) (suc p) r within e = party_is qs p r (omega arith) e
 
-pub next_there : (parties : List (List Traffic)) (p k : ℕ) (r : List Traffic) (t : Traffic) → p < length parties → r ≡ get_or parties p r → Some t ≡ slice_get r k → slice_get (party_at parties p) k ≡ Some t
+pub next_there : (parties : List (List Traffic)) (p k : ℕ) (r : List Traffic) (t : Traffic) → p < length parties → r ≡ get_or parties p r
+    → Some t ≡ slice_get r k → slice_get (party_at parties p) k ≡ Some t
 next_there parties p k r t within is e = ap (λ xs. slice_get xs k) (party_is parties p r within is) ∙ sym e
 
-pub noted : (A B : Message → Type 0) (o : Option Message) (x : Message) → o ≡ Some x → ((m : Message) → A m ↔ (B m ⊎ (m ≡ x))) → (m : Message) → A m ↔ (B m ⊎ (o ≡ Some m))
+pub noted : (A B : Message → Type 0) (o : Option Message) (x : Message) → o ≡ Some x → ((m : Message) → A m ↔ (B m ⊎ (m ≡ x))) → (m : Message)
+    → A m ↔ (B m ⊎ (o ≡ Some m))
 noted A B o x is adds m = ((λ a. there ((adds m).0 a)), (λ b. (adds m).1 (back b)))
   where
     there : B m ⊎ (m ≡ x) → B m ⊎ (o ≡ Some m)
@@ -127,13 +131,15 @@ noted A B o x is adds m = ((λ a. there ((adds m).0 a)), (λ b. (adds m).1 (back
 
 -- ---- how many are left
 
-pub left_less : (parties : List (List Traffic)) (places : List ℕ) (p : ℕ) (t : Traffic) → p < length places → slice_get (party_at parties p) (slice_index places p) ≡ Some t → left parties (set places p (slice_index places p + 1)) < left parties places
+pub left_less : (parties : List (List Traffic)) (places : List ℕ) (p : ℕ) (t : Traffic) → p < length places
+    → slice_get (party_at parties p) (slice_index places p) ≡ Some t → left parties (set places p (slice_index places p + 1)) < left parties places
 left_less [] places p t within e = absurd (nobody (slice_index places p) e)
   where
     nobody : (k : ℕ) → slice_get {X = Traffic} [] k ≡ Some t → ⊥
     nobody k e = cc
 left_less (q ∷ qs) [] p t within e = absurd (omega arith)
-left_less (q ∷ qs) (k ∷ ks) zero t within e = let h : k < length q = slice_get_within q k t e in let goal : (length q - (k + 1)) + left qs ks < (length q - k) + left qs ks = omega arith in goal
+left_less (q ∷ qs) (k ∷ ks) zero t within e = let h : k < length q = slice_get_within q k t e in
+    let goal : (length q - (k + 1)) + left qs ks < (length q - k) + left qs ks = omega arith in goal
 left_less (q ∷ qs) (k ∷ ks) (suc p) t within e =
     let rest = left_less qs ks p t (omega arith) e in
     let goal : (length q - k) + left qs (set ks p (slice_index ks p + 1)) < (length q - k) + left qs ks = omega arith in
@@ -180,7 +186,8 @@ module _ (parties : List (List Traffic)) (places : List ℕ) (order : List (ℕ 
     later ts (all_known ts),
   )
     where
-      later : (xs : List Traffic) → AllByRecursion (λ x. (m : Message) → x.sent ≡ Some m → Contains (sent_by ts) m) xs → AllByRecursion (λ x. (m : Message) → x.sent ≡ Some m → Contains (sent_by (t ∷ ts)) m) xs
+      later : (xs : List Traffic) → AllByRecursion (λ x. (m : Message) → x.sent ≡ Some m → Contains (sent_by ts) m) xs
+          → AllByRecursion (λ x. (m : Message) → x.sent ≡ Some m → Contains (sent_by (t ∷ ts)) m) xs
       later [] all = tt
       later (x ∷ xs) all = ((λ m e. Contains-append_right (option_to_list t.sent) (sent_by ts) m (all.0 m e)), later xs all.1)
 
@@ -188,7 +195,8 @@ module _ (parties : List (List Traffic)) (places : List ℕ) (order : List (ℕ 
   from_known [] all m c = absurd (in_none m c)
   from_known (t ∷ ts) all m c = either (λ b. from_known ts all.1 m b) (Contains-append_cases (option_to_list t.sent) (sent_by ts) m c)
     where
-      either : (Contains (sent_by ts) m → Contains (sent_by (items order)) m) → Contains (option_to_list t.sent) m ⊎ Contains (sent_by ts) m → Contains (sent_by (items order)) m
+      either : (Contains (sent_by ts) m → Contains (sent_by (items order)) m) → Contains (option_to_list t.sent) m ⊎ Contains (sent_by ts) m
+          → Contains (sent_by (items order)) m
       either later (inl a) = all.0 m (in_option t.sent m a)
       either later (inr b) = later b
 
@@ -220,12 +228,14 @@ module _ (parties : List (List Traffic)) (places : List ℕ) (order : List (ℕ 
 
     -- one more move of another beginning
     covers_more :
-        (other past : List (ℕ × Traffic)) (p : ℕ) (t : Traffic) (rest : List (ℕ × Traffic)) → Begins parties other → past ++ (p, t) ∷ rest ≡ other → IfSome t.heard (Contains (sent_by (items past))) → Covers past
+        (other past : List (ℕ × Traffic)) (p : ℕ) (t : Traffic) (rest : List (ℕ × Traffic)) → Begins parties other → past ++ (p, t) ∷ rest ≡ other
+        → IfSome t.heard (Contains (sent_by (items past))) → Covers past
         → Covers (past ++ (p, t) ∷ [])
     unfolding Covers
     covers_more other past p t rest b is heard covers i =
         by_test (λ u. (p == i) ≡ u → IsStart (own i (past ++ (p, t) ∷ [])) (own i order)) (p == i)
-        (λ _ e. let same : p ≡ i = (Decides-eqb p i).0 e in subst (λ j. IsStart (own j (past ++ (p, t) ∷ [])) (own j order)) same (subst (λ xs. IsStart xs (own p order)) (sym (own_more p past t)) its))
+        (λ _ e. let same : p ≡ i = (Decides-eqb p i).0 e in subst (λ j. IsStart (own j (past ++ (p, t) ∷ [])) (own j order)) same
+        (subst (λ xs. IsStart xs (own p order)) (sym (own_more p past t)) its))
         (λ _ e. subst (λ xs. IsStart xs (own i order)) (sym (own_same i p past t e)) (covers i))
         refl
       where
@@ -236,14 +246,17 @@ module _ (parties : List (List Traffic)) (places : List ℕ) (order : List (ℕ 
         theirs : own p past ++ (t ∷ (own p rest ++ (b.starts p).rest)) ≡ party_at parties p
         theirs =
             let split : own p other ≡ own p past ++ t ∷ own p rest =
-            ap (own p) (sym is) ∙ (ap (own p) (sym (append_assoc past ((p, t) ∷ []) rest)) ∙ (own_split p (past ++ (p, t) ∷ []) rest ∙ (ap (λ xs. xs ++ own p rest) (own_more p past t) ∙ append_assoc (own p past) (t ∷ []) (own p rest)))) in
+            ap (own p) (sym is) ∙ (ap (own p) (sym (append_assoc past ((p, t) ∷ []) rest))
+            ∙ (own_split p (past ++ (p, t) ∷ []) rest ∙ (ap (λ xs. xs ++ own p rest) (own_more p past t) ∙ append_assoc (own p past) (t ∷ []) (own p rest))))
+            in
             sym (append_assoc (own p past) (t ∷ own p rest) (b.starts p).rest) ∙ (ap (λ xs. xs ++ (b.starts p).rest) (sym split) ∙ (b.starts p).is)
 
         goes_on : (w : List Traffic) → own p past ++ w ≡ own p order → IsStart (own p past ++ t ∷ []) (own p order)
         goes_on [] e =
             let all : own p past ≡ own p order = sym (append-nil (own p past)) ∙ e in
             let next : slice_get (party_at parties p) (length (own p order)) ≡ Some t =
-            subst (λ xs. slice_get (party_at parties p) (length xs) ≡ Some t) all (subst (λ ys. slice_get ys (length (own p past)) ≡ Some t) theirs (next_is (own p past) t (own p rest ++ (b.starts p).rest))) in
+            subst (λ xs. slice_get (party_at parties p) (length xs) ≡ Some t) all
+            (subst (λ ys. slice_get ys (length (own p past)) ≡ Some t) theirs (next_is (own p past) t (own p rest ++ (b.starts p).rest))) in
             absurd (not_next p t next (if_some t.heard (Contains (sent_by (items past))) (Contains (sent_by (items order))) (covered_sent past covers) heard))
         goes_on (u ∷ w) e =
             let joined : own p past ++ ((u ∷ w) ++ (run.begins.starts p).rest) ≡ own p past ++ (t ∷ (own p rest ++ (b.starts p).rest)) =

@@ -1,11 +1,16 @@
 -- What a move lets through to the others, and the one order of running nodes and clients.
-use Rattle.std.specs.Prelude.{◌≡◌, ℕ, List, map, Some, None}
+use Rattle.std.specs.Prelude.{◌≡◌, ℕ, List, [], ◌∷◌, map, Some, None}
 use Rattle.std.specs.List.{AllByRecursion}
-use Rattle.scoop_model.specs.Safe.{NoRepeats}
+use Rattle.scoop_message.specs.Lists.{NoRepeats}
 use Rattle.scoop_book.specs.Moves.{Entry}
+use Rattle.scoop_driver.specs.declared.step.Step.{Step}
 use Rattle.scoop_weave.specs.Moves.{LocalMove, Heard, Began, Finished, NodeReopened, Commanded, Sent, ClientHeard, ClientRestarted}
+use Rattle.scoop_weave.specs.System.{LocalClient, after_restart}
 use Rattle.scoop_weave.specs.Weave.{IsWorld}
+use Rattle.scoop_running.specs.Nodes as node
 use Rattle.scoop_running.specs.Nodes.{move_in}
+use Rattle.scoop_running.specs.Clients as client
+use Rattle.scoop_running.specs.Clients.{driven}
 use Rattle.scoop_running.specs.Order.{IsOrder}
 use Rattle.scoop_running.specs.System.{NodeLife, ClientLife, IsNodeLife, IsClientLife, placements_of, newcomers_of, words_in, parties_of, system_of}
 use Rattle.scoop_weaver.specs.declared.traffic.Traffic.{Traffic}
@@ -26,6 +31,19 @@ traffic_of (ClientRestarted c) = silent
 -- what an entry of a history lets through
 unfoldable pub traffic_in : Entry → Traffic
 traffic_in e = traffic_of (move_in e)
+
+-- what a node lets through in its histories
+abbrev pub by_node : ℕ → List Entry → List (List Entry) → List Traffic
+by_node n first more = map traffic_of (node.moves_of n first more)
+
+-- what a client lets through by the steps of its drivers
+abbrev pub by_client : LocalClient → List Step → List (List Step) → List Traffic
+by_client c first more = map traffic_of (client.moves_of c first more)
+
+-- the client as the last of its drivers leaves it
+abbrev pub last_client : LocalClient → List Step → List (List Step) → LocalClient
+last_client c first [] = driven c first
+last_client c first (steps ∷ more) = last_client (after_restart (driven c first)) steps more
 
 -- a move with its party
 abbrev pub tagged : ℕ × LocalMove → ℕ × Traffic

@@ -1,22 +1,16 @@
 //! What the moves of a party let through.
 
-ghost use Rattle.std.specs.Prelude.{◌≡◌, map, IfOk};
-ghost use Rattle.scoop_weaver.specs.Passing.{silent, traffic_in};
+ghost use Rattle.std.specs.Prelude.{◌≡◌, ◌++◌, ◌∷◌, [], ℕ, IfOk, OnOk, OnErr};
+ghost use Rattle.scoop_weave.specs.System.{LocalClient};
+ghost use Rattle.scoop_weaver.specs.Passing.{by_client, by_node, silent, traffic_in};
 
+use crate::driving::{make_step, note_step};
 use crate::traffic::{Party, Traffic};
 use scoop_book::{Event, Reply};
+use scoop_client::Client;
+use scoop_driver::Step;
 use scoop_message::OutOfMemory;
 use std::alloc::Allocator;
-
-// A move that neither hears nor sends.
-fn silent() -> Traffic
-    ensures { result ≡ silent }
-{
-    Traffic {
-        heard: None,
-        sent: None,
-    }
-}
 
 // What an entry of a history hears and sends.
 #[tactic(auto, unfolding(crate::specs::Passing::traffic_in))]
@@ -29,18 +23,18 @@ fn entry_traffic(entry: &(u32, Event, Reply)) -> Traffic
                 heard: Some(message),
                 sent: told.reply,
             },
-            Reply::Began(_) | Reply::Finished(_) => silent(),
+            Reply::Began(_) | Reply::Finished(_) => Traffic::SILENT,
         },
         Event::Begin(_) | Event::Finish(_) => match entry.2 {
-            Reply::Heard(_) | Reply::Began(_) | Reply::Finished(_) => silent(),
+            Reply::Heard(_) | Reply::Began(_) | Reply::Finished(_) => Traffic::SILENT,
         },
     }
 }
 
 impl<A: Allocator + Copy> Party<A> {
-    /// What a node lets through by the entries of its history.
+    /// What a node lets through by the entries of its first history.
     pub fn of_node(alloc: A, history: &[(u32, Event, Reply)]) -> Result<Party<A>, OutOfMemory>
-        ensures { IfOk result (λ p. p ≡ map traffic_in history.now) }
+        ensures { (number : ℕ) → IfOk result (λ p. p ≡ by_node number history.now []) }
     {
         let mut moves = Vec::new(alloc);
         for entry in history {
@@ -50,10 +44,39 @@ impl<A: Allocator + Copy> Party<A> {
         Ok(Party { moves })
     }
 
+    /// What a client lets through by the steps of its first driver, which are those in its diary. `client` is the client
+    /// with which the driver began: of the same number, incarnation, handlers and batch.
+    pub fn of_client(alloc: A, client: Client<A>, steps: &[Step]) -> Result<Party<A>, OutOfMemory>
+        ensures { (c : LocalClient) → c.client ≡ client → IfOk result (λ p. p ≡ by_client c steps.now []) }
+    {
+        let mut current = client;
+        let mut moves = Vec::new(alloc);
+        for step in steps {
+            note_step(&current, step, &mut moves)?;
+            make_step(&mut current, step)?;
+        }
+        Ok(Party { moves })
+    }
+
     /// What a party lets through by these moves.
     pub fn of_moves(moves: Vec<Traffic, A>) -> Party<A>
         ensures { result ≡ moves.items }
     {
         Party { moves }
+    }
+
+    /// The party began anew, and let this through since: a node by its next history, once it was opened again; a client by
+    /// the steps of its next driver, once it restarted. Where memory runs out, the party stays as it was.
+    pub fn begin_anew(&mut self, since: &Party<A>) -> Result<(), OutOfMemory>
+        ensures gains { OnOk result (self.new ≡ self.old ++ silent ∷ since.now) }
+        ensures stays { OnErr result (self.new ≡ self.old) }
+    {
+        let added = since.moves.as_slice();
+        self.moves.reserve(added.len() + 1)?;
+        self.moves.push_reserved(Traffic::SILENT);
+        let Ok(()) = self.moves.extend_from_slice(added) else {
+            unreachable!()
+        };
+        Ok(())
     }
 }

@@ -3,48 +3,51 @@
 ghost use Rattle.std.specs.Prelude.{◌≡◌, ◌↔◌, ◌⊎◌, [], Contains, IsTrue, OnOk};
 ghost use Rattle.scoop_message.specs.declared.message.Message.{Message as Told};
 
-use scoop_message::{Message, OutOfMemory, same_message};
+use crate::key::Key;
+use indexmap::IndexSet;
+use scoop_message::{Message, OutOfMemory};
 use std::alloc::Allocator;
+use std::hash::{BuildHasherDefault, FoldHasher};
 use std::marker::Model;
 
 /// The messages that were sent so far, each once.
 #[derive(Drop)]
 pub(crate) struct Sent<A: Allocator> {
-    messages: Vec<Message, A>,
+    messages: IndexSet<Key, BuildHasherDefault<FoldHasher>, A>,
 }
 
 impl<A: Allocator> Model for Sent<A> {
-    ghost use Rattle.std.specs.Prelude.{List};
+    ghost use Rattle.std.specs.Prelude.{List, map};
     ghost use Rattle.scoop_message.specs.declared.message.Message.{Message as Told};
 
     ghost Value = { List Told };
 
-    ghost view = { λ s. s.messages.items };
+    ghost view = { λ s. map (λ k. k.0) s.messages.keys };
 }
 
-impl<A: Allocator> Sent<A> {
+impl<A: Allocator + Copy> Sent<A> {
     pub(crate) fn new(alloc: A) -> Sent<A>
         ensures { result ≡ [] }
     {
         Sent {
-            messages: Vec::new(alloc),
+            messages: IndexSet::new(alloc),
         }
     }
+}
 
-    /// Whether the message was sent. It is held against each different message that was.
+impl<A: Allocator> Sent<A> {
+    /// Whether the message was sent.
     pub(crate) fn has(&self, message: &Message) -> bool
         ensures { IsTrue result ↔ Contains self.now message.now }
     {
-        self.messages.iter().any(|m| same_message(m, message))
+        self.messages.contains(&Key(*message))
     }
 
     /// The message was sent too.
     pub(crate) fn add(&mut self, message: &Message) -> Result<(), OutOfMemory>
         ensures { OnOk result ((m : Told) → Contains self.new m ↔ (Contains self.old m ⊎ (m ≡ message.now))) }
     {
-        if !self.has(message) {
-            self.messages.push(*message)?;
-        }
+        self.messages.insert(Key(*message))?;
         Ok(())
     }
 }

@@ -15,6 +15,14 @@ pub struct Traffic {
     pub sent: Option<Message>,
 }
 
+impl Traffic {
+    // Of a move that neither hears nor sends.
+    pub(crate) const SILENT: Traffic = Traffic {
+        heard: None,
+        sent: None,
+    };
+}
+
 /// The moves of one party, in order. Contracts see them as a list.
 #[derive(Drop)]
 pub struct Party<A: Allocator = Global> {

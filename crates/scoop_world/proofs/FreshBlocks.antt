@@ -21,7 +21,8 @@ handlers_found :
     (b : Block) (logs : List BlockLog) → has_log b logs ≡ true → (hs : List HandlerId) × (option_map handlers_in (find (is_log_of b) logs) ≡ Some hs)
 handlers_found b [] e = absurd (true≢false (sym e))
 handlers_found b (l ∷ ls) e =
-    by_test (λ t. (t || has_log b ls) ≡ true → (hs : List HandlerId) × (option_map handlers_in (if t then Some l else find (is_log_of b) ls) ≡ Some hs)) (is_log_of b l)
+    by_test (λ t. (t || has_log b ls) ≡ true → (hs : List HandlerId) × (option_map handlers_in (if t then Some l else find (is_log_of b) ls) ≡ Some hs))
+    (is_log_of b l)
     (λ _ f. (handlers_in l, refl))
     (λ _ f. handlers_found b ls f) e
 

@@ -8,16 +8,16 @@ use Rattle.std.proofs.lemmas.List.{map-append}
 use Rattle.std.proofs.lemmas.Option.{slice_get-map, slice_get-get_or}
 use Rattle.scoop_message.specs.declared.name.ClientId.{ClientId}
 use Rattle.scoop_message.specs.declared.name.HandlerId.{HandlerId}
-use Rattle.scoop_record.specs.Keeper.{Sets, last_incarnation, next_of}
-use Rattle.scoop_record.specs.Memory.{MemoryRecord, incarnation_at}
-use Rattle.scoop_record.proofs.Lists.{all_more}
+use Rattle.scoop_keeper.specs.Keeper.{Sets, last_incarnation, next_of}
+use Rattle.scoop_keeper.specs.Memory.{MemoryRecord, incarnation_at}
+use Rattle.scoop_keeper.proofs.Lists.{all_more}
 use Rattle.scoop_world.specs.declared.error.WorldOpenError.{WorldOpenError}
 use Rattle.scoop_world.specs.declared.error.WorldOpenError.TheVariants.{OutOfMemory, IncarnationsSpent}
 use Rattle.scoop_model.specs.World.{Party}
 use Rattle.scoop_model.specs.Step.{Newcomer, new_party}
 use Rattle.scoop_model.specs.Opening.{IsJoining}
 use Rattle.scoop_world.specs.Placing.{newcomer_of, newcomers_of}
-use Rattle.scoop_model.specs.Safe.{NoRepeats}
+use Rattle.scoop_message.specs.Lists.{NoRepeats}
 use Rattle.scoop_world.specs.Kept.{HasIncarnation}
 use Rattle.scoop_model.proofs.Basics.{by_test}
 
@@ -41,7 +41,8 @@ number_at : (cs : List (ClientId × ℕ)) (j : ℕ) (c : ClientId × ℕ) → sl
 number_at cs j c at = slice_get-map (λ (x : ClientId × ℕ). x.0) cs j ∙ ap (λ o. elim o as (λ _. Option ClientId) [ None ↦ None | Some y ↦ Some y.0 ]) at
 
 -- one more client joins
-pub joined_more : (hs : List HandlerId) (before : MemoryRecord) (cs : List (ClientId × ℕ)) (i : ℕ) (ps : List Party) (k l : MemoryRecord) (c : ClientId × ℕ) (p : Party)
+pub joined_more : (hs : List HandlerId) (before : MemoryRecord) (cs : List (ClientId × ℕ)) (i : ℕ) (ps : List Party) (k l : MemoryRecord) (c : ClientId × ℕ)
+    (p : Party)
     → Joined hs before cs i ps k → NoRepeats (map (λ (x : ClientId × ℕ). x.0) cs) → slice_get cs i ≡ Some c → take (i + 1) cs ≡ take i cs ++ c ∷ []
     → p ≡ new_party hs (newcomer_of (incarnation_at k) c) → IsJoining (newcomer_of (incarnation_at k) c)
     → Sets (incarnation_at k) (incarnation_at l) c.0.0 (next_of (incarnation_at k c.0.0)) → l.states ≡ k.states
@@ -57,7 +58,8 @@ joined_more hs before cs i ps k l c p so apart at longer is may sets states =
     record {
       parties = ap (λ xs. xs ++ p ∷ []) so.parties ∙ ap (λ x. map (new_party hs) (newcomers_of s (take i cs)) ++ x ∷ []) (is ∙ ap (new_party hs) newcomer)
           ∙ sym (map-append (new_party hs) (newcomers_of s (take i cs)) (newcomer_of s c ∷ [])) ∙ ap (map (new_party hs)) (sym all);
-      joining = subst (AllByRecursion IsJoining) (sym all) (all_more IsJoining (newcomers_of s (take i cs)) (newcomer_of s c) so.joining (subst IsJoining newcomer may));
+      joining = subst (AllByRecursion IsJoining) (sym all) (all_more IsJoining (newcomers_of s (take i cs)) (newcomer_of s c) so.joining
+          (subst IsJoining newcomer may));
       next = λ j d within there.
           by_test (λ t. (j == i) ≡ t → incarnation_at l d.0.0 ≡ Some (next_of (s d.0.0))) (j == i)
           (λ _ e.
@@ -80,7 +82,8 @@ all_stored hs s k [] each = tt
 all_stored hs s k (c ∷ cs) each = (record { incarnation = each zero c refl }, all_stored hs s k cs (λ j d at. each (suc j) d at))
 
 -- a client joins not, for want of memory or because its incarnations are spent
-pub not_joined : (hs : List HandlerId) (before : MemoryRecord) (cs : List (ClientId × ℕ)) (i : ℕ) (ps : List Party) (k : MemoryRecord) (d : ClientId × ℕ) (e : WorldOpenError)
+pub not_joined : (hs : List HandlerId) (before : MemoryRecord) (cs : List (ClientId × ℕ)) (i : ℕ) (ps : List Party) (k : MemoryRecord) (d : ClientId × ℕ)
+    (e : WorldOpenError)
     → Joined hs before cs i ps k → i < length cs
     → (e ≡ OutOfMemory) ⊎ ((e ≡ IncarnationsSpent) × (incarnation_at k (get_or cs i d).0.0 ≡ Some last_incarnation))
     → (e ≡ OutOfMemory) ⊎ ((e ≡ IncarnationsSpent) × Any (λ (c : ClientId × ℕ). incarnation_at before c.0.0 ≡ Some last_incarnation) cs)

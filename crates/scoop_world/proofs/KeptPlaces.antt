@@ -8,11 +8,11 @@ use Rattle.scoop_message.specs.declared.name.ClientId.{ClientId}
 use Rattle.scoop_message.specs.Message.{same_client, same_handler}
 use Rattle.scoop_message.proofs.Same.{handler_decides, client_decides}
 use Rattle.scoop_handler.specs.State.{HandlerState}
-use Rattle.scoop_record.specs.Keeper.{Holds, IsSame, Sets, Stays, stored_of}
-use Rattle.scoop_record.specs.Memory.{Has, MemoryRecord, state_at, incarnation_at}
-use Rattle.scoop_record.proofs.Keyed.{set_newer, all_newer, key_at, all_set_at}
+use Rattle.scoop_keeper.specs.Keeper.{Holds, IsSame, Sets, Stays, stored_of}
+use Rattle.scoop_keeper.specs.Memory.{Has, MemoryRecord, state_at, incarnation_at}
+use Rattle.scoop_keeper.proofs.Keyed.{set_newer, all_newer, key_at, all_set_at}
 use Rattle.scoop_model.specs.World.{Site, Party, number_of, id_of, set_site, set_party}
-use Rattle.scoop_model.specs.Safe.{NoRepeats}
+use Rattle.scoop_message.specs.Lists.{NoRepeats}
 use Rattle.scoop_world.specs.Kept.{Stores, KeepsAll, HasState, HasIncarnation, HasAll}
 use Rattle.scoop_model.proofs.Order.Facts.{all_at}
 
@@ -41,7 +41,8 @@ has_party k sites parties i old p all at same stored =
     let was = all_at (HasIncarnation k) parties i old at all.incarnations in
     record {
       states = all.states;
-      incarnations = all_set_at (HasIncarnation k) parties i p all.incarnations (record { incarnation = ap (λ (c : ClientId). incarnation_at k c.0) same ∙ was.incarnation ∙ ap Some (sym stored) });
+      incarnations = all_set_at (HasIncarnation k) parties i p all.incarnations
+          (record { incarnation = ap (λ (c : ClientId). incarnation_at k c.0) same ∙ was.incarnation ∙ ap Some (sym stored) });
     }
 
 -- a handler that keeps its number and its state
@@ -123,7 +124,8 @@ pub has_incarnation :
 has_incarnation k l sites parties i old p all apart at same sets states = record {
   states = states_stay k l sites (same_states k l states) all.states;
   incarnations = subst (AllByRecursion (HasIncarnation l)) (sym (party_set parties i old p apart at same))
-      (all_newer id_of same_client client_decides (HasIncarnation k) (HasIncarnation l) p parties (record { incarnation = ap (λ (c : ClientId). incarnation_at l c.0) same ∙ sets.there })
+      (all_newer id_of same_client client_decides (HasIncarnation k) (HasIncarnation l) p parties
+      (record { incarnation = ap (λ (c : ClientId). incarnation_at l c.0) same ∙ sets.there })
       (λ x other has.
       let n : ℕ = (id_of x).0 in
       let off : n ≡ (id_of old).0 → ⊥ = λ e. eqb-false n (id_of p).0 other (e ∙ ap (λ (c : ClientId). c.0) (sym same)) in

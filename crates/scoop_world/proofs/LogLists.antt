@@ -14,13 +14,13 @@ use Rattle.scoop_message.specs.contracts.name.BlockPartialEq.TheImpl as on_block
 use Rattle.scoop_message.specs.declared.name.Block.{Block}
 use Rattle.scoop_message.specs.Message.{same_block}
 use Rattle.scoop_message.proofs.Same.{block_decides}
-use Rattle.scoop_world.specs.declared.logs.Line.{Line}
+use Rattle.scoop_world.specs.declared.logs.LoggedAt.{LoggedAt}
 use Rattle.scoop_model.specs.World.{HandlerLog, BlockLog, has_block, is_log_of, lines_of}
 use Rattle.scoop_model.specs.Step.{changed_log, joined}
-use Rattle.scoop_world.specs.Kept.{has_log, line_kept, block_log, log_kept, logs_kept, IsPlaceOf}
+use Rattle.scoop_world.specs.Kept.{has_log, logged_kept, block_log, log_kept, logs_kept, IsPlaceOf}
 
 abbrev Entries : Type 0 → Type 0
-Entries A = List (Block × Vec (Line A) A)
+Entries A = List (Block × Vec (LoggedAt A) A)
 
 abbrev same_key : Block → Block → Bool
 same_key = on_block.eq-value.it
@@ -40,7 +40,7 @@ inserted b bs = ap (λ t. if t then bs else bs ++ b ∷ []) (any_flipped b bs)
 -- ---- where a block's log stands
 
 -- the first key that passes is that of the block's log
-place-first : {A : Type 0} → (b : Block) (e : Block × Vec (Line A) A) (es : Entries A) (n : ℕ) → position_or_len (same_key b) (keys_of (e ∷ es)) ≡ n
+place-first : {A : Type 0} → (b : Block) (e : Block × Vec (LoggedAt A) A) (es : Entries A) (n : ℕ) → position_or_len (same_key b) (keys_of (e ∷ es)) ≡ n
     → ((m : ℕ) → position_or_len (same_key b) (keys_of es) ≡ m → suc m ≡ n → IsPlaceOf b (logs_kept es) m) → IsPlaceOf b (logs_kept (e ∷ es)) n
 place-first b e es n is rest = by (same_key b e.0) refl
   where
@@ -57,7 +57,7 @@ place-position :
 place-position b [] n is within = absurd (omega arith)
 place-position b (e ∷ es) n is within = place-first b e es n is (λ m at next. place-position b es m at (omega (arith, next, within)))
 
-none-first : {A : Type 0} → (b : Block) (e : Block × Vec (Line A) A) (es : Entries A) → length (e ∷ es) ≤ position_or_len (same_key b) (keys_of (e ∷ es))
+none-first : {A : Type 0} → (b : Block) (e : Block × Vec (LoggedAt A) A) (es : Entries A) → length (e ∷ es) ≤ position_or_len (same_key b) (keys_of (e ∷ es))
     → (length es ≤ position_or_len (same_key b) (keys_of es) → has_log b (logs_kept es) ≡ false) → has_log b (logs_kept (e ∷ es)) ≡ false
 none-first b e es past rest = by (same_key b e.0) refl
   where
@@ -83,13 +83,13 @@ place-found {A} b es r is = by (nat_lt (position_or_len (same_key b) (keys_of es
     by true inside =
         let n = position_or_len (same_key b) (keys_of es) in
         let at : r ≡ Some n = is ∙ ap (λ t. cond t (Some n) None) inside in
-        let within : n < length es = omega (arith, ltb-true _ _ inside, length-map es (λ (e : Block × Vec (Line A) A). e.0)) in
+        let within : n < length es = omega (arith, ltb-true _ _ inside, length-map es (λ (e : Block × Vec (LoggedAt A) A). e.0)) in
         let Q : Option ℕ → Type 0 = λ o. MatchOption o (has_log b (logs_kept es) ≡ false) (IsPlaceOf b (logs_kept es)) in
         subst Q (sym at) (place-position b es n refl within)
     by false outside =
         let n = position_or_len (same_key b) (keys_of es) in
         let none : r ≡ None = is ∙ ap (λ t. cond t (Some n) None) outside in
-        let past : length es ≤ n = omega (arith, ltb-false _ _ outside, length-map es (λ (e : Block × Vec (Line A) A). e.0)) in
+        let past : length es ≤ n = omega (arith, ltb-false _ _ outside, length-map es (λ (e : Block × Vec (LoggedAt A) A). e.0)) in
         let Q : Option ℕ → Type 0 = λ o. MatchOption o (has_log b (logs_kept es) ≡ false) (IsPlaceOf b (logs_kept es)) in
         subst Q (sym none) (none-position b es past)
 
@@ -113,7 +113,7 @@ none_changed b f (l ∷ ls) none =
     rw (p.0) (ap (λ xs. l ∷ xs) (none_changed b f ls p.1))
 
 -- a block without a log gets the last one
-pub kept-insert : {A : Type 0} → (b : Block) (v : Vec (Line A) A) (es : Entries A) → has_log b (logs_kept es) ≡ false
+pub kept-insert : {A : Type 0} → (b : Block) (v : Vec (LoggedAt A) A) (es : Entries A) → has_log b (logs_kept es) ≡ false
     → logs_kept (insert_entry same_key es b v) ≡ logs_kept es ++ block_log b v.items ∷ []
 kept-insert b v [] none = refl
 kept-insert b v (e ∷ es) none =
@@ -124,8 +124,8 @@ kept-insert b v (e ∷ es) none =
 -- ---- the log of a block
 
 pub lines-place :
-    {A : Type 0} → (b : Block) (p : Vec (Line A) A) (es : Entries A) (i : ℕ) → IsPlaceOf b (logs_kept es) i → slice_get (values_of es) i ≡ Some p
-    → lines_of b (logs_kept es) ≡ map line_kept p.items
+    {A : Type 0} → (b : Block) (p : Vec (LoggedAt A) A) (es : Entries A) (i : ℕ) → IsPlaceOf b (logs_kept es) i → slice_get (values_of es) i ≡ Some p
+    → lines_of b (logs_kept es) ≡ map logged_kept p.items
 lines-place b p [] i place is = absurd place
 lines-place b p (e ∷ es) zero place is =
     let here : e.1 ≡ p = cc in
@@ -150,8 +150,8 @@ unfolding IsDistinct
 rest_apart k ks d = d.1
 
 -- a write of a value at the block's place
-pub kept-set : {A : Type 0} → (b : Block) (f : HandlerLog → HandlerLog) (p v : Vec (Line A) A) (es : Entries A) (i : ℕ) → IsDistinct same_key (keys_of es)
-    → IsPlaceOf b (logs_kept es) i → slice_get (values_of es) i ≡ Some p → map line_kept v.items ≡ map f (map line_kept p.items)
+pub kept-set : {A : Type 0} → (b : Block) (f : HandlerLog → HandlerLog) (p v : Vec (LoggedAt A) A) (es : Entries A) (i : ℕ) → IsDistinct same_key (keys_of es)
+    → IsPlaceOf b (logs_kept es) i → slice_get (values_of es) i ≡ Some p → map logged_kept v.items ≡ map f (map logged_kept p.items)
     → logs_kept (set_value_at es i v) ≡ map (changed_log b f) (logs_kept es)
 kept-set b f p v [] i apart place is becomes = absurd place
 kept-set b f p v (e ∷ es) zero apart place is becomes =
@@ -164,7 +164,7 @@ kept-set b f p v (e ∷ es) (suc i) apart place is becomes =
 
 -- a write of lines that are seen as they were
 pub kept-same :
-    {A : Type 0} → (p v : Vec (Line A) A) (es : Entries A) (i : ℕ) → slice_get (values_of es) i ≡ Some p → map line_kept v.items ≡ map line_kept p.items
+    {A : Type 0} → (p v : Vec (LoggedAt A) A) (es : Entries A) (i : ℕ) → slice_get (values_of es) i ≡ Some p → map logged_kept v.items ≡ map logged_kept p.items
     → logs_kept (set_value_at es i v) ≡ logs_kept es
 kept-same p v [] i is same = refl
 kept-same p v (e ∷ es) zero is same =

@@ -6,14 +6,14 @@ use Rattle.scoop_message.specs.declared.name.HandlerId.{HandlerId}
 use Rattle.scoop_message.specs.declared.name.ClientId.{ClientId}
 use Rattle.scoop_message.specs.declared.limits.TheConstants.{MAX_HANDLERS, MAX_CLIENTS}
 use Rattle.scoop_object.specs.Class.{ClassTable}
-use Rattle.scoop_record.specs.Keeper.{last_incarnation}
-use Rattle.scoop_record.specs.Memory.{MemoryRecord}
+use Rattle.scoop_keeper.specs.Keeper.{last_incarnation}
+use Rattle.scoop_keeper.specs.Memory.{MemoryRecord}
 use Rattle.scoop_world.specs.declared.error.WorldOpenError.{WorldOpenError}
 use Rattle.scoop_world.specs.declared.error.WorldOpenError.TheVariants.{IncarnationsSpent, OutOfMemory}
 use Rattle.scoop_world.specs.declared.placing.Placement.{Placement as Placed}
 use Rattle.scoop_model.specs.World.{Site, Party, number_of}
 use Rattle.scoop_model.specs.Step.{Placement, Newcomer, new_site, new_party, opening}
-use Rattle.scoop_model.specs.Safe.{NoRepeats}
+use Rattle.scoop_message.specs.Lists.{NoRepeats}
 use Rattle.scoop_model.specs.Opening.{IsPlaced, IsJoining, MayOpen}
 use Rattle.scoop_world.specs.Placing.{placement_of, placements_of, newcomer_of, newcomers_of}
 use Rattle.scoop_world.specs.OpenRefusal.{MayPlace, IsUnopened, handlers_of, clients_of}
@@ -81,11 +81,16 @@ pub unopened :
 unopened class ps cs stored e may why =
     ⊎_elim
     (λ (p : e ≡ OutOfMemory). subst (IsUnopened class ps cs stored) (sym p) may)
-    (λ (p : (e ≡ IncarnationsSpent) × Any (λ (c : ClientId × ℕ). stored c.0.0 ≡ Some last_incarnation) cs). subst (IsUnopened class ps cs stored) (sym p.0) (may, p.1))
+    (λ (p : (e ≡ IncarnationsSpent) × Any (λ (c : ClientId × ℕ). stored c.0.0 ≡ Some last_incarnation) cs). subst (IsUnopened class ps cs stored) (sym p.0)
+    (may, p.1))
     why
 
 -- the states are stored behind the incarnations, which stay
 pub all_stored :
     (k l : MemoryRecord) (sites : List Site) (parties : List Party) → AllByRecursion (HasState l) sites → l.incarnations ≡ k.incarnations
     → AllByRecursion (HasIncarnation k) parties → HasAll l sites parties
-all_stored k l sites parties states same incarnations = record { states = states; incarnations = incarnations_stay k l parties (same_incarnations k l same) incarnations }
+all_stored k l sites parties states same incarnations = record {
+  states = states;
+  incarnations =
+      incarnations_stay k l parties (same_incarnations k l same) incarnations;
+}

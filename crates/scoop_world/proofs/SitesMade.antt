@@ -5,13 +5,13 @@ use Rattle.std.proofs.lemmas.Option.{slice_get-map}
 use Rattle.std.proofs.lemmas.List.{take_more}
 use Rattle.scoop_message.specs.declared.name.HandlerId.{HandlerId}
 use Rattle.scoop_handler.specs.State.{HandlerState}
-use Rattle.scoop_record.specs.Keeper.{stored_of, Holds, Keeps}
-use Rattle.scoop_record.specs.Memory.{Has, MemoryRecord, state_at}
+use Rattle.scoop_keeper.specs.Keeper.{stored_of, Holds, Keeps}
+use Rattle.scoop_keeper.specs.Memory.{Has, MemoryRecord, state_at}
 use Rattle.scoop_model.specs.World.{Site, number_of}
 use Rattle.scoop_model.specs.Step.{Placement, new_site}
-use Rattle.scoop_model.specs.Safe.{NoRepeats}
+use Rattle.scoop_message.specs.Lists.{NoRepeats}
 use Rattle.scoop_world.specs.Kept.{HasState}
-use Rattle.scoop_record.proofs.Keyed.{item_at}
+use Rattle.scoop_keeper.proofs.Keyed.{item_at}
 use Rattle.scoop_model.proofs.Order.Facts.{all_at}
 
 -- ---- the states that are stored one by one
@@ -58,4 +58,5 @@ pub states_more :
 states_more k l sites i s within is apart own stores all =
     let at = item_at sites i s within is in
     let more : take (i + 1) sites ≡ take i sites ++ s ∷ [] = take_more sites i s within ∙ ap (λ (y : Site). take i sites ++ y ∷ []) (sym is) in
-    subst (AllByRecursion (HasState l)) (sym more) (more_states k l sites i s at apart (all_at (λ (x : Site). x.stored.number ≡ number_of x) sites i s at own) stores all)
+    subst (AllByRecursion (HasState l)) (sym more) (more_states k l sites i s at apart
+    (all_at (λ (x : Site). x.stored.number ≡ number_of x) sites i s at own) stores all)

@@ -28,7 +28,7 @@ use Rattle.scoop_world.proofs.LogLists.{none_changed}
 -- ---- a command that logs
 
 log_newest : (c d : ClientState) (h : HandlerId) (e : Entry) (o : client.Outcome) → LogRow c h e o → o ≡ Ok d → newest_block d ≡ newest_block c
-log_newest c d h e o (is_logged l running free line room more) is = ap newest_block (sym (ok_is _ d is))
+log_newest c d h e o (is_logged l running free window room more) is = ap newest_block (sym (ok_is _ d is))
 log_newest c d h e o r is = absurd (cc)
 
 end_newest : (c d : ClientState) (o : client.Outcome) → EndRow c o → o ≡ Ok d → newest_block d ≡ newest_block c
@@ -65,7 +65,8 @@ pub unlogged :
     (c d : ClientState) (x : Command) (t : Option HandlerId × Entry) (logs : List BlockLog) → logged_by x ≡ Some t → outcome_of c x ≡ Ok d
     → has_log (newest_block c) logs ≡ false → logs ≡ logs_after x (newest_block d) logs
 unlogged c d x t logs l is none =
-    sym (ap (λ b. logs_after x b logs) (logged_newest c d x t l is) ∙ logged_logs x t (newest_block c) logs l ∙ none_changed (newest_block c) (with_entry_for t.0 t.1) logs none)
+    sym (ap (λ b. logs_after x b logs) (logged_newest c d x t l is) ∙ logged_logs x t (newest_block c) logs l
+    ∙ none_changed (newest_block c) (with_entry_for t.0 t.1) logs none)
 
 -- and else it is logged there
 pub logged :

@@ -24,12 +24,12 @@ use Rattle.scoop_model.specs.declared.error.WorldError.TheVariants.{NoSuchMessag
 use Rattle.scoop_model.specs.World.{World, Site, Party, BlockLog, number_of, id_of, is_site, is_party, site_of, party_of, set_site, set_party}
 use Rattle.scoop_model.specs.Step.{Stepped, sent_or_silent, tick_at, newest_block, logs_after, do_at, newly_opened, joined, heard_site, taken_by_handler, heard_party, taken_by_client, with_party, begun_site, begins, begin_at, finished_site, finishes, finish_at, restarted_party, restart_client, reopened, restart_node}
 use Rattle.scoop_model.specs.Reach.{IsReached}
-use Rattle.scoop_model.specs.Safe.{NoRepeats}
-use Rattle.scoop_record.specs.Keyed.{IsFirst}
-use Rattle.scoop_record.proofs.Keyed.{item_at, put_again, some_at}
+use Rattle.scoop_message.specs.Lists.{NoRepeats}
+use Rattle.scoop_keeper.specs.Keyed.{IsFirst}
+use Rattle.scoop_keeper.proofs.Keyed.{item_at, put_again, some_at}
 use Rattle.scoop_world.specs.Kept.{HasState, HasAll, began, on_node, world_kept}
 use Rattle.scoop_world.specs.Answers.{IsRefusal, IsRefused, IsRestartRefusal, outcome_of}
-use Rattle.scoop_record.specs.Memory.{MemoryRecord, state_at}
+use Rattle.scoop_keeper.specs.Memory.{MemoryRecord, state_at}
 use Rattle.scoop_handler.specs.State.{HandlerState}
 use Rattle.scoop_handler.specs.Core.{core_of}
 use Rattle.std.specs.List.{AllByRecursion, list_any}
@@ -89,7 +89,8 @@ module _
   command_refused at p q x e after within read told same logged =
       let within_was : at < length parties = subst (λ (u : World). at < length u.parties) (sym is) within in
       let there : slice_get parties at ≡ Some p = item_at parties at p within_was read in (
-        subst (λ (u : World). IsRefused (do_at u x (slice_get u.parties at)) e) is (refused_command (world_kept sites parties sent joint logs) at p x e there told),
+        subst (λ (u : World). IsRefused (do_at u x (slice_get u.parties at)) e) is
+            (refused_command (world_kept sites parties sent joint logs) at p x e there told),
         ap (λ (ls : List BlockLog). world_kept sites (set parties at q) sent joint ls) logged
             ∙ ap (λ (ps : List Party). world_kept sites ps sent joint logs) (put_again parties at p q read same) ∙ is,
       )
@@ -100,7 +101,12 @@ module _
       (m : Message) (at : ℕ) (s t : Site) → IsReached v → IsFirst (is_site (handler_of m)) sites at → s ≡ get_or sites at s
       → t ≡ heard_site s (hear s.core.state m) → number_of t ≡ number_of s
       → taken_by_handler v m (site_of (handler_of m) v)
-      ≡ Ok (world_kept (set sites at t) parties (sent ++ option_to_list (hear s.core.state m).1.reply) (joined joint (newly_opened (hear s.core.state m).1.note)) logs, note.Handler (hear s.core.state m).1.note (option_map (λ _. length sent + 1) (hear s.core.state m).1.reply))
+      ≡ Ok (
+        world_kept (set sites at t) parties (sent ++ option_to_list (hear s.core.state m).1.reply)
+            (joined joint (newly_opened (hear s.core.state m).1.note)) logs,
+        note.Handler (hear s.core.state m).1.note
+            (option_map (λ _. length sent + 1) (hear s.core.state m).1.reply),
+      )
   heard_there m at s t reached first read changed same =
       let u : World = world_kept sites parties sent joint logs in
       let reached_was : IsReached u = subst IsReached (sym is) reached in
@@ -110,7 +116,11 @@ module _
       let sets : set sites at t ≡ set_site (heard_site s r) sites =
       site_set sites at s t (sites_apart u reached_was) there same ∙ ap (λ (y : Site). set_site y sites) changed in
       let made : List Site → Stepped =
-      λ ss. Ok (world_kept ss parties (sent ++ option_to_list r.1.reply) (joined joint (newly_opened r.1.note)) logs, note.Handler r.1.note (option_map (λ _. length sent + 1) r.1.reply)) in
+      λ ss. Ok (
+        world_kept ss parties (sent ++ option_to_list r.1.reply) (joined joint (newly_opened r.1.note)) logs,
+        note.Handler r.1.note
+            (option_map (λ _. length sent + 1) r.1.reply),
+      ) in
       subst (λ (y : World). taken_by_handler y m (site_of (handler_of m) y) ≡ made (set sites at t)) is
       (ap (taken_by_handler u m) found ∙ ap made (sym sets))
 
@@ -123,7 +133,11 @@ module _
       → taken_by_handler v m (site_of (handler_of m) v) ≡ Ok (world_kept (set sites at t) parties sent_now joint_now logs, note.Handler h.note place)
   heard_all m at s t h base sent_now first_joint joint_now place reached first read changed same told based sends joins joint_is placed =
       let made : Heard → List Message → List Block → Stepped =
-      λ x ms bs. Ok (world_kept (set sites at t) parties (ms ++ option_to_list x.reply) (joined bs (newly_opened x.note)) logs, note.Handler x.note (option_map (λ _. length ms + 1) x.reply)) in
+      λ x ms bs. Ok (
+        world_kept (set sites at t) parties (ms ++ option_to_list x.reply) (joined bs (newly_opened x.note)) logs,
+        note.Handler x.note
+            (option_map (λ _. length ms + 1) x.reply),
+      ) in
       let last : List Message → List Block → Option ℕ → Stepped = λ ms bs o. Ok (world_kept (set sites at t) parties ms bs logs, note.Handler h.note o) in
       heard_there m at s t reached first read changed same
       ∙ ap (λ (x : Heard). made x sent joint) (sym told)
@@ -239,7 +253,8 @@ module _
   finishes_ok h at s x first read task =
       let u : World = world_kept sites parties sent joint logs in
       let found : site_of h u ≡ Some s = first.found ∙ item_at sites at s first.within read in
-      subst (λ (y : World). IsOk (finish_at y (site_of h y))) is (ap (λ (o : Option Site). is_ok (finish_at u o)) found ∙ ap (λ (o : Option Task). is_ok (finishes u s o)) task)
+      subst (λ (y : World). IsOk (finish_at y (site_of h y))) is
+      (ap (λ (o : Option Site). is_ok (finish_at u o)) found ∙ ap (λ (o : Option Task). is_ok (finishes u s o)) task)
 
   restart_is_refused :
       (p : Party) (e : WorldError) → IsRestartRefusal p.stored e → IsRefused (restart_client (world_kept sites parties sent joint logs) (Some p)) e
@@ -260,11 +275,16 @@ module _
   restart_refused c at p e first read told =
       let u : World = world_kept sites parties sent joint logs in
       let found : party_of c u ≡ Some p = first.found ∙ item_at parties at p first.within read in
-      subst (λ (y : World). IsRefused (restart_client y (party_of c y)) e) is (subst (λ (o : Option Party). IsRefused (restart_client u o) e) (sym found) (restart_is_refused p e told))
+      subst (λ (y : World). IsRefused (restart_client y (party_of c y)) e) is
+      (subst (λ (o : Option Party). IsRefused (restart_client u o) e) (sym found) (restart_is_refused p e told))
 
   pub ticked :
       (c : ClientId) (h : HandlerId) (at place : ℕ) (p : Party) → IsFirst (is_party c) parties at → p ≡ get_or parties at p → IsFirst (is_site h) sites place
-      → tick_at v h (party_of c v) (site_of h v) ≡ Ok (world_kept sites parties (sent ++ option_to_list (due p.client h)) joint logs, sent_or_silent (option_map (λ _. length sent + 1) (due p.client h)))
+      → tick_at v h (party_of c v) (site_of h v) ≡ Ok (
+        world_kept sites parties (sent ++ option_to_list (due p.client h)) joint logs,
+        sent_or_silent
+            (option_map (λ _. length sent + 1) (due p.client h)),
+      )
   ticked c h at place p first read there =
       let u : World = world_kept sites parties sent joint logs in
       let found : party_of c u ≡ Some p = first.found ∙ item_at parties at p first.within read in

@@ -12,11 +12,11 @@ use Rattle.scoop_handler.specs.State.{HandlerState}
 use Rattle.scoop_handler.specs.Core.{Core}
 use Rattle.scoop_handler.specs.Running.{Task}
 use Rattle.scoop_client.specs.State.{ClientState}
-use Rattle.scoop_record.specs.Keeper.{IsSame, Keeps, Stays}
-use Rattle.scoop_record.specs.Memory.{MemoryRecord, Has, state_at, incarnation_at}
+use Rattle.scoop_keeper.specs.Keeper.{IsSame, Keeps, Stays}
+use Rattle.scoop_keeper.specs.Memory.{MemoryRecord, Has, state_at, incarnation_at}
 use Rattle.scoop_model.specs.declared.event.Command.{Command}
 use Rattle.scoop_model.specs.declared.event.Command.TheVariants.{Reserve, Call, Query, End, GiveUp}
-use Rattle.scoop_world.specs.declared.logs.Line.{Line}
+use Rattle.scoop_world.specs.declared.logs.LoggedAt.{LoggedAt}
 use Rattle.scoop_model.specs.World.{World, Site, Party, Accepted, HandlerLog, BlockLog, number_of, id_of, is_log_of, is_line_of}
 use Rattle.scoop_model.specs.Step.{with_entry, finished_site}
 
@@ -53,16 +53,16 @@ party_kept newest client accepted = record { client = client; stored = newest.in
 
 -- ---- what was logged
 
-abbrev pub line_kept : {A : Type 0} → Line A → HandlerLog
-line_kept l = record { handler = l.handler; entries = l.entries.items }
+abbrev pub logged_kept : {A : Type 0} → LoggedAt A → HandlerLog
+logged_kept l = record { handler = l.handler; entries = l.entries.items }
 
-abbrev pub block_log : {A : Type 0} → Block → List (Line A) → BlockLog
-block_log b ls = record { block = b; lines = map line_kept ls }
+abbrev pub block_log : {A : Type 0} → Block → List (LoggedAt A) → BlockLog
+block_log b ls = record { block = b; lines = map logged_kept ls }
 
-abbrev pub log_kept : {A : Type 0} → Block × Vec (Line A) A → BlockLog
+abbrev pub log_kept : {A : Type 0} → Block × Vec (LoggedAt A) A → BlockLog
 log_kept e = block_log e.0 e.1.items
 
-abbrev pub logs_kept : {A : Type 0} → List (Block × Vec (Line A) A) → List BlockLog
+abbrev pub logs_kept : {A : Type 0} → List (Block × Vec (LoggedAt A) A) → List BlockLog
 logs_kept es = map log_kept es
 
 -- a block has its log
@@ -80,7 +80,7 @@ abbrev pub entries_in : HandlerId → List HandlerLog → Option (List Entry)
 entries_in h ls = option_map (λ l. l.entries) (find (is_line_of h) ls)
 
 -- the line has room for an entry
-pub record HasRoom {A : Type 0} (l : Line A) : Type 0 where
+pub record HasRoom {A : Type 0} (l : LoggedAt A) : Type 0 where
   pub room : vec_len l.entries < vec_capacity l.entries
 
 -- an entry is meant for one handler, or for all

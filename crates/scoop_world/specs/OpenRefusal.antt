@@ -5,12 +5,12 @@ use Rattle.scoop_message.specs.declared.limits.TheConstants.{MAX_HANDLERS, MAX_C
 use Rattle.scoop_message.specs.declared.name.HandlerId.{HandlerId}
 use Rattle.scoop_message.specs.declared.name.ClientId.{ClientId}
 use Rattle.scoop_object.specs.Class.{ClassTable}
-use Rattle.scoop_record.specs.Keeper.{last_incarnation}
-use Rattle.scoop_record.specs.Keyed.{IsFirstRepeat}
+use Rattle.scoop_keeper.specs.Keeper.{last_incarnation}
+use Rattle.scoop_keeper.specs.Keyed.{IsFirstRepeat}
 use Rattle.scoop_world.specs.declared.error.WorldOpenError.{WorldOpenError}
 use Rattle.scoop_world.specs.declared.error.WorldOpenError.TheVariants.{NoHandlers, TooManyHandlers, Repeated, WrongClass, TooManyClients, RepeatedClient, IncarnationsSpent, OutOfMemory}
 use Rattle.scoop_world.specs.declared.placing.Placement.{Placement}
-use Rattle.scoop_model.specs.Safe.{NoRepeats}
+use Rattle.scoop_message.specs.Lists.{NoRepeats}
 
 -- the handlers that are placed, and the clients that join, in their order
 abbrev pub handlers_of : {B : Type 0} → List (Placement B) → List HandlerId

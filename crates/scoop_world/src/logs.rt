@@ -8,7 +8,7 @@ ghost use Rattle.indexmap.specs.IndexMap.{IsUnique, index_map_len, spare};
 ghost use Rattle.scoop_message.specs.contracts.name.BlockPartialEq.TheImpl as on_block;
 ghost use Rattle.scoop_model.specs.World.{lines_of};
 ghost use Rattle.scoop_model.specs.Step.{fresh_log};
-ghost use Rattle.scoop_world.specs.Kept.{HasRoom, IsPlaceOf, entries_in, has_log, line_kept, block_log, logs_kept, with_entry_for};
+ghost use Rattle.scoop_world.specs.Kept.{HasRoom, IsPlaceOf, entries_in, has_log, logged_kept, block_log, logs_kept, with_entry_for};
 
 use indexmap::IndexMap;
 use scoop_message::{Block, Entry, HandlerId, OutOfMemory};
@@ -17,19 +17,19 @@ use std::hash::{BuildHasherDefault, FoldHasher};
 
 /// What a block's client has logged for one handler.
 #[derive(Drop)]
-pub(crate) struct Line<A: Allocator> {
+pub(crate) struct LoggedAt<A: Allocator> {
     handler: HandlerId,
     entries: Vec<Entry, A>,
 }
 
 /// The lines of each block, in the order in which the blocks were reserved.
-pub(crate) type Logs<A> = IndexMap<Block, Vec<Line<A>, A>, BuildHasherDefault<FoldHasher>, A>;
+pub(crate) type Logs<A> = IndexMap<Block, Vec<LoggedAt<A>, A>, BuildHasherDefault<FoldHasher>, A>;
 
 // A line with nothing logged.
-fn fresh_line<A: Allocator + Copy>(alloc: A, handler: HandlerId) -> Line<A>
-    ensures { line_kept result ≡ fresh_log handler }
+fn fresh_line<A: Allocator + Copy>(alloc: A, handler: HandlerId) -> LoggedAt<A>
+    ensures { logged_kept result ≡ fresh_log handler }
 {
-    Line {
+    LoggedAt {
         handler,
         entries: Vec::new(alloc),
     }
@@ -39,8 +39,8 @@ fn fresh_line<A: Allocator + Copy>(alloc: A, handler: HandlerId) -> Line<A>
 pub(crate) fn fresh_lines<A: Allocator + Copy>(
     alloc: A,
     handlers: &[HandlerId],
-) -> Result<Vec<Line<A>, A>, OutOfMemory>
-    ensures { IfOk result (λ ls. map line_kept ls.items ≡ map fresh_log handlers.now) }
+) -> Result<Vec<LoggedAt<A>, A>, OutOfMemory>
+    ensures { IfOk result (λ ls. map logged_kept ls.items ≡ map fresh_log handlers.now) }
 {
     let mut lines = Vec::new(alloc);
     for handler in handlers {
@@ -59,7 +59,7 @@ pub(crate) fn place_of<A: Allocator + Copy>(logs: &Logs<A>, block: Block) -> Opt
 }
 
 /// Adds a block that was never reserved, as the last one. There is room for it.
-pub(crate) fn add<A: Allocator + Copy>(logs: &mut Logs<A>, block: Block, lines: Vec<Line<A>, A>)
+pub(crate) fn add<A: Allocator + Copy>(logs: &mut Logs<A>, block: Block, lines: Vec<LoggedAt<A>, A>)
     requires new { has_log block (logs_kept logs.old.entries) ≡ false }
     requires room { 0 < spare logs.old }
     ensures { logs_kept logs.new.entries ≡ logs_kept logs.old.entries ++ block_log block lines.items ∷ [] }
@@ -70,18 +70,18 @@ pub(crate) fn add<A: Allocator + Copy>(logs: &mut Logs<A>, block: Block, lines: 
 }
 
 // Makes room for one entry more on a line.
-fn make_room_at<A: Allocator + Copy>(line: &mut Line<A>) -> Result<(), OutOfMemory>
+fn make_room_at<A: Allocator + Copy>(line: &mut LoggedAt<A>) -> Result<(), OutOfMemory>
     ensures ok { OnOk result (HasRoom line.new) }
-    ensures same { line_kept line.new ≡ line_kept line.old }
+    ensures same { logged_kept line.new ≡ logged_kept line.old }
 {
     line.entries.reserve(1)?;
     Ok(())
 }
 
 /// Makes room for one entry more on each line.
-pub(crate) fn make_room<A: Allocator + Copy>(lines: &mut [Line<A>]) -> Result<(), OutOfMemory>
+pub(crate) fn make_room<A: Allocator + Copy>(lines: &mut [LoggedAt<A>]) -> Result<(), OutOfMemory>
     ensures ok { OnOk result (All HasRoom lines.new) }
-    ensures same { map line_kept lines.new ≡ map line_kept lines.old }
+    ensures same { map logged_kept lines.new ≡ map logged_kept lines.old }
 {
     for line in lines.iter_mut() {
         make_room_at(line)?;
@@ -90,9 +90,9 @@ pub(crate) fn make_room<A: Allocator + Copy>(lines: &mut [Line<A>]) -> Result<()
 }
 
 // Logs an entry, if this is a line for which it is meant. There is room for it.
-fn log_at<A: Allocator + Copy>(line: &mut Line<A>, only: Option<HandlerId>, entry: &Entry)
+fn log_at<A: Allocator + Copy>(line: &mut LoggedAt<A>, only: Option<HandlerId>, entry: &Entry)
     requires { HasRoom line.old }
-    ensures { line_kept line.new ≡ with_entry_for only entry.now (line_kept line.old) }
+    ensures { logged_kept line.new ≡ with_entry_for only entry.now (logged_kept line.old) }
 {
     let meant = match only {
         Some(handler) => line.handler == handler,
@@ -105,12 +105,12 @@ fn log_at<A: Allocator + Copy>(line: &mut Line<A>, only: Option<HandlerId>, entr
 
 /// Logs an entry, for one of the handlers or for all. There is room for it on each line.
 pub(crate) fn log<A: Allocator + Copy>(
-    lines: &mut [Line<A>],
+    lines: &mut [LoggedAt<A>],
     only: Option<HandlerId>,
     entry: &Entry,
 )
     requires { All HasRoom lines.old }
-    ensures { map line_kept lines.new ≡ map (with_entry_for only entry.now) (map line_kept lines.old) }
+    ensures { map logged_kept lines.new ≡ map (with_entry_for only entry.now) (map logged_kept lines.old) }
 {
     for line in lines.iter_mut() {
         log_at(line, only, entry);
@@ -118,8 +118,8 @@ pub(crate) fn log<A: Allocator + Copy>(
 }
 
 // What was logged for a handler.
-fn logged_in<A: Allocator + Copy>(lines: &[Line<A>], handler: HandlerId) -> Option<&[Entry]>
-    ensures { option_map (λ es. es.now) result ≡ entries_in handler (map line_kept lines.now) }
+fn logged_in<A: Allocator + Copy>(lines: &[LoggedAt<A>], handler: HandlerId) -> Option<&[Entry]>
+    ensures { option_map (λ es. es.now) result ≡ entries_in handler (map logged_kept lines.now) }
 {
     for line in lines {
         if line.handler == handler {

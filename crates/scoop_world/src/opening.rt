@@ -2,7 +2,7 @@
 
 ghost use Rattle.std.specs.Prelude.{◌≡◌, IfErr, IfOk, OnOk};
 ghost use Rattle.std.specs.List.{AllByRecursion};
-ghost use Rattle.scoop_record.specs.Memory.{incarnation_at};
+ghost use Rattle.scoop_keeper.specs.Memory.{incarnation_at};
 ghost use Rattle.scoop_model.specs.Step.{opening};
 ghost use Rattle.scoop_world.specs.Placing.{IsBatched, newcomers_of, placements_of};
 ghost use Rattle.scoop_model.specs.Opening.{IsJoining};
@@ -21,9 +21,9 @@ use crate::placing::Placement;
 use crate::world::World;
 use joining::join_all;
 use refusing::refusal;
+use scoop_keeper::MemoryKeeper;
 use scoop_message::ClientId;
 use scoop_object::Behaviour;
-use scoop_record::MemoryKeeper;
 use sites::{numbers, place_all, store_all};
 use std::alloc::Allocator;
 

@@ -1,10 +1,11 @@
 //! What a world is made of.
 
-ghost use Rattle.std.specs.Prelude.{◌≡◌, ◌<◌, ◌-◌, [], None, find, length, slice_get, MatchOption};
+ghost use Rattle.std.specs.Prelude.{◌≡◌, ◌<◌, ◌-◌, [], None, find, length, map, slice_get, MatchOption, IfOk};
 ghost use Rattle.std.specs.Option.{option_map};
 ghost use Rattle.scoop_model.specs.World.{is_site, is_party, logged_at, party_of, sent_at, site_of};
-ghost use Rattle.scoop_record.specs.Keyed.{IsFirst};
+ghost use Rattle.scoop_keeper.specs.Keyed.{IsFirst};
 ghost use Rattle.scoop_world.specs.Kept.{HasAll, world_kept};
+ghost use Rattle.scoop_world.specs.Standing.{numbered, standing};
 
 mod commanding;
 mod hearing;
@@ -16,9 +17,11 @@ use crate::logs::{Logs, logged};
 use crate::party::Party;
 use crate::site::Site;
 use indexmap::{IndexMap, IndexSet};
-use scoop_message::{Block, ClientId, Entry, HandlerId, Message};
+use scoop_client::Client;
+use scoop_handler::HandlerState;
+use scoop_keeper::MemoryKeeper;
+use scoop_message::{Block, ClientId, Entry, HandlerId, Message, OutOfMemory};
 use scoop_object::Behaviour;
-use scoop_record::MemoryKeeper;
 use std::alloc::Allocator;
 use std::hash::{BuildHasherDefault, FoldHasher};
 use std::marker::Model;
@@ -76,6 +79,21 @@ pub(crate) fn party_at<A: Allocator + Copy>(parties: &[Party<A>], client: Client
     None
 }
 
+// The state of each of these handlers, and whether a job of it is out.
+fn states_of<B: Behaviour, A: Allocator + Copy>(
+    alloc: A,
+    sites: &[Site<B, A>],
+) -> Result<Vec<(HandlerState<A>, bool), A>, OutOfMemory>
+    ensures { IfOk result (λ states. states.items ≡ map standing sites.now) }
+{
+    let mut states = Vec::new(alloc);
+    for site in sites {
+        let state = site.state()?;
+        states.push((state, site.is_out()))?;
+    }
+    Ok(states)
+}
+
 impl<B: Behaviour, A: Allocator + Copy> Parts<B, A> {
     /// A world in which nothing has happened, with these parties. The keeper has their states and
     /// incarnations.
@@ -123,6 +141,30 @@ impl<B: Behaviour, A: Allocator + Copy> Parts<B, A> {
             Some(at) => Some(&self.parties[at]),
             None => None,
         }
+    }
+
+    /// How many clients there are.
+    pub(crate) fn clients(&self) -> usize
+        ensures { result ≡ length self.now.parties }
+    {
+        self.parties.len()
+    }
+
+    /// The client at a place, with its number.
+    pub(crate) fn client(&self, place: usize) -> Option<(ClientId, &Client<A>)>
+        ensures { option_map (λ c. (c.0, c.1.now)) result ≡ option_map numbered (slice_get self.now.parties place) }
+    {
+        match self.parties.get(place) {
+            Some(party) => Some((party.id(), party.client())),
+            None => None,
+        }
+    }
+
+    /// The state of each handler, and whether a job of it is out.
+    pub(crate) fn states(&self) -> Result<Vec<(HandlerState<A>, bool), A>, OutOfMemory>
+        ensures { IfOk result (λ states. states.items ≡ map standing self.now.sites) }
+    {
+        states_of(*self.sent.allocator(), &self.sites)
     }
 
     /// What was logged for a handler that the block has reserved.

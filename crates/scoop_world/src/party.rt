@@ -3,17 +3,17 @@
 ghost use Rattle.std.specs.Prelude.{◌≡◌, ◌<◌, ◌≤◌, ◌==◌, ◌+◌, ◌-◌, ◌^◌, ◌++◌, [], false, Some, vec_len, vec_capacity, IfErr, IfOk, OnOk, OnErr};
 ghost use Rattle.scoop_client.specs.Due.{due};
 ghost use Rattle.scoop_client.specs.Hearing.{heard};
-ghost use Rattle.scoop_record.specs.Keeper.{Sets};
-ghost use Rattle.scoop_record.specs.Memory.{incarnation_at};
+ghost use Rattle.scoop_keeper.specs.Keeper.{Sets};
+ghost use Rattle.scoop_keeper.specs.Memory.{incarnation_at};
 ghost use Rattle.scoop_client.specs.Commands.{Foretells, IsRefused as IsClientRefusal, Outcome};
 ghost use Rattle.scoop_world.specs.Answers.{IsRefusal};
 ghost use Rattle.scoop_model.specs.Step.{newly_accepted};
 
 use scoop_client::{Client, ClientError, ClientNote};
+use scoop_keeper::{Keeper, MemoryKeeper};
 use scoop_message::limits::MAX_ENTRIES;
 use scoop_message::{Answer, Block, ClientId, HandlerId, Message, OutOfMemory};
 use scoop_model::{Command, HandlerList, WorldError};
-use scoop_record::{Keeper, MemoryKeeper};
 use std::alloc::Allocator;
 use std::marker::Model;
 
@@ -114,6 +114,13 @@ impl<A: Allocator + Copy> Party<A> {
         ensures { result ≡ id_of self.now }
     {
         self.newest.client
+    }
+
+    /// The client.
+    pub(crate) fn client(&self) -> &Client<A>
+        ensures { result.now ≡ self.now.client }
+    {
+        &self.client
     }
 
     /// The newest block that it began.

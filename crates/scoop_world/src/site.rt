@@ -5,13 +5,13 @@ ghost use Rattle.std.specs.Option.{option_map};
 ghost use Rattle.scoop_handler.specs.Core.{IsCore};
 ghost use Rattle.scoop_handler.specs.Hearing.{hear};
 ghost use Rattle.scoop_handler.specs.Running.{job_out, ran_of, ready};
-ghost use Rattle.scoop_record.specs.Keeper.{Keeps};
-ghost use Rattle.scoop_record.specs.Memory.{Has};
+ghost use Rattle.scoop_keeper.specs.Keeper.{Keeps};
+ghost use Rattle.scoop_keeper.specs.Memory.{Has};
 
 use scoop_handler::{Done, Handler, HandlerState, Heard, Note, Ran};
+use scoop_keeper::{Keeper, MemoryKeeper, finish_and_store, hear_and_store};
 use scoop_message::{Block, Entry, HandlerId, Message, OutOfMemory, Request, Words};
 use scoop_object::Behaviour;
-use scoop_record::{Keeper, MemoryKeeper, finish_and_store, hear_and_store};
 use std::alloc::Allocator;
 use std::marker::Model;
 
@@ -90,6 +90,21 @@ impl<B: Behaviour, A: Allocator + Copy> Site<B, A> {
         ensures core { IsCore self.now.core }
     {
         self.handler.number()
+    }
+
+    /// Whether a job of it is out.
+    pub(crate) fn is_out(&self) -> bool
+        ensures { result ≡ self.now.core.out }
+    {
+        let _sound = self.handler.number();
+        self.job.is_some()
+    }
+
+    /// A copy of its state.
+    pub(crate) fn state(&self) -> Result<HandlerState<A>, OutOfMemory>
+        ensures { IfOk result (λ state. state ≡ self.now.core.state) }
+    {
+        self.handler.copy()
     }
 
     /// The node on which it runs.

@@ -1,16 +1,18 @@
 //! A world: all parties over a list of events.
 
-ghost use Rattle.std.specs.Prelude.{◌≡◌};
+ghost use Rattle.std.specs.Prelude.{◌≡◌, IfOk, length, map, slice_get};
 ghost use Rattle.std.specs.Option.{option_map};
 ghost use Rattle.scoop_model.specs.World.{logged_at, party_of, sent_at, site_of};
 ghost use Rattle.scoop_model.specs.Step.{step};
 ghost use Rattle.scoop_model.specs.Reach.{IsReached};
 ghost use Rattle.scoop_world.specs.Answers.{Takes};
+ghost use Rattle.scoop_world.specs.Standing.{numbered, standing};
 ghost use Rattle.scoop_rules.specs.Paper.{FollowsRules};
 
 use crate::parts::Parts;
-use scoop_handler::Ran;
-use scoop_message::{Answer, Block, ClientId, Entry, HandlerId, Message};
+use scoop_client::Client;
+use scoop_handler::{HandlerState, Ran};
+use scoop_message::{Answer, Block, ClientId, Entry, HandlerId, Message, OutOfMemory};
 use scoop_model::{Event, WorldError, WorldNote};
 use scoop_object::Behaviour;
 use std::alloc::{Allocator, Global};
@@ -93,6 +95,30 @@ impl<B: Behaviour, A: Allocator + Copy> World<B, A> {
             Some(party) => Some(party.accepted()),
             None => None,
         }
+    }
+
+    /// How many clients have joined.
+    pub fn clients(&self) -> usize
+        ensures { result ≡ length self.now.parties }
+    {
+        self.parts.clients()
+    }
+
+    /// The client at a place, counted from 0 in the order in which they joined, with its number. `None` where so
+    /// many haven't joined.
+    pub fn client(&self, place: usize) -> Option<(ClientId, &Client<A>)>
+        ensures { option_map (λ c. (c.0, c.1.now)) result ≡ option_map numbered (slice_get self.now.parties place) }
+    {
+        self.parts.client(place)
+    }
+
+    /// A copy of each handler's state, in the order in which they were placed, and whether a job of it is out.
+    /// `OutOfMemory` is the one refusal.
+    pub fn states(&self) -> Result<Vec<(HandlerState<A>, bool), A>, OutOfMemory>
+        ensures states { IfOk result (λ states. states.items ≡ map standing self.now.sites) }
+        ensures reached { IsReached self.now }
+    {
+        self.parts.states()
     }
 
     /// The i-th message that was sent, i from 1. `None` for 0, and where so many weren't sent.

@@ -1,7 +1,7 @@
 #![tactic(auto)]
 
-//! Tests of `scoop_world`, by its public calls. They stand in a crate of their own so that the gate proves
-//! them over that crate, and doesn't prove that crate once more with them.
+//! Tests of `scoop_world`, `scoop_chart` and `transfer`, by their public calls. They stand in a crate of their own so
+//! that the gate proves them over these crates, and doesn't prove any of these once more with them.
 
 #[cfg(test)]
 mod tests;

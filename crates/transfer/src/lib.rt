@@ -16,6 +16,3 @@ mod transfer;
 
 pub use error::TransferError;
 pub use transfer::Transfer;
-
-#[cfg(test)]
-mod tests;

@@ -3,9 +3,9 @@
 use crate::account::{BALANCE, DEPOSIT, WITHDRAW, account, class, request};
 use crate::error::TransferError;
 use scoop_chart::Chart;
+use scoop_keeper::MemoryKeeper;
 use scoop_message::{Answer, Block, ClientId, HandlerId, OutOfMemory};
 use scoop_object::Table;
-use scoop_record::MemoryKeeper;
 use scoop_world::{Command, Event, HandlerList, Placement, World, WorldNote};
 use std::alloc::Global;
 use std::io;

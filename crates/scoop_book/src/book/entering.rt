@@ -3,7 +3,7 @@
 ghost use Rattle.std.specs.Prelude.{◌≡◌, ◌≢◌, ◌⊎◌, ◌||◌, ℕ, IfOk, IfErr, OnOk, OnErr, IfSome};
 ghost use Rattle.std.specs.Option.{option_map};
 ghost use Rattle.scoop_handler.specs.Running.{job_out, ran_of, ready};
-ghost use Rattle.scoop_record.specs.Keeper.{IsPutError, IsSame, Stays as KeeperStays};
+ghost use Rattle.scoop_keeper.specs.Keeper.{IsPutError, IsSame, Stays as KeeperStays};
 ghost use Rattle.scoop_book.specs.Moves.{handler_at, handler_in, leaves};
 ghost use Rattle.scoop_book.specs.Books.{Gains, IsBook, IsRefused, IsUnfinished, KeepsNew, MayHappen, Stays, IsHear, HasReply, fails, fails_to_finish, refusal_of};
 
@@ -11,9 +11,9 @@ use crate::book::{Book, enter};
 use crate::error::{BookError, FinishError, FinishRefusal};
 use crate::event::{Event, Reply};
 use scoop_handler::{Done, Job, Ran};
+use scoop_keeper::{JobRefusal, Keeper, KeeperError};
 use scoop_message::{Block, HandlerId};
 use scoop_object::Behaviour;
-use scoop_record::{JobRefusal, Keeper, KeeperError};
 use std::alloc::Allocator;
 
 // Why an event isn't entered, by what the keeper says of the new state; and whether it is the last one.

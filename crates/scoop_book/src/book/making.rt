@@ -2,7 +2,7 @@
 
 ghost use Rattle.std.specs.Prelude.{◌≡◌, ◌≤◌, ℕ, [], false, length, IfOk, IfErr, OnOk};
 ghost use Rattle.scoop_message.specs.declared.limits.TheConstants.{MAX_HANDLERS, MAX_HISTORY};
-ghost use Rattle.scoop_record.specs.Keeper.{IsSame, Stays as KeeperStays};
+ghost use Rattle.scoop_keeper.specs.Keeper.{IsSame, Stays as KeeperStays};
 ghost use Rattle.scoop_book.specs.Books.{IsBook};
 ghost use Rattle.scoop_book.specs.Kept.{book_kept};
 ghost use Rattle.scoop_book.specs.Opening.{AllOpen, IsUnopened, MayOpen};
@@ -11,10 +11,10 @@ use crate::book::Book;
 use crate::error::OpenError;
 use crate::handlers::Handlers;
 use crate::opening::{open_all, refusal};
+use scoop_keeper::Keeper;
 use scoop_message::HandlerId;
 use scoop_message::limits::MAX_HISTORY;
 use scoop_object::{Behaviour, Class};
-use scoop_record::Keeper;
 use std::alloc::Allocator;
 
 impl<B: Behaviour, K: Keeper<A>, A: Allocator + Copy> Book<B, K, A> {

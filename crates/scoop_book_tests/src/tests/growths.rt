@@ -1,10 +1,13 @@
 //! A node, each growth of each event refused in turn.
 
-use super::{cells, hello, lock, log, open};
+ghost use Rattle.std.specs.Prelude.{IfSome};
+ghost use Rattle.scoop_book.specs.Books.{IsHear};
+
+use super::{ONE, cells, hello, lock, log, open};
 use scoop_book::{BookError, FinishRefusal, Node, OpenError, Pass};
-use scoop_message::HandlerId;
+use scoop_handler::{Done, Job};
+use scoop_keeper::MemoryKeeper;
 use scoop_object::Table;
-use scoop_record::MemoryKeeper;
 use scoop_refusing::Refusing;
 use std::alloc::Global;
 use std::process::Abort;
@@ -16,8 +19,6 @@ type Heap<'a> = &'a Refusing<Global>;
 type HeapNode<'a> = Node<Table, MemoryKeeper<Heap<'a>>, Heap<'a>>;
 
 type HeapPass<'a> = Pass<Heap<'a>>;
-
-const ONE: HandlerId = HandlerId(1);
 
 /// What is done at the node, one after another.
 #[derive(Clone, Copy)]
@@ -48,7 +49,9 @@ fn opens<'a>(
 }
 
 // The message of an act. A run has none.
-fn message_of(act: Act) -> Option<scoop_book::Event> {
+fn message_of(act: Act) -> Option<scoop_book::Event>
+    ensures { IfSome result IsHear }
+{
     match act {
         Act::Hello => Some(hello(1, 7)),
         Act::Lock => Some(lock(1, 7)),
@@ -58,48 +61,8 @@ fn message_of(act: Act) -> Option<scoop_book::Event> {
     }
 }
 
-// Whether a message to the node is refused, with the growth of this number refused. Then nothing has changed.
-fn is_refused<'a>(
-    rt: &(impl Abort + Wait),
-    heap: Heap<'a>,
-    node: &HeapNode<'a>,
-    pass: &mut HeapPass<'a>,
-    number: u64,
-    event: scoop_book::Event,
-) -> bool {
-    // A node takes messages alone.
-    let scoop_book::Event::Hear(_) = event else {
-        return false;
-    };
-    let before = pass.events().len();
-    heap.refuse(number);
-    let error = node.event(rt, pass, event).err();
-    let refused = heap.has_refused();
-    heap.refuse(0);
-    if refused {
-        assert_eq!(rt; error, Some(BookError::OutOfMemory));
-        assert_eq!(rt; pass.events().len(), before);
-    } else {
-        assert_eq!(rt; error, None);
-    }
-    refused
-}
-
-// Whether the node hears the message.
-fn is_heard<'a>(
-    rt: &(impl Abort + Wait),
-    node: &HeapNode<'a>,
-    pass: &mut HeapPass<'a>,
-    event: scoop_book::Event,
-) -> bool {
-    let scoop_book::Event::Hear(_) = event else {
-        return false;
-    };
-    node.event(rt, pass, event).is_ok()
-}
-
-/// The message of an act to the node with the growth of this number refused: whether one was. It is then heard
-/// once memory is there.
+/// The message of an act to the node with the growth of this number refused: whether one was. Either nothing has
+/// changed, and it is heard once memory is there, or what was refused was but room for a next call, and it is heard.
 fn hears<'a>(
     rt: &(impl Abort + Wait),
     heap: Heap<'a>,
@@ -108,10 +71,56 @@ fn hears<'a>(
     number: u64,
     act: Act,
 ) -> Option<bool> {
-    let refused = is_refused(rt, heap, node, pass, number, message_of(act)?);
-    if refused {
-        let heard = is_heard(rt, node, pass, message_of(act)?);
-        assert!(rt; heard);
+    let before = pass.events().len();
+    heap.refuse(number);
+    let error = node.event(rt, pass, message_of(act)?).err();
+    let refused = heap.has_refused();
+    heap.refuse(0);
+    if error.is_some() {
+        assert!(rt; refused && error == Some(BookError::OutOfMemory));
+        assert!(rt; pass.events().len() == before);
+        assert!(rt; node.event(rt, pass, message_of(act)?).is_ok());
+    }
+    assert!(rt; pass.events().len() == before + 1);
+    Some(refused)
+}
+
+/// What the handler has to run, with this growth refused: whether one was, and then all the same.
+fn begins<'a>(
+    rt: &(impl Abort + Wait),
+    heap: Heap<'a>,
+    node: &HeapNode<'a>,
+    pass: &mut HeapPass<'a>,
+    number: u64,
+) -> Option<(Job<Table>, bool)> {
+    heap.refuse(number);
+    let first = node.begin(rt, pass, ONE);
+    let refused = heap.has_refused();
+    heap.refuse(0);
+    match first {
+        Ok(job) => Some((job?, refused)),
+        Err(error) => {
+            assert!(rt; error == BookError::OutOfMemory);
+            Some((node.begin(rt, pass, ONE).ok()??, refused))
+        }
+    }
+}
+
+fn finishes<'a>(
+    rt: &(impl Abort + Wait),
+    heap: Heap<'a>,
+    node: &HeapNode<'a>,
+    pass: &mut HeapPass<'a>,
+    number: u64,
+    done: Done<Table>,
+) -> Option<bool> {
+    heap.refuse(number);
+    let finished = node.finish(rt, pass, done);
+    let refused = heap.has_refused();
+    heap.refuse(0);
+    if let Err(error) = finished {
+        assert!(rt; error.cause == FinishRefusal::OutOfMemory);
+        node.finish(rt, pass, error.done).ok()?;
     }
     Some(refused)
 }
@@ -124,28 +133,40 @@ fn runs<'a>(
     pass: &mut HeapPass<'a>,
     number: u64,
 ) -> Option<bool> {
-    heap.refuse(number);
-    let first = node.begin(rt, pass, ONE);
-    let mut refused = heap.has_refused();
-    heap.refuse(0);
-    let job = match first {
-        Ok(job) => job?,
-        Err(error) => {
-            assert_eq!(rt; error, BookError::OutOfMemory);
-            node.begin(rt, pass, ONE).ok()??
-        }
-    };
-    heap.refuse(number);
-    let finished = node.finish(rt, pass, job.work());
-    if heap.has_refused() {
-        refused = true;
+    let (job, at_begin) = begins(rt, heap, node, pass, number)?;
+    let at_finish = finishes(rt, heap, node, pass, number, job.work())?;
+    Some(at_begin || at_finish)
+}
+
+/// Whether the growth of this number was refused in any act.
+fn does_all<'a>(
+    rt: &(impl Abort + Wait),
+    heap: Heap<'a>,
+    node: &HeapNode<'a>,
+    pass: &mut HeapPass<'a>,
+    number: u64,
+) -> Option<bool> {
+    let mut any = false;
+    for act in ACTS {
+        let refused = match act {
+            Act::Run => runs(rt, heap, node, pass, number)?,
+            _ => hears(rt, heap, node, pass, number, act)?,
+        };
+        any = any || refused;
     }
-    heap.refuse(0);
-    if let Err(error) = finished {
-        assert_eq!(rt; error.cause, FinishRefusal::OutOfMemory);
-        node.finish(rt, pass, error.done).ok()?;
-    }
-    Some(refused)
+    Some(any)
+}
+
+/// How many entries the history has of the node that is closed with this pass.
+fn closed<'a>(
+    rt: &impl Wait,
+    heap: Heap<'a>,
+    node: HeapNode<'a>,
+    pass: HeapPass<'a>,
+) -> Option<usize> {
+    let mut given = Vec::new(heap);
+    given.push(pass).ok()?;
+    Some(node.close(rt, given).ok()?.history.len())
 }
 
 /// Whether the growth of this number was refused in any act. The node is closed at last.
@@ -153,20 +174,9 @@ fn any_refused(rt: &(impl Abort + Wait), alloc: Global, number: u64) -> Option<b
     let heap = Refusing::new(alloc, 0);
     let (node, mut passes) = opens(alloc, &heap)?.ok()?;
     let mut pass = passes.pop()?;
-    let mut any = false;
-    for act in ACTS {
-        let refused = match act {
-            Act::Run => runs(rt, &heap, &node, &mut pass, number)?,
-            _ => hears(rt, &heap, &node, &mut pass, number, act)?,
-        };
-        if refused {
-            any = true;
-        }
-    }
-    let mut given = Vec::new(&heap);
-    given.push(pass).ok()?;
-    let closed = node.close(rt, given).ok()?;
-    assert_eq!(rt; closed.history.len(), 7);
+    let any = does_all(rt, &heap, &node, &mut pass, number)?;
+    let entries = closed(rt, &heap, node, pass);
+    assert!(rt; entries == Some(7));
     Some(any)
 }
 
@@ -183,27 +193,25 @@ fn opening(alloc: Global, number: u64) -> Option<(Option<OpenError>, bool)> {
 
 #[test]
 fn each_growth_of_an_event_is_refused(rt: HostRuntime) -> Result<(), Fail> {
-    assert_eq!(rt; any_refused(&rt, rt.alloc(), 1), Some(true));
+    assert!(rt; any_refused(&rt, rt.alloc(), 1) == Some(true));
     for number in 2..64u64 {
-        if any_refused(&rt, rt.alloc(), number).ok_or("no node")? {
-            continue;
+        if !any_refused(&rt, rt.alloc(), number).ok_or("no node")? {
+            return Ok(());
         }
-        return Ok(());
     }
     Err("too many growths".into())
 }
 
 #[test]
 fn each_growth_of_an_opening_is_refused(rt: HostRuntime) -> Result<(), Fail> {
-    let oom = Some(OpenError::OutOfMemory);
-    assert_eq!(rt; opening(rt.alloc(), 1), Some((oom, true)));
+    let refused = (Some(OpenError::OutOfMemory), true);
+    assert!(rt; opening(rt.alloc(), 1) == Some(refused));
     for number in 2..64u64 {
-        let (error, refused) = opening(rt.alloc(), number).ok_or("no cells")?;
-        if !refused {
-            assert_eq!(rt; error, None);
+        let opened = opening(rt.alloc(), number).ok_or("no cells")?;
+        if opened == (None, false) {
             return Ok(());
         }
-        assert_eq!(rt; error, oom);
+        assert!(rt; opened == refused);
     }
     Err("too many growths".into())
 }

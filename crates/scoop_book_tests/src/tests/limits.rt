@@ -1,158 +1,182 @@
 //! Limits of histories, and which handlers open.
 
-use super::{STRANGE, block, book, cells, hello, lock, log, open};
-use scoop_book::{Book, BookError, Event, FinishRefusal, Node, OpenError, Reply};
-use scoop_handler::Note;
-use scoop_message::HandlerId;
+use super::{MemoryBook, ONE, STRANGE, block, book, cells, hello, notes_log, refusal, sends};
+use scoop_book::{Book, BookError, Event, FinishRefusal, Node, OpenError, Pass, Reply};
+use scoop_handler::{Done, Note};
+use scoop_keeper::MemoryKeeper;
 use scoop_message::limits::MAX_HISTORY;
+use scoop_message::{Block, HandlerId};
 use scoop_object::Table;
-use scoop_record::MemoryKeeper;
 use std::alloc::Global;
 use std::process::Abort;
+use std::sync::Wait;
 use std::test::Fail;
 
-const ONE: HandlerId = HandlerId(1);
+type MemoryNode = Node<Table, MemoryKeeper>;
 
-/// Whether the handler heard the message.
-fn is_heard(book: &mut Book<Table, MemoryKeeper>, event: Event) -> bool {
-    let Event::Hear(_) = event else {
-        return false;
-    };
-    book.step(0, event).is_ok()
+/// Whether handler 1 has nothing to run.
+fn is_idle(book: &mut MemoryBook) -> bool {
+    let begun = book.begin(0, ONE);
+    matches!(begun, Ok(None))
 }
 
-/// Whether the handler heard the message with this note.
-fn notes(book: &mut Book<Table, MemoryKeeper>, event: Event, note: Note) -> bool {
-    let Event::Hear(_) = event else {
-        return false;
-    };
-    match book.step(0, event) {
-        Ok(Reply::Heard(heard)) => heard.note == note,
-        _ => false,
+/// The handler's word.
+fn word(book: &MemoryBook, handler: HandlerId) -> Option<u64> {
+    book.words(handler)?.get(0)
+}
+
+/// What handler 1 has to run, which has run.
+fn done(book: &mut MemoryBook, pass: u32) -> Option<Done<Table>> {
+    Some(book.begin(pass, ONE).ok()??.work())
+}
+
+fn finished(
+    book: &mut MemoryBook,
+    pass: u32,
+    done: Done<Table>,
+) -> Result<(Block, u32), FinishRefusal> {
+    match book.finish(pass, done) {
+        Ok(ran) => Ok((ran.block, ran.number)),
+        Err(error) => Err(error.cause),
     }
+}
+
+/// The one entry leaves and is finished. Meanwhile there is none to run, and the word is as it was.
+fn runs(rt: &impl Abort, book: &mut MemoryBook) {
+    let Some(job) = done(book, 5) else {
+        panic!(rt; "no job");
+    };
+    let idle = is_idle(book);
+    let before = word(book, ONE);
+    let ran = finished(book, 6, job);
+    assert!(rt; idle);
+    assert!(rt; before == Some(0));
+    assert!(rt; ran == Ok((block(7), 1)));
+    assert!(rt; word(book, ONE) == Some(1));
+    assert!(rt; book.words(HandlerId(3)).is_none());
+}
+
+fn is_run(rt: &impl Abort, history: &[(u32, Event, Reply)]) {
+    let [_, _, _, _, begun, idle, ended] = history else {
+        panic!(rt; "another length");
+    };
+    assert!(rt; (begun.0, begun.1) == (5, Event::Begin(ONE)));
+    assert!(rt; begun.2 == Reply::Began(Some((block(7), 1))));
+    assert!(rt; idle.2 == Reply::Began(None));
+    assert!(rt; (ended.0, ended.1) == (6, Event::Finish(ONE)));
 }
 
 #[test]
 fn a_book_hears_and_runs(rt: HostRuntime) -> Result<(), Fail> {
-    let alloc = rt.alloc();
-    let mut book = book(alloc, &[1, 2]).ok_or("cells")??;
-    assert!(rt; notes(&mut book, hello(1, 7), Note::Greeted));
-    assert!(rt; notes(&mut book, lock(1, 7), Note::Granted));
-    assert!(rt; notes(&mut book, open(1, 7), Note::Opened(block(7))));
-    assert!(rt; notes(&mut book, log(1, 7, 1).ok_or("log")?, Note::Took(1)));
-    assert_eq!(rt; book.step(0, hello(3, 7)), Err(BookError::UnknownHandler));
-    let job = book.begin(5, ONE)?.ok_or("a job")?;
-    assert!(rt; book.begin(0, ONE)?.is_none());
-    assert_eq!(rt; book.words(ONE).ok_or("words")?.get(0), Some(0));
-    let Ok(ran) = book.finish(6, job.work()) else {
-        return Err("not finished".into());
-    };
-    assert_eq!(rt; (ran.block, ran.number), (block(7), 1));
-    assert_eq!(rt; book.words(ONE).ok_or("words")?.get(0), Some(1));
-    assert!(rt; book.words(HandlerId(3)).is_none());
-    let history = book.history();
-    assert_eq!(rt; history.len(), 7);
-    let begun = history.get(4).ok_or("begun")?;
-    assert_eq!(rt; (begun.0, begun.1), (5, Event::Begin(ONE)));
-    assert!(rt; begun.2 == Reply::Began(Some((block(7), 1))));
-    assert!(rt; history.get(5).ok_or("idle")?.2 == Reply::Began(None));
-    let finished = history.get(6).ok_or("finished")?;
-    assert_eq!(rt; (finished.0, finished.1), (6, Event::Finish(ONE)));
+    let mut book = book(rt.alloc(), &[1, 2]).ok_or("cells")??;
+    sends(&rt, &mut book);
+    let unknown = refusal(&mut book, hello(3, 7));
+    runs(&rt, &mut book);
+    is_run(&rt, book.history());
+    assert!(rt; unknown == Some(BookError::UnknownHandler));
     Ok(())
+}
+
+/// A book over the keeper of another one.
+fn again(alloc: Global, book: MemoryBook) -> Option<Result<MemoryBook, OpenError>> {
+    Some(Book::open(alloc, cells(alloc, &[1])?, book.into_keeper()))
+}
+
+/// The book goes on where another one was, and takes no job that left that one.
+fn goes_on(rt: &impl Abort, book: &mut MemoryBook, strange: Done<Table>) {
+    let refused = finished(book, 0, strange);
+    assert!(rt; refused == Err(FinishRefusal::Stranger));
+    assert!(rt; notes_log(book, Note::Known));
+    let Some(job) = done(book, 0) else {
+        panic!(rt; "no job");
+    };
+    let ran = finished(book, 0, job);
+    assert!(rt; ran.is_ok());
+    assert!(rt; word(book, ONE) == Some(1));
 }
 
 /// A book that opens over another one's keeper goes on where that one was, with no job out.
 #[test]
 fn a_book_opens_again(rt: HostRuntime) -> Result<(), Fail> {
-    let alloc = rt.alloc();
-    let mut first = book(alloc, &[1]).ok_or("cells")??;
-    for event in [
-        hello(1, 7),
-        lock(1, 7),
-        open(1, 7),
-        log(1, 7, 1).ok_or("log")?,
-    ] {
-        assert!(rt; is_heard(&mut first, event));
-    }
-    let job = first.begin(0, ONE)?.ok_or("a job")?;
-    let done = job.work();
-    let handlers = cells(alloc, &[1]).ok_or("cells")?;
-    let mut second = Book::open(alloc, handlers, first.into_keeper())?;
-    let Err(error) = second.finish(0, done) else {
-        return Err("a stranger's job".into());
-    };
-    assert_eq!(rt; error.cause, FinishRefusal::Stranger);
-    assert!(rt; notes(&mut second, log(1, 7, 1).ok_or("log")?, Note::Known));
-    let job = second.begin(0, ONE)?.ok_or("a job")?;
-    assert!(rt; second.finish(0, job.work()).is_ok());
-    assert_eq!(rt; second.words(ONE).ok_or("words")?.get(0), Some(1));
+    let mut first = book(rt.alloc(), &[1]).ok_or("cells")??;
+    sends(&rt, &mut first);
+    let strange = done(&mut first, 0).ok_or("a job")?;
+    let mut second = again(rt.alloc(), first).ok_or("cells")??;
+    goes_on(&rt, &mut second, strange);
     Ok(())
 }
 
-#[test]
-fn handlers_are_refused(rt: HostRuntime) -> Result<(), Fail> {
-    let alloc = rt.alloc();
-    let fault = |numbers: &[u32]| match book(alloc, numbers) {
+/// Why a book of these handlers doesn't open.
+fn fault(alloc: Global, numbers: &[u32]) -> Option<OpenError> {
+    match book(alloc, numbers) {
         Some(Err(error)) => Some(error),
         _ => None,
-    };
+    }
+}
+
+#[test]
+fn handlers_are_refused(rt: HostRuntime) {
     let wrong = Some(OpenError::WrongClass(HandlerId(STRANGE)));
-    assert_eq!(rt;
-        fault(&[1, 2, 2, 1]),
-        Some(OpenError::Repeated(HandlerId(2)))
-    );
-    assert_eq!(rt; fault(&[1, 1, STRANGE]), wrong);
-    assert_eq!(rt; fault(&[]), None);
-    Ok(())
+    let repeated = Some(OpenError::Repeated(HandlerId(2)));
+    assert!(rt; fault(rt.alloc(), &[1, 2, 2, 1]) == repeated);
+    assert!(rt; fault(rt.alloc(), &[1, 1, STRANGE]) == wrong);
+    assert!(rt; fault(rt.alloc(), &[]).is_none());
+}
+
+/// A node with a limit of two entries, over the keeper of this book, and its passes.
+fn limited(alloc: Global, book: MemoryBook) -> Option<Result<(MemoryNode, Vec<Pass>), OpenError>> {
+    let handlers = cells(alloc, &[1])?;
+    Some(Node::open_limited(alloc, handlers, book.into_keeper(), 1, 2))
+}
+
+/// Why the job that leaves isn't finished, and the number of the one that is handed back.
+fn unfinished(rt: &impl Wait, node: &MemoryNode, pass: &mut Pass) -> Option<(FinishRefusal, u32)> {
+    let job = node.begin(rt, pass, ONE).ok()??;
+    let error = node.finish(rt, pass, job.work()).err()?;
+    Some((error.cause, error.done.number()))
+}
+
+/// The third entry is refused, also to a job that is out.
+fn ends(rt: &(impl Abort + Wait), node: &MemoryNode, pass: &mut Pass) {
+    assert!(rt; node.event(rt, pass, hello(1, 7)).is_ok());
+    let refused = Some((FinishRefusal::HistoryFull, 1));
+    assert!(rt; unfinished(rt, node, pass) == refused);
+    assert!(rt; node.event(rt, pass, hello(1, 7)).err() == Some(BookError::HistoryFull));
+    assert!(rt; pass.events().len() == 2);
+}
+
+/// How many entries the history has of the node that is closed with this pass.
+fn closed(rt: &impl Wait, alloc: Global, node: MemoryNode, pass: Pass) -> Option<usize> {
+    let mut given = Vec::new(alloc);
+    given.push(pass).ok()?;
+    Some(node.close(rt, given).ok()?.history.len())
 }
 
 /// A limit of two: a job that is out then is handed back, and the node can be closed.
 #[test]
 fn a_history_ends(rt: HostRuntime) -> Result<(), Fail> {
-    let alloc = rt.alloc();
-    let handlers = cells(alloc, &[1]).ok_or("cells")?;
-    let mut before = Book::open(alloc, handlers, MemoryKeeper::new(alloc))?;
-    for event in [
-        hello(1, 7),
-        lock(1, 7),
-        open(1, 7),
-        log(1, 7, 1).ok_or("log")?,
-    ] {
-        assert!(rt; is_heard(&mut before, event));
-    }
-    let handlers = cells(alloc, &[1]).ok_or("cells")?;
-    let (node, mut passes) = Node::open_limited(alloc, handlers, before.into_keeper(), 1, 2)?;
+    let mut before = book(rt.alloc(), &[1]).ok_or("cells")??;
+    sends(&rt, &mut before);
+    let (node, mut passes) = limited(rt.alloc(), before).ok_or("cells")??;
     let mut pass = passes.pop().ok_or("a pass")?;
-    assert!(rt; node.event(&rt, &mut pass, hello(1, 7)).is_ok());
-    let job = node.begin(&rt, &mut pass, ONE)?.ok_or("a job")?;
-    let Err(error) = node.finish(&rt, &mut pass, job.work()) else {
-        return Err("finished past the end".into());
-    };
-    assert_eq!(rt; error.cause, FinishRefusal::HistoryFull);
-    assert_eq!(rt; error.done.number(), 1);
-    assert_eq!(rt;
-        node.event(&rt, &mut pass, hello(1, 7)),
-        Err(BookError::HistoryFull)
-    );
-    assert_eq!(rt; pass.events().len(), 2);
-    let mut given = Vec::new(alloc);
-    given.push(pass)?;
-    let Ok(closed) = node.close(&rt, given) else {
-        return Err("not closed".into());
-    };
-    assert_eq!(rt; closed.history.len(), 2);
+    ends(&rt, &node, &mut pass);
+    assert!(rt; closed(&rt, rt.alloc(), node, pass) == Some(2));
     Ok(())
+}
+
+fn fills(rt: &impl Abort, book: &mut MemoryBook) {
+    for _ in 0..MAX_HISTORY {
+        assert!(rt; is_idle(book));
+    }
+    assert!(rt; book.history().len() == 1_000_000);
+    let full = book.begin(0, ONE);
+    assert!(rt; matches!(full, Err(BookError::HistoryFull)));
 }
 
 /// The longest history, met and passed.
 #[test]
 fn the_longest_history_ends(rt: HostRuntime) -> Result<(), Fail> {
     let mut book = book(rt.alloc(), &[1]).ok_or("cells")??;
-    for _ in 0..MAX_HISTORY {
-        assert!(rt; book.begin(0, ONE)?.is_none());
-    }
-    assert_eq!(rt; book.history().len(), 1_000_000);
-    let full = book.begin(0, ONE);
-    assert!(rt; matches!(full, Err(BookError::HistoryFull)));
+    fills(&rt, &mut book);
     Ok(())
 }

@@ -1,64 +1,68 @@
 //! Keepers that refuse.
 
-use super::{cells, hello, lock, open};
-use scoop_book::{Book, BookError, OpenError, Reply};
+use super::{MemoryBook, ONE, cells, hello, lock, notes, open, refusal};
+use scoop_book::{Book, BookError, OpenError};
 use scoop_handler::Note;
-use scoop_message::HandlerId;
+use scoop_keeper::{FailingKeeper, KeeperError, MemoryKeeper};
 use scoop_object::Table;
-use scoop_record::{FailingKeeper, KeeperError, MemoryKeeper};
 use std::alloc::Global;
 use std::process::Abort;
 use std::test::Fail;
 
-const ONE: HandlerId = HandlerId(1);
+type FailingBook = Book<Table, FailingKeeper<MemoryKeeper>>;
 
 /// A book of one cell over a keeper that takes so many calls, one of which is the load.
-fn failing(
-    alloc: Global,
-    calls: u64,
-) -> Option<Result<Book<Table, FailingKeeper<MemoryKeeper>>, OpenError>> {
+fn failing(alloc: Global, calls: u64) -> Option<Result<FailingBook, OpenError>> {
     let keeper = FailingKeeper::new(MemoryKeeper::new(alloc), calls);
     Some(Book::open(alloc, cells(alloc, &[1])?, keeper))
+}
+
+fn fails(rt: &impl Abort, book: &mut FailingBook) {
+    assert!(rt; refusal(book, hello(1, 7)).is_none());
+    // Nothing changes, so nothing is put.
+    assert!(rt; refusal(book, hello(1, 7)).is_none());
+    assert!(rt; refusal(book, lock(1, 7)) == Some(BookError::StoreRefused));
+    assert!(rt; book.history().len() == 2);
+    assert!(rt; refusal(book, hello(1, 7)) == Some(BookError::NodeFailed));
+    let begun = book.begin(0, ONE);
+    assert!(rt; matches!(begun, Err(BookError::NodeFailed)));
+    assert!(rt; book.history().len() == 2);
+}
+
+/// A book that opens over what is stored by the one that failed.
+fn again(alloc: Global, book: FailingBook) -> Option<Result<MemoryBook, OpenError>> {
+    let handlers = cells(alloc, &[1])?;
+    Some(Book::open(alloc, handlers, book.into_keeper().into_inner()))
+}
+
+fn goes_on(rt: &impl Abort, book: &mut MemoryBook) {
+    assert!(rt; notes(book, hello(1, 7), Note::Known));
+    assert!(rt; notes(book, lock(1, 7), Note::Granted));
+    assert!(rt; refusal(book, open(1, 7)).is_none());
 }
 
 /// The second put is refused: the book has failed, and another one has what the first put stored.
 #[test]
 fn a_refused_put_fails_the_book(rt: HostRuntime) -> Result<(), Fail> {
-    let alloc = rt.alloc();
-    let mut book = failing(alloc, 2).ok_or("cells")??;
-    assert!(rt; book.step(0, hello(1, 7)).is_ok());
-    // Nothing changes, so nothing is put.
-    assert!(rt; book.step(0, hello(1, 7)).is_ok());
-    assert_eq!(rt; book.step(0, lock(1, 7)), Err(BookError::StoreRefused));
-    assert_eq!(rt; book.history().len(), 2);
-    assert_eq!(rt; book.step(0, hello(1, 7)), Err(BookError::NodeFailed));
-    let begun = book.begin(0, ONE);
-    assert!(rt; matches!(begun, Err(BookError::NodeFailed)));
-    assert_eq!(rt; book.history().len(), 2);
-    let keeper = book.into_keeper().into_inner();
-    let handlers = cells(alloc, &[1]).ok_or("cells")?;
-    let mut again = Book::open(alloc, handlers, keeper)?;
-    let known = again.step(0, hello(1, 7))?;
-    assert!(rt; matches!(known, Reply::Heard(heard) if heard.note == Note::Known));
-    let granted = again.step(0, lock(1, 7))?;
-    assert!(rt; matches!(granted, Reply::Heard(heard) if heard.note == Note::Granted));
-    assert!(rt; again.step(0, open(1, 7)).is_ok());
+    let mut book = failing(rt.alloc(), 2).ok_or("cells")??;
+    fails(&rt, &mut book);
+    let mut again = again(rt.alloc(), book).ok_or("cells")??;
+    goes_on(&rt, &mut again);
     Ok(())
 }
 
 /// A fresh handler's first message is put even where it is dropped.
 #[test]
 fn a_first_message_is_put(rt: HostRuntime) -> Result<(), Fail> {
-    let alloc = rt.alloc();
-    let mut book = failing(alloc, 1).ok_or("cells")??;
-    assert_eq!(rt; book.step(0, lock(1, 7)), Err(BookError::StoreRefused));
+    let mut book = failing(rt.alloc(), 1).ok_or("cells")??;
+    assert!(rt; refusal(&mut book, lock(1, 7)) == Some(BookError::StoreRefused));
     Ok(())
 }
 
 #[test]
 fn a_refused_load_opens_nothing(rt: HostRuntime) -> Result<(), Fail> {
-    let opened = failing(rt.alloc(), 0).ok_or("cells")?;
     let refused = OpenError::Keeper(KeeperError::Refused);
-    assert_eq!(rt; opened.err(), Some(refused));
+    let error = failing(rt.alloc(), 0).ok_or("cells")?.err();
+    assert!(rt; error == Some(refused));
     Ok(())
 }

@@ -2,9 +2,9 @@
 
 use super::{cells, hello, lock, log, open};
 use scoop_book::{CloseRefusal, Event, Node, OpenError, Pass, Reply};
+use scoop_keeper::MemoryKeeper;
 use scoop_message::HandlerId;
 use scoop_object::Table;
-use scoop_record::{Keeper, MemoryKeeper};
 use std::alloc::Global;
 use std::process::Abort;
 use std::sync::Wait;
@@ -15,49 +15,64 @@ use std::thread::Threads;
 type MemoryNode = Node<Table, MemoryKeeper>;
 
 /// The node hears the message.
-fn hears<K: Keeper<Global>, R: Wait>(
-    rt: &R,
-    node: &Node<Table, K>,
-    pass: &mut Pass,
-    event: Event,
-) -> Option<Reply> {
+fn hears<R: Wait>(rt: &R, node: &MemoryNode, pass: &mut Pass, event: Event) -> Option<Reply> {
     let Event::Hear(_) = event else {
         return None;
     };
     node.event(rt, pass, event).ok()
 }
 
+/// The client's call of this number is heard, and runs.
+fn calls<R: Wait>(
+    rt: &R,
+    node: &MemoryNode,
+    pass: &mut Pass,
+    handler: u32,
+    client: u32,
+    number: u32,
+) -> Option<()> {
+    hears(rt, node, pass, log(handler, client, number)?)?;
+    let job = node.begin(rt, pass, HandlerId(handler)).ok()??;
+    node.finish(rt, pass, job.work()).ok()?;
+    Some(())
+}
+
 /// What a thread does at one node: its client greets the handler, opens a private queue there, and logs calls
 /// each of which runs before the next, 500 events in all.
-fn work<K: Keeper<Global>, R: Wait>(
+fn works<R: Wait>(
     rt: &R,
-    node: &Node<Table, K>,
+    node: &MemoryNode,
+    pass: &mut Pass,
+    handler: u32,
+    client: u32,
+) -> Option<()> {
+    hears(rt, node, pass, hello(handler, client))?;
+    hears(rt, node, pass, lock(handler, client))?;
+    hears(rt, node, pass, open(handler, client))?;
+    for number in 1..166u32 {
+        calls(rt, node, pass, handler, client, number)?;
+    }
+    hears(rt, node, pass, hello(handler, client))?;
+    hears(rt, node, pass, hello(handler, client))?;
+    Some(())
+}
+
+/// The same with a pass of its own.
+fn work<R: Wait>(
+    rt: &R,
+    node: &MemoryNode,
     mut pass: Pass,
     handler: u32,
     client: u32,
 ) -> Option<Pass> {
-    for event in [
-        hello(handler, client),
-        lock(handler, client),
-        open(handler, client),
-    ] {
-        hears(rt, node, &mut pass, event)?;
-    }
-    for number in 1..166u32 {
-        hears(rt, node, &mut pass, log(handler, client, number)?)?;
-        let job = node.begin(rt, &mut pass, HandlerId(handler)).ok()??;
-        node.finish(rt, &mut pass, job.work()).ok()?;
-    }
-    for _ in 0..2 {
-        hears(rt, node, &mut pass, hello(handler, client))?;
-    }
+    works(rt, node, &mut pass, handler, client)?;
     Some(pass)
 }
 
 /// Two threads, each with its pass.
-fn both_work<K: Keeper<Global> + Send, R: Threads + Wait + Sync>(
+fn both_work<R: Threads + Wait + Sync>(
     rt: &R,
-    node: &Node<Table, K>,
+    node: &MemoryNode,
     first: Pass,
     second: Pass,
 ) -> (Option<Pass>, Option<Pass>) {
@@ -68,14 +83,10 @@ fn both_work<K: Keeper<Global> + Send, R: Threads + Wait + Sync>(
     )
 }
 
-/// A node of two cells over this keeper, with its passes from the last to the first.
-fn opened<K: Keeper<Global>>(
-    alloc: Global,
-    keeper: K,
-    passes: u32,
-) -> Option<Result<(Node<Table, K>, Vec<Pass>), OpenError>> {
+/// A node of two cells, with its passes from the last to the first.
+fn opened(alloc: Global, passes: u32) -> Option<Result<(MemoryNode, Vec<Pass>), OpenError>> {
     let handlers = cells(alloc, &[1, 2])?;
-    Some(Node::open(alloc, handlers, keeper, passes))
+    Some(Node::open(alloc, handlers, MemoryKeeper::new(alloc), passes))
 }
 
 /// How many entries are of this pass.
@@ -83,51 +94,86 @@ fn entries_of(history: &[(u32, Event, Reply)], number: u32) -> usize {
     history.iter().filter(|entry| entry.0 == number).count()
 }
 
+/// One pass of another node with the same number as a node's second.
+fn strange(alloc: Global) -> Option<Pass> {
+    let (_, mut passes) = opened(alloc, 2)?.ok()?;
+    passes.pop()
+}
+
+/// Two threads work at the node: the second's pass, and the first's, given back.
+fn worked<R: Threads + Wait + Sync + Abort>(
+    rt: &R,
+    alloc: Global,
+    node: &MemoryNode,
+    mut passes: Vec<Pass>,
+) -> Option<(Pass, Vec<Pass>)> {
+    let second = passes.pop()?;
+    let first = passes.pop()?;
+    let (first, second) = both_work(rt, node, first, second);
+    let (first, second) = (first?, second?);
+    assert!(rt; (first.number(), first.events().len()) == (0, 500));
+    assert!(rt; (second.number(), second.events().len()) == (1, 500));
+    let mut given = Vec::new(alloc);
+    given.push(first).ok()?;
+    Some((second, given))
+}
+
+/// The node isn't closed with these passes: why, and both handed back.
+fn unclosed<R: Wait>(
+    rt: &R,
+    node: MemoryNode,
+    given: Vec<Pass>,
+) -> Option<(CloseRefusal, MemoryNode, Vec<Pass>)> {
+    match node.close(rt, given) {
+        Ok(_) => None,
+        Err(error) => Some((error.cause, error.node, error.passes)),
+    }
+}
+
+/// Closes the node: how many entries its history has, and how many of each pass.
+fn closed<R: Wait>(rt: &R, node: MemoryNode, given: Vec<Pass>) -> Option<(usize, usize, usize)> {
+    let closed = node.close(rt, given).ok()?;
+    let history = closed.history.as_slice();
+    Some((
+        history.len(),
+        entries_of(history, 0),
+        entries_of(history, 1),
+    ))
+}
+
+/// The node is closed neither with one pass nor with a stranger's, but with its own.
+fn closes<R: Wait>(
+    rt: &R,
+    node: MemoryNode,
+    given: Vec<Pass>,
+    stranger: Pass,
+    second: Pass,
+) -> Option<((CloseRefusal, CloseRefusal), (usize, usize, usize))> {
+    let (missing, node, mut given) = unclosed(rt, node, given)?;
+    given.push(stranger).ok()?;
+    let (differs, node, mut given) = unclosed(rt, node, given)?;
+    drop(given.pop());
+    given.push(second).ok()?;
+    Some(((missing, differs), closed(rt, node, given)?))
+}
+
 #[test]
 fn two_threads_work_and_the_node_is_closed(rt: HostRuntime) -> Result<(), Fail> {
     let alloc = rt.alloc();
-    let (node, mut passes) = opened(alloc, MemoryKeeper::new(alloc), 2).ok_or("cells")??;
-    let (_, mut strangers) = opened(alloc, MemoryKeeper::new(alloc), 2).ok_or("cells")??;
-    let second = passes.pop().ok_or("second")?;
-    let first = passes.pop().ok_or("first")?;
-    let (first, second) = both_work(&rt, &node, first, second);
-    let (first, second) = (first.ok_or("first")?, second.ok_or("second")?);
-    assert_eq!(rt; (first.number(), first.events().len()), (0, 500));
-    assert_eq!(rt; (second.number(), second.events().len()), (1, 500));
-    let mut given = Vec::new(alloc);
-    given.push(first)?;
-    let Err(error) = node.close(&rt, given) else {
-        return Err("closed with one pass".into());
-    };
-    assert_eq!(rt; error.cause, CloseRefusal::MissingPass);
-    let (node, mut given) = (error.node, error.passes);
-    given.push(strangers.pop().ok_or("stranger")?)?;
-    let Err(error) = node.close(&rt, given) else {
-        return Err("closed with a stranger".into());
-    };
-    assert_eq!(rt; error.cause, CloseRefusal::PassDiffers(1));
-    let (node, mut given) = (error.node, error.passes);
-    drop(given.pop());
-    given.push(second)?;
-    let Ok(closed) = node.close(&rt, given) else {
-        return Err("not closed".into());
-    };
-    assert_eq!(rt; closed.history.len(), 1000);
-    assert_eq!(rt; entries_of(&closed.history, 0), 500);
-    assert_eq!(rt; entries_of(&closed.history, 1), 500);
+    let stranger = strange(alloc).ok_or("a stranger")?;
+    let (node, passes) = opened(alloc, 2).ok_or("cells")??;
+    let (second, given) = worked(&rt, alloc, &node, passes).ok_or("passes")?;
+    let (causes, entries) = closes(&rt, node, given, stranger, second).ok_or("closed")?;
+    assert!(rt; causes == (CloseRefusal::MissingPass, CloseRefusal::PassDiffers(1)));
+    assert!(rt; entries == (1000, 500, 500));
     Ok(())
 }
 
 #[test]
 fn a_node_has_a_pass(rt: HostRuntime) -> Result<(), Fail> {
-    let alloc = rt.alloc();
-    let none = opened(alloc, MemoryKeeper::new(alloc), 0).ok_or("cells")?;
-    assert_eq!(rt; none.err(), Some(OpenError::NoPasses));
-    let one: Result<(MemoryNode, Vec<Pass>), OpenError> = opened(
-        alloc,
-        MemoryKeeper::new(alloc),
-        1,
-    ).ok_or("cells")?;
-    assert!(rt; one.is_ok());
+    let none = opened(rt.alloc(), 0).ok_or("cells")?.err();
+    assert!(rt; none == Some(OpenError::NoPasses));
+    let one = opened(rt.alloc(), 1).ok_or("cells")?.is_ok();
+    assert!(rt; one);
     Ok(())
 }

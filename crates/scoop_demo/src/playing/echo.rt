@@ -4,11 +4,11 @@ use scoop_message::{Entry, Message, Request};
 use std::io;
 use std::io::Write;
 
-/// A line of a script: its number, and its bytes.
+/// A line of a script: its number, if it stands there, and its bytes.
 #[derive(Clone, Copy)]
 pub struct Echo<'a> {
-    pub number: u32,
-    pub line: &'a [u8],
+    number: Option<u32>,
+    line: &'a [u8],
 }
 
 /// What a line's event is about.
@@ -25,7 +25,19 @@ impl<'a> Echo<'a> {
     /// The line of this number, where it is to be told.
     pub fn of(echoes: bool, number: u32, line: &'a [u8]) -> Option<Echo<'a>> {
         if echoes {
-            Some(Echo { number, line })
+            Some(Echo {
+                number: Some(number),
+                line,
+            })
+        } else {
+            None
+        }
+    }
+
+    /// A line that doesn't stand in the script, where it is to be told.
+    pub fn unnumbered(echoes: bool, line: &'a [u8]) -> Option<Echo<'a>> {
+        if echoes {
+            Some(Echo { number: None, line })
         } else {
             None
         }
@@ -40,7 +52,10 @@ impl<'a> Echo<'a> {
         let Some(echo) = echo else {
             return Ok(());
         };
-        write!(writer, "{}: ", echo.number)?;
+        match echo.number {
+            Some(number) => write!(writer, "{number}: ")?,
+            None => writer.write_all(b"settle: ")?,
+        }
         writer.write_all(echo.line)?;
         match subject {
             Subject::Message(message) => {

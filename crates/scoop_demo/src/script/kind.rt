@@ -1,7 +1,7 @@
 //! What the first words of a line say that it is.
 
 ghost use Rattle.std.specs.Prelude.{◌≡◌, None, Some, MatchOption};
-ghost use Rattle.scoop_demo.specs.Classes.{same_text};
+ghost use Rattle.scoop_classes.specs.Classes.{same_text};
 ghost use Rattle.scoop_demo.specs.ScriptWords.{words_of};
 ghost use Rattle.scoop_demo.specs.ScriptKind.{kind_of, word_kind, event_kind, restart_kind};
 

@@ -9,8 +9,8 @@ ghost use Rattle.scoop_demo.specs.LineFault.{IfFault};
 
 use super::number::{read_numbers, read_u32, read_u64};
 use super::words::{count_words, next_word};
-use crate::classes::demo_class;
 use crate::fault::InputFault;
+use scoop_classes::demo_class;
 use scoop_message::limits::MAX_ENTRIES;
 use scoop_message::{ClientId, HandlerId, OutOfMemory, Words};
 use scoop_object::Class;

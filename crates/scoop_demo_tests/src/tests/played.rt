@@ -4,8 +4,8 @@
 //! lines, which write the histories, have nothing before that.
 
 use scoop_demo::*;
+use scoop_keeper::MemoryKeeper;
 use scoop_message::ClientId;
-use scoop_record::MemoryKeeper;
 use scoop_world::WorldOpenError;
 use std::alloc::Global;
 use std::process::Abort;
@@ -535,6 +535,7 @@ fn tells_the_lines_that_it_plays(rt: HostRuntime) -> Result<(), Fail> {
     let options = PlayOptions {
         echoes: true,
         is_strict: false,
+        settles: false,
     };
     let (ended, output) = played_with(rt.alloc(), options, ECHOED);
     assert_eq!(rt; ended, Ok(()));
@@ -548,6 +549,7 @@ fn stops_at_a_refused_event(rt: HostRuntime) {
     let options = PlayOptions {
         echoes: true,
         is_strict: true,
+        settles: false,
     };
     let (ended, output) = played_with(rt.alloc(), options, ECHOED);
     let fault = RunError::Input {
@@ -592,6 +594,7 @@ fn tells_the_entries_that_run(rt: HostRuntime) {
     let options = PlayOptions {
         echoes: true,
         is_strict: true,
+        settles: false,
     };
     let (ended, output) = played_with(rt.alloc(), options, RAN);
     assert_eq!(rt; ended, Ok(()));

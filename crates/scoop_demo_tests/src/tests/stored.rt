@@ -1,10 +1,12 @@
 //! Runs over keepers: what is stored, what comes back, and what a refusal leaves.
 
 use super::{Ended, HELLO, LOCK, OPENED, OPENING, cell_book, run_of};
+use scoop_classes::{CellObject, ExchangeObject};
 use scoop_demo::*;
+use scoop_keeper::{FailingKeeper, Keeper, KeeperError, MemoryKeeper};
 use scoop_message::HandlerId;
 use scoop_object::Boxed;
-use scoop_record::{FailingKeeper, Keeper, KeeperError, MemoryKeeper, Store};
+use scoop_record::Store;
 use sqlite::{Connection, MemStore};
 use std::alloc::Global;
 use std::process::Abort;

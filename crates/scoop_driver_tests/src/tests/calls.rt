@@ -1,6 +1,6 @@
-//! Whole calls, over a line to a node.
+//! Whole calls, over a wire to a node.
 
-use super::node::{BALANCE, DEPOSIT, Line, Node, WITHDRAW};
+use super::node::{BALANCE, DEPOSIT, Node, WITHDRAW, Wire};
 use super::{ONE, block, client, request};
 use scoop_client::{ClientError, ClientNote, Phase};
 use scoop_driver::{Driver, DriverError};
@@ -9,10 +9,10 @@ use scoop_reserve::ReserveError;
 use std::alloc::Global;
 use std::process::Abort;
 
-/// A driver of client 7 over a line, which has greeted, whose calls take so many turns.
-fn greeted(rt: &impl Abort, alloc: Global, turns: u64) -> Driver<Line> {
-    let line = Line::new(Node::new(rt, alloc));
-    let mut driver = Driver::new(client(rt, alloc), line, turns);
+/// A driver of client 7 over a wire, which has greeted, whose calls take so many turns.
+fn greeted(rt: &impl Abort, alloc: Global, turns: u64) -> Driver<Wire> {
+    let wire = Wire::new(Node::new(rt, alloc));
+    let mut driver = Driver::new(client(rt, alloc), wire, turns);
     assert_eq!(rt; driver.turn(), Ok(Some(ClientNote::Welcomed(ONE))));
     driver
 }
@@ -70,7 +70,7 @@ fn a_busy_lock_ends_the_turns(rt: HostRuntime) {
     };
     let _welcome = node.replies(&Message::Hello(ONE, other.client, 1));
     let _locked = node.replies(&Message::Lock(ONE, other));
-    let mut driver = Driver::new(client(&rt, rt.alloc()), Line::new(node), 1);
+    let mut driver = Driver::new(client(&rt, rt.alloc()), Wire::new(node), 1);
     assert_eq!(rt; driver.turn(), Ok(Some(ClientNote::Welcomed(ONE))));
     assert_eq!(rt; driver.reserve(&[ONE]), Err(DriverError::TurnsOver));
     assert_eq!(rt; driver.phase(), Phase::Locking);

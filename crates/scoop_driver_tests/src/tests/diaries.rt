@@ -1,6 +1,6 @@
 //! What diaries are handed.
 
-use super::node::{BALANCE, DEPOSIT, Line, Node};
+use super::node::{BALANCE, DEPOSIT, Node, Wire};
 use super::{ONE, client, request};
 use scoop_client::{Client, Phase};
 use scoop_driver::{Command, Diary, Driver, DriverError, Received, Step, StepList};
@@ -11,7 +11,7 @@ use std::process::Abort;
 use std::test::Fail;
 
 /// Does with a client what a step tells. Whether it took a command, if that is what the step tells.
-fn replays(client: &mut Client, step: &Step) -> bool {
+pub fn replays(client: &mut Client, step: &Step) -> bool {
     match step {
         Step::Gave(Command::Reserve(handlers)) => client.reserve(handlers.as_slice()).is_ok(),
         Step::Gave(Command::Call(handler, request)) => client.call(*handler, *request).is_ok(),
@@ -39,9 +39,9 @@ fn commands(steps: &[Step]) -> usize {
 
 #[test]
 fn a_kept_diary_replays(rt: HostRuntime) {
-    let line = Line::new(Node::new(&rt, rt.alloc()));
+    let wire = Wire::new(Node::new(&rt, rt.alloc()));
     let diary = StepList::new(rt.alloc());
-    let mut driver = Driver::with_diary(client(&rt, rt.alloc()), line, 10, diary);
+    let mut driver = Driver::with_diary(client(&rt, rt.alloc()), wire, 10, diary);
     assert!(rt; driver.turn().is_ok());
     assert_eq!(rt; driver.reserve(&[ONE]), Ok(()));
     assert_eq!(rt; driver.call(ONE, request(&rt, DEPOSIT, 150)), Ok(()));
@@ -124,14 +124,14 @@ impl<A: Allocator> Diary<A> for Sends {
     fn broke(&mut self, _client: &Client<A>, _place: usize) {}
 }
 
-fn counts(rt: &impl Abort, driver: &Driver<Line, Sends, Global>, sends: u64) {
+fn counts(rt: &impl Abort, driver: &Driver<Wire, Sends, Global>, sends: u64) {
     assert_eq!(rt; driver.diary().count, sends);
 }
 
 #[test]
 fn a_diary_sees_what_was_due(rt: HostRuntime) {
-    let line = Line::new(Node::new(&rt, rt.alloc()));
-    let mut driver = Driver::with_diary(client(&rt, rt.alloc()), line, 10, Sends { count: 0 });
+    let wire = Wire::new(Node::new(&rt, rt.alloc()));
+    let mut driver = Driver::with_diary(client(&rt, rt.alloc()), wire, 10, Sends { count: 0 });
     counts(&rt, &driver, 0);
     assert!(rt; driver.turn().is_ok());
     assert!(rt; driver.turn().is_ok());

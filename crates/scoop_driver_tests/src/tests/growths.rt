@@ -1,6 +1,7 @@
 //! A driver that keeps a diary, each growth of each call refused in turn.
 
-use super::node::{BALANCE, DEPOSIT, Line, Node, WITHDRAW};
+use super::diaries::replays;
+use super::node::{BALANCE, DEPOSIT, Node, WITHDRAW, Wire};
 use super::{ONE, client, request};
 use scoop_client::{ClientError, Phase};
 use scoop_driver::{Condition, Driver, DriverError, StepList};
@@ -12,7 +13,7 @@ use std::test::Fail;
 
 type Heap<'a> = &'a Refusing<Global>;
 
-type Kept<'a> = Driver<Line, StepList<Heap<'a>>, Heap<'a>>;
+type Kept<'a> = Driver<Wire, StepList<Heap<'a>>, Heap<'a>>;
 
 const WANTING: DriverError = DriverError::Client(ClientError::OutOfMemory);
 
@@ -63,8 +64,17 @@ fn makes<'a>(rt: &impl Abort, driver: &mut Kept<'a>, act: Act) -> Result<(), Dri
     }
 }
 
-/// A driver with a growth refused in one of its calls, told where memory is wanted. The steps that were made
-/// are in the diary, and no other.
+/// The diary has the steps that were made and no other: a client that takes these stands where the driver's does.
+fn is_kept<'a>(rt: &impl Abort, alloc: Global, driver: &Kept<'a>) {
+    let mut again = client(rt, alloc);
+    for step in driver.diary().steps() {
+        assert!(rt; replays(&mut again, step));
+    }
+    assert_eq!(rt; again.phase(), driver.phase());
+    assert_eq!(rt; again.due(ONE), driver.due(ONE));
+}
+
+/// A driver with a growth refused in one of its calls, told where memory is wanted.
 fn is_told<'a>(
     rt: &impl Abort,
     heap: Heap<'a>,
@@ -72,7 +82,6 @@ fn is_told<'a>(
     act: Act,
     number: u64,
 ) -> bool {
-    let before = driver.diary().steps().len();
     heap.refuse(number);
     let told = makes(rt, driver, act);
     let refused = heap.has_refused();
@@ -82,19 +91,20 @@ fn is_told<'a>(
     } else {
         assert_eq!(rt; told, Ok(()));
     }
-    assert!(rt; before <= driver.diary().steps().len());
     refused
 }
 
 /// The calls up to one of them, in which the growth of this number is refused: whether it was.
 fn refuses(rt: &impl Abort, alloc: Global, last: Act, number: u64) -> bool {
     let heap = Refusing::new(alloc, 0);
-    let line = Line::new(Node::new(rt, alloc));
+    let wire = Wire::new(Node::new(rt, alloc));
     let diary = StepList::new(&heap);
-    let mut driver = Driver::with_diary(client(rt, &heap), line, 10, diary);
+    let mut driver = Driver::with_diary(client(rt, &heap), wire, 10, diary);
     for act in ACTS {
         if act == last {
-            return is_told(rt, &heap, &mut driver, act, number);
+            let refused = is_told(rt, &heap, &mut driver, act, number);
+            is_kept(rt, alloc, &driver);
+            return refused;
         }
         assert_eq!(rt; makes(rt, &mut driver, act), Ok(()));
     }
@@ -123,9 +133,9 @@ fn each_growth_of_each_call_is_refused(rt: HostRuntime) -> Result<(), Fail> {
 #[test]
 fn a_turn_without_room_is_not_taken(rt: HostRuntime) {
     let heap = Refusing::new(rt.alloc(), 0);
-    let line = Line::new(Node::new(&rt, rt.alloc()));
+    let wire = Wire::new(Node::new(&rt, rt.alloc()));
     let diary = StepList::new(&heap);
-    let mut driver = Driver::with_diary(client(&rt, &heap), line, 10, diary);
+    let mut driver = Driver::with_diary(client(&rt, &heap), wire, 10, diary);
     heap.refuse(1);
     assert_eq!(rt; makes(&rt, &mut driver, Act::Turn), Err(WANTING));
     assert_eq!(rt; driver.diary().steps().len(), 0);

@@ -100,18 +100,18 @@ impl Node {
 
 /// A link to a node that answers at once. It keeps the newest reply.
 #[derive(Drop)]
-pub struct Line {
+pub struct Wire {
     pub node: Node,
     reply: Option<Datagram>,
 }
 
-impl Line {
-    pub fn new(node: Node) -> Line {
-        Line { node, reply: None }
+impl Wire {
+    pub fn new(node: Node) -> Wire {
+        Wire { node, reply: None }
     }
 }
 
-impl Link for Line {
+impl Link for Wire {
     ghost told = { λ _. None };
 
     ghost fault_count = { λ _. 0 };

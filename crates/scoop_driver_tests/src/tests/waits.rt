@@ -1,6 +1,6 @@
-//! Waits for a condition, over a line to a node.
+//! Waits for a condition, over a wire to a node.
 
-use super::node::{BALANCE, DEPOSIT, Line, Node, WITHDRAW};
+use super::node::{BALANCE, DEPOSIT, Node, WITHDRAW, Wire};
 use super::{ONE, client, request};
 use scoop_client::{ClientError, ClientNote, Phase};
 use scoop_driver::{Condition, Driver, DriverError};
@@ -18,7 +18,7 @@ fn balance_of(rt: &impl Abort, handler: HandlerId, least: u64) -> Condition {
 /// Waits for a balance of at least this, to do this with an amount.
 fn waits(
     rt: &impl Abort,
-    driver: &mut Driver<Line>,
+    driver: &mut Driver<Wire>,
     least: u64,
     op: u16,
     amount: u64,
@@ -28,15 +28,15 @@ fn waits(
 }
 
 /// The balance is this, and no block is left.
-fn has(rt: &impl Abort, driver: &Driver<Line>, balance: u64) {
+fn has(rt: &impl Abort, driver: &Driver<Wire>, balance: u64) {
     assert_eq!(rt; driver.link().node.balance(), Some(balance));
     assert_eq!(rt; driver.phase(), Phase::Idle);
 }
 
 #[test]
 fn a_wait_withdraws_once_the_balance_is_there(rt: HostRuntime) {
-    let line = Line::new(Node::new(&rt, rt.alloc()));
-    let mut driver = Driver::new(client(&rt, rt.alloc()), line, 10);
+    let wire = Wire::new(Node::new(&rt, rt.alloc()));
+    let mut driver = Driver::new(client(&rt, rt.alloc()), wire, 10);
     assert_eq!(rt; driver.turn(), Ok(Some(ClientNote::Welcomed(ONE))));
     let failed = Err(DriverError::ConditionFailed(2));
     assert_eq!(rt; waits(&rt, &mut driver, 100, WITHDRAW, 100), failed);
@@ -52,7 +52,7 @@ fn a_wait_withdraws_once_the_balance_is_there(rt: HostRuntime) {
 /// A wait of one try with a condition on one handler, whose body names handler 1 and another.
 fn asks(
     rt: &impl Abort,
-    driver: &mut Driver<Line>,
+    driver: &mut Driver<Wire>,
     asked: HandlerId,
     named: HandlerId,
 ) -> Result<u32, DriverError> {
@@ -65,8 +65,8 @@ fn asks(
 
 #[test]
 fn a_handler_outside_is_refused_first(rt: HostRuntime) {
-    let line = Line::new(Node::new(&rt, rt.alloc()));
-    let mut driver = Driver::new(client(&rt, rt.alloc()), line, 10);
+    let wire = Wire::new(Node::new(&rt, rt.alloc()));
+    let mut driver = Driver::new(client(&rt, rt.alloc()), wire, 10);
     let nine = HandlerId(9);
     let outside = Err(DriverError::Client(ClientError::NotReserved(nine)));
     assert_eq!(rt; asks(&rt, &mut driver, nine, ONE), outside);

@@ -7,7 +7,7 @@ ghost use Rattle.scoop_handler.specs.Running.{FitsClass};
 
 use crate::error::WrongClass;
 use crate::handler::Handler;
-use crate::held::{Held, set_words};
+use crate::presence::{Presence, set_words};
 use crate::state::HandlerState;
 use scoop_message::{HandlerId, OutOfMemory};
 use scoop_object::{Behaviour, Class};
@@ -39,7 +39,7 @@ impl<B: Behaviour, A: Allocator + Copy> Handler<B, A> {
             holder: None,
             marks: Vec::new(alloc),
             queues: QueueOfQueues::new(alloc),
-            held: Held::Here(object),
+            presence: Presence::Here(object),
         })
     }
 
@@ -47,14 +47,13 @@ impl<B: Behaviour, A: Allocator + Copy> Handler<B, A> {
     pub fn copy(&self) -> Result<HandlerState<A>, OutOfMemory>
         ensures { IfOk result (λ copy. copy ≡ self.now.state) }
     {
-        let alloc = *self.marks.allocator();
-        Ok(HandlerState {
-            number: self.number,
-            holder: self.holder,
-            marks: Vec::from_slice(alloc, self.marks.as_slice())?,
-            queues: self.queues.copy()?,
-            words: self.words(),
-        })
+        HandlerState::copied(
+            self.number,
+            self.holder,
+            &self.marks,
+            &self.queues,
+            self.words(),
+        )
     }
 }
 
@@ -83,7 +82,7 @@ impl<B: Behaviour, A: Allocator> Handler<B, A> {
             holder: state.holder,
             marks: state.marks,
             queues: state.queues,
-            held: Held::Here(object),
+            presence: Presence::Here(object),
         })
     }
 }

@@ -5,7 +5,7 @@ ghost use Rattle.scoop_handler.specs.Core.{IsCore, core_of, with_state};
 ghost use Rattle.scoop_handler.specs.Running.{MayRecall, MayReset, job_out};
 
 use crate::handler::Handler;
-use crate::held::{Held, set_words};
+use crate::presence::{Presence, set_words};
 use crate::state::HandlerState;
 use scoop_object::Behaviour;
 use std::alloc::Allocator;
@@ -25,7 +25,7 @@ impl<B: Behaviour, A: Allocator> Handler<B, A> {
         if !self.may_reset(&state) {
             return Err(state);
         }
-        if let Held::Here(object) = &mut self.held {
+        if let Presence::Here(object) = &mut self.presence {
             set_words(object, state.words);
         }
         self.holder = state.holder;
@@ -51,7 +51,7 @@ impl<B: Behaviour, A: Allocator> Handler<B, A> {
         }
         let mut object = object;
         set_words(&mut object, state.words);
-        self.held = Held::Here(object);
+        self.presence = Presence::Here(object);
         self.holder = state.holder;
         self.marks = state.marks;
         self.queues = state.queues;
@@ -63,9 +63,9 @@ impl<B: Behaviour, A: Allocator> Handler<B, A> {
         ensures may { IsTrue result ↔ MayReset state.now self.now }
         ensures sound { IsCore self.now }
     {
-        let job_stays = match &self.held {
-            Held::Here(_) => true,
-            Held::Out(left) => {
+        let job_stays = match &self.presence {
+            Presence::Here(_) => true,
+            Presence::Out(left) => {
                 state.words == *left && state.queues.front() == self.queues.front()
             }
         };
@@ -76,7 +76,7 @@ impl<B: Behaviour, A: Allocator> Handler<B, A> {
     fn may_recall(&self, object: &B, state: &HandlerState<A>) -> bool
         ensures { IsTrue result ↔ MayRecall (B.class object.now) state.now self.now }
     {
-        matches!(self.held, Held::Out(_))
+        matches!(self.presence, Presence::Out(_))
             && state.number == self.number
             && state.words.len() == self.class.words()
             && object.has_class(&self.class)

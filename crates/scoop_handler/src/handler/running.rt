@@ -9,9 +9,9 @@ ghost use Rattle.scoop_handler.specs.Running.{after, begun, finished, job_out, r
 
 use crate::error::{AfterError, StrangerJob};
 use crate::handler::Handler;
-use crate::held::Held;
 use crate::job::{Done, Job, run_entry};
 use crate::marks::keep_answer_in;
+use crate::presence::Presence;
 use crate::ran::Ran;
 use crate::state::HandlerState;
 use scoop_object::Behaviour;
@@ -27,7 +27,7 @@ impl<B: Behaviour, A: Allocator> Handler<B, A> {
         ensures sound { IsCore self.new }
         ensures grows { MarksGrow self.old.state.marks self.new.state.marks }
     {
-        let Held::Here(object) = &mut self.held else {
+        let Presence::Here(object) = &mut self.presence else {
             return None;
         };
         let (block, number, entry) = self.queues.advance()?;
@@ -51,13 +51,13 @@ impl<B: Behaviour, A: Allocator> Handler<B, A> {
         ensures sound { IsCore self.new }
     {
         let first = self.queues.front()?;
-        let Held::Here(object) = &self.held else {
+        let Presence::Here(object) = &self.presence else {
             return None;
         };
         let words = object.words();
-        match mem::replace(&mut self.held, Held::Out(words)) {
-            Held::Here(object) => Some(Job::new(self.number, first, words, object)),
-            Held::Out(_) => unreachable!(),
+        match mem::replace(&mut self.presence, Presence::Out(words)) {
+            Presence::Here(object) => Some(Job::new(self.number, first, words, object)),
+            Presence::Out(_) => unreachable!(),
         }
     }
 
@@ -80,16 +80,27 @@ impl<B: Behaviour, A: Allocator> Handler<B, A> {
         let ran = done.ran();
         keep_answer_in(&mut self.marks, &ran);
         let object = done.into_object();
-        self.held = Held::Here(object);
+        self.presence = Presence::Here(object);
         Ok(ran)
     }
 
+    /// Makes of the handler's state, held beside it, what `finish` would make of it. Takes no memory.
+    pub fn finish_state(&self, done: &Done<B>, state: &mut HandlerState<A>)
+        requires out { job_out self.now ≡ Some done.now }
+        requires own { state.old ≡ self.now.state }
+        ensures { state.new ≡ after done.now self.now.state }
+    {
+        state.queues.advance();
+        keep_answer_in(&mut state.marks, &done.ran());
+        state.words = done.words();
+    }
+
     /// Whether a job is the one that is out.
-    fn is_out(&self, done: &Done<B>) -> bool
+    pub fn is_out(&self, done: &Done<B>) -> bool
         ensures { IsTrue result ↔ (job_out self.now ≡ Some done.now) }
     {
-        match (&self.held, self.queues.front()) {
-            (Held::Out(left), Some(first)) => done.is_of(self.number, first, &self.class, left),
+        match (&self.presence, self.queues.front()) {
+            (Presence::Out(left), Some(first)) => done.is_of(self.number, first, &self.class, left),
             _ => false,
         }
     }
@@ -108,9 +119,7 @@ impl<B: Behaviour, A: Allocator + Copy> Handler<B, A> {
             return Err(AfterError::Stranger);
         }
         let mut state = self.copy()?;
-        state.queues.advance();
-        keep_answer_in(&mut state.marks, &done.ran());
-        state.words = done.words();
+        self.finish_state(done, &mut state);
         Ok(state)
     }
 }

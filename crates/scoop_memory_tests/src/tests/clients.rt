@@ -1,11 +1,14 @@
 //! A client.
 
 use super::data::{get, set};
-use super::growths::{Calling, Heap, Trial, answered, growths, shown, tried};
+use super::growths::{
+    Calling, Heap, Trial, Trying, add, answered, each_grows, growths, told, tried,
+};
 use scoop_client::{BeginError, Client, ClientError};
 use scoop_message::{ClientId, HandlerId, Message};
 use scoop_refusing::Refusing;
 use std::alloc::{Allocator, Global};
+use std::net::Net;
 use std::test::Fail;
 
 const SEVEN: ClientId = ClientId(7);
@@ -35,25 +38,25 @@ enum Call {
     End,
 }
 
-// All that can be read of a client.
-fn text_of<A: Allocator>(alloc: Global, client: &Client<A>) -> Result<String, Fail> {
-    let (phase, block, batch) = (client.phase(), client.block(), client.batch());
-    let handlers = client.handlers();
-    let mut text = format!(in alloc; "{phase:?} {block:?} {batch} {handlers:?}")?;
+fn add_client<A: Allocator>(text: &mut String, client: &Client<A>) -> Result<(), Fail> {
+    add(text, &client.phase())?;
+    add(text, &client.block())?;
+    add(text, &client.batch())?;
+    add(text, &client.handlers())?;
     for handler in KNOWN {
-        text.push_str(&shown(alloc, &client.due(handler))?)?;
+        add(text, &client.due(handler))?;
     }
-    Ok(text)
+    Ok(())
 }
 
-// The text of a client that has begun, `None` where memory was wanted.
+// Adds the text of a client that has begun. False where memory was wanted.
 fn begun<A: Allocator>(
-    alloc: Global,
+    text: &mut String,
     client: Result<Client<A>, BeginError>,
-) -> Result<Option<String>, Fail> {
+) -> Result<bool, Fail> {
     match client {
-        Ok(client) => Ok(Some(text_of(alloc, &client)?)),
-        Err(BeginError::OutOfMemory) => Ok(None),
+        Ok(client) => told(add_client(text, &client)),
+        Err(BeginError::OutOfMemory) => Ok(false),
         Err(error) => Err(error.into()),
     }
 }
@@ -74,29 +77,28 @@ fn commanded<A: Allocator + Clone>(
 
 /// A client, and a call on it.
 #[derive(Drop)]
-struct Commanding<'a> {
-    alloc: Global,
+struct Commanding<'c, 'a> {
     heap: Heap<'a>,
     call: Call,
-    client: Client<Heap<'a>>,
+    client: &'c mut Client<Heap<'a>>,
 }
 
-impl Calling for Commanding<'_> {
-    fn call(&mut self) -> Result<Option<String>, Fail> {
-        let (alloc, heap) = (self.alloc, self.heap);
+impl Calling for Commanding<'_, '_> {
+    fn call(&mut self, text: &mut String) -> Result<bool, Fail> {
+        let heap = self.heap;
         match self.call {
-            Call::Begin => begun(alloc, Client::begin(heap, SEVEN, 2, &KNOWN)),
-            Call::BeginAt => begun(alloc, Client::begin_at(heap, SEVEN, 2, &KNOWN, 9)),
-            Call::BeginBatched => begun(alloc, Client::begin_batched(heap, SEVEN, 2, &KNOWN, 4)),
+            Call::Begin => begun(text, Client::begin(heap, SEVEN, 2, &KNOWN)),
+            Call::BeginAt => begun(text, Client::begin_at(heap, SEVEN, 2, &KNOWN, 9)),
+            Call::BeginBatched => begun(text, Client::begin_batched(heap, SEVEN, 2, &KNOWN, 4)),
             Call::Reserve(_) | Call::Log | Call::Query | Call::End => {
-                let taken = commanded(&mut self.client, self.call)?;
-                answered(alloc, taken, &ClientError::OutOfMemory)
+                let taken = commanded(self.client, self.call)?;
+                answered(text, taken, &ClientError::OutOfMemory)
             }
         }
     }
 
-    fn text(&mut self) -> Result<String, Fail> {
-        text_of(self.alloc, &self.client)
+    fn read(&mut self, text: &mut String) -> Result<(), Fail> {
+        add_client(text, self.client)
     }
 }
 
@@ -122,44 +124,49 @@ fn settle<A: Allocator>(client: &mut Client<A>) {
     }
 }
 
-// A client that may be told so.
-fn client_for<'a>(heap: Heap<'a>, call: Call) -> Result<Client<Heap<'a>>, Fail> {
-    let mut client = Client::begin(heap, SEVEN, 1, &KNOWN)?;
-    settle(&mut client);
+// The call on a client, which may be told so.
+fn tries_on<'a>(
+    alloc: Global,
+    heap: Heap<'a>,
+    client: &mut Client<Heap<'a>>,
+    call: Call,
+    number: u64,
+) -> Result<Trial, Fail> {
+    settle(client);
     if matches!(call, Call::Log | Call::Query | Call::End) {
-        commanded(&mut client, Call::Reserve(8))??;
-        settle(&mut client);
+        commanded(client, Call::Reserve(8))??;
+        settle(client);
     }
-    Ok(client)
+    tried(alloc, heap, number, &mut Commanding { heap, call, client })
 }
 
-fn tries(alloc: Global, call: Call, number: u64) -> Result<Trial, Fail> {
-    let heap = &Refusing::new(alloc, 0);
-    let client = client_for(heap, call)?;
-    let mut commanding = Commanding {
-        alloc,
-        heap,
-        call,
-        client,
-    };
-    tried(heap, number, &mut commanding)
+impl Trying for Call {
+    fn tries<R: Net>(
+        self,
+        _rt: &R,
+        alloc: Global,
+        _count: u32,
+        number: u64,
+    ) -> Result<Trial, Fail> {
+        let heap = &Refusing::new(alloc, 0);
+        let mut client = Client::begin(heap, SEVEN, 1, &KNOWN)?;
+        tries_on(alloc, heap, &mut client, self, number)
+    }
 }
 
 /// A client takes memory as it begins and as it reserves, and none after that.
 #[test]
 fn clients_begin_and_reserve(rt: HostRuntime) -> Result<(), Fail> {
-    for (call, takes) in [
-        (Call::Begin, true),
-        (Call::BeginAt, true),
-        (Call::BeginBatched, true),
-        (Call::Reserve(1), true),
-        (Call::Reserve(8), true),
-        (Call::Log, false),
-        (Call::Query, false),
-        (Call::End, false),
-    ] {
-        let count = growths(&rt, |number| tries(rt.alloc(), call, number))?;
-        assert_eq!(rt; count > 0, takes, "{call:?} {count}");
+    let taking = [
+        Call::Begin,
+        Call::BeginAt,
+        Call::BeginBatched,
+        Call::Reserve(1),
+        Call::Reserve(8),
+    ];
+    each_grows(&rt, rt.alloc(), &taking, 0..1, 0)?;
+    for call in [Call::Log, Call::Query, Call::End] {
+        assert_eq!(rt; growths(&rt, rt.alloc(), call, 0)?, 0, "{call:?}");
     }
     Ok(())
 }

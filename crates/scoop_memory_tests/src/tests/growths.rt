@@ -3,6 +3,8 @@
 use scoop_refusing::Refusing;
 use std::alloc::Global;
 use std::fmt::Debug;
+use std::net::Net;
+use std::ops::Range;
 use std::process::Abort;
 use std::test::Fail;
 
@@ -25,79 +27,151 @@ pub struct Trial {
     pub shown: String,
 }
 
-/// The text of a value.
-pub fn shown<T: Debug>(alloc: Global, value: &T) -> Result<String, Fail> {
-    Ok(format!(in alloc; "{value:?}")?)
+impl Trial {
+    /// A trial of which nothing is known yet.
+    pub fn new(alloc: Global) -> Trial {
+        Trial {
+            refused: false,
+            wanted: false,
+            changed: false,
+            shown: String::new(alloc),
+        }
+    }
 }
 
-/// The text of what a call answers, and `None` where it wants memory, which it tells so.
+/// Adds the text of a value.
+pub fn add<T: Debug>(text: &mut String, value: &T) -> Result<(), Fail> {
+    let alloc = *text.allocator();
+    text.push_str(&format!(in alloc; "{value:?} ")?)?;
+    Ok(())
+}
+
+/// True, once the text of an answer is added.
+pub fn told(added: Result<(), Fail>) -> Result<bool, Fail> {
+    added?;
+    Ok(true)
+}
+
+/// Adds the text of what a call answers. False where it wants memory, which it tells so.
 pub fn answered<T: Debug + Drop, E: Debug + PartialEq + Drop>(
-    alloc: Global,
+    text: &mut String,
     answer: Result<T, E>,
     want: &E,
-) -> Result<Option<String>, Fail> {
+) -> Result<bool, Fail> {
     match answer {
-        Ok(value) => Ok(Some(shown(alloc, &value)?)),
-        Err(error) if error == *want => Ok(None),
+        Ok(value) => told(add(text, &value)),
+        Err(error) if error == *want => Ok(false),
         Err(error) => Err(error.into()),
     }
 }
 
-/// A subject, and a call that is made on it.
+/// A subject, and a call that is made on it. The text that it adds to is lent, so that few ways out of it have one to
+/// drop: the proof of each would follow it.
 pub trait Calling {
-    /// Makes the call: the text of its answer, and `None` where it wants memory.
-    fn call(&mut self) -> Result<Option<String>, Fail>;
+    /// Makes the call, and adds the text of its answer. False where it wants memory.
+    fn call(&mut self, text: &mut String) -> Result<bool, Fail>;
 
-    /// The text of all that can be read of the subject.
-    fn text(&mut self) -> Result<String, Fail>;
+    /// Adds the text of all that can be read of the subject.
+    fn read(&mut self, text: &mut String) -> Result<(), Fail>;
+}
+
+// Whether something else than before can be read.
+fn is_changed<C: Calling>(alloc: Global, before: &str, calling: &mut C) -> Result<bool, Fail> {
+    let mut now = String::new(alloc);
+    calling.read(&mut now)?;
+    Ok(now.as_str() != before)
+}
+
+// Makes the call with the growth of this number refused, and once more where it wants memory.
+fn attempts<C: Calling>(
+    alloc: Global,
+    heap: Heap<'_>,
+    number: u64,
+    calling: &mut C,
+    before: &str,
+    trial: &mut Trial,
+) -> Result<(), Fail> {
+    heap.refuse(number);
+    let called = calling.call(&mut trial.shown)?;
+    trial.refused = number != 0 && heap.has_refused();
+    heap.refuse(0);
+    if !called {
+        trial.wanted = true;
+        trial.changed = is_changed(alloc, before, calling)?;
+        if !calling.call(&mut trial.shown)? {
+            return Err("refused again".into());
+        }
+    }
+    calling.read(&mut trial.shown)
 }
 
 /// Makes a call with the growth of this number refused, and with none refused under 0. Where it wants
 /// memory, it is made once more with none refused.
-pub fn tried<C: Calling>(heap: Heap<'_>, number: u64, calling: &mut C) -> Result<Trial, Fail> {
-    let before = calling.text()?;
-    heap.refuse(number);
-    let first = calling.call()?;
-    let refused = number != 0 && heap.has_refused();
-    heap.refuse(0);
-    let wanted = first.is_none();
-    let changed = wanted && calling.text()?.as_str() != before.as_str();
-    let answer = match first {
-        Some(answer) => answer,
-        None => calling.call()?.ok_or("refused again")?,
-    };
-    let after = calling.text()?;
-    Ok(Trial {
-        refused,
-        wanted,
-        changed,
-        shown: format!(in *answer.allocator(); "{answer} {after}")?,
-    })
+pub fn tried<C: Calling>(
+    alloc: Global,
+    heap: Heap<'_>,
+    number: u64,
+    calling: &mut C,
+) -> Result<Trial, Fail> {
+    let mut before = String::new(alloc);
+    calling.read(&mut before)?;
+    let mut trial = Trial::new(alloc);
+    attempts(alloc, heap, number, calling, before.as_str(), &mut trial)?;
+    Ok(trial)
+}
+
+/// A call with what it needs to be tried.
+pub trait Trying: Copy {
+    /// Makes the call on a new subject, that has as much as the count says, with the growth of this number refused.
+    fn tries<R: Net>(self, rt: &R, alloc: Global, count: u32, number: u64) -> Result<Trial, Fail>;
+}
+
+// Want of memory is answered exactly where a growth is refused, and changes nothing; it ends as without.
+fn agrees(rt: &impl Abort, number: u64, trial: &Trial, free: &Trial) {
+    assert_eq!(rt; trial.wanted, trial.refused, "growth {number}");
+    assert!(rt; !trial.changed, "growth {number}");
+    assert_eq!(rt;
+        trial.shown.as_str(),
+        free.shown.as_str(),
+        "growth {number}"
+    );
 }
 
 /// Makes trials of a call, with none of its growths refused, then with the first one, the second and so
 /// on, until it has no more of them: how many it has. Want of memory is answered exactly where a growth is
 /// refused, and changes nothing; all trials end alike.
-pub fn growths<F: FnMut(u64) -> Result<Trial, Fail>>(
-    rt: &impl Abort,
-    mut try_call: F,
-) -> Result<u64, Fail>
-    requires { F.IsAlwaysCallable try_call }
-{
-    let free = try_call(0)?;
+pub fn growths<R: Net + Abort, T: Trying>(
+    rt: &R,
+    alloc: Global,
+    call: T,
+    count: u32,
+) -> Result<u64, Fail> {
+    let free = call.tries(rt, alloc, count, 0)?;
     assert!(rt; !free.wanted);
     for number in 1..TOO_MANY {
-        let trial = try_call(number)?;
-        assert_eq!(rt; trial.wanted, trial.refused, "growth {number}");
-        assert!(rt; !trial.changed, "growth {number}");
-        assert_eq!(rt;
-            trial.shown.as_str(),
-            free.shown.as_str(),
-            "growth {number}"
-        );
+        let trial = call.tries(rt, alloc, count, number)?;
+        agrees(rt, number, &trial, &free);
         if !trial.refused {
             return Ok(number - 1);
         }
     }
     Err("too many growths".into())
+}
+
+/// Each of these calls has more growths than that, over all counts.
+pub fn each_grows<R: Net + Abort, T: Trying + Debug>(
+    rt: &R,
+    alloc: Global,
+    calls: &[T],
+    counts: Range<u32>,
+    than: u64,
+) -> Result<(), Fail> {
+    for call in calls {
+        let mut all = 0u64;
+        for count in counts.start..counts.end {
+            all = all.saturating_add(growths(rt, alloc, *call, count)?);
+        }
+        assert!(rt; all > than, "{call:?} {all}");
+    }
+    Ok(())
 }

@@ -1,13 +1,15 @@
 //! A handler and its state.
 
 use super::data::{block, cell, class, four};
-use super::growths::{Calling, Heap, Trial, answered, growths, shown, tried};
-use super::queues;
+use super::growths::{Calling, Heap, Trial, Trying, add, answered, each_grows, told, tried};
+use super::queues::add_queues;
 use scoop_handler::{AfterError, Done, Handler, HandlerState, Heard, StateError};
 use scoop_message::{Block, HandlerId, Message, OutOfMemory};
 use scoop_object::Table;
 use scoop_refusing::Refusing;
 use std::alloc::{Allocator, Global};
+use std::fmt::Debug;
+use std::net::Net;
 use std::test::Fail;
 
 const HERE: HandlerId = HandlerId(1);
@@ -29,35 +31,37 @@ enum Call {
 
 /// A handler, a job of it that is done, and a call on them.
 #[derive(Drop)]
-struct Working<'a> {
+struct Working<'h, 'a> {
     alloc: Global,
     heap: Heap<'a>,
     call: Call,
     // How much of its kind has come before the call.
     count: u32,
-    handler: Handler<Table, Heap<'a>>,
+    handler: &'h mut Handler<Table, Heap<'a>>,
     done: Option<Done<Table>>,
 }
 
-/// All that can be read of a state.
-pub fn state_text<A: Allocator>(alloc: Global, state: &HandlerState<A>) -> Result<String, Fail> {
-    let (number, holder, words) = (state.handler(), state.holder(), state.words());
-    let mut text = format!(in alloc; "{number:?} {holder:?} {words:?}")?;
+/// Adds all that can be read of a state.
+pub fn add_state<A: Allocator>(text: &mut String, state: &HandlerState<A>) -> Result<(), Fail> {
+    add(text, &state.handler())?;
+    add(text, &state.holder())?;
+    add(text, &state.words())?;
     for i in 0..state.marks() {
-        text.push_str(&shown(alloc, &state.mark(i))?)?;
+        add(text, &state.mark(i))?;
     }
-    text.push_str(&queues::text_of(alloc, state.queues())?)?;
-    Ok(text)
+    add_queues(text, state.queues())
 }
 
-// The text of a state that was made, `None` where memory was wanted.
-fn made_text<A: Allocator>(
-    alloc: Global,
-    made: Result<HandlerState<A>, OutOfMemory>,
-) -> Result<Option<String>, Fail> {
+/// Adds the text of a state that was made. False where memory was wanted.
+pub fn made<A: Allocator, E: Debug + PartialEq + Drop>(
+    text: &mut String,
+    made: Result<HandlerState<A>, E>,
+    want: &E,
+) -> Result<bool, Fail> {
     match made {
-        Ok(state) => Ok(Some(state_text(alloc, &state)?)),
-        Err(OutOfMemory) => Ok(None),
+        Ok(state) => told(add_state(text, &state)),
+        Err(error) if error == *want => Ok(false),
+        Err(error) => Err(error.into()),
     }
 }
 
@@ -82,27 +86,32 @@ fn remade<'a>(
     HandlerState::of(heap, number, state.words(), holder, &marks, queues)
 }
 
-fn remade_text<'a>(
+// Makes a state of the handler's, and adds its text. False where memory was wanted.
+fn copied<'a>(
+    text: &mut String,
     alloc: Global,
     heap: Heap<'a>,
-    state: &HandlerState<Heap<'a>>,
-) -> Result<Option<String>, Fail> {
-    match remade(alloc, heap, state) {
-        Ok(state) => Ok(Some(state_text(alloc, &state)?)),
-        Err(StateError::OutOfMemory) => Ok(None),
-        Err(error) => Err(error.into()),
+    handler: &Handler<Table, Heap<'a>>,
+    call: Call,
+) -> Result<bool, Fail> {
+    let Ok(state) = handler.copy() else {
+        return Ok(false);
+    };
+    match call {
+        Call::CopyState => made(text, state.copy(), &OutOfMemory),
+        Call::MakeState => made(text, remade(alloc, heap, &state), &StateError::OutOfMemory),
+        _ => told(add_state(text, &state)),
     }
 }
 
-fn after_text<A: Allocator + Copy>(
-    alloc: Global,
+fn after<A: Allocator + Copy>(
+    text: &mut String,
     handler: &Handler<Table, A>,
-    done: &Done<Table>,
-) -> Result<Option<String>, Fail> {
-    match handler.after_finish(done) {
-        Ok(state) => Ok(Some(state_text(alloc, &state)?)),
-        Err(AfterError::OutOfMemory) => Ok(None),
-        Err(error) => Err(error.into()),
+    done: &Option<Done<Table>>,
+) -> Result<bool, Fail> {
+    match done {
+        Some(done) => made(text, handler.after_finish(done), &AfterError::OutOfMemory),
+        None => Err("no job".into()),
     }
 }
 
@@ -113,45 +122,32 @@ fn hear<A: Allocator + Copy>(
     handler.hear(message)
 }
 
-fn heard<A: Allocator + Copy>(
-    alloc: Global,
-    handler: &mut Handler<Table, A>,
-    message: &Message,
-) -> Result<Option<String>, Fail> {
-    answered(alloc, hear(handler, message), &OutOfMemory)
-}
-
 fn log(from: Block, number: u32) -> Result<Message, Fail> {
     Ok(Message::Log(HERE, from, number, four()?))
 }
 
-impl Calling for Working<'_> {
-    fn call(&mut self) -> Result<Option<String>, Fail> {
-        let (alloc, handler, from) = (self.alloc, &mut self.handler, block(100, 1));
-        match self.call {
-            Call::Greet => heard(alloc, handler, &Message::Hello(HERE, from.client, 1)),
-            Call::Open => heard(alloc, handler, &Message::Open(HERE, from)),
-            Call::Log => heard(alloc, handler, &log(from, 1 + 4 * (self.count % 16))?),
-            Call::Copy => made_text(alloc, handler.copy()),
-            Call::CopyState => match handler.copy() {
-                Ok(state) => made_text(alloc, state.copy()),
-                Err(OutOfMemory) => Ok(None),
-            },
-            Call::MakeState => match handler.copy() {
-                Ok(state) => remade_text(alloc, self.heap, &state),
-                Err(OutOfMemory) => Ok(None),
-            },
-            Call::AfterFinish => match &self.done {
-                Some(done) => after_text(alloc, handler, done),
-                None => Err("no job".into()),
-            },
-        }
+impl Calling for Working<'_, '_> {
+    fn call(&mut self, text: &mut String) -> Result<bool, Fail> {
+        let (call, from) = (self.call, block(100, 1));
+        let message = match call {
+            Call::Greet => Message::Hello(HERE, from.client, 1),
+            Call::Open => Message::Open(HERE, from),
+            Call::Log => log(from, 1 + 4 * (self.count % 16))?,
+            Call::Copy | Call::CopyState | Call::MakeState => {
+                return copied(text, self.alloc, self.heap, self.handler, call);
+            }
+            Call::AfterFinish => return after(text, self.handler, &self.done),
+        };
+        answered(text, hear(self.handler, &message), &OutOfMemory)
     }
 
-    fn text(&mut self) -> Result<String, Fail> {
-        let (holder, words) = (self.handler.holder(), self.handler.words());
-        let state = state_text(self.alloc, &self.handler.copy()?)?;
-        Ok(format!(in self.alloc; "{holder:?} {words:?} {state}")?)
+    fn read(&mut self, text: &mut String) -> Result<(), Fail> {
+        add(text, &self.handler.holder())?;
+        add(text, &self.handler.words())?;
+        match made(text, self.handler.copy(), &OutOfMemory)? {
+            true => Ok(()),
+            false => Err("no memory".into()),
+        }
     }
 }
 
@@ -184,53 +180,66 @@ fn begun<A: Allocator + Copy>(handler: &mut Handler<Table, A>) -> Option<Done<Ta
     }
 }
 
-// A handler that has heard so much before the call.
-fn working_for<'a>(
-    alloc: Global,
-    heap: Heap<'a>,
+// The handler hears so much before the call.
+fn hears_before<A: Allocator + Copy>(
+    handler: &mut Handler<Table, A>,
     call: Call,
     count: u32,
-) -> Result<Working<'a>, Fail> {
-    let mut handler = new_handler(alloc, heap)?;
+) -> Result<(), Fail> {
     let from = block(100, 1);
     if matches!(call, Call::Log) {
-        locks(&mut handler, from)?;
-        hear(&mut handler, &Message::Open(HERE, from))?;
+        locks(handler, from)?;
+        hear(handler, &Message::Open(HERE, from))?;
         for round in 0..count % 16 {
-            hear(&mut handler, &log(from, 1 + 4 * round)?)?;
+            hear(handler, &log(from, 1 + 4 * round)?)?;
         }
     } else {
         for client in 0..count {
-            opens(&mut handler, block(client, 1))?;
+            opens(handler, block(client, 1))?;
         }
     }
-    if matches!(call, Call::Open) {
-        locks(&mut handler, from)?;
+    match call {
+        Call::Open => locks(handler, from),
+        _ => Ok(()),
     }
+}
+
+fn tries_on<'a>(
+    alloc: Global,
+    heap: Heap<'a>,
+    handler: &mut Handler<Table, Heap<'a>>,
+    call: Call,
+    count: u32,
+    number: u64,
+) -> Result<Trial, Fail> {
+    hears_before(handler, call, count)?;
     let done = match call {
-        Call::AfterFinish => begun(&mut handler),
+        Call::AfterFinish => begun(handler),
         _ => None,
     };
-    Ok(Working {
+    let mut working = Working {
         alloc,
         heap,
         call,
         count,
         handler,
         done,
-    })
+    };
+    tried(alloc, heap, number, &mut working)
 }
 
-fn tries(alloc: Global, call: Call, count: u32, number: u64) -> Result<Trial, Fail> {
-    let heap = &Refusing::new(alloc, 0);
-    let mut working = working_for(alloc, heap, call, count)?;
-    tried(heap, number, &mut working)
+impl Trying for Call {
+    fn tries<R: Net>(self, _rt: &R, alloc: Global, count: u32, number: u64) -> Result<Trial, Fail> {
+        let heap = &Refusing::new(alloc, 0);
+        let mut handler = new_handler(alloc, heap)?;
+        tries_on(alloc, heap, &mut handler, self, count, number)
+    }
 }
 
 /// The calls on a handler, after less and more was heard.
 #[test]
 fn handlers_grow(rt: HostRuntime) -> Result<(), Fail> {
-    for call in [
+    let calls = [
         Call::Greet,
         Call::Open,
         Call::Log,
@@ -238,13 +247,6 @@ fn handlers_grow(rt: HostRuntime) -> Result<(), Fail> {
         Call::CopyState,
         Call::MakeState,
         Call::AfterFinish,
-    ] {
-        let mut all = 0u64;
-        for count in 1..10 {
-            let some = growths(&rt, |number| { tries(rt.alloc(), call, count, number) })?;
-            all = all.saturating_add(some);
-        }
-        assert!(rt; all > 1, "{call:?} {all}");
-    }
-    Ok(())
+    ];
+    each_grows(&rt, rt.alloc(), &calls, 1..10, 1)
 }

@@ -1,15 +1,14 @@
 //! A keeper in memory, and images of states.
 
-use super::growths::{Calling, Heap, Trial, answered, growths, shown, tried};
-use super::handlers::state_text;
+use super::growths::{Calling, Heap, Trial, Trying, add, answered, each_grows, told, tried};
+use super::handlers::{add_state, made};
 use scoop_handler::HandlerState;
+use scoop_keeper::{Keeper, KeeperError, MemoryKeeper};
 use scoop_message::{ClientId, HandlerId, OutOfMemory};
-use scoop_record::{
-    Keeper, KeeperError, MemoryKeeper, ReadError, image, pending_row, read_image,
-    read_image_with_entries,
-};
+use scoop_record::{ReadError, image, pending_row, read_image, read_image_with_entries};
 use scoop_refusing::Refusing;
 use std::alloc::{Allocator, Global};
+use std::net::Net;
 use std::test::Fail;
 
 const ONE: HandlerId = HandlerId(1);
@@ -40,12 +39,11 @@ enum Call {
 
 /// A keeper, a state that may be put there, and a call on them.
 #[derive(Drop)]
-struct Kept<'a> {
-    alloc: Global,
+struct Kept<'k, 'a> {
     heap: Heap<'a>,
     call: Call,
-    keeper: MemoryKeeper<Heap<'a>>,
-    state: HandlerState<Heap<'a>>,
+    keeper: &'k mut MemoryKeeper<Heap<'a>>,
+    state: &'k HandlerState<Heap<'a>>,
 }
 
 // The state of the image, with this number and word.
@@ -56,15 +54,16 @@ fn state_of<'a>(heap: Heap<'a>, number: u8, word: u8) -> Result<HandlerState<Hea
     Ok(read_image(heap, HandlerId(u32::from(number)), &bytes, &PENDING)?)
 }
 
+// Adds the text of the state that the keeper has of a handler. False where memory was wanted.
 fn loaded<A: Allocator + Copy>(
-    alloc: Global,
+    text: &mut String,
     keeper: &mut MemoryKeeper<A>,
     number: u32,
-) -> Result<Option<String>, Fail> {
+) -> Result<bool, Fail> {
     match keeper.load_handler(HandlerId(number)) {
-        Ok(Some(state)) => Ok(Some(state_text(alloc, &state)?)),
-        Ok(None) => Ok(Some(String::from_str(alloc, "none")?)),
-        Err(KeeperError::OutOfMemory) => Ok(None),
+        Ok(Some(state)) => told(add_state(text, &state)),
+        Ok(None) => told(add(text, &"none")),
+        Err(KeeperError::OutOfMemory) => Ok(false),
         Err(error) => Err(error.into()),
     }
 }
@@ -77,31 +76,20 @@ fn next<A: Allocator + Copy>(
 }
 
 // A new keeper that has the incarnation, if memory is there: what comes next there.
-fn incarnation_text<A: Allocator + Copy>(alloc: Global, heap: A) -> Result<Option<String>, Fail> {
+fn with_incarnation<A: Allocator + Copy>(text: &mut String, heap: A) -> Result<bool, Fail> {
     match MemoryKeeper::new(heap).with_incarnation(ClientId(7), 4) {
-        Ok(mut keeper) => Ok(Some(shown(alloc, &next(&mut keeper, 7))?)),
-        Err(OutOfMemory) => Ok(None),
+        Ok(mut keeper) => told(add(text, &next(&mut keeper, 7))),
+        Err(OutOfMemory) => Ok(false),
     }
 }
 
-fn bytes_text<A: Allocator>(
-    alloc: Global,
+fn bytes<A: Allocator>(
+    text: &mut String,
     bytes: Result<Vec<u8, A>, OutOfMemory>,
-) -> Result<Option<String>, Fail> {
+) -> Result<bool, Fail> {
     match bytes {
-        Ok(bytes) => Ok(Some(shown(alloc, &bytes.as_slice())?)),
-        Err(OutOfMemory) => Ok(None),
-    }
-}
-
-fn read_text<A: Allocator>(
-    alloc: Global,
-    read: Result<HandlerState<A>, ReadError>,
-) -> Result<Option<String>, Fail> {
-    match read {
-        Ok(state) => Ok(Some(state_text(alloc, &state)?)),
-        Err(ReadError::OutOfMemory) => Ok(None),
-        Err(error) => Err(error.into()),
+        Ok(bytes) => told(add(text, &bytes.as_slice())),
+        Err(OutOfMemory) => Ok(false),
     }
 }
 
@@ -112,67 +100,88 @@ fn put<A: Allocator + Copy>(
     keeper.put_handler(state)
 }
 
-impl Calling for Kept<'_> {
-    fn call(&mut self) -> Result<Option<String>, Fail> {
-        let (alloc, heap, want) = (self.alloc, self.heap, KeeperError::OutOfMemory);
-        let (keeper, state) = (&mut self.keeper, &self.state);
+impl Calling for Kept<'_, '_> {
+    fn call(&mut self, text: &mut String) -> Result<bool, Fail> {
+        let (heap, want) = (self.heap, KeeperError::OutOfMemory);
         match self.call {
-            Call::WithIncarnation => incarnation_text(alloc, heap),
-            Call::Put => answered(alloc, put(keeper, state), &want),
-            Call::Load => loaded(alloc, keeper, 1),
-            Call::Next(client) => answered(alloc, next(keeper, client), &want),
-            Call::Image => bytes_text(alloc, image(heap, state)),
-            Call::PendingRow => bytes_text(alloc, pending_row(heap, state)),
-            Call::Read => read_text(alloc, read_image(heap, ONE, &IMAGE, &PENDING)),
-            Call::ReadOld => read_text(alloc, read_image_with_entries(heap, ONE, &OLD_IMAGE)),
+            Call::WithIncarnation => with_incarnation(text, heap),
+            Call::Put => answered(text, put(self.keeper, self.state), &want),
+            Call::Load => loaded(text, self.keeper, 1),
+            Call::Next(client) => answered(text, next(self.keeper, client), &want),
+            Call::Image => bytes(text, image(heap, self.state)),
+            Call::PendingRow => bytes(text, pending_row(heap, self.state)),
+            Call::Read => {
+                let read = read_image(heap, ONE, &IMAGE, &PENDING);
+                made(text, read, &ReadError::OutOfMemory)
+            }
+            Call::ReadOld => {
+                let read = read_image_with_entries(heap, ONE, &OLD_IMAGE);
+                made(text, read, &ReadError::OutOfMemory)
+            }
         }
     }
 
     // The states that the keeper has.
-    fn text(&mut self) -> Result<String, Fail> {
-        let mut text = String::new(self.alloc);
+    fn read(&mut self, text: &mut String) -> Result<(), Fail> {
         for number in 1..12 {
-            let state = loaded(self.alloc, &mut self.keeper, number)?;
-            text.push_str(&state.ok_or("no memory")?)?;
+            if !loaded(text, self.keeper, number)? {
+                return Err("no memory".into());
+            }
         }
-        Ok(text)
+        Ok(())
     }
 }
 
-// A keeper that has the states of so many handlers and the incarnations of so many clients.
-fn keeper_of<'a>(heap: Heap<'a>, count: u8) -> Result<MemoryKeeper<Heap<'a>>, Fail> {
-    let mut keeper = MemoryKeeper::new(heap);
+// The keeper takes the states of so many handlers and the incarnations of so many clients.
+fn fill<'a>(heap: Heap<'a>, keeper: &mut MemoryKeeper<Heap<'a>>, count: u8) -> Result<(), Fail> {
     for number in 0..count {
-        put(&mut keeper, &state_of(heap, number + 1, 5)?)?;
-        next(&mut keeper, u32::from(number) + 1)?;
+        put(keeper, &state_of(heap, number + 1, 5)?)?;
+        next(keeper, u32::from(number) + 1)?;
     }
-    Ok(keeper)
+    Ok(())
 }
 
-// The call on a keeper with so many parties, and with the state of the handler of this number.
-fn tries(alloc: Global, call: Call, parties: (u8, u8), number: u64) -> Result<Trial, Fail> {
-    let (count, handler) = parties;
-    let heap = &Refusing::new(alloc, 0);
+// Each client's next incarnation is shown too.
+fn tries_on<'a>(
+    alloc: Global,
+    heap: Heap<'a>,
+    keeper: &mut MemoryKeeper<Heap<'a>>,
+    state: &HandlerState<Heap<'a>>,
+    call: Call,
+    number: u64,
+) -> Result<Trial, Fail> {
     let mut kept = Kept {
-        alloc,
         heap,
         call,
-        keeper: keeper_of(heap, count)?,
-        state: state_of(heap, handler, 7)?,
+        keeper,
+        state,
     };
-    let mut trial = tried(heap, number, &mut kept)?;
+    let mut trial = tried(alloc, heap, number, &mut kept)?;
     for client in 1..12 {
-        let incarnation = shown(alloc, &next(&mut kept.keeper, client))?;
-        trial.shown.push_str(&incarnation)?;
+        add(&mut trial.shown, &next(kept.keeper, client))?;
     }
     Ok(trial)
+}
+
+/// How many handlers and clients a keeper has, and of which handler the state is.
+const PARTIES: [(u8, u8); 6] = [(0, 1), (1, 1), (1, 2), (3, 2), (6, 11), (10, 11)];
+
+impl Trying for Call {
+    fn tries<R: Net>(self, _rt: &R, alloc: Global, count: u32, number: u64) -> Result<Trial, Fail> {
+        let (count, handler) = *PARTIES.get(count as usize).ok_or("no parties")?;
+        let heap = &Refusing::new(alloc, 0);
+        let state = state_of(heap, handler, 7)?;
+        let mut keeper = MemoryKeeper::new(heap);
+        fill(heap, &mut keeper, count)?;
+        tries_on(alloc, heap, &mut keeper, &state, self, number)
+    }
 }
 
 /// Each call on keepers with fewer and more states and incarnations, of a handler or client that is there
 /// and of one that isn't.
 #[test]
 fn keepers_and_images_grow(rt: HostRuntime) -> Result<(), Fail> {
-    for call in [
+    let calls = [
         Call::WithIncarnation,
         Call::Put,
         Call::Load,
@@ -182,15 +191,6 @@ fn keepers_and_images_grow(rt: HostRuntime) -> Result<(), Fail> {
         Call::PendingRow,
         Call::Read,
         Call::ReadOld,
-    ] {
-        let mut all = 0u64;
-        for (count, handler) in [(0, 1), (1, 1), (1, 2), (3, 2), (6, 11), (10, 11)] {
-            let some = growths(&rt, |number| {
-                tries(rt.alloc(), call, (count, handler), number)
-            })?;
-            all = all.saturating_add(some);
-        }
-        assert!(rt; all > 0, "{call:?} {all}");
-    }
-    Ok(())
+    ];
+    each_grows(&rt, rt.alloc(), &calls, 0..6, 0)
 }

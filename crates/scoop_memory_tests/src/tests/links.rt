@@ -1,6 +1,6 @@
 //! Links.
 
-use super::growths::{Calling, Heap, Trial, growths, shown, tried};
+use super::growths::{Calling, Heap, Trial, Trying, add, each_grows, told, tried};
 use scoop_link::{
     Lane, Link, LinkFault, OpenLinkError, Party, Peers, Script, ScriptLink, TapeLink, UdpLink,
 };
@@ -29,16 +29,15 @@ const SCRIPT: Script = Script {
     fail_at: 0,
 };
 
-// The first byte of each datagram that is there.
-fn received<L: Link>(alloc: Global, link: &mut L) -> Result<String, Fail> {
-    let mut text = String::new(alloc);
+// Adds the first byte of each datagram that is there.
+fn add_received<L: Link>(text: &mut String, link: &mut L) -> Result<(), Fail> {
     for _ in 0..10 {
         let mut buffer = [0; BUFFER_LEN];
         let got = link.receive(&mut buffer)?;
-        let first = buffer[0];
-        text.push_str(&format!(in alloc; "{got:?} {first} ")?)?;
+        add(text, &got)?;
+        add(text, &buffer[0])?;
     }
-    Ok(text)
+    Ok(())
 }
 
 fn sends<L: Link>(link: &mut L) -> Result<(), LinkFault> {
@@ -48,134 +47,143 @@ fn sends<L: Link>(link: &mut L) -> Result<(), LinkFault> {
     Ok(())
 }
 
-// What comes through a lane, `None` where memory was wanted.
-fn lane_text<A: Allocator>(alloc: Global, heap: A) -> Result<Option<String>, Fail> {
-    let Ok(mut lane) = Lane::new(heap, SCRIPT, 3) else {
-        return Ok(None);
-    };
-    let mut text = String::new(alloc);
+// Adds what comes through a lane.
+fn add_taken<A: Allocator>(text: &mut String, lane: &mut Lane<A>) -> Result<(), Fail> {
     for first in 0..4 {
         lane.put(&[first]);
         let mut buffer = [0; BUFFER_LEN];
         let got = lane.take(&mut buffer);
-        let first = buffer[0];
-        text.push_str(&format!(in alloc; "{got:?} {first} ")?)?;
+        add(text, &got)?;
+        add(text, &buffer[0])?;
     }
-    Ok(Some(text))
+    Ok(())
 }
 
-fn pair_text<A: Allocator + Clone>(alloc: Global, heap: A) -> Result<Option<String>, Fail> {
+fn lane<A: Allocator>(text: &mut String, heap: A) -> Result<bool, Fail> {
+    match Lane::new(heap, SCRIPT, 3) {
+        Ok(mut lane) => told(add_taken(text, &mut lane)),
+        Err(OutOfMemory) => Ok(false),
+    }
+}
+
+// Adds what comes from the first link to the second.
+fn add_passed<L: Link, M: Link>(
+    text: &mut String,
+    first: &mut L,
+    second: &mut M,
+) -> Result<(), Fail> {
+    sends(first)?;
+    add_received(text, second)
+}
+
+fn pair<A: Allocator + Clone>(text: &mut String, heap: A) -> Result<bool, Fail> {
     match ScriptLink::pair(heap, SCRIPT, SCRIPT, 3) {
-        Ok((mut first, mut second)) => {
-            sends(&mut first)?;
-            Ok(Some(received(alloc, &mut second)?))
-        }
-        Err(OutOfMemory) => Ok(None),
+        Ok((mut first, mut second)) => told(add_passed(text, &mut first, &mut second)),
+        Err(OutOfMemory) => Ok(false),
     }
 }
 
-fn tape_text<A: Allocator + Clone>(alloc: Global, heap: A) -> Result<Option<String>, Fail> {
+// Adds all that can be read of a tape.
+fn add_tape<A: Allocator>(text: &mut String, tape: &TapeLink<A>) -> Result<(), Fail> {
+    add(text, &tape.to_come())?;
+    add(text, &tape.faults())?;
+    for i in 0..5 {
+        add(text, &tape.sent(i))?;
+    }
+    Ok(())
+}
+
+fn add_sent<A: Allocator>(text: &mut String, tape: &mut TapeLink<A>) -> Result<(), Fail> {
+    sends(tape)?;
+    add_tape(text, tape)
+}
+
+fn tape<A: Allocator + Clone>(text: &mut String, heap: A) -> Result<bool, Fail> {
     match TapeLink::new(heap, 4) {
-        Ok(mut tape) => {
-            sends(&mut tape)?;
-            Ok(Some(sent_text(alloc, &tape)?))
-        }
-        Err(OutOfMemory) => Ok(None),
+        Ok(mut tape) => told(add_sent(text, &mut tape)),
+        Err(OutOfMemory) => Ok(false),
     }
 }
 
-fn udp_text<R: Net, A: Allocator>(rt: &R, alloc: Global, heap: A) -> Result<Option<String>, Fail> {
+fn add_own<L: Link>(text: &mut String, link: &mut L) -> Result<(), Fail> {
+    sends(link)?;
+    add_received(text, link)
+}
+
+fn udp<R: Net, A: Allocator>(text: &mut String, rt: &R, heap: A) -> Result<bool, Fail> {
     let peers = Peers {
         own: 47321,
         table: &[(CLIENT, 47321)],
     };
     match UdpLink::open(rt, heap, peers) {
-        Ok(mut link) => {
-            sends(&mut link)?;
-            Ok(Some(received(alloc, &mut link)?))
-        }
-        Err(OpenLinkError::OutOfMemory) => Ok(None),
+        Ok(mut link) => told(add_own(text, &mut link)),
+        Err(OpenLinkError::OutOfMemory) => Ok(false),
         Err(error) => Err(error.into()),
     }
 }
 
-// All that can be read of a tape.
-fn sent_text<A: Allocator>(alloc: Global, tape: &TapeLink<A>) -> Result<String, Fail> {
-    let (to_come, faults) = (tape.to_come(), tape.faults());
-    let mut text = format!(in alloc; "{to_come} {faults}")?;
-    for i in 0..5 {
-        text.push_str(&shown(alloc, &tape.sent(i))?)?;
-    }
-    Ok(text)
-}
-
 /// A tape, what other links are made of, and a call.
 #[derive(Drop)]
-struct Linked<'a, R> {
+struct Linked<'t, 'a, R> {
     rt: &'a R,
-    alloc: Global,
     heap: Heap<'a>,
     call: Call,
-    tape: TapeLink<Heap<'a>>,
+    tape: &'t mut TapeLink<Heap<'a>>,
 }
 
-impl<R: Net> Calling for Linked<'_, R> {
-    fn call(&mut self) -> Result<Option<String>, Fail> {
-        let (alloc, heap) = (self.alloc, self.heap);
+impl<R: Net> Calling for Linked<'_, '_, R> {
+    fn call(&mut self, text: &mut String) -> Result<bool, Fail> {
         match self.call {
-            Call::Lane => lane_text(alloc, heap),
-            Call::Pair => pair_text(alloc, heap),
-            Call::Tape => tape_text(alloc, heap),
-            Call::Feed => match self.tape.feed(&[9]) {
-                Ok(()) => Ok(Some(String::new(alloc))),
-                Err(OutOfMemory) => Ok(None),
-            },
-            Call::Udp => udp_text(self.rt, alloc, heap),
+            Call::Lane => lane(text, self.heap),
+            Call::Pair => pair(text, self.heap),
+            Call::Tape => tape(text, self.heap),
+            Call::Feed => Ok(self.tape.feed(&[9]).is_ok()),
+            Call::Udp => udp(text, self.rt, self.heap),
         }
     }
 
-    fn text(&mut self) -> Result<String, Fail> {
-        sent_text(self.alloc, &self.tape)
+    fn read(&mut self, text: &mut String) -> Result<(), Fail> {
+        add_tape(text, self.tape)
     }
 }
 
-// A tape to which so many datagrams are to come, and of which some were sent.
-fn tape_of<'a>(heap: Heap<'a>, count: u8) -> Result<TapeLink<Heap<'a>>, Fail> {
-    let mut tape = TapeLink::new(heap, 4)?;
-    sends(&mut tape)?;
+// The call beside a tape to which so many datagrams are to come, and of which some were sent. What then comes is
+// shown too.
+fn tries_on<'a, R: Net>(
+    rt: &'a R,
+    alloc: Global,
+    heap: Heap<'a>,
+    tape: &mut TapeLink<Heap<'a>>,
+    call: Call,
+    count: u32,
+    number: u64,
+) -> Result<Trial, Fail> {
+    sends(tape)?;
     for first in 0..count {
-        tape.feed(&[first])?;
+        tape.feed(&[first as u8])?;
     }
-    Ok(tape)
-}
-
-fn tries<R: Net>(rt: &R, alloc: Global, call: Call, count: u8, number: u64) -> Result<Trial, Fail> {
-    let heap = &Refusing::new(alloc, 0);
-    let tape = tape_of(heap, count)?;
     let mut linked = Linked {
         rt,
-        alloc,
         heap,
         call,
         tape,
     };
-    let mut trial = tried(heap, number, &mut linked)?;
-    trial.shown.push_str(&received(alloc, &mut linked.tape)?)?;
+    let mut trial = tried(alloc, heap, number, &mut linked)?;
+    add_received(&mut trial.shown, linked.tape)?;
     Ok(trial)
+}
+
+impl Trying for Call {
+    fn tries<R: Net>(self, rt: &R, alloc: Global, count: u32, number: u64) -> Result<Trial, Fail> {
+        let heap = &Refusing::new(alloc, 0);
+        let mut tape = TapeLink::new(heap, 4)?;
+        tries_on(rt, alloc, heap, &mut tape, self, count, number)
+    }
 }
 
 /// What makes a link takes memory, and so does what feeds a tape.
 #[test]
 fn links_are_made_and_fed(rt: HostRuntime) -> Result<(), Fail> {
-    for call in [Call::Lane, Call::Pair, Call::Tape, Call::Feed, Call::Udp] {
-        let mut all = 0u64;
-        for count in 0..6 {
-            let some = growths(&rt, |number| {
-                tries(&rt, rt.alloc(), call, count, number)
-            })?;
-            all = all.saturating_add(some);
-        }
-        assert!(rt; all > 1, "{call:?} {all}");
-    }
-    Ok(())
+    let calls = [Call::Lane, Call::Pair, Call::Tape, Call::Feed, Call::Udp];
+    each_grows(&rt, rt.alloc(), &calls, 0..6, 1)
 }

@@ -1,11 +1,12 @@
 //! Classes.
 
 use super::data::cell_rows;
-use super::growths::{Calling, Heap, Trial, growths, tried};
+use super::growths::{Calling, Heap, Trial, Trying, add, each_grows, told, tried};
 use scoop_message::OutOfMemory;
 use scoop_object::{Class, ClassError};
 use scoop_refusing::Refusing;
 use std::alloc::{Allocator, Global};
+use std::net::Net;
 use std::test::Fail;
 
 /// A call that makes a class of another.
@@ -19,15 +20,14 @@ enum Call {
 /// A class, and a call on it.
 #[derive(Drop)]
 struct Kept<'a> {
-    alloc: Global,
     heap: Heap<'a>,
     call: Call,
     class: Class<Heap<'a>>,
 }
 
-fn text_of<A: Allocator>(alloc: Global, class: &Class<A>) -> Result<String, Fail> {
-    let (words, rows) = (class.words(), class.rows());
-    Ok(format!(in alloc; "{words} {rows:?}")?)
+fn add_class<A: Allocator>(text: &mut String, class: &Class<A>) -> Result<(), Fail> {
+    add(text, &class.words())?;
+    add(text, &class.rows())
 }
 
 // The class that a call makes of this one.
@@ -48,36 +48,36 @@ fn made<A: Allocator + Copy>(
 }
 
 impl Calling for Kept<'_> {
-    fn call(&mut self) -> Result<Option<String>, Fail> {
+    fn call(&mut self, text: &mut String) -> Result<bool, Fail> {
         match made(self.heap, &self.class, self.call) {
-            Ok(class) => Ok(Some(text_of(self.alloc, &class)?)),
-            Err(ClassError::OutOfMemory) => Ok(None),
+            Ok(class) => told(add_class(text, &class)),
+            Err(ClassError::OutOfMemory) => Ok(false),
             Err(error) => Err(error.into()),
         }
     }
 
-    fn text(&mut self) -> Result<String, Fail> {
-        text_of(self.alloc, &self.class)
+    fn read(&mut self, text: &mut String) -> Result<(), Fail> {
+        add_class(text, &self.class)
     }
 }
 
-fn tries(alloc: Global, call: Call, number: u64) -> Result<Trial, Fail> {
-    let heap = &Refusing::new(alloc, 0);
-    let class = Class::build(heap, 1, &cell_rows()?)?;
-    let mut kept = Kept {
-        alloc,
-        heap,
-        call,
-        class,
-    };
-    tried(heap, number, &mut kept)
+impl Trying for Call {
+    fn tries<R: Net>(
+        self,
+        _rt: &R,
+        alloc: Global,
+        _count: u32,
+        number: u64,
+    ) -> Result<Trial, Fail> {
+        let heap = &Refusing::new(alloc, 0);
+        let class = Class::build(heap, 1, &cell_rows()?)?;
+        let call = self;
+        tried(alloc, heap, number, &mut Kept { heap, call, class })
+    }
 }
 
 #[test]
 fn classes_are_built_and_copied(rt: HostRuntime) -> Result<(), Fail> {
-    for call in [Call::Build, Call::Copy, Call::CopyIn] {
-        let count = growths(&rt, |number| tries(rt.alloc(), call, number))?;
-        assert!(rt; count > 0, "{call:?}");
-    }
-    Ok(())
+    let calls = [Call::Build, Call::Copy, Call::CopyIn];
+    each_grows(&rt, rt.alloc(), &calls, 0..1, 0)
 }

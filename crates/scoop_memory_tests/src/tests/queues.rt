@@ -1,12 +1,13 @@
 //! The queue of queues.
 
 use super::data::{block, four, set};
-use super::growths::{Calling, Heap, Trial, answered, growths, shown, tried};
+use super::growths::{Calling, Heap, Trial, Trying, add, answered, each_grows, told, tried};
 use scoop_message::limits::MAX_PENDING;
 use scoop_message::{Block, Entries, Entry, OutOfMemory};
 use scoop_queue::{AppendError, Head, OpenQueueError, PutError, QueueOfQueues, QueueState};
 use scoop_refusing::Refusing;
 use std::alloc::{Allocator, Global};
+use std::net::Net;
 use std::test::Fail;
 
 /// A call on a queue of queues.
@@ -21,27 +22,25 @@ enum Call {
 
 // The entries of the private queue at this place.
 fn add_entries<A: Allocator>(
-    alloc: Global,
+    text: &mut String,
     queues: &QueueOfQueues<A>,
     i: usize,
-    text: &mut String,
 ) -> Result<(), Fail> {
     for j in 0..MAX_PENDING {
         if let Some(entry) = queues.entry(i, j) {
-            text.push_str(&shown(alloc, &entry)?)?;
+            add(text, &entry)?;
         }
     }
     Ok(())
 }
 
-/// The private queues with their entries, as text.
-pub fn text_of<A: Allocator>(alloc: Global, queues: &QueueOfQueues<A>) -> Result<String, Fail> {
-    let mut text = String::new(alloc);
+/// Adds the private queues with their entries.
+pub fn add_queues<A: Allocator>(text: &mut String, queues: &QueueOfQueues<A>) -> Result<(), Fail> {
     for i in 0..queues.list_len() {
-        text.push_str(&shown(alloc, &queues.head(i))?)?;
-        add_entries(alloc, queues, i, &mut text)?;
+        add(text, &queues.head(i))?;
+        add_entries(text, queues, i)?;
     }
-    Ok(text)
+    Ok(())
 }
 
 fn append<A: Allocator + Copy>(
@@ -85,99 +84,97 @@ fn put<A: Allocator>(queues: &mut QueueOfQueues<A>, entry: Entry) -> Result<(), 
     }
 }
 
-// The text of a copy, `None` where it wants memory.
-fn copied<A: Allocator + Copy>(
-    alloc: Global,
-    queues: &QueueOfQueues<A>,
-) -> Result<Option<String>, Fail> {
+// Adds the text of a copy. False where it wants memory.
+fn copied<A: Allocator + Copy>(text: &mut String, queues: &QueueOfQueues<A>) -> Result<bool, Fail> {
     match queues.copy() {
-        Ok(copy) => Ok(Some(text_of(alloc, &copy)?)),
-        Err(OutOfMemory) => Ok(None),
+        Ok(copy) => told(add_queues(text, &copy)),
+        Err(OutOfMemory) => Ok(false),
     }
 }
 
 /// Private queues, and a call on them.
 #[derive(Drop)]
-struct Kept<'a> {
-    alloc: Global,
+struct Kept<'q, 'a> {
     call: Call,
-    queues: QueueOfQueues<Heap<'a>>,
+    queues: &'q mut QueueOfQueues<Heap<'a>>,
 }
 
-impl Calling for Kept<'_> {
-    fn call(&mut self) -> Result<Option<String>, Fail> {
-        let (alloc, queues, entries) = (self.alloc, &mut self.queues, four()?);
+impl Calling for Kept<'_, '_> {
+    fn call(&mut self, text: &mut String) -> Result<bool, Fail> {
+        let (queues, entries) = (&mut *self.queues, four()?);
         match self.call {
             Call::Open => {
                 let opened = open(queues, block(8, 1));
-                answered(alloc, opened, &OpenQueueError::OutOfMemory)
+                answered(text, opened, &OpenQueueError::OutOfMemory)
             }
             Call::Append => {
                 let appended = append(queues, block(8, 1), &entries);
-                answered(alloc, appended, &AppendError::OutOfMemory)
+                answered(text, appended, &AppendError::OutOfMemory)
             }
             Call::Put => {
                 let entry = Entry::Call(set(9)?);
-                answered(alloc, put(queues, entry), &PutError::OutOfMemory)
+                answered(text, put(queues, entry), &PutError::OutOfMemory)
             }
-            Call::PutAll => answered(alloc, put_all(queues, &entries), &PutError::OutOfMemory),
-            Call::Copy => copied(alloc, queues),
+            Call::PutAll => answered(text, put_all(queues, &entries), &PutError::OutOfMemory),
+            Call::Copy => copied(text, queues),
         }
     }
 
-    fn text(&mut self) -> Result<String, Fail> {
-        text_of(self.alloc, &self.queues)
+    fn read(&mut self, text: &mut String) -> Result<(), Fail> {
+        add_queues(text, self.queues)
     }
 }
 
-// The private queue of client 7's first block, so many times filled; or so many private queues of that
+// Fills the private queue of client 7's first block so many times; or adds so many private queues of that
 // client, for the calls that ask for no single one.
-fn queues_for<'a>(heap: Heap<'a>, call: Call, count: u32) -> Result<QueueOfQueues<Heap<'a>>, Fail> {
+fn fill<A: Allocator + Copy>(
+    queues: &mut QueueOfQueues<A>,
+    call: Call,
+    count: u32,
+) -> Result<(), Fail> {
     let entries = four()?;
-    let mut queues = QueueOfQueues::new(heap);
     if matches!(call, Call::Put | Call::PutAll) {
-        open(&mut queues, block(7, 1))?;
+        open(queues, block(7, 1))?;
         for _ in 0..count {
-            put_all(&mut queues, &entries)?;
+            put_all(queues, &entries)?;
         }
     } else {
         for num in 0..count {
-            append(&mut queues, block(7, num + 1), &entries)?;
+            append(queues, block(7, num + 1), &entries)?;
         }
     }
-    Ok(queues)
+    Ok(())
 }
 
-fn tries(alloc: Global, call: Call, count: u32, number: u64) -> Result<Trial, Fail> {
-    let heap = &Refusing::new(alloc, 0);
-    let queues = queues_for(heap, call, count)?;
-    tried(
-        heap,
-        number,
-        &mut Kept {
-            alloc,
-            call,
-            queues,
-        },
-    )
+fn tries_on<'a>(
+    alloc: Global,
+    heap: Heap<'a>,
+    queues: &mut QueueOfQueues<Heap<'a>>,
+    call: Call,
+    count: u32,
+    number: u64,
+) -> Result<Trial, Fail> {
+    fill(queues, call, count)?;
+    tried(alloc, heap, number, &mut Kept { call, queues })
+}
+
+impl Trying for Call {
+    fn tries<R: Net>(self, _rt: &R, alloc: Global, count: u32, number: u64) -> Result<Trial, Fail> {
+        let heap = &Refusing::new(alloc, 0);
+        let mut queues = QueueOfQueues::new(heap);
+        tries_on(alloc, heap, &mut queues, self, count, number)
+    }
 }
 
 /// Each call on nothing and on more and more, each of its growths refused.
 #[test]
 fn queues_grow(rt: HostRuntime) -> Result<(), Fail> {
-    for call in [
+    let calls = [
         Call::Open,
         Call::Append,
         Call::Put,
         Call::PutAll,
         Call::Copy,
-    ] {
-        let mut all = 0u64;
-        for count in 0..10 {
-            let some = growths(&rt, |number| { tries(rt.alloc(), call, count, number) })?;
-            all = all.saturating_add(some);
-        }
-        assert!(rt; all > 1, "{call:?} {all}");
-    }
-    Ok(())
+    ];
+    each_grows(&rt, rt.alloc(), &calls, 0..10, 1)
 }

@@ -1,16 +1,16 @@
 //! A world.
 
-use super::data::{cell, class, get, set};
-use super::growths::{Calling, Heap, Trial, answered, growths, shown, tried};
-use scoop_message::{Block, ClientId, Entry, HandlerId, Request};
+use super::data::{block, cell, class, get, set};
+use super::growths::{Calling, Heap, Trial, Trying, add, answered, growths, told, tried};
+use scoop_keeper::MemoryKeeper;
+use scoop_message::{ClientId, Entry, HandlerId, Request};
 use scoop_object::Table;
-use scoop_record::MemoryKeeper;
 use scoop_refusing::Refusing;
 use scoop_world::{
     Command, Event, HandlerList, Placement, World, WorldError, WorldNote, WorldOpenError,
 };
 use std::alloc::{Allocator, Global};
-use std::process::Abort;
+use std::net::Net;
 use std::test::Fail;
 
 const SEVEN: ClientId = ClientId(7);
@@ -18,7 +18,7 @@ const SEVEN: ClientId = ClientId(7);
 const ONE: HandlerId = HandlerId(1);
 
 /// What is done in a world of handlers 1 and 2 and clients 7 and 8.
-#[derive(Clone, Copy, Debug)]
+#[derive(Clone, Copy)]
 enum Act {
     /// The client reserves both handlers.
     Reserve(u32),
@@ -136,36 +136,29 @@ fn sent_count<A: Allocator + Copy>(world: &World<Table, A>) -> usize {
 }
 
 fn add_handler<A: Allocator + Copy>(
-    alloc: Global,
-    world: &World<Table, A>,
-    handler: u32,
     text: &mut String,
+    world: &World<Table, A>,
+    handler: HandlerId,
 ) -> Result<(), Fail> {
-    let handler = HandlerId(handler);
-    text.push_str(&shown(alloc, &world.opened(handler))?)?;
-    text.push_str(&shown(alloc, &world.ran(handler))?)?;
+    add(text, &world.opened(handler))?;
+    add(text, &world.ran(handler))?;
     for client in 7..9 {
-        let block = Block {
-            client: ClientId(client),
-            inc: 1,
-            num: 1,
-        };
-        text.push_str(&shown(alloc, &world.logged(block, handler))?)?;
+        add(text, &world.logged(block(client, 1), handler))?;
     }
     Ok(())
 }
 
-// All that can be read of a world.
-fn text_of<A: Allocator + Copy>(alloc: Global, world: &World<Table, A>) -> Result<String, Fail> {
-    let mut text = shown(alloc, &world.joint())?;
+// Adds all that can be read of a world.
+fn add_world<A: Allocator + Copy>(text: &mut String, world: &World<Table, A>) -> Result<(), Fail> {
+    add(text, &world.joint())?;
     for number in 1..3 {
-        add_handler(alloc, world, number, &mut text)?;
-        text.push_str(&shown(alloc, &world.accepted(ClientId(6 + number)))?)?;
+        add_handler(text, world, HandlerId(number))?;
+        add(text, &world.accepted(ClientId(6 + number)))?;
     }
     for i in 0..100 {
-        text.push_str(&shown(alloc, &world.sent(i))?)?;
+        add(text, &world.sent(i))?;
     }
-    Ok(text)
+    Ok(())
 }
 
 fn placement(alloc: Global, number: u32) -> Result<Placement<Table>, Fail> {
@@ -199,121 +192,32 @@ fn stepped<A: Allocator + Copy>(
     world.step(event)
 }
 
-// A world after the first acts.
-fn world_at<'a>(
-    alloc: Global,
-    heap: Heap<'a>,
-    acts: &[Act],
-) -> Result<World<Table, Heap<'a>>, Fail> {
-    // Names the types that an event and its note hold, of which the prover has to be told here.
-    let _parts: Option<(Command, HandlerList, Entry, Request)> = None;
-    let mut world = opens(heap, placements(alloc)?)?;
-    for act in acts {
-        let event = event(*act, sent_count(&world))?;
-        stepped(&mut world, event)?;
-    }
-    Ok(world)
+fn new_world<'a>(alloc: Global, heap: Heap<'a>) -> Result<World<Table, Heap<'a>>, Fail> {
+    Ok(opens(heap, placements(alloc)?)?)
 }
 
-fn happened<A: Allocator + Copy>(
+// The story happens in a new world: its events. The world is lent, here as everywhere, so that no way out of here has
+// it to drop: the proof of each would follow all that a world holds.
+fn told_in<A: Allocator + Copy>(
     alloc: Global,
     world: &mut World<Table, A>,
-    event: Event,
-) -> Result<Option<String>, Fail> {
-    answered(alloc, stepped(world, event), &WorldError::OutOfMemory)
-}
-
-/// A world, and an event that happens in it.
-#[derive(Drop)]
-struct Happening<'a> {
-    alloc: Global,
-    event: Event,
-    world: World<Table, Heap<'a>>,
-}
-
-impl Calling for Happening<'_> {
-    fn call(&mut self) -> Result<Option<String>, Fail> {
-        happened(self.alloc, &mut self.world, self.event)
+) -> Result<Vec<Event>, Fail> {
+    // Names the types that an event and its note hold, of which the prover has to be told here.
+    let _parts: Option<(Command, HandlerList, Entry, Request)> = None;
+    let mut events = Vec::new(alloc);
+    for act in STORY {
+        let event = event(act, sent_count(world))?;
+        stepped(world, event)?;
+        events.push(event)?;
     }
-
-    fn text(&mut self) -> Result<String, Fail> {
-        text_of(self.alloc, &self.world)
-    }
-}
-
-// The act at a place of the story, after those before it.
-fn tries_act(alloc: Global, at: usize, number: u64) -> Result<Trial, Fail> {
-    let heap = &Refusing::new(alloc, 0);
-    let act = *STORY.get(at).ok_or("no act")?;
-    let world = world_at(alloc, heap, STORY.get(..at).ok_or("no acts")?)?;
-    let event = event(act, sent_count(&world))?;
-    let mut happening = Happening {
-        alloc,
-        event,
-        world,
-    };
-    tried(heap, number, &mut happening)
-}
-
-/// Each event of the story, each of its growths refused.
-#[test]
-fn events_grow(rt: HostRuntime) -> Result<(), Fail> {
-    for at in 0..STORY.len() {
-        let count = growths(&rt, |number| tries_act(rt.alloc(), at, number))?;
-        let takes = match STORY.get(at) {
-            Some(Act::Reserve(_) | Act::Finish(_) | Act::RestartClient(_)) => true,
-            _ => false,
-        };
-        assert!(rt; count > 0 || !takes, "{at}");
-    }
-    Ok(())
-}
-
-/// A world that is to open.
-#[derive(Drop)]
-struct Opening<'a> {
-    alloc: Global,
-    heap: Heap<'a>,
-}
-
-impl Calling for Opening<'_> {
-    fn call(&mut self) -> Result<Option<String>, Fail> {
-        match opens(self.heap, placements(self.alloc)?) {
-            Ok(world) => Ok(Some(text_of(self.alloc, &world)?)),
-            Err(WorldOpenError::OutOfMemory) => Ok(None),
-            Err(error) => Err(error.into()),
-        }
-    }
-
-    fn text(&mut self) -> Result<String, Fail> {
-        Ok(String::new(self.alloc))
-    }
-}
-
-fn tries_open(alloc: Global, number: u64) -> Result<Trial, Fail> {
-    let heap = &Refusing::new(alloc, 0);
-    tried(heap, number, &mut Opening { alloc, heap })
-}
-
-#[test]
-fn worlds_open(rt: HostRuntime) -> Result<(), Fail> {
-    assert!(rt; growths(&rt, |number| tries_open(rt.alloc(), number))? > 5);
-    Ok(())
+    Ok(events)
 }
 
 // The events of the story.
 fn events(alloc: Global) -> Result<Vec<Event>, Fail> {
-    // Names the types that an event and its note hold, of which the prover has to be told here.
-    let _parts: Option<(Command, HandlerList, Entry, Request)> = None;
     let heap = &Refusing::new(alloc, 0);
-    let mut world = opens(heap, placements(alloc)?)?;
-    let mut events = Vec::new(alloc);
-    for act in STORY {
-        let event = event(act, sent_count(&world))?;
-        stepped(&mut world, event)?;
-        events.push(event)?;
-    }
-    Ok(events)
+    let mut world = new_world(alloc, heap)?;
+    told_in(alloc, &mut world)
 }
 
 fn ran<A: Allocator + Copy>(
@@ -323,41 +227,187 @@ fn ran<A: Allocator + Copy>(
     world.run(events)
 }
 
-// The text of a world in which these events have happened.
-fn ran_text(alloc: Global, events: &[Event]) -> Result<String, Fail> {
-    let heap = &Refusing::new(alloc, 0);
-    let mut world = opens(heap, placements(alloc)?)?;
-    ran(&mut world, events)?;
-    text_of(alloc, &world)
+/// A world, and an event that happens in it.
+#[derive(Drop)]
+struct Happening<'w, 'a> {
+    event: Event,
+    world: &'w mut World<Table, Heap<'a>>,
 }
 
-// All events as one run, with the growth of this number refused. Where one was, the events before have
-// happened, and a run of the others goes on from there.
-fn tries_run(alloc: Global, events: &[Event], number: u64) -> Result<Trial, Fail> {
-    let heap = &Refusing::new(alloc, 0);
-    let mut world = opens(heap, placements(alloc)?)?;
-    heap.refuse(number);
-    let run = ran(&mut world, events);
-    let refused = number != 0 && heap.has_refused();
-    heap.refuse(0);
-    let mut changed = false;
-    if let Err((taken, _)) = run {
-        let before = ran_text(alloc, events.get(..taken).ok_or("so many")?)?;
-        changed = text_of(alloc, &world)?.as_str() != before.as_str();
-        ran(&mut world, events.get(taken..).ok_or("so many")?)?;
+impl Calling for Happening<'_, '_> {
+    fn call(&mut self, text: &mut String) -> Result<bool, Fail> {
+        answered(
+            text,
+            stepped(self.world, self.event),
+            &WorldError::OutOfMemory,
+        )
     }
-    Ok(Trial {
-        refused,
-        wanted: matches!(run, Err((_, WorldError::OutOfMemory))),
-        changed,
-        shown: text_of(alloc, &world)?,
-    })
+
+    fn read(&mut self, text: &mut String) -> Result<(), Fail> {
+        add_world(text, self.world)
+    }
+}
+
+// The event at a place of the story, after those before it.
+fn happens<'a>(
+    alloc: Global,
+    heap: Heap<'a>,
+    world: &mut World<Table, Heap<'a>>,
+    events: &[Event],
+    at: u32,
+    number: u64,
+) -> Result<Trial, Fail> {
+    let event = *events.get(at as usize).ok_or("no event")?;
+    ran(world, events.get(..at as usize).ok_or("no events")?)?;
+    tried(alloc, heap, number, &mut Happening { event, world })
+}
+
+fn add_run<A: Allocator + Copy>(
+    text: &mut String,
+    world: &mut World<Table, A>,
+    events: &[Event],
+) -> Result<(), Fail> {
+    ran(world, events)?;
+    add_world(text, world)
+}
+
+// Adds all that can be read of a world in which these events have happened.
+fn add_ran(text: &mut String, alloc: Global, events: &[Event]) -> Result<(), Fail> {
+    let heap = &Refusing::new(alloc, 0);
+    let mut world = new_world(alloc, heap)?;
+    add_run(text, &mut world, events)
+}
+
+// Whether something else can be read of the world than of one in which these events have happened.
+fn differs<A: Allocator + Copy>(
+    alloc: Global,
+    world: &World<Table, A>,
+    events: &[Event],
+) -> Result<bool, Fail> {
+    let mut wanted = String::new(alloc);
+    add_ran(&mut wanted, alloc, events)?;
+    let mut found = String::new(alloc);
+    add_world(&mut found, world)?;
+    Ok(found.as_str() != wanted.as_str())
+}
+
+// All events as one run of a new world, with the growth of this number refused. Where one was, the events before have
+// happened, and a run of the others goes on from there.
+fn runs<'a>(
+    alloc: Global,
+    heap: Heap<'a>,
+    world: &mut World<Table, Heap<'a>>,
+    events: &[Event],
+    number: u64,
+    trial: &mut Trial,
+) -> Result<(), Fail> {
+    heap.refuse(number);
+    let run = ran(world, events);
+    trial.refused = number != 0 && heap.has_refused();
+    heap.refuse(0);
+    if let Err((taken, error)) = run {
+        trial.wanted = error == WorldError::OutOfMemory;
+        trial.changed = differs(alloc, world, events.get(..taken).ok_or("so many")?)?;
+        ran(world, events.get(taken..).ok_or("so many")?)?;
+    }
+    add_world(&mut trial.shown, world)
+}
+
+fn tries_run<'a>(
+    alloc: Global,
+    heap: Heap<'a>,
+    world: &mut World<Table, Heap<'a>>,
+    events: &[Event],
+    number: u64,
+) -> Result<Trial, Fail> {
+    let mut trial = Trial::new(alloc);
+    runs(alloc, heap, world, events, number, &mut trial)?;
+    Ok(trial)
+}
+
+/// What is tried with these events.
+#[derive(Clone, Copy)]
+enum Case<'e> {
+    /// The one at the place of the count, after those before it.
+    Step(&'e [Event]),
+    /// All in one run.
+    Run(&'e [Event]),
+}
+
+impl Trying for Case<'_> {
+    fn tries<R: Net>(self, _rt: &R, alloc: Global, count: u32, number: u64) -> Result<Trial, Fail> {
+        let heap = &Refusing::new(alloc, 0);
+        let mut world = new_world(alloc, heap)?;
+        match self {
+            Case::Step(events) => happens(alloc, heap, &mut world, events, count, number),
+            Case::Run(events) => tries_run(alloc, heap, &mut world, events, number),
+        }
+    }
+}
+
+/// Each event of the story, each of its growths refused.
+#[test]
+fn events_grow(rt: HostRuntime) -> Result<(), Fail> {
+    let events = events(rt.alloc())?;
+    for (at, act) in (0u32..).zip(STORY.iter()) {
+        let count = growths(&rt, rt.alloc(), Case::Step(&events), at)?;
+        let takes = matches!(
+            act,
+            Act::Reserve(_) | Act::Finish(_) | Act::RestartClient(_)
+        );
+        assert!(rt; count > 0 || !takes, "{at}");
+    }
+    Ok(())
 }
 
 #[test]
 fn runs_grow(rt: HostRuntime) -> Result<(), Fail> {
     let events = events(rt.alloc())?;
-    let count = growths(&rt, |number| tries_run(rt.alloc(), &events, number))?;
+    let count = growths(&rt, rt.alloc(), Case::Run(&events), 0)?;
     assert!(rt; count > 100, "{count}");
+    Ok(())
+}
+
+/// A world that is to open.
+#[derive(Clone, Copy)]
+struct Opening;
+
+/// A world that is to open, and where.
+#[derive(Drop)]
+struct Opened<'a> {
+    alloc: Global,
+    heap: Heap<'a>,
+}
+
+impl Calling for Opened<'_> {
+    fn call(&mut self, text: &mut String) -> Result<bool, Fail> {
+        match opens(self.heap, placements(self.alloc)?) {
+            Ok(world) => told(add_world(text, &world)),
+            Err(WorldOpenError::OutOfMemory) => Ok(false),
+            Err(error) => Err(error.into()),
+        }
+    }
+
+    fn read(&mut self, _text: &mut String) -> Result<(), Fail> {
+        Ok(())
+    }
+}
+
+impl Trying for Opening {
+    fn tries<R: Net>(
+        self,
+        _rt: &R,
+        alloc: Global,
+        _count: u32,
+        number: u64,
+    ) -> Result<Trial, Fail> {
+        let heap = &Refusing::new(alloc, 0);
+        tried(alloc, heap, number, &mut Opened { alloc, heap })
+    }
+}
+
+#[test]
+fn worlds_open(rt: HostRuntime) -> Result<(), Fail> {
+    assert!(rt; growths(&rt, rt.alloc(), Opening, 0)? > 5);
     Ok(())
 }

@@ -19,8 +19,8 @@ use Rattle.scoop_reserve.specs.State.{ReservationState}
 use Rattle.scoop_reserve.specs.Due.{due_in}
 use Rattle.scoop_reserve.specs.Hearing as reservation
 use Rattle.scoop_client.specs.declared.phase.ClientNote.{ClientNote}
-use Rattle.scoop_client.specs.Line.{LineState, logged, acknowledged, first_entries, line_of, at_line}
-use Rattle.scoop_client.specs.State.{ClientState, with_lines}
+use Rattle.scoop_client.specs.Window.{WindowState, logged, acknowledged, first_entries, window_of, at_window}
+use Rattle.scoop_client.specs.State.{ClientState, with_windows}
 use Rattle.scoop_client.specs.Due.{due}
 use Rattle.scoop_client.specs.Hearing.{after_step, heard}
 use Rattle.scoop_client.specs.Commands as client
@@ -30,12 +30,13 @@ use Rattle.scoop_client.proofs.Rows.{heard_row}
 use Rattle.scoop_model.specs.declared.event.Command.{Command}
 use Rattle.scoop_model.specs.World.{World, Party, Accepted, BlockLog, set_party, ran_at}
 use Rattle.scoop_model.specs.Step.{newest_block, core_command, commanded_world, with_sent, with_party, newly_accepted, heard_party, restarted_party}
-use Rattle.scoop_model.specs.Safe.{NoRepeats, HasRun, query_of}
+use Rattle.scoop_message.specs.Lists.{NoRepeats}
+use Rattle.scoop_model.specs.Safe.{HasRun, query_of}
 use Rattle.scoop_model.proofs.Order.Holding.{upto_itself}
 use Rattle.scoop_model.proofs.Order.Facts.{PartyFits, all_more_of, all_pushed, all_set_party}
 use Rattle.scoop_model.proofs.Logging.Facts.{PartyLogs}
 use Rattle.scoop_model.proofs.Answering.Facts.{acked_at, TellsAnswer, IsBehind, AcceptedFits, PartyAnswers, Answering, messages_more, party_answers_more}
-use Rattle.scoop_model.proofs.Answering.Lines.{acked_there, acknowledged_raises, acknowledged_all}
+use Rattle.scoop_model.proofs.Answering.Windows.{acked_there, acknowledged_raises, acknowledged_all}
 use Rattle.scoop_model.proofs.Answering.Onward.{Onward, behind_more, onward_heard, onward_commanded}
 use Rattle.scoop_model.proofs.Answering.Once.{once_more}
 
@@ -56,14 +57,15 @@ module _ (w : World) (h : HandlerId) (m : Message) where
   owed_tells c o owes_nothing e = absurd (cc)
   owed_tells c o (greets left) e = let same : Hello h c.id c.inc ≡ m = cc in subst (TellsAnswer w) same tt
   owed_tells c o (reserves r n greeted held owes) e = due_tells r r.stage (owes ∙ e)
-  owed_tells c o (logs r l greeted held free opened line some) e =
+  owed_tells c o (logs r l greeted held free opened window some) e =
       let same : Log l.handler r.block (l.acked + 1) (first_entries c.batch l.unacked) ≡ m = cc in subst (TellsAnswer w) same tt
 
 pub sends_answering : (w : World) → Answering w → (p : Party) (h : HandlerId) → Answering (with_sent w (due p.client h))
 sends_answering w i p h =
     let v : World = with_sent w (due p.client h) in
     record {
-      messages = all_pushed (TellsAnswer v) w.sent (due p.client h) (messages_more w v (λ x b n a ran. ran) w.sent i.messages) (λ m e. owed_tells v h m p.client (due p.client h) (due_row p.client h) e);
+      messages = all_pushed (TellsAnswer v) w.sent (due p.client h) (messages_more w v (λ x b n a ran. ran) w.sent i.messages)
+          (λ m e. owed_tells v h m p.client (due p.client h) (due_row p.client h) e);
       sites = i.sites;
       parties = all_more_of (PartyAnswers w) (PartyAnswers v) (party_answers_more w v (λ x b n a ran. ran)) w.parties i.parties;
     }
@@ -82,7 +84,8 @@ accepted_more w p q a on f = record {
 -- nothing is accepted
 goes_on : (w : World) (p q : Party) → Onward p.client q.client → q.accepted ≡ p.accepted → PartyAnswers w p → PartyAnswers w q
 goes_on w p q on same f = record {
-  accepted = subst (AllByRecursion (AcceptedFits w q)) (sym same) (all_more_of (AcceptedFits w p) (AcceptedFits w q) (λ a. accepted_more w p q a on) p.accepted f.accepted);
+  accepted = subst (AllByRecursion (AcceptedFits w q)) (sym same)
+      (all_more_of (AcceptedFits w p) (AcceptedFits w q) (λ a. accepted_more w p q a on) p.accepted f.accepted);
   once = subst (λ xs. NoRepeats (map query_of xs)) (sym same) f.once;
 }
 
@@ -94,7 +97,8 @@ party_moves w p q ls i f =
     record {
       messages = messages_more w v (λ h b n a ran. ran) w.sent i.messages;
       sites = i.sites;
-      parties = all_set_party (PartyAnswers w) (PartyAnswers v) q w.parties (party_answers_more w v (λ h b n a ran. ran) q f) (λ x other. party_answers_more w v (λ h b n a ran. ran) x) i.parties;
+      parties = all_set_party (PartyAnswers w) (PartyAnswers v) q w.parties (party_answers_more w v (λ h b n a ran. ran) q f)
+          (λ x other. party_answers_more w v (λ h b n a ran. ran) x) i.parties;
     }
 
 -- ---- a client hears
@@ -102,19 +106,19 @@ party_moves w p q ls i f =
 -- the answer to the query that waits lies ahead of all that was accepted, and then behind the client
 module _ (w : World) (p : Party) (h : HandlerId) (n : ℕ) (a : ObjectAnswer) (r : ReservationState) where
   abbrev now : ClientState
-  now = with_lines p.client (at_line h (acknowledged n) p.client.lines) None
+  now = with_windows p.client (at_window h (acknowledged n) p.client.windows) None
 
   abbrev new : Accepted
   new = (h, newest_block p.client, n, a)
 
   module _
-      (held : p.client.reservation ≡ Some r) (line : LineState) (found : line_of h p.client.lines ≡ Some line) (last : n ≡ logged line)
-      (waiting : line.acked < n) where
+      (held : p.client.reservation ≡ Some r) (window : WindowState) (found : window_of h p.client.windows ≡ Some window) (last : n ≡ logged window)
+      (waiting : window.acked < n) where
     new_behind : IsBehind now new
     new_behind = record {
       upto = upto_itself p.client.inc p.client.last;
       acked = λ s is inc num.
-          let all = acked_there (acknowledged n) (acknowledged_raises n) h p.client.lines line found ∙ acknowledged_all n line last in
+          let all = acked_there (acknowledged n) (acknowledged_raises n) h p.client.windows window found ∙ acknowledged_all n window last in
           omega (arith, all);
     }
 
@@ -123,8 +127,8 @@ module _ (w : World) (p : Party) (h : HandlerId) (n : ℕ) (a : ObjectAnswer) (r
     none_same x f e =
         let b : x.1 ≡ newest_block p.client = ap (λ (q : HandlerId × Block × ℕ). q.1) e in
         let low = f.behind.acked r held (ap (λ (y : Block). y.inc) b) (ap (λ (y : Block). y.num) b) in
-        let there : acked_at x.0 p.client.lines ≡ line.acked =
-        ap (λ (q : HandlerId × Block × ℕ). acked_at q.0 p.client.lines) e ∙ ap (λ o. option_map_or (λ (l : LineState). l.acked) o 0) found in
+        let there : acked_at x.0 p.client.windows ≡ window.acked =
+        ap (λ (q : HandlerId × Block × ℕ). acked_at q.0 p.client.windows) e ∙ ap (λ o. option_map_or (λ (l : WindowState). l.acked) o 0) found in
         let number : x.2 ≡ n = ap (λ (q : HandlerId × Block × ℕ). q.2) e in
         omega (arith, low, there, number, waiting)
 
@@ -157,11 +161,11 @@ module _ (w : World) (p : Party) (logging : PartyLogs w p) (f : PartyAnswers w p
   heard_fits m d note (is_welcomed h left) on t = quiet d [] on refl
   heard_fits m d note (takes_step n r held) on t =
       quiet d _ on (step_accepts (newest_block p.client) p.client (reservation.heard r n).0 (reservation.heard r n).1)
-  heard_fits m d note (is_acknowledged h n r l held opened line new_count) on t = quiet d [] on refl
+  heard_fits m d note (is_acknowledged h n r l held opened window new_count) on t = quiet d [] on refl
   heard_fits m d note (is_accepted h n a r held opened waits) on t =
       let block = logging.block r held in
       let query = block.waits h n waits in
-      accepts w p h n a r held query.line query.found query.query.number query.query.waiting on (subst (λ b. HasRun (ran_at h w) b n a) block.block t) f
+      accepts w p h n a r held query.window query.found query.query.number query.query.waiting on (subst (λ b. HasRun (ran_at h w) b n a) block.block t) f
 
 pub notices_answering :
     (w : World) → Answering w → (m : Message) (p : Party) → TellsAnswer w m → PartyLogs w p → PartyAnswers w p

@@ -11,10 +11,11 @@ use Rattle.scoop_message.specs.declared.message.Message.{Message}
 use Rattle.scoop_message.specs.declared.message.Message.TheVariants.{Answer}
 use Rattle.scoop_object.specs.Play.{play}
 use Rattle.scoop_reserve.specs.State.{ReservationState}
-use Rattle.scoop_client.specs.Line.{LineState, line_of}
+use Rattle.scoop_client.specs.Window.{WindowState, window_of}
 use Rattle.scoop_client.specs.State.{ClientState}
 use Rattle.scoop_model.specs.World.{World, Site, Party, Accepted, ran_at}
-use Rattle.scoop_model.specs.Safe.{NoRepeats, entries_of, HasRun, IsAnswered, query_of}
+use Rattle.scoop_message.specs.Lists.{NoRepeats}
+use Rattle.scoop_model.specs.Safe.{entries_of, HasRun, IsAnswered, query_of}
 use Rattle.scoop_model.proofs.Order.Holding.{Upto}
 use Rattle.scoop_model.proofs.Order.Facts.{all_more_of}
 use Rattle.scoop_model.proofs.Answering.Objects.{AnswersFrom}
@@ -31,14 +32,14 @@ pub record SiteAnswers (s : Site) : Type 0 where
   pub answers : AnswersFrom s.core.class s.placed s.ran
   pub kept : AllByRecursion (KeepsRan s.ran) s.core.state.marks
 
--- how many entries are acknowledged at the handler, none where it has no line
-abbrev pub acked_at : HandlerId → List LineState → ℕ
-acked_at h ls = option_map_or (λ l. l.acked) (line_of h ls) 0
+-- how many entries are acknowledged at the handler, none where it has no window
+abbrev pub acked_at : HandlerId → List WindowState → ℕ
+acked_at h ls = option_map_or (λ l. l.acked) (window_of h ls) 0
 
 -- the query lies behind the client: in the block that the client has, it is acknowledged
 pub record IsBehind (c : ClientState) (a : Accepted) : Type 0 where
   pub upto : Upto a.1.inc a.1.num c.inc c.last
-  pub acked : (r : ReservationState) → c.reservation ≡ Some r → a.1.inc ≡ c.inc → a.1.num ≡ c.last → a.2 ≤ acked_at a.0 c.lines
+  pub acked : (r : ReservationState) → c.reservation ≡ Some r → a.1.inc ≡ c.inc → a.1.num ≡ c.last → a.2 ≤ acked_at a.0 c.windows
 
 pub record AcceptedFits (w : World) (p : Party) (a : Accepted) : Type 0 where
   pub answered : IsAnswered w p a

@@ -99,12 +99,14 @@ module _ (w : World) (i : Answering w) (h : HandlerId) (s : Site) (found : site_
       site_goes_on w new s still (λ b n a ran. ran) _ _ i
       (record { words = words-row st m now r ∙ f.words; answers = f.answers; kept = keeps-row s.ran st f.kept m now r })
       (λ v there all. all_pushed (TellsAnswer v) w.sent now.1.reply all
-      (reply_tells v (number_of s) s.ran now.1.reply (ap ran_of_site (subst (λ j. site_of j v ≡ Some new) number there)) (tells_ran-row s.ran st f.kept m now r)))
+      (reply_tells v (number_of s) s.ran now.1.reply (ap ran_of_site (subst (λ j. site_of j v ≡ Some new) number there))
+      (tells_ran-row s.ran st f.kept m now r)))
 
   -- ---- an entry runs
 
   pub begins_answering : Answering (with_site w (begun_site s))
-  begins_answering = let f = site_answers in site_goes_on w (begun_site s) s place (λ b n a ran. ran) w.sent w.joint i (record { words = f.words; answers = f.answers; kept = f.kept }) (λ v there all. all)
+  begins_answering = let f = site_answers in site_goes_on w (begun_site s) s place (λ b n a ran. ran) w.sent w.joint i
+      (record { words = f.words; answers = f.answers; kept = f.kept }) (λ v there all. all)
 
   pub finishes_answering : (t : Task) → job_out s.core ≡ Some t → Answering (with_site w (finished_site s t))
   finishes_answering t is =
@@ -130,7 +132,8 @@ ran_first :
     → ran_of_site (find (is_site h) (y ∷ ys)) ≡ ran_of_site (find (is_site h) (x ∷ xs))
 ran_first h x y xs ys number ran later =
     subst (λ k. ran_of_site (if same_handler k h then Some y else find (is_site h) ys) ≡ ran_of_site (find (is_site h) (x ∷ xs))) (sym number)
-    (by_test (λ t. ran_of_site (if t then Some y else find (is_site h) ys) ≡ ran_of_site (if t then Some x else find (is_site h) xs)) (is_site h x) (λ first. ran) (λ other. later))
+    (by_test (λ t. ran_of_site (if t then Some y else find (is_site h) ys) ≡ ran_of_site (if t then Some x else find (is_site h) xs)) (is_site h x)
+    (λ first. ran) (λ other. later))
 
 module _ (js : List Block) (n : ℕ) where
   number_anew : (x : Site) → SiteFits js x → number_of (reopened n x) ≡ number_of x

@@ -21,7 +21,7 @@ use Rattle.scoop_handler.specs.Marks.{block_of, fresh_mark, opened_mark, with_re
 use Rattle.scoop_handler.specs.State.{HandlerState}
 use Rattle.scoop_handler.specs.Hearing.{Hearing, IsHeardAt, greeting_mark}
 use Rattle.scoop_handler.specs.Running.{mark_after}
-use Rattle.scoop_handler.specs.Rows.{Row, first_greeting, newer_greeting, lock_granted, open_granted, unlock_new, unlock_holder, log_answered, log_taken}
+use Rattle.scoop_handler.specs.Rows.{Row, first_greeting, newer_greeting, lock_granted, is_opened, unlock_of_a_block_never_held, is_freed, is_answered, is_taken}
 use Rattle.scoop_handler.proofs.MarkLists.{All-mark_of, All-set_mark, All-add_mark}
 use Rattle.scoop_handler.proofs.TableLaws.{block_of-same}
 use Rattle.scoop_model.specs.Safe.{HasRun}
@@ -67,15 +67,15 @@ module _ (rs : List Ran) (s : HandlerState) (all : AllByRecursion (KeepsRan rs) 
       All-add_mark (KeepsRan rs) (KeepsRan rs) (greeting_mark c inc) s.marks (keeps_none rs _ AtShut) (λ x f. f) all
   keeps-row m h (newer_greeting x c inc k here found newer) = keeps_set (greeting_mark c inc) (keeps_none rs _ AtShut)
   keeps-row m h (lock_granted x b k here at new free clear) = keeps_set (fresh_mark b AtHeld) (keeps_none rs b AtHeld)
-  keeps-row m h (open_granted x b k here at same was room) = let f = keeps_found b k at in keeps_set (opened_mark k) (record { has = f.has })
-  keeps-row m h (unlock_new x b k here at new clear) = keeps_set (fresh_mark b AtShut) (keeps_none rs b AtShut)
-  keeps-row m h (unlock_holder x b k here at same holds) = let f = keeps_found b k at in keeps_set (without_hold k) (record { has = f.has })
-  keeps-row m h (log_taken x b n es k here at next goes_on room) =
+  keeps-row m h (is_opened x b k here at same was room) = let f = keeps_found b k at in keeps_set (opened_mark k) (record { has = f.has })
+  keeps-row m h (unlock_of_a_block_never_held x b k here at new clear) = keeps_set (fresh_mark b AtShut) (keeps_none rs b AtShut)
+  keeps-row m h (is_freed x b k here at same holds) = let f = keeps_found b k at in keeps_set (without_hold k) (record { has = f.has })
+  keeps-row m h (is_taken x b n es k here at next goes_on room) =
       let f = keeps_found b k at.heard in keeps_set (with_received (last_number n es) _ k) (record { has = f.has })
   keeps-row m h r = all
 
   pub tells_ran-row : (m : Message) (h : Hearing) → Row s m h → TellsRan rs s.number h.1.reply
-  tells_ran-row m h (log_answered x b n es k a here at before kept) =
+  tells_ran-row m h (is_answered x b n es k a here at before kept) =
       let f = keeps_found b k at.heard in
       (refl, subst (λ y. HasRun rs y (last_number n es) a) (block_of-same s b k at.heard at.num) (f.has (last_number n es) a kept))
   tells_ran-row m h r = tt
@@ -102,7 +102,8 @@ module _ (rs : List Ran) (r : Ran) where
   mark_keeps_ran : (k : Mark) → KeepsRan rs k → KeepsRan (rs ++ r ∷ []) (mark_after r k)
   mark_keeps_ran k f = record {
     has = λ n a e.
-        by_test (λ t. (is_query r.entry && same_block (block_of k) r.block) ≡ t → (if t then option_map (pair r.number) r.answer else k.kept) ≡ Some (pair n a) → HasRun (rs ++ r ∷ []) (block_of k) n a)
+        by_test (λ t. (is_query r.entry && same_block (block_of k) r.block) ≡ t → (if t then option_map (pair r.number) r.answer else k.kept) ≡ Some (pair n a)
+        → HasRun (rs ++ r ∷ []) (block_of k) n a)
         (is_query r.entry && same_block (block_of k) r.block)
         (λ _ newest q. own_ran k n a r.answer newest refl q)
         (λ _ other q. has_run_more rs r (block_of k) n a (f.has n a q))

@@ -10,8 +10,8 @@ use Rattle.scoop_reserve.specs.State.{ReservationState}
 use Rattle.scoop_reserve.specs.Hearing.{is_gone}
 use Rattle.scoop_reserve.specs.Hearing as reservation
 use Rattle.scoop_client.specs.declared.phase.ClientNote.{ClientNote}
-use Rattle.scoop_client.specs.Line.{LineState, with_entry, with_end, acknowledged, at_line, all_over}
-use Rattle.scoop_client.specs.State.{ClientState, with_lines, with_reservation, idle}
+use Rattle.scoop_client.specs.Window.{WindowState, with_entry, with_end, acknowledged, at_window, all_over}
+use Rattle.scoop_client.specs.State.{ClientState, with_windows, with_reservation, idle}
 use Rattle.scoop_client.specs.Hearing.{stepped, after_step, settled, up_to}
 use Rattle.scoop_client.specs.Commands as client
 use Rattle.scoop_client.specs.Rows.{HeardRow, passed_over, is_welcomed, takes_step, is_acknowledged, is_accepted, ReserveRow, begins_block, LogRow, is_logged, EndRow, ends_block, GiveUpRow, gives_up}
@@ -23,13 +23,13 @@ use Rattle.scoop_model.specs.Step.{core_command}
 use Rattle.scoop_model.proofs.Basics.{ok_is, by_test}
 use Rattle.scoop_model.proofs.Order.Holding.{Upto, upto_more}
 use Rattle.scoop_model.proofs.Answering.Facts.{acked_at, IsBehind}
-use Rattle.scoop_model.proofs.Answering.Lines.{Raises, acked_at_line, acked_all, acknowledged_raises}
+use Rattle.scoop_model.proofs.Answering.Windows.{Raises, acked_at_window, acked_all, acknowledged_raises}
 
 -- the block that the client had goes on
 pub record GoesOnIn (c d : ClientState) : Type 0 where
   pub reservation : ReservationState
   pub held : c.reservation ≡ Some reservation
-  pub acked : (h : HandlerId) → acked_at h c.lines ≤ acked_at h d.lines
+  pub acked : (h : HandlerId) → acked_at h c.windows ≤ acked_at h d.windows
 
 pub record Onward (c d : ClientState) : Type 0 where
   pub id : d.id ≡ c.id
@@ -74,9 +74,9 @@ module _ (c : ClientState) where
   onward_idle : (d : ClientState) → d.id ≡ c.id → d.inc ≡ c.inc → d.last ≡ c.last → Onward c (idle d)
   onward_idle d id inc last = onward_here (idle d) id inc last (λ r e. absurd (cc))
 
-  onward_lines :
-      (ls : List LineState) (waits : Option (HandlerId × ℕ)) → ((h : HandlerId) → acked_at h c.lines ≤ acked_at h ls) → Onward c (with_lines c ls waits)
-  onward_lines ls waits more = onward_here (with_lines c ls waits) refl refl refl (λ r held. record { reservation = r; held = held; acked = more })
+  onward_windows :
+      (ls : List WindowState) (waits : Option (HandlerId × ℕ)) → ((h : HandlerId) → acked_at h c.windows ≤ acked_at h ls) → Onward c (with_windows c ls waits)
+  onward_windows ls waits more = onward_here (with_windows c ls waits) refl refl refl (λ r held. record { reservation = r; held = held; acked = more })
 
   -- ---- it hears
 
@@ -91,20 +91,21 @@ module _ (c : ClientState) where
   onward_step r s (step.Unlocked h) held = onward_stepped r s held
   onward_step r s step.Ignored held = onward_itself
 
-  onward_settled : (ls : List LineState) → ((h : HandlerId) → acked_at h c.lines ≤ acked_at h ls) → Onward c (settled (with_lines c ls c.waits))
+  onward_settled : (ls : List WindowState) → ((h : HandlerId) → acked_at h c.windows ≤ acked_at h ls) → Onward c (settled (with_windows c ls c.waits))
   onward_settled ls more =
-      by_test (λ t. Onward c (if t then idle (with_lines c ls c.waits) else with_lines c ls c.waits)) (all_over ls)
-      (λ over. onward_idle (with_lines c ls c.waits) refl refl refl)
-      (λ on. onward_lines ls c.waits more)
+      by_test (λ t. Onward c (if t then idle (with_windows c ls c.waits) else with_windows c ls c.waits)) (all_over ls)
+      (λ over. onward_idle (with_windows c ls c.waits) refl refl refl)
+      (λ on. onward_windows ls c.waits more)
 
   pub onward_heard : (m : Message) (d : ClientState) (note : ClientNote) → HeardRow c m d note → Onward c d
   onward_heard m d note (passed_over n) = onward_itself
   onward_heard m d note (is_welcomed h left) = onward_here d refl refl refl (λ r held. record { reservation = r; held = held; acked = λ h. omega arith })
   onward_heard m d note (takes_step n r held) = onward_step r (reservation.heard r n).0 (reservation.heard r n).1 held
-  onward_heard m d note (is_acknowledged h n r l held opened line new) =
-      let k = up_to h n c.waits in onward_settled (at_line h (acknowledged k) c.lines) (λ x. acked_at_line (acknowledged k) (acknowledged_raises k) h x c.lines)
+  onward_heard m d note (is_acknowledged h n r l held opened window new) =
+      let k = up_to h n c.waits in onward_settled (at_window h (acknowledged k) c.windows)
+      (λ x. acked_at_window (acknowledged k) (acknowledged_raises k) h x c.windows)
   onward_heard m d note (is_accepted h n a r held opened waits) =
-      onward_lines (at_line h (acknowledged n) c.lines) None (λ x. acked_at_line (acknowledged n) (acknowledged_raises n) h x c.lines)
+      onward_windows (at_window h (acknowledged n) c.windows) None (λ x. acked_at_window (acknowledged n) (acknowledged_raises n) h x c.windows)
 
   -- ---- it takes a command
 
@@ -124,13 +125,14 @@ module _ (c : ClientState) where
   onward_reserve hs d o row e = absurd (cc)
 
   onward_log : (h : HandlerId) (x : Entry) (d : ClientState) (o : client.Outcome) → LogRow c h x o → o ≡ Ok d → Onward c d
-  onward_log h x d o (is_logged l running free line room more) e =
-      subst (Onward c) (ok_is _ d e) (onward_lines (at_line h (with_entry x) c.lines) _ (λ y. acked_at_line (with_entry x) (logs_raise x) h y c.lines))
+  onward_log h x d o (is_logged l running free window room more) e =
+      subst (Onward c) (ok_is _ d e) (onward_windows (at_window h (with_entry x) c.windows) _
+      (λ y. acked_at_window (with_entry x) (logs_raise x) h y c.windows))
   onward_log h x d o row e = absurd (cc)
 
   onward_end : (d : ClientState) (o : client.Outcome) → EndRow c o → o ≡ Ok d → Onward c d
   onward_end d o (ends_block running free room) e =
-      subst (Onward c) (ok_is _ d e) (onward_lines (map with_end c.lines) None (λ y. acked_all with_end ends_raise y c.lines))
+      subst (Onward c) (ok_is _ d e) (onward_windows (map with_end c.windows) None (λ y. acked_all with_end ends_raise y c.windows))
   onward_end d o row e = absurd (cc)
 
   onward_give_up : (d : ClientState) (o : client.Outcome) → GiveUpRow c o → o ≡ Ok d → Onward c d

@@ -19,8 +19,8 @@ use Rattle.scoop_reserve.specs.Hearing as reservation
 use Rattle.scoop_reserve.proofs.Rows.{HeardRow as StepRow, passed_over as steps_over, one_is_locked, all_are_locked, is_busy, one_is_opened, all_are_opened, is_unlocked, is_given_back, heard_row as step_row}
 use Rattle.scoop_client.specs.declared.phase.ClientNote.{ClientNote}
 use Rattle.scoop_client.specs.declared.phase.Phase.TheVariants.{Greeting, Idle}
-use Rattle.scoop_client.specs.State.{ClientState, idle, phase_of, phase_of_block, with_lines, with_reservation}
-use Rattle.scoop_client.specs.Line.{acknowledged, all_over, at_line, first_entries}
+use Rattle.scoop_client.specs.State.{ClientState, idle, phase_of, phase_of_block, with_windows, with_reservation}
+use Rattle.scoop_client.specs.Window.{acknowledged, all_over, at_window, first_entries}
 use Rattle.scoop_client.specs.Hearing.{after_step, settled, stepped, up_to}
 use Rattle.scoop_client.specs.Commands.{Command, Outcome, Reserve, DoCall, DoQuery, DoEnd, GiveUp, command, next_block, with_block}
 use Rattle.scoop_client.specs.Rows.{DueRow, owes_nothing, greets, reserves, logs, HeardRow, passed_over, is_welcomed, takes_step, is_acknowledged, is_accepted, ReserveRow, begins_block, LogRow, is_logged, EndRow, ends_block, GiveUpRow, gives_up}
@@ -73,7 +73,7 @@ module _ (hs : List HandlerId) (ss : List Site) where
       let same : Hello h c.id c.inc ≡ m = cc in
       subst (Names hs ss) same (λ b f. absurd (cc))
   due_names c h o (reserves r n greeted has_one owes) k m e = owed_names r h m (owed_row r h m (owes ∙ e)) (k.block r has_one)
-  due_names c h o (logs r l greeted has_one free opened line some) k m e =
+  due_names c h o (logs r l greeted has_one free opened window some) k m e =
       let same : Log l.handler r.block (l.acked + 1) (first_entries c.batch l.unacked) ≡ m = cc in
       subst (Names hs ss) same (λ b f. subst (IsKnown hs ss) (some_block r.block b f) (k.block r has_one))
 
@@ -106,18 +106,18 @@ module _ (hs : List HandlerId) (ss : List Site) where
   step_known c r s step.Ignored k has_one same = k
 
   settled_known : (d : ClientState) → ClientKnown hs ss d → ClientKnown hs ss (settled d)
-  settled_known d k = by_test (λ t. ClientKnown hs ss (if t then idle d else d)) (all_over d.lines) (λ over. idle_known d k) (λ on. k)
+  settled_known d k = by_test (λ t. ClientKnown hs ss (if t then idle d else d)) (all_over d.windows) (λ over. idle_known d k) (λ on. k)
 
-  lines_known : (c : ClientState) (lines : List _) (waits : Option _) → ClientKnown hs ss c → ClientKnown hs ss (with_lines c lines waits)
-  lines_known c lines waits k = record { handlers = k.handlers; greeted = k.greeted; block = k.block }
+  windows_known : (c : ClientState) (windows : List _) (waits : Option _) → ClientKnown hs ss c → ClientKnown hs ss (with_windows c windows waits)
+  windows_known c windows waits k = record { handlers = k.handlers; greeted = k.greeted; block = k.block }
 
   -- one more handler has welcomed the client
   welcomed_known :
       (c : ClientState) (h : HandlerId) → ClientKnown hs ss c → HasGreeted ss h c.id c.inc → (x : HandlerId) → has hs x ≡ true
-      → has (without h c.left) x ≡ false → HasGreeted ss x c.id c.inc
+      → has (without h c.unwelcomed) x ≡ false → HasGreeted ss x c.id c.inc
   welcomed_known c h k now x e f =
-      by_test (λ t. has c.left x ≡ t → HasGreeted ss x c.id c.inc) (has c.left x)
-      (λ _ there. subst (λ j. HasGreeted ss j c.id c.inc) (is_gone_one h x c.left there f) now)
+      by_test (λ t. has c.unwelcomed x ≡ t → HasGreeted ss x c.id c.inc) (has c.unwelcomed x)
+      (λ _ there. subst (λ j. HasGreeted ss j c.id c.inc) (is_gone_one h x c.unwelcomed there f) now)
       (λ _ before. k.greeted x e before) refl
 
 -- the client stays known by what it hears
@@ -129,16 +129,18 @@ heard_known hs w c m d note (is_welcomed h left) g k = record { handlers = k.han
 heard_known hs w c m d note (takes_step n r has_one) g k =
     let now = reservation.heard r n in
     step_known hs w.sites c r now.0 now.1 k has_one (step_block r n now.0 now.1 (step_row r n))
-heard_known hs w c m d note (is_acknowledged h n r l has_one opened line fresh_count) g k =
-    settled_known hs w.sites (with_lines c (at_line h (acknowledged (up_to h n c.waits)) c.lines) c.waits) (lines_known hs w.sites c (at_line h (acknowledged (up_to h n c.waits)) c.lines) c.waits k)
-heard_known hs w c m d note (is_accepted h n a r has_one opened waits) g k = lines_known hs w.sites c (at_line h (acknowledged n) c.lines) None k
+heard_known hs w c m d note (is_acknowledged h n r l has_one opened window fresh_count) g k =
+    settled_known hs w.sites (with_windows c (at_window h (acknowledged (up_to h n c.waits)) c.windows) c.waits)
+    (windows_known hs w.sites c (at_window h (acknowledged (up_to h n c.waits)) c.windows) c.waits k)
+heard_known hs w c m d note (is_accepted h n a r has_one opened waits) g k = windows_known hs w.sites c (at_window h (acknowledged n) c.windows) None k
 
 -- ---- what a client is told to do
 
 -- an idle client has been welcomed everywhere
-none_left : (c : ClientState) → phase_of c ≡ Idle → is_empty c.left ≡ true
+none_left : (c : ClientState) → phase_of c ≡ Idle → is_empty c.unwelcomed ≡ true
 none_left c e =
-    by_test (λ t. (if t then phase_of_block c.lines c.reservation else Greeting) ≡ Idle → t ≡ true) (is_empty c.left) (λ _ f. refl) (λ _ f. absurd (cc)) e
+    by_test (λ t. (if t then phase_of_block c.windows c.reservation else Greeting) ≡ Idle → t ≡ true) (is_empty c.unwelcomed) (λ _ f. refl)
+    (λ _ f. absurd (cc)) e
 
 module _ (hs : List HandlerId) (ss : List Site) (c d : ClientState) (k : ClientKnown hs ss c) where
   abbrev IsAfter : ClientState → Type 0
@@ -146,7 +148,7 @@ module _ (hs : List HandlerId) (ss : List Site) (c d : ClientState) (k : ClientK
 
   reserve_known : (ks : List HandlerId) (o : Outcome) → ReserveRow c ks o → o ≡ Ok d → ClientKnown hs ss d
   reserve_known ks o (begins_block r at_idle room begins) e =
-      let own : IsKnown hs ss (next_block c) = λ h f. k.greeted h f (none_in_empty c.left h (none_left c at_idle)) in
+      let own : IsKnown hs ss (next_block c) = λ h f. k.greeted h f (none_in_empty c.unwelcomed h (none_left c at_idle)) in
       subst IsAfter (ok_is (with_block c ks r) d e) (record {
         handlers = k.handlers;
         greeted = k.greeted;
@@ -156,11 +158,11 @@ module _ (hs : List HandlerId) (ss : List Site) (c d : ClientState) (k : ClientK
   reserve_known ks o row e = absurd (cc)
 
   log_known : (h : HandlerId) (n : Entry) (o : Outcome) → LogRow c h n o → o ≡ Ok d → ClientKnown hs ss d
-  log_known h n o (is_logged l running free line room more) e = subst IsAfter (ok_is _ d e) (lines_known hs ss c _ _ k)
+  log_known h n o (is_logged l running free window room more) e = subst IsAfter (ok_is _ d e) (windows_known hs ss c _ _ k)
   log_known h n o row e = absurd (cc)
 
   end_known : (o : Outcome) → EndRow c o → o ≡ Ok d → ClientKnown hs ss d
-  end_known o (ends_block running free room) e = subst IsAfter (ok_is _ d e) (lines_known hs ss c _ _ k)
+  end_known o (ends_block running free room) e = subst IsAfter (ok_is _ d e) (windows_known hs ss c _ _ k)
   end_known o row e = absurd (cc)
 
   give_up_known : (o : Outcome) → GiveUpRow c o → o ≡ Ok d → ClientKnown hs ss d

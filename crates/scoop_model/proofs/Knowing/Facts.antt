@@ -27,7 +27,7 @@ Names hs ss m = (b : Block) → named_block m ≡ Some b → IsKnown hs ss b
 -- these are the client's handlers, those that have welcomed it know its incarnation, and all know its block's
 pub record ClientKnown (hs : List HandlerId) (ss : List Site) (c : ClientState) : Type 0 where
   pub handlers : c.handlers ≡ hs
-  pub greeted : (h : HandlerId) → has hs h ≡ true → has c.left h ≡ false → HasGreeted ss h c.id c.inc
+  pub greeted : (h : HandlerId) → has hs h ≡ true → has c.unwelcomed h ≡ false → HasGreeted ss h c.id c.inc
   pub block : (r : ReservationState) → c.reservation ≡ Some r → IsKnown hs ss r.block
 
 abbrev pub PartyKnown : List HandlerId → List Site → Party → Type 0

@@ -39,7 +39,8 @@ module _ (hs : List HandlerId) where
   sites_known : (w v : World) → Knowing hs w → Remember w.sites v.sites → v.parties ≡ w.parties → AllByRecursion (Names hs v.sites) v.sent → Knowing hs v
   sites_known w v i more same messages = record {
     messages = messages;
-    parties = subst (AllByRecursion (PartyKnown hs v.sites)) (sym same) (all_more_of (PartyKnown hs w.sites) (PartyKnown hs v.sites) (party_more hs w.sites v.sites more) w.parties i.parties);
+    parties = subst (AllByRecursion (PartyKnown hs v.sites)) (sym same)
+        (all_more_of (PartyKnown hs w.sites) (PartyKnown hs v.sites) (party_more hs w.sites v.sites more) w.parties i.parties);
   }
 
   old_names : (w v : World) → Knowing hs w → Remember w.sites v.sites → AllByRecursion (Names hs v.sites) w.sent
@@ -78,7 +79,8 @@ module _ (hs : List HandlerId) where
   knowing_kept w o sound g i = record {
     commands = λ c p x d at is. record {
       messages = i.messages;
-      parties = set_known w (record p { client = d }) i (command_known hs w.sites p.client d (all_found (PartyKnown hs w.sites) (is_party c) w.parties p i.parties at) (core_command x) is);
+      parties = set_known w (record p { client = d }) i (command_known hs w.sites p.client d
+          (all_found (PartyKnown hs w.sites) (is_party c) w.parties p i.parties at) (core_command x) is);
     };
     sends = λ c p h s at here. record {
       messages = all_pushed (Names hs w.sites) w.sent (due p.client h) i.messages
@@ -91,7 +93,8 @@ module _ (hs : List HandlerId) where
         record {
           messages = i.messages;
           parties = set_known w (heard_party p now) i
-              (heard_known hs w p.client m now.0 now.1 (heard_row p.client m) (sent_all w k m was (Greets w) g.messages) (all_found (PartyKnown hs w.sites) (is_party (client_of m)) w.parties p i.parties at));
+              (heard_known hs w p.client m now.0 now.1 (heard_row p.client m) (sent_all w k m was (Greets w) g.messages)
+              (all_found (PartyKnown hs w.sites) (is_party (client_of m)) w.parties p i.parties at));
         });
     begins = λ h s t here is. site_known w (begun_site s) s i (place w h s here) (MarksGrow-same s.core.state.marks);
     finishes = λ h s t here is. site_known w (finished_site s t) s i (place w h s here) (MarksGrow-after (ran_of t) s.core.state.marks);
@@ -152,8 +155,13 @@ reached_knowing : (w : World) (r : IsReached w) → Knowing (map (λ (p : Placem
 reached_knowing w r =
     let hs = map (λ (p : Placement). p.handler) r.placements in
     let v : World = opening r.placements r.newcomers in
-    let opens : All hs v =
-    (((opens_ordered r.placements r.newcomers, opens_sound r.placements r.newcomers r.opens), opens_greetings r.placements r.newcomers), record { messages = tt; parties = parties_open hs v.sites r.newcomers }) in
+    let opens : All hs v = (
+      ((opens_ordered r.placements r.newcomers, opens_sound r.placements r.newcomers r.opens), opens_greetings r.placements r.newcomers),
+      record {
+        messages = tt;
+        parties = parties_open hs v.sites r.newcomers;
+      },
+    ) in
     let i : All hs w = subst (All hs) (ap (λ (x : Run). x.0) r.leads) (steps_kept (All hs) (all_kept hs) v r.events opens) in
     i.1
 
@@ -166,4 +174,5 @@ names_known w r =
 pub clients_know : (w : World) (r : IsReached w) → AllByRecursion (λ p. p.client.handlers ≡ map number_of w.sites) w.parties
 clients_know w r =
     let hs = map (λ (p : Placement). p.handler) r.placements in
-    all_more_of (PartyKnown hs w.sites) (λ p. p.client.handlers ≡ map number_of w.sites) (λ p k. k.handlers ∙ sym (sites_placed w r)) w.parties (reached_knowing w r).parties
+    all_more_of (PartyKnown hs w.sites) (λ p. p.client.handlers ≡ map number_of w.sites) (λ p k. k.handlers ∙ sym (sites_placed w r)) w.parties
+    (reached_knowing w r).parties

@@ -1,6 +1,6 @@
--- What a client sends and hears, and its restart, leave its lines at the end of the logs. A Log carries the first entries
--- of a line, from the number behind the acknowledged ones, so they stand in the log with these numbers; an acknowledgement
--- takes entries off a line's front alone. Hearing and restarting log nothing.
+-- What a client sends and hears, and its restart, leave its windows at the end of the logs. A Log carries the first entries
+-- of a window, from the number behind the acknowledged ones, so they stand in the log with these numbers; an acknowledgement
+-- takes entries off a window's front alone. Hearing and restarting log nothing.
 use Rattle.std.proofs.Common.{◌≡◌, ℕ, ◌+◌, ◌||◌, Bool, true, false, true≢false, nat_lt, nat_le, List, [], ◌++◌, Option, Some, refl, sym, ap, ◌∙◌, subst, append_assoc, append-nil}
 use Rattle.std.specs.Prelude.{if◌then◌else◌}
 use Rattle.std.specs.List.{AllByRecursion}
@@ -20,8 +20,8 @@ use Rattle.scoop_reserve.specs.Hearing.{is_open, is_open_in, is_gone}
 use Rattle.scoop_reserve.specs.Hearing as reservation
 use Rattle.scoop_reserve.proofs.Rows.{HeardRow as StepRow, passed_over as steps_over, one_is_locked, all_are_locked, is_busy, one_is_opened, all_are_opened, is_unlocked, is_given_back, heard_row as step_row}
 use Rattle.scoop_client.specs.declared.phase.ClientNote.{ClientNote}
-use Rattle.scoop_client.specs.Line.{LineState, logged, acknowledged, line_of, at_line, all_over, first_entries}
-use Rattle.scoop_client.specs.State.{ClientState, idle, with_lines, with_reservation}
+use Rattle.scoop_client.specs.Window.{WindowState, logged, acknowledged, window_of, at_window, all_over, first_entries}
+use Rattle.scoop_client.specs.State.{ClientState, idle, with_windows, with_reservation}
 use Rattle.scoop_client.specs.Due.{due}
 use Rattle.scoop_client.specs.Hearing.{heard, stepped, after_step, up_to}
 use Rattle.scoop_client.specs.Rows.{DueRow, owes_nothing, greets, reserves, logs, HeardRow, passed_over, is_welcomed, takes_step, is_acknowledged, is_accepted}
@@ -33,8 +33,8 @@ use Rattle.scoop_model.proofs.Basics.{by_test}
 use Rattle.scoop_model.proofs.Stands.{Stands}
 use Rattle.scoop_model.proofs.Order.Facts.{all_more_of, all_pushed, all_set_party}
 use Rattle.scoop_model.proofs.Sound.Owed.{OwedRow, asks, opens, unlocks, gives_back, owed_row}
-use Rattle.scoop_model.proofs.Logging.Facts.{Carries, LineFits, IsLastQuery, WaitsAt, LinesFit, PartyLogs, Logging, Grown, stands_more}
-use Rattle.scoop_model.proofs.Logging.Lines.{by_line, handlers_at, handlers_at_line, line_handler, line_own, line_other, fits_acknowledged, query_acknowledged, first_of_all}
+use Rattle.scoop_model.proofs.Logging.Facts.{Carries, WindowFits, IsLastQuery, WaitsAt, WindowsFit, PartyLogs, Logging, Grown, stands_more}
+use Rattle.scoop_model.proofs.Logging.Windows.{by_window, handlers_at, handlers_at_window, window_handler, window_own, window_other, fits_acknowledged, query_acknowledged, first_of_all}
 
 -- ---- what goes on
 
@@ -47,17 +47,22 @@ module _ (v w : World) where
   abbrev pub SameLogs : Block → Type 0
   SameLogs b = (h : HandlerId) → log_of b h v ≡ log_of b h w
 
-  pub lines_more : (c : ClientState) (r : ReservationState) → SameLogs r.block → LinesFit v c r → LinesFit w c r
-  lines_more c r same f = record {
+  pub windows_more : (c : ClientState) (r : ReservationState) → SameLogs r.block → WindowsFit v c r → WindowsFit w c r
+  windows_more c r same f = record {
     block = f.block;
     handlers = f.handlers;
-    lines = λ h l e. subst (λ log. LineFits log l) (same h) (f.lines h l e);
-    waits = λ h n e. (let g = f.waits h n e in record { line = g.line; found = g.found; query = subst (λ log. IsLastQuery log g.line n) (same h) g.query });
+    windows = λ h l e. subst (λ log. WindowFits log l) (same h) (f.windows h l e);
+    waits = λ h n e. (let g = f.waits h n e in record {
+      window = g.window;
+      found = g.found;
+      query =
+          subst (λ log. IsLastQuery log g.window n) (same h) g.query;
+    });
     unlogged = λ e h. sym (same h) ∙ f.unlogged e h;
   }
 
   pub party_more : (p : Party) → ((r : ReservationState) → p.client.reservation ≡ Some r → SameLogs r.block) → PartyLogs v p → PartyLogs w p
-  party_more p same f = record { block = λ r e. lines_more p.client r (same r e) (f.block r e) }
+  party_more p same f = record { block = λ r e. windows_more p.client r (same r e) (f.block r e) }
 
   -- nothing is logged
   pub logging_more : ((b : Block) → SameLogs b) → Logging v → AllByRecursion (Carries v) w.sent → AllByRecursion (PartyLogs v) w.parties → Logging w
@@ -75,8 +80,8 @@ owed_carries w r h m (opens at is) = tt
 owed_carries w r h m (unlocks at is) = tt
 owed_carries w r h m (gives_back at is) = tt
 
-line_stands : (log : List Entry) (l : LineState) (batch : ℕ) → LineFits log l → Stands log (l.acked + 1) (first_entries batch l.unacked)
-line_stands log l batch f =
+window_stands : (log : List Entry) (l : WindowState) (batch : ℕ) → WindowFits log l → Stands log (l.acked + 1) (first_entries batch l.unacked)
+window_stands log l batch f =
     let rest = first_of_all batch l.unacked in
     record {
       before = f.acknowledged;
@@ -89,12 +94,12 @@ due_carries : (w : World) (p : Party) (h : HandlerId) (o : Option Message) → D
 due_carries w p h o owes_nothing f m e = absurd (cc)
 due_carries w p h o (greets left) f m e = let same : Hello h p.client.id p.client.inc ≡ m = cc in subst (Carries w) same tt
 due_carries w p h o (reserves r n greeted has_one owes) f m e = owed_carries w r h m (owed_row r h m (owes ∙ e))
-due_carries w p h o (logs r l greeted has_one free opened line some) f m e =
+due_carries w p h o (logs r l greeted has_one free opened window some) f m e =
     let c = p.client in
     let same : Log l.handler r.block (l.acked + 1) (first_entries c.batch l.unacked) ≡ m = cc in
-    let own = line_handler h c.lines l line in
-    let fits : LineFits (log_of r.block l.handler w) l = subst (λ j. LineFits (log_of r.block j w) l) (sym own) ((f.block r has_one).lines h l line) in
-    subst (Carries w) same (line_stands (log_of r.block l.handler w) l c.batch fits)
+    let own = window_handler h c.windows l window in
+    let fits : WindowFits (log_of r.block l.handler w) l = subst (λ j. WindowFits (log_of r.block j w) l) (sym own) ((f.block r has_one).windows h l window) in
+    subst (Carries w) same (window_stands (log_of r.block l.handler w) l c.batch fits)
 
 pub sends_logging : (w : World) → Logging w → (p : Party) (h : HandlerId) → PartyLogs w p → Logging (with_sent w (due p.client h))
 sends_logging w i p h f =
@@ -103,24 +108,29 @@ sends_logging w i p h f =
 
 -- ---- a client hears
 
--- its lines and the query that waits stay, and so does the reservation but for its stage
+-- its windows and the query that waits stay, and so does the reservation but for its stage
 pub record StaysLogged (c d : ClientState) (r s : ReservationState) : Type 0 where
   pub newest : newest_block d ≡ newest_block c
-  pub lines : d.lines ≡ c.lines
+  pub windows : d.windows ≡ c.windows
   pub waits : d.waits ≡ c.waits
   pub block : s.block ≡ r.block
   pub handlers : s.handlers ≡ r.handlers
   pub opened : is_open s ≡ false → is_open r ≡ false
 
-pub fit_again : (w : World) (c d : ClientState) (r s : ReservationState) → StaysLogged c d r s → LinesFit w c r → LinesFit w d s
+pub fit_again : (w : World) (c d : ClientState) (r s : ReservationState) → StaysLogged c d r s → WindowsFit w c r → WindowsFit w d s
 fit_again w c d r s k f = record {
   block = k.block ∙ f.block ∙ sym k.newest;
-  handlers = ap (λ ls. handlers_at ls) k.lines ∙ f.handlers ∙ sym k.handlers;
-  lines = λ h l e.
-      subst (λ b. LineFits (log_of b h w) l) (sym k.block) (f.lines h l (ap (line_of h) (sym k.lines) ∙ e));
+  handlers = ap (λ ls. handlers_at ls) k.windows ∙ f.handlers ∙ sym k.handlers;
+  windows = λ h l e.
+      subst (λ b. WindowFits (log_of b h w) l) (sym k.block) (f.windows h l (ap (window_of h) (sym k.windows) ∙ e));
   waits = λ h n e. (
       let g = f.waits h n (sym k.waits ∙ e) in
-      record { line = g.line; found = ap (line_of h) k.lines ∙ g.found; query = subst (λ b. IsLastQuery (log_of b h w) g.line n) (sym k.block) g.query });
+      record {
+        window = g.window;
+        found = ap (window_of h) k.windows
+            ∙ g.found;
+        query = subst (λ b. IsLastQuery (log_of b h w) g.window n) (sym k.block) g.query;
+      });
   unlogged = λ e h. ap (λ b. log_of b h w) k.block ∙ f.unlogged (k.opened e) h;
 }
 
@@ -140,9 +150,9 @@ step_goes_on r m s st (all_are_opened h at is all) = record { block = refl; hand
 step_goes_on r m s st (is_unlocked h at is) = record { block = refl; handlers = refl; opened = λ e. absurd (true≢false e) }
 step_goes_on r m s st (is_given_back h at is) = record { block = refl; handlers = refl; opened = λ e. ap is_open_in at }
 
--- every line beside its log, where the client has a block
+-- every window beside its log, where the client has a block
 abbrev AllFit : World → ClientState → Type 0
-AllFit w c = (r : ReservationState) → c.reservation ≡ Some r → LinesFit w c r
+AllFit w c = (r : ReservationState) → c.reservation ≡ Some r → WindowsFit w c r
 
 module _ (w : World) (c : ClientState) (fits : AllFit w c) where
   idle_fits : (d : ClientState) → AllFit w (idle d)
@@ -154,8 +164,16 @@ module _ (w : World) (c : ClientState) (fits : AllFit w c) where
       (λ over. idle_fits c)
       (λ on q e.
       let same : s ≡ q = some_is s q e in
-      subst (LinesFit w (with_reservation c s)) same
-      (fit_again w c (with_reservation c s) r s (record { newest = refl; lines = refl; waits = refl; block = g.block; handlers = g.handlers; opened = g.opened }) (fits r held)))
+      subst (WindowsFit w (with_reservation c s)) same
+      (fit_again w c (with_reservation c s) r s (record {
+        newest = refl;
+        windows = refl;
+        waits = refl;
+        block = g.block;
+        handlers = g.handlers;
+        opened =
+            g.opened;
+      }) (fits r held)))
     where
       some_is : (a b : ReservationState) → Some a ≡ Some b → a ≡ b
       some_is a b e = cc
@@ -167,45 +185,47 @@ module _ (w : World) (c : ClientState) (fits : AllFit w c) where
   step_fits r s (step.Unlocked h) held g = stepped_fits r s held g
   step_fits r s step.Ignored held g = fits
 
-  -- one line's entries are acknowledged
-  acknowledged_lines :
-      (r : ReservationState) (h : HandlerId) (k : ℕ) → c.reservation ≡ Some r → (j : HandlerId) (l : LineState)
-      → line_of j (at_line h (acknowledged k) c.lines) ≡ Some l → LineFits (log_of r.block j w) l
-  acknowledged_lines r h k held =
+  -- one window's entries are acknowledged
+  acknowledged_windows :
+      (r : ReservationState) (h : HandlerId) (k : ℕ) → c.reservation ≡ Some r → (j : HandlerId) (l : WindowState)
+      → window_of j (at_window h (acknowledged k) c.windows) ≡ Some l → WindowFits (log_of r.block j w) l
+  acknowledged_windows r h k held =
       let f = fits r held in
-      by_line (λ j l. LineFits (log_of r.block j w) l) h (acknowledged k) (λ l. refl) c.lines
-      (λ l e. fits_acknowledged (log_of r.block h w) k l (f.lines h l e))
-      (λ j l apart e. f.lines j l e)
+      by_window (λ j l. WindowFits (log_of r.block j w) l) h (acknowledged k) (λ l. refl) c.windows
+      (λ l e. fits_acknowledged (log_of r.block h w) k l (f.windows h l e))
+      (λ j l apart e. f.windows j l e)
 
   counted_waits :
-      (r : ReservationState) (h : HandlerId) (n : ℕ) (l : LineState) → c.reservation ≡ Some r → line_of h c.lines ≡ Some l
+      (r : ReservationState) (h : HandlerId) (n : ℕ) (l : WindowState) → c.reservation ≡ Some r → window_of h c.windows ≡ Some l
       → (nat_lt (logged l) n || nat_le (up_to h n c.waits) l.acked) ≡ false → (j : HandlerId) (q : ℕ) → c.waits ≡ Some (j, q)
-      → WaitsAt w (with_lines c (at_line h (acknowledged (up_to h n c.waits)) c.lines) c.waits) r.block j q
-  counted_waits r h n l held line fresh_count j q waits =
+      → WaitsAt w (with_windows c (at_window h (acknowledged (up_to h n c.waits)) c.windows) c.waits) r.block j q
+  counted_waits r h n l held window fresh_count j q waits =
       let k = up_to h n c.waits in
       let g = (fits r held).waits j q waits in
-      by_test (λ t. same_handler h j ≡ t → WaitsAt w (with_lines c (at_line h (acknowledged k) c.lines) c.waits) r.block j q) (same_handler h j)
+      by_test (λ t. same_handler h j ≡ t → WaitsAt w (with_windows c (at_window h (acknowledged k) c.windows) c.waits) r.block j q) (same_handler h j)
       (λ _ is.
       let same : h ≡ j = (handler_decides h j).0 is in
-      let there : line_of h c.lines ≡ Some g.line = ap (λ i. line_of i c.lines) same ∙ g.found in
-      let one : l ≡ g.line = line_is l g.line (sym line ∙ there) in
+      let there : window_of h c.windows ≡ Some g.window = ap (λ i. window_of i c.windows) same ∙ g.found in
+      let one : l ≡ g.window = window_is l g.window (sym window ∙ there) in
       let now : up_to h n c.waits ≡ up_to h n (Some (h, q)) = ap (up_to h n) waits ∙ ap (λ i. up_to h n (Some (i, q))) (sym same) in
-      let new : nat_le (up_to h n (Some (h, q))) g.line.acked ≡ false =
-      ap (λ a. nat_le a g.line.acked) (sym now) ∙ ap (λ (x : LineState). nat_le k x.acked) (sym one)
+      let new : nat_le (up_to h n (Some (h, q))) g.window.acked ≡ false =
+      ap (λ a. nat_le a g.window.acked) (sym now) ∙ ap (λ (x : WindowState). nat_le k x.acked) (sym one)
       ∙ second (nat_lt (logged l) n) (nat_le k l.acked) fresh_count in
       record {
-        line = acknowledged k g.line;
-        found = ap (λ i. line_of i (at_line h (acknowledged k) c.lines)) (sym same) ∙ line_own h (acknowledged k) (λ x. refl) c.lines ∙ ap (option_map (acknowledged k)) there;
-        query = subst (λ a. IsLastQuery (log_of r.block j w) (acknowledged a g.line) q) (sym now) (query_acknowledged (log_of r.block j w) h n q g.line new g.query);
+        window = acknowledged k g.window;
+        found = ap (λ i. window_of i (at_window h (acknowledged k) c.windows)) (sym same) ∙ window_own h (acknowledged k) (λ x. refl) c.windows
+            ∙ ap (option_map (acknowledged k)) there;
+        query = subst (λ a. IsLastQuery (log_of r.block j w) (acknowledged a g.window) q) (sym now)
+            (query_acknowledged (log_of r.block j w) h n q g.window new g.query);
       })
       (λ _ is. record {
-        line = g.line;
-        found = line_other h j (acknowledged k) (λ x. refl) c.lines (λ same. true≢false (sym ((handler_decides h j).1 same) ∙ is)) ∙ g.found;
+        window = g.window;
+        found = window_other h j (acknowledged k) (λ x. refl) c.windows (λ same. true≢false (sym ((handler_decides h j).1 same) ∙ is)) ∙ g.found;
         query = g.query;
       }) refl
     where
-      line_is : (a b : LineState) → Some a ≡ Some b → a ≡ b
-      line_is a b e = cc
+      window_is : (a b : WindowState) → Some a ≡ Some b → a ≡ b
+      window_is a b e = cc
 
       second : (s t : Bool) → (s || t) ≡ false → t ≡ false
       second true t e = absurd (true≢false e)
@@ -214,26 +234,27 @@ module _ (w : World) (c : ClientState) (fits : AllFit w c) where
   row_fits : (m : Message) (d : ClientState) (note : ClientNote) → HeardRow c m d note → AllFit w d
   row_fits m d note (passed_over n) = fits
   row_fits m d note (is_welcomed h left) =
-      λ r e. fit_again w c d r r (record { newest = refl; lines = refl; waits = refl; block = refl; handlers = refl; opened = λ o. o }) (fits r e)
+      λ r e. fit_again w c d r r (record { newest = refl; windows = refl; waits = refl; block = refl; handlers = refl; opened = λ o. o }) (fits r e)
   row_fits m d note (takes_step n r has_one) =
-      step_fits r (reservation.heard r n).0 (reservation.heard r n).1 has_one (step_goes_on r n (reservation.heard r n).0 (reservation.heard r n).1 (step_row r n))
-  row_fits m d note (is_acknowledged h n r l has_one opened line fresh_count) =
+      step_fits r (reservation.heard r n).0 (reservation.heard r n).1 has_one
+      (step_goes_on r n (reservation.heard r n).0 (reservation.heard r n).1 (step_row r n))
+  row_fits m d note (is_acknowledged h n r l has_one opened window fresh_count) =
       let k = up_to h n c.waits in
-      let e : ClientState = with_lines c (at_line h (acknowledged k) c.lines) c.waits in
-      by_test (λ t. AllFit w (if t then idle e else e)) (all_over e.lines)
+      let e : ClientState = with_windows c (at_window h (acknowledged k) c.windows) c.waits in
+      by_test (λ t. AllFit w (if t then idle e else e)) (all_over e.windows)
       (λ over. idle_fits e)
       (λ on q held. (let f = fits q held in record {
         block = f.block;
-        handlers = handlers_at_line h (acknowledged k) (λ x. refl) c.lines ∙ f.handlers;
-        lines = acknowledged_lines q h k held;
-        waits = counted_waits q h n l held line fresh_count;
+        handlers = handlers_at_window h (acknowledged k) (λ x. refl) c.windows ∙ f.handlers;
+        windows = acknowledged_windows q h k held;
+        waits = counted_waits q h n l held window fresh_count;
         unlogged = f.unlogged;
       }))
   row_fits m d note (is_accepted h n a r has_one opened waits) =
       λ q held. (let f = fits q held in record {
         block = f.block;
-        handlers = handlers_at_line h (acknowledged n) (λ x. refl) c.lines ∙ f.handlers;
-        lines = acknowledged_lines q h n held;
+        handlers = handlers_at_window h (acknowledged n) (λ x. refl) c.windows ∙ f.handlers;
+        windows = acknowledged_windows q h n held;
         waits = λ j i e. absurd (cc);
         unlogged = f.unlogged;
       })
@@ -245,7 +266,8 @@ party_moves w p i f =
 
 pub notices_logging : (w : World) → Logging w → (m : Message) (p : Party) → PartyLogs w p → Logging (with_party w (heard_party p (heard p.client m)))
 notices_logging w i m p f =
-    party_moves w (heard_party p (heard p.client m)) i (record { block = row_fits w p.client f.block m (heard p.client m).0 (heard p.client m).1 (heard_row p.client m) })
+    party_moves w (heard_party p (heard p.client m)) i (record
+    { block = row_fits w p.client f.block m (heard p.client m).0 (heard p.client m).1 (heard_row p.client m) })
 
 pub restarts_logging : (w : World) → Logging w → (p : Party) → Logging (with_party w (restarted_party p))
 restarts_logging w i p = party_moves w (restarted_party p) i (record { block = λ r e. absurd (cc) })

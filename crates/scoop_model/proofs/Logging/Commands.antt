@@ -1,5 +1,5 @@
--- What a command to a client does leaves its lines at the end of the logs. The log and the client's own line at a handler
--- grow by the same entry, so that the line stays the log's end; other blocks' logs stay; and nothing is logged before the
+-- What a command to a client does leaves its windows at the end of the logs. The log and the client's own window at a handler
+-- grow by the same entry, so that the window stays the log's end; other blocks' logs stay; and nothing is logged before the
 -- block has opened at all of its handlers. Command by command, by the rows of the client's table.
 use Rattle.std.proofs.Common.{◌≡◌, ℕ, ◌+◌, ◌-◌, ◌^◌, Bool, true, false, true≢false, nat_le, List, [], ◌∷◌, ◌++◌, map, Option, Some, None, refl, sym, ap, ◌∙◌, subst, append-nil, ⊎_elim}
 use Rattle.std.specs.Prelude.{if◌then◌else◌, Ok}
@@ -20,8 +20,8 @@ use Rattle.scoop_reserve.specs.State.{ReservationState, at_stage}
 use Rattle.scoop_reserve.specs.Starting.{fresh}
 use Rattle.scoop_reserve.specs.Hearing.{is_open, is_open_in, given_up_in}
 use Rattle.scoop_client.specs.declared.phase.Phase.TheVariants.{Greeting, Running, Ending}
-use Rattle.scoop_client.specs.Line.{LineState, logged, fresh_line, with_entry as with_line_entry, with_end, line_of, at_line, is_ended}
-use Rattle.scoop_client.specs.State.{ClientState, phase_at, phase_of, phase_of_block, with_lines, with_reservation}
+use Rattle.scoop_client.specs.Window.{WindowState, logged, fresh_window, with_entry as with_window_entry, with_end, window_of, at_window, is_ended}
+use Rattle.scoop_client.specs.State.{ClientState, phase_at, phase_of, phase_of_block, with_windows, with_reservation}
 use Rattle.scoop_client.specs.Commands as client
 use Rattle.scoop_client.specs.Rows.{ReserveRow, begins_block, LogRow, is_logged, EndRow, ends_block, GiveUpRow, gives_up}
 use Rattle.scoop_client.proofs.CommandRows.{command_row}
@@ -32,12 +32,12 @@ use Rattle.scoop_model.specs.Step.{core_command, newest_block, logs_after, comma
 use Rattle.scoop_model.proofs.Basics.{ok_is, by_test}
 use Rattle.scoop_model.proofs.Order.Facts.{PartyFits, all_more_of, all_set_party}
 use Rattle.scoop_model.proofs.Order.Commands.{next_is_new, started_fresh}
-use Rattle.scoop_model.proofs.Logging.Facts.{Carries, LineFits, IsLastQuery, WaitsAt, LinesFit, PartyLogs, Logging, Grown}
+use Rattle.scoop_model.proofs.Logging.Facts.{Carries, WindowFits, IsLastQuery, WaitsAt, WindowsFit, PartyLogs, Logging, Grown}
 use Rattle.scoop_model.proofs.Logging.Logs.{HasLine, IsAdded, added, added_last, log_after, log_here, log_other, named_lines, reserved_same, unreserved_empty}
-use Rattle.scoop_model.proofs.Logging.Lines.{by_all, by_line, fits_ended, fits_fresh, fits_logged, fresh_found, handlers_at, handlers_at_line, handlers_fresh_lines, handlers_in_all, line_own, not_ended, query_logged, same_found}
-use Rattle.scoop_model.proofs.Logging.Clients.{StaysLogged, carries_more, fit_again, lines_more, party_more}
+use Rattle.scoop_model.proofs.Logging.Windows.{by_all, by_window, fits_ended, fits_fresh, fits_logged, fresh_found, handlers_at, handlers_at_window, handlers_fresh_windows, handlers_in_all, window_own, not_ended, query_logged, same_found}
+use Rattle.scoop_model.proofs.Logging.Clients.{StaysLogged, carries_more, fit_again, windows_more, party_more}
 
--- ---- a command, once it is known what it does to the client's own lines
+-- ---- a command, once it is known what it does to the client's own windows
 
 -- any log grows by what the command logs
 pub commanded_grown : (w : World) (p : Party) (x : Command) (d : ClientState) → Grown w (commanded_world w p x d)
@@ -50,7 +50,7 @@ commanded_grown w p x d b h =
 record Logs (w : World) (p : Party) (x : Command) (d : ClientState) : Type 0 where
   pub id : d.id ≡ p.client.id
   pub going : (b : Block) (h : HandlerId) → IsAdded x (newest_block d) b h w.logs → ends (log_of b h w) ≡ false
-  pub lines : (r : ReservationState) → d.reservation ≡ Some r → LinesFit (commanded_world w p x d) d r
+  pub windows : (r : ReservationState) → d.reservation ≡ Some r → WindowsFit (commanded_world w p x d) d r
 
 module _ (w : World) (p : Party) (x : Command) (d : ClientState) (i : Logging w) (l : Logs w p x d) where
   abbrev now : World
@@ -60,7 +60,8 @@ module _ (w : World) (p : Party) (x : Command) (d : ClientState) (i : Logging w)
   last_again b h =
       ⊎_elim
       (λ (same : log_of b h now ≡ log_of b h w). subst EndOnlyLast (sym same) (i.logs b h))
-      (λ (more : IsAdded x (newest_block d) b h w.logs). subst EndOnlyLast (sym more.grows) (EndOnlyLast-append (log_of b h w) (added x h) (i.logs b h) (l.going b h more) (added_last x h)))
+      (λ (more : IsAdded x (newest_block d) b h w.logs). subst EndOnlyLast (sym more.grows)
+      (EndOnlyLast-append (log_of b h w) (added x h) (i.logs b h) (l.going b h more) (added_last x h)))
       (log_after x (newest_block d) b h w.logs)
 
   -- the block of another client isn't this one's
@@ -74,7 +75,7 @@ module _ (w : World) (p : Party) (x : Command) (d : ClientState) (i : Logging w)
   commanded_logging = record {
     messages = all_more_of (Carries w) (Carries now) (carries_more w now (commanded_grown w p x d)) w.sent i.messages;
     logs = last_again;
-    parties = all_set_party (PartyLogs w) (PartyLogs now) (record p { client = d }) w.parties (record { block = l.lines }) other_stays i.parties;
+    parties = all_set_party (PartyLogs w) (PartyLogs now) (record p { client = d }) w.parties (record { block = l.windows }) other_stays i.parties;
   }
 
 -- ---- the phase
@@ -84,7 +85,7 @@ pub record IsRunning (c : ClientState) : Type 0 where
   pub reservation : ReservationState
   pub held : c.reservation ≡ Some reservation
   pub opened : is_open reservation ≡ true
-  pub going : is_ended c.lines ≡ false
+  pub going : is_ended c.windows ≡ false
 
 running_at : (ended : Bool) (s : Stage) → phase_at s ended ≡ Running → (is_open_in s ≡ true) × (ended ≡ false)
 running_at ended AtLocking e = absurd (cc)
@@ -95,13 +96,13 @@ running_at ended AtGivingUp e = absurd (cc)
 
 pub running_is : (c : ClientState) → phase_of c ≡ Running → IsRunning c
 running_is c e =
-    by_test (λ t. (if t then phase_of_block c.lines c.reservation else Greeting) ≡ Running → IsRunning c) (is_empty c.left)
+    by_test (λ t. (if t then phase_of_block c.windows c.reservation else Greeting) ≡ Running → IsRunning c) (is_empty c.unwelcomed)
     (λ greeted f. from c.reservation refl f)
     (λ greeting f. absurd (cc)) e
   where
-    from : (o : Option ReservationState) → c.reservation ≡ o → phase_of_block c.lines o ≡ Running → IsRunning c
+    from : (o : Option ReservationState) → c.reservation ≡ o → phase_of_block c.windows o ≡ Running → IsRunning c
     from None held f = absurd (cc)
-    from (Some r) held f = let is = running_at (is_ended c.lines) r.stage f in record { reservation = r; held = held; opened = is.0; going = is.1 }
+    from (Some r) held f = let is = running_at (is_ended c.windows) r.stage f in record { reservation = r; held = held; opened = is.0; going = is.1 }
 
 -- ---- a client logs
 
@@ -109,13 +110,14 @@ module _ (w : World) (p : Party) (fits : PartyFits w p) (f : PartyLogs w p) wher
   abbrev c : ClientState
   c = p.client
 
-  lines_named : (r : ReservationState) → c.reservation ≡ Some r → handlers_at c.lines ≡ map (λ (y : HandlerLog). y.handler) (lines_of r.block w.logs)
-  lines_named r held = (f.block r held).handlers ∙ sym (named_lines r.block w.logs r.handlers (fits.reservation r held).named)
+  windows_named : (r : ReservationState) → c.reservation ≡ Some r → handlers_at c.windows ≡ map (λ (y : HandlerLog). y.handler) (lines_of r.block w.logs)
+  windows_named r held = (f.block r held).handlers ∙ sym (named_lines r.block w.logs r.handlers (fits.reservation r held).named)
 
-  -- the handler of a line has a log
-  has_line : (r : ReservationState) → c.reservation ≡ Some r → (h : HandlerId) (l : LineState) → line_of h c.lines ≡ Some l → HasLine r.block h w.logs
+  -- the handler of a window has a log
+  has_line : (r : ReservationState) → c.reservation ≡ Some r → (h : HandlerId) (l : WindowState) → window_of h c.windows ≡ Some l → HasLine r.block h w.logs
   has_line r held h l found =
-      let x = same_found (λ (y : LineState). y.handler) (λ (y : HandlerLog). y.handler) h c.lines (lines_of r.block w.logs) l (lines_named r held) found in
+      let x = same_found (λ (y : WindowState). y.handler) (λ (y : HandlerLog). y.handler) h c.windows (lines_of r.block w.logs) l
+      (windows_named r held) found in
       record { line = x.0; found = x.1 }
 
   -- no log of a running block has ended
@@ -124,8 +126,8 @@ module _ (w : World) (p : Party) (fits : PartyFits w p) (f : PartyLogs w p) wher
       let r = run.reservation in
       let x =
       same_found (λ (y : HandlerLog). y.handler)
-      (λ (y : LineState). y.handler) h (lines_of r.block w.logs) c.lines has.line (sym (lines_named r run.held)) has.found in
-      sym ((f.block r run.held).lines h x.0 x.1).ended ∙ not_ended h c.lines x.0 run.going x.1
+      (λ (y : WindowState). y.handler) h (lines_of r.block w.logs) c.windows has.line (sym (windows_named r run.held)) has.found in
+      sym ((f.block r run.held).windows h x.0 x.1).ended ∙ not_ended h c.windows x.0 run.going x.1
 
   going_now : (run : IsRunning c) (x : Command) (b : Block) (h : HandlerId) → IsAdded x (newest_block c) b h w.logs → ends (log_of b h w) ≡ false
   going_now run x b h more =
@@ -137,7 +139,7 @@ module _ (w : World) (p : Party) (fits : PartyFits w p) (f : PartyLogs w p) wher
 
   -- the log of a running block's handler has the command's entries behind its own
   log_grows :
-      (x : Command) (r : ReservationState) → c.reservation ≡ Some r → (h : HandlerId) (l : LineState) → line_of h c.lines ≡ Some l → (d : ClientState)
+      (x : Command) (r : ReservationState) → c.reservation ≡ Some r → (h : HandlerId) (l : WindowState) → window_of h c.windows ≡ Some l → (d : ClientState)
       → newest_block d ≡ newest_block c
       → log_of r.block h w ++ added x h ≡ log_of r.block h (commanded_world w p x d)
   log_grows x r held h l found d same =
@@ -148,10 +150,10 @@ module _ (w : World) (p : Party) (fits : PartyFits w p) (f : PartyLogs w p) wher
 
 module _
     (w : World) (p : Party) (x : Command) (k : HandlerId) (e : Entry) (adds : (h : HandlerId) → added x h ≡ (if same_handler h k then e ∷ [] else []))
-    (no_end : is_end e ≡ false) (fits : PartyFits w p) (f : PartyLogs w p) (l : LineState) (run : IsRunning p.client)
-    (line : line_of k p.client.lines ≡ Some l) (more : nat_le (2 ^ 32 - 2) (logged l) ≡ false) where
+    (no_end : is_end e ≡ false) (fits : PartyFits w p) (f : PartyLogs w p) (l : WindowState) (run : IsRunning p.client)
+    (window : window_of k p.client.windows ≡ Some l) (more : nat_le (2 ^ 32 - 2) (logged l) ≡ false) where
   abbrev later : ClientState
-  later = with_lines p.client (at_line k (with_line_entry e) p.client.lines) (client.waits_for k (logged l + 1) e)
+  later = with_windows p.client (at_window k (with_window_entry e) p.client.windows) (client.waits_for k (logged l + 1) e)
 
   abbrev after : World
   after = commanded_world w p x later
@@ -162,26 +164,29 @@ module _
   adds_elsewhere : (h : HandlerId) → (k ≡ h → ⊥) → added x h ≡ []
   adds_elsewhere h apart =
       adds h
-      ∙ by_test (λ t. same_handler h k ≡ t → (if t then e ∷ [] else []) ≡ []) (same_handler h k) (λ _ is. absurd (apart (sym ((handler_decides h k).0 is)))) (λ _ is. refl) refl
+      ∙ by_test (λ t. same_handler h k ≡ t → (if t then e ∷ [] else []) ≡ []) (same_handler h k) (λ _ is. absurd (apart (sym ((handler_decides h k).0 is))))
+      (λ _ is. refl) refl
 
   own_log : (r : ReservationState) → p.client.reservation ≡ Some r → log_of r.block k w ++ e ∷ [] ≡ log_of r.block k after
-  own_log r held = ap (λ es. log_of r.block k w ++ es) (sym adds_here) ∙ log_grows w p fits f x r held k l line later refl
+  own_log r held = ap (λ es. log_of r.block k w ++ es) (sym adds_here) ∙ log_grows w p fits f x r held k l window later refl
 
-  lines_logged :
-      (r : ReservationState) → p.client.reservation ≡ Some r → (h : HandlerId) (m : LineState) → line_of h later.lines ≡ Some m
-      → LineFits (log_of r.block h after) m
-  lines_logged r held =
+  windows_logged :
+      (r : ReservationState) → p.client.reservation ≡ Some r → (h : HandlerId) (m : WindowState) → window_of h later.windows ≡ Some m
+      → WindowFits (log_of r.block h after) m
+  windows_logged r held =
       let own = f.block r held in
-      by_line (λ h m. LineFits (log_of r.block h after) m) k (with_line_entry e) (λ m. refl) p.client.lines
+      by_window (λ h m. WindowFits (log_of r.block h after) m) k (with_window_entry e) (λ m. refl) p.client.windows
       (λ m there.
-      let same : l ≡ m = line_is l m (sym line ∙ there) in
-      subst (λ log. LineFits log (with_line_entry e m)) (own_log r held)
-      (fits_logged (log_of r.block k w) m e (own.lines k m there) (not_ended k p.client.lines m run.going there) no_end (subst (λ (y : LineState). nat_le (2 ^ 32 - 2) (logged y) ≡ false) same more)))
+      let same : l ≡ m = window_is l m (sym window ∙ there) in
+      subst (λ log. WindowFits log (with_window_entry e m)) (own_log r held)
+      (fits_logged (log_of r.block k w) m e (own.windows k m there) (not_ended k p.client.windows m run.going there) no_end
+      (subst (λ (y : WindowState). nat_le (2 ^ 32 - 2) (logged y) ≡ false) same more)))
       (λ h m apart there.
-      subst (λ log. LineFits log m) (sym (append-nil (log_of r.block h w)) ∙ ap (λ es. log_of r.block h w ++ es) (sym (adds_elsewhere h apart)) ∙ log_grows w p fits f x r held h m there later refl) (own.lines h m there))
+      subst (λ log. WindowFits log m) (sym (append-nil (log_of r.block h w)) ∙ ap (λ es. log_of r.block h w ++ es) (sym (adds_elsewhere h apart))
+      ∙ log_grows w p fits f x r held h m there later refl) (own.windows h m there))
     where
-      line_is : (a b : LineState) → Some a ≡ Some b → a ≡ b
-      line_is a b e = cc
+      window_is : (a b : WindowState) → Some a ≡ Some b → a ≡ b
+      window_is a b e = cc
 
   waits_logged :
       (r : ReservationState) → p.client.reservation ≡ Some r → (n : Entry) → e ≡ n → (h : HandlerId) (q : ℕ)
@@ -195,20 +200,20 @@ module _
       subst (λ j. WaitsAt after later r.block j q) here
       (subst (λ a. WaitsAt after later r.block k a) number
       (record {
-        line = with_line_entry e l;
-        found = line_own k (with_line_entry e) (λ m. refl) p.client.lines ∙ ap (option_map (with_line_entry e)) line;
-        query = subst (λ log. IsLastQuery log (with_line_entry e l) (logged l + 1)) (own_log r held)
-            (subst (λ y. IsLastQuery (log_of r.block k w ++ y ∷ []) (with_line_entry y l) (logged l + 1)) (sym is) (query_logged (log_of r.block k w) l s));
+        window = with_window_entry e l;
+        found = window_own k (with_window_entry e) (λ m. refl) p.client.windows ∙ ap (option_map (with_window_entry e)) window;
+        query = subst (λ log. IsLastQuery log (with_window_entry e l) (logged l + 1)) (own_log r held)
+            (subst (λ y. IsLastQuery (log_of r.block k w ++ y ∷ []) (with_window_entry y l) (logged l + 1)) (sym is) (query_logged (log_of r.block k w) l s));
       }))
 
   entry_logs : Logs w p x later
   entry_logs = record {
     id = refl;
     going = going_now w p fits f run x;
-    lines = λ r held. (let own = f.block r held in record {
+    windows = λ r held. (let own = f.block r held in record {
       block = own.block;
-      handlers = handlers_at_line k (with_line_entry e) (λ m. refl) p.client.lines ∙ own.handlers;
-      lines = lines_logged r held;
+      handlers = handlers_at_window k (with_window_entry e) (λ m. refl) p.client.windows ∙ own.handlers;
+      windows = windows_logged r held;
       waits = waits_logged r held e refl;
       unlogged = λ shut h. absurd (true≢false (sym run.opened ∙ ap is_open (is_the_one w p fits f run r held) ∙ shut));
     });
@@ -218,7 +223,7 @@ module _
 
 module _ (w : World) (p : Party) (fits : PartyFits w p) (f : PartyLogs w p) (run : IsRunning p.client) where
   abbrev ended : ClientState
-  ended = with_lines p.client (map with_end p.client.lines) None
+  ended = with_windows p.client (map with_end p.client.windows) None
 
   abbrev over : World
   over = commanded_world w p End ended
@@ -227,12 +232,13 @@ module _ (w : World) (p : Party) (fits : PartyFits w p) (f : PartyLogs w p) (run
   end_logs = record {
     id = refl;
     going = going_now w p fits f run End;
-    lines = λ r held. (let own = f.block r held in record {
+    windows = λ r held. (let own = f.block r held in record {
       block = own.block;
-      handlers = handlers_in_all with_end (λ m. refl) p.client.lines ∙ own.handlers;
-      lines = by_all (λ h m. LineFits (log_of r.block h over) m) with_end (λ m. refl) p.client.lines
+      handlers = handlers_in_all with_end (λ m. refl) p.client.windows ∙ own.handlers;
+      windows = by_all (λ h m. WindowFits (log_of r.block h over) m) with_end (λ m. refl) p.client.windows
           (λ h m there.
-          subst (λ log. LineFits log (with_end m)) (log_grows w p fits f End r held h m there ended refl) (fits_ended (log_of r.block h w) m (own.lines h m there) (not_ended h p.client.lines m run.going there)));
+          subst (λ log. WindowFits log (with_end m)) (log_grows w p fits f End r held h m there ended refl)
+          (fits_ended (log_of r.block h w) m (own.windows h m there) (not_ended h p.client.windows m run.going there)));
       waits = λ h q waits. absurd (cc);
       unlogged = λ shut h. absurd (true≢false (sym run.opened ∙ ap is_open (is_the_one w p fits f run r held) ∙ shut));
     });
@@ -252,11 +258,12 @@ module _ (w : World) (p : Party) (hs : List HandlerId) (r : ReservationState) (f
       reserved_same hs (newest_block begun) (client.next_block p.client) h w.logs
       ∙ unreserved_empty (client.next_block p.client) h w.logs (next_is_new w p fits (handlers_of (client.next_block p.client) w) refl)
 
-  fresh_fits : LinesFit first begun (fresh (client.next_block p.client) hs)
+  fresh_fits : WindowsFit first begun (fresh (client.next_block p.client) hs)
   fresh_fits = record {
     block = refl;
-    handlers = handlers_fresh_lines hs;
-    lines = λ h l found. subst (λ m. LineFits (log_of (client.next_block p.client) h first) m) (fresh_found hs h l found) (subst (λ log. LineFits log (fresh_line h)) (sym (no_log h)) (fits_fresh h));
+    handlers = handlers_fresh_windows hs;
+    windows = λ h l found. subst (λ m. WindowFits (log_of (client.next_block p.client) h first) m) (fresh_found hs h l found)
+        (subst (λ log. WindowFits log (fresh_window h)) (sym (no_log h)) (fits_fresh h));
     waits = λ h q waits. absurd (cc);
     unlogged = λ shut. no_log;
   }
@@ -265,7 +272,7 @@ module _ (w : World) (p : Party) (hs : List HandlerId) (r : ReservationState) (f
   reserve_logs = record {
     id = refl;
     going = λ b h more. ap ends (sym (unlogged_before b h more));
-    lines = λ q held. (let same : r ≡ q = some_is r q held in subst (LinesFit first begun) (begins ∙ same) fresh_fits);
+    windows = λ q held. (let same : r ≡ q = some_is r q held in subst (WindowsFit first begun) (begins ∙ same) fresh_fits);
   }
     where
       some_is : (a b : ReservationState) → Some a ≡ Some b → a ≡ b
@@ -273,13 +280,15 @@ module _ (w : World) (p : Party) (hs : List HandlerId) (r : ReservationState) (f
 
       unlogged_before : (b : Block) (h : HandlerId) → IsAdded (Reserve hs) (newest_block begun) b h w.logs → [] ≡ log_of b h w
       unlogged_before b h more =
-          subst (λ y. [] ≡ log_of y h w) more.block (sym (unreserved_empty (client.next_block p.client) h w.logs (next_is_new w p fits (handlers_of (client.next_block p.client) w) refl)))
+          subst (λ y. [] ≡ log_of y h w) more.block (sym (unreserved_empty (client.next_block p.client) h w.logs
+          (next_is_new w p fits (handlers_of (client.next_block p.client) w) refl)))
 
 given_stays :
     (c : ClientState) (r s : ReservationState) (stage : Stage) → r.stage ≡ stage → given_up_in r stage ≡ Ok s → StaysLogged c (with_reservation c s) r s
 given_stays c r s AtLocking at e =
     let given : at_stage r AtGivingUp (asked r.handlers r.left) ≡ s = cc in
-    subst (λ q. StaysLogged c (with_reservation c q) r q) given (record { newest = refl; lines = refl; waits = refl; block = refl; handlers = refl; opened = λ _. ap is_open_in at })
+    subst (λ q. StaysLogged c (with_reservation c q) r q) given
+    (record { newest = refl; windows = refl; waits = refl; block = refl; handlers = refl; opened = λ _. ap is_open_in at })
 given_stays c r s AtOpening at e = absurd (cc)
 given_stays c r s AtUnlocking at e = absurd (cc)
 given_stays c r s AtGivingUp at e = absurd (cc)
@@ -300,10 +309,11 @@ give_up_logs w p r s f held given =
       going = λ b h more. (
           let same : r.block ≡ b = (f.block r held).block ∙ more.block in
           subst (λ y. ends (log_of y h w) ≡ false) same (ap ends ((f.block r held).unlogged (given_shut r s r.stage given) h)));
-      lines = λ q is. (
+      windows = λ q is. (
           let same : s ≡ q = some_is s q is in
-          subst (LinesFit (commanded_world w p GiveUp d) d) same
-          (lines_more w (commanded_world w p GiveUp d) d s (λ h. refl) (fit_again w p.client d r s (given_stays p.client r s r.stage refl given) (f.block r held))));
+          subst (WindowsFit (commanded_world w p GiveUp d) d) same
+          (windows_more w (commanded_world w p GiveUp d) d s (λ h. refl)
+          (fit_again w p.client d r s (given_stays p.client r s r.stage refl given) (f.block r held))));
     }
   where
     some_is : (a b : ReservationState) → Some a ≡ Some b → a ≡ b
@@ -321,8 +331,8 @@ module _ (w : World) (p : Party) (d : ClientState) (fits : PartyFits w p) (f : P
   log_row :
       (x : Command) (k : HandlerId) (n : Entry) (o : client.Outcome) → ((h : HandlerId) → added x h ≡ (if same_handler h k then n ∷ [] else []))
       → is_end n ≡ false → LogRow p.client k n o → o ≡ Ok d → Logs w p x d
-  log_row x k n o adds no_end (is_logged l running free line room more) e =
-      subst (Logs w p x) (ok_is _ d e) (entry_logs w p x k n adds no_end fits f l (running_is p.client running) line more)
+  log_row x k n o adds no_end (is_logged l running free window room more) e =
+      subst (Logs w p x) (ok_is _ d e) (entry_logs w p x k n adds no_end fits f l (running_is p.client running) window more)
   log_row x k n o adds no_end r e = absurd (cc)
 
   end_row : (o : client.Outcome) → EndRow p.client o → o ≡ Ok d → Logs w p End d

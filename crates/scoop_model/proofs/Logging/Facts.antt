@@ -1,4 +1,4 @@
--- What every event keeps of what clients logged: what a Log carries stands in its block's log, and a client's line at
+-- What every event keeps of what clients logged: what a Log carries stands in its block's log, and a client's window at
 -- a handler holds the end of that log, the part that isn't acknowledged.
 use Rattle.std.proofs.Common.{◌≡◌, ℕ, ◌<◌, false, List, [], ◌∷◌, ◌++◌, length, map, Some, sym, ap, ◌∙◌, append_assoc, append-nil}
 use Rattle.std.specs.Prelude.{⊤}
@@ -13,7 +13,7 @@ use Rattle.scoop_message.specs.declared.message.Message.TheVariants.{Log}
 use Rattle.scoop_message.specs.Entries.{EndOnlyLast, ends}
 use Rattle.scoop_reserve.specs.State.{ReservationState}
 use Rattle.scoop_reserve.specs.Hearing.{is_open}
-use Rattle.scoop_client.specs.Line.{LineState, IsNumberable, logged, line_of}
+use Rattle.scoop_client.specs.Window.{WindowState, IsNumberable, logged, window_of}
 use Rattle.scoop_client.specs.State.{ClientState}
 use Rattle.scoop_model.specs.World.{World, Party, log_of}
 use Rattle.scoop_model.specs.Step.{newest_block}
@@ -28,8 +28,8 @@ Carries w m = ⊤
 
 -- ---- clients
 
--- a line holds what comes in the log behind the entries that are acknowledged
-pub record LineFits (log : List Entry) (l : LineState) : Type 0 where
+-- a window holds what comes in the log behind the entries that are acknowledged
+pub record WindowFits (log : List Entry) (l : WindowState) : Type 0 where
   pub acknowledged : List Entry
   pub all : acknowledged ++ l.unacked ≡ log
   pub count : l.acked ≡ length acknowledged
@@ -37,29 +37,29 @@ pub record LineFits (log : List Entry) (l : LineState) : Type 0 where
   pub numbers : IsNumberable l.acked l.ended l.unacked
 
 -- the query of this number is the log's last entry, and isn't acknowledged
-pub record IsLastQuery (log : List Entry) (l : LineState) (n : ℕ) : Type 0 where
+pub record IsLastQuery (log : List Entry) (l : WindowState) (n : ℕ) : Type 0 where
   pub before : List Entry
   pub request : Request
   pub last : before ++ QueryEntry request ∷ [] ≡ log
   pub number : n ≡ logged l
   pub waiting : l.acked < n
 
--- the client has a line for the handler, whose last entry is the query of this number
+-- the client has a window for the handler, whose last entry is the query of this number
 pub record WaitsAt (w : World) (c : ClientState) (b : Block) (h : HandlerId) (n : ℕ) : Type 0 where
-  pub line : LineState
-  pub found : line_of h c.lines ≡ Some line
-  pub query : IsLastQuery (log_of b h w) line n
+  pub window : WindowState
+  pub found : window_of h c.windows ≡ Some window
+  pub query : IsLastQuery (log_of b h w) window n
 
--- the lines of the client's block: one for each of its handlers, and nothing is logged before all are opened
-pub record LinesFit (w : World) (c : ClientState) (r : ReservationState) : Type 0 where
+-- the windows of the client's block: one for each of its handlers, and nothing is logged before all are opened
+pub record WindowsFit (w : World) (c : ClientState) (r : ReservationState) : Type 0 where
   pub block : r.block ≡ newest_block c
-  pub handlers : map (λ l. l.handler) c.lines ≡ r.handlers
-  pub lines : (h : HandlerId) (l : LineState) → line_of h c.lines ≡ Some l → LineFits (log_of r.block h w) l
+  pub handlers : map (λ l. l.handler) c.windows ≡ r.handlers
+  pub windows : (h : HandlerId) (l : WindowState) → window_of h c.windows ≡ Some l → WindowFits (log_of r.block h w) l
   pub waits : (h : HandlerId) (n : ℕ) → c.waits ≡ Some (h, n) → WaitsAt w c r.block h n
   pub unlogged : is_open r ≡ false → (h : HandlerId) → log_of r.block h w ≡ []
 
 pub record PartyLogs (w : World) (p : Party) : Type 0 where
-  pub block : (r : ReservationState) → p.client.reservation ≡ Some r → LinesFit w p.client r
+  pub block : (r : ReservationState) → p.client.reservation ≡ Some r → WindowsFit w p.client r
 
 -- ---- all of it
 

@@ -21,12 +21,12 @@ use Rattle.scoop_handler.specs.State.{HandlerState}
 use Rattle.scoop_handler.specs.Growing.{MarksGrow}
 use Rattle.scoop_handler.specs.Hearing.{Hearing, IsHeardAt, greeting_mark, hear}
 use Rattle.scoop_handler.specs.Running.{mark_after, ran_of}
-use Rattle.scoop_handler.specs.Rows.{Row, first_greeting, newer_greeting, same_greeting, lock_granted, open_granted, unlock_new, unlock_holder, log_taken}
+use Rattle.scoop_handler.specs.Rows.{Row, first_greeting, newer_greeting, repeated_greeting, lock_granted, is_opened, unlock_of_a_block_never_held, is_freed, is_taken}
 use Rattle.scoop_handler.proofs.MarkLists.{mark_of-client, mark_of-add_mark_own, mark_of-set_mark_own, All-mark_of, All-set_mark, All-add_mark}
 use Rattle.scoop_handler.proofs.TableRows.{row}
 use Rattle.scoop_handler.proofs.TableLaws.{grows-row, number-row}
 use Rattle.scoop_handler.proofs.After.{MarksGrow-after, MarksGrow-same}
-use Rattle.scoop_client.specs.Line.{first_entries}
+use Rattle.scoop_client.specs.Window.{first_entries}
 use Rattle.scoop_client.specs.State.{block_named}
 use Rattle.scoop_client.specs.Due.{due}
 use Rattle.scoop_client.specs.Hearing.{heard}
@@ -122,7 +122,7 @@ due_greets w c p h o at (greets left) m e =
     let is = inc_there w c p at in
     subst (Greets w) same (omega (arith, is))
 due_greets w c p h o at (reserves r n greeted has_one owes) m e = owed_greets w r h m (owed_row r h m (owes ∙ e))
-due_greets w c p h o at (logs r l greeted has_one free opened line some) m e =
+due_greets w c p h o at (logs r l greeted has_one free opened window some) m e =
     let same : Log l.handler r.block (l.acked + 1) (first_entries p.client.batch l.unacked) ≡ m = cc in
     subst (Greets w) same tt
 
@@ -174,12 +174,13 @@ upto-row bound s m h (newer_greeting x c inc k here found newer) hello all =
     set_upto bound (greeting_mark c inc) s.marks (record { upto = hello x c inc refl }) all
 upto-row bound s m h (lock_granted x b k here at new free clear) hello all =
     set_upto bound (fresh_mark b AtHeld) s.marks (block_mark bound s b k AtHeld all at) all
-upto-row bound s m h (open_granted x b k here at same held room) hello all =
+upto-row bound s m h (is_opened x b k here at same held room) hello all =
     set_upto bound (opened_mark k) s.marks (record { upto = (heard_mark bound s.marks b.client k all at.found).upto }) all
-upto-row bound s m h (unlock_new x b k here at new clear) hello all = set_upto bound (fresh_mark b AtShut) s.marks (block_mark bound s b k AtShut all at) all
-upto-row bound s m h (unlock_holder x b k here at same holds) hello all =
+upto-row bound s m h (unlock_of_a_block_never_held x b k here at new clear) hello all =
+    set_upto bound (fresh_mark b AtShut) s.marks (block_mark bound s b k AtShut all at) all
+upto-row bound s m h (is_freed x b k here at same holds) hello all =
     set_upto bound (without_hold k) s.marks (record { upto = (heard_mark bound s.marks b.client k all at.found).upto }) all
-upto-row bound s m h (log_taken x b n es k here at next goes_on room) hello all =
+upto-row bound s m h (is_taken x b n es k here at next goes_on room) hello all =
     set_upto bound (with_received _ _ k) s.marks (record { upto = (heard_mark bound s.marks b.client k all at.heard.found).upto }) all
 upto-row bound s m h r hello all = all
 
@@ -198,7 +199,7 @@ back-row s m h (first_greeting x c inc here none room) =
     (refl, reached_at _ c inc (greeting_mark c inc) (mark_of-add_mark_own (greeting_mark c inc) s.marks none) refl)
 back-row s m h (newer_greeting x c inc k here found newer) =
     (refl, reached_at _ c inc (greeting_mark c inc) (mark_of-set_mark_own (greeting_mark c inc) k s.marks found) refl)
-back-row s m h (same_greeting x c inc k here found same) = (refl, reached_at s.marks c inc k found same)
+back-row s m h (repeated_greeting x c inc k here found same) = (refl, reached_at s.marks c inc k found same)
 back-row s m h r = tt
 
 back_greets :
@@ -342,16 +343,20 @@ greetings_kept w o i = record {
       party_greets w (commanded_world w p x d) c p (record p { client = d }) i at g.id (let e = g.inc in omega (arith, e)) refl refl refl);
   sends = λ c p h s at here. record {
     messages = all_pushed (Greets (with_sent w (due p.client h))) w.sent (due p.client h)
-        (all_more_of (Greets w) (Greets (with_sent w (due p.client h))) (greets_more w (with_sent w (due p.client h)) (record { incs = λ d. omega arith; granted = λ j b g. g })) w.sent i.messages)
+        (all_more_of (Greets w) (Greets (with_sent w (due p.client h)))
+        (greets_more w (with_sent w (due p.client h)) (record { incs = λ d. omega arith; granted = λ j b g. g })) w.sent i.messages)
         (λ m e.
-        greets_more w (with_sent w (due p.client h)) (record { incs = λ d. omega arith; granted = λ j b g. g }) m (due_greets w c p h (due p.client h) at (due_row p.client h) m e));
+        greets_more w (with_sent w (due p.client h)) (record { incs = λ d. omega arith; granted = λ j b g. g }) m
+        (due_greets w c p h (due p.client h) at (due_row p.client h) m e));
     marks = i.marks;
   };
   hears = λ k m s was goes here. hears_greets w i k m s was here;
   notices = λ k m p was goes at. (
       let kept =
-      keeps_row w p.client (all_found (PartyFits w) (is_party (client_of m)) w.parties p o.parties at).reservation m (heard p.client m).0 (heard p.client m).1 (heard_row p.client m) (sent_tells w k m was o.messages) in
-      party_greets w (with_party w (heard_party p (heard p.client m))) (client_of m) p (heard_party p (heard p.client m)) i at kept.id (let e = kept.inc in omega (arith, e)) refl refl refl);
+      keeps_row w p.client (all_found (PartyFits w) (is_party (client_of m)) w.parties p o.parties at).reservation m (heard p.client m).0 (heard p.client m).1
+      (heard_row p.client m) (sent_tells w k m was o.messages) in
+      party_greets w (with_party w (heard_party p (heard p.client m))) (client_of m) p (heard_party p (heard p.client m)) i at kept.id
+      (let e = kept.inc in omega (arith, e)) refl refl refl);
   begins = λ h s t here is.
       site_greets w (with_site w (begun_site s)) i (begun_site s) s (place w h s here) (MarksGrow-same s.core.state.marks) refl refl
       (all_found (MarksUpto w) (is_site h) w.sites s i.marks here)
@@ -364,7 +369,8 @@ greetings_kept w o i = record {
       let stored = (all_found (PartyFits w) (is_party c) w.parties p o.parties at).stored in
       party_greets w (with_party w (restarted_party p)) c p (restarted_party p) i at refl (omega (arith, stored)) refl refl refl);
   reopens = λ n.
-      greetings_more w (reopened_world w n) (record { incs = λ d. omega arith; granted = λ h b. granted_anew w.joint n h b w.sites o.sites }) i.messages (upto_anew w n w.sites o.sites i.marks);
+      greetings_more w (reopened_world w n) (record { incs = λ d. omega arith; granted = λ h b. granted_anew w.joint n h b w.sites o.sites }) i.messages
+      (upto_anew w n w.sites o.sites i.marks);
 }
 
 no_marks : (w : World) (ps : List Placement) → AllByRecursion (MarksUpto w) (map new_site ps)

@@ -77,7 +77,8 @@ lines_other c b f (l ∷ ls) apart =
     let m : BlockLog = record { block = l.block; lines = map f l.lines } in
     by_test
     (λ t. is_log_of c l ≡ t
-    → lines_in (if is_log_of b (if t then m else l) then Some (if t then m else l) else rest) ≡ lines_in (if is_log_of b l then Some l else find (is_log_of b) ls))
+    → lines_in (if is_log_of b (if t then m else l) then Some (if t then m else l) else rest)
+    ≡ lines_in (if is_log_of b l then Some l else find (is_log_of b) ls))
     (is_log_of c l)
     (λ here is.
     by_test (λ u. is_log_of b l ≡ u → lines_in (if u then Some m else rest) ≡ lines_in (if u then Some l else find (is_log_of b) ls)) (is_log_of b l)
@@ -141,7 +142,8 @@ reserved_same hs c b h [] =
     (λ here. fresh_empty h hs)
     (λ there. refl)
 reserved_same hs c b h (l ∷ ls) =
-    by_test (λ t. entries_in (find (is_line_of h) (lines_in (if t then Some l else find (is_log_of b) (logs_after (Reserve hs) c ls)))) ≡ entries_in (find (is_line_of h) (lines_in (if t then Some l else find (is_log_of b) ls)))) (is_log_of b l)
+    by_test (λ t. entries_in (find (is_line_of h) (lines_in (if t then Some l else find (is_log_of b) (logs_after (Reserve hs) c ls))))
+    ≡ entries_in (find (is_line_of h) (lines_in (if t then Some l else find (is_log_of b) ls)))) (is_log_of b l)
     (λ here. refl)
     (λ there. reserved_same hs c b h ls)
 

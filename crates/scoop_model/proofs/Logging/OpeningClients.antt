@@ -23,8 +23,8 @@ use Rattle.scoop_reserve.specs.Hearing.{given_up_in, is_gone, is_open, is_open_i
 use Rattle.scoop_reserve.specs.Hearing as reservation
 use Rattle.scoop_reserve.proofs.Rows.{HeardRow as StepRow, passed_over as steps_over, one_is_locked, all_are_locked, is_busy, one_is_opened, all_are_opened, is_unlocked, is_given_back, heard_row as step_row}
 use Rattle.scoop_client.specs.declared.phase.ClientNote.{ClientNote}
-use Rattle.scoop_client.specs.Line.{LineState, acknowledged, all_over, at_line, first_entries}
-use Rattle.scoop_client.specs.State.{ClientState, idle, with_lines, with_reservation}
+use Rattle.scoop_client.specs.Window.{WindowState, acknowledged, all_over, at_window, first_entries}
+use Rattle.scoop_client.specs.State.{ClientState, idle, with_windows, with_reservation}
 use Rattle.scoop_client.specs.Due.{due}
 use Rattle.scoop_client.specs.Hearing.{stepped, settled, after_step, up_to}
 use Rattle.scoop_client.specs.Commands as client
@@ -43,7 +43,7 @@ use Rattle.scoop_model.proofs.Order.Clients.{has_without, is_gone_one, none_in_e
 use Rattle.scoop_model.proofs.Order.Commands.{next_is_new, started_fresh}
 use Rattle.scoop_model.proofs.Sound.Owed.{OwedRow, asks, opens, unlocks, gives_back, owed_row}
 use Rattle.scoop_model.proofs.Logging.Facts.{PartyLogs, Logging}
-use Rattle.scoop_model.proofs.Logging.Lines.{found_has, line_handler}
+use Rattle.scoop_model.proofs.Logging.Windows.{found_has, window_handler}
 use Rattle.scoop_model.proofs.Logging.Logs.{IsAdded, log_after, log_in, named_lines}
 use Rattle.scoop_model.proofs.Logging.Commands.{IsRunning, running_is}
 use Rattle.scoop_model.proofs.Logging.Openings.{IsOpenedAt, IsOpenedAtAll, IsGivenUp, NoOpen, Shows, SiteOpened, StageOpened, ReservationOpened, Onto, Openings, is_open_of, logs_more, none_pushed, reservation_more, shows_more, site_more}
@@ -91,7 +91,7 @@ due_quiet :
 due_quiet b p h o owes_nothing off m e = absurd (cc)
 due_quiet b p h o (greets left) off m e = let same : Hello h p.client.id p.client.inc ≡ m = cc in subst (λ n. is_open_of b n ≡ false) same refl
 due_quiet b p h o (reserves r n greeted has_one owes) off m e = owed_quiet b r h m (owed_row r h m (owes ∙ e)) (off r has_one)
-due_quiet b p h o (logs r l greeted has_one free opened line some) off m e =
+due_quiet b p h o (logs r l greeted has_one free opened window some) off m e =
     let same : Log l.handler r.block (l.acked + 1) (first_entries p.client.batch l.unacked) ≡ m = cc in
     subst (λ n. is_open_of b n ≡ false) same refl
 
@@ -136,12 +136,12 @@ module _ (w : World) (o : Ordered w) (l : Logging w) (i : Openings w) (c : Clien
   due_shows h q owes_nothing m e = absurd (cc)
   due_shows h q (greets left) m e = let same : Hello h p.client.id p.client.inc ≡ m = cc in subst (Shows w) same tt
   due_shows h q (reserves r n greeted has_one owes) m e = owed_shows r has_one h m (owed_row r h m (owes ∙ e))
-  due_shows h q (logs r x greeted has_one free opened line some) m e =
+  due_shows h q (logs r x greeted has_one free opened window some) m e =
       let same : Log x.handler r.block (x.acked + 1) (first_entries p.client.batch x.unacked) ≡ m = cc in
-      let own = line_handler h p.client.lines x line in
+      let own = window_handler h p.client.windows x window in
       let member : has r.handlers x.handler ≡ true =
       ap (has r.handlers) own ∙ ap (λ hs. has hs h) (sym (logged_party.block r has_one).handlers)
-      ∙ found_has (λ (y : LineState). y.handler) h p.client.lines x line in
+      ∙ found_has (λ (y : WindowState). y.handler) h p.client.windows x window in
       subst (Shows w) same (named_there r has_one x.handler member, opened_at_all r has_one (unlocking_is r.stage opened))
 
   module _ (h : HandlerId) where
@@ -333,15 +333,16 @@ module _ (w : World) (c : ClientState) (fits : (r : ReservationState) → c.rese
   after_from s step.Ignored f = stays
 
   settled_from : (d : ClientState) → AllFrom d → AllFrom (settled d)
-  settled_from d f = by_test (λ t. AllFrom (if t then idle d else d)) (all_over d.lines) (λ over. idle_from d) (λ on. f)
+  settled_from d f = by_test (λ t. AllFrom (if t then idle d else d)) (all_over d.windows) (λ over. idle_from d) (λ on. f)
 
   pub row_from : (m : Message) (d : ClientState) (note : ClientNote) → HeardRow c m d note → Shows w m → AllFrom d
   row_from m d note (passed_over n) shows = stays
   row_from m d note (is_welcomed h left) shows = stays
   row_from m d note (takes_step n r has_one) shows =
-      after_from (reservation.heard r n).0 (reservation.heard r n).1 (step_from n shows r has_one (reservation.heard r n).0 (reservation.heard r n).1 (step_row r n))
-  row_from m d note (is_acknowledged h n r l has_one opened line fresh_count) shows =
-      settled_from (with_lines c (at_line h (acknowledged (up_to h n c.waits)) c.lines) c.waits) stays
+      after_from (reservation.heard r n).0 (reservation.heard r n).1
+      (step_from n shows r has_one (reservation.heard r n).0 (reservation.heard r n).1 (step_row r n))
+  row_from m d note (is_acknowledged h n r l has_one opened window fresh_count) shows =
+      settled_from (with_windows c (at_window h (acknowledged (up_to h n c.waits)) c.windows) c.waits) stays
   row_from m d note (is_accepted h n a r has_one opened waits) shows = stays
 
 -- ---- a command
@@ -387,7 +388,8 @@ module _
   fresh_from : (hs : List HandlerId) → IsFrom w p.client (fresh (client.next_block p.client) hs)
   fresh_from hs = record {
     opened = record { within = λ h e. e; stage = none_before w (client.next_block p.client) next_new w.sent o.messages };
-    given_up = λ b g same left. (let there : handlers_of (client.next_block p.client) w ≡ Some g.handlers = ap (λ y. handlers_of y w) same ∙ g.set in absurd (none_some (sym next_new ∙ there)));
+    given_up = λ b g same left. (let there : handlers_of (client.next_block p.client) w ≡ Some g.handlers = ap (λ y. handlers_of y w) same ∙ g.set in
+        absurd (none_some (sym next_new ∙ there)));
   }
     where
       none_some : {A : Type 0} {a : A} → None ≡ Some a → ⊥
@@ -419,11 +421,12 @@ module _
     reserve_from hs q (begins_block r at_idle room begins) e =
         from_made (client.with_block p.client hs r) e
         (λ s held.
-        subst (IsFrom w p.client) (started_fresh (client.next_block p.client) hs p.client.handlers r begins ∙ same_reservation (Some r) r s refl held) (fresh_from hs))
+        subst (IsFrom w p.client) (started_fresh (client.next_block p.client) hs p.client.handlers r begins ∙ same_reservation (Some r) r s refl held)
+        (fresh_from hs))
     reserve_from hs q r e = absurd (cc)
 
     log_from : (h : HandlerId) (n : Entry) (q : client.Outcome) → LogRow p.client h n q → q ≡ Ok d → From
-    log_from h n q (is_logged l running free line room more) e = from_made _ e as_before
+    log_from h n q (is_logged l running free window room more) e = from_made _ e as_before
     log_from h n q r e = absurd (cc)
 
     end_from : (q : client.Outcome) → EndRow p.client q → q ≡ Ok d → From
@@ -448,7 +451,8 @@ module _
     -- nothing, or entries of a block that has opened
     abbrev LogsOpened : Command → ClientState → Type 0
     LogsOpened x e =
-        (b : Block) (h : HandlerId) → IsAdded x (newest_block e) b h w.logs → (log_in b h (logs_after x (newest_block e) w.logs) ≡ log_of b h w) ⊎ (IsNamed w h b × IsOpenedAtAll w b)
+        (b : Block) (h : HandlerId) → IsAdded x (newest_block e) b h w.logs → (log_in b h (logs_after x (newest_block e) w.logs) ≡ log_of b h w)
+        ⊎ (IsNamed w h b × IsOpenedAtAll w b)
 
     logs_made : (x : Command) (e : ClientState) → ◌≡◌ {A = client.Outcome} (Ok e) (Ok d) → LogsOpened x e → LogsOpened x d
     logs_made x e made g = let same : e ≡ d = cc in subst (LogsOpened x) same g
@@ -468,7 +472,7 @@ module _
         inr (record { handlers = r.handlers; set = set; member = member }, subst (IsOpenedAtAll w) same at_all)
 
     log_logs : (x : Command) (h : HandlerId) (n : Entry) (q : client.Outcome) → LogRow p.client h n q → q ≡ Ok d → LogsOpened x d
-    log_logs x h n q (is_logged k running free line room more) e = logs_made x _ e (logs_running x (running_is p.client running))
+    log_logs x h n q (is_logged k running free window room more) e = logs_made x _ e (logs_running x (running_is p.client running))
     log_logs x h n q r e = absurd (cc)
 
     end_logs : (q : client.Outcome) → EndRow p.client q → q ≡ Ok d → LogsOpened End d

@@ -22,7 +22,7 @@ use Rattle.scoop_handler.specs.Core.{core_of}
 use Rattle.scoop_handler.specs.Hearing.{Hearing, greeting_mark, hear}
 use Rattle.scoop_handler.specs.Running.{Task, mark_after, ran_of}
 use Rattle.scoop_handler.specs.Replies.{HasEntries}
-use Rattle.scoop_handler.specs.Rows.{Row, first_greeting, newer_greeting, lock_granted, open_granted, open_again, unlock_new, unlock_holder, log_taken}
+use Rattle.scoop_handler.specs.Rows.{Row, first_greeting, newer_greeting, lock_granted, is_opened, repeated_open, unlock_of_a_block_never_held, is_freed, is_taken}
 use Rattle.scoop_handler.proofs.MarkLists.{All-mark_of, All-set_mark, All-add_mark}
 use Rattle.scoop_handler.proofs.TableRows.{row}
 use Rattle.scoop_handler.proofs.TableLaws.{block_of-same, number-row, replies-row}
@@ -77,12 +77,14 @@ module _ (bs new : List Block) (more : (b : Block) → has_block bs b ≡ true �
       set_opened (greeting_mark c inc) s.marks (not_open (greeting_mark c inc) shut_not_open) all
   marks-row s m h (lock_granted x b k here at newer free clear) opens all =
       set_opened (fresh_mark b AtHeld) s.marks (not_open (fresh_mark b AtHeld) held_not_open) all
-  marks-row s m h (open_granted x b k here at same was room) opens all =
+  marks-row s m h (is_opened x b k here at same was room) opens all =
       set_opened (opened_mark k) s.marks (record { opened = λ e. subst (λ y. has_block new y ≡ true) (sym (block_of-same s b k at same)) (opens b refl) }) all
-  marks-row s m h (unlock_new x b k here at newer clear) opens all = set_opened (fresh_mark b AtShut) s.marks (not_open (fresh_mark b AtShut) shut_not_open) all
-  marks-row s m h (unlock_holder x b k here at same holds) opens all =
-      set_opened (without_hold k) s.marks (mark_stays k (without_hold k) refl (was_open k.stage) (All-mark_of (IsMarkOpened bs) b.client s.marks k all at.found)) all
-  marks-row s m h (log_taken x b n es k here at next goes_on room) opens all =
+  marks-row s m h (unlock_of_a_block_never_held x b k here at newer clear) opens all =
+      set_opened (fresh_mark b AtShut) s.marks (not_open (fresh_mark b AtShut) shut_not_open) all
+  marks-row s m h (is_freed x b k here at same holds) opens all =
+      set_opened (without_hold k) s.marks (mark_stays k (without_hold k) refl (was_open k.stage)
+      (All-mark_of (IsMarkOpened bs) b.client s.marks k all at.found)) all
+  marks-row s m h (is_taken x b n es k here at next goes_on room) opens all =
       let old = All-mark_of (IsMarkOpened bs) b.client s.marks k all at.heard.found in
       set_opened (with_received _ _ k) s.marks (mark_stays k (with_received _ _ k) refl (λ e. e) old) all
   marks-row s m h r opens all = all_more_of (IsMarkOpened bs) (IsMarkOpened new) others_stay s.marks all
@@ -99,9 +101,12 @@ module _ (bs new : List Block) (more : (b : Block) → has_block bs b ≡ true �
   back-row :
       (s : HandlerState) (m : Message) (h : Hearing) → Row s m h → ((b : Block) → h.1.note ≡ OpenedNote b → has_block new b ≡ true)
       → AllByRecursion (IsMarkOpened bs) s.marks → ShowsBack h.0 h.1.reply
-  back-row s m h (open_granted x b k here at same was room) opens all = (refl, opens b refl)
-  back-row s m h (open_again x b k here at same was) opens all =
-      (refl, more b (subst (λ y. has_block bs y ≡ true) (block_of-same s b k at same) ((All-mark_of (IsMarkOpened bs) b.client s.marks k all at.found).opened was)))
+  back-row s m h (is_opened x b k here at same was room) opens all = (refl, opens b refl)
+  back-row s m h (repeated_open x b k here at same was) opens all = (
+    refl,
+    more b (subst (λ y. has_block bs y ≡ true) (block_of-same s b k at same)
+        ((All-mark_of (IsMarkOpened bs) b.client s.marks k all at.found).opened was)),
+  )
   back-row s m h r opens all = tt
 
   back_shows :
@@ -233,7 +238,8 @@ module _
         named = λ b has. named_more w heard_after now_onto (number_of later) b (subst (λ j. IsNamed w j b) (sym same_number) (by_note now.1.note refl b has));
         marks = marks-row s.opened later.opened more_opened s.core.state m now (row s.core.state m) new_block old_site.marks;
       })
-      (back_shows s.opened later.opened more_opened heard_after later now.1.reply there refl (back-row s.opened later.opened more_opened s.core.state m now (row s.core.state m) new_block old_site.marks))
+      (back_shows s.opened later.opened more_opened heard_after later now.1.reply there refl
+      (back-row s.opened later.opened more_opened s.core.state m now (row s.core.state m) new_block old_site.marks))
     where
       there : site_of (number_of later) heard_after ≡ Some later
       there = by_site (λ q. q ≡ Some later) w later s (number_of later) still_here (λ same. refl) (λ apart. absurd (apart refl))
@@ -286,8 +292,10 @@ pub opened_anew :
 opened_anew js n h [] fits = refl
 opened_anew js n h (s ∷ ss) fits =
     let rest = find (is_site h) (map (reopened n) ss) in
-    ap (λ j. option_map_or (λ (x : Site). x.opened) (if same_handler j h then Some (reopened n s) else rest) []) (ap (λ (st : HandlerState). st.number) (state_anew js n s fits.0))
-    ∙ by_test (λ t. option_map_or (λ (x : Site). x.opened) (if t then Some (reopened n s) else rest) [] ≡ option_map_or (λ (x : Site). x.opened) (if t then Some s else find (is_site h) ss) []) (is_site h s)
+    ap (λ j. option_map_or (λ (x : Site). x.opened) (if same_handler j h then Some (reopened n s) else rest) [])
+    (ap (λ (st : HandlerState). st.number) (state_anew js n s fits.0))
+    ∙ by_test (λ t. option_map_or (λ (x : Site). x.opened) (if t then Some (reopened n s) else rest) []
+    ≡ option_map_or (λ (x : Site). x.opened) (if t then Some s else find (is_site h) ss) []) (is_site h s)
     (λ here. same_list n s)
     (λ there. opened_anew js n h ss fits.1)
 
@@ -306,7 +314,8 @@ module _ (w : World) (fits : AllByRecursion (SiteFits w.joint) w.sites) (i : Ope
         named = λ b has.
             named_more w (reopened_world w n) anew_onto (number_of (reopened n s)) b
             (subst (λ (st : HandlerState). IsNamed w st.number b) (sym state) (o.named b (ap (λ bs. has_block bs b) (sym (same_list n s)) ∙ has)));
-        marks = subst (λ bs. AllByRecursion (IsMarkOpened bs) (reopened n s).core.state.marks) (sym (same_list n s)) (subst (λ (st : HandlerState). AllByRecursion (IsMarkOpened s.opened) st.marks) (sym state) o.marks);
+        marks = subst (λ bs. AllByRecursion (IsMarkOpened bs) (reopened n s).core.state.marks) (sym (same_list n s))
+            (subst (λ (st : HandlerState). AllByRecursion (IsMarkOpened s.opened) st.marks) (sym state) o.marks);
       }
 
   sites_anew :

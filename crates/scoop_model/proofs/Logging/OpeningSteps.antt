@@ -39,7 +39,8 @@ openings_kept w o sound l i = record {
       let f = all_found (PartyFits w) (is_party (client_of m)) w.parties p o.parties at in
       let kept = keeps_row w p.client f.reservation m (heard p.client m).0 (heard p.client m).1 (heard_row p.client m) (sent_tells w k m was o.messages) in
       party_goes_on w i (client_of m) p (heard_party p (heard p.client m)) at kept.id w.logs (λ b hs e. e)
-      (row_from w p.client (i.parties (client_of m) p at) m (heard p.client m).0 (heard p.client m).1 (heard_row p.client m) (sent_all w k m was (Shows w) i.messages)) (λ b h. inl refl));
+      (row_from w p.client (i.parties (client_of m) p at) m (heard p.client m).0 (heard p.client m).1 (heard_row p.client m)
+      (sent_all w k m was (Shows w) i.messages)) (λ b h. inl refl));
   begins = λ h s t here is. begins_openings w i h s here;
   finishes = λ h s t here is. finishes_openings w i h s here t;
   restarts = λ c p at room. party_goes_on w i c p (restarted_party p) at refl w.logs (λ b hs e. e) (λ s e. absurd (cc)) (λ b h. inl refl);

@@ -36,7 +36,8 @@ hears_logging w sound i k m s was =
 -- every event keeps it
 pub logging_kept : (w : World) → Ordered w → Sound w → Logging w → Changes Logging w
 logging_kept w o sound i = record {
-  commands = λ c p x d at is. commands_logging w i p x d (all_found (PartyFits w) (is_party c) w.parties p o.parties at) (all_found (PartyLogs w) (is_party c) w.parties p i.parties at) is;
+  commands = λ c p x d at is. commands_logging w i p x d (all_found (PartyFits w) (is_party c) w.parties p o.parties at)
+      (all_found (PartyLogs w) (is_party c) w.parties p i.parties at) is;
   sends = λ c p h s at here. sends_logging w i p h (all_found (PartyLogs w) (is_party c) w.parties p i.parties at);
   hears = λ k m s was goes here. hears_logging w sound i k m s was;
   notices = λ k m p was goes at. notices_logging w i m p (all_found (PartyLogs w) (is_party (client_of m)) w.parties p i.parties at);

@@ -20,8 +20,8 @@ use Rattle.scoop_reserve.specs.Hearing.{given_up, given_up_in, is_gone}
 use Rattle.scoop_reserve.specs.Hearing as reservation
 use Rattle.scoop_reserve.proofs.Rows.{HeardRow as StepRow, passed_over as steps_over, one_is_locked, all_are_locked, is_busy, one_is_opened, all_are_opened, is_unlocked, is_given_back, heard_row as step_row}
 use Rattle.scoop_client.specs.declared.phase.ClientNote.{ClientNote}
-use Rattle.scoop_client.specs.State.{ClientState, with_reservation, with_lines, idle}
-use Rattle.scoop_client.specs.Line.{all_over, first_entries, at_line, acknowledged}
+use Rattle.scoop_client.specs.State.{ClientState, with_reservation, with_windows, idle}
+use Rattle.scoop_client.specs.Window.{all_over, first_entries, at_window, acknowledged}
 use Rattle.scoop_client.specs.Due.{due}
 use Rattle.scoop_client.specs.Hearing.{heard, stepped, settled, after_step, up_to}
 use Rattle.scoop_client.specs.Rows.{DueRow, owes_nothing, greets, reserves, logs, HeardRow, passed_over, is_welcomed, takes_step, is_acknowledged, is_accepted}
@@ -97,7 +97,7 @@ owed_tells w p h o (greets left) fits m e = let same : Hello h p.client.id p.cli
 owed_tells w p h o (reserves r n greeted has_one owes) fits m e =
     let f = fits.reservation r has_one in
     due_tells w h r m f.named r.stage f.locks (owes ∙ e)
-owed_tells w p h o (logs r l greeted has_one free opened line some) fits m e =
+owed_tells w p h o (logs r l greeted has_one free opened window some) fits m e =
     let same : Log l.handler r.block (l.acked + 1) (first_entries p.client.batch l.unacked) ≡ m = cc in subst (Tells w) same tt
 
 pub sends_ordered : (w : World) → Ordered w → (p : Party) (h : HandlerId) → PartyFits w p → Ordered (with_sent w (due p.client h))
@@ -105,7 +105,8 @@ sends_ordered w o p h fits =
     let v : World = with_sent w (due p.client h) in
     let x : Extends w v = record { granted = λ j b g. g; sets = λ b hs e. e } in
     record {
-      messages = all_pushed (Tells v) w.sent (due p.client h) (all_more_of (Tells w) (Tells v) (tells_more w v x) w.sent o.messages) (λ m e. tells_more w v x m (owed_tells w p h (due p.client h) (due_row p.client h) fits m e));
+      messages = all_pushed (Tells v) w.sent (due p.client h) (all_more_of (Tells w) (Tells v) (tells_more w v x) w.sent o.messages)
+          (λ m e. tells_more w v x m (owed_tells w p h (due p.client h) (due_row p.client h) fits m e));
       sites = o.sites;
       parties = all_more_of (PartyFits w) (PartyFits v) (party_more w v x refl) w.parties o.parties;
       joint = λ b e. all_more w v x b (o.joint b e);
@@ -185,7 +186,7 @@ module _ (w : World) (c : ClientState) (fits : (r : ReservationState) → c.rese
 
   keeps_settled : (d : ClientState) → Keeps w c d → Keeps w c (settled d)
   keeps_settled d k =
-      by_test (λ t. Keeps w c (if t then idle d else d)) (all_over d.lines)
+      by_test (λ t. Keeps w c (if t then idle d else d)) (all_over d.windows)
       (λ over. record { id = k.id; inc = k.inc; last = k.last; reservation = λ r e. absurd (cc) })
       (λ on. k)
 
@@ -195,8 +196,9 @@ module _ (w : World) (c : ClientState) (fits : (r : ReservationState) → c.rese
   keeps_row m d note (takes_step n r has_one) t =
       keeps_step (reservation.heard r n).0 (reservation.heard r n).1
       (step_fits w r n (reservation.heard r n).0 (reservation.heard r n).1 (step_row r n) (fits r has_one) t)
-  keeps_row m d note (is_acknowledged h n r l has_one opened line fresh_count) t =
-      keeps_settled (with_lines c (at_line h (acknowledged (up_to h n c.waits)) c.lines) c.waits) (record { id = refl; inc = refl; last = refl; reservation = fits })
+  keeps_row m d note (is_acknowledged h n r l has_one opened window fresh_count) t =
+      keeps_settled (with_windows c (at_window h (acknowledged (up_to h n c.waits)) c.windows) c.waits)
+      (record { id = refl; inc = refl; last = refl; reservation = fits })
   keeps_row m d note (is_accepted h n a r has_one opened waits) t = record { id = refl; inc = refl; last = refl; reservation = fits }
 
 pub notices_ordered :

@@ -38,10 +38,12 @@ repeated_started r s (Some h) u e = absurd (cc)
 
 pub started_fresh : (b : Block) (hs known : List HandlerId) (s : ReservationState) → started b hs known ≡ Ok s → fresh b hs ≡ s
 started_fresh b hs known s e =
-    by_test (λ t. (if t then Err ReserveError.Empty else if nat_lt MAX_BLOCK_HANDLERS (length hs) then Err ReserveError.TooMany else unless_repeated (fresh b hs) (first_repeated hs) (first_unknown known hs)) ≡ Ok s → fresh b hs ≡ s) (length hs == 0)
+    by_test (λ t. (if t then Err ReserveError.Empty else if nat_lt MAX_BLOCK_HANDLERS (length hs) then Err ReserveError.TooMany
+    else unless_repeated (fresh b hs) (first_repeated hs) (first_unknown known hs)) ≡ Ok s → fresh b hs ≡ s) (length hs == 0)
     (λ none f. absurd (cc))
     (λ some f.
-    by_test (λ t. (if t then Err ReserveError.TooMany else unless_repeated (fresh b hs) (first_repeated hs) (first_unknown known hs)) ≡ Ok s → fresh b hs ≡ s) (nat_lt MAX_BLOCK_HANDLERS (length hs))
+    by_test (λ t. (if t then Err ReserveError.TooMany else unless_repeated (fresh b hs) (first_repeated hs) (first_unknown known hs)) ≡ Ok s → fresh b hs ≡ s)
+    (nat_lt MAX_BLOCK_HANDLERS (length hs))
     (λ many g. absurd (cc))
     (λ few g. repeated_started (fresh b hs) s (first_repeated hs) (first_unknown known hs) g) f) e
 
@@ -141,7 +143,7 @@ reserve_goes_on w p hs d o r e f = absurd (cc)
 log_goes_on :
     (w : World) (p : Party) (x : Command) (h : HandlerId) (n : _) (d : ClientState) (o : client.Outcome) → LogRow p.client h n o → o ≡ Ok d → PartyFits w p
     → GoesOn w p x d
-log_goes_on w p x h n d o (is_logged l running free line room more) e f =
+log_goes_on w p x h n d o (is_logged l running free window room more) e f =
     let made = ok_is _ d e in
     subst (GoesOn w p x) made (record { id = refl; inc = refl; last = omega arith; reservation = same_reservation w p x _ f refl })
 log_goes_on w p x h n d o r e f = absurd (cc)

@@ -59,7 +59,8 @@ pub record SiteFits (js : List Block) (s : Site) : Type 0 where
 -- while a reservation locks, those of its handlers that are not left have granted it their locks, and then all have
 abbrev pub LocksAt : World → ReservationState → Stage → Type 0
 LocksAt w r Locking =
-    ((h : HandlerId) → has r.left h ≡ true → has r.handlers h ≡ true) × ((h : HandlerId) → has r.handlers h ≡ true → has r.left h ≡ false → IsGranted w h r.block)
+    ((h : HandlerId) → has r.left h ≡ true → has r.handlers h ≡ true)
+    × ((h : HandlerId) → has r.handlers h ≡ true → has r.left h ≡ false → IsGranted w h r.block)
 LocksAt w r Opening = (h : HandlerId) → has r.handlers h ≡ true → IsGranted w h r.block
 LocksAt w r Unlocking = ⊤
 LocksAt w r GivingUp = ⊤

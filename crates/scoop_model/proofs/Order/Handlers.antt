@@ -50,7 +50,12 @@ module _ (w : World) (s old : Site) (here : site_of (number_of s) w ≡ Some old
       (λ same.
       let found : Some g.site ≡ Some old = sym g.found ∙ (ap (λ j. site_of j w) (sym same) ∙ here) in
       let one : g.site ≡ old = cc in
-      record { site = s; found = refl; reached = reached_more old.core.state.marks s.core.state.marks b grows (subst (λ (x : Site). IsReachedIn x.core.state.marks b) one g.reached) })
+      record {
+        site = s;
+        found = refl;
+        reached = reached_more old.core.state.marks s.core.state.marks b grows
+            (subst (λ (x : Site). IsReachedIn x.core.state.marks b) one g.reached);
+      })
       (λ apart. g)
 
   -- nothing opens
@@ -75,7 +80,8 @@ pub reached_not_new : (s : Site) (m : Message) (now : Hearing) (b : Block) → I
 reached_not_new s m now b r new =
     let marks : Some r.mark ≡ Some new.mark = sym r.found ∙ new.found in
     let alike : r.mark ≡ new.mark = cc in
-    absurd_place r.mark.inc new.mark.inc r.mark.num new.mark.num b.inc b.num (ap (λ (k : Mark). k.inc) alike) (ap (λ (k : Mark). k.num) alike) r.upto.num new.inc new.num
+    absurd_place r.mark.inc new.mark.inc r.mark.num new.mark.num b.inc b.num (ap (λ (k : Mark). k.inc) alike)
+    (ap (λ (k : Mark). k.num) alike) r.upto.num new.inc new.num
   where
     absurd_place : (i j n k c d : ℕ) → i ≡ j → n ≡ k → (i ≡ c → d ≤ n) → j ≡ c → k < d → ⊥
     absurd_place i j n k c d ij nk up jc kd = let le = up (ij ∙ jc) in omega (arith, le, nk, kd)
@@ -213,7 +219,8 @@ module _ (w : World) (o : Ordered w) (h : HandlerId) (s : Site) (found : site_of
   pub begins_ordered : Ordered (with_site w (begun_site s))
   begins_ordered =
       let f = site_fits in
-      site_moves w (begun_site s) s place (MarksGrow-same s.core.state.marks) w.sent o (record { stored = f.stored; holds = f.holds; next = f.next; left = f.left })
+      site_moves w (begun_site s) s place (MarksGrow-same s.core.state.marks) w.sent o
+      (record { stored = f.stored; holds = f.holds; next = f.next; left = f.left })
       (λ v there all. all)
 
   pub finishes_ordered : (t : Task) → Ordered (with_site w (finished_site s t))
@@ -240,7 +247,12 @@ granted_first h b x y xs ys same later g =
     subst (λ n. IsGrantedIn (if same_handler n h then Some y else find (is_site h) ys) b) (sym k)
     (by_test (λ t. IsGrantedIn (if t then Some x else find (is_site h) xs) b → IsGrantedIn (if t then Some y else find (is_site h) ys) b) (is_site h x)
     (λ first g. let one : x ≡ g.site = cc_some x g.site g.found in
-    record { site = y; found = refl; reached = subst (λ (st : HandlerState). IsReachedIn st.marks b) (sym same) (subst (λ (z : Site). IsReachedIn z.core.state.marks b) (sym one) g.reached) })
+    record {
+      site = y;
+      found = refl;
+      reached = subst (λ (st : HandlerState). IsReachedIn st.marks b) (sym same)
+          (subst (λ (z : Site). IsReachedIn z.core.state.marks b) (sym one) g.reached);
+    })
     (λ other g. later g) g)
   where
     cc_some : (p q : Site) → Some p ≡ Some q → p ≡ q
@@ -255,7 +267,8 @@ fits_anew js n x f =
     (λ here. record {
       stored = refl;
       holds = subst HeldHolds (sym f.stored) f.holds;
-      next = subst (λ (st : HandlerState). (b : Block) → IsHeldIn st.marks b → has_block js b ≡ true → IsSubsequence (x.opened ++ b ∷ []) js) (sym f.stored) f.next;
+      next = subst (λ (st : HandlerState). (b : Block) → IsHeldIn st.marks b → has_block js b ≡ true → IsSubsequence (x.opened ++ b ∷ []) js)
+          (sym f.stored) f.next;
       left = f.left;
     })
     (λ there. f)

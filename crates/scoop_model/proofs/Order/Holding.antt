@@ -19,7 +19,7 @@ use Rattle.scoop_handler.specs.State.{HandlerState}
 use Rattle.scoop_handler.specs.Growing.{MarksGrow, IsNewer, IsFurther}
 use Rattle.scoop_handler.specs.Hearing.{Hearing, greeting_mark, holder_without}
 use Rattle.scoop_handler.specs.Running.{mark_after}
-use Rattle.scoop_handler.specs.Rows.{Row, first_greeting, newer_greeting, lock_granted, lock_again, open_granted, unlock_new, unlock_holder, log_taken}
+use Rattle.scoop_handler.specs.Rows.{Row, first_greeting, newer_greeting, lock_granted, repeated_lock, is_opened, unlock_of_a_block_never_held, is_freed, is_taken}
 use Rattle.scoop_handler.proofs.MarkLists.{client_from_same, same_client-refl, mark_of-client, mark_of-set_mark_own, mark_of-set_mark_other, mark_of-add_mark_own, mark_of-add_mark_other}
 use Rattle.scoop_handler.proofs.After.{mark_of-after}
 use Rattle.scoop_model.proofs.Basics.{by_test, some_same}
@@ -125,7 +125,8 @@ held_added k marks b none off h =
     (λ e.
     let c = client_from_same k.client b.client e in
     let here = ap (λ x. mark_of x (add_mark k marks)) c ∙ h.found in
-    absurd (off (own_from k b (add_mark k marks) h (sym c) (some_same (mark_of k.client (add_mark k marks)) k h.mark (mark_of-add_mark_own k marks none) here)).stage))
+    absurd (off (own_from k b (add_mark k marks) h (sym c) (some_same (mark_of k.client (add_mark k marks)) k h.mark
+    (mark_of-add_mark_own k marks none) here)).stage))
     (λ e. record { mark = h.mark; found = sym (mark_of-add_mark_other b.client k marks e) ∙ h.found; inc = h.inc; num = h.num; stage = h.stage })
 
 -- running changes no stage
@@ -210,14 +211,15 @@ holds-row s m h (lock_granted x b k here at new free clear) all = λ y held.
   where
     nobody : (o : Option Block) (y : Block) → o ≡ None → o ≡ Some y → ⊥
     nobody o y e f = cc
-holds-row s m h (open_granted x b k here at same was room) all =
+holds-row s m h (is_opened x b k here at same was room) all =
     λ y held. all y (held_left (opened_mark k) k s.marks y (own_place b k s.marks at.found) open_not_held held).held
-holds-row s m h (unlock_new x b k here at new clear) all = λ y held. all y (held_left (fresh_mark b AtShut) k s.marks y at.found shut_not_held held).held
-holds-row s m h (unlock_holder x b k here at same holds) all = λ y held.
+holds-row s m h (unlock_of_a_block_never_held x b k here at new clear) all =
+    λ y held. all y (held_left (fresh_mark b AtShut) k s.marks y at.found shut_not_held held).held
+holds-row s m h (is_freed x b k here at same holds) all = λ y held.
     let other = held_left (without_hold k) k s.marks y (own_place b k s.marks at.found) (freed_not_held k.stage) held in
     let one : b ≡ y = some_same s.holder b y holds (all y other.held) in
     absurd (other.apart (ap (λ (z : Block). z.client) (sym one) ∙ sym (mark_of-client b.client s.marks k at.found)))
-holds-row s m h (log_taken x b n es k here at next goes_on room) all = λ y held.
+holds-row s m h (is_taken x b n es k here at next goes_on room) all = λ y held.
     all y (held_left (with_received _ _ k) k s.marks y (own_place b k s.marks at.heard.found) (λ e. open_not_held (sym at.stage ∙ e)) held).held
 holds-row s m h r all = all
 
@@ -226,20 +228,22 @@ locks-row s m h (first_greeting x c inc here none room) = λ y held. inl (held_a
 locks-row s m h (newer_greeting x c inc k here found newer) = λ y held. inl (held_left (greeting_mark c inc) k s.marks y found shut_not_held held).held
 locks-row s m h (lock_granted x b k here at new free clear) = λ y held.
     ⊎_elim
-    (λ (own : IsOwn (fresh_mark b AtHeld) y). inr (subst (IsNewlyLocked s (Lock x b) _) (own_is b y AtHeld own) (record { asks = ap (λ z. Lock z b) here; note = refl; mark = k; found = at.found; inc = at.inc; num = new })))
+    (λ (own : IsOwn (fresh_mark b AtHeld) y). inr (subst (IsNewlyLocked s (Lock x b) _) (own_is b y AtHeld own)
+    (record { asks = ap (λ z. Lock z b) here; note = refl; mark = k; found = at.found; inc = at.inc; num = new })))
     (λ (other : IsOther (fresh_mark b AtHeld) s.marks y). inl other.held)
     (held_set (fresh_mark b AtHeld) k s.marks y at.found held)
-locks-row s m h (open_granted x b k here at same was room) =
+locks-row s m h (is_opened x b k here at same was room) =
     λ y held. inl (held_left (opened_mark k) k s.marks y (own_place b k s.marks at.found) open_not_held held).held
-locks-row s m h (unlock_new x b k here at new clear) = λ y held. inl (held_left (fresh_mark b AtShut) k s.marks y at.found shut_not_held held).held
-locks-row s m h (unlock_holder x b k here at same holds) =
+locks-row s m h (unlock_of_a_block_never_held x b k here at new clear) =
+    λ y held. inl (held_left (fresh_mark b AtShut) k s.marks y at.found shut_not_held held).held
+locks-row s m h (is_freed x b k here at same holds) =
     λ y held. inl (held_left (without_hold k) k s.marks y (own_place b k s.marks at.found) (freed_not_held k.stage) held).held
-locks-row s m h (log_taken x b n es k here at next goes_on room) = λ y held.
+locks-row s m h (is_taken x b n es k here at next goes_on room) = λ y held.
     inl (held_left (with_received _ _ k) k s.marks y (own_place b k s.marks at.heard.found) (λ e. open_not_held (sym at.stage ∙ e)) held).held
 locks-row s m h r = λ y held. inl held
 
 opens-row : (s : HandlerState) (m : Message) (h : Hearing) → Row s m h → (b : Block) → h.1.note ≡ OpenedNote b → IsNewlyOpened s m h b
-opens-row s m h (open_granted x b k here at same was room) = λ y e.
+opens-row s m h (is_opened x b k here at same was room) = λ y e.
     let one : b ≡ y = opened_same b y e in
     subst (IsNewlyOpened s (Open x b) _) one (record {
       asks = ap (λ z. Open z b) here;
@@ -266,7 +270,7 @@ tells-row s m h (lock_granted x b k here at new free clear) = (
     upto = upto_itself b.inc b.num;
   },
 )
-tells-row s m h (lock_again x b k here at same was) = (
+tells-row s m h (repeated_lock x b k here at same was) = (
   refl,
   record {
     mark = k;

@@ -8,7 +8,7 @@ use Rattle.scoop_model.specs.declared.event.Event.{Event}
 use Rattle.scoop_model.specs.World.{World}
 use Rattle.scoop_model.specs.Step.{Placement, Newcomer, joined, newly_opened, opening}
 use Rattle.scoop_model.specs.Reach.{steps}
-use Rattle.scoop_model.specs.Safe.{NoRepeats}
+use Rattle.scoop_message.specs.Lists.{NoRepeats}
 use Rattle.scoop_model.proofs.Events.{Changes, steps_kept}
 use Rattle.scoop_model.proofs.Order.Lists.{AreApart, apart_once, joined_apart}
 

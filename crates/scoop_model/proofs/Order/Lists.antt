@@ -6,7 +6,8 @@ use Rattle.scoop_message.specs.Message.{same_block}
 use Rattle.scoop_message.proofs.Same.{block_decides}
 use Rattle.scoop_model.specs.World.{has_block}
 use Rattle.scoop_model.specs.Step.{joined}
-use Rattle.scoop_model.specs.Safe.{NoRepeats, IsSubsequence, nothing, left_out, taken}
+use Rattle.scoop_message.specs.Lists.{NoRepeats}
+use Rattle.scoop_model.specs.Safe.{IsSubsequence, nothing, left_out, taken}
 use Rattle.scoop_model.proofs.Basics.{by_test}
 
 pub same_block_is : (a b : Block) → same_block a b ≡ true → a ≡ b
@@ -139,6 +140,7 @@ pub joined_next :
 joined_next bs b x xs s old e =
     ⊎_elim
     (λ (p : b ≡ x).
-    subst (λ y. IsSubsequence (xs ++ y ∷ []) (with_block bs b)) p (joined_last bs b xs s (λ f. subst (λ y. IsSubsequence (xs ++ y ∷ []) bs) (sym p) (old (subst (λ y. has_block bs y ≡ true) p f)))))
+    subst (λ y. IsSubsequence (xs ++ y ∷ []) (with_block bs b)) p
+    (joined_last bs b xs s (λ f. subst (λ y. IsSubsequence (xs ++ y ∷ []) bs) (sym p) (old (subst (λ y. has_block bs y ≡ true) p f)))))
     (λ (p : has_block bs x ≡ true). joined_more bs b (xs ++ x ∷ []) (old p))
     (joined_has bs b x e)

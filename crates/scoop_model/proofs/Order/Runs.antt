@@ -20,7 +20,8 @@ ordered_kept w o = record {
   commands = λ c p x d at is. commands_ordered w o p x d (all_found (PartyFits w) (is_party c) w.parties p o.parties at) is;
   sends = λ c p h s at here. sends_ordered w o p h (all_found (PartyFits w) (is_party c) w.parties p o.parties at);
   hears = λ i m s was goes here. hears_ordered w o i m s was here;
-  notices = λ i m p was goes at. notices_ordered w o m p (sent_tells w i m was o.messages) (all_found (PartyFits w) (is_party (client_of m)) w.parties p o.parties at);
+  notices = λ i m p was goes at. notices_ordered w o m p (sent_tells w i m was o.messages)
+      (all_found (PartyFits w) (is_party (client_of m)) w.parties p o.parties at);
   begins = λ h s t here is. begins_ordered w o h s here;
   finishes = λ h s t here is. finishes_ordered w o h s here t;
   restarts = λ c p at room. restarts_ordered w o p (all_found (PartyFits w) (is_party c) w.parties p o.parties at);
@@ -29,8 +30,16 @@ ordered_kept w o = record {
 
 sites_open : (ps : List Placement) → AllByRecursion (SiteFits []) (map new_site ps)
 sites_open [] = tt
-sites_open (p ∷ ps) =
-    (record { stored = refl; holds = λ b held. absurd (let f = held.found in cc); next = λ b held e. absurd (true≢false (sym e)); left = nothing }, sites_open ps)
+sites_open (p ∷ ps) = (
+  record {
+    stored = refl;
+    holds = λ b held. absurd (let f = held.found in cc);
+    next = λ b held e. absurd (true≢false (sym e));
+    left =
+        nothing;
+  },
+  sites_open ps,
+)
 
 parties_open : (hs : List HandlerId) (ps : List Placement) (all ns : List Newcomer) → AllByRecursion (PartyFits (opening ps all)) (map (new_party hs) ns)
 parties_open hs ps all [] = tt

@@ -36,7 +36,8 @@ changed_same :
     (c : Block) (f : HandlerLog → HandlerLog) → LeavesHandler f → (l : BlockLog)
     → (handlers_in (changed_log c f l) ≡ handlers_in l) × ((changed_log c f l).block ≡ l.block)
 changed_same c f keeps l =
-    by_test (λ t. let m = (if t then record { block = l.block; lines = map f l.lines } else l) in (handlers_in m ≡ handlers_in l) × (m.block ≡ l.block)) (is_log_of c l)
+    by_test (λ t. let m = (if t then record { block = l.block; lines = map f l.lines } else l) in (handlers_in m ≡ handlers_in l) × (m.block ≡ l.block))
+    (is_log_of c l)
     (λ here. (leaves_all f keeps l.lines, refl))
     (λ there. (refl, refl))
 
@@ -46,15 +47,18 @@ found_changed b c f keeps (l ∷ ls) =
     let m = changed_log c f l in
     let same = changed_same c f keeps l in
     let P : Bool → Type 0 =
-    λ t. option_map handlers_in (if t then Some m else find (is_log_of b) (map (changed_log c f) ls)) ≡ option_map handlers_in (if same_block l.block b then Some l else find (is_log_of b) ls) in
+    λ t. option_map handlers_in (if t then Some m else find (is_log_of b) (map (changed_log c f) ls))
+    ≡ option_map handlers_in (if same_block l.block b then Some l else find (is_log_of b) ls) in
     let Q : Bool → Type 0 =
-    λ t. option_map handlers_in (if t then Some m else find (is_log_of b) (map (changed_log c f) ls)) ≡ option_map handlers_in (if t then Some l else find (is_log_of b) ls) in
+    λ t. option_map handlers_in (if t then Some m else find (is_log_of b) (map (changed_log c f) ls))
+    ≡ option_map handlers_in (if t then Some l else find (is_log_of b) ls) in
     subst P (ap (λ x. same_block x b) (sym same.1)) (by_test Q (same_block l.block b) (λ here. ap Some same.0) (λ there. found_changed b c f keeps ls))
 
 found_behind : (b : Block) (logs : List BlockLog) (new : BlockLog) (hs : List HandlerId) → found b logs ≡ Some hs → found b (logs ++ new ∷ []) ≡ Some hs
 found_behind b [] new hs e = absurd (cc)
 found_behind b (l ∷ ls) new hs e =
-    by_test (λ t. option_map handlers_in (if t then Some l else find (is_log_of b) ls) ≡ Some hs → option_map handlers_in (if t then Some l else find (is_log_of b) (ls ++ new ∷ [])) ≡ Some hs) (is_log_of b l)
+    by_test (λ t. option_map handlers_in (if t then Some l else find (is_log_of b) ls) ≡ Some hs
+    → option_map handlers_in (if t then Some l else find (is_log_of b) (ls ++ new ∷ [])) ≡ Some hs) (is_log_of b l)
     (λ here f. f)
     (λ there f. found_behind b ls new hs f) e
 
@@ -80,7 +84,8 @@ found_before b [] new hs e =
     (λ here f. inr ((block_decides new.block b).0 here))
     (λ there f. absurd (cc)) e
 found_before b (l ∷ ls) new hs e =
-    by_test (λ t. option_map handlers_in (if t then Some l else find (is_log_of b) (ls ++ new ∷ [])) ≡ Some hs → (option_map handlers_in (if t then Some l else find (is_log_of b) ls) ≡ Some hs) ⊎ (new.block ≡ b)) (is_log_of b l)
+    by_test (λ t. option_map handlers_in (if t then Some l else find (is_log_of b) (ls ++ new ∷ [])) ≡ Some hs
+    → (option_map handlers_in (if t then Some l else find (is_log_of b) ls) ≡ Some hs) ⊎ (new.block ≡ b)) (is_log_of b l)
     (λ here f. inl f)
     (λ there f. found_before b ls new hs f) e
 
@@ -106,7 +111,8 @@ handlers_fresh c hs [] none =
     let new : BlockLog = record { block = c; lines = map fresh_log hs } in
     ap (λ t. option_map handlers_in (if t then Some new else None)) ((block_decides c c).1 refl) ∙ ap Some (same_names hs)
 handlers_fresh c hs (l ∷ ls) none =
-    by_test (λ t. option_map handlers_in (if t then Some l else find (is_log_of c) ls) ≡ None → option_map handlers_in (if t then Some l else find (is_log_of c) (logs_after (Reserve hs) c ls)) ≡ Some hs) (is_log_of c l)
+    by_test (λ t. option_map handlers_in (if t then Some l else find (is_log_of c) ls) ≡ None
+    → option_map handlers_in (if t then Some l else find (is_log_of c) (logs_after (Reserve hs) c ls)) ≡ Some hs) (is_log_of c l)
     (λ here f. absurd (cc))
     (λ there f. handlers_fresh c hs ls f) none
 

@@ -13,7 +13,7 @@ use Rattle.scoop_message.proofs.Same.{handler_decides}
 use Rattle.scoop_handler.specs.Core.{core_of}
 use Rattle.scoop_handler.specs.State.{HandlerState}
 use Rattle.scoop_handler.specs.Hearing.{Hearing, hear}
-use Rattle.scoop_handler.specs.Rows.{Row, IsLogAt, log_again, log_taken}
+use Rattle.scoop_handler.specs.Rows.{Row, IsLogAt, already_received, is_taken}
 use Rattle.scoop_handler.specs.declared.mark.Mark.{Mark}
 use Rattle.scoop_handler.proofs.MarkLists.{All-mark_of}
 use Rattle.scoop_handler.proofs.TableRows.{row}
@@ -45,7 +45,8 @@ pub record TellsOpened (s : HandlerState) (bs : List Block) (x : HandlerId) (y :
 at_log : (s : HandlerState) (bs : List Block) (b : Block) (k : Mark) → AllByRecursion (IsMarkOpened bs) s.marks → IsLogAt s b k → TellsOpened s bs s.number b
 at_log s bs b k all at = record {
   here = refl;
-  opened = subst (λ y. has_block bs y ≡ true) (block_of-same s b k at.heard at.num) ((All-mark_of (IsMarkOpened bs) b.client s.marks k all at.heard.found).opened at.stage);
+  opened = subst (λ y. has_block bs y ≡ true) (block_of-same s b k at.heard at.num)
+      ((All-mark_of (IsMarkOpened bs) b.client s.marks k all at.heard.found).opened at.stage);
 }
 
 -- what the reply tells
@@ -55,8 +56,8 @@ CountsBack s bs (Some (Logged x y n)) = TellsOpened s bs x y
 CountsBack s bs (Some m) = ⊤
 
 back-row : (s : HandlerState) (bs : List Block) (m : Message) (h : Hearing) → Row s m h → AllByRecursion (IsMarkOpened bs) s.marks → CountsBack s bs h.1.reply
-back-row s bs m h (log_again x b n es k here at upto none) all = at_log s bs b k all at
-back-row s bs m h (log_taken x b n es k here at next goes_on room) all = at_log s bs b k all at
+back-row s bs m h (already_received x b n es k here at upto none) all = at_log s bs b k all at
+back-row s bs m h (is_taken x b n es k here at next goes_on room) all = at_log s bs b k all at
 back-row s bs m h r all = tt
 
 -- so it tells nothing of a block that hasn't opened
@@ -106,7 +107,8 @@ module _ (w : World) (i : Openings w) (counts : Counts w) (m : Message) (s : Sit
       (λ same off.
       let at : site_of h w ≡ Some s = ap (λ j. site_of j w) (sym same ∙ number-row s.core.state m now (row s.core.state m)) ∙ place in
       ap (λ o. has_block (option_map_or (λ (x : Site). x.opened) o []) b) at
-      ∙ first_false (has_block s.opened b) (has_block (newly_opened now.1.note) b) (sym (list_any-append (λ x. same_block x b) s.opened (newly_opened now.1.note)) ∙ off))
+      ∙ first_false (has_block s.opened b) (has_block (newly_opened now.1.note) b)
+      (sym (list_any-append (λ x. same_block x b) s.opened (newly_opened now.1.note)) ∙ off))
       (λ apart off. off)
 
   pub hears_counts : Counts after
@@ -128,8 +130,10 @@ counts_kept w o openings i = record {
   sends = λ c p h s at here j b off. (alike_from_client j w.sent (due p.client h) (due_goes p.client h)).counted b ∙ i j b off;
   hears = λ k m s was goes here. hears_counts w openings i m s here;
   notices = λ k m p was goes at. i;
-  begins = λ h s t here is j b off. i j b (ap (λ bs. has_block bs b) (sym (set_same (λ (x : Site). x.opened) [] w (begun_site s) s (own_site w h s here) refl j)) ∙ off);
-  finishes = λ h s t here is j b off. i j b (ap (λ bs. has_block bs b) (sym (set_same (λ (x : Site). x.opened) [] w (finished_site s t) s (own_site w h s here) refl j)) ∙ off);
+  begins = λ h s t here is j b off. i j b (ap (λ bs. has_block bs b)
+      (sym (set_same (λ (x : Site). x.opened) [] w (begun_site s) s (own_site w h s here) refl j)) ∙ off);
+  finishes = λ h s t here is j b off. i j b (ap (λ bs. has_block bs b)
+      (sym (set_same (λ (x : Site). x.opened) [] w (finished_site s t) s (own_site w h s here) refl j)) ∙ off);
   restarts = λ c p at room. i;
   reopens = λ n j b off. i j b (ap (λ bs. has_block bs b) (sym (anew_same (λ (x : Site). x.opened) [] opened_kept n j w.sites (states_anew w o n))) ∙ off);
 }

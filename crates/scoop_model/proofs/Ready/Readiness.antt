@@ -118,7 +118,8 @@ module _
         (λ (e : has_block here.site.opened b ≡ true). inl (ap (λ bs. has_block bs b) (opened_is ∙ ap (λ (x : Site). x.opened) (sym same)) ∙ e))
         (λ (q : IsHeldIn here.site.core.state.marks b ⊎ IsPastIn here.site.core.state.marks b). inr (⊎_elim
         (λ (held : IsHeldIn here.site.core.state.marks b).
-        inr (subst (λ bs. IsSubsequence (bs ++ b ∷ []) w.joint) (sym opened_is) (fits.next b (subst (λ (x : Site). IsHeldIn x.core.state.marks b) same held) m)))
+        inr (subst (λ bs. IsSubsequence (bs ++ b ∷ []) w.joint) (sym opened_is)
+        (fits.next b (subst (λ (x : Site). IsHeldIn x.core.state.marks b) same held) m)))
         (λ (p : IsPastIn here.site.core.state.marks b).
         inl (mark_greets b p.mark (ap (λ (x : Site). mark_of b.client x.core.state.marks) (sym same) ∙ p.found) p.newer)) q))
         here.stands
@@ -131,9 +132,11 @@ module _
       queues = λ x e. subst (λ (y : Site). y.core.state.queues ≡ queues_of f.slots) (same_Some s x (sym at ∙ e)) f.tape.queues;
       begun = subst (λ j. AllByRecursion (IsBegun (λ b. log_of b j w)) f.slots) number f.tape.begun;
       told = subst (λ j. AllByRecursion (IsToldAs w j) f.slots) number
-          (all_more_of (SlotWhole w.sent (number_of s) s.core.state.marks) (IsToldAs w (number_of s)) (λ t x. x.received ∙ sym (length-append t.ran t.rest)) f.slots f.whole);
+          (all_more_of (SlotWhole w.sent (number_of s) s.core.state.marks) (IsToldAs w (number_of s))
+          (λ t x. x.received ∙ sym (length-append t.ran t.rest)) f.slots f.whole);
       gone = all_more_of (SlotWhole w.sent (number_of s) s.core.state.marks) (IsOverIfGone w h) gone_slot f.slots f.whole;
-      named = all_more_of (λ t. has (set_of t.block w) h ≡ true) (IsNamedAt w h) (λ t e. record { named = e }) f.slots (by_slot (λ b. has (set_of b w) h ≡ true) f.slots named_slot);
+      named = all_more_of (λ t. has (set_of t.block w) h ≡ true) (IsNamedAt w h) (λ t e. record { named = e }) f.slots
+          (by_slot (λ b. has (set_of b w) h ≡ true) f.slots named_slot);
       silent = counts h;
       left = subst (λ bs. IsSubsequence bs w.joint) (sym opened_is) fits.left;
       placed = stands_here;

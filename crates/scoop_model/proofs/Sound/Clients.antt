@@ -14,8 +14,8 @@ use Rattle.scoop_reserve.specs.Hearing.{is_gone}
 use Rattle.scoop_reserve.specs.Hearing as reservation
 use Rattle.scoop_handler.specs.Replies.{HasEntries}
 use Rattle.scoop_client.specs.declared.phase.ClientNote.{ClientNote}
-use Rattle.scoop_client.specs.Line.{all_over, first_entries, at_line, acknowledged}
-use Rattle.scoop_client.specs.State.{ClientState, idle, with_reservation, with_lines}
+use Rattle.scoop_client.specs.Window.{all_over, first_entries, at_window, acknowledged}
+use Rattle.scoop_client.specs.State.{ClientState, idle, with_reservation, with_windows}
 use Rattle.scoop_client.specs.Due.{due}
 use Rattle.scoop_client.specs.Hearing.{heard, stepped, after_step, up_to}
 use Rattle.scoop_client.specs.Commands.{Command, Outcome, Reserve, DoCall, DoQuery, DoEnd, GiveUp, command}
@@ -41,7 +41,7 @@ reserve_batch c d hs o (begins_block r at_idle room begins) e = batch_of_ok c d 
 reserve_batch c d hs o r e = absurd (cc)
 
 log_batch : (c d : ClientState) (h : HandlerId) (n : Entry) (o : Outcome) → LogRow c h n o → o ≡ Ok d → d.batch ≡ c.batch
-log_batch c d h n o (is_logged l running free line room more) e = batch_of_ok c d o e _ refl refl
+log_batch c d h n o (is_logged l running free window room more) e = batch_of_ok c d o e _ refl refl
 log_batch c d h n o r e = absurd (cc)
 
 end_batch : (c d : ClientState) (o : Outcome) → EndRow c o → o ≡ Ok d → d.batch ≡ c.batch
@@ -73,9 +73,9 @@ row_batch : (c : ClientState) (m : Message) (d : ClientState) (note : ClientNote
 row_batch c m d note (passed_over n) = refl
 row_batch c m d note (is_welcomed h left) = refl
 row_batch c m d note (takes_step n r has_one) = step_batch c (reservation.heard r n).0 (reservation.heard r n).1
-row_batch c m d note (is_acknowledged h n r l has_one opened line fresh_count) =
-    let e : ClientState = with_lines c (at_line h (acknowledged (up_to h n c.waits)) c.lines) c.waits in
-    by_test (λ t. (if t then idle e else e).batch ≡ c.batch) (all_over e.lines) (λ over. refl) (λ on. refl)
+row_batch c m d note (is_acknowledged h n r l has_one opened window fresh_count) =
+    let e : ClientState = with_windows c (at_window h (acknowledged (up_to h n c.waits)) c.windows) c.waits in
+    by_test (λ t. (if t then idle e else e).batch ≡ c.batch) (all_over e.windows) (λ over. refl) (λ on. refl)
 row_batch c m d note (is_accepted h n a r has_one opened waits) = refl
 
 pub heard_batch : (c : ClientState) (m : Message) → (heard c m).0.batch ≡ c.batch
@@ -96,7 +96,7 @@ due_row_entries : (c : ClientState) (h : HandlerId) (o : Option Message) → Due
 due_row_entries c h o owes_nothing batch m e = absurd (cc)
 due_row_entries c h o (greets left) batch m e = let same : Hello h c.id c.inc ≡ m = cc in subst HasEntries same tt
 due_row_entries c h o (reserves r n greeted has_one owes) batch m e = owed_entries r h m (owed_row r h m (owes ∙ e))
-due_row_entries c h o (logs r l greeted has_one free opened line some) batch m e =
+due_row_entries c h o (logs r l greeted has_one free opened window some) batch m e =
     let same : Log l.handler r.block (l.acked + 1) (first_entries c.batch l.unacked) ≡ m = cc in
     let left : 0 < length l.unacked = grind (arith, nat_tests) in
     let one = is_batch c.batch l.unacked batch.some left in

@@ -73,7 +73,8 @@ module _ (w : World) (o : Ordered w) (i : Sound w) where
     commands = λ c p x d at is. record {
       sites = i.sites;
       messages = i.messages;
-      parties = set_party_sound (record p { client = d }) (same_batch p.client d (command_batch p.client d (core_command x) is) (all_found PartySound (is_party c) w.parties p i.parties at));
+      parties = set_party_sound (record p { client = d }) (same_batch p.client d (command_batch p.client d (core_command x) is)
+          (all_found PartySound (is_party c) w.parties p i.parties at));
     };
     sends = λ c p h s at here. record {
       sites = i.sites;
@@ -85,13 +86,15 @@ module _ (w : World) (o : Ordered w) (i : Sound w) where
         let now = hear s.core.state m in
         record {
           sites = set_site_sound (heard_site s now) (IsCore-hear s.core m has (all_found SiteSound (is_site (handler_of m)) w.sites s i.sites here));
-          messages = all_pushed HasEntries w.sent now.1.reply i.messages (λ reply e. to_client_has reply (replies-row s.core.state m now (row s.core.state m) has reply e).to_client);
+          messages = all_pushed HasEntries w.sent now.1.reply i.messages
+              (λ reply e. to_client_has reply (replies-row s.core.state m now (row s.core.state m) has reply e).to_client);
           parties = i.parties;
         });
     notices = λ k m p was goes at. record {
       sites = i.sites;
       messages = i.messages;
-      parties = set_party_sound (heard_party p (heard p.client m)) (same_batch p.client (heard p.client m).0 (heard_batch p.client m) (all_found PartySound (is_party (client_of m)) w.parties p i.parties at));
+      parties = set_party_sound (heard_party p (heard p.client m))
+          (same_batch p.client (heard p.client m).0 (heard_batch p.client m) (all_found PartySound (is_party (client_of m)) w.parties p i.parties at));
     };
     begins = λ h s t here is. record {
       sites = set_site_sound (begun_site s) (IsCore-begun s.core (all_found SiteSound (is_site h) w.sites s i.sites here));
@@ -106,7 +109,8 @@ module _ (w : World) (o : Ordered w) (i : Sound w) where
     restarts = λ c p at room. record {
       sites = i.sites;
       messages = i.messages;
-      parties = set_party_sound (restarted_party p) (same_batch p.client (restarted_party p).client refl (all_found PartySound (is_party c) w.parties p i.parties at));
+      parties = set_party_sound (restarted_party p) (same_batch p.client (restarted_party p).client refl
+          (all_found PartySound (is_party c) w.parties p i.parties at));
     };
     reopens = λ n. record { sites = anew w.joint n w.sites o.sites i.sites; messages = i.messages; parties = i.parties };
   }

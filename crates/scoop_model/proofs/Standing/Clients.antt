@@ -13,7 +13,7 @@ use Rattle.scoop_message.proofs.Same.{block_decides}
 use Rattle.scoop_reserve.specs.declared.stage.Stage.TheVariants.{Locking, Opening, GivingUp as GivingBack}
 use Rattle.scoop_reserve.specs.State.{ReservationState}
 use Rattle.scoop_client.specs.declared.phase.ClientNote.{ClientNote}
-use Rattle.scoop_client.specs.Line.{first_entries}
+use Rattle.scoop_client.specs.Window.{first_entries}
 use Rattle.scoop_client.specs.State.{ClientState}
 use Rattle.scoop_client.specs.Due.{due}
 use Rattle.scoop_client.specs.Commands as client
@@ -72,7 +72,7 @@ module _
   due_stands b q owes_nothing m e is = absurd (cc)
   due_stands b q (greets left) m e is = let same : Hello h p.client.id p.client.inc ≡ m = cc in absurd (true≢false (sym is ∙ sym (ap (is_open_of b) same)))
   due_stands b q (reserves r n greeted has_one owes) m e is = opening_stands b r has_one (owed_opening b r h m (owed_row r h m (owes ∙ e)) is)
-  due_stands b q (logs r x greeted has_one free opened line some) m e is =
+  due_stands b q (logs r x greeted has_one free opened window some) m e is =
       let same : Log x.handler r.block (x.acked + 1) (first_entries p.client.batch x.unacked) ≡ m = cc in
       absurd (true≢false (sym is ∙ sym (ap (is_open_of b) same)))
 
@@ -80,7 +80,7 @@ module _
   due_no_lock q owes_nothing m e x b is = cc
   due_no_lock q (greets left) m e x b is = cc
   due_no_lock q (reserves r n greeted has_one owes) m e x b is = owed_no_lock r h m (owed_row r h m (owes ∙ e)) x b is
-  due_no_lock q (logs r y greeted has_one free opened line some) m e x b is = cc
+  due_no_lock q (logs r y greeted has_one free opened window some) m e x b is = cc
 
   pub sends_standing : Standing sent_on
   sends_standing =
@@ -93,7 +93,8 @@ module _
 -- ---- a client goes on
 
 module _
-    (w : World) (openings : Openings w) (i : Standing w) (c : ClientId) (p q : Party) (at : party_of c w ≡ Some p) (same : id_of q ≡ id_of p) (ls : List BlockLog)
+    (w : World) (openings : Openings w) (i : Standing w) (c : ClientId) (p q : Party) (at : party_of c w ≡ Some p) (same : id_of q ≡ id_of p)
+    (ls : List BlockLog)
     (sets : (b : Block) (hs : List HandlerId) → handlers_of b w ≡ Some hs → option_map handlers_in (find (is_log_of b) ls) ≡ Some hs)
     (from : (s : ReservationState) → q.client.reservation ≡ Some s → IsFrom w p.client s)
     (grown : (b : Block) (h : HandlerId) → (log_in b h ls ≡ log_of b h w) ⊎ (IsNamed w h b × IsOpenedAtAll w b))

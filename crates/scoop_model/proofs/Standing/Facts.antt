@@ -84,7 +84,8 @@ past_more old new b grows p =
     let k = p.mark in
     let newer = p.newer in
     let r =
-    reached_more old new (record { client = b.client; inc = k.inc; num = k.num }) grows (record { mark = k; found = p.found; upto = record { inc = omega arith; num = λ e. omega arith } }) in
+    reached_more old new (record { client = b.client; inc = k.inc; num = k.num }) grows
+    (record { mark = k; found = p.found; upto = record { inc = omega arith; num = λ e. omega arith } }) in
     let up = r.upto.inc in
     record { mark = r.mark; found = r.found; newer = omega (arith, newer, up) }
 
@@ -149,7 +150,8 @@ module _ (v w : World) (x : StandsOn v w) (i : Standing v) where
       record {
         handlers = all.handlers;
         set = x.onto.sets b all.handlers all.set;
-        stands = λ h member. ⊎_elim (λ (on : StandsAt w h b). on) (λ (g : IsGivenUp v b). absurd (true≢false (sym e ∙ g.none))) (x.stands h b (all.stands h member));
+        stands = λ h member. ⊎_elim (λ (on : StandsAt w h b). on) (λ (g : IsGivenUp v b). absurd (true≢false (sym e ∙ g.none)))
+            (x.stands h b (all.stands h member));
       }
 
   -- nor is that of a reservation that locks or opens
@@ -186,7 +188,8 @@ module _ (v w : World) (x : StandsOn v w) (i : Standing v) where
       → ((c : ClientId) (p : Party) → party_of c w ≡ Some p → (r : ReservationState) → p.client.reservation ≡ Some r → ReservationStands w r)
       → Standing w
   standing_more o sent new opens joint parties = record {
-    locked = subst (AllByRecursion (LockedStands w)) (sym sent) (all_pushed (LockedStands w) v.sent o (all_more_of (LockedStands v) (LockedStands w) locked_more v.sent i.locked) new);
+    locked = subst (AllByRecursion (LockedStands w)) (sym sent)
+        (all_pushed (LockedStands w) v.sent o (all_more_of (LockedStands v) (LockedStands w) locked_more v.sent i.locked) new);
     opened = λ b e.
         ⊎_elim (λ (old : HasOpen v b). open_stands b old) (λ (fresh : IsNewOpen b o). opens b fresh)
         (any_pushed b v.sent o (subst (λ ms. list_any (is_open_of b) ms ≡ true) sent e));

@@ -14,7 +14,7 @@ use Rattle.scoop_handler.specs.Marks.{block_of, fresh_mark, mark_of, set_mark, w
 use Rattle.scoop_handler.specs.State.{HandlerState, is_holder}
 use Rattle.scoop_handler.specs.Hearing.{Hearing, greeting_mark}
 use Rattle.scoop_handler.specs.Running.{mark_after}
-use Rattle.scoop_handler.specs.Rows.{Row, first_greeting, newer_greeting, lock_granted, lock_again, open_granted, unlock_new, unlock_holder, log_taken}
+use Rattle.scoop_handler.specs.Rows.{Row, first_greeting, newer_greeting, lock_granted, repeated_lock, is_opened, unlock_of_a_block_never_held, is_freed, is_taken}
 use Rattle.scoop_handler.proofs.After.{found-after}
 use Rattle.scoop_handler.proofs.MarkLists.{none_some, client_from_same, mark_of-client, mark_of-set_mark_own, mark_of-set_mark_other, mark_of-add_mark_other}
 use Rattle.scoop_model.proofs.Basics.{by_test, some_same}
@@ -75,19 +75,19 @@ module _ (s : HandlerState) (b : Block) (holds : HeldHolds s) (held : IsHeldIn s
         newer = omega (arith, before, newer);
       })))
   held_row m h (lock_granted x y k here at new free clear) = absurd (none_some (sym free ∙ holder))
-  held_row m h (open_granted x y k here at same was room) =
+  held_row m h (is_opened x y k here at same was room) =
       let one : y ≡ b = some_same s.holder y b (holds y (record { mark = k; found = at.found; inc = at.inc; num = same; stage = was })) holder in
       inr (inr (inl (ap OpenedNote one)))
-  held_row m h (unlock_new x y k here at new clear) =
+  held_row m h (unlock_of_a_block_never_held x y k here at new clear) =
       set_goes m h y.client (fresh_mark y _) k at.found refl refl
       (λ same is.
       let at_block : block_of k ≡ b = ap block_of is ∙ held_is s.marks b held in
       let busy : is_holder s.holder (block_of k) ≡ true = ap (is_holder s.holder) at_block ∙ ap (λ o. is_holder o b) holder ∙ same_block_itself b in
       absurd (true≢false (sym (ap (λ t. t || is_open k.stage && not k.ended) busy) ∙ clear)))
-  held_row m h (unlock_holder x y k here at same holds_it) =
+  held_row m h (is_freed x y k here at same holds_it) =
       let one : y ≡ b = some_same s.holder y b holds_it holder in
       inr (inr (inr (λ i. Unlock (here i) (one i))))
-  held_row m h (log_taken x y n es k here at next goes_on room) =
+  held_row m h (is_taken x y n es k here at next goes_on room) =
       set_goes m h y.client (with_received _ _ k) k at.heard.found (mark_of-client y.client s.marks k at.heard.found) refl
       (λ same is. absurd (open_not_held (sym at.stage ∙ ap (λ (z : Mark). z.stage) is ∙ held.stage)))
   held_row m h r = inl held
@@ -112,7 +112,7 @@ locked_row s m h (lock_granted y c k here at new free clear) = λ x b e.
 
     locked_handler : {p q : HandlerId} {a b : Block} → Locked p a ≡ Locked q b → p ≡ q
     locked_handler e = cc
-locked_row s m h (lock_again y c k here at same_num was) = λ x b e.
+locked_row s m h (repeated_lock y c k here at same_num was) = λ x b e.
     let same : Locked s.number c ≡ Locked x b = some_is e in
     let block = locked_block same in
     (sym (locked_handler same), subst (IsHeldIn s.marks) block (record { mark = k; found = at.found; inc = at.inc; num = same_num; stage = was }))

@@ -35,7 +35,8 @@ standing_kept w o sound l openings i = record {
       let own = all_found (PartyLogs w) (is_party c) w.parties p l.parties at in
       party_standing w openings i c p (record p { client = d }) at (goes_on w p x d is f).id (logs_after x (newest_block d) w.logs)
       (λ b hs e. handlers_after x (newest_block d) b w.logs hs e)
-      (command_from w o p f own (openings.parties c p at) d (core_command x) is) (logs_opened w o p f own (openings.parties c p at) d x is) (command_stands w c p at (i.parties c p at) d (core_command x) is));
+      (command_from w o p f own (openings.parties c p at) d (core_command x) is) (logs_opened w o p f own (openings.parties c p at) d x is)
+      (command_stands w c p at (i.parties c p at) d (core_command x) is));
   sends = λ c p h s at here. sends_standing w o l openings i c p at h;
   hears = λ k m s was goes here. hears_standing w o sound openings i k m s was here;
   notices = λ k m p was goes at. (
@@ -48,7 +49,8 @@ standing_kept w o sound l openings i = record {
       (λ b h. inl refl) (heard_stands w c p at (i.parties c p at) m now.0 now.1 (heard_row p.client m) (sent_all w k m was (LockedStands w) i.locked)));
   begins = λ h s t here is. begins_standing w i h s here;
   finishes = λ h s t here is. finishes_standing w i h s here t;
-  restarts = λ c p at room. party_standing w openings i c p (restarted_party p) at refl w.logs (λ b hs e. e) (λ s e. absurd (cc)) (λ b h. inl refl) (λ s e. absurd (cc));
+  restarts = λ c p at room. party_standing w openings i c p (restarted_party p) at refl w.logs (λ b hs e. e) (λ s e. absurd (cc)) (λ b h. inl refl)
+      (λ s e. absurd (cc));
   reopens = λ n. reopens_standing w o openings i n;
 }
 

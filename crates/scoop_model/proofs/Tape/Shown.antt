@@ -13,7 +13,8 @@ use Rattle.scoop_handler.specs.declared.ran.Ran.{Ran}
 use Rattle.scoop_queue.specs.Queue.{PrivateQueue}
 use Rattle.scoop_queue.proofs.Lookup.{same_block-sym}
 use Rattle.scoop_model.specs.World.{World, Site, has_block, number_of, log_of}
-use Rattle.scoop_model.specs.Safe.{NoRepeats, IsSubsequence, nothing, left_out, taken, untold, numbered, Tape}
+use Rattle.scoop_message.specs.Lists.{NoRepeats}
+use Rattle.scoop_model.specs.Safe.{IsSubsequence, nothing, left_out, taken, untold, numbered, Tape}
 use Rattle.scoop_model.proofs.Basics.{by_test}
 use Rattle.scoop_model.proofs.Order.Lists.{AreApart, same_block_is, same_block_itself}
 use Rattle.scoop_model.proofs.Tape.Slots.{Slot, ran_in, ran_of, blocks_of}
@@ -133,10 +134,12 @@ parts_later :
     → flat_map (part_of (rs ++ qs)) bs ≡ flat_map (part_of qs) bs
 parts_later rs qs s [] e none = refl
 parts_later rs qs s (b ∷ bs) e none =
-    by_test (λ t. (t || has_block bs s.block) ≡ false → same_block b s.block ≡ t → flat_map (part_of (rs ++ qs)) (b ∷ bs) ≡ flat_map (part_of qs) (b ∷ bs)) (same_block b s.block)
+    by_test (λ t. (t || has_block bs s.block) ≡ false → same_block b s.block ≡ t → flat_map (part_of (rs ++ qs)) (b ∷ bs) ≡ flat_map (part_of qs) (b ∷ bs))
+    (same_block b s.block)
     (λ same f _. absurd (true≢false f))
     (λ other f is.
-    λ i. (filter-append (of_block b) rs qs ∙ ap (λ xs. xs ++ part_of qs b) (none_of rs s.block b 1 s.ran e (same_block-sym b s.block is))) i ++ parts_later rs qs s bs e f i) none refl
+    λ i. (filter-append (of_block b) rs qs ∙ ap (λ xs. xs ++ part_of qs b) (none_of rs s.block b 1 s.ran e (same_block-sym b s.block is)))
+    i ++ parts_later rs qs s bs e f i) none refl
 
 -- the first block's part is the first part
 own_part :
@@ -180,7 +183,8 @@ slot_parts rs (s ∷ ss) e apart =
       all_others (IsPart p.later) (IsPart (p.first ++ p.later)) s.block ss apart.0
           (λ t other is.
           let same : part_of p.later t.block ≡ part_of (p.first ++ p.later) t.block =
-          sym (filter-append (of_block t.block) p.first p.later ∙ ap (λ xs. xs ++ part_of p.later t.block) (none_of p.first s.block t.block 1 s.ran p.first_told (same_block-sym t.block s.block other))) in
+          sym (filter-append (of_block t.block) p.first p.later
+          ∙ ap (λ xs. xs ++ part_of p.later t.block) (none_of p.first s.block t.block 1 s.ran p.first_told (same_block-sym t.block s.block other))) in
           ap (map untold) (sym same) ∙ is)
           (slot_parts p.later ss p.later_told apart.1),
     )

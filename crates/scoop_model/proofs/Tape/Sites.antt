@@ -13,7 +13,8 @@ use Rattle.scoop_handler.proofs.After.{job-front}
 use Rattle.scoop_handler.proofs.TableRows.{row}
 use Rattle.scoop_model.specs.World.{World, Site, number_of, log_of}
 use Rattle.scoop_model.specs.Step.{Placement, heard_site, begun_site, finished_site, reopened, new_site}
-use Rattle.scoop_model.specs.Safe.{NoRepeats, IsSubsequence, untold, Tape}
+use Rattle.scoop_message.specs.Lists.{NoRepeats}
+use Rattle.scoop_model.specs.Safe.{IsSubsequence, untold, Tape}
 use Rattle.scoop_model.proofs.Basics.{by_test}
 use Rattle.scoop_model.proofs.Tape.Slots.{Slot, slots_run}
 use Rattle.scoop_model.proofs.Tape.Fits.{IsBeginningOf, TapeFits, tape_more, run_tape}

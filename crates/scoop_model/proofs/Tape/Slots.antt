@@ -193,10 +193,12 @@ queues-put b es (s ∷ ss) apart = at s.block s.ran s.rest s.state apart (queues
     at c ran rest None a later = later a
     at c ran rest (Some t) a later = by_test
         (λ y. queue_in (if y then put_slot es (slot_of c ran rest (Some t)) t else slot_of c ran rest (Some t)) ++ queues_of (slots_put b es ss)
-        ≡ (if y then (with_entries es (slot_queue (slot_of c ran rest (Some t)) t) ∷ []) ++ queues_of ss else slot_queue (slot_of c ran rest (Some t)) t ∷ put_all b es (queues_of ss)))
+        ≡ (if y then (with_entries es (slot_queue (slot_of c ran rest (Some t)) t) ∷ []) ++ queues_of ss
+        else slot_queue (slot_of c ran rest (Some t)) t ∷ put_all b es (queues_of ss)))
         (same_block b c)
         (λ same.
-        ap (λ qs. with_entries es (slot_queue (slot_of c ran rest (Some t)) t) ∷ qs) (same_behind b (λ q. with_entries es q ∷ []) c (queues_of ss) (queues_of (slots_put b es ss)) same a.0 (later a.1)))
+        ap (λ qs. with_entries es (slot_queue (slot_of c ran rest (Some t)) t) ∷ qs)
+        (same_behind b (λ q. with_entries es q ∷ []) c (queues_of ss) (queues_of (slots_put b es ss)) same a.0 (later a.1)))
         (λ other. ap (λ qs. slot_queue (slot_of c ran rest (Some t)) t ∷ qs) (later a.1))
 
 -- ---- a block's queue is cut
@@ -269,7 +271,8 @@ queues-cut b (s ∷ ss) apart = at s.block s.ran s.rest s.state apart (queues-cu
     at c ran rest None a later = later a
     at c ran rest (Some t) a later = by_test
         (λ y. queue_in (if y then cut_slot (slot_of c ran rest (Some t)) t else slot_of c ran rest (Some t)) ++ queues_of (slots_cut b ss)
-        ≡ (if y then left_by_cut (slot_queue (slot_of c ran rest (Some t)) t) ++ queues_of ss else slot_queue (slot_of c ran rest (Some t)) t ∷ cut b (queues_of ss)))
+        ≡ (if y then left_by_cut (slot_queue (slot_of c ran rest (Some t)) t) ++ queues_of ss
+        else slot_queue (slot_of c ran rest (Some t)) t ∷ cut b (queues_of ss)))
         (same_block b c)
         (λ same i. queue-cut c ran rest t i ++ same_behind b left_by_cut c (queues_of ss) (queues_of (slots_cut b ss)) same a.0 (later a.1) i)
         (λ other. ap (λ qs. slot_queue (slot_of c ran rest (Some t)) t ∷ qs) (later a.1))

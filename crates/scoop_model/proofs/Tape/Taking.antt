@@ -19,7 +19,7 @@ use Rattle.scoop_handler.specs.declared.mark.Mark.{Mark}
 use Rattle.scoop_handler.specs.Marks.{block_of, is_open, mark_of}
 use Rattle.scoop_handler.specs.State.{HandlerState, IsState, FitsMark, FitsNewest, HasMark}
 use Rattle.scoop_handler.specs.Hearing.{Hearing, new_entries}
-use Rattle.scoop_handler.specs.Rows.{Row, IsLogAt, IsNext, newer_greeting, open_granted, log_taken}
+use Rattle.scoop_handler.specs.Rows.{Row, IsLogAt, IsNext, newer_greeting, is_opened, is_taken}
 use Rattle.scoop_handler.proofs.MarkLists.{none_some}
 use Rattle.scoop_handler.proofs.TableLaws.{block_of-same}
 use Rattle.scoop_model.specs.Step.{newly_opened}
@@ -32,8 +32,8 @@ use Rattle.scoop_model.proofs.Tape.Fits.{IsBeginningOf, IsBegun, TapeFits, open_
 -- the slots after a row
 abbrev pub slots_after : (s : HandlerState) (m : Message) (h : Hearing) → Row s m h → List Slot → List Slot
 slots_after s m h (newer_greeting x c inc k here found newer) ss = slots_cut (block_of k) ss
-slots_after s m h (open_granted x b k here at same held room) ss = slots_new b ss
-slots_after s m h (log_taken x b n es k here at next goes_on room) ss = slots_put b (new_entries n es k) ss
+slots_after s m h (is_opened x b k here at same held room) ss = slots_new b ss
+slots_after s m h (is_taken x b n es k here at next goes_on room) ss = slots_put b (new_entries n es k) ss
 slots_after s m h r ss = ss
 
 -- ---- the private queues, as those of their slots
@@ -82,7 +82,8 @@ live_slot marks s has = record {
       by_test (λ t. same_block (block_of h.mark) s.block ≡ t → block_of h.mark ≡ s.block) (same_block (block_of h.mark) s.block)
       (λ is _. same_block-true (block_of h.mark) s.block is)
       (λ other _.
-      absurd (true≢false (h.fits.older (λ is. true≢false (sym (subst (λ b. same_block (block_of h.mark) b ≡ true) is (same_block-refl (block_of h.mark))) ∙ other)))))
+      absurd (true≢false (h.fits.older (λ is. true≢false (sym (subst (λ b. same_block (block_of h.mark) b ≡ true) is (same_block-refl (block_of h.mark)))
+      ∙ other)))))
       refl in
       let fits = h.fits.newest same in
       let goes_on = both (is_open h.mark.stage) (not h.mark.ended) (fits.unfinished refl) in
@@ -122,7 +123,8 @@ module _
       let gap = next.no_gap in
       let new = next.new in
       let more = beginning_next (ran ++ rest) (log c) n es i (subst (λ d. Stands (log d) n es) is st) (omega (arith, gap, count)) (omega (arith, new, count)) in
-      subst (λ xs. IsBeginningOf xs (log c)) (append_assoc ran rest (drop (length (ran ++ rest) + 1 - n) es) ∙ ap (λ j. ran ++ (rest ++ drop (j + 1 - n) es)) (sym count)) more
+      subst (λ xs. IsBeginningOf xs (log c)) (append_assoc ran rest (drop (length (ran ++ rest) + 1 - n) es)
+      ∙ ap (λ j. ran ++ (rest ++ drop (j + 1 - n) es)) (sym count)) more
 
   put_begun : (t : Slot) → IsBegun log t → InQueue (HasMark s.marks) t → IsBegun log (put_in b (new_entries n es k) t)
   put_begun t i has = by t.block t.ran t.rest t.state i has
@@ -160,7 +162,7 @@ pub row_tape :
     → IsState s → StandsIfLog log m → TapeFits log s.queues bs rs ss → TapeFits log h.0.queues (bs ++ newly_opened h.1.note) rs (slots_after s m h r ss)
 row_tape log s m h (newer_greeting x c inc k here found newer) bs rs ss is st f =
     same_opened log _ bs rs _ (cut_tape log s.queues bs rs ss f (block_of k) is.queues.apart)
-row_tape log s m h (open_granted x b k here at same held room) bs rs ss is st f = open_tape log s.queues bs rs ss f b
-row_tape log s m h (log_taken x b n es k here at next goes_on room) bs rs ss is st f =
+row_tape log s m h (is_opened x b k here at same held room) bs rs ss is st f = open_tape log s.queues bs rs ss f b
+row_tape log s m h (is_taken x b n es k here at next goes_on room) bs rs ss is st f =
     same_opened log _ bs rs _ (take_tape log s b n es k at next (st x b n es refl) bs rs ss is f)
 row_tape log s m h r bs rs ss is st f = same_opened log s.queues bs rs ss f

@@ -4,7 +4,8 @@ use Rattle.std.proofs.Common.{List}
 use Rattle.std.specs.List.{AllByRecursion}
 use Rattle.scoop_handler.proofs.Fronts.{MarksGrow-refl}
 use Rattle.scoop_model.specs.World.{World, Site, number_of}
-use Rattle.scoop_model.specs.Safe.{NoRepeats, Tape, WholeBeforeNext}
+use Rattle.scoop_message.specs.Lists.{NoRepeats}
+use Rattle.scoop_model.specs.Safe.{Tape, WholeBeforeNext}
 use Rattle.scoop_model.proofs.Order.Facts.{SiteFits, Ordered}
 use Rattle.scoop_model.proofs.Logging.Facts.{Grown}
 use Rattle.scoop_model.proofs.Tape.Slots.{Slot}
@@ -40,4 +41,5 @@ module _ (w : World) (once : NoRepeats w.joint) (o : Ordered w) (i : Taped w) wh
   all_tapes = all_both (SiteFits w.joint) (SiteTaped w) (Tape w) (λ s f t. site_tape_shown w s w.joint t.slots once f.left t.tape) w.sites o.sites i
 
   pub all_whole : AllByRecursion (WholeBeforeNext w) w.sites
-  all_whole = all_both (SiteFits w.joint) (SiteTaped w) (WholeBeforeNext w) (λ s f t. whole_shown w s w.joint t.slots once f.left t.tape t.told t.whole) w.sites o.sites i
+  all_whole = all_both (SiteFits w.joint) (SiteTaped w) (WholeBeforeNext w)
+      (λ s f t. whole_shown w s w.joint t.slots once f.left t.tape t.told t.whole) w.sites o.sites i

@@ -21,7 +21,7 @@ use Rattle.scoop_handler.specs.Marks.{block_of, fresh_mark, opened_mark, with_re
 use Rattle.scoop_handler.specs.State.{HandlerState}
 use Rattle.scoop_handler.specs.Hearing.{Hearing, greeting_mark}
 use Rattle.scoop_handler.specs.Running.{mark_after}
-use Rattle.scoop_handler.specs.Rows.{Row, first_greeting, newer_greeting, lock_granted, open_granted, unlock_new, unlock_holder, log_again, log_taken}
+use Rattle.scoop_handler.specs.Rows.{Row, first_greeting, newer_greeting, lock_granted, is_opened, unlock_of_a_block_never_held, is_freed, already_received, is_taken}
 use Rattle.scoop_handler.proofs.After.{MarksGrow-after}
 use Rattle.scoop_handler.proofs.MarkLists.{same_client-refl, mark_of-client, All-mark_of, All-set_mark, All-add_mark}
 use Rattle.scoop_handler.proofs.TableLaws.{grows-row, block_of-same}
@@ -134,7 +134,8 @@ greeted_mark :
     → MarksTold ms h marks → MarkTold (ms ++ Welcome h c inc ∷ []) h (greeting_mark c inc)
 greeted_mark ms h marks c inc past t = record {
   greeted = λ b own newer. greeted_last h b ms c inc own newer;
-  received = greatest_stays h (block_of (greeting_mark c inc)) ms (Some (Welcome h c inc)) (omega arith) ∙ none_counted ms h marks (block_of (greeting_mark c inc)) t.reached past;
+  received = greatest_stays h (block_of (greeting_mark c inc)) ms (Some (Welcome h c inc)) (omega arith)
+      ∙ none_counted ms h marks (block_of (greeting_mark c inc)) t.reached past;
 }
 
 -- ---- a count more is told
@@ -168,7 +169,8 @@ module _
   count_more = record {
     was = count_was;
     own = greatest_new s.number b ms last (let e = count_was in let lt = new in omega (arith, e, lt));
-    others = λ x apart. greatest_stays s.number x ms (Some (Logged s.number b last)) (let e = count_other s.number s.number b x last (λ _ p. blocks_apart b x apart p) in omega (arith, e));
+    others = λ x apart. greatest_stays s.number x ms (Some (Logged s.number b last))
+        (let e = count_other s.number s.number b x last (λ _ p. blocks_apart b x apart p) in omega (arith, e));
   }
 
   taken_mark : (ended : Bool) → MarkTold ns s.number (with_received last ended k)
@@ -211,8 +213,8 @@ module _
 pub alike-row :
     (ms : List Message) (s : HandlerState) (m : Message) (h : Hearing) → Row s m h → MarksTold ms s.number s.marks → ((n : ℕ) → h.1.note ≡ Took n → ⊥)
     → TellsAlike s.number ms (ms ++ option_to_list h.1.reply)
-alike-row ms s m h (log_taken x b n es k here at next goes_on room) t quiet = absurd (quiet (last_number n es) refl)
-alike-row ms s m h (log_again x b n es k here at before none) t quiet = alike_more s.number ms (Some (Logged s.number b k.received)) not_above
+alike-row ms s m h (is_taken x b n es k here at next goes_on room) t quiet = absurd (quiet (last_number n es) refl)
+alike-row ms s m h (already_received x b n es k here at before none) t quiet = alike_more s.number ms (Some (Logged s.number b k.received)) not_above
   where
     same : block_of k ≡ b
     same = block_of-same s b k at.heard at.num
@@ -273,27 +275,27 @@ marks_told-row ms s m h (lock_granted x b k here at new free clear) t =
     let alike = alike-row ms s m _ r t (λ n e. cc) in
     mark_moved ms _ s.number s.marks (set_mark y s.marks) alike (grows-row s m _ r) t y refl
     (next_mark _ s.number s.marks b k AtHeld at.found at.inc new (marks_alike ms _ s.number s.marks alike t))
-marks_told-row ms s m h (open_granted x b k here at same held room) t =
-    let r = open_granted x b k here at same held room in
+marks_told-row ms s m h (is_opened x b k here at same held room) t =
+    let r = is_opened x b k here at same held room in
     let alike = alike-row ms s m _ r t (λ n e. cc) in
     let grows = grows-row s m _ r in
     mark_moved ms _ s.number s.marks (set_mark (opened_mark k) s.marks) alike grows t (opened_mark k) refl
     (same_mark _ s.number k (opened_mark k) refl refl refl refl (found_told ms _ s.number s.marks _ alike grows t b k at.found))
-marks_told-row ms s m h (unlock_new x b k here at new clear) t =
-    let r = unlock_new x b k here at new clear in
+marks_told-row ms s m h (unlock_of_a_block_never_held x b k here at new clear) t =
+    let r = unlock_of_a_block_never_held x b k here at new clear in
     let y : Mark = fresh_mark b AtShut in
     let alike = alike-row ms s m _ r t (λ n e. cc) in
     mark_moved ms _ s.number s.marks (set_mark y s.marks) alike (grows-row s m _ r) t y refl
     (next_mark _ s.number s.marks b k AtShut at.found at.inc new (marks_alike ms _ s.number s.marks alike t))
-marks_told-row ms s m h (unlock_holder x b k here at same holds) t =
-    let r = unlock_holder x b k here at same holds in
+marks_told-row ms s m h (is_freed x b k here at same holds) t =
+    let r = is_freed x b k here at same holds in
     let alike = alike-row ms s m _ r t (λ n e. cc) in
     let grows = grows-row s m _ r in
     mark_moved ms _ s.number s.marks (set_mark (without_hold k) s.marks) alike grows t (without_hold k) refl
     (same_mark _ s.number k (without_hold k) refl refl refl refl (found_told ms _ s.number s.marks _ alike grows t b k at.found))
-marks_told-row ms s m h (log_taken x b n es k here at next goes_on room) t =
+marks_told-row ms s m h (is_taken x b n es k here at next goes_on room) t =
     taken_told ms s b k (last_number n es) at.heard.found (block_of-same s b k at.heard at.num) next.new t (ends es)
-    (grows-row s m _ (log_taken x b n es k here at next goes_on room))
+    (grows-row s m _ (is_taken x b n es k here at next goes_on room))
 marks_told-row ms s m h r t = marks_alike ms (ms ++ option_to_list h.1.reply) s.number s.marks (alike-row ms s m h r t (λ n e. absurd (let f = e in cc))) t
 
 -- an entry that runs changes no count

@@ -15,7 +15,7 @@ use Rattle.scoop_handler.specs.Growing.{MarksGrow}
 use Rattle.scoop_handler.specs.Marks.{block_of, is_open, mark_of, opened_mark, set_mark, with_received}
 use Rattle.scoop_handler.specs.State.{HandlerState, IsState, IsUnusedUnlessOpen}
 use Rattle.scoop_handler.specs.Hearing.{Hearing, greeting_mark, is_closed, new_entries}
-use Rattle.scoop_handler.specs.Rows.{Row, IsLogAt, IsNext, newer_greeting, open_granted, log_taken}
+use Rattle.scoop_handler.specs.Rows.{Row, IsLogAt, IsNext, newer_greeting, is_opened, is_taken}
 use Rattle.scoop_handler.proofs.MarkLists.{mark_of-client, mark_of-set_mark_own, All-mark_of}
 use Rattle.scoop_handler.proofs.TableLaws.{grows-row, block_of-same}
 use Rattle.scoop_model.specs.World.{greatest_count}
@@ -71,17 +71,18 @@ module _
   told : IsMoreTold ms (ms ++ Logged s.number b (last_number n es) ∷ []) s.number b k (last_number n es)
   told = count_more ms s b k (last_number n es) at.heard.found same next.new t
 
-  is_taken :
+  takes :
       MarksGrow s.marks (set_mark after s.marks)
       → IsTaken ms (ms ++ Logged s.number b (last_number n es) ∷ []) s.number s.marks (set_mark after s.marks) b news
-  is_taken grows = record {
+  takes grows = record {
     grows = grows;
     mark = k;
     found = at.heard.found;
     newest = same;
     running = not_ended k.ended _ goes_on;
     next = after;
-    now = subst (λ c. mark_of c (set_mark after s.marks) ≡ Some after) client (mark_of-set_mark_own after k s.marks (subst (λ c. mark_of c s.marks ≡ Some k) (sym client) at.heard.found));
+    now = subst (λ c. mark_of c (set_mark after s.marks) ≡ Some after) client
+        (mark_of-set_mark_own after k s.marks (subst (λ c. mark_of c s.marks ≡ Some k) (sym client) at.heard.found));
     ended = λ e. sym (ends-drop (k.received + 1 - n) es some_new) ∙ e;
     more = let was = told.was in let now = told.own in let all = count_new in omega (arith, was, now, all);
     others = told.others;
@@ -98,10 +99,11 @@ slots_whole-row ms s m h (newer_greeting x c inc k here found newer) ss is t all
     let y : Mark = greeting_mark c inc in
     let client : k.client ≡ c = mark_of-client c s.marks k found in
     slots_cut_whole _ s.number (set_mark y s.marks) (block_of k) ss
-    (passed_from (set_mark y s.marks) (block_of k) y (subst (λ d. mark_of d (set_mark y s.marks) ≡ Some y) (sym client) (mark_of-set_mark_own y k s.marks found)) newer)
+    (passed_from (set_mark y s.marks) (block_of k) y (subst (λ d. mark_of d (set_mark y s.marks) ≡ Some y) (sym client)
+    (mark_of-set_mark_own y k s.marks found)) newer)
     (slots_moved ms _ s.number s.marks (set_mark y s.marks) ss (alike-row ms s m _ r t (λ n e. cc)) (grows-row s m _ r) all)
-slots_whole-row ms s m h (open_granted x b k here at same held room) ss is t all =
-    let r = open_granted x b k here at same held room in
+slots_whole-row ms s m h (is_opened x b k here at same held room) ss is t all =
+    let r = is_opened x b k here at same held room in
     let alike = alike-row ms s m _ r t (λ n e. cc) in
     let grows = grows-row s m _ r in
     let news : List Mark = set_mark (opened_mark k) s.marks in
@@ -114,8 +116,10 @@ slots_whole-row ms s m h (open_granted x b k here at same held room) ss is t all
     let one : new_slot b ≡ u = cc in
     let reached = reached_more s.marks news b grows (block_reached s.marks b k at.found (block_of-same s b k at same)) in
     subst (SlotWhole _ s.number news) one (new_whole _ s.number news b reached (alike.counted b ∙ count)))
-slots_whole-row ms s m h (log_taken x b n es k here at next goes_on room) ss is t all =
-    let grows = grows-row s m _ (log_taken x b n es k here at next goes_on room) in
-    slots_put_whole ms _ s.number s.marks (set_mark (with_received (last_number n es) (ends es) k) s.marks) b (new_entries n es k) ss (is_taken ms s b n es k at next goes_on t grows) all
+slots_whole-row ms s m h (is_taken x b n es k here at next goes_on room) ss is t all =
+    let grows = grows-row s m _ (is_taken x b n es k here at next goes_on room) in
+    slots_put_whole ms _ s.number s.marks (set_mark (with_received (last_number n es) (ends es) k) s.marks) b (new_entries n es k) ss
+    (takes ms s b n es k at next goes_on t grows) all
 slots_whole-row ms s m h r ss is t all =
-    slots_moved ms (ms ++ option_to_list h.1.reply) s.number s.marks h.0.marks ss (alike-row ms s m h r t (λ n e. absurd (let f = e in cc))) (grows-row s m h r) all
+    slots_moved ms (ms ++ option_to_list h.1.reply) s.number s.marks h.0.marks ss (alike-row ms s m h r t (λ n e. absurd (let f = e in cc)))
+    (grows-row s m h r) all

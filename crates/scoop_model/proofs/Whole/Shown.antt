@@ -9,7 +9,8 @@ use Rattle.scoop_queue.specs.declared.state.QueueState.{QueueState}
 use Rattle.scoop_handler.specs.declared.ran.Ran.{Ran}
 use Rattle.scoop_handler.proofs.MarkLists.{mark_of-client, All-mark_of}
 use Rattle.scoop_model.specs.World.{World, Site, number_of, log_of, received, is_succeeded}
-use Rattle.scoop_model.specs.Safe.{NoRepeats, IsSubsequence, untold, numbered, part, entries_of, IsWhole, WholeBeforeNext}
+use Rattle.scoop_message.specs.Lists.{NoRepeats}
+use Rattle.scoop_model.specs.Safe.{IsSubsequence, untold, numbered, part, entries_of, IsWhole, WholeBeforeNext}
 use Rattle.scoop_model.proofs.Order.Lists.{AreApart}
 use Rattle.scoop_model.proofs.Tape.Slots.{Slot, ran_in, blocks_of, NoneRan, Waits, InTurn}
 use Rattle.scoop_model.proofs.Tape.Fits.{IsBegun}
@@ -103,5 +104,6 @@ whole_shown w s js ss once left f told whole front between back b later opened s
     let all : AllByRecursion (IsShown w s told) ss =
     all_both (IsPart s.ran) (λ t. SlotWhole w.sent (number_of s) s.core.state.marks t × IsBegun (logs_at w s) t) (IsShown w s told)
     (λ t p k. record { told = p; whole = k.0; begun = k.1 }) ss parts
-    (all_both (SlotWhole w.sent (number_of s) s.core.state.marks) (IsBegun (logs_at w s)) (λ t. SlotWhole w.sent (number_of s) s.core.state.marks t × IsBegun (logs_at w s) t) (λ t a k. (a, k)) ss whole f.begun) in
+    (all_both (SlotWhole w.sent (number_of s) s.core.state.marks) (IsBegun (logs_at w s))
+    (λ t. SlotWhole w.sent (number_of s) s.core.state.marks t × IsBegun (logs_at w s) t) (λ t a k. (a, k)) ss whole f.begun) in
     before_whole w s told ss front between back b later f.turn all (sym f.opened ∙ opened) some

@@ -110,7 +110,11 @@ slot_more ms ns h old new t grows same w = record {
   ended = λ off. ended_more old new t.block grows w.reached (w.ended off);
   gone = λ none. (
       let d = w.gone none in
-      record { rest = d.rest; whole = ⊎_elim (λ (e : IsTrue (ends t.ran)). inl e) (λ (p : IsPassed old t.block). inr (reached_more old new (next_incarnation t.block) grows p)) d.whole });
+      record {
+        rest = d.rest;
+        whole = ⊎_elim (λ (e : IsTrue (ends t.ran)). inl e)
+            (λ (p : IsPassed old t.block). inr (reached_more old new (next_incarnation t.block) grows p)) d.whole;
+      });
   received = same ∙ w.received;
 }
 
@@ -309,7 +313,8 @@ run_whole ms h old new grows t q is sound has w = at t.block t.ran t.rest t.stat
         → SlotWhole ms h new (run_rest (slot_of c ran rest o) q rest)
     at c ran [] o is sound has w = slot_more ms ms h old new (slot_of c ran [] o) grows refl w
     at c ran (e ∷ es) o is sound has w =
-        runs_whole ms h old new grows c ran e es q sound has (subst (λ (p : Option QueueState). SlotWhole ms h old (slot_of c ran (e ∷ es) p)) is w) (goes_with q e es) refl
+        runs_whole ms h old new grows c ran e es q sound has (subst (λ (p : Option QueueState). SlotWhole ms h old (slot_of c ran (e ∷ es) p)) is w)
+        (goes_with q e es) refl
 
 pub slots_run_whole :
     (ms : List Message) (h : HandlerId) (marks : List Mark) (r : Ran) (ss : List Slot) → AllByRecursion IsQueue (queues_of ss)
@@ -324,4 +329,5 @@ slots_run_whole ms h marks r ss sound marked all =
     (λ t q is p. run_whole ms h marks new grows t q is (p.1.has q is) (p.2.has q is) p.0)
     ss
     (all_both (SlotWhole ms h marks) (λ t. InQueue IsQueue t × InQueue (HasMark marks) t) Before (λ t w k. (w, k.0, k.1)) ss all
-    (all_both (InQueue IsQueue) (InQueue (HasMark marks)) (λ t. InQueue IsQueue t × InQueue (HasMark marks) t) (λ t a b. (a, b)) ss (each_queue IsQueue ss sound) (each_queue (HasMark marks) ss marked)))
+    (all_both (InQueue IsQueue) (InQueue (HasMark marks)) (λ t. InQueue IsQueue t × InQueue (HasMark marks) t) (λ t a b. (a, b)) ss
+    (each_queue IsQueue ss sound) (each_queue (HasMark marks) ss marked)))

@@ -69,7 +69,7 @@ due_row_goes : (c : ClientState) (h : HandlerId) (o : Option Message) → DueRow
 due_row_goes c h o owes_nothing m e = absurd (cc)
 due_row_goes c h o (greets left) m e = let same : Hello h c.id c.inc ≡ m = cc in subst (λ x. is_for_handler x ≡ true) same refl
 due_row_goes c h o (reserves r n greeted has_one owes) m e = owed_goes h r m r.stage (owes ∙ e)
-due_row_goes c h o (logs r l greeted has_one free opened line some) m e = sent_on e
+due_row_goes c h o (logs r l greeted has_one free opened window some) m e = sent_on e
   where
     sent_on : {k : HandlerId} {b : Block} {n : ℕ} {es : _} → Some (Log k b n es) ≡ Some m → is_for_handler m ≡ true
     sent_on {k} {b} {n} {es} e = let same : Log k b n es ≡ m = cc in subst (λ x. is_for_handler x ≡ true) same refl
@@ -135,8 +135,10 @@ module _
   heard_taped = record {
     told = subst (λ h. MarksTold then_world.sent h now.0.marks) (sym same_number) (marks_told-row w.sent s.core.state m now its_row before.told);
     slots = slots_heard s m before.slots;
-    tape = subst (λ h. SiteTape (λ b. log_of b h w) after (slots_heard s m before.slots)) (sym same_number) (heard_tape (logs_at w s) s before.slots before.tape m is_state stands);
-    whole = subst (λ h. SlotsWhole then_world.sent h now.0.marks (slots_heard s m before.slots)) (sym same_number) (slots_whole-row w.sent s.core.state m now (row s.core.state m) before.slots is_state before.told before.whole);
+    tape = subst (λ h. SiteTape (λ b. log_of b h w) after (slots_heard s m before.slots)) (sym same_number)
+        (heard_tape (logs_at w s) s before.slots before.tape m is_state stands);
+    whole = subst (λ h. SlotsWhole then_world.sent h now.0.marks (slots_heard s m before.slots)) (sym same_number)
+        (slots_whole-row w.sent s.core.state m now (row s.core.state m) before.slots is_state before.told before.whole);
   }
 
   others_hear : (x : Site) → is_site (number_of after) x ≡ false → SiteTaped w x → SiteTaped then_world x
@@ -176,7 +178,8 @@ module _ (w : World) (sound : Sound w) (i : Taped w) (h : HandlerId) (s : Site) 
         told = marks_told-after w.sent (number_of s) (ran_of t) marks f.told;
         slots = slots_run f.slots;
         tape = finished_tape (logs_at w s) s f.slots f.tape t out;
-        whole = slots_run_whole w.sent (number_of s) marks (ran_of t) f.slots (subst (AllByRecursion IsQueue) f.tape.queues is.queues.each) (subst (AllByRecursion (HasMark marks)) f.tape.queues is.marked) f.whole;
+        whole = slots_run_whole w.sent (number_of s) marks (ran_of t) f.slots (subst (AllByRecursion IsQueue) f.tape.queues is.queues.each)
+            (subst (AllByRecursion (HasMark marks)) f.tape.queues is.marked) f.whole;
       })
       (λ x other. same_site w v refl refl x) i
 
@@ -187,7 +190,8 @@ anew_taped w n s stored f =
     let v : World = reopened_world w n in
     by_test (λ t. SiteTaped v (if t then record s { core = core_of s.core.class s.stored false } else s)) (s.node == n)
     (λ here.
-    subst (λ (x : HandlerState). SiteTaped v (record s { core = core_of s.core.class x false })) (sym stored) (record { told = f.told; slots = f.slots; tape = f.tape; whole = f.whole }))
+    subst (λ (x : HandlerState). SiteTaped v (record s { core = core_of s.core.class x false })) (sym stored)
+    (record { told = f.told; slots = f.slots; tape = f.tape; whole = f.whole }))
     (λ there. same_site w v refl refl s f)
 
 all_anew :

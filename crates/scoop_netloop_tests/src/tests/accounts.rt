@@ -1,10 +1,12 @@
 //! Books and nodes of two accounts.
 
+ghost use Rattle.std.specs.Prelude.{◌≡◌, IfSome, length};
+
 use super::{ONE, TWO};
 use scoop_book::{Book, Node, Pass};
+use scoop_keeper::{Keeper, MemoryKeeper};
 use scoop_message::{HandlerId, Words};
 use scoop_object::{Class, OpRow, Table, Term, Write, Writes};
-use scoop_record::{Keeper, MemoryKeeper};
 use std::alloc::{Allocator, Global};
 use std::process::Abort;
 
@@ -55,22 +57,11 @@ fn account(alloc: Global, number: HandlerId) -> Option<(HandlerId, Class, Table)
     Some((number, class(alloc)?, object))
 }
 
-fn opened_book<A: Allocator + Copy>(
-    alloc: Global,
-    heap: A,
-) -> Option<Book<Table, MemoryKeeper<A>, A>> {
-    let handlers = vec![in alloc; account(alloc, ONE)?, account(alloc, TWO)?].ok()?;
-    Book::open(heap, handlers, MemoryKeeper::new(heap)).ok()
-}
-
-fn opened_node<A: Allocator + Copy, K: Keeper<A>>(
-    alloc: Global,
-    heap: A,
-    keeper: K,
-    passes: u32,
-) -> Option<(Node<Table, K, A>, Vec<Pass<A>, A>)> {
-    let handlers = vec![in alloc; account(alloc, ONE)?, account(alloc, TWO)?].ok()?;
-    Node::open(heap, handlers, keeper, passes).ok()
+// The handlers of a book or node, which has them or none.
+fn accounts(alloc: Global) -> Option<Vec<(HandlerId, Class, Table)>>
+    ensures { IfSome result (λ all. length all.items ≡ 2) }
+{
+    vec![in alloc; account(alloc, ONE)?, account(alloc, TWO)?].ok()
 }
 
 /// A book of handlers 1 and 2 over this heap, each with an account of balance 0.
@@ -79,9 +70,12 @@ pub fn book<A: Allocator + Copy>(
     alloc: Global,
     heap: A,
 ) -> Book<Table, MemoryKeeper<A>, A> {
-    match opened_book(alloc, heap) {
-        Some(book) => book,
-        None => panic!(rt; "no book"),
+    let Some(accounts) = accounts(alloc) else {
+        panic!(rt; "no accounts");
+    };
+    match Book::open(heap, accounts, MemoryKeeper::new(heap)) {
+        Ok(book) => book,
+        Err(_) => panic!(rt; "no book"),
     }
 }
 
@@ -94,8 +88,11 @@ pub fn node<A: Allocator + Copy, K: Keeper<A>>(
     keeper: K,
     passes: u32,
 ) -> (Node<Table, K, A>, Vec<Pass<A>, A>) {
-    match opened_node(alloc, heap, keeper, passes) {
-        Some(opened) => opened,
-        None => panic!(rt; "no node"),
+    let Some(accounts) = accounts(alloc) else {
+        panic!(rt; "no accounts");
+    };
+    match Node::open(heap, accounts, keeper, passes) {
+        Ok(opened) => opened,
+        Err(_) => panic!(rt; "no node"),
     }
 }

@@ -8,6 +8,7 @@ use scoop_frame::{Version, encode};
 use scoop_link::{Link, Party, TapeLink};
 use scoop_message::limits::BUFFER_LEN;
 use scoop_message::{Block, Entries, Entry, Message};
+use std::alloc::Global;
 use std::process::Abort;
 
 /// Client 7's first block.
@@ -49,12 +50,23 @@ pub fn frame_to(rt: &impl Abort, message: &Message, buffer: &mut [u8; BUFFER_LEN
     }
 }
 
-/// Feeds the frame of a message to a tape.
-pub fn feed(rt: &impl Abort, link: &mut TapeLink, message: &Message) {
+// Feeds the frame of a message to a tape.
+fn feed(rt: &impl Abort, link: &mut TapeLink, message: &Message) {
     let mut buffer = [0; BUFFER_LEN];
     let len = frame_to(rt, message, &mut buffer);
     let fed = link.feed(&buffer[..len]).is_ok();
     assert!(rt; fed);
+}
+
+/// A tape to which these messages are to come, and with room for what is sent.
+pub fn tape(rt: &impl Abort, alloc: Global, messages: &[Message]) -> TapeLink {
+    let Ok(mut link) = TapeLink::new(alloc, 8) else {
+        panic!(rt; "no tape");
+    };
+    for message in messages {
+        feed(rt, &mut link, message);
+    }
+    link
 }
 
 /// Sends the frame of a message.

@@ -4,11 +4,11 @@ use super::ONE;
 use super::accounts::book;
 use super::frames::{first_messages, frame_to};
 use scoop_book::{Book, BookError};
+use scoop_keeper::MemoryKeeper;
 use scoop_message::Message;
 use scoop_message::limits::BUFFER_LEN;
 use scoop_netloop::{Answered, ServeEnd, answer_datagram, run_out};
 use scoop_object::Table;
-use scoop_record::MemoryKeeper;
 use scoop_refusing::Refusing;
 use std::alloc::Global;
 use std::process::Abort;
@@ -21,8 +21,8 @@ type HeapBook<'a> = Book<Table, MemoryKeeper<Heap<'a>>, Heap<'a>>;
 // What the buffer has before a call.
 const BEFORE: [u8; BUFFER_LEN] = [9; BUFFER_LEN];
 
-/// The datagram of a message, with the growth of this number refused: whether one was. Then nothing has changed,
-/// and it is answered once memory is there.
+/// The datagram of a message, with the growth of this number refused: whether one was. Either nothing has changed,
+/// and it is answered once memory is there, or what was refused was but room for a next call, and it is answered.
 fn answers<'a>(
     rt: &impl Abort,
     heap: Heap<'a>,
@@ -38,16 +38,18 @@ fn answers<'a>(
     let answered = answer_datagram(book, 0, &datagram[..len], &mut out);
     let refused = heap.has_refused();
     heap.refuse(0);
-    if !refused {
+    if let Err(error) = answered {
+        assert!(rt; refused);
+        assert_eq!(rt; error, BookError::OutOfMemory);
+        assert_eq!(rt; book.history().len(), before);
+        assert!(rt; out == BEFORE);
+        let again = answer_datagram(book, 0, &datagram[..len], &mut out);
+        assert!(rt; matches!(again, Ok(Answered::Reply(_, _))));
+    } else {
         assert!(rt; matches!(answered, Ok(Answered::Reply(_, _))));
-        return false;
     }
-    assert_eq!(rt; answered.err(), Some(BookError::OutOfMemory));
-    assert_eq!(rt; book.history().len(), before);
-    assert!(rt; out == BEFORE);
-    let again = answer_datagram(book, 0, &datagram[..len], &mut out);
-    assert!(rt; matches!(again, Ok(Answered::Reply(_, _))));
-    true
+    assert_eq!(rt; book.history().len(), before + 1);
+    refused
 }
 
 /// The same of a run. What has happened before the refusal stands.

@@ -4,15 +4,14 @@ use super::accounts::{SET, book};
 use super::{EIGHT, ONE, SEVEN, TWO, request};
 use scoop_book::Book;
 use scoop_client::{Client, Phase};
+use scoop_keeper::MemoryKeeper;
 use scoop_link::{Link, Party, Script, ScriptLink};
 use scoop_message::limits::BUFFER_LEN;
 use scoop_message::{ClientId, HandlerId};
 use scoop_netloop::{Answered, Driver, DriverError, answer_datagram, run_out};
 use scoop_object::Table;
-use scoop_record::MemoryKeeper;
 use std::alloc::Global;
 use std::process::Abort;
-use std::test::Fail;
 
 // How many datagrams a lane has room for.
 const ROOM: usize = 32;
@@ -38,24 +37,20 @@ struct Painter {
     left: u32,
 }
 
-fn make_painter(
-    rt: &impl Abort,
-    alloc: Global,
-    number: ClientId,
-    colour: u64,
-) -> Result<Painter, Fail> {
-    let (link, end) = ScriptLink::pair(alloc, LOSSY, LOSSY, ROOM)?;
-    let client = match Client::begin(alloc, number, 1, &[ONE, TWO]) {
-        Ok(client) => client,
-        Err(_) => panic!(rt; "no client"),
+fn make_painter(rt: &impl Abort, alloc: Global, number: ClientId, colour: u64) -> Painter {
+    let Ok((link, end)) = ScriptLink::pair(alloc, LOSSY, LOSSY, ROOM) else {
+        panic!(rt; "no link");
     };
-    Ok(Painter {
+    let Ok(client) = Client::begin(alloc, number, 1, &[ONE, TWO]) else {
+        panic!(rt; "no client");
+    };
+    Painter {
         driver: Driver::new(client, link, 0),
         end,
         number,
         colour,
         left: 3,
-    })
+    }
 }
 
 // The book answers what has come to the node's end, and runs what it can.
@@ -122,15 +117,18 @@ fn paint(rt: &impl Abort, book: &mut Painted, one: &mut Painter, other: &mut Pai
     panic!(rt; "not painted");
 }
 
-#[test]
-fn both_accounts_have_the_same_colour(rt: HostRuntime) -> Result<(), Fail> {
-    let alloc = rt.alloc();
-    let mut book = book(&rt, alloc, alloc);
-    let mut red = make_painter(&rt, alloc, SEVEN, 1)?;
-    let mut blue = make_painter(&rt, alloc, EIGHT, 2)?;
-    paint(&rt, &mut book, &mut red, &mut blue);
+fn has_one_colour(rt: &impl Abort, book: &Painted) {
     let colour = book.words(ONE).and_then(|words| words.get(0));
     assert!(rt; colour == Some(1) || colour == Some(2));
     assert_eq!(rt; book.words(TWO), book.words(ONE));
-    Ok(())
+}
+
+#[test]
+fn both_accounts_have_the_same_colour(rt: HostRuntime) {
+    let alloc = rt.alloc();
+    let mut red = make_painter(&rt, alloc, SEVEN, 1);
+    let mut blue = make_painter(&rt, alloc, EIGHT, 2);
+    let mut book = book(&rt, alloc, alloc);
+    paint(&rt, &mut book, &mut red, &mut blue);
+    has_one_colour(&rt, &book);
 }

@@ -1,15 +1,25 @@
 //! A node over a tape.
 
-use super::accounts::node;
-use super::frames::{FIRST, HELLO, LOCK, feed, sends};
+use super::frames::{FIRST, HELLO, LOCK, sends, tape};
+use super::loops::{Passes, closes, opened, turns};
 use super::{ONE, SEVEN};
+use scoop_book::Node;
 use scoop_frame::{Version, decode};
-use scoop_link::{Party, Script, ScriptLink, TapeLink};
+use scoop_keeper::{FailingKeeper, MemoryKeeper};
+use scoop_link::{Link, Party, Script, ScriptLink, TapeLink};
 use scoop_message::Message;
-use scoop_netloop::{OpenGate, ServeEnd, Stop, serve};
-use scoop_record::{FailingKeeper, MemoryKeeper};
+use scoop_netloop::{OpenGate, ServeEnd, Stop};
+use scoop_object::Table;
+use std::alloc::Global;
 use std::process::Abort;
-use std::test::Fail;
+use std::sync::Wait;
+use std::thread::Threads;
+use std::time::Clock;
+
+type MemoryNode = Node<Table, MemoryKeeper>;
+
+// A Lock that comes too early, and then what is answered.
+const EARLY: [Message; 3] = [LOCK, HELLO, LOCK];
 
 fn has_sent(rt: &impl Abort, link: &TapeLink, i: usize, message: Message) {
     match link.sent(i) {
@@ -21,82 +31,131 @@ fn has_sent(rt: &impl Abort, link: &TapeLink, i: usize, message: Message) {
     }
 }
 
-#[test]
-fn a_greeting_and_a_lock_are_answered(rt: HostRuntime) -> Result<(), Fail> {
-    let alloc = rt.alloc();
-    let (node, passes) = node(&rt, alloc, alloc, MemoryKeeper::new(alloc), 2);
-    let mut link = TapeLink::new(alloc, 8)?;
-    feed(&rt, &mut link, &LOCK);
-    feed(&rt, &mut link, &HELLO);
-    feed(&rt, &mut link, &LOCK);
-    assert_eq!(rt; passes.len(), 2);
-    let stop = Stop::new();
-    let (end, passes) = serve(&rt, alloc, &node, &mut link, passes, &OpenGate, &stop, 10);
-    assert_eq!(rt; end, ServeEnd::TurnsOver);
-    assert_eq!(rt; passes[0].events().len(), 3);
-    has_sent(&rt, &link, 0, Message::Welcome(ONE, SEVEN, 1));
-    has_sent(&rt, &link, 1, Message::Locked(ONE, FIRST));
-    assert!(rt; link.sent(2).is_none());
-    let closed = node.close(&rt, passes).is_ok();
-    assert!(rt; closed);
-    Ok(())
+// The node hears all three messages by this link.
+fn hears_three<R, L>(
+    rt: &R,
+    alloc: Global,
+    node: &MemoryNode,
+    link: &mut L,
+    passes: Passes,
+    stop: &Stop,
+    wanted: ServeEnd,
+) -> Passes
+where
+    R: Threads + Wait + Clock + Abort + Sync,
+    L: Link,
+{
+    let passes = turns(rt, alloc, node, link, passes, &OpenGate, stop, 10, wanted);
+    assert_eq!(rt; passes.list[0].events().len(), 3);
+    passes
+}
+
+// The node answers client 7's Lock, which it knows.
+fn knows_lock<R>(rt: &R, alloc: Global, node: &MemoryNode, passes: Passes, stop: &Stop) -> Passes
+where
+    R: Threads + Wait + Clock + Abort + Sync,
+{
+    let mut link = tape(rt, alloc, &[LOCK]);
+    let passes = turns(
+        rt,
+        alloc,
+        node,
+        &mut link,
+        passes,
+        &OpenGate,
+        stop,
+        3,
+        ServeEnd::TurnsOver,
+    );
+    has_sent(rt, &link, 0, Message::Locked(ONE, FIRST));
+    passes
 }
 
 #[test]
-fn a_loop_goes_on_after_a_fault_with_another_link(rt: HostRuntime) -> Result<(), Fail> {
+fn a_greeting_and_a_lock_are_answered(rt: HostRuntime) {
     let alloc = rt.alloc();
-    let (node, passes) = node(&rt, alloc, alloc, MemoryKeeper::new(alloc), 2);
-    // The fifth call is the send of the second reply.
+    let mut link = tape(&rt, alloc, &EARLY);
+    let (node, passes) = opened(&rt, alloc, MemoryKeeper::new(alloc), 2);
+    let passes = hears_three(
+        &rt,
+        alloc,
+        &node,
+        &mut link,
+        passes,
+        &Stop::new(),
+        ServeEnd::TurnsOver,
+    );
+    let _keeper = closes(&rt, node, passes);
+    has_sent(&rt, &link, 0, Message::Welcome(ONE, SEVEN, 1));
+    has_sent(&rt, &link, 1, Message::Locked(ONE, FIRST));
+    assert!(rt; link.sent(2).is_none());
+}
+
+// Both ends of a link: the fifth call at the first end is the send of the second reply, and fails.
+fn faulty(rt: &impl Abort, alloc: Global) -> (ScriptLink, ScriptLink) {
     let script = Script {
         drop_every: 0,
         double_every: 0,
         fail_at: 5,
     };
-    let (mut link, mut other) = ScriptLink::pair(alloc, script, Script::default(), 8)?;
-    sends(&rt, &mut other, Party::Handler(ONE), &LOCK);
-    sends(&rt, &mut other, Party::Handler(ONE), &HELLO);
-    sends(&rt, &mut other, Party::Handler(ONE), &LOCK);
-    assert!(rt; passes.len() == 2);
-    let stop = Stop::new();
-    let (end, passes) = serve(&rt, alloc, &node, &mut link, passes, &OpenGate, &stop, 10);
-    assert_eq!(rt; end, ServeEnd::LinkFault);
-    assert!(rt; passes.len() == 2);
-    assert_eq!(rt; passes[0].events().len(), 3);
-    let mut tape = TapeLink::new(alloc, 8)?;
-    feed(&rt, &mut tape, &LOCK);
-    let (end, passes) = serve(&rt, alloc, &node, &mut tape, passes, &OpenGate, &stop, 3);
-    assert_eq!(rt; end, ServeEnd::TurnsOver);
-    has_sent(&rt, &tape, 0, Message::Locked(ONE, FIRST));
-    let closed = node.close(&rt, passes).is_ok();
-    assert!(rt; closed);
-    Ok(())
+    match ScriptLink::pair(alloc, script, Script::default(), 8) {
+        Ok(ends) => ends,
+        Err(_) => panic!(rt; "no link"),
+    }
 }
 
 #[test]
-fn a_node_whose_keeper_refuses_keeps_what_was_stored(rt: HostRuntime) -> Result<(), Fail> {
+fn a_loop_goes_on_after_a_fault_with_another_link(rt: HostRuntime) {
     let alloc = rt.alloc();
+    let (mut link, mut other) = faulty(&rt, alloc);
+    for message in EARLY.iter() {
+        sends(&rt, &mut other, Party::Handler(ONE), message);
+    }
+    let (node, passes) = opened(&rt, alloc, MemoryKeeper::new(alloc), 2);
+    // a fault of a link doesn't ask the stop
+    let stop = Stop::new();
+    let passes = hears_three(
+        &rt,
+        alloc,
+        &node,
+        &mut link,
+        passes,
+        &stop,
+        ServeEnd::LinkFault,
+    );
+    let passes = knows_lock(&rt, alloc, &node, passes, &stop);
+    let _keeper = closes(&rt, node, passes);
+}
+
+// What is stored by a node whose keeper refuses the third put.
+fn stored<R>(rt: &R, alloc: Global) -> MemoryKeeper
+where
+    R: Threads + Wait + Clock + Abort + Sync,
+{
+    let mut link = tape(rt, alloc, &EARLY);
     // Two states are loaded, and two put.
     let keeper = FailingKeeper::new(MemoryKeeper::new(alloc), 4);
-    let (first, passes) = node(&rt, alloc, alloc, keeper, 2);
-    let mut link = TapeLink::new(alloc, 8)?;
-    feed(&rt, &mut link, &LOCK);
-    feed(&rt, &mut link, &HELLO);
-    feed(&rt, &mut link, &LOCK);
-    assert!(rt; passes.len() == 2);
-    let stop = Stop::new();
-    let (end, passes) = serve(&rt, alloc, &first, &mut link, passes, &OpenGate, &stop, 10);
-    assert_eq!(rt; end, ServeEnd::NodeFailed);
+    let (node, passes) = opened(rt, alloc, keeper, 2);
+    let passes = turns(
+        rt,
+        alloc,
+        &node,
+        &mut link,
+        passes,
+        &OpenGate,
+        &Stop::new(),
+        10,
+        ServeEnd::NodeFailed,
+    );
+    let keeper = closes(rt, node, passes).into_inner();
     assert!(rt; link.sent(1).is_none());
-    let Ok(closed) = first.close(&rt, passes) else {
-        return Err("not closed".into());
-    };
-    let (second, passes) = node(&rt, alloc, alloc, closed.keeper.into_inner(), 2);
-    let mut link = TapeLink::new(alloc, 8)?;
-    feed(&rt, &mut link, &LOCK);
-    assert!(rt; passes.len() == 2);
-    let again = Stop::new();
-    let (end, _passes) = serve(&rt, alloc, &second, &mut link, passes, &OpenGate, &again, 3);
-    assert_eq!(rt; end, ServeEnd::TurnsOver);
-    has_sent(&rt, &link, 0, Message::Locked(ONE, FIRST));
-    Ok(())
+    keeper
+}
+
+#[test]
+fn a_node_whose_keeper_refuses_keeps_what_was_stored(rt: HostRuntime) {
+    let alloc = rt.alloc();
+    let keeper = stored(&rt, alloc);
+    let (node, passes) = opened(&rt, alloc, keeper, 2);
+    let _passes = knows_lock(&rt, alloc, &node, passes, &Stop::new());
 }

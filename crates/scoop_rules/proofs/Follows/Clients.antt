@@ -72,7 +72,8 @@ pub notice_same :
     → configuration_of w ≡ configuration_of (with_party w (heard_party p (heard p.client m)))
 notice_same w o i m p was at =
     let kept =
-    keeps_row w p.client (all_found (PartyFits w) (is_party (client_of m)) w.parties p o.parties at).reservation m (heard p.client m).0 (heard p.client m).1 (heard_row p.client m) (sent_tells w i m was o.messages) in
+    keeps_row w p.client (all_found (PartyFits w) (is_party (client_of m)) w.parties p o.parties at).reservation m (heard p.client m).0 (heard p.client m).1
+    (heard_row p.client m) (sent_tells w i m was o.messages) in
     party_same w (client_of m) p (heard_party p (heard p.client m)) at kept.id kept.inc
 
 pub restart_follows :

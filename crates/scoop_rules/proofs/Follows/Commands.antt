@@ -14,7 +14,7 @@ use Rattle.scoop_message.specs.Message.{same_block, same_handler}
 use Rattle.scoop_message.proofs.Same.{handler_decides}
 use Rattle.scoop_reserve.specs.Handlers.{has}
 use Rattle.scoop_reserve.specs.State.{ReservationState}
-use Rattle.scoop_client.specs.Line.{LineState, line_of}
+use Rattle.scoop_client.specs.Window.{WindowState, window_of}
 use Rattle.scoop_client.specs.State.{ClientState}
 use Rattle.scoop_client.specs.Commands as client
 use Rattle.scoop_client.specs.Rows.{LogRow, is_logged, EndRow, ends_block}
@@ -31,7 +31,7 @@ use Rattle.scoop_model.proofs.Order.Commands.{goes_on}
 use Rattle.scoop_model.proofs.Order.Lists.{same_block_is, same_block_itself}
 use Rattle.scoop_model.proofs.Logging.Facts.{PartyLogs}
 use Rattle.scoop_model.proofs.Logging.Logs.{HasLine, IsAdded, added, log_in, log_after, log_here, log_other, named_lines}
-use Rattle.scoop_model.proofs.Logging.Lines.{handlers_at}
+use Rattle.scoop_model.proofs.Logging.Windows.{handlers_at}
 use Rattle.scoop_model.proofs.Logging.Commands.{IsRunning, running_is, commands_logging}
 use Rattle.scoop_rules.proofs.Lists.{same_configuration, queues_same, logged_over, logged_other, own_queue_at}
 use Rattle.scoop_rules.proofs.Seen.{SlotOf, slot_seen, slot_at, none_before, no_end_left}
@@ -49,14 +49,15 @@ line_there :
     (h : HandlerId) (ls : List HandlerLog) → has (map (λ (y : HandlerLog). y.handler) ls) h ≡ true → (m : HandlerLog) × (find (is_line_of h) ls ≡ Some m)
 line_there h [] e = absurd (true≢false (sym e))
 line_there h (l ∷ ls) e =
-    by_test (λ t. (t || has (map (λ (y : HandlerLog). y.handler) ls) h) ≡ true → (m : HandlerLog) × ((if t then Some l else find (is_line_of h) ls) ≡ Some m)) (is_line_of h l)
+    by_test (λ t. (t || has (map (λ (y : HandlerLog). y.handler) ls) h) ≡ true → (m : HandlerLog) × ((if t then Some l else find (is_line_of h) ls) ≡ Some m))
+    (is_line_of h l)
     (λ here f. (l, refl))
     (λ there f. line_there h ls f) e
 
-handler_there : (h : HandlerId) (ls : List LineState) (l : LineState) → line_of h ls ≡ Some l → has (handlers_at ls) h ≡ true
+handler_there : (h : HandlerId) (ls : List WindowState) (l : WindowState) → window_of h ls ≡ Some l → has (handlers_at ls) h ≡ true
 handler_there h [] l e = absurd (cc)
 handler_there h (m ∷ ms) l e =
-    by_test (λ t. (if t then Some m else line_of h ms) ≡ Some l → (t || has (handlers_at ms) h) ≡ true) (same_handler m.handler h)
+    by_test (λ t. (if t then Some m else window_of h ms) ≡ Some l → (t || has (handlers_at ms) h) ≡ true) (same_handler m.handler h)
     (λ here f. refl)
     (λ there f. handler_there h ms l f) e
 
@@ -64,7 +65,8 @@ handler_there h (m ∷ ms) l e =
 
 module _
     (w : World) (f : Following w) (c : ClientId) (p : Party) (at : party_of c w ≡ Some p) (x : Command) (d : ClientState)
-    (is : client.command p.client (core_command x) ≡ Ok d) (run : IsRunning p.client) (free : p.client.waits ≡ None) (same : newest_block d ≡ newest_block p.client)
+    (is : client.command p.client (core_command x) ≡ Ok d) (run : IsRunning p.client) (free : p.client.waits ≡ None)
+    (same : newest_block d ≡ newest_block p.client)
   where
     abbrev b : Block
     b = newest_block p.client
@@ -217,7 +219,8 @@ module _
     all_logged hs e there off =
         same_configuration (logged_at_all b e hs (configuration_of w)) (configuration_of after)
         (λ h.
-        by_test (λ t. has hs h ≡ t → (if t then map (logged_to b e) (flat_map (queue_at w h) w.joint) else flat_map (queue_at w h) w.joint) ≡ flat_map (queue_at after h) w.joint) (has hs h)
+        by_test (λ t. has hs h ≡ t → (if t then map (logged_to b e) (flat_map (queue_at w h) w.joint) else flat_map (queue_at w h) w.joint)
+        ≡ flat_map (queue_at after h) w.joint) (has hs h)
         (λ _ m. queues_logged h (there h m).0 e (there h m).1)
         (λ _ m. queues_stay h (off h m)) refl)
         (λ h. refl) refl
@@ -271,16 +274,17 @@ module _ (w : World) (f : Following w) (c : ClientId) (p : Party) (at : party_of
       (x : Command) (k : HandlerId) (e : Entry) (o : client.Outcome) → ((h : HandlerId) → added x h ≡ (if same_handler h k then e ∷ [] else []))
       → client.command p.client (core_command x) ≡ Ok d → LogRow p.client k e o → o ≡ Ok d
       → MovesLead (objects_of w) (configuration_of w) (LogOne (newest_block p.client) k e ∷ []) (configuration_of (commanded_world w p x d))
-  log_row x k e o adds is (is_logged l running free line room more) done =
+  log_row x k e o adds is (is_logged l running free window room more) done =
       let run = running_is p.client running in
       let same : newest_block d ≡ newest_block p.client = sym (ap newest_block (ok_is _ d done)) in
       let own = (all_found (PartyLogs w) (is_party c) w.parties p f.logging.parties at).block run.reservation run.held in
-      let member : has run.reservation.handlers k ≡ true = subst (λ hs. has hs k ≡ true) own.handlers (handler_there k p.client.lines l line) in
+      let member : has run.reservation.handlers k ≡ true = subst (λ hs. has hs k ≡ true) own.handlers (handler_there k p.client.windows l window) in
       one_leads w f c p at x d is run free same k e (subst (λ hs. has hs k ≡ true) (sym (set_is w f c p at x d is run free same)) member) adds
   log_row x k e o adds is r done = absurd (cc)
 
   end_row : (o : client.Outcome) → client.command p.client (core_command End) ≡ Ok d → EndRow p.client o → o ≡ Ok d
-      → MovesLead (objects_of w) (configuration_of w) (map (λ h. LogOne (newest_block p.client) h EndEntry) (set_of (newest_block p.client) w)) (configuration_of (commanded_world w p End d))
+      → MovesLead (objects_of w) (configuration_of w) (map (λ h. LogOne (newest_block p.client) h EndEntry) (set_of (newest_block p.client) w))
+      (configuration_of (commanded_world w p End d))
   end_row o is (ends_block running free room) done =
       end_leads w f c p at End d is (running_is p.client running) free (sym (ap newest_block (ok_is _ d done))) (λ h. refl)
   end_row o is r done = absurd (cc)

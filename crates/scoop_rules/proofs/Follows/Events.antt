@@ -40,7 +40,8 @@ module _ (w : World) (f : Following w) where
       → FollowsTo w (Do c x) (commanded w p x o)
   commanded_follows c p x (Err e) at is = tt
   commanded_follows c p x (Ok d) at is =
-      subst (λ q. MovesLead (objects_of w) (configuration_of w) (client_moves w x q) (configuration_of (commanded_world w p x d))) (sym at) (command_follows w f c p at d x is)
+      subst (λ q. MovesLead (objects_of w) (configuration_of w) (client_moves w x q) (configuration_of (commanded_world w p x d))) (sym at)
+      (command_follows w f c p at d x is)
 
   do_follows : (c : ClientId) (x : Command) (o : Option Party) → party_of c w ≡ o → FollowsTo w (Do c x) (do_at w x o)
   do_follows c x None at = tt
@@ -61,12 +62,14 @@ module _ (w : World) (f : Following w) where
   notice_follows i m None was at = tt
   notice_follows i m (Some p) was at =
       let after : World = with_party w (heard_party p (heard p.client m)) in
-      subst (λ q. MovesLead (objects_of w) (configuration_of w) (message_moves w after q (note.Client (heard p.client m).1)) (configuration_of after)) (sym was) (notice_same w f.ordered i m p was at)
+      subst (λ q. MovesLead (objects_of w) (configuration_of w) (message_moves w after q (note.Client (heard p.client m).1)) (configuration_of after)) (sym was)
+      (notice_same w f.ordered i m p was at)
 
   take_follows : (i : ℕ) (o : Option Message) → sent_at i w ≡ o → FollowsTo w (Take i) (taken w o)
   take_follows i None was = tt
   take_follows i (Some m) was =
-      by_test (λ t. FollowsTo w (Take i) (if t then taken_by_handler w m (site_of (handler_of m) w) else taken_by_client w m (party_of (client_of m) w))) (is_for_handler m)
+      by_test (λ t. FollowsTo w (Take i) (if t then taken_by_handler w m (site_of (handler_of m) w) else taken_by_client w m (party_of (client_of m) w)))
+      (is_for_handler m)
       (λ goes. hear_follows i m (site_of (handler_of m) w) was refl)
       (λ comes. notice_follows i m (party_of (client_of m) w) was refl)
 
@@ -89,7 +92,8 @@ module _ (w : World) (f : Following w) where
   client_restarts : (c : ClientId) (o : Option Party) → party_of c w ≡ o → FollowsTo w (ClientRestart c) (restart_client w o)
   client_restarts c None at = tt
   client_restarts c (Some p) at =
-      by_test (λ t. FollowsTo w (ClientRestart c) (if t then Err IncarnationsSpent else Ok (with_party w (restarted_party p), note.Restarted (p.stored + 1)))) (p.stored == 2 ^ 32 - 1)
+      by_test (λ t. FollowsTo w (ClientRestart c) (if t then Err IncarnationsSpent else Ok (with_party w (restarted_party p), note.Restarted (p.stored + 1))))
+      (p.stored == 2 ^ 32 - 1)
       (λ spent. tt)
       (λ room. restart_follows w f.ordered (objects_of w) c p at)
 

@@ -51,7 +51,8 @@ waits_logged b e no_query (q ∷ qs) = λ i. one i || waits_logged b e no_query 
 
     one : (is_of b (logged_to b e q) && list_any is_query (logged_to b e q).entries) ≡ (is_of b q && list_any is_query q.entries)
     one =
-        by_test (λ t. (is_of b (if t then with_one_more e q else q) && list_any is_query (if t then with_one_more e q else q).entries) ≡ (is_of b q && list_any is_query q.entries)) (is_of b q)
+        by_test (λ t. (is_of b (if t then with_one_more e q else q) && list_any is_query (if t then with_one_more e q else q).entries)
+        ≡ (is_of b q && list_any is_query q.entries)) (is_of b q)
         (λ own. ap (λ t. is_of b q && t) more)
         (λ other. refl)
 
@@ -80,7 +81,8 @@ module _ (o : Objects) (b : Block) (e : Entry) (no_query : is_query e ≡ false)
       at_each x =
           by_test
           (λ t. same_handler x h ≡ t
-          → (if has hs x then map (logged_to b e) (if t then map (logged_to b e) (g.queues h) else g.queues x) else (if t then map (logged_to b e) (g.queues h) else g.queues x))
+          → (if has hs x then map (logged_to b e) (if t then map (logged_to b e) (g.queues h) else g.queues x)
+          else (if t then map (logged_to b e) (g.queues h) else g.queues x))
           ≡ (if t || has hs x then map (logged_to b e) (g.queues x) else g.queues x))
           (same_handler x h)
           (λ _ is.
@@ -98,7 +100,8 @@ pub one_at_all : (b : Block) (e : Entry) (h : HandlerId) (g : Configuration) →
 one_at_all b e h g =
     same_configuration (log_one b h e g) (logged_at_all b e (h ∷ []) g)
     (λ x.
-    by_test (λ t. same_handler x h ≡ t → (if t then map (logged_to b e) (g.queues h) else g.queues x) ≡ (if t || false then map (logged_to b e) (g.queues x) else g.queues x)) (same_handler x h)
+    by_test (λ t. same_handler x h ≡ t → (if t then map (logged_to b e) (g.queues h) else g.queues x)
+    ≡ (if t || false then map (logged_to b e) (g.queues x) else g.queues x)) (same_handler x h)
     (λ _ is. ap (λ y. map (logged_to b e) (g.queues y)) (sym ((handler_decides x h).0 is)))
     (λ _ is. refl) refl
     ∙ ap (λ t. if t || false then map (logged_to b e) (g.queues x) else g.queues x) (sym (same_turned h x)))
@@ -150,4 +153,5 @@ logged_queue b s e is =
     (λ i. queue_of b (record { logged = s.logged ++ e ∷ []; count = s.count; over = is.over i; newer = is.newer i; received = s.received }))
     ∙ (λ i. record { block = b; entries = drop_pushed s.count s.logged e is.within i; state = if end_pushed s.logged e is.no_end i then Ended else Open } ∷ [])
     ∙ sym (ap (map (logged_to b e)) (open_queue b s is)
-    ∙ ap (λ t. (if t then record { block = b; entries = drop s.count s.logged ++ e ∷ []; state = if is_end e then Ended else Open } else record { block = b; entries = drop s.count s.logged; state = Open }) ∷ []) (same_block_itself b))
+    ∙ ap (λ t. (if t then record { block = b; entries = drop s.count s.logged ++ e ∷ []; state = if is_end e then Ended else Open }
+    else record { block = b; entries = drop s.count s.logged; state = Open }) ∷ []) (same_block_itself b))

@@ -49,7 +49,8 @@ site_objects :
     (w : World) (s old : Site) → site_of (number_of s) w ≡ Some old → s.core.class ≡ old.core.class → s.placed ≡ old.placed
     → objects_of (record w { sites = set_site s w.sites }) ≡ objects_of w
 site_objects w s old here class placed =
-    same_objects (record w { sites = set_site s w.sites }) w (set_same (λ (x : Site). x.core.class) no_class w s old here class) (set_same (λ (x : Site). x.placed) [] w s old here placed)
+    same_objects (record w { sites = set_site s w.sites }) w (set_same (λ (x : Site). x.core.class) no_class w s old here class)
+    (set_same (λ (x : Site). x.placed) [] w s old here placed)
 
 class_kept : (n : ℕ) (s : Site) → (reopened n s).core.class ≡ s.core.class
 class_kept n s =
@@ -89,7 +90,8 @@ module _ (o : Objects) where
       (n : ℕ) (w : World) (e : Event) (es : List Event) → HasObjects o w
       → ((v : World) → Kept v → HasObjects o v → MovesLead o (configuration_of v) (moves_in v es) (configuration_of (run_after (n + 1) v es).0))
       → (s : Stepped) → FollowsTo w e s → events.Kept Kept s → events.Kept (HasObjects o) s
-      → MovesLead o (configuration_of w) (elim s [ Ok r ↦ moves_of w r.0 e r.1 ++ moves_in r.0 es | Err x ↦ [] ]) (configuration_of (next n w (λ v. run_after (n + 1) v es) s).0)
+      → MovesLead o (configuration_of w) (elim s [ Ok r ↦ moves_of w r.0 e r.1 ++ moves_in r.0 es | Err x ↦ [] ])
+      (configuration_of (next n w (λ v. run_after (n + 1) v es) s).0)
   after_one n w e es same later (Ok r) follows kept objects =
       leads_both o (configuration_of w) (configuration_of r.0) (configuration_of (run_after (n + 1) r.0 es).0) (moves_of w r.0 e r.1) (moves_in r.0 es)
       (subst (λ k. MovesLead k (configuration_of w) (moves_of w r.0 e r.1) (configuration_of r.0)) same follows)
@@ -108,7 +110,8 @@ module _ (o : Objects) where
 -- so it goes on from a reached world, where events lead to another
 pub reached_runs : (v w : World) (es : List Event) → IsReached v → reach.Leads v es w → LeadsByRules v es w
 reached_runs v w es r leads =
-    subst (λ x. MovesLead (objects_of v) (configuration_of v) (moves_in v es) (configuration_of x)) (ap (λ (x : Run). x.0) leads) (events_lead (objects_of v) 0 v es (reached_kept v r) refl)
+    subst (λ x. MovesLead (objects_of v) (configuration_of v) (moves_in v es) (configuration_of x)) (ap (λ (x : Run). x.0) leads)
+    (events_lead (objects_of v) 0 v es (reached_kept v r) refl)
 
 -- ---- from an opening world
 
@@ -127,10 +130,13 @@ opens_empty ps ns =
 pub runs_by_rules : (ps : List Placement) (ns : List Newcomer) (es : List Event) → MayOpen ps ns → RunsByRules (opening ps ns) es (steps (opening ps ns) es)
 runs_by_rules ps ns es may =
     let v : World = opening ps ns in
-    subst (λ g. MovesLead (objects_of v) g (moves_in v es) (configuration_of (steps v es))) (opens_empty ps ns) (events_lead (objects_of v) 0 v es (opens_kept ps ns may) refl)
+    subst (λ g. MovesLead (objects_of v) g (moves_in v es) (configuration_of (steps v es))) (opens_empty ps ns)
+    (events_lead (objects_of v) 0 v es (opens_kept ps ns may) refl)
 
 -- the moves of the events, played one after another, make what the world stands for
 pub replays : (ps : List Placement) (ns : List Newcomer) (es : List Event) → MayOpen ps ns
-    → replayed (objects_of (opening ps ns)) (moves_in (opening ps ns) es) (empty_configuration (inc_of (opening ps ns))) ≡ configuration_of (steps (opening ps ns) es)
+    → replayed (objects_of (opening ps ns)) (moves_in (opening ps ns) es) (empty_configuration (inc_of (opening ps ns)))
+    ≡ configuration_of (steps (opening ps ns) es)
 replays ps ns es may =
-    leads_replayed (objects_of (opening ps ns)) (empty_configuration (inc_of (opening ps ns))) (configuration_of (steps (opening ps ns) es)) (moves_in (opening ps ns) es) (runs_by_rules ps ns es may)
+    leads_replayed (objects_of (opening ps ns)) (empty_configuration (inc_of (opening ps ns))) (configuration_of (steps (opening ps ns) es))
+    (moves_in (opening ps ns) es) (runs_by_rules ps ns es may)

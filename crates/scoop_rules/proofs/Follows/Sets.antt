@@ -38,7 +38,8 @@ module _ (before : List HandlerId) (h : HandlerId) where
   in_before x m = list_any-append (λ y. same_handler y x) before (h ∷ []) ∙ ap (λ t. t || has (h ∷ []) x) m
 
   in_end : has (before ++ h ∷ []) h ≡ true
-  in_end = list_any-append (λ y. same_handler y h) before (h ∷ []) ∙ ap (λ t. has before h || (t || false)) ((handler_decides h h).1 refl) ∙ or_true (has before h)
+  in_end = list_any-append (λ y. same_handler y h) before (h ∷ []) ∙ ap (λ t. has before h || (t || false)) ((handler_decides h h).1 refl)
+      ∙ or_true (has before h)
     where
       or_true : (t : Bool) → (t || true) ≡ true
       or_true true = refl
@@ -47,7 +48,8 @@ module _ (before : List HandlerId) (h : HandlerId) where
 none_repeated : (before hs : List HandlerId) → first_repeated_after before hs ≡ None → AreDistinct hs × AreNew before hs
 none_repeated before [] e = (tt, λ x m. refl)
 none_repeated before (h ∷ hs) e =
-    by_test (λ t. has before h ≡ t → (if t then Some h else first_repeated_after (before ++ h ∷ []) hs) ≡ None → AreDistinct (h ∷ hs) × AreNew before (h ∷ hs)) (has before h)
+    by_test (λ t. has before h ≡ t → (if t then Some h else first_repeated_after (before ++ h ∷ []) hs) ≡ None → AreDistinct (h ∷ hs) × AreNew before (h ∷ hs))
+    (has before h)
     (λ _ is f. absurd (cc))
     (λ _ is f.
     let later = none_repeated (before ++ h ∷ []) hs f in
@@ -68,10 +70,12 @@ distinct_unless b hs known s (Some h) is e = absurd (cc)
 -- a reservation starts with handlers of which none is repeated
 started_distinct : (b : Block) (hs known : List HandlerId) (s : ReservationState) → started b hs known ≡ Ok s → AreDistinct hs
 started_distinct b hs known s e =
-    by_test (λ t. (if t then Err refusal.Empty else if nat_lt MAX_BLOCK_HANDLERS (length hs) then Err refusal.TooMany else unless_repeated (fresh b hs) (first_repeated hs) (first_unknown known hs)) ≡ Ok s → AreDistinct hs) (length hs == 0)
+    by_test (λ t. (if t then Err refusal.Empty else if nat_lt MAX_BLOCK_HANDLERS (length hs) then Err refusal.TooMany
+    else unless_repeated (fresh b hs) (first_repeated hs) (first_unknown known hs)) ≡ Ok s → AreDistinct hs) (length hs == 0)
     (λ none f. absurd (cc))
     (λ some f.
-    by_test (λ t. (if t then Err refusal.TooMany else unless_repeated (fresh b hs) (first_repeated hs) (first_unknown known hs)) ≡ Ok s → AreDistinct hs) (nat_lt MAX_BLOCK_HANDLERS (length hs))
+    by_test (λ t. (if t then Err refusal.TooMany else unless_repeated (fresh b hs) (first_repeated hs) (first_unknown known hs)) ≡ Ok s → AreDistinct hs)
+    (nat_lt MAX_BLOCK_HANDLERS (length hs))
     (λ many g. absurd (cc))
     (λ few g. distinct_unless b hs known s (first_repeated hs) refl g) f) e
 

@@ -24,7 +24,13 @@ ran_same w sites same =
     queues_same (queue_at w h) (queue_at (record w { sites = sites }) h) w.joint
     (λ b m i. (
     if has (set_of b w) h
-    then queue_of b (record { logged = log_of b h w; count = count_of b (sym (same h) i); over = has_ended b (sym (same h) i); newer = is_succeeded b h w; received = received b h w }) else [])))
+    then queue_of b (record {
+      logged = log_of b h w;
+      count = count_of b (sym (same h) i);
+      over = has_ended b (sym (same h) i);
+      newer = is_succeeded b h w;
+      received = received b h w;
+    }) else [])))
     (λ h. sym (same h)) refl (λ c. refl)
 
 pub begin_same : (w : World) (h : HandlerId) (s : Site) → site_of h w ≡ Some s → configuration_of w ≡ configuration_of (with_site w (begun_site s))

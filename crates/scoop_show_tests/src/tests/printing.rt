@@ -2,10 +2,10 @@
 
 use scoop_book::CloseRefusal;
 use scoop_client::ClientError;
+use scoop_keeper::KeeperError;
 use scoop_message::{Answer, HandlerId};
 use scoop_netloop::{DriverError, ServeEnd};
-use scoop_record::KeeperError;
-use scoop_show::{Outcome, ShowError, Waited, print_outcome};
+use scoop_show::{Outcome, ShowError, Waited, Woven, print_outcome};
 use std::alloc::Global;
 use std::process::Abort;
 use std::test::Fail;
@@ -32,6 +32,7 @@ fn outcomes_are_lines(rt: HostRuntime) -> Result<(), Fail> {
         waited: None,
         first: Answer::Value(1),
         second: Answer::Value(2),
+        woven: None,
     };
     let text = b"cells different\nnode 1 closed\nnode 2 closed\n";
     prints(&rt, alloc, &outcome, text, 1)?;
@@ -44,6 +45,30 @@ fn outcomes_are_lines(rt: HostRuntime) -> Result<(), Fail> {
     outcome.second = Answer::Refused;
     let text = b"balance 0\ncells different\nnode 1 closed\nnode 2 closed\n";
     prints(&rt, alloc, &outcome, text, 1)
+}
+
+#[test]
+fn orders_are_lines(rt: HostRuntime) -> Result<(), Fail> {
+    let alloc = rt.alloc();
+    let mut outcome = Outcome {
+        waited: None,
+        first: Answer::Value(2),
+        second: Answer::Value(2),
+        woven: Some(Woven::Moves(812)),
+    };
+    let text = b"cells same\nnode 1 closed\nnode 2 closed\nwoven: 812 moves\n";
+    prints(&rt, alloc, &outcome, text, 0)?;
+    for (party, name) in ["node 1", "node 2", "client 7", "client 8", "client 9"]
+        .iter()
+        .enumerate()
+    {
+        outcome.woven = Some(Woven::Unsent(party, 12));
+        let lines = "cells same\nnode 1 closed\nnode 2 closed";
+        let line = "hears a message that nobody sent before";
+        let text = format!(in alloc; "{lines}\nnot woven: move 12 of {name} {line}\n")?;
+        prints(&rt, alloc, &outcome, text.as_bytes(), 1)?;
+    }
+    Ok(())
 }
 
 fn reads(rt: &impl Abort, alloc: Global, error: ShowError, text: &str) -> Result<(), Fail> {

@@ -2,18 +2,18 @@
 
 ghost use Rattle.std.specs.Prelude.{◌≡◌, ◌⊎◌, Some, map, IfErr, IfOk, OnOk};
 ghost use Rattle.std.specs.List.{All, AllByRecursion, Any};
-ghost use Rattle.scoop_record.specs.Keeper.{Sets, last_incarnation, next_of};
-ghost use Rattle.scoop_record.specs.Memory.{incarnation_at};
+ghost use Rattle.scoop_keeper.specs.Keeper.{Sets, last_incarnation, next_of};
+ghost use Rattle.scoop_keeper.specs.Memory.{incarnation_at};
 ghost use Rattle.scoop_world.specs.Kept.{HasIncarnation};
 ghost use Rattle.scoop_world.specs.Placing.{IsBatched, newcomer_of, newcomers_of};
 ghost use Rattle.scoop_model.specs.Opening.{IsJoining};
-ghost use Rattle.scoop_model.specs.Safe.{NoRepeats};
+ghost use Rattle.scoop_message.specs.Lists.{NoRepeats};
 ghost use Rattle.scoop_model.specs.Step.{new_party};
 
 use crate::error::WorldOpenError;
 use crate::party::Party;
+use scoop_keeper::{Keeper, KeeperError, MemoryKeeper};
 use scoop_message::{ClientId, HandlerId};
-use scoop_record::{Keeper, KeeperError, MemoryKeeper};
 use std::alloc::Allocator;
 
 // One client in its next incarnation, which is stored.

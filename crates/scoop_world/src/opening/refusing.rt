@@ -3,8 +3,8 @@
 ghost use Rattle.std.specs.Prelude.{◌≡◌, IfNone, IfSome};
 ghost use Rattle.std.specs.List.{AllByRecursion, list_any};
 ghost use Rattle.scoop_message.specs.Message.{same_handler, same_client};
-ghost use Rattle.scoop_model.specs.Safe.{NoRepeats};
-ghost use Rattle.scoop_record.specs.Keyed.{IsFirstRepeat};
+ghost use Rattle.scoop_message.specs.Lists.{NoRepeats};
+ghost use Rattle.scoop_keeper.specs.Keyed.{IsFirstRepeat};
 ghost use Rattle.scoop_world.specs.OpenRefusal.{IsFirstWrong, IsOfClass, IsOpenRefusal, MayPlace, clients_of, handlers_of};
 
 use crate::error::WorldOpenError;

@@ -4,7 +4,7 @@ ghost use Rattle.std.specs.Prelude.{◌≡◌, map, IfOk, OnOk};
 ghost use Rattle.std.specs.List.{AllByRecursion};
 ghost use Rattle.scoop_model.specs.World.{number_of};
 ghost use Rattle.scoop_model.specs.Step.{new_site};
-ghost use Rattle.scoop_model.specs.Safe.{NoRepeats};
+ghost use Rattle.scoop_message.specs.Lists.{NoRepeats};
 ghost use Rattle.scoop_world.specs.Kept.{HasState};
 ghost use Rattle.scoop_model.specs.Opening.{IsPlaced};
 ghost use Rattle.scoop_world.specs.Placing.{placement_of, placements_of};
@@ -12,9 +12,9 @@ ghost use Rattle.scoop_world.specs.Placing.{placement_of, placements_of};
 use crate::placing::Placement;
 use crate::site::Site;
 use scoop_handler::Handler;
+use scoop_keeper::MemoryKeeper;
 use scoop_message::{HandlerId, OutOfMemory};
 use scoop_object::Behaviour;
-use scoop_record::MemoryKeeper;
 use std::alloc::Allocator;
 
 // The numbers of the handlers, in their order.

@@ -5,10 +5,10 @@ ghost use Rattle.indexmap.specs.IndexMap.{spare};
 ghost use Rattle.scoop_model.specs.World.{id_of, party_of};
 ghost use Rattle.scoop_model.specs.Step.{do_at, fresh_log};
 ghost use Rattle.scoop_model.specs.Reach.{IsReached};
-ghost use Rattle.scoop_world.specs.Kept.{line_kept, logged_by, with_entry_for};
+ghost use Rattle.scoop_world.specs.Kept.{logged_kept, logged_by, with_entry_for};
 ghost use Rattle.scoop_world.specs.Answers.{Commands, Takes, outcome_of};
 
-use crate::logs::{Line, Logs, add, fresh_lines, log, make_room, place_of};
+use crate::logs::{LoggedAt, Logs, add, fresh_lines, log, make_room, place_of};
 use crate::parts::{Parts, party_at};
 use crate::party::Party;
 use scoop_message::{ClientId, Entry, HandlerId, OutOfMemory};
@@ -19,7 +19,7 @@ use std::alloc::Allocator;
 // The client takes a command by which an entry is logged, for one handler or for all.
 fn log_by<A: Allocator + Copy>(
     party: &mut Party<A>,
-    lines: &mut Vec<Line<A>, A>,
+    lines: &mut Vec<LoggedAt<A>, A>,
     command: &Command,
     only: Option<HandlerId>,
     entry: &Entry,
@@ -28,8 +28,8 @@ fn log_by<A: Allocator + Copy>(
     ensures taken { Commands (outcome_of party.old.client command.now) result party.old party.new }
     ensures id { id_of party.new ≡ id_of party.old }
     ensures stored { party.new.stored ≡ party.old.stored }
-    ensures logged { OnOk result (map line_kept lines.new.items ≡ map (with_entry_for only entry.now) (map line_kept lines.old.items)) }
-    ensures kept { OnErr result (map line_kept lines.new.items ≡ map line_kept lines.old.items) }
+    ensures logged { OnOk result (map logged_kept lines.new.items ≡ map (with_entry_for only entry.now) (map logged_kept lines.old.items)) }
+    ensures kept { OnErr result (map logged_kept lines.new.items ≡ map logged_kept lines.old.items) }
 {
     if make_room(lines).is_err() {
         return Err(party.no_room_to_log(only));
@@ -44,8 +44,8 @@ fn room_for<A: Allocator + Copy>(
     alloc: A,
     logs: &mut Logs<A>,
     handlers: &HandlerList,
-) -> Result<Vec<Line<A>, A>, OutOfMemory>
-    ensures lines { IfOk result (λ ls. map line_kept ls.items ≡ map fresh_log handlers.now) }
+) -> Result<Vec<LoggedAt<A>, A>, OutOfMemory>
+    ensures lines { IfOk result (λ ls. map logged_kept ls.items ≡ map fresh_log handlers.now) }
     ensures room { OnOk result (0 < spare logs.new) }
     ensures logs { logs.new.entries ≡ logs.old.entries }
 {

@@ -11,10 +11,10 @@ ghost use Rattle.scoop_world.specs.Answers.{Takes};
 use crate::parts::{Parts, party_at};
 use crate::site::Site;
 use scoop_handler::HandlerState;
+use scoop_keeper::{Keeper, MemoryKeeper};
 use scoop_message::{ClientId, OutOfMemory};
 use scoop_model::{WorldError, WorldNote};
 use scoop_object::Behaviour;
-use scoop_record::{Keeper, MemoryKeeper};
 use std::alloc::Allocator;
 
 // Whether a handler stands on the node.

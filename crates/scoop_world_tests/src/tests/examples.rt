@@ -1,10 +1,12 @@
 //! The examples that open the documents of the crates.
 
+use scoop_keeper::MemoryKeeper;
 use scoop_message::{ClientId, HandlerId, Message, Words};
 use scoop_model::{Command, Event, HandlerList, TooManyHandlers, same_event};
 use scoop_object::{Class, Table};
-use scoop_record::MemoryKeeper;
+use scoop_settle::{Next, next_of};
 use scoop_world::{Placement, World};
+use std::alloc::Global;
 use std::test::Fail;
 
 #[test]
@@ -30,9 +32,8 @@ fn theorems_are_called() {
     scoop_rules::examples::runs_what_came();
 }
 
-#[test]
-fn a_world_runs(rt: HostRuntime) -> Result<(), Fail> {
-    let alloc = rt.alloc();
+/// A world of one cell and one client.
+fn opened(alloc: Global) -> Result<World<Table>, Fail> {
     let class = Class::build(alloc, 1, &[])?;
     let object = Table::new(Class::build(alloc, 1, &[])?, Words::of(&[0])?)?;
     let mut placements = Vec::new(alloc);
@@ -43,14 +44,31 @@ fn a_world_runs(rt: HostRuntime) -> Result<(), Fail> {
         object,
     })?;
     let keeper = MemoryKeeper::new(alloc);
-    let mut world = World::open(alloc, placements, &[(ClientId(7), 1)], keeper)?;
-    let greeting = [
-        Event::Tick(ClientId(7), HandlerId(1)),
-        Event::Take(1),
-        Event::Take(2),
-    ];
-    assert_eq!(rt; world.run(&greeting), Ok(3));
+    Ok(World::open(alloc, placements, &[(ClientId(7), 1)], keeper)?)
+}
+
+/// The client greets the handler, and hears the reply.
+const GREETING: [Event; 3] = [
+    Event::Tick(ClientId(7), HandlerId(1)),
+    Event::Take(1),
+    Event::Take(2),
+];
+
+#[test]
+fn a_world_runs(rt: HostRuntime) -> Result<(), Fail> {
+    let mut world = opened(rt.alloc())?;
+    assert_eq!(rt; world.run(&GREETING), Ok(3));
     let welcome = Message::Welcome(HandlerId(1), ClientId(7), 1);
     assert_eq!(rt; world.sent(2).copied(), Some(welcome));
+    Ok(())
+}
+
+#[test]
+fn a_new_world_settles(rt: HostRuntime) -> Result<(), Fail> {
+    let mut world = opened(rt.alloc())?;
+    let greets = Next::Ask(ClientId(7), HandlerId(1));
+    assert_eq!(rt; next_of(&world)?, Some(greets));
+    assert_eq!(rt; world.run(&GREETING), Ok(3));
+    assert_eq!(rt; next_of(&world)?, None);
     Ok(())
 }

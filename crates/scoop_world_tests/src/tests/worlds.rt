@@ -11,14 +11,15 @@ mod refusing;
 mod restarting;
 mod rows;
 mod runs;
+mod settling;
 
 use scoop_client::ClientNote;
 use scoop_handler::{Note, Ran, Reason};
+use scoop_keeper::MemoryKeeper;
 use scoop_message::{
     Answer, Args, Block, ClientId, Entry, HandlerId, Message, OutOfMemory, Request, Words,
 };
 use scoop_object::{Class, OpRow, Table, Term, Write, Writes};
-use scoop_record::MemoryKeeper;
 use scoop_world::{
     Command, Event, HandlerList, Placement, World, WorldError, WorldNote, WorldOpenError,
 };

@@ -6,4 +6,5 @@ use Rattle.scoop_book.proofs.NodeLemmas.{if_entered}
 use Rattle.scoop_book.proofs.node.begin_in.Goals as goal
 
 pub returns-clause-entered : goal.returns-clause-entered
-returns-clause-entered g c = if_entered g.K.Keeper.handlers g.K.Keeper.is_honest c.args.pass (Begin c.args.handler) (λ job. Began (option_map leaves job)) c.args.book.now c.begin.new.self c.begin.result c.begin.ensures.gains c.begin.ensures.was c.begin.ensures.sound
+returns-clause-entered g c = if_entered g.K.Keeper.handlers g.K.Keeper.is_honest c.args.pass (Begin c.args.handler)
+    (λ job. Began (option_map leaves job)) c.args.book.now c.begin.new.self c.begin.result c.begin.ensures.gains c.begin.ensures.was c.begin.ensures.sound

@@ -1,6 +1,6 @@
 -- The handlers so far have opened.
 use Rattle.scoop_book.proofs.OpeningLemmas.{Opened}
-use Rattle.scoop_record.specs.Keeper.{IsSame}
+use Rattle.scoop_keeper.specs.Keeper.{IsSame}
 use Rattle.scoop_book.proofs.opening.open_all.Given as goal
 
 abbrev pub invariant-loop-handed : goal.invariant-loop-handed

@@ -1,6 +1,6 @@
 -- The handlers so far are apart.
 use Rattle.std.proofs.Common.{take}
-use Rattle.scoop_record.specs.Keyed.{NoRepeats}
+use Rattle.scoop_message.specs.Lists.{NoRepeats}
 use Rattle.scoop_book.specs.Opening.{numbers_of}
 use Rattle.scoop_book.proofs.opening.repeated_handler.Given as goal
 

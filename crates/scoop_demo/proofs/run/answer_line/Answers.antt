@@ -5,14 +5,17 @@ use Rattle.scoop_demo.proofs.RunLemmas.{digits_fault, hears_line, is_datagram, k
 use Rattle.scoop_demo.proofs.run.answer_line.Goals as goal
 
 pub returns-in-Err-clause-err : goal.returns-in-Err-clause-err
-returns-in-Err-clause-err g c = in_digits (digits_fault c.args.number c.args.line.now.items (Some c.in-Err.fault) c.requires c.in-Err.ensures.fault) refl (keeps_all _)
+returns-in-Err-clause-err g c = in_digits (digits_fault c.args.number c.args.line.now.items (Some c.in-Err.fault) c.requires c.in-Err.ensures.fault) refl
+    (keeps_all _)
 
 pub returns-in-Err-answer-clause-err : goal.returns-in-Err-answer-clause-err
 returns-in-Err-answer-clause-err g c =
-    in_book c.in-Ok.datagram.now (is_datagram c.args.number c.args.line.now.items c.in-Ok.datagram.now c.requires c.in-Ok.ensures.fault c.in-Ok.ensures.ok) c.in-Err-answer.ensures.err (keeps_all _)
+    in_book c.in-Ok.datagram.now (is_datagram c.args.number c.args.line.now.items c.in-Ok.datagram.now c.requires c.in-Ok.ensures.fault c.in-Ok.ensures.ok)
+    c.in-Err-answer.ensures.err (keeps_all _)
 
 pub returns-in-Err-print_answer-clause-err : goal.returns-in-Err-print_answer-clause-err
-returns-in-Err-print_answer-clause-err g c = in_output _ _ (hears_line _ _ _ _ _ _ _ c.requires c.in-Ok.ensures.fault c.in-Ok.ensures.ok c.in-Ok-answer.ensures.ok)
+returns-in-Err-print_answer-clause-err g c = in_output _ _ (hears_line _ _ _ _ _ _ _ c.requires c.in-Ok.ensures.fault c.in-Ok.ensures.ok
+    c.in-Ok-answer.ensures.ok)
 
 pub run_dry-requires : goal.run_dry-requires
 run_dry-requires g c = here_printed _ _ _ _ _ _ c.in-Ok-answer.ensures.ok c.in-Some.is

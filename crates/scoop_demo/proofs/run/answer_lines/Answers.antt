@@ -12,7 +12,8 @@ loop-lines-init g c = record {
 }
 
 pub returns-in-Ok-false-clause-ok : goal.returns-in-Ok-false-clause-ok
-returns-in-Ok-false-clause-ok g c = progress_all c.loop-lines.invariant.progress (c.in-Ok-false.ensures.end (ap Ok c.in-Ok-false.field-0-test)) c.next_line.ensures.output
+returns-in-Ok-false-clause-ok g c = progress_all c.loop-lines.invariant.progress
+    (c.in-Ok-false.ensures.end (ap Ok c.in-Ok-false.field-0-test)) c.next_line.ensures.output
 
 pub returns-in-Err-clause-err : goal.returns-in-Err-clause-err
 returns-in-Err-clause-err g c = progress_stops c.loop-lines.invariant.progress _ c.in-Err.ensures.err c.next_line.ensures.output
@@ -21,7 +22,8 @@ pub loop-lines-preserved : goal.loop-lines-preserved
 loop-lines-preserved g c =
     let answered = rw c.number.ensures at c.in-Ok.ensures.ok in
     record {
-      progress = progress_more c.loop-lines.invariant.progress _ (rw c.in-Ok-true.field-0-test at c.in-Ok-true.ensures.line) c.next_line.ensures.output answered;
+      progress = progress_more c.loop-lines.invariant.progress _
+          (rw c.in-Ok-true.field-0-test at c.in-Ok-true.ensures.line) c.next_line.ensures.output answered;
       others = elsewhere_more _ _ _ _ _ _ _ _ c.loop-lines.invariant.absent c.loop-lines.invariant.others c.answer_line.ensures.others;
       absent = λ h none. absent_line _ _ _ _ _ h answered.answers (c.loop-lines.invariant.absent h none);
       sound = λ is. c.answer_line.ensures.sound (c.loop-lines.invariant.sound is);
@@ -33,4 +35,5 @@ returns-in-Err-answer_line-clause-err g c =
     progress_stops_in c.loop-lines.invariant.progress _ (rw c.in-Ok-true.field-0-test at c.in-Ok-true.ensures.line) _ c.next_line.ensures.output stops
 
 pub returns-in-Err-answer_line-clause-others : goal.returns-in-Err-answer_line-clause-others
-returns-in-Err-answer_line-clause-others g c = elsewhere_more _ _ _ _ _ _ _ _ c.loop-lines.invariant.absent c.loop-lines.invariant.others c.answer_line.ensures.others
+returns-in-Err-answer_line-clause-others g c = elsewhere_more _ _ _ _ _ _ _ _ c.loop-lines.invariant.absent c.loop-lines.invariant.others
+    c.answer_line.ensures.others

@@ -3,7 +3,7 @@
 use super::played;
 use crate::tests::{Newlines, Screen, User};
 use scoop_demo::*;
-use scoop_record::MemoryKeeper;
+use scoop_keeper::MemoryKeeper;
 use std::alloc::Global;
 use std::cell::Cell;
 use std::io;

@@ -2,7 +2,7 @@
 
 use super::{played, plays};
 use scoop_demo::*;
-use scoop_record::MemoryKeeper;
+use scoop_keeper::MemoryKeeper;
 use std::alloc::Global;
 use std::process::Abort;
 

@@ -12,4 +12,12 @@ returns-else-len-bytes c = λ a fits e.
     let b = c.args.bytes.now in
     let read = c.in-Some.ensures in
     let same = answer_first c.in-Some.answer a (drop c.in-Some.len b) [] read.0 fits (sym read.2 ∙ e ∙ sym (append-nil (answer_bytes a))) in
-    absurd (omega (arith, ap length read.2, ap length same.1, length-append (answer_bytes c.in-Some.answer) (drop c.in-Some.len b), read.1, c.if-len-bytes.false))
+    absurd (omega (
+      arith,
+      ap length read.2,
+      ap length same.1,
+      length-append (answer_bytes c.in-Some.answer)
+          (drop c.in-Some.len b),
+      read.1,
+      c.if-len-bytes.false,
+    ))

@@ -8,7 +8,8 @@ pub returns-then-has_unused : goal.returns-then-has_unused
 returns-then-has_unused c = is_not_zero c.args.bytes.now c.in_ok-header.header c.in_ok-header.ensures.ok (c.if-has_unused.ensures.0 refl)
 
 pub returns-then-lacks_number : goal.returns-then-lacks_number
-returns-then-lacks_number c = is_zero c.args.bytes.now c.in_ok-header.header c.in_ok-header.ensures.ok (λ u. let f = c.if-has_unused.ensures.1 u in cc) (c.if-lacks_number.ensures.0 refl)
+returns-then-lacks_number c = is_zero c.args.bytes.now c.in_ok-header.header c.in_ok-header.ensures.ok (λ u. let f = c.if-has_unused.ensures.1 u in cc)
+    (c.if-lacks_number.ensures.0 refl)
 
 pub returns-in-None : goal.returns-in-None
 returns-in-None c =

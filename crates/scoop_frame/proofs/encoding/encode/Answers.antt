@@ -14,8 +14,10 @@ returns-clause-bytes c =
     let body = body_of c.args.version c.args.message.now in
     let head = λ (n : ℕ). header h.version (code h.kind) h.handler h.block h.number n in
     let len : c.put_body-end.result - 26 ≡ length body = omega (arith, c.put_body-end.ensures.end) in
-    let put : c.put_header.new.out ≡ overwritten 0 (head (length body)) c.put_body-end.new.out = c.put_header.ensures ∙ ap (λ (n : ℕ). overwritten 0 (head n) c.put_body-end.new.out) len in
-    body_behind (head (length body)) body old c.put_body-end.new.out c.put_header.new.out (length-header h.version (code h.kind) h.handler h.block h.number (length body)) (omega arith) c.put_body-end.ensures.bytes put
+    let put : c.put_header.new.out ≡ overwritten 0 (head (length body)) c.put_body-end.new.out = c.put_header.ensures
+    ∙ ap (λ (n : ℕ). overwritten 0 (head n) c.put_body-end.new.out) len in
+    body_behind (head (length body)) body old c.put_body-end.new.out c.put_header.new.out
+    (length-header h.version (code h.kind) h.handler h.block h.number (length body)) (omega arith) c.put_body-end.ensures.bytes put
     ∙ ap (λ (xs : List ℕ). written xs old) (sym c.header_of.ensures.bytes)
 
 pub returns-clause-len : goal.returns-clause-len
@@ -23,7 +25,14 @@ returns-clause-len c =
     let h = c.header_of.result in
     let body = body_of c.args.version c.args.message.now in
     let head = header h.version (code h.kind) h.handler h.block h.number (length body) in
-    omega (arith, c.put_body-end.ensures.end, ap length c.header_of.ensures.bytes, length-append head body, length-header h.version (code h.kind) h.handler h.block h.number (length body))
+    omega (
+      arith,
+      c.put_body-end.ensures.end,
+      ap length c.header_of.ensures.bytes,
+      length-append head body,
+      length-header h.version
+          (code h.kind) h.handler h.block h.number (length body),
+    )
 
 pub returns-clause-exact : goal.returns-clause-exact
 returns-clause-exact c = record {

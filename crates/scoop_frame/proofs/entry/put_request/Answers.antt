@@ -32,13 +32,15 @@ loop-i-preserved c =
     let word = get_or args i 0 in
     let items-are = c.as_slice-arg-items.ensures in
     let lt : i < length args = omega (arith, ap length items-are) in
-    let put : c.put_u64.new.out ≡ overwritten (at + 3 + 8 * i) (to_be_bytes w64 word) c.loop-i.out = c.put_u64.ensures ∙ ap (λ (xs : List ℕ). overwritten (at + 3 + 8 * i) (to_be_bytes w64 (get_or xs i 0)) c.loop-i.out) items-are in
+    let put : c.put_u64.new.out ≡ overwritten (at + 3 + 8 * i) (to_be_bytes w64 word) c.loop-i.out = c.put_u64.ensures
+    ∙ ap (λ (xs : List ℕ). overwritten (at + 3 + 8 * i) (to_be_bytes w64 (get_or xs i 0)) c.loop-i.out) items-are in
     let place : at + 3 + 8 * i ≡ at + length done = omega (arith, length-words (take i args), length-take-le i args) in
     let more : done ++ to_be_bytes w64 word ≡ front ++ flat_map (to_be_bytes w64) (take (i + 1) args) =
     flat_map_more (to_be_bytes w64) front (take i args) word
     ∙ ap (λ (xs : List ℕ). front ++ flat_map (to_be_bytes w64) xs) (sym (take_more args i 0 lt)) in
     record {
-      bytes = overwritten_twice at (at + 3 + 8 * i) done (to_be_bytes w64 word) old c.put_u64.new.out (omega arith) place (put ∙ ap (overwritten (at + 3 + 8 * i) (to_be_bytes w64 word)) c.loop-i.invariant.bytes)
+      bytes = overwritten_twice at (at + 3 + 8 * i) done (to_be_bytes w64 word) old c.put_u64.new.out (omega arith) place
+          (put ∙ ap (overwritten (at + 3 + 8 * i) (to_be_bytes w64 word)) c.loop-i.invariant.bytes)
           ∙ ap (λ (xs : List ℕ). overwritten at xs old) more;
       fit = c.loop-i.invariant.fit;
     }
@@ -52,5 +54,6 @@ returns-clause-range c =
     record {
       op = omega arith;
       count = omega (arith, c.len-count.ensures.value, c.len-count.ensures.limit);
-      args = subst (AllByRecursion (λ x. x < 2 ^ 64)) (take_all (length items) items (omega arith) ∙ c.as_slice-arg-items.ensures) (words_fit (length items) items c.loop-i.invariant.fit);
+      args = subst (AllByRecursion (λ x. x < 2 ^ 64)) (take_all (length items) items (omega arith) ∙ c.as_slice-arg-items.ensures)
+          (words_fit (length items) items c.loop-i.invariant.fit);
     }

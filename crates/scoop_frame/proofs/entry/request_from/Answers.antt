@@ -19,7 +19,8 @@ pub loop-i-preserved : goal.loop-i-preserved
 loop-i-preserved c = record {
   room = omega (arith, length-set c.loop-i.items c.loop-i.i c.u64_at.result);
   fit = words_fit-set c.loop-i.items c.loop-i.i c.u64_at.result c.loop-i.invariant.fit (omega arith);
-  words = words_more c.args.bytes.now c.loop-i.items c.loop-i.i c.u64_at.result (λ k. omega (arith, c.type_inv.bytes k)) (omega arith) c.u64_at.ensures c.loop-i.invariant.words;
+  words = words_more c.args.bytes.now c.loop-i.items c.loop-i.i c.u64_at.result (λ k. omega (arith, c.type_inv.bytes k))
+      (omega arith) c.u64_at.ensures c.loop-i.invariant.words;
 }
 
 pub returns : goal.returns
@@ -29,7 +30,9 @@ returns c =
     let bytes : IsBytes b = λ k. omega (arith, c.type_inv.bytes k) in
     let args = c.unwrap-args.result in
     let args-are : args ≡ take count c.loop-i.items = (rw c.unwrap-args.ensures at c.of.ensures).1 in
-    let words-are : flat_map (to_be_bytes w64) args ≡ front 3 (8 * count) b = ap (flat_map (to_be_bytes w64)) args-are ∙ (let i-is : count ≡ c.loop-i.i = omega arith in subst (λ (n : ℕ). flat_map (to_be_bytes w64) (take n c.loop-i.items) ≡ front 3 (8 * n) b) (sym i-is) c.loop-i.invariant.words) in
+    let words-are : flat_map (to_be_bytes w64) args ≡ front 3 (8 * count) b = ap (flat_map (to_be_bytes w64)) args-are
+    ∙ (let i-is : count ≡ c.loop-i.i = omega arith in subst (λ (n : ℕ). flat_map (to_be_bytes w64) (take n c.loop-i.items) ≡ front 3 (8 * n) b)
+    (sym i-is) c.loop-i.invariant.words) in
     let len : length args ≡ count = omega (arith, ap length args-are, length-take-le count c.loop-i.items) in (
       record {
         op = omega arith;

@@ -13,7 +13,8 @@ returns-clause-ok c =
     let len : length (drop 26 b) ≡ c.u16_at.result = omega (arith, length-drop 26 b, c.from.ensures) in
     let magic : b ≡ (0x53 ∷ 0x51 ∷ []) ++ drop 2 b = (starts_is Decides-eqb b (0x53 ∷ 0x51 ∷ []) true c.if-not-starts_with.ensures.value).0 refl in
     record {
-      bytes = header_is b c.in-Some.version (code c.in-Some-from_code.kind) c.u32_at.result c.u32_at-2.result c.u32_at-3.result c.u32_at-4.result c.u32_at-5.result (length (drop 26 b)) bytes (omega arith)
+      bytes = header_is b c.in-Some.version (code c.in-Some-from_code.kind)
+          c.u32_at.result c.u32_at-2.result c.u32_at-3.result c.u32_at-4.result c.u32_at-5.result (length (drop 26 b)) bytes (omega arith)
           (ap (λ (s : List ℕ). get_or s 0 0) magic) (ap (λ (s : List ℕ). get_or s 1 0) magic) (sym c.in-Some.ensures) (sym c.in-Some-from_code.ensures)
           c.u32_at.ensures c.u32_at-2.ensures c.u32_at-3.ensures c.u32_at-4.ensures c.u32_at-5.ensures (omega (arith, len, c.u16_at.ensures));
       body = omega (arith, len);

@@ -2,7 +2,7 @@ use Rattle.std.proofs.Common.{◌≡◌, take, sym, ap, subst, ◌∙◌}
 use Rattle.std.proofs.lemmas.List.{take_at}
 use Rattle.scoop_message.specs.declared.message.Message.{Message}
 use Rattle.scoop_frame.specs.declared.version.Version.{Version}
-use Rattle.scoop_frame.specs.Frame.{both, frame, IsFrame}
+use Rattle.scoop_frame.specs.Frame.{frame, IsFrame}
 use Rattle.scoop_frame.proofs.Exact.{frame_same}
 use Rattle.scoop_frame.proofs.law.reframed.Goals as goal
 

@@ -12,8 +12,11 @@ returns-clause-bytes c =
     let w = c.args.other in
     let x = c.args.message.now in
     let y = c.args.second.now in
-    let first : take c.encode-len.result c.encode-len.new.out ≡ frame v x = ap (take c.encode-len.result) c.encode-len.ensures.bytes ∙ take_at (frame v x) _ c.encode-len.result (sym c.encode-len.ensures.len) in
-    let second : take c.encode-second_len.result c.encode-second_len.new.out ≡ frame w y = ap (take c.encode-second_len.result) c.encode-second_len.ensures.bytes ∙ take_at (frame w y) _ c.encode-second_len.result (sym c.encode-second_len.ensures.len) in
+    let first : take c.encode-len.result c.encode-len.new.out ≡ frame v x = ap (take c.encode-len.result) c.encode-len.ensures.bytes
+    ∙ take_at (frame v x) _ c.encode-len.result (sym c.encode-len.ensures.len) in
+    let second : take c.encode-second_len.result c.encode-second_len.new.out ≡ frame w y =
+    ap (take c.encode-second_len.result) c.encode-second_len.ensures.bytes
+    ∙ take_at (frame w y) _ c.encode-second_len.result (sym c.encode-second_len.ensures.len) in
     let same = slice_eq-Decides Decides-eqb _ _ _ c.eq.ensures in (
       λ t. sym first ∙ same.0 t ∙ second,
       λ e. same.1 (first ∙ e ∙ sym second),

@@ -31,7 +31,8 @@ loop-i-preserved c =
     let first = c.in-Some.ensures in
     let lt : i < length items = omega (arith, c.loop-i.invariant.room) in
     let more : take (i + 1) (set items i entry) ≡ take i items ++ entry ∷ [] = take_more_set items i entry lt in
-    let bytes : flat_map entry_bytes (take (i + 1) (set items i entry)) ≡ flat_map entry_bytes (take i items) ++ entry_bytes entry = ap (flat_map entry_bytes) more ∙ entries_more (take i items) entry in
+    let bytes : flat_map entry_bytes (take (i + 1) (set items i entry)) ≡ flat_map entry_bytes (take i items) ++ entry_bytes entry =
+    ap (flat_map entry_bytes) more ∙ entries_more (take i items) entry in
     record {
       room = omega (arith, length-set items i entry, c.loop-i.invariant.room);
       range = subst (AllByRecursion IsEntry) (sym more) (all_more (take i items) entry c.loop-i.invariant.range first.0);
@@ -64,7 +65,8 @@ returns-in-Ok c =
       subst IsEntries (sym of.1) good,
       len,
       c.loop-i.invariant.read ∙ ap (λ (xs : List ℕ). flat_map entry_bytes (take c.loop-i.i items) ++ xs) none
-          ∙ append-nil (flat_map entry_bytes (take c.loop-i.i items)) ∙ ap (λ (n : ℕ). flat_map entry_bytes (take n items)) i-is ∙ ap (flat_map entry_bytes) (sym of.1),
+          ∙ append-nil (flat_map entry_bytes (take c.loop-i.i items)) ∙ ap (λ (n : ℕ). flat_map entry_bytes (take n items)) i-is
+          ∙ ap (flat_map entry_bytes) (sym of.1),
     )
 
 pub returns-in-Err : goal.returns-in-Err

@@ -16,7 +16,8 @@ loop-entry-preserved c =
     let i = c.loop-entry.entry-index in
     let entry = c.entry-item.result in
     let done = flat_map entry_bytes (take i entries) in
-    let next : take i entries ++ entry ∷ [] ≡ take (i + 1) entries = ap (λ e. take i entries ++ e ∷ []) c.entry-item.is ∙ sym (take_more entries i entry c.loop-entry-test.true) in
+    let next : take i entries ++ entry ∷ [] ≡ take (i + 1) entries = ap (λ e. take i entries ++ e ∷ []) c.entry-item.is
+    ∙ sym (take_more entries i entry c.loop-entry-test.true) in
     let more : done ++ entry_bytes entry ≡ flat_map entry_bytes (take (i + 1) entries) =
     sym (entries_more (take i entries) entry) ∙ ap (flat_map entry_bytes) next in
     record {

@@ -1,8 +1,10 @@
-use Rattle.std.proofs.Common.{arith, sym, ◌∙◌}
+use Rattle.std.proofs.Common.{◌≡◌, false, arith, sym, ◌∙◌}
+use Rattle.scoop_message.specs.Message.{same_block}
 use Rattle.scoop_handler.specs.Running.{mark_after}
-use Rattle.scoop_handler.proofs.After.{marks-unless-query}
-use Rattle.scoop_handler.proofs.MarkLists.{map_in_place}
+use Rattle.scoop_handler.proofs.After.{mark-of-another, marks-unless-query}
+use Rattle.scoop_handler.proofs.MarkLists.{map_in_place, map_left_in_place}
 use Rattle.scoop_handler.proofs.marks.keep_answer_in.Goals as goal
+use Rattle.scoop_handler.proofs.marks.keep_answer_in.Goals.{then-eq, else-eq}
 
 pub returns-then-not-is_query : goal.returns-then-not-is_query
 returns-then-not-is_query g c =
@@ -10,4 +12,11 @@ returns-then-not-is_query g c =
 
 pub loop-k-preserved : goal.loop-k-preserved
 loop-k-preserved g c =
-    rw c.after.ensures (map_in_place (mark_after c.args.ran.now) _ _ _ _ (omega arith) (omega arith) c.loop-k.invariant)
+    elim c.if-eq.branch [
+      | then-eq w ↦
+          rw (w.k-items-is, w.after.ensures) (map_in_place (mark_after c.args.ran.now) _ _ _ _ (omega arith) (omega arith) c.loop-k.invariant)
+      | else-eq w ↦
+          let other : same_block c.block.result c.args.ran.now.block ≡ false = sym c.eq.ensures ∙ w.if-eq.false in
+          rw w.k-items-is (map_left_in_place (mark_after c.args.ran.now) _ _ _ _ (omega arith) (omega arith)
+          (mark-of-another c.args.ran.now _ (rw c.block.ensures at other)) c.loop-k.invariant)
+    ]

@@ -9,5 +9,7 @@ returns-clause-place c =
     let marks = c.args.marks.now in
     let client = c.args.client in
     let parted = IsPartitionedBy-ltb (λ (k : Mark). k.client.0) marks client.0 (in_order marks c.requires) in
-    let point = IsPartitionPoint-from_clause (λ (k : Mark). ltb k.client.0 client.0) _ _ c.partition_point.ensures.partitioned parted (λ a r q k. search rules) in
-    place_at client marks c.partition_point.result c.partition_point.ensures.bound (λ k d lt. point.0 k d (omega arith) lt) (λ d lt. point.1 c.partition_point.result d (omega arith) lt)
+    let point = IsPartitionPoint-from_clause (λ (k : Mark). ltb k.client.0 client.0) _ _ c.partition_point.ensures.partitioned parted
+    (λ a r q k. search rules) in
+    place_at client marks c.partition_point.result c.partition_point.ensures.bound (λ k d lt. point.0 k d (omega arith) lt)
+    (λ d lt. point.1 c.partition_point.result d (omega arith) lt)

@@ -11,17 +11,21 @@ returns-in_default g c = no_frame c.in_default.field-0 c.in_default.ensures.read
 
 pub returns-in-Ok-Reply : goal.returns-in-Ok-Reply
 returns-in-Ok-Reply g c =
-    loops_replied c.args.pass c.args.bytes.now c.args.book.now c.answer_datagram.new.book c.run_behind.new.book c.args.replies.now.items c.keep_reply.new.replies.items _ c.answer_datagram.new.out
+    loops_replied c.args.pass c.args.bytes.now c.args.book.now c.answer_datagram.new.book c.run_behind.new.book c.args.replies.now.items
+    c.keep_reply.new.replies.items _ c.answer_datagram.new.out
     c.in-Ok.message c.in-Ok-Reply.len c.in-Ok-Reply.note (one_message c.args.bytes.now c.decode.result _ c.in-Ok.is c.decode.ensures.ok)
     (rw c.in-Ok-Reply.field-0-is at c.in-Ok-Reply.ensures.ok) c.keep_reply.ensures
-    (subst (λ (h : HandlerId). RunsThen (runs_after c.in-Ok-Reply.note) c.args.pass h c.answer_datagram.new.book c.run_behind.new.book) c.handler-handler.ensures c.run_behind.ensures)
+    (subst (λ (h : HandlerId). RunsThen (runs_after c.in-Ok-Reply.note) c.args.pass h c.answer_datagram.new.book c.run_behind.new.book)
+    c.handler-handler.ensures c.run_behind.ensures)
 
 pub returns-in-Ok-Silent : goal.returns-in-Ok-Silent
 returns-in-Ok-Silent g c =
-    loops_silent c.args.pass c.args.bytes.now c.args.book.now c.answer_datagram.new.book c.run_behind-in-Ok-Silent.new.book c.args.replies.now.items c.args.replies.now.items _ c.answer_datagram.new.out
+    loops_silent c.args.pass c.args.bytes.now c.args.book.now c.answer_datagram.new.book c.run_behind-in-Ok-Silent.new.book c.args.replies.now.items
+    c.args.replies.now.items _ c.answer_datagram.new.out
     c.in-Ok.message c.in-Ok-Silent.note (one_message c.args.bytes.now c.decode.result _ c.in-Ok.is c.decode.ensures.ok)
     (rw c.in-Ok-Silent.field-0-is at c.in-Ok-Silent.ensures.ok) refl
-    (subst (λ (h : HandlerId). RunsThen (runs_after c.in-Ok-Silent.note) c.args.pass h c.answer_datagram.new.book c.run_behind-in-Ok-Silent.new.book) c.handler-handler.ensures c.run_behind-in-Ok-Silent.ensures)
+    (subst (λ (h : HandlerId). RunsThen (runs_after c.in-Ok-Silent.note) c.args.pass h c.answer_datagram.new.book c.run_behind-in-Ok-Silent.new.book)
+    c.handler-handler.ensures c.run_behind-in-Ok-Silent.ensures)
 
 pub returns-in-Err : goal.returns-in-Err
 returns-in-Err g c = unheard c.in-Err.field-0 c.in-Err.ensures.refused c.in-Err.ensures.stays refl

@@ -9,7 +9,9 @@ pub loop-init : goal.loop-init
 loop-init g c = serves_nothing _ _ _
 
 pub loop-preserved : goal.loop-preserved
-loop-preserved g c = serves_on _ _ _ _ _ _ _ c.loop.invariant (subst (λ b. ServesPass b c.loop.pass c.turn.new.pass (g.L.Link.told c.loop.link) (g.L.Link.told c.turn.new.link)) (ap is_none c.in_default.is) c.turn.ensures)
+loop-preserved g c = serves_on _ _ _ _ _ _ _ c.loop.invariant
+    (subst (λ b. ServesPass b c.loop.pass c.turn.new.pass (g.L.Link.told c.loop.link) (g.L.Link.told c.turn.new.link))
+    (ap is_none c.in_default.is) c.turn.ensures)
 
 pub returns-in-Some : goal.returns-in-Some
 returns-in-Some g c = serves_on _ _ _ _ _ _ _ c.loop.invariant c.in-Some.ensures

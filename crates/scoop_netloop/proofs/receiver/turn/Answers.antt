@@ -19,7 +19,8 @@ pub returns-in-Some : goal.returns-in-Some
 returns-in-Some g c = serves_unanswered _ _ _ _ _ _ _ _ c.in-Ok.ensures.reads c.in-Ok-hear.ensures.ok (rw c.in-Ok-Some.field-0-is at c.in-Ok-Some.ensures.told)
 
 pub returns-in_default-reply : goal.returns-in_default-reply
-returns-in_default-reply g c = serves_silent _ _ _ _ _ _ _ _ c.in-Ok.ensures.reads c.in-Ok-hear.ensures.ok (rw c.in-Ok-Some.field-0-is at c.in-Ok-Some.ensures.told) c.in_default-reply.is
+returns-in_default-reply g c = serves_silent _ _ _ _ _ _ _ _ c.in-Ok.ensures.reads c.in-Ok-hear.ensures.ok
+    (rw c.in-Ok-Some.field-0-is at c.in-Ok-Some.ensures.told) c.in_default-reply.is
 
 pub send_reply-requires-clause-fits : goal.send_reply-requires-clause-fits
 send_reply-requires-clause-fits g c =
@@ -31,8 +32,10 @@ send_reply-requires-clause-carried g c =
 
 pub returns-in-Ok-send_reply : goal.returns-in-Ok-send_reply
 returns-in-Ok-send_reply g c =
-    serves_answered _ _ _ _ _ _ _ _ _ _ c.in-Ok.ensures.reads c.in-Ok-hear.ensures.ok (rw c.in-Ok-Some.field-0-is at c.in-Ok-Some.ensures.told) c.in-Some-reply.is c.in-Ok-send_reply.ensures
+    serves_answered _ _ _ _ _ _ _ _ _ _ c.in-Ok.ensures.reads c.in-Ok-hear.ensures.ok
+    (rw c.in-Ok-Some.field-0-is at c.in-Ok-Some.ensures.told) c.in-Some-reply.is c.in-Ok-send_reply.ensures
 
 pub returns-in-Err-send_reply : goal.returns-in-Err-send_reply
 returns-in-Err-send_reply g c =
-    serves_unsent _ _ _ _ _ _ _ _ _ c.in-Ok.ensures.reads c.in-Ok-hear.ensures.ok (rw c.in-Ok-Some.field-0-is at c.in-Ok-Some.ensures.told) c.in-Err-send_reply.ensures
+    serves_unsent _ _ _ _ _ _ _ _ _ c.in-Ok.ensures.reads c.in-Ok-hear.ensures.ok
+    (rw c.in-Ok-Some.field-0-is at c.in-Ok-Some.ensures.told) c.in-Err-send_reply.ensures

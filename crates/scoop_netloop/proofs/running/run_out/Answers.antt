@@ -15,8 +15,12 @@ loop-error-smaller g c =
 
 pub loop-error-preserved : goal.loop-error-preserved
 loop-error-preserved g c =
-    let runs : RunsEntry c.args.pass c.args.handler c.loop-error.book c.run_next.new.book = rw c.in-Ok-true.field-0-test at c.in-Ok-true.ensures.ok in
-    (then_ran c.args.book.now c.loop-error.book c.run_next.new.book c.loop-error.invariant.0 runs, others_more g.K.Keeper.handlers g.K.Keeper.incarnations g.K.Keeper.is_honest c.args.handler c.args.book.now.keeper c.loop-error.book.keeper c.run_next.new.book.keeper c.loop-error.invariant.1 c.in-Ok-true.ensures.others)
+    let runs : RunsEntry c.args.pass c.args.handler c.loop-error.book c.run_next.new.book = rw c.in-Ok-true.field-0-test at c.in-Ok-true.ensures.ok in (
+      then_ran c.args.book.now c.loop-error.book c.run_next.new.book c.loop-error.invariant.0 runs,
+      others_more g.K.Keeper.handlers g.K.Keeper.incarnations
+          g.K.Keeper.is_honest c.args.handler c.args.book.now.keeper c.loop-error.book.keeper c.run_next.new.book.keeper c.loop-error.invariant.1
+          c.in-Ok-true.ensures.others,
+    )
 
 pub returns-in-Ok-false-clause-ok : goal.returns-in-Ok-false-clause-ok
 returns-in-Ok-false-clause-ok g c =
@@ -25,15 +29,18 @@ returns-in-Ok-false-clause-ok g c =
 
 pub returns-in-Ok-false-clause-others : goal.returns-in-Ok-false-clause-others
 returns-in-Ok-false-clause-others g c =
-    others_more g.K.Keeper.handlers g.K.Keeper.incarnations g.K.Keeper.is_honest c.args.handler c.args.book.now.keeper c.loop-error.book.keeper c.run_next.new.book.keeper c.loop-error.invariant.1 c.in-Ok-false.ensures.others
+    others_more g.K.Keeper.handlers g.K.Keeper.incarnations g.K.Keeper.is_honest c.args.handler c.args.book.now.keeper c.loop-error.book.keeper
+    c.run_next.new.book.keeper c.loop-error.invariant.1 c.in-Ok-false.ensures.others
 
 pub returns-in-Err-clause-err : goal.returns-in-Err-clause-err
 returns-in-Err-clause-err g c = record { last = c.loop-error.book; ran = c.loop-error.invariant.0; breaks = c.in-Err.ensures.err }
 
 pub returns-in-Err-clause-refused : goal.returns-in-Err-clause-refused
 returns-in-Err-clause-refused g c =
-    breaks_back c.args.pass c.args.handler c.args.book.now c.loop-error.book c.run_next.new.book c.in-Err.error c.loop-error.invariant.0 c.in-Err.ensures.refused
+    breaks_back c.args.pass c.args.handler c.args.book.now c.loop-error.book c.run_next.new.book c.in-Err.error c.loop-error.invariant.0
+    c.in-Err.ensures.refused
 
 pub returns-in-Err-clause-others : goal.returns-in-Err-clause-others
 returns-in-Err-clause-others g c =
-    others_more g.K.Keeper.handlers g.K.Keeper.incarnations g.K.Keeper.is_honest c.args.handler c.args.book.now.keeper c.loop-error.book.keeper c.run_next.new.book.keeper c.loop-error.invariant.1 c.in-Err.ensures.others
+    others_more g.K.Keeper.handlers g.K.Keeper.incarnations g.K.Keeper.is_honest c.args.handler c.args.book.now.keeper c.loop-error.book.keeper
+    c.run_next.new.book.keeper c.loop-error.invariant.1 c.in-Err.ensures.others

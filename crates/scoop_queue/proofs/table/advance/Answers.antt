@@ -12,6 +12,8 @@ returns-clause-left g c =
     let w = c.take_first.new.self in
     let es = c.args.table.now.entries in
     elim c.if-take_first.branch [
-      | then-take_first w' ↦ rw (w'.table-is, w'.remove_at.ensures) (kept-goes p w es c.index_mut-first.ensures.value (on-true c.take_first.result w'.if-take_first.true c.take_first.ensures.gone))
-      | else-take_first w' ↦ rw (w'.table-is) (kept-stays p w es c.index_mut-first.ensures.value (on-false c.take_first.result w'.if-take_first.false c.take_first.ensures.left))
+      | then-take_first w' ↦ rw (w'.table-is, w'.remove_at.ensures)
+          (kept-goes p w es c.index_mut-first.ensures.value (on-true c.take_first.result w'.if-take_first.true c.take_first.ensures.gone))
+      | else-take_first w' ↦ rw (w'.table-is) (kept-stays p w es c.index_mut-first.ensures.value
+          (on-false c.take_first.result w'.if-take_first.false c.take_first.ensures.left))
     ]

@@ -19,6 +19,7 @@ pub loop-key-preserved : goal.loop-key-preserved
 loop-key-preserved g c =
     let k = c.in-Some.key.now in
     let p = c.in-Some.pending.now in
-    let next = copied-next (queues_kept c.loop-key.copy.entries) (queues_kept c.add.new.table.entries) (queues_kept c.args.table.now.entries) c.loop-key.key-iterator c.next.new.self
+    let next = copied-next (queues_kept c.loop-key.copy.entries) (queues_kept c.add.new.table.entries)
+    (queues_kept c.args.table.now.entries) c.loop-key.key-iterator c.next.new.self
     c.block.result k p c.in_ok-entries.entries c.in-Some.ensures.steps c.block.ensures c.in_ok-entries.ensures c.in_ok-add.ensures.ok c.loop-key.invariant.2 in
     (search rules, search rules, next)

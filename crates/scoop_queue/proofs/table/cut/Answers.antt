@@ -12,7 +12,8 @@ returns-in_default-clause-cut g c =
 
 pub returns-then-not-is_open-clause-was_open : goal.returns-then-not-is_open-clause-was_open
 returns-then-not-is_open-clause-was_open g c =
-    let place = has_open-place c.args.block c.index_mut-pending.result.now c.args.table.now.entries c.in-Some.place c.in-Some.ensures.place c.index_mut-pending.ensures.value in
+    let place = has_open-place c.args.block c.index_mut-pending.result.now c.args.table.now.entries c.in-Some.place c.in-Some.ensures.place
+    c.index_mut-pending.ensures.value in
     sym (place ∙ sym c.is_open.ensures ∙ c.if-not-is_open.true)
 
 pub returns-then-not-is_open-clause-cut : goal.returns-then-not-is_open-clause-cut
@@ -25,21 +26,25 @@ returns-then-not-is_open-clause-cut g c =
 
 pub returns-then-cut-clause-was_open : goal.returns-then-cut-clause-was_open
 returns-then-cut-clause-was_open g c =
-    let place = has_open-place c.args.block c.index_mut-pending.result.now c.args.table.now.entries c.in-Some.place c.in-Some.ensures.place c.index_mut-pending.ensures.value in
+    let place = has_open-place c.args.block c.index_mut-pending.result.now c.args.table.now.entries c.in-Some.place c.in-Some.ensures.place
+    c.index_mut-pending.ensures.value in
     sym (place ∙ sym c.is_open.ensures ∙ c.if-not-is_open.false)
 
 pub returns-then-cut-clause-cut : goal.returns-then-cut-clause-cut
 returns-then-cut-clause-cut g c =
     rw (c.remove_at.ensures)
-    (kept-remove c.args.block left_by_cut c.index_mut-pending.result.now c.cut.new.self c.args.table.now.entries c.in-Some.place c.in-Some.ensures.place c.index_mut-pending.ensures.value
+    (kept-remove c.args.block left_by_cut c.index_mut-pending.result.now c.cut.new.self c.args.table.now.entries c.in-Some.place c.in-Some.ensures.place
+    c.index_mut-pending.ensures.value
     (on-true c.cut.result c.if-cut.true c.cut.ensures.gone))
 
 pub returns-else-cut-clause-was_open : goal.returns-else-cut-clause-was_open
 returns-else-cut-clause-was_open g c =
-    let place = has_open-place c.args.block c.index_mut-pending.result.now c.args.table.now.entries c.in-Some.place c.in-Some.ensures.place c.index_mut-pending.ensures.value in
+    let place = has_open-place c.args.block c.index_mut-pending.result.now c.args.table.now.entries c.in-Some.place c.in-Some.ensures.place
+    c.index_mut-pending.ensures.value in
     sym (place ∙ sym c.is_open.ensures ∙ c.if-not-is_open.false)
 
 pub returns-else-cut-clause-cut : goal.returns-else-cut-clause-cut
 returns-else-cut-clause-cut g c =
-    kept-set c.args.block left_by_cut c.index_mut-pending.result.now c.cut.new.self c.args.table.now.entries c.in-Some.place c.in-Some.ensures.place c.index_mut-pending.ensures.value
+    kept-set c.args.block left_by_cut c.index_mut-pending.result.now c.cut.new.self c.args.table.now.entries c.in-Some.place c.in-Some.ensures.place
+    c.index_mut-pending.ensures.value
     (on-false c.cut.result c.if-cut.false c.cut.ensures.left)

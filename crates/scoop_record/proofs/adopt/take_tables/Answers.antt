@@ -30,8 +30,11 @@ migrate-requires-clause-first g c sound =
     let has : read.now.schema ≡ first_schema = sym c.schema-then-found-eq1.ensures.value ∙ c.is_first_schema.ensures c.if-is_first_schema.true in
     let same : read.now ≡ before.now = (c.version.ensures.same sound).0 ∙ sym (c.requires.settled (c.version.ensures.sound sound)) in
     let told = c.in_ok-found.ensures.version sound (inl (ap (λ (d : Database). d.schema) (sym same) ∙ has)) in
-    let one : c.in-Some.found ≡ pos 1 = grind (arith, ints) in
-    (has, ap (λ (d : Database). value_at (d.trees 0) 1) same ∙ version_stands _ (pos 1) (subst (λ n. Some n ≡ number_of (value_at (before.now.trees 0) 1)) one (rw c.in-Some.is at told)))
+    let one : c.in-Some.found ≡ pos 1 = grind (arith, ints) in (
+      has,
+      ap (λ (d : Database). value_at (d.trees 0) 1) same
+          ∙ version_stands _ (pos 1) (subst (λ n. Some n ≡ number_of (value_at (before.now.trees 0) 1)) one (rw c.in-Some.is at told)),
+    )
 
 pub returns-then-is_record_schema-clause-adopted : goal.returns-then-is_record_schema-clause-adopted
 unfolding TellsVersion
@@ -44,7 +47,8 @@ returns-then-is_record_schema-clause-adopted g c sound =
     let two : c.in-Some.found ≡ pos 2 = grind (arith, ints) in
     record {
       schema = has;
-      version = ap (λ (d : Database). value_at (d.trees 0) 1) same ∙ version_stands _ (pos 2) (subst (λ n. Some n ≡ number_of (value_at (before.now.trees 0) 1)) two (rw c.in-Some.is at told));
+      version = ap (λ (d : Database). value_at (d.trees 0) 1) same
+          ∙ version_stands _ (pos 2) (subst (λ n. Some n ≡ number_of (value_at (before.now.trees 0) 1)) two (rw c.in-Some.is at told));
       kept = inl same;
     }
 

@@ -12,6 +12,7 @@ returns-clause-put g c clean =
     let old = state g.S.Store c.args.tx.now.conn.now in
     let new = state g.S.Store c.execute.new.self.conn.now in
     let before = clean_before old new _ c.execute.ensures.survives clean in
-    puts_inside put_inc (codes "clients") (codes "c") (codes "inc") Integer 2 refl refl put_inc_is put_inc_plain c.args.client (Int (pos c.args.inc)) (cast_int (pos c.args.inc)) old new c.execute.result before
+    puts_inside put_inc (codes "clients") (codes "c") (codes "inc") Integer 2 refl refl put_inc_is put_inc_plain c.args.client (Int (pos c.args.inc))
+    (cast_int (pos c.args.inc)) old new c.execute.result before
     c.requires (λ outside. subst IsErr (sym (c.execute.ensures.ended outside).0) refl)
     (rw (c.params-to_sql.ensures, c.params-to_sql-2.ensures) at (c.execute.ensures.runs clean))

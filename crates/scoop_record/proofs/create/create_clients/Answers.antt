@@ -9,5 +9,6 @@ pub returns-clause-made : goal.returns-clause-made
 returns-clause-made g c clean =
     let old = state g.S.Store c.args.tx.now.conn.now in
     let new = state g.S.Store c.execute.new.self.conn.now in
-    makes create_clients two_schema (clients 0) old new c.execute.result (clean_before old new _ c.execute.ensures.survives clean) c.requires create_clients_is create_clients_plain refl
+    makes create_clients two_schema (clients 0) old new c.execute.result
+    (clean_before old new _ c.execute.ensures.survives clean) c.requires create_clients_is create_clients_plain refl
     (λ outside. subst IsErr (sym (c.execute.ensures.ended outside).0) refl) (c.execute.ensures.runs clean)

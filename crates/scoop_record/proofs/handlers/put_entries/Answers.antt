@@ -11,6 +11,7 @@ returns-clause-put g c clean =
     let old = state g.S.Store c.args.tx.now.conn.now in
     let new = state g.S.Store c.execute.new.self.conn.now in
     let before = clean_before old new _ c.execute.ensures.survives clean in
-    puts_inside put_entries (codes "pending") (codes "h") (codes "entries") SqlBlob 3 refl refl put_entries_is put_entries_plain c.args.handler (Blob c.args.entries.now) refl old new c.execute.result before
+    puts_inside put_entries (codes "pending") (codes "h") (codes "entries") SqlBlob 3 refl refl put_entries_is put_entries_plain c.args.handler
+    (Blob c.args.entries.now) refl old new c.execute.result before
     c.requires (λ outside. subst IsErr (sym (c.execute.ensures.ended outside).0) refl)
     (rw (c.params-to_sql.ensures, c.params-to_sql-2.ensures) at (c.execute.ensures.runs clean))

@@ -10,12 +10,16 @@ returns-clause-rows g c clean =
     let old = state g.S.Store c.args.tx.now.conn.now in
     let new = state g.S.Store c.query_all.new.self.conn.now in
     ok_then c.query_all.result _ _ (λ rows shown.
-    let ready = c.requires (clean_before old new _ c.query_all.ensures.survives clean, was_open select_image _ old new rows.items shown) in
-    (still select_image _ old new rows.items ready select_image_plain shown, λ few. shows select_image 1 c.args.handler _ old new rows.items refl ready few select_image_is select_image_plain shown)
+    let ready = c.requires (clean_before old new _ c.query_all.ensures.survives clean, was_open select_image _ old new rows.items shown) in (
+      still select_image _ old new rows.items ready select_image_plain shown,
+      λ few. shows select_image 1 c.args.handler _ old new rows.items refl ready few
+          select_image_is select_image_plain shown,
+    )
     ) (rw c.params-to_sql.ensures at (c.query_all.ensures.ok clean))
 
 pub returns-clause-kept : goal.returns-clause-kept
 returns-clause-kept g c clean =
     let old = state g.S.Store c.args.tx.now.conn.now in
     let new = state g.S.Store c.query_all.new.self.conn.now in
-    query_keeps select_image (Int (pos c.args.handler) ∷ []) old new c.query_all.result (ok_then c.query_all.result _ _ (λ rows it. it.0) (returns-clause-rows g c clean)) (rw c.params-to_sql.ensures at (c.query_all.ensures.err clean))
+    query_keeps select_image (Int (pos c.args.handler) ∷ []) old new c.query_all.result
+    (ok_then c.query_all.result _ _ (λ rows it. it.0) (returns-clause-rows g c clean)) (rw c.params-to_sql.ensures at (c.query_all.ensures.err clean))

@@ -9,7 +9,8 @@ returns-in_err-migrate_in-clause-bad g c sound handler is =
     let inside = state g.S.Store c.migrate_in.new.tx.conn.now in
     let clean : HasCleanDisk inside = search rules in
     let own = rw is at c.from_residual.ensures in
-    subst (λ h. IsLowestBad (state g.S.Store h).now handler.0) c.transaction-tx.ensures.begun (c.in_err-migrate_in.ensures.bad clean handler (ap Err (sym own.1)))
+    subst (λ h. IsLowestBad (state g.S.Store h).now handler.0) c.transaction-tx.ensures.begun
+    (c.in_err-migrate_in.ensures.bad clean handler (ap Err (sym own.1)))
 
 pub returns-in_err-migrate_in-clause-wrong : goal.returns-in_err-migrate_in-clause-wrong
 returns-in_err-migrate_in-clause-wrong g c sound is =

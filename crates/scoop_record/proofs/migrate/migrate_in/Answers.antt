@@ -43,7 +43,9 @@ returns-in-Ok-raise_version-clause-migrated g c clean =
     let shown = c.in-Ok.ensures.rows clean2 in
     let saves = subst (λ (d : Database). SavesAll d saved.now c.as_slice-2.result.now) shown.0.0.now_is (c.in_ok-put_states.ensures.put (clean3, open3)) in
     migrated before.now made.now saved.now after.now c.as_slice.result.now c.as_slice-2.result.now (c.in_default.ensures.made clean1).0
-    (rw c.as_slice.ensures.value shown.1) (rw c.as_slice-2.ensures.value c.in_ok-all.ensures.read) (rw c.as_slice-2.ensures.value c.in_ok-all.ensures.rises) saves (c.in-Ok-raise_version.ensures.put clean).0.0 (c.in-Ok-raise_version.ensures.put clean).0.1 first.0 first.1
+    (rw c.as_slice.ensures.value shown.1) (rw c.as_slice-2.ensures.value c.in_ok-all.ensures.read)
+    (rw c.as_slice-2.ensures.value c.in_ok-all.ensures.rises) saves (c.in-Ok-raise_version.ensures.put clean).0.0
+    (c.in-Ok-raise_version.ensures.put clean).0.1 first.0 first.1
 
 pub returns-in_err-all-clause-bad : goal.returns-in_err-all-clause-bad
 returns-in_err-all-clause-bad g c clean2 handler is =
@@ -56,7 +58,8 @@ returns-in_err-all-clause-bad g c clean2 handler is =
     let first = c.requires (clean0, makes.1.was_open) in
     let shown = c.in-Ok.ensures.rows clean2 in
     let own = rw is at c.from_residual.ensures in
-    lowest_bad before.now made.now c.as_slice.result.now handler.0 makes.0 (rw c.as_slice.ensures.value shown.1) first.0 first.1 (c.in_err-all.ensures.bad handler (ap Err (sym own.1)))
+    lowest_bad before.now made.now c.as_slice.result.now handler.0 makes.0 (rw c.as_slice.ensures.value shown.1) first.0 first.1
+    (c.in_err-all.ensures.bad handler (ap Err (sym own.1)))
 
 pub returns-in_err-all-clause-wrong : goal.returns-in_err-all-clause-wrong
 returns-in_err-all-clause-wrong g c clean2 is =
@@ -69,4 +72,5 @@ returns-in_err-all-clause-wrong g c clean2 is =
     let first = c.requires (clean0, makes.1.was_open) in
     let shown = c.in-Ok.ensures.rows clean2 in
     let own = rw is at c.from_residual.ensures in
-    other_number before.now made.now c.as_slice.result.now makes.0 (rw c.as_slice.ensures.value shown.1) first.0 first.1 (c.in_err-all.ensures.wrong (ap Err (sym own.1)))
+    other_number before.now made.now c.as_slice.result.now makes.0 (rw c.as_slice.ensures.value shown.1) first.0 first.1
+    (c.in_err-all.ensures.wrong (ap Err (sym own.1)))

@@ -28,7 +28,8 @@ loop-it-preserved g c =
     let cut : take (c.loop-it.it-index + 1) c.args.all.now ≡ take c.loop-it.it-index c.args.all.now ++ it ∷ [] = grind (arith, common_steps, take_more) in
     rw cut (
       c.put_state.ensures.same_reference ∙ c.loop-it.invariant.0,
-      stored_more _ _ _ _ c.loop-it.invariant.1 c.put_state.ensures.kept c.put_state.ensures.survives it (λ clean. let own = c.in_ok-put_state.ensures.put clean in (own.0, own.1, own.2)),
+      stored_more _ _ _ _ c.loop-it.invariant.1 c.put_state.ensures.kept c.put_state.ensures.survives it
+          (λ clean. let own = c.in_ok-put_state.ensures.put clean in (own.0, own.1, own.2)),
     )
 
 pub returns-clause-same_reference : goal.returns-clause-same_reference

@@ -9,6 +9,7 @@ pub returns-clause-put : goal.returns-clause-put
 returns-clause-put g c clean =
     let old = state g.S.Store c.args.tx.now.conn.now in
     let new = state g.S.Store c.execute.new.self.conn.now in
-    raises_version raise_version c.args.version (Int (pos 1)) old new c.execute.result raise_version_is raise_version_plain (clean_before old new _ c.execute.ensures.survives clean)
+    raises_version raise_version c.args.version (Int (pos 1)) old new c.execute.result raise_version_is raise_version_plain
+    (clean_before old new _ c.execute.ensures.survives clean)
     c.requires
     (λ outside. subst IsErr (sym (c.execute.ensures.ended outside).0) refl) (rw c.params-to_sql.ensures at (c.execute.ensures.runs clean))

@@ -7,4 +7,5 @@ pub loop-b-preserved : goal.loop-b-preserved
 loop-b-preserved c =
     let i = c.loop-b.b-index in
     let ys = c.loop-b.b-items in
-    map_over_more (λ (b : ℕ). bit_xor b c.args.byte) c.args.block.now ys i (get_or ys i 0) (omega arith) c.loop-b.invariant (get_or_default ys i 0 _ (omega arith))
+    map_over_more (λ (b : ℕ). bit_xor b c.args.byte) c.args.block.now ys i (get_or ys i 0) (omega arith) c.loop-b.invariant
+    (get_or_default ys i 0 _ (omega arith))

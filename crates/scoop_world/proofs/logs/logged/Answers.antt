@@ -1,6 +1,6 @@
 use Rattle.std.proofs.Common.{List, map, sym, ap, ◌∙◌}
-use Rattle.scoop_world.specs.declared.logs.Line.{Line}
-use Rattle.scoop_world.specs.Kept.{entries_in, line_kept, logs_kept}
+use Rattle.scoop_world.specs.declared.logs.LoggedAt.{LoggedAt}
+use Rattle.scoop_world.specs.Kept.{entries_in, logged_kept, logs_kept}
 use Rattle.scoop_world.proofs.LogLists.{lines-place, no_lines}
 use Rattle.scoop_world.proofs.logs.logged.Goals as goal
 
@@ -8,7 +8,7 @@ pub returns-in-Some : goal.returns-in-Some
 returns-in-Some g c =
     let h = c.args.handler in
     c.logged_in.ensures
-    ∙ ap (λ (ls : List (Line g.row.A.Denot)). entries_in h (map line_kept ls)) c.deref.ensures.value
+    ∙ ap (λ (ls : List (LoggedAt g.row.A.Denot)). entries_in h (map logged_kept ls)) c.deref.ensures.value
     ∙ ap (entries_in h) (sym (lines-place c.args.block c.index.result.now c.args.logs.now.entries c.in-Some.place c.in-Some.ensures.place c.index.ensures))
 
 pub returns-in-None : goal.returns-in-None

@@ -1,7 +1,7 @@
 -- The line is among those that are left.
 use Rattle.std.proofs.Common.{◌≡◌, map, drop}
-use Rattle.scoop_world.specs.Kept.{entries_in, line_kept}
+use Rattle.scoop_world.specs.Kept.{entries_in, logged_kept}
 use Rattle.scoop_world.proofs.logs.logged_in.Given as goal
 
 abbrev pub invariant-loop-line : goal.invariant-loop-line
-invariant-loop-line g l = entries_in l.handler (map line_kept (drop l.line-index l.lines)) ≡ entries_in l.handler (map line_kept l.lines)
+invariant-loop-line g l = entries_in l.handler (map logged_kept (drop l.line-index l.lines)) ≡ entries_in l.handler (map logged_kept l.lines)

@@ -1,7 +1,7 @@
 use Rattle.std.proofs.Common.{◌≡◌, true, false, find, get_or, sym, ap, ◌∙◌, arith}
 use Rattle.std.proofs.lemmas.List.{drop_all}
 use Rattle.scoop_model.specs.World.{is_party}
-use Rattle.scoop_record.proofs.Keyed.{first_here, none_here}
+use Rattle.scoop_keeper.proofs.Keyed.{first_here, none_here}
 use Rattle.scoop_world.proofs.parts.party_at.Goals as goal
 
 pub returns-then-eq : goal.returns-then-eq

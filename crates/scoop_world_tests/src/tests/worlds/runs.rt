@@ -10,7 +10,7 @@ use std::test::Fail;
 
 /// Events one after another, and how many messages were sent before them.
 #[derive(Drop)]
-struct Events {
+pub(super) struct Events {
     list: Vec<Event>,
     sent: usize,
 }
@@ -21,6 +21,11 @@ impl Events {
             list: Vec::new(alloc),
             sent: 0,
         }
+    }
+
+    /// The events in their order.
+    pub(super) fn as_slice(&self) -> &[Event] {
+        &self.list
     }
 
     fn add(&mut self, event: Event) -> Option<()> {
@@ -68,7 +73,7 @@ fn runs(rt: &impl Abort, world: &mut World<Table>, events: Option<Events>) {
 }
 
 /// Three clients reserve two of three cells each, in a circle.
-fn in_a_circle(alloc: Global) -> Option<Events> {
+pub(super) fn in_a_circle(alloc: Global) -> Option<Events> {
     let mut events = Events::new(alloc);
     for client in [7, 8, 9] {
         events.trips(&[(client, 1), (client, 2), (client, 3)])?;
@@ -112,7 +117,7 @@ fn runs_a_circle_of_locks(rt: HostRuntime) -> Result<(), Fail> {
 
 /// A client restarts once its block may open at both handlers. The Open to the second comes before its greeting
 /// there, that to the first behind it.
-fn between_openings(alloc: Global) -> Option<Events> {
+pub(super) fn between_openings(alloc: Global) -> Option<Events> {
     let mut events = Events::new(alloc);
     events.trips(&[(7, 1), (7, 2)])?;
     events.reserve_two(7, 1, 2)?;

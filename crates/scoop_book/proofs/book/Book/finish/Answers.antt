@@ -1,78 +1,121 @@
 use Rattle.std.proofs.Common.{◌≡◌, ◌++◌, ◌∷◌, [], ap, sym, ◌∙◌, subst, arith}
 use Rattle.scoop_message.specs.declared.name.HandlerId.{HandlerId}
-use Rattle.scoop_record.specs.Keeper.{IsSame, Stays}
-use Rattle.scoop_record.proofs.KeeperLemmas.{is_same_same, stays_same}
+use Rattle.scoop_keeper.specs.Keeper.{IsSame, Stays}
+use Rattle.scoop_keeper.proofs.KeeperLemmas.{is_same_same, stays_same}
 use Rattle.scoop_book.specs.declared.event.Event.TheVariants.{Finish}
 use Rattle.scoop_book.specs.declared.event.Reply.TheVariants.{Finished}
 use Rattle.scoop_book.specs.Moves.{is_handler}
 use Rattle.scoop_book.specs.Books.{BookValue, IsUnfinished, KeepsNew}
-use Rattle.scoop_record.specs.Keyed.{IsFirst}
+use Rattle.scoop_keeper.specs.Keyed.{IsFirst}
 use Rattle.scoop_book.proofs.BookLemmas.{book_more, book_same, entered, gains, job_refusal, keeper_is, failed_is, may_happen, room_refusal, still_works}
 use Rattle.scoop_book.proofs.book.Book.finish.Goals as goal
 
 pub returns-in_default-reserve-clause-incarnations : goal.returns-in_default-reserve-clause-incarnations
 returns-in_default-reserve-clause-incarnations g c honest =
-    subst (λ k. IsSame (g.K.Keeper.incarnations k) (g.K.Keeper.incarnations c.self.inside.handlers.keeper)) (keeper_is c.self.inside.opening.items c.self.inside.handlers c.self.inside.history.items c.self.inside.limit c.self.inside.failed c.args.self.now c.self.view_is) (is_same_same (g.K.Keeper.incarnations c.self.inside.handlers.keeper))
+    subst (λ k. IsSame (g.K.Keeper.incarnations k) (g.K.Keeper.incarnations c.self.inside.handlers.keeper))
+    (keeper_is c.self.inside.opening.items c.self.inside.handlers c.self.inside.history.items c.self.inside.limit c.self.inside.failed c.args.self.now
+    c.self.view_is) (is_same_same (g.K.Keeper.incarnations c.self.inside.handlers.keeper))
 
 pub returns-in_default-reserve-clause-refused : goal.returns-in_default-reserve-clause-refused
 returns-in_default-reserve-clause-refused g c =
     subst (IsUnfinished c.args.self.now c.args.done) (sym c.refused-in_default-reserve.ensures.cause)
-    (room_refusal c.args.self.now c.args.done c.self.inside.handlers.handlers c.in-Some.at (ap (λ (x : BookValue g.row.K.Denot). x.handlers) c.self.view_is) (subst (λ (h : HandlerId). IsFirst (is_handler h) c.self.inside.handlers.handlers c.in-Some.at) c.handler-handler.ensures c.in-Some.ensures)
-    (may_happen c.self.inside.opening.items c.self.inside.handlers c.self.inside.history.items c.self.inside.limit c.self.inside.failed c.args.self.now c.self.view_is c.args.done.handler c.in-Some.at c.if-self.false (omega (arith, c.if-len-self.false, c.len.ensures)) (subst (λ (h : HandlerId). IsFirst (is_handler h) c.self.inside.handlers.handlers c.in-Some.at) c.handler-handler.ensures c.in-Some.ensures))
+    (room_refusal c.args.self.now c.args.done c.self.inside.handlers.handlers c.in-Some.at (ap (λ (x : BookValue g.row.K.Denot). x.handlers) c.self.view_is)
+    (subst (λ (h : HandlerId). IsFirst (is_handler h) c.self.inside.handlers.handlers c.in-Some.at) c.handler-handler.ensures c.in-Some.ensures)
+    (may_happen c.self.inside.opening.items c.self.inside.handlers c.self.inside.history.items c.self.inside.limit c.self.inside.failed c.args.self.now
+    c.self.view_is c.args.done.handler c.in-Some.at c.if-self.false (omega (arith, c.if-len-self.false, c.len.ensures))
+    (subst (λ (h : HandlerId). IsFirst (is_handler h) c.self.inside.handlers.handlers c.in-Some.at) c.handler-handler.ensures c.in-Some.ensures))
     c.no_room_to_finish-cause.result c.no_room_to_finish-cause.ensures.stranger c.no_room_to_finish-cause.ensures.named)
 
 pub returns-in_default-reserve-clause-failed : goal.returns-in_default-reserve-clause-failed
 returns-in_default-reserve-clause-failed g c =
-    still_works c.args.self.now c.self.inside.failed c.refused-in_default-reserve.result.cause c.no_room_to_finish-cause.result (failed_is c.self.inside.opening.items c.self.inside.handlers c.self.inside.history.items c.self.inside.limit c.self.inside.failed c.args.self.now c.self.view_is) c.refused-in_default-reserve.ensures.cause c.no_room_to_finish-cause.ensures.named
+    still_works c.args.self.now c.self.inside.failed c.refused-in_default-reserve.result.cause c.no_room_to_finish-cause.result
+    (failed_is c.self.inside.opening.items c.self.inside.handlers c.self.inside.history.items c.self.inside.limit c.self.inside.failed c.args.self.now
+    c.self.view_is) c.refused-in_default-reserve.ensures.cause c.no_room_to_finish-cause.ensures.named
 
 pub returns-in_default-reserve-clause-kept : goal.returns-in_default-reserve-clause-kept
 returns-in_default-reserve-clause-kept g c honest =
-    subst (λ k. Stays (g.K.Keeper.handlers k) (g.K.Keeper.handlers c.self.inside.handlers.keeper)) (keeper_is c.self.inside.opening.items c.self.inside.handlers c.self.inside.history.items c.self.inside.limit c.self.inside.failed c.args.self.now c.self.view_is) (stays_same (g.K.Keeper.handlers c.self.inside.handlers.keeper))
+    subst (λ k. Stays (g.K.Keeper.handlers k) (g.K.Keeper.handlers c.self.inside.handlers.keeper))
+    (keeper_is c.self.inside.opening.items c.self.inside.handlers c.self.inside.history.items c.self.inside.limit c.self.inside.failed c.args.self.now
+    c.self.view_is) (stays_same (g.K.Keeper.handlers c.self.inside.handlers.keeper))
 
 pub invariant_of-self-in-Err : goal.invariant_of-self-in-Err
 invariant_of-self-in-Err g c =
-    book_same c.self.inside.opening.items c.self.inside.handlers c.self.inside.history.items c.self.inside.limit c.self.inside.failed c.args.self.now c.self.view_is g.K.Keeper.handlers g.K.Keeper.is_honest c.finish.new.self c.reserve.new.self.items _ c.self.invariant c.in-Err.ensures.err c.reserve.ensures.items c.finish.ensures.held
+    book_same c.self.inside.opening.items c.self.inside.handlers c.self.inside.history.items c.self.inside.limit c.self.inside.failed c.args.self.now
+    c.self.view_is g.K.Keeper.handlers g.K.Keeper.is_honest c.finish.new.self c.reserve.new.self.items _ c.self.invariant c.in-Err.ensures.err
+    c.reserve.ensures.items c.finish.ensures.held
 
 pub returns-in-Err-clause-incarnations : goal.returns-in-Err-clause-incarnations
 returns-in-Err-clause-incarnations g c honest =
-    subst (λ k. IsSame (g.K.Keeper.incarnations k) (g.K.Keeper.incarnations c.finish.new.self.keeper)) (keeper_is c.self.inside.opening.items c.self.inside.handlers c.self.inside.history.items c.self.inside.limit c.self.inside.failed c.args.self.now c.self.view_is) (c.finish.ensures.incarnations honest)
+    subst (λ k. IsSame (g.K.Keeper.incarnations k) (g.K.Keeper.incarnations c.finish.new.self.keeper))
+    (keeper_is c.self.inside.opening.items c.self.inside.handlers c.self.inside.history.items c.self.inside.limit c.self.inside.failed c.args.self.now
+    c.self.view_is) (c.finish.ensures.incarnations honest)
 
 pub returns-in-Err-clause-refused : goal.returns-in-Err-clause-refused
 returns-in-Err-clause-refused g c =
     subst (IsUnfinished c.args.self.now c.args.done) (sym (c.refused-in-Err.ensures.cause ∙ c.job_refused-cause.ensures.cause))
-    (job_refusal c.args.self.now c.args.done c.self.inside.handlers.handlers c.in-Some.at (ap (λ (x : BookValue g.row.K.Denot). x.handlers) c.self.view_is) (subst (λ (h : HandlerId). IsFirst (is_handler h) c.self.inside.handlers.handlers c.in-Some.at) c.handler-handler.ensures c.in-Some.ensures)
-    (may_happen c.self.inside.opening.items c.self.inside.handlers c.self.inside.history.items c.self.inside.limit c.self.inside.failed c.args.self.now c.self.view_is c.args.done.handler c.in-Some.at c.if-self.false (omega (arith, c.if-len-self.false, c.len.ensures)) (subst (λ (h : HandlerId). IsFirst (is_handler h) c.self.inside.handlers.handlers c.in-Some.at) c.handler-handler.ensures c.in-Some.ensures))
+    (job_refusal c.args.self.now c.args.done c.self.inside.handlers.handlers c.in-Some.at (ap (λ (x : BookValue g.row.K.Denot). x.handlers) c.self.view_is)
+    (subst (λ (h : HandlerId). IsFirst (is_handler h) c.self.inside.handlers.handlers c.in-Some.at) c.handler-handler.ensures c.in-Some.ensures)
+    (may_happen c.self.inside.opening.items c.self.inside.handlers c.self.inside.history.items c.self.inside.limit c.self.inside.failed c.args.self.now
+    c.self.view_is c.args.done.handler c.in-Some.at c.if-self.false (omega (arith, c.if-len-self.false, c.len.ensures))
+    (subst (λ (h : HandlerId). IsFirst (is_handler h) c.self.inside.handlers.handlers c.in-Some.at) c.handler-handler.ensures c.in-Some.ensures))
     c.in-Err.error.cause c.in-Err.ensures.stranger)
 
 pub returns-in-Err-clause-kept : goal.returns-in-Err-clause-kept
 returns-in-Err-clause-kept g c honest =
-    subst (λ k. Stays (g.K.Keeper.handlers k) (g.K.Keeper.handlers c.finish.new.self.keeper)) (keeper_is c.self.inside.opening.items c.self.inside.handlers c.self.inside.history.items c.self.inside.limit c.self.inside.failed c.args.self.now c.self.view_is) (c.in-Err.ensures.kept honest)
+    subst (λ k. Stays (g.K.Keeper.handlers k) (g.K.Keeper.handlers c.finish.new.self.keeper))
+    (keeper_is c.self.inside.opening.items c.self.inside.handlers c.self.inside.history.items c.self.inside.limit c.self.inside.failed c.args.self.now
+    c.self.view_is) (c.in-Err.ensures.kept honest)
 
 pub returns-in-Err-clause-sound : goal.returns-in-Err-clause-sound
 returns-in-Err-clause-sound g c =
-    book_same c.self.inside.opening.items c.self.inside.handlers c.self.inside.history.items c.self.inside.limit c.self.inside.failed c.args.self.now c.self.view_is g.K.Keeper.handlers g.K.Keeper.is_honest c.finish.new.self c.reserve.new.self.items _ c.self.invariant c.in-Err.ensures.err c.reserve.ensures.items c.finish.ensures.held
+    book_same c.self.inside.opening.items c.self.inside.handlers c.self.inside.history.items c.self.inside.limit c.self.inside.failed c.args.self.now
+    c.self.view_is g.K.Keeper.handlers g.K.Keeper.is_honest c.finish.new.self c.reserve.new.self.items _ c.self.invariant c.in-Err.ensures.err
+    c.reserve.ensures.items c.finish.ensures.held
 
 pub returns-clause-stored : goal.returns-clause-stored
 returns-clause-stored g c honest =
-    subst (λ k. KeepsNew c.args.done.handler c.finish.new.self.handlers (g.K.Keeper.handlers k) (g.K.Keeper.handlers c.finish.new.self.keeper)) (keeper_is c.self.inside.opening.items c.self.inside.handlers c.self.inside.history.items c.self.inside.limit c.self.inside.failed c.args.self.now c.self.view_is) (c.in-Ok-finish.ensures.stored honest)
+    subst (λ k. KeepsNew c.args.done.handler c.finish.new.self.handlers (g.K.Keeper.handlers k) (g.K.Keeper.handlers c.finish.new.self.keeper))
+    (keeper_is c.self.inside.opening.items c.self.inside.handlers c.self.inside.history.items c.self.inside.limit c.self.inside.failed c.args.self.now
+    c.self.view_is) (c.in-Ok-finish.ensures.stored honest)
 
 pub returns-clause-incarnations : goal.returns-clause-incarnations
 returns-clause-incarnations g c honest =
-    subst (λ k. IsSame (g.K.Keeper.incarnations k) (g.K.Keeper.incarnations c.finish.new.self.keeper)) (keeper_is c.self.inside.opening.items c.self.inside.handlers c.self.inside.history.items c.self.inside.limit c.self.inside.failed c.args.self.now c.self.view_is) (c.finish.ensures.incarnations honest)
+    subst (λ k. IsSame (g.K.Keeper.incarnations k) (g.K.Keeper.incarnations c.finish.new.self.keeper))
+    (keeper_is c.self.inside.opening.items c.self.inside.handlers c.self.inside.history.items c.self.inside.limit c.self.inside.failed c.args.self.now
+    c.self.view_is) (c.finish.ensures.incarnations honest)
 
 pub returns-clause-honest : goal.returns-clause-honest
-returns-clause-honest g c honest = subst (λ k. g.K.Keeper.is_honest k) (keeper_is c.self.inside.opening.items c.self.inside.handlers c.self.inside.history.items c.self.inside.limit c.self.inside.failed c.args.self.now c.self.view_is) (c.finish.ensures.honest honest)
+returns-clause-honest g c honest = subst (λ k. g.K.Keeper.is_honest k)
+    (keeper_is c.self.inside.opening.items c.self.inside.handlers c.self.inside.history.items c.self.inside.limit c.self.inside.failed c.args.self.now
+    c.self.view_is) (c.finish.ensures.honest honest)
 
 pub invariant_of-self-2 : goal.invariant_of-self-2
 invariant_of-self-2 g c =
-    book_more c.self.inside.opening.items c.self.inside.handlers c.self.inside.history.items c.self.inside.limit c.self.inside.failed c.args.self.now c.self.view_is c.finish.new.self c.enter.new.history.items c.args.pass (Finish c.args.done.handler) (Finished c.in-Ok-finish.ran) c.in-Ok-finish.ensures.moves (entered c.self.inside.history.items c.reserve.new.self.items c.enter.new.history.items c.args.pass (Finish c.args.done.handler) (Finished c.in-Ok-finish.ran) c.finished-reply.result (subst (λ (h : HandlerId). c.enter.new.history.items ≡ c.reserve.new.self.items ++ (c.args.pass, Finish h, c.finished-reply.result) ∷ []) c.handler-handler.ensures c.enter.ensures) c.reserve.ensures.items c.finished-reply.ensures)
+    book_more c.self.inside.opening.items c.self.inside.handlers c.self.inside.history.items c.self.inside.limit c.self.inside.failed c.args.self.now
+    c.self.view_is c.finish.new.self c.enter.new.history.items c.args.pass (Finish c.args.done.handler)
+    (Finished c.in-Ok-finish.ran) c.in-Ok-finish.ensures.moves
+    (entered c.self.inside.history.items c.reserve.new.self.items c.enter.new.history.items c.args.pass (Finish c.args.done.handler)
+    (Finished c.in-Ok-finish.ran) c.finished-reply.result
+    (subst (λ (h : HandlerId). c.enter.new.history.items ≡ c.reserve.new.self.items ++ (c.args.pass, Finish h, c.finished-reply.result) ∷ [])
+    c.handler-handler.ensures c.enter.ensures) c.reserve.ensures.items c.finished-reply.ensures)
     g.K.Keeper.handlers g.K.Keeper.is_honest c.self.invariant.replays (omega (arith, c.if-len-self.false, c.len.ensures)) c.finish.ensures.held
 
 pub returns-clause-gains : goal.returns-clause-gains
 returns-clause-gains g c =
-    gains c.self.inside.opening.items c.self.inside.handlers c.self.inside.history.items c.self.inside.limit c.self.inside.failed c.args.self.now c.self.view_is c.finish.new.self c.enter.new.history.items c.args.pass (Finish c.args.done.handler) (Finished c.in-Ok-finish.ran) c.in-Ok-finish.ensures.moves (entered c.self.inside.history.items c.reserve.new.self.items c.enter.new.history.items c.args.pass (Finish c.args.done.handler) (Finished c.in-Ok-finish.ran) c.finished-reply.result (subst (λ (h : HandlerId). c.enter.new.history.items ≡ c.reserve.new.self.items ++ (c.args.pass, Finish h, c.finished-reply.result) ∷ []) c.handler-handler.ensures c.enter.ensures) c.reserve.ensures.items c.finished-reply.ensures)
+    gains c.self.inside.opening.items c.self.inside.handlers c.self.inside.history.items c.self.inside.limit c.self.inside.failed c.args.self.now c.self.view_is
+    c.finish.new.self c.enter.new.history.items c.args.pass (Finish c.args.done.handler) (Finished c.in-Ok-finish.ran) c.in-Ok-finish.ensures.moves
+    (entered c.self.inside.history.items c.reserve.new.self.items c.enter.new.history.items c.args.pass (Finish c.args.done.handler)
+    (Finished c.in-Ok-finish.ran) c.finished-reply.result
+    (subst (λ (h : HandlerId). c.enter.new.history.items ≡ c.reserve.new.self.items ++ (c.args.pass, Finish h, c.finished-reply.result) ∷ [])
+    c.handler-handler.ensures c.enter.ensures) c.reserve.ensures.items c.finished-reply.ensures)
 
 pub returns-clause-sound : goal.returns-clause-sound
 returns-clause-sound g c =
-    book_more c.self.inside.opening.items c.self.inside.handlers c.self.inside.history.items c.self.inside.limit c.self.inside.failed c.args.self.now c.self.view_is c.finish.new.self c.enter.new.history.items c.args.pass (Finish c.args.done.handler) (Finished c.in-Ok-finish.ran) c.in-Ok-finish.ensures.moves (entered c.self.inside.history.items c.reserve.new.self.items c.enter.new.history.items c.args.pass (Finish c.args.done.handler) (Finished c.in-Ok-finish.ran) c.finished-reply.result (subst (λ (h : HandlerId). c.enter.new.history.items ≡ c.reserve.new.self.items ++ (c.args.pass, Finish h, c.finished-reply.result) ∷ []) c.handler-handler.ensures c.enter.ensures) c.reserve.ensures.items c.finished-reply.ensures)
+    book_more c.self.inside.opening.items c.self.inside.handlers c.self.inside.history.items c.self.inside.limit c.self.inside.failed c.args.self.now
+    c.self.view_is c.finish.new.self c.enter.new.history.items c.args.pass (Finish c.args.done.handler)
+    (Finished c.in-Ok-finish.ran) c.in-Ok-finish.ensures.moves
+    (entered c.self.inside.history.items c.reserve.new.self.items c.enter.new.history.items c.args.pass (Finish c.args.done.handler)
+    (Finished c.in-Ok-finish.ran) c.finished-reply.result
+    (subst (λ (h : HandlerId). c.enter.new.history.items ≡ c.reserve.new.self.items ++ (c.args.pass, Finish h, c.finished-reply.result) ∷ [])
+    c.handler-handler.ensures c.enter.ensures) c.reserve.ensures.items c.finished-reply.ensures)
     g.K.Keeper.handlers g.K.Keeper.is_honest c.self.invariant.replays (omega (arith, c.if-len-self.false, c.len.ensures)) c.finish.ensures.held

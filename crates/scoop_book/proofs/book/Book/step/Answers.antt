@@ -1,56 +1,86 @@
 use Rattle.std.proofs.Common.{refl, ap, sym, ◌∙◌, subst, arith}
 use Rattle.scoop_message.specs.declared.name.HandlerId.{HandlerId}
-use Rattle.scoop_record.specs.Keeper.{IsSame, Stays}
-use Rattle.scoop_record.proofs.KeeperLemmas.{stays_same}
+use Rattle.scoop_keeper.specs.Keeper.{IsSame, Stays}
+use Rattle.scoop_keeper.proofs.KeeperLemmas.{stays_same}
 use Rattle.scoop_book.specs.declared.event.Event.{Event}
 use Rattle.scoop_book.specs.declared.event.Reply.TheVariants.{Heard}
 use Rattle.scoop_book.specs.Moves.{Moves, handler_at, is_handler}
-use Rattle.scoop_record.specs.Keyed.{IsFirst}
+use Rattle.scoop_keeper.specs.Keyed.{IsFirst}
 use Rattle.scoop_book.proofs.BookLemmas.{book_more, book_same, entered, gains, keeper_is, may_happen, put_refusal}
 use Rattle.scoop_book.proofs.book.Book.step.Goals as goal
 
 pub returns-in_default-reserve-clause-refused : goal.returns-in_default-reserve-clause-refused
-returns-in_default-reserve-clause-refused g c = (may_happen c.self.inside.opening.items c.self.inside.handlers c.self.inside.history.items c.self.inside.limit c.self.inside.failed c.args.self.now c.self.view_is (handler_at c.args.event) c.in-Some.at c.if-self.false (omega (arith, c.if-len-self.false, c.len.ensures)) (subst (λ (h : HandlerId). IsFirst (is_handler h) c.self.inside.handlers.handlers c.in-Some.at) (c.handler.ensures ∙ sym (ap handler_at c.in-Hear.is)) c.in-Some.ensures))
+returns-in_default-reserve-clause-refused g c = (may_happen c.self.inside.opening.items c.self.inside.handlers c.self.inside.history.items c.self.inside.limit
+    c.self.inside.failed c.args.self.now c.self.view_is (handler_at c.args.event) c.in-Some.at c.if-self.false
+    (omega (arith, c.if-len-self.false, c.len.ensures)) (subst (λ (h : HandlerId). IsFirst (is_handler h) c.self.inside.handlers.handlers c.in-Some.at)
+    (c.handler.ensures ∙ sym (ap handler_at c.in-Hear.is)) c.in-Some.ensures))
 
 pub returns-in_default-reserve-clause-kept : goal.returns-in_default-reserve-clause-kept
 returns-in_default-reserve-clause-kept g c honest =
-    subst (λ k. Stays (g.K.Keeper.handlers k) (g.K.Keeper.handlers c.self.inside.handlers.keeper)) (keeper_is c.self.inside.opening.items c.self.inside.handlers c.self.inside.history.items c.self.inside.limit c.self.inside.failed c.args.self.now c.self.view_is) (stays_same (g.K.Keeper.handlers c.self.inside.handlers.keeper))
+    subst (λ k. Stays (g.K.Keeper.handlers k) (g.K.Keeper.handlers c.self.inside.handlers.keeper))
+    (keeper_is c.self.inside.opening.items c.self.inside.handlers c.self.inside.history.items c.self.inside.limit c.self.inside.failed c.args.self.now
+    c.self.view_is) (stays_same (g.K.Keeper.handlers c.self.inside.handlers.keeper))
 
 pub invariant_of-self-in-Err : goal.invariant_of-self-in-Err
 invariant_of-self-in-Err g c =
-    book_same c.self.inside.opening.items c.self.inside.handlers c.self.inside.history.items c.self.inside.limit c.self.inside.failed c.args.self.now c.self.view_is g.K.Keeper.handlers g.K.Keeper.is_honest c.hear.new.self c.reserve.new.self.items _ c.self.invariant c.in-Err.ensures.err c.reserve.ensures.items c.hear.ensures.held
+    book_same c.self.inside.opening.items c.self.inside.handlers c.self.inside.history.items c.self.inside.limit c.self.inside.failed c.args.self.now
+    c.self.view_is g.K.Keeper.handlers g.K.Keeper.is_honest c.hear.new.self c.reserve.new.self.items _ c.self.invariant c.in-Err.ensures.err
+    c.reserve.ensures.items c.hear.ensures.held
 
 pub returns-in-Err-clause-incarnations : goal.returns-in-Err-clause-incarnations
 returns-in-Err-clause-incarnations g c honest =
-    subst (λ k. IsSame (g.K.Keeper.incarnations k) (g.K.Keeper.incarnations c.hear.new.self.keeper)) (keeper_is c.self.inside.opening.items c.self.inside.handlers c.self.inside.history.items c.self.inside.limit c.self.inside.failed c.args.self.now c.self.view_is) (c.hear.ensures.incarnations honest)
+    subst (λ k. IsSame (g.K.Keeper.incarnations k) (g.K.Keeper.incarnations c.hear.new.self.keeper))
+    (keeper_is c.self.inside.opening.items c.self.inside.handlers c.self.inside.history.items c.self.inside.limit c.self.inside.failed c.args.self.now
+    c.self.view_is) (c.hear.ensures.incarnations honest)
 
 pub returns-in-Err-clause-refused : goal.returns-in-Err-clause-refused
 returns-in-Err-clause-refused g c =
     put_refusal c.args.self.now (handler_at c.args.event) c.put_refused.result c.put_refused.ensures.named
-    (may_happen c.self.inside.opening.items c.self.inside.handlers c.self.inside.history.items c.self.inside.limit c.self.inside.failed c.args.self.now c.self.view_is (handler_at c.args.event) c.in-Some.at c.if-self.false (omega (arith, c.if-len-self.false, c.len.ensures)) (subst (λ (h : HandlerId). IsFirst (is_handler h) c.self.inside.handlers.handlers c.in-Some.at) (c.handler.ensures ∙ sym (ap handler_at c.in-Hear.is)) c.in-Some.ensures))
+    (may_happen c.self.inside.opening.items c.self.inside.handlers c.self.inside.history.items c.self.inside.limit c.self.inside.failed c.args.self.now
+    c.self.view_is (handler_at c.args.event) c.in-Some.at c.if-self.false (omega (arith, c.if-len-self.false, c.len.ensures))
+    (subst (λ (h : HandlerId). IsFirst (is_handler h) c.self.inside.handlers.handlers c.in-Some.at)
+    (c.handler.ensures ∙ sym (ap handler_at c.in-Hear.is)) c.in-Some.ensures))
 
 pub returns-in-Err-clause-kept : goal.returns-in-Err-clause-kept
 returns-in-Err-clause-kept g c honest =
-    subst (λ k. Stays (g.K.Keeper.handlers k) (g.K.Keeper.handlers c.hear.new.self.keeper)) (keeper_is c.self.inside.opening.items c.self.inside.handlers c.self.inside.history.items c.self.inside.limit c.self.inside.failed c.args.self.now c.self.view_is) (c.in-Err.ensures.kept honest)
+    subst (λ k. Stays (g.K.Keeper.handlers k) (g.K.Keeper.handlers c.hear.new.self.keeper))
+    (keeper_is c.self.inside.opening.items c.self.inside.handlers c.self.inside.history.items c.self.inside.limit c.self.inside.failed c.args.self.now
+    c.self.view_is) (c.in-Err.ensures.kept honest)
 
 pub returns-in-Err-clause-sound : goal.returns-in-Err-clause-sound
 returns-in-Err-clause-sound g c =
-    book_same c.self.inside.opening.items c.self.inside.handlers c.self.inside.history.items c.self.inside.limit c.self.inside.failed c.args.self.now c.self.view_is g.K.Keeper.handlers g.K.Keeper.is_honest c.hear.new.self c.reserve.new.self.items _ c.self.invariant c.in-Err.ensures.err c.reserve.ensures.items c.hear.ensures.held
+    book_same c.self.inside.opening.items c.self.inside.handlers c.self.inside.history.items c.self.inside.limit c.self.inside.failed c.args.self.now
+    c.self.view_is g.K.Keeper.handlers g.K.Keeper.is_honest c.hear.new.self c.reserve.new.self.items _ c.self.invariant c.in-Err.ensures.err
+    c.reserve.ensures.items c.hear.ensures.held
 
 pub returns-clause-incarnations : goal.returns-clause-incarnations
 returns-clause-incarnations g c honest =
-    subst (λ k. IsSame (g.K.Keeper.incarnations k) (g.K.Keeper.incarnations c.hear.new.self.keeper)) (keeper_is c.self.inside.opening.items c.self.inside.handlers c.self.inside.history.items c.self.inside.limit c.self.inside.failed c.args.self.now c.self.view_is) (c.hear.ensures.incarnations honest)
+    subst (λ k. IsSame (g.K.Keeper.incarnations k) (g.K.Keeper.incarnations c.hear.new.self.keeper))
+    (keeper_is c.self.inside.opening.items c.self.inside.handlers c.self.inside.history.items c.self.inside.limit c.self.inside.failed c.args.self.now
+    c.self.view_is) (c.hear.ensures.incarnations honest)
 
 pub invariant_of-self-2 : goal.invariant_of-self-2
 invariant_of-self-2 g c =
-    book_more c.self.inside.opening.items c.self.inside.handlers c.self.inside.history.items c.self.inside.limit c.self.inside.failed c.args.self.now c.self.view_is c.hear.new.self c.enter.new.history.items c.args.pass c.args.event (Heard c.in-Ok-hear.heard) (subst (λ (e : Event). Moves e (Heard c.in-Ok-hear.heard) c.self.inside.handlers.handlers c.hear.new.self.handlers) (sym c.in-Hear.is) c.in-Ok-hear.ensures.moves) (entered c.self.inside.history.items c.reserve.new.self.items c.enter.new.history.items c.args.pass c.args.event (Heard c.in-Ok-hear.heard) (Heard c.in-Ok-hear.heard) c.enter.ensures c.reserve.ensures.items refl)
+    book_more c.self.inside.opening.items c.self.inside.handlers c.self.inside.history.items c.self.inside.limit c.self.inside.failed c.args.self.now
+    c.self.view_is c.hear.new.self c.enter.new.history.items c.args.pass c.args.event (Heard c.in-Ok-hear.heard)
+    (subst (λ (e : Event). Moves e (Heard c.in-Ok-hear.heard) c.self.inside.handlers.handlers c.hear.new.self.handlers)
+    (sym c.in-Hear.is) c.in-Ok-hear.ensures.moves) (entered c.self.inside.history.items c.reserve.new.self.items c.enter.new.history.items c.args.pass
+    c.args.event (Heard c.in-Ok-hear.heard) (Heard c.in-Ok-hear.heard) c.enter.ensures c.reserve.ensures.items refl)
     g.K.Keeper.handlers g.K.Keeper.is_honest c.self.invariant.replays (omega (arith, c.if-len-self.false, c.len.ensures)) c.hear.ensures.held
 
 pub returns-clause-gains : goal.returns-clause-gains
 returns-clause-gains g c =
-    gains c.self.inside.opening.items c.self.inside.handlers c.self.inside.history.items c.self.inside.limit c.self.inside.failed c.args.self.now c.self.view_is c.hear.new.self c.enter.new.history.items c.args.pass c.args.event (Heard c.in-Ok-hear.heard) (subst (λ (e : Event). Moves e (Heard c.in-Ok-hear.heard) c.self.inside.handlers.handlers c.hear.new.self.handlers) (sym c.in-Hear.is) c.in-Ok-hear.ensures.moves) (entered c.self.inside.history.items c.reserve.new.self.items c.enter.new.history.items c.args.pass c.args.event (Heard c.in-Ok-hear.heard) (Heard c.in-Ok-hear.heard) c.enter.ensures c.reserve.ensures.items refl)
+    gains c.self.inside.opening.items c.self.inside.handlers c.self.inside.history.items c.self.inside.limit c.self.inside.failed c.args.self.now c.self.view_is
+    c.hear.new.self c.enter.new.history.items c.args.pass c.args.event (Heard c.in-Ok-hear.heard)
+    (subst (λ (e : Event). Moves e (Heard c.in-Ok-hear.heard) c.self.inside.handlers.handlers c.hear.new.self.handlers)
+    (sym c.in-Hear.is) c.in-Ok-hear.ensures.moves) (entered c.self.inside.history.items c.reserve.new.self.items c.enter.new.history.items c.args.pass
+    c.args.event (Heard c.in-Ok-hear.heard) (Heard c.in-Ok-hear.heard) c.enter.ensures c.reserve.ensures.items refl)
 
 pub returns-clause-sound : goal.returns-clause-sound
 returns-clause-sound g c =
-    book_more c.self.inside.opening.items c.self.inside.handlers c.self.inside.history.items c.self.inside.limit c.self.inside.failed c.args.self.now c.self.view_is c.hear.new.self c.enter.new.history.items c.args.pass c.args.event (Heard c.in-Ok-hear.heard) (subst (λ (e : Event). Moves e (Heard c.in-Ok-hear.heard) c.self.inside.handlers.handlers c.hear.new.self.handlers) (sym c.in-Hear.is) c.in-Ok-hear.ensures.moves) (entered c.self.inside.history.items c.reserve.new.self.items c.enter.new.history.items c.args.pass c.args.event (Heard c.in-Ok-hear.heard) (Heard c.in-Ok-hear.heard) c.enter.ensures c.reserve.ensures.items refl)
+    book_more c.self.inside.opening.items c.self.inside.handlers c.self.inside.history.items c.self.inside.limit c.self.inside.failed c.args.self.now
+    c.self.view_is c.hear.new.self c.enter.new.history.items c.args.pass c.args.event (Heard c.in-Ok-hear.heard)
+    (subst (λ (e : Event). Moves e (Heard c.in-Ok-hear.heard) c.self.inside.handlers.handlers c.hear.new.self.handlers)
+    (sym c.in-Hear.is) c.in-Ok-hear.ensures.moves) (entered c.self.inside.history.items c.reserve.new.self.items c.enter.new.history.items c.args.pass
+    c.args.event (Heard c.in-Ok-hear.heard) (Heard c.in-Ok-hear.heard) c.enter.ensures c.reserve.ensures.items refl)
     g.K.Keeper.handlers g.K.Keeper.is_honest c.self.invariant.replays (omega (arith, c.if-len-self.false, c.len.ensures)) c.hear.ensures.held

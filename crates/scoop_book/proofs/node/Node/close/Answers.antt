@@ -7,11 +7,14 @@ use Rattle.scoop_book.proofs.node.Node.close.Goals as goal
 
 pub returns-in-None-clause-closed : goal.returns-in-None-clause-closed
 returns-in-None-clause-closed g c =
-    closed_of g.K.Keeper.handlers g.K.Keeper.is_honest c.into_inner-book.result c.args.self.passes c.self.inside.passes c.args.passes.items c.deref.result.now c.opening.result.now c.history.result.now c.into_closed.result.history.items c.into_closed.result.keeper
-    (ap (λ (n : NodeValue). n.passes) c.self.view_is) c.deref.ensures.value c.opening.ensures c.history.ensures.entries c.into_closed.ensures.history c.into_closed.ensures.keeper
+    closed_of g.K.Keeper.handlers g.K.Keeper.is_honest c.into_inner-book.result c.args.self.passes c.self.inside.passes c.args.passes.items c.deref.result.now
+    c.opening.result.now c.history.result.now c.into_closed.result.history.items c.into_closed.result.keeper
+    (ap (λ (n : NodeValue). n.passes) c.self.view_is) c.deref.ensures.value c.opening.ensures c.history.ensures.entries c.into_closed.ensures.history
+    c.into_closed.ensures.keeper
     c.history.ensures.sound c.in-None.ensures.complete c.in-None.ensures.agree c.in-None.ensures.no_others
 
 pub returns-in-Some-clause-missing : goal.returns-in-Some-clause-missing
 returns-in-Some-clause-missing g c =
     subst (λ (n : ℕ). (c.in-Some.cause ≡ MissingPass) ↔ (IsComplete n c.args.passes.items → ⊥)) (ap (λ (n : NodeValue). n.passes) c.self.view_is)
-    (subst (λ (ps : List PassValue). (c.in-Some.cause ≡ MissingPass) ↔ (IsComplete c.self.inside.passes ps → ⊥)) c.deref.ensures.value c.in-Some.ensures.missing)
+    (subst (λ (ps : List PassValue). (c.in-Some.cause ≡ MissingPass) ↔ (IsComplete c.self.inside.passes ps → ⊥))
+    c.deref.ensures.value c.in-Some.ensures.missing)

@@ -8,4 +8,5 @@ returns-in-Err-clause-err g c =
 
 pub returns-in-Ok-true-clause-err : goal.returns-in-Ok-true-clause-err
 returns-in-Ok-true-clause-err g c =
-    rw (← c.self.view_is) (stops_at_count _ _ _ (rw c.in-Ok-true.field-0-test at c.in-Ok-true.ensures.line) c.in-Ok-true.ensures.within c.if-number-gt-MAX_LINES.true)
+    rw (← c.self.view_is) (stops_at_count _ _ _ (rw c.in-Ok-true.field-0-test at c.in-Ok-true.ensures.line)
+    c.in-Ok-true.ensures.within c.if-number-gt-MAX_LINES.true)

@@ -16,7 +16,8 @@ loop-word-preserved c =
     let within : c.loop-word.count < length c.loop-word.handlers = omega (arith, words, c.loop-word.invariant.room, c.loop-word.invariant.size) in
     let front = take_more_set c.loop-word.handlers c.loop-word.count (record { 0 = c.in-Ok.number }) within in
     record {
-      read = c.loop-word.invariant.read ∙ rw c.in-Some.ensures.words (next ∙ ap (λ f. behind f (each_of handler_of (words_of c.in-Some.behind.now))) (sym front));
+      read = c.loop-word.invariant.read ∙ rw c.in-Some.ensures.words
+          (next ∙ ap (λ f. behind f (each_of handler_of (words_of c.in-Some.behind.now))) (sym front));
       room = omega (arith, words, c.loop-word.invariant.room);
       size = length-set c.loop-word.handlers c.loop-word.count _ ∙ c.loop-word.invariant.size;
     }

@@ -18,9 +18,11 @@ returns-clause-byte g c =
           let known = g.R.Read.remaining w.read_some.new.reader in
           let kept = refilled (g.R.Read.remaining c.self.inside.reader) known w.read_some.new.chunk w.in_ok-len.len w.in_ok-len.ensures.bytes.0 in
           let taken = takes_byte w.read_some.new.chunk 0 w.in_ok-len.len known some fits in
-          rw (w.self-inside-is, ← c.self.view_is, w.if-self.true, left_of_empty c.self.inside.chunk c.self.inside.end (g.R.Read.remaining c.self.inside.reader)) (Consumes-Keeps _ _ _ _ kept taken)
+          rw (w.self-inside-is, ← c.self.view_is, w.if-self.true, left_of_empty c.self.inside.chunk c.self.inside.end (g.R.Read.remaining c.self.inside.reader))
+          (Consumes-Keeps _ _ _ _ kept taken)
       | else-self w ↦
           let some : c.self.inside.start < c.self.inside.end = omega (arith, w.if-self.false, c.self.invariant.0) in
           let fits : c.self.inside.end ≤ length c.self.inside.chunk = omega (arith, c.self.invariant.1, c.self.told) in
-          rw (w.self-inside-is, ← c.self.view_is) (takes_byte c.self.inside.chunk c.self.inside.start c.self.inside.end (g.R.Read.remaining c.self.inside.reader) some fits)
+          rw (w.self-inside-is, ← c.self.view_is) (takes_byte c.self.inside.chunk c.self.inside.start c.self.inside.end
+          (g.R.Read.remaining c.self.inside.reader) some fits)
     ]

@@ -8,11 +8,13 @@ loop-entry-init g c = (logging_none (calls c.args.body.now) c.args.self.now.turn
 
 pub loop-entry-preserved : goal.loop-entry-preserved
 loop-entry-preserved g c = (
-  logging_more _ _ _ _ _ _ _ _ (logging_item _ _ _ _ _ _ c.loop-entry-test.true c.entry-item.is c.loop-entry.invariant.0) (rw c.loop-entry.invariant.1 at c.in-Ok.ensures.does),
+  logging_more _ _ _ _ _ _ _ _ (logging_item _ _ _ _ _ _ c.loop-entry-test.true c.entry-item.is c.loop-entry.invariant.0)
+      (rw c.loop-entry.invariant.1 at c.in-Ok.ensures.does),
   c.in-Ok.ensures.turns ∙ c.loop-entry.invariant.1,
 )
 
 pub returns-in-Err-clause-does : goal.returns-in-Err-clause-does
 returns-in-Err-clause-does g c =
-    logged_not c.args.body.now _ _ _ _ c.in-Err.error _ _ _ c.loop-entry-test.true (logging_item _ _ _ _ _ _ c.loop-entry-test.true c.entry-item.is c.loop-entry.invariant.0)
+    logged_not c.args.body.now _ _ _ _ c.in-Err.error _ _ _ c.loop-entry-test.true
+    (logging_item _ _ _ _ _ _ c.loop-entry-test.true c.entry-item.is c.loop-entry.invariant.0)
     (rw c.loop-entry.invariant.1 at c.in-Err.ensures.does)

@@ -5,4 +5,5 @@ use Rattle.scoop_driver.proofs.driver.Driver.call_all.Given as goal
 
 abbrev pub invariant-loop-entry : goal.invariant-loop-entry
 invariant-loop-entry g l =
-    Logging (l.entry-index * l.initial.self.turns) (calls l.body) (calls (drop l.entry-index l.body)) l.initial.self.seen l.self.seen × (l.self.turns ≡ l.initial.self.turns)
+    Logging (l.entry-index * l.initial.self.turns) (calls l.body) (calls (drop l.entry-index l.body)) l.initial.self.seen l.self.seen
+    × (l.self.turns ≡ l.initial.self.turns)

@@ -12,17 +12,21 @@ returns-in-Err-clause-does g c =
     let own : c.self.inside.client ≡ c.args.self.now.seen.client = ap (λ (d : DriverState _ _). d.seen.client) c.self.view_is in
     let is : command c.args.self.now.seen.client (Reserve c.args.handlers.now) ≡ Err c.in-Err.error =
     subst (λ (x : ClientState). command x (Reserve c.args.handlers.now) ≡ Err c.in-Err.error) own c.in-Err.ensures in
-    refused_now (Reserve c.args.handlers.now) c.args.self.now.turns c.in-Err.error c.args.self.now.seen c.args.self.now.seen (reserve_is_refused c.args.self.now.seen.client c.args.handlers.now c.in-Err.error is) refl
+    refused_now (Reserve c.args.handlers.now) c.args.self.now.turns c.in-Err.error c.args.self.now.seen c.args.self.now.seen
+    (reserve_is_refused c.args.self.now.seen.client c.args.handlers.now c.in-Err.error is) refl
 
 pub returns-in-Ok-give-clause-does : goal.returns-in-Ok-give-clause-does
 returns-in-Ok-give-clause-does g c =
     let turns : c.self.inside.turns ≡ c.args.self.now.turns = ap (λ (d : DriverState _ _). d.turns) c.self.view_is in
-    reserve_reached (given.Reserve c.of.result) c.args.handlers.now c.self.inside.turns c.args.self.now.turns c.turns_until.result _ _ _ (ap Reserve c.of.ensures) turns c.in-Ok-give.ensures.does c.turns_until.ensures.does
+    reserve_reached (given.Reserve c.of.result) c.args.handlers.now c.self.inside.turns c.args.self.now.turns c.turns_until.result _ _ _
+    (ap Reserve c.of.ensures) turns c.in-Ok-give.ensures.does c.turns_until.ensures.does
 
 pub returns-in-Ok-give-clause-runs : goal.returns-in-Ok-give-clause-runs
 returns-in-Ok-give-clause-runs g c =
-    reserve_runs (given.Reserve c.of.result) c.args.handlers.now c.self.inside.turns c.turns_until.result _ _ _ (ap Reserve c.of.ensures) c.in-Ok-give.ensures.does c.turns_until.ensures.does
+    reserve_runs (given.Reserve c.of.result) c.args.handlers.now c.self.inside.turns c.turns_until.result _ _ _
+    (ap Reserve c.of.ensures) c.in-Ok-give.ensures.does c.turns_until.ensures.does
 
 pub returns-in-Err-give-clause-does : goal.returns-in-Err-give-clause-does
 returns-in-Err-give-clause-does g c =
-    reserve_refused (given.Reserve c.of.result) c.args.handlers.now c.args.self.now.turns c.in-Err-give.error _ _ (ap Reserve c.of.ensures) c.in-Err-give.ensures.does
+    reserve_refused (given.Reserve c.of.result) c.args.handlers.now c.args.self.now.turns c.in-Err-give.error _ _
+    (ap Reserve c.of.ensures) c.in-Err-give.ensures.does

@@ -8,10 +8,12 @@ use Rattle.scoop_handler.proofs.handler.Handler.finish.Goals as goal
 pub invariant_of-self : goal.invariant_of-self
 invariant_of-self g c =
     let held = c.self.inside in
-    let core : Core = core_of held.class (state_of held.number held.holder held.marks.items held.queues (held_words g.B.Behaviour.words held.held)) (is_out held.held) in
+    let core : Core = core_of held.class (state_of held.number held.holder held.marks.items held.queues (held_words g.B.Behaviour.words held.presence))
+    (is_out held.presence) in
     let before : IsCore core = c.self.invariant.0 in
     let out : job_out core ≡ Some c.args.done = subst (λ (x : Core). job_out x ≡ Some c.args.done) (sym c.self.view_is) (c.if-not-is_out.ensures.0 refl) in
-    let marks : c.keep_answer_in.new.marks.items ≡ map (mark_after (ran_of c.args.done)) c.self.inside.marks.items = rw c.ran-ran.ensures at c.keep_answer_in.ensures in (
+    let marks : c.keep_answer_in.new.marks.items ≡ map (mark_after (ran_of c.args.done)) c.self.inside.marks.items =
+    rw c.ran-ran.ensures at c.keep_answer_in.ensures in (
       IsCore-done core c.args.done _ _ _ before out marks c.advance.ensures.left c.into_object-object.ensures.words,
       c.into_object-object.ensures.class ∙ job-class core c.args.done out,
     )

@@ -12,4 +12,5 @@ pub change-requires : goal.change-requires
 change-requires g c =
     let is : IsCore c.args.self.now = subst IsCore c.self.view_is c.self.invariant.0 in
     let free = ap (λ (s : Core). s.state.holder) (sym c.self.view_is) ∙ none_from_is_some c.self.inside.holder (c.if-is_none.ensures {u = tt}) in
-    rw c.fresh.ensures (IsState-granted c.args.self.now.state c.args.block c.args.mark is.state c.requires c.if-mark-block.true free (sym c.is_unfinished.ensures ∙ c.if-not-is_unfinished.true))
+    rw c.fresh.ensures (IsState-granted c.args.self.now.state c.args.block c.args.mark is.state c.requires c.if-mark-block.true free
+    (sym c.is_unfinished.ensures ∙ c.if-not-is_unfinished.true))

@@ -20,7 +20,8 @@ may g c =
     let no_gap : n ≤ k.received + 1 = omega (arith, c.if-from.false, c.from-3.ensures, c.from-4.ensures) in
     let next : IsNext k n es = record { new = more; no_gap = no_gap } in
     let closed : is_closed k (last_number n es) es ≡ false = ap (λ i. is_closed k i es) (sym last) ∙ (sym c.is_closed.ensures ∙ c.if-is_closed.false) in
-    let room : has_no_room s b (length (new_entries n es k)) ≡ false = ap (λ (l : List Entry). has_no_room s b (length l)) (sym c.unreceived-new.ensures.new) ∙ (sym c.has_no_room.ensures.value ∙ c.if-has_no_room.false) in
+    let room : has_no_room s b (length (new_entries n es k)) ≡ false = ap (λ (l : List Entry). has_no_room s b (length l)) (sym c.unreceived-new.ensures.new)
+    ∙ (sym c.has_no_room.ensures.value ∙ c.if-has_no_room.false) in
     may_take s b n es k c.has_no_room.ensures.core.state at next c.requires.some c.requires.end closed room
 
 pub put-requires-clause-end : goal.put-requires-clause-end

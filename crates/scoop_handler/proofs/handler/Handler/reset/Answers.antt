@@ -10,7 +10,7 @@ use Rattle.scoop_handler.proofs.handler.Handler.reset.Goals.{in-Here, in_default
 before : (g : Over) → (c : goal.After-drop-self-inside-5 g) → Core
 before g c =
     let h = c.self.inside in
-    core_of h.class (state_of h.number h.holder h.marks.items h.queues (held_words g.B.Behaviour.words h.held)) (is_out h.held)
+    core_of h.class (state_of h.number h.holder h.marks.items h.queues (held_words g.B.Behaviour.words h.presence)) (is_out h.presence)
 
 given : (g : Over) → (c : goal.After-drop-self-inside-5 g) → HandlerState
 given g c =
@@ -25,7 +25,8 @@ may g c =
 
 -- the parts afterwards are those of the state that was given
 parts : (g : Over) (c : goal.After-drop-self-inside-5 g)
-    → core_of c.match-self.self-inside.class (state_of c.match-self.self-inside.number c.match-self.state-inside.1.0 c.match-self.state-inside.1.1.0.items c.match-self.state-inside.1.1.1.0 (held_words g.B.Behaviour.words c.match-self.self-inside.held)) (is_out c.match-self.self-inside.held)
+    → core_of c.match-self.self-inside.class (state_of c.match-self.self-inside.number c.match-self.state-inside.1.0 c.match-self.state-inside.1.1.0.items
+    c.match-self.state-inside.1.1.1.0 (held_words g.B.Behaviour.words c.match-self.self-inside.presence)) (is_out c.match-self.self-inside.presence)
     ≡ with_state (given g c) (before g c)
 unfolding before given
 parts g c =
@@ -38,7 +39,8 @@ parts g c =
           rw (w.self-inside-is, w.state-inside-is) (given-parts (before g c) (given g c) _ _ _ (sym (may g c).number) words refl)
     ]
 
-here : (g : Over) (c : goal.After-drop-self-inside-5 g) → IfHere c.match-self.self-inside.held (λ object. g.B.Behaviour.class object ≡ c.match-self.self-inside.class)
+here : (g : Over) (c : goal.After-drop-self-inside-5 g) → IfHere c.match-self.self-inside.presence
+    (λ object. g.B.Behaviour.class object ≡ c.match-self.self-inside.class)
 here g c =
     elim c.match-self.branch [
       | in-Here w ↦ rw w.self-inside-is (w.set_words.ensures.class ∙ (rw w.in-Here.is at c.self.invariant).1)

@@ -13,7 +13,8 @@ pub invariant_of-self-2 : goal.invariant_of-self-2
 invariant_of-self-2 g c =
     let before = rw c.in-Here.is at c.self.invariant in
     let first = sym c.advance.ensures.taken ∙ c.in_ok-block.was in
-    let words : g.B.Behaviour.words c.run_entry-answer.new.object ≡ (entry_effect c.self.inside.class (g.B.Behaviour.words c.in-Here.object) c.in_ok-block.entry).0 = rw before.1 at c.run_entry-answer.ensures.words in (
+    let words : g.B.Behaviour.words c.run_entry-answer.new.object
+    ≡ (entry_effect c.self.inside.class (g.B.Behaviour.words c.in-Here.object) c.in_ok-block.entry).0 = rw before.1 at c.run_entry-answer.ensures.words in (
       IsCore-ran _ _ _ _ _ before.0 first c.keep_answer_in.ensures c.advance.ensures.left words,
       c.run_entry-answer.ensures.class ∙ before.1,
     )

@@ -9,6 +9,7 @@ overflow_add-from g c =
 
 pub returns-in-Some-find_mark : goal.returns-in-Some-find_mark
 returns-in-Some-find_mark g c =
-    mark-at c.args.marks.now c.args.queues.now c.args.i c.in-Some.head c.in-Some-find_mark.mark (c.from.result + c.pending_len-pending.result) c.fits_mark.result
+    mark-at c.args.marks.now c.args.queues.now c.args.i c.in-Some.head c.in-Some-find_mark.mark
+    (c.from.result + c.pending_len-pending.result) c.fits_mark.result
     c.list_len-list.ensures.queues (sym c.head.ensures ∙ c.in-Some.is) (sym c.find_mark.ensures ∙ c.in-Some-find_mark.is)
     (omega (arith, c.from.ensures, c.pending_len-pending.ensures)) c.fits_mark.ensures

@@ -14,5 +14,6 @@ returns c =
     let b = c.args.bytes.now in
     let h : Head = record { block = c.block_at-block.result; first = c.u32_at-first.result; state = c.in-Some.state } in (
       record { block = c.block_at-block.ensures.range; first = omega arith },
-      head_is b h c.from.result (λ i. omega (arith, c.type_inv.bytes i)) (omega (arith, c.if-bytes-lt18.false)) c.block_at-block.ensures.bytes c.in-Some.ensures c.u32_at-first.ensures c.from.ensures,
+      head_is b h c.from.result (λ i. omega (arith, c.type_inv.bytes i))
+          (omega (arith, c.if-bytes-lt18.false)) c.block_at-block.ensures.bytes c.in-Some.ensures c.u32_at-first.ensures c.from.ensures,
     )

@@ -20,7 +20,8 @@ pub loop-i-preserved : goal.loop-i-preserved
 loop-i-preserved c = record {
   room = omega (arith, length-set c.loop-i.items c.loop-i.i c.u64_at.result);
   fit = words_fit-set c.loop-i.items c.loop-i.i c.u64_at.result c.loop-i.invariant.fit (omega arith);
-  words = words_more c.args.bytes.now c.loop-i.items c.loop-i.i c.u64_at.result (λ k. omega (arith, c.type_inv.bytes k)) (omega arith) c.u64_at.ensures c.loop-i.invariant.words;
+  words = words_more c.args.bytes.now c.loop-i.items c.loop-i.i c.u64_at.result (λ k. omega (arith, c.type_inv.bytes k))
+      (omega arith) c.u64_at.ensures c.loop-i.invariant.words;
 }
 
 pub returns-in-Ok : goal.returns-in-Ok
@@ -31,7 +32,8 @@ returns-in-Ok c =
     let words = c.in-Ok.words in
     let of = c.in-Ok.ensures in
     let i-is : count ≡ c.loop-i.i = omega arith in
-    let words-are : flat_map (to_be_bytes w64) words ≡ front 1 (8 * count) b = ap (flat_map (to_be_bytes w64)) of.1 ∙ subst (λ (n : ℕ). flat_map (to_be_bytes w64) (take n items) ≡ front 1 (8 * n) b) (sym i-is) c.loop-i.invariant.words in
+    let words-are : flat_map (to_be_bytes w64) words ≡ front 1 (8 * count) b = ap (flat_map (to_be_bytes w64)) of.1
+    ∙ subst (λ (n : ℕ). flat_map (to_be_bytes w64) (take n items) ≡ front 1 (8 * n) b) (sym i-is) c.loop-i.invariant.words in
     let len : length words ≡ count = omega (arith, ap length of.1, length-take-le count items, c.loop-i.invariant.room) in (
       record {
         count = record { some = omega (arith, of.0.0); few = omega (arith, len, c.if-count-gt-MAX_WORDS.false) };

@@ -6,11 +6,13 @@ use Rattle.scoop_record.proofs.images.reading.add_queue.Goals as goal
 
 pub returns-then-count-gt-MAX_PENDING-clause-bad : goal.returns-then-count-gt-MAX_PENDING-clause-bad
 returns-then-count-gt-MAX_PENDING-clause-bad g c = λ _.
-    none-many c.args.queues.now c.args.heads.now c.args.entries.now c.in-Some.head c.in-Some.count c.in-Some.ensures (omega (arith, c.if-count-gt-MAX_PENDING.true))
+    none-many c.args.queues.now c.args.heads.now c.args.entries.now c.in-Some.head c.in-Some.count c.in-Some.ensures
+    (omega (arith, c.if-count-gt-MAX_PENDING.true))
 
 pub returns-in_default-entries_from-clause-bad : goal.returns-in_default-entries_from-clause-bad
 returns-in_default-entries_from-clause-bad g c = λ _.
-    none-entries c.args.queues.now c.args.heads.now c.args.entries.now c.in-Some.head c.in-Some.count c.in-Some.ensures c.entries_from.new.cells c.in_default-entries_from.ensures
+    none-entries c.args.queues.now c.args.heads.now c.args.entries.now c.in-Some.head c.in-Some.count c.in-Some.ensures c.entries_from.new.cells
+    c.in_default-entries_from.ensures
 
 pub returns-in-Ok-clause-ok : goal.returns-in-Ok-clause-ok
 returns-in-Ok-clause-ok g c =
@@ -30,5 +32,6 @@ returns-in-Ok-clause-ok g c =
 
 pub returns-in-Err-clause-bad : goal.returns-in-Err-clause-bad
 returns-in-Err-clause-bad g c = λ bad.
-    none-append c.args.queues.now c.args.heads.now c.args.entries.now c.in-Some.head c.in-Some.count c.in-Some.ensures c.entries_from.new.cells c.in-Some-entries_from.len c.in-Some-entries_from.ensures
+    none-append c.args.queues.now c.args.heads.now c.args.entries.now c.in-Some.head c.in-Some.count c.in-Some.ensures c.entries_from.new.cells
+    c.in-Some-entries_from.len c.in-Some-entries_from.ensures
     c.in-Err.error c.in-Err.ensures.err (sym c.fault_of_append.ensures ∙ bad)

@@ -18,7 +18,8 @@ loop-i-preserved g c =
     let inv = c.loop-i.invariant in
     let row = take (length bytes - (at + 18)) (drop (at + 18) bytes) in
     let half : IfHasQueue old new (drop at bytes) row len = subst (λ (s : List ℕ). IfHasQueue old new s row len) (take_rest bytes at) c.in-Ok.ensures.ok in
-    let got : IfHasQueue old new (drop at bytes) (drop (at + 18) bytes) len = subst (λ (s : List ℕ). IfHasQueue old new (drop at bytes) s len) (take_rest bytes (at + 18)) half in
+    let got : IfHasQueue old new (drop at bytes) (drop (at + 18) bytes) len =
+    subst (λ (s : List ℕ). IfHasQueue old new (drop at bytes) s len) (take_rest bytes (at + 18)) half in
     let next_read = whole_bytes old new bytes at len got inv.read in
     let next_place = whole_place old new bytes at len got inv.place in
     record {
@@ -35,7 +36,8 @@ returns-then-bytes-at-lt-HEAD_LEN-clause-bad g c = λ _ qs sound are.
     let bytes = c.args.bytes.now in
     let at = c.loop-i.at in
     let inv = c.loop-i.invariant in
-    let next = next_whole c.loop-i.queues qs inv.bare are.bare inv.ranges are.entries bytes at inv.read are.bytes_are (omega (arith, inv.count, are.count_is)) in
+    let next = next_whole c.loop-i.queues qs inv.bare are.bare inv.ranges are.entries bytes at inv.read are.bytes_are
+    (omega (arith, inv.count, are.count_is)) in
     omega (arith, has_head next.value (drop at bytes) next.behind next.bytes, length-drop at bytes, inv.inside, c.if-bytes-at-lt-HEAD_LEN.true)
 
 pub returns-in-Err-clause-bad : goal.returns-in-Err-clause-bad
@@ -43,11 +45,13 @@ returns-in-Err-clause-bad g c = λ bad qs sound are.
     let bytes = c.args.bytes.now in
     let at = c.loop-i.at in
     let inv = c.loop-i.invariant in
-    let next = next_whole c.loop-i.queues qs inv.bare are.bare inv.ranges are.entries bytes at inv.read are.bytes_are (omega (arith, inv.count, are.count_is)) in
+    let next = next_whole c.loop-i.queues qs inv.bare are.bare inv.ranges are.entries bytes at inv.read are.bytes_are
+    (omega (arith, inv.count, are.count_is)) in
     let q = next.value in
     let head = begins_bare q (drop at bytes) next.behind next.bytes in
     let row = sym (drop-drop 18 at bytes) ∙ entries_follow q (drop at bytes) next.behind next.bytes in
-    c.in-Err.ensures.bad bad q next.more (entries_bytes q ++ next.behind) next.behind (subst IsQueues next.all sound) next.range.0 next.range.1 (take_rest bytes at ∙ head) (take_rest bytes (at + 18) ∙ row)
+    c.in-Err.ensures.bad bad q next.more (entries_bytes q ++ next.behind) next.behind (subst IsQueues next.all sound) next.range.0 next.range.1
+    (take_rest bytes at ∙ head) (take_rest bytes (at + 18) ∙ row)
 
 pub returns-then-at-bytes-clause-bad : goal.returns-then-at-bytes-clause-bad
 returns-then-at-bytes-clause-bad g c = λ _ qs sound are.

@@ -19,7 +19,8 @@ returns-in-Err-of-clause-bad g c = λ bad s stored.
     let front = c.in-Some.front in
     let queues = c.in-Ok.queues in
     let are = subst (λ (b : List ℕ). AreQueues front.queues b row queues) (take_rest image front.len) c.in-Ok.ensures.ok in
-    no_state c.args.handler image row s stored c.front_from.new.cells front c.in-Some.ensures queues are (c.in-Err-of.ensures.bad.0 (fault-state c.in-Err-of.error (sym c.fault_of_state.ensures ∙ bad)))
+    no_state c.args.handler image row s stored c.front_from.new.cells front c.in-Some.ensures queues are
+    (c.in-Err-of.ensures.bad.0 (fault-state c.in-Err-of.error (sym c.fault_of_state.ensures ∙ bad)))
 
 pub returns-in-Ok-of-clause-only : goal.returns-in-Ok-of-clause-only
 returns-in-Ok-of-clause-only g c = λ t other.

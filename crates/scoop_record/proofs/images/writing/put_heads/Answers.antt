@@ -1,7 +1,7 @@
 use Rattle.std.proofs.Common.{◌≡◌, ◌++◌, ℕ, List, length, sym, ap, subst, ◌∙◌, arith}
 use Rattle.scoop_record.specs.Image.{bare_bytes, head_bytes}
 use Rattle.scoop_record.specs.Range.{BareInRange, HeadInRange}
-use Rattle.scoop_record.proofs.Lists.{all_taken, bytes_taken}
+use Rattle.scoop_keeper.proofs.Lists.{all_taken, bytes_taken}
 use Rattle.scoop_record.proofs.Places.{head_there, no_head}
 use Rattle.scoop_record.proofs.images.writing.put_heads.Goals as goal
 use Rattle.scoop_record.proofs.images.writing.put_heads.Goals.{in-Some+in_ok-put_head, in_default}
@@ -23,7 +23,8 @@ loop-i-preserved g c =
           let count : w.pending_len.result ≡ length q.entries = w.pending_len.ensures ∙ there.pending in
           let bytes : head_bytes h w.pending_len.result ≡ bare_bytes q = (λ t. head_bytes (sym there.head t) (count t)) in
           record {
-            bytes = ap (λ v. v.items) w.out-is ∙ bytes_taken bare_bytes qs i q c.args.out.now.items c.loop-i.out.items w.put_head.new.out.items there.at c.loop-i.invariant.bytes
+            bytes = ap (λ v. v.items) w.out-is ∙ bytes_taken bare_bytes qs i q c.args.out.now.items c.loop-i.out.items w.put_head.new.out.items there.at
+                c.loop-i.invariant.bytes
                 (w.in_ok-put_head.ensures.bytes ∙ ap (λ (b : List ℕ). c.loop-i.out.items ++ b) bytes);
             range = all_taken BareInRange qs i q there.at c.loop-i.invariant.range (subst HeadInRange (sym there.head) w.in_ok-put_head.ensures.range);
           }

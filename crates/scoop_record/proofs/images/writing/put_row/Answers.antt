@@ -6,7 +6,7 @@ use Rattle.scoop_frame.specs.Body.{entry_bytes}
 use Rattle.scoop_record.specs.Image.{entries_bytes}
 use Rattle.scoop_record.specs.Places.{entries_at}
 use Rattle.scoop_record.specs.Range.{EntriesInRange}
-use Rattle.scoop_record.proofs.Lists.{all_taken, bytes_taken}
+use Rattle.scoop_keeper.proofs.Lists.{all_taken, bytes_taken}
 use Rattle.scoop_record.proofs.Places.{entries_there, head_there, no_head}
 use Rattle.scoop_record.proofs.images.writing.put_row.Goals as goal
 use Rattle.scoop_record.proofs.images.writing.put_row.Goals.{in-Some+in_ok-put_entries, in_default}
@@ -27,9 +27,11 @@ loop-i-preserved g c =
           let q = there.queue in
           let entries : entries_at i qs ≡ q.entries = entries_there qs i q there.at in
           record {
-            bytes = ap (λ v. v.items) w.out-is ∙ bytes_taken entries_bytes qs i q c.args.out.now.items c.loop-i.out.items w.put_entries.new.out.items there.at c.loop-i.invariant.bytes
+            bytes = ap (λ v. v.items) w.out-is ∙ bytes_taken entries_bytes qs i q c.args.out.now.items c.loop-i.out.items w.put_entries.new.out.items there.at
+                c.loop-i.invariant.bytes
                 (w.in_ok-put_entries.ensures.bytes ∙ ap (λ (es : List Entry). c.loop-i.out.items ++ flat_map entry_bytes es) entries);
-            range = all_taken EntriesInRange qs i q there.at c.loop-i.invariant.range (subst (AllByRecursion IsEntry) entries w.in_ok-put_entries.ensures.range);
+            range = all_taken EntriesInRange qs i q there.at c.loop-i.invariant.range
+                (subst (AllByRecursion IsEntry) entries w.in_ok-put_entries.ensures.range);
           }
           )
       | in_default w ↦ absurd (no_head qs i (omega arith) (sym c.head.ensures ∙ w.in_default.is))

@@ -7,4 +7,5 @@ pub returns-clause-sealed : goal.returns-clause-sealed
 returns-clause-sealed g c =
     λ fits.
     let len = length-sealed c.self.inside.key c.args.bytes.now in
-    rw (← c.self.view_is) (gone_by c.send-sent.result _ _ _ _ c.args.to _ _ c.seal-len.ensures.sealed (omega (arith, fits, len)) c.send-sent.ensures.faults c.send-sent.ensures.told)
+    rw (← c.self.view_is) (gone_by c.send-sent.result _ _ _ _ c.args.to _ _ c.seal-len.ensures.sealed
+    (omega (arith, fits, len)) c.send-sent.ensures.faults c.send-sent.ensures.told)

@@ -4,7 +4,7 @@ use Rattle.std.specs.List.{AllByRecursion}
 use Rattle.std.proofs.lemmas.List.{take_all, take_more}
 use Rattle.std.proofs.lemmas.Option.{slice_get-get_or, slice_get_within}
 use Rattle.scoop_message.specs.declared.name.ClientId.{ClientId}
-use Rattle.scoop_record.specs.Memory.{incarnation_at}
+use Rattle.scoop_keeper.specs.Memory.{incarnation_at}
 use Rattle.scoop_model.specs.World.{Party}
 use Rattle.scoop_world.specs.Kept.{HasIncarnation}
 use Rattle.scoop_model.specs.Step.{new_party}
@@ -19,7 +19,8 @@ returns-in_err-party-clause-refused g c =
     let none : ClientId × ℕ = (record { 0 = 0 }, 0) in
     err_passes c.from_residual.result _ _ c.from_residual.ensures.1
     (λ e is.
-    not_joined c.args.handlers.now c.args.keeper.now cs i c.loop-client.parties.items c.loop-client.keeper none e c.loop-client.invariant c.loop-client-test.true
+    not_joined c.args.handlers.now c.args.keeper.now cs i c.loop-client.parties.items c.loop-client.keeper none e c.loop-client.invariant
+    c.loop-client-test.true
     (rw is c.in_err-party.ensures.refused))
 
 pub loop-client-preserved : goal.loop-client-preserved
@@ -43,7 +44,8 @@ returns-clause-stored g c =
     let i = c.loop-client.client-index in
     let s = incarnation_at c.args.keeper.now in
     let k = c.loop-client.keeper in
-    subst (AllByRecursion (HasIncarnation k)) (ap (λ xs. map (new_party hs) (newcomers_of s xs)) (sym (take_all i cs c.loop-client-test.false)) ∙ sym so.parties)
+    subst (AllByRecursion (HasIncarnation k)) (ap (λ xs. map (new_party hs) (newcomers_of s xs)) (sym (take_all i cs c.loop-client-test.false))
+    ∙ sym so.parties)
     (all_stored hs s k cs (λ j d at. let within = slice_get_within cs j d at in so.next j d (omega (arith, within, c.loop-client-test.false)) at))
 
 pub join-requires : goal.join-requires

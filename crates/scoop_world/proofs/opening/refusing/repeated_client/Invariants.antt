@@ -1,6 +1,6 @@
 -- The clients so far are apart.
 use Rattle.std.proofs.Common.{take}
-use Rattle.scoop_model.specs.Safe.{NoRepeats}
+use Rattle.scoop_message.specs.Lists.{NoRepeats}
 use Rattle.scoop_world.specs.OpenRefusal.{clients_of}
 use Rattle.scoop_world.proofs.opening.refusing.repeated_client.Given as goal
 

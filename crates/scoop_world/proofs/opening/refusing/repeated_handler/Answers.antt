@@ -3,9 +3,9 @@ use Rattle.std.proofs.lemmas.List.{take_all}
 use Rattle.scoop_message.specs.Message.{same_handler}
 use Rattle.scoop_message.proofs.Same.{handler_decides}
 use Rattle.scoop_world.specs.declared.placing.Placement.{Placement}
-use Rattle.scoop_model.specs.Safe.{NoRepeats}
+use Rattle.scoop_message.specs.Lists.{NoRepeats}
 use Rattle.scoop_world.specs.OpenRefusal.{handlers_of}
-use Rattle.scoop_record.proofs.Keyed.{first_repeat, item_at, once_longer}
+use Rattle.scoop_keeper.proofs.Keyed.{first_repeat, item_at, once_longer}
 use Rattle.scoop_world.proofs.opening.refusing.repeated_handler.Goals as goal
 
 pub returns-then-is_placed-clause-some : goal.returns-then-is_placed-clause-some
@@ -23,7 +23,8 @@ loop-i-preserved g c =
     let ps = c.args.placements.now in
     let i = c.loop-i.i in
     let p = c.index-placements-i.result in
-    once_longer (λ (x : Placement g.row.B.Denot). x.handler) same_handler handler_decides ps i p (item_at ps i p (omega arith) c.index-placements-i.is) c.loop-i.invariant (sym c.is_placed.ensures ∙ c.if-is_placed.false)
+    once_longer (λ (x : Placement g.row.B.Denot). x.handler) same_handler handler_decides ps i p
+    (item_at ps i p (omega arith) c.index-placements-i.is) c.loop-i.invariant (sym c.is_placed.ensures ∙ c.if-is_placed.false)
 
 pub returns-clause-none : goal.returns-clause-none
 returns-clause-none g c =

@@ -1,5 +1,5 @@
 use Rattle.std.proofs.Common.{refl, true≢false, sym, ◌∙◌, arith}
-use Rattle.scoop_record.proofs.Keyed.{item_at}
+use Rattle.scoop_keeper.proofs.Keyed.{item_at}
 use Rattle.scoop_world.proofs.opening.refusing.wrong_class.Goals as goal
 
 pub returns-then-not-has_class-clause-some : goal.returns-then-not-has_class-clause-some

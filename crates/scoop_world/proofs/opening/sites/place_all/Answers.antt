@@ -4,7 +4,7 @@ use Rattle.scoop_world.specs.declared.placing.Placement.{Placement}
 use Rattle.scoop_model.specs.Step.{new_site}
 use Rattle.scoop_model.specs.Opening.{IsPlaced}
 use Rattle.scoop_world.specs.Placing.{placements_of}
-use Rattle.scoop_record.proofs.UsedUp.{all_next, taken_all, taken_front}
+use Rattle.scoop_keeper.proofs.UsedUp.{all_next, taken_all, taken_front}
 use Rattle.scoop_world.proofs.opening.sites.place_all.Goals as goal
 
 pub place-site-requires : goal.place-site-requires

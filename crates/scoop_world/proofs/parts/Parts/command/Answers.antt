@@ -2,7 +2,7 @@ use Rattle.std.proofs.Common.{◌≡◌, List, Option, slice_get, sym, subst}
 use Rattle.scoop_model.specs.declared.event.Command.{Command}
 use Rattle.scoop_model.specs.World.{World, Party, is_party, party_of}
 use Rattle.scoop_model.specs.Step.{do_at}
-use Rattle.scoop_record.specs.Keyed.{IsFirst}
+use Rattle.scoop_keeper.specs.Keyed.{IsFirst}
 use Rattle.scoop_world.specs.Answers.{Takes}
 use Rattle.scoop_world.proofs.parts.Parts.command.Goals as goal
 
@@ -13,7 +13,9 @@ returns-in-Reserve g c =
     subst (λ (xs : List Party). IsFirst (is_party c.args.client) xs c.in-Some.at) c.deref.ensures.value c.in-Some.ensures in
     let there : party_of c.args.client w ≡ slice_get w.parties c.in-Some.at =
     subst (λ (y : World). party_of c.args.client y ≡ slice_get y.parties c.in-Some.at) c.self.view_is first.found in
-    subst (λ (o : Option Party). Takes (do_at w c.args.command.now o) c.reserve.result w c.reserve.new.self) (sym there) (subst (λ (x : Command). Takes (do_at w x (slice_get w.parties c.in-Some.at)) c.reserve.result w c.reserve.new.self) (sym c.in-Reserve.is) c.reserve.ensures)
+    subst (λ (o : Option Party). Takes (do_at w c.args.command.now o) c.reserve.result w c.reserve.new.self) (sym there)
+    (subst (λ (x : Command). Takes (do_at w x (slice_get w.parties c.in-Some.at)) c.reserve.result w c.reserve.new.self)
+    (sym c.in-Reserve.is) c.reserve.ensures)
 
 pub returns-in-Call : goal.returns-in-Call
 returns-in-Call g c =
@@ -49,4 +51,6 @@ returns-in-GiveUp g c =
     subst (λ (xs : List Party). IsFirst (is_party c.args.client) xs c.in-Some.at) c.deref.ensures.value c.in-Some.ensures in
     let there : party_of c.args.client w ≡ slice_get w.parties c.in-Some.at =
     subst (λ (y : World). party_of c.args.client y ≡ slice_get y.parties c.in-Some.at) c.self.view_is first.found in
-    subst (λ (o : Option Party). Takes (do_at w c.args.command.now o) c.give_up.result w c.give_up.new.self) (sym there) (subst (λ (x : Command). Takes (do_at w x (slice_get w.parties c.in-Some.at)) c.give_up.result w c.give_up.new.self) (sym c.in-GiveUp.is) c.give_up.ensures)
+    subst (λ (o : Option Party). Takes (do_at w c.args.command.now o) c.give_up.result w c.give_up.new.self) (sym there)
+    (subst (λ (x : Command). Takes (do_at w x (slice_get w.parties c.in-Some.at)) c.give_up.result w c.give_up.new.self)
+    (sym c.in-GiveUp.is) c.give_up.ensures)

@@ -10,14 +10,21 @@ pub returns : goal.returns
 returns g c =
     elim c.match-command.branch [
       | in-Ok w ↦ rw w.result-is
-          (command_taken c.self.inside.sites.items c.self.inside.parties.items c.self.inside.sent.items c.self.inside.joint.keys (logs_kept c.self.inside.logs.entries) c.args.self.now c.self.view_is c.args.at c.index_mut-party.result.now c.command.new.self GiveUp (logs_kept c.self.inside.logs.entries)
+          (command_taken c.self.inside.sites.items c.self.inside.parties.items c.self.inside.sent.items c.self.inside.joint.keys
+          (logs_kept c.self.inside.logs.entries) c.args.self.now c.self.view_is c.args.at c.index_mut-party.result.now c.command.new.self GiveUp
+          (logs_kept c.self.inside.logs.entries)
           c.requires.reached c.requires.within c.index_mut-party.ensures.value w.in-Ok.ensures.taken.0 w.in-Ok.ensures.taken.1 c.command.ensures.id refl)
       | in-Err w ↦ rw w.result-is
-          (command_refused c.self.inside.sites.items c.self.inside.parties.items c.self.inside.sent.items c.self.inside.joint.keys (logs_kept c.self.inside.logs.entries) c.args.self.now c.self.view_is c.args.at c.index_mut-party.result.now c.command.new.self GiveUp w.in-Err.error (logs_kept c.self.inside.logs.entries)
+          (command_refused c.self.inside.sites.items c.self.inside.parties.items c.self.inside.sent.items c.self.inside.joint.keys
+          (logs_kept c.self.inside.logs.entries) c.args.self.now c.self.view_is c.args.at c.index_mut-party.result.now c.command.new.self GiveUp
+          w.in-Err.error (logs_kept c.self.inside.logs.entries)
           c.requires.within c.index_mut-party.ensures.value w.in-Err.ensures.taken.0 w.in-Err.ensures.taken.1 refl)
     ]
 
 pub invariant_of-self : goal.invariant_of-self
 invariant_of-self g c =
-    has_party c.self.inside.keeper c.self.inside.sites.items c.self.inside.parties.items c.args.at c.index_mut-party.result.now c.command.new.self c.self.invariant
-    (party_there c.self.inside.sites.items c.self.inside.parties.items c.self.inside.sent.items c.self.inside.joint.keys (logs_kept c.self.inside.logs.entries) c.args.self.now c.self.view_is c.args.at c.index_mut-party.result.now c.requires.within c.index_mut-party.ensures.value) c.command.ensures.id c.command.ensures.stored
+    has_party c.self.inside.keeper c.self.inside.sites.items c.self.inside.parties.items c.args.at c.index_mut-party.result.now c.command.new.self
+    c.self.invariant
+    (party_there c.self.inside.sites.items c.self.inside.parties.items c.self.inside.sent.items c.self.inside.joint.keys
+    (logs_kept c.self.inside.logs.entries) c.args.self.now c.self.view_is c.args.at c.index_mut-party.result.now c.requires.within
+    c.index_mut-party.ensures.value) c.command.ensures.id c.command.ensures.stored

@@ -2,7 +2,7 @@ use Rattle.scoop_model.specs.declared.note.WorldNote.TheVariants.{Reopened}
 use Rattle.std.specs.List.{list_any}
 use Rattle.std.proofs.Common.{◌≡◌, ◌≤◌, List, ◌++◌, map, take, drop, length, sym, ap, ◌∙◌, subst, arith, append-nil, Ok, true}
 use Rattle.std.proofs.lemmas.List.{take_all, drop_all, length-map}
-use Rattle.scoop_record.specs.Memory.{MemoryRecord}
+use Rattle.scoop_keeper.specs.Memory.{MemoryRecord}
 use Rattle.scoop_model.specs.World.{Site}
 use Rattle.scoop_model.specs.Step.{reopened, Stepped}
 use Rattle.scoop_world.specs.Kept.{HasAll, logs_kept, on_node, world_kept}
@@ -23,7 +23,9 @@ invariant_of-self-2 g c =
     let whole : take n (xs ++ drop (length xs) ys) ≡ map f ys =
     ap (λ (zs : List Site). take n (xs ++ zs)) (drop_all (length xs) ys all) ∙ ap (take n) (append-nil xs) ∙ take_all n xs le ∙ are in
     subst (λ (k : MemoryRecord). HasAll k (take n (xs ++ drop (length xs) ys)) c.self.inside.parties.items) (sym c.load_all.ensures.keeper)
-    (subst (λ (ss : List Site). HasAll c.self.inside.keeper ss c.self.inside.parties.items) (sym whole) (has_reopened c.self.inside.sites.items c.self.inside.parties.items c.self.inside.sent.items c.self.inside.joint.keys (logs_kept c.self.inside.logs.entries) c.args.self.now c.self.view_is c.self.inside.keeper c.args.node c.requires c.self.invariant))
+    (subst (λ (ss : List Site). HasAll c.self.inside.keeper ss c.self.inside.parties.items) (sym whole)
+    (has_reopened c.self.inside.sites.items c.self.inside.parties.items c.self.inside.sent.items c.self.inside.joint.keys
+    (logs_kept c.self.inside.logs.entries) c.args.self.now c.self.view_is c.self.inside.keeper c.args.node c.requires c.self.invariant))
 
 pub returns : goal.returns
 returns g c =
@@ -42,5 +44,6 @@ returns g c =
     ap (list_any (on_node c.args.node)) (sym c.deref.ensures.value) ∙ sym c.any_on.ensures ∙ c.if-not-any_on.false in
     let made : List Site → Stepped =
     λ ss. Ok (world_kept ss c.self.inside.parties.items c.self.inside.sent.items c.self.inside.joint.keys (logs_kept c.self.inside.logs.entries), Reopened) in
-    node_restarted c.self.inside.sites.items c.self.inside.parties.items c.self.inside.sent.items c.self.inside.joint.keys (logs_kept c.self.inside.logs.entries) c.args.self.now c.self.view_is c.args.node there
+    node_restarted c.self.inside.sites.items c.self.inside.parties.items c.self.inside.sent.items c.self.inside.joint.keys
+    (logs_kept c.self.inside.logs.entries) c.args.self.now c.self.view_is c.args.node there
     ∙ ap made (sym whole)

@@ -1,5 +1,5 @@
-use Rattle.scoop_record.specs.Keyed.{IsFirst}
-use Rattle.scoop_record.proofs.Keyed.{item_at}
+use Rattle.scoop_keeper.specs.Keyed.{IsFirst}
+use Rattle.scoop_keeper.proofs.Keyed.{item_at}
 use Rattle.scoop_model.specs.World.{Site, is_site, site_of}
 use Rattle.std.proofs.Common.{List, sym, ap, ◌∙◌, subst}
 use Rattle.scoop_world.proofs.parts.Parts.site.Goals as goal

@@ -5,7 +5,7 @@ use Rattle.scoop_model.specs.declared.error.WorldError.TheVariants.{NoSuchParty}
 use Rattle.std.proofs.Common.{◌≡◌, ℕ, List, Option, Some, None, Ok, Err, refl, find, sym, ap, ◌∙◌, subst}
 use Rattle.scoop_model.specs.World.{Site, Party, is_site, is_party, World, site_of, party_of}
 use Rattle.scoop_model.specs.Step.{Stepped, sent_or_silent, tick_at}
-use Rattle.scoop_record.specs.Keyed.{IsFirst}
+use Rattle.scoop_keeper.specs.Keyed.{IsFirst}
 use Rattle.scoop_world.specs.Kept.{logs_kept, world_kept}
 use Rattle.scoop_world.proofs.TakenEvents.{ticked_all, tick_ok}
 use Rattle.scoop_world.proofs.parts.Parts.tick.Goals as goal
@@ -19,9 +19,15 @@ returns g c =
     let there : IsFirst (is_site c.args.handler) c.self.inside.sites.items c.in-Some-site_at.field-0 =
     subst (λ (xs : List Site). IsFirst (is_site c.args.handler) xs c.in-Some-site_at.field-0) c.deref-2.ensures.value c.in-Some-site_at.ensures in
     let made : Option ℕ → Stepped =
-    λ o. Ok (world_kept c.self.inside.sites.items c.self.inside.parties.items c.send.new.sent.items c.self.inside.joint.keys (logs_kept c.self.inside.logs.entries), sent_or_silent o) in
+    λ o. Ok (
+      world_kept c.self.inside.sites.items c.self.inside.parties.items c.send.new.sent.items c.self.inside.joint.keys
+          (logs_kept c.self.inside.logs.entries),
+      sent_or_silent o,
+    ) in
     let all =
-    ticked_all c.self.inside.sites.items c.self.inside.parties.items c.self.inside.sent.items c.self.inside.joint.keys (logs_kept c.self.inside.logs.entries) c.args.self.now c.self.view_is c.args.client c.args.handler c.in-Some.at c.in-Some-site_at.field-0 p c.due-due.result c.reserve.new.self.items c.send.new.sent.items c.send.result
+    ticked_all c.self.inside.sites.items c.self.inside.parties.items c.self.inside.sent.items c.self.inside.joint.keys
+    (logs_kept c.self.inside.logs.entries) c.args.self.now c.self.view_is c.args.client c.args.handler c.in-Some.at c.in-Some-site_at.field-0 p
+    c.due-due.result c.reserve.new.self.items c.send.new.sent.items c.send.result
     first c.index-party.ensures there c.due-due.ensures c.in-Ok.ensures.items c.send.ensures.sent c.send.ensures.place in
     elim c.match-send.branch [
       | in-Some-send w ↦ rw w.result-is (all ∙ ap made w.in-Some-send.is)
@@ -47,7 +53,10 @@ returns-in_default-reserve g c =
     let there : IsFirst (is_site c.args.handler) c.self.inside.sites.items c.in-Some-site_at.field-0 =
     subst (λ (xs : List Site). IsFirst (is_site c.args.handler) xs c.in-Some-site_at.field-0) c.deref-2.ensures.value c.in-Some-site_at.ensures in
     let p = read_at c.self.inside.parties.items c.in-Some.at first.within in (
-      tick_ok c.self.inside.sites.items c.self.inside.parties.items c.self.inside.sent.items c.self.inside.joint.keys (logs_kept c.self.inside.logs.entries) c.args.self.now c.self.view_is c.args.client c.args.handler c.in-Some.at c.in-Some-site_at.field-0 p.0 first p.1 there,
-      ap (λ (ms : List Message). world_kept c.self.inside.sites.items c.self.inside.parties.items ms c.self.inside.joint.keys (logs_kept c.self.inside.logs.entries)) c.in_default-reserve.ensures.items
+      tick_ok c.self.inside.sites.items c.self.inside.parties.items c.self.inside.sent.items c.self.inside.joint.keys
+          (logs_kept c.self.inside.logs.entries) c.args.self.now c.self.view_is c.args.client c.args.handler c.in-Some.at c.in-Some-site_at.field-0 p.0 first p.1
+          there,
+      ap (λ (ms : List Message). world_kept c.self.inside.sites.items c.self.inside.parties.items ms c.self.inside.joint.keys
+          (logs_kept c.self.inside.logs.entries)) c.in_default-reserve.ensures.items
           ∙ c.self.view_is,
     )

@@ -1,6 +1,6 @@
 use Rattle.scoop_world.proofs.KeptPlaces.{all_by_place}
 use Rattle.scoop_world.specs.Kept.{HasState, stored_on}
-use Rattle.scoop_record.specs.Memory.{MemoryRecord}
+use Rattle.scoop_keeper.specs.Memory.{MemoryRecord}
 use Rattle.scoop_handler.specs.State.{HandlerState}
 use Rattle.std.proofs.lemmas.List.{take_all, take_more, map-append}
 use Rattle.std.proofs.Common.{◌≡◌, ◌++◌, [], ◌∷◌, List, Option, map, take, get_or, sym, ap, ◌∙◌, subst, arith, ◌+◌}
@@ -10,7 +10,8 @@ pub load-requires : goal.load-requires
 load-requires g c =
     let x = c.site-item.result in
     let own : HasState c.args.keeper.now x =
-    subst (HasState c.args.keeper.now) (sym c.site-item.is) (all_by_place (HasState c.args.keeper.now) c.args.sites.now c.requires c.loop-site.site-index x (omega arith)) in
+    subst (HasState c.args.keeper.now) (sym c.site-item.is) (all_by_place (HasState c.args.keeper.now) c.args.sites.now c.requires c.loop-site.site-index x
+    (omega arith)) in
     subst (λ (m : MemoryRecord). HasState m x) (sym c.loop-site.invariant.same) own
 
 pub loop-site-preserved : goal.loop-site-preserved

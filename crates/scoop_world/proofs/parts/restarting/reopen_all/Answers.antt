@@ -28,7 +28,8 @@ loop-i-preserved g c =
     record {
       states = left_same (map (stored_on c.args.node) old) c.loop-i.states.items i c.take-found.new.self c.loop-i.invariant.states;
       size = length-set c.loop-i.states.items i c.take-found.new.self ∙ c.loop-i.invariant.size;
-      done = ap (set c.loop-i.sites i) (c.reopen_with.ensures ∙ ap f (sym c.index-sites-i.is)) ∙ map_over_more f old c.loop-i.sites i x (omega arith) c.loop-i.invariant.done c.index-sites-i.is;
+      done = ap (set c.loop-i.sites i) (c.reopen_with.ensures ∙ ap f (sym c.index-sites-i.is))
+          ∙ map_over_more f old c.loop-i.sites i x (omega arith) c.loop-i.invariant.done c.index-sites-i.is;
       rest = left_same old c.loop-i.sites i c.reopen_with.new.site c.loop-i.invariant.rest;
     }
 

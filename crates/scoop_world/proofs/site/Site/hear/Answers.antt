@@ -2,9 +2,9 @@ use Rattle.std.proofs.Common.{◌≡◌, sym, ap, subst}
 use Rattle.scoop_model.specs.World.{Site, number_of}
 use Rattle.scoop_handler.specs.Core.{Core}
 use Rattle.scoop_handler.specs.Hearing.{hear}
-use Rattle.scoop_record.specs.Keeper.{Holds, stored_of}
-use Rattle.scoop_record.specs.Memory.{state_at}
-use Rattle.scoop_record.proofs.KeeperLemmas.{is_same_same, stays_same}
+use Rattle.scoop_keeper.specs.Keeper.{Holds, stored_of}
+use Rattle.scoop_keeper.specs.Memory.{state_at}
+use Rattle.scoop_keeper.proofs.KeeperLemmas.{is_same_same, stays_same}
 use Rattle.scoop_world.specs.Kept.{Stores}
 use Rattle.scoop_world.proofs.site.Site.hear.Goals as goal
 

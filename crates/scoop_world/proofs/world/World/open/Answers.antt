@@ -1,7 +1,7 @@
 use Rattle.scoop_world.proofs.KeptPlaces.{all_by_place}
 use Rattle.std.proofs.Common.{◌≡◌, map, sym, ap, ◌∙◌, subst}
 use Rattle.std.specs.List.{AllByRecursion}
-use Rattle.scoop_record.specs.Memory.{incarnation_at}
+use Rattle.scoop_keeper.specs.Memory.{incarnation_at}
 use Rattle.scoop_model.specs.Reach.{IsReached}
 use Rattle.scoop_model.specs.Step.{new_party}
 use Rattle.scoop_world.specs.Placing.{newcomers_of, placements_of, IsBatched}
@@ -36,7 +36,8 @@ store_all-requires-clause-own g c =
 pub new-requires : goal.new-requires
 new-requires g c =
     all_stored c.join_all.new.keeper c.store_all.new.keeper c.in_ok-sites.sites.items c.in-Ok.parties.items
-    (subst (AllByRecursion (HasState c.store_all.new.keeper)) c.deref-4.ensures.value c.in-Ok-store_all.ensures.states) c.in-Ok-store_all.ensures.incarnations c.in-Ok.ensures.stored
+    (subst (AllByRecursion (HasState c.store_all.new.keeper)) c.deref-4.ensures.value c.in-Ok-store_all.ensures.states)
+    c.in-Ok-store_all.ensures.incarnations c.in-Ok.ensures.stored
 
 pub invariant_of-result : goal.invariant_of-result
 invariant_of-result g c =
@@ -50,7 +51,8 @@ invariant_of-result g c =
     let joined : c.in-Ok.parties.items ≡ map (new_party hs) (newcomers_of stored cs) =
     c.in-Ok.ensures.parties ∙ ap (λ ks. map (new_party ks) (newcomers_of stored cs)) c.deref-3.ensures.value in
     let opened = opened_is words ps cs stored c.in_ok-sites.sites.items hs c.in-Ok.parties.items c.in_ok-sites.ensures.sites named joined in
-    subst IsReached (sym (c.new.ensures ∙ opened)) (reached_opening (placements_of words ps) (newcomers_of stored cs) (may_open words g.B.Behaviour.class ps cs stored may c.in_ok-sites.ensures.placed c.in-Ok.ensures.joining))
+    subst IsReached (sym (c.new.ensures ∙ opened)) (reached_opening (placements_of words ps) (newcomers_of stored cs)
+    (may_open words g.B.Behaviour.class ps cs stored may c.in_ok-sites.ensures.placed c.in-Ok.ensures.joining))
 
 pub returns-clause-opens : goal.returns-clause-opens
 returns-clause-opens g c =
@@ -71,7 +73,8 @@ returns-clause-safe g c =
     let words = g.B.Behaviour.words in
     let may : MayPlace g.B.Behaviour.class ps cs = subst (λ xs. MayPlace g.B.Behaviour.class xs cs) c.deref.ensures.value c.in_default.ensures.none in
     reached_safe c.new.result
-    (subst IsReached (sym (returns-clause-opens g c)) (reached_opening (placements_of words ps) (newcomers_of stored cs) (may_open words g.B.Behaviour.class ps cs stored may c.in_ok-sites.ensures.placed c.in-Ok.ensures.joining)))
+    (subst IsReached (sym (returns-clause-opens g c)) (reached_opening (placements_of words ps) (newcomers_of stored cs)
+    (may_open words g.B.Behaviour.class ps cs stored may c.in_ok-sites.ensures.placed c.in-Ok.ensures.joining)))
 
 pub returns-clause-empty : goal.returns-clause-empty
 returns-clause-empty g c =

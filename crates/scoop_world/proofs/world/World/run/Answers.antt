@@ -7,7 +7,7 @@ use Rattle.scoop_model.specs.Step.{step}
 use Rattle.scoop_model.specs.Reach.{Leads}
 use Rattle.scoop_world.specs.Answers.{IsRefused}
 use Rattle.scoop_rules.specs.Paper.{LeadsByRules}
-use Rattle.scoop_record.proofs.Keyed.{item_at}
+use Rattle.scoop_keeper.proofs.Keyed.{item_at}
 use Rattle.scoop_model.proofs.Reaching.{leads_next}
 use Rattle.scoop_model.proofs.Headline.{reached_safe}
 use Rattle.scoop_rules.proofs.Follows.Runs.{reached_runs}
@@ -44,13 +44,17 @@ loop-taken-preserved g c =
     let e = c.index-events-taken.result in
     let longer : take (i + 1) es ≡ take i es ++ e ∷ [] =
     take_more es i e (omega arith) ∙ ap (λ (y : Event). take i es ++ y ∷ []) (sym c.index-events-taken.is) in (
-      subst (λ (xs : List Event). Leads v xs c.step.new.self) (sym longer) (leads_next v c.loop-taken.self (take i es) e (c.step.new.self, c.in-Ok.field-0) c.loop-taken.invariant.0 c.in-Ok.ensures.takes),
+      subst (λ (xs : List Event). Leads v xs c.step.new.self) (sym longer)
+          (leads_next v c.loop-taken.self (take i es) e (c.step.new.self, c.in-Ok.field-0) c.loop-taken.invariant.0 c.in-Ok.ensures.takes),
       c.step.ensures.reached,
     )
 
 pub returns-clause-runs : goal.returns-clause-runs
-returns-clause-runs g c =
-    (refl, subst (λ (xs : List Event). Leads c.args.self.now xs c.loop-taken.self) (take_all c.loop-taken.taken c.args.events.now (omega arith)) c.loop-taken.invariant.0)
+returns-clause-runs g c = (
+  refl,
+  subst (λ (xs : List Event). Leads c.args.self.now xs c.loop-taken.self)
+      (take_all c.loop-taken.taken c.args.events.now (omega arith)) c.loop-taken.invariant.0,
+)
 
 pub returns-clause-safe : goal.returns-clause-safe
 returns-clause-safe g c = reached_safe c.loop-taken.self c.loop-taken.invariant.1
@@ -58,4 +62,5 @@ returns-clause-safe g c = reached_safe c.loop-taken.self c.loop-taken.invariant.
 pub returns-clause-follows : goal.returns-clause-follows
 returns-clause-follows g c =
     reached_runs c.args.self.now c.loop-taken.self c.args.events.now c.is_reached.ensures
-    (subst (λ (xs : List Event). Leads c.args.self.now xs c.loop-taken.self) (take_all c.loop-taken.taken c.args.events.now (omega arith)) c.loop-taken.invariant.0)
+    (subst (λ (xs : List Event). Leads c.args.self.now xs c.loop-taken.self)
+    (take_all c.loop-taken.taken c.args.events.now (omega arith)) c.loop-taken.invariant.0)

@@ -1,0 +1,45 @@
+//! The example of the crate's doc.
+
+use super::{MemoryBook, ONE, SET, block, book};
+use scoop_book::Event;
+use scoop_handler::{Heard, Ran};
+use scoop_keeper::Keeper;
+use scoop_message::{Args, ClientId, Entries, Entry, Message, Request};
+use std::process::Abort;
+use std::test::Fail;
+
+fn sends(book: &mut MemoryBook) -> Result<(), Fail> {
+    let _parts: Option<(Message, Heard, Ran)> = None;
+    let block = block(7);
+    let args = Args::of(&[5])?;
+    book.step(0, Event::Hear(Message::Hello(ONE, ClientId(7), 1)))?;
+    book.step(0, Event::Hear(Message::Lock(ONE, block)))?;
+    book.step(0, Event::Hear(Message::Open(ONE, block)))?;
+    let entries = Entries::of(&[Entry::Call(Request { op: SET, args })])?;
+    book.step(0, Event::Hear(Message::Log(ONE, block, 1, entries)))?;
+    Ok(())
+}
+
+fn runs(rt: &impl Abort, book: &mut MemoryBook) -> Result<(), Fail> {
+    // the entry runs outside the book
+    let job = book.begin(0, ONE)?.ok_or("nothing to run")?;
+    let ran = book.finish(0, job.work()).ok().ok_or("refused")?;
+    assert!(rt; (ran.block, ran.number) == (block(7), 1));
+    assert!(rt; book.history().len() == 6);
+    Ok(())
+}
+
+// What the handler has come to is stored.
+fn stored(book: MemoryBook) -> Option<u64> {
+    let state = book.into_keeper().load_handler(ONE).ok()??;
+    state.words().get(0)
+}
+
+#[test]
+fn a_block_sets_a_cell(rt: HostRuntime) -> Result<(), Fail> {
+    let mut book = book(rt.alloc(), &[1]).ok_or("no cells")??;
+    sends(&mut book)?;
+    runs(&rt, &mut book)?;
+    assert!(rt; stored(book) == Some(5));
+    Ok(())
+}

@@ -1,0 +1,22 @@
+//! The demo classes, and for each of them an object of a type of its own.
+//!
+//! [`DemoClass`] names them: a cell, a counter, an account and an exchange. [`demo_class`] makes the class of a name,
+//! and a [`CellObject`], a [`CounterObject`], an [`AccountObject`] or an [`ExchangeObject`] computes by its own code,
+//! and is proved to do what the rows of its class say.
+//!
+//! ```
+//! let class = DemoClass::Account.class(rt.alloc())?;
+//! let mut account = AccountObject::new(100);
+//! assert!(rt; account.has_class(&class));
+//! let args = Args::of(&[70])?;
+//! let withdraw = Request { op: 2, args };
+//! assert_eq!(rt; account.apply(&withdraw), Answer::Value(30));
+//! assert_eq!(rt; account.apply(&withdraw), Answer::Refused);
+//! ```
+#![tactic(auto)]
+
+mod classes;
+mod objects;
+
+pub use classes::{DemoClass, demo_class};
+pub use objects::{AccountObject, CellObject, CounterObject, ExchangeObject};

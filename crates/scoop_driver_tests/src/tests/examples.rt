@@ -1,0 +1,29 @@
+//! The example that opens the document of the crate.
+
+use super::node::{BALANCE, DEPOSIT, Node, Wire};
+use super::{ONE, client};
+use scoop_client::{ClientNote, Phase};
+use scoop_driver::Driver;
+use scoop_message::{Answer, Args, Request};
+use std::test::Fail;
+
+/// The example of `scoop_driver`.
+#[test]
+fn an_account_is_paid_and_asked(rt: HostRuntime) -> Result<(), Fail> {
+    let client = client(&rt, rt.alloc());
+    let link = Wire::new(Node::new(&rt, rt.alloc()));
+
+    // the link leads to handler 1, whose object is an account, and each call takes ten turns at most
+    let mut driver = Driver::new(client, link, 10);
+    assert_eq!(rt; driver.turn()?, Some(ClientNote::Welcomed(ONE)));
+    driver.reserve(&[ONE])?;
+    let args = Args::of(&[150])?;
+    driver.call(ONE, Request { op: DEPOSIT, args })?;
+    // a query comes after the calls before it, and waits for its answer
+    let args = Args::of(&[])?;
+    let balance = driver.query(ONE, Request { op: BALANCE, args })?;
+    assert_eq!(rt; balance, Answer::Value(150));
+    driver.end()?;
+    assert_eq!(rt; driver.phase(), Phase::Idle);
+    Ok(())
+}

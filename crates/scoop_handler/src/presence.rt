@@ -1,0 +1,25 @@
+//! Where a handler's object is.
+
+ghost use Rattle.std.specs.Prelude.{◌≡◌, length};
+
+use scoop_message::Words;
+use scoop_object::Behaviour;
+
+/// An object that is here, or the words with which it left for a job.
+#[derive(Debug, Drop)]
+pub(crate) enum Presence<B> {
+    Here(B),
+    Out(Words),
+}
+
+/// Sets the words of an object.
+pub(crate) fn set_words<B: Behaviour>(object: &mut B, words: Words)
+    requires { length words ≡ (B.class object.old).words }
+    ensures class { B.class object.new ≡ B.class object.old }
+    ensures words { B.words object.new ≡ words }
+{
+    match object.restore(words) {
+        Ok(()) => {}
+        Err(_) => unreachable!(),
+    }
+}

@@ -1,0 +1,28 @@
+//! Keepers: what has to outlive a restart is with them, the states of handlers and the incarnations of clients.
+//!
+//! A [`Keeper`] takes and gives them. A [`MemoryKeeper`] has them in memory, a [`FailingKeeper`] stands over another
+//! one, for tests; the store in the tables of a database is `scoop_record`'s. A handler runs over any keeper by
+//! [`hear_and_store`] and [`finish_and_store`]: a new state is stored before it is kept.
+//!
+//! ```
+//! let mut keeper = MemoryKeeper::new(rt.alloc()).with_incarnation(ClientId(7), 4294967294)?;
+//! assert_eq!(rt; keeper.next_incarnation(ClientId(7)), Ok(4294967295));
+//! assert_eq!(rt;
+//!     keeper.next_incarnation(ClientId(7)),
+//!     Err(KeeperError::IncarnationsSpent)
+//! );
+//! assert_eq!(rt; keeper.next_incarnation(ClientId(8)), Ok(1));
+//! ```
+#![tactic(auto)]
+
+mod failing;
+mod keeper;
+mod memory;
+mod running;
+
+pub use failing::FailingKeeper;
+pub use keeper::{Keeper, KeeperError};
+pub use memory::MemoryKeeper;
+pub use running::{
+    JobRefusal, Unfinished, finish_and_store, finish_beside, hear_and_store, hear_beside,
+};

@@ -1,0 +1,214 @@
+//! Links over UDP, of this machine.
+
+use super::{CLIENT, HANDLER, fails, gets, has_faults, sends, sends_at_the_last_count};
+use scoop_link::{Addresses, Link, LinkFault, OpenLinkError, Peers, UdpLink};
+use scoop_message::limits::BUFFER_LEN;
+use scoop_refusing::Refusing;
+use std::alloc::Global;
+use std::net::{IpAddr, Ipv4Addr, Ipv6Addr, Net, SocketAddr};
+use std::process::Abort;
+use std::rt::Clock;
+use std::test::Fail;
+use std::time::{Duration, Instant};
+
+const OWN: Peers<'static> = Peers {
+    own: 47311,
+    table: &[],
+};
+
+// What refuses a link to these peers.
+fn refusal<R: Net>(rt: &R, alloc: Global, peers: Peers<'_>) -> Option<OpenLinkError> {
+    UdpLink::open(rt, alloc, peers).err()
+}
+
+fn carries(rt: &impl Abort, from: &mut UdpLink, to: &mut UdpLink, bytes: &[u8], kept: usize) {
+    sends(rt, from, CLIENT, bytes);
+    gets(rt, to, Some((kept, 9)));
+}
+
+#[test]
+fn datagrams_go_from_link_to_link(rt: HostRuntime) -> Result<(), Fail> {
+    let mut receiver = UdpLink::open(&rt, rt.alloc(), OWN)?;
+    let peers = Peers {
+        own: 47312,
+        table: &[(HANDLER, 47312), (CLIENT, 47311), (CLIENT, 47312)],
+    };
+    let mut sender = UdpLink::open(&rt, rt.alloc(), peers)?;
+    carries(&rt, &mut sender, &mut receiver, &[9; 3], 3);
+    carries(&rt, &mut sender, &mut receiver, &[9; 192], 192);
+    carries(&rt, &mut sender, &mut receiver, &[9; 200], 192);
+    sends(&rt, &mut sender, CLIENT, &[]);
+    gets(&rt, &mut receiver, Some((0, 0)));
+    sends(&rt, &mut sender, HANDLER, &[4]);
+    gets(&rt, &mut sender, Some((1, 4)));
+    has_faults(&rt, &sender, 0);
+    has_faults(&rt, &receiver, 0);
+    Ok(())
+}
+
+fn took_a_while<R: Clock>(rt: &R, link: &mut UdpLink) -> Result<bool, Fail> {
+    let start = Instant::now(rt)?;
+    let mut buffer = [0; BUFFER_LEN];
+    let got = link.receive(&mut buffer);
+    Ok(got == Ok(None) && start.elapsed(rt)? >= Duration::from_millis(5))
+}
+
+#[test]
+fn a_receive_waits(rt: HostRuntime) -> Result<(), Fail> {
+    let own = Peers {
+        own: 47316,
+        table: &[],
+    };
+    let mut link = UdpLink::open(&rt, rt.alloc(), own)?;
+    assert!(rt; took_a_while(&rt, &mut link)?);
+    Ok(())
+}
+
+#[test]
+fn a_port_is_taken_once(rt: HostRuntime) -> Result<(), Fail> {
+    let own = Peers {
+        own: 47317,
+        table: &[],
+    };
+    let first = UdpLink::open(&rt, rt.alloc(), own)?;
+    assert_eq!(rt; refusal(&rt, rt.alloc(), own), Some(OpenLinkError::Fault));
+    has_faults(&rt, &first, 0);
+    Ok(())
+}
+
+#[test]
+fn a_port_is_not_0(rt: HostRuntime) {
+    let portless = Peers {
+        own: 47315,
+        table: &[(CLIENT, 47314), (HANDLER, 0)],
+    };
+    assert_eq!(rt;
+        refusal(&rt, rt.alloc(), portless),
+        Some(OpenLinkError::Fault)
+    );
+}
+
+#[test]
+fn what_the_system_refuses_is_a_fault_until_the_count_is_full(rt: HostRuntime) -> Result<(), Fail> {
+    let too_long = vec![in rt.alloc(); 0; 70_000]?;
+    let peers = Peers {
+        own: 47313,
+        table: &[(CLIENT, 47314)],
+    };
+    let mut link = UdpLink::open(&rt, rt.alloc(), peers)?;
+    fails(&rt, &mut link, CLIENT, &too_long);
+    sends(&rt, &mut link, HANDLER, &too_long);
+    has_faults(&rt, &link, 1);
+    let refused = sends_at_the_last_count(&mut link, CLIENT, &too_long);
+    assert_eq!(rt; refused, Err(LinkFault));
+    has_faults(&rt, &link, 2);
+    Ok(())
+}
+
+// An address of this machine: the last octet of 127.0.0.x, or ::1 for 0.
+fn at(octet: u8, port: u16) -> SocketAddr {
+    let ip = if octet == 0 {
+        IpAddr::V6(Ipv6Addr::LOCALHOST)
+    } else {
+        IpAddr::V4(Ipv4Addr::new(127, 0, 0, octet))
+    };
+    SocketAddr::new(ip, port)
+}
+
+// A datagram goes from an address to another one and back.
+fn go_between<R: Net + Abort>(
+    rt: &R,
+    alloc: Global,
+    here: SocketAddr,
+    there: SocketAddr,
+) -> Result<(), Fail> {
+    let mut first = UdpLink::open_at(
+        rt,
+        alloc,
+        Addresses {
+            own: here,
+            table: &[(CLIENT, there)],
+        },
+    )?;
+    let mut second = UdpLink::open_at(
+        rt,
+        alloc,
+        Addresses {
+            own: there,
+            table: &[(HANDLER, here)],
+        },
+    )?;
+    carries(rt, &mut first, &mut second, &[9; 171], 171);
+    sends(rt, &mut second, HANDLER, &[4]);
+    gets(rt, &mut first, Some((1, 4)));
+    sends(rt, &mut second, CLIENT, &[5]);
+    has_faults(rt, &first, 0);
+    has_faults(rt, &second, 0);
+    Ok(())
+}
+
+#[test]
+fn datagrams_go_by_ipv6(rt: HostRuntime) -> Result<(), Fail> {
+    go_between(&rt, rt.alloc(), at(0, 47321), at(0, 47322))
+}
+
+#[test]
+fn datagrams_go_between_addresses(rt: HostRuntime) -> Result<(), Fail> {
+    go_between(&rt, rt.alloc(), at(2, 47323), at(3, 47323))
+}
+
+#[test]
+fn an_address_is_taken_once_and_has_a_port(rt: HostRuntime) -> Result<(), Fail> {
+    let own = Addresses {
+        own: at(2, 47324),
+        table: &[],
+    };
+    let _first = UdpLink::open_at(&rt, rt.alloc(), own)?;
+    assert_eq!(rt;
+        UdpLink::open_at(&rt, rt.alloc(), own).err(),
+        Some(OpenLinkError::Fault)
+    );
+    let portless = Addresses {
+        own: at(2, 47325),
+        table: &[(CLIENT, at(2, 47324)), (HANDLER, at(2, 0))],
+    };
+    assert_eq!(rt;
+        UdpLink::open_at(&rt, rt.alloc(), portless).err(),
+        Some(OpenLinkError::Fault)
+    );
+    Ok(())
+}
+
+#[test]
+fn an_address_of_the_other_family_is_a_fault(rt: HostRuntime) -> Result<(), Fail> {
+    let mixed = Addresses {
+        own: at(2, 47326),
+        table: &[(CLIENT, at(0, 47326))],
+    };
+    let mut link = UdpLink::open_at(&rt, rt.alloc(), mixed)?;
+    fails(&rt, &mut link, CLIENT, &[1]);
+    has_faults(&rt, &link, 1);
+    Ok(())
+}
+
+#[test]
+fn each_growth_of_a_table_is_refused(rt: HostRuntime) -> Result<(), Fail> {
+    let ports = Peers {
+        own: 47327,
+        table: &[(CLIENT, 47328)],
+    };
+    let addresses = Addresses {
+        own: at(2, 47327),
+        table: &[(CLIENT, at(2, 47328))],
+    };
+    let heap = Refusing::new(rt.alloc(), 1);
+    let refused = Some(OpenLinkError::OutOfMemory);
+    assert_eq!(rt; UdpLink::open(&rt, &heap, ports).err(), refused);
+    heap.refuse(1);
+    assert_eq!(rt; UdpLink::open_at(&rt, &heap, addresses).err(), refused);
+    heap.refuse(2);
+    assert_eq!(rt; UdpLink::open(&rt, &heap, ports).err(), None);
+    heap.refuse(2);
+    assert_eq!(rt; UdpLink::open_at(&rt, &heap, addresses).err(), None);
+    Ok(())
+}

@@ -1,0 +1,169 @@
+//! Words, arguments, entries and messages.
+
+use scoop_message::{
+    Answer, Args, BadEntries, Block, ClientId, Entries, Entry, HandlerId, Message, OutOfMemory,
+    Request, TooManyArgs, WordCount, Words, same_message, same_words,
+};
+use std::test::Fail;
+
+fn block() -> Block {
+    Block {
+        client: ClientId(7),
+        inc: 2,
+        num: 3,
+    }
+}
+
+#[test]
+fn short_lists_keep_their_limits(rt: HostRuntime) -> Result<(), Fail> {
+    let numbers = [9; 17];
+    assert_eq!(rt; Words::of(&[]), Err(WordCount));
+    assert_eq!(rt; Words::of(&numbers), Err(WordCount));
+    let mut words = Words::of(&numbers[..16])?;
+    assert_eq!(rt; words.len(), 16);
+    assert!(rt; words.as_slice().len() == 16);
+    words.set(15, 4);
+    assert_eq!(rt; (words.get(15), words.get(16)), (Some(4), None));
+    assert_eq!(rt; Args::of(&numbers[..5]), Err(TooManyArgs));
+    assert!(rt; Args::of(&[])?.is_empty());
+    let args = Args::of(&[1, 2, 3, 4])?;
+    assert_eq!(rt; (args.len(), args.get(3), args.get(4)), (4, Some(4), None));
+    assert_eq!(rt; args.as_slice(), [1, 2, 3, 4].as_slice());
+    Ok(())
+}
+
+#[test]
+fn an_end_stands_only_last(rt: HostRuntime) -> Result<(), Fail> {
+    let get = Entry::Query(Request {
+        op: 2,
+        args: Args::of(&[])?,
+    });
+    assert_eq!(rt; Entries::of(&[]), Err(BadEntries));
+    assert_eq!(rt; Entries::of(&[get; 5]), Err(BadEntries));
+    assert_eq!(rt; Entries::of(&[Entry::End, get]), Err(BadEntries));
+    let entries = Entries::of(&[get, get, get, Entry::End])?;
+    assert_eq!(rt; entries.len(), 4);
+    assert_eq!(rt;
+        (entries.get(0), entries.get(3), entries.get(4)),
+        (Some(get), Some(Entry::End), None)
+    );
+    assert_eq!(rt; entries.as_slice(), [get, get, get, Entry::End].as_slice());
+    assert!(rt; entries != Entries::of(&[Entry::End])?);
+    assert!(rt; get.is_query() && !get.is_end() && Entry::End.is_end());
+    Ok(())
+}
+
+#[test]
+fn messages_tell_what_they_name(rt: HostRuntime) -> Result<(), Fail> {
+    let end = Entries::of(&[Entry::End])?;
+    let kinds = [
+        (Message::Hello(HandlerId(1), ClientId(7), 2), true),
+        (Message::Welcome(HandlerId(1), ClientId(7), 2), false),
+        (Message::Lock(HandlerId(1), block()), true),
+        (Message::Locked(HandlerId(1), block()), false),
+        (Message::Busy(HandlerId(1), block()), false),
+        (Message::Open(HandlerId(1), block()), true),
+        (Message::Opened(HandlerId(1), block()), false),
+        (Message::Unlock(HandlerId(1), block()), true),
+        (Message::Unlocked(HandlerId(1), block()), false),
+        (Message::Log(HandlerId(1), block(), 1, end), true),
+        (Message::Logged(HandlerId(1), block(), 1), false),
+        (
+            Message::Answer(HandlerId(1), block(), 1, Answer::Refused),
+            false,
+        ),
+    ];
+    for (message, for_handler) in kinds {
+        assert_eq!(rt; message.handler(), HandlerId(1), "{message:?}");
+        assert_eq!(rt; message.client(), ClientId(7), "{message:?}");
+        assert_eq!(rt; message.inc(), 2, "{message:?}");
+        assert_eq!(rt; message.for_handler(), for_handler, "{message:?}");
+        assert!(rt; message.fits(), "{message:?}");
+        assert!(rt; same_message(&message, &message), "{message:?}");
+    }
+    let lock = Message::Lock(HandlerId(1), block());
+    assert!(rt; !same_message(&lock, &Message::Locked(HandlerId(1), block())));
+    assert!(rt; same_words(&Words::of(&[5])?, &Words::of(&[5])?));
+    Ok(())
+}
+
+#[test]
+fn numbers_begin_at_one(rt: HostRuntime) -> Result<(), Fail> {
+    let end = Entries::of(&[Entry::End])?;
+    let get = Entry::Query(Request {
+        op: 2,
+        args: Args::of(&[])?,
+    });
+    let unnumbered = Block { num: 0, ..block() };
+    let unborn = Block { inc: 0, ..block() };
+    assert!(rt; block().is_numbered() && !unnumbered.is_numbered() && !unborn.is_numbered());
+    for misfit in [
+        Message::Hello(HandlerId(1), ClientId(7), 0),
+        Message::Lock(HandlerId(1), unnumbered),
+        Message::Opened(HandlerId(1), unborn),
+        Message::Log(HandlerId(1), block(), 0, end),
+        Message::Log(HandlerId(1), block(), u32::MAX, Entries::of(&[get, get])?),
+        Message::Logged(HandlerId(1), block(), 0),
+        Message::Answer(HandlerId(1), unnumbered, 1, Answer::Value(5)),
+    ] {
+        assert!(rt; !misfit.fits(), "{misfit:?}");
+    }
+    assert!(rt; Message::Log(HandlerId(1), block(), u32::MAX, end).fits());
+    Ok(())
+}
+
+#[test]
+fn names_are_ordered_by_their_fields_in_turn(rt: HostRuntime) {
+    let next = Block { num: 4, ..block() };
+    let reborn = Block {
+        inc: 3,
+        num: 1,
+        ..block()
+    };
+    let other = Block {
+        client: ClientId(8),
+        inc: 1,
+        num: 1,
+    };
+    assert!(rt; block() < next && next < reborn && reborn < other);
+    assert!(rt; HandlerId(1) < HandlerId(2) && ClientId(9) > ClientId(8));
+}
+
+#[test]
+fn names_and_answers_are_printed(rt: HostRuntime) -> Result<(), Fail> {
+    let text = format!(in rt.alloc();
+        "{} {} {} {} {}",
+        HandlerId(1),
+        ClientId(7),
+        block(),
+        Answer::Refused,
+        Answer::Value(5)
+    )?;
+    assert_eq!(rt; text.as_str(), "1 7 7.2.3 refused 5");
+    let faults = format!(in rt.alloc(); "{TooManyArgs} {WordCount} {BadEntries} {OutOfMemory}")?;
+    assert_eq!(rt;
+        faults.as_str(),
+        "TooManyArgs WordCount BadEntries out of memory"
+    );
+    Ok(())
+}
+
+/// The example of the crate.
+#[test]
+fn a_message_is_made(rt: HostRuntime) -> Result<(), Fail> {
+    let block = Block {
+        client: ClientId(7),
+        inc: 2,
+        num: 3,
+    };
+    // a query, and the End of the block's entries, as its first two entries at handler 1
+    let args = Args::of(&[5])?;
+    let get = Entry::Query(Request { op: 2, args });
+    let log = Message::Log(HandlerId(1), block, 1, Entries::of(&[get, Entry::End])?);
+    assert!(rt; log.for_handler() && log.fits());
+    assert_eq!(rt; (log.client(), log.inc()), (ClientId(7), 2));
+    // the limits are kept: a request has four arguments at most, and an End stands only last
+    assert_eq!(rt; Args::of(&[0; 5]), Err(TooManyArgs));
+    assert_eq!(rt; Entries::of(&[Entry::End, get]), Err(BadEntries));
+    Ok(())
+}

@@ -1,0 +1,45 @@
+//! The example that opens the document of the crate.
+
+use super::ONE;
+use super::accounts::book;
+use super::loops::{Looped, looped};
+use scoop_book::Book;
+use scoop_client::ClientNote;
+use scoop_frame::FrameError;
+use scoop_handler::Note;
+use scoop_keeper::MemoryKeeper;
+use scoop_message::limits::BUFFER_LEN;
+use scoop_netloop::{Answered, answer_datagram};
+use scoop_object::Table;
+use std::process::Abort;
+use std::test::Fail;
+
+// Each part of the example is lent what it works on, so that no way out of it has that to drop.
+fn answers(rt: &impl Abort, book: &mut Book<Table, MemoryKeeper>) -> Result<(), Fail> {
+    // client 7 greets handler 1 of the book, and the handler's reply is a frame too
+    let hello = b"SQ\x01\x01\0\0\0\x01\0\0\0\x07\0\0\0\x01\0\0\0\0\0\0\0\0\0\0";
+    let mut reply = [0; BUFFER_LEN];
+    let answered = answer_datagram(book, 0, hello, &mut reply)?;
+    assert_eq!(rt; answered, Answered::Reply(26, Note::Greeted));
+    // what is no frame is told as such, and nothing has happened
+    let cut = answer_datagram(book, 0, &hello[..25], &mut reply)?;
+    assert_eq!(rt; cut, Answered::RefusedFrame(FrameError::Short));
+    Ok(())
+}
+
+fn reaches(rt: &impl Abort, driver: &mut Looped) -> Result<(), Fail> {
+    assert_eq!(rt; driver.turn()?, Some(ClientNote::Welcomed(ONE)));
+    driver.reserve(&[ONE])?;
+    Ok(())
+}
+
+/// The example of `scoop_netloop`.
+#[test]
+fn a_book_answers_datagrams(rt: HostRuntime) -> Result<(), Fail> {
+    let alloc = rt.alloc();
+    let mut book = book(&rt, alloc, alloc);
+    answers(&rt, &mut book)?;
+    // a client's driver reaches the same book without a network
+    let mut driver = looped(&rt, alloc, book, ONE, 10);
+    reaches(&rt, &mut driver)
+}

@@ -1,0 +1,10 @@
+-- Two handlers' private queues of which one alone differs.
+use Rattle.std.specs.Prelude.{◌≡◌, ℕ, zero, suc, List, [], ◌∷◌}
+use Rattle.scoop_queue.specs.Queue.{PrivateQueue}
+
+-- they are as many, at this place of one block, and at each other place the same
+abbrev pub AgreeBut : ℕ → (left right : List PrivateQueue) → Type 0
+AgreeBut i [] right = ⊥
+AgreeBut i (q ∷ qs) [] = ⊥
+AgreeBut zero (q ∷ qs) (r ∷ rs) = (q.block ≡ r.block) × (qs ≡ rs)
+AgreeBut (suc i) (q ∷ qs) (r ∷ rs) = (q ≡ r) × AgreeBut i qs rs

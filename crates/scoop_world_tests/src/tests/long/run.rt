@@ -1,0 +1,267 @@
+//! The run.
+
+use super::super::settling::settles;
+use super::counts::{Counts, THINGS, Thing, of_refusal};
+use super::opening::{CLIENTS, Heap, opens};
+use super::rule::{Rule, Told};
+use super::watch::{Fault, Grown, Watch};
+use scoop_client::ClientNote;
+use scoop_handler::{Note, Ran};
+use scoop_message::{Block, ClientId, Entry, HandlerId, Message, Request};
+use scoop_object::Table;
+use scoop_refusing::Refusing;
+use scoop_world::{Event, World, WorldError, WorldNote};
+use std::alloc::Global;
+use std::process::Abort;
+use std::test::Fail;
+
+/// How many events the run has.
+const EVENTS: u32 = 20_000;
+
+/// After so many events the run's world is let settle.
+const PLACES: [u32; 5] = [137, 1_000, 4_321, 9_999, EVENTS];
+
+/// Messages that were sent before so many others are old.
+const OLD: usize = 200;
+
+/// A world that is watched.
+#[derive(Drop)]
+struct Run<'a> {
+    heap: Heap<'a>,
+    world: World<Table, Heap<'a>>,
+    watch: Watch,
+    rule: Rule,
+    counts: Counts,
+    // The block of the job that is out at handler 1, 2 and 3.
+    out: [Option<Block>; 3],
+    // The last event and what it told.
+    last: Option<(Event, Told)>,
+}
+
+fn holds(is: bool, fault: Fault) -> Result<(), Fault> {
+    if is { Ok(()) } else { Err(fault) }
+}
+
+fn stepped<'a>(world: &mut World<Table, Heap<'a>>, event: Event) -> Told {
+    world.step(event)
+}
+
+// What an event that told this has added to the lists.
+fn wanted(told: Told) -> Grown {
+    let mut grown = Grown::default();
+    match told {
+        Ok(WorldNote::Sent(_)) => grown.sent = 1,
+        Ok(WorldNote::Handler(note, reply)) => {
+            grown.sent = usize::from(reply.is_some());
+            grown.opened = usize::from(matches!(note, Note::Opened(_)));
+        }
+        Ok(WorldNote::Client(ClientNote::Accepted(_, _, _))) => grown.accepted = 1,
+        Ok(WorldNote::Ran(_)) => grown.ran = 1,
+        _ => {}
+    }
+    grown
+}
+
+impl<'a> Run<'a> {
+    fn new(alloc: Global, heap: Heap<'a>) -> Result<Run<'a>, Fail> {
+        Ok(Run {
+            heap,
+            world: opens(alloc, heap)?,
+            watch: Watch::new(alloc)?,
+            rule: Rule::new(),
+            counts: Counts::new(alloc),
+            out: [None; 3],
+            last: None,
+        })
+    }
+
+    // The job that is out at the handler, which is 1, 2 or 3.
+    fn set_out(&mut self, handler: HandlerId, block: Option<Block>) {
+        match handler.0 {
+            1 => self.out[0] = block,
+            2 => self.out[1] = block,
+            _ => self.out[2] = block,
+        }
+    }
+
+    // A node restarts: node 1 has handlers 1 and 2, and node 2 has handler 3.
+    fn count_node(&mut self, node: u32) -> Result<(), Fault> {
+        self.counts.add(Thing::NodeRestarts)?;
+        let [first, second, third] = self.out;
+        let lost = match node {
+            1 => first.is_some() || second.is_some(),
+            _ => third.is_some(),
+        };
+        if lost {
+            self.counts.add(Thing::JobIsLost)?;
+        }
+        self.out = match node {
+            1 => [None, None, third],
+            _ => [first, second, None],
+        };
+        Ok(())
+    }
+
+    // A client restarts, perhaps while a job of its block is out.
+    fn count_client(&mut self, client: ClientId) -> Result<(), Fault> {
+        self.counts.add(Thing::ClientRestarts)?;
+        for block in self.out {
+            if let Some(block) = block {
+                if block.client == client {
+                    self.counts.add(Thing::JobOutlivesClient)?;
+                }
+            }
+        }
+        Ok(())
+    }
+
+    // A Log was taken, of whose block so many entries had been received.
+    fn count_log(&mut self, message: &Message, received: u32) -> Result<(), Fault> {
+        let Message::Log(_, _, number, entries) = *message else {
+            return Ok(());
+        };
+        if entries.len() > 1 {
+            self.counts.add(Thing::Batch)?;
+        }
+        if number <= received {
+            self.counts.add(Thing::Overlap)?;
+        }
+        Ok(())
+    }
+
+    // A message has come, when so many were sent and so many entries of its block received.
+    fn count_message(
+        &mut self,
+        place: usize,
+        sent: usize,
+        received: u32,
+        note: &WorldNote,
+    ) -> Result<(), Fault> {
+        let Some(message) = self.world.sent(place).copied() else {
+            return Err("a message has gone");
+        };
+        if place.saturating_add(OLD) < sent {
+            self.counts.add(Thing::OldMessage)?;
+            if let WorldNote::Handler(Note::Dropped(_), _) = note {
+                self.counts.add(Thing::OldMessageDropped)?;
+            }
+        }
+        match *note {
+            WorldNote::Handler(Note::Took(_), _) => self.count_log(&message, received),
+            WorldNote::Client(note) => {
+                self.rule.hears(message.client(), note);
+                if let ClientNote::Accepted(_, _, _) = note {
+                    self.counts.add(Thing::Accepted)?;
+                }
+                Ok(())
+            }
+            _ => Ok(()),
+        }
+    }
+
+    // An event told this, when so many messages were sent and so many entries of its block received.
+    fn count(&mut self, event: Event, told: Told, sent: usize, received: u32) -> Result<(), Fault> {
+        let note = match told {
+            Ok(note) => note,
+            Err(error) => {
+                let thing = of_refusal(error).ok_or("a refusal that doesn't come here")?;
+                return self.counts.add(thing);
+            }
+        };
+        match event {
+            Event::Take(place) => self.count_message(place, sent, received, &note),
+            Event::Begin(handler) => {
+                if let WorldNote::Began(block, _) = note {
+                    self.set_out(handler, Some(block));
+                }
+                Ok(())
+            }
+            Event::Finish(handler) => {
+                self.set_out(handler, None);
+                Ok(())
+            }
+            Event::NodeRestart(node) => self.count_node(node),
+            Event::ClientRestart(client) => self.count_client(client),
+            Event::Do(_, _) | Event::Tick(_, _) => Ok(()),
+        }
+    }
+
+    // How many entries the receiver of the message at this place has told to have of its block.
+    fn received(&self, event: Event) -> u32 {
+        let Event::Take(place) = event else {
+            return 0;
+        };
+        match self.world.sent(place) {
+            Some(message) => self.watch.received(message),
+            None => 0,
+        }
+    }
+
+    // One event, without memory or with all that it asks for.
+    fn takes(&mut self, event: Event, without: bool) -> Result<(), Fault> {
+        let (sent, received) = (self.watch.sent(), self.received(event));
+        self.heap.refuse(u64::from(without));
+        let told = stepped(&mut self.world, event);
+        let refused = without && self.heap.has_refused();
+        self.heap.refuse(0);
+        let wants = matches!(told, Err(WorldError::OutOfMemory));
+        holds(refused || !wants, "memory is wanted where none was refused")?;
+        holds(
+            told.is_err() || !refused,
+            "an event has happened without memory",
+        )?;
+        let grown = self.watch.see(&self.world)?;
+        holds(
+            grown == wanted(told),
+            "something has happened that wasn't told",
+        )?;
+        self.count(event, told, sent, received)?;
+        self.last = Some((event, told));
+        Ok(())
+    }
+
+    // The next event by the rule. Every tenth has no memory, and after every hundredth everything is looked at.
+    fn goes_on(&mut self, alloc: Global, number: u32) -> Result<(), Fault> {
+        let next = self.rule.next(self.last, self.watch.sent());
+        let event = next.ok_or("the rule has no event")?;
+        self.takes(event, number % 10 == 9)?;
+        if number % 100 == 99 {
+            let all = Watch::of(alloc, &self.world)?;
+            holds(all.same(&self.watch), "what happened before has changed")?;
+        }
+        Ok(())
+    }
+}
+
+#[test]
+fn a_long_run_keeps_the_rules(rt: HostRuntime) -> Result<(), Fail> {
+    let owner = Refusing::new(rt.alloc(), 0);
+    let mut run = Run::new(rt.alloc(), &owner)?;
+    for number in 0..EVENTS {
+        if let Err(fault) = run.goes_on(rt.alloc(), number) {
+            panic!(&rt; "event {number}: {fault}");
+        }
+    }
+    for thing in THINGS {
+        let count = run.counts.of(thing);
+        assert!(&rt; count > 0, "{thing:?}");
+    }
+    Ok(())
+}
+
+#[test]
+fn a_long_run_settles_wherever_it_is(rt: HostRuntime) -> Result<(), Fail> {
+    for place in PLACES {
+        let owner = Refusing::new(rt.alloc(), 0);
+        let mut run = Run::new(rt.alloc(), &owner)?;
+        for number in 0..place {
+            if let Err(fault) = run.goes_on(rt.alloc(), number) {
+                panic!(&rt; "event {number}: {fault}");
+            }
+        }
+        if let Err(fault) = settles(&mut run.world) {
+            panic!(&rt; "after {place}: {fault}");
+        }
+    }
+    Ok(())
+}

@@ -1,0 +1,87 @@
+//! A world settles: what is next in it is played until nothing is, and it is calm.
+
+use scoop_client::{ClientNote, Phase};
+use scoop_object::Table;
+use scoop_settle::{Next, next_of};
+use scoop_world::{Command, Event, World, WorldError, WorldNote};
+use std::alloc::Allocator;
+
+/// Why a world doesn't settle.
+type Fault = &'static str;
+
+/// More turns than any world here takes.
+const TURNS: u32 = 100_000;
+
+fn stepped<A: Allocator + Copy>(
+    world: &mut World<Table, A>,
+    event: Event,
+) -> Result<WorldNote, WorldError> {
+    world.step(event)
+}
+
+// The client sends what it owes, the handler hears it, and the client the reply.
+fn ask<A: Allocator + Copy>(world: &mut World<Table, A>, tick: Event) -> Result<(), Fault> {
+    let Ok(WorldNote::Sent(place)) = stepped(world, tick) else {
+        return Err("nothing was owed");
+    };
+    let Ok(WorldNote::Handler(_, Some(reply))) = stepped(world, Event::Take(place)) else {
+        return Err("a handler was asked in vain");
+    };
+    match stepped(world, Event::Take(reply)) {
+        Ok(WorldNote::Client(ClientNote::Busy(_))) => Err("a lock was asked for that is held"),
+        Ok(WorldNote::Client(_)) => Ok(()),
+        _ => Err("a client heard nothing"),
+    }
+}
+
+fn play<A: Allocator + Copy>(world: &mut World<Table, A>, next: Next) -> Result<(), Fault> {
+    let event = match next {
+        Next::Finish(handler) => Event::Finish(handler),
+        Next::Begin(handler) => Event::Begin(handler),
+        Next::Ask(client, handler) => return ask(world, Event::Tick(client, handler)),
+        Next::End(client) => Event::Do(client, Command::End),
+    };
+    match stepped(world, event) {
+        Ok(_) => Ok(()),
+        Err(_) => Err("what is next was refused"),
+    }
+}
+
+// Every client is idle, and at each handler nobody holds the lock, no private queue is left, and no job is out.
+fn is_calm<A: Allocator + Copy>(world: &World<Table, A>) -> Result<bool, Fault> {
+    let Ok(states) = world.states() else {
+        return Err("memory is wanted where none was refused");
+    };
+    for (state, is_out) in &states {
+        if *is_out || state.holder().is_some() || state.queues().list_len() != 0 {
+            return Ok(false);
+        }
+    }
+    for place in 0..world.clients() {
+        let Some((_, client)) = world.client(place) else {
+            return Err("a client is missing");
+        };
+        if client.phase() != Phase::Idle {
+            return Ok(false);
+        }
+    }
+    Ok(true)
+}
+
+/// What is next is played until nothing is, and then the world is calm.
+pub fn settles<A: Allocator + Copy>(world: &mut World<Table, A>) -> Result<(), Fault> {
+    for _ in 0..TURNS {
+        let Ok(found) = next_of(world) else {
+            return Err("memory is wanted where none was refused");
+        };
+        let Some(next) = found else {
+            return if is_calm(world)? {
+                Ok(())
+            } else {
+                Err("nothing is next, and the world isn't calm")
+            };
+        };
+        play(world, next)?;
+    }
+    Err("too many turns")
+}
