@@ -1,5 +1,14 @@
 //! The command line that the program `scoop` takes, with its help. It stands beside the program, so that its tests are
 //! checked without it.
+//!
+//! ```
+//! // what is wrong with a command line, and its help, is an error with a text and the program's status
+//! let names = DemoClass::names();
+//! let Err(told) = command(alloc, &names)?.try_get_matches_from(line.as_slice()) else {
+//!     panic!(rt; "it is taken");
+//! };
+//! assert_eq!(rt; told.exit_code(), status);
+//! ```
 #![tactic(auto)]
 
 use clap::{Arg, ArgAction, Command, value_parser};

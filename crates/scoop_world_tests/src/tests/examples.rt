@@ -30,6 +30,10 @@ fn theorems_are_called() {
     scoop_rules::theorems::replays();
     scoop_rules::examples::three_clients();
     scoop_rules::examples::runs_what_came();
+    scoop_calm::never_stuck();
+    scoop_calm::settles_by_next_events();
+    scoop_calm::next_leaves_less();
+    scoop_calm::calm_has_no_next();
 }
 
 /// A world of one cell and one client.
