@@ -10,6 +10,15 @@
 //!
 //! The crate has nothing to run: its functions are theorems, which a proof has once it calls them. For histories
 //! and steps at hand `scoop_weaver` finds such an order.
+//!
+//! ```
+//! // a history that replays, as a closed node's does, leads the node's handlers
+//! scoop_running::histories_move();
+//! // a driver's steps lead its client
+//! scoop_running::drivers_move();
+//! // so what running nodes and clients tell of themselves is what happens in a world
+//! scoop_running::running_is_a_world();
+//! ```
 #![tactic(auto)]
 
 mod running;

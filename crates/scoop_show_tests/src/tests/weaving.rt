@@ -153,3 +153,15 @@ fn a_message_may_be_heard_twice_and_late(rt: HostRuntime) -> Result<(), Fail> {
     assert_eq!(rt; weave(alloc, &parties).map(|order| order.len()), Ok(6));
     Ok(())
 }
+
+#[test]
+fn theorems_are_called() {
+    scoop_weave::nodes_are_woven();
+    scoop_weave::woven_is_a_weave();
+    scoop_weave::weave_is_a_world();
+    scoop_weave::world_is_of_a_weave();
+    scoop_weave::system_is_a_world();
+    scoop_running::histories_move();
+    scoop_running::drivers_move();
+    scoop_running::running_is_a_world();
+}
