@@ -160,7 +160,7 @@ fn tries_on<'a, R: Net>(
 ) -> Result<Trial, Fail> {
     sends(tape)?;
     for first in 0..count {
-        tape.feed(&[first as u8])?;
+        tape.feed(&[u8::try_from(first).unwrap_or(u8::MAX)])?;
     }
     let mut linked = Linked {
         rt,

@@ -2,6 +2,8 @@
 
 use super::data::{block, cell, class, get, set};
 use super::growths::{Calling, Heap, Trial, Trying, add, answered, growths, told, tried};
+use scoop_client::ClientNote;
+use scoop_handler::{Note, Ran};
 use scoop_keeper::MemoryKeeper;
 use scoop_message::{ClientId, Entry, HandlerId, Request};
 use scoop_object::Table;
@@ -196,14 +198,16 @@ fn new_world<'a>(alloc: Global, heap: Heap<'a>) -> Result<World<Table, Heap<'a>>
     Ok(opens(heap, placements(alloc)?)?)
 }
 
+// Names the types that an event and its note hold, of which the prover has to be told where both are lent on.
+type Parts = Option<(Command, HandlerList, Entry, Request, Ran, Note, ClientNote)>;
+
 // The story happens in a new world: its events. The world is lent, here as everywhere, so that no way out of here has
 // it to drop: the proof of each would follow all that a world holds.
 fn told_in<A: Allocator + Copy>(
     alloc: Global,
     world: &mut World<Table, A>,
 ) -> Result<Vec<Event>, Fail> {
-    // Names the types that an event and its note hold, of which the prover has to be told here.
-    let _parts: Option<(Command, HandlerList, Entry, Request)> = None;
+    let _parts: Parts = None;
     let mut events = Vec::new(alloc);
     for act in STORY {
         let sent = sent_count(world);
@@ -237,11 +241,9 @@ struct Happening<'w, 'a> {
 
 impl Calling for Happening<'_, '_> {
     fn call(&mut self, text: &mut String) -> Result<bool, Fail> {
-        answered(
-            text,
-            stepped(self.world, self.event),
-            &WorldError::OutOfMemory,
-        )
+        let _parts: Parts = None;
+        let stepped = stepped(self.world, self.event);
+        answered(text, stepped, &WorldError::OutOfMemory)
     }
 
     fn read(&mut self, text: &mut String) -> Result<(), Fail> {
