@@ -1,5 +1,6 @@
 //! The tests of drivers.
 
+mod acts;
 mod calls;
 mod diaries;
 mod examples;
