@@ -1,12 +1,12 @@
 //! A driver's calls with what they answer, as rows. The driver is lent to them, so that a test has no way
 //! out of its calls that drops one.
 
-use super::node::BALANCE;
+use super::node::{BALANCE, DEPOSIT};
 use super::{ONE, request};
 use scoop_client::{ClientNote, Phase};
 use scoop_driver::{Condition, Diary, Driver, DriverError};
 use scoop_link::Link;
-use scoop_message::{Answer, HandlerId, Request};
+use scoop_message::{Answer, HandlerId, Message, Request};
 use std::alloc::Allocator;
 use std::process::Abort;
 
@@ -16,11 +16,15 @@ pub enum Act {
     Turn,
     Reserve(HandlerId),
     Call(HandlerId, u16, u64),
+    /// Pays one into the account, so many times.
+    Pay(u32),
     Query(HandlerId, u16, u64),
     End,
     GiveUp,
     /// Waits for a balance of at least this, to make this request.
     When(u64, u16, u64),
+    /// Asks what is due to a handler.
+    Due(HandlerId),
 }
 
 /// What a call answers.
@@ -30,6 +34,7 @@ pub enum Told {
     Note(Option<ClientNote>),
     Answer(Answer),
     Block(u32),
+    Due(Option<Message>),
 }
 
 /// A call, what it is to answer, and what the client is at behind it.
@@ -70,6 +75,17 @@ pub fn waits<L: Link, D: Diary<A>, A: Allocator + Clone>(
     driver.when(&[ONE], condition, body, 2)
 }
 
+fn pays<L: Link, D: Diary<A>, A: Allocator + Clone>(
+    rt: &impl Abort,
+    driver: &mut Driver<L, D, A>,
+    times: u32,
+) -> Result<(), DriverError> {
+    for _ in 0..times {
+        driver.call(ONE, request(rt, DEPOSIT, 1))?;
+    }
+    Ok(())
+}
+
 fn done(answer: Result<(), DriverError>) -> Result<Told, DriverError> {
     match answer {
         Ok(()) => DONE,
@@ -89,12 +105,14 @@ pub fn makes<L: Link, D: Diary<A>, A: Allocator + Clone>(
         Act::Call(handler, op, amount) => {
             return done(driver.call(handler, request(rt, op, amount)));
         }
+        Act::Pay(times) => return done(pays(rt, driver, times)),
         Act::Query(handler, op, amount) => {
             let answer = driver.query(handler, request(rt, op, amount))?;
             return Ok(Told::Answer(answer));
         }
         Act::End => return done(driver.end()),
         Act::GiveUp => return done(driver.give_up()),
+        Act::Due(handler) => return Ok(Told::Due(driver.due(handler))),
         Act::When(least, op, amount) => {
             let body = [(ONE, request(rt, op, amount))];
             return Ok(Told::Block(waits(rt, driver, ONE, least, &body)?));

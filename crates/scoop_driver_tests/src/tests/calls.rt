@@ -1,8 +1,8 @@
 //! Whole calls, over a wire to a node.
 
-use super::acts::{Act, DONE, RESERVES, TURNS_OVER, Told, WELCOMED, plays};
+use super::acts::{Act, DONE, RESERVES, Row, TURNS_OVER, Told, WELCOMED, plays};
 use super::node::{BALANCE, DEPOSIT, Node, WITHDRAW, Wire};
-use super::{ONE, block, client};
+use super::{FIRST, ONE, client};
 use scoop_client::{ClientError, ClientNote, Phase};
 use scoop_driver::{Driver, DriverError};
 use scoop_message::{Answer, Block, ClientId, HandlerId, Message};
@@ -12,74 +12,75 @@ use std::process::Abort;
 
 const NINE: HandlerId = HandlerId(9);
 
-/// Pays one into the account.
-const ONE_MORE: Act = Act::Call(ONE, DEPOSIT, 1);
-
 const ASKS: Act = Act::Query(ONE, BALANCE, 0);
 
-const fn refused(error: ClientError) -> Result<Told, DriverError> {
-    Err(DriverError::Client(error))
+const NO_BLOCK: Result<Told, DriverError> = Err(DriverError::Client(ClientError::NoBlock));
+
+const UNLOCKED: Result<Told, DriverError> = Ok(Told::Note(Some(ClientNote::Unlocked(ONE))));
+
+/// Plays the rows with a driver over a wire to this node, whose calls take so many turns: the balance in the end.
+fn plays_over(rt: &impl Abort, alloc: Global, node: Node, turns: u64, rows: &[Row]) -> Option<u64> {
+    let mut driver = Driver::new(client(rt, alloc), Wire::new(node), turns);
+    plays(rt, &mut driver, rows);
+    driver.link().node.balance()
 }
 
-const fn noted(note: ClientNote) -> Result<Told, DriverError> {
-    Ok(Told::Note(Some(note)))
-}
-
-/// A driver of client 7 over a wire to this node, whose calls take so many turns.
-fn driver(rt: &impl Abort, alloc: Global, node: Node, turns: u64) -> Driver<Wire> {
-    Driver::new(client(rt, alloc), Wire::new(node), turns)
-}
+const BLOCK: [Row; 6] = [
+    WELCOMED,
+    RESERVES,
+    (Act::Call(ONE, DEPOSIT, 150), DONE, Phase::Running),
+    (ASKS, Ok(Told::Answer(Answer::Value(150))), Phase::Running),
+    (
+        Act::Query(ONE, WITHDRAW, 151),
+        Ok(Told::Answer(Answer::Refused)),
+        Phase::Running,
+    ),
+    (Act::End, DONE, Phase::Idle),
+];
 
 #[test]
 fn a_block_deposits_and_asks(rt: HostRuntime) {
-    let mut driver = driver(&rt, rt.alloc(), Node::new(&rt, rt.alloc()), 10);
-    let (pays, takes) = (Act::Call(ONE, DEPOSIT, 150), Act::Query(ONE, WITHDRAW, 151));
-    let balance = Ok(Told::Answer(Answer::Value(150)));
-    let rows = [
-        WELCOMED,
-        RESERVES,
-        (pays, DONE, Phase::Running),
-        (ASKS, balance, Phase::Running),
-        (takes, Ok(Told::Answer(Answer::Refused)), Phase::Running),
-        (Act::End, DONE, Phase::Idle),
-    ];
-    plays(&rt, &mut driver, &rows);
-    assert_eq!(rt; driver.link().node.balance(), Some(150));
+    let node = Node::new(&rt, rt.alloc());
+    let balance = plays_over(&rt, rt.alloc(), node, 10, &BLOCK);
+    assert_eq!(rt; balance, Some(150));
 }
 
-/// Pays in so many times.
-fn pays(rt: &impl Abort, driver: &mut Driver<Wire>, times: u32) {
-    for _ in 0..times {
-        plays(rt, driver, &[(ONE_MORE, DONE, Phase::Running)]);
-    }
-}
+const FULL: [Row; 4] = [
+    WELCOMED,
+    RESERVES,
+    (Act::Pay(65), DONE, Phase::Running),
+    (Act::Pay(64), DONE, Phase::Running),
+];
 
 #[test]
 fn a_full_window_takes_turns(rt: HostRuntime) {
-    let mut driver = driver(&rt, rt.alloc(), Node::new(&rt, rt.alloc()), 10);
-    plays(&rt, &mut driver, &[WELCOMED, RESERVES]);
-    pays(&rt, &mut driver, 65);
-    pays(&rt, &mut driver, 64);
+    let node = Node::new(&rt, rt.alloc());
+    let _balance = plays_over(&rt, rt.alloc(), node, 10, &FULL);
 }
+
+const WITHOUT_TURNS: [Row; 8] = [
+    WELCOMED,
+    (Act::Reserve(ONE), TURNS_OVER, Phase::Locking),
+    (
+        Act::Turn,
+        Ok(Told::Note(Some(ClientNote::Locked(ONE)))),
+        Phase::Opening,
+    ),
+    (
+        Act::Turn,
+        Ok(Told::Note(Some(ClientNote::Opened(ONE)))),
+        Phase::Running,
+    ),
+    (Act::Turn, UNLOCKED, Phase::Running),
+    (Act::Pay(64), DONE, Phase::Running),
+    (Act::Pay(1), TURNS_OVER, Phase::Running),
+    (Act::End, TURNS_OVER, Phase::Running),
+];
 
 #[test]
 fn a_full_window_without_turns_is_told_as_such(rt: HostRuntime) {
-    let mut driver = driver(&rt, rt.alloc(), Node::new(&rt, rt.alloc()), 0);
-    let rows = [
-        WELCOMED,
-        (Act::Reserve(ONE), TURNS_OVER, Phase::Locking),
-        (Act::Turn, noted(ClientNote::Locked(ONE)), Phase::Opening),
-        (Act::Turn, noted(ClientNote::Opened(ONE)), Phase::Running),
-        (Act::Turn, noted(ClientNote::Unlocked(ONE)), Phase::Running),
-    ];
-    plays(&rt, &mut driver, &rows);
-    pays(&rt, &mut driver, 64);
-    let full = (ONE_MORE, TURNS_OVER, Phase::Running);
-    plays(
-        &rt,
-        &mut driver,
-        &[full, (Act::End, TURNS_OVER, Phase::Running)],
-    );
+    let node = Node::new(&rt, rt.alloc());
+    let _balance = plays_over(&rt, rt.alloc(), node, 0, &WITHOUT_TURNS);
 }
 
 /// A node whose handler a block of client 8 has locked.
@@ -95,40 +96,55 @@ fn busy(rt: &impl Abort, alloc: Global) -> Node {
     node
 }
 
+const BUSY: [Row; 6] = [
+    WELCOMED,
+    (Act::Reserve(ONE), TURNS_OVER, Phase::Locking),
+    (
+        Act::Turn,
+        Ok(Told::Note(Some(ClientNote::Busy(ONE)))),
+        Phase::Locking,
+    ),
+    (Act::GiveUp, DONE, Phase::GivingUp),
+    (Act::Turn, UNLOCKED, Phase::Idle),
+    (Act::GiveUp, NO_BLOCK, Phase::Idle),
+];
+
 #[test]
 fn a_busy_lock_ends_the_turns(rt: HostRuntime) {
-    let mut driver = driver(&rt, rt.alloc(), busy(&rt, rt.alloc()), 1);
-    let rows = [
-        WELCOMED,
-        (Act::Reserve(ONE), TURNS_OVER, Phase::Locking),
-        (Act::Turn, noted(ClientNote::Busy(ONE)), Phase::Locking),
-        (Act::GiveUp, DONE, Phase::GivingUp),
-        (Act::Turn, noted(ClientNote::Unlocked(ONE)), Phase::Idle),
-        (Act::GiveUp, refused(ClientError::NoBlock), Phase::Idle),
-    ];
-    plays(&rt, &mut driver, &rows);
+    let node = busy(&rt, rt.alloc());
+    let _balance = plays_over(&rt, rt.alloc(), node, 1, &BUSY);
 }
+
+const UNKNOWN: ClientError = ClientError::Reserve(ReserveError::Unknown(NINE));
+
+const UNLOCK: Message = Message::Unlock(ONE, FIRST);
+
+const REFUSED: [Row; 9] = [
+    WELCOMED,
+    (Act::Pay(1), NO_BLOCK, Phase::Idle),
+    (ASKS, NO_BLOCK, Phase::Idle),
+    (Act::End, NO_BLOCK, Phase::Idle),
+    (
+        Act::Reserve(NINE),
+        Err(DriverError::Client(UNKNOWN)),
+        Phase::Idle,
+    ),
+    RESERVES,
+    (Act::Due(ONE), Ok(Told::Due(Some(UNLOCK))), Phase::Running),
+    (
+        Act::Call(NINE, DEPOSIT, 1),
+        Err(DriverError::Client(ClientError::NotReserved(NINE))),
+        Phase::Running,
+    ),
+    (
+        Act::GiveUp,
+        Err(DriverError::Client(ClientError::TooLate)),
+        Phase::Running,
+    ),
+];
 
 #[test]
 fn the_clients_refusals_are_told(rt: HostRuntime) {
-    let mut driver = driver(&rt, rt.alloc(), Node::new(&rt, rt.alloc()), 10);
-    let idle = refused(ClientError::NoBlock);
-    let unknown = refused(ClientError::Reserve(ReserveError::Unknown(NINE)));
-    let rows = [
-        WELCOMED,
-        (ONE_MORE, idle, Phase::Idle),
-        (ASKS, idle, Phase::Idle),
-        (Act::End, idle, Phase::Idle),
-        (Act::Reserve(NINE), unknown, Phase::Idle),
-        RESERVES,
-    ];
-    plays(&rt, &mut driver, &rows);
-    assert_eq!(rt; driver.due(ONE), Some(Message::Unlock(ONE, block(1))));
-    let unreserved = refused(ClientError::NotReserved(NINE));
-    let late = refused(ClientError::TooLate);
-    let rows = [
-        (Act::Call(NINE, DEPOSIT, 1), unreserved, Phase::Running),
-        (Act::GiveUp, late, Phase::Running),
-    ];
-    plays(&rt, &mut driver, &rows);
+    let node = Node::new(&rt, rt.alloc());
+    let _balance = plays_over(&rt, rt.alloc(), node, 10, &REFUSED);
 }

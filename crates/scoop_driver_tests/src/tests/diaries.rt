@@ -54,22 +54,29 @@ fn stands_behind(rt: &impl Abort, again: &mut Client, steps: &[Step]) {
     assert!(rt; again.reserve(&[ONE]).is_ok());
 }
 
+const BLOCK: [Row; 6] = [
+    WELCOMED,
+    RESERVES,
+    (Act::Call(ONE, DEPOSIT, 150), DONE, Phase::Running),
+    (
+        Act::Query(ONE, BALANCE, 0),
+        Ok(Told::Answer(Answer::Value(150))),
+        Phase::Running,
+    ),
+    (Act::End, DONE, Phase::Idle),
+    (
+        Act::GiveUp,
+        Err(DriverError::Client(ClientError::NoBlock)),
+        Phase::Idle,
+    ),
+];
+
 #[test]
 fn a_kept_diary_replays(rt: HostRuntime) {
     let wire = Wire::new(Node::new(&rt, rt.alloc()));
     let diary = StepList::new(rt.alloc());
     let mut driver = Driver::with_diary(client(&rt, rt.alloc()), wire, 10, diary);
-    let balance = Ok(Told::Answer(Answer::Value(150)));
-    let idle = Err(DriverError::Client(ClientError::NoBlock));
-    let rows = [
-        WELCOMED,
-        RESERVES,
-        (Act::Call(ONE, DEPOSIT, 150), DONE, Phase::Running),
-        (Act::Query(ONE, BALANCE, 0), balance, Phase::Running),
-        (Act::End, DONE, Phase::Idle),
-        (Act::GiveUp, idle, Phase::Idle),
-    ];
-    plays(&rt, &mut driver, &rows);
+    plays(&rt, &mut driver, &BLOCK);
     let mut again = client(&rt, rt.alloc());
     stands_behind(&rt, &mut again, driver.diary().steps());
     plays(&rt, &mut driver, &[RESERVES]);
@@ -98,14 +105,18 @@ fn are_three(rt: &impl Abort, steps: &[Step]) {
     }
 }
 
+const STRAY: [Row; 3] = [
+    (Act::Turn, NO_FRAME, Phase::Greeting),
+    (Act::Turn, NO_FRAME, Phase::Greeting),
+    (Act::Turn, FAULT, Phase::Greeting),
+];
+
 #[test]
 fn strays_and_broken_turns_are_kept(rt: HostRuntime) -> Result<(), Fail> {
     let link = stray(rt.alloc(), 2)?;
     let diary = StepList::new(rt.alloc());
     let mut driver = Driver::with_diary(client(&rt, rt.alloc()), link, 10, diary);
-    let silent = (Act::Turn, NO_FRAME, Phase::Greeting);
-    let broken = (Act::Turn, FAULT, Phase::Greeting);
-    plays(&rt, &mut driver, &[silent, silent, broken]);
+    plays(&rt, &mut driver, &STRAY);
     are_three(&rt, driver.diary().steps());
     Ok(())
 }
@@ -148,12 +159,13 @@ fn counts(rt: &impl Abort, driver: &mut Driver<Wire, Sends>, rows: &[Row], sends
     assert_eq!(rt; driver.diary().count, sends);
 }
 
+const TURNS: [Row; 2] = [WELCOMED, (Act::Turn, NO_FRAME, Phase::Idle)];
+
 #[test]
 fn a_diary_sees_what_was_due(rt: HostRuntime) {
     let wire = Wire::new(Node::new(&rt, rt.alloc()));
     let mut driver = Driver::with_diary(client(&rt, rt.alloc()), wire, 10, Sends { count: 0 });
     counts(&rt, &mut driver, &[], 0);
-    let silent = (Act::Turn, NO_FRAME, Phase::Idle);
-    counts(&rt, &mut driver, &[WELCOMED, silent], 1);
+    counts(&rt, &mut driver, &TURNS, 1);
     counts(&rt, &mut driver, &[RESERVES], 3);
 }

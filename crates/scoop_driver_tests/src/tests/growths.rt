@@ -107,10 +107,12 @@ fn each_growth_of_each_call_is_refused(rt: HostRuntime) {
     }
 }
 
+const WITHOUT_ROOM: [Row; 1] = [(Act::Turn, WANTING, Phase::Greeting)];
+
 /// A turn that finds no room for its step isn't taken, and the next one is.
 fn takes_with_room<'a>(rt: &impl Abort, heap: Heap<'a>, driver: &mut Kept<'a>) {
     heap.refuse(1);
-    plays(rt, driver, &[(Act::Turn, WANTING, Phase::Greeting)]);
+    plays(rt, driver, &WITHOUT_ROOM);
     assert_eq!(rt; driver.diary().steps().len(), 0);
     heap.refuse(0);
     plays(rt, driver, &[WELCOMED]);

@@ -1,8 +1,8 @@
 //! Turns, over tapes and over ends that fail.
 
-use super::acts::{Act, FAULT, NO_FRAME, TURNS_OVER, Told, WELCOMED, plays};
+use super::acts::{Act, FAULT, NO_FRAME, Row, TURNS_OVER, Told, WELCOMED, plays};
 use super::node::{BALANCE, Node};
-use super::{ONE, SEVEN, block, client};
+use super::{FIRST, ONE, SEVEN, client};
 use scoop_client::{Client, ClientNote, Phase};
 use scoop_driver::{Driver, DriverError};
 use scoop_frame::{Version, encode};
@@ -29,11 +29,6 @@ pub fn stray(alloc: Global, room: usize) -> Result<TapeLink, Fail> {
     Ok(link)
 }
 
-/// The message that the client owes to a handler.
-fn owes(rt: &impl Abort, driver: &Driver<TapeLink>, handler: HandlerId, due: Option<Message>) {
-    assert_eq!(rt; driver.due(handler), due);
-}
-
 /// The first datagram that was sent is the Hello, in this version, and there is no second.
 fn sent_hello(rt: &impl Abort, link: &TapeLink, version: Version) {
     let mut buffer = [0; BUFFER_LEN];
@@ -46,25 +41,34 @@ fn sent_hello(rt: &impl Abort, link: &TapeLink, version: Version) {
     assert!(rt; link.sent(1).is_none());
 }
 
+/// A driver of this client over a tape from which it is greeted plays the rows, and has sent the Hello alone.
+fn greets(rt: &impl Abort, client: Client, link: TapeLink, rows: &[Row], version: Version) {
+    let mut driver = Driver::new(client, link, 10);
+    plays(rt, &mut driver, rows);
+    sent_hello(rt, driver.link(), version);
+}
+
+const HELLO: Message = Message::Hello(ONE, SEVEN, 1);
+
+const GREETING: [Row; 4] = [
+    (Act::Due(ONE), Ok(Told::Due(Some(HELLO))), Phase::Greeting),
+    WELCOMED,
+    (Act::Turn, NO_FRAME, Phase::Idle),
+    (Act::Due(ONE), Ok(Told::Due(None)), Phase::Idle),
+];
+
 #[test]
 fn a_turn_sends_what_is_due_and_hears_what_came(rt: HostRuntime) -> Result<(), Fail> {
     let link = tape(rt.alloc(), 8, Version::One)?;
-    let mut driver = Driver::new(client(&rt, rt.alloc()), link, 10);
-    owes(&rt, &driver, ONE, Some(Message::Hello(ONE, SEVEN, 1)));
-    let silent = (Act::Turn, NO_FRAME, Phase::Idle);
-    plays(&rt, &mut driver, &[WELCOMED, silent]);
-    owes(&rt, &driver, ONE, None);
-    sent_hello(&rt, driver.link(), Version::One);
+    greets(&rt, client(&rt, rt.alloc()), link, &GREETING, Version::One);
     Ok(())
 }
 
 #[test]
 fn a_batch_is_sent_in_version_two(rt: HostRuntime) -> Result<(), Fail> {
+    let client = Client::begin_batched(rt.alloc(), SEVEN, 1, &[ONE], 2)?;
     let link = tape(rt.alloc(), 8, Version::One)?;
-    let batched = Client::begin_batched(rt.alloc(), SEVEN, 1, &[ONE], 2)?;
-    let mut driver = Driver::new(batched, link, 10);
-    plays(&rt, &mut driver, &[WELCOMED]);
-    sent_hello(&rt, driver.link(), Version::Two);
+    greets(&rt, client, link, &[WELCOMED], Version::Two);
     Ok(())
 }
 
@@ -137,6 +141,10 @@ fn turns_up_to(
     panic!(rt; "the note doesn't come");
 }
 
+const RESERVES_LATE: [Row; 1] = [(Act::Reserve(ONE), TURNS_OVER, Phase::Locking)];
+
+const ASKS_LATE: [Row; 1] = [(Act::Query(ONE, BALANCE, 0), TURNS_OVER, Phase::Running)];
+
 /// What the driver is told once it is greeted: each of its calls takes no turn of its own, and further turns go
 /// on up to the answer.
 fn goes_on(
@@ -145,12 +153,10 @@ fn goes_on(
     node: &mut Node,
     end: &mut ScriptLink,
 ) {
-    let reserves = (Act::Reserve(ONE), TURNS_OVER, Phase::Locking);
-    plays(rt, driver, &[reserves]);
+    plays(rt, driver, &RESERVES_LATE);
     let opened = ClientNote::Opened(ONE);
     assert_eq!(rt; turns_up_to(rt, driver, node, end, opened), 0);
-    let asks = (Act::Query(ONE, BALANCE, 0), TURNS_OVER, Phase::Running);
-    plays(rt, driver, &[asks]);
+    plays(rt, driver, &ASKS_LATE);
     let answered = ClientNote::Accepted(ONE, 1, Answer::Value(0));
     assert_eq!(rt; turns_up_to(rt, driver, node, end, answered), 0);
     assert_eq!(rt; driver.link().faults(), 1);
@@ -183,15 +189,21 @@ fn turns_go_on_behind_a_fault(rt: HostRuntime) -> Result<(), Fail> {
     Ok(())
 }
 
+const LOCK: Message = Message::Lock(ONE, FIRST);
+
+const REPEATED: [Row; 4] = [
+    WELCOMED,
+    (Act::Reserve(ONE), TURNS_OVER, Phase::Locking),
+    (Act::Due(ONE), Ok(Told::Due(Some(LOCK))), Phase::Locking),
+    (Act::Due(HandlerId(2)), Ok(Told::Due(None)), Phase::Locking),
+];
+
 /// Handler 1 owes its lock to a block of client 7 alone.
 #[test]
 fn a_repeated_turn_sends_what_is_still_due(rt: HostRuntime) -> Result<(), Fail> {
     let link = tape(rt.alloc(), 8, Version::One)?;
     let mut driver = Driver::new(client(&rt, rt.alloc()), link, 2);
-    let reserves = (Act::Reserve(ONE), TURNS_OVER, Phase::Locking);
-    plays(&rt, &mut driver, &[WELCOMED, reserves]);
-    owes(&rt, &driver, ONE, Some(Message::Lock(ONE, block(1))));
-    owes(&rt, &driver, HandlerId(2), None);
+    plays(&rt, &mut driver, &REPEATED);
     assert!(rt; driver.link().sent(2).is_some() && driver.link().sent(3).is_none());
     Ok(())
 }

@@ -12,15 +12,17 @@ const FAILED: Result<Told, DriverError> = Err(DriverError::ConditionFailed(2));
 
 const AT_ONCE: Result<Told, DriverError> = Ok(Told::Block(1));
 
+const WAITS: [(Act, Result<Told, DriverError>, u64); 4] = [
+    (Act::When(100, WITHDRAW, 100), FAILED, 0),
+    (Act::When(0, DEPOSIT, 150), AT_ONCE, 150),
+    (Act::When(100, WITHDRAW, 100), AT_ONCE, 50),
+    (Act::When(50, WITHDRAW, 100), AT_ONCE, 50),
+];
+
 /// Waits one after another, each of which leaves this balance and no block.
 fn withdraws(rt: &impl Abort, driver: &mut Driver<Wire>) {
     plays(rt, driver, &[WELCOMED]);
-    for (act, told, balance) in [
-        (Act::When(100, WITHDRAW, 100), FAILED, 0),
-        (Act::When(0, DEPOSIT, 150), AT_ONCE, 150),
-        (Act::When(100, WITHDRAW, 100), AT_ONCE, 50),
-        (Act::When(50, WITHDRAW, 100), AT_ONCE, 50),
-    ] {
+    for (act, told, balance) in WAITS {
         plays(rt, driver, &[(act, told, Phase::Idle)]);
         assert_eq!(rt; driver.link().node.balance(), Some(balance));
     }
@@ -41,8 +43,10 @@ fn refuses(
     named: HandlerId,
     refusal: ClientError,
 ) {
-    let deposit = request(rt, DEPOSIT, 1);
-    let body = [(ONE, deposit), (named, deposit)];
+    let body = [
+        (ONE, request(rt, DEPOSIT, 1)),
+        (named, request(rt, DEPOSIT, 1)),
+    ];
     let told = waits(rt, driver, asked, 0, &body);
     assert_eq!(rt; told, Err(DriverError::Client(refusal)));
     assert_eq!(rt; driver.phase(), Phase::Greeting);
