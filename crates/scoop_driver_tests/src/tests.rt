@@ -1,5 +1,6 @@
 //! The tests of drivers.
 
+mod acts;
 mod calls;
 mod diaries;
 mod examples;
@@ -17,14 +18,12 @@ const ONE: HandlerId = HandlerId(1);
 
 const SEVEN: ClientId = ClientId(7);
 
-/// The block of this number of client 7.
-fn block(num: u32) -> Block {
-    Block {
-        client: SEVEN,
-        inc: 1,
-        num,
-    }
-}
+/// The first block of client 7.
+const FIRST: Block = Block {
+    client: SEVEN,
+    inc: 1,
+    num: 1,
+};
 
 /// Client 7, which knows handler 1 alone.
 fn client<A: Allocator + Clone>(rt: &impl Abort, alloc: A) -> Client<A> {

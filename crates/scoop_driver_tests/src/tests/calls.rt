@@ -1,7 +1,8 @@
 //! Whole calls, over a wire to a node.
 
+use super::acts::{Act, DONE, RESERVES, Row, TURNS_OVER, Told, WELCOMED, plays};
 use super::node::{BALANCE, DEPOSIT, Node, WITHDRAW, Wire};
-use super::{ONE, block, client, request};
+use super::{FIRST, ONE, client};
 use scoop_client::{ClientError, ClientNote, Phase};
 use scoop_driver::{Driver, DriverError};
 use scoop_message::{Answer, Block, ClientId, HandlerId, Message};
@@ -9,60 +10,82 @@ use scoop_reserve::ReserveError;
 use std::alloc::Global;
 use std::process::Abort;
 
-/// A driver of client 7 over a wire, which has greeted, whose calls take so many turns.
-fn greeted(rt: &impl Abort, alloc: Global, turns: u64) -> Driver<Wire> {
-    let wire = Wire::new(Node::new(rt, alloc));
-    let mut driver = Driver::new(client(rt, alloc), wire, turns);
-    assert_eq!(rt; driver.turn(), Ok(Some(ClientNote::Welcomed(ONE))));
-    driver
+const NINE: HandlerId = HandlerId(9);
+
+const ASKS: Act = Act::Query(ONE, BALANCE, 0);
+
+const NO_BLOCK: Result<Told, DriverError> = Err(DriverError::Client(ClientError::NoBlock));
+
+const UNLOCKED: Result<Told, DriverError> = Ok(Told::Note(Some(ClientNote::Unlocked(ONE))));
+
+/// Plays the rows with a driver over a wire to this node, whose calls take so many turns: the balance in the end.
+fn plays_over(rt: &impl Abort, alloc: Global, node: Node, turns: u64, rows: &[Row]) -> Option<u64> {
+    let mut driver = Driver::new(client(rt, alloc), Wire::new(node), turns);
+    plays(rt, &mut driver, rows);
+    driver.link().node.balance()
 }
+
+const BLOCK: [Row; 6] = [
+    WELCOMED,
+    RESERVES,
+    (Act::Call(ONE, DEPOSIT, 150), DONE, Phase::Running),
+    (ASKS, Ok(Told::Answer(Answer::Value(150))), Phase::Running),
+    (
+        Act::Query(ONE, WITHDRAW, 151),
+        Ok(Told::Answer(Answer::Refused)),
+        Phase::Running,
+    ),
+    (Act::End, DONE, Phase::Idle),
+];
 
 #[test]
 fn a_block_deposits_and_asks(rt: HostRuntime) {
-    let mut driver = greeted(&rt, rt.alloc(), 10);
-    assert_eq!(rt; driver.reserve(&[ONE]), Ok(()));
-    assert_eq!(rt; driver.phase(), Phase::Running);
-    assert_eq!(rt; driver.call(ONE, request(&rt, DEPOSIT, 150)), Ok(()));
-    let balance = driver.query(ONE, request(&rt, BALANCE, 0));
-    assert_eq!(rt; balance, Ok(Answer::Value(150)));
-    let refused = driver.query(ONE, request(&rt, WITHDRAW, 151));
-    assert_eq!(rt; refused, Ok(Answer::Refused));
-    assert_eq!(rt; driver.end(), Ok(()));
-    assert_eq!(rt; driver.phase(), Phase::Idle);
-    assert_eq!(rt; driver.link().node.balance(), Some(150));
+    let node = Node::new(&rt, rt.alloc());
+    let balance = plays_over(&rt, rt.alloc(), node, 10, &BLOCK);
+    assert_eq!(rt; balance, Some(150));
 }
+
+const FULL: [Row; 4] = [
+    WELCOMED,
+    RESERVES,
+    (Act::Pay(65), DONE, Phase::Running),
+    (Act::Pay(64), DONE, Phase::Running),
+];
 
 #[test]
 fn a_full_window_takes_turns(rt: HostRuntime) {
-    let mut driver = greeted(&rt, rt.alloc(), 10);
-    assert_eq!(rt; driver.reserve(&[ONE]), Ok(()));
-    for _ in 0..65 {
-        assert_eq!(rt; driver.call(ONE, request(&rt, DEPOSIT, 1)), Ok(()));
-    }
-    for _ in 0..64 {
-        assert_eq!(rt; driver.call(ONE, request(&rt, DEPOSIT, 1)), Ok(()));
-    }
+    let node = Node::new(&rt, rt.alloc());
+    let _balance = plays_over(&rt, rt.alloc(), node, 10, &FULL);
 }
+
+const WITHOUT_TURNS: [Row; 8] = [
+    WELCOMED,
+    (Act::Reserve(ONE), TURNS_OVER, Phase::Locking),
+    (
+        Act::Turn,
+        Ok(Told::Note(Some(ClientNote::Locked(ONE)))),
+        Phase::Opening,
+    ),
+    (
+        Act::Turn,
+        Ok(Told::Note(Some(ClientNote::Opened(ONE)))),
+        Phase::Running,
+    ),
+    (Act::Turn, UNLOCKED, Phase::Running),
+    (Act::Pay(64), DONE, Phase::Running),
+    (Act::Pay(1), TURNS_OVER, Phase::Running),
+    (Act::End, TURNS_OVER, Phase::Running),
+];
 
 #[test]
 fn a_full_window_without_turns_is_told_as_such(rt: HostRuntime) {
-    let mut driver = greeted(&rt, rt.alloc(), 0);
-    assert_eq!(rt; driver.reserve(&[ONE]), Err(DriverError::TurnsOver));
-    for _ in 0..3 {
-        assert!(rt; driver.turn().is_ok());
-    }
-    assert_eq!(rt; driver.phase(), Phase::Running);
-    for _ in 0..64 {
-        assert_eq!(rt; driver.call(ONE, request(&rt, DEPOSIT, 1)), Ok(()));
-    }
-    let over = Err(DriverError::TurnsOver);
-    assert_eq!(rt; driver.call(ONE, request(&rt, DEPOSIT, 1)), over);
-    assert_eq!(rt; driver.end(), over);
+    let node = Node::new(&rt, rt.alloc());
+    let _balance = plays_over(&rt, rt.alloc(), node, 0, &WITHOUT_TURNS);
 }
 
-#[test]
-fn a_busy_lock_ends_the_turns(rt: HostRuntime) {
-    let mut node = Node::new(&rt, rt.alloc());
+/// A node whose handler a block of client 8 has locked.
+fn busy(rt: &impl Abort, alloc: Global) -> Node {
+    let mut node = Node::new(rt, alloc);
     let other = Block {
         client: ClientId(8),
         inc: 1,
@@ -70,35 +93,58 @@ fn a_busy_lock_ends_the_turns(rt: HostRuntime) {
     };
     let _welcome = node.replies(&Message::Hello(ONE, other.client, 1));
     let _locked = node.replies(&Message::Lock(ONE, other));
-    let mut driver = Driver::new(client(&rt, rt.alloc()), Wire::new(node), 1);
-    assert_eq!(rt; driver.turn(), Ok(Some(ClientNote::Welcomed(ONE))));
-    assert_eq!(rt; driver.reserve(&[ONE]), Err(DriverError::TurnsOver));
-    assert_eq!(rt; driver.phase(), Phase::Locking);
-    assert_eq!(rt; driver.turn(), Ok(Some(ClientNote::Busy(ONE))));
-    assert_eq!(rt; driver.give_up(), Ok(()));
-    assert_eq!(rt; driver.phase(), Phase::GivingUp);
-    assert_eq!(rt; driver.turn(), Ok(Some(ClientNote::Unlocked(ONE))));
-    assert_eq!(rt; driver.phase(), Phase::Idle);
-    let idle = Err(DriverError::Client(ClientError::NoBlock));
-    assert_eq!(rt; driver.give_up(), idle);
+    node
 }
+
+const BUSY: [Row; 6] = [
+    WELCOMED,
+    (Act::Reserve(ONE), TURNS_OVER, Phase::Locking),
+    (
+        Act::Turn,
+        Ok(Told::Note(Some(ClientNote::Busy(ONE)))),
+        Phase::Locking,
+    ),
+    (Act::GiveUp, DONE, Phase::GivingUp),
+    (Act::Turn, UNLOCKED, Phase::Idle),
+    (Act::GiveUp, NO_BLOCK, Phase::Idle),
+];
+
+#[test]
+fn a_busy_lock_ends_the_turns(rt: HostRuntime) {
+    let node = busy(&rt, rt.alloc());
+    let _balance = plays_over(&rt, rt.alloc(), node, 1, &BUSY);
+}
+
+const UNKNOWN: ClientError = ClientError::Reserve(ReserveError::Unknown(NINE));
+
+const UNLOCK: Message = Message::Unlock(ONE, FIRST);
+
+const REFUSED: [Row; 9] = [
+    WELCOMED,
+    (Act::Pay(1), NO_BLOCK, Phase::Idle),
+    (ASKS, NO_BLOCK, Phase::Idle),
+    (Act::End, NO_BLOCK, Phase::Idle),
+    (
+        Act::Reserve(NINE),
+        Err(DriverError::Client(UNKNOWN)),
+        Phase::Idle,
+    ),
+    RESERVES,
+    (Act::Due(ONE), Ok(Told::Due(Some(UNLOCK))), Phase::Running),
+    (
+        Act::Call(NINE, DEPOSIT, 1),
+        Err(DriverError::Client(ClientError::NotReserved(NINE))),
+        Phase::Running,
+    ),
+    (
+        Act::GiveUp,
+        Err(DriverError::Client(ClientError::TooLate)),
+        Phase::Running,
+    ),
+];
 
 #[test]
 fn the_clients_refusals_are_told(rt: HostRuntime) {
-    let mut driver = greeted(&rt, rt.alloc(), 10);
-    let idle = DriverError::Client(ClientError::NoBlock);
-    let nine = HandlerId(9);
-    let unknown = ClientError::Reserve(ReserveError::Unknown(nine));
-    assert_eq!(rt; driver.call(ONE, request(&rt, DEPOSIT, 1)), Err(idle));
-    assert_eq!(rt; driver.query(ONE, request(&rt, BALANCE, 0)), Err(idle));
-    assert_eq!(rt; driver.end(), Err(idle));
-    assert_eq!(rt; driver.reserve(&[nine]), Err(DriverError::Client(unknown)));
-    assert_eq!(rt; driver.phase(), Phase::Idle);
-    assert_eq!(rt; driver.reserve(&[ONE]), Ok(()));
-    assert_eq!(rt; driver.due(ONE), Some(Message::Unlock(ONE, block(1))));
-    let unreserved = ClientError::NotReserved(nine);
-    let lost = driver.call(nine, request(&rt, DEPOSIT, 1));
-    assert_eq!(rt; lost, Err(DriverError::Client(unreserved)));
-    let late = DriverError::Client(ClientError::TooLate);
-    assert_eq!(rt; driver.give_up(), Err(late));
+    let node = Node::new(&rt, rt.alloc());
+    let _balance = plays_over(&rt, rt.alloc(), node, 10, &REFUSED);
 }

@@ -1,17 +1,18 @@
 //! What diaries are handed.
 
+use super::acts::{Act, DONE, FAULT, NO_FRAME, RESERVES, Row, Told, WELCOMED, plays};
 use super::node::{BALANCE, DEPOSIT, Node, Wire};
-use super::{ONE, client, request};
-use scoop_client::{Client, Phase};
+use super::turns::stray;
+use super::{ONE, client};
+use scoop_client::{Client, ClientError, Phase};
 use scoop_driver::{Command, Diary, Driver, DriverError, Received, Step, StepList};
-use scoop_link::TapeLink;
 use scoop_message::{Answer, OutOfMemory};
-use std::alloc::{Allocator, Global};
+use std::alloc::Allocator;
 use std::process::Abort;
 use std::test::Fail;
 
 /// Does with a client what a step tells. Whether it took a command, if that is what the step tells.
-pub fn replays(client: &mut Client, step: &Step) -> bool {
+fn replays(client: &mut Client, step: &Step) -> bool {
     match step {
         Step::Gave(Command::Reserve(handlers)) => client.reserve(handlers.as_slice()).is_ok(),
         Step::Gave(Command::Call(handler, request)) => client.call(*handler, *request).is_ok(),
@@ -26,6 +27,13 @@ pub fn replays(client: &mut Client, step: &Step) -> bool {
     }
 }
 
+/// Does with a client what the steps tell.
+pub fn takes(rt: &impl Abort, client: &mut Client, steps: &[Step]) {
+    for step in steps {
+        assert!(rt; replays(client, step));
+    }
+}
+
 /// How many of the steps are commands.
 fn commands(steps: &[Step]) -> usize {
     let mut count = 0usize;
@@ -37,27 +45,41 @@ fn commands(steps: &[Step]) -> usize {
     count
 }
 
+/// A client that takes the steps of a diary stands where the block has ended.
+fn stands_behind(rt: &impl Abort, again: &mut Client, steps: &[Step]) {
+    assert_eq!(rt; commands(steps), 4);
+    takes(rt, again, steps);
+    assert_eq!(rt; again.phase(), Phase::Idle);
+    assert_eq!(rt; again.due(ONE), None);
+    assert!(rt; again.reserve(&[ONE]).is_ok());
+}
+
+const BLOCK: [Row; 6] = [
+    WELCOMED,
+    RESERVES,
+    (Act::Call(ONE, DEPOSIT, 150), DONE, Phase::Running),
+    (
+        Act::Query(ONE, BALANCE, 0),
+        Ok(Told::Answer(Answer::Value(150))),
+        Phase::Running,
+    ),
+    (Act::End, DONE, Phase::Idle),
+    (
+        Act::GiveUp,
+        Err(DriverError::Client(ClientError::NoBlock)),
+        Phase::Idle,
+    ),
+];
+
 #[test]
 fn a_kept_diary_replays(rt: HostRuntime) {
     let wire = Wire::new(Node::new(&rt, rt.alloc()));
     let diary = StepList::new(rt.alloc());
     let mut driver = Driver::with_diary(client(&rt, rt.alloc()), wire, 10, diary);
-    assert!(rt; driver.turn().is_ok());
-    assert_eq!(rt; driver.reserve(&[ONE]), Ok(()));
-    assert_eq!(rt; driver.call(ONE, request(&rt, DEPOSIT, 150)), Ok(()));
-    let balance = driver.query(ONE, request(&rt, BALANCE, 0));
-    assert_eq!(rt; balance, Ok(Answer::Value(150)));
-    assert_eq!(rt; driver.end(), Ok(()));
-    assert!(rt; driver.give_up().is_err());
-    let steps = driver.diary().steps();
-    assert_eq!(rt; commands(steps), 4);
+    plays(&rt, &mut driver, &BLOCK);
     let mut again = client(&rt, rt.alloc());
-    for step in steps {
-        assert!(rt; replays(&mut again, step));
-    }
-    assert_eq!(rt; again.phase(), Phase::Idle);
-    assert_eq!(rt; again.due(ONE), None);
-    assert!(rt; again.reserve(&[ONE]).is_ok() && driver.reserve(&[ONE]).is_ok());
+    stands_behind(&rt, &mut again, driver.diary().steps());
+    plays(&rt, &mut driver, &[RESERVES]);
 }
 
 /// Which kind of turn the step at this place of the diary is: what was received, or a broken turn's place.
@@ -72,23 +94,30 @@ fn kind(steps: &[Step], place: usize) -> Option<&str> {
     }
 }
 
-#[test]
-fn strays_and_broken_turns_are_kept(rt: HostRuntime) -> Result<(), Fail> {
-    let mut link = TapeLink::new(rt.alloc(), 2)?;
-    link.feed(&[5, 5, 5])?;
-    let diary = StepList::new(rt.alloc());
-    let mut driver = Driver::with_diary(client(&rt, rt.alloc()), link, 10, diary);
-    assert_eq!(rt; driver.turn(), Ok(None));
-    assert_eq!(rt; driver.turn(), Ok(None));
-    assert_eq!(rt; driver.turn(), Err(DriverError::LinkFault));
-    let steps = driver.diary().steps();
-    assert_eq!(rt; kind(steps, 0), Some("no frame"));
-    assert_eq!(rt; kind(steps, 1), Some("nothing"));
-    assert_eq!(rt; kind(steps, 2), Some("broke"));
-    assert_eq!(rt; kind(steps, 3), None);
+/// The steps of a datagram that is no frame, of silence, and of a send without room.
+fn are_three(rt: &impl Abort, steps: &[Step]) {
+    let kinds = [Some("no frame"), Some("nothing"), Some("broke"), None];
+    for place in 0..4usize {
+        assert_eq!(rt; kind(steps, place), kinds[place], "{place}");
+    }
     if let Some(Step::Turned(Received::NoFrame(stray))) = steps.get(0) {
         assert_eq!(rt; stray.as_slice(), [5, 5, 5].as_slice());
     }
+}
+
+const STRAY: [Row; 3] = [
+    (Act::Turn, NO_FRAME, Phase::Greeting),
+    (Act::Turn, NO_FRAME, Phase::Greeting),
+    (Act::Turn, FAULT, Phase::Greeting),
+];
+
+#[test]
+fn strays_and_broken_turns_are_kept(rt: HostRuntime) -> Result<(), Fail> {
+    let link = stray(rt.alloc(), 2)?;
+    let diary = StepList::new(rt.alloc());
+    let mut driver = Driver::with_diary(client(&rt, rt.alloc()), link, 10, diary);
+    plays(&rt, &mut driver, &STRAY);
+    are_three(&rt, driver.diary().steps());
     Ok(())
 }
 
@@ -124,18 +153,19 @@ impl<A: Allocator> Diary<A> for Sends {
     fn broke(&mut self, _client: &Client<A>, _place: usize) {}
 }
 
-fn counts(rt: &impl Abort, driver: &Driver<Wire, Sends, Global>, sends: u64) {
+/// Behind these calls so many sends are counted.
+fn counts(rt: &impl Abort, driver: &mut Driver<Wire, Sends>, rows: &[Row], sends: u64) {
+    plays(rt, driver, rows);
     assert_eq!(rt; driver.diary().count, sends);
 }
+
+const TURNS: [Row; 2] = [WELCOMED, (Act::Turn, NO_FRAME, Phase::Idle)];
 
 #[test]
 fn a_diary_sees_what_was_due(rt: HostRuntime) {
     let wire = Wire::new(Node::new(&rt, rt.alloc()));
     let mut driver = Driver::with_diary(client(&rt, rt.alloc()), wire, 10, Sends { count: 0 });
-    counts(&rt, &driver, 0);
-    assert!(rt; driver.turn().is_ok());
-    assert!(rt; driver.turn().is_ok());
-    counts(&rt, &driver, 1);
-    assert_eq!(rt; driver.reserve(&[ONE]), Ok(()));
-    counts(&rt, &driver, 3);
+    counts(&rt, &mut driver, &[], 0);
+    counts(&rt, &mut driver, &TURNS, 1);
+    counts(&rt, &mut driver, &[RESERVES], 3);
 }

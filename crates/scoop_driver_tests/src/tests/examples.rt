@@ -5,7 +5,27 @@ use super::{ONE, client};
 use scoop_client::{ClientNote, Phase};
 use scoop_driver::Driver;
 use scoop_message::{Answer, Args, Request};
+use std::process::Abort;
 use std::test::Fail;
+
+// Each part of the example is lent the driver, so that no way out of it has one to drop.
+fn pays(rt: &impl Abort, driver: &mut Driver<Wire>) -> Result<(), Fail> {
+    assert_eq!(rt; driver.turn()?, Some(ClientNote::Welcomed(ONE)));
+    driver.reserve(&[ONE])?;
+    let args = Args::of(&[150])?;
+    driver.call(ONE, Request { op: DEPOSIT, args })?;
+    Ok(())
+}
+
+fn asks(rt: &impl Abort, driver: &mut Driver<Wire>) -> Result<(), Fail> {
+    // a query comes after the calls before it, and waits for its answer
+    let args = Args::of(&[])?;
+    let balance = driver.query(ONE, Request { op: BALANCE, args })?;
+    assert_eq!(rt; balance, Answer::Value(150));
+    driver.end()?;
+    assert_eq!(rt; driver.phase(), Phase::Idle);
+    Ok(())
+}
 
 /// The example of `scoop_driver`.
 #[test]
@@ -15,15 +35,6 @@ fn an_account_is_paid_and_asked(rt: HostRuntime) -> Result<(), Fail> {
 
     // the link leads to handler 1, whose object is an account, and each call takes ten turns at most
     let mut driver = Driver::new(client, link, 10);
-    assert_eq!(rt; driver.turn()?, Some(ClientNote::Welcomed(ONE)));
-    driver.reserve(&[ONE])?;
-    let args = Args::of(&[150])?;
-    driver.call(ONE, Request { op: DEPOSIT, args })?;
-    // a query comes after the calls before it, and waits for its answer
-    let args = Args::of(&[])?;
-    let balance = driver.query(ONE, Request { op: BALANCE, args })?;
-    assert_eq!(rt; balance, Answer::Value(150));
-    driver.end()?;
-    assert_eq!(rt; driver.phase(), Phase::Idle);
-    Ok(())
+    pays(&rt, &mut driver)?;
+    asks(&rt, &mut driver)
 }

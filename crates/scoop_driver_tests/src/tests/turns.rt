@@ -1,7 +1,8 @@
 //! Turns, over tapes and over ends that fail.
 
+use super::acts::{Act, FAULT, NO_FRAME, Row, TURNS_OVER, Told, WELCOMED, plays};
 use super::node::{BALANCE, Node};
-use super::{ONE, SEVEN, block, client, request};
+use super::{FIRST, ONE, SEVEN, client};
 use scoop_client::{Client, ClientNote, Phase};
 use scoop_driver::{Driver, DriverError};
 use scoop_frame::{Version, encode};
@@ -21,6 +22,13 @@ fn tape(alloc: Global, room: usize, version: Version) -> Result<TapeLink, Fail> 
     Ok(link)
 }
 
+/// A tape to which comes what is no frame.
+pub fn stray(alloc: Global, room: usize) -> Result<TapeLink, Fail> {
+    let mut link = TapeLink::new(alloc, room)?;
+    link.feed(&[5, 5, 5])?;
+    Ok(link)
+}
+
 /// The first datagram that was sent is the Hello, in this version, and there is no second.
 fn sent_hello(rt: &impl Abort, link: &TapeLink, version: Version) {
     let mut buffer = [0; BUFFER_LEN];
@@ -33,52 +41,66 @@ fn sent_hello(rt: &impl Abort, link: &TapeLink, version: Version) {
     assert!(rt; link.sent(1).is_none());
 }
 
+/// A driver of this client over a tape from which it is greeted plays the rows, and has sent the Hello alone.
+fn greets(rt: &impl Abort, client: Client, link: TapeLink, rows: &[Row], version: Version) {
+    let mut driver = Driver::new(client, link, 10);
+    plays(rt, &mut driver, rows);
+    sent_hello(rt, driver.link(), version);
+}
+
+const HELLO: Message = Message::Hello(ONE, SEVEN, 1);
+
+const GREETING: [Row; 4] = [
+    (Act::Due(ONE), Ok(Told::Due(Some(HELLO))), Phase::Greeting),
+    WELCOMED,
+    (Act::Turn, NO_FRAME, Phase::Idle),
+    (Act::Due(ONE), Ok(Told::Due(None)), Phase::Idle),
+];
+
 #[test]
 fn a_turn_sends_what_is_due_and_hears_what_came(rt: HostRuntime) -> Result<(), Fail> {
     let link = tape(rt.alloc(), 8, Version::One)?;
-    let mut driver = Driver::new(client(&rt, rt.alloc()), link, 10);
-    assert_eq!(rt; driver.due(ONE), Some(Message::Hello(ONE, SEVEN, 1)));
-    assert_eq!(rt; driver.turn(), Ok(Some(ClientNote::Welcomed(ONE))));
-    assert_eq!(rt; driver.turn(), Ok(None));
-    assert_eq!(rt; driver.phase(), Phase::Idle);
-    assert_eq!(rt; driver.due(ONE), None);
-    sent_hello(&rt, driver.link(), Version::One);
+    greets(&rt, client(&rt, rt.alloc()), link, &GREETING, Version::One);
     Ok(())
 }
 
 #[test]
 fn a_batch_is_sent_in_version_two(rt: HostRuntime) -> Result<(), Fail> {
+    let client = Client::begin_batched(rt.alloc(), SEVEN, 1, &[ONE], 2)?;
     let link = tape(rt.alloc(), 8, Version::One)?;
-    let batched = Client::begin_batched(rt.alloc(), SEVEN, 1, &[ONE], 2)?;
-    let mut driver = Driver::new(batched, link, 10);
-    assert_eq!(rt; driver.turn(), Ok(Some(ClientNote::Welcomed(ONE))));
-    sent_hello(&rt, driver.link(), Version::Two);
+    greets(&rt, client, link, &[WELCOMED], Version::Two);
     Ok(())
+}
+
+/// A turn over this tape leaves the client greeting, and so many datagrams to come.
+fn turns_over(
+    rt: &impl Abort,
+    alloc: Global,
+    link: TapeLink,
+    told: Result<Told, DriverError>,
+    to_come: usize,
+) {
+    let mut driver = Driver::new(client(rt, alloc), link, 10);
+    plays(rt, &mut driver, &[(Act::Turn, told, Phase::Greeting)]);
+    assert_eq!(rt; driver.link().to_come(), to_come);
 }
 
 #[test]
 fn a_send_without_room_breaks_the_turn_off(rt: HostRuntime) -> Result<(), Fail> {
     let link = tape(rt.alloc(), 0, Version::Two)?;
-    let mut driver = Driver::new(client(&rt, rt.alloc()), link, 10);
-    assert_eq!(rt; driver.turn(), Err(DriverError::LinkFault));
-    assert_eq!(rt; driver.phase(), Phase::Greeting);
-    assert_eq!(rt; driver.link().to_come(), 1);
+    turns_over(&rt, rt.alloc(), link, FAULT, 1);
     Ok(())
 }
 
 #[test]
 fn a_datagram_that_is_no_frame_is_passed_over(rt: HostRuntime) -> Result<(), Fail> {
-    let mut link = TapeLink::new(rt.alloc(), 8)?;
-    link.feed(&[5, 5, 5])?;
-    let mut driver = Driver::new(client(&rt, rt.alloc()), link, 10);
-    assert_eq!(rt; driver.turn(), Ok(None));
-    assert_eq!(rt; driver.phase(), Phase::Greeting);
-    assert_eq!(rt; driver.link().to_come(), 0);
+    let link = stray(rt.alloc(), 8)?;
+    turns_over(&rt, rt.alloc(), link, NO_FRAME, 0);
     Ok(())
 }
 
 /// The node answers all that has come to its end.
-fn plays(node: &mut Node, end: &mut ScriptLink) {
+fn answers(node: &mut Node, end: &mut ScriptLink) {
     let mut buffer = [0; BUFFER_LEN];
     for _ in 0..8 {
         let Ok(Some(len)) = end.receive(&mut buffer) else {
@@ -114,13 +136,46 @@ fn turns_up_to(
                 failed = 1;
             }
         }
-        plays(node, end);
+        answers(node, end);
     }
     panic!(rt; "the note doesn't come");
 }
 
-/// The fourth call of the driver's end fails. Each of its calls takes no turn of its own here, and further
-/// turns go on up to the answer.
+const RESERVES_LATE: [Row; 1] = [(Act::Reserve(ONE), TURNS_OVER, Phase::Locking)];
+
+const ASKS_LATE: [Row; 1] = [(Act::Query(ONE, BALANCE, 0), TURNS_OVER, Phase::Running)];
+
+/// What the driver is told once it is greeted: each of its calls takes no turn of its own, and further turns go
+/// on up to the answer.
+fn goes_on(
+    rt: &impl Abort,
+    driver: &mut Driver<ScriptLink>,
+    node: &mut Node,
+    end: &mut ScriptLink,
+) {
+    plays(rt, driver, &RESERVES_LATE);
+    let opened = ClientNote::Opened(ONE);
+    assert_eq!(rt; turns_up_to(rt, driver, node, end, opened), 0);
+    plays(rt, driver, &ASKS_LATE);
+    let answered = ClientNote::Accepted(ONE, 1, Answer::Value(0));
+    assert_eq!(rt; turns_up_to(rt, driver, node, end, answered), 0);
+    assert_eq!(rt; driver.link().faults(), 1);
+}
+
+/// The same, behind the fault that the greeting meets.
+fn goes_on_behind_a_fault(
+    rt: &impl Abort,
+    driver: &mut Driver<ScriptLink>,
+    node: &mut Node,
+    end: &mut ScriptLink,
+) {
+    let greeted = ClientNote::Welcomed(ONE);
+    assert_eq!(rt; turns_up_to(rt, driver, node, end, greeted), 1);
+    assert_eq!(rt; driver.link().faults(), 1);
+    goes_on(rt, driver, node, end);
+}
+
+/// The fourth call of the driver's end fails.
 #[test]
 fn turns_go_on_behind_a_fault(rt: HostRuntime) -> Result<(), Fail> {
     let script = Script {
@@ -130,39 +185,25 @@ fn turns_go_on_behind_a_fault(rt: HostRuntime) -> Result<(), Fail> {
     let (link, mut end) = ScriptLink::pair(rt.alloc(), script, Script::default(), 8)?;
     let mut node = Node::new(&rt, rt.alloc());
     let mut driver = Driver::new(client(&rt, rt.alloc()), link, 0);
-    let greeted = ClientNote::Welcomed(ONE);
-    assert_eq!(rt;
-        turns_up_to(&rt, &mut driver, &mut node, &mut end, greeted),
-        1
-    );
-    assert_eq!(rt; driver.link().faults(), 1);
-    assert_eq!(rt; driver.reserve(&[ONE]), Err(DriverError::TurnsOver));
-    let opened = ClientNote::Opened(ONE);
-    assert_eq!(rt;
-        turns_up_to(&rt, &mut driver, &mut node, &mut end, opened),
-        0
-    );
-    assert_eq!(rt; driver.phase(), Phase::Running);
-    let asked = driver.query(ONE, request(&rt, BALANCE, 0));
-    assert_eq!(rt; asked, Err(DriverError::TurnsOver));
-    let answered = ClientNote::Accepted(ONE, 1, Answer::Value(0));
-    assert_eq!(rt;
-        turns_up_to(&rt, &mut driver, &mut node, &mut end, answered),
-        0
-    );
-    assert_eq!(rt; driver.link().faults(), 1);
+    goes_on_behind_a_fault(&rt, &mut driver, &mut node, &mut end);
     Ok(())
 }
+
+const LOCK: Message = Message::Lock(ONE, FIRST);
+
+const REPEATED: [Row; 4] = [
+    WELCOMED,
+    (Act::Reserve(ONE), TURNS_OVER, Phase::Locking),
+    (Act::Due(ONE), Ok(Told::Due(Some(LOCK))), Phase::Locking),
+    (Act::Due(HandlerId(2)), Ok(Told::Due(None)), Phase::Locking),
+];
 
 /// Handler 1 owes its lock to a block of client 7 alone.
 #[test]
 fn a_repeated_turn_sends_what_is_still_due(rt: HostRuntime) -> Result<(), Fail> {
     let link = tape(rt.alloc(), 8, Version::One)?;
     let mut driver = Driver::new(client(&rt, rt.alloc()), link, 2);
-    assert_eq!(rt; driver.turn(), Ok(Some(ClientNote::Welcomed(ONE))));
-    assert_eq!(rt; driver.reserve(&[ONE]), Err(DriverError::TurnsOver));
-    assert_eq!(rt; driver.due(ONE), Some(Message::Lock(ONE, block(1))));
-    assert_eq!(rt; driver.due(HandlerId(2)), None);
+    plays(&rt, &mut driver, &REPEATED);
     assert!(rt; driver.link().sent(2).is_some() && driver.link().sent(3).is_none());
     Ok(())
 }

@@ -1,66 +1,55 @@
 //! Waits for a condition, over a wire to a node.
 
-use super::node::{BALANCE, DEPOSIT, Node, WITHDRAW, Wire};
+use super::acts::{Act, Told, WELCOMED, plays, waits};
+use super::node::{DEPOSIT, Node, WITHDRAW, Wire};
 use super::{ONE, client, request};
-use scoop_client::{ClientError, ClientNote, Phase};
-use scoop_driver::{Condition, Driver, DriverError};
+use scoop_client::{ClientError, Phase};
+use scoop_driver::{Driver, DriverError};
 use scoop_message::HandlerId;
 use std::process::Abort;
 
-fn balance_of(rt: &impl Abort, handler: HandlerId, least: u64) -> Condition {
-    Condition {
-        handler,
-        request: request(rt, BALANCE, 0),
-        least,
+const FAILED: Result<Told, DriverError> = Err(DriverError::ConditionFailed(2));
+
+const AT_ONCE: Result<Told, DriverError> = Ok(Told::Block(1));
+
+const WAITS: [(Act, Result<Told, DriverError>, u64); 4] = [
+    (Act::When(100, WITHDRAW, 100), FAILED, 0),
+    (Act::When(0, DEPOSIT, 150), AT_ONCE, 150),
+    (Act::When(100, WITHDRAW, 100), AT_ONCE, 50),
+    (Act::When(50, WITHDRAW, 100), AT_ONCE, 50),
+];
+
+/// Waits one after another, each of which leaves this balance and no block.
+fn withdraws(rt: &impl Abort, driver: &mut Driver<Wire>) {
+    plays(rt, driver, &[WELCOMED]);
+    for (act, told, balance) in WAITS {
+        plays(rt, driver, &[(act, told, Phase::Idle)]);
+        assert_eq!(rt; driver.link().node.balance(), Some(balance));
     }
-}
-
-/// Waits for a balance of at least this, to do this with an amount.
-fn waits(
-    rt: &impl Abort,
-    driver: &mut Driver<Wire>,
-    least: u64,
-    op: u16,
-    amount: u64,
-) -> Result<u32, DriverError> {
-    let body = [(ONE, request(rt, op, amount))];
-    driver.when(&[ONE], balance_of(rt, ONE, least), &body, 2)
-}
-
-/// The balance is this, and no block is left.
-fn has(rt: &impl Abort, driver: &Driver<Wire>, balance: u64) {
-    assert_eq!(rt; driver.link().node.balance(), Some(balance));
-    assert_eq!(rt; driver.phase(), Phase::Idle);
 }
 
 #[test]
 fn a_wait_withdraws_once_the_balance_is_there(rt: HostRuntime) {
     let wire = Wire::new(Node::new(&rt, rt.alloc()));
     let mut driver = Driver::new(client(&rt, rt.alloc()), wire, 10);
-    assert_eq!(rt; driver.turn(), Ok(Some(ClientNote::Welcomed(ONE))));
-    let failed = Err(DriverError::ConditionFailed(2));
-    assert_eq!(rt; waits(&rt, &mut driver, 100, WITHDRAW, 100), failed);
-    has(&rt, &driver, 0);
-    assert_eq!(rt; waits(&rt, &mut driver, 0, DEPOSIT, 150), Ok(1));
-    has(&rt, &driver, 150);
-    assert_eq!(rt; waits(&rt, &mut driver, 100, WITHDRAW, 100), Ok(1));
-    has(&rt, &driver, 50);
-    assert_eq!(rt; waits(&rt, &mut driver, 50, WITHDRAW, 100), Ok(1));
-    has(&rt, &driver, 50);
+    withdraws(&rt, &mut driver);
 }
 
-/// A wait of one try with a condition on one handler, whose body names handler 1 and another.
-fn asks(
+/// A wait with a condition on one handler, whose body names handler 1 and another, is refused so.
+fn refuses(
     rt: &impl Abort,
     driver: &mut Driver<Wire>,
     asked: HandlerId,
     named: HandlerId,
-) -> Result<u32, DriverError> {
+    refusal: ClientError,
+) {
     let body = [
         (ONE, request(rt, DEPOSIT, 1)),
         (named, request(rt, DEPOSIT, 1)),
     ];
-    driver.when(&[ONE], balance_of(rt, asked, 0), &body, 1)
+    let told = waits(rt, driver, asked, 0, &body);
+    assert_eq!(rt; told, Err(DriverError::Client(refusal)));
+    assert_eq!(rt; driver.phase(), Phase::Greeting);
 }
 
 #[test]
@@ -68,10 +57,8 @@ fn a_handler_outside_is_refused_first(rt: HostRuntime) {
     let wire = Wire::new(Node::new(&rt, rt.alloc()));
     let mut driver = Driver::new(client(&rt, rt.alloc()), wire, 10);
     let nine = HandlerId(9);
-    let outside = Err(DriverError::Client(ClientError::NotReserved(nine)));
-    assert_eq!(rt; asks(&rt, &mut driver, nine, ONE), outside);
-    assert_eq!(rt; asks(&rt, &mut driver, ONE, nine), outside);
-    assert_eq!(rt; driver.phase(), Phase::Greeting);
-    let ungreeted = Err(DriverError::Client(ClientError::NotGreeted));
-    assert_eq!(rt; asks(&rt, &mut driver, ONE, ONE), ungreeted);
+    let outside = ClientError::NotReserved(nine);
+    refuses(&rt, &mut driver, nine, ONE, outside);
+    refuses(&rt, &mut driver, ONE, nine, outside);
+    refuses(&rt, &mut driver, ONE, ONE, ClientError::NotGreeted);
 }
