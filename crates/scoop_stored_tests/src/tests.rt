@@ -11,6 +11,8 @@ use scoop_classes::DemoClass;
 use scoop_keeper::Keeper;
 use scoop_message::{Args, Block, ClientId, Entries, Entry, HandlerId, Message, Request, Words};
 use scoop_object::{Class, Table};
+use scoop_record::Store;
+use sqlite::{Alter, Connection};
 use std::alloc::Global;
 use std::process::Abort;
 use std::sync::Wait;
@@ -60,6 +62,36 @@ fn opened<K: Keeper<Global>>(
         Ok(opened) => Some(opened),
         Err(_) => None,
     }
+}
+
+/// A store in a database that has nothing yet. The calls of a store stand here alone, and over any medium: what they
+/// say is slow to prove at the types of files.
+fn created<S: Alter + Drop>(
+    rt: &impl Abort,
+    alloc: Global,
+    connection: Option<Connection<S>>,
+) -> Store<S> {
+    let connection = match connection {
+        Some(connection) => connection,
+        None => panic!(rt; "no connection"),
+    };
+    match Store::create(alloc, connection) {
+        Ok(store) => store,
+        Err(_) => panic!(rt; "no new store"),
+    }
+}
+
+/// The store that is in a database, `None` where there is none or it is refused.
+fn adopted<S: Alter + Drop>(alloc: Global, connection: Option<Connection<S>>) -> Option<Store<S>> {
+    match Store::adopt(alloc, connection?) {
+        Ok(store) => Some(store),
+        Err(_) => None,
+    }
+}
+
+/// What was below a store.
+fn medium_of<S: Alter + Drop>(store: Store<S>) -> S {
+    store.into_connection().into_store()
 }
 
 /// A client, and the handler that its first block has to do with.

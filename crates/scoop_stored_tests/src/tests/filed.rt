@@ -1,12 +1,12 @@
 //! A node over a store in a file.
 
-use super::{Act, Cells, Place, does_all, opened, word};
+use super::{Act, Cells, Place, adopted, created, does_all, opened, word};
 use scoop_book::{Closed, Node, Pass};
 use scoop_keeper::Keeper;
 use scoop_message::{ClientId, HandlerId};
 use scoop_object::Table;
 use scoop_record::Store;
-use sqlite::{Connection, File, FileStore};
+use sqlite::{Alter, Connection, File, FileStore};
 use std::alloc::Global;
 use std::path::PathBuf;
 use std::process::Abort;
@@ -15,9 +15,9 @@ use std::test::Fail;
 use std::thread::Threads;
 use std::{env, fs, process, thread};
 
-type FiledStore = Store<FileStore<File>>;
+type Filed = FileStore<File>;
 
-type FiledNode = Node<Table, FiledStore>;
+type FiledNode = Node<Table, Store<Filed>>;
 
 const FIRST: Place = Place {
     client: ClientId(7),
@@ -99,65 +99,59 @@ fn closed<K: Keeper<Global>, R: Wait + Abort>(
     node: Cells<K>,
     passes: Vec<Pass>,
 ) -> (usize, (u64, u64)) {
-    let Ok(Closed { history, keeper }) = node.close(rt, passes) else {
-        panic!(rt; "not closed");
+    let Closed { history, keeper } = match node.close(rt, passes) {
+        Ok(closed) => closed,
+        Err(_) => panic!(rt; "not closed"),
     };
     (history.len(), words(rt, keeper))
 }
 
-/// A node of two passes over this keeper, and its passes.
-fn two_passes<K: Keeper<Global>>(
+/// A node over a new store, and its two passes.
+fn node_over<S: Alter + Drop>(
     rt: &impl Abort,
     alloc: Global,
-    keeper: K,
-) -> (Cells<K>, Vec<Pass>) {
-    match opened(rt, alloc, keeper, 2) {
+    connection: Option<Connection<S>>,
+) -> (Cells<Store<S>>, Vec<Pass>) {
+    match opened(rt, alloc, created(rt, alloc, connection), 2) {
         Some(opened) => opened,
         None => panic!(rt; "no node"),
     }
 }
 
-/// 1,000 events at a node, from two threads.
-fn worked<K: Keeper<Global> + Send, R: Threads + Wait + Abort + Sync>(
+/// The words of the store in a database.
+fn words_of<S: Alter + Drop>(
+    rt: &impl Abort,
+    alloc: Global,
+    connection: Option<Connection<S>>,
+) -> (u64, u64) {
+    match adopted(alloc, connection) {
+        Some(store) => words(rt, store),
+        None => panic!(rt; "no store"),
+    }
+}
+
+/// 1,000 events at a node over a store, from two threads.
+fn worked<S: Alter + Drop + Send, R: Threads + Wait + Abort + Sync>(
     rt: &R,
     alloc: Global,
-    node: Cells<K>,
-    passes: Vec<Pass>,
+    opened: (Cells<Store<S>>, Vec<Pass>),
 ) -> (usize, (u64, u64)) {
+    let (node, passes) = opened;
     let passes = all_work(rt, alloc, &node, passes);
     closed(rt, node, passes)
 }
 
-// What names the store's type does one thing alone.
-fn connected(host: &HostRuntime, path: &str) -> Option<Connection<FileStore<File>>> {
+// What names the files' type does one thing alone, and takes nothing apart.
+fn connected(host: &HostRuntime, path: &str) -> Option<Connection<Filed>> {
     match Connection::open(host, path) {
         Ok(connection) => Some(connection),
         Err(_) => None,
     }
 }
 
-fn created(host: &HostRuntime, path: &str) -> Option<FiledStore> {
-    let connection = connected(host, path)?;
-    match Store::create(host.alloc(), connection) {
-        Ok(store) => Some(store),
-        Err(_) => None,
-    }
-}
-
-fn adopted(host: &HostRuntime, path: &str) -> Option<FiledStore> {
-    let connection = connected(host, path)?;
-    match Store::adopt(host.alloc(), connection) {
-        Ok(store) => Some(store),
-        Err(_) => None,
-    }
-}
-
 /// A node over a new store in the file, and its passes.
 fn node_in(rt: &impl Abort, host: &HostRuntime, path: &str) -> (FiledNode, Vec<Pass>) {
-    match created(host, path) {
-        Some(store) => two_passes(rt, host.alloc(), store),
-        None => panic!(rt; "no new store"),
-    }
+    node_over(rt, host.alloc(), connected(host, path))
 }
 
 /// How many entries the history of such a node has when two threads have worked at it, and the words of its keeper.
@@ -166,16 +160,12 @@ fn worked_in<R: Threads + Wait + Abort + Sync>(
     host: &HostRuntime,
     path: &str,
 ) -> (usize, (u64, u64)) {
-    let (node, passes) = node_in(rt, host, path);
-    worked(rt, host.alloc(), node, passes)
+    worked(rt, host.alloc(), node_in(rt, host, path))
 }
 
 /// The words of the store that is in the file.
 fn words_in(rt: &impl Abort, host: &HostRuntime, path: &str) -> (u64, u64) {
-    match adopted(host, path) {
-        Some(store) => words(rt, store),
-        None => panic!(rt; "no store"),
-    }
+    words_of(rt, host.alloc(), connected(host, path))
 }
 
 /// A folder of this process's own.

@@ -1,12 +1,11 @@
 //! A node over a store whose disk stops at one of its calls, and the node that opens afterwards.
 
-use super::{Act, Cells, Place, does, does_all, opened, word};
+use super::{Act, Cells, Place, adopted, created, does, does_all, medium_of, opened};
 use scoop_book::{BookError, Pass};
 use scoop_handler::HandlerState;
 use scoop_keeper::Keeper;
 use scoop_message::{ClientId, HandlerId};
-use scoop_record::Store;
-use sqlite::{Connection, FileStore, Files, Options};
+use sqlite::{Alter, Connection, FileStore, Files, Options};
 use sqlite_disk::{Crash, Disk, Fuse, Memory};
 use std::alloc::Global;
 use std::process::Abort;
@@ -14,15 +13,12 @@ use std::sync::Wait;
 
 type Stopped = Fuse<Memory>;
 
-type StoppableStore = Store<FileStore<Stopped>>;
+type Stoppable = FileStore<Stopped>;
 
 const PLACE: Place = Place {
     client: ClientId(7),
     handler: HandlerId(1),
 };
-
-/// What is done at a node, one after another. Each act stores a new state.
-const ACTS: [Act; 5] = [Act::Hello, Act::Lock, Act::Open, Act::Log(1), Act::Run];
 
 /// A node over this keeper, with its one pass. `None` where the keeper refuses.
 fn one_pass<K: Keeper<Global>>(
@@ -55,8 +51,9 @@ fn keeper_of<K: Keeper<Global>, R: Wait + Abort>(
 
 /// The keeper behind these acts, at a node that opens over it.
 fn acted<K: Keeper<Global>, R: Wait + Abort>(rt: &R, alloc: Global, keeper: K, acts: &[Act]) -> K {
-    let Some((node, mut pass)) = one_pass(rt, alloc, keeper) else {
-        panic!(rt; "no node");
+    let (node, mut pass) = match one_pass(rt, alloc, keeper) {
+        Some(opened) => opened,
+        None => panic!(rt; "no node"),
     };
     does_all(rt, &node, &mut pass, PLACE, acts);
     keeper_of(rt, alloc, node, pass)
@@ -77,32 +74,79 @@ fn answers<K: Keeper<Global>, R: Wait + Abort>(
     false
 }
 
-/// Whether the act is answered at a node that opens over this keeper, and the keeper behind it. `None` where no
-/// node opens.
+/// The keeper behind the act at a node that opens over it, and whether the act was answered. `None` where no node opens.
 fn tried<K: Keeper<Global>, R: Wait + Abort>(
     rt: &R,
     alloc: Global,
     keeper: K,
     act: Act,
-) -> Option<(bool, K)> {
+    answered: &mut bool,
+) -> Option<K> {
     let (node, mut pass) = one_pass(rt, alloc, keeper)?;
-    let answered = answers(rt, &node, &mut pass, act);
-    Some((answered, keeper_of(rt, alloc, node, pass)))
+    *answered = answers(rt, &node, &mut pass, act);
+    Some(keeper_of(rt, alloc, node, pass))
 }
 
-/// What the keeper has of the handler. A node that opens over it takes all acts, once more or for the first time,
-/// and comes to the same word.
+/// What the keeper has of the handler.
+fn loaded<K: Keeper<Global>>(rt: &impl Abort, keeper: &mut K) -> Option<HandlerState> {
+    match keeper.load_handler(PLACE.handler) {
+        Ok(state) => state,
+        Err(_) => panic!(rt; "not loaded"),
+    }
+}
+
+/// What a keeper has of the handler, and what it has once a node that opened over it has done an act.
+#[derive(Drop)]
+struct Around {
+    before: Option<HandlerState>,
+    behind: Option<HandlerState>,
+}
+
 fn found<K: Keeper<Global>, R: Wait + Abort>(
     rt: &R,
     alloc: Global,
     mut keeper: K,
-) -> Option<HandlerState> {
-    let Ok(state) = keeper.load_handler(PLACE.handler) else {
-        panic!(rt; "not loaded");
-    };
-    let mut keeper = acted(rt, alloc, keeper, &ACTS);
-    assert!(rt; word(rt, &mut keeper, PLACE.handler) == 1);
-    state
+    act: Act,
+) -> Around {
+    let before = loaded(rt, &mut keeper);
+    let mut keeper = acted(rt, alloc, keeper, &[act]);
+    let behind = loaded(rt, &mut keeper);
+    Around { before, behind }
+}
+
+/// What is below a store behind these acts.
+fn behind<S: Alter + Drop, R: Wait + Abort>(
+    rt: &R,
+    alloc: Global,
+    connection: Option<Connection<S>>,
+    acts: &[Act],
+) -> S {
+    medium_of(acted(rt, alloc, created(rt, alloc, connection), acts))
+}
+
+/// What is found in the store of a database.
+fn found_over<S: Alter + Drop, R: Wait + Abort>(
+    rt: &R,
+    alloc: Global,
+    connection: Option<Connection<S>>,
+    act: Act,
+) -> Around {
+    match adopted(alloc, connection) {
+        Some(store) => found(rt, alloc, store, act),
+        None => panic!(rt; "no store"),
+    }
+}
+
+/// The same as `tried` over the store of a database: what was below it.
+fn tried_over<S: Alter + Drop, R: Wait + Abort>(
+    rt: &R,
+    alloc: Global,
+    connection: Option<Connection<S>>,
+    act: Act,
+    answered: &mut bool,
+) -> Option<S> {
+    let store = adopted(alloc, connection)?;
+    Some(medium_of(tried(rt, alloc, store, act, answered)?))
 }
 
 /// A file with these bytes that takes so many calls.
@@ -129,8 +173,8 @@ fn blank(rt: &impl Abort, alloc: Global) -> Files<Stopped> {
     }
 }
 
-// What names the store's type does one thing alone.
-fn connected(alloc: Global, files: Files<Stopped>) -> Option<Connection<FileStore<Stopped>>> {
+// What names the files' type does one thing alone, and takes nothing apart.
+fn connected(alloc: Global, files: Files<Stopped>) -> Option<Connection<Stoppable>> {
     if !files.may_be_used() {
         return None;
     }
@@ -140,84 +184,33 @@ fn connected(alloc: Global, files: Files<Stopped>) -> Option<Connection<FileStor
     }
 }
 
-fn created(rt: &impl Abort, alloc: Global) -> StoppableStore {
-    let Some(connection) = connected(alloc, blank(rt, alloc)) else {
-        panic!(rt; "no connection");
-    };
-    match Store::create(alloc, connection) {
-        Ok(store) => store,
-        Err(_) => panic!(rt; "no new store"),
-    }
-}
-
-/// The store in a copy of these files, of which the log takes so many calls. `None` where that isn't enough.
-fn adopted(
-    rt: &impl Abort,
-    alloc: Global,
-    files: &Files<Stopped>,
-    calls: u64,
-) -> Option<StoppableStore> {
-    let connection = connected(alloc, copy_of(rt, alloc, files, calls))?;
-    match Store::adopt(alloc, connection) {
-        Ok(store) => Some(store),
-        Err(_) => None,
-    }
-}
-
-fn left_by(store: StoppableStore) -> Files<Stopped> {
-    store.into_connection().into_store().close()
+fn left_by(medium: Stoppable) -> Files<Stopped> {
+    medium.close()
 }
 
 /// The files of a store behind these acts.
 fn files_behind<R: Wait + Abort>(rt: &R, alloc: Global, acts: &[Act]) -> Files<Stopped> {
-    left_by(acted(rt, alloc, created(rt, alloc), acts))
+    left_by(behind(rt, alloc, connected(alloc, blank(rt, alloc)), acts))
 }
 
-/// What is found in these files.
-fn found_in<R: Wait + Abort>(
-    rt: &R,
-    alloc: Global,
-    files: &Files<Stopped>,
-) -> Option<HandlerState> {
-    match adopted(rt, alloc, files, u64::MAX) {
-        Some(store) => found(rt, alloc, store),
-        None => panic!(rt; "no store"),
-    }
+/// What is found in these files, before the act and behind it.
+fn found_in<R: Wait + Abort>(rt: &R, alloc: Global, files: &Files<Stopped>, act: Act) -> Around {
+    let copied = copy_of(rt, alloc, files, u64::MAX);
+    found_over(rt, alloc, connected(alloc, copied), act)
 }
 
-/// Makes the act over files whose log takes so many calls: whether it is answered, and what they hold afterwards.
-/// `None` where no node opens.
+/// What files hold, whose log takes so many calls, behind the act, and whether that was answered. `None` where no node
+/// opens over them.
 fn stopped<R: Wait + Abort>(
     rt: &R,
     alloc: Global,
     files: &Files<Stopped>,
     act: Act,
     calls: u64,
-) -> Option<(bool, Files<Stopped>)> {
-    let store = adopted(rt, alloc, files, calls)?;
-    let (answered, store) = tried(rt, alloc, store, act)?;
-    Some((answered, left_by(store)))
-}
-
-/// What is found behind the act, where nothing stops it.
-fn own<R: Wait + Abort>(
-    rt: &R,
-    alloc: Global,
-    before: &Files<Stopped>,
-    act: Act,
-) -> Option<HandlerState> {
-    match stopped(rt, alloc, before, act, u64::MAX) {
-        Some((true, left)) => found_in(rt, alloc, &left),
-        _ => panic!(rt; "not answered"),
-    }
-}
-
-/// An act, with what its handler has before it and behind it.
-#[derive(Clone, Copy)]
-struct Step<'a> {
-    act: Act,
-    old: &'a Option<HandlerState>,
-    new: &'a Option<HandlerState>,
+    answered: &mut bool,
+) -> Option<Files<Stopped>> {
+    let copied = copy_of(rt, alloc, files, calls);
+    Some(left_by(tried_over(rt, alloc, connected(alloc, copied), act, answered)?))
 }
 
 fn same(left: &Option<HandlerState>, right: &Option<HandlerState>) -> bool {
@@ -230,9 +223,24 @@ fn same(left: &Option<HandlerState>, right: &Option<HandlerState>) -> bool {
     }
 }
 
-/// What is found is the state before the act or the act's own, and that one where the act was answered.
-fn is_whole(step: &Step<'_>, answered: bool, found: &Option<HandlerState>) -> bool {
-    same(found, step.new) || same(found, step.old) && !answered
+/// Whether what is found is the state before the act or the act's own, and that one where the act was answered. The act
+/// leads to its own state once more.
+fn is_whole(whole: &Around, answered: bool, found: &Around) -> bool {
+    let is_own = same(&found.before, &whole.behind);
+    let is_old = same(&found.before, &whole.before) && !answered;
+    (is_own || is_old) && same(&found.behind, &whole.behind)
+}
+
+/// Holds what is found in these files against the same where nothing is stopped.
+fn is_found<R: Wait + Abort>(
+    rt: &R,
+    alloc: Global,
+    files: &Files<Stopped>,
+    act: Act,
+    answered: bool,
+    whole: &Around,
+) -> bool {
+    is_whole(whole, answered, &found_in(rt, alloc, files, act))
 }
 
 /// Stops the act at this one of the log's calls, and opens a node over the files as they were written, and as a
@@ -240,29 +248,25 @@ fn is_whole(step: &Step<'_>, answered: bool, found: &Option<HandlerState>) -> bo
 fn stops_at<R: Wait + Abort>(
     rt: &R,
     alloc: Global,
-    before: &Files<Stopped>,
-    step: &Step<'_>,
+    files: &Files<Stopped>,
+    act: Act,
+    whole: &Around,
     calls: u64,
 ) -> Option<bool> {
-    let (answered, mut left) = stopped(rt, alloc, before, step.act, calls)?;
-    assert!(rt;
-        is_whole(step, answered, &found_in(rt, alloc, &left)),
-        "{calls}"
-    );
+    let mut answered = false;
+    let mut left = stopped(rt, alloc, files, act, calls, &mut answered)?;
+    assert!(rt; is_found(rt, alloc, &left, act, answered, whole), "{calls}");
     left.log.crash();
     left.db.crash();
-    assert!(rt;
-        is_whole(step, answered, &found_in(rt, alloc, &left)),
-        "{calls}"
-    );
+    assert!(rt; is_found(rt, alloc, &left, act, answered, whole), "{calls}");
     Some(answered)
 }
 
 /// Stops the act at each of the log's calls in turn, up to where it is answered.
-fn stops<R: Wait + Abort>(rt: &R, alloc: Global, before: &Files<Stopped>, step: &Step<'_>) {
+fn stops<R: Wait + Abort>(rt: &R, alloc: Global, files: &Files<Stopped>, act: Act, whole: &Around) {
     let mut any = false;
     for calls in 0..400u64 {
-        match stops_at(rt, alloc, before, step, calls) {
+        match stops_at(rt, alloc, files, act, whole, calls) {
             None => assert!(rt; !any),
             Some(false) => any = true,
             Some(true) => {
@@ -274,28 +278,24 @@ fn stops<R: Wait + Abort>(rt: &R, alloc: Global, before: &Files<Stopped>, step: 
     panic!(rt; "it was never answered")
 }
 
-/// The same of the act of this number.
-fn stops_act<R: Wait + Abort>(rt: &R, alloc: Global, number: usize) {
-    let (earlier, later) = ACTS.split_at(number.min(ACTS.len()));
-    let Some(act) = later.first() else {
-        panic!(rt; "no act");
-    };
-    let before = files_behind(rt, alloc, earlier);
-    let old = found_in(rt, alloc, &before);
-    let new = own(rt, alloc, &before, *act);
-    let step = Step {
-        act: *act,
-        old: &old,
-        new: &new,
-    };
-    stops(rt, alloc, &before, &step);
+/// The same of the act behind these.
+fn stops_behind<R: Wait + Abort>(rt: &R, alloc: Global, acts: &[Act], act: Act) {
+    let files = files_behind(rt, alloc, acts);
+    let whole = found_in(rt, alloc, &files, act);
+    assert!(rt; !same(&whole.before, &whole.behind));
+    stops(rt, alloc, &files, act, &whole);
 }
 
-/// A store that is stopped at each write in turn refuses the act, and a node that opens over it again has the state
-/// before the act or the act's own.
+// A store that is stopped at each write in turn refuses the act, and a node that opens over it again has the state
+// before the act or the act's own. One of the acts stores an entry that waits, the other that none does.
 #[test]
-fn a_stopped_act_leaves_a_whole_state(rt: HostRuntime) {
-    for number in 0..ACTS.len() {
-        stops_act(&rt, rt.alloc(), number);
-    }
+fn a_stopped_hear_leaves_a_whole_state(rt: HostRuntime) {
+    let acts = [Act::Hello, Act::Lock, Act::Open];
+    stops_behind(&rt, rt.alloc(), &acts, Act::Log(1));
+}
+
+#[test]
+fn a_stopped_finish_leaves_a_whole_state(rt: HostRuntime) {
+    let acts = [Act::Hello, Act::Lock, Act::Open, Act::Log(1)];
+    stops_behind(&rt, rt.alloc(), &acts, Act::Run);
 }
