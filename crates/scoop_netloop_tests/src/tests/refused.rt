@@ -3,10 +3,10 @@
 use super::accounts::{book, node};
 use super::frames::{first_messages, tape};
 use scoop_book::{Book, Event, Node, Pass, Reply};
-use scoop_handler::Done;
+use scoop_handler::{Done, Heard, Ran};
 use scoop_keeper::MemoryKeeper;
 use scoop_link::TapeLink;
-use scoop_message::HandlerId;
+use scoop_message::{HandlerId, Message};
 use scoop_netloop::{OpenGate, ServeEnd, Stop, serve};
 use scoop_object::Table;
 use scoop_refusing::Refusing;
@@ -56,10 +56,9 @@ fn begins(
 
 /// What is out is finished: one executor has one job at a time.
 fn finishes(book: &mut MemoryBook, out: &mut Option<Done<Table>>, pass: u32) -> Option<Reply> {
-    match book.finish(pass, out.take()?) {
-        Ok(ran) => Some(Reply::Finished(ran)),
-        Err(_) => None,
-    }
+    let done = out.take()?;
+    let ran = book.finish(pass, done).ok()?;
+    Some(Reply::Finished(ran))
 }
 
 /// The reply to an event that happens at the book.
@@ -69,6 +68,7 @@ fn happens(
     pass: u32,
     event: &Event,
 ) -> Option<Reply> {
+    let _parts: Option<(Message, Heard, Ran)> = None;
     match *event {
         Event::Hear(message) => book.step(pass, Event::Hear(message)).ok(),
         Event::Begin(handler) => begins(book, out, pass, handler),
