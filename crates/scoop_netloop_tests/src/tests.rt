@@ -7,7 +7,6 @@ mod gate;
 mod growths;
 mod loops;
 mod painting;
-mod refused;
 mod tape;
 mod waits;
 
