@@ -1,0 +1,7 @@
+#![tactic(auto)]
+
+//! Tests of nodes over stores, by public calls. They stand apart from the other tests of nodes, since the types
+//! of a database are slow to prove over: here few functions name them.
+
+#[cfg(test)]
+mod tests;
