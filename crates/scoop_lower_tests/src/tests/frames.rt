@@ -80,7 +80,7 @@ fn is_refused(version: u8, kind: u8, rest: &[u8], fault: FrameError) -> bool {
     decode(&frame[..20 + rest.len()]) == Err(fault)
 }
 
-// Whether each proper prefix of the message's frame is refused by its length.
+// Whether each proper prefix of the message's frame is refused by its length, and the message is read from the whole.
 fn prefixes_are_refused(version: Version, message: &Message) -> bool {
     if !message.fits() || !version.carries(message) {
         return false;
@@ -470,18 +470,11 @@ fn faults_are_told_by_name(rt: HostRuntime) -> Result<(), Fail> {
 
 /// The example of the crate.
 #[test]
-fn a_greeting_is_framed(rt: HostRuntime) -> Result<(), Fail> {
+fn a_greeting_is_framed(rt: HostRuntime) {
+    // each message that fits has a frame of version 2, and is read from it
     let hello = Message::Hello(HandlerId(1), ClientId(7), 2);
-    // each message that fits has a frame of version 2
-    if !hello.fits() || !Version::Two.carries(&hello) {
-        return Err("no frame".into());
-    }
-    let mut buffer = [0; BUFFER_LEN];
-    let len = encode(Version::Two, &hello, &mut buffer);
-    assert_eq!(rt; len, 26);
-    assert_eq!(rt; decode(&buffer[..len]), Ok((Version::Two, hello)));
+    assert_eq!(rt; length(Version::Two, &hello), Some(26));
     // what is no frame is refused, and says why
-    assert_eq!(rt; decode(&buffer[..len - 1]), Err(FrameError::Short));
-    assert_eq!(rt; decode(b"no frame"), Err(FrameError::Short));
-    Ok(())
+    assert!(rt; prefixes_are_refused(Version::Two, &hello));
+    is_told(&rt, b"no frame", FrameError::Short);
 }

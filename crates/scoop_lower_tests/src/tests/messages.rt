@@ -4,6 +4,7 @@ use scoop_message::{
     Answer, Args, BadEntries, Block, ClientId, Entries, Entry, HandlerId, Message, OutOfMemory,
     Request, TooManyArgs, WordCount, Words, same_message, same_words,
 };
+use std::process::Abort;
 use std::test::Fail;
 
 fn block() -> Block {
@@ -32,30 +33,49 @@ fn short_lists_keep_their_limits(rt: HostRuntime) -> Result<(), Fail> {
     Ok(())
 }
 
-#[test]
-fn an_end_stands_only_last(rt: HostRuntime) -> Result<(), Fail> {
-    let get = Entry::Query(Request {
-        op: 2,
-        args: Args::of(&[])?,
-    });
-    assert_eq!(rt; Entries::of(&[]), Err(BadEntries));
-    assert_eq!(rt; Entries::of(&[get; 5]), Err(BadEntries));
-    assert_eq!(rt; Entries::of(&[Entry::End, get]), Err(BadEntries));
-    let entries = Entries::of(&[get, get, get, Entry::End])?;
+fn get() -> Option<Entry> {
+    let args = Args::of(&[]).ok()?;
+    Some(Entry::Query(Request { op: 2, args }))
+}
+
+fn made(rt: &impl Abort, entries: &[Entry]) -> Entries {
+    match Entries::of(entries) {
+        Ok(entries) => entries,
+        Err(BadEntries) => panic!(rt; "no entries"),
+    }
+}
+
+fn are_bad(rt: &impl Abort, entries: &[Entry]) {
+    assert_eq!(rt; Entries::of(entries).err(), Some(BadEntries));
+}
+
+// The entries are these four.
+fn are_four(rt: &impl Abort, entries: &Entries, four: &[Entry; 4]) {
     assert_eq!(rt; entries.len(), 4);
     assert_eq!(rt;
         (entries.get(0), entries.get(3), entries.get(4)),
-        (Some(get), Some(Entry::End), None)
+        (Some(four[0]), Some(four[3]), None)
     );
-    assert_eq!(rt; entries.as_slice(), [get, get, get, Entry::End].as_slice());
-    assert!(rt; entries != Entries::of(&[Entry::End])?);
+    assert_eq!(rt; entries.as_slice(), four.as_slice());
+}
+
+#[test]
+fn an_end_stands_only_last(rt: HostRuntime) {
+    let Some(get) = get() else {
+        panic!(rt; "no entry");
+    };
+    are_bad(&rt, &[]);
+    are_bad(&rt, &[get; 5]);
+    are_bad(&rt, &[Entry::End, get]);
+    let four = [get, get, get, Entry::End];
+    are_four(&rt, &made(&rt, &four), &four);
+    assert!(rt; made(&rt, &four) != made(&rt, &[Entry::End]));
     assert!(rt; get.is_query() && !get.is_end() && Entry::End.is_end());
-    Ok(())
 }
 
 #[test]
 fn messages_tell_what_they_name(rt: HostRuntime) -> Result<(), Fail> {
-    let end = Entries::of(&[Entry::End])?;
+    let end = made(&rt, &[Entry::End]);
     let kinds = [
         (Message::Hello(HandlerId(1), ClientId(7), 2), true),
         (Message::Welcome(HandlerId(1), ClientId(7), 2), false),
@@ -88,12 +108,11 @@ fn messages_tell_what_they_name(rt: HostRuntime) -> Result<(), Fail> {
 }
 
 #[test]
-fn numbers_begin_at_one(rt: HostRuntime) -> Result<(), Fail> {
-    let end = Entries::of(&[Entry::End])?;
-    let get = Entry::Query(Request {
-        op: 2,
-        args: Args::of(&[])?,
-    });
+fn numbers_begin_at_one(rt: HostRuntime) {
+    let Some(get) = get() else {
+        panic!(rt; "no entry");
+    };
+    let (end, two) = (made(&rt, &[Entry::End]), made(&rt, &[get, get]));
     let unnumbered = Block { num: 0, ..block() };
     let unborn = Block { inc: 0, ..block() };
     assert!(rt; block().is_numbered() && !unnumbered.is_numbered() && !unborn.is_numbered());
@@ -102,14 +121,13 @@ fn numbers_begin_at_one(rt: HostRuntime) -> Result<(), Fail> {
         Message::Lock(HandlerId(1), unnumbered),
         Message::Opened(HandlerId(1), unborn),
         Message::Log(HandlerId(1), block(), 0, end),
-        Message::Log(HandlerId(1), block(), u32::MAX, Entries::of(&[get, get])?),
+        Message::Log(HandlerId(1), block(), u32::MAX, two),
         Message::Logged(HandlerId(1), block(), 0),
         Message::Answer(HandlerId(1), unnumbered, 1, Answer::Value(5)),
     ] {
         assert!(rt; !misfit.fits(), "{misfit:?}");
     }
     assert!(rt; Message::Log(HandlerId(1), block(), u32::MAX, end).fits());
-    Ok(())
 }
 
 #[test]

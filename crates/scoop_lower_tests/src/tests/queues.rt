@@ -8,7 +8,6 @@ use scoop_message::{Args, Block, ClientId, Entries, Entry, Request};
 use scoop_queue::{AppendError, Head, OpenQueueError, PutError, QueueOfQueues, QueueState};
 use std::alloc::{Allocator, Global};
 use std::process::Abort;
-use std::test::Fail;
 
 fn block(num: u32) -> Block {
     Block {
@@ -324,11 +323,11 @@ fn append_refusal(queues: &mut QueueOfQueues, whole: Whole) -> Option<AppendErro
         first,
         state,
     };
-    queues.append(head, part(&entries, from, to)).err()
+    queues.append(head, slice(&entries, from, to)).err()
 }
 
 // The entries from one place to another.
-fn part(entries: &[Entry], from: usize, to: usize) -> &[Entry] {
+fn slice(entries: &[Entry], from: usize, to: usize) -> &[Entry] {
     if from <= to && to <= entries.len() {
         &entries[from..to]
     } else {
@@ -404,40 +403,51 @@ fn are_same(rt: &impl Abort, left: &QueueOfQueues, right: &QueueOfQueues, wanted
     assert_eq!(rt; right.same(left), wanted);
 }
 
-fn copied(queues: &QueueOfQueues) -> Result<QueueOfQueues, Fail> {
-    Ok(queues.copy()?)
+fn copied(rt: &impl Abort, queues: &QueueOfQueues) -> QueueOfQueues {
+    let Ok(copy) = queues.copy() else {
+        panic!(rt; "no memory");
+    };
+    copy
+}
+
+// Each changes on its own.
+fn part(rt: &impl Abort, copy: &mut QueueOfQueues, queues: &mut QueueOfQueues) {
+    are_same(rt, copy, queues, true);
+    takes(rt, copy);
+    are_same(rt, copy, queues, false);
+    takes(rt, queues);
+    are_same(rt, copy, queues, true);
+    is_cut(rt, copy, 3, true);
+    are_same(rt, copy, queues, false);
 }
 
 #[test]
-fn a_copy_is_the_same(rt: HostRuntime) -> Result<(), Fail> {
+fn a_copy_is_the_same(rt: HostRuntime) {
     let mut queues = QueueOfQueues::new(rt.alloc());
     for num in [1, 2, 3] {
         opens(&rt, &mut queues, num, None);
         puts_one(&rt, &mut queues, (num, Given::Four, None, 4));
     }
-    let mut copy = copied(&queues)?;
-    are_same(&rt, &copy, &queues, true);
-    takes(&rt, &mut copy);
-    are_same(&rt, &copy, &queues, false);
-    takes(&rt, &mut queues);
-    are_same(&rt, &copy, &queues, true);
-    is_cut(&rt, &mut copy, 3, true);
-    are_same(&rt, &copy, &queues, false);
-    Ok(())
+    part(&rt, &mut copied(&rt, &queues), &mut queues);
 }
 
 /// The example of the crate.
 #[test]
-fn an_empty_queue_is_waited_for(rt: HostRuntime) -> Result<(), Fail> {
+fn an_empty_queue_is_waited_for(rt: HostRuntime) {
     let mut queues = QueueOfQueues::new(rt.alloc());
-    queues.open(block(1))?;
-    queues.open(block(2))?;
-    assert_eq!(rt; queues.front(), None);
-    queues.put(block(1), Entry::End)?;
-    assert_eq!(rt; queues.front(), Some((block(1), 1, Entry::End)));
-    assert_eq!(rt; queues.advance(), Some((block(1), 1, Entry::End)));
-    assert_eq!(rt; queues.list_len(), 1);
-    Ok(())
+    let Ok(()) = queues.open(block(1)) else {
+        panic!(rt; "no queue");
+    };
+    let Ok(()) = queues.open(block(2)) else {
+        panic!(rt; "no queue");
+    };
+    is_first(&rt, &queues, None);
+    let Ok(()) = queues.put(block(1), Entry::End) else {
+        panic!(rt; "no entry");
+    };
+    is_first(&rt, &queues, Some((block(1), 1, Entry::End)));
+    takes(&rt, &mut queues);
+    has_count(&rt, &queues, 1);
 }
 
 // The other ones, which differ, are copied.

@@ -2,6 +2,7 @@
 
 use scoop_message::{Block, ClientId, HandlerId, Message};
 use scoop_reserve::{Reservation, ReserveError, Stage, Step, TooLate, first_repeated, has};
+use std::process::Abort;
 use std::test::Fail;
 
 const BLOCK: Block = Block {
@@ -23,6 +24,19 @@ const TWO: HandlerId = HandlerId(2);
 const THREE: HandlerId = HandlerId(3);
 
 const FIVE: HandlerId = HandlerId(5);
+
+fn refusal(handlers: &[HandlerId], known: &[HandlerId]) -> Option<ReserveError> {
+    Reservation::start(BLOCK, handlers, known).err()
+}
+
+fn is_refused(
+    rt: &impl Abort,
+    handlers: &[HandlerId],
+    known: &[HandlerId],
+    wanted: Option<ReserveError>,
+) {
+    assert_eq!(rt; refusal(handlers, known), wanted);
+}
 
 #[test]
 fn starting_is_refused_in_order(rt: HostRuntime) {
@@ -47,9 +61,8 @@ fn starting_is_refused_in_order(rt: HostRuntime) {
         (&[TWO, ONE], None),
         (&known, None),
     ];
-    for (handlers, refusal) in rows {
-        let started = Reservation::start(BLOCK, handlers, &known);
-        assert_eq!(rt; started.err(), refusal);
+    for (handlers, wanted) in rows {
+        is_refused(&rt, handlers, &known, wanted);
     }
 }
 
@@ -167,19 +180,24 @@ fn refusals_are_printed(rt: HostRuntime) -> Result<(), Fail> {
     Ok(())
 }
 
+fn is_due(rt: &impl Abort, reservation: &Reservation, handler: HandlerId, wanted: Option<Message>) {
+    assert_eq!(rt; reservation.due(handler), wanted);
+}
+
 /// The example of the crate.
 #[test]
-fn two_handlers_are_reserved(rt: HostRuntime) -> Result<(), Fail> {
-    let mut reservation = Reservation::start(BLOCK, &[TWO, ONE], &[ONE, TWO])?;
-    assert_eq!(rt; reservation.due(ONE), Some(Message::Lock(ONE, BLOCK)));
-    assert_eq!(rt; reservation.due(TWO), None);
+fn two_handlers_are_reserved(rt: HostRuntime) {
+    let Ok(mut reservation) = Reservation::start(BLOCK, &[TWO, ONE], &[ONE, TWO]) else {
+        panic!(rt; "no reservation");
+    };
+    is_due(&rt, &reservation, ONE, Some(Message::Lock(ONE, BLOCK)));
+    is_due(&rt, &reservation, TWO, None);
     reservation.hear(&Message::Locked(ONE, BLOCK));
-    assert_eq!(rt; reservation.due(TWO), Some(Message::Lock(TWO, BLOCK)));
+    is_due(&rt, &reservation, TWO, Some(Message::Lock(TWO, BLOCK)));
     reservation.hear(&Message::Locked(TWO, BLOCK));
-    assert_eq!(rt; reservation.due(ONE), Some(Message::Open(ONE, BLOCK)));
+    is_due(&rt, &reservation, ONE, Some(Message::Open(ONE, BLOCK)));
     reservation.hear(&Message::Opened(ONE, BLOCK));
     reservation.hear(&Message::Opened(TWO, BLOCK));
     assert!(rt; reservation.is_open());
-    assert_eq!(rt; reservation.due(TWO), Some(Message::Unlock(TWO, BLOCK)));
-    Ok(())
+    is_due(&rt, &reservation, TWO, Some(Message::Unlock(TWO, BLOCK)));
 }

@@ -12,7 +12,7 @@ use std::process::Abort;
 use std::test::Fail;
 
 #[test]
-fn greetings(rt: HostRuntime) -> Result<(), Fail> {
+fn greetings(rt: HostRuntime) {
     let rows = [
         (Act::Unlock, 7, 2, 1, Said::Dropped(Reason::Ungreeted)),
         (Act::Hello, 7, 2, 0, Said::Greeted),
@@ -21,8 +21,7 @@ fn greetings(rt: HostRuntime) -> Result<(), Fail> {
         (Act::Lock, 7, 3, 1, Said::Dropped(Reason::Ungreeted)),
         (Act::Lock, 7, 1, 1, Said::Dropped(Reason::Stale)),
     ];
-    hears(&rt, &mut fresh(rt.alloc())?, &rows);
-    Ok(())
+    hears(&rt, &mut fresh(&rt, rt.alloc()), &rows);
 }
 
 fn drops(rt: &impl Abort, handler: &mut Handler<Table>, message: Message, why: Reason) {
@@ -30,15 +29,14 @@ fn drops(rt: &impl Abort, handler: &mut Handler<Table>, message: Message, why: R
 }
 
 #[test]
-fn messages_for_others(rt: HostRuntime) -> Result<(), Fail> {
-    let mut handler = fresh(rt.alloc())?;
+fn messages_for_others(rt: HostRuntime) {
+    let mut handler = fresh(&rt, rt.alloc());
     let refused = Message::Answer(HERE, block(7, 1, 1), 1, Answer::Refused);
     drops(&rt, &mut handler, refused, Reason::NotForHandlers);
     let welcome = Message::Welcome(ELSEWHERE, ClientId(7), 1);
     drops(&rt, &mut handler, welcome, Reason::NotForHandlers);
     let hello = Message::Hello(ELSEWHERE, ClientId(7), 2);
     drops(&rt, &mut handler, hello, Reason::WrongHandler);
-    Ok(())
 }
 
 fn holds(rt: &impl Abort, handler: &Handler<Table>, holder: Block) {
@@ -47,8 +45,8 @@ fn holds(rt: &impl Abort, handler: &Handler<Table>, holder: Block) {
 
 /// One block holds the lock, opens and unlocks; another gives up; the old Locks of both come late.
 #[test]
-fn one_block_holds_the_lock(rt: HostRuntime) -> Result<(), Fail> {
-    let mut handler = fresh(rt.alloc())?;
+fn one_block_holds_the_lock(rt: HostRuntime) {
+    let mut handler = fresh(&rt, rt.alloc());
     let entry = Act::Log(1, Does::End, Does::Nothing);
     let rows = [
         (Act::Hello, 7, 1, 0, Said::Greeted),
@@ -72,12 +70,11 @@ fn one_block_holds_the_lock(rt: HostRuntime) -> Result<(), Fail> {
     ];
     hears(&rt, &mut handler, &rows);
     holds(&rt, &handler, block(8, 1, 2));
-    Ok(())
 }
 
 #[test]
-fn entries_come_in_order(rt: HostRuntime) -> Result<(), Fail> {
-    let mut handler = opened(&rt, rt.alloc(), &[7])?;
+fn entries_come_in_order(rt: HostRuntime) {
+    let mut handler = opened(&rt, rt.alloc(), &[7]);
     let first = Act::Log(1, Does::Set(5), Does::Nothing);
     let second = Act::Log(2, Does::Set(6), Does::Nothing);
     let third = Act::Log(3, Does::Set(7), Does::Nothing);
@@ -92,12 +89,11 @@ fn entries_come_in_order(rt: HostRuntime) -> Result<(), Fail> {
     let values = [(1, Some(5)), (2, Some(6)), (3, Some(7))];
     runs(&rt, &mut handler, 7, &values);
     rests(&rt, &mut handler, 7);
-    Ok(())
 }
 
 #[test]
-fn a_repeated_query_is_answered_again(rt: HostRuntime) -> Result<(), Fail> {
-    let mut handler = opened(&rt, rt.alloc(), &[7])?;
+fn a_repeated_query_is_answered_again(rt: HostRuntime) {
+    let mut handler = opened(&rt, rt.alloc(), &[7]);
     let first = Act::Log(1, Does::Add(5), Does::Nothing);
     let second = Act::Log(2, Does::Ask(1), Does::Nothing);
     let rows = [
@@ -109,13 +105,12 @@ fn a_repeated_query_is_answered_again(rt: HostRuntime) -> Result<(), Fail> {
     let kept = (second, 7, 1, 1, Said::Answered(2, 6));
     hears(&rt, &mut handler, &[kept, kept]);
     rests(&rt, &mut handler, 6);
-    Ok(())
 }
 
 /// A batch that overlaps is taken in part, and nothing is taken behind an End.
 #[test]
-fn batches(rt: HostRuntime) -> Result<(), Fail> {
-    let mut handler = opened(&rt, rt.alloc(), &[7])?;
+fn batches(rt: HostRuntime) {
+    let mut handler = opened(&rt, rt.alloc(), &[7]);
     let last = Act::Log(u32::MAX, Does::Add(1), Does::Nothing);
     let front = Act::Log(1, Does::Add(1), Does::Add(2));
     let back = Act::Log(2, Does::Add(2), Does::Add(3));
@@ -135,13 +130,12 @@ fn batches(rt: HostRuntime) -> Result<(), Fail> {
     let values = [(1, Some(1)), (2, Some(3)), (3, Some(6)), (4, None)];
     runs(&rt, &mut handler, 7, &values);
     rests(&rt, &mut handler, 6);
-    Ok(())
 }
 
 /// A client starts anew: what was received of its block still runs, and nothing more is taken.
 #[test]
-fn a_client_starts_anew(rt: HostRuntime) -> Result<(), Fail> {
-    let mut handler = opened(&rt, rt.alloc(), &[7])?;
+fn a_client_starts_anew(rt: HostRuntime) {
+    let mut handler = opened(&rt, rt.alloc(), &[7]);
     let front = Act::Log(1, Does::Add(1), Does::Add(2));
     let end = Act::Log(3, Does::End, Does::Nothing);
     let rows = [
@@ -154,7 +148,6 @@ fn a_client_starts_anew(rt: HostRuntime) -> Result<(), Fail> {
     hears(&rt, &mut handler, &rows);
     runs(&rt, &mut handler, 7, &[(1, Some(1)), (2, Some(3))]);
     rests(&rt, &mut handler, 3);
-    Ok(())
 }
 
 fn prints<T: Display>(rt: &impl Abort, alloc: Global, value: &T, text: &str) -> Result<(), Fail> {
