@@ -16,16 +16,21 @@ fn block() -> Block {
 }
 
 #[test]
-fn short_lists_keep_their_limits(rt: HostRuntime) -> Result<(), Fail> {
+fn words_keep_their_limits(rt: HostRuntime) {
     let numbers = [9; 17];
-    assert_eq!(rt; Words::of(&[]), Err(WordCount));
-    assert_eq!(rt; Words::of(&numbers), Err(WordCount));
-    let mut words = Words::of(&numbers[..16])?;
-    assert_eq!(rt; words.len(), 16);
-    assert!(rt; words.as_slice().len() == 16);
+    assert_eq!(rt; Words::of(&[]).err(), Some(WordCount));
+    assert_eq!(rt; Words::of(&numbers).err(), Some(WordCount));
+    let Ok(mut words) = Words::of(&numbers[..16]) else {
+        panic!(rt; "no words");
+    };
+    assert_eq!(rt; (words.len(), words.as_slice().len()), (16, 16));
     words.set(15, 4);
     assert_eq!(rt; (words.get(15), words.get(16)), (Some(4), None));
-    assert_eq!(rt; Args::of(&numbers[..5]), Err(TooManyArgs));
+}
+
+#[test]
+fn arguments_keep_their_limits(rt: HostRuntime) -> Result<(), Fail> {
+    assert_eq!(rt; Args::of(&[9; 5]).err(), Some(TooManyArgs));
     assert!(rt; Args::of(&[])?.is_empty());
     let args = Args::of(&[1, 2, 3, 4])?;
     assert_eq!(rt; (args.len(), args.get(3), args.get(4)), (4, Some(4), None));
@@ -73,8 +78,25 @@ fn an_end_stands_only_last(rt: HostRuntime) {
     assert!(rt; get.is_query() && !get.is_end() && Entry::End.is_end());
 }
 
+// The handler, the client and the incarnation of a message, whether it is for a handler, and whether it fits.
+fn told(message: &Message) -> (HandlerId, ClientId, u32, bool, bool) {
+    (
+        message.handler(),
+        message.client(),
+        message.inc(),
+        message.for_handler(),
+        message.fits(),
+    )
+}
+
+fn tells(rt: &impl Abort, message: &Message, for_handler: bool) {
+    let wanted = (HandlerId(1), ClientId(7), 2, for_handler, true);
+    assert_eq!(rt; told(message), wanted, "{message:?}");
+    assert!(rt; same_message(message, message), "{message:?}");
+}
+
 #[test]
-fn messages_tell_what_they_name(rt: HostRuntime) -> Result<(), Fail> {
+fn messages_tell_what_they_name(rt: HostRuntime) {
     let end = made(&rt, &[Entry::End]);
     let kinds = [
         (Message::Hello(HandlerId(1), ClientId(7), 2), true),
@@ -94,17 +116,19 @@ fn messages_tell_what_they_name(rt: HostRuntime) -> Result<(), Fail> {
         ),
     ];
     for (message, for_handler) in kinds {
-        assert_eq!(rt; message.handler(), HandlerId(1), "{message:?}");
-        assert_eq!(rt; message.client(), ClientId(7), "{message:?}");
-        assert_eq!(rt; message.inc(), 2, "{message:?}");
-        assert_eq!(rt; message.for_handler(), for_handler, "{message:?}");
-        assert!(rt; message.fits(), "{message:?}");
-        assert!(rt; same_message(&message, &message), "{message:?}");
+        tells(&rt, &message, for_handler);
     }
+}
+
+#[test]
+fn what_is_the_same_is_told(rt: HostRuntime) {
     let lock = Message::Lock(HandlerId(1), block());
-    assert!(rt; !same_message(&lock, &Message::Locked(HandlerId(1), block())));
-    assert!(rt; same_words(&Words::of(&[5])?, &Words::of(&[5])?));
-    Ok(())
+    let locked = Message::Locked(HandlerId(1), block());
+    assert!(rt; !same_message(&lock, &locked));
+    let Ok(words) = Words::of(&[5]) else {
+        panic!(rt; "no words");
+    };
+    assert!(rt; same_words(&words, &words));
 }
 
 #[test]
@@ -169,19 +193,13 @@ fn names_and_answers_are_printed(rt: HostRuntime) -> Result<(), Fail> {
 /// The example of the crate.
 #[test]
 fn a_message_is_made(rt: HostRuntime) -> Result<(), Fail> {
-    let block = Block {
-        client: ClientId(7),
-        inc: 2,
-        num: 3,
-    };
     // a query, and the End of the block's entries, as its first two entries at handler 1
     let args = Args::of(&[5])?;
     let get = Entry::Query(Request { op: 2, args });
-    let log = Message::Log(HandlerId(1), block, 1, Entries::of(&[get, Entry::End])?);
-    assert!(rt; log.for_handler() && log.fits());
-    assert_eq!(rt; (log.client(), log.inc()), (ClientId(7), 2));
+    let log = Message::Log(HandlerId(1), block(), 1, made(&rt, &[get, Entry::End]));
+    tells(&rt, &log, true);
     // the limits are kept: a request has four arguments at most, and an End stands only last
-    assert_eq!(rt; Args::of(&[0; 5]), Err(TooManyArgs));
-    assert_eq!(rt; Entries::of(&[Entry::End, get]), Err(BadEntries));
+    assert_eq!(rt; Args::of(&[0; 5]).err(), Some(TooManyArgs));
+    are_bad(&rt, &[Entry::End, get]);
     Ok(())
 }
