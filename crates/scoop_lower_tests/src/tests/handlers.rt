@@ -276,6 +276,12 @@ fn has_word(rt: &impl Abort, handler: &Handler<Table>, word: u64) {
     assert_eq!(rt; words.as_slice(), [word].as_slice());
 }
 
+/// Whether the handler's state is this one, where memory suffices to tell.
+fn has_state(handler: &Handler<Table>, state: &HandlerState) -> Option<bool> {
+    let own = handler.copy().ok()?;
+    Some(own.same(state))
+}
+
 /// The handler has nothing to run, and its object has this word.
 fn rests(rt: &impl Abort, handler: &mut Handler<Table>, word: u64) {
     assert_eq!(rt; ran(handler), None);
@@ -310,19 +316,25 @@ fn taken(rt: &impl Abort, handler: &mut Handler<Table>) -> Job<Table> {
     job
 }
 
+const QUERY: [Row; 5] = [
+    (Act::Hello, 7, 1, 0, Said::Greeted),
+    (Act::Lock, 7, 1, 1, Said::Granted),
+    (Act::Open, 7, 1, 1, Said::Opened),
+    (Act::Unlock, 7, 1, 1, Said::Freed),
+    (
+        Act::Log(1, Does::Ask(5), Does::Nothing),
+        7,
+        1,
+        1,
+        Said::Took(1),
+    ),
+];
+
 /// The example of the crate: a block opens, and its query is logged and run.
 #[test]
 fn a_query_is_run(rt: HostRuntime) {
     // the object has one word, which is 0, and the operation ADD of its class adds to it
     let mut handler = fresh(&rt, rt.alloc());
-    let query = Act::Log(1, Does::Ask(5), Does::Nothing);
-    let rows = [
-        (Act::Hello, 7, 1, 0, Said::Greeted),
-        (Act::Lock, 7, 1, 1, Said::Granted),
-        (Act::Open, 7, 1, 1, Said::Opened),
-        (Act::Unlock, 7, 1, 1, Said::Freed),
-        (query, 7, 1, 1, Said::Took(1)),
-    ];
-    hears(&rt, &mut handler, &rows);
+    hears(&rt, &mut handler, &QUERY);
     runs(&rt, &mut handler, 7, &[(1, Some(5))]);
 }

@@ -191,6 +191,15 @@ fn is_at(rt: &impl Abort, queues: &QueueOfQueues, i: usize, j: usize, entry: Opt
     assert_eq!(rt; queues.entry(i, j), entry, "{i} {j}");
 }
 
+const PUTS: [Row; 6] = [
+    (1, Given::One, None, 61),
+    (1, Given::Four, Some(PutError::PendingFull), 61),
+    (1, Given::OneAndEnd, None, 63),
+    (1, Given::One, Some(PutError::Ended), 63),
+    (2, Given::Four, None, MAX_PENDING),
+    (2, Given::One, Some(PutError::PendingFull), 64),
+];
+
 #[test]
 fn puts_64_entries(rt: HostRuntime) {
     let mut queues = QueueOfQueues::new(rt.alloc());
@@ -201,15 +210,7 @@ fn puts_64_entries(rt: HostRuntime) {
     );
     fills(&rt, &mut queues, 1);
     fills(&rt, &mut queues, 2);
-    let rows = [
-        (1, Given::One, None, 61),
-        (1, Given::Four, Some(PutError::PendingFull), 61),
-        (1, Given::OneAndEnd, None, 63),
-        (1, Given::One, Some(PutError::Ended), 63),
-        (2, Given::Four, None, MAX_PENDING),
-        (2, Given::One, Some(PutError::PendingFull), 64),
-    ];
-    puts(&rt, &mut queues, &rows);
+    puts(&rt, &mut queues, &PUTS);
     is_at(&rt, &queues, 0, 62, Some(Entry::End));
     is_at(&rt, &queues, 0, 63, None);
     is_at(&rt, &queues, 2, 0, None);
@@ -275,33 +276,34 @@ fn goes_on(rt: &impl Abort, queues: &mut QueueOfQueues, turn: Turn) {
     has_count(rt, queues, count);
 }
 
+const SCRIPT: [Turn; 20] = [
+    (Step::Open(1), None, 1),
+    (Step::Open(2), None, 2),
+    (Step::Put(2), None, 2),
+    (Step::Take, None, 2),
+    (Step::Put(1), Some((1, 1)), 2),
+    (Step::Open(3), Some((1, 1)), 3),
+    (Step::Put(1), Some((1, 1)), 3),
+    (Step::Take, Some((1, 2)), 3),
+    (Step::End(2), Some((1, 2)), 3),
+    (Step::Cut(3), Some((1, 2)), 2),
+    (Step::Cut(1), Some((1, 2)), 2),
+    (Step::Take, Some((2, 1)), 1),
+    (Step::Take, Some((2, 2)), 1),
+    (Step::Take, None, 0),
+    (Step::Open(1), None, 1),
+    (Step::Put(1), Some((1, 1)), 1),
+    (Step::Take, None, 1),
+    (Step::Put(1), Some((1, 2)), 1),
+    (Step::Take, None, 1),
+    (Step::Cut(1), None, 0),
+];
+
 #[test]
 fn waits_and_goes_on_in_order(rt: HostRuntime) {
     let mut queues = QueueOfQueues::new(rt.alloc());
-    let script = [
-        (Step::Open(1), None, 1),
-        (Step::Open(2), None, 2),
-        (Step::Put(2), None, 2),
-        (Step::Take, None, 2),
-        (Step::Put(1), Some((1, 1)), 2),
-        (Step::Open(3), Some((1, 1)), 3),
-        (Step::Put(1), Some((1, 1)), 3),
-        (Step::Take, Some((1, 2)), 3),
-        (Step::End(2), Some((1, 2)), 3),
-        (Step::Cut(3), Some((1, 2)), 2),
-        (Step::Cut(1), Some((1, 2)), 2),
-        (Step::Take, Some((2, 1)), 1),
-        (Step::Take, Some((2, 2)), 1),
-        (Step::Take, None, 0),
-        (Step::Open(1), None, 1),
-        (Step::Put(1), Some((1, 1)), 1),
-        (Step::Take, None, 1),
-        (Step::Put(1), Some((1, 2)), 1),
-        (Step::Take, None, 1),
-        (Step::Cut(1), None, 0),
-    ];
-    for turn in script {
-        goes_on(&rt, &mut queues, turn);
+    for turn in &SCRIPT {
+        goes_on(&rt, &mut queues, *turn);
     }
 }
 
@@ -344,24 +346,25 @@ fn appends(
     assert_eq!(rt; append_refusal(queues, whole), refusal, "{whole:?}");
 }
 
+const BAD: [Whole; 10] = [
+    (1, 0, QueueState::Open, 0, 0),
+    (1, 1, QueueState::Open, 0, 65),
+    (1, u32::MAX, QueueState::Open, 0, 1),
+    (1, u32::MAX, QueueState::Ended, 64, 66),
+    (1, 1, QueueState::Open, 65, 66),
+    (1, 1, QueueState::Ended, 0, 0),
+    (1, 1, QueueState::Ended, 0, 1),
+    (1, 1, QueueState::Ended, 65, 67),
+    (1, 1, QueueState::Cut, 0, 0),
+    (1, 1, QueueState::Cut, 64, 66),
+];
+
 /// A first number and a state that don't go with the entries.
 #[test]
 fn refuses_to_append(rt: HostRuntime) {
     let mut queues = QueueOfQueues::new(rt.alloc());
-    let bad = [
-        (1, 0, QueueState::Open, 0, 0),
-        (1, 1, QueueState::Open, 0, 65),
-        (1, u32::MAX, QueueState::Open, 0, 1),
-        (1, u32::MAX, QueueState::Ended, 64, 66),
-        (1, 1, QueueState::Open, 65, 66),
-        (1, 1, QueueState::Ended, 0, 0),
-        (1, 1, QueueState::Ended, 0, 1),
-        (1, 1, QueueState::Ended, 65, 67),
-        (1, 1, QueueState::Cut, 0, 0),
-        (1, 1, QueueState::Cut, 64, 66),
-    ];
-    for whole in bad {
-        appends(&rt, &mut queues, whole, Some(AppendError::BadQueue));
+    for whole in &BAD {
+        appends(&rt, &mut queues, *whole, Some(AppendError::BadQueue));
     }
     has_count(&rt, &queues, 0);
 }
@@ -378,18 +381,19 @@ fn takes_entry(rt: &impl Abort, queues: &mut QueueOfQueues, taken: (u32, u32, bo
     assert_eq!(rt; next(queues), Some(taken));
 }
 
+const GOOD: [Whole; 4] = [
+    (1, u32::MAX, QueueState::Ended, 65, 66),
+    (2, u32::MAX, QueueState::Cut, 0, 1),
+    (3, 7, QueueState::Cut, 0, 64),
+    (4, u32::MAX, QueueState::Open, 0, 0),
+];
+
 #[test]
 fn appends_whole_queues(rt: HostRuntime) {
     let mut queues = QueueOfQueues::new(rt.alloc());
-    let good = [
-        (1, u32::MAX, QueueState::Ended, 65, 66),
-        (2, u32::MAX, QueueState::Cut, 0, 1),
-        (3, 7, QueueState::Cut, 0, 64),
-        (4, u32::MAX, QueueState::Open, 0, 0),
-    ];
-    for whole in good {
-        appends(&rt, &mut queues, whole, None);
-        appends(&rt, &mut queues, whole, Some(AppendError::AlreadyThere));
+    for whole in &GOOD {
+        appends(&rt, &mut queues, *whole, None);
+        appends(&rt, &mut queues, *whole, Some(AppendError::AlreadyThere));
     }
     takes_entry(&rt, &mut queues, (1, u32::MAX, true));
     takes_entry(&rt, &mut queues, (2, u32::MAX, false));

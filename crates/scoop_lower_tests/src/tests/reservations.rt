@@ -66,12 +66,7 @@ fn starting_is_refused_in_order(rt: HostRuntime) {
     }
 }
 
-fn is_due(
-    rt: &impl Abort,
-    reservation: &Reservation,
-    handler: HandlerId,
-    wanted: Option<Message>,
-) {
+fn is_due(rt: &impl Abort, reservation: &Reservation, handler: HandlerId, wanted: Option<Message>) {
     assert_eq!(rt; reservation.due(handler), wanted);
 }
 
@@ -184,16 +179,31 @@ fn unlocks_two(rt: &impl Abort, reservation: &mut Reservation) {
     is_due(rt, reservation, TWO, Some(Message::Unlock(TWO, BLOCK)));
     is_due(rt, reservation, THREE, None);
     hears(rt, reservation, &Message::Locked(TWO, BLOCK), Step::Ignored);
-    hears(rt, reservation, &Message::Unlocked(ONE, BLOCK), Step::Unlocked(ONE));
+    hears(
+        rt,
+        reservation,
+        &Message::Unlocked(ONE, BLOCK),
+        Step::Unlocked(ONE),
+    );
     assert!(rt; !reservation.is_gone());
-    hears(rt, reservation, &Message::Unlocked(TWO, BLOCK), Step::Unlocked(TWO));
+    hears(
+        rt,
+        reservation,
+        &Message::Unlocked(TWO, BLOCK),
+        Step::Unlocked(TWO),
+    );
     assert!(rt; reservation.is_gone() && !reservation.is_open());
 }
 
 #[test]
 fn giving_up_unlocks_the_one_asked_last(rt: HostRuntime) {
     let mut reservation = started(&rt, &[ONE, TWO, THREE]);
-    hears(&rt, &mut reservation, &Message::Locked(ONE, BLOCK), Step::Locked(ONE));
+    hears(
+        &rt,
+        &mut reservation,
+        &Message::Locked(ONE, BLOCK),
+        Step::Locked(ONE),
+    );
     gives_up(&rt, &mut reservation, Ok(()));
     gives_up(&rt, &mut reservation, Err(TooLate));
     is_at(&rt, &reservation, Stage::GivingUp);

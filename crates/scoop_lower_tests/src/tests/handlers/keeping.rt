@@ -1,8 +1,8 @@
 //! States that are kept and come back.
 
 use super::{
-    Act, Does, ELSEWHERE, HERE, Said, block, entry, fresh, has_word, hears, hears_one, object,
-    opened, restarted, runs, taken, with_state,
+    Act, Does, ELSEWHERE, HERE, Row, Said, block, entry, fresh, has_state, has_word, hears,
+    hears_one, object, opened, restarted, runs, taken, with_state,
 };
 use scoop_handler::{Handler, HandlerState, Mark, Reason, Stage, StateError};
 use scoop_message::{Answer, Block, HandlerId, Words};
@@ -23,7 +23,7 @@ fn early_and_late(rt: &impl Abort, alloc: Global) -> (Handler<Table>, Handler<Ta
 
 fn same(left: &Handler<Table>, right: &Handler<Table>) -> Option<bool> {
     let left = left.copy().ok()?;
-    Some(left.same(&right.copy().ok()?))
+    has_state(right, &left)
 }
 
 fn are_same(rt: &impl Abort, left: &Handler<Table>, right: &Handler<Table>, wanted: bool) {
@@ -292,29 +292,30 @@ fn is_bad(rt: &impl Abort, alloc: Global, row: usize, parts: Parts) {
     assert_eq!(rt; refused, Some(StateError::BadState), "row {row}");
 }
 
+const BAD: [Parts; 15] = [
+    (Some(8), Marked::Held, Marked::Open, Queued::Open),
+    (None, Marked::Open, Marked::Open, Queued::Open),
+    (Some(9), Marked::Open, Marked::Shut, Queued::Open),
+    (Some(8), Marked::Open, Marked::Shut, Queued::Open),
+    (None, Marked::Open, Marked::Held, Queued::Open),
+    (None, Marked::Open, Marked::Early, Queued::Open),
+    (None, Marked::Open, Marked::Ended, Queued::Open),
+    (None, Marked::Open, Marked::Kept, Queued::Open),
+    (None, Marked::Open, Marked::Empty, Queued::Open),
+    (None, Marked::Over, Marked::Shut, Queued::Open),
+    (None, Marked::Ahead, Marked::Shut, Queued::Open),
+    (None, Marked::Moved, Marked::Shut, Queued::Open),
+    (None, Marked::Moved, Marked::Shut, Queued::Cut),
+    (None, Marked::Moved, Marked::Shut, Queued::Above),
+    (None, Marked::Moved, Marked::Shut, Queued::Unknown),
+];
+
 #[test]
 fn states_that_none_has(rt: HostRuntime) {
     let good = (Some(8), Marked::Open, Marked::Held, Queued::Open);
     assert_eq!(rt; refusal(rt.alloc(), good), None);
-    let bad = [
-        (Some(8), Marked::Held, Marked::Open, Queued::Open),
-        (None, Marked::Open, Marked::Open, Queued::Open),
-        (Some(9), Marked::Open, Marked::Shut, Queued::Open),
-        (Some(8), Marked::Open, Marked::Shut, Queued::Open),
-        (None, Marked::Open, Marked::Held, Queued::Open),
-        (None, Marked::Open, Marked::Early, Queued::Open),
-        (None, Marked::Open, Marked::Ended, Queued::Open),
-        (None, Marked::Open, Marked::Kept, Queued::Open),
-        (None, Marked::Open, Marked::Empty, Queued::Open),
-        (None, Marked::Over, Marked::Shut, Queued::Open),
-        (None, Marked::Ahead, Marked::Shut, Queued::Open),
-        (None, Marked::Moved, Marked::Shut, Queued::Open),
-        (None, Marked::Moved, Marked::Shut, Queued::Cut),
-        (None, Marked::Moved, Marked::Shut, Queued::Above),
-        (None, Marked::Moved, Marked::Shut, Queued::Unknown),
-    ];
-    for (row, parts) in bad.into_iter().enumerate() {
-        is_bad(&rt, rt.alloc(), row, parts);
+    for (row, parts) in BAD.iter().enumerate() {
+        is_bad(&rt, rt.alloc(), row, *parts);
     }
 }
 
@@ -371,19 +372,34 @@ fn almost_full(alloc: Global) -> Option<HandlerState> {
     HandlerState::of(alloc, HERE, words, None, &[open], queues).ok()
 }
 
+const LAST: [Row; 3] = [
+    (
+        Act::Log(u32::MAX, Does::Add(1), Does::Nothing),
+        7,
+        1,
+        1,
+        Said::Dropped(Reason::NotOpen),
+    ),
+    (
+        Act::Log(u32::MAX, Does::Add(1), Does::End),
+        7,
+        1,
+        1,
+        Said::Dropped(Reason::NotOpen),
+    ),
+    (
+        Act::Log(u32::MAX, Does::End, Does::Nothing),
+        7,
+        1,
+        1,
+        Said::Took(u32::MAX),
+    ),
+];
+
 /// The highest number is kept for the End.
 #[test]
 fn the_last_number(rt: HostRuntime) {
     let mut handler = fresh(&rt, rt.alloc());
     takes_made(&rt, &mut handler, almost_full(rt.alloc()), true);
-    let call = Act::Log(u32::MAX, Does::Add(1), Does::Nothing);
-    let both = Act::Log(u32::MAX, Does::Add(1), Does::End);
-    let end = Act::Log(u32::MAX, Does::End, Does::Nothing);
-    let closed = Said::Dropped(Reason::NotOpen);
-    let rows = [
-        (call, 7, 1, 1, closed),
-        (both, 7, 1, 1, closed),
-        (end, 7, 1, 1, Said::Took(u32::MAX)),
-    ];
-    hears(&rt, &mut handler, &rows);
+    hears(&rt, &mut handler, &LAST);
 }

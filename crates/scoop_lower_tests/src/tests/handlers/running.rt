@@ -1,8 +1,8 @@
 //! What runs and when, jobs, and the limits.
 
 use super::{
-    Act, Does, HERE, Said, block, fresh, has_word, hears, hears_one, opened, opens, ran, restarted,
-    rests, runs, taken,
+    Act, Does, HERE, Said, block, fresh, has_state, has_word, hears, hears_one, opened, opens, ran,
+    restarted, rests, runs, taken,
 };
 use scoop_handler::{AfterError, Done, Handler, HandlerState, Job, Reason, StrangerJob};
 use scoop_message::Answer;
@@ -164,20 +164,13 @@ fn after<B: Behaviour>(handler: &Handler<B>, done: &Done<B>) -> Option<HandlerSt
     handler.after_finish(done).ok()
 }
 
-fn is_as_told(handler: &Handler<Table>, told: &HandlerState) -> bool {
-    match handler.copy() {
-        Ok(state) => told.same(&state),
-        Err(_) => false,
-    }
-}
-
 // The handler finishes the job, and has the state that was foretold.
 fn finishes_as_told(rt: &impl Abort, handler: &mut Handler<Table>, done: Done<Table>) {
     let Some(told) = after(handler, &done) else {
         panic!(rt; "no state is told");
     };
     finishes(rt, handler, done, 1);
-    assert!(rt; is_as_told(handler, &told));
+    assert_eq!(rt; has_state(handler, &told), Some(true));
 }
 
 /// The handler hears while its object is away.
