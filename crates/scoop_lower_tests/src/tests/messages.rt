@@ -1,5 +1,6 @@
 //! Words, arguments, entries and messages.
 
+use crate::tests::prints;
 use scoop_message::{
     Answer, Args, BadEntries, Block, ClientId, Entries, Entry, HandlerId, Message, OutOfMemory,
     Request, TooManyArgs, WordCount, Words, same_message, same_words,
@@ -173,15 +174,16 @@ fn names_are_ordered_by_their_fields_in_turn(rt: HostRuntime) {
 
 #[test]
 fn names_and_answers_are_printed(rt: HostRuntime) -> Result<(), Fail> {
-    let text = format!(in rt.alloc();
-        "{} {} {} {} {}",
-        HandlerId(1),
-        ClientId(7),
-        block(),
-        Answer::Refused,
-        Answer::Value(5)
-    )?;
-    assert_eq!(rt; text.as_str(), "1 7 7.2.3 refused 5");
+    prints(&rt, rt.alloc(), &HandlerId(1), "1")?;
+    prints(&rt, rt.alloc(), &ClientId(7), "7")?;
+    prints(&rt, rt.alloc(), &block(), "7.2.3")?;
+    prints(&rt, rt.alloc(), &Answer::Refused, "refused")?;
+    prints(&rt, rt.alloc(), &Answer::Value(5), "5")?;
+    Ok(())
+}
+
+#[test]
+fn faults_are_printed(rt: HostRuntime) -> Result<(), Fail> {
     let faults = format!(in rt.alloc(); "{TooManyArgs} {WordCount} {BadEntries} {OutOfMemory}")?;
     assert_eq!(rt;
         faults.as_str(),
