@@ -39,8 +39,8 @@ fn arguments_keep_their_limits(rt: HostRuntime) -> Result<(), Fail> {
     Ok(())
 }
 
-fn get() -> Option<Entry> {
-    let args = Args::of(&[]).ok()?;
+fn query(args: &[u64]) -> Option<Entry> {
+    let args = Args::of(args).ok()?;
     Some(Entry::Query(Request { op: 2, args }))
 }
 
@@ -67,7 +67,7 @@ fn are_four(rt: &impl Abort, entries: &Entries, four: &[Entry; 4]) {
 
 #[test]
 fn an_end_stands_only_last(rt: HostRuntime) {
-    let Some(get) = get() else {
+    let Some(get) = query(&[]) else {
         panic!(rt; "no entry");
     };
     are_bad(&rt, &[]);
@@ -134,7 +134,7 @@ fn what_is_the_same_is_told(rt: HostRuntime) {
 
 #[test]
 fn numbers_begin_at_one(rt: HostRuntime) {
-    let Some(get) = get() else {
+    let Some(get) = query(&[]) else {
         panic!(rt; "no entry");
     };
     let (end, two) = (made(&rt, &[Entry::End]), made(&rt, &[get, get]));
@@ -195,13 +195,19 @@ fn faults_are_printed(rt: HostRuntime) -> Result<(), Fail> {
 /// The example of the crate.
 #[test]
 fn a_message_is_made(rt: HostRuntime) -> Result<(), Fail> {
+    let block = Block {
+        client: ClientId(7),
+        inc: 2,
+        num: 3,
+    };
     // a query, and the End of the block's entries, as its first two entries at handler 1
     let args = Args::of(&[5])?;
     let get = Entry::Query(Request { op: 2, args });
-    let log = Message::Log(HandlerId(1), block(), 1, made(&rt, &[get, Entry::End]));
-    tells(&rt, &log, true);
+    let log = Message::Log(HandlerId(1), block, 1, Entries::of(&[get, Entry::End])?);
+    assert!(rt; log.for_handler() && log.fits());
+    assert_eq!(rt; (log.client(), log.inc()), (ClientId(7), 2));
     // the limits are kept: a request has four arguments at most, and an End stands only last
-    assert_eq!(rt; Args::of(&[0; 5]).err(), Some(TooManyArgs));
-    are_bad(&rt, &[Entry::End, get]);
+    assert_eq!(rt; Args::of(&[0; 5]), Err(TooManyArgs));
+    assert_eq!(rt; Entries::of(&[Entry::End, get]), Err(BadEntries));
     Ok(())
 }

@@ -86,13 +86,18 @@ fn each_bit_matters(rt: HostRuntime) {
     has_faults(&rt, &link, 0);
 }
 
+// Feeds so many of the first bytes.
+fn feeds_front(rt: &impl Abort, tape: &mut TapeLink, datagram: &[u8; 42], len: usize) {
+    feeds(rt, tape, &datagram[..len.min(42)]);
+}
+
 // Feeds forged and cut datagrams, and last a sealed one, and one whose sealed bytes are none.
 fn feeds_forged(rt: &impl Abort, tape: &mut TapeLink) {
     let datagram = sealed_with(&KEY);
     feeds(rt, tape, &sealed_with(&OTHER_KEY));
     feeds(rt, tape, &BYTES);
-    feeds(rt, tape, &datagram[..41]);
-    feeds(rt, tape, &datagram[..15]);
+    feeds_front(rt, tape, &datagram, 41);
+    feeds_front(rt, tape, &datagram, 15);
     feeds(rt, tape, &[]);
     feeds(rt, tape, &[3; 192]);
     feeds(rt, tape, &datagram);
