@@ -10,3 +10,15 @@ mod objects;
 mod queues;
 mod reservations;
 mod seals;
+
+use std::alloc::Global;
+use std::fmt::Display;
+use std::process::Abort;
+use std::test::Fail;
+
+/// The value is printed as this text.
+fn prints<T: Display>(rt: &impl Abort, alloc: Global, value: &T, text: &str) -> Result<(), Fail> {
+    let printed = format!(in alloc; "{value}")?;
+    assert_eq!(rt; printed.as_str(), text);
+    Ok(())
+}

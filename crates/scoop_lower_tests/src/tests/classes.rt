@@ -1,18 +1,17 @@
 //! The demo classes, and their native objects.
 
+use crate::tests::objects::{Step, restored, runs};
 use scoop_classes::{
     AccountObject, CellObject, CounterObject, DemoClass, ExchangeObject, demo_class,
 };
 use scoop_message::{Answer, Args, OutOfMemory, Request, Words};
-use scoop_object::{Behaviour, Boxed, Object, Table, WrongWords};
+use scoop_object::{Behaviour, Boxed, Class, Object, Table, WrongWords};
 use scoop_refusing::Refusing;
-use std::alloc::Global;
+use std::alloc::{Allocator, Global};
 use std::process::Abort;
 use std::test::Fail;
 
 const FULL: u64 = 18446744073709551615;
-
-type Step<'a> = (u16, &'a [u64], Answer, &'a [u64]);
 
 const CELL: [Step; 5] = [
     (1, &[5], Answer::Value(5), &[5]),
@@ -41,17 +40,39 @@ const EXCHANGE: [Step; 2] = [
     (1, &[2], Answer::Value(9), &[2, 9]),
 ];
 
-/// Runs requests of an operation with arguments, and compares the answers and the words.
-fn runs<B: Behaviour>(rt: &impl Abort, object: &mut B, steps: &[Step]) -> Result<(), Fail> {
-    for (op, args, answer, words) in steps {
-        let request = Request {
-            op: *op,
-            args: Args::of(args)?,
-        };
-        assert_eq!(rt; object.apply(&request), *answer, "op {op}");
-        assert_eq!(rt; object.words().as_slice(), *words, "op {op}");
+fn class(rt: &impl Abort, alloc: Global, name: &str) -> Class {
+    match demo_class(alloc, name) {
+        Ok(Some(class)) => class,
+        _ => panic!(rt; "no class"),
     }
-    Ok(())
+}
+
+fn copied(class: &Class, words: Words) -> Option<Table> {
+    let copy = class.copy().ok()?;
+    Table::new(copy, words).ok()
+}
+
+/// A table of a copy of the class of that name.
+fn table(rt: &impl Abort, alloc: Global, name: &str, words: Words) -> Table {
+    let class = class(rt, alloc, name);
+    let Some(table) = copied(&class, words) else {
+        panic!(rt; "no table");
+    };
+    table
+}
+
+/// The object is of the class of that name, and has as many words.
+fn is_of_class<B: Behaviour>(rt: &impl Abort, alloc: Global, object: &B, name: &str) {
+    let class = class(rt, alloc, name);
+    assert!(rt; object.has_class(&class), "{name}");
+    assert_eq!(rt; class.words(), object.words().len(), "{name}");
+}
+
+/// The object takes its own words, and no other number of words.
+fn takes_back<B: Behaviour>(rt: &impl Abort, object: &mut B, words: Words) {
+    assert_eq!(rt; restored(object, &[1, 2, 3]), Some(Err(WrongWords)));
+    assert_eq!(rt; object.restore(words), Ok(()));
+    assert_eq!(rt; object.words(), words);
 }
 
 /// A boxed object has the class of that name, runs the steps as a table of a copy of the class does,
@@ -62,59 +83,82 @@ fn behaves(
     name: &str,
     object: Box<dyn Object + Send>,
     steps: &[Step],
-) -> Result<(), Fail> {
+) {
     let mut object = Boxed::new(object);
     let words = object.words();
-    let class = demo_class(alloc, name)?.expect(rt, "it has a name");
-    assert!(rt; object.has_class(&class), "{name}");
-    assert_eq!(rt; class.words(), words.len(), "{name}");
-    runs(rt, &mut object, steps)?;
-    runs(rt, &mut Table::new(class.copy()?, words)?, steps)?;
-    assert_eq!(rt; object.restore(Words::of(&[1, 2, 3])?), Err(WrongWords));
-    assert_eq!(rt; object.restore(words), Ok(()));
-    assert_eq!(rt; object.words(), words);
-    Ok(())
+    is_of_class(rt, alloc, &object, name);
+    runs(rt, &mut object, steps);
+    runs(rt, &mut table(rt, alloc, name, words), steps);
+    takes_back(rt, &mut object, words);
+}
+
+/// What the account answers to a withdrawal.
+fn withdrawn(account: &mut AccountObject, amount: u64) -> Option<Answer> {
+    let args = Args::of(&[amount]).ok()?;
+    Some(account.apply(&Request { op: 2, args }))
 }
 
 #[test]
-fn an_account_gives_what_it_has(rt: HostRuntime) -> Result<(), Fail> {
-    let class = DemoClass::Account.class(rt.alloc())?;
+fn an_account_gives_what_it_has(rt: HostRuntime) {
+    let Ok(class) = DemoClass::Account.class(rt.alloc()) else {
+        panic!(rt; "no class");
+    };
     let mut account = AccountObject::new(100);
     assert!(rt; account.has_class(&class));
-    let args = Args::of(&[70])?;
-    let withdraw = Request { op: 2, args };
-    assert_eq!(rt; account.apply(&withdraw), Answer::Value(30));
-    assert_eq!(rt; account.apply(&withdraw), Answer::Refused);
-    Ok(())
+    assert_eq!(rt; withdrawn(&mut account, 70), Some(Answer::Value(30)));
+    assert_eq!(rt; withdrawn(&mut account, 70), Some(Answer::Refused));
 }
 
 #[test]
 fn native_objects_behave_as_their_classes(rt: HostRuntime) -> Result<(), Fail> {
     let alloc = rt.alloc();
     let cell = Box::new(alloc, CellObject::new(0))?;
-    behaves(&rt, alloc, "cell", cell, &CELL)?;
+    behaves(&rt, alloc, "cell", cell, &CELL);
     let counter = Box::new(alloc, CounterObject::new(FULL))?;
-    behaves(&rt, alloc, "counter", counter, &COUNTER)?;
+    behaves(&rt, alloc, "counter", counter, &COUNTER);
     let account = Box::new(alloc, AccountObject::new(100))?;
-    behaves(&rt, alloc, "account", account, &ACCOUNT)?;
+    behaves(&rt, alloc, "account", account, &ACCOUNT);
     let exchange = Box::new(alloc, ExchangeObject::new(4, 0))?;
-    behaves(&rt, alloc, "exchange", exchange, &EXCHANGE)?;
+    behaves(&rt, alloc, "exchange", exchange, &EXCHANGE);
     Ok(())
 }
 
+/// Whether there is a class of that name.
+fn has_class<A: Allocator>(alloc: A, name: &str) -> Result<bool, OutOfMemory> {
+    Ok(demo_class(alloc, name)?.is_some())
+}
+
+fn is_no_class(rt: &impl Abort, alloc: Global, name: &str) {
+    assert_eq!(rt; has_class(alloc, name), Ok(false), "{name}");
+}
+
+fn is_no_cell(rt: &impl Abort, alloc: Global, name: &str) {
+    let class = class(rt, alloc, name);
+    assert!(rt; !CellObject::new(0).has_class(&class));
+}
+
 #[test]
-fn classes_have_names(rt: HostRuntime) -> Result<(), Fail> {
-    let alloc = rt.alloc();
+fn classes_have_names(rt: HostRuntime) {
     for name in ["", "cel", "cells", "Cell", "counter "] {
-        assert!(rt; demo_class(alloc, name)?.is_none(), "{name}");
+        is_no_class(&rt, rt.alloc(), name);
     }
-    let counters = demo_class(alloc, "counter")?.expect(&rt, "it has a name");
-    assert!(rt; !CellObject::new(0).has_class(&counters));
-    let heap = Refusing::new(alloc, 1);
-    assert_eq!(rt; demo_class(&heap, "account").err(), Some(OutOfMemory));
-    assert!(rt; demo_class(&heap, "account")?.is_some());
-    assert!(rt; demo_class(&heap, "bogus")?.is_none());
-    Ok(())
+    is_no_cell(&rt, rt.alloc(), "counter");
+    let heap = Refusing::new(rt.alloc(), 1);
+    assert_eq!(rt; has_class(&heap, "account"), Err(OutOfMemory));
+    assert_eq!(rt; has_class(&heap, "account"), Ok(true));
+    assert_eq!(rt; has_class(&heap, "bogus"), Ok(false));
+}
+
+/// The name of the class that has this name.
+fn known(name: &str) -> Option<&'static str> {
+    match DemoClass::from_name(name) {
+        Some(class) => Some(class.name()),
+        None => None,
+    }
+}
+
+fn is_known(rt: &impl Abort, name: &str, wanted: Option<&str>) {
+    assert_eq!(rt; known(name), wanted, "{name}");
 }
 
 #[test]
@@ -124,9 +168,9 @@ fn knows_each_class_by_its_name(rt: HostRuntime) {
         ["cell", "counter", "account", "exchange"]
     );
     for name in DemoClass::names() {
-        assert_eq!(rt; DemoClass::from_name(name).map(DemoClass::name), Some(name));
+        is_known(&rt, name, Some(name));
     }
     for name in ["", "Cell", "cells", "bogus"] {
-        assert_eq!(rt; DemoClass::from_name(name), None);
+        is_known(&rt, name, None);
     }
 }

@@ -331,6 +331,16 @@ fn it_waits_for_an_answer(rt: HostRuntime) {
     is_due(&rt, &client, ONE, log_of_query(2, 1));
 }
 
+// The client ends its block, and handler 1 has all of it.
+fn ends(rt: &impl Abort, client: &mut Client) {
+    does(rt, client, Command::End);
+    is_at(rt, client, Phase::Ending);
+    is_due(rt, client, ONE, log(3, Entry::End));
+    is_logged(rt, client, 3, ClientNote::Acknowledged(ONE, 3));
+    is_at(rt, client, Phase::Idle);
+    has_block(rt, client, None);
+}
+
 #[test]
 fn an_answer_is_accepted_once(rt: HostRuntime) {
     let mut client = waiting(&rt, rt.alloc());
@@ -339,12 +349,7 @@ fn an_answer_is_accepted_once(rt: HostRuntime) {
     is_answered(&rt, &mut client, 1, 2, accepted);
     is_answered(&rt, &mut client, 1, 2, ClientNote::Ignored);
     is_due(&rt, &client, ONE, None);
-    does(&rt, &mut client, Command::End);
-    is_at(&rt, &client, Phase::Ending);
-    is_due(&rt, &client, ONE, log(3, Entry::End));
-    is_logged(&rt, &mut client, 3, ClientNote::Acknowledged(ONE, 3));
-    is_at(&rt, &client, Phase::Idle);
-    has_block(&rt, &client, None);
+    ends(&rt, &mut client);
 }
 
 fn is_due_lock(rt: &impl Abort, client: &Client, handler: HandlerId) {
@@ -476,11 +481,8 @@ fn goes_on(rt: &impl Abort, alloc: Global, last: u32, refusal: Option<ClientErro
         panic!(rt; "no client");
     };
     settle(&mut client);
-    assert_eq!(rt;
-        reserve_refusal(&mut client, &[ONE]),
-        refusal,
-        "after {last}"
-    );
+    let found = reserve_refusal(&mut client, &[ONE]);
+    assert_eq!(rt; found, refusal, "after {last}");
 }
 
 #[test]
@@ -496,6 +498,17 @@ fn begun_batched(alloc: Global, batch: u8) -> Option<Client>
     Client::begin_batched(alloc, SEVEN, 1, &[ONE], batch).ok()
 }
 
+// The client greets, and logs four calls and an End.
+fn calls_four_times(rt: &impl Abort, client: &mut Client) {
+    settle(client);
+    reserves(rt, client, &[ONE]);
+    settle(client);
+    for value in 0..4 {
+        does(rt, client, Command::Call(ONE, value));
+    }
+    does(rt, client, Command::End);
+}
+
 // A client that logs four calls and an End in batches.
 fn batched(rt: &impl Abort, alloc: Global, batch: u8) -> Client
     requires some { 1 ≤ batch }
@@ -505,13 +518,7 @@ fn batched(rt: &impl Abort, alloc: Global, batch: u8) -> Client
         panic!(rt; "no client");
     };
     assert_eq!(rt; client.batch(), batch);
-    settle(&mut client);
-    reserves(rt, &mut client, &[ONE]);
-    settle(&mut client);
-    for value in 0..4 {
-        does(rt, &mut client, Command::Call(ONE, value));
-    }
-    does(rt, &mut client, Command::End);
+    calls_four_times(rt, &mut client);
     client
 }
 
@@ -534,14 +541,19 @@ fn log_of_rest(batch: u8) -> Option<Message> {
     log_of_batch(4, &[Entry::Call(add(3)?), Entry::End], batch)
 }
 
+// The first entries are due, and the others once these have come.
+fn logs(rt: &impl Abort, client: &mut Client, batch: u8) {
+    is_due(rt, client, ONE, log_of_calls(batch));
+    client.hear(&Message::Logged(ONE, BLOCK, 3));
+    is_due(rt, client, ONE, log_of_rest(batch));
+}
+
 fn carries(rt: &impl Abort, alloc: Global, batch: u8)
     requires some { 1 ≤ batch }
     requires limit { batch ≤ 4 }
 {
     let mut client = batched(rt, alloc, batch);
-    is_due(rt, &client, ONE, log_of_calls(batch));
-    client.hear(&Message::Logged(ONE, BLOCK, 3));
-    is_due(rt, &client, ONE, log_of_rest(batch));
+    logs(rt, &mut client, batch);
     settle(&mut client);
     is_at(rt, &client, Phase::Idle);
 }
@@ -570,23 +582,27 @@ fn refusals_are_printed(rt: HostRuntime) -> Result<(), Fail> {
     Ok(())
 }
 
-/// The example of the crate.
-#[test]
-fn a_query_is_answered(rt: HostRuntime) -> Result<(), Fail> {
-    let alloc = rt.alloc();
-    let mut client = Client::begin(alloc, SEVEN, 1, &[ONE])?;
-    assert_eq!(rt; client.due(ONE), Some(Message::Hello(ONE, SEVEN, 1)));
-    client.hear(&Message::Welcome(ONE, SEVEN, 1));
-    client.reserve(&[ONE])?;
-    assert_eq!(rt; client.due(ONE), Some(Message::Lock(ONE, BLOCK)));
+// The handler locks and opens, and is free for the next block.
+fn is_held(client: &mut Client) {
     client.hear(&Message::Locked(ONE, BLOCK));
     client.hear(&Message::Opened(ONE, BLOCK));
     client.hear(&Message::Unlocked(ONE, BLOCK));
-    let args = Args::of(&[5])?;
-    client.query(ONE, Request { op: 2, args })?;
+}
+
+/// The example of the crate.
+#[test]
+fn a_query_is_answered(rt: HostRuntime) {
+    let Some(mut client) = begun(rt.alloc(), &[ONE]) else {
+        panic!(rt; "no client");
+    };
+    is_due(&rt, &client, ONE, Some(Message::Hello(ONE, SEVEN, 1)));
+    client.hear(&Message::Welcome(ONE, SEVEN, 1));
+    reserves(&rt, &mut client, &[ONE]);
+    is_due_lock(&rt, &client, ONE);
+    is_held(&mut client);
+    does(&rt, &mut client, Command::Query(ONE, 5));
     // a Log with the query, until its answer has come
-    assert!(rt; client.due(ONE).is_some());
-    let heard = client.hear(&Message::Answer(ONE, BLOCK, 1, Answer::Value(6)));
-    assert_eq!(rt; heard, ClientNote::Accepted(ONE, 1, Answer::Value(6)));
-    Ok(())
+    is_due(&rt, &client, ONE, log_of_query(1, 5));
+    let accepted = ClientNote::Accepted(ONE, 1, Answer::Value(6));
+    is_answered(&rt, &mut client, 1, 1, accepted);
 }

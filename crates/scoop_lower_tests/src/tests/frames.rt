@@ -2,6 +2,7 @@
 
 ghost use Rattle.std.specs.Prelude.{◌<◌, ◌≤◌, length};
 
+use crate::tests::prints;
 use scoop_frame::{
     FrameError, MAX_ANSWER, MAX_ENTRY, Version, answer_from, answer_to, decode, encode, entry_from,
     entry_to, reframed, same_frame,
@@ -80,7 +81,7 @@ fn is_refused(version: u8, kind: u8, rest: &[u8], fault: FrameError) -> bool {
     decode(&frame[..20 + rest.len()]) == Err(fault)
 }
 
-// Whether each proper prefix of the message's frame is refused by its length.
+// Whether each proper prefix of the message's frame is refused by its length, and the message is read from the whole.
 fn prefixes_are_refused(version: Version, message: &Message) -> bool {
     if !message.fits() || !version.carries(message) {
         return false;
@@ -428,60 +429,46 @@ fn answer_again(answer: &Answer, cut: usize) -> Option<(Answer, usize)> {
     answer_from(&buffer[..len.saturating_sub(cut)])
 }
 
+// The answer is written so, and read again.
+fn has_bytes(rt: &impl Abort, answer: &Answer, bytes: [u8; 2], len: usize) {
+    assert_eq!(rt; answer_bytes(answer), (bytes, len));
+    assert_eq!(rt; answer_again(answer, 0), Some((*answer, len)));
+}
+
 #[test]
 fn answers_are_bytes(rt: HostRuntime) {
-    assert_eq!(rt; answer_bytes(&Answer::Refused), ([0, 0xee], 1));
-    assert_eq!(rt; answer_bytes(&Answer::Value(5)), ([1, 0], 9));
-    assert_eq!(rt;
-        answer_again(&Answer::Refused, 0),
-        Some((Answer::Refused, 1))
-    );
-    assert_eq!(rt;
-        answer_again(&Answer::Value(5), 0),
-        Some((Answer::Value(5), 9))
-    );
+    has_bytes(&rt, &Answer::Refused, [0, 0xee], 1);
+    has_bytes(&rt, &Answer::Value(5), [1, 0], 9);
     assert_eq!(rt; answer_again(&Answer::Value(5), 1), None);
     assert_eq!(rt; answer_from(&[2]), None);
 }
 
+const FAULTS: [(FrameError, &str); 8] = [
+    (FrameError::Short, "Short"),
+    (FrameError::BadMagic, "BadMagic"),
+    (FrameError::BadVersion(9), "BadVersion 9"),
+    (FrameError::BadKind(13), "BadKind 13"),
+    (FrameError::LengthWrong, "LengthWrong"),
+    (FrameError::FieldNotZero, "FieldNotZero"),
+    (FrameError::FieldZero, "FieldZero"),
+    (FrameError::BadBody, "BadBody"),
+];
+
 #[test]
 fn faults_are_told_by_name(rt: HostRuntime) -> Result<(), Fail> {
-    let first = format!(in rt.alloc();
-        "{} {} {} {}",
-        FrameError::Short,
-        FrameError::BadMagic,
-        FrameError::BadVersion(9),
-        FrameError::BadKind(13)
-    )?;
-    assert_eq!(rt; first.as_str(), "Short BadMagic BadVersion 9 BadKind 13");
-    let second = format!(in rt.alloc();
-        "{} {} {} {}",
-        FrameError::LengthWrong,
-        FrameError::FieldNotZero,
-        FrameError::FieldZero,
-        FrameError::BadBody
-    )?;
-    assert_eq!(rt;
-        second.as_str(),
-        "LengthWrong FieldNotZero FieldZero BadBody"
-    );
+    for (fault, text) in &FAULTS {
+        prints(&rt, rt.alloc(), fault, text)?;
+    }
     Ok(())
 }
 
 /// The example of the crate.
 #[test]
-fn a_greeting_is_framed(rt: HostRuntime) -> Result<(), Fail> {
+fn a_greeting_is_framed(rt: HostRuntime) {
+    // each message that fits has a frame of version 2, and is read from it
     let hello = Message::Hello(HandlerId(1), ClientId(7), 2);
-    // each message that fits has a frame of version 2
-    if !hello.fits() || !Version::Two.carries(&hello) {
-        return Err("no frame".into());
-    }
-    let mut buffer = [0; BUFFER_LEN];
-    let len = encode(Version::Two, &hello, &mut buffer);
-    assert_eq!(rt; len, 26);
-    assert_eq!(rt; decode(&buffer[..len]), Ok((Version::Two, hello)));
+    assert_eq!(rt; length(Version::Two, &hello), Some(26));
     // what is no frame is refused, and says why
-    assert_eq!(rt; decode(&buffer[..len - 1]), Err(FrameError::Short));
-    assert_eq!(rt; decode(b"no frame"), Err(FrameError::Short));
-    Ok(())
+    assert!(rt; prefixes_are_refused(Version::Two, &hello));
+    is_told(&rt, b"no frame", FrameError::Short);
 }

@@ -11,7 +11,6 @@ use scoop_message::{
 use scoop_object::{Behaviour, Class, OpRow, Table, Term, Write, Writes};
 use std::alloc::Global;
 use std::process::Abort;
-use std::test::Fail;
 
 const HERE: HandlerId = HandlerId(1);
 
@@ -77,39 +76,45 @@ fn block(client: u32, inc: u32, num: u32) -> Block {
 }
 
 /// An operation that makes the word the sum of two terms, and answers it.
-fn row(op: u16, base: Term, plus: Term) -> Result<OpRow, Fail> {
+fn row(op: u16, base: Term, plus: Term) -> Option<OpRow> {
     let write = Write {
         word: 0,
         base,
         plus,
         minus: Term::Const(0),
     };
-    Ok(OpRow {
+    Some(OpRow {
         op,
         test: None,
-        writes: Writes::of(&[write])?,
+        writes: Writes::of(&[write]).ok()?,
         answer: Term::Word(0),
     })
 }
 
 /// The class of an object with one word, which can be set and added to.
-fn class(alloc: Global) -> Result<Class, Fail> {
+fn class(alloc: Global) -> Option<Class> {
     let set = row(SET, Term::Arg(0), Term::Const(0))?;
     let add = row(ADD, Term::Word(0), Term::Arg(0))?;
-    Ok(Class::build(alloc, 1, &[set, add])?)
+    Class::build(alloc, 1, &[set, add]).ok()
 }
 
 /// An object of that class, whose word is 0.
-fn object(alloc: Global) -> Result<Table, Fail> {
-    Ok(Table::new(class(alloc)?, Words::of(&[0])?)?)
+fn object(alloc: Global) -> Option<Table> {
+    let words = Words::of(&[0]).ok()?;
+    Table::new(class(alloc)?, words).ok()
 }
 
 /// A handler with such an object, which nobody has greeted.
-fn fresh(alloc: Global) -> Result<Handler<Table>, Fail> {
-    match Handler::new(alloc, HERE, class(alloc)?, object(alloc)?) {
-        Ok(handler) => Ok(handler),
-        Err(_) => Err("wrong class".into()),
-    }
+fn made(alloc: Global) -> Option<Handler<Table>> {
+    let object = object(alloc)?;
+    Handler::new(alloc, HERE, class(alloc)?, object).ok()
+}
+
+fn fresh(rt: &impl Abort, alloc: Global) -> Handler<Table> {
+    let Some(handler) = made(alloc) else {
+        panic!(rt; "no handler");
+    };
+    handler
 }
 
 fn request(op: u16, argument: u64) -> Option<Request> {
@@ -222,13 +227,13 @@ fn opens(rt: &impl Abort, handler: &mut Handler<Table>, client: u32, num: u32) {
 }
 
 /// A handler at which the first blocks of these clients have opened.
-fn opened(rt: &impl Abort, alloc: Global, clients: &[u32]) -> Result<Handler<Table>, Fail> {
-    let mut handler = fresh(alloc)?;
+fn opened(rt: &impl Abort, alloc: Global, clients: &[u32]) -> Handler<Table> {
+    let mut handler = fresh(rt, alloc);
     for client in clients {
         hears_one(rt, &mut handler, (Act::Hello, *client, 1, 0, Said::Greeted));
         opens(rt, &mut handler, *client, 1);
     }
-    Ok(handler)
+    handler
 }
 
 /// The block, the number and the answer of the entry that the handler runs next.
@@ -271,6 +276,12 @@ fn has_word(rt: &impl Abort, handler: &Handler<Table>, word: u64) {
     assert_eq!(rt; words.as_slice(), [word].as_slice());
 }
 
+/// Whether the handler's state is this one, where memory suffices to tell.
+fn has_state(handler: &Handler<Table>, state: &HandlerState) -> Option<bool> {
+    let own = handler.copy().ok()?;
+    Some(own.same(state))
+}
+
 /// The handler has nothing to run, and its object has this word.
 fn rests(rt: &impl Abort, handler: &mut Handler<Table>, word: u64) {
     assert_eq!(rt; ran(handler), None);
@@ -281,43 +292,49 @@ fn restart<B: Behaviour>(class: Class, object: B, state: HandlerState) -> Option
     Handler::restart(class, object, state).ok()
 }
 
+fn with_state(alloc: Global, state: HandlerState) -> Option<Handler<Table>> {
+    let object = object(alloc)?;
+    restart(class(alloc)?, object, state)
+}
+
 /// A handler with another's state, and an object that is made anew.
-fn restarted(alloc: Global, before: &Handler<Table>) -> Result<Handler<Table>, Fail> {
-    let (class, object) = (class(alloc)?, object(alloc)?);
-    match restart(class, object, before.copy()?) {
-        Some(handler) => Ok(handler),
-        None => Err("wrong class".into()),
-    }
+fn restarted(rt: &impl Abort, alloc: Global, before: &Handler<Table>) -> Handler<Table> {
+    let Ok(state) = before.copy() else {
+        panic!(rt; "no memory");
+    };
+    let Some(handler) = with_state(alloc, state) else {
+        panic!(rt; "no handler");
+    };
+    handler
 }
 
 /// The handler's next job, with which its object leaves.
-fn taken(handler: &mut Handler<Table>) -> Result<Job<Table>, Fail> {
-    match handler.begin() {
-        Some(job) => Ok(job),
-        None => Err("no job".into()),
-    }
+fn taken(rt: &impl Abort, handler: &mut Handler<Table>) -> Job<Table> {
+    let Some(job) = handler.begin() else {
+        panic!(rt; "no job");
+    };
+    job
 }
 
-/// The example of the crate.
-#[test]
-fn a_query_is_run(rt: HostRuntime) -> Result<(), Fail> {
-    let alloc = rt.alloc();
-    let (class, object, block) = (class(alloc)?, object(alloc)?, block(7, 1, 1));
+const QUERY: [Row; 5] = [
+    (Act::Hello, 7, 1, 0, Said::Greeted),
+    (Act::Lock, 7, 1, 1, Said::Granted),
+    (Act::Open, 7, 1, 1, Said::Opened),
+    (Act::Unlock, 7, 1, 1, Said::Freed),
+    (
+        Act::Log(1, Does::Ask(5), Does::Nothing),
+        7,
+        1,
+        1,
+        Said::Took(1),
+    ),
+];
 
+/// The example of the crate: a block opens, and its query is logged and run.
+#[test]
+fn a_query_is_run(rt: HostRuntime) {
     // the object has one word, which is 0, and the operation ADD of its class adds to it
-    let mut handler = Handler::new(alloc, HERE, class, object)
-        .ok()
-        .ok_or("another class")?;
-    let greeted = handler.hear(&Message::Hello(HERE, ClientId(7), 1))?;
-    assert_eq!(rt; greeted.reply, Some(Message::Welcome(HERE, ClientId(7), 1)));
-    handler.hear(&Message::Lock(HERE, block))?;
-    handler.hear(&Message::Open(HERE, block))?;
-    handler.hear(&Message::Unlock(HERE, block))?;
-    let args = Args::of(&[5])?;
-    let query = Entries::of(&[Entry::Query(Request { op: ADD, args })])?;
-    let logged = handler.hear(&Message::Log(HERE, block, 1, query))?;
-    assert_eq!(rt; logged.note, Note::Took(1));
-    let ran = handler.run().ok_or("nothing to run")?;
-    assert_eq!(rt; ran.answer, Some(Answer::Value(5)));
-    Ok(())
+    let mut handler = fresh(&rt, rt.alloc());
+    hears(&rt, &mut handler, &QUERY);
+    runs(&rt, &mut handler, 7, &[(1, Some(5))]);
 }

@@ -8,15 +8,29 @@ mod scripts;
 mod sockets;
 mod tapes;
 
-use scoop_link::{Datagram, Link, LinkFault, OpenLinkError, Party, Script, ScriptLink};
+use scoop_link::{Datagram, Link, LinkFault, OpenLinkError, Party, Script, ScriptLink, TapeLink};
 use scoop_message::limits::BUFFER_LEN;
-use scoop_message::{ClientId, HandlerId};
+use scoop_message::{ClientId, HandlerId, OutOfMemory};
+use std::alloc::Global;
 use std::process::Abort;
 use std::test::Fail;
 
 pub(crate) const CLIENT: Party = Party::Client(ClientId(7));
 
 pub(crate) const HANDLER: Party = Party::Handler(HandlerId(7));
+
+/// A tape with this much room.
+pub(crate) fn tape(rt: &impl Abort, alloc: Global, room: usize) -> TapeLink {
+    match TapeLink::new(alloc, room) {
+        Ok(tape) => tape,
+        Err(OutOfMemory) => panic!(rt; "no tape"),
+    }
+}
+
+/// The tape will give these bytes behind what it was fed before.
+pub(crate) fn feeds(rt: &impl Abort, tape: &mut TapeLink, bytes: &[u8]) {
+    assert!(rt; tape.feed(bytes).is_ok());
+}
 
 /// The link sends these bytes.
 pub(crate) fn sends<L: Link>(rt: &impl Abort, link: &mut L, to: Party, bytes: &[u8]) {
@@ -99,21 +113,18 @@ fn parties_differ_by_kind_and_number(rt: HostRuntime) {
 /// The example of the crate.
 #[test]
 fn a_script_drops_and_doubles(rt: HostRuntime) -> Result<(), Fail> {
-    let alloc = rt.alloc();
     // of what the client sends each third datagram is lost, and each second one comes twice
     let lossy = Script {
         drop_every: 3,
         double_every: 2,
         fail_at: 0,
     };
-    let (mut client, mut node) = ScriptLink::pair(alloc, lossy, Script::default(), 16)?;
+    let (mut client, mut node) = ScriptLink::pair(rt.alloc(), lossy, Script::default(), 16)?;
     for byte in 1..=4u8 {
-        client.send(HANDLER, &[byte])?;
+        sends(&rt, &mut client, HANDLER, &[byte]);
     }
-    let mut buffer = [0; BUFFER_LEN];
     for byte in [1, 2, 2, 4, 4] {
-        assert_eq!(rt; node.receive(&mut buffer), Ok(Some(1)));
-        assert_eq!(rt; buffer[0], byte);
+        gets(&rt, &mut node, Some((1, byte)));
     }
     Ok(())
 }

@@ -1,9 +1,11 @@
 //! Words, arguments, entries and messages.
 
+use crate::tests::prints;
 use scoop_message::{
     Answer, Args, BadEntries, Block, ClientId, Entries, Entry, HandlerId, Message, OutOfMemory,
     Request, TooManyArgs, WordCount, Words, same_message, same_words,
 };
+use std::process::Abort;
 use std::test::Fail;
 
 fn block() -> Block {
@@ -15,16 +17,21 @@ fn block() -> Block {
 }
 
 #[test]
-fn short_lists_keep_their_limits(rt: HostRuntime) -> Result<(), Fail> {
+fn words_keep_their_limits(rt: HostRuntime) {
     let numbers = [9; 17];
-    assert_eq!(rt; Words::of(&[]), Err(WordCount));
-    assert_eq!(rt; Words::of(&numbers), Err(WordCount));
-    let mut words = Words::of(&numbers[..16])?;
-    assert_eq!(rt; words.len(), 16);
-    assert!(rt; words.as_slice().len() == 16);
+    assert_eq!(rt; Words::of(&[]).err(), Some(WordCount));
+    assert_eq!(rt; Words::of(&numbers).err(), Some(WordCount));
+    let Ok(mut words) = Words::of(&numbers[..16]) else {
+        panic!(rt; "no words");
+    };
+    assert_eq!(rt; (words.len(), words.as_slice().len()), (16, 16));
     words.set(15, 4);
     assert_eq!(rt; (words.get(15), words.get(16)), (Some(4), None));
-    assert_eq!(rt; Args::of(&numbers[..5]), Err(TooManyArgs));
+}
+
+#[test]
+fn arguments_keep_their_limits(rt: HostRuntime) -> Result<(), Fail> {
+    assert_eq!(rt; Args::of(&[9; 5]).err(), Some(TooManyArgs));
     assert!(rt; Args::of(&[])?.is_empty());
     let args = Args::of(&[1, 2, 3, 4])?;
     assert_eq!(rt; (args.len(), args.get(3), args.get(4)), (4, Some(4), None));
@@ -32,30 +39,66 @@ fn short_lists_keep_their_limits(rt: HostRuntime) -> Result<(), Fail> {
     Ok(())
 }
 
-#[test]
-fn an_end_stands_only_last(rt: HostRuntime) -> Result<(), Fail> {
-    let get = Entry::Query(Request {
-        op: 2,
-        args: Args::of(&[])?,
-    });
-    assert_eq!(rt; Entries::of(&[]), Err(BadEntries));
-    assert_eq!(rt; Entries::of(&[get; 5]), Err(BadEntries));
-    assert_eq!(rt; Entries::of(&[Entry::End, get]), Err(BadEntries));
-    let entries = Entries::of(&[get, get, get, Entry::End])?;
+fn query(args: &[u64]) -> Option<Entry> {
+    let args = Args::of(args).ok()?;
+    Some(Entry::Query(Request { op: 2, args }))
+}
+
+fn made(rt: &impl Abort, entries: &[Entry]) -> Entries {
+    match Entries::of(entries) {
+        Ok(entries) => entries,
+        Err(BadEntries) => panic!(rt; "no entries"),
+    }
+}
+
+fn are_bad(rt: &impl Abort, entries: &[Entry]) {
+    assert_eq!(rt; Entries::of(entries).err(), Some(BadEntries));
+}
+
+// The entries are these four.
+fn are_four(rt: &impl Abort, entries: &Entries, four: &[Entry; 4]) {
     assert_eq!(rt; entries.len(), 4);
     assert_eq!(rt;
         (entries.get(0), entries.get(3), entries.get(4)),
-        (Some(get), Some(Entry::End), None)
+        (Some(four[0]), Some(four[3]), None)
     );
-    assert_eq!(rt; entries.as_slice(), [get, get, get, Entry::End].as_slice());
-    assert!(rt; entries != Entries::of(&[Entry::End])?);
-    assert!(rt; get.is_query() && !get.is_end() && Entry::End.is_end());
-    Ok(())
+    assert_eq!(rt; entries.as_slice(), four.as_slice());
 }
 
 #[test]
-fn messages_tell_what_they_name(rt: HostRuntime) -> Result<(), Fail> {
-    let end = Entries::of(&[Entry::End])?;
+fn an_end_stands_only_last(rt: HostRuntime) {
+    let Some(get) = query(&[]) else {
+        panic!(rt; "no entry");
+    };
+    are_bad(&rt, &[]);
+    are_bad(&rt, &[get; 5]);
+    are_bad(&rt, &[Entry::End, get]);
+    let four = [get, get, get, Entry::End];
+    are_four(&rt, &made(&rt, &four), &four);
+    assert!(rt; made(&rt, &four) != made(&rt, &[Entry::End]));
+    assert!(rt; get.is_query() && !get.is_end() && Entry::End.is_end());
+}
+
+// The handler, the client and the incarnation of a message, whether it is for a handler, and whether it fits.
+fn told(message: &Message) -> (HandlerId, ClientId, u32, bool, bool) {
+    (
+        message.handler(),
+        message.client(),
+        message.inc(),
+        message.for_handler(),
+        message.fits(),
+    )
+}
+
+fn tells(rt: &impl Abort, message: &Message, for_handler: bool) {
+    let wanted = (HandlerId(1), ClientId(7), 2, for_handler, true);
+    assert_eq!(rt; told(message), wanted, "{message:?}");
+    assert!(rt; same_message(message, message), "{message:?}");
+}
+
+#[test]
+fn messages_tell_what_they_name(rt: HostRuntime) {
+    let end = made(&rt, &[Entry::End]);
     let kinds = [
         (Message::Hello(HandlerId(1), ClientId(7), 2), true),
         (Message::Welcome(HandlerId(1), ClientId(7), 2), false),
@@ -74,26 +117,27 @@ fn messages_tell_what_they_name(rt: HostRuntime) -> Result<(), Fail> {
         ),
     ];
     for (message, for_handler) in kinds {
-        assert_eq!(rt; message.handler(), HandlerId(1), "{message:?}");
-        assert_eq!(rt; message.client(), ClientId(7), "{message:?}");
-        assert_eq!(rt; message.inc(), 2, "{message:?}");
-        assert_eq!(rt; message.for_handler(), for_handler, "{message:?}");
-        assert!(rt; message.fits(), "{message:?}");
-        assert!(rt; same_message(&message, &message), "{message:?}");
+        tells(&rt, &message, for_handler);
     }
-    let lock = Message::Lock(HandlerId(1), block());
-    assert!(rt; !same_message(&lock, &Message::Locked(HandlerId(1), block())));
-    assert!(rt; same_words(&Words::of(&[5])?, &Words::of(&[5])?));
-    Ok(())
 }
 
 #[test]
-fn numbers_begin_at_one(rt: HostRuntime) -> Result<(), Fail> {
-    let end = Entries::of(&[Entry::End])?;
-    let get = Entry::Query(Request {
-        op: 2,
-        args: Args::of(&[])?,
-    });
+fn what_is_the_same_is_told(rt: HostRuntime) {
+    let lock = Message::Lock(HandlerId(1), block());
+    let locked = Message::Locked(HandlerId(1), block());
+    assert!(rt; !same_message(&lock, &locked));
+    let Ok(words) = Words::of(&[5]) else {
+        panic!(rt; "no words");
+    };
+    assert!(rt; same_words(&words, &words));
+}
+
+#[test]
+fn numbers_begin_at_one(rt: HostRuntime) {
+    let Some(get) = query(&[]) else {
+        panic!(rt; "no entry");
+    };
+    let (end, two) = (made(&rt, &[Entry::End]), made(&rt, &[get, get]));
     let unnumbered = Block { num: 0, ..block() };
     let unborn = Block { inc: 0, ..block() };
     assert!(rt; block().is_numbered() && !unnumbered.is_numbered() && !unborn.is_numbered());
@@ -102,14 +146,13 @@ fn numbers_begin_at_one(rt: HostRuntime) -> Result<(), Fail> {
         Message::Lock(HandlerId(1), unnumbered),
         Message::Opened(HandlerId(1), unborn),
         Message::Log(HandlerId(1), block(), 0, end),
-        Message::Log(HandlerId(1), block(), u32::MAX, Entries::of(&[get, get])?),
+        Message::Log(HandlerId(1), block(), u32::MAX, two),
         Message::Logged(HandlerId(1), block(), 0),
         Message::Answer(HandlerId(1), unnumbered, 1, Answer::Value(5)),
     ] {
         assert!(rt; !misfit.fits(), "{misfit:?}");
     }
     assert!(rt; Message::Log(HandlerId(1), block(), u32::MAX, end).fits());
-    Ok(())
 }
 
 #[test]
@@ -131,15 +174,16 @@ fn names_are_ordered_by_their_fields_in_turn(rt: HostRuntime) {
 
 #[test]
 fn names_and_answers_are_printed(rt: HostRuntime) -> Result<(), Fail> {
-    let text = format!(in rt.alloc();
-        "{} {} {} {} {}",
-        HandlerId(1),
-        ClientId(7),
-        block(),
-        Answer::Refused,
-        Answer::Value(5)
-    )?;
-    assert_eq!(rt; text.as_str(), "1 7 7.2.3 refused 5");
+    prints(&rt, rt.alloc(), &HandlerId(1), "1")?;
+    prints(&rt, rt.alloc(), &ClientId(7), "7")?;
+    prints(&rt, rt.alloc(), &block(), "7.2.3")?;
+    prints(&rt, rt.alloc(), &Answer::Refused, "refused")?;
+    prints(&rt, rt.alloc(), &Answer::Value(5), "5")?;
+    Ok(())
+}
+
+#[test]
+fn faults_are_printed(rt: HostRuntime) -> Result<(), Fail> {
     let faults = format!(in rt.alloc(); "{TooManyArgs} {WordCount} {BadEntries} {OutOfMemory}")?;
     assert_eq!(rt;
         faults.as_str(),

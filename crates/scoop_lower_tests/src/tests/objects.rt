@@ -90,7 +90,8 @@ fn exchange_of(alloc: Global, word: u64) -> Option<Table> {
     table(built(alloc, 2, &[exchange()?])?, &[word, 0])
 }
 
-type Step<'a> = (u16, &'a [u64], Answer, &'a [u64]);
+/// An operation, its arguments, its answer and the object's words behind it.
+pub(crate) type Step<'a> = (u16, &'a [u64], Answer, &'a [u64]);
 
 fn request(op: u16, args: &[u64]) -> Option<Request> {
     let args = Args::of(args).ok()?;
@@ -107,20 +108,24 @@ fn has_words<B: Behaviour>(rt: &impl Abort, object: &B, wanted: &[u64]) {
     assert_eq!(rt; words.as_slice(), wanted);
 }
 
-/// Runs a request of an operation with arguments, and compares the answer and the words.
 fn runs_one<B: Behaviour>(rt: &impl Abort, object: &mut B, step: Step) {
     let (op, args, wanted, words) = step;
     assert_eq!(rt; answer(object, op, args), Some(wanted), "op {op}");
     has_words(rt, object, words);
 }
 
-fn runs<B: Behaviour>(rt: &impl Abort, object: Option<B>, steps: &[Step]) {
-    let Some(mut object) = object else {
-        panic!(rt; "no object");
-    };
+/// Runs requests of an operation with arguments, and compares the answers and the words.
+pub(crate) fn runs<B: Behaviour>(rt: &impl Abort, object: &mut B, steps: &[Step]) {
     for step in steps {
-        runs_one(rt, &mut object, *step);
+        runs_one(rt, object, *step);
     }
+}
+
+fn runs_table(rt: &impl Abort, table: Option<Table>, steps: &[Step]) {
+    let Some(mut table) = table else {
+        panic!(rt; "no table");
+    };
+    runs(rt, &mut table, steps);
 }
 
 const ACCOUNT: [Step; 6] = [
@@ -141,9 +146,9 @@ const EXCHANGE: [Step; 2] = [
 
 #[test]
 fn tables_run_their_rows(rt: HostRuntime) {
-    runs(&rt, account_of(rt.alloc(), 100), &ACCOUNT);
-    runs(&rt, counter_of(rt.alloc(), FULL), &COUNTER);
-    runs(&rt, exchange_of(rt.alloc(), 4), &EXCHANGE);
+    runs_table(&rt, account_of(rt.alloc(), 100), &ACCOUNT);
+    runs_table(&rt, counter_of(rt.alloc(), FULL), &COUNTER);
+    runs_table(&rt, exchange_of(rt.alloc(), 4), &EXCHANGE);
 }
 
 /// An object of a class without operations, as a type of its own.
@@ -185,8 +190,11 @@ impl Object for Stone {
     }
 }
 
-// What refuses words to the object.
-fn restored<B: Behaviour>(object: &mut B, words: &[u64]) -> Option<Result<(), WrongWords>> {
+/// What refuses words to the object.
+pub(crate) fn restored<B: Behaviour>(
+    object: &mut B,
+    words: &[u64],
+) -> Option<Result<(), WrongWords>> {
     let words = Words::of(words).ok()?;
     Some(object.restore(words))
 }
@@ -241,13 +249,18 @@ fn boxes_are_objects(rt: HostRuntime) -> Result<(), Fail> {
 
 #[test]
 fn equal_objects_answer_alike(rt: HostRuntime) -> Result<(), Fail> {
-    let class = Class::build(rt.alloc(), 1, &[])?;
-    let mut table = Table::new(class, Words::of(&[7])?)?;
-    let stone: Box<dyn Object + Send> = Box::new(rt.alloc(), Stone { weight: 7 })?;
-    let mut boxed = Boxed::new(stone);
     let request = Request {
         op: 1,
         args: Args::of(&[])?,
+    };
+    let words = Words::of(&[7])?;
+    let stone: Box<dyn Object + Send> = Box::new(rt.alloc(), Stone { weight: 7 })?;
+    let mut boxed = Boxed::new(stone);
+    let Ok(class) = Class::build(rt.alloc(), 1, &[]) else {
+        panic!(rt; "no class");
+    };
+    let Ok(mut table) = Table::new(class, words) else {
+        panic!(rt; "no table");
     };
     let answers = apply_both(&mut table, &mut boxed, &request);
     assert_eq!(rt; answers, (Answer::Refused, Answer::Refused));
@@ -438,9 +451,9 @@ fn a_counter_adds(rt: HostRuntime) -> Result<(), Fail> {
         writes: Writes::of(&[add])?,
         answer: Term::Word(0),
     };
+    let (words, args) = (Words::of(&[5])?, Args::of(&[2])?);
     let class = Class::build(rt.alloc(), 1, &[row])?;
-    let mut counter = Table::new(class, Words::of(&[5])?)?;
-    let args = Args::of(&[2])?;
+    let mut counter = Table::new(class, words)?;
     assert_eq!(rt; counter.apply(&Request { op: 1, args }), Answer::Value(7));
     Ok(())
 }

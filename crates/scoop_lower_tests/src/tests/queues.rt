@@ -8,7 +8,6 @@ use scoop_message::{Args, Block, ClientId, Entries, Entry, Request};
 use scoop_queue::{AppendError, Head, OpenQueueError, PutError, QueueOfQueues, QueueState};
 use std::alloc::{Allocator, Global};
 use std::process::Abort;
-use std::test::Fail;
 
 fn block(num: u32) -> Block {
     Block {
@@ -192,6 +191,15 @@ fn is_at(rt: &impl Abort, queues: &QueueOfQueues, i: usize, j: usize, entry: Opt
     assert_eq!(rt; queues.entry(i, j), entry, "{i} {j}");
 }
 
+const PUTS: [Row; 6] = [
+    (1, Given::One, None, 61),
+    (1, Given::Four, Some(PutError::PendingFull), 61),
+    (1, Given::OneAndEnd, None, 63),
+    (1, Given::One, Some(PutError::Ended), 63),
+    (2, Given::Four, None, MAX_PENDING),
+    (2, Given::One, Some(PutError::PendingFull), 64),
+];
+
 #[test]
 fn puts_64_entries(rt: HostRuntime) {
     let mut queues = QueueOfQueues::new(rt.alloc());
@@ -202,15 +210,7 @@ fn puts_64_entries(rt: HostRuntime) {
     );
     fills(&rt, &mut queues, 1);
     fills(&rt, &mut queues, 2);
-    let rows = [
-        (1, Given::One, None, 61),
-        (1, Given::Four, Some(PutError::PendingFull), 61),
-        (1, Given::OneAndEnd, None, 63),
-        (1, Given::One, Some(PutError::Ended), 63),
-        (2, Given::Four, None, MAX_PENDING),
-        (2, Given::One, Some(PutError::PendingFull), 64),
-    ];
-    puts(&rt, &mut queues, &rows);
+    puts(&rt, &mut queues, &PUTS);
     is_at(&rt, &queues, 0, 62, Some(Entry::End));
     is_at(&rt, &queues, 0, 63, None);
     is_at(&rt, &queues, 2, 0, None);
@@ -276,33 +276,34 @@ fn goes_on(rt: &impl Abort, queues: &mut QueueOfQueues, turn: Turn) {
     has_count(rt, queues, count);
 }
 
+const SCRIPT: [Turn; 20] = [
+    (Step::Open(1), None, 1),
+    (Step::Open(2), None, 2),
+    (Step::Put(2), None, 2),
+    (Step::Take, None, 2),
+    (Step::Put(1), Some((1, 1)), 2),
+    (Step::Open(3), Some((1, 1)), 3),
+    (Step::Put(1), Some((1, 1)), 3),
+    (Step::Take, Some((1, 2)), 3),
+    (Step::End(2), Some((1, 2)), 3),
+    (Step::Cut(3), Some((1, 2)), 2),
+    (Step::Cut(1), Some((1, 2)), 2),
+    (Step::Take, Some((2, 1)), 1),
+    (Step::Take, Some((2, 2)), 1),
+    (Step::Take, None, 0),
+    (Step::Open(1), None, 1),
+    (Step::Put(1), Some((1, 1)), 1),
+    (Step::Take, None, 1),
+    (Step::Put(1), Some((1, 2)), 1),
+    (Step::Take, None, 1),
+    (Step::Cut(1), None, 0),
+];
+
 #[test]
 fn waits_and_goes_on_in_order(rt: HostRuntime) {
     let mut queues = QueueOfQueues::new(rt.alloc());
-    let script = [
-        (Step::Open(1), None, 1),
-        (Step::Open(2), None, 2),
-        (Step::Put(2), None, 2),
-        (Step::Take, None, 2),
-        (Step::Put(1), Some((1, 1)), 2),
-        (Step::Open(3), Some((1, 1)), 3),
-        (Step::Put(1), Some((1, 1)), 3),
-        (Step::Take, Some((1, 2)), 3),
-        (Step::End(2), Some((1, 2)), 3),
-        (Step::Cut(3), Some((1, 2)), 2),
-        (Step::Cut(1), Some((1, 2)), 2),
-        (Step::Take, Some((2, 1)), 1),
-        (Step::Take, Some((2, 2)), 1),
-        (Step::Take, None, 0),
-        (Step::Open(1), None, 1),
-        (Step::Put(1), Some((1, 1)), 1),
-        (Step::Take, None, 1),
-        (Step::Put(1), Some((1, 2)), 1),
-        (Step::Take, None, 1),
-        (Step::Cut(1), None, 0),
-    ];
-    for turn in script {
-        goes_on(&rt, &mut queues, turn);
+    for turn in &SCRIPT {
+        goes_on(&rt, &mut queues, *turn);
     }
 }
 
@@ -324,11 +325,11 @@ fn append_refusal(queues: &mut QueueOfQueues, whole: Whole) -> Option<AppendErro
         first,
         state,
     };
-    queues.append(head, part(&entries, from, to)).err()
+    queues.append(head, slice(&entries, from, to)).err()
 }
 
 // The entries from one place to another.
-fn part(entries: &[Entry], from: usize, to: usize) -> &[Entry] {
+fn slice(entries: &[Entry], from: usize, to: usize) -> &[Entry] {
     if from <= to && to <= entries.len() {
         &entries[from..to]
     } else {
@@ -345,24 +346,25 @@ fn appends(
     assert_eq!(rt; append_refusal(queues, whole), refusal, "{whole:?}");
 }
 
+const BAD: [Whole; 10] = [
+    (1, 0, QueueState::Open, 0, 0),
+    (1, 1, QueueState::Open, 0, 65),
+    (1, u32::MAX, QueueState::Open, 0, 1),
+    (1, u32::MAX, QueueState::Ended, 64, 66),
+    (1, 1, QueueState::Open, 65, 66),
+    (1, 1, QueueState::Ended, 0, 0),
+    (1, 1, QueueState::Ended, 0, 1),
+    (1, 1, QueueState::Ended, 65, 67),
+    (1, 1, QueueState::Cut, 0, 0),
+    (1, 1, QueueState::Cut, 64, 66),
+];
+
 /// A first number and a state that don't go with the entries.
 #[test]
 fn refuses_to_append(rt: HostRuntime) {
     let mut queues = QueueOfQueues::new(rt.alloc());
-    let bad = [
-        (1, 0, QueueState::Open, 0, 0),
-        (1, 1, QueueState::Open, 0, 65),
-        (1, u32::MAX, QueueState::Open, 0, 1),
-        (1, u32::MAX, QueueState::Ended, 64, 66),
-        (1, 1, QueueState::Open, 65, 66),
-        (1, 1, QueueState::Ended, 0, 0),
-        (1, 1, QueueState::Ended, 0, 1),
-        (1, 1, QueueState::Ended, 65, 67),
-        (1, 1, QueueState::Cut, 0, 0),
-        (1, 1, QueueState::Cut, 64, 66),
-    ];
-    for whole in bad {
-        appends(&rt, &mut queues, whole, Some(AppendError::BadQueue));
+    for whole in &BAD {
+        appends(&rt, &mut queues, *whole, Some(AppendError::BadQueue));
     }
     has_count(&rt, &queues, 0);
 }
@@ -379,18 +381,19 @@ fn takes_entry(rt: &impl Abort, queues: &mut QueueOfQueues, taken: (u32, u32, bo
     assert_eq!(rt; next(queues), Some(taken));
 }
 
+const GOOD: [Whole; 4] = [
+    (1, u32::MAX, QueueState::Ended, 65, 66),
+    (2, u32::MAX, QueueState::Cut, 0, 1),
+    (3, 7, QueueState::Cut, 0, 64),
+    (4, u32::MAX, QueueState::Open, 0, 0),
+];
+
 #[test]
 fn appends_whole_queues(rt: HostRuntime) {
     let mut queues = QueueOfQueues::new(rt.alloc());
-    let good = [
-        (1, u32::MAX, QueueState::Ended, 65, 66),
-        (2, u32::MAX, QueueState::Cut, 0, 1),
-        (3, 7, QueueState::Cut, 0, 64),
-        (4, u32::MAX, QueueState::Open, 0, 0),
-    ];
-    for whole in good {
-        appends(&rt, &mut queues, whole, None);
-        appends(&rt, &mut queues, whole, Some(AppendError::AlreadyThere));
+    for whole in &GOOD {
+        appends(&rt, &mut queues, *whole, None);
+        appends(&rt, &mut queues, *whole, Some(AppendError::AlreadyThere));
     }
     takes_entry(&rt, &mut queues, (1, u32::MAX, true));
     takes_entry(&rt, &mut queues, (2, u32::MAX, false));
@@ -404,40 +407,51 @@ fn are_same(rt: &impl Abort, left: &QueueOfQueues, right: &QueueOfQueues, wanted
     assert_eq!(rt; right.same(left), wanted);
 }
 
-fn copied(queues: &QueueOfQueues) -> Result<QueueOfQueues, Fail> {
-    Ok(queues.copy()?)
+fn copied(rt: &impl Abort, queues: &QueueOfQueues) -> QueueOfQueues {
+    let Ok(copy) = queues.copy() else {
+        panic!(rt; "no memory");
+    };
+    copy
+}
+
+// Each changes on its own.
+fn part(rt: &impl Abort, copy: &mut QueueOfQueues, queues: &mut QueueOfQueues) {
+    are_same(rt, copy, queues, true);
+    takes(rt, copy);
+    are_same(rt, copy, queues, false);
+    takes(rt, queues);
+    are_same(rt, copy, queues, true);
+    is_cut(rt, copy, 3, true);
+    are_same(rt, copy, queues, false);
 }
 
 #[test]
-fn a_copy_is_the_same(rt: HostRuntime) -> Result<(), Fail> {
+fn a_copy_is_the_same(rt: HostRuntime) {
     let mut queues = QueueOfQueues::new(rt.alloc());
     for num in [1, 2, 3] {
         opens(&rt, &mut queues, num, None);
         puts_one(&rt, &mut queues, (num, Given::Four, None, 4));
     }
-    let mut copy = copied(&queues)?;
-    are_same(&rt, &copy, &queues, true);
-    takes(&rt, &mut copy);
-    are_same(&rt, &copy, &queues, false);
-    takes(&rt, &mut queues);
-    are_same(&rt, &copy, &queues, true);
-    is_cut(&rt, &mut copy, 3, true);
-    are_same(&rt, &copy, &queues, false);
-    Ok(())
+    part(&rt, &mut copied(&rt, &queues), &mut queues);
 }
 
 /// The example of the crate.
 #[test]
-fn an_empty_queue_is_waited_for(rt: HostRuntime) -> Result<(), Fail> {
+fn an_empty_queue_is_waited_for(rt: HostRuntime) {
     let mut queues = QueueOfQueues::new(rt.alloc());
-    queues.open(block(1))?;
-    queues.open(block(2))?;
-    assert_eq!(rt; queues.front(), None);
-    queues.put(block(1), Entry::End)?;
-    assert_eq!(rt; queues.front(), Some((block(1), 1, Entry::End)));
-    assert_eq!(rt; queues.advance(), Some((block(1), 1, Entry::End)));
-    assert_eq!(rt; queues.list_len(), 1);
-    Ok(())
+    let Ok(()) = queues.open(block(1)) else {
+        panic!(rt; "no queue");
+    };
+    let Ok(()) = queues.open(block(2)) else {
+        panic!(rt; "no queue");
+    };
+    is_first(&rt, &queues, None);
+    let Ok(()) = queues.put(block(1), Entry::End) else {
+        panic!(rt; "no entry");
+    };
+    is_first(&rt, &queues, Some((block(1), 1, Entry::End)));
+    takes(&rt, &mut queues);
+    has_count(&rt, &queues, 1);
 }
 
 // The other ones, which differ, are copied.

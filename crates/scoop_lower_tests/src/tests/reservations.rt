@@ -2,6 +2,7 @@
 
 use scoop_message::{Block, ClientId, HandlerId, Message};
 use scoop_reserve::{Reservation, ReserveError, Stage, Step, TooLate, first_repeated, has};
+use std::process::Abort;
 use std::test::Fail;
 
 const BLOCK: Block = Block {
@@ -23,6 +24,19 @@ const TWO: HandlerId = HandlerId(2);
 const THREE: HandlerId = HandlerId(3);
 
 const FIVE: HandlerId = HandlerId(5);
+
+fn refusal(handlers: &[HandlerId], known: &[HandlerId]) -> Option<ReserveError> {
+    Reservation::start(BLOCK, handlers, known).err()
+}
+
+fn is_refused(
+    rt: &impl Abort,
+    handlers: &[HandlerId],
+    known: &[HandlerId],
+    wanted: Option<ReserveError>,
+) {
+    assert_eq!(rt; refusal(handlers, known), wanted);
+}
 
 #[test]
 fn starting_is_refused_in_order(rt: HostRuntime) {
@@ -47,106 +61,153 @@ fn starting_is_refused_in_order(rt: HostRuntime) {
         (&[TWO, ONE], None),
         (&known, None),
     ];
-    for (handlers, refusal) in rows {
-        let started = Reservation::start(BLOCK, handlers, &known);
-        assert_eq!(rt; started.err(), refusal);
+    for (handlers, wanted) in rows {
+        is_refused(&rt, handlers, &known, wanted);
     }
 }
 
-#[test]
-fn it_locks_all_then_opens_all_then_unlocks(rt: HostRuntime) -> Result<(), Fail> {
-    let mut reservation = Reservation::start(BLOCK, &[TWO, ONE], &[ONE, TWO])?;
-    assert_eq!(rt; reservation.handlers(), [TWO, ONE].as_slice());
-    assert_eq!(rt; reservation.block(), BLOCK);
-    let steps = [
-        (Message::Opened(ONE, BLOCK), Step::Ignored, Stage::Locking),
-        (Message::Locked(TWO, BLOCK), Step::Ignored, Stage::Locking),
-        (Message::Locked(ONE, OLDER), Step::Ignored, Stage::Locking),
-        (Message::Busy(ONE, BLOCK), Step::Busy(ONE), Stage::Locking),
-        (
-            Message::Locked(ONE, BLOCK),
-            Step::Locked(ONE),
-            Stage::Locking,
-        ),
-        (Message::Locked(ONE, BLOCK), Step::Ignored, Stage::Locking),
-        (
-            Message::Locked(TWO, BLOCK),
-            Step::Locked(TWO),
-            Stage::Opening,
-        ),
-        (
-            Message::Opened(TWO, BLOCK),
-            Step::Opened(TWO),
-            Stage::Opening,
-        ),
-        (
-            Message::Opened(ONE, BLOCK),
-            Step::Opened(ONE),
-            Stage::Unlocking,
-        ),
-        (
-            Message::Unlocked(ONE, BLOCK),
-            Step::Unlocked(ONE),
-            Stage::Unlocking,
-        ),
-        (
-            Message::Unlocked(ONE, BLOCK),
-            Step::Ignored,
-            Stage::Unlocking,
-        ),
-    ];
-    for (message, step, stage) in steps {
-        if reservation.stage() == Stage::Locking {
-            let next = if reservation.due(ONE) == None {
-                TWO
-            } else {
-                ONE
-            };
-            assert_eq!(rt; reservation.due(next), Some(Message::Lock(next, BLOCK)));
-        }
-        assert_eq!(rt; reservation.hear(&message), step, "{message:?}");
-        assert_eq!(rt; reservation.stage(), stage, "{message:?}");
+fn is_due(rt: &impl Abort, reservation: &Reservation, handler: HandlerId, wanted: Option<Message>) {
+    assert_eq!(rt; reservation.due(handler), wanted);
+}
+
+// While it locks, a Lock is due to handler 1, or to handler 2 behind it.
+fn locks_in_order(rt: &impl Abort, reservation: &Reservation) {
+    if reservation.stage() == Stage::Locking {
+        let next = if reservation.due(ONE) == None {
+            TWO
+        } else {
+            ONE
+        };
+        is_due(rt, reservation, next, Some(Message::Lock(next, BLOCK)));
     }
+}
+
+fn hears(rt: &impl Abort, reservation: &mut Reservation, message: &Message, step: Step) {
+    assert_eq!(rt; reservation.hear(message), step, "{message:?}");
+}
+
+fn is_at(rt: &impl Abort, reservation: &Reservation, stage: Stage) {
+    assert_eq!(rt; reservation.stage(), stage);
+}
+
+// Handler 1 of the open reservation is released, and handler 2 is not.
+fn is_half_released(rt: &impl Abort, reservation: &Reservation) {
     assert!(rt; reservation.is_open() && !reservation.is_gone());
-    assert_eq!(rt; reservation.due(ONE), None);
-    assert_eq!(rt; reservation.due(TWO), Some(Message::Unlock(TWO, BLOCK)));
+    is_due(rt, reservation, ONE, None);
+    is_due(rt, reservation, TWO, Some(Message::Unlock(TWO, BLOCK)));
     assert!(rt; reservation.is_released(ONE) && !reservation.is_released(TWO));
     assert!(rt; !reservation.is_released(THREE));
-    assert!(rt; has(&[TWO, ONE], ONE) && !has(&[TWO, ONE], THREE));
-    assert_eq!(rt; first_repeated(&[ONE, TWO, TWO, ONE]), Some(TWO));
-    assert_eq!(rt; reservation.give_up(), Err(TooLate));
-    Ok(())
+}
+
+fn gives_up(rt: &impl Abort, reservation: &mut Reservation, wanted: Result<(), TooLate>) {
+    assert_eq!(rt; reservation.give_up(), wanted);
+}
+
+// A reservation of handlers that are all known.
+fn started(rt: &impl Abort, handlers: &[HandlerId]) -> Reservation {
+    let Ok(reservation) = Reservation::start(BLOCK, handlers, &[ONE, TWO, THREE]) else {
+        panic!(rt; "no reservation");
+    };
+    reservation
+}
+
+fn names(rt: &impl Abort, reservation: &Reservation, handlers: &[HandlerId]) {
+    assert_eq!(rt; reservation.handlers(), handlers);
+    assert_eq!(rt; reservation.block(), BLOCK);
+}
+
+const STEPS: [(Message, Step, Stage); 11] = [
+    (Message::Opened(ONE, BLOCK), Step::Ignored, Stage::Locking),
+    (Message::Locked(TWO, BLOCK), Step::Ignored, Stage::Locking),
+    (Message::Locked(ONE, OLDER), Step::Ignored, Stage::Locking),
+    (Message::Busy(ONE, BLOCK), Step::Busy(ONE), Stage::Locking),
+    (
+        Message::Locked(ONE, BLOCK),
+        Step::Locked(ONE),
+        Stage::Locking,
+    ),
+    (Message::Locked(ONE, BLOCK), Step::Ignored, Stage::Locking),
+    (
+        Message::Locked(TWO, BLOCK),
+        Step::Locked(TWO),
+        Stage::Opening,
+    ),
+    (
+        Message::Opened(TWO, BLOCK),
+        Step::Opened(TWO),
+        Stage::Opening,
+    ),
+    (
+        Message::Opened(ONE, BLOCK),
+        Step::Opened(ONE),
+        Stage::Unlocking,
+    ),
+    (
+        Message::Unlocked(ONE, BLOCK),
+        Step::Unlocked(ONE),
+        Stage::Unlocking,
+    ),
+    (
+        Message::Unlocked(ONE, BLOCK),
+        Step::Ignored,
+        Stage::Unlocking,
+    ),
+];
+
+#[test]
+fn it_locks_all_then_opens_all_then_unlocks(rt: HostRuntime) {
+    let mut reservation = started(&rt, &[TWO, ONE]);
+    names(&rt, &reservation, &[TWO, ONE]);
+    for (message, step, stage) in &STEPS {
+        locks_in_order(&rt, &reservation);
+        hears(&rt, &mut reservation, message, *step);
+        is_at(&rt, &reservation, *stage);
+    }
+    is_half_released(&rt, &reservation);
+    gives_up(&rt, &mut reservation, Err(TooLate));
 }
 
 #[test]
-fn giving_up_unlocks_the_one_asked_last(rt: HostRuntime) -> Result<(), Fail> {
-    let known = [ONE, TWO, THREE];
-    let mut reservation = Reservation::start(BLOCK, &known, &known)?;
-    assert_eq!(rt;
-        reservation.hear(&Message::Locked(ONE, BLOCK)),
-        Step::Locked(ONE)
-    );
-    assert_eq!(rt; reservation.give_up(), Ok(()));
-    assert_eq!(rt; reservation.give_up(), Err(TooLate));
-    assert_eq!(rt; reservation.stage(), Stage::GivingUp);
-    assert_eq!(rt; reservation.due(ONE), Some(Message::Unlock(ONE, BLOCK)));
-    assert_eq!(rt; reservation.due(TWO), Some(Message::Unlock(TWO, BLOCK)));
-    assert_eq!(rt; reservation.due(THREE), None);
-    assert_eq!(rt;
-        reservation.hear(&Message::Locked(TWO, BLOCK)),
-        Step::Ignored
-    );
-    assert_eq!(rt;
-        reservation.hear(&Message::Unlocked(ONE, BLOCK)),
-        Step::Unlocked(ONE)
+fn lists_of_handlers_are_searched(rt: HostRuntime) {
+    assert!(rt; has(&[TWO, ONE], ONE) && !has(&[TWO, ONE], THREE));
+    assert_eq!(rt; first_repeated(&[ONE, TWO, TWO, ONE]), Some(TWO));
+}
+
+// Handlers 1 and 2 are to be unlocked, and are in turn.
+fn unlocks_two(rt: &impl Abort, reservation: &mut Reservation) {
+    is_due(rt, reservation, ONE, Some(Message::Unlock(ONE, BLOCK)));
+    is_due(rt, reservation, TWO, Some(Message::Unlock(TWO, BLOCK)));
+    is_due(rt, reservation, THREE, None);
+    hears(rt, reservation, &Message::Locked(TWO, BLOCK), Step::Ignored);
+    hears(
+        rt,
+        reservation,
+        &Message::Unlocked(ONE, BLOCK),
+        Step::Unlocked(ONE),
     );
     assert!(rt; !reservation.is_gone());
-    assert_eq!(rt;
-        reservation.hear(&Message::Unlocked(TWO, BLOCK)),
-        Step::Unlocked(TWO)
+    hears(
+        rt,
+        reservation,
+        &Message::Unlocked(TWO, BLOCK),
+        Step::Unlocked(TWO),
     );
     assert!(rt; reservation.is_gone() && !reservation.is_open());
-    Ok(())
+}
+
+#[test]
+fn giving_up_unlocks_the_one_asked_last(rt: HostRuntime) {
+    let mut reservation = started(&rt, &[ONE, TWO, THREE]);
+    hears(
+        &rt,
+        &mut reservation,
+        &Message::Locked(ONE, BLOCK),
+        Step::Locked(ONE),
+    );
+    gives_up(&rt, &mut reservation, Ok(()));
+    gives_up(&rt, &mut reservation, Err(TooLate));
+    is_at(&rt, &reservation, Stage::GivingUp);
+    unlocks_two(&rt, &mut reservation);
 }
 
 #[test]
@@ -169,17 +230,16 @@ fn refusals_are_printed(rt: HostRuntime) -> Result<(), Fail> {
 
 /// The example of the crate.
 #[test]
-fn two_handlers_are_reserved(rt: HostRuntime) -> Result<(), Fail> {
-    let mut reservation = Reservation::start(BLOCK, &[TWO, ONE], &[ONE, TWO])?;
-    assert_eq!(rt; reservation.due(ONE), Some(Message::Lock(ONE, BLOCK)));
-    assert_eq!(rt; reservation.due(TWO), None);
+fn two_handlers_are_reserved(rt: HostRuntime) {
+    let mut reservation = started(&rt, &[TWO, ONE]);
+    is_due(&rt, &reservation, ONE, Some(Message::Lock(ONE, BLOCK)));
+    is_due(&rt, &reservation, TWO, None);
     reservation.hear(&Message::Locked(ONE, BLOCK));
-    assert_eq!(rt; reservation.due(TWO), Some(Message::Lock(TWO, BLOCK)));
+    is_due(&rt, &reservation, TWO, Some(Message::Lock(TWO, BLOCK)));
     reservation.hear(&Message::Locked(TWO, BLOCK));
-    assert_eq!(rt; reservation.due(ONE), Some(Message::Open(ONE, BLOCK)));
+    is_due(&rt, &reservation, ONE, Some(Message::Open(ONE, BLOCK)));
     reservation.hear(&Message::Opened(ONE, BLOCK));
     reservation.hear(&Message::Opened(TWO, BLOCK));
     assert!(rt; reservation.is_open());
-    assert_eq!(rt; reservation.due(TWO), Some(Message::Unlock(TWO, BLOCK)));
-    Ok(())
+    is_due(&rt, &reservation, TWO, Some(Message::Unlock(TWO, BLOCK)));
 }

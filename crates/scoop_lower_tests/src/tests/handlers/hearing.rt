@@ -1,28 +1,28 @@
 //! What is heard, and when it is dropped.
 
 use super::{
-    Act, Does, ELSEWHERE, HERE, Said, answers, block, dropped, fresh, hears, opened, rests, runs,
+    Act, Does, ELSEWHERE, HERE, Row, Said, answers, block, dropped, fresh, hears, opened, rests,
+    runs,
 };
+use crate::tests::prints;
 use scoop_handler::{Handler, Note, Reason};
 use scoop_message::{Answer, Block, ClientId, Message};
 use scoop_object::Table;
-use std::alloc::Global;
-use std::fmt::Display;
 use std::process::Abort;
 use std::test::Fail;
 
+const GREETINGS: [Row; 6] = [
+    (Act::Unlock, 7, 2, 1, Said::Dropped(Reason::Ungreeted)),
+    (Act::Hello, 7, 2, 0, Said::Greeted),
+    (Act::Hello, 7, 2, 0, Said::Known),
+    (Act::Hello, 7, 1, 0, Said::Dropped(Reason::Stale)),
+    (Act::Lock, 7, 3, 1, Said::Dropped(Reason::Ungreeted)),
+    (Act::Lock, 7, 1, 1, Said::Dropped(Reason::Stale)),
+];
+
 #[test]
-fn greetings(rt: HostRuntime) -> Result<(), Fail> {
-    let rows = [
-        (Act::Unlock, 7, 2, 1, Said::Dropped(Reason::Ungreeted)),
-        (Act::Hello, 7, 2, 0, Said::Greeted),
-        (Act::Hello, 7, 2, 0, Said::Known),
-        (Act::Hello, 7, 1, 0, Said::Dropped(Reason::Stale)),
-        (Act::Lock, 7, 3, 1, Said::Dropped(Reason::Ungreeted)),
-        (Act::Lock, 7, 1, 1, Said::Dropped(Reason::Stale)),
-    ];
-    hears(&rt, &mut fresh(rt.alloc())?, &rows);
-    Ok(())
+fn greetings(rt: HostRuntime) {
+    hears(&rt, &mut fresh(&rt, rt.alloc()), &GREETINGS);
 }
 
 fn drops(rt: &impl Abort, handler: &mut Handler<Table>, message: Message, why: Reason) {
@@ -30,137 +30,219 @@ fn drops(rt: &impl Abort, handler: &mut Handler<Table>, message: Message, why: R
 }
 
 #[test]
-fn messages_for_others(rt: HostRuntime) -> Result<(), Fail> {
-    let mut handler = fresh(rt.alloc())?;
+fn messages_for_others(rt: HostRuntime) {
+    let mut handler = fresh(&rt, rt.alloc());
     let refused = Message::Answer(HERE, block(7, 1, 1), 1, Answer::Refused);
     drops(&rt, &mut handler, refused, Reason::NotForHandlers);
     let welcome = Message::Welcome(ELSEWHERE, ClientId(7), 1);
     drops(&rt, &mut handler, welcome, Reason::NotForHandlers);
     let hello = Message::Hello(ELSEWHERE, ClientId(7), 2);
     drops(&rt, &mut handler, hello, Reason::WrongHandler);
-    Ok(())
 }
 
 fn holds(rt: &impl Abort, handler: &Handler<Table>, holder: Block) {
     assert_eq!(rt; handler.holder(), Some(holder));
 }
 
+const LOCKS: [Row; 18] = [
+    (Act::Hello, 7, 1, 0, Said::Greeted),
+    (Act::Hello, 8, 1, 0, Said::Greeted),
+    (Act::Lock, 7, 1, 1, Said::Granted),
+    (Act::Lock, 7, 1, 1, Said::Known),
+    (Act::Lock, 8, 1, 1, Said::Busy),
+    (Act::Lock, 7, 1, 2, Said::Busy),
+    (Act::Open, 8, 1, 1, Said::Dropped(Reason::NotHolder)),
+    (
+        Act::Log(1, Does::End, Does::Nothing),
+        7,
+        1,
+        1,
+        Said::Dropped(Reason::NotOpen),
+    ),
+    (Act::Unlock, 7, 1, 2, Said::Dropped(Reason::NotHolder)),
+    (Act::Unlock, 8, 1, 1, Said::Freed),
+    (Act::Open, 7, 1, 1, Said::Opened),
+    (Act::Open, 7, 1, 1, Said::Known),
+    (Act::Unlock, 7, 1, 1, Said::Freed),
+    (Act::Unlock, 7, 1, 1, Said::Known),
+    (Act::Lock, 7, 1, 1, Said::Dropped(Reason::Stale)),
+    (Act::Lock, 8, 1, 1, Said::Dropped(Reason::Stale)),
+    (Act::Lock, 7, 1, 2, Said::Busy),
+    (Act::Lock, 8, 1, 2, Said::Granted),
+];
+
 /// One block holds the lock, opens and unlocks; another gives up; the old Locks of both come late.
 #[test]
-fn one_block_holds_the_lock(rt: HostRuntime) -> Result<(), Fail> {
-    let mut handler = fresh(rt.alloc())?;
-    let entry = Act::Log(1, Does::End, Does::Nothing);
-    let rows = [
-        (Act::Hello, 7, 1, 0, Said::Greeted),
-        (Act::Hello, 8, 1, 0, Said::Greeted),
-        (Act::Lock, 7, 1, 1, Said::Granted),
-        (Act::Lock, 7, 1, 1, Said::Known),
-        (Act::Lock, 8, 1, 1, Said::Busy),
-        (Act::Lock, 7, 1, 2, Said::Busy),
-        (Act::Open, 8, 1, 1, Said::Dropped(Reason::NotHolder)),
-        (entry, 7, 1, 1, Said::Dropped(Reason::NotOpen)),
-        (Act::Unlock, 7, 1, 2, Said::Dropped(Reason::NotHolder)),
-        (Act::Unlock, 8, 1, 1, Said::Freed),
-        (Act::Open, 7, 1, 1, Said::Opened),
-        (Act::Open, 7, 1, 1, Said::Known),
-        (Act::Unlock, 7, 1, 1, Said::Freed),
-        (Act::Unlock, 7, 1, 1, Said::Known),
-        (Act::Lock, 7, 1, 1, Said::Dropped(Reason::Stale)),
-        (Act::Lock, 8, 1, 1, Said::Dropped(Reason::Stale)),
-        (Act::Lock, 7, 1, 2, Said::Busy),
-        (Act::Lock, 8, 1, 2, Said::Granted),
-    ];
-    hears(&rt, &mut handler, &rows);
+fn one_block_holds_the_lock(rt: HostRuntime) {
+    let mut handler = fresh(&rt, rt.alloc());
+    hears(&rt, &mut handler, &LOCKS);
     holds(&rt, &handler, block(8, 1, 2));
-    Ok(())
 }
 
+const ENTRIES: [Row; 5] = [
+    (
+        Act::Log(1, Does::Set(5), Does::Nothing),
+        7,
+        1,
+        1,
+        Said::Took(1),
+    ),
+    (
+        Act::Log(3, Does::Set(7), Does::Nothing),
+        7,
+        1,
+        1,
+        Said::Dropped(Reason::Gap),
+    ),
+    (
+        Act::Log(2, Does::Set(6), Does::Nothing),
+        7,
+        1,
+        1,
+        Said::Took(2),
+    ),
+    (
+        Act::Log(2, Does::Set(6), Does::Nothing),
+        7,
+        1,
+        1,
+        Said::Again(2),
+    ),
+    (
+        Act::Log(3, Does::Set(7), Does::Nothing),
+        7,
+        1,
+        1,
+        Said::Took(3),
+    ),
+];
+
 #[test]
-fn entries_come_in_order(rt: HostRuntime) -> Result<(), Fail> {
-    let mut handler = opened(&rt, rt.alloc(), &[7])?;
-    let first = Act::Log(1, Does::Set(5), Does::Nothing);
-    let second = Act::Log(2, Does::Set(6), Does::Nothing);
-    let third = Act::Log(3, Does::Set(7), Does::Nothing);
-    let rows = [
-        (first, 7, 1, 1, Said::Took(1)),
-        (third, 7, 1, 1, Said::Dropped(Reason::Gap)),
-        (second, 7, 1, 1, Said::Took(2)),
-        (second, 7, 1, 1, Said::Again(2)),
-        (third, 7, 1, 1, Said::Took(3)),
-    ];
-    hears(&rt, &mut handler, &rows);
+fn entries_come_in_order(rt: HostRuntime) {
+    let mut handler = opened(&rt, rt.alloc(), &[7]);
+    hears(&rt, &mut handler, &ENTRIES);
     let values = [(1, Some(5)), (2, Some(6)), (3, Some(7))];
     runs(&rt, &mut handler, 7, &values);
     rests(&rt, &mut handler, 7);
-    Ok(())
 }
 
+const QUERIES: [Row; 2] = [
+    (
+        Act::Log(1, Does::Add(5), Does::Nothing),
+        7,
+        1,
+        1,
+        Said::Took(1),
+    ),
+    (
+        Act::Log(2, Does::Ask(1), Does::Nothing),
+        7,
+        1,
+        1,
+        Said::Took(2),
+    ),
+];
+
 #[test]
-fn a_repeated_query_is_answered_again(rt: HostRuntime) -> Result<(), Fail> {
-    let mut handler = opened(&rt, rt.alloc(), &[7])?;
-    let first = Act::Log(1, Does::Add(5), Does::Nothing);
+fn a_repeated_query_is_answered_again(rt: HostRuntime) {
+    let mut handler = opened(&rt, rt.alloc(), &[7]);
     let second = Act::Log(2, Does::Ask(1), Does::Nothing);
-    let rows = [
-        (first, 7, 1, 1, Said::Took(1)),
-        (second, 7, 1, 1, Said::Took(2)),
-    ];
-    hears(&rt, &mut handler, &rows);
+    hears(&rt, &mut handler, &QUERIES);
     runs(&rt, &mut handler, 7, &[(1, Some(5)), (2, Some(6))]);
     let kept = (second, 7, 1, 1, Said::Answered(2, 6));
     hears(&rt, &mut handler, &[kept, kept]);
     rests(&rt, &mut handler, 6);
-    Ok(())
 }
+
+const BATCHES: [Row; 7] = [
+    (
+        Act::Log(u32::MAX, Does::Add(1), Does::Nothing),
+        7,
+        1,
+        1,
+        Said::Dropped(Reason::Gap),
+    ),
+    (
+        Act::Log(1, Does::Add(1), Does::Add(2)),
+        7,
+        1,
+        1,
+        Said::Took(2),
+    ),
+    (
+        Act::Log(2, Does::Add(2), Does::Add(3)),
+        7,
+        1,
+        1,
+        Said::Took(3),
+    ),
+    (
+        Act::Log(1, Does::Add(1), Does::Add(2)),
+        7,
+        1,
+        1,
+        Said::Again(3),
+    ),
+    (
+        Act::Log(4, Does::End, Does::Nothing),
+        7,
+        1,
+        1,
+        Said::Took(4),
+    ),
+    (
+        Act::Log(4, Does::Add(1), Does::Add(2)),
+        7,
+        1,
+        1,
+        Said::Dropped(Reason::NotOpen),
+    ),
+    (
+        Act::Log(5, Does::Add(1), Does::Nothing),
+        7,
+        1,
+        1,
+        Said::Dropped(Reason::NotOpen),
+    ),
+];
 
 /// A batch that overlaps is taken in part, and nothing is taken behind an End.
 #[test]
-fn batches(rt: HostRuntime) -> Result<(), Fail> {
-    let mut handler = opened(&rt, rt.alloc(), &[7])?;
-    let last = Act::Log(u32::MAX, Does::Add(1), Does::Nothing);
-    let front = Act::Log(1, Does::Add(1), Does::Add(2));
-    let back = Act::Log(2, Does::Add(2), Does::Add(3));
-    let end = Act::Log(4, Does::End, Does::Nothing);
-    let changed = Act::Log(4, Does::Add(1), Does::Add(2));
-    let behind = Act::Log(5, Does::Add(1), Does::Nothing);
-    let rows = [
-        (last, 7, 1, 1, Said::Dropped(Reason::Gap)),
-        (front, 7, 1, 1, Said::Took(2)),
-        (back, 7, 1, 1, Said::Took(3)),
-        (front, 7, 1, 1, Said::Again(3)),
-        (end, 7, 1, 1, Said::Took(4)),
-        (changed, 7, 1, 1, Said::Dropped(Reason::NotOpen)),
-        (behind, 7, 1, 1, Said::Dropped(Reason::NotOpen)),
-    ];
-    hears(&rt, &mut handler, &rows);
+fn batches(rt: HostRuntime) {
+    let mut handler = opened(&rt, rt.alloc(), &[7]);
+    hears(&rt, &mut handler, &BATCHES);
     let values = [(1, Some(1)), (2, Some(3)), (3, Some(6)), (4, None)];
     runs(&rt, &mut handler, 7, &values);
     rests(&rt, &mut handler, 6);
-    Ok(())
 }
+
+const ANEW: [Row; 5] = [
+    (
+        Act::Log(1, Does::Add(1), Does::Add(2)),
+        7,
+        1,
+        1,
+        Said::Took(2),
+    ),
+    (Act::Hello, 7, 2, 0, Said::Greeted),
+    (
+        Act::Log(3, Does::End, Does::Nothing),
+        7,
+        1,
+        1,
+        Said::Dropped(Reason::Stale),
+    ),
+    (Act::Lock, 7, 1, 1, Said::Dropped(Reason::Stale)),
+    (Act::Lock, 7, 2, 1, Said::Granted),
+];
 
 /// A client starts anew: what was received of its block still runs, and nothing more is taken.
 #[test]
-fn a_client_starts_anew(rt: HostRuntime) -> Result<(), Fail> {
-    let mut handler = opened(&rt, rt.alloc(), &[7])?;
-    let front = Act::Log(1, Does::Add(1), Does::Add(2));
-    let end = Act::Log(3, Does::End, Does::Nothing);
-    let rows = [
-        (front, 7, 1, 1, Said::Took(2)),
-        (Act::Hello, 7, 2, 0, Said::Greeted),
-        (end, 7, 1, 1, Said::Dropped(Reason::Stale)),
-        (Act::Lock, 7, 1, 1, Said::Dropped(Reason::Stale)),
-        (Act::Lock, 7, 2, 1, Said::Granted),
-    ];
-    hears(&rt, &mut handler, &rows);
+fn a_client_starts_anew(rt: HostRuntime) {
+    let mut handler = opened(&rt, rt.alloc(), &[7]);
+    hears(&rt, &mut handler, &ANEW);
     runs(&rt, &mut handler, 7, &[(1, Some(1)), (2, Some(3))]);
     rests(&rt, &mut handler, 3);
-    Ok(())
-}
-
-fn prints<T: Display>(rt: &impl Abort, alloc: Global, value: &T, text: &str) -> Result<(), Fail> {
-    let printed = format!(in alloc; "{value}")?;
-    assert_eq!(rt; printed.as_str(), text);
-    Ok(())
 }
 
 #[test]

@@ -1,8 +1,8 @@
 //! States that are kept and come back.
 
 use super::{
-    Act, Does, ELSEWHERE, HERE, Said, block, class, entry, fresh, has_word, hears, hears_one,
-    object, opened, restart, restarted, runs, taken,
+    Act, Does, ELSEWHERE, HERE, Row, Said, block, entry, fresh, has_state, has_word, hears,
+    hears_one, object, opened, restarted, runs, taken, with_state,
 };
 use scoop_handler::{Handler, HandlerState, Mark, Reason, Stage, StateError};
 use scoop_message::{Answer, Block, HandlerId, Words};
@@ -10,24 +10,20 @@ use scoop_object::{Behaviour, Class, Table};
 use scoop_queue::{Head, QueueOfQueues, QueueState};
 use std::alloc::Global;
 use std::process::Abort;
-use std::test::Fail;
 
 // Two handlers that have received calls of the same block; the other has run one of them.
-fn early_and_late(
-    rt: &impl Abort,
-    alloc: Global,
-) -> Result<(Handler<Table>, Handler<Table>), Fail> {
+fn early_and_late(rt: &impl Abort, alloc: Global) -> (Handler<Table>, Handler<Table>) {
     let calls = Act::Log(1, Does::Add(1), Does::Add(2));
-    let mut late = opened(rt, alloc, &[7])?;
+    let mut late = opened(rt, alloc, &[7]);
     hears_one(rt, &mut late, (calls, 7, 1, 1, Said::Took(2)));
-    let early = restarted(alloc, &late)?;
+    let early = restarted(rt, alloc, &late);
     runs(rt, &mut late, 7, &[(1, Some(1))]);
-    Ok((early, late))
+    (early, late)
 }
 
 fn same(left: &Handler<Table>, right: &Handler<Table>) -> Option<bool> {
     let left = left.copy().ok()?;
-    Some(left.same(&right.copy().ok()?))
+    has_state(right, &left)
 }
 
 fn are_same(rt: &impl Abort, left: &Handler<Table>, right: &Handler<Table>, wanted: bool) {
@@ -69,40 +65,57 @@ fn recalls(
 }
 
 #[test]
-fn a_state_comes_back(rt: HostRuntime) -> Result<(), Fail> {
-    let (mut early, late) = early_and_late(&rt, rt.alloc())?;
+fn a_state_comes_back(rt: HostRuntime) {
+    let (mut early, late) = early_and_late(&rt, rt.alloc());
     are_same(&rt, &early, &late, false);
     resets(&rt, &mut early, &late, true);
     are_same(&rt, &early, &late, true);
     has_word(&rt, &early, 1);
-    Ok(())
+}
+
+fn is_same_anew(rt: &impl Abort, alloc: Global, handler: &Handler<Table>) {
+    are_same(rt, &restarted(rt, alloc, handler), handler, true);
 }
 
 #[test]
-fn a_handler_starts_anew(rt: HostRuntime) -> Result<(), Fail> {
-    let (early, late) = early_and_late(&rt, rt.alloc())?;
-    are_same(&rt, &restarted(rt.alloc(), &late)?, &late, true);
+fn a_handler_starts_anew(rt: HostRuntime) {
+    let (early, late) = early_and_late(&rt, rt.alloc());
+    is_same_anew(&rt, rt.alloc(), &late);
     has_word(&rt, &early, 0);
-    Ok(())
+}
+
+// The handler's job is lost, and gives its object back to the other's state.
+fn loses(rt: &impl Abort, handler: &mut Handler<Table>, other: &Handler<Table>) {
+    let lost = taken(rt, handler);
+    resets(rt, handler, other, false);
+    recalls(rt, handler, lost.into_object(), other, true);
 }
 
 /// A job that is lost gives its object back to any state, but its handler takes no other words before.
 #[test]
-fn a_lost_job_is_recalled(rt: HostRuntime) -> Result<(), Fail> {
-    let (mut handler, late) = early_and_late(&rt, rt.alloc())?;
-    let lost = taken(&mut handler)?;
-    resets(&rt, &mut handler, &late, false);
-    recalls(&rt, &mut handler, lost.into_object(), &late, true);
+fn a_lost_job_is_recalled(rt: HostRuntime) {
+    let (mut handler, late) = early_and_late(&rt, rt.alloc());
+    loses(&rt, &mut handler, &late);
     are_same(&rt, &handler, &late, true);
-    Ok(())
+}
+
+fn recalls_none(
+    rt: &impl Abort,
+    alloc: Global,
+    handler: &mut Handler<Table>,
+    other: &Handler<Table>,
+) {
+    let Some(object) = object(alloc) else {
+        panic!(rt; "no object");
+    };
+    recalls(rt, handler, object, other, false);
 }
 
 #[test]
-fn an_object_that_has_not_left_is_not_recalled(rt: HostRuntime) -> Result<(), Fail> {
-    let (mut early, late) = early_and_late(&rt, rt.alloc())?;
-    recalls(&rt, &mut early, object(rt.alloc())?, &late, false);
+fn an_object_that_has_not_left_is_not_recalled(rt: HostRuntime) {
+    let (mut early, late) = early_and_late(&rt, rt.alloc());
+    recalls_none(&rt, rt.alloc(), &mut early, &late);
     are_same(&rt, &early, &late, false);
-    Ok(())
 }
 
 // A handler's state that has these words, and nothing else.
@@ -125,34 +138,36 @@ fn takes_made(
 }
 
 #[test]
-fn a_state_of_another_handler(rt: HostRuntime) -> Result<(), Fail> {
-    let mut handler = fresh(rt.alloc())?;
+fn a_state_of_another_handler(rt: HostRuntime) {
+    let mut handler = fresh(&rt, rt.alloc());
     takes_made(&rt, &mut handler, bare(rt.alloc(), ELSEWHERE, &[1]), false);
-    Ok(())
 }
 
 fn makes<B: Behaviour>(alloc: Global, class: Class, object: B) -> bool {
     Handler::new(alloc, HERE, class, object).is_ok()
 }
 
-#[test]
-fn an_object_of_another_class(rt: HostRuntime) -> Result<(), Fail> {
-    let none = Class::build(rt.alloc(), 1, &[])?;
-    assert!(rt; !makes(rt.alloc(), none, object(rt.alloc())?));
-    Ok(())
-}
-
-// Whether a handler starts with the state.
-fn starts(class: Class, object: Table, state: Option<HandlerState>) -> Option<bool> {
-    Some(restart(class, object, state?).is_some())
+// Whether a handler is made of an object and a class without operations.
+fn makes_none(alloc: Global) -> Option<bool> {
+    let none = Class::build(alloc, 1, &[]).ok()?;
+    Some(makes(alloc, none, object(alloc)?))
 }
 
 #[test]
-fn words_that_fit_no_object(rt: HostRuntime) -> Result<(), Fail> {
-    let (class, object) = (class(rt.alloc())?, object(rt.alloc())?);
-    let two = bare(rt.alloc(), HERE, &[1, 2]);
-    assert_eq!(rt; starts(class, object, two), Some(false));
-    Ok(())
+fn an_object_of_another_class(rt: HostRuntime) {
+    assert_eq!(rt; makes_none(rt.alloc()), Some(false));
+}
+
+// Whether a handler starts with a state of these words.
+fn starts(alloc: Global, words: &[u64]) -> Option<bool> {
+    let state = bare(alloc, HERE, words)?;
+    Some(with_state(alloc, state).is_some())
+}
+
+#[test]
+fn words_that_fit_no_object(rt: HostRuntime) {
+    assert_eq!(rt; starts(rt.alloc(), &[1]), Some(true));
+    assert_eq!(rt; starts(rt.alloc(), &[1, 2]), Some(false));
 }
 
 /// A mark of client 7's first block or of client 8's.
@@ -277,29 +292,30 @@ fn is_bad(rt: &impl Abort, alloc: Global, row: usize, parts: Parts) {
     assert_eq!(rt; refused, Some(StateError::BadState), "row {row}");
 }
 
+const BAD: [Parts; 15] = [
+    (Some(8), Marked::Held, Marked::Open, Queued::Open),
+    (None, Marked::Open, Marked::Open, Queued::Open),
+    (Some(9), Marked::Open, Marked::Shut, Queued::Open),
+    (Some(8), Marked::Open, Marked::Shut, Queued::Open),
+    (None, Marked::Open, Marked::Held, Queued::Open),
+    (None, Marked::Open, Marked::Early, Queued::Open),
+    (None, Marked::Open, Marked::Ended, Queued::Open),
+    (None, Marked::Open, Marked::Kept, Queued::Open),
+    (None, Marked::Open, Marked::Empty, Queued::Open),
+    (None, Marked::Over, Marked::Shut, Queued::Open),
+    (None, Marked::Ahead, Marked::Shut, Queued::Open),
+    (None, Marked::Moved, Marked::Shut, Queued::Open),
+    (None, Marked::Moved, Marked::Shut, Queued::Cut),
+    (None, Marked::Moved, Marked::Shut, Queued::Above),
+    (None, Marked::Moved, Marked::Shut, Queued::Unknown),
+];
+
 #[test]
 fn states_that_none_has(rt: HostRuntime) {
     let good = (Some(8), Marked::Open, Marked::Held, Queued::Open);
     assert_eq!(rt; refusal(rt.alloc(), good), None);
-    let bad = [
-        (Some(8), Marked::Held, Marked::Open, Queued::Open),
-        (None, Marked::Open, Marked::Open, Queued::Open),
-        (Some(9), Marked::Open, Marked::Shut, Queued::Open),
-        (Some(8), Marked::Open, Marked::Shut, Queued::Open),
-        (None, Marked::Open, Marked::Held, Queued::Open),
-        (None, Marked::Open, Marked::Early, Queued::Open),
-        (None, Marked::Open, Marked::Ended, Queued::Open),
-        (None, Marked::Open, Marked::Kept, Queued::Open),
-        (None, Marked::Open, Marked::Empty, Queued::Open),
-        (None, Marked::Over, Marked::Shut, Queued::Open),
-        (None, Marked::Ahead, Marked::Shut, Queued::Open),
-        (None, Marked::Moved, Marked::Shut, Queued::Open),
-        (None, Marked::Moved, Marked::Shut, Queued::Cut),
-        (None, Marked::Moved, Marked::Shut, Queued::Above),
-        (None, Marked::Moved, Marked::Shut, Queued::Unknown),
-    ];
-    for (row, parts) in bad.into_iter().enumerate() {
-        is_bad(&rt, rt.alloc(), row, parts);
+    for (row, parts) in BAD.iter().enumerate() {
+        is_bad(&rt, rt.alloc(), row, *parts);
     }
 }
 
@@ -356,20 +372,34 @@ fn almost_full(alloc: Global) -> Option<HandlerState> {
     HandlerState::of(alloc, HERE, words, None, &[open], queues).ok()
 }
 
+const LAST: [Row; 3] = [
+    (
+        Act::Log(u32::MAX, Does::Add(1), Does::Nothing),
+        7,
+        1,
+        1,
+        Said::Dropped(Reason::NotOpen),
+    ),
+    (
+        Act::Log(u32::MAX, Does::Add(1), Does::End),
+        7,
+        1,
+        1,
+        Said::Dropped(Reason::NotOpen),
+    ),
+    (
+        Act::Log(u32::MAX, Does::End, Does::Nothing),
+        7,
+        1,
+        1,
+        Said::Took(u32::MAX),
+    ),
+];
+
 /// The highest number is kept for the End.
 #[test]
-fn the_last_number(rt: HostRuntime) -> Result<(), Fail> {
-    let mut handler = fresh(rt.alloc())?;
+fn the_last_number(rt: HostRuntime) {
+    let mut handler = fresh(&rt, rt.alloc());
     takes_made(&rt, &mut handler, almost_full(rt.alloc()), true);
-    let call = Act::Log(u32::MAX, Does::Add(1), Does::Nothing);
-    let both = Act::Log(u32::MAX, Does::Add(1), Does::End);
-    let end = Act::Log(u32::MAX, Does::End, Does::Nothing);
-    let closed = Said::Dropped(Reason::NotOpen);
-    let rows = [
-        (call, 7, 1, 1, closed),
-        (both, 7, 1, 1, closed),
-        (end, 7, 1, 1, Said::Took(u32::MAX)),
-    ];
-    hears(&rt, &mut handler, &rows);
-    Ok(())
+    hears(&rt, &mut handler, &LAST);
 }

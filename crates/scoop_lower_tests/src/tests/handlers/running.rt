@@ -1,8 +1,8 @@
 //! What runs and when, jobs, and the limits.
 
 use super::{
-    Act, Does, HERE, Said, block, fresh, has_word, hears, hears_one, opened, opens, ran, restarted,
-    rests, runs, taken,
+    Act, Does, HERE, Said, block, fresh, has_state, has_word, hears, hears_one, opened, opens, ran,
+    restarted, rests, runs, taken,
 };
 use scoop_handler::{AfterError, Done, Handler, HandlerState, Job, Reason, StrangerJob};
 use scoop_message::Answer;
@@ -10,7 +10,6 @@ use scoop_message::limits::{MAX_MARKS, MAX_QUEUES};
 use scoop_object::{Behaviour, Table};
 use std::alloc::Allocator;
 use std::process::Abort;
-use std::test::Fail;
 use std::thread;
 use std::thread::Threads;
 
@@ -36,8 +35,8 @@ fn runs_nothing(rt: &impl Abort, handler: &mut Handler<Table>) {
 
 /// The first private queue is empty and has not ended, and a later one is full.
 #[test]
-fn waits_for_the_first_queue(rt: HostRuntime) -> Result<(), Fail> {
-    let mut handler = opened(&rt, rt.alloc(), &[7, 8])?;
+fn waits_for_the_first_queue(rt: HostRuntime) {
+    let mut handler = opened(&rt, rt.alloc(), &[7, 8]);
     fills(&rt, &mut handler);
     runs_nothing(&rt, &mut handler);
     let end = Act::Log(1, Does::End, Does::Nothing);
@@ -47,12 +46,11 @@ fn waits_for_the_first_queue(rt: HostRuntime) -> Result<(), Fail> {
         runs(&rt, &mut handler, 8, &[(number, Some(u64::from(number)))]);
     }
     rests(&rt, &mut handler, 64);
-    Ok(())
 }
 
 #[test]
-fn greets_as_many_clients_as_there_may_be(rt: HostRuntime) -> Result<(), Fail> {
-    let mut handler = fresh(rt.alloc())?;
+fn greets_as_many_clients_as_there_may_be(rt: HostRuntime) {
+    let mut handler = fresh(&rt, rt.alloc());
     for client in 0..64 {
         let row = (Act::Hello, client * 37 % 64, 1, 0, Said::Greeted);
         hears_one(&rt, &mut handler, row);
@@ -63,13 +61,12 @@ fn greets_as_many_clients_as_there_may_be(rt: HostRuntime) -> Result<(), Fail> {
     ];
     hears(&rt, &mut handler, &rows);
     assert_eq!(rt; MAX_MARKS, 64);
-    Ok(())
 }
 
 /// There is room for a private queue again once one has run to its End.
 #[test]
-fn opens_as_many_queues_as_there_may_be(rt: HostRuntime) -> Result<(), Fail> {
-    let mut handler = fresh(rt.alloc())?;
+fn opens_as_many_queues_as_there_may_be(rt: HostRuntime) {
+    let mut handler = fresh(&rt, rt.alloc());
     hears_one(&rt, &mut handler, (Act::Hello, 7, 1, 0, Said::Greeted));
     let end = Act::Log(1, Does::End, Does::Nothing);
     for num in 1..65 {
@@ -84,7 +81,6 @@ fn opens_as_many_queues_as_there_may_be(rt: HostRuntime) -> Result<(), Fail> {
     runs(&rt, &mut handler, 7, &[(1, None)]);
     hears_one(&rt, &mut handler, (Act::Open, 7, 1, 65, Said::Opened));
     assert_eq!(rt; MAX_QUEUES, 64);
-    Ok(())
 }
 
 // The handler hands back a job that is a stranger to it.
@@ -121,22 +117,26 @@ fn finishes(rt: &impl Abort, handler: &mut Handler<Table>, done: Done<Table>, va
     assert_eq!(rt; finished(handler, done), Some((1, answer)));
 }
 
+// The handler's next job, which has run.
+fn worked(rt: &impl Abort, handler: &mut Handler<Table>) -> Done<Table> {
+    taken(rt, handler).work()
+}
+
 /// A handler starts anew from its stored state while a job is out: the old job is a stranger there, and
 /// its entry runs again.
 #[test]
-fn a_restart_loses_no_job(rt: HostRuntime) -> Result<(), Fail> {
+fn a_restart_loses_no_job(rt: HostRuntime) {
     let query = Act::Log(1, Does::Ask(1), Does::Nothing);
-    let mut before = opened(&rt, rt.alloc(), &[7])?;
+    let mut before = opened(&rt, rt.alloc(), &[7]);
     hears_one(&rt, &mut before, (query, 7, 1, 1, Said::Took(1)));
-    let old = taken(&mut before)?;
+    let old = worked(&rt, &mut before);
     rests(&rt, &mut before, 0);
-    let mut handler = restarted(rt.alloc(), &before)?;
-    is_strange(&rt, &mut handler, old.work());
-    let job = taken(&mut handler)?;
-    finishes(&rt, &mut handler, job.work(), 1);
+    let mut handler = restarted(&rt, rt.alloc(), &before);
+    is_strange(&rt, &mut handler, old);
+    let done = worked(&rt, &mut handler);
+    finishes(&rt, &mut handler, done, 1);
     hears_one(&rt, &mut handler, (query, 7, 1, 1, Said::Answered(1, 1)));
     rests(&rt, &mut handler, 1);
-    Ok(())
 }
 
 // Runs the entry in another thread.
@@ -154,24 +154,14 @@ fn is_first(rt: &impl Abort, job: &Job<Table>) {
 }
 
 // The handler's job, which has run in another thread.
-fn done_aside<R: Threads + Sync + Abort>(
-    rt: &R,
-    handler: &mut Handler<Table>,
-) -> Result<Done<Table>, Fail> {
-    let job = taken(handler)?;
+fn done_aside<R: Threads + Sync + Abort>(rt: &R, handler: &mut Handler<Table>) -> Done<Table> {
+    let job = taken(rt, handler);
     is_first(rt, &job);
-    Ok(work_aside(rt, job))
+    work_aside(rt, job)
 }
 
 fn after<B: Behaviour>(handler: &Handler<B>, done: &Done<B>) -> Option<HandlerState> {
     handler.after_finish(done).ok()
-}
-
-fn is_as_told(handler: &Handler<Table>, told: &HandlerState) -> bool {
-    match handler.copy() {
-        Ok(state) => told.same(&state),
-        Err(_) => false,
-    }
 }
 
 // The handler finishes the job, and has the state that was foretold.
@@ -180,21 +170,20 @@ fn finishes_as_told(rt: &impl Abort, handler: &mut Handler<Table>, done: Done<Ta
         panic!(rt; "no state is told");
     };
     finishes(rt, handler, done, 1);
-    assert!(rt; is_as_told(handler, &told));
+    assert_eq!(rt; has_state(handler, &told), Some(true));
 }
 
 /// The handler hears while its object is away.
 #[test]
-fn a_job_runs_in_another_thread(rt: HostRuntime) -> Result<(), Fail> {
-    let mut handler = opened(&rt, rt.alloc(), &[7])?;
+fn a_job_runs_in_another_thread(rt: HostRuntime) {
+    let mut handler = opened(&rt, rt.alloc(), &[7]);
     let first = Act::Log(1, Does::Add(1), Does::Nothing);
     hears_one(&rt, &mut handler, (first, 7, 1, 1, Said::Took(1)));
-    let done = done_aside(&rt, &mut handler)?;
+    let done = done_aside(&rt, &mut handler);
     let second = Act::Log(2, Does::Add(2), Does::Nothing);
     hears_one(&rt, &mut handler, (second, 7, 1, 1, Said::Took(2)));
     runs_nothing(&rt, &mut handler);
     has_word(&rt, &handler, 0);
     finishes_as_told(&rt, &mut handler, done);
     runs(&rt, &mut handler, 7, &[(2, Some(3))]);
-    Ok(())
 }

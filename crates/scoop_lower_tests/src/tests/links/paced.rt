@@ -1,23 +1,26 @@
 //! Paced links: which datagrams they hold back.
 
-use super::{CLIENT, HANDLER, fails, gets, has_faults, sends};
+use super::scripts::ends;
+use super::{CLIENT, HANDLER, fails, feeds, gets, has_faults, sends, tape};
 use scoop_link::{Link, PacedLink, Party, Script, ScriptLink, TapeLink};
 use scoop_message::{HandlerId, OutOfMemory};
 use scoop_refusing::Refusing;
 use std::alloc::Global;
 use std::process::Abort;
-use std::test::Fail;
 
 const OTHER: Party = Party::Handler(HandlerId(8));
 
 // A pace for two parties, with two repeats at once, over a tape with this much room that gives so many
 // datagrams.
-fn paced(alloc: Global, room: usize, to_come: usize) -> Result<PacedLink<TapeLink>, Fail> {
-    let mut tape = TapeLink::new(alloc, room)?;
+fn paced(rt: &impl Abort, alloc: Global, room: usize, to_come: usize) -> PacedLink<TapeLink> {
+    let mut tape = tape(rt, alloc, room);
     for _ in 0..to_come {
-        tape.feed(&[9])?;
+        feeds(rt, &mut tape, &[9]);
     }
-    Ok(PacedLink::new(alloc, tape, 2, 2)?)
+    let Ok(link) = PacedLink::new(alloc, tape, 2, 2) else {
+        panic!(rt; "no pace");
+    };
+    link
 }
 
 // How many datagrams were passed on.
@@ -34,8 +37,8 @@ fn passes_on(rt: &impl Abort, link: &mut PacedLink<TapeLink>, to: Party, byte: u
 }
 
 #[test]
-fn a_repeated_datagram_waits_for_a_silence(rt: HostRuntime) -> Result<(), Fail> {
-    let mut link = paced(rt.alloc(), 16, 0)?;
+fn a_repeated_datagram_waits_for_a_silence(rt: HostRuntime) {
+    let mut link = paced(&rt, rt.alloc(), 16, 0);
     passes_on(&rt, &mut link, HANDLER, 1, 1);
     passes_on(&rt, &mut link, HANDLER, 1, 1);
     passes_on(&rt, &mut link, HANDLER, 2, 2);
@@ -46,12 +49,11 @@ fn a_repeated_datagram_waits_for_a_silence(rt: HostRuntime) -> Result<(), Fail> 
     passes_on(&rt, &mut link, CLIENT, 2, 5);
     passes_on(&rt, &mut link, HANDLER, 2, 5);
     has_faults(&rt, &link, 0);
-    Ok(())
 }
 
 #[test]
-fn a_datagram_is_repeated_at_once_while_nothing_is_on_its_way(rt: HostRuntime) -> Result<(), Fail> {
-    let mut link = paced(rt.alloc(), 16, 6)?;
+fn a_datagram_is_repeated_at_once_while_nothing_is_on_its_way(rt: HostRuntime) {
+    let mut link = paced(&rt, rt.alloc(), 16, 6);
     passes_on(&rt, &mut link, HANDLER, 1, 1);
     for wanted in [2, 3] {
         gets(&rt, &mut link, Some((1, 9)));
@@ -63,83 +65,91 @@ fn a_datagram_is_repeated_at_once_while_nothing_is_on_its_way(rt: HostRuntime) -
     passes_on(&rt, &mut link, HANDLER, 2, 4);
     gets(&rt, &mut link, Some((1, 9)));
     passes_on(&rt, &mut link, HANDLER, 2, 5);
-    Ok(())
 }
 
 #[test]
-fn a_party_without_room_is_not_paced(rt: HostRuntime) -> Result<(), Fail> {
-    let mut link = paced(rt.alloc(), 16, 0)?;
+fn a_party_without_room_is_not_paced(rt: HostRuntime) {
+    let mut link = paced(&rt, rt.alloc(), 16, 0);
     passes_on(&rt, &mut link, HANDLER, 1, 1);
     passes_on(&rt, &mut link, CLIENT, 1, 2);
     for wanted in [3, 4, 5] {
         passes_on(&rt, &mut link, OTHER, 1, wanted);
     }
     passes_on(&rt, &mut link, CLIENT, 1, 5);
-    Ok(())
+}
+
+// The link receives a datagram, and is to send the last one again.
+fn hears_and_repeats(rt: &impl Abort, link: &mut PacedLink<TapeLink>) {
+    gets(rt, link, Some((1, 9)));
+    sends(rt, link, HANDLER, &[70]);
+}
+
+fn has_sent(rt: &impl Abort, link: &PacedLink<TapeLink>, i: usize, wanted: bool) {
+    assert_eq!(rt; link.inner().sent(i).is_some(), wanted);
 }
 
 #[test]
-fn many_datagrams_count_as_a_silence(rt: HostRuntime) -> Result<(), Fail> {
-    let mut link = paced(rt.alloc(), 80, 64)?;
+fn many_datagrams_count_as_a_silence(rt: HostRuntime) {
+    let mut link = paced(&rt, rt.alloc(), 80, 64);
     for byte in 1..=70u8 {
         sends(&rt, &mut link, HANDLER, &[byte]);
     }
     for _ in 0..63 {
-        gets(&rt, &mut link, Some((1, 9)));
-        sends(&rt, &mut link, HANDLER, &[70]);
+        hears_and_repeats(&rt, &mut link);
     }
-    assert!(rt; link.inner().sent(70).is_none());
-    gets(&rt, &mut link, Some((1, 9)));
-    sends(&rt, &mut link, HANDLER, &[70]);
-    assert!(rt; link.inner().sent(70).is_some());
-    Ok(())
+    has_sent(&rt, &link, 70, false);
+    hears_and_repeats(&rt, &mut link);
+    has_sent(&rt, &link, 70, true);
 }
 
 #[test]
-fn a_send_that_failed_was_not_passed_on(rt: HostRuntime) -> Result<(), Fail> {
-    let mut link = paced(rt.alloc(), 1, 0)?;
+fn a_send_that_failed_was_not_passed_on(rt: HostRuntime) {
+    let mut link = paced(&rt, rt.alloc(), 1, 0);
     passes_on(&rt, &mut link, HANDLER, 1, 1);
     for faults in [1, 2] {
         fails(&rt, &mut link, HANDLER, &[2]);
         has_faults(&rt, &link, faults);
     }
     passes_on(&rt, &mut link, HANDLER, 1, 1);
-    Ok(())
+}
+
+// Two datagrams are sent, of which the second is lost and its repeat waits.
+fn loses_one<L: Link>(rt: &impl Abort, link: &mut L, other: &mut ScriptLink) {
+    for byte in [1, 2, 2] {
+        sends(rt, link, CLIENT, &[byte]);
+    }
+    gets(rt, other, Some((1, 1)));
+    gets(rt, other, None);
 }
 
 #[test]
-fn a_lost_datagram_is_sent_again_after_a_silence(rt: HostRuntime) -> Result<(), Fail> {
+fn a_lost_datagram_is_sent_again_after_a_silence(rt: HostRuntime) {
     let lossy = Script {
         drop_every: 2,
         ..Script::default()
     };
-    let (end, mut other) = ScriptLink::pair(rt.alloc(), lossy, Script::default(), 16)?;
-    let mut link = PacedLink::new(rt.alloc(), end, 2, 2)?;
-    for byte in [1, 2, 2] {
-        sends(&rt, &mut link, CLIENT, &[byte]);
-    }
-    gets(&rt, &mut other, Some((1, 1)));
-    gets(&rt, &mut other, None);
+    let (end, mut other) = ends(&rt, rt.alloc(), lossy);
+    let Ok(mut link) = PacedLink::new(rt.alloc(), end, 2, 2) else {
+        panic!(rt; "no pace");
+    };
+    loses_one(&rt, &mut link, &mut other);
     gets(&rt, &mut link, None);
     sends(&rt, &mut link, CLIENT, &[2]);
     gets(&rt, &mut other, Some((1, 2)));
     gets(&rt, &mut other, None);
-    Ok(())
 }
 
 // Whether a pace is made where the growth of this number is refused.
-fn is_made(alloc: Global, number: u64) -> Result<bool, Fail> {
-    let tape = TapeLink::new(alloc, 1)?;
+fn is_made(rt: &impl Abort, alloc: Global, number: u64) -> bool {
     let heap = Refusing::new(alloc, number);
-    Ok(match PacedLink::new(&heap, tape, 4, 2) {
+    match PacedLink::new(&heap, tape(rt, alloc, 1), 4, 2) {
         Ok(_) => true,
         Err(OutOfMemory) => false,
-    })
+    }
 }
 
 #[test]
-fn each_growth_of_a_pace_is_refused(rt: HostRuntime) -> Result<(), Fail> {
-    assert!(rt; !is_made(rt.alloc(), 1)?);
-    assert!(rt; is_made(rt.alloc(), 2)?);
-    Ok(())
+fn each_growth_of_a_pace_is_refused(rt: HostRuntime) {
+    assert!(rt; !is_made(&rt, rt.alloc(), 1));
+    assert!(rt; is_made(&rt, rt.alloc(), 2));
 }

@@ -10,8 +10,8 @@ use scoop_message::limits::BUFFER_LEN;
 use std::alloc::Global;
 use std::process::Abort;
 
-// Two ends, of which the first has this script.
-fn ends(rt: &impl Abort, alloc: Global, script: Script) -> (ScriptLink, ScriptLink) {
+/// Two ends, of which the first has this script.
+pub(super) fn ends(rt: &impl Abort, alloc: Global, script: Script) -> (ScriptLink, ScriptLink) {
     match ScriptLink::pair(alloc, script, Script::default(), 16) {
         Ok(ends) => ends,
         Err(OutOfMemory) => panic!(rt; "no links"),

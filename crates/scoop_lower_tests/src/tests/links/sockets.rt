@@ -4,7 +4,7 @@ use super::{CLIENT, HANDLER, fails, gets, has_faults, sends, sends_at_the_last_c
 use scoop_link::{Addresses, Link, LinkFault, OpenLinkError, Peers, UdpLink};
 use scoop_message::limits::BUFFER_LEN;
 use scoop_refusing::Refusing;
-use std::alloc::Global;
+use std::alloc::{Allocator, Global};
 use std::net::{IpAddr, Ipv4Addr, Ipv6Addr, Net, SocketAddr};
 use std::process::Abort;
 use std::rt::Clock;
@@ -17,8 +17,31 @@ const OWN: Peers<'static> = Peers {
 };
 
 // What refuses a link to these peers.
-fn refusal<R: Net>(rt: &R, alloc: Global, peers: Peers<'_>) -> Option<OpenLinkError> {
+fn refusal<R: Net, A: Allocator>(rt: &R, alloc: A, peers: Peers<'_>) -> Option<OpenLinkError> {
     UdpLink::open(rt, alloc, peers).err()
+}
+
+// What refuses a link to these addresses.
+fn refusal_at<R: Net, A: Allocator>(
+    rt: &R,
+    alloc: A,
+    addresses: Addresses<'_>,
+) -> Option<OpenLinkError> {
+    UdpLink::open_at(rt, alloc, addresses).err()
+}
+
+fn udp<R: Net + Abort>(rt: &R, alloc: Global, peers: Peers<'_>) -> UdpLink {
+    match UdpLink::open(rt, alloc, peers) {
+        Ok(link) => link,
+        Err(_) => panic!(rt; "no link"),
+    }
+}
+
+fn udp_at<R: Net + Abort>(rt: &R, alloc: Global, addresses: Addresses<'_>) -> UdpLink {
+    match UdpLink::open_at(rt, alloc, addresses) {
+        Ok(link) => link,
+        Err(_) => panic!(rt; "no link"),
+    }
 }
 
 fn carries(rt: &impl Abort, from: &mut UdpLink, to: &mut UdpLink, bytes: &[u8], kept: usize) {
@@ -26,54 +49,56 @@ fn carries(rt: &impl Abort, from: &mut UdpLink, to: &mut UdpLink, bytes: &[u8], 
     gets(rt, to, Some((kept, 9)));
 }
 
+// Datagrams go up to their limit, and longer ones are cut.
+fn carries_all(rt: &impl Abort, from: &mut UdpLink, to: &mut UdpLink) {
+    carries(rt, from, to, &[9; 3], 3);
+    carries(rt, from, to, &[9; 192], 192);
+    carries(rt, from, to, &[9; 200], 192);
+    sends(rt, from, CLIENT, &[]);
+    gets(rt, to, Some((0, 0)));
+}
+
 #[test]
-fn datagrams_go_from_link_to_link(rt: HostRuntime) -> Result<(), Fail> {
-    let mut receiver = UdpLink::open(&rt, rt.alloc(), OWN)?;
+fn datagrams_go_from_link_to_link(rt: HostRuntime) {
+    let mut receiver = udp(&rt, rt.alloc(), OWN);
     let peers = Peers {
         own: 47312,
         table: &[(HANDLER, 47312), (CLIENT, 47311), (CLIENT, 47312)],
     };
-    let mut sender = UdpLink::open(&rt, rt.alloc(), peers)?;
-    carries(&rt, &mut sender, &mut receiver, &[9; 3], 3);
-    carries(&rt, &mut sender, &mut receiver, &[9; 192], 192);
-    carries(&rt, &mut sender, &mut receiver, &[9; 200], 192);
-    sends(&rt, &mut sender, CLIENT, &[]);
-    gets(&rt, &mut receiver, Some((0, 0)));
+    let mut sender = udp(&rt, rt.alloc(), peers);
+    carries_all(&rt, &mut sender, &mut receiver);
     sends(&rt, &mut sender, HANDLER, &[4]);
     gets(&rt, &mut sender, Some((1, 4)));
     has_faults(&rt, &sender, 0);
     has_faults(&rt, &receiver, 0);
-    Ok(())
 }
 
-fn took_a_while<R: Clock>(rt: &R, link: &mut UdpLink) -> Result<bool, Fail> {
-    let start = Instant::now(rt)?;
+fn took_a_while<R: Clock>(rt: &R, link: &mut UdpLink) -> Option<bool> {
+    let start = Instant::now(rt).ok()?;
     let mut buffer = [0; BUFFER_LEN];
     let got = link.receive(&mut buffer);
-    Ok(got == Ok(None) && start.elapsed(rt)? >= Duration::from_millis(5))
+    Some(got == Ok(None) && start.elapsed(rt).ok()? >= Duration::from_millis(5))
 }
 
 #[test]
-fn a_receive_waits(rt: HostRuntime) -> Result<(), Fail> {
+fn a_receive_waits(rt: HostRuntime) {
     let own = Peers {
         own: 47316,
         table: &[],
     };
-    let mut link = UdpLink::open(&rt, rt.alloc(), own)?;
-    assert!(rt; took_a_while(&rt, &mut link)?);
-    Ok(())
+    let mut link = udp(&rt, rt.alloc(), own);
+    assert_eq!(rt; took_a_while(&rt, &mut link), Some(true));
 }
 
 #[test]
-fn a_port_is_taken_once(rt: HostRuntime) -> Result<(), Fail> {
+fn a_port_is_taken_once(rt: HostRuntime) {
     let own = Peers {
         own: 47317,
         table: &[],
     };
-    let first = UdpLink::open(&rt, rt.alloc(), own)?;
+    let first = udp(&rt, rt.alloc(), own);
     assert_eq!(rt; refusal(&rt, rt.alloc(), own), Some(OpenLinkError::Fault));
     has_faults(&rt, &first, 0);
-    Ok(())
 }
 
 #[test]
@@ -88,6 +113,16 @@ fn a_port_is_not_0(rt: HostRuntime) {
     );
 }
 
+// What the system refuses is a fault, and a party without an address none.
+fn refuses(rt: &impl Abort, link: &mut UdpLink, too_long: &[u8]) {
+    fails(rt, link, CLIENT, too_long);
+    sends(rt, link, HANDLER, too_long);
+    has_faults(rt, link, 1);
+    let refused = sends_at_the_last_count(link, CLIENT, too_long);
+    assert_eq!(rt; refused, Err(LinkFault));
+    has_faults(rt, link, 2);
+}
+
 #[test]
 fn what_the_system_refuses_is_a_fault_until_the_count_is_full(rt: HostRuntime) -> Result<(), Fail> {
     let too_long = vec![in rt.alloc(); 0; 70_000]?;
@@ -95,13 +130,7 @@ fn what_the_system_refuses_is_a_fault_until_the_count_is_full(rt: HostRuntime) -
         own: 47313,
         table: &[(CLIENT, 47314)],
     };
-    let mut link = UdpLink::open(&rt, rt.alloc(), peers)?;
-    fails(&rt, &mut link, CLIENT, &too_long);
-    sends(&rt, &mut link, HANDLER, &too_long);
-    has_faults(&rt, &link, 1);
-    let refused = sends_at_the_last_count(&mut link, CLIENT, &too_long);
-    assert_eq!(rt; refused, Err(LinkFault));
-    has_faults(&rt, &link, 2);
+    refuses(&rt, &mut udp(&rt, rt.alloc(), peers), &too_long);
     Ok(())
 }
 
@@ -115,57 +144,48 @@ fn at(octet: u8, port: u16) -> SocketAddr {
     SocketAddr::new(ip, port)
 }
 
+fn go_and_come(rt: &impl Abort, first: &mut UdpLink, second: &mut UdpLink) {
+    carries(rt, first, second, &[9; 171], 171);
+    sends(rt, second, HANDLER, &[4]);
+    gets(rt, first, Some((1, 4)));
+    sends(rt, second, CLIENT, &[5]);
+    has_faults(rt, first, 0);
+    has_faults(rt, second, 0);
+}
+
 // A datagram goes from an address to another one and back.
-fn go_between<R: Net + Abort>(
-    rt: &R,
-    alloc: Global,
-    here: SocketAddr,
-    there: SocketAddr,
-) -> Result<(), Fail> {
-    let mut first = UdpLink::open_at(
-        rt,
-        alloc,
-        Addresses {
-            own: here,
-            table: &[(CLIENT, there)],
-        },
-    )?;
-    let mut second = UdpLink::open_at(
-        rt,
-        alloc,
-        Addresses {
-            own: there,
-            table: &[(HANDLER, here)],
-        },
-    )?;
-    carries(rt, &mut first, &mut second, &[9; 171], 171);
-    sends(rt, &mut second, HANDLER, &[4]);
-    gets(rt, &mut first, Some((1, 4)));
-    sends(rt, &mut second, CLIENT, &[5]);
-    has_faults(rt, &first, 0);
-    has_faults(rt, &second, 0);
-    Ok(())
+fn go_between<R: Net + Abort>(rt: &R, alloc: Global, here: SocketAddr, there: SocketAddr) {
+    let first = Addresses {
+        own: here,
+        table: &[(CLIENT, there)],
+    };
+    let second = Addresses {
+        own: there,
+        table: &[(HANDLER, here)],
+    };
+    let (mut first, mut second) = (udp_at(rt, alloc, first), udp_at(rt, alloc, second));
+    go_and_come(rt, &mut first, &mut second);
 }
 
 #[test]
-fn datagrams_go_by_ipv6(rt: HostRuntime) -> Result<(), Fail> {
-    go_between(&rt, rt.alloc(), at(0, 47321), at(0, 47322))
+fn datagrams_go_by_ipv6(rt: HostRuntime) {
+    go_between(&rt, rt.alloc(), at(0, 47321), at(0, 47322));
 }
 
 #[test]
-fn datagrams_go_between_addresses(rt: HostRuntime) -> Result<(), Fail> {
-    go_between(&rt, rt.alloc(), at(2, 47323), at(3, 47323))
+fn datagrams_go_between_addresses(rt: HostRuntime) {
+    go_between(&rt, rt.alloc(), at(2, 47323), at(3, 47323));
 }
 
 #[test]
-fn an_address_is_taken_once_and_has_a_port(rt: HostRuntime) -> Result<(), Fail> {
+fn an_address_is_taken_once_and_has_a_port(rt: HostRuntime) {
     let own = Addresses {
         own: at(2, 47324),
         table: &[],
     };
-    let _first = UdpLink::open_at(&rt, rt.alloc(), own)?;
+    let _first = udp_at(&rt, rt.alloc(), own);
     assert_eq!(rt;
-        UdpLink::open_at(&rt, rt.alloc(), own).err(),
+        refusal_at(&rt, rt.alloc(), own),
         Some(OpenLinkError::Fault)
     );
     let portless = Addresses {
@@ -173,26 +193,24 @@ fn an_address_is_taken_once_and_has_a_port(rt: HostRuntime) -> Result<(), Fail> 
         table: &[(CLIENT, at(2, 47324)), (HANDLER, at(2, 0))],
     };
     assert_eq!(rt;
-        UdpLink::open_at(&rt, rt.alloc(), portless).err(),
+        refusal_at(&rt, rt.alloc(), portless),
         Some(OpenLinkError::Fault)
     );
-    Ok(())
 }
 
 #[test]
-fn an_address_of_the_other_family_is_a_fault(rt: HostRuntime) -> Result<(), Fail> {
+fn an_address_of_the_other_family_is_a_fault(rt: HostRuntime) {
     let mixed = Addresses {
         own: at(2, 47326),
         table: &[(CLIENT, at(0, 47326))],
     };
-    let mut link = UdpLink::open_at(&rt, rt.alloc(), mixed)?;
+    let mut link = udp_at(&rt, rt.alloc(), mixed);
     fails(&rt, &mut link, CLIENT, &[1]);
     has_faults(&rt, &link, 1);
-    Ok(())
 }
 
 #[test]
-fn each_growth_of_a_table_is_refused(rt: HostRuntime) -> Result<(), Fail> {
+fn each_growth_of_a_table_is_refused(rt: HostRuntime) {
     let ports = Peers {
         own: 47327,
         table: &[(CLIENT, 47328)],
@@ -203,12 +221,11 @@ fn each_growth_of_a_table_is_refused(rt: HostRuntime) -> Result<(), Fail> {
     };
     let heap = Refusing::new(rt.alloc(), 1);
     let refused = Some(OpenLinkError::OutOfMemory);
-    assert_eq!(rt; UdpLink::open(&rt, &heap, ports).err(), refused);
+    assert_eq!(rt; refusal(&rt, &heap, ports), refused);
     heap.refuse(1);
-    assert_eq!(rt; UdpLink::open_at(&rt, &heap, addresses).err(), refused);
+    assert_eq!(rt; refusal_at(&rt, &heap, addresses), refused);
     heap.refuse(2);
-    assert_eq!(rt; UdpLink::open(&rt, &heap, ports).err(), None);
+    assert_eq!(rt; refusal(&rt, &heap, ports), None);
     heap.refuse(2);
-    assert_eq!(rt; UdpLink::open_at(&rt, &heap, addresses).err(), None);
-    Ok(())
+    assert_eq!(rt; refusal_at(&rt, &heap, addresses), None);
 }

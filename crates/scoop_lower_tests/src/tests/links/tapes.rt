@@ -2,18 +2,10 @@
 
 ghost use Rattle.std.specs.Prelude.{◌≡◌, ◌-◌, ◌^◌, length, IsTrue};
 
-use super::{CLIENT, HANDLER, fails, gets, has_faults, sends};
+use super::{CLIENT, HANDLER, fails, feeds, gets, has_faults, sends, tape};
 use scoop_link::{Link, Party, TapeLink};
 use scoop_message::OutOfMemory;
-use std::alloc::Global;
 use std::process::Abort;
-
-fn tape(rt: &impl Abort, alloc: Global, room: usize) -> TapeLink {
-    match TapeLink::new(alloc, room) {
-        Ok(tape) => tape,
-        Err(OutOfMemory) => panic!(rt; "no tape"),
-    }
-}
 
 // Whether the i-th datagram that was sent went to this party with these bytes.
 fn was_sent(tape: &TapeLink, i: usize, to: Party, bytes: &[u8]) -> bool {
@@ -31,18 +23,19 @@ fn has_not_sent(rt: &impl Abort, tape: &TapeLink, i: usize) {
     assert!(rt; tape.sent(i).is_none());
 }
 
-fn feeds(rt: &impl Abort, tape: &mut TapeLink, bytes: &[u8], to_come: usize) {
-    assert!(rt; tape.feed(bytes).is_ok());
+// The tape is fed, and has so many datagrams to give then.
+fn comes(rt: &impl Abort, tape: &mut TapeLink, bytes: &[u8], to_come: usize) {
+    feeds(rt, tape, bytes);
     assert_eq!(rt; tape.to_come(), to_come);
 }
 
 #[test]
 fn a_tape_gives_what_it_was_fed(rt: HostRuntime) {
     let mut tape = tape(&rt, rt.alloc(), 8);
-    feeds(&rt, &mut tape, &[5], 1);
-    feeds(&rt, &mut tape, &[5; 192], 2);
-    feeds(&rt, &mut tape, &[5; 200], 3);
-    feeds(&rt, &mut tape, &[6], 4);
+    comes(&rt, &mut tape, &[5], 1);
+    comes(&rt, &mut tape, &[5; 192], 2);
+    comes(&rt, &mut tape, &[5; 200], 3);
+    comes(&rt, &mut tape, &[6], 4);
     for wanted in [(1, 5), (192, 5), (192, 5), (1, 6)] {
         gets(&rt, &mut tape, Some(wanted));
     }

@@ -1,7 +1,7 @@
 //! Keys as text.
 
 use super::BYTES;
-use crate::tests::links::{HANDLER, sends};
+use crate::tests::links::{HANDLER, sends, tape};
 use scoop_link::TapeLink;
 use scoop_seal::{Key, KeyError, SealedLink, TAG_LEN, hmac};
 use std::alloc::Global;
@@ -30,18 +30,29 @@ fn refusal(text: &[u8]) -> Option<KeyError> {
     Key::read(text).err()
 }
 
-// The digits with this end are the key of the bytes from 0 to 31: it seals as these do.
-fn is_read(rt: &impl Abort, alloc: Global, end: &[u8]) -> Result<(), Fail> {
+// The key of the digits with this end.
+fn key(rt: &impl Abort, end: &[u8]) -> Key {
     let mut buffer = [0; 70];
-    let key = Key::read(text_of(&mut buffer, DIGITS, end))?;
-    let mut link = SealedLink::new(TapeLink::new(alloc, 1)?, key);
-    sends(rt, &mut link, HANDLER, &BYTES);
+    match Key::read(text_of(&mut buffer, DIGITS, end)) {
+        Ok(key) => key,
+        Err(_) => panic!(rt; "no key"),
+    }
+}
+
+// The link seals as the key of the bytes from 0 to 31 does.
+fn has_sealed(rt: &impl Abort, link: &SealedLink<TapeLink>) {
     let code = hmac(&NUMBERS, &BYTES);
     match link.inner().sent(0) {
         Some((_, sent)) => assert!(rt; sent.ends_with(&code[..TAG_LEN])),
         None => panic!(rt; "nothing sent"),
     }
-    Ok(())
+}
+
+// The digits with this end are the key of the bytes from 0 to 31.
+fn is_read(rt: &impl Abort, alloc: Global, end: &[u8]) {
+    let mut link = SealedLink::new(tape(rt, alloc, 1), key(rt, end));
+    sends(rt, &mut link, HANDLER, &BYTES);
+    has_sealed(rt, &link);
 }
 
 // The digits with this end are no key.
@@ -52,11 +63,10 @@ fn is_refused(rt: &impl Abort, digits: &[u8], end: &[u8], wanted: KeyError) {
 }
 
 #[test]
-fn a_key_has_an_end_of_line_or_none(rt: HostRuntime) -> Result<(), Fail> {
+fn a_key_has_an_end_of_line_or_none(rt: HostRuntime) {
     for end in [b"".as_slice(), b"\n", b"\r\n"] {
-        is_read(&rt, rt.alloc(), end)?;
+        is_read(&rt, rt.alloc(), end);
     }
-    Ok(())
 }
 
 #[test]

@@ -3,14 +3,14 @@
 ghost use Rattle.std.specs.Prelude.{◌≡◌, ◌-◌, ◌^◌, None};
 
 use super::BYTES;
-use crate::tests::links::{CLIENT, HANDLER, fails, gets, has_faults, sends};
+use crate::tests::links::{CLIENT, HANDLER, fails, feeds, gets, has_faults, sends, tape};
 use scoop_link::{Link, LinkFault, PacedLink, Party, Peers, TapeLink, UdpLink};
+use scoop_message::OutOfMemory;
 use scoop_message::limits::BUFFER_LEN;
 use scoop_seal::{Key, SealedLink, TAG_LEN, hmac};
 use std::alloc::Global;
 use std::net::Net;
 use std::process::Abort;
-use std::test::Fail;
 
 const KEY: [u8; 32] = [5; 32];
 
@@ -32,96 +32,124 @@ fn has_refused<L: Link>(rt: &impl Abort, link: &SealedLink<L>, refused: u64) {
     assert_eq!(rt; link.refused(), refused);
 }
 
-#[test]
-fn bytes_are_sent_with_their_tag(rt: HostRuntime) -> Result<(), Fail> {
-    let mut link = sealed(TapeLink::new(rt.alloc(), 2)?);
-    sends(&rt, &mut link, HANDLER, &BYTES);
-    let wanted = sealed_with(&KEY);
+// The link has sent these bytes, and nothing else.
+fn has_sent(rt: &impl Abort, link: &SealedLink<TapeLink>, to: Party, bytes: &[u8]) {
     match link.inner().sent(0) {
-        Some((to, sent)) => assert!(rt; to == HANDLER && sent == wanted.as_slice()),
+        Some((receiver, sent)) => assert!(rt; receiver == to && sent == bytes),
         None => panic!(rt; "nothing sent"),
     }
-    has_faults(&rt, &link, 0);
-    Ok(())
+    assert!(rt; link.inner().sent(1).is_none());
 }
 
 #[test]
-fn each_bit_matters(rt: HostRuntime) -> Result<(), Fail> {
-    let mut tape = TapeLink::new(rt.alloc(), 0)?;
+fn bytes_are_sent_with_their_tag(rt: HostRuntime) {
+    let mut link = sealed(tape(&rt, rt.alloc(), 2));
+    sends(&rt, &mut link, HANDLER, &BYTES);
+    has_sent(&rt, &link, HANDLER, &sealed_with(&KEY));
+    has_faults(&rt, &link, 0);
+}
+
+// Feeds the sealed bytes with each of their bits turned.
+fn feeds_turned(rt: &impl Abort, tape: &mut TapeLink) {
     let datagram = sealed_with(&KEY);
     for i in 0..42usize {
         for bit in [1, 2, 4, 8, 16, 32, 64, 128] {
             let mut turned = datagram;
             turned[i] ^= bit;
-            tape.feed(&turned)?;
+            feeds(rt, tape, &turned);
         }
     }
-    tape.feed(&datagram)?;
+}
+
+// The link receives such a datagram, and has refused so many in all then.
+fn gets_past(
+    rt: &impl Abort,
+    link: &mut SealedLink<TapeLink>,
+    wanted: Option<(usize, u8)>,
+    refused: u64,
+) {
+    gets(rt, link, wanted);
+    has_refused(rt, link, refused);
+}
+
+#[test]
+fn each_bit_matters(rt: HostRuntime) {
+    let mut tape = tape(&rt, rt.alloc(), 0);
+    feeds_turned(&rt, &mut tape);
+    feeds(&rt, &mut tape, &sealed_with(&KEY));
     let mut link = sealed(tape);
     for refused in [64, 128, 192, 256, 320] {
-        gets(&rt, &mut link, None);
-        has_refused(&rt, &link, refused);
+        gets_past(&rt, &mut link, None, refused);
     }
-    gets(&rt, &mut link, Some((26, 3)));
-    has_refused(&rt, &link, 336);
-    gets(&rt, &mut link, None);
-    has_refused(&rt, &link, 336);
+    gets_past(&rt, &mut link, Some((26, 3)), 336);
+    gets_past(&rt, &mut link, None, 336);
     has_faults(&rt, &link, 0);
-    Ok(())
 }
 
 // Feeds so many of the first bytes.
-fn feed_front(tape: &mut TapeLink, datagram: &[u8; 42], len: usize) -> Result<(), Fail> {
-    tape.feed(&datagram[..len.min(42)])?;
-    Ok(())
+fn feeds_front(rt: &impl Abort, tape: &mut TapeLink, datagram: &[u8; 42], len: usize) {
+    feeds(rt, tape, &datagram[..len.min(42)]);
 }
 
-#[test]
-fn forged_datagrams_are_refused_and_the_link_goes_on(rt: HostRuntime) -> Result<(), Fail> {
+// Feeds forged and cut datagrams, and last a sealed one, and one whose sealed bytes are none.
+fn feeds_forged(rt: &impl Abort, tape: &mut TapeLink) {
     let datagram = sealed_with(&KEY);
-    let mut tape = TapeLink::new(rt.alloc(), 0)?;
-    tape.feed(&sealed_with(&OTHER_KEY))?;
-    tape.feed(&BYTES)?;
-    feed_front(&mut tape, &datagram, 41)?;
-    feed_front(&mut tape, &datagram, 15)?;
-    tape.feed(&[])?;
-    tape.feed(&[3; 192])?;
-    tape.feed(&datagram)?;
-    tape.feed(&hmac(&KEY, &[])[..16])?;
-    let mut link = sealed(tape);
-    gets(&rt, &mut link, Some((26, 3)));
-    has_refused(&rt, &link, 6);
+    feeds(rt, tape, &sealed_with(&OTHER_KEY));
+    feeds(rt, tape, &BYTES);
+    feeds_front(rt, tape, &datagram, 41);
+    feeds_front(rt, tape, &datagram, 15);
+    feeds(rt, tape, &[]);
+    feeds(rt, tape, &[3; 192]);
+    feeds(rt, tape, &datagram);
+    feeds(rt, tape, &hmac(&KEY, &[])[..16]);
+}
+
+fn gets_nothing(rt: &impl Abort, link: &mut SealedLink<TapeLink>) {
     let mut buffer = [0; BUFFER_LEN];
     assert_eq!(rt; link.receive(&mut buffer), Ok(Some(0)));
-    has_refused(&rt, &link, 6);
-    has_faults(&rt, &link, 0);
-    Ok(())
 }
 
 #[test]
-fn a_send_has_room_for_176_bytes(rt: HostRuntime) -> Result<(), Fail> {
-    let mut link = sealed(TapeLink::new(rt.alloc(), 1)?);
-    sends(&rt, &mut link, CLIENT, &[9; 176]);
-    fails(&rt, &mut link, CLIENT, &[9; 177]);
-    has_faults(&rt, &link, 1);
-    let mut tape = TapeLink::new(rt.alloc(), 0)?;
+fn forged_datagrams_are_refused_and_the_link_goes_on(rt: HostRuntime) {
+    let mut tape = tape(&rt, rt.alloc(), 0);
+    feeds_forged(&rt, &mut tape);
+    let mut link = sealed(tape);
+    gets_past(&rt, &mut link, Some((26, 3)), 6);
+    gets_nothing(&rt, &mut link);
+    has_refused(&rt, &link, 6);
+    has_faults(&rt, &link, 0);
+}
+
+// Feeds the one datagram of this length that the link sent.
+fn feeds_sent(rt: &impl Abort, tape: &mut TapeLink, link: &SealedLink<TapeLink>, len: usize) {
     match link.inner().sent(0) {
-        Some((_, sent)) => tape.feed(sent)?,
+        Some((_, sent)) => {
+            assert_eq!(rt; sent.len(), len);
+            feeds(rt, tape, sent);
+        }
         None => panic!(rt; "nothing sent"),
     }
     assert!(rt; link.inner().sent(1).is_none());
-    gets(&rt, &mut sealed(tape), Some((176, 9)));
-    Ok(())
 }
 
 #[test]
-fn faults_are_counted_together_until_the_count_is_full(rt: HostRuntime) -> Result<(), Fail> {
-    let mut link = sealed(TapeLink::new(rt.alloc(), 0)?);
+fn a_send_has_room_for_176_bytes(rt: HostRuntime) {
+    let mut link = sealed(tape(&rt, rt.alloc(), 1));
+    sends(&rt, &mut link, CLIENT, &[9; 176]);
+    fails(&rt, &mut link, CLIENT, &[9; 177]);
+    has_faults(&rt, &link, 1);
+    let mut tape = tape(&rt, rt.alloc(), 0);
+    feeds_sent(&rt, &mut tape, &link, 192);
+    gets(&rt, &mut sealed(tape), Some((176, 9)));
+}
+
+#[test]
+fn faults_are_counted_together_until_the_count_is_full(rt: HostRuntime) {
+    let mut link = sealed(tape(&rt, rt.alloc(), 0));
     fails(&rt, &mut link, CLIENT, &BYTES);
     fails(&rt, &mut link, CLIENT, &[9; 177]);
     has_faults(&rt, &link, 2);
     has_faults(&rt, link.inner(), 1);
-    Ok(())
 }
 
 // A link that fails to send until its count of faults is full.
@@ -178,61 +206,89 @@ fn receives(link: &mut SealedLink<TapeLink>) -> Result<Option<usize>, LinkFault>
     link.receive(&mut [0; BUFFER_LEN])
 }
 
-#[test]
-fn the_count_of_refused_datagrams_stops(rt: HostRuntime) -> Result<(), Fail> {
-    let mut tape = TapeLink::new(rt.alloc(), 0)?;
-    tape.feed(&BYTES)?;
-    let mut link = sealed(tape);
-    assert_eq!(rt; receives(&mut link), Ok(None));
-    has_refused(&rt, &link, 1);
-    Ok(())
+fn receives_nothing(rt: &impl Abort, link: &mut SealedLink<TapeLink>) {
+    assert_eq!(rt; receives(link), Ok(None));
 }
 
-fn udp<R: Net>(rt: &R, alloc: Global, own: u16, other: u16) -> Result<UdpLink, Fail> {
+#[test]
+fn the_count_of_refused_datagrams_stops(rt: HostRuntime) {
+    let mut tape = tape(&rt, rt.alloc(), 0);
+    feeds(&rt, &mut tape, &BYTES);
+    let mut link = sealed(tape);
+    receives_nothing(&rt, &mut link);
+    has_refused(&rt, &link, 1);
+}
+
+fn udp<R: Net + Abort>(rt: &R, alloc: Global, own: u16, other: u16) -> UdpLink {
     let peers = Peers {
         own,
         table: &[(CLIENT, other)],
     };
-    Ok(UdpLink::open(rt, alloc, peers)?)
+    match UdpLink::open(rt, alloc, peers) {
+        Ok(link) => link,
+        Err(_) => panic!(rt; "no link"),
+    }
+}
+
+fn sealed_udp<R: Net + Abort>(rt: &R, alloc: Global, own: u16, other: u16) -> SealedLink<UdpLink> {
+    SealedLink::new(udp(rt, alloc, own, other), Key::new(KEY))
+}
+
+fn paced(
+    rt: &impl Abort,
+    alloc: Global,
+    link: SealedLink<UdpLink>,
+) -> PacedLink<SealedLink<UdpLink>> {
+    match PacedLink::new(alloc, link, 2, 2) {
+        Ok(link) => link,
+        Err(OutOfMemory) => panic!(rt; "no pace"),
+    }
+}
+
+// Each of three datagrams is sent behind two forged ones.
+fn sends_and_forges<L: Link>(rt: &impl Abort, sender: &mut L, forger: &mut UdpLink) {
+    for _ in 0..3 {
+        sends(rt, forger, CLIENT, &BYTES);
+        sends(rt, forger, CLIENT, &sealed_with(&OTHER_KEY));
+        sends(rt, sender, CLIENT, &BYTES);
+    }
+}
+
+// The first datagram is heard, its repeats were held back, and the forged ones are refused.
+fn hears_no_forger(rt: &impl Abort, receiver: &mut SealedLink<UdpLink>) {
+    gets(rt, receiver, Some((26, 3)));
+    gets(rt, receiver, None);
+    has_refused(rt, receiver, 6);
 }
 
 #[test]
-fn a_paced_and_sealed_socket_hears_no_forger(rt: HostRuntime) -> Result<(), Fail> {
-    let sender = SealedLink::new(udp(&rt, rt.alloc(), 47331, 47332)?, Key::new(KEY));
-    let mut sender = PacedLink::new(rt.alloc(), sender, 2, 2)?;
-    let mut forger = udp(&rt, rt.alloc(), 47333, 47332)?;
-    let receiver = udp(&rt, rt.alloc(), 47332, 47331)?;
-    let mut receiver = SealedLink::new(receiver, Key::new(KEY));
-    for _ in 0..3 {
-        sends(&rt, &mut forger, CLIENT, &BYTES);
-        sends(&rt, &mut forger, CLIENT, &sealed_with(&OTHER_KEY));
-        sends(&rt, &mut sender, CLIENT, &BYTES);
-    }
-    gets(&rt, &mut receiver, Some((26, 3)));
-    gets(&rt, &mut receiver, None);
-    has_refused(&rt, &receiver, 6);
+fn a_paced_and_sealed_socket_hears_no_forger(rt: HostRuntime) {
+    let alloc = rt.alloc();
+    let mut sender = paced(&rt, alloc, sealed_udp(&rt, alloc, 47331, 47332));
+    let mut forger = udp(&rt, alloc, 47333, 47332);
+    let mut receiver = sealed_udp(&rt, alloc, 47332, 47331);
+    sends_and_forges(&rt, &mut sender, &mut forger);
+    hears_no_forger(&rt, &mut receiver);
     sends(&rt, &mut receiver, CLIENT, &[4; 30]);
     gets(&rt, &mut sender, Some((30, 4)));
-    Ok(())
+}
+
+// The link receives `lock`, and has passed over one datagram.
+fn opens(rt: &impl Abort, link: &mut SealedLink<TapeLink>) {
+    let mut buffer = [0; BUFFER_LEN];
+    assert_eq!(rt; link.receive(&mut buffer), Ok(Some(4)));
+    assert!(rt; buffer.starts_with(b"lock"));
+    has_refused(rt, link, 1);
 }
 
 /// The example of the crate.
 #[test]
-fn a_seal_is_opened_by_the_key(rt: HostRuntime) -> Result<(), Fail> {
-    let alloc = rt.alloc();
-    let key = Key::new([5; 32]);
-    let mut link = SealedLink::new(TapeLink::new(alloc, 1)?, key);
-    link.send(HANDLER, b"lock")?;
-    let (_, sealed) = link.inner().sent(0).ok_or("nothing sent")?;
-    assert_eq!(rt; sealed.len(), 4 + TAG_LEN);
+fn a_seal_is_opened_by_the_key(rt: HostRuntime) {
+    let mut link = SealedLink::new(tape(&rt, rt.alloc(), 1), Key::new([5; 32]));
+    sends(&rt, &mut link, HANDLER, b"lock");
     // who has the key gets the bytes, and what came without their tag is passed over
-    let mut tape = TapeLink::new(alloc, 0)?;
-    tape.feed(b"forged")?;
-    tape.feed(sealed)?;
-    let mut other = SealedLink::new(tape, key);
-    let mut buffer = [0; BUFFER_LEN];
-    assert_eq!(rt; other.receive(&mut buffer), Ok(Some(4)));
-    assert!(rt; buffer.starts_with(b"lock"));
-    assert_eq!(rt; other.refused(), 1);
-    Ok(())
+    let mut tape = tape(&rt, rt.alloc(), 0);
+    feeds(&rt, &mut tape, b"forged");
+    feeds_sent(&rt, &mut tape, &link, 4 + TAG_LEN);
+    opens(&rt, &mut SealedLink::new(tape, Key::new([5; 32])));
 }
