@@ -4,7 +4,8 @@ use clap::Error;
 use clap::error::ErrorKind;
 use scoop_demo::{RunError, WordsError};
 use scoop_keeper::KeeperError;
-use scoop_message::OutOfMemory;
+use scoop_message::{ClientId, OutOfMemory};
+use scoop_runtime::RuntimeError;
 use scoop_show::ShowError;
 use std::alloc::{AllocError, AllocFailed};
 
@@ -27,6 +28,14 @@ pub enum Failure {
     Run(RunError),
     /// The demo ended early.
     Show(ShowError),
+    /// A number of the command line is out of its range.
+    Ranges,
+    /// The store has no incarnation of this client.
+    NeverRan(ClientId),
+    /// A node or a client ended early.
+    Runtime(RuntimeError),
+    /// The user has been told, and the program ends with this status.
+    Told(u8),
 }
 
 impl Failure {
@@ -62,6 +71,19 @@ impl Failure {
                 let _ = eprintln!(rt; "scoop: {error}");
                 error.status()
             }
+            Failure::Ranges => {
+                let _ = eprintln!(rt; "scoop: --executors is 1 to 64, and --history 2 to 1000000");
+                2
+            }
+            Failure::NeverRan(client) => {
+                let _ = eprintln!(rt; "scoop: store: NoIncarnation {client}");
+                3
+            }
+            Failure::Runtime(error) => {
+                let _ = eprintln!(rt; "scoop: {error}");
+                error.status()
+            }
+            Failure::Told(status) => status,
         }
     }
 }
@@ -92,6 +114,12 @@ impl From<RunError> for Failure {
 impl From<ShowError> for Failure {
     fn from(error: ShowError) -> Failure {
         Failure::Show(error)
+    }
+}
+
+impl From<RuntimeError> for Failure {
+    fn from(error: RuntimeError) -> Failure {
+        Failure::Runtime(error)
     }
 }
 

@@ -3,20 +3,28 @@
 
 mod answering;
 mod arguments;
+mod asking;
+mod checking;
 mod failure;
 mod framing;
 mod playing;
+mod serving;
 mod showing;
 mod storing;
+mod system_file;
+mod typed_lines;
 
 use answering::answer;
 use arguments::words;
+use asking::run_client;
+use checking::check;
 use clap::ArgMatches;
 use failure::Failure;
 use framing::frame;
 use playing::play;
 use scoop_classes::DemoClass;
 use scoop_command_line::command;
+use serving::serve_node;
 use showing::demonstrate;
 use std::net::Net;
 use std::process::ExitCode;
@@ -55,6 +63,9 @@ fn run<T: Threads + Wait + Clock + Net + Sync>(
         Some(("world", given)) => play(rt, given)?,
         Some(("frame", given)) => frame(rt, given)?,
         Some(("demo", given)) => return demonstrate(rt, threads, given),
+        Some(("check", given)) => check(rt, given)?,
+        Some(("node", given)) => serve_node(rt, threads, given)?,
+        Some(("client", given)) => run_client(rt, threads, given)?,
         _ => {}
     }
     Ok(0)

@@ -1,8 +1,9 @@
 //! Stores that are in files.
 
 use scoop_keeper::KeeperError;
+use scoop_message::ClientId;
 use scoop_record::Store;
-use sqlite::{Connection, Error, ErrorCode, File, FileStore};
+use sqlite::{Connection, Error, ErrorCode, File, FileStore, params};
 use std::fs;
 
 /// A store in a file, with its log beside it.
@@ -22,6 +23,30 @@ pub fn adopt(rt: &HostRuntime, path: &str) -> Result<FiledStore, KeeperError> {
     }
     let connection = open(rt, path)?;
     Store::adopt(rt.alloc(), connection)
+}
+
+/// The store that is in the file, where it has an incarnation of this client.
+pub fn adopt_for(
+    rt: &HostRuntime,
+    path: &str,
+    client: ClientId,
+) -> Result<Option<FiledStore>, KeeperError> {
+    let mut connection = adopt(rt, path)?.into_connection();
+    if !has_incarnation(&mut connection, client)? {
+        return Ok(None);
+    }
+    Ok(Some(Store::adopt(rt.alloc(), connection)?))
+}
+
+// Whether the client has an incarnation there.
+fn has_incarnation(
+    connection: &mut Connection<FileStore<File>>,
+    client: ClientId,
+) -> Result<bool, KeeperError> {
+    match connection.query_all("SELECT inc FROM clients WHERE c = ?1", params![client.0]) {
+        Ok(rows) => Ok(!rows.is_empty()),
+        Err(error) => Err(refusal(error)),
+    }
 }
 
 /// Copies the log into the file, so that the file is whole without it.

@@ -11,8 +11,11 @@
 //! ```
 #![tactic(auto)]
 
+mod system_commands;
+
 use clap::{Arg, ArgAction, Command, value_parser};
 use std::alloc::{AllocError, Global};
+use system_commands::{check_command, client_command, node_command};
 
 /// What the program and its subcommands take, with their help. A class is one of these names.
 pub fn command<'a>(alloc: Global, class_names: &'a [&'a str]) -> Result<Command<'a>, AllocError> {
@@ -26,7 +29,10 @@ pub fn command<'a>(alloc: Global, class_names: &'a [&'a str]) -> Result<Command<
         .subcommand(answer_command(alloc, class_names)?)?
         .subcommand(world_command(alloc)?)?
         .subcommand(frame_command(alloc)?)?
-        .subcommand(demo_command(alloc)?)
+        .subcommand(demo_command(alloc)?)?
+        .subcommand(check_command(alloc)?)?
+        .subcommand(node_command(alloc)?)?
+        .subcommand(client_command(alloc)?)
 }
 
 // The help of a command that runs objects, with the table of classes inside.

@@ -9,7 +9,7 @@ use std::test::Fail;
 // A command line without the program's name, and parts of what it is told, in order.
 type Case<'a> = (&'a [&'a str], &'a [&'a str]);
 
-const WRONG: [Case; 9] = [
+const WRONG: [Case; 12] = [
     (
         &["answer", "--new", "a", "--store", "b"],
         &["error: the argument '--new <FILE>' cannot be used with '--store <FILE>'"],
@@ -43,13 +43,40 @@ const WRONG: [Case; 9] = [
         &["demo", "again"],
         &["error: unexpected argument 'again' found"],
     ),
+    (
+        &["node", "1"],
+        &[
+            "error: the following required arguments were not provided:",
+            "--system <FILE>",
+        ],
+    ),
+    (
+        &["node", "one", "--system", "a"],
+        &["error: invalid value 'one' for '<N>'"],
+    ),
+    (
+        &["client", "7", "--system", "a"],
+        &[
+            "error: the following required arguments were not provided:",
+            "--store <FILE>",
+        ],
+    ),
 ];
 
 // Each help says what the command is for, its input, its output and its statuses, with an example.
-const HELP: [Case; 5] = [
+const HELP: [Case; 8] = [
     (
         &["--help"],
-        &["Runs SCOOP handlers", "answer", "world", "frame", "demo"],
+        &[
+            "Runs SCOOP handlers",
+            "answer",
+            "world",
+            "frame",
+            "demo",
+            "check",
+            "node",
+            "client",
+        ],
     ),
     (
         &["answer", "--help"],
@@ -97,6 +124,43 @@ const HELP: [Case; 5] = [
             "[default: 100000]",
             "--wait",
             "--weave",
+        ],
+    ),
+    (
+        &["check", "--help"],
+        &[
+            "Reads a file that says of a system",
+            "class stock 2 words",
+            "Statuses: 0; 1 ",
+            "Example: scoop check examples/bank.toml",
+            "Usage: scoop check <FILE>",
+        ],
+    ),
+    (
+        &["node", "--help"],
+        &[
+            "Runs a node of the system",
+            "Input: none.",
+            "Output: ",
+            "Statuses: 0; 1 ",
+            "Example: scoop node 1 --system examples/bank.toml",
+            "Usage: scoop node",
+            "--executors <K>",
+            "[default: 2]",
+            "--history <N>",
+            "[default: 100000]",
+        ],
+    ),
+    (
+        &["client", "--help"],
+        &[
+            "Runs a client of the system",
+            "condition failed T",
+            "Statuses: 0; 1 ",
+            "Example: scoop client 7 --system examples/bank.toml",
+            "Usage: scoop client",
+            "--turns <T>",
+            "[default: 100000]",
         ],
     ),
 ];

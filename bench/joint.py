@@ -1,0 +1,172 @@
+#!/usr/bin/env python3
+"""Measures running systems: python3 bench/joint.py [--program PATH] [--blocks N]
+
+Two nodes as processes of their own, with a cell each, and clients that set both cells in each of their blocks: how many
+blocks a second one client gets and eight get together, with the record in memory and in a file; how many queries a second
+one client gets; what one client gets while a flood of repeated datagrams comes to one node; and beside them bare round trips
+of a datagram between two processes, and the same joint blocks in Erlang (`erlang_joint.escript`), where `escript` is there. On a machine that others use too, take the best of
+several runs.
+"""
+import argparse, multiprocessing, os, shutil, socket, struct, subprocess, sys, tempfile, threading, time
+
+TOP = os.path.dirname(os.path.dirname(os.path.abspath(__file__)))
+NODES, CLIENTS = [1, 2], range(11, 20)
+
+
+def free_ports(count):
+    """Ports of this machine that nobody uses now."""
+    sockets = [socket.socket(socket.AF_INET, socket.SOCK_DGRAM) for _ in range(count)]
+    for s in sockets:
+        s.bind(("127.0.0.1", 0))
+    ports = [s.getsockname()[1] for s in sockets]
+    for s in sockets:
+        s.close()
+    return ports
+
+
+class System:
+    """Two nodes, with their record in memory or in files."""
+
+    def __init__(self, program, in_file):
+        self.program, self.folder = program, tempfile.mkdtemp(prefix="joint")
+        ports = free_ports(len(NODES) + len(CLIENTS))
+        self.ports = ports
+        text = ""
+        for n in NODES:
+            text += f'[[node]]\nnumber = {n}\naddress = "127.0.0.1:{ports[n - 1]}"\n'
+            text += f'[[handler]]\nnumber = {n}\nnode = {n}\nclass = "cell"\nwords = [0]\n'
+        for i, c in enumerate(CLIENTS):
+            text += f'[[client]]\nnumber = {c}\naddress = "127.0.0.1:{ports[2 + i]}"\n'
+        self.file = os.path.join(self.folder, "system.toml")
+        with open(self.file, "w") as f:
+            f.write(text)
+        self.nodes = []
+        for n in NODES:
+            words = [program, "node", str(n), "--system", self.file]
+            if in_file:
+                words += ["--new", os.path.join(self.folder, f"node-{n}.db")]
+            node = subprocess.Popen(words, stdout=subprocess.PIPE, stderr=subprocess.DEVNULL)
+            node.stdout.readline()
+            self.nodes.append(node)
+
+    def run_clients(self, clients, lines):
+        """How long the clients take together for these lines, the time in which they begin left out."""
+        begun = []
+        for c in clients:
+            words = [self.program, "client", str(c), "--system", self.file]
+            words += ["--new", os.path.join(self.folder, f"client-{c}.db")]
+            p = subprocess.Popen(words, stdin=subprocess.PIPE, stdout=subprocess.PIPE)
+            # it has greeted once it answers, though there is nothing to end
+            p.stdin.write(b"end\n")
+            p.stdin.flush()
+            p.stdout.readline()
+            begun.append(p)
+        start = time.perf_counter()
+        readers = [threading.Thread(target=p.communicate, args=(lines,)) for p in begun]
+        for r in readers:
+            r.start()
+        for r in readers:
+            r.join()
+        taken = time.perf_counter() - start
+        if any(p.returncode for p in begun):
+            sys.exit("a client failed")
+        return taken
+
+    def end(self):
+        for node in self.nodes:
+            node.kill()
+            node.wait()
+        shutil.rmtree(self.folder)
+
+
+def blocks(count):
+    return b"reserve 1 2\ncall 1 set 1\ncall 2 set 1\nend\n" * count
+
+
+def queries(count):
+    return b"reserve 1\n" + b"query 1 get\n" * count + b"end\n"
+
+
+def flood(port, stopped, counted):
+    """Sends one greeting again and again, as fast as it goes. Nobody is at the client's address."""
+    out = socket.socket(socket.AF_INET, socket.SOCK_DGRAM)
+    data = b"SQ" + struct.pack(">BBIIIIIH", 1, 1, 1, 19, 1, 0, 0, 0)
+    while not stopped.is_set():
+        out.sendto(data, ("127.0.0.1", port))
+        counted[0] += 1
+
+
+def echo(port):
+    """Sends back what comes, for ever."""
+    back = socket.socket(socket.AF_INET, socket.SOCK_DGRAM)
+    back.bind(("127.0.0.1", port))
+    while True:
+        data, address = back.recvfrom(2048)
+        back.sendto(data, address)
+
+
+def round_trips(count):
+    """How long so many round trips of 26 bytes take, to another process and back."""
+    [port] = free_ports(1)
+    other = multiprocessing.Process(target=echo, args=(port,), daemon=True)
+    other.start()
+    out = socket.socket(socket.AF_INET, socket.SOCK_DGRAM)
+    out.settimeout(0.1)
+    begun, left = None, count
+    while left > 0:
+        out.sendto(bytes(26), ("127.0.0.1", port))
+        try:
+            out.recv(2048)
+        except OSError:
+            continue
+        if begun is None:
+            begun = time.perf_counter()
+        else:
+            left -= 1
+    taken = time.perf_counter() - begun
+    other.kill()
+    return taken
+
+
+def tell(what, count, taken):
+    print(f"{what:55} {count / taken:9.0f} a second")
+    sys.stdout.flush()
+
+
+def main():
+    parser = argparse.ArgumentParser()
+    parser.add_argument("--program", default=os.path.join(TOP, "crates/scoop/out/scoop"))
+    parser.add_argument("--blocks", type=int, default=500)
+    given = parser.parse_args()
+    program, count = os.path.abspath(given.program), given.blocks
+    for in_file in (False, True):
+        where = "file" if in_file else "memory"
+        for some in (1, 8):
+            system = System(program, in_file)
+            clients = list(CLIENTS)[:some]
+            taken = system.run_clients(clients, blocks(count // some))
+            tell(f"joint blocks, {some} clients, record in {where}", count // some * some, taken)
+            system.end()
+        system = System(program, in_file)
+        taken = system.run_clients([11], queries(count))
+        tell(f"queries in one block, 1 client, record in {where}", count, taken)
+        system.end()
+    system = System(program, False)
+    stopped, counted = threading.Event(), [0]
+    flooding = threading.Thread(target=flood, args=(system.ports[0], stopped, counted))
+    flooding.start()
+    start = time.perf_counter()
+    taken = system.run_clients([11], blocks(count // 5))
+    stopped.set()
+    flooding.join()
+    tell("joint blocks, 1 client, record in memory, in a flood", count // 5, taken)
+    print(f"    of {counted[0] / (time.perf_counter() - start):.0f} datagrams a second")
+    system.end()
+    tell("bare round trips of a datagram, one at a time", count * 10, round_trips(count * 10))
+    if shutil.which("escript"):
+        for some in ("1", "8"):
+            subprocess.run(["escript", os.path.join(TOP, "bench/erlang_joint.escript"), some, str(count // int(some))], check=True)
+
+
+if __name__ == "__main__":
+    main()

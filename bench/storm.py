@@ -1,0 +1,461 @@
+#!/usr/bin/env python3
+"""Two nodes and three clients as real processes, with a relay between them that loses, doubles and delays datagrams,
+and with nodes and clients that are killed at random moments and begun again. At the end what every client was told is
+held against a plain replay of the blocks.
+
+usage: storm.py PROGRAM [--seed N] [--seconds S] [--key]
+
+Each process has a file of the system of its own, in which the addresses of the others are those of the relay. Every
+handler's first word counts tickets. In each block each handler is asked for a ticket first, so the tickets say in which
+order the blocks ran there, and the replay goes in that order. Statuses: 0, or 1 where something is not as it has to be.
+"""
+import argparse, os, random, select, shutil, signal, socket, subprocess, sys, tempfile, threading, time
+
+# Handlers and their nodes. Every object has the words tickets, balance.
+HANDLERS = {1: 1, 2: 2, 3: 1, 4: 2}
+NODES = [1, 2]
+CLIENTS = {7: 1, 8: 4, 9: 2}
+START = 1000
+TICKET, DEPOSIT, WITHDRAW, BALANCE = "ticket", "deposit", "withdraw", "balance"
+
+CLASS = """[[class]]
+name = "purse"
+words = 2
+[[class.operation]]
+number = 1
+name = "ticket"
+writes = [["w0", "w0", "1", "0"]]
+answer = "w0"
+[[class.operation]]
+number = 2
+name = "deposit"
+writes = [["w1", "w1", "a0", "0"]]
+answer = "w1"
+[[class.operation]]
+number = 3
+name = "withdraw"
+test = ["a0", "w1"]
+writes = [["w1", "w1", "0", "a0"]]
+answer = "w1"
+[[class.operation]]
+number = 4
+name = "balance"
+answer = "w1"
+"""
+
+
+def free_ports(count):
+    """Ports of this machine that nobody uses now."""
+    sockets = [socket.socket(socket.AF_INET, socket.SOCK_DGRAM) for _ in range(count)]
+    for s in sockets:
+        s.bind(("127.0.0.1", 0))
+    ports = [s.getsockname()[1] for s in sockets]
+    for s in sockets:
+        s.close()
+    return ports
+
+
+class Relay(threading.Thread):
+    """Between each client and each node there are two ports of the relay: what comes to the one goes out of the other."""
+
+    def __init__(self, seed, real):
+        super().__init__(daemon=True)
+        self.random = random.Random(seed)
+        self.to = {}      # the relay's socket -> (the socket that sends on, the address that it sends to)
+        self.port = {}    # (who sends, who is sent to) -> the relay's port
+        self.stopped = False
+        self.late = []
+        self.counts = {"passed": 0, "lost": 0, "doubled": 0, "delayed": 0}
+        pairs = [(("client", c), ("node", n)) for c in CLIENTS for n in NODES]
+        for a, b in pairs:
+            sa, sb = (socket.socket(socket.AF_INET, socket.SOCK_DGRAM) for _ in range(2))
+            for s in (sa, sb):
+                s.bind(("127.0.0.1", 0))
+            self.port[a, b] = sa.getsockname()[1]
+            self.port[b, a] = sb.getsockname()[1]
+            self.to[sa] = (sb, ("127.0.0.1", real[b]))
+            self.to[sb] = (sa, ("127.0.0.1", real[a]))
+
+    def run(self):
+        while not self.stopped:
+            ready, _, _ = select.select(list(self.to), [], [], 0.005)
+            for s in ready:
+                try:
+                    data = s.recv(2048)
+                except OSError:
+                    continue
+                self.pass_on(s, data)
+            now = time.monotonic()
+            due = [x for x in self.late if x[0] <= now]
+            self.late = [x for x in self.late if x[0] > now]
+            for _, out, address, data in due:
+                self.send(out, address, data)
+
+    def pass_on(self, s, data):
+        out, address = self.to[s]
+        r = self.random.random()
+        if r < 0.05:
+            self.counts["lost"] += 1
+            return
+        times = 1
+        if r < 0.10:
+            self.counts["doubled"] += 1
+            times = 2
+        for _ in range(times):
+            if self.random.random() < 0.05:
+                self.counts["delayed"] += 1
+                self.late.append((time.monotonic() + self.random.uniform(0.001, 0.3), out, address, data))
+            else:
+                self.send(out, address, data)
+
+    def send(self, out, address, data):
+        try:
+            out.sendto(data, address)
+            self.counts["passed"] += 1
+        except OSError:
+            pass
+
+
+def system_text(who, real, relay):
+    """The file of one process: its own address is real, those of the others are the relay's."""
+    text = CLASS
+
+    def address(kind, number):
+        if (kind, number) == who:
+            return real[kind, number]
+        return relay.port.get((who, (kind, number)), real[kind, number])
+
+    for n in NODES:
+        text += f'[[node]]\nnumber = {n}\naddress = "127.0.0.1:{address("node", n)}"\n'
+    for h, n in HANDLERS.items():
+        text += f'[[handler]]\nnumber = {h}\nnode = {n}\nclass = "purse"\nwords = [0, {START}]\n'
+    for c, batch in CLIENTS.items():
+        text += f'[[client]]\nnumber = {c}\naddress = "127.0.0.1:{address("client", c)}"\nbatch = {batch}\n'
+    return text
+
+
+class Party:
+    """A process that is killed and begun again."""
+
+    def __init__(self, storm, kind, number):
+        self.storm, self.kind, self.number = storm, kind, number
+        self.file = os.path.join(storm.folder, f"{kind}-{number}")
+        with open(self.file + ".toml", "w") as f:
+            f.write(system_text((kind, number), storm.real, storm.relay))
+        self.process = None
+        self.ran = False
+
+    def begin(self, **streams):
+        store = "--store" if os.path.exists(self.file + ".db") and self.ran else "--new"
+        if store == "--new":
+            for end in ("", "-wal", "-shm", "-journal"):
+                if os.path.exists(self.file + ".db" + end):
+                    os.remove(self.file + ".db" + end)
+        words = [self.storm.program, self.kind, str(self.number), "--system", self.file + ".toml", store, self.file + ".db"]
+        if self.storm.key:
+            words += ["--key", self.storm.key]
+        if self.kind == "node":
+            words += ["--history", "2000"]
+        self.process = subprocess.Popen(words, **streams)
+
+    def kill(self):
+        if self.process is not None and self.process.poll() is None:
+            self.process.send_signal(signal.SIGKILL)
+        if self.process is not None:
+            self.process.wait()
+
+
+class NodeParty(Party):
+    def begin(self):
+        out = open(self.file + ".out", "ab")
+        super().begin(stdout=out, stderr=out, stdin=subprocess.DEVNULL)
+        out.close()
+        # Only a node that has made its store goes on with it: it is made before anything is acknowledged.
+        for _ in range(6000):
+            if b"handlers" in open(self.file + ".out", "rb").read():
+                self.ran = True
+                return
+            if self.process.poll() is not None:
+                raise SystemExit(f"node {self.number} ended: {open(self.file + '.out').read()}")
+            time.sleep(0.01)
+        raise SystemExit(f"node {self.number} isn't ready")
+
+
+class ClientParty(Party, threading.Thread):
+    """Does random blocks, and keeps what it was told: of each block its handlers, commands, and answers."""
+
+    def __init__(self, storm, number):
+        Party.__init__(self, storm, "client", number)
+        threading.Thread.__init__(self, daemon=True)
+        self.random = random.Random(storm.seed * 1000 + number)
+        self.blocks = []
+        self.lives = 0
+        self.errors = []
+        self.lock = threading.Lock()
+
+    def run(self):
+        while not self.storm.is_over():
+            try:
+                self.live()
+            except (BrokenPipeError, EOFError):
+                pass
+            except SystemExit as wrong:
+                self.errors.append(str(wrong))
+                self.kill()
+                return
+            if self.process is not None:
+                code = self.process.wait()
+                if code not in (0, -9):
+                    self.errors.append(f"client {self.number} ended with {code}: {open(self.file + '.err').read()}")
+                    return
+
+    def live(self):
+        err = open(self.file + ".err", "wb")
+        with self.lock:
+            self.begin(stdin=subprocess.PIPE, stdout=subprocess.PIPE, stderr=err)
+        err.close()
+        self.lives += 1
+        process = self.process
+        # Its incarnation is stored before it greets, and it greets before it answers.
+        while True:
+            self.block(process)
+            if self.storm.is_over():
+                break
+        process.stdin.close()
+
+    def ask(self, process, line):
+        process.stdin.write((line + "\n").encode())
+        process.stdin.flush()
+        answer = process.stdout.readline()
+        if not answer.endswith(b"\n"):
+            raise EOFError
+        self.ran = True
+        return answer.decode().strip()
+
+    def block(self, process):
+        handlers = self.random.sample(sorted(HANDLERS), self.random.randint(1, 3))
+        told = {"client": self.number, "handlers": handlers, "done": [], "ended": False, "name": None}
+        reply = self.ask(process, "reserve " + " ".join(map(str, handlers)))
+        if not reply.startswith("reserved "):
+            raise SystemExit(f"client {self.number}: {reply}")
+        told["name"] = reply.split()[1]
+        self.blocks.append(told)
+        for h in handlers:
+            self.command(process, told, "query", h, TICKET, None)
+        for _ in range(self.random.randint(0, 4)):
+            h = self.random.choice(handlers)
+            amount = self.random.randint(0, 60)
+            kind, name = self.random.choice([("query", BALANCE), ("query", WITHDRAW), ("call", DEPOSIT), ("query", DEPOSIT), ("call", WITHDRAW)])
+            self.command(process, told, kind, h, name, None if name == BALANCE else amount)
+        if len(handlers) > 1:
+            # moves money from one to another
+            a, b = handlers[0], handlers[1]
+            amount = self.random.randint(1, 30)
+            if self.command(process, told, "query", a, WITHDRAW, amount) != "refused":
+                self.command(process, told, "call", b, DEPOSIT, amount)
+        reply = self.ask(process, "end")
+        if reply != "ended":
+            raise SystemExit(f"client {self.number}: end: {reply}")
+        told["ended"] = True
+
+    def command(self, process, told, kind, handler, name, amount):
+        """Logs a command. What is asked and not answered may have run or not."""
+        entry = {"handler": handler, "op": name, "amount": amount, "kind": kind, "answer": None, "logged": False}
+        told["done"].append(entry)
+        reply = self.ask(process, f"{kind} {handler} {name}" + ("" if amount is None else f" {amount}"))
+        if kind == "query" and reply.startswith("answer "):
+            entry["answer"] = reply.split()[1]
+        elif kind == "call" and reply.startswith(f"logged {handler} "):
+            entry["count"] = int(reply.split()[2])
+        else:
+            raise SystemExit(f"client {self.number}: {reply}")
+        entry["logged"] = True
+        return entry["answer"]
+
+
+def run_one(words, entry):
+    """What a purse does: its new words, and the answer."""
+    tickets, balance = words
+    amount = entry["amount"]
+    if entry["op"] == TICKET:
+        return (tickets + 1, balance), str(tickets + 1)
+    if entry["op"] == DEPOSIT:
+        return (tickets, balance + amount), str(balance + amount)
+    if entry["op"] == WITHDRAW:
+        return ((tickets, balance), "refused") if amount > balance else ((tickets, balance - amount), str(balance - amount))
+    return (tickets, balance), str(balance)
+
+
+class Storm:
+    def __init__(self, program, seed, seconds, key):
+        self.program, self.seed, self.seconds = os.path.abspath(program), seed, seconds
+        self.folder = tempfile.mkdtemp(prefix="storm")
+        self.key = None
+        if key:
+            self.key = os.path.join(self.folder, "key")
+            with open(self.key, "w") as f:
+                f.write("%064x\n" % random.Random(seed).getrandbits(256))
+        self.random = random.Random(seed)
+        names = [("node", n) for n in NODES] + [("client", c) for c in CLIENTS]
+        self.real = dict(zip(names, free_ports(len(names))))
+        self.relay = Relay(seed, self.real)
+        self.over = False
+
+    def is_over(self):
+        return self.over
+
+    def run(self):
+        self.relay.start()
+        nodes = [NodeParty(self, "node", n) for n in NODES]
+        clients = [ClientParty(self, c) for c in CLIENTS]
+        for n in nodes:
+            n.begin()
+        for c in clients:
+            c.start()
+        killed = {"node": 0, "client": 0}
+        end = time.monotonic() + self.seconds
+        while time.monotonic() < end and not any(c.errors for c in clients):
+            time.sleep(self.random.uniform(0.1, 2.0))
+            party = self.random.choice(nodes + clients)
+            if party.kind == "client":
+                with party.lock:
+                    if party.ran and party.process is not None and party.process.poll() is None:
+                        party.process.send_signal(signal.SIGKILL)
+                        killed["client"] += 1
+            else:
+                party.kill()
+                killed["node"] += 1
+                time.sleep(self.random.choice([0, 0, self.random.uniform(0, 0.5)]))
+                os.truncate(party.file + ".out", 0)
+                party.begin()
+        self.over = True
+        for c in clients:
+            c.join(60)
+            if c.is_alive():
+                c.errors.append(f"client {c.number} hangs")
+                c.kill()
+        # What killed clients left is cut by a run with no line, and then read by a last client.
+        for c in clients:
+            self.greet(c)
+        last = self.read(clients[0])
+        for n in nodes:
+            n.kill()
+        self.relay.stopped = True
+        errors = [e for c in clients for e in c.errors] + self.replay(clients, last)
+        blocks = [b for c in clients for b in c.blocks]
+        print(f"seed {self.seed}: {len(blocks)} blocks, {sum(b['ended'] for b in blocks)} ended, nodes killed {killed['node']},"
+              f" clients killed {killed['client']}, datagrams {self.relay.counts}: {'WRONG' if errors else 'right'}")
+        for e in errors[:20]:
+            print(" ", e)
+        if errors:
+            print("  files:", self.folder)
+        else:
+            shutil.rmtree(self.folder)
+        return not errors
+
+    def words(self, party):
+        words = [self.program, "client", str(party.number), "--system", party.file + ".toml", "--store", party.file + ".db"]
+        return words + (["--key", self.key] if self.key else [])
+
+    def greet(self, party):
+        done = subprocess.run(self.words(party), input=b"", capture_output=True, timeout=60)
+        if done.returncode != 0:
+            party.errors.append(f"client {party.number}: greeting: {done.stderr.decode()}")
+
+    def read(self, party):
+        """The words of each handler at the end."""
+        lines = "reserve " + " ".join(map(str, HANDLERS)) + "\n"
+        lines += "".join(f"query {h} {TICKET}\nquery {h} {BALANCE}\n" for h in HANDLERS) + "end\n"
+        done = subprocess.run(self.words(party), input=lines.encode(), capture_output=True, timeout=60)
+        told = [x.split()[1] for x in done.stdout.decode().splitlines() if x.startswith("answer")]
+        if done.returncode != 0 or len(told) != 2 * len(HANDLERS):
+            party.errors.append(f"client {party.number}: reading: {done.stdout.decode()} {done.stderr.decode()}")
+            return {}
+        return {h: (int(told[2 * i]) - 1, int(told[2 * i + 1])) for i, h in enumerate(HANDLERS)}
+
+    def replay(self, clients, last):
+        """Each handler runs the blocks in the order of their tickets. A block whose last command there wasn't answered may
+        have run any beginning of what was asked; all that was acknowledged has run. What follows has to fit one of them."""
+        errors, order = [], {}
+        for h in HANDLERS:
+            here = [b for c in clients for b in c.blocks if h in b["handlers"]]
+            ticket = {id(b): int(e["answer"]) for b in here for e in b["done"]
+                      if e["handler"] == h and e["op"] == TICKET and e["answer"] is not None}
+            known = sorted((b for b in here if id(b) in ticket), key=lambda b: ticket[id(b)])
+            lost = sum(1 for b in here if id(b) not in ticket and any(e["handler"] == h for e in b["done"]))
+            order[h] = known
+            # What the handler's words may be, each with how many blocks whose ticket nobody was told have run before.
+            states = {((0, START), 0)}
+            for b in known + [None]:
+                want = ticket[id(b)] - 1 if b is not None else last.get(h, (None,))[0]
+                states = self.reach(states, lost, want)
+                if b is None:
+                    ends = {balance for (_, balance), _ in states}
+                    if last and last[h][1] not in ends:
+                        errors.append(f"handler {h}: has {last[h]} at the end, and may have {sorted(ends)[:5]}")
+                    break
+                states = {(w, used) for words, used in states for w in self.results(words, b, h)}
+                if not states:
+                    errors.append(f"handler {h}: block {b['name']} was told what no replay gives: {b['done']}")
+                    break
+        errors += self.orders(order)
+        return errors
+
+    def reach(self, states, lost, want):
+        """Blocks of which no ticket was told fill the gaps between those of which one was. Such a block asked for nothing
+        here but its ticket, since its client was killed while it waited for that."""
+        if want is None:
+            return set()
+        return {((want, balance), used + want - tickets) for (tickets, balance), used in states
+                if tickets <= want and used + want - tickets <= lost}
+
+    def results(self, words, block, h):
+        """The words that a block may leave here: it runs what was answered or acknowledged, and of what came behind
+        that, which is one command at most, either nothing or all."""
+        for e in (e for e in block["done"] if e["handler"] == h):
+            new, answer = run_one(words, e)
+            if e["logged"]:
+                if e["answer"] is not None and e["answer"] != answer:
+                    return set()
+                words = new
+            else:
+                return {words, new}
+        return {words}
+
+    def orders(self, order):
+        """No two handlers disagree on which of two blocks comes first."""
+        before, errors = {}, []
+        for blocks in order.values():
+            for a, b in zip(blocks, blocks[1:]):
+                before.setdefault(a["name"], set()).add(b["name"])
+        state = {}
+        for start in list(before):
+            stack = [(start, iter(before.get(start, ())))] if start not in state else []
+            if stack:
+                state[start] = 1
+            while stack:
+                name, others = stack[-1]
+                nxt = next(others, None)
+                if nxt is None:
+                    state[name] = 2
+                    stack.pop()
+                elif state.get(nxt) == 1:
+                    return [f"the handlers disagree on the order of {name} and {nxt}"]
+                elif nxt not in state:
+                    state[nxt] = 1
+                    stack.append((nxt, iter(before.get(nxt, ()))))
+        return errors
+
+
+def main():
+    parser = argparse.ArgumentParser()
+    parser.add_argument("program")
+    parser.add_argument("--seed", type=int, default=1)
+    parser.add_argument("--seconds", type=float, default=300)
+    parser.add_argument("--key", action="store_true")
+    given = parser.parse_args()
+    return 0 if Storm(given.program, given.seed, given.seconds, given.key).run() else 1
+
+
+if __name__ == "__main__":
+    sys.exit(main())

@@ -1,0 +1,103 @@
+//! `scoop client`: a client of a system, whose commands are the lines of standard input.
+
+use crate::failure::Failure;
+use crate::storing::{FiledStore, adopt_for, close, create};
+use crate::system_file::{read_key, read_system, tell};
+use crate::typed_lines::TypedLines;
+use clap::ArgMatches;
+use scoop_link::{Link, UdpLink};
+use scoop_message::{ClientId, OutOfMemory};
+use scoop_runtime::{ClientPlan, RuntimeError, client_run, open_client_link};
+use scoop_seal::{Key, SealedLink};
+use scoop_system::System;
+use std::io;
+use std::io::{BufWriter, IsTerminal};
+use std::net::Net;
+
+/// Runs the client that is asked for. Its system, its key and its port come first, and then its store.
+pub fn run_client<T: Net>(
+    rt: &HostRuntime,
+    net: &T,
+    given: &ArgMatches<'_>,
+) -> Result<(), Failure> {
+    let path = given.get_str("system").unwrap_or("");
+    let system = read_system(rt, path)?;
+    run_in(rt, net, given, path, &system)
+}
+
+// Runs the client of this system, which is lent, so that no way out of here has it to drop.
+fn run_in<T: Net>(
+    rt: &HostRuntime,
+    net: &T,
+    given: &ArgMatches<'_>,
+    path: &str,
+    system: &System,
+) -> Result<(), Failure> {
+    let client = ClientId(given.get_one::<u32>("number").unwrap_or(0));
+    let Some(place) = system.client(client) else {
+        return Err(tell(rt, path, format_args!("no client {client}")));
+    };
+    let key = read_key(rt, given)?;
+    let plan = ClientPlan {
+        system,
+        place: *place,
+        turns: given.get_one::<u64>("turns").unwrap_or(100_000),
+        is_typed: rt.stdin().is_terminal(),
+    };
+    let link = open_client_link(net, rt.alloc(), system, place)?;
+    run_stored(rt, given, &plan, key, link)
+}
+
+// Runs the client over the store that the command line names, which is closed behind it.
+fn run_stored(
+    rt: &HostRuntime,
+    given: &ArgMatches<'_>,
+    plan: &ClientPlan<'_>,
+    key: Option<Key>,
+    link: UdpLink,
+) -> Result<(), Failure> {
+    let mut store = open_store(rt, given, plan.place.client)?;
+    let ran = match key {
+        Some(key) => run_over(rt, plan, &mut store, SealedLink::new(link, key)),
+        None => run_over(rt, plan, &mut store, link),
+    };
+    let closed = close(store);
+    ran?;
+    Ok(closed?)
+}
+
+// The store that the command line names.
+fn open_store(
+    rt: &HostRuntime,
+    given: &ArgMatches<'_>,
+    client: ClientId,
+) -> Result<FiledStore, Failure> {
+    if let Some(path) = given.get_str("new") {
+        return Ok(create(rt, path)?);
+    }
+    match adopt_for(rt, given.get_str("store").unwrap_or(""), client)? {
+        Some(store) => Ok(store),
+        None => Err(Failure::NeverRan(client)),
+    }
+}
+
+// Runs the client over this link.
+fn run_over<L: Link>(
+    rt: &HostRuntime,
+    plan: &ClientPlan<'_>,
+    store: &mut FiledStore,
+    link: L,
+) -> Result<(), RuntimeError> {
+    let alloc = rt.alloc();
+    let mut output = BufWriter::new(alloc, io::writer(rt)).map_err(|_| OutOfMemory)?;
+    client_run(
+        alloc,
+        plan,
+        store,
+        link,
+        &mut TypedLines::new(rt.reader()),
+        rt.stderr(),
+        &mut output,
+        &mut rt.stderr(),
+    )
+}

@@ -1,0 +1,57 @@
+//! The files that a node and a client read before they begin.
+
+use crate::failure::Failure;
+use clap::ArgMatches;
+use scoop_message::OutOfMemory;
+use scoop_seal::Key;
+use scoop_system::{System, SystemError};
+use std::fmt::Display;
+use std::io::ErrorKind;
+use std::{fs, io};
+
+// The status of a file that can't be used.
+const STATUS: u8 = 1;
+
+/// Tells what is wrong with a file, and how the program ends.
+pub fn tell<E: Display + Drop>(rt: &HostRuntime, path: &str, wrong: E) -> Failure {
+    let _ = eprintln!(rt; "scoop: {path}: {wrong}");
+    Failure::Told(STATUS)
+}
+
+// What a file has, as text.
+fn read_text(rt: &HostRuntime, path: &str) -> Result<String, Failure> {
+    match fs::read_to_string(rt, path) {
+        Ok(text) => Ok(text),
+        Err(error) => Err(unread(rt, path, &error)),
+    }
+}
+
+fn unread(rt: &HostRuntime, path: &str, error: &io::Error) -> Failure {
+    match error.kind() {
+        ErrorKind::OutOfMemory => Failure::from(OutOfMemory),
+        ErrorKind::InvalidData => tell(rt, path, "the file is not text"),
+        _ => tell(rt, path, "the file could not be read"),
+    }
+}
+
+/// The system that a file says.
+pub fn read_system(rt: &HostRuntime, path: &str) -> Result<System, Failure> {
+    let text = read_text(rt, path)?;
+    match System::read(rt.alloc(), &text) {
+        Ok(system) => Ok(system),
+        Err(SystemError::OutOfMemory) => Err(Failure::from(OutOfMemory)),
+        Err(error) => Err(tell(rt, path, error)),
+    }
+}
+
+/// The key that the command line names, if it names one.
+pub fn read_key(rt: &HostRuntime, given: &ArgMatches<'_>) -> Result<Option<Key>, Failure> {
+    let Some(path) = given.get_str("key") else {
+        return Ok(None);
+    };
+    let text = read_text(rt, path)?;
+    match Key::read(text.as_bytes()) {
+        Ok(key) => Ok(Some(key)),
+        Err(error) => Err(tell(rt, path, error)),
+    }
+}

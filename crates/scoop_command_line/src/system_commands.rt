@@ -1,0 +1,183 @@
+//! What `check`, `node` and `client` take.
+
+use clap::{Arg, ArgAction, Command, value_parser};
+use std::alloc::{AllocError, Global};
+
+/// What `scoop check` takes.
+pub fn check_command<'a>(alloc: Global) -> Result<Command<'a>, AllocError> {
+    Command::new(alloc, "check")
+        .about("Reads the file of a system, and prints what was understood")
+        .long_about(
+            "Reads a file that says of a system its nodes, handlers and clients, their addresses, and its own classes, in \
+            TOML, and prints what was understood:\n\
+            \x20 node 1 127.0.0.1:47101                a node, and its address\n\
+            \x20   handler 1 stock 10 0                a handler there, with its class and its words\n\
+            \x20 client 7 127.0.0.1:47107 batch 4      a client, and how many entries it puts into one Log\n\
+            \x20 class stock 2 words                   a class of the file\n\
+            \x20   1 order: a0 <= w0; w0 := w0 + 0 - a0, w1 := w1 + a0 - 0; w0\n\
+            \x20                                       an operation: its test, what it writes, and what it answers\n\n\
+            Input: none but the file.\n\n\
+            Statuses: 0; 1 for the file's first fault, told as `scoop: FILE: TEXT`; 2 for the command line; 3 for memory \
+            or output.\n\n\
+            Example: scoop check examples/bank.toml",
+        )
+        .arg(file_argument(alloc))
+}
+
+/// What `scoop node` takes.
+pub fn node_command<'a>(alloc: Global) -> Result<Command<'a>, AllocError> {
+    Command::new(alloc, "node")
+        .about("Runs a node of a system, over UDP")
+        .long_about(
+            "Runs a node of the system that a file says (`scoop check` shows it): it answers the datagrams that come to its \
+            address, and runs its handlers in threads. Their states are kept in a file; the node can be killed at any \
+            time, and goes on with --store. What it had taken and not run is run first. Once its history is full it is \
+            closed, which holds it against what each thread did, and opened again.\n\n\
+            Input: none.\n\n\
+            Output: `node 1 at 127.0.0.1:47101: handlers 1 2` once it is ready, `node 1 reopened` at each reopening, and \
+            with --turns at its end `node 1 closed`. A call of the socket that fails is told on standard error.\n\n\
+            Statuses: 0; 1 for the file or the key, told as `scoop: FILE: TEXT`; 2 for the command line; 3 for links and \
+            threads, told as `scoop: link: NAME`, for the store, told as `scoop: store: NAME`, for memory or output.\n\n\
+            Example: scoop node 1 --system examples/bank.toml --new /tmp/node-1.db",
+        )
+        .arg(number_argument(alloc, "The number of the node"))?
+        .arg(system_option(alloc))?
+        .arg(new_option(
+            alloc,
+            "Makes a store in this file: for a node that never ran",
+        )?)?
+        .arg(store_option(alloc))?
+        .arg(key_option(alloc))?
+        .arg(executors_option(alloc))?
+        .arg(history_option(alloc))?
+        .arg(node_turns_option(alloc))
+}
+
+/// What `scoop client` takes.
+pub fn client_command<'a>(alloc: Global) -> Result<Command<'a>, AllocError> {
+    Command::new(alloc, "client")
+        .about("Runs a client of a system, over UDP, with the commands of standard input")
+        .long_about(
+            "Runs a client of the system that a file says (`scoop check` shows it). It takes its port, and then its next \
+            incarnation from its store; it greets every handler, which frees what an earlier incarnation has held; and \
+            then it does what the lines of standard input ask, one after another, with a line for each:\n\
+            \x20 reserve H..         `reserved 7.1.1`: a block over 1 to 8 handlers\n\
+            \x20 call H OP A..       `logged H N`: the call is acknowledged as the block's N-th entry there\n\
+            \x20 query H OP A..      `answer 150` or `answer refused`\n\
+            \x20 end                 `ended`: the block is ended, and all of it acknowledged\n\
+            \x20 reserve H.. when H OP A.. least V tries T\n\
+            \x20                     `noted`: then only `call` (`noted`) and `end` are taken, and the block is tried until \
+            the answer is at least V: `ended K` at the K-th try, or `condition failed T`\n\
+            OP is a number or a name of an operation. What the client refuses is `refused` and why, and it goes on. Empty \
+            lines and lines that begin with `#` are skipped. While a handler doesn't answer for a second, standard error \
+            says which ones it waits for.\n\n\
+            Statuses: 0; 1 for the file or the key, told as `scoop: FILE: TEXT`, for a line that can't be read, told as \
+            `scoop: line N: TEXT` (at a terminal the client goes on), and for an input that ends inside a block; 2 for the \
+            command line; 3 for links, told as `scoop: link: NAME`, for the store, told as `scoop: store: NAME`, for \
+            memory or output.\n\n\
+            Example: scoop client 7 --system examples/bank.toml --new /tmp/client-7.db < examples/bank-7.lines",
+        )
+        .arg(number_argument(alloc, "The number of the client"))?
+        .arg(system_option(alloc))?
+        .arg(new_option(
+            alloc,
+            "Makes a store in this file: for a client that never ran",
+        )?)?
+        .arg(store_option(alloc).required_unless_present("new")?)?
+        .arg(key_option(alloc))?
+        .arg(client_turns_option(alloc))
+}
+
+fn file_argument<'a>(alloc: Global) -> Arg<'a> {
+    Arg::new(alloc, "file")
+        .value_name("FILE")
+        .help("The file of the system")
+        .action(ArgAction::Set)
+        .required(true)
+}
+
+fn number_argument<'a>(alloc: Global, help: &'a str) -> Arg<'a> {
+    Arg::new(alloc, "number")
+        .value_name("N")
+        .help(help)
+        .action(ArgAction::Set)
+        .value_parser(value_parser!(u32))
+        .required(true)
+}
+
+fn system_option<'a>(alloc: Global) -> Arg<'a> {
+    Arg::new(alloc, "system")
+        .long("system")
+        .value_name("FILE")
+        .help("The file of the system")
+        .action(ArgAction::Set)
+        .required(true)
+}
+
+fn new_option<'a>(alloc: Global, help: &'a str) -> Result<Arg<'a>, AllocError> {
+    Arg::new(alloc, "new")
+        .long("new")
+        .value_name("FILE")
+        .help(help)
+        .action(ArgAction::Set)
+        .conflicts_with("store")
+}
+
+fn store_option<'a>(alloc: Global) -> Arg<'a> {
+    Arg::new(alloc, "store")
+        .long("store")
+        .value_name("FILE")
+        .help("Goes on with the store that is in this file")
+        .action(ArgAction::Set)
+}
+
+fn key_option<'a>(alloc: Global) -> Arg<'a> {
+    Arg::new(alloc, "key")
+        .long("key")
+        .value_name("FILE")
+        .help(
+            "Seals datagrams with the key in this file, of 64 hex digits; all programs of a system have one key",
+        )
+        .action(ArgAction::Set)
+}
+
+fn executors_option<'a>(alloc: Global) -> Arg<'a> {
+    Arg::new(alloc, "executors")
+        .long("executors")
+        .value_name("K")
+        .help("How many threads run the node's handlers, 1 to 64")
+        .action(ArgAction::Set)
+        .value_parser(value_parser!(u32))
+        .default_value("2")
+}
+
+fn history_option<'a>(alloc: Global) -> Arg<'a> {
+    Arg::new(alloc, "history")
+        .long("history")
+        .value_name("N")
+        .help("Behind how many entries of its history the node is opened again, 2 to 1000000")
+        .action(ArgAction::Set)
+        .value_parser(value_parser!(u32))
+        .default_value("100000")
+}
+
+fn node_turns_option<'a>(alloc: Global) -> Arg<'a> {
+    Arg::new(alloc, "turns")
+        .long("turns")
+        .value_name("T")
+        .help(
+            "Ends the node after so many turns, each of which takes a datagram or ten milliseconds",
+        )
+        .action(ArgAction::Set)
+        .value_parser(value_parser!(u64))
+}
+
+fn client_turns_option<'a>(alloc: Global) -> Arg<'a> {
+    Arg::new(alloc, "turns")
+        .long("turns")
+        .value_name("T")
+        .help("How many turns each command takes at most")
+        .action(ArgAction::Set)
+        .value_parser(value_parser!(u64))
+        .default_value("100000")
+}

@@ -1,0 +1,17 @@
+-- What a refusal of a driver is answered with.
+use Rattle.std.specs.Prelude.{Result, Ok, Err}
+use Rattle.scoop_reserve.specs.declared.error.ReserveError.TheVariants as reserve
+use Rattle.scoop_client.specs.declared.error.ClientError.TheVariants as client
+use Rattle.scoop_driver.specs.declared.error.DriverError.{DriverError}
+use Rattle.scoop_driver.specs.declared.error.DriverError.TheVariants.{Client, TurnsOver, LinkFault, ConditionFailed as Failed}
+use Rattle.scoop_runtime.specs.declared.reply.Reply.{Reply}
+use Rattle.scoop_runtime.specs.declared.reply.Reply.TheVariants.{Refused, ConditionFailed}
+
+-- the client goes on behind its own refusal and a condition that failed; want of memory and the link's errors end it
+abbrev pub answered : DriverError → Result Reply DriverError
+answered (Client client.OutOfMemory) = Err (Client client.OutOfMemory)
+answered (Client (client.Reserve reserve.OutOfMemory)) = Err (Client (client.Reserve reserve.OutOfMemory))
+answered (Client error) = Ok (Refused error)
+answered (Failed tries) = Ok (ConditionFailed tries)
+answered TurnsOver = Err TurnsOver
+answered LinkFault = Err LinkFault

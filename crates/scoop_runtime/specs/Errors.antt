@@ -1,0 +1,31 @@
+-- What is printed of an error of a node or a client, and the status with which the program ends.
+use Rattle.std.specs.Prelude.{ℕ, List, ◌++◌, codes}
+use Rattle.std.specs.Fmt.{decimal}
+use Rattle.scoop_client.specs.declared.error.BeginError.{BeginError}
+use Rattle.scoop_client.specs.declared.error.BeginError.TheVariants as begin
+use Rattle.scoop_show.specs.ErrorText.{error_text as show_text}
+use Rattle.scoop_system.specs.LineText.{line_fault_text}
+use Rattle.scoop_runtime.specs.Sources.{source_text}
+use Rattle.scoop_runtime.specs.declared.error.RuntimeError.{RuntimeError}
+use Rattle.scoop_runtime.specs.declared.error.RuntimeError.TheVariants.{Line, Input, InsideBlock, Handlers, Ended}
+
+abbrev pub begin_text : BeginError → List ℕ
+begin_text begin.NoHandlers = codes "handlers: NoHandlers"
+begin_text begin.TooManyHandlers = codes "handlers: TooManyHandlers"
+begin_text (begin.Repeated h) = codes "handlers: Repeated " ++ decimal h.0
+begin_text begin.OutOfMemory = codes "out of memory"
+
+abbrev pub error_text : RuntimeError → List ℕ
+error_text (Line number fault) = codes "line " ++ decimal number ++ codes ": " ++ line_fault_text fault
+error_text (Input error) = codes "line " ++ decimal error.line ++ codes ": " ++ source_text error.fault
+error_text InsideBlock = codes "the input ended inside a block, which is left to the next incarnation"
+error_text (Handlers error) = begin_text error
+error_text (Ended error) = show_text error
+
+-- 1 at a fault of the input or where it ended inside a block, else 3
+abbrev pub status_of : RuntimeError → ℕ
+status_of (Line number fault) = 1
+status_of (Input error) = 1
+status_of InsideBlock = 1
+status_of (Handlers error) = 3
+status_of (Ended error) = 3

@@ -1,0 +1,5 @@
+pub mod Answering
+pub mod Errors
+pub mod NodeTexts
+pub mod Sources
+pub mod Texts

@@ -1,0 +1,38 @@
+-- What a node and a client print.
+use Rattle.std.specs.Prelude.{ℕ, List, [], ◌∷◌, ◌++◌, codes, Option, Some, None}
+use Rattle.std.specs.Fmt.{decimal}
+use Rattle.scoop_message.specs.declared.name.HandlerId.{HandlerId}
+use Rattle.scoop_message.specs.Text.{answer_text, block_text}
+use Rattle.scoop_client.specs.declared.error.ClientError.{ClientError}
+use Rattle.scoop_show.specs.ErrorText.{client_name, client_number}
+use Rattle.scoop_runtime.specs.declared.reply.Reply.{Reply}
+use Rattle.scoop_runtime.specs.declared.reply.Reply.TheVariants.{Reserved, Logged, Answered, Ended, Noted, EndedAt, ConditionFailed, Refused, NotInWhen}
+
+-- numbers, with a space before each
+abbrev pub numbers_text : List HandlerId → List ℕ
+numbers_text [] = []
+numbers_text (h ∷ hs) = 32 ∷ decimal h.0 ++ numbers_text hs
+
+-- a call of a node's link has failed
+abbrev pub fault_text : List ℕ
+fault_text = codes "scoop: link: LinkFault, and the node goes on" ++ 10 ∷ []
+
+-- a name, with a number where it has one
+abbrev pub named : List ℕ → Option ℕ → List ℕ
+named name None = name
+named name (Some n) = name ++ codes " " ++ decimal n
+
+abbrev pub refusal_text : ClientError → List ℕ
+refusal_text e = codes "refused " ++ named (client_name e) (client_number e) ++ 10 ∷ []
+
+-- the line that answers a client's line
+abbrev pub reply_text : Reply → List ℕ
+reply_text (Reserved block) = codes "reserved " ++ block_text block ++ 10 ∷ []
+reply_text (Logged h n) = codes "logged " ++ decimal h.0 ++ codes " " ++ decimal n ++ 10 ∷ []
+reply_text (Answered answer) = codes "answer " ++ answer_text answer ++ 10 ∷ []
+reply_text Ended = codes "ended" ++ 10 ∷ []
+reply_text Noted = codes "noted" ++ 10 ∷ []
+reply_text (EndedAt n) = codes "ended " ++ decimal n ++ 10 ∷ []
+reply_text (ConditionFailed n) = codes "condition failed " ++ decimal n ++ 10 ∷ []
+reply_text (Refused e) = refusal_text e
+reply_text NotInWhen = codes "refused NotInWhen" ++ 10 ∷ []

@@ -1,0 +1,187 @@
+//! A client whose commands are the lines of an input.
+
+use crate::error::RuntimeError;
+use crate::reply::print_reply;
+use crate::session::Session;
+use crate::source::LineSource;
+use crate::waiting_link::WaitingLink;
+use arrayvec::ArrayVec;
+use scoop_client::{BeginError, Client};
+use scoop_keeper::{Keeper, KeeperError};
+use scoop_link::{Link, PacedLink};
+use scoop_message::{HandlerId, OutOfMemory};
+use scoop_show::ShowError;
+use scoop_system::{ClientLine, ClientPlace, LineFault, System, read_line};
+use std::alloc::Global;
+use std::io;
+use std::io::Write;
+
+// Entries of one Log, at most.
+const MAX_BATCH: u8 = 4;
+
+// How often a client repeats a datagram at once before it waits for a silence.
+const REPEATS: u64 = 8;
+
+/// Which client of which system runs, and how.
+#[derive(Clone, Copy)]
+pub struct ClientPlan<'a> {
+    pub system: &'a System,
+    pub place: ClientPlace,
+    /// How many turns each command takes at most.
+    pub turns: u64,
+    /// Whether somebody types the lines: then a line that can't be read is told, and the client goes on.
+    pub is_typed: bool,
+}
+
+// The handlers of a system: node by node in the order of the nodes, as the promise wants every client to know them.
+fn known_handlers(alloc: Global, system: &System) -> Result<Vec<HandlerId>, OutOfMemory> {
+    let mut known = Vec::new(alloc);
+    for node in system.nodes() {
+        for place in system.handlers() {
+            if place.node == node.number {
+                known.push(place.handler)?;
+            }
+        }
+    }
+    Ok(known)
+}
+
+// The client with its next incarnation.
+fn begin_client<K: Keeper<Global>>(
+    alloc: Global,
+    plan: &ClientPlan<'_>,
+    keeper: &mut K,
+    known: &[HandlerId],
+) -> Result<Client, RuntimeError> {
+    let ClientPlace { client, batch, .. } = plan.place;
+    let inc = match keeper.next_incarnation(client) {
+        Ok(0) => return Err(RuntimeError::from(KeeperError::Refused)),
+        Ok(inc) => inc,
+        Err(refusal) => return Err(RuntimeError::from(refusal)),
+    };
+    let batch = batch.max(1).min(MAX_BATCH);
+    match Client::begin_batched(alloc, client, inc, known, batch) {
+        Ok(client) => Ok(client),
+        Err(error) => Err(unbegun(error)),
+    }
+}
+
+// Why a client doesn't begin.
+fn unbegun(error: BeginError) -> RuntimeError {
+    match error {
+        BeginError::OutOfMemory => RuntimeError::from(OutOfMemory),
+        BeginError::NoHandlers | BeginError::TooManyHandlers | BeginError::Repeated(_) => {
+            RuntimeError::Handlers(error)
+        }
+    }
+}
+
+// Writes that a line can't be read.
+fn print_line_fault<N: Write>(number: u32, fault: LineFault, notes: &mut N) -> io::Result<()> {
+    writeln!(notes, "scoop: line {number}: {fault}")
+}
+
+// Tells it whoever types, at once. What can't be written is lost.
+fn tell_fault<N: Write>(number: u32, fault: LineFault, notes: &mut N) {
+    if print_line_fault(number, fault, notes).is_ok() {
+        let _flushed = notes.flush();
+    }
+}
+
+// Does what the lines of the input ask, one after another, with one line for each.
+fn obey_lines<L: Link, I: LineSource, W: Write, N: Write>(
+    plan: &ClientPlan<'_>,
+    session: &mut Session<L>,
+    lines: &mut I,
+    writer: &mut W,
+    notes: &mut N,
+) -> Result<(), RuntimeError> {
+    let mut line = ArrayVec::new();
+    for _ in 0..u64::MAX {
+        let Some(number) = lines.next_line(&mut line)? else {
+            return Ok(());
+        };
+        match read_line(plan.system, &line) {
+            Ok(asked) => obey_line(session, &asked, writer)?,
+            Err(fault) if plan.is_typed => tell_fault(number, fault, notes),
+            Err(fault) => return Err(RuntimeError::Line(number, fault)),
+        }
+    }
+    Ok(())
+}
+
+// Does what a line asks, and writes what it is answered with.
+fn obey_line<L: Link, W: Write>(
+    session: &mut Session<L>,
+    line: &ClientLine,
+    writer: &mut W,
+) -> Result<(), RuntimeError> {
+    let Some(reply) = session.obey(line)? else {
+        return Ok(());
+    };
+    if print_reply(&reply, writer).is_ok() && writer.flush().is_ok() {
+        Ok(())
+    } else {
+        Err(RuntimeError::from(ShowError::Write))
+    }
+}
+
+// The link, paced, and telling who doesn't answer.
+fn waiting_link<L: Link, E: Write + Drop>(
+    alloc: Global,
+    link: L,
+    waits: E,
+    handlers: usize,
+) -> Result<WaitingLink<PacedLink<L>, E>, OutOfMemory> {
+    let link = PacedLink::new(alloc, link, handlers, REPEATS)?;
+    WaitingLink::new(alloc, link, waits, handlers)
+}
+
+// Greets, and does what the lines ask. The session is lent, so that no way out of here has it to drop.
+fn run_session<L: Link, I: LineSource, W: Write, N: Write>(
+    plan: &ClientPlan<'_>,
+    session: &mut Session<L>,
+    lines: &mut I,
+    writer: &mut W,
+    notes: &mut N,
+) -> Result<(), RuntimeError> {
+    session.greet()?;
+    obey_lines(plan, session, lines, writer, notes)?;
+    if session.has_block() {
+        return Err(RuntimeError::InsideBlock);
+    }
+    Ok(())
+}
+
+/// Runs a client over a link: it takes its next incarnation from the keeper, greets every handler, and then does what the
+/// lines of the input ask, one after another. Each line is answered with one line, which goes out at once; what the client
+/// refuses is answered as `refused` and why, and it goes on. Repeated datagrams are paced. Handlers that don't answer
+/// within a second are told to `waits`, and lines that somebody types and that can't be read to `notes`.
+///
+/// Refused: what the keeper refuses, before anything is sent; `link: TurnsOver` and `link: LinkFault`; the first line that
+/// can't be read, unless somebody types; what ends the input early; `InsideBlock` where the input ends inside a block;
+/// `write fault`, and `out of memory`.
+pub fn client_run<K, L, I, E, W, N>(
+    alloc: Global,
+    plan: &ClientPlan<'_>,
+    keeper: &mut K,
+    link: L,
+    lines: &mut I,
+    waits: E,
+    writer: &mut W,
+    notes: &mut N,
+) -> Result<(), RuntimeError>
+where
+    K: Keeper<Global>,
+    L: Link,
+    I: LineSource,
+    E: Write + Drop,
+    W: Write,
+    N: Write,
+{
+    let known = known_handlers(alloc, plan.system)?;
+    let link = waiting_link(alloc, link, waits, known.len())?;
+    let client = begin_client(alloc, plan, keeper, &known)?;
+    let mut session = Session::new(alloc, client, link, plan.turns);
+    run_session(plan, &mut session, lines, writer, notes)
+}

@@ -1,0 +1,105 @@
+//! A link that doesn't end a node at its first fault.
+
+ghost use Rattle.std.specs.Prelude.{◌≡◌, ◌++◌, ◌∷◌, [], None, OnOk};
+ghost use Rattle.std.specs.Io.KnownBytes.{Appends};
+ghost use Rattle.scoop_link.specs.Link.{CountsFault};
+ghost use Rattle.scoop_runtime.specs.Texts.{fault_text};
+
+use scoop_link::{Link, LinkFault, Party};
+use scoop_message::limits::BUFFER_LEN;
+use std::io;
+use std::io::Write;
+
+// So many calls in a row may fail before that is a fault of this link too.
+const MAX_IN_A_ROW: u32 = 1_000;
+
+/// A link of a node. A call of the link behind it that fails, as a send to a client that can't be reached, is told, and
+/// its datagram is lost; only the thousandth in a row is a fault. A writer that fails is left alone. It counts its
+/// receives, each of which is a turn of the node's loop, and doesn't tell its datagrams.
+#[derive(Drop)]
+pub(crate) struct PatientLink<L: Link, E: Write + Drop> {
+    inner: L,
+    notes: E,
+    in_a_row: u32,
+    receives: u64,
+    faults: u64,
+}
+
+impl<L: Link, E: Write + Drop> PatientLink<L, E> {
+    /// The link, none of whose calls has failed.
+    pub(crate) fn new(inner: L, notes: E) -> PatientLink<L, E> {
+        PatientLink {
+            inner,
+            notes,
+            in_a_row: 0,
+            receives: 0,
+            faults: 0,
+        }
+    }
+
+    /// How often it was asked for a datagram. The count stops at 2^64-1.
+    pub(crate) fn receives(&self) -> u64 {
+        self.receives
+    }
+
+    // A call has failed.
+    fn fail(&mut self) -> Result<(), LinkFault>
+        ensures { CountsFault result self.old.faults self.new.faults }
+    {
+        tell_fault(&mut self.notes);
+        self.in_a_row = self.in_a_row.saturating_add(1);
+        if self.in_a_row < MAX_IN_A_ROW || self.faults == u64::MAX {
+            return Ok(());
+        }
+        self.faults += 1;
+        Err(LinkFault)
+    }
+}
+
+// Tells of a call that has failed.
+fn print_fault<W: Write>(writer: &mut W) -> io::Result<()>
+    ensures { OnOk result (Appends (W.contents writer.old) (W.contents writer.new) fault_text) }
+{
+    writer.write_all(b"scoop: link: LinkFault, and the node goes on\n")
+}
+
+// The same at once. What can't be written is lost.
+fn tell_fault<W: Write>(writer: &mut W) {
+    if print_fault(writer).is_ok() {
+        let _flushed = writer.flush();
+    }
+}
+
+impl<L: Link, E: Write + Drop> Link for PatientLink<L, E> {
+    ghost told = { λ _. None };
+
+    ghost fault_count = { λ p. p.faults };
+
+    fn send(&mut self, to: Party, bytes: &[u8]) -> Result<(), LinkFault> {
+        match self.inner.send(to, bytes) {
+            Ok(()) => {
+                self.in_a_row = 0;
+                Ok(())
+            }
+            Err(_) => self.fail(),
+        }
+    }
+
+    fn receive(&mut self, buffer: &mut [u8; BUFFER_LEN]) -> Result<Option<usize>, LinkFault> {
+        self.receives = self.receives.saturating_add(1);
+        match self.inner.receive(buffer) {
+            Ok(got) => {
+                self.in_a_row = 0;
+                Ok(got)
+            }
+            Err(_) => {
+                self.fail()?;
+                Ok(None)
+            }
+        }
+    }
+
+    fn faults(&self) -> u64 {
+        self.faults
+    }
+}

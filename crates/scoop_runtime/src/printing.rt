@@ -1,0 +1,40 @@
+//! What a node prints.
+
+ghost use Rattle.std.specs.Prelude.{◌≡◌, OnOk};
+ghost use Rattle.std.specs.Io.KnownBytes.{Appends};
+ghost use Rattle.scoop_runtime.specs.NodeTexts.{closed_text, ready_text, reopened_text};
+
+use crate::waiting_link::print_numbers;
+use scoop_message::HandlerId;
+use scoop_system::NodePlace;
+use std::io;
+use std::io::Write;
+
+/// Writes that a node is ready, where, and with which handlers.
+pub(crate) fn print_ready<W: Write>(
+    place: &NodePlace,
+    handlers: &[HandlerId],
+    writer: &mut W,
+) -> io::Result<()>
+    ensures { OnOk result (Appends (W.contents writer.old) (W.contents writer.new) (ready_text place.now handlers.now)) }
+{
+    let number = place.number;
+    let address = place.address;
+    write!(writer, "node {number} at {address}: handlers")?;
+    print_numbers(handlers, writer)?;
+    writer.write_all(b"\n")
+}
+
+/// Writes that a node's history was full, and that it was opened again.
+pub(crate) fn print_reopened<W: Write>(number: u32, writer: &mut W) -> io::Result<()>
+    ensures { OnOk result (Appends (W.contents writer.old) (W.contents writer.new) (reopened_text number)) }
+{
+    writeln!(writer, "node {number} reopened")
+}
+
+/// Writes that a node is closed: its history is what its threads say of it.
+pub(crate) fn print_closed<W: Write>(number: u32, writer: &mut W) -> io::Result<()>
+    ensures { OnOk result (Appends (W.contents writer.old) (W.contents writer.new) (closed_text number)) }
+{
+    writeln!(writer, "node {number} closed")
+}

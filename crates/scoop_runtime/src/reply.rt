@@ -1,0 +1,121 @@
+//! What a client's lines are answered with.
+
+ghost use Rattle.std.specs.Prelude.{◌≡◌, OnOk};
+ghost use Rattle.std.specs.Io.KnownBytes.{Appends};
+ghost use Rattle.scoop_show.specs.ErrorText.{client_name, client_number, reserve_name, reserve_number};
+ghost use Rattle.scoop_runtime.specs.Texts.{refusal_text, reply_text};
+
+use scoop_client::ClientError;
+use scoop_message::{Answer, Block, HandlerId};
+use scoop_reserve::ReserveError;
+use std::io;
+use std::io::Write;
+
+/// What a client's line is answered with.
+#[derive(Clone, Copy, Debug, PartialEq, Eq)]
+pub enum Reply {
+    /// The block is open at each of its handlers.
+    Reserved(Block),
+    /// The call is acknowledged: it is the entry of this number that the block has logged at the handler.
+    Logged(HandlerId, u32),
+    /// The query has this answer.
+    Answered(Answer),
+    /// The block is ended, and all of it acknowledged.
+    Ended,
+    /// The line belongs to a block that waits for its condition, which is tried once it is ended.
+    Noted,
+    /// The condition held at this try, counted from 1, and the block is ended.
+    EndedAt(u32),
+    /// The condition held at none of so many tries.
+    ConditionFailed(u32),
+    /// The client refuses the command, and goes on.
+    Refused(ClientError),
+    /// A block that waits for its condition takes calls and its end alone.
+    NotInWhen,
+}
+
+// The name of a refusal, with the number of the handler that it names.
+
+fn client_name(error: &ClientError) -> &'static str
+    ensures { result.now ≡ client_name error.now }
+{
+    match error {
+        ClientError::NotGreeted => "NotGreeted",
+        ClientError::NotIdle => "NotIdle",
+        ClientError::NoBlock => "NoBlock",
+        ClientError::Waiting(_) => "Waiting",
+        ClientError::NotReserved(_) => "NotReserved",
+        ClientError::WindowFull(_) => "WindowFull",
+        ClientError::TooLate => "TooLate",
+        ClientError::Spent => "Spent",
+        ClientError::Reserve(error) => reserve_name(error),
+        ClientError::OutOfMemory => "OutOfMemory",
+    }
+}
+
+fn client_number(error: &ClientError) -> Option<u32>
+    ensures { result ≡ client_number error.now }
+{
+    match error {
+        ClientError::Waiting(handler)
+        | ClientError::NotReserved(handler)
+        | ClientError::WindowFull(handler) => Some(handler.0),
+        ClientError::Reserve(error) => reserve_number(error),
+        ClientError::NotGreeted
+        | ClientError::NotIdle
+        | ClientError::NoBlock
+        | ClientError::TooLate
+        | ClientError::Spent
+        | ClientError::OutOfMemory => None,
+    }
+}
+
+fn reserve_name(error: &ReserveError) -> &'static str
+    ensures { result.now ≡ reserve_name error.now }
+{
+    match error {
+        ReserveError::Empty => "Empty",
+        ReserveError::TooMany => "TooMany",
+        ReserveError::Repeated(_) => "Repeated",
+        ReserveError::Unknown(_) => "Unknown",
+        ReserveError::OutOfMemory => "OutOfMemory",
+    }
+}
+
+fn reserve_number(error: &ReserveError) -> Option<u32>
+    ensures { result ≡ reserve_number error.now }
+{
+    match error {
+        ReserveError::Repeated(handler) | ReserveError::Unknown(handler) => Some(handler.0),
+        ReserveError::Empty | ReserveError::TooMany | ReserveError::OutOfMemory => None,
+    }
+}
+
+// Writes the line of a refusal.
+fn print_refusal<W: Write>(error: &ClientError, writer: &mut W) -> io::Result<()>
+    ensures { OnOk result (Appends (W.contents writer.old) (W.contents writer.new) (refusal_text error.now)) }
+{
+    let name = client_name(error);
+    match client_number(error) {
+        Some(number) => writeln!(writer, "refused {name} {number}"),
+        None => writeln!(writer, "refused {name}"),
+    }
+}
+
+/// Writes the line of a reply: `reserved 7.1.1`, `logged 2 1`, `answer 150` or `answer refused`, `ended`, `noted`,
+/// `ended 3`, `condition failed 10`, or `refused` and why.
+pub fn print_reply<W: Write>(reply: &Reply, writer: &mut W) -> io::Result<()>
+    ensures { OnOk result (Appends (W.contents writer.old) (W.contents writer.new) (reply_text reply.now)) }
+{
+    match reply {
+        Reply::Reserved(block) => writeln!(writer, "reserved {block}"),
+        Reply::Logged(handler, number) => writeln!(writer, "logged {handler} {number}"),
+        Reply::Answered(answer) => writeln!(writer, "answer {answer}"),
+        Reply::Ended => writeln!(writer, "ended"),
+        Reply::Noted => writeln!(writer, "noted"),
+        Reply::EndedAt(tried) => writeln!(writer, "ended {tried}"),
+        Reply::ConditionFailed(tries) => writeln!(writer, "condition failed {tries}"),
+        Reply::Refused(error) => print_refusal(error, writer),
+        Reply::NotInWhen => writeln!(writer, "refused NotInWhen"),
+    }
+}

@@ -1,0 +1,120 @@
+//! A link that tells which handlers don't answer.
+
+ghost use Rattle.std.specs.Prelude.{◌≡◌, ◌++◌, ◌∷◌, [], None, OnOk};
+ghost use Rattle.std.specs.Io.KnownBytes.{Appends};
+ghost use Rattle.scoop_runtime.specs.Texts.{numbers_text};
+
+use scoop_link::{Link, LinkFault, Party};
+use scoop_message::limits::BUFFER_LEN;
+use scoop_message::{HandlerId, OutOfMemory};
+use std::alloc::Global;
+use std::io;
+use std::io::Write;
+
+// After so many receives in a row that gave nothing it is told who doesn't answer: over UDP after a second.
+const PATIENCE: u32 = 100;
+
+/// A link of a client that notes which handlers it was asked to send to since its last receive, and tells them once a
+/// hundred receives in a row have given nothing; over UDP that takes a second. It is told once until something comes.
+/// A writer that fails is left alone. It doesn't tell its datagrams.
+#[derive(Drop)]
+pub(crate) struct WaitingLink<L: Link, E: Write + Drop> {
+    inner: L,
+    notes: E,
+    asked: Vec<HandlerId>,
+    silences: u32,
+}
+
+impl<L: Link, E: Write + Drop> WaitingLink<L, E> {
+    /// The link, with room for so many handlers; those past that are not told.
+    pub(crate) fn new(
+        alloc: Global,
+        inner: L,
+        notes: E,
+        handlers: usize,
+    ) -> Result<WaitingLink<L, E>, OutOfMemory> {
+        let asked = Vec::with_capacity(alloc, handlers)?;
+        Ok(WaitingLink {
+            inner,
+            notes,
+            asked,
+            silences: 0,
+        })
+    }
+
+    // Notes that this party was sent something.
+    fn note(&mut self, to: Party)
+        ensures { self.new.inner ≡ self.old.inner }
+    {
+        if let Party::Handler(handler) = to {
+            if self.asked.len() < self.asked.capacity() && !self.asked.contains(&handler) {
+                self.asked.push_reserved(handler);
+            }
+        }
+    }
+
+    // Nothing came once more.
+    fn wait(&mut self)
+        ensures { self.new.inner ≡ self.old.inner }
+    {
+        if self.silences >= PATIENCE {
+            return;
+        }
+        self.silences += 1;
+        if self.silences == PATIENCE && !self.asked.is_empty() {
+            tell_waiting(&self.asked, &mut self.notes);
+        }
+    }
+}
+
+// Writes numbers in decimal, with a space before each.
+pub(crate) fn print_numbers<W: Write>(numbers: &[HandlerId], writer: &mut W) -> io::Result<()>
+    ensures { OnOk result (Appends (W.contents writer.old) (W.contents writer.new) (numbers_text numbers.now)) }
+{
+    match numbers {
+        [] => Ok(()),
+        [first, rest @ ..] => {
+            write!(writer, " {first}")?;
+            print_numbers(rest, writer)
+        }
+    }
+}
+
+// Tells who doesn't answer.
+fn print_waiting<W: Write>(handlers: &[HandlerId], writer: &mut W) -> io::Result<()> {
+    writer.write_all(b"scoop: waiting for handlers")?;
+    print_numbers(handlers, writer)?;
+    writer.write_all(b"\n")
+}
+
+// The same at once. What can't be written is lost.
+fn tell_waiting<W: Write>(handlers: &[HandlerId], writer: &mut W) {
+    if print_waiting(handlers, writer).is_ok() {
+        let _flushed = writer.flush();
+    }
+}
+
+impl<L: Link, E: Write + Drop> Link for WaitingLink<L, E> {
+    ghost told = { λ _. None };
+
+    ghost fault_count = { λ w. L.fault_count w.inner };
+
+    fn send(&mut self, to: Party, bytes: &[u8]) -> Result<(), LinkFault> {
+        self.note(to);
+        self.inner.send(to, bytes)
+    }
+
+    fn receive(&mut self, buffer: &mut [u8; BUFFER_LEN]) -> Result<Option<usize>, LinkFault> {
+        let got = self.inner.receive(buffer)?;
+        match got {
+            Some(_) => self.silences = 0,
+            None => self.wait(),
+        }
+        self.asked.clear();
+        Ok(got)
+    }
+
+    fn faults(&self) -> u64 {
+        self.inner.faults()
+    }
+}

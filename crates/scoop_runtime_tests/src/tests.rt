@@ -1,0 +1,118 @@
+//! Nodes and clients of systems in texts, over UDP of this machine.
+
+mod answers;
+mod lossy_link;
+mod printing;
+mod running;
+mod storm;
+mod systems;
+mod text_lines;
+
+use scoop_keeper::{Keeper, MemoryKeeper};
+use scoop_link::{Link, UdpLink};
+use scoop_message::ClientId;
+use scoop_runtime::{
+    ClientPlan, NodePlan, RuntimeError, Serving, client_run, node_run, open_client_link,
+    open_node_link,
+};
+use scoop_system::System;
+use std::alloc::Global;
+use std::net::Net;
+use std::sync::Wait;
+use std::thread::Threads;
+use std::time::Clock;
+use text_lines::TextLines;
+
+/// How many turns a client's command takes at most: no more than twenty seconds.
+const TURNS: u64 = 2_000;
+
+/// How a client ended, what it wrote, and what its user was told.
+#[derive(Drop)]
+struct Told {
+    ended: Result<(), RuntimeError>,
+    output: Vec<u8>,
+    notes: Vec<u8>,
+}
+
+/// Opens the link of a node.
+fn node_link<R: Net>(
+    rt: &R,
+    alloc: Global,
+    system: &System,
+    number: u32,
+) -> Option<Result<UdpLink, RuntimeError>> {
+    let place = system.node(number)?;
+    Some(open_node_link(rt, alloc, system, place))
+}
+
+/// Serves a node for so many turns, over this link. Answers its keeper, if it ends as it is to, and what it wrote.
+fn serve<K, L, R>(
+    rt: &R,
+    alloc: Global,
+    system: &System,
+    number: u32,
+    history: usize,
+    turns: u64,
+    keeper: K,
+    link: L,
+) -> Option<(Result<K, RuntimeError>, Vec<u8>)>
+where
+    K: Keeper<Global> + Send,
+    L: Link,
+    R: Threads + Wait + Clock + Sync,
+{
+    let place = system.node(number)?;
+    let plan = NodePlan::of(alloc, system, place).ok()?;
+    let serving = Serving::new(2, history, turns)?;
+    let mut output = Vec::new(alloc);
+    let notes = Vec::new(alloc);
+    let ended = node_run(rt, alloc, &plan, &serving, keeper, link, notes, &mut output);
+    Some((ended, output))
+}
+
+/// Runs a client with these lines, over this link.
+fn ask<L: Link>(
+    alloc: Global,
+    system: &System,
+    number: u32,
+    keeper: &mut MemoryKeeper,
+    link: L,
+    lines: &[u8],
+    is_typed: bool,
+) -> Option<Told> {
+    let plan = ClientPlan {
+        system,
+        place: *system.client(ClientId(number))?,
+        turns: TURNS,
+        is_typed,
+    };
+    let mut output = Vec::new(alloc);
+    let mut notes = Vec::new(alloc);
+    let waits = Vec::new(alloc);
+    let ended = client_run(
+        alloc,
+        &plan,
+        keeper,
+        link,
+        &mut TextLines::new(lines),
+        waits,
+        &mut output,
+        &mut notes,
+    );
+    Some(Told {
+        ended,
+        output,
+        notes,
+    })
+}
+
+/// Opens the link of a client.
+fn client_link<R: Net>(
+    rt: &R,
+    alloc: Global,
+    system: &System,
+    number: u32,
+) -> Option<Result<UdpLink, RuntimeError>> {
+    let place = system.client(ClientId(number))?;
+    Some(open_client_link(rt, alloc, system, place))
+}

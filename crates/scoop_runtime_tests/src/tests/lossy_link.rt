@@ -1,0 +1,46 @@
+//! A link that loses and doubles.
+
+ghost use Rattle.std.specs.Prelude.{None};
+
+use scoop_link::{Link, LinkFault, Party};
+use scoop_message::limits::BUFFER_LEN;
+
+/// A link that loses each fifth datagram that it is to send, and sends each seventh twice.
+#[derive(Drop)]
+pub struct LossyLink<L: Link> {
+    inner: L,
+    sends: u64,
+}
+
+impl<L: Link> LossyLink<L> {
+    /// The link, behind which datagrams get lost.
+    pub fn new(inner: L) -> LossyLink<L> {
+        LossyLink { inner, sends: 0 }
+    }
+}
+
+impl<L: Link> Link for LossyLink<L> {
+    ghost told = { λ _. None };
+
+    ghost fault_count = { λ l. L.fault_count l.inner };
+
+    fn send(&mut self, to: Party, bytes: &[u8]) -> Result<(), LinkFault> {
+        self.sends = self.sends.wrapping_add(1);
+        if self.sends % 5 == 0 {
+            return Ok(());
+        }
+        self.inner.send(to, bytes)?;
+        if self.sends % 7 != 0 {
+            return Ok(());
+        }
+        self.inner.send(to, bytes)
+    }
+
+    fn receive(&mut self, buffer: &mut [u8; BUFFER_LEN]) -> Result<Option<usize>, LinkFault> {
+        self.inner.receive(buffer)
+    }
+
+    fn faults(&self) -> u64 {
+        self.inner.faults()
+    }
+}

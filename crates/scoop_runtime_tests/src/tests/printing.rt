@@ -1,0 +1,117 @@
+//! The texts of a client.
+
+use scoop_client::{BeginError, ClientError};
+use scoop_message::{Answer, Block, ClientId, HandlerId};
+use scoop_reserve::ReserveError;
+use scoop_runtime::{Reply, RuntimeError, SourceError, SourceFault, print_reply};
+use scoop_show::ShowError;
+use std::alloc::Global;
+use std::process::Abort;
+use std::test::Fail;
+
+// The reply is this line.
+fn prints(rt: &impl Abort, alloc: Global, reply: Reply, text: &str) -> Result<(), Fail> {
+    let mut output = Vec::new(alloc);
+    print_reply(&reply, &mut output)?;
+    assert!(rt; output.as_slice() == text.as_bytes());
+    Ok(())
+}
+
+#[test]
+fn replies_are_lines(rt: HostRuntime) -> Result<(), Fail> {
+    let alloc = rt.alloc();
+    let block = Block {
+        client: ClientId(7),
+        inc: 1,
+        num: 2,
+    };
+    prints(&rt, alloc, Reply::Reserved(block), "reserved 7.1.2\n")?;
+    prints(&rt, alloc, Reply::Logged(HandlerId(3), 2), "logged 3 2\n")?;
+    prints(
+        &rt,
+        alloc,
+        Reply::Answered(Answer::Value(150)),
+        "answer 150\n",
+    )?;
+    prints(
+        &rt,
+        alloc,
+        Reply::Answered(Answer::Refused),
+        "answer refused\n",
+    )?;
+    prints(&rt, alloc, Reply::Ended, "ended\n")?;
+    prints(&rt, alloc, Reply::Noted, "noted\n")?;
+    prints(&rt, alloc, Reply::EndedAt(3), "ended 3\n")?;
+    prints(
+        &rt,
+        alloc,
+        Reply::ConditionFailed(10),
+        "condition failed 10\n",
+    )?;
+    prints(&rt, alloc, Reply::NotInWhen, "refused NotInWhen\n")
+}
+
+#[test]
+fn refusals_are_names(rt: HostRuntime) -> Result<(), Fail> {
+    let alloc = rt.alloc();
+    let three = HandlerId(3);
+    let refused = |error| Reply::Refused(error);
+    prints(
+        &rt,
+        alloc,
+        refused(ClientError::NotReserved(three)),
+        "refused NotReserved 3\n",
+    )?;
+    prints(
+        &rt,
+        alloc,
+        refused(ClientError::NotIdle),
+        "refused NotIdle\n",
+    )?;
+    let unknown = ClientError::Reserve(ReserveError::Unknown(three));
+    prints(&rt, alloc, refused(unknown), "refused Unknown 3\n")?;
+    let empty = ClientError::Reserve(ReserveError::Empty);
+    prints(&rt, alloc, refused(empty), "refused Empty\n")
+}
+
+fn reads(
+    rt: &impl Abort,
+    alloc: Global,
+    error: RuntimeError,
+    text: &str,
+    status: u8,
+) -> Result<(), Fail> {
+    let printed = format!(in alloc; "{error}")?;
+    assert_eq!(rt; printed.as_str(), text);
+    assert_eq!(rt; error.status(), status);
+    Ok(())
+}
+
+#[test]
+fn errors_are_told(rt: HostRuntime) -> Result<(), Fail> {
+    let alloc = rt.alloc();
+    let inside = "the input ended inside a block, which is left to the next incarnation";
+    reads(&rt, alloc, RuntimeError::InsideBlock, inside, 1)?;
+    let long = SourceError {
+        line: 4,
+        fault: SourceFault::LineTooLong,
+    };
+    reads(
+        &rt,
+        alloc,
+        RuntimeError::Input(long),
+        "line 4: line too long",
+        1,
+    )?;
+    reads(
+        &rt,
+        alloc,
+        RuntimeError::Ended(ShowError::NoLink),
+        "link: Fault",
+        3,
+    )?;
+    let none = RuntimeError::Handlers(BeginError::NoHandlers);
+    reads(&rt, alloc, none, "handlers: NoHandlers", 3)?;
+    let twice = RuntimeError::Handlers(BeginError::Repeated(HandlerId(3)));
+    reads(&rt, alloc, twice, "handlers: Repeated 3", 3)
+}

@@ -1,0 +1,287 @@
+//! A node and a client beside it.
+
+use super::{Told, ask, client_link, node_link, serve};
+use scoop_keeper::MemoryKeeper;
+use scoop_link::UdpLink;
+use scoop_runtime::RuntimeError;
+use scoop_seal::{Key, SealedLink};
+use scoop_show::ShowError;
+use scoop_system::{LineFault, System};
+use std::alloc::Global;
+use std::net::Net;
+use std::process::Abort;
+use std::sync::Wait;
+use std::test::Fail;
+use std::thread;
+use std::thread::Threads;
+use std::time::Clock;
+
+// How many turns a node takes: no more than some seconds.
+const NODE_TURNS: u64 = 600;
+
+const ACCOUNTS: &str = "\
+[[node]]
+number = 1
+address = \"127.0.0.1:47701\"
+[[handler]]
+number = 1
+node = 1
+class = \"account\"
+words = [100]
+[[handler]]
+number = 2
+node = 1
+class = \"account\"
+words = [0]
+[[client]]
+number = 7
+address = \"127.0.0.1:47707\"
+batch = 4
+";
+
+// A client that pays, that is refused things, and that waits for a condition.
+const LINES: &[u8] = b"\
+# pays
+reserve 1 2
+call 1 withdraw 30\r
+call 2 deposit 30
+
+query 1 balance
+query 2 withdraw 31
+call 3 1 5
+reserve 1
+end
+end
+reserve 1 2 when 2 balance least 30 tries 3
+call 1 deposit 5
+call 3 1 5
+query 1 balance
+end
+reserve 1 when 1 balance least 76 tries 2
+end
+reserve 4
+";
+
+const REPLIES: &str = "\
+reserved 7.1.1
+logged 1 1
+logged 2 1
+answer 70
+answer refused
+refused NotReserved 3
+refused NotIdle
+ended
+refused NoBlock
+noted
+noted
+refused NotReserved 3
+refused NotInWhen
+ended 1
+noted
+condition failed 2
+refused Unknown 4
+";
+
+// A node in a thread of its own, and what it wrote.
+#[derive(Drop)]
+struct Beside {
+    keeper: Option<MemoryKeeper>,
+    link: Option<UdpLink>,
+    output: Vec<u8>,
+    key: Option<Key>,
+}
+
+impl Beside {
+    // A node with nothing stored.
+    fn new(alloc: Global, key: Option<Key>) -> Beside {
+        Beside {
+            keeper: Some(MemoryKeeper::new(alloc)),
+            link: None,
+            output: Vec::new(alloc),
+            key,
+        }
+    }
+
+    // Serves node 1 over its link for its turns.
+    fn serve<R: Threads + Wait + Clock + Sync>(
+        &mut self,
+        rt: &R,
+        alloc: Global,
+        system: &System,
+        history: usize,
+    ) {
+        let Some(link) = self.link.take() else {
+            return;
+        };
+        let Some(keeper) = self.keeper.take() else {
+            return;
+        };
+        let served = match self.key {
+            Some(key) => {
+                let link = SealedLink::new(link, key);
+                serve(rt, alloc, system, 1, history, NODE_TURNS, keeper, link)
+            }
+            None => serve(rt, alloc, system, 1, history, NODE_TURNS, keeper, link),
+        };
+        if let Some((ended, output)) = served {
+            self.keeper = ended.ok();
+            self.output = output;
+        }
+    }
+}
+
+// Runs the client over its link.
+fn ask_over(
+    alloc: Global,
+    system: &System,
+    key: Option<Key>,
+    link: UdpLink,
+    lines: &[u8],
+    is_typed: bool,
+) -> Option<Told> {
+    let mut keeper = MemoryKeeper::new(alloc);
+    match key {
+        Some(key) => {
+            let link = SealedLink::new(link, key);
+            ask(alloc, system, 7, &mut keeper, link, lines, is_typed)
+        }
+        None => ask(alloc, system, 7, &mut keeper, link, lines, is_typed),
+    }
+}
+
+// The node in a thread, and the client beside it, over this link. No thread opens a link.
+fn run_both<R: Threads + Wait + Clock + Sync>(
+    rt: &R,
+    alloc: Global,
+    system: &System,
+    beside: &mut Beside,
+    link: UdpLink,
+    history: usize,
+    lines: &[u8],
+    is_typed: bool,
+) -> Option<Told> {
+    let key = beside.key;
+    thread::scope(thread::scope_env(), rt, move |scope| {
+        let spawned = scope.spawn(move || beside.serve(rt, alloc, system, history));
+        if spawned.is_err() {
+            return None;
+        }
+        ask_over(alloc, system, key, link, lines, is_typed)
+    })
+}
+
+// Runs the client beside the node, and answers how it ended, what it was told, and what its user was told.
+fn run_beside<R: Threads + Wait + Clock + Net + Sync>(
+    rt: &R,
+    alloc: Global,
+    system: &System,
+    beside: &mut Beside,
+    history: usize,
+    lines: &[u8],
+    is_typed: bool,
+) -> Option<Told> {
+    let link = client_link(rt, alloc, system, 7)?.ok()?;
+    beside.link = node_link(rt, alloc, system, 1)?.ok();
+    run_both(rt, alloc, system, beside, link, history, lines, is_typed)
+}
+
+// Whether these are the bytes of the text.
+fn is(bytes: &[u8], text: &str) -> bool {
+    bytes == text.as_bytes()
+}
+
+// The system of the text that has these accounts, at other ports.
+fn accounts_at(alloc: Global, port: &str) -> Option<System> {
+    let text = ACCOUNTS.replace(alloc, "4770", port).ok()?;
+    System::read(alloc, &text).ok()
+}
+
+// Beside this node the lines are answered as they are to be. What is lent to this has no way out of here to drop it.
+fn answers<R: Threads + Wait + Clock + Net + Sync + Abort>(
+    rt: &R,
+    alloc: Global,
+    system: &System,
+    node: &mut Beside,
+    history: usize,
+) -> Result<(), Fail> {
+    let told = run_beside(rt, alloc, system, node, history, LINES, false).ok_or("no client")?;
+    assert!(rt; is(&told.output, REPLIES));
+    assert_eq!(rt; told.ended, Ok(()));
+    Ok(())
+}
+
+#[test]
+fn a_client_is_answered_line_by_line(rt: HostRuntime) -> Result<(), Fail> {
+    let alloc = rt.alloc();
+    let system = accounts_at(alloc, "4770").ok_or("no system")?;
+    let mut node = Beside::new(alloc, None);
+    answers(&rt, alloc, &system, &mut node, 1_000)?;
+    let wrote = "node 1 at 127.0.0.1:47701: handlers 1 2\nnode 1 closed\n";
+    assert!(rt; is(&node.output, wrote));
+    Ok(())
+}
+
+#[test]
+fn a_sealed_node_goes_on_behind_its_history(rt: HostRuntime) -> Result<(), Fail> {
+    let alloc = rt.alloc();
+    let system = accounts_at(alloc, "4772").ok_or("no system")?;
+    let mut node = Beside::new(alloc, Some(Key::new([7; 32])));
+    answers(&rt, alloc, &system, &mut node, 6)?;
+    let begins = b"node 1 at 127.0.0.1:47721: handlers 1 2\nnode 1 reopened\nnode 1 reopened\n";
+    assert!(rt; node.output.starts_with(begins));
+    assert!(rt; node.output.ends_with(b"node 1 reopened\nnode 1 closed\n"));
+    Ok(())
+}
+
+// How a client ends behind a line that can't be read.
+fn misread<R: Threads + Wait + Clock + Net + Sync>(
+    rt: &R,
+    alloc: Global,
+    system: &System,
+    is_typed: bool,
+) -> Option<Told> {
+    let lines = b"reserve 1\nquery 1 balanc\nquery 1 balance\n";
+    let mut node = Beside::new(alloc, None);
+    run_beside(rt, alloc, system, &mut node, 1_000, lines, is_typed)
+}
+
+#[test]
+fn a_line_that_cannot_be_read_is_told_to_who_types(rt: HostRuntime) -> Result<(), Fail> {
+    let alloc = rt.alloc();
+    let system = accounts_at(alloc, "4773").ok_or("no system")?;
+    let told = misread(&rt, alloc, &system, true).ok_or("no client")?;
+    assert!(rt; is(&told.output, "reserved 7.1.1\nanswer 100\n"));
+    assert!(rt; is(&told.notes, "scoop: line 2: no such operation\n"));
+    assert_eq!(rt; told.ended, Err(RuntimeError::InsideBlock));
+    Ok(())
+}
+
+#[test]
+fn a_line_that_cannot_be_read_ends_a_client(rt: HostRuntime) -> Result<(), Fail> {
+    let alloc = rt.alloc();
+    let system = accounts_at(alloc, "4775").ok_or("no system")?;
+    let told = misread(&rt, alloc, &system, false).ok_or("no client")?;
+    assert!(rt; told.notes.is_empty());
+    let fault = RuntimeError::Line(2, LineFault::NoSuchOperation);
+    assert_eq!(rt; told.ended, Err(fault));
+    Ok(())
+}
+
+// A link of each is had once, and not again.
+fn opens_once<R: Net + Abort>(rt: &R, alloc: Global, system: &System) -> Result<(), Fail> {
+    let refused = Some(RuntimeError::Ended(ShowError::NoLink));
+    let _node = node_link(rt, alloc, system, 1).ok_or("no node")??;
+    let again = node_link(rt, alloc, system, 1).ok_or("no node")?;
+    assert_eq!(rt; again.err(), refused);
+    let _client = client_link(rt, alloc, system, 7).ok_or("no client")??;
+    let again = client_link(rt, alloc, system, 7).ok_or("no client")?;
+    assert_eq!(rt; again.err(), refused);
+    Ok(())
+}
+
+#[test]
+fn a_port_in_use_is_told(rt: HostRuntime) -> Result<(), Fail> {
+    let alloc = rt.alloc();
+    let system = accounts_at(alloc, "4774").ok_or("no system")?;
+    opens_once(&rt, alloc, &system)
+}

@@ -1,0 +1,203 @@
+//! What a text says of a system.
+
+mod faults;
+mod lines;
+
+use scoop_classes::DemoClass;
+use scoop_message::{ClientId, HandlerId};
+use scoop_system::{HandlerClass, Name, System, is_name, print_system};
+use std::alloc::Global;
+use std::process::Abort;
+use std::test::Fail;
+
+// Two nodes, a stock of its own and an account, a client.
+const SYSTEM: &str = "\
+[[class]]
+name = \"stock\"
+words = 2
+[[class.operation]]
+number = 1
+name = \"order\"
+test = [\"a0\", \"w0\"]
+writes = [[\"w0\", \"w0\", \"0\", \"a0\"], [\"w1\", \"w1\", \"a0\", \"0\"]]
+answer = \"w0\"
+[[class.operation]]
+number = 2
+name = \"left\"
+answer = \"w0\"
+
+[[node]]
+number = 1
+address = \"127.0.0.1:47101\"
+
+[[node]]
+number = 2
+address = \"127.0.0.1:47102\"
+
+[[handler]]
+number = 1
+node = 1
+class = \"stock\"
+words = [10, 0]
+
+[[handler]]
+number = 3
+node = 2
+class = \"account\"
+words = [\"18446744073709551615\"]
+
+[[client]]
+number = 7
+address = \"127.0.0.1:47107\"
+batch = 4
+
+[[client]]
+number = 8
+address = \"127.0.0.1:47108\"
+";
+
+const PRINTED: &str = "\
+node 1 127.0.0.1:47101
+  handler 1 stock 10 0
+node 2 127.0.0.1:47102
+  handler 3 account 18446744073709551615
+client 7 127.0.0.1:47107 batch 4
+client 8 127.0.0.1:47108 batch 1
+class stock 2 words
+  1 order: a0 <= w0; w0 := w0 + 0 - a0, w1 := w1 + a0 - 0; w0
+  2 left: w0
+";
+
+fn printed(alloc: Global, text: &str) -> Result<Vec<u8>, Fail> {
+    let system = System::read(alloc, text)?;
+    let mut output = Vec::new(alloc);
+    print_system(&system, &mut output)?;
+    Ok(output)
+}
+
+#[test]
+fn what_is_understood_is_printed(rt: HostRuntime) -> Result<(), Fail> {
+    let output = printed(rt.alloc(), SYSTEM)?;
+    assert!(rt; output.as_slice() == PRINTED.as_bytes());
+    let output = printed(rt.alloc(), "# nothing\n")?;
+    assert!(rt; output.is_empty());
+    Ok(())
+}
+
+#[test]
+fn an_ipv6_system_of_one_word(rt: HostRuntime) -> Result<(), Fail> {
+    let text = "\
+node = [{number = 4, address = \"[::1]:9\"}]
+class = [{name = \"one\", words = 1}]
+handler = [{number = 9, node = 4, class = \"one\", words = [0]}]
+";
+    let output = printed(rt.alloc(), text)?;
+    let wanted = "\
+node 4 [::1]:9
+  handler 9 one 0
+class one 1 word
+";
+    assert!(rt; output.as_slice() == wanted.as_bytes());
+    Ok(())
+}
+
+// The system is lent, so that no way out of here has it to drop; so in the tests below.
+fn has_parts(rt: &impl Abort, system: &System) -> Result<(), Fail> {
+    assert_eq!(rt; system.classes().len(), 1);
+    assert_eq!(rt; system.nodes().len(), 2);
+    assert_eq!(rt; system.handlers().len(), 2);
+    assert_eq!(rt; system.clients().len(), 2);
+    assert_eq!(rt; system.node(2).ok_or("node 2")?.address.port(), 47102);
+    assert!(rt; system.node(3).is_none());
+    assert_eq!(rt; system.client(ClientId(7)).ok_or("client 7")?.batch, 4);
+    assert!(rt; system.client(ClientId(9)).is_none());
+    let stock = system.handler(HandlerId(1)).ok_or("handler 1")?;
+    assert_eq!(rt; stock.node, 1);
+    assert_eq!(rt; stock.class, HandlerClass::Own(Name::told("stock")));
+    let account = system.handler(HandlerId(3)).ok_or("handler 3")?;
+    assert_eq!(rt; account.class, HandlerClass::Known(DemoClass::Account));
+    assert!(rt; system.handler(HandlerId(2)).is_none());
+    Ok(())
+}
+
+#[test]
+fn parts_are_looked_up(rt: HostRuntime) -> Result<(), Fail> {
+    let system = System::read(rt.alloc(), SYSTEM)?;
+    has_parts(&rt, &system)
+}
+
+fn has_stock(rt: &impl Abort, alloc: Global, system: &System) -> Result<(), Fail> {
+    let own = HandlerClass::Own(Name::told("stock"));
+    let stock = system.class_of(alloc, own)?.ok_or("stock")?;
+    assert_eq!(rt; stock.words(), 2);
+    assert_eq!(rt; stock.rows().len(), 2);
+    let [class] = system.classes() else {
+        return Err(Fail::from("one class"));
+    };
+    assert_eq!(rt; class.name(), Name::told("stock"));
+    assert!(rt; class.class().same(&stock));
+    let [_, left] = class.operations() else {
+        return Err(Fail::from("two operations"));
+    };
+    assert_eq!(rt; left.number, 2);
+    assert_eq!(rt; left.name, Name::told("left"));
+    Ok(())
+}
+
+fn has_known_classes(rt: &impl Abort, alloc: Global, system: &System) -> Result<(), Fail> {
+    let known = HandlerClass::Known(DemoClass::Exchange);
+    let exchange = system.class_of(alloc, known)?.ok_or("exchange")?;
+    assert!(rt; exchange.same(&DemoClass::Exchange.class(alloc)?));
+    let stranger = HandlerClass::Own(Name::told("stok"));
+    assert!(rt; system.class_of(alloc, stranger)?.is_none());
+    Ok(())
+}
+
+#[test]
+fn classes_are_those_of_the_handlers(rt: HostRuntime) -> Result<(), Fail> {
+    let system = System::read(rt.alloc(), SYSTEM)?;
+    has_stock(&rt, rt.alloc(), &system)?;
+    has_known_classes(&rt, rt.alloc(), &system)
+}
+
+#[test]
+fn operations_are_looked_up_by_name(rt: HostRuntime) -> Result<(), Fail> {
+    let system = System::read(rt.alloc(), SYSTEM)?;
+    assert_eq!(rt; system.operation(HandlerId(1), b"left"), Some(2));
+    assert_eq!(rt; system.operation(HandlerId(1), b"balance"), None);
+    assert_eq!(rt; system.operation(HandlerId(3), b"balance"), Some(3));
+    assert_eq!(rt; system.operation(HandlerId(3), b"withdraw"), Some(2));
+    assert_eq!(rt; system.operation(HandlerId(2), b"left"), None);
+    Ok(())
+}
+
+#[test]
+fn names_are_letters_and_digits(rt: HostRuntime) -> Result<(), Fail> {
+    for name in [
+        "a",
+        "stock",
+        "Stock_2-b",
+        "abcdefghijklmnopqrstuvwxyz012345",
+    ] {
+        assert!(rt; is_name(name));
+        assert!(rt; Name::told(name).as_str() == name);
+    }
+    for text in [
+        "",
+        "1st",
+        "_a",
+        "a b",
+        "a\u{e9}",
+        "abcdefghijklmnopqrstuvwxyz0123456",
+    ] {
+        assert!(rt; !is_name(text));
+    }
+    assert!(rt; Name::told("a\u{e9}\n").as_str() == "a???");
+    assert_eq!(rt;
+        Name::told("abcdefghijklmnopqrstuvwxyz0123456")
+            .as_bytes()
+            .len(),
+        32
+    );
+    Ok(())
+}

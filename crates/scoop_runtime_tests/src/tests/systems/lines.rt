@@ -1,0 +1,99 @@
+//! What a line asks of a client.
+
+use super::SYSTEM;
+use scoop_message::{Args, HandlerId, Request};
+use scoop_system::{ClientLine, LineFault, NamedHandlers, System, TooManyNamed, read_line};
+use std::process::Abort;
+use std::test::Fail;
+
+const FAULTS: [(&[u8], LineFault); 16] = [
+    (b"lock 1", LineFault::UnknownLine),
+    (b"call", LineFault::WrongNumberOfWords),
+    (b"call 1", LineFault::WrongNumberOfWords),
+    (b"call 1 left least 3", LineFault::WrongNumberOfWords),
+    (b"query 1 left 1 2 3 4 x", LineFault::TooManyArguments),
+    (b"query x left", LineFault::NotANumber),
+    (b"query 1 right", LineFault::NoSuchOperation),
+    (b"query 2 left", LineFault::NoSuchOperation),
+    (b"query 1 65536", LineFault::NotANumber),
+    (b"query 1 left 18446744073709551616", LineFault::NotANumber),
+    (b"end 1", LineFault::WrongNumberOfWords),
+    (b"reserve 1 2 3 4 5 6 7 8 9 10", LineFault::TooManyHandlers),
+    (b"reserve 1 x", LineFault::NotANumber),
+    (
+        b"reserve 1 when 1 left least 1",
+        LineFault::WrongNumberOfWords,
+    ),
+    (
+        b"reserve 1 when 1 left least 1 tries 0",
+        LineFault::NotANumber,
+    ),
+    (
+        b"reserve 1 when 1 left tries 1 least 1",
+        LineFault::WrongNumberOfWords,
+    ),
+];
+
+fn asks_a_client(rt: &impl Abort, system: &System) -> Result<(), Fail> {
+    let handlers = NamedHandlers::of(&[HandlerId(3), HandlerId(1)])?;
+    let reserve = read_line(system, b"reserve 3  1\r")?;
+    assert_eq!(rt; reserve, ClientLine::Reserve(handlers));
+    let request = Request {
+        op: 1,
+        args: Args::of(&[5])?,
+    };
+    let call = read_line(system, b" call 1 order 5 ")?;
+    assert_eq!(rt; call, ClientLine::Call(HandlerId(1), request));
+    let query = read_line(system, b"query 2 1 5")?;
+    assert_eq!(rt; query, ClientLine::Query(HandlerId(2), request));
+    assert_eq!(rt; read_line(system, b"end")?, ClientLine::End);
+    for blank in [&b""[..], b"\r", b"  ", b"# call 1"] {
+        assert_eq!(rt; read_line(system, blank)?, ClientLine::Blank);
+    }
+    Ok(())
+}
+
+#[test]
+fn lines_ask_a_client(rt: HostRuntime) -> Result<(), Fail> {
+    let system = System::read(rt.alloc(), SYSTEM)?;
+    asks_a_client(&rt, &system)
+}
+
+fn waits_for_a_balance(rt: &impl Abort, system: &System) -> Result<(), Fail> {
+    let line = read_line(system, b"reserve 3 1 when 3 balance least 40 tries 9")?;
+    let request = Request {
+        op: 3,
+        args: Args::of(&[])?,
+    };
+    let wanted = ClientLine::ReserveWhen {
+        handlers: NamedHandlers::of(&[HandlerId(3), HandlerId(1)])?,
+        asked: HandlerId(3),
+        request,
+        least: 40,
+        tries: 9,
+    };
+    assert_eq!(rt; line, wanted);
+    Ok(())
+}
+
+#[test]
+fn a_condition_stands_behind_when(rt: HostRuntime) -> Result<(), Fail> {
+    let system = System::read(rt.alloc(), SYSTEM)?;
+    waits_for_a_balance(&rt, &system)
+}
+
+#[test]
+fn each_fault_of_a_line(rt: HostRuntime) -> Result<(), Fail> {
+    let system = System::read(rt.alloc(), SYSTEM)?;
+    for (line, fault) in &FAULTS {
+        assert_eq!(rt; read_line(&system, line), Err(*fault));
+    }
+    Ok(())
+}
+
+#[test]
+fn ten_handlers_are_too_many(rt: HostRuntime) -> Result<(), Fail> {
+    assert_eq!(rt; NamedHandlers::of(&[HandlerId(1); 10]), Err(TooManyNamed));
+    assert_eq!(rt; NamedHandlers::of(&[HandlerId(1); 9])?.as_slice().len(), 9);
+    Ok(())
+}

@@ -1,0 +1,12 @@
+mod DecimalLemmas
+mod WordLemmas
+mod NameLemmas
+mod LineLemmas
+mod Start
+mod AddressLemmas
+mod RowLemmas
+mod ClassRowLemmas
+mod ViewLemmas
+mod ReadLemmas
+mod TextLemmas
+mod SystemLemmas

@@ -1,0 +1,12 @@
+use Rattle.std.proofs.Common.{append_assoc}
+use Rattle.scoop_system.specs.FaultText.{wrong_text}
+use Rattle.scoop_system.proofs.error.WrongDisplay.fmt.Goals as goal
+
+pub returns-in-WordCount-clause-writes : goal.returns-in-WordCount-clause-writes
+returns-in-WordCount-clause-writes g c plain ok = rw c.in-WordCount.is (simp append_assoc (c.write-in-WordCount.ensures.writes plain ok))
+
+pub returns-in-NotATerm-clause-writes : goal.returns-in-NotATerm-clause-writes
+returns-in-NotATerm-clause-writes g c plain ok = rw c.in-NotATerm.is (simp append_assoc (c.write-in-NotATerm.ensures.writes plain ok))
+
+pub returns-in-NoSuchWord-clause-writes : goal.returns-in-NoSuchWord-clause-writes
+returns-in-NoSuchWord-clause-writes g c plain ok = rw c.in-NoSuchWord.is (c.write-in-NoSuchWord.ensures.writes plain ok)

@@ -1,0 +1,20 @@
+-- The socket address that a text writes.
+use Rattle.std.specs.Prelude.{ℕ, List, Option, Some, None}
+use Rattle.std.specs.Option.{option_map}
+use Rattle.std.specs.declared.net.socket_addr.SocketAddr.{SocketAddr}
+use Rattle.std.specs.declared.net.socket_addr.SocketAddr.TheVariants.{V4, V6}
+use Rattle.std.specs.Net.Reader.{read_socket_v4, read_socket_v6, whole_value}
+
+abbrev pub v4_of : List ℕ × ℕ → SocketAddr
+v4_of parts = V4 (record { ip = record { octets = parts.0 }; port = parts.1 })
+
+abbrev pub v6_of : List ℕ × ℕ × ℕ × ℕ → SocketAddr
+v6_of parts = V6 (record { ip = record { segments = parts.0 }; port = parts.1; flowinfo = parts.2; scope_id = parts.3 })
+
+abbrev pub or_else : Option SocketAddr → Option SocketAddr → Option SocketAddr
+or_else None other = other
+or_else (Some a) other = Some a
+
+-- an IPv4 address with a port, or an IPv6 address in brackets with a port
+unfoldable pub address_of : List ℕ → Option SocketAddr
+address_of text = or_else (option_map v4_of (whole_value (read_socket_v4 text))) (option_map v6_of (whole_value (read_socket_v6 text)))

@@ -1,0 +1,64 @@
+-- What is told of a fault.
+use Rattle.std.specs.Prelude.{ℕ, List, ◌++◌, codes, Option, Some, None}
+use Rattle.std.specs.Fmt.{decimal}
+use Rattle.scoop_system.specs.declared.error.Key.{Key}
+use Rattle.scoop_system.specs.declared.error.Place.{Place}
+use Rattle.scoop_system.specs.declared.error.Place.TheVariants as place
+use Rattle.scoop_system.specs.declared.error.Wrong.{Wrong}
+use Rattle.scoop_system.specs.declared.error.Wrong.TheVariants as wrong
+use Rattle.scoop_system.specs.declared.error.Fault.{Fault as TheFault}
+use Rattle.scoop_system.specs.declared.error.SystemError.{SystemError}
+use Rattle.scoop_system.specs.declared.error.SystemError.TheVariants.{Toml, Fault, OutOfMemory}
+use Rattle.scoop_system.specs.KeyText.{key_text}
+
+abbrev pub quoted : List ℕ → List ℕ
+quoted name = codes "\"" ++ name ++ codes "\""
+
+abbrev pub place_text : Place → List ℕ
+place_text place.File = codes "file"
+place_text (place.Numbered kind number) = key_text kind ++ codes " " ++ decimal number
+place_text (place.Nameless kind count) = codes "[[" ++ key_text kind ++ codes "]] " ++ decimal count
+place_text (place.Class name) = codes "class " ++ quoted name
+place_text (place.Operation number class) = codes "operation " ++ decimal number ++ codes " of class " ++ quoted class
+place_text (place.NamelessOperation count class) = codes "[[class.operation]] " ++ decimal count ++ codes " of class " ++ quoted class
+
+abbrev pub wrong_text : Wrong → List ℕ
+wrong_text (wrong.UnknownKey key) = codes "unknown key " ++ quoted key
+wrong_text (wrong.Missing key) = codes "no " ++ key_text key
+wrong_text (wrong.NotANumber key low high) = key_text key ++ codes " is no whole number from " ++ decimal low ++ codes " to " ++ decimal high
+wrong_text (wrong.NotAName key) = key_text key ++ codes " is no name"
+wrong_text wrong.NotAnAddress = codes "address is no IP address with a port"
+wrong_text wrong.OtherFamily = codes "address of another family than the first one"
+wrong_text (wrong.NotAList key) = key_text key ++ codes " is no list"
+wrong_text wrong.NoTable = codes "no table"
+wrong_text (wrong.TooMany key limit) = key_text key ++ codes ": more than " ++ decimal limit
+wrong_text wrong.Twice = codes "twice"
+wrong_text (wrong.NameTwice name) = codes "name " ++ quoted name ++ codes " twice"
+wrong_text (wrong.NoSuchNode number) = codes "no such node " ++ decimal number
+wrong_text (wrong.NoSuchClass name) = codes "no such class " ++ quoted name
+wrong_text wrong.NotWords = codes "words are not 1 to 16 whole numbers below 2^64"
+wrong_text (wrong.WordCount given wanted) = decimal given ++ codes " words in place of " ++ decimal wanted
+wrong_text (wrong.NotATerm text) = quoted text ++ codes " is no term"
+wrong_text (wrong.NoSuchWord term) = term ++ codes " is no word"
+wrong_text (wrong.NoSuchArgument term) = term ++ codes " is no argument"
+wrong_text wrong.NotATest = codes "test is no list of two terms"
+wrong_text wrong.NotAWrite = codes "a write is no list of a word and three terms"
+wrong_text (wrong.WrittenTwice word) = codes "w" ++ decimal word ++ codes " written twice"
+
+abbrev pub placed : Place → List ℕ → List ℕ
+placed place.File text = text
+placed (place.Numbered kind number) text = place_text (place.Numbered kind number) ++ codes ": " ++ text
+placed (place.Nameless kind count) text = place_text (place.Nameless kind count) ++ codes ": " ++ text
+placed (place.Class name) text = place_text (place.Class name) ++ codes ": " ++ text
+placed (place.Operation number class) text = place_text (place.Operation number class) ++ codes ": " ++ text
+placed (place.NamelessOperation count class) text = place_text (place.NamelessOperation count class) ++ codes ": " ++ text
+
+-- the place and what is wrong there; of the whole file no place is told
+abbrev pub fault_text : TheFault → List ℕ
+fault_text f = placed f.place (wrong_text f.wrong)
+
+-- what is told of an error; of TOML's own faults nothing is said
+abbrev pub system_error_text : SystemError → Option (List ℕ)
+system_error_text (Toml fault) = None
+system_error_text (Fault fault) = Some (fault_text fault)
+system_error_text OutOfMemory = Some (codes "out of memory")

@@ -1,0 +1,19 @@
+-- The keys of a system's file.
+use Rattle.std.specs.Prelude.{ℕ, List, codes}
+use Rattle.scoop_system.specs.declared.error.Key.{Key}
+use Rattle.scoop_system.specs.declared.error.Key.TheVariants.{Class, Node, Handler, Client, Operation, Number, Name, Address, Words, Batch, Test, Writes, Answer}
+
+abbrev pub key_text : Key → List ℕ
+key_text Class = codes "class"
+key_text Node = codes "node"
+key_text Handler = codes "handler"
+key_text Client = codes "client"
+key_text Operation = codes "operation"
+key_text Number = codes "number"
+key_text Name = codes "name"
+key_text Address = codes "address"
+key_text Words = codes "words"
+key_text Batch = codes "batch"
+key_text Test = codes "test"
+key_text Writes = codes "writes"
+key_text Answer = codes "answer"

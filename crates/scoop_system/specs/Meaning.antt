@@ -1,0 +1,163 @@
+-- What a TOML table means as a system, or its first fault.
+use Rattle.std.specs.Prelude.{ℕ, ◌==◌, ◌+◌, ◌^◌, ◌-◌, not, Bool, true, false, if◌then◌else◌, List, [], ◌∷◌, ◌++◌, length, Option, Some, None, Result, Ok, Err}
+use Rattle.std.specs.List.{list_any}
+use Rattle.std.specs.declared.net.socket_addr.SocketAddr.{SocketAddr}
+use Rattle.std.specs.Net.Socket.{socket_ip}
+use Rattle.std.specs.Net.Addr.{is_ipv4}
+use Rattle.toml.specs.Data.{Data, get}
+use Rattle.scoop_message.specs.declared.limits.TheConstants.{MAX_NODES, MAX_HANDLERS, MAX_CLIENTS, MAX_ENTRIES}
+use Rattle.scoop_classes.specs.Classes.{class_of_name, table_of}
+use Rattle.scoop_classes.specs.declared.classes.DemoClass.{DemoClass}
+use Rattle.scoop_system.specs.declared.error.Key.{Key}
+use Rattle.scoop_system.specs.declared.error.Key.TheVariants as key
+use Rattle.scoop_system.specs.declared.error.Wrong.{Wrong}
+use Rattle.scoop_system.specs.declared.error.Wrong.TheVariants.{Twice, OtherFamily, NoSuchNode, NoSuchClass, WordCount}
+use Rattle.scoop_system.specs.declared.error.Place.TheVariants.{File}
+use Rattle.scoop_system.specs.declared.place.NodePlace.{NodePlace}
+use Rattle.scoop_system.specs.declared.place.HandlerPlace.{HandlerPlace}
+use Rattle.scoop_system.specs.declared.place.HandlerClass.{HandlerClass}
+use Rattle.scoop_system.specs.declared.place.HandlerClass.TheVariants.{Known, Own}
+use Rattle.scoop_system.specs.declared.place.ClientPlace.{ClientPlace}
+use Rattle.scoop_system.specs.declared.reading.TheConstants.{MAX_CLASSES}
+use Rattle.scoop_system.specs.Name.{told}
+use Rattle.scoop_system.specs.System.{Plan, NamedClass, class_named}
+use Rattle.scoop_system.specs.Value.{Read, ◌>>=◌, unless, number_at, number_in, text_at, address_at, words_at, list_at, key_fault, in_range, whole_of}
+use Rattle.scoop_system.specs.KeyText.{key_text}
+use Rattle.scoop_system.specs.Place.{Told, ◌>>>◌, at, place_at}
+use Rattle.scoop_system.specs.Classes.{classes_from}
+
+-- this is wrong, where the test says so
+abbrev pub wrong_if : Bool → Wrong → Option Wrong
+wrong_if test wrong = if test then Some wrong else None
+
+abbrev pub number_of : Data → Read ℕ
+number_of d = number_at key.Number 0 (2 ^ 32 - 1) d
+
+-- ---- nodes
+
+abbrev pub is_v4 : SocketAddr → Bool
+is_v4 a = is_ipv4 (socket_ip a)
+
+abbrev pub differs : Bool → Bool → Bool
+differs true b = not b
+differs false b = b
+
+abbrev pub other_family : Option SocketAddr → SocketAddr → Bool
+other_family None a = false
+other_family (Some first) a = differs (is_v4 first) (is_v4 a)
+
+abbrev pub first_client : List ClientPlace → Option SocketAddr
+first_client [] = None
+first_client (c ∷ cs) = Some c.address
+
+-- the first address of the file
+abbrev pub first_address : List NodePlace → List ClientPlace → Option SocketAddr
+first_address [] clients = first_client clients
+first_address (n ∷ ns) clients = Some n.address
+
+abbrev pub node_keys : List Key
+node_keys = key.Number ∷ key.Address ∷ []
+
+abbrev pub new_node : ℕ → SocketAddr → NodePlace
+new_node number address = record { number = number; address = address }
+
+-- a node, behind those that come before it
+abbrev pub node_of : List NodePlace → Data → Read NodePlace
+node_of nodes d =
+    unless (key_fault node_keys d)
+    (number_of d >>= λ number. address_at d >>= λ address. unless (wrong_if (list_any (λ n. n.number == number) nodes) Twice)
+    (unless (wrong_if (other_family (first_address nodes []) address) OtherFamily) (Ok (new_node number address))))
+
+abbrev pub nodes_from : List NodePlace → List Data → Told (List NodePlace)
+nodes_from nodes [] = Ok nodes
+nodes_from nodes (d ∷ ds) = at (place_at key.Node (length nodes + 1) d) (node_of nodes d) >>> λ n. nodes_from (nodes ++ n ∷ []) ds
+
+-- ---- handlers
+
+abbrev pub own_class : List ℕ → Option NamedClass → Read (HandlerClass × ℕ)
+own_class name None = Err (NoSuchClass (told name))
+own_class name (Some class) = Ok (Own class.name, class.table.words)
+
+abbrev pub class_or_own : List NamedClass → List ℕ → Option DemoClass → Read (HandlerClass × ℕ)
+class_or_own classes name None = own_class name (class_named classes name)
+class_or_own classes name (Some class) = Ok (Known class, (table_of class).words)
+
+-- the class of this name, and how many words it has
+abbrev pub handler_class : List NamedClass → List ℕ → Read (HandlerClass × ℕ)
+handler_class classes name = class_or_own classes name (class_of_name name)
+
+abbrev pub handler_keys : List Key
+handler_keys = key.Number ∷ key.Node ∷ key.Class ∷ key.Words ∷ []
+
+abbrev pub new_handler : ℕ → ℕ → HandlerClass → List ℕ → HandlerPlace
+new_handler number node class words = record { handler = record { 0 = number }; node = node; class = class; words = words }
+
+-- a handler, behind those that come before it
+abbrev pub handler_of : List NamedClass → List NodePlace → List HandlerPlace → Data → Read HandlerPlace
+handler_of classes nodes handlers d =
+    unless (key_fault handler_keys d)
+    (number_of d >>= λ number. number_at key.Node 0 (2 ^ 32 - 1) d >>= λ node. text_at key.Class d >>= λ name. words_at d >>= λ words.
+    unless (wrong_if (list_any (λ h. h.handler.0 == number) handlers) Twice)
+    (unless (wrong_if (not (list_any (λ n. n.number == node) nodes)) (NoSuchNode node))
+    (handler_class classes name >>= λ class. unless (wrong_if (not (length words == class.1)) (WordCount (length words) class.1))
+    (Ok (new_handler number node class.0 words)))))
+
+abbrev pub handlers_from : List NamedClass → List NodePlace → List HandlerPlace → List Data → Told (List HandlerPlace)
+handlers_from classes nodes handlers [] = Ok handlers
+handlers_from classes nodes handlers (d ∷ ds) =
+    at (place_at key.Handler (length handlers + 1) d) (handler_of classes nodes handlers d) >>> λ h. handlers_from classes nodes (handlers ++ h ∷ []) ds
+
+-- ---- clients
+
+abbrev pub client_keys : List Key
+client_keys = key.Number ∷ key.Address ∷ key.Batch ∷ []
+
+abbrev pub batch_in : Option Data → Read ℕ
+batch_in None = Ok 1
+batch_in (Some d) = in_range key.Batch 1 MAX_ENTRIES (whole_of d)
+
+-- how many entries a client puts into one Log: 1 where it isn't said
+abbrev pub batch_at : Data → Read ℕ
+batch_at d = batch_in (get (key_text key.Batch) d)
+
+abbrev pub new_client : ℕ → SocketAddr → ℕ → ClientPlace
+new_client number address batch = record { client = record { 0 = number }; address = address; batch = batch }
+
+-- a client, behind those that come before it
+abbrev pub client_of : List NodePlace → List ClientPlace → Data → Read ClientPlace
+client_of nodes clients d =
+    unless (key_fault client_keys d)
+    (number_of d >>= λ number. address_at d >>= λ address. batch_at d >>= λ batch. unless (wrong_if (list_any (λ c. c.client.0 == number) clients) Twice)
+    (unless (wrong_if (other_family (first_address nodes clients) address) OtherFamily) (Ok (new_client number address batch))))
+
+abbrev pub clients_from : List NodePlace → List ClientPlace → List Data → Told (List ClientPlace)
+clients_from nodes clients [] = Ok clients
+clients_from nodes clients (d ∷ ds) =
+    at (place_at key.Client (length clients + 1) d) (client_of nodes clients d) >>> λ c. clients_from nodes (clients ++ c ∷ []) ds
+
+-- ---- the whole
+
+abbrev pub file_keys : List Key
+file_keys = key.Class ∷ key.Node ∷ key.Handler ∷ key.Client ∷ []
+
+-- the classes of the file, the nodes, the handlers, the clients
+abbrev pub classes_of : Data → Told (List NamedClass)
+classes_of d = at File (list_at key.Class MAX_CLASSES d) >>> classes_from []
+
+abbrev pub nodes_of : Data → Told (List NodePlace)
+nodes_of d = at File (list_at key.Node MAX_NODES d) >>> nodes_from []
+
+abbrev pub handlers_of : List NamedClass → List NodePlace → Data → Told (List HandlerPlace)
+handlers_of classes nodes d = at File (list_at key.Handler MAX_HANDLERS d) >>> handlers_from classes nodes []
+
+abbrev pub clients_of : List NodePlace → Data → Told (List ClientPlace)
+clients_of nodes d = at File (list_at key.Client MAX_CLIENTS d) >>> clients_from nodes []
+
+abbrev pub plan_of : List NamedClass → List NodePlace → List HandlerPlace → List ClientPlace → Plan
+plan_of classes nodes handlers clients = record { classes = classes; nodes = nodes; handlers = handlers; clients = clients }
+
+-- what a table means: the first fault is that of its keys, then of its classes, nodes, handlers and clients
+abbrev pub system_of : Data → Told Plan
+system_of d =
+    at File (unless (key_fault file_keys d) (Ok d)) >>> λ file. classes_of file >>> λ classes. nodes_of file >>> λ nodes.
+    handlers_of classes nodes file >>> λ handlers. clients_of nodes file >>> λ clients. Ok (plan_of classes nodes handlers clients)

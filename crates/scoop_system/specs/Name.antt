@@ -1,0 +1,34 @@
+-- Names, and what is told of a text.
+use Rattle.std.specs.Prelude.{ℕ, ◌==◌, ◌&&◌, ◌||◌, nat_le, Bool, false, if◌then◌else◌, List, [], ◌∷◌, length, map, take}
+use Rattle.std.specs.List.{list_all}
+use Rattle.scoop_system.specs.declared.name.TheConstants.{MAX_NAME_LEN}
+
+-- printable ASCII
+abbrev pub is_printable : ℕ → Bool
+is_printable byte = nat_le 32 byte && nat_le byte 126
+
+-- the byte, or `?` where it isn't printable
+abbrev pub told_byte : ℕ → ℕ
+told_byte byte = if is_printable byte then byte else 63
+
+-- what is told of a text: its beginning, with `?` for what isn't printable
+unfoldable pub told : List ℕ → List ℕ
+told text = map told_byte (take MAX_NAME_LEN text)
+
+abbrev pub is_letter : ℕ → Bool
+is_letter byte = (nat_le 65 byte && nat_le byte 90) || (nat_le 97 byte && nat_le byte 122)
+
+abbrev pub is_digit : ℕ → Bool
+is_digit byte = nat_le 48 byte && nat_le byte 57
+
+-- a letter, a digit, `_` or `-`
+abbrev pub is_name_byte : ℕ → Bool
+is_name_byte byte = is_letter byte || (is_digit byte || (byte == 95 || byte == 45))
+
+abbrev pub begins_with_letter : List ℕ → Bool
+begins_with_letter [] = false
+begins_with_letter (byte ∷ bytes) = is_letter byte
+
+-- a name is up to 32 letters, digits, `_` and `-`, and begins with a letter
+unfoldable pub is_name : List ℕ → Bool
+is_name text = begins_with_letter text && (list_all is_name_byte text && nat_le (length text) MAX_NAME_LEN)

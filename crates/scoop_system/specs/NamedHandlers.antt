@@ -1,0 +1,5 @@
+-- What stands in an unused cell of the handlers that a line names.
+use Rattle.scoop_message.specs.declared.name.HandlerId.{HandlerId}
+
+abbrev pub nobody : HandlerId
+nobody = record { 0 = 0 }

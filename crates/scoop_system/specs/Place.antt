@@ -1,0 +1,32 @@
+-- Where something is wrong.
+use Rattle.std.specs.Prelude.{ℕ, ◌^◌, ◌-◌, Option, Some, None, Result, Ok, Err}
+use Rattle.std.specs.Result.{result_ok}
+use Rattle.toml.specs.Data.{Data}
+use Rattle.scoop_system.specs.declared.error.Key.{Key}
+use Rattle.scoop_system.specs.declared.error.Key.TheVariants as key
+use Rattle.scoop_system.specs.declared.error.Place.{Place}
+use Rattle.scoop_system.specs.declared.error.Place.TheVariants.{Numbered, Nameless}
+use Rattle.scoop_system.specs.declared.error.Fault.{Fault}
+use Rattle.scoop_system.specs.Value.{Read, number_at}
+
+-- what a file says, or the first fault
+abbrev pub Told : Type 0 → Type 0
+Told A = Result A Fault
+
+infixl 10 ◌>>>◌
+abbrev pub ◌>>>◌ : {A B : Type 0} → Told A → (A → Told B) → Told B
+(Ok x) >>> read = read x
+(Err fault) >>> read = Err fault
+
+-- what is wrong is wrong at this place
+abbrev pub at : {A : Type 0} → Place → Read A → Told A
+at place (Ok x) = Ok x
+at place (Err wrong) = Err (record { place = place; wrong = wrong })
+
+abbrev pub place_of : Key → ℕ → Option ℕ → Place
+place_of kind count None = Nameless kind count
+place_of kind count (Some number) = Numbered kind number
+
+-- the place of a table: by its number, or by its count where it has none
+abbrev pub place_at : Key → ℕ → Data → Place
+place_at kind count d = place_of kind count (result_ok (number_at key.Number 0 (2 ^ 32 - 1) d))

@@ -1,0 +1,249 @@
+//! What is wrong with the text of a system.
+
+use crate::name::Name;
+use std::error::Error;
+use std::fmt;
+
+/// Why a text is no system. Printed as what is told behind the file's name.
+#[derive(Clone, Copy, Debug, PartialEq, Eq)]
+pub enum SystemError {
+    /// The text isn't TOML.
+    Toml(TomlFault),
+    /// The text is TOML, and says no system.
+    Fault(Fault),
+    /// A growth of memory was refused.
+    OutOfMemory,
+}
+
+/// Where a text isn't TOML, with line and column counted from 1, and why.
+#[derive(Clone, Copy, Debug, PartialEq, Eq)]
+pub struct TomlFault {
+    pub line: usize,
+    /// Characters, not bytes, are counted.
+    pub column: usize,
+    pub error: toml::de::Error,
+}
+
+/// What is wrong, and where. Printed as `node 1: unknown key "adress"`.
+#[derive(Clone, Copy, Debug, PartialEq, Eq)]
+pub struct Fault {
+    pub place: Place,
+    pub wrong: Wrong,
+}
+
+/// A table of the file.
+#[derive(Clone, Copy, Debug, PartialEq, Eq)]
+pub enum Place {
+    /// The whole file.
+    File,
+    /// The node, handler or client of this number.
+    Numbered(Key, u32),
+    /// The class, node, handler or client that comes at this place, counted from 1: it has no name or number.
+    Nameless(Key, usize),
+    /// The class of this name.
+    Class(Name),
+    /// The operation of this number, in the class of this name.
+    Operation(u16, Name),
+    /// The operation at this place, counted from 1, in the class of this name: it has no number.
+    NamelessOperation(usize, Name),
+}
+
+/// A key that tables have. Printed as it is written in the file.
+#[derive(Clone, Copy, Debug, PartialEq, Eq)]
+pub enum Key {
+    Class,
+    Node,
+    Handler,
+    Client,
+    Operation,
+    Number,
+    Name,
+    Address,
+    Words,
+    Batch,
+    Test,
+    Writes,
+    Answer,
+}
+
+/// What is wrong at a place.
+#[derive(Clone, Copy, Debug, PartialEq, Eq)]
+pub enum Wrong {
+    /// The table has this key, which such a table hasn't.
+    UnknownKey(Name),
+    /// The table hasn't this key.
+    Missing(Key),
+    /// The value of the key isn't a whole number from the first to the second one.
+    NotANumber(Key, u64, u64),
+    /// The value of the key isn't a name: a letter, and up to 31 letters, digits, `_` and `-`.
+    NotAName(Key),
+    /// The address isn't an IP address with a port that isn't 0.
+    NotAnAddress,
+    /// The address is of the other family than the first one of the file.
+    OtherFamily,
+    /// The value of the key isn't a list.
+    NotAList(Key),
+    /// What is to be a table is none.
+    NoTable,
+    /// The list at the key has more values than this.
+    TooMany(Key, usize),
+    /// The number, or the name of a class, is taken.
+    Twice,
+    /// The name of the operation is taken.
+    NameTwice(Name),
+    /// The handler's node isn't in the file.
+    NoSuchNode(u32),
+    /// The handler's class isn't there.
+    NoSuchClass(Name),
+    /// The words aren't 1 to 16 whole numbers below 2^64.
+    NotWords,
+    /// There are so many words, and the class has so many.
+    WordCount(usize, usize),
+    /// The text isn't a term.
+    NotATerm(Name),
+    /// The term names a word that the class hasn't.
+    NoSuchWord(Name),
+    /// The term names an argument above the fourth.
+    NoSuchArgument(Name),
+    /// The test isn't a list of two terms.
+    NotATest,
+    /// A write isn't a list of a word and three terms.
+    NotAWrite,
+    /// The operation writes this word twice.
+    WrittenTwice(u8),
+}
+
+impl fmt::Display for SystemError {
+    ghost use Rattle.scoop_system.specs.FaultText.{system_error_text};
+
+    // What TOML's own faults say is told as they say it.
+    ghost output = { system_error_text };
+
+    fn fmt<W: fmt::Write>(&self, f: &mut fmt::Formatter<W>) -> fmt::Result {
+        match self {
+            SystemError::Toml(
+                TomlFault {
+                    line,
+                    column,
+                    error,
+                },
+            ) => {
+                let message = error.message();
+                write!(f, "line {line}, column {column}: {message}")
+            }
+            SystemError::Fault(fault) => write!(f, "{fault}"),
+            SystemError::OutOfMemory => f.write_str("out of memory"),
+        }
+    }
+}
+
+impl Error for SystemError {}
+
+impl fmt::Display for Fault {
+    ghost use Rattle.std.specs.Prelude.{Some};
+    ghost use Rattle.scoop_system.specs.FaultText.{fault_text};
+
+    ghost output = { λ f. Some (fault_text f) };
+
+    fn fmt<W: fmt::Write>(&self, f: &mut fmt::Formatter<W>) -> fmt::Result {
+        let wrong = self.wrong;
+        match self.place {
+            Place::File => write!(f, "{wrong}"),
+            place => write!(f, "{place}: {wrong}"),
+        }
+    }
+}
+
+impl fmt::Display for Place {
+    ghost use Rattle.std.specs.Prelude.{Some};
+    ghost use Rattle.scoop_system.specs.FaultText.{place_text};
+
+    ghost output = { λ p. Some (place_text p) };
+
+    fn fmt<W: fmt::Write>(&self, f: &mut fmt::Formatter<W>) -> fmt::Result {
+        match self {
+            Place::File => f.write_str("file"),
+            Place::Numbered(kind, number) => write!(f, "{kind} {number}"),
+            Place::Nameless(kind, count) => write!(f, "[[{kind}]] {count}"),
+            Place::Class(name) => write!(f, "class \"{name}\""),
+            Place::Operation(number, class) => {
+                write!(f, "operation {number} of class \"{class}\"")
+            }
+            Place::NamelessOperation(count, class) => {
+                write!(f, "[[class.operation]] {count} of class \"{class}\"")
+            }
+        }
+    }
+}
+
+impl Key {
+    ghost use Rattle.std.specs.Prelude.{◌≡◌};
+    ghost use Rattle.scoop_system.specs.KeyText.{key_text};
+
+    /// The key as it is written in the file.
+    pub fn as_str(self) -> &'static str
+        ensures { result.now ≡ key_text self }
+    {
+        match self {
+            Key::Class => "class",
+            Key::Node => "node",
+            Key::Handler => "handler",
+            Key::Client => "client",
+            Key::Operation => "operation",
+            Key::Number => "number",
+            Key::Name => "name",
+            Key::Address => "address",
+            Key::Words => "words",
+            Key::Batch => "batch",
+            Key::Test => "test",
+            Key::Writes => "writes",
+            Key::Answer => "answer",
+        }
+    }
+}
+
+impl fmt::Display for Key {
+    ghost use Rattle.std.specs.Prelude.{Some};
+    ghost use Rattle.scoop_system.specs.KeyText.{key_text};
+
+    ghost output = { λ k. Some (key_text k) };
+
+    fn fmt<W: fmt::Write>(&self, f: &mut fmt::Formatter<W>) -> fmt::Result {
+        f.write_str(self.as_str())
+    }
+}
+
+impl fmt::Display for Wrong {
+    ghost use Rattle.std.specs.Prelude.{Some};
+    ghost use Rattle.scoop_system.specs.FaultText.{wrong_text};
+
+    ghost output = { λ w. Some (wrong_text w) };
+
+    fn fmt<W: fmt::Write>(&self, f: &mut fmt::Formatter<W>) -> fmt::Result {
+        match self {
+            Wrong::UnknownKey(key) => write!(f, "unknown key \"{key}\""),
+            Wrong::Missing(key) => write!(f, "no {key}"),
+            Wrong::NotANumber(key, low, high) => {
+                write!(f, "{key} is no whole number from {low} to {high}")
+            }
+            Wrong::NotAName(key) => write!(f, "{key} is no name"),
+            Wrong::NotAnAddress => f.write_str("address is no IP address with a port"),
+            Wrong::OtherFamily => f.write_str("address of another family than the first one"),
+            Wrong::NotAList(key) => write!(f, "{key} is no list"),
+            Wrong::NoTable => f.write_str("no table"),
+            Wrong::TooMany(key, limit) => write!(f, "{key}: more than {limit}"),
+            Wrong::Twice => f.write_str("twice"),
+            Wrong::NameTwice(name) => write!(f, "name \"{name}\" twice"),
+            Wrong::NoSuchNode(number) => write!(f, "no such node {number}"),
+            Wrong::NoSuchClass(name) => write!(f, "no such class \"{name}\""),
+            Wrong::NotWords => f.write_str("words are not 1 to 16 whole numbers below 2^64"),
+            Wrong::WordCount(given, wanted) => write!(f, "{given} words in place of {wanted}"),
+            Wrong::NotATerm(text) => write!(f, "\"{text}\" is no term"),
+            Wrong::NoSuchWord(term) => write!(f, "{term} is no word"),
+            Wrong::NoSuchArgument(term) => write!(f, "{term} is no argument"),
+            Wrong::NotATest => f.write_str("test is no list of two terms"),
+            Wrong::NotAWrite => f.write_str("a write is no list of a word and three terms"),
+            Wrong::WrittenTwice(word) => write!(f, "w{word} written twice"),
+        }
+    }
+}

@@ -1,0 +1,28 @@
+//! A system in a file: which nodes, handlers and clients there are, where they are reached, and which classes there are
+//! besides `cell`, `counter`, `account` and `exchange`.
+//!
+//! [`System::read`] reads a TOML text, and tells its first fault with the place. [`print_system`] writes what was
+//! understood. [`read_line`] reads what a line asks of a client of the system.
+#![tactic(auto)]
+
+mod class;
+mod decimal;
+mod error;
+mod line;
+mod name;
+mod named_handlers;
+mod operations;
+mod place;
+mod printing;
+mod reading;
+mod system;
+
+pub use class::{OwnClass, OwnOperation};
+pub use error::{Fault, Key, Place, SystemError, TomlFault, Wrong};
+pub use line::{ClientLine, LineFault, read_line};
+pub use name::{MAX_NAME_LEN, Name, is_name};
+pub use named_handlers::{MAX_NAMED, NamedHandlers, TooManyNamed};
+pub use place::{ClientPlace, HandlerClass, HandlerPlace, NodePlace};
+pub use printing::print_system;
+pub use reading::MAX_CLASSES;
+pub use system::System;

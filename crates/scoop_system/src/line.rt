@@ -1,0 +1,93 @@
+//! What a line asks of a client.
+
+ghost use Rattle.std.specs.Prelude.{◌≡◌};
+ghost use Rattle.scoop_system.specs.Line.{client_line, line_of, end_line};
+ghost use Rattle.scoop_system.specs.Words.{words_of};
+
+mod fault;
+mod number;
+mod request;
+mod reserve;
+mod words;
+
+use crate::named_handlers::NamedHandlers;
+use crate::system::System;
+pub use fault::LineFault;
+use request::read_request_alone;
+use reserve::read_reserve;
+use scoop_message::{HandlerId, Request};
+pub(crate) use words::is;
+use words::{is_blank, next_word, without_return};
+
+/// What a line asks of a client.
+#[derive(Clone, Copy, Debug, PartialEq, Eq)]
+pub enum ClientLine {
+    /// Nothing: the line has no word, or begins with `#`.
+    Blank,
+    /// `reserve H..`: a block over these handlers.
+    Reserve(NamedHandlers),
+    /// `call H OP A..`: a call at this handler.
+    Call(HandlerId, Request),
+    /// `query H OP A..`: a query at this handler.
+    Query(HandlerId, Request),
+    /// `end`: the end of the block.
+    End,
+    /// `reserve H.. when H OP A.. least V tries T`: a block over these handlers, whose body comes in the next lines.
+    ReserveWhen {
+        handlers: NamedHandlers,
+        /// The handler of the condition, which holds where its answer is a value of at least `least`.
+        asked: HandlerId,
+        request: Request,
+        least: u64,
+        /// How often is tried: at least once.
+        tries: u32,
+    },
+}
+
+/// What a line asks of a client. A carriage return at its end isn't part of it; words are parted by spaces.
+///
+/// The error is `UnknownLine` by the first word. Of a `call` or a `query` it is `WrongNumberOfWords`, else
+/// `TooManyArguments`, else the first from the left of `NotANumber` and `NoSuchOperation`; of an `end`
+/// `WrongNumberOfWords`. Of a `reserve` it is `TooManyHandlers`, else `NotANumber` of a handler, else that of the words
+/// behind `when`: `WrongNumberOfWords`, or as of a `call`, or `NotANumber` of the least value or the tries, which are 1
+/// or more.
+pub fn read_line(system: &System, line: &[u8]) -> Result<ClientLine, LineFault>
+    ensures { result ≡ client_line system.now line.now }
+{
+    let line = without_return(line);
+    if is_blank(line) {
+        return Ok(ClientLine::Blank);
+    }
+    match next_word(line) {
+        Some((name, rest)) => read_kind(system, name, rest),
+        None => Ok(ClientLine::Blank),
+    }
+}
+
+// What the words behind the first one ask for, by that one.
+fn read_kind(system: &System, name: &[u8], rest: &[u8]) -> Result<ClientLine, LineFault>
+    ensures { result ≡ line_of system.now name.now (words_of rest.now) }
+{
+    if is(name, "reserve") {
+        read_reserve(system, rest)
+    } else if is(name, "call") {
+        let (handler, request) = read_request_alone(system, rest)?;
+        Ok(ClientLine::Call(handler, request))
+    } else if is(name, "query") {
+        let (handler, request) = read_request_alone(system, rest)?;
+        Ok(ClientLine::Query(handler, request))
+    } else if is(name, "end") {
+        read_end(rest)
+    } else {
+        Err(LineFault::UnknownLine)
+    }
+}
+
+fn read_end(rest: &[u8]) -> Result<ClientLine, LineFault>
+    ensures { result ≡ end_line (words_of rest.now) }
+{
+    match next_word(rest) {
+        None => Ok(ClientLine::End),
+        Some(_) => Err(LineFault::WrongNumberOfWords),
+    }
+}

@@ -1,0 +1,41 @@
+//! What is wrong with a line.
+
+use std::error::Error;
+use std::fmt;
+
+/// What is wrong with a line. Printed in words, as `not a number`.
+#[derive(Clone, Copy, Debug, PartialEq, Eq)]
+pub enum LineFault {
+    /// The first word says nothing that is known.
+    UnknownLine,
+    /// The line has fewer or more words than its kind has.
+    WrongNumberOfWords,
+    /// A word that is to be a number isn't one, or is out of its range.
+    NotANumber,
+    /// A request has more than four arguments.
+    TooManyArguments,
+    /// More than nine handlers are named.
+    TooManyHandlers,
+    /// A word that is no number names no operation of the handler's class.
+    NoSuchOperation,
+}
+
+impl fmt::Display for LineFault {
+    ghost use Rattle.std.specs.Prelude.{Some};
+    ghost use Rattle.scoop_system.specs.LineText.{line_fault_text};
+
+    ghost output = { λ f. Some (line_fault_text f) };
+
+    fn fmt<W: fmt::Write>(&self, f: &mut fmt::Formatter<W>) -> fmt::Result {
+        f.write_str(match self {
+            LineFault::UnknownLine => "unknown line",
+            LineFault::WrongNumberOfWords => "wrong number of words",
+            LineFault::NotANumber => "not a number",
+            LineFault::TooManyArguments => "too many arguments",
+            LineFault::TooManyHandlers => "too many handlers",
+            LineFault::NoSuchOperation => "no such operation",
+        })
+    }
+}
+
+impl Error for LineFault {}

@@ -1,0 +1,56 @@
+//! Numbers in a line.
+
+ghost use Rattle.std.specs.Prelude.{◌≡◌, ◌≤◌, ◌^◌, IfOk};
+ghost use Rattle.scoop_system.specs.Line.{number_below, handler_of, tries_of};
+
+use super::fault::LineFault;
+use crate::decimal::decimal;
+use scoop_message::HandlerId;
+
+// The number below 2^64 that a word writes.
+pub(super) fn read_u64(word: &[u8]) -> Result<u64, LineFault>
+    ensures { result ≡ number_below (2 ^ 64) word.now }
+{
+    match decimal(word) {
+        Some(number) => Ok(number),
+        None => Err(LineFault::NotANumber),
+    }
+}
+
+// The same below 2^32.
+pub(super) fn read_u32(word: &[u8]) -> Result<u32, LineFault>
+    ensures { result ≡ number_below (2 ^ 32) word.now }
+{
+    match decimal(word) {
+        Some(number) => u32::try_from(number).map_err(|_| LineFault::NotANumber),
+        None => Err(LineFault::NotANumber),
+    }
+}
+
+// The same below 2^16.
+pub(super) fn read_u16(word: &[u8]) -> Result<u16, LineFault>
+    ensures { result ≡ number_below (2 ^ 16) word.now }
+{
+    match decimal(word) {
+        Some(number) => u16::try_from(number).map_err(|_| LineFault::NotANumber),
+        None => Err(LineFault::NotANumber),
+    }
+}
+
+// A handler by its number.
+pub(super) fn read_handler(word: &[u8]) -> Result<HandlerId, LineFault>
+    ensures { result ≡ handler_of word.now }
+{
+    Ok(HandlerId(read_u32(word)?))
+}
+
+// How often is tried: a number from 1 on.
+pub(super) fn read_tries(word: &[u8]) -> Result<u32, LineFault>
+    ensures value { result ≡ tries_of word.now }
+    ensures some { IfOk result (λ tries. 1 ≤ tries) }
+{
+    match read_u32(word)? {
+        0 => Err(LineFault::NotANumber),
+        tries => Ok(tries),
+    }
+}

@@ -1,0 +1,161 @@
+//! Names, as files give them.
+
+ghost use Rattle.std.specs.Prelude.{◌≡◌, ◌≤◌, ◌==◌, length, take};
+ghost use Rattle.std.specs.List.{list_all};
+ghost use Rattle.std.specs.Cmp.Lexicographic.{pointwise};
+ghost use Rattle.std.specs.Cmp.Rules.{comparing};
+ghost use Rattle.std.proofs.Common.{rules};
+ghost use Rattle.scoop_system.specs.Name.{told, told_byte, is_printable, is_letter, is_name_byte, begins_with_letter, is_name};
+
+use std::marker::Model;
+use std::{fmt, str};
+
+/// Bytes of a name, at most.
+pub const MAX_NAME_LEN: usize = 32;
+
+/// The name of a class or an operation, or what is told of a text of the file: up to 32 printable bytes of ASCII.
+/// Contracts see it as the list of its bytes. Printed as it is.
+#[derive(Clone, Copy, Debug)]
+pub struct Name {
+    cells: [u8; MAX_NAME_LEN],
+    count: usize,
+}
+
+impl Model for Name {
+    ghost use Rattle.std.specs.Prelude.{List, ℕ, IsTrue, take, length};
+    ghost use Rattle.std.specs.List.{list_all};
+    ghost use Rattle.scoop_message.specs.Padded.{IsPadded, padded, length-first, padded-first};
+    ghost use Rattle.scoop_system.specs.declared.name.TheConstants.{MAX_NAME_LEN};
+    ghost use Rattle.scoop_system.specs.Name.{is_printable};
+
+    ghost Value = { List ℕ };
+
+    ghost view = { λ n. take n.count n.cells };
+
+    ghost invariant = { λ n. IsTrue (list_all is_printable (take n.count n.cells)) × IsPadded 0 MAX_NAME_LEN n.count n.cells };
+
+    ghost inverse = { λ xs. record { cells = padded 0 MAX_NAME_LEN xs; count = length xs } };
+
+    ghost inverse_ok = { λ n h i. record {
+      cells = padded-first 0 MAX_NAME_LEN n.count n.cells h.1 i;
+      count = length-first 0 MAX_NAME_LEN n.count n.cells h.1 i;
+    } };
+}
+
+impl PartialEq for Name {
+    ghost eq = { pointwise ◌==◌ };
+
+    ghost laws = { Prim.search (comparing, rules) };
+
+    fn eq(&self, other: &Name) -> bool {
+        self.as_bytes() == other.as_bytes()
+    }
+}
+
+impl Eq for Name {
+    ghost laws = { Prim.search (comparing, rules) };
+}
+
+impl Name {
+    /// What is told of a text: its first 32 bytes, with a `?` for each that isn't printable ASCII.
+    pub fn told(text: &str) -> Name
+        ensures { result ≡ told text.now }
+    {
+        let bytes = beginning(text.as_bytes());
+        let count = bytes.len();
+        let mut cells = [0; MAX_NAME_LEN];
+        for (place, byte) in bytes.iter().enumerate() {
+            cells[place] = told_byte(*byte);
+        }
+        Name { cells, count }
+    }
+
+    /// The bytes, all of them printable ASCII.
+    pub fn as_bytes(&self) -> &[u8]
+        ensures { result.now ≡ self.now }
+    {
+        &self.cells[..self.count]
+    }
+
+    /// The bytes as a text.
+    pub fn as_str(&self) -> &str
+        ensures { result.now ≡ self.now }
+    {
+        match str::from_utf8(&self.cells[..self.count]) {
+            Ok(text) => text,
+            Err(_) => unreachable!(),
+        }
+    }
+}
+
+impl fmt::Display for Name {
+    ghost use Rattle.std.specs.Prelude.{Some};
+
+    ghost output = { λ n. Some n };
+
+    fn fmt<W: fmt::Write>(&self, f: &mut fmt::Formatter<W>) -> fmt::Result {
+        f.write_str(self.as_str())
+    }
+}
+
+// As many bytes of a text as a name may have.
+fn beginning(text: &[u8]) -> &[u8]
+    ensures value { result.now ≡ take MAX_NAME_LEN text.now }
+    ensures limit { length result.now ≤ MAX_NAME_LEN }
+{
+    if text.len() <= MAX_NAME_LEN {
+        text
+    } else {
+        text.split_at(MAX_NAME_LEN).0
+    }
+}
+
+// The byte, or `?` where it isn't printable.
+fn told_byte(byte: u8) -> u8
+    ensures { result ≡ told_byte byte }
+{
+    if is_printable(byte) { byte } else { b'?' }
+}
+
+fn is_printable(byte: u8) -> bool
+    ensures { result ≡ is_printable byte }
+{
+    matches!(byte, b' '..=b'~')
+}
+
+fn is_letter(byte: u8) -> bool
+    ensures { result ≡ is_letter byte }
+{
+    matches!(byte, b'A'..=b'Z' | b'a'..=b'z')
+}
+
+fn is_name_byte(byte: u8) -> bool
+    ensures { result ≡ is_name_byte byte }
+{
+    is_letter(byte) || matches!(byte, b'0'..=b'9' | b'_' | b'-')
+}
+
+/// Whether a text is a name: up to 32 letters, digits, `_` and `-`, of which the first is a letter.
+#[tactic(auto, unfolding(crate::specs::Name::is_name))]
+pub fn is_name(text: &str) -> bool
+    ensures { result ≡ is_name text.now }
+{
+    begins_with_letter(text.as_bytes())
+        && has_name_bytes(text.as_bytes())
+        && text.len() <= MAX_NAME_LEN
+}
+
+fn begins_with_letter(text: &[u8]) -> bool
+    ensures { result ≡ begins_with_letter text.now }
+{
+    match text {
+        [] => false,
+        [first, ..] => is_letter(*first),
+    }
+}
+
+fn has_name_bytes(text: &[u8]) -> bool
+    ensures { result ≡ list_all is_name_byte text.now }
+{
+    text.iter().all(|byte| is_name_byte(*byte))
+}

@@ -1,0 +1,57 @@
+//! Who takes part in a system, and where.
+
+use crate::name::Name;
+use scoop_classes::DemoClass;
+use scoop_message::{ClientId, HandlerId, Words};
+use std::fmt;
+use std::net::SocketAddr;
+
+/// A node, and where it is reached.
+#[derive(Clone, Copy, Debug, PartialEq, Eq)]
+pub struct NodePlace {
+    pub number: u32,
+    /// Its port isn't 0, and its family is that of all addresses of the system.
+    pub address: SocketAddr,
+}
+
+/// The class of a handler's object.
+#[derive(Clone, Copy, Debug, PartialEq, Eq)]
+pub enum HandlerClass {
+    /// A class that every system has.
+    Known(DemoClass),
+    /// The class of this name, which the system's file has.
+    Own(Name),
+}
+
+/// A handler: the node that it stands on, and its object's class and opening words.
+#[derive(Clone, Copy, Debug, PartialEq, Eq)]
+pub struct HandlerPlace {
+    pub handler: HandlerId,
+    pub node: u32,
+    pub class: HandlerClass,
+    /// As many as the class has.
+    pub words: Words,
+}
+
+/// A client, where it is reached, and how many entries it puts into one Log: 1 to 4.
+#[derive(Clone, Copy, Debug, PartialEq, Eq)]
+pub struct ClientPlace {
+    pub client: ClientId,
+    /// Its port isn't 0, and its family is that of all addresses of the system.
+    pub address: SocketAddr,
+    pub batch: u8,
+}
+
+impl fmt::Display for HandlerClass {
+    ghost use Rattle.std.specs.Prelude.{Some};
+    ghost use Rattle.scoop_system.specs.SystemText.{handler_class_text};
+
+    ghost output = { λ c. Some (handler_class_text c) };
+
+    fn fmt<W: fmt::Write>(&self, f: &mut fmt::Formatter<W>) -> fmt::Result {
+        match self {
+            HandlerClass::Known(class) => f.write_str(class.name()),
+            HandlerClass::Own(name) => f.write_str(name.as_str()),
+        }
+    }
+}

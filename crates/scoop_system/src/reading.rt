@@ -1,0 +1,95 @@
+//! What a TOML text says that a system is.
+
+ghost use Rattle.std.specs.Prelude.{◌≡◌, ◌+◌, Some, None, Ok, Err, IfOk, IfErr, take};
+ghost use Rattle.toml.specs.Data.{table};
+ghost use Rattle.toml.specs.Parse.{parse_document};
+ghost use Rattle.toml.specs.View.{view};
+ghost use Rattle.toml.specs.Errors.{IsMemory};
+ghost use Rattle.scoop_system.specs.Meaning.{system_of};
+ghost use Rattle.scoop_system.specs.File.{Means, SaysNoSystem};
+ghost use Rattle.scoop_system.specs.Stop.{IfFault};
+
+mod class;
+mod party;
+mod place;
+mod stop;
+mod term;
+mod value;
+
+use crate::error::{SystemError, TomlFault};
+use crate::system::System;
+use class::read_classes;
+use party::{read_clients, read_handlers, read_nodes};
+use place::check_keys;
+use std::alloc::Global;
+pub(crate) use stop::Stop;
+use toml::Value;
+
+/// Classes of one file, at most: as many as handlers.
+pub const MAX_CLASSES: usize = 64;
+
+// What a TOML table means as a system.
+pub(crate) fn read_table(alloc: Global, file: &Value) -> Result<System, Stop>
+    ensures ok { IfOk result (λ system. system_of (view file.now) ≡ Ok system) }
+    ensures fault { IfErr result (λ e. IfFault e (λ fault. system_of (view file.now) ≡ Err fault)) }
+{
+    check_keys(file)?;
+    let classes = read_classes(alloc, file)?;
+    let nodes = read_nodes(alloc, file)?;
+    let handlers = read_handlers(alloc, file, classes.as_slice(), nodes.as_slice())?;
+    let clients = read_clients(alloc, file, nodes.as_slice())?;
+    Ok(System::new(classes, nodes, handlers, clients))
+}
+
+impl System {
+    /// The system of a TOML text.
+    ///
+    /// The error is `Toml` exactly where the text isn't TOML, and `Fault` exactly where it is, and means no system: with
+    /// the first fault, of the file's keys, else of its classes, nodes, handlers and clients, each in the order of the
+    /// file. It is `OutOfMemory` where a growth of memory was refused.
+    pub fn read(alloc: Global, text: &str) -> Result<System, SystemError>
+        ensures system { IfOk result (λ system. Means text.now (Ok system)) }
+        ensures error { IfErr result (SaysNoSystem text.now) }
+    {
+        let table = match toml::table_from_str(alloc, text) {
+            Ok(table) => table,
+            Err(error) => return Err(toml_error(text, error)),
+        };
+        match read_table(alloc, &Value::Table(table)) {
+            Ok(system) => Ok(system),
+            Err(Stop::Fault(fault)) => Err(SystemError::Fault(fault)),
+            Err(Stop::OutOfMemory) => Err(SystemError::OutOfMemory),
+        }
+    }
+}
+
+// What TOML's own error says, with its place in the text.
+fn toml_error(text: &str, error: toml::de::Error) -> SystemError
+    requires { ¬ IsMemory error → parse_document text.now ≡ None }
+    ensures { SaysNoSystem text.now result }
+{
+    let Some(span) = error.span() else {
+        return SystemError::OutOfMemory;
+    };
+    let (line, column) = position(text, span.start);
+    SystemError::Toml(TomlFault {
+        line,
+        column,
+        error,
+    })
+}
+
+// The line and the column of a place in a text, both from 1. A column counts characters.
+fn position(text: &str, start: usize) -> (usize, usize) {
+    let mut line = 1usize;
+    let mut column = 1usize;
+    for byte in text.as_bytes().iter().take(start) {
+        if *byte == b'\n' {
+            line = line.saturating_add(1);
+            column = 1;
+        } else if *byte & 0xC0 != 0x80 {
+            column = column.saturating_add(1);
+        }
+    }
+    (line, column)
+}

@@ -1,0 +1,236 @@
+//! The nodes, handlers and clients of a file.
+
+ghost use Rattle.std.specs.Prelude.{◌≡◌, ◌==◌, [], map, not, Ok, Err, IfOk, IfErr, MatchResult};
+ghost use Rattle.std.specs.List.{list_any};
+ghost use Rattle.toml.specs.View.{view};
+ghost use Rattle.scoop_classes.specs.Classes.{table_of};
+ghost use Rattle.scoop_system.specs.Meaning.{node_of, nodes_of, handler_of, handlers_of, handler_class, client_of, clients_of, batch_at, number_of, first_address, first_client, other_family, is_v4};
+ghost use Rattle.scoop_system.specs.Stop.{IfFault};
+
+use super::place::{at, place_at};
+use super::stop::Stop;
+use super::value::{address_at, entry, in_range, key_fault, list_at, number_at, text_at, words_at};
+use crate::class::{OwnClass, class_named};
+use crate::error::{Key, Place, Wrong};
+use crate::name::Name;
+use crate::place::{ClientPlace, HandlerClass, HandlerPlace, NodePlace};
+use scoop_classes::DemoClass;
+use scoop_message::limits::{MAX_CLIENTS, MAX_ENTRIES, MAX_HANDLERS, MAX_NODES};
+use scoop_message::{ClientId, HandlerId};
+use std::alloc::Global;
+use std::net::SocketAddr;
+use toml::Value;
+
+// The nodes of a file.
+pub(super) fn read_nodes(alloc: Global, file: &Value) -> Result<Vec<NodePlace>, Stop>
+    ensures ok { IfOk result (λ nodes. nodes_of (view file.now) ≡ Ok nodes.items) }
+    ensures fault { IfErr result (λ e. IfFault e (λ fault. nodes_of (view file.now) ≡ Err fault)) }
+{
+    let values = at(Place::File, list_at(file, Key::Node, MAX_NODES))?;
+    let mut nodes = Vec::with_capacity(alloc, values.len())?;
+    for value in values {
+        let place = place_at(value, Key::Node, nodes.len() + 1);
+        let node = at(place, read_node(value, nodes.as_slice()))?;
+        nodes.push(node)?;
+    }
+    Ok(nodes)
+}
+
+// A node, behind those that come before it.
+fn read_node(value: &Value, done: &[NodePlace]) -> Result<NodePlace, Wrong>
+    ensures { result ≡ node_of done.now (view value.now) }
+{
+    if let Some(wrong) = key_fault(value, &[Key::Number, Key::Address]) {
+        return Err(wrong);
+    }
+    let number = read_number(value)?;
+    let address = address_at(value)?;
+    if has_node(done, number) {
+        return Err(Wrong::Twice);
+    }
+    if other_family(first_address(done, &[]), address) {
+        return Err(Wrong::OtherFamily);
+    }
+    Ok(NodePlace { number, address })
+}
+
+// The number of a node, handler or client.
+fn read_number(value: &Value) -> Result<u32, Wrong>
+    ensures { result ≡ number_of (view value.now) }
+{
+    Ok(number_at(value, Key::Number, 0, u64::from(u32::MAX))? as u32)
+}
+
+fn has_node(nodes: &[NodePlace], number: u32) -> bool
+    ensures { result ≡ list_any (λ n. n.number == number) nodes.now }
+{
+    nodes.iter().any(|node| node.number == number)
+}
+
+// The first address of the file, if there is one.
+fn first_address(nodes: &[NodePlace], clients: &[ClientPlace]) -> Option<SocketAddr>
+    ensures { result ≡ first_address nodes.now clients.now }
+{
+    match (nodes, clients) {
+        ([node, ..], _) => Some(node.address),
+        ([], [client, ..]) => Some(client.address),
+        ([], []) => None,
+    }
+}
+
+// Whether an address isn't of the family of the first one.
+fn other_family(first: Option<SocketAddr>, address: SocketAddr) -> bool
+    ensures { result ≡ other_family first address }
+{
+    match first {
+        Some(first) => first.is_ipv4() != address.is_ipv4(),
+        None => false,
+    }
+}
+
+// The handlers of a file.
+pub(super) fn read_handlers(
+    alloc: Global,
+    file: &Value,
+    classes: &[OwnClass],
+    nodes: &[NodePlace],
+) -> Result<Vec<HandlerPlace>, Stop>
+    ensures ok { IfOk result (λ handlers. handlers_of classes.now nodes.now (view file.now) ≡ Ok handlers.items) }
+    ensures fault { IfErr result (λ e. IfFault e (λ fault. handlers_of classes.now nodes.now (view file.now) ≡ Err fault)) }
+{
+    let values = at(Place::File, list_at(file, Key::Handler, MAX_HANDLERS))?;
+    let mut handlers = Vec::with_capacity(alloc, values.len())?;
+    for value in values {
+        let place = place_at(value, Key::Handler, handlers.len() + 1);
+        let read = read_handler(value, classes, nodes, handlers.as_slice());
+        let handler = at(place, read)?;
+        handlers.push(handler)?;
+    }
+    Ok(handlers)
+}
+
+// A handler, behind those that come before it.
+fn read_handler(
+    value: &Value,
+    classes: &[OwnClass],
+    nodes: &[NodePlace],
+    done: &[HandlerPlace],
+) -> Result<HandlerPlace, Wrong>
+    ensures { result ≡ handler_of classes.now nodes.now done.now (view value.now) }
+{
+    let known = [Key::Number, Key::Node, Key::Class, Key::Words];
+    if let Some(wrong) = key_fault(value, &known) {
+        return Err(wrong);
+    }
+    let number = read_number(value)?;
+    let node = number_at(value, Key::Node, 0, u64::from(u32::MAX))? as u32;
+    let name = text_at(value, Key::Class)?;
+    let words = words_at(value)?;
+    if has_handler(done, number) {
+        return Err(Wrong::Twice);
+    }
+    if !has_node(nodes, node) {
+        return Err(Wrong::NoSuchNode(node));
+    }
+    let (class, count) = handler_class(classes, name)?;
+    if words.len() != count {
+        return Err(Wrong::WordCount(words.len(), count));
+    }
+    Ok(HandlerPlace {
+        handler: HandlerId(number),
+        node,
+        class,
+        words,
+    })
+}
+
+fn has_handler(handlers: &[HandlerPlace], number: u32) -> bool
+    ensures { result ≡ list_any (λ h. h.handler.0 == number) handlers.now }
+{
+    handlers.iter().any(|place| place.handler.0 == number)
+}
+
+// The class of this name, and how many words it has.
+fn handler_class(classes: &[OwnClass], name: &str) -> Result<(HandlerClass, usize), Wrong>
+    ensures { result ≡ handler_class classes.now name.now }
+{
+    if let Some(class) = DemoClass::from_name(name) {
+        return Ok((HandlerClass::Known(class), known_words(class)));
+    }
+    match class_named(classes, name.as_bytes()) {
+        Some(own) => Ok((HandlerClass::Own(own.name()), own.class().words())),
+        None => Err(Wrong::NoSuchClass(Name::told(name))),
+    }
+}
+
+// How many words an object of the class has.
+fn known_words(class: DemoClass) -> usize
+    ensures { result ≡ (table_of class).words }
+{
+    match class {
+        DemoClass::Cell | DemoClass::Counter | DemoClass::Account => 1,
+        DemoClass::Exchange => 2,
+    }
+}
+
+// The clients of a file.
+pub(super) fn read_clients(
+    alloc: Global,
+    file: &Value,
+    nodes: &[NodePlace],
+) -> Result<Vec<ClientPlace>, Stop>
+    ensures ok { IfOk result (λ clients. clients_of nodes.now (view file.now) ≡ Ok clients.items) }
+    ensures fault { IfErr result (λ e. IfFault e (λ fault. clients_of nodes.now (view file.now) ≡ Err fault)) }
+{
+    let values = at(Place::File, list_at(file, Key::Client, MAX_CLIENTS))?;
+    let mut clients = Vec::with_capacity(alloc, values.len())?;
+    for value in values {
+        let place = place_at(value, Key::Client, clients.len() + 1);
+        let client = at(place, read_client(value, nodes, clients.as_slice()))?;
+        clients.push(client)?;
+    }
+    Ok(clients)
+}
+
+// A client, behind those that come before it.
+fn read_client(
+    value: &Value,
+    nodes: &[NodePlace],
+    done: &[ClientPlace],
+) -> Result<ClientPlace, Wrong>
+    ensures { result ≡ client_of nodes.now done.now (view value.now) }
+{
+    if let Some(wrong) = key_fault(value, &[Key::Number, Key::Address, Key::Batch]) {
+        return Err(wrong);
+    }
+    let number = read_number(value)?;
+    let address = address_at(value)?;
+    let batch = batch_at(value)?;
+    if has_client(done, number) {
+        return Err(Wrong::Twice);
+    }
+    if other_family(first_address(nodes, done), address) {
+        return Err(Wrong::OtherFamily);
+    }
+    Ok(ClientPlace {
+        client: ClientId(number),
+        address,
+        batch,
+    })
+}
+
+fn has_client(clients: &[ClientPlace], number: u32) -> bool
+    ensures { result ≡ list_any (λ c. c.client.0 == number) clients.now }
+{
+    clients.iter().any(|place| place.client.0 == number)
+}
+
+// How many entries a client puts into one Log: 1 where it isn't said.
+fn batch_at(value: &Value) -> Result<u8, Wrong>
+    ensures { result ≡ batch_at (view value.now) }
+{
+    match entry(value, Key::Batch) {
+        Some(batch) => Ok(in_range(batch, Key::Batch, 1, MAX_ENTRIES as u64)? as u8),
+        None => Ok(1),
+    }
+}

@@ -1,0 +1,137 @@
+//! What a file says that a system is.
+
+ghost use Rattle.std.specs.Prelude.{◌≡◌, ◌==◌, find, IfOk};
+ghost use Rattle.std.specs.Option.{option_copied, option_map};
+ghost use Rattle.scoop_system.specs.System.{Plan, class_table, class_operation, handler_named, operation_named};
+
+use crate::class::{OwnClass, class_named};
+use crate::operations::known_operation;
+use crate::place::{ClientPlace, HandlerClass, HandlerPlace, NodePlace};
+use scoop_message::{ClientId, HandlerId, OutOfMemory};
+use scoop_object::Class;
+use std::alloc::Global;
+use std::marker::Model;
+
+/// A system. Contracts see its classes, nodes, handlers and clients as lists, each in the order of the file.
+#[derive(Drop, Debug)]
+pub struct System {
+    classes: Vec<OwnClass>,
+    nodes: Vec<NodePlace>,
+    handlers: Vec<HandlerPlace>,
+    clients: Vec<ClientPlace>,
+}
+
+impl Model for System {
+    ghost use Rattle.scoop_system.specs.System.{Plan};
+
+    ghost Value = { Plan };
+
+    ghost view = { λ s. record { classes = s.classes.items; nodes = s.nodes.items; handlers = s.handlers.items; clients = s.clients.items } };
+}
+
+impl System {
+    // The system of these parts.
+    pub(crate) fn new(
+        classes: Vec<OwnClass>,
+        nodes: Vec<NodePlace>,
+        handlers: Vec<HandlerPlace>,
+        clients: Vec<ClientPlace>,
+    ) -> System
+        ensures { result ≡ record { classes = classes.items; nodes = nodes.items; handlers = handlers.items; clients = clients.items } }
+    {
+        System {
+            classes,
+            nodes,
+            handlers,
+            clients,
+        }
+    }
+
+    /// The classes of the system's own.
+    pub fn classes(&self) -> &[OwnClass]
+        ensures { result.now ≡ self.now.classes }
+    {
+        self.classes.as_slice()
+    }
+
+    /// The nodes.
+    pub fn nodes(&self) -> &[NodePlace]
+        ensures { result.now ≡ self.now.nodes }
+    {
+        self.nodes.as_slice()
+    }
+
+    /// The handlers of all nodes.
+    pub fn handlers(&self) -> &[HandlerPlace]
+        ensures { result.now ≡ self.now.handlers }
+    {
+        self.handlers.as_slice()
+    }
+
+    /// The clients.
+    pub fn clients(&self) -> &[ClientPlace]
+        ensures { result.now ≡ self.now.clients }
+    {
+        self.clients.as_slice()
+    }
+
+    /// The node of this number, if there is one.
+    pub fn node(&self, number: u32) -> Option<&NodePlace>
+        ensures { option_copied result ≡ find (λ n. n.number == number) self.now.nodes }
+    {
+        self.nodes.iter().find(|node| node.number == number)
+    }
+
+    /// The handler of this number, if there is one.
+    pub fn handler(&self, handler: HandlerId) -> Option<&HandlerPlace>
+        ensures { option_copied result ≡ handler_named self.now.handlers handler }
+    {
+        self.handlers
+            .iter()
+            .find(|place| place.handler.0 == handler.0)
+    }
+
+    /// The client of this number, if there is one.
+    pub fn client(&self, client: ClientId) -> Option<&ClientPlace>
+        ensures { option_copied result ≡ find (λ c. c.client.0 == client.0) self.now.clients }
+    {
+        self.clients.iter().find(|place| place.client.0 == client.0)
+    }
+
+    /// The class of a handler's object, kept by this allocator: `None` where it is of another system.
+    /// `OutOfMemory` is the one refusal.
+    pub fn class_of(&self, alloc: Global, class: HandlerClass) -> Result<Option<Class>, OutOfMemory>
+        ensures { IfOk result (λ c. c ≡ class_table self.now.classes class) }
+    {
+        match class {
+            HandlerClass::Known(class) => Ok(Some(class.class(alloc)?)),
+            HandlerClass::Own(name) => match class_named(self.classes.as_slice(), name.as_bytes()) {
+                Some(own) => Ok(Some(own.class().copy_in(alloc)?)),
+                None => Ok(None),
+            },
+        }
+    }
+
+    /// The number of the operation of this name in the handler's class, if there is one.
+    pub fn operation(&self, handler: HandlerId, name: &[u8]) -> Option<u16>
+        ensures { result ≡ operation_named self.now handler name.now }
+    {
+        match self.handler(handler) {
+            Some(place) => class_operation(self.classes.as_slice(), name, place.class),
+            None => None,
+        }
+    }
+}
+
+// The number of the operation of this name in a class, if there is one.
+fn class_operation(classes: &[OwnClass], name: &[u8], class: HandlerClass) -> Option<u16>
+    ensures { result ≡ class_operation classes.now name.now class }
+{
+    match class {
+        HandlerClass::Known(class) => known_operation(class, name),
+        HandlerClass::Own(own) => match class_named(classes, own.as_bytes()) {
+            Some(found) => found.operation(name),
+            None => None,
+        },
+    }
+}
