@@ -7,6 +7,7 @@ mod gate;
 mod growths;
 mod loops;
 mod painting;
+mod refused;
 mod tape;
 mod waits;
 

@@ -15,7 +15,7 @@
 use std::alloc::{AllocError, Allocator};
 use std::sync::atomic::{AtomicU64, Ordering};
 
-/// An allocator that refuses one growth, and passes every other call on. It is lent to what grows by it.
+/// An allocator that refuses one growth, and passes every other call on. It is lent to what grows by it, in any thread.
 pub struct Refusing<B: Allocator> {
     inner: B,
     // How many growths are left up to the one that is refused, 0 once it was.
