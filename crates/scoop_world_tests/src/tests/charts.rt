@@ -86,11 +86,7 @@ fn a_run_is_drawn(rt: HostRuntime) {
 }
 
 const RESTARTS: [Row; 3] = [
-    (
-        Event::NodeRestart(1),
-        Ok(WorldNote::Reopened),
-        b"reopened",
-    ),
+    (Event::NodeRestart(1), Ok(WorldNote::Reopened), b"reopened"),
     (
         Event::ClientRestart(SEVEN),
         Ok(WorldNote::Restarted(2)),

@@ -13,7 +13,6 @@ use scoop_refusing::Refusing;
 use scoop_world::{Event, World, WorldError, WorldNote};
 use std::alloc::Global;
 use std::process::Abort;
-use std::test::Fail;
 
 /// How many events the run has.
 const EVENTS: u32 = 20_000;
@@ -63,16 +62,16 @@ fn wanted(told: Told) -> Grown {
 }
 
 impl<'a> Run<'a> {
-    fn new(alloc: Global, heap: Heap<'a>) -> Result<Run<'a>, Fail> {
-        Ok(Run {
+    fn new(rt: &impl Abort, alloc: Global, heap: Heap<'a>) -> Run<'a> {
+        Run {
             heap,
-            world: opens(alloc, heap)?,
-            watch: Watch::new(alloc)?,
+            world: opens(rt, alloc, heap),
+            watch: Watch::new(rt, alloc),
             rule: Rule::new(),
             counts: Counts::new(alloc),
             out: [None; 3],
             last: None,
-        })
+        }
     }
 
     // The job that is out at the handler, which is 1, 2 or 3.
@@ -221,47 +220,65 @@ impl<'a> Run<'a> {
     }
 
     // The next event by the rule. Every tenth has no memory, and after every hundredth everything is looked at.
-    fn goes_on(&mut self, alloc: Global, number: u32) -> Result<(), Fault> {
+    fn goes_on(&mut self, rt: &impl Abort, alloc: Global, number: u32) -> Result<(), Fault> {
         let next = self.rule.next(self.last, self.watch.sent());
         let event = next.ok_or("the rule has no event")?;
         self.takes(event, number % 10 == 9)?;
         if number % 100 == 99 {
-            let all = Watch::of(alloc, &self.world)?;
-            holds(all.same(&self.watch), "what happened before has changed")?;
+            return self.watch.looks_back(rt, alloc, &self.world);
         }
         Ok(())
     }
-}
 
-#[test]
-fn a_long_run_keeps_the_rules(rt: HostRuntime) -> Result<(), Fail> {
-    let owner = Refusing::new(rt.alloc(), 0);
-    let mut run = Run::new(rt.alloc(), &owner)?;
-    for number in 0..EVENTS {
-        if let Err(fault) = run.goes_on(rt.alloc(), number) {
-            panic!(&rt; "event {number}: {fault}");
-        }
-    }
-    for thing in THINGS {
-        let count = run.counts.of(thing);
-        assert!(&rt; count > 0, "{thing:?}");
-    }
-    Ok(())
-}
-
-#[test]
-fn a_long_run_settles_wherever_it_is(rt: HostRuntime) -> Result<(), Fail> {
-    for place in PLACES {
-        let owner = Refusing::new(rt.alloc(), 0);
-        let mut run = Run::new(rt.alloc(), &owner)?;
-        for number in 0..place {
-            if let Err(fault) = run.goes_on(rt.alloc(), number) {
-                panic!(&rt; "event {number}: {fault}");
+    // So many events.
+    fn takes_all(&mut self, rt: &impl Abort, alloc: Global, count: u32) {
+        for number in 0..count {
+            if let Err(fault) = self.goes_on(rt, alloc, number) {
+                panic!(rt; "event {number}: {fault}");
             }
         }
-        if let Err(fault) = settles(&mut run.world) {
-            panic!(&rt; "after {place}: {fault}");
+    }
+
+    // Everything has come that the run must contain.
+    fn has_all(&self, rt: &impl Abort) {
+        for thing in THINGS {
+            assert!(rt; self.counts.of(thing) > 0, "{thing:?}");
         }
     }
-    Ok(())
+}
+
+// What a run shows behind its last event.
+#[derive(Clone, Copy)]
+enum End {
+    // Everything has come that it must contain.
+    IsFull,
+    // Its world settles.
+    Settles,
+}
+
+fn ends(rt: &impl Abort, run: &mut Run, end: End) {
+    match end {
+        End::IsFull => run.has_all(rt),
+        End::Settles => assert_eq!(rt; settles(&mut run.world), Ok(())),
+    }
+}
+
+// A run of so many events.
+fn runs(rt: &impl Abort, alloc: Global, count: u32, end: End) {
+    let owner = Refusing::new(alloc, 0);
+    let mut run = Run::new(rt, alloc, &owner);
+    run.takes_all(rt, alloc, count);
+    ends(rt, &mut run, end);
+}
+
+#[test]
+fn a_long_run_keeps_the_rules(rt: HostRuntime) {
+    runs(&rt, rt.alloc(), EVENTS, End::IsFull);
+}
+
+#[test]
+fn a_long_run_settles_wherever_it_is(rt: HostRuntime) {
+    for place in PLACES {
+        runs(&rt, rt.alloc(), place, End::Settles);
+    }
 }

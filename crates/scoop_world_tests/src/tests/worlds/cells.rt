@@ -83,11 +83,7 @@ fn placement(rt: &impl Abort, alloc: Global, number: u32) -> Placement<Table> {
 }
 
 /// Places one more handler.
-pub fn place(
-    rt: &impl Abort,
-    placements: &mut Vec<Placement<Table>>,
-    placement: Placement<Table>,
-) {
+pub fn place(rt: &impl Abort, placements: &mut Vec<Placement<Table>>, placement: Placement<Table>) {
     assert!(rt; placements.push(placement).is_ok());
 }
 

@@ -107,10 +107,7 @@ fn answers_are_told(rt: HostRuntime) {
 const MESSAGES: [Look; 5] = [
     Look::Sent(0, None),
     Look::Sent(1, Some(Message::Hello(ONE, SEVEN, 1))),
-    Look::Sent(
-        14,
-        Some(Message::Answer(ONE, BLOCK, 2, Answer::Value(5))),
-    ),
+    Look::Sent(14, Some(Message::Answer(ONE, BLOCK, 2, Answer::Value(5)))),
     Look::Sent(16, Some(Message::Logged(ONE, BLOCK, 3))),
     Look::Sent(17, None),
 ];

@@ -1,6 +1,7 @@
 //! Events that are refused, and runs of events.
 
 use super::acts::{Act, Row, Told, add_events};
+use super::cells::Parties;
 use super::looks::Look;
 use super::one_cell::{ONE_CELL, OPENING};
 use super::{Step, visits};
@@ -48,11 +49,12 @@ const RESTARTS: [Row; 3] = [
     (Act::Trip(7, 1), Told::Welcomed(1)),
 ];
 
-/// The stored incarnation is the last but one as the world opens.
+/// The stored incarnation of client 7 is the last but one as the world opens.
+const OLD_CLIENT: Parties<'static> = (&[1], &[7, 8], u32::MAX - 1);
+
 #[test]
 fn incarnations_end(rt: HostRuntime) {
-    let parties = (&[1], &[7, 8], u32::MAX - 1);
-    visits(&rt, rt.alloc(), parties, &[Step::Plays(&RESTARTS)]);
+    visits(&rt, rt.alloc(), OLD_CLIENT, &[Step::Plays(&RESTARTS)]);
 }
 
 /// The ten events in which client 7 greets the cell, reserves it, locks it, and opens it.

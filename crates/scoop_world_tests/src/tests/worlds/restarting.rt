@@ -49,19 +49,13 @@ pub const OPENED_AT_ONE: [Look; 5] = [
     Look::Joint(&[7]),
     Look::Opened(1, Some(&[])),
     Look::Opened(2, Some(&[7])),
-    Look::Sent(
-        15,
-        Some(Message::Welcome(HandlerId(2), ClientId(7), 2)),
-    ),
+    Look::Sent(15, Some(Message::Welcome(HandlerId(2), ClientId(7), 2))),
     Look::Sent(16, None),
 ];
 
 #[test]
 fn a_client_restarts_between_openings(rt: HostRuntime) {
-    let steps = [
-        Step::Plays(&BETWEEN_OPENINGS),
-        Step::Reads(&OPENED_AT_ONE),
-    ];
+    let steps = [Step::Plays(&BETWEEN_OPENINGS), Step::Reads(&OPENED_AT_ONE)];
     visits(&rt, rt.alloc(), TWO_CELLS, &steps);
 }
 

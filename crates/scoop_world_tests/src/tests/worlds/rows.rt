@@ -57,6 +57,8 @@ fn three_clients_share_cells(rt: HostRuntime) {
     visits(&rt, rt.alloc(), THREE_CELLS, &steps);
 }
 
+const TWO_CLIENTS: Parties<'static> = (&[1, 2], &[7, 8], 0);
+
 const LATE: Told = Told::Refused(WorldError::ClientRefused(ClientError::TooLate));
 
 const IDLE: Told = Told::Refused(WorldError::ClientRefused(ClientError::NoBlock));
@@ -87,10 +89,6 @@ const GIVEN_UP: [Row; 20] = [
 /// A block is given up while one of its handlers is locked by another.
 #[test]
 fn a_block_is_given_up(rt: HostRuntime) {
-    let parties = (&[1, 2], &[7, 8], 0);
-    let steps = [
-        Step::Plays(&GIVEN_UP),
-        Step::Reads(&[Look::Joint(&[])]),
-    ];
-    visits(&rt, rt.alloc(), parties, &steps);
+    let steps = [Step::Plays(&GIVEN_UP), Step::Reads(&[Look::Joint(&[])])];
+    visits(&rt, rt.alloc(), TWO_CLIENTS, &steps);
 }

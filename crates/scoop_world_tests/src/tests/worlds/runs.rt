@@ -13,10 +13,7 @@ use std::process::Abort;
 fn runs(rt: &impl Abort, alloc: Global, parties: Parties, rows: &[Row], looks: &[Look]) {
     let mut events = Vec::new(alloc);
     add_events(rt, &mut events, rows);
-    let steps = [
-        Step::Runs(&events, Ok(events.len())),
-        Step::Reads(looks),
-    ];
+    let steps = [Step::Runs(&events, Ok(events.len())), Step::Reads(looks)];
     visits(rt, alloc, parties, &steps);
 }
 
