@@ -117,7 +117,7 @@ impl Joining {
     }
 }
 
-fn joining(rt: &impl Abort, alloc: Global, numbers: &[u32]) -> Joining {
+fn all_joining(rt: &impl Abort, alloc: Global, numbers: &[u32]) -> Joining {
     let mut joining = Joining {
         clients: Vec::new(alloc),
     };
@@ -142,7 +142,7 @@ pub fn opens(
 ) -> Result<World<Table>, WorldOpenError> {
     let (handlers, clients, inc) = parties;
     let placements = placements(rt, alloc, handlers);
-    joining(rt, alloc, clients).open(alloc, placements, keeper(rt, alloc, inc))
+    all_joining(rt, alloc, clients).open(alloc, placements, keeper(rt, alloc, inc))
 }
 
 /// A world of these parties.
