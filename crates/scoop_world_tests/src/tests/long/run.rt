@@ -1,7 +1,7 @@
 //! The run.
 
 use super::super::settling::settles;
-use super::counts::{Counts, THINGS, Thing, of_refusal};
+use super::counts::{Counts, Thing, of_refusal};
 use super::opening::{CLIENTS, Heap, opens};
 use super::rule::{Rule, Told};
 use super::watch::{Fault, Grown, Watch};
@@ -68,7 +68,7 @@ impl<'a> Run<'a> {
             world: opens(rt, alloc, heap),
             watch: Watch::new(rt, alloc),
             rule: Rule::new(),
-            counts: Counts::new(alloc),
+            counts: Counts::new(),
             out: [None; 3],
             last: None,
         }
@@ -84,48 +84,59 @@ impl<'a> Run<'a> {
     }
 
     // A node restarts: node 1 has handlers 1 and 2, and node 2 has handler 3.
-    fn count_node(&mut self, node: u32) -> Result<(), Fault> {
-        self.counts.add(Thing::NodeRestarts)?;
+    fn count_node(&mut self, node: u32) {
+        self.counts.add(Thing::NodeRestarts);
         let [first, second, third] = self.out;
         let lost = match node {
             1 => first.is_some() || second.is_some(),
             _ => third.is_some(),
         };
         if lost {
-            self.counts.add(Thing::JobIsLost)?;
+            self.counts.add(Thing::JobIsLost);
         }
         self.out = match node {
             1 => [None, None, third],
             _ => [first, second, None],
         };
-        Ok(())
     }
 
     // A client restarts, perhaps while a job of its block is out.
-    fn count_client(&mut self, client: ClientId) -> Result<(), Fault> {
-        self.counts.add(Thing::ClientRestarts)?;
+    fn count_client(&mut self, client: ClientId) {
+        self.counts.add(Thing::ClientRestarts);
         for block in self.out {
-            if let Some(block) = block {
-                if block.client == client {
-                    self.counts.add(Thing::JobOutlivesClient)?;
-                }
+            if matches!(block, Some(block) if block.client == client) {
+                self.counts.add(Thing::JobOutlivesClient);
             }
         }
-        Ok(())
     }
 
     // A Log was taken, of whose block so many entries had been received.
-    fn count_log(&mut self, message: &Message, received: u32) -> Result<(), Fault> {
+    fn count_log(&mut self, message: &Message, received: u32) {
         let Message::Log(_, _, number, entries) = *message else {
-            return Ok(());
+            return;
         };
         if entries.len() > 1 {
-            self.counts.add(Thing::Batch)?;
+            self.counts.add(Thing::Batch);
         }
         if number <= received {
-            self.counts.add(Thing::Overlap)?;
+            self.counts.add(Thing::Overlap);
         }
-        Ok(())
+    }
+
+    // A client has heard a message.
+    fn count_heard(&mut self, client: ClientId, note: ClientNote) {
+        self.rule.hears(client, note);
+        if let ClientNote::Accepted(_, _, _) = note {
+            self.counts.add(Thing::Accepted);
+        }
+    }
+
+    // A message has come that was sent long ago.
+    fn count_old(&mut self, note: &WorldNote) {
+        self.counts.add(Thing::OldMessage);
+        if let WorldNote::Handler(Note::Dropped(_), _) = note {
+            self.counts.add(Thing::OldMessageDropped);
+        }
     }
 
     // A message has come, when so many were sent and so many entries of its block received.
@@ -140,49 +151,41 @@ impl<'a> Run<'a> {
             return Err("a message has gone");
         };
         if place.saturating_add(OLD) < sent {
-            self.counts.add(Thing::OldMessage)?;
-            if let WorldNote::Handler(Note::Dropped(_), _) = note {
-                self.counts.add(Thing::OldMessageDropped)?;
-            }
+            self.count_old(note);
         }
         match *note {
             WorldNote::Handler(Note::Took(_), _) => self.count_log(&message, received),
-            WorldNote::Client(note) => {
-                self.rule.hears(message.client(), note);
-                if let ClientNote::Accepted(_, _, _) = note {
-                    self.counts.add(Thing::Accepted)?;
-                }
-                Ok(())
-            }
-            _ => Ok(()),
+            WorldNote::Client(note) => self.count_heard(message.client(), note),
+            _ => {}
         }
+        Ok(())
+    }
+
+    fn count_refusal(&mut self, error: WorldError) -> Result<(), Fault> {
+        let Some(thing) = of_refusal(error) else {
+            return Err("a refusal that doesn't come here");
+        };
+        self.counts.add(thing);
+        Ok(())
     }
 
     // An event told this, when so many messages were sent and so many entries of its block received.
     fn count(&mut self, event: Event, told: Told, sent: usize, received: u32) -> Result<(), Fault> {
         let note = match told {
             Ok(note) => note,
-            Err(error) => {
-                let thing = of_refusal(error).ok_or("a refusal that doesn't come here")?;
-                return self.counts.add(thing);
-            }
+            Err(error) => return self.count_refusal(error),
         };
-        match event {
-            Event::Take(place) => self.count_message(place, sent, received, &note),
-            Event::Begin(handler) => {
-                if let WorldNote::Began(block, _) = note {
-                    self.set_out(handler, Some(block));
-                }
-                Ok(())
+        match (event, note) {
+            (Event::Take(place), _) => return self.count_message(place, sent, received, &note),
+            (Event::Begin(handler), WorldNote::Began(block, _)) => {
+                self.set_out(handler, Some(block));
             }
-            Event::Finish(handler) => {
-                self.set_out(handler, None);
-                Ok(())
-            }
-            Event::NodeRestart(node) => self.count_node(node),
-            Event::ClientRestart(client) => self.count_client(client),
-            Event::Do(_, _) | Event::Tick(_, _) => Ok(()),
+            (Event::Finish(handler), _) => self.set_out(handler, None),
+            (Event::NodeRestart(node), _) => self.count_node(node),
+            (Event::ClientRestart(client), _) => self.count_client(client),
+            _ => {}
         }
+        Ok(())
     }
 
     // How many entries the receiver of the message at this place has told to have of its block.
@@ -238,13 +241,6 @@ impl<'a> Run<'a> {
             }
         }
     }
-
-    // Everything has come that the run must contain.
-    fn has_all(&self, rt: &impl Abort) {
-        for thing in THINGS {
-            assert!(rt; self.counts.of(thing) > 0, "{thing:?}");
-        }
-    }
 }
 
 // What a run shows behind its last event.
@@ -258,7 +254,7 @@ enum End {
 
 fn ends(rt: &impl Abort, run: &mut Run, end: End) {
     match end {
-        End::IsFull => run.has_all(rt),
+        End::IsFull => assert_eq!(rt; run.counts.missing(), None),
         End::Settles => assert_eq!(rt; settles(&mut run.world), Ok(())),
     }
 }

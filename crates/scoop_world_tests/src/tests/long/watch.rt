@@ -25,7 +25,7 @@ pub struct Watch {
 }
 
 /// How many items have come to the lists.
-#[derive(Clone, Copy, Debug, Default, PartialEq, Eq)]
+#[derive(Clone, Copy, Default, PartialEq, Eq)]
 pub struct Grown {
     pub opened: usize,
     pub ran: usize,

@@ -12,17 +12,17 @@ pub type Accepted = (HandlerId, Block, u32, Answer);
 
 /// What is read, and what it is. A block is told by its client, whose first one it is.
 #[derive(Clone, Copy)]
-pub enum Look {
+pub enum Look<'a> {
     /// The common list.
-    Joint(&'static [u32]),
+    Joint(&'a [u32]),
     /// The blocks that have opened at the handler.
-    Opened(u32, Option<&'static [u32]>),
+    Opened(u32, Option<&'a [u32]>),
     /// What the block has logged for the handler.
-    Logged(u32, u32, Option<&'static [Item]>),
+    Logged(u32, u32, Option<&'a [Item]>),
     /// What has run at the handler.
-    Ran(u32, Option<&'static [Done]>),
+    Ran(u32, Option<&'a [Done]>),
     /// What the client has accepted.
-    Accepted(u32, Option<&'static [Accepted]>),
+    Accepted(u32, Option<&'a [Accepted]>),
     /// The message of this place.
     Sent(usize, Option<Message>),
 }
@@ -79,26 +79,32 @@ fn has_accepted(found: Option<&[Accepted]>, answers: Option<&[Accepted]>) -> boo
     }
 }
 
-fn has_sent(world: &World<Table>, place: usize, message: Option<Message>) -> bool {
-    world.sent(place).copied() == message
+fn has_sent(found: Option<&Message>, message: &Option<Message>) -> bool {
+    found.copied() == *message
 }
 
-fn holds(rt: &impl Abort, world: &World<Table>, look: Look) -> bool {
+fn holds(rt: &impl Abort, world: &World<Table>, look: &Look) -> bool {
     match look {
         Look::Joint(clients) => are_blocks(world.joint(), clients),
-        Look::Opened(handler, clients) => has_opened(world.opened(HandlerId(handler)), clients),
+        Look::Opened(handler, clients) => has_opened(world.opened(HandlerId(*handler)), *clients),
         Look::Logged(client, handler, items) => {
-            has_logged(rt, world.logged(first(client), HandlerId(handler)), items)
+            has_logged(
+                rt,
+                world.logged(first(*client), HandlerId(*handler)),
+                *items,
+            )
         }
-        Look::Ran(handler, done) => has_ran(rt, world.ran(HandlerId(handler)), done),
-        Look::Accepted(client, answers) => has_accepted(world.accepted(ClientId(client)), answers),
-        Look::Sent(place, message) => has_sent(world, place, message),
+        Look::Ran(handler, done) => has_ran(rt, world.ran(HandlerId(*handler)), *done),
+        Look::Accepted(client, answers) => {
+            has_accepted(world.accepted(ClientId(*client)), *answers)
+        }
+        Look::Sent(place, message) => has_sent(world.sent(*place), message),
     }
 }
 
 /// This is read of the world.
 pub fn reads(rt: &impl Abort, world: &World<Table>, looks: &[Look]) {
     for (number, look) in looks.iter().enumerate() {
-        assert!(rt; holds(rt, world, *look), "look {number}");
+        assert!(rt; holds(rt, world, look), "look {number}");
     }
 }

@@ -62,6 +62,8 @@ fn add_opening(rt: &impl Abort, events: &mut Vec<Event>) {
     add_events(rt, events, &OPENING[..4]);
 }
 
+const ONE_BLOCK: [Look; 1] = [Look::Joint(&[7])];
+
 #[test]
 fn events_run(rt: HostRuntime) {
     let mut events = Vec::new(rt.alloc());
@@ -69,7 +71,7 @@ fn events_run(rt: HostRuntime) {
     let steps = [
         Step::Runs(&[], Ok(0)),
         Step::Runs(&events, Ok(10)),
-        Step::Reads(&[Look::Joint(&[7])]),
+        Step::Reads(&ONE_BLOCK),
     ];
     visits(&rt, rt.alloc(), ONE_CELL, &steps);
 }
@@ -82,6 +84,10 @@ fn add_cut_opening(rt: &impl Abort, events: &mut Vec<Event>) {
     }
 }
 
+const NO_BLOCK: [Look; 1] = [Look::Joint(&[])];
+
+const OPENS: [Row; 1] = [(Act::Trip(7, 1), Told::Opened(1))];
+
 /// What comes before a refused event has happened, and what comes behind it hasn't.
 #[test]
 fn a_run_ends_at_a_refusal(rt: HostRuntime) {
@@ -89,8 +95,8 @@ fn a_run_ends_at_a_refusal(rt: HostRuntime) {
     add_cut_opening(&rt, &mut events);
     let steps = [
         Step::Runs(&events, Err((8, WorldError::NoSuchMessage))),
-        Step::Reads(&[Look::Joint(&[])]),
-        Step::Plays(&[(Act::Trip(7, 1), Told::Opened(1))]),
+        Step::Reads(&NO_BLOCK),
+        Step::Plays(&OPENS),
     ];
     visits(&rt, rt.alloc(), ONE_CELL, &steps);
 }

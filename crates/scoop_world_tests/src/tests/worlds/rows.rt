@@ -86,9 +86,11 @@ const GIVEN_UP: [Row; 20] = [
     (Act::GiveUp(7), IDLE),
 ];
 
+const NO_BLOCK: [Look; 1] = [Look::Joint(&[])];
+
 /// A block is given up while one of its handlers is locked by another.
 #[test]
 fn a_block_is_given_up(rt: HostRuntime) {
-    let steps = [Step::Plays(&GIVEN_UP), Step::Reads(&[Look::Joint(&[])])];
+    let steps = [Step::Plays(&GIVEN_UP), Step::Reads(&NO_BLOCK)];
     visits(&rt, rt.alloc(), TWO_CLIENTS, &steps);
 }
