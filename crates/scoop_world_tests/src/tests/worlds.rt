@@ -29,7 +29,7 @@ enum Step<'a> {
     /// The events are taken by one call, which ends so.
     Runs(&'a [Event], Result<usize, (usize, WorldError)>),
     /// This is read.
-    Reads(&'a [Look]),
+    Reads(&'a [Look<'a>]),
     /// What is next is played until nothing is, and then the world is calm.
     Settles,
 }
