@@ -1,18 +1,37 @@
-//! Sequence charts.
+//! Sequence charts. A chart has an owner that lends it, and its picture, to what fills and reads them.
 
 use scoop_chart::{Chart, ChartError, MAX_ROWS};
 use scoop_handler::Note;
 use scoop_message::{ClientId, HandlerId};
 use scoop_model::{Event, WorldError, WorldNote};
 use std::alloc::Global;
-use std::test::Fail;
+use std::process::Abort;
 
 const SEVEN: ClientId = ClientId(7);
 
 const ONE: HandlerId = HandlerId(1);
 
-fn chart(alloc: Global) -> Result<Chart, ChartError> {
-    Chart::new(alloc, &[SEVEN], &[(1, ONE)])
+/// An event, what came of it, and its label.
+type Row = (Event, Result<WorldNote, WorldError>, &'static [u8]);
+
+/// A chart of client 7 and handler 1.
+fn chart(rt: &impl Abort, alloc: Global) -> Chart {
+    match Chart::new(alloc, &[SEVEN], &[(1, ONE)]) {
+        Ok(chart) => chart,
+        Err(_) => panic!(rt; "no chart"),
+    }
+}
+
+fn notes(chart: &mut Chart, row: &Row) -> Result<(), ChartError> {
+    let (event, outcome, label) = row;
+    chart.note(event, outcome, label)
+}
+
+fn notes_all(rt: &impl Abort, chart: &mut Chart, rows: &[Row]) {
+    for row in rows {
+        assert_eq!(rt; notes(chart, row), Ok(()));
+    }
+    assert_eq!(rt; chart.rows(), rows.len());
 }
 
 fn has_line(picture: &[u8], line: &[u8]) -> bool {
@@ -21,82 +40,87 @@ fn has_line(picture: &[u8], line: &[u8]) -> bool {
         .any(|other| other == line)
 }
 
-#[test]
-fn a_run_is_drawn(rt: HostRuntime) -> Result<(), Fail> {
-    let mut picture = Vec::new(rt.alloc());
-    let handlers = [(1, HandlerId(1))];
-    let mut chart = Chart::new(rt.alloc(), &[ClientId(7)], &handlers)?;
-    let hello = Event::Tick(ClientId(7), HandlerId(1));
-    chart.note(&hello, &Ok(WorldNote::Sent(1)), b"sent 1 Hello")?;
-    let heard = WorldNote::Handler(Note::Greeted, Some(2));
-    chart.note(&Event::Take(1), &Ok(heard), b"Greeted sent 2")?;
-    chart.draw(&mut picture)?;
-    assert_eq!(rt; chart.rows(), 2);
-    assert!(rt;
-        has_line(
-            &picture,
-            b"<line class=\"sent\" x1=\"224\" y1=\"72\" x2=\"320\" y2=\"96\"/>"
-        )
-    );
-    assert!(rt;
-        has_line(
-            &picture,
-            b"<path class=\"lost\" d=\"M320 96H284m-4 -4l8 8m0 -8l-8 8\"/>"
-        )
-    );
-    assert!(rt; has_line(&picture, b"<text x=\"16\" y=\"76\">sent 1 Hello</text>"));
-    assert!(rt; has_line(&picture, b"</svg>"));
-    Ok(())
-}
-
-#[test]
-fn restarts_are_bars(rt: HostRuntime) -> Result<(), Fail> {
-    let mut picture = Vec::new(rt.alloc());
-    let mut chart = chart(rt.alloc())?;
-    chart.note(
-        &Event::NodeRestart(1),
-        &Ok(WorldNote::Reopened),
-        b"reopened",
-    )?;
-    chart.note(
-        &Event::ClientRestart(SEVEN),
-        &Ok(WorldNote::Restarted(2)),
-        b"restarted 2",
-    )?;
-    chart.note(
-        &Event::Take(9),
-        &Err(WorldError::NoSuchMessage),
-        b"refused <&>",
-    )?;
-    chart.draw(&mut picture)?;
-    assert!(rt;
-        has_line(
-            &picture,
-            b"<line class=\"bar\" x1=\"282\" y1=\"72\" x2=\"310\" y2=\"72\"/>"
-        )
-    );
-    assert!(rt;
-        has_line(
-            &picture,
-            b"<line class=\"bar\" x1=\"186\" y1=\"96\" x2=\"214\" y2=\"96\"/>"
-        )
-    );
-    assert!(rt;
-        has_line(
-            &picture,
-            b"<text x=\"16\" y=\"124\">refused &lt;&amp;&gt;</text>"
-        )
-    );
-    Ok(())
-}
-
-#[test]
-fn a_chart_has_its_length(rt: HostRuntime) -> Result<(), Fail> {
-    let mut chart = chart(rt.alloc())?;
-    for _ in 0..MAX_ROWS {
-        chart.note(&Event::Tick(SEVEN, ONE), &Ok(WorldNote::Silent), b"silent")?;
+fn has_lines(rt: &impl Abort, picture: &[u8], lines: &[&[u8]]) {
+    for (number, line) in lines.iter().enumerate() {
+        assert!(rt; has_line(picture, line), "line {number}");
     }
-    let more = chart.note(&Event::Tick(SEVEN, ONE), &Ok(WorldNote::Silent), b"silent");
-    assert_eq!(rt; more, Err(ChartError::TooLong));
-    Ok(())
+}
+
+/// The chart's picture has these lines.
+fn draws(rt: &impl Abort, alloc: Global, chart: &Chart, lines: &[&[u8]]) {
+    let mut picture = Vec::new(alloc);
+    assert!(rt; chart.draw(&mut picture).is_ok());
+    has_lines(rt, &picture, lines);
+}
+
+/// The picture of these rows has these lines.
+fn is_drawn(rt: &impl Abort, alloc: Global, rows: &[Row], lines: &[&[u8]]) {
+    let mut chart = chart(rt, alloc);
+    notes_all(rt, &mut chart, rows);
+    draws(rt, alloc, &chart, lines);
+}
+
+const GREETING: [Row; 2] = [
+    (
+        Event::Tick(SEVEN, ONE),
+        Ok(WorldNote::Sent(1)),
+        b"sent 1 Hello",
+    ),
+    (
+        Event::Take(1),
+        Ok(WorldNote::Handler(Note::Greeted, Some(2))),
+        b"Greeted sent 2",
+    ),
+];
+
+const GREETING_DRAWN: [&[u8]; 4] = [
+    b"<line class=\"sent\" x1=\"224\" y1=\"72\" x2=\"320\" y2=\"96\"/>",
+    b"<path class=\"lost\" d=\"M320 96H284m-4 -4l8 8m0 -8l-8 8\"/>",
+    b"<text x=\"16\" y=\"76\">sent 1 Hello</text>",
+    b"</svg>",
+];
+
+#[test]
+fn a_run_is_drawn(rt: HostRuntime) {
+    is_drawn(&rt, rt.alloc(), &GREETING, &GREETING_DRAWN);
+}
+
+const RESTARTS: [Row; 3] = [
+    (Event::NodeRestart(1), Ok(WorldNote::Reopened), b"reopened"),
+    (
+        Event::ClientRestart(SEVEN),
+        Ok(WorldNote::Restarted(2)),
+        b"restarted 2",
+    ),
+    (
+        Event::Take(9),
+        Err(WorldError::NoSuchMessage),
+        b"refused <&>",
+    ),
+];
+
+const RESTARTS_DRAWN: [&[u8]; 3] = [
+    b"<line class=\"bar\" x1=\"282\" y1=\"72\" x2=\"310\" y2=\"72\"/>",
+    b"<line class=\"bar\" x1=\"186\" y1=\"96\" x2=\"214\" y2=\"96\"/>",
+    b"<text x=\"16\" y=\"124\">refused &lt;&amp;&gt;</text>",
+];
+
+#[test]
+fn restarts_are_bars(rt: HostRuntime) {
+    is_drawn(&rt, rt.alloc(), &RESTARTS, &RESTARTS_DRAWN);
+}
+
+const SILENT: Row = (Event::Tick(SEVEN, ONE), Ok(WorldNote::Silent), b"silent");
+
+fn fills_up(rt: &impl Abort, chart: &mut Chart) {
+    for _ in 0..MAX_ROWS {
+        assert_eq!(rt; notes(chart, &SILENT), Ok(()));
+    }
+    assert_eq!(rt; notes(chart, &SILENT), Err(ChartError::TooLong));
+}
+
+#[test]
+fn a_chart_has_its_length(rt: HostRuntime) {
+    let mut chart = chart(&rt, rt.alloc());
+    fills_up(&rt, &mut chart);
 }

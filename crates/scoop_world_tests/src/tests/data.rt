@@ -7,7 +7,9 @@ use scoop_world::{
     Command, Event, HandlerList, TooManyHandlers, WorldError, WorldNote, WorldOpenError,
     same_event, same_note,
 };
-use std::test::Fail;
+use std::alloc::Global;
+use std::fmt::Display;
+use std::process::Abort;
 
 const ONE: HandlerId = HandlerId(1);
 
@@ -21,113 +23,164 @@ const BLOCK: Block = Block {
     num: 1,
 };
 
-fn request(value: u64) -> Result<Request, Fail> {
-    Ok(Request {
-        op: 1,
-        args: Args::of(&[value])?,
-    })
+const TEN: [HandlerId; 10] = [TWO, TWO, TWO, TWO, TWO, TWO, TWO, TWO, ONE, TWO];
+
+/// The list of the first handlers of ten.
+fn list(count: usize) -> Result<HandlerList, TooManyHandlers> {
+    HandlerList::of(&TEN[..count.min(10)])
+}
+
+fn has_listed(rt: &impl Abort, count: usize) {
+    match list(count) {
+        Ok(list) => assert_eq!(rt; list.as_slice(), &TEN[..count.min(10)]),
+        Err(_) => panic!(rt; "no list of {count}"),
+    }
 }
 
 #[test]
-fn a_list_names_nine_handlers(rt: HostRuntime) -> Result<(), Fail> {
-    let mut handlers = [TWO; 10];
-    handlers[8] = ONE;
-    let nine = HandlerList::of(&handlers[..9])?;
-    assert_eq!(rt; nine.as_slice(), &handlers[..9]);
-    assert_eq!(rt; HandlerList::of(&handlers), Err(TooManyHandlers));
-    assert_eq!(rt; HandlerList::of(&[])?.as_slice().len(), 0);
-    assert!(rt; nine != HandlerList::of(&handlers[..8])?);
-    Ok(())
+fn a_list_names_nine_handlers(rt: HostRuntime) {
+    has_listed(&rt, 9);
+    has_listed(&rt, 0);
+    assert_eq!(rt; list(10), Err(TooManyHandlers));
+    assert!(rt; list(9) != list(8));
 }
 
-#[test]
-fn events_and_notes_are_told_apart(rt: HostRuntime) -> Result<(), Fail> {
-    let both = Command::Reserve(HandlerList::of(&[ONE, TWO])?);
-    let other = Command::Reserve(HandlerList::of(&[TWO, ONE])?);
-    let events = [
-        Event::Do(SEVEN, both),
-        Event::Do(SEVEN, other),
-        Event::Do(SEVEN, Command::Call(ONE, request(3)?)),
-        Event::Do(SEVEN, Command::Call(ONE, request(4)?)),
-        Event::Do(SEVEN, Command::Query(ONE, request(3)?)),
-        Event::Do(SEVEN, Command::End),
-        Event::Do(SEVEN, Command::GiveUp),
-        Event::Tick(SEVEN, ONE),
-        Event::Tick(SEVEN, TWO),
-        Event::Take(1),
-        Event::Begin(ONE),
-        Event::Finish(ONE),
-        Event::ClientRestart(SEVEN),
-        Event::NodeRestart(1),
-    ];
-    for (i, left) in events.iter().enumerate() {
-        for (j, right) in events.iter().enumerate() {
-            assert_eq!(rt; same_event(left, right), i == j, "{left:?} {right:?}");
+fn reserve(rt: &impl Abort, handlers: &[HandlerId]) -> Command {
+    match HandlerList::of(handlers) {
+        Ok(list) => Command::Reserve(list),
+        Err(_) => panic!(rt; "no list"),
+    }
+}
+
+fn request(rt: &impl Abort, value: u64) -> Request {
+    match Args::of(&[value]) {
+        Ok(args) => Request { op: 1, args },
+        Err(_) => panic!(rt; "no request"),
+    }
+}
+
+fn command(rt: &impl Abort, place: usize) -> Command {
+    match place {
+        0 => reserve(rt, &[ONE, TWO]),
+        1 => reserve(rt, &[TWO, ONE]),
+        2 => Command::Call(ONE, request(rt, 3)),
+        3 => Command::Call(ONE, request(rt, 4)),
+        4 => Command::Query(ONE, request(rt, 3)),
+        5 => Command::End,
+        _ => Command::GiveUp,
+    }
+}
+
+const EVENTS: [Event; 7] = [
+    Event::Tick(SEVEN, ONE),
+    Event::Tick(SEVEN, TWO),
+    Event::Take(1),
+    Event::Begin(ONE),
+    Event::Finish(ONE),
+    Event::ClientRestart(SEVEN),
+    Event::NodeRestart(1),
+];
+
+/// One of 14 events: seven commands behind seven others.
+fn event(rt: &impl Abort, place: usize) -> Event {
+    match EVENTS.get(place) {
+        Some(event) => *event,
+        None => Event::Do(SEVEN, command(rt, place.saturating_sub(7))),
+    }
+}
+
+fn events_are_told_apart(rt: &impl Abort) {
+    for i in 0..14 {
+        for j in 0..14 {
+            let is_same = same_event(&event(rt, i), &event(rt, j));
+            assert_eq!(rt; is_same, i == j, "events {i} and {j}");
         }
     }
-    let ran = Ran {
-        block: BLOCK,
-        number: 1,
-        entry: Entry::Query(request(3)?),
-        answer: Some(Answer::Value(5)),
-    };
-    let notes = [
-        WorldNote::Done,
-        WorldNote::Silent,
-        WorldNote::Sent(1),
-        WorldNote::Sent(2),
-        WorldNote::Handler(Note::Greeted, Some(1)),
-        WorldNote::Handler(Note::Greeted, None),
-        WorldNote::Handler(Note::Dropped(Reason::Stale), None),
-        WorldNote::Client(ClientNote::Ignored),
-        WorldNote::Client(ClientNote::Accepted(ONE, 1, Answer::Value(5))),
-        WorldNote::Began(BLOCK, 1),
-        WorldNote::Began(BLOCK, 2),
-        WorldNote::Ran(ran),
-        WorldNote::Restarted(2),
-        WorldNote::Reopened,
-    ];
-    for (i, left) in notes.iter().enumerate() {
-        for (j, right) in notes.iter().enumerate() {
-            assert_eq!(rt; same_note(left, right), i == j, "{left:?} {right:?}");
+}
+
+const NOTES: [WorldNote; 13] = [
+    WorldNote::Done,
+    WorldNote::Silent,
+    WorldNote::Sent(1),
+    WorldNote::Sent(2),
+    WorldNote::Handler(Note::Greeted, Some(1)),
+    WorldNote::Handler(Note::Greeted, None),
+    WorldNote::Handler(Note::Dropped(Reason::Stale), None),
+    WorldNote::Client(ClientNote::Ignored),
+    WorldNote::Client(ClientNote::Accepted(ONE, 1, Answer::Value(5))),
+    WorldNote::Began(BLOCK, 1),
+    WorldNote::Began(BLOCK, 2),
+    WorldNote::Restarted(2),
+    WorldNote::Reopened,
+];
+
+/// One of 14 notes: that a query has run is behind the others.
+fn note(rt: &impl Abort, place: usize) -> WorldNote {
+    match NOTES.get(place) {
+        Some(note) => *note,
+        None => WorldNote::Ran(Ran {
+            block: BLOCK,
+            number: 1,
+            entry: Entry::Query(request(rt, 3)),
+            answer: Some(Answer::Value(5)),
+        }),
+    }
+}
+
+fn notes_are_told_apart(rt: &impl Abort) {
+    for i in 0..14 {
+        for j in 0..14 {
+            let is_same = same_note(&note(rt, i), &note(rt, j));
+            assert_eq!(rt; is_same, i == j, "notes {i} and {j}");
         }
     }
-    Ok(())
 }
 
 #[test]
-fn refusals_are_printed(rt: HostRuntime) -> Result<(), Fail> {
-    let refusals = [
-        (WorldError::NoSuchMessage, "NoSuchMessage"),
-        (WorldError::NoSuchParty, "NoSuchParty"),
-        (WorldError::NothingToRun, "NothingToRun"),
-        (WorldError::ClientRefused(ClientError::TooLate), "TooLate"),
-        (
-            WorldError::ClientRefused(ClientError::Waiting(TWO)),
-            "Waiting 2",
-        ),
-        (WorldError::IncarnationsSpent, "IncarnationsSpent"),
-        (WorldError::OutOfMemory, "OutOfMemory"),
-    ];
-    for (refusal, text) in refusals {
-        assert_eq!(rt; format!(in rt.alloc(); "{refusal}")?.as_str(), text);
+fn events_and_notes_are_told_apart(rt: HostRuntime) {
+    events_are_told_apart(&rt);
+    notes_are_told_apart(&rt);
+}
+
+/// The value is printed as this text.
+fn prints<T: Display>(rt: &impl Abort, alloc: Global, value: &T, text: &str) {
+    match format!(in alloc; "{value}") {
+        Ok(printed) => assert_eq!(rt; printed.as_str(), text),
+        Err(_) => panic!(rt; "out of memory"),
     }
-    let refusals = [
-        (WorldOpenError::NoHandlers, "NoHandlers"),
-        (WorldOpenError::TooManyHandlers, "TooManyHandlers"),
-        (WorldOpenError::Repeated(ONE), "Repeated"),
-        (WorldOpenError::WrongClass(ONE), "WrongClass"),
-        (WorldOpenError::TooManyClients, "TooManyClients"),
-        (WorldOpenError::RepeatedClient(SEVEN), "RepeatedClient"),
-        (WorldOpenError::IncarnationsSpent, "IncarnationsSpent"),
-        (WorldOpenError::OutOfMemory, "out of memory"),
-    ];
-    for (refusal, text) in refusals {
-        assert_eq!(rt; format!(in rt.alloc(); "{refusal}")?.as_str(), text);
+}
+
+const REFUSALS: [(WorldError, &str); 7] = [
+    (WorldError::NoSuchMessage, "NoSuchMessage"),
+    (WorldError::NoSuchParty, "NoSuchParty"),
+    (WorldError::NothingToRun, "NothingToRun"),
+    (WorldError::ClientRefused(ClientError::TooLate), "TooLate"),
+    (
+        WorldError::ClientRefused(ClientError::Waiting(TWO)),
+        "Waiting 2",
+    ),
+    (WorldError::IncarnationsSpent, "IncarnationsSpent"),
+    (WorldError::OutOfMemory, "OutOfMemory"),
+];
+
+const OPEN_REFUSALS: [(WorldOpenError, &str); 8] = [
+    (WorldOpenError::NoHandlers, "NoHandlers"),
+    (WorldOpenError::TooManyHandlers, "TooManyHandlers"),
+    (WorldOpenError::Repeated(ONE), "Repeated"),
+    (WorldOpenError::WrongClass(ONE), "WrongClass"),
+    (WorldOpenError::TooManyClients, "TooManyClients"),
+    (WorldOpenError::RepeatedClient(SEVEN), "RepeatedClient"),
+    (WorldOpenError::IncarnationsSpent, "IncarnationsSpent"),
+    (WorldOpenError::OutOfMemory, "out of memory"),
+];
+
+#[test]
+fn refusals_are_printed(rt: HostRuntime) {
+    for (refusal, text) in &REFUSALS {
+        prints(&rt, rt.alloc(), refusal, text);
     }
-    assert_eq!(rt;
-        format!(in rt.alloc(); "{TooManyHandlers}")?.as_str(),
-        "TooManyHandlers"
-    );
-    Ok(())
+    for (refusal, text) in &OPEN_REFUSALS {
+        prints(&rt, rt.alloc(), refusal, text);
+    }
+    prints(&rt, rt.alloc(), &TooManyHandlers, "TooManyHandlers");
 }

@@ -1,12 +1,15 @@
 //! The examples that open the documents of the crates.
 
+use super::settling::next;
+use super::worlds::cells::{class_of, object, place};
 use scoop_keeper::MemoryKeeper;
-use scoop_message::{ClientId, HandlerId, Message, Words};
+use scoop_message::{ClientId, HandlerId, Message};
 use scoop_model::{Command, Event, HandlerList, TooManyHandlers, same_event};
-use scoop_object::{Class, Table};
-use scoop_settle::{Next, next_of};
+use scoop_object::Table;
+use scoop_settle::Next;
 use scoop_world::{Placement, World};
 use std::alloc::Global;
+use std::process::Abort;
 use std::test::Fail;
 
 #[test]
@@ -36,19 +39,21 @@ fn theorems_are_called() {
     scoop_calm::calm_has_no_next();
 }
 
-/// A world of one cell and one client.
-fn opened(alloc: Global) -> Result<World<Table>, Fail> {
-    let class = Class::build(alloc, 1, &[])?;
-    let object = Table::new(Class::build(alloc, 1, &[])?, Words::of(&[0])?)?;
+/// A world of one object and one client.
+fn opened(rt: &impl Abort, alloc: Global) -> World<Table> {
     let mut placements = Vec::new(alloc);
-    placements.push(Placement {
+    let placement = Placement {
         node: 1,
         handler: HandlerId(1),
-        class,
-        object,
-    })?;
+        class: class_of(rt, alloc, &[]),
+        object: object(rt, class_of(rt, alloc, &[])),
+    };
+    place(rt, &mut placements, placement);
     let keeper = MemoryKeeper::new(alloc);
-    Ok(World::open(alloc, placements, &[(ClientId(7), 1)], keeper)?)
+    match World::open(alloc, placements, &[(ClientId(7), 1)], keeper) {
+        Ok(world) => world,
+        Err(_) => panic!(rt; "no world"),
+    }
 }
 
 /// The client greets the handler, and hears the reply.
@@ -58,21 +63,32 @@ const GREETING: [Event; 3] = [
     Event::Take(2),
 ];
 
-#[test]
-fn a_world_runs(rt: HostRuntime) -> Result<(), Fail> {
-    let mut world = opened(rt.alloc())?;
+fn runs_greeting(rt: &impl Abort, world: &mut World<Table>) {
     assert_eq!(rt; world.run(&GREETING), Ok(3));
+}
+
+fn has_welcomed(rt: &impl Abort, world: &World<Table>) {
     let welcome = Message::Welcome(HandlerId(1), ClientId(7), 1);
     assert_eq!(rt; world.sent(2).copied(), Some(welcome));
-    Ok(())
+}
+
+/// What is next is a greeting, and nothing is behind it.
+fn settles(rt: &impl Abort, world: &mut World<Table>) {
+    let greets = Next::Ask(ClientId(7), HandlerId(1));
+    assert_eq!(rt; next(world), Ok(Some(greets)));
+    runs_greeting(rt, world);
+    assert_eq!(rt; next(world), Ok(None));
 }
 
 #[test]
-fn a_new_world_settles(rt: HostRuntime) -> Result<(), Fail> {
-    let mut world = opened(rt.alloc())?;
-    let greets = Next::Ask(ClientId(7), HandlerId(1));
-    assert_eq!(rt; next_of(&world)?, Some(greets));
-    assert_eq!(rt; world.run(&GREETING), Ok(3));
-    assert_eq!(rt; next_of(&world)?, None);
-    Ok(())
+fn a_world_runs(rt: HostRuntime) {
+    let mut world = opened(&rt, rt.alloc());
+    runs_greeting(&rt, &mut world);
+    has_welcomed(&rt, &world);
+}
+
+#[test]
+fn a_new_world_settles(rt: HostRuntime) {
+    let mut world = opened(&rt, rt.alloc());
+    settles(&rt, &mut world);
 }

@@ -1,6 +1,7 @@
 //! A world settles: what is next in it is played until nothing is, and it is calm.
 
 use scoop_client::{ClientNote, Phase};
+use scoop_handler::HandlerState;
 use scoop_object::Table;
 use scoop_settle::{Next, next_of};
 use scoop_world::{Command, Event, World, WorldError, WorldNote};
@@ -47,16 +48,28 @@ fn play<A: Allocator + Copy>(world: &mut World<Table, A>, next: Next) -> Result<
     }
 }
 
-// Every client is idle, and at each handler nobody holds the lock, no private queue is left, and no job is out.
-fn is_calm<A: Allocator + Copy>(world: &World<Table, A>) -> Result<bool, Fault> {
-    let Ok(states) = world.states() else {
-        return Err("memory is wanted where none was refused");
-    };
-    for (state, is_out) in &states {
-        if *is_out || state.holder().is_some() || state.queues().list_len() != 0 {
-            return Ok(false);
+// Nobody holds the lock, no private queue is left, and no job is out.
+fn is_free<A: Allocator + Copy>(state: &HandlerState<A>, is_out: bool) -> bool {
+    !is_out && state.holder().is_none() && state.queues().list_len() == 0
+}
+
+fn are_free<A: Allocator + Copy>(states: &[(HandlerState<A>, bool)]) -> bool {
+    for (state, is_out) in states {
+        if !is_free(state, *is_out) {
+            return false;
         }
     }
+    true
+}
+
+fn handlers_are_free<A: Allocator + Copy>(world: &World<Table, A>) -> Result<bool, Fault> {
+    match world.states() {
+        Ok(states) => Ok(are_free(&states)),
+        Err(_) => Err("memory is wanted where none was refused"),
+    }
+}
+
+fn clients_are_idle<A: Allocator + Copy>(world: &World<Table, A>) -> Result<bool, Fault> {
     for place in 0..world.clients() {
         let Some((_, client)) = world.client(place) else {
             return Err("a client is missing");
@@ -68,13 +81,22 @@ fn is_calm<A: Allocator + Copy>(world: &World<Table, A>) -> Result<bool, Fault> 
     Ok(true)
 }
 
+fn is_calm<A: Allocator + Copy>(world: &World<Table, A>) -> Result<bool, Fault> {
+    Ok(handlers_are_free(world)? && clients_are_idle(world)?)
+}
+
+/// What is next in a world.
+pub fn next<A: Allocator + Copy>(world: &World<Table, A>) -> Result<Option<Next>, Fault> {
+    match next_of(world) {
+        Ok(next) => Ok(next),
+        Err(_) => Err("memory is wanted where none was refused"),
+    }
+}
+
 /// What is next is played until nothing is, and then the world is calm.
 pub fn settles<A: Allocator + Copy>(world: &mut World<Table, A>) -> Result<(), Fault> {
     for _ in 0..TURNS {
-        let Ok(found) = next_of(world) else {
-            return Err("memory is wanted where none was refused");
-        };
-        let Some(next) = found else {
+        let Some(next) = next(world)? else {
             return if is_calm(world)? {
                 Ok(())
             } else {

@@ -1,16 +1,27 @@
 //! The example of a transfer.
 
 use scoop_message::Answer;
-use std::test::Fail;
+use std::alloc::Global;
+use std::process::Abort;
 use transfer::Transfer;
 
-#[test]
-fn money_is_transferred(rt: HostRuntime) -> Result<(), Fail> {
-    let mut picture = Vec::new(rt.alloc());
-    let mut transfer = Transfer::open(rt.alloc(), 100, 0)?;
-    assert_eq!(rt; transfer.pay(30)?, Some(Answer::Value(30)));
-    transfer.draw(&mut picture)?;
+/// The amount is paid, and the second account holds this then.
+fn is_paid(rt: &impl Abort, transfer: &mut Transfer, amount: u64, balance: u64) {
+    assert_eq!(rt; transfer.pay(amount), Ok(Some(Answer::Value(balance))));
+}
+
+fn is_drawn(rt: &impl Abort, alloc: Global, transfer: &Transfer) {
+    let mut picture = Vec::new(alloc);
+    assert!(rt; transfer.draw(&mut picture).is_ok());
     assert!(rt; picture.starts_with(b"<svg "));
-    assert_eq!(rt; transfer.pay(20)?, Some(Answer::Value(50)));
-    Ok(())
+}
+
+#[test]
+fn money_is_transferred(rt: HostRuntime) {
+    let Ok(mut transfer) = Transfer::open(rt.alloc(), 100, 0) else {
+        panic!(&rt; "no accounts");
+    };
+    is_paid(&rt, &mut transfer, 30, 30);
+    is_drawn(&rt, rt.alloc(), &transfer);
+    is_paid(&rt, &mut transfer, 20, 50);
 }

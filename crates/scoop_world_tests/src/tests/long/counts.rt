@@ -3,10 +3,9 @@
 use scoop_client::ClientError;
 use scoop_reserve::ReserveError;
 use scoop_world::WorldError;
-use std::alloc::Global;
 
 /// Something that the run must contain.
-#[derive(Clone, Copy, Debug, PartialEq, Eq)]
+#[derive(Clone, Copy)]
 pub enum Thing {
     ClientRestarts,
     NodeRestarts,
@@ -41,34 +40,8 @@ pub enum Thing {
     Unknown,
 }
 
-/// All of them.
-pub const THINGS: [Thing; 25] = [
-    Thing::ClientRestarts,
-    Thing::NodeRestarts,
-    Thing::JobIsLost,
-    Thing::JobOutlivesClient,
-    Thing::OldMessage,
-    Thing::OldMessageDropped,
-    Thing::Batch,
-    Thing::Overlap,
-    Thing::Accepted,
-    Thing::NoSuchMessage,
-    Thing::NoSuchParty,
-    Thing::NothingToRun,
-    Thing::IncarnationsSpent,
-    Thing::OutOfMemory,
-    Thing::NotGreeted,
-    Thing::NotIdle,
-    Thing::NoBlock,
-    Thing::Waiting,
-    Thing::NotReserved,
-    Thing::WindowFull,
-    Thing::TooLate,
-    Thing::Empty,
-    Thing::TooMany,
-    Thing::Repeated,
-    Thing::Unknown,
-];
+/// How many there are.
+const THINGS: usize = Thing::Unknown as usize + 1;
 
 fn of_reserve(error: ReserveError) -> Option<Thing> {
     match error {
@@ -109,34 +82,23 @@ pub fn of_refusal(error: WorldError) -> Option<Thing> {
 /// How often each thing came.
 #[derive(Drop)]
 pub struct Counts {
-    found: Vec<(Thing, u64)>,
+    found: [u64; THINGS],
 }
 
 impl Counts {
-    pub fn new(alloc: Global) -> Counts {
-        Counts {
-            found: Vec::new(alloc),
-        }
-    }
-
-    /// How often it came.
-    pub fn of(&self, thing: Thing) -> u64 {
-        for (other, count) in &self.found {
-            if *other == thing {
-                return *count;
-            }
-        }
-        0
+    pub fn new() -> Counts {
+        Counts { found: [0; THINGS] }
     }
 
     /// It has come once more.
-    pub fn add(&mut self, thing: Thing) -> Result<(), &'static str> {
-        for pair in self.found.as_mut_slice() {
-            if pair.0 == thing {
-                pair.1 = pair.1.saturating_add(1);
-                return Ok(());
-            }
+    pub fn add(&mut self, thing: Thing) {
+        if let Some(count) = self.found.get_mut(thing as usize) {
+            *count = count.saturating_add(1);
         }
-        self.found.push((thing, 1)).map_err(|_| "no memory")
+    }
+
+    /// The place of the first thing that hasn't come.
+    pub fn missing(&self) -> Option<usize> {
+        self.found.iter().position(|count| *count == 0)
     }
 }

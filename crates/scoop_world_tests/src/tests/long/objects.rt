@@ -1,9 +1,10 @@
 //! The objects of the run: a cell, a counter and an account, by their tables and in plain words.
 
-use scoop_message::{Answer, Entry, HandlerId, Request, Words};
-use scoop_object::{Class, OpRow, Table, Term, Write, Writes};
+use super::super::worlds::cells::class_of;
+use scoop_message::{Answer, Entry, HandlerId, Request};
+use scoop_object::{Class, OpRow, Term, Write, Writes};
 use std::alloc::Global;
-use std::test::Fail;
+use std::process::Abort;
 
 /// The handlers, each with an object of its own kind.
 pub const CELL: HandlerId = HandlerId(1);
@@ -18,54 +19,46 @@ const ARGUMENT: Term = Term::Arg(0);
 
 const NOTHING: Term = Term::Const(0);
 
+fn row(rt: &impl Abort, op: u16, writes: &[Write]) -> OpRow {
+    match Writes::of(writes) {
+        Ok(writes) => OpRow {
+            op,
+            test: None,
+            writes,
+            answer: WORD,
+        },
+        Err(_) => panic!(rt; "no operation"),
+    }
+}
+
 // An operation that makes the word `base + plus - minus`, and answers it.
-fn writing(op: u16, base: Term, plus: Term, minus: Term) -> Result<OpRow, Fail> {
+fn writing(rt: &impl Abort, op: u16, base: Term, plus: Term, minus: Term) -> OpRow {
     let write = Write {
         word: 0,
         base,
         plus,
         minus,
     };
-    Ok(OpRow {
-        op,
-        test: None,
-        writes: Writes::of(&[write])?,
-        answer: WORD,
-    })
-}
-
-// An operation that answers the word.
-fn reading(op: u16) -> Result<OpRow, Fail> {
-    Ok(OpRow {
-        op,
-        test: None,
-        writes: Writes::of(&[])?,
-        answer: WORD,
-    })
+    row(rt, op, &[write])
 }
 
 // An operation that takes the argument from the word, where it isn't greater.
-fn withdrawing(op: u16) -> Result<OpRow, Fail> {
-    let mut row = writing(op, WORD, NOTHING, ARGUMENT)?;
-    row.test = Some((ARGUMENT, WORD));
-    Ok(row)
+fn withdrawing(rt: &impl Abort, op: u16) -> OpRow {
+    OpRow {
+        test: Some((ARGUMENT, WORD)),
+        ..writing(rt, op, WORD, NOTHING, ARGUMENT)
+    }
 }
 
 /// The class of the handler's object.
-pub fn class(alloc: Global, handler: HandlerId) -> Result<Class, Fail> {
-    let set = writing(1, ARGUMENT, NOTHING, NOTHING)?;
-    let add = writing(1, WORD, ARGUMENT, NOTHING)?;
-    let class = match handler {
-        CELL => Class::build(alloc, 1, &[set, reading(2)?]),
-        COUNTER => Class::build(alloc, 1, &[add, reading(2)?]),
-        _ => Class::build(alloc, 1, &[add, withdrawing(2)?, reading(3)?]),
-    };
-    Ok(class?)
-}
-
-/// The handler's object, whose word is 0.
-pub fn object(alloc: Global, handler: HandlerId) -> Result<Table, Fail> {
-    Ok(Table::new(class(alloc, handler)?, Words::of(&[0])?)?)
+pub fn class(rt: &impl Abort, alloc: Global, handler: HandlerId) -> Class {
+    let set = writing(rt, 1, ARGUMENT, NOTHING, NOTHING);
+    let add = writing(rt, 1, WORD, ARGUMENT, NOTHING);
+    match handler {
+        CELL => class_of(rt, alloc, &[set, row(rt, 2, &[])]),
+        COUNTER => class_of(rt, alloc, &[add, row(rt, 2, &[])]),
+        _ => class_of(rt, alloc, &[add, withdrawing(rt, 2), row(rt, 3, &[])]),
+    }
 }
 
 // What a request with an argument makes of the word, `None` where it is refused.

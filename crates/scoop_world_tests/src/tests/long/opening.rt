@@ -1,13 +1,14 @@
 //! The world of the run: three handlers on two nodes, and four clients with different batches.
 
-use super::objects::{ACCOUNT, CELL, COUNTER, class, object};
+use super::super::worlds::cells::{object, place};
+use super::objects::{ACCOUNT, CELL, COUNTER, class};
 use scoop_keeper::MemoryKeeper;
 use scoop_message::{ClientId, HandlerId};
 use scoop_object::Table;
 use scoop_refusing::Refusing;
 use scoop_world::{Placement, World, WorldOpenError};
 use std::alloc::Global;
-use std::test::Fail;
+use std::process::Abort;
 
 /// A heap that refuses the growth that it is told to.
 pub type Heap<'a> = &'a Refusing<Global>;
@@ -19,21 +20,28 @@ pub const CLIENTS: [ClientId; 4] = [ClientId(7), ClientId(8), ClientId(9), Clien
 /// The client whose incarnations end during the run.
 const OLD: ClientId = ClientId(10);
 
-fn placement(alloc: Global, node: u32, handler: HandlerId) -> Result<Placement<Table>, Fail> {
-    Ok(Placement {
+fn placement(rt: &impl Abort, alloc: Global, node: u32, handler: HandlerId) -> Placement<Table> {
+    Placement {
         node,
         handler,
-        class: class(alloc, handler)?,
-        object: object(alloc, handler)?,
-    })
+        class: class(rt, alloc, handler),
+        object: object(rt, class(rt, alloc, handler)),
+    }
 }
 
-fn placements(alloc: Global) -> Result<Vec<Placement<Table>>, Fail> {
+fn placements(rt: &impl Abort, alloc: Global) -> Vec<Placement<Table>> {
     let mut placements = Vec::new(alloc);
-    placements.push(placement(alloc, 1, CELL)?)?;
-    placements.push(placement(alloc, 1, COUNTER)?)?;
-    placements.push(placement(alloc, 2, ACCOUNT)?)?;
-    Ok(placements)
+    for (node, handler) in [(1, CELL), (1, COUNTER), (2, ACCOUNT)] {
+        place(rt, &mut placements, placement(rt, alloc, node, handler));
+    }
+    placements
+}
+
+fn keeper<'a>(rt: &impl Abort, heap: Heap<'a>) -> MemoryKeeper<Heap<'a>> {
+    match MemoryKeeper::new(heap).with_incarnation(OLD, u32::MAX - 4) {
+        Ok(keeper) => keeper,
+        Err(_) => panic!(rt; "no keeper"),
+    }
 }
 
 fn opened<'a>(
@@ -50,7 +58,9 @@ fn opened<'a>(
     World::open(heap, placements, &clients, keeper)
 }
 
-pub fn opens<'a>(alloc: Global, heap: Heap<'a>) -> Result<World<Table, Heap<'a>>, Fail> {
-    let keeper = MemoryKeeper::new(heap).with_incarnation(OLD, u32::MAX - 4)?;
-    Ok(opened(heap, placements(alloc)?, keeper)?)
+pub fn opens<'a>(rt: &impl Abort, alloc: Global, heap: Heap<'a>) -> World<Table, Heap<'a>> {
+    match opened(heap, placements(rt, alloc), keeper(rt, heap)) {
+        Ok(world) => world,
+        Err(_) => panic!(rt; "no world"),
+    }
 }

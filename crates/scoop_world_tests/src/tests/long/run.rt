@@ -1,7 +1,7 @@
 //! The run.
 
 use super::super::settling::settles;
-use super::counts::{Counts, THINGS, Thing, of_refusal};
+use super::counts::{Counts, Thing, of_refusal};
 use super::opening::{CLIENTS, Heap, opens};
 use super::rule::{Rule, Told};
 use super::watch::{Fault, Grown, Watch};
@@ -13,7 +13,6 @@ use scoop_refusing::Refusing;
 use scoop_world::{Event, World, WorldError, WorldNote};
 use std::alloc::Global;
 use std::process::Abort;
-use std::test::Fail;
 
 /// How many events the run has.
 const EVENTS: u32 = 20_000;
@@ -63,16 +62,16 @@ fn wanted(told: Told) -> Grown {
 }
 
 impl<'a> Run<'a> {
-    fn new(alloc: Global, heap: Heap<'a>) -> Result<Run<'a>, Fail> {
-        Ok(Run {
+    fn new(rt: &impl Abort, alloc: Global, heap: Heap<'a>) -> Run<'a> {
+        Run {
             heap,
-            world: opens(alloc, heap)?,
-            watch: Watch::new(alloc)?,
+            world: opens(rt, alloc, heap),
+            watch: Watch::new(rt, alloc),
             rule: Rule::new(),
-            counts: Counts::new(alloc),
+            counts: Counts::new(),
             out: [None; 3],
             last: None,
-        })
+        }
     }
 
     // The job that is out at the handler, which is 1, 2 or 3.
@@ -85,48 +84,59 @@ impl<'a> Run<'a> {
     }
 
     // A node restarts: node 1 has handlers 1 and 2, and node 2 has handler 3.
-    fn count_node(&mut self, node: u32) -> Result<(), Fault> {
-        self.counts.add(Thing::NodeRestarts)?;
+    fn count_node(&mut self, node: u32) {
+        self.counts.add(Thing::NodeRestarts);
         let [first, second, third] = self.out;
         let lost = match node {
             1 => first.is_some() || second.is_some(),
             _ => third.is_some(),
         };
         if lost {
-            self.counts.add(Thing::JobIsLost)?;
+            self.counts.add(Thing::JobIsLost);
         }
         self.out = match node {
             1 => [None, None, third],
             _ => [first, second, None],
         };
-        Ok(())
     }
 
     // A client restarts, perhaps while a job of its block is out.
-    fn count_client(&mut self, client: ClientId) -> Result<(), Fault> {
-        self.counts.add(Thing::ClientRestarts)?;
+    fn count_client(&mut self, client: ClientId) {
+        self.counts.add(Thing::ClientRestarts);
         for block in self.out {
-            if let Some(block) = block {
-                if block.client == client {
-                    self.counts.add(Thing::JobOutlivesClient)?;
-                }
+            if matches!(block, Some(block) if block.client == client) {
+                self.counts.add(Thing::JobOutlivesClient);
             }
         }
-        Ok(())
     }
 
     // A Log was taken, of whose block so many entries had been received.
-    fn count_log(&mut self, message: &Message, received: u32) -> Result<(), Fault> {
+    fn count_log(&mut self, message: &Message, received: u32) {
         let Message::Log(_, _, number, entries) = *message else {
-            return Ok(());
+            return;
         };
         if entries.len() > 1 {
-            self.counts.add(Thing::Batch)?;
+            self.counts.add(Thing::Batch);
         }
         if number <= received {
-            self.counts.add(Thing::Overlap)?;
+            self.counts.add(Thing::Overlap);
         }
-        Ok(())
+    }
+
+    // A client has heard a message.
+    fn count_heard(&mut self, client: ClientId, note: ClientNote) {
+        self.rule.hears(client, note);
+        if let ClientNote::Accepted(_, _, _) = note {
+            self.counts.add(Thing::Accepted);
+        }
+    }
+
+    // A message has come that was sent long ago.
+    fn count_old(&mut self, note: &WorldNote) {
+        self.counts.add(Thing::OldMessage);
+        if let WorldNote::Handler(Note::Dropped(_), _) = note {
+            self.counts.add(Thing::OldMessageDropped);
+        }
     }
 
     // A message has come, when so many were sent and so many entries of its block received.
@@ -141,49 +151,41 @@ impl<'a> Run<'a> {
             return Err("a message has gone");
         };
         if place.saturating_add(OLD) < sent {
-            self.counts.add(Thing::OldMessage)?;
-            if let WorldNote::Handler(Note::Dropped(_), _) = note {
-                self.counts.add(Thing::OldMessageDropped)?;
-            }
+            self.count_old(note);
         }
         match *note {
             WorldNote::Handler(Note::Took(_), _) => self.count_log(&message, received),
-            WorldNote::Client(note) => {
-                self.rule.hears(message.client(), note);
-                if let ClientNote::Accepted(_, _, _) = note {
-                    self.counts.add(Thing::Accepted)?;
-                }
-                Ok(())
-            }
-            _ => Ok(()),
+            WorldNote::Client(note) => self.count_heard(message.client(), note),
+            _ => {}
         }
+        Ok(())
+    }
+
+    fn count_refusal(&mut self, error: WorldError) -> Result<(), Fault> {
+        let Some(thing) = of_refusal(error) else {
+            return Err("a refusal that doesn't come here");
+        };
+        self.counts.add(thing);
+        Ok(())
     }
 
     // An event told this, when so many messages were sent and so many entries of its block received.
     fn count(&mut self, event: Event, told: Told, sent: usize, received: u32) -> Result<(), Fault> {
         let note = match told {
             Ok(note) => note,
-            Err(error) => {
-                let thing = of_refusal(error).ok_or("a refusal that doesn't come here")?;
-                return self.counts.add(thing);
-            }
+            Err(error) => return self.count_refusal(error),
         };
-        match event {
-            Event::Take(place) => self.count_message(place, sent, received, &note),
-            Event::Begin(handler) => {
-                if let WorldNote::Began(block, _) = note {
-                    self.set_out(handler, Some(block));
-                }
-                Ok(())
+        match (event, note) {
+            (Event::Take(place), _) => return self.count_message(place, sent, received, &note),
+            (Event::Begin(handler), WorldNote::Began(block, _)) => {
+                self.set_out(handler, Some(block));
             }
-            Event::Finish(handler) => {
-                self.set_out(handler, None);
-                Ok(())
-            }
-            Event::NodeRestart(node) => self.count_node(node),
-            Event::ClientRestart(client) => self.count_client(client),
-            Event::Do(_, _) | Event::Tick(_, _) => Ok(()),
+            (Event::Finish(handler), _) => self.set_out(handler, None),
+            (Event::NodeRestart(node), _) => self.count_node(node),
+            (Event::ClientRestart(client), _) => self.count_client(client),
+            _ => {}
         }
+        Ok(())
     }
 
     // How many entries the receiver of the message at this place has told to have of its block.
@@ -221,47 +223,58 @@ impl<'a> Run<'a> {
     }
 
     // The next event by the rule. Every tenth has no memory, and after every hundredth everything is looked at.
-    fn goes_on(&mut self, alloc: Global, number: u32) -> Result<(), Fault> {
+    fn goes_on(&mut self, rt: &impl Abort, alloc: Global, number: u32) -> Result<(), Fault> {
         let next = self.rule.next(self.last, self.watch.sent());
         let event = next.ok_or("the rule has no event")?;
         self.takes(event, number % 10 == 9)?;
         if number % 100 == 99 {
-            let all = Watch::of(alloc, &self.world)?;
-            holds(all.same(&self.watch), "what happened before has changed")?;
+            return self.watch.looks_back(rt, alloc, &self.world);
         }
         Ok(())
     }
-}
 
-#[test]
-fn a_long_run_keeps_the_rules(rt: HostRuntime) -> Result<(), Fail> {
-    let owner = Refusing::new(rt.alloc(), 0);
-    let mut run = Run::new(rt.alloc(), &owner)?;
-    for number in 0..EVENTS {
-        if let Err(fault) = run.goes_on(rt.alloc(), number) {
-            panic!(&rt; "event {number}: {fault}");
-        }
-    }
-    for thing in THINGS {
-        let count = run.counts.of(thing);
-        assert!(&rt; count > 0, "{thing:?}");
-    }
-    Ok(())
-}
-
-#[test]
-fn a_long_run_settles_wherever_it_is(rt: HostRuntime) -> Result<(), Fail> {
-    for place in PLACES {
-        let owner = Refusing::new(rt.alloc(), 0);
-        let mut run = Run::new(rt.alloc(), &owner)?;
-        for number in 0..place {
-            if let Err(fault) = run.goes_on(rt.alloc(), number) {
-                panic!(&rt; "event {number}: {fault}");
+    // So many events.
+    fn takes_all(&mut self, rt: &impl Abort, alloc: Global, count: u32) {
+        for number in 0..count {
+            if let Err(fault) = self.goes_on(rt, alloc, number) {
+                panic!(rt; "event {number}: {fault}");
             }
         }
-        if let Err(fault) = settles(&mut run.world) {
-            panic!(&rt; "after {place}: {fault}");
-        }
     }
-    Ok(())
+}
+
+// What a run shows behind its last event.
+#[derive(Clone, Copy)]
+enum End {
+    // Everything has come that it must contain.
+    IsFull,
+    // Its world settles.
+    Settles,
+}
+
+fn ends(rt: &impl Abort, run: &mut Run, end: End) {
+    match end {
+        End::IsFull => assert_eq!(rt; run.counts.missing(), None),
+        End::Settles => assert_eq!(rt; settles(&mut run.world), Ok(())),
+    }
+}
+
+// A run of so many events.
+fn runs(rt: &impl Abort, alloc: Global, count: u32, end: End) {
+    let owner = Refusing::new(alloc, 0);
+    let mut run = Run::new(rt, alloc, &owner);
+    run.takes_all(rt, alloc, count);
+    ends(rt, &mut run, end);
+}
+
+#[test]
+fn a_long_run_keeps_the_rules(rt: HostRuntime) {
+    runs(&rt, rt.alloc(), EVENTS, End::IsFull);
+}
+
+#[test]
+fn a_long_run_settles_wherever_it_is(rt: HostRuntime) {
+    for place in PLACES {
+        runs(&rt, rt.alloc(), place, End::Settles);
+    }
 }

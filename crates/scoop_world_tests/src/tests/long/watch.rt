@@ -10,6 +10,7 @@ use scoop_object::Table;
 use scoop_world::World;
 use site::Site;
 use std::alloc::{Allocator, Global};
+use std::process::Abort;
 
 /// Which rule was broken.
 pub type Fault = &'static str;
@@ -24,7 +25,7 @@ pub struct Watch {
 }
 
 /// How many items have come to the lists.
-#[derive(Clone, Copy, Debug, Default, PartialEq, Eq)]
+#[derive(Clone, Copy, Default, PartialEq, Eq)]
 pub struct Grown {
     pub opened: usize,
     pub ran: usize,
@@ -70,26 +71,24 @@ fn join(joint: &mut Vec<Block>, block: Block) -> Result<(), Fault> {
 
 impl Watch {
     /// Nothing has happened.
-    pub fn new(alloc: Global) -> Result<Watch, Fault> {
+    pub fn new(rt: &impl Abort, alloc: Global) -> Watch {
         let mut watch = Watch {
             joint: Vec::new(alloc),
             sites: Vec::new(alloc),
             parties: Vec::new(alloc),
             sent: 0,
         };
+        watch.begin(rt, alloc);
+        watch
+    }
+
+    fn begin(&mut self, rt: &impl Abort, alloc: Global) {
         for handler in HANDLERS {
-            watch
-                .sites
-                .push(Site::new(alloc, handler))
-                .map_err(|_| "no memory")?;
+            assert!(rt; self.sites.push(Site::new(alloc, handler)).is_ok());
         }
         for client in CLIENTS {
-            watch
-                .parties
-                .push(Party::new(alloc, client))
-                .map_err(|_| "no memory")?;
+            assert!(rt; self.parties.push(Party::new(alloc, client)).is_ok());
         }
-        Ok(watch)
     }
 
     /// How many messages were sent.
@@ -166,24 +165,37 @@ impl Watch {
         Ok(grown)
     }
 
-    /// All that has happened in a world, from its beginning: each item keeps the rules.
-    pub fn of<A: Allocator + Copy>(alloc: Global, world: &World<Table, A>) -> Result<Watch, Fault> {
-        let mut watch = Watch::new(alloc)?;
+    // All that has happened in the world: each item keeps the rules.
+    fn see_all<A: Allocator + Copy>(&mut self, world: &World<Table, A>) -> Result<(), Fault> {
         for block in world.joint() {
-            join(&mut watch.joint, *block)?;
+            join(&mut self.joint, *block)?;
         }
-        watch.see_messages(world, 100_000)?;
-        for site in &mut watch.sites {
-            site.see_all(&watch.joint, world)?;
+        self.see_messages(world, 100_000)?;
+        for site in &mut self.sites {
+            site.see_all(&self.joint, world)?;
         }
-        for party in &mut watch.parties {
-            party.see_all(&watch.sites, world)?;
+        for party in &mut self.parties {
+            party.see_all(&self.sites, world)?;
         }
-        Ok(watch)
+        Ok(())
     }
 
-    /// Whether the same has happened.
-    pub fn same(&self, other: &Watch) -> bool {
+    /// All that has happened in the world from its beginning: each item keeps the rules, and it is what was watched.
+    pub fn looks_back<A: Allocator + Copy>(
+        &self,
+        rt: &impl Abort,
+        alloc: Global,
+        world: &World<Table, A>,
+    ) -> Result<(), Fault> {
+        let mut all = Watch::new(rt, alloc);
+        match all.see_all(world) {
+            Ok(()) => holds(all.same(self), "what happened before has changed"),
+            Err(fault) => Err(fault),
+        }
+    }
+
+    // Whether the same has happened.
+    fn same(&self, other: &Watch) -> bool {
         if self.joint.as_slice() != other.joint.as_slice() || self.sent != other.sent {
             return false;
         }

@@ -1,120 +1,102 @@
 //! Events that are refused, and runs of events.
 
-use super::{Act, Told, event, first, greets, has_joint, opens, plays, world};
-use scoop_client::{ClientError, ClientNote};
-use scoop_message::HandlerId;
-use scoop_object::Table;
-use scoop_world::{Event, World, WorldError};
-use std::alloc::Global;
+use super::acts::{Act, Row, Told, add_events};
+use super::cells::Parties;
+use super::looks::Look;
+use super::one_cell::{ONE_CELL, OPENING};
+use super::{Step, visits};
+use scoop_client::ClientError;
+use scoop_world::{Event, WorldError};
 use std::process::Abort;
-use std::test::Fail;
+
+const NOBODY: Told = Told::Refused(WorldError::NoSuchParty);
+
+const UNSENT: Told = Told::Refused(WorldError::NoSuchMessage);
+
+const NOTHING: Told = Told::Refused(WorldError::NothingToRun);
+
+const EARLY: Told = Told::Refused(WorldError::ClientRefused(ClientError::NotGreeted));
+
+const REFUSED: [Row; 15] = [
+    (Act::Take(0), UNSENT),
+    (Act::Take(1), UNSENT),
+    (Act::End(8), NOBODY),
+    (Act::Tick(8, 1), NOBODY),
+    (Act::Tick(7, 2), NOBODY),
+    (Act::Begin(2), NOBODY),
+    (Act::Finish(2), NOBODY),
+    (Act::RestartClient(8), NOBODY),
+    (Act::RestartNode(2), NOBODY),
+    (Act::Begin(1), NOTHING),
+    (Act::Finish(1), NOTHING),
+    (Act::Reserve(7, 1), EARLY),
+    (Act::Tick(7, 1), Told::Sent(1)),
+    (Act::Take(2), UNSENT),
+    (Act::Trip(7, 1), Told::Welcomed(1)),
+];
 
 /// Each refusal, and the world goes on behind it.
 #[test]
-fn refused_events(rt: HostRuntime) -> Result<(), Fail> {
-    let mut world = world(&rt, rt.alloc(), &[1], &[7]);
-    let nobody = Told::Refused(WorldError::NoSuchParty);
-    let unsent = Told::Refused(WorldError::NoSuchMessage);
-    let nothing = Told::Refused(WorldError::NothingToRun);
-    let early = Told::Refused(WorldError::ClientRefused(ClientError::NotGreeted));
-    let rows = [
-        (Act::Take(0), unsent),
-        (Act::Take(1), unsent),
-        (Act::End(8), nobody),
-        (Act::Tick(8, 1), nobody),
-        (Act::Tick(7, 2), nobody),
-        (Act::Begin(2), nobody),
-        (Act::Finish(2), nobody),
-        (Act::RestartClient(8), nobody),
-        (Act::RestartNode(2), nobody),
-        (Act::Begin(1), nothing),
-        (Act::Finish(1), nothing),
-        (Act::Reserve(7, 1), early),
-        (Act::Tick(7, 1), Told::Sent(1)),
-        (Act::Take(2), unsent),
-    ];
-    plays(&rt, &mut world, &rows);
-    greets(&rt, &mut world, 7, &[1]);
-    Ok(())
+fn refused_events(rt: HostRuntime) {
+    visits(&rt, rt.alloc(), ONE_CELL, &[Step::Plays(&REFUSED)]);
 }
 
-/// The stored incarnation is the last but one as the world opens.
-#[test]
-fn incarnations_end(rt: HostRuntime) -> Result<(), Fail> {
-    let opened = opens(rt.alloc(), &[1], &[7, 8], u32::MAX - 1);
-    let Some(Ok(mut world)) = opened else {
-        panic!(&rt; "no world");
-    };
-    let spent = Told::Refused(WorldError::IncarnationsSpent);
-    let rows = [
-        (Act::RestartClient(7), spent),
-        (Act::RestartClient(8), Told::Restarted(2)),
-    ];
-    plays(&rt, &mut world, &rows);
-    greets(&rt, &mut world, 7, &[1]);
-    Ok(())
-}
+const SPENT: Told = Told::Refused(WorldError::IncarnationsSpent);
 
-fn ran(world: &mut World<Table>, events: &[Event]) -> Result<usize, (usize, WorldError)> {
-    world.run(events)
-}
-
-/// What comes of the acts, none of them a trip, as one run.
-fn runs(
-    alloc: Global,
-    world: &mut World<Table>,
-    acts: &[Act],
-) -> Option<Result<usize, (usize, WorldError)>> {
-    let mut events = Vec::new(alloc);
-    for act in acts {
-        events.push(event(*act)?).ok()?;
-    }
-    Some(ran(world, &events))
-}
-
-/// Client 7 greets handler 1, reserves it, locks it, and opens it.
-const OPENING: [Act; 10] = [
-    Act::Tick(7, 1),
-    Act::Take(1),
-    Act::Take(2),
-    Act::Reserve(7, 1),
-    Act::Tick(7, 1),
-    Act::Take(3),
-    Act::Take(4),
-    Act::Tick(7, 1),
-    Act::Take(5),
-    Act::Take(6),
+const RESTARTS: [Row; 3] = [
+    (Act::RestartClient(7), SPENT),
+    (Act::RestartClient(8), Told::Restarted(2)),
+    (Act::Trip(7, 1), Told::Welcomed(1)),
 ];
 
-fn runs_to(
-    rt: &impl Abort,
-    alloc: Global,
-    world: &mut World<Table>,
-    acts: &[Act],
-    wanted: Result<usize, (usize, WorldError)>,
-) {
-    assert_eq!(rt; runs(alloc, world, acts), Some(wanted));
-}
+/// The stored incarnation of client 7 is the last but one as the world opens.
+const OLD_CLIENT: Parties<'static> = (&[1], &[7, 8], u32::MAX - 1);
 
 #[test]
-fn events_run(rt: HostRuntime) -> Result<(), Fail> {
-    let mut world = world(&rt, rt.alloc(), &[1], &[7]);
-    runs_to(&rt, rt.alloc(), &mut world, &[], Ok(0));
-    runs_to(&rt, rt.alloc(), &mut world, &OPENING, Ok(10));
-    has_joint(&rt, &world, &[first(7)]);
-    Ok(())
+fn incarnations_end(rt: HostRuntime) {
+    visits(&rt, rt.alloc(), OLD_CLIENT, &[Step::Plays(&RESTARTS)]);
 }
+
+/// The ten events in which client 7 greets the cell, reserves it, locks it, and opens it.
+fn add_opening(rt: &impl Abort, events: &mut Vec<Event>) {
+    add_events(rt, events, &OPENING[..4]);
+}
+
+const ONE_BLOCK: [Look; 1] = [Look::Joint(&[7])];
+
+#[test]
+fn events_run(rt: HostRuntime) {
+    let mut events = Vec::new(rt.alloc());
+    add_opening(&rt, &mut events);
+    let steps = [
+        Step::Runs(&[], Ok(0)),
+        Step::Runs(&events, Ok(10)),
+        Step::Reads(&ONE_BLOCK),
+    ];
+    visits(&rt, rt.alloc(), ONE_CELL, &steps);
+}
+
+/// The ninth event takes a message that wasn't sent.
+fn add_cut_opening(rt: &impl Abort, events: &mut Vec<Event>) {
+    add_opening(rt, events);
+    if let Some(event) = events.get_mut(8) {
+        *event = Event::Take(9);
+    }
+}
+
+const NO_BLOCK: [Look; 1] = [Look::Joint(&[])];
+
+const OPENS: [Row; 1] = [(Act::Trip(7, 1), Told::Opened(1))];
 
 /// What comes before a refused event has happened, and what comes behind it hasn't.
 #[test]
-fn a_run_ends_at_a_refusal(rt: HostRuntime) -> Result<(), Fail> {
-    let mut world = world(&rt, rt.alloc(), &[1], &[7]);
-    let refused = Err((8, WorldError::NoSuchMessage));
-    let mut acts = OPENING;
-    acts[8] = Act::Take(9);
-    runs_to(&rt, rt.alloc(), &mut world, &acts, refused);
-    has_joint(&rt, &world, &[]);
-    let opened = Told::Heard(ClientNote::Opened(HandlerId(1)));
-    plays(&rt, &mut world, &[(Act::Trip(7, 1), opened)]);
-    Ok(())
+fn a_run_ends_at_a_refusal(rt: HostRuntime) {
+    let mut events = Vec::new(rt.alloc());
+    add_cut_opening(&rt, &mut events);
+    let steps = [
+        Step::Runs(&events, Err((8, WorldError::NoSuchMessage))),
+        Step::Reads(&NO_BLOCK),
+        Step::Plays(&OPENS),
+    ];
+    visits(&rt, rt.alloc(), ONE_CELL, &steps);
 }

@@ -1,103 +1,66 @@
 //! The worlds of the worked examples settle wherever they are.
 
-use super::super::settling::settles;
-use super::runs::{Events, between_openings, in_a_circle};
-use super::{Act, Told, greets, plays, world};
-use scoop_client::ClientNote;
+use super::acts::{Act, Item, Row, Told, add_events};
+use super::cells::Parties;
+use super::one_cell::{ONE_CELL, OPENING};
+use super::restarting::{BETWEEN_OPENINGS, TWO_CELLS};
+use super::rows::{CIRCLE, THREE_CELLS};
+use super::{Step, visits};
 use scoop_handler::Note;
-use scoop_message::HandlerId;
-use scoop_object::Table;
-use scoop_world::{Event, World};
+use scoop_world::Event;
 use std::alloc::Global;
 use std::process::Abort;
-use std::test::Fail;
 
-const ONE: HandlerId = HandlerId(1);
+/// The worlds after each beginning of the events settle.
+fn all_settle(rt: &impl Abort, alloc: Global, parties: Parties, events: &[Event]) {
+    for count in 0..=events.len() {
+        let begun = &events[..count.min(events.len())];
+        let steps = [Step::Runs(begun, Ok(begun.len())), Step::Settles];
+        visits(rt, alloc, parties, &steps);
+    }
+}
 
-/// Acts of a block in which a call is taken and a query waits, and nobody has run anything yet; then a job is out, the
+/// The worlds after each beginning of the rows' events settle.
+fn settle(rt: &impl Abort, alloc: Global, parties: Parties, rows: &[Row]) {
+    let mut events = Vec::new(alloc);
+    add_events(rt, &mut events, rows);
+    all_settle(rt, alloc, parties, &events);
+}
+
+#[test]
+fn a_circle_of_locks_settles(rt: HostRuntime) {
+    settle(&rt, rt.alloc(), THREE_CELLS, &CIRCLE);
+}
+
+#[test]
+fn a_restart_between_openings_settles(rt: HostRuntime) {
+    settle(&rt, rt.alloc(), TWO_CELLS, &BETWEEN_OPENINGS);
+}
+
+/// A block in which a call is taken and a query waits, and nobody has run anything yet; then a job is out, the
 /// query is acknowledged late, and client and node restart.
-const ACTS: [(Act, Told); 16] = [
+const RESTARTS: [Row; 17] = [
+    (Act::Trip(7, 1), Told::Welcomed(1)),
     (Act::Reserve(7, 1), Told::Done),
-    (Act::Trip(7, 1), Told::Heard(ClientNote::Locked(ONE))),
-    (Act::Trip(7, 1), Told::Heard(ClientNote::Opened(ONE))),
-    (Act::Trip(7, 1), Told::Heard(ClientNote::Unlocked(ONE))),
+    (Act::Trip(7, 1), Told::Locked(1)),
+    (Act::Trip(7, 1), Told::Opened(1)),
+    (Act::Trip(7, 1), Told::Unlocked(1)),
     (Act::Set(7, 1, 5), Told::Done),
-    (
-        Act::Trip(7, 1),
-        Told::Heard(ClientNote::Acknowledged(ONE, 1)),
-    ),
+    (Act::Trip(7, 1), Told::Acknowledged(1, 1)),
     (Act::Get(7, 1), Told::Done),
     (Act::Tick(7, 1), Told::Sent(11)),
     (Act::Take(11), Told::Replied(Note::Took(2), 12)),
     (Act::Begin(1), Told::Began(1)),
     (Act::RestartNode(1), Told::Reopened),
     (Act::Begin(1), Told::Began(1)),
-    (Act::Finish(1), Told::RanSet(1, 5)),
+    (Act::Finish(1), Told::Ran((1, Item::Set(5), Some(5)))),
     (Act::Begin(1), Told::Began(2)),
     (Act::RestartClient(7), Told::Restarted(2)),
-    (Act::Finish(1), Told::RanGet(2, 5)),
+    (Act::Finish(1), Told::Ran((2, Item::Get, Some(5)))),
 ];
 
-/// What is next is played until nothing is, and then the world is calm.
-fn calms(rt: &impl Abort, world: &mut World<Table>, count: usize) {
-    if let Err(fault) = settles(world) {
-        panic!(rt; "after {count}: {fault}");
-    }
-}
-
-/// The world settles after these events.
-fn calms_after(rt: &impl Abort, world: &mut World<Table>, events: &[Event]) {
-    assert_eq!(rt; world.run(events), Ok(events.len()));
-    calms(rt, world, events.len());
-}
-
-/// The worlds after each beginning of the events settle.
-fn all_calm(
-    rt: &impl Abort,
-    alloc: Global,
-    handlers: &[u32],
-    clients: &[u32],
-    events: Option<Events>,
-) {
-    let Some(events) = events else {
-        panic!(rt; "out of memory")
-    };
-    let events = events.as_slice();
-    for count in 0..=events.len() {
-        let mut world = world(rt, alloc, handlers, clients);
-        let begun = &events[..count.min(events.len())];
-        calms_after(rt, &mut world, begun);
-    }
-}
-
 #[test]
-fn a_circle_of_locks_settles(rt: HostRuntime) -> Result<(), Fail> {
-    let events = in_a_circle(rt.alloc());
-    all_calm(&rt, rt.alloc(), &[1, 2, 3], &[7, 8, 9], events);
-    Ok(())
-}
-
-#[test]
-fn a_restart_between_openings_settles(rt: HostRuntime) -> Result<(), Fail> {
-    let events = between_openings(rt.alloc());
-    all_calm(&rt, rt.alloc(), &[1, 2], &[7], events);
-    Ok(())
-}
-
-/// The world settles after these acts.
-fn calms_after_acts(rt: &impl Abort, world: &mut World<Table>, acts: &[(Act, Told)]) {
-    greets(rt, world, 7, &[1]);
-    plays(rt, world, acts);
-    calms(rt, world, acts.len());
-}
-
-#[test]
-fn a_block_with_restarts_settles(rt: HostRuntime) -> Result<(), Fail> {
-    let acts: &[(Act, Told)] = &ACTS;
-    for count in 0..=acts.len() {
-        let mut world = world(&rt, rt.alloc(), &[1], &[7]);
-        let begun = &acts[..count.min(acts.len())];
-        calms_after_acts(&rt, &mut world, begun);
-    }
-    Ok(())
+fn a_block_with_restarts_settles(rt: HostRuntime) {
+    visits(&rt, rt.alloc(), ONE_CELL, &[Step::Plays(&RESTARTS)]);
+    settle(&rt, rt.alloc(), ONE_CELL, &RESTARTS);
 }
