@@ -1,14 +1,11 @@
 //! Each crate's tests, from the lowest up.
 
 mod classes;
-mod clients;
 mod frames;
-mod handlers;
 mod links;
 mod messages;
 mod objects;
 mod queues;
-mod reservations;
 mod seals;
 
 use std::alloc::Global;

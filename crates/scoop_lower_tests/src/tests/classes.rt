@@ -92,21 +92,17 @@ fn behaves(
     takes_back(rt, &mut object, words);
 }
 
-/// What the account answers to a withdrawal.
-fn withdrawn(account: &mut AccountObject, amount: u64) -> Option<Answer> {
-    let args = Args::of(&[amount]).ok()?;
-    Some(account.apply(&Request { op: 2, args }))
-}
-
+/// The example of the crate.
 #[test]
-fn an_account_gives_what_it_has(rt: HostRuntime) {
-    let Ok(class) = DemoClass::Account.class(rt.alloc()) else {
-        panic!(rt; "no class");
-    };
+fn an_account_gives_what_it_has(rt: HostRuntime) -> Result<(), Fail> {
+    let class = DemoClass::Account.class(rt.alloc())?;
     let mut account = AccountObject::new(100);
     assert!(rt; account.has_class(&class));
-    assert_eq!(rt; withdrawn(&mut account, 70), Some(Answer::Value(30)));
-    assert_eq!(rt; withdrawn(&mut account, 70), Some(Answer::Refused));
+    let args = Args::of(&[70])?;
+    let withdraw = Request { op: 2, args };
+    assert_eq!(rt; account.apply(&withdraw), Answer::Value(30));
+    assert_eq!(rt; account.apply(&withdraw), Answer::Refused);
+    Ok(())
 }
 
 #[test]

@@ -464,11 +464,18 @@ fn faults_are_told_by_name(rt: HostRuntime) -> Result<(), Fail> {
 
 /// The example of the crate.
 #[test]
-fn a_greeting_is_framed(rt: HostRuntime) {
-    // each message that fits has a frame of version 2, and is read from it
+fn a_greeting_is_framed(rt: HostRuntime) -> Result<(), Fail> {
     let hello = Message::Hello(HandlerId(1), ClientId(7), 2);
-    assert_eq!(rt; length(Version::Two, &hello), Some(26));
+    // each message that fits has a frame of version 2
+    if !hello.fits() || !Version::Two.carries(&hello) {
+        return Err("no frame".into());
+    }
+    let mut buffer = [0; BUFFER_LEN];
+    let len = encode(Version::Two, &hello, &mut buffer);
+    assert_eq!(rt; len, 26);
+    assert_eq!(rt; decode(&buffer[..len]), Ok((Version::Two, hello)));
     // what is no frame is refused, and says why
-    assert!(rt; prefixes_are_refused(Version::Two, &hello));
-    is_told(&rt, b"no frame", FrameError::Short);
+    assert_eq!(rt; decode(&buffer[..len - 1]), Err(FrameError::Short));
+    assert_eq!(rt; decode(b"no frame"), Err(FrameError::Short));
+    Ok(())
 }

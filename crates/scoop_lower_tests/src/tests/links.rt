@@ -113,18 +113,21 @@ fn parties_differ_by_kind_and_number(rt: HostRuntime) {
 /// The example of the crate.
 #[test]
 fn a_script_drops_and_doubles(rt: HostRuntime) -> Result<(), Fail> {
+    let alloc = rt.alloc();
     // of what the client sends each third datagram is lost, and each second one comes twice
     let lossy = Script {
         drop_every: 3,
         double_every: 2,
         fail_at: 0,
     };
-    let (mut client, mut node) = ScriptLink::pair(rt.alloc(), lossy, Script::default(), 16)?;
+    let (mut client, mut node) = ScriptLink::pair(alloc, lossy, Script::default(), 16)?;
     for byte in 1..=4u8 {
-        sends(&rt, &mut client, HANDLER, &[byte]);
+        client.send(HANDLER, &[byte])?;
     }
+    let mut buffer = [0; BUFFER_LEN];
     for byte in [1, 2, 2, 4, 4] {
-        gets(&rt, &mut node, Some((1, byte)));
+        assert_eq!(rt; node.receive(&mut buffer), Ok(Some(1)));
+        assert_eq!(rt; buffer[0], byte);
     }
     Ok(())
 }

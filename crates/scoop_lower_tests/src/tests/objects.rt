@@ -451,9 +451,9 @@ fn a_counter_adds(rt: HostRuntime) -> Result<(), Fail> {
         writes: Writes::of(&[add])?,
         answer: Term::Word(0),
     };
-    let (words, args) = (Words::of(&[5])?, Args::of(&[2])?);
     let class = Class::build(rt.alloc(), 1, &[row])?;
-    let mut counter = Table::new(class, words)?;
+    let mut counter = Table::new(class, Words::of(&[5])?)?;
+    let args = Args::of(&[2])?;
     assert_eq!(rt; counter.apply(&Request { op: 1, args }), Answer::Value(7));
     Ok(())
 }

@@ -8,6 +8,7 @@ use scoop_message::{Args, Block, ClientId, Entries, Entry, Request};
 use scoop_queue::{AppendError, Head, OpenQueueError, PutError, QueueOfQueues, QueueState};
 use std::alloc::{Allocator, Global};
 use std::process::Abort;
+use std::test::Fail;
 
 fn block(num: u32) -> Block {
     Block {
@@ -437,21 +438,16 @@ fn a_copy_is_the_same(rt: HostRuntime) {
 
 /// The example of the crate.
 #[test]
-fn an_empty_queue_is_waited_for(rt: HostRuntime) {
+fn an_empty_queue_is_waited_for(rt: HostRuntime) -> Result<(), Fail> {
     let mut queues = QueueOfQueues::new(rt.alloc());
-    let Ok(()) = queues.open(block(1)) else {
-        panic!(rt; "no queue");
-    };
-    let Ok(()) = queues.open(block(2)) else {
-        panic!(rt; "no queue");
-    };
-    is_first(&rt, &queues, None);
-    let Ok(()) = queues.put(block(1), Entry::End) else {
-        panic!(rt; "no entry");
-    };
-    is_first(&rt, &queues, Some((block(1), 1, Entry::End)));
-    takes(&rt, &mut queues);
-    has_count(&rt, &queues, 1);
+    queues.open(block(1))?;
+    queues.open(block(2))?;
+    assert_eq!(rt; queues.front(), None);
+    queues.put(block(1), Entry::End)?;
+    assert_eq!(rt; queues.front(), Some((block(1), 1, Entry::End)));
+    assert_eq!(rt; queues.advance(), Some((block(1), 1, Entry::End)));
+    assert_eq!(rt; queues.list_len(), 1);
+    Ok(())
 }
 
 // The other ones, which differ, are copied.

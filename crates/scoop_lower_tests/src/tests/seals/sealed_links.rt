@@ -11,6 +11,7 @@ use scoop_seal::{Key, SealedLink, TAG_LEN, hmac};
 use std::alloc::Global;
 use std::net::Net;
 use std::process::Abort;
+use std::test::Fail;
 
 const KEY: [u8; 32] = [5; 32];
 
@@ -273,22 +274,23 @@ fn a_paced_and_sealed_socket_hears_no_forger(rt: HostRuntime) {
     gets(&rt, &mut sender, Some((30, 4)));
 }
 
-// The link receives `lock`, and has passed over one datagram.
-fn opens(rt: &impl Abort, link: &mut SealedLink<TapeLink>) {
-    let mut buffer = [0; BUFFER_LEN];
-    assert_eq!(rt; link.receive(&mut buffer), Ok(Some(4)));
-    assert!(rt; buffer.starts_with(b"lock"));
-    has_refused(rt, link, 1);
-}
-
 /// The example of the crate.
 #[test]
-fn a_seal_is_opened_by_the_key(rt: HostRuntime) {
-    let mut link = SealedLink::new(tape(&rt, rt.alloc(), 1), Key::new([5; 32]));
-    sends(&rt, &mut link, HANDLER, b"lock");
+fn a_seal_is_opened_by_the_key(rt: HostRuntime) -> Result<(), Fail> {
+    let alloc = rt.alloc();
+    let key = Key::new([5; 32]);
+    let mut link = SealedLink::new(TapeLink::new(alloc, 1)?, key);
+    link.send(HANDLER, b"lock")?;
+    let (_, sealed) = link.inner().sent(0).ok_or("nothing sent")?;
+    assert_eq!(rt; sealed.len(), 4 + TAG_LEN);
     // who has the key gets the bytes, and what came without their tag is passed over
-    let mut tape = tape(&rt, rt.alloc(), 0);
-    feeds(&rt, &mut tape, b"forged");
-    feeds_sent(&rt, &mut tape, &link, 4 + TAG_LEN);
-    opens(&rt, &mut SealedLink::new(tape, Key::new([5; 32])));
+    let mut tape = TapeLink::new(alloc, 0)?;
+    tape.feed(b"forged")?;
+    tape.feed(sealed)?;
+    let mut other = SealedLink::new(tape, key);
+    let mut buffer = [0; BUFFER_LEN];
+    assert_eq!(rt; other.receive(&mut buffer), Ok(Some(4)));
+    assert!(rt; buffer.starts_with(b"lock"));
+    assert_eq!(rt; other.refused(), 1);
+    Ok(())
 }

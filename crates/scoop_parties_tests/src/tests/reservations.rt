@@ -230,16 +230,17 @@ fn refusals_are_printed(rt: HostRuntime) -> Result<(), Fail> {
 
 /// The example of the crate.
 #[test]
-fn two_handlers_are_reserved(rt: HostRuntime) {
-    let mut reservation = started(&rt, &[TWO, ONE]);
-    is_due(&rt, &reservation, ONE, Some(Message::Lock(ONE, BLOCK)));
-    is_due(&rt, &reservation, TWO, None);
+fn two_handlers_are_reserved(rt: HostRuntime) -> Result<(), Fail> {
+    let mut reservation = Reservation::start(BLOCK, &[TWO, ONE], &[ONE, TWO])?;
+    assert_eq!(rt; reservation.due(ONE), Some(Message::Lock(ONE, BLOCK)));
+    assert_eq!(rt; reservation.due(TWO), None);
     reservation.hear(&Message::Locked(ONE, BLOCK));
-    is_due(&rt, &reservation, TWO, Some(Message::Lock(TWO, BLOCK)));
+    assert_eq!(rt; reservation.due(TWO), Some(Message::Lock(TWO, BLOCK)));
     reservation.hear(&Message::Locked(TWO, BLOCK));
-    is_due(&rt, &reservation, ONE, Some(Message::Open(ONE, BLOCK)));
+    assert_eq!(rt; reservation.due(ONE), Some(Message::Open(ONE, BLOCK)));
     reservation.hear(&Message::Opened(ONE, BLOCK));
     reservation.hear(&Message::Opened(TWO, BLOCK));
     assert!(rt; reservation.is_open());
-    is_due(&rt, &reservation, TWO, Some(Message::Unlock(TWO, BLOCK)));
+    assert_eq!(rt; reservation.due(TWO), Some(Message::Unlock(TWO, BLOCK)));
+    Ok(())
 }

@@ -11,6 +11,7 @@ use scoop_message::{
 use scoop_object::{Behaviour, Class, OpRow, Table, Term, Write, Writes};
 use std::alloc::Global;
 use std::process::Abort;
+use std::test::Fail;
 
 const HERE: HandlerId = HandlerId(1);
 
@@ -316,25 +317,28 @@ fn taken(rt: &impl Abort, handler: &mut Handler<Table>) -> Job<Table> {
     job
 }
 
-const QUERY: [Row; 5] = [
-    (Act::Hello, 7, 1, 0, Said::Greeted),
-    (Act::Lock, 7, 1, 1, Said::Granted),
-    (Act::Open, 7, 1, 1, Said::Opened),
-    (Act::Unlock, 7, 1, 1, Said::Freed),
-    (
-        Act::Log(1, Does::Ask(5), Does::Nothing),
-        7,
-        1,
-        1,
-        Said::Took(1),
-    ),
-];
-
-/// The example of the crate: a block opens, and its query is logged and run.
+/// The example of the crate.
 #[test]
-fn a_query_is_run(rt: HostRuntime) {
+fn a_query_is_run(rt: HostRuntime) -> Result<(), Fail> {
+    let alloc = rt.alloc();
+    let (Some(class), Some(object)) = (class(alloc), object(alloc)) else {
+        panic!(rt; "no object");
+    };
+    let block = block(7, 1, 1);
     // the object has one word, which is 0, and the operation ADD of its class adds to it
-    let mut handler = fresh(&rt, rt.alloc());
-    hears(&rt, &mut handler, &QUERY);
-    runs(&rt, &mut handler, 7, &[(1, Some(5))]);
+    let mut handler = Handler::new(alloc, HERE, class, object)
+        .ok()
+        .ok_or("another class")?;
+    let greeted = handler.hear(&Message::Hello(HERE, ClientId(7), 1))?;
+    assert_eq!(rt; greeted.reply, Some(Message::Welcome(HERE, ClientId(7), 1)));
+    handler.hear(&Message::Lock(HERE, block))?;
+    handler.hear(&Message::Open(HERE, block))?;
+    handler.hear(&Message::Unlock(HERE, block))?;
+    let args = Args::of(&[5])?;
+    let query = Entries::of(&[Entry::Query(Request { op: ADD, args })])?;
+    let logged = handler.hear(&Message::Log(HERE, block, 1, query))?;
+    assert_eq!(rt; logged.note, Note::Took(1));
+    let ran = handler.run().ok_or("nothing to run")?;
+    assert_eq!(rt; ran.answer, Some(Answer::Value(5)));
+    Ok(())
 }

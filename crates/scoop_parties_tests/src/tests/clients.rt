@@ -582,27 +582,23 @@ fn refusals_are_printed(rt: HostRuntime) -> Result<(), Fail> {
     Ok(())
 }
 
-// The handler locks and opens, and is free for the next block.
-fn is_held(client: &mut Client) {
+/// The example of the crate.
+#[test]
+fn a_query_is_answered(rt: HostRuntime) -> Result<(), Fail> {
+    let alloc = rt.alloc();
+    let mut client = Client::begin(alloc, SEVEN, 1, &[ONE])?;
+    assert_eq!(rt; client.due(ONE), Some(Message::Hello(ONE, SEVEN, 1)));
+    client.hear(&Message::Welcome(ONE, SEVEN, 1));
+    client.reserve(&[ONE])?;
+    assert_eq!(rt; client.due(ONE), Some(Message::Lock(ONE, BLOCK)));
     client.hear(&Message::Locked(ONE, BLOCK));
     client.hear(&Message::Opened(ONE, BLOCK));
     client.hear(&Message::Unlocked(ONE, BLOCK));
-}
-
-/// The example of the crate.
-#[test]
-fn a_query_is_answered(rt: HostRuntime) {
-    let Some(mut client) = begun(rt.alloc(), &[ONE]) else {
-        panic!(rt; "no client");
-    };
-    is_due(&rt, &client, ONE, Some(Message::Hello(ONE, SEVEN, 1)));
-    client.hear(&Message::Welcome(ONE, SEVEN, 1));
-    reserves(&rt, &mut client, &[ONE]);
-    is_due_lock(&rt, &client, ONE);
-    is_held(&mut client);
-    does(&rt, &mut client, Command::Query(ONE, 5));
+    let args = Args::of(&[5])?;
+    client.query(ONE, Request { op: 2, args })?;
     // a Log with the query, until its answer has come
-    is_due(&rt, &client, ONE, log_of_query(1, 5));
-    let accepted = ClientNote::Accepted(ONE, 1, Answer::Value(6));
-    is_answered(&rt, &mut client, 1, 1, accepted);
+    assert!(rt; client.due(ONE).is_some());
+    let heard = client.hear(&Message::Answer(ONE, BLOCK, 1, Answer::Value(6)));
+    assert_eq!(rt; heard, ClientNote::Accepted(ONE, 1, Answer::Value(6)));
+    Ok(())
 }

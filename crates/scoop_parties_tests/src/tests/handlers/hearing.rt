@@ -4,10 +4,11 @@ use super::{
     Act, Does, ELSEWHERE, HERE, Row, Said, answers, block, dropped, fresh, hears, opened, rests,
     runs,
 };
-use crate::tests::prints;
 use scoop_handler::{Handler, Note, Reason};
 use scoop_message::{Answer, Block, ClientId, Message};
 use scoop_object::Table;
+use std::alloc::Global;
+use std::fmt::Display;
 use std::process::Abort;
 use std::test::Fail;
 
@@ -243,6 +244,13 @@ fn a_client_starts_anew(rt: HostRuntime) {
     hears(&rt, &mut handler, &ANEW);
     runs(&rt, &mut handler, 7, &[(1, Some(1)), (2, Some(3))]);
     rests(&rt, &mut handler, 3);
+}
+
+/// The value is printed as this text.
+fn prints<T: Display>(rt: &impl Abort, alloc: Global, value: &T, text: &str) -> Result<(), Fail> {
+    let printed = format!(in alloc; "{value}")?;
+    assert_eq!(rt; printed.as_str(), text);
+    Ok(())
 }
 
 #[test]

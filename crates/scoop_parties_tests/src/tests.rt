@@ -1,0 +1,5 @@
+//! Handlers, and the clients that reserve them.
+
+mod clients;
+mod handlers;
+mod reservations;
