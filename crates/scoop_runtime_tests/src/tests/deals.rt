@@ -72,7 +72,7 @@ const DEPOSITED: usize = 4;
 
 const BALANCE: usize = 5;
 
-#[derive(Clone, Copy, Debug)]
+#[derive(Clone, Copy)]
 struct Route {
     from: usize,
     to: usize,
@@ -80,7 +80,7 @@ struct Route {
 }
 
 /// What a client was told of a deal, as far as it got.
-#[derive(Clone, Copy, Debug, Drop)]
+#[derive(Clone, Copy)]
 pub struct Deal {
     route: Route,
     heard: usize,
@@ -88,7 +88,7 @@ pub struct Deal {
 }
 
 /// What one purse had of a deal, as its client was told: the ticket, by how much the money changed, and what it was then.
-#[derive(Clone, Copy, Debug)]
+#[derive(Clone, Copy)]
 pub struct Visit {
     pub purse: usize,
     pub ticket: Option<u64>,

@@ -4,7 +4,7 @@
 const STEP: u64 = 6_364_136_223_846_793_005;
 
 /// Numbers that follow from a seed.
-#[derive(Clone, Copy, Debug)]
+#[derive(Clone, Copy)]
 pub struct Moments {
     state: u64,
 }
