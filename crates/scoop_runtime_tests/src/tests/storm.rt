@@ -230,22 +230,48 @@ impl Guest {
     }
 }
 
-// Opens the links of all. No thread opens one.
-fn open_all<R: Net>(
-    rt: &R,
-    alloc: Global,
-    system: &System,
-    hosts: &mut [Host],
-    guests: &mut [Guest],
-) -> bool {
-    let mut all = true;
-    for host in hosts.iter_mut() {
-        all &= host.open(rt, alloc, system);
+/// The nodes and the clients.
+#[derive(Drop)]
+struct Parties {
+    hosts: [Host; 2],
+    guests: [Guest; 3],
+}
+
+impl Parties {
+    // All, with nothing stored.
+    fn new(alloc: Global) -> Parties {
+        Parties {
+            hosts: [Host::new(alloc, 1), Host::new(alloc, 2)],
+            guests: [
+                Guest::new(alloc, 7),
+                Guest::new(alloc, 8),
+                Guest::new(alloc, 9),
+            ],
+        }
     }
-    for guest in guests.iter_mut() {
-        all &= guest.open(rt, alloc, system);
+
+    // Opens the links of all. No thread opens one.
+    fn open<R: Net>(&mut self, rt: &R, alloc: Global, system: &System) -> bool {
+        let mut all = true;
+        for host in self.hosts.iter_mut() {
+            all &= host.open(rt, alloc, system);
+        }
+        for guest in self.guests.iter_mut() {
+            all &= guest.open(rt, alloc, system);
+        }
+        all
     }
-    all
+
+    // What the records of the nodes have of the purse of a handler.
+    fn stored(&mut self, handler: HandlerId) -> Option<Purse> {
+        for host in self.hosts.iter_mut() {
+            let purse = host.purse_at(handler);
+            if purse.is_some() {
+                return purse;
+            }
+        }
+        None
+    }
 }
 
 // All clients live, each in a thread.
@@ -269,13 +295,13 @@ fn storm<R: Threads + Wait + Clock + Sync>(
     rt: &R,
     alloc: Global,
     system: &System,
-    hosts: &mut [Host],
-    guests: &mut [Guest],
+    parties: &mut Parties,
 ) -> bool {
     let over = AtomicBool::new(false);
     let is_over = &over;
-    let guests = &mut *guests;
+    let parties = &mut *parties;
     thread::scope(thread::scope_env(), rt, move |scope| {
+        let Parties { hosts, guests } = parties;
         let mut all = true;
         for host in hosts.iter_mut() {
             let spawned = scope.spawn(move || host.live_on(rt, alloc, system, is_over));
@@ -285,17 +311,6 @@ fn storm<R: Threads + Wait + Clock + Sync>(
         is_over.store(true, Ordering::SeqCst);
         all
     })
-}
-
-// What the records of the nodes have of the purse of a handler.
-fn stored(hosts: &mut [Host], handler: HandlerId) -> Option<Purse> {
-    for host in hosts.iter_mut() {
-        let purse = host.purse_at(handler);
-        if purse.is_some() {
-            return purse;
-        }
-    }
-    None
 }
 
 // Gathers what the clients were told, each of which did what it was to do.
@@ -308,7 +323,7 @@ fn gather(rt: &impl Abort, guests: &[Guest], deals: &mut Vec<Deal>) -> Result<()
 }
 
 // The deals are replayed, and leave the purses as the nodes have stored them. No money is gone but what was withdrawn alone.
-fn comes_out_even(rt: &impl Abort, hosts: &mut [Host], deals: &mut Vec<Deal>) {
+fn comes_out_even(rt: &impl Abort, parties: &mut Parties, deals: &mut Vec<Deal>) {
     let mut money = 0u64;
     for deal in deals.iter() {
         money = money.wrapping_add(deal.lost());
@@ -319,7 +334,7 @@ fn comes_out_even(rt: &impl Abort, hosts: &mut [Host], deals: &mut Vec<Deal>) {
     }; 3];
     assert!(rt; replay(deals, &mut purses));
     for (handler, purse) in (1u32..).zip(purses.iter()) {
-        assert_eq!(rt; stored(hosts, HandlerId(handler)), Some(*purse));
+        assert_eq!(rt; parties.stored(HandlerId(handler)), Some(*purse));
         money = money.wrapping_add(purse.money);
     }
     assert_eq!(rt; money, 3_000);
@@ -330,17 +345,16 @@ fn plays<R: Threads + Wait + Clock + Net + Sync + Abort>(
     rt: &R,
     alloc: Global,
     system: &System,
-    hosts: &mut [Host],
-    guests: &mut [Guest],
+    parties: &mut Parties,
 ) -> Result<(), Fail> {
     for _ in 0..ROUNDS {
-        assert!(rt; open_all(rt, alloc, system, hosts, guests));
-        assert!(rt; storm(rt, alloc, system, hosts, guests));
+        assert!(rt; parties.open(rt, alloc, system));
+        assert!(rt; storm(rt, alloc, system, parties));
     }
     let mut deals = Vec::new(alloc);
-    gather(rt, guests, &mut deals)?;
+    gather(rt, &parties.guests, &mut deals)?;
     assert_eq!(rt; deals.len(), 22);
-    comes_out_even(rt, hosts, &mut deals);
+    comes_out_even(rt, parties, &mut deals);
     Ok(())
 }
 
@@ -348,11 +362,6 @@ fn plays<R: Threads + Wait + Clock + Net + Sync + Abort>(
 fn blocks_keep_one_order_through_a_storm(rt: HostRuntime) -> Result<(), Fail> {
     let alloc = rt.alloc();
     let system = System::read(alloc, PURSES).ok().ok_or("no system")?;
-    let mut hosts = [Host::new(alloc, 1), Host::new(alloc, 2)];
-    let mut guests = [
-        Guest::new(alloc, 7),
-        Guest::new(alloc, 8),
-        Guest::new(alloc, 9),
-    ];
-    plays(&rt, alloc, &system, &mut hosts, &mut guests)
+    let mut parties = Parties::new(alloc);
+    plays(&rt, alloc, &system, &mut parties)
 }
