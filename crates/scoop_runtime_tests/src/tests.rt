@@ -1,8 +1,10 @@
 //! Nodes and clients of systems in texts, over UDP of this machine.
 
-mod answers;
+mod deals;
 mod lossy_link;
+mod moments;
 mod printing;
+mod replay;
 mod running;
 mod storm;
 mod systems;

@@ -5,24 +5,25 @@ ghost use Rattle.std.specs.Prelude.{None};
 use scoop_link::{Link, LinkFault, Party};
 use scoop_message::limits::BUFFER_LEN;
 
-/// A link that loses each fifth datagram that it is to send, and sends each seventh twice.
+/// A link that is lent for one life of a party, and that loses each fifth datagram that it is to send, and sends each
+/// seventh twice.
 #[derive(Drop)]
-pub struct LossyLink<L: Link> {
-    inner: L,
+pub struct LossyLink<'l, L: Link> {
+    inner: &'l mut L,
     sends: u64,
 }
 
-impl<L: Link> LossyLink<L> {
+impl<'l, L: Link> LossyLink<'l, L> {
     /// The link, behind which datagrams get lost.
-    pub fn new(inner: L) -> LossyLink<L> {
+    pub fn new(inner: &'l mut L) -> LossyLink<'l, L> {
         LossyLink { inner, sends: 0 }
     }
 }
 
-impl<L: Link> Link for LossyLink<L> {
+impl<L: Link> Link for LossyLink<'_, L> {
     ghost told = { λ _. None };
 
-    ghost fault_count = { λ l. L.fault_count l.inner };
+    ghost fault_count = { λ l. L.fault_count l.inner.now };
 
     fn send(&mut self, to: Party, bytes: &[u8]) -> Result<(), LinkFault> {
         self.sends = self.sends.wrapping_add(1);

@@ -1,14 +1,18 @@
-//! Two nodes and three clients over UDP, on links that lose and double, where nodes and clients end at any moment and are
-//! begun again. The blocks of all clients come in one order at both handlers, and each answer is given once.
+//! Two nodes and three clients over UDP, on links that lose and double, where nodes and clients are dropped and begun again
+//! at moments from a seed. Their blocks come in one order at all handlers, each answer is right in it, and no money is made
+//! or lost, but for blocks whose client was gone in between.
 
-use super::answers::{Drawn, drawn_in};
+use super::deals::{DEAL_LINES, Deal, LINES_BOUND, first_lines, read_deals};
 use super::lossy_link::LossyLink;
+use super::moments::Moments;
+use super::replay::{Purse, replay};
 use super::{ask, client_link, node_link, serve};
 use scoop_keeper::{Keeper, MemoryKeeper};
+use scoop_link::UdpLink;
 use scoop_message::HandlerId;
 use scoop_runtime::RuntimeError;
 use scoop_system::System;
-use std::alloc::{AllocError, Global};
+use std::alloc::Global;
 use std::net::Net;
 use std::process::Abort;
 use std::sync::Wait;
@@ -18,7 +22,30 @@ use std::thread;
 use std::thread::Threads;
 use std::time::Clock;
 
-const COUNTERS: &str = "\
+const PURSES: &str = "\
+[[class]]
+name = \"purse\"
+words = 2
+[[class.operation]]
+number = 1
+name = \"ticket\"
+writes = [[\"w0\", \"w0\", \"1\", \"0\"]]
+answer = \"w0\"
+[[class.operation]]
+number = 2
+name = \"deposit\"
+writes = [[\"w1\", \"w1\", \"a0\", \"0\"]]
+answer = \"w1\"
+[[class.operation]]
+number = 3
+name = \"withdraw\"
+test = [\"a0\", \"w1\"]
+writes = [[\"w1\", \"w1\", \"0\", \"a0\"]]
+answer = \"w1\"
+[[class.operation]]
+number = 4
+name = \"balance\"
+answer = \"w1\"
 [[node]]
 number = 1
 address = \"127.0.0.1:47711\"
@@ -28,13 +55,18 @@ address = \"127.0.0.1:47712\"
 [[handler]]
 number = 1
 node = 1
-class = \"counter\"
-words = [0]
+class = \"purse\"
+words = [0, 1000]
 [[handler]]
 number = 2
 node = 2
-class = \"counter\"
-words = [0]
+class = \"purse\"
+words = [0, 1000]
+[[handler]]
+number = 3
+node = 1
+class = \"purse\"
+words = [0, 1000]
 [[client]]
 number = 7
 address = \"127.0.0.1:47717\"
@@ -49,40 +81,18 @@ address = \"127.0.0.1:47719\"
 batch = 2
 ";
 
-// Three whole blocks, each of which draws a number at both handlers.
-const WHOLE: &[u8] = b"\
-reserve 1 2
-query 1 1 1
-query 2 1 1
-end
-reserve 2 1
-query 1 1 1
-query 2 1 1
-end
-reserve 1 2
-query 1 1 1
-query 2 1 1
-end
-";
+const SEED: u64 = 1;
 
-// A client that is gone inside its second block, behind its second answer there.
-const CUT: &[u8] = b"\
-reserve 1 2
-query 1 1 1
-query 2 1 1
-end
-reserve 1 2
-query 1 1 1
-query 2 1 1
-";
+// How often all links are opened anew.
+const ROUNDS: u32 = 2;
 
-// How often each client is begun.
-const CLIENT_LIVES: u32 = 4;
+// How often each client is begun in a round, and then once more, for it leaves nothing reserved.
+const CLIENT_LIVES: u32 = 2;
 
-// How often each node is begun at most, with how many turns, and how long its history is.
+// How often each node is begun in a round at most, with how many turns, and how long its history is.
 const NODE_LIVES: u32 = 400;
 
-const NODE_TURNS: u64 = 60;
+const NODE_TURNS: (u64, u64) = (20, 80);
 
 const HISTORY: usize = 25;
 
@@ -90,7 +100,9 @@ const HISTORY: usize = 25;
 #[derive(Drop)]
 struct Host {
     number: u32,
+    moments: Moments,
     keeper: Option<MemoryKeeper>,
+    link: Option<UdpLink>,
 }
 
 impl Host {
@@ -98,45 +110,48 @@ impl Host {
     fn new(alloc: Global, number: u32) -> Host {
         Host {
             number,
+            moments: Moments::of(SEED, number),
             keeper: Some(MemoryKeeper::new(alloc)),
+            link: None,
         }
     }
 
-    // What the counter of a handler has in the node's record.
-    fn count_at(&mut self, handler: HandlerId) -> Option<u64> {
-        let state = self.keeper.as_mut()?.load_handler(handler).ok()??;
-        state.words().get(0)
+    // Opens its link, once the one before has given the port back.
+    fn open<R: Net>(&mut self, rt: &R, alloc: Global, system: &System) -> bool {
+        self.link = None;
+        if let Some(Ok(link)) = node_link(rt, alloc, system, self.number) {
+            self.link = Some(link);
+        }
+        self.link.is_some()
     }
 
-    // One life of the node.
-    fn live<R: Threads + Wait + Clock + Net + Sync>(
+    // What its record has of the purse of a handler.
+    fn purse_at(&mut self, handler: HandlerId) -> Option<Purse> {
+        let state = self.keeper.as_mut()?.load_handler(handler).ok()??;
+        Some(Purse::of(state.words()))
+    }
+
+    // One life of so many turns.
+    fn live<R: Threads + Wait + Clock + Sync>(
         &mut self,
         rt: &R,
         alloc: Global,
         system: &System,
+        turns: u64,
     ) {
-        let Some(Ok(link)) = node_link(rt, alloc, system, self.number) else {
+        let Some(link) = &mut self.link else {
             return;
         };
         let Some(keeper) = self.keeper.take() else {
             return;
         };
         let link = LossyLink::new(link);
-        let served = serve(
-            rt,
-            alloc,
-            system,
-            self.number,
-            HISTORY,
-            NODE_TURNS,
-            keeper,
-            link,
-        );
+        let served = serve(rt, alloc, system, self.number, HISTORY, turns, keeper, link);
         self.keeper = served.and_then(|(ended, _)| ended.ok());
     }
 
-    // Lives until it is told that all is over.
-    fn live_on<R: Threads + Wait + Clock + Net + Sync>(
+    // Lives until all is over, and then once more, in which it runs what it has taken.
+    fn live_on<R: Threads + Wait + Clock + Sync>(
         &mut self,
         rt: &R,
         alloc: Global,
@@ -145,10 +160,12 @@ impl Host {
     ) {
         for _ in 0..NODE_LIVES {
             if is_over.load(Ordering::SeqCst) {
-                return;
+                break;
             }
-            self.live(rt, alloc, system);
+            let turns = self.moments.between(NODE_TURNS.0, NODE_TURNS.1);
+            self.live(rt, alloc, system, turns);
         }
+        self.live(rt, alloc, system, 1);
     }
 }
 
@@ -156,87 +173,109 @@ impl Host {
 #[derive(Drop)]
 struct Guest {
     number: u32,
+    moments: Moments,
     keeper: MemoryKeeper,
-    drawn: Vec<Drawn>,
+    link: Option<UdpLink>,
+    deals: Vec<Deal>,
     failed: bool,
 }
 
 impl Guest {
+    // A client that has done nothing.
     fn new(alloc: Global, number: u32) -> Guest {
         Guest {
             number,
+            moments: Moments::of(SEED, number),
             keeper: MemoryKeeper::new(alloc),
-            drawn: Vec::new(alloc),
+            link: None,
+            deals: Vec::new(alloc),
             failed: false,
         }
     }
 
-    // One life, at the end of which it may be gone inside a block.
-    fn live<R: Net>(&mut self, rt: &R, alloc: Global, system: &System, is_cut: bool) -> bool {
-        let Some(Ok(link)) = client_link(rt, alloc, system, self.number) else {
+    // Opens its link, once the one before has given the port back.
+    fn open<R: Net>(&mut self, rt: &R, alloc: Global, system: &System) -> bool {
+        self.link = None;
+        if let Some(Ok(link)) = client_link(rt, alloc, system, self.number) {
+            self.link = Some(link);
+        }
+        self.link.is_some()
+    }
+
+    // One life, in which it does so many lines. Answers whether it ends as it is to, and was answered line by line.
+    fn live(&mut self, alloc: Global, system: &System, lines: usize) -> bool {
+        let Some(link) = &mut self.link else {
             return false;
         };
-        let lines = if is_cut { CUT } else { WHOLE };
         let link = LossyLink::new(link);
-        let asked = ask(
-            alloc,
-            system,
-            self.number,
-            &mut self.keeper,
-            link,
-            lines,
-            false,
-        );
-        let Some(told) = asked else {
+        let text = first_lines(lines);
+        let keeper = &mut self.keeper;
+        let Some(told) = ask(alloc, system, self.number, keeper, link, text, false) else {
             return false;
         };
-        let ends_well = match told.ended {
-            Ok(()) => !is_cut,
-            Err(error) => is_cut && error == RuntimeError::InsideBlock,
+        let is_right = match told.ended {
+            Ok(()) => lines % DEAL_LINES == 0,
+            Err(error) => lines % DEAL_LINES != 0 && error == RuntimeError::InsideBlock,
         };
-        ends_well && self.keep(alloc, &told.output).is_ok()
+        is_right && read_deals(&told.output, &mut self.deals)
     }
 
-    // Keeps what it was told.
-    fn keep(&mut self, alloc: Global, output: &[u8]) -> Result<(), AllocError> {
-        let Ok(printed) = str::from_utf8(output) else {
-            return Err(AllocError);
-        };
-        let drawn = drawn_in(alloc, printed)?;
-        self.drawn.extend_from_slice(&drawn)?;
-        Ok(())
-    }
-
-    fn live_on<R: Net>(&mut self, rt: &R, alloc: Global, system: &System) {
-        for life in 0..CLIENT_LIVES {
-            let is_cut = life % 2 == 1;
-            self.failed |= !self.live(rt, alloc, system, is_cut);
+    // Lives as often as it is to, and then once more, in which it frees what it has left.
+    fn live_on(&mut self, alloc: Global, system: &System) {
+        for _ in 0..CLIENT_LIVES {
+            let lines = usize::try_from(self.moments.between(1, LINES_BOUND)).unwrap_or(0);
+            self.failed |= !self.live(alloc, system, lines);
         }
-        // frees what it has left
-        self.failed |= !self.greet(rt, alloc, system);
+        self.failed |= !self.live(alloc, system, 0);
+    }
+}
+
+/// The nodes and the clients.
+#[derive(Drop)]
+struct Parties {
+    hosts: [Host; 2],
+    guests: [Guest; 3],
+}
+
+impl Parties {
+    // All, with nothing stored.
+    fn new(alloc: Global) -> Parties {
+        Parties {
+            hosts: [Host::new(alloc, 1), Host::new(alloc, 2)],
+            guests: [
+                Guest::new(alloc, 7),
+                Guest::new(alloc, 8),
+                Guest::new(alloc, 9),
+            ],
+        }
     }
 
-    fn greet<R: Net>(&mut self, rt: &R, alloc: Global, system: &System) -> bool {
-        let Some(Ok(link)) = client_link(rt, alloc, system, self.number) else {
-            return false;
-        };
-        match ask(
-            alloc,
-            system,
-            self.number,
-            &mut self.keeper,
-            link,
-            b"",
-            false,
-        ) {
-            Some(told) => told.ended.is_ok(),
-            None => false,
+    // Opens the links of all. No thread opens one.
+    fn open<R: Net>(&mut self, rt: &R, alloc: Global, system: &System) -> bool {
+        let mut all = true;
+        for host in self.hosts.iter_mut() {
+            all &= host.open(rt, alloc, system);
         }
+        for guest in self.guests.iter_mut() {
+            all &= guest.open(rt, alloc, system);
+        }
+        all
+    }
+
+    // What the records of the nodes have of the purse of a handler.
+    fn stored(&mut self, handler: HandlerId) -> Option<Purse> {
+        for host in self.hosts.iter_mut() {
+            let purse = host.purse_at(handler);
+            if purse.is_some() {
+                return purse;
+            }
+        }
+        None
     }
 }
 
 // All clients live, each in a thread.
-fn let_live<R: Threads + Wait + Clock + Net + Sync>(
+fn let_live<R: Threads + Wait + Sync>(
     rt: &R,
     alloc: Global,
     system: &System,
@@ -245,25 +284,24 @@ fn let_live<R: Threads + Wait + Clock + Net + Sync>(
     thread::scope(thread::scope_env(), rt, move |scope| {
         let mut all = true;
         for guest in guests.iter_mut() {
-            all &= scope
-                .spawn(move || guest.live_on(rt, alloc, system))
-                .is_ok();
+            all &= scope.spawn(move || guest.live_on(alloc, system)).is_ok();
         }
         all
     })
 }
 
 // The nodes and the clients live beside each other, until the clients are done.
-fn storm<R: Threads + Wait + Clock + Net + Sync>(
+fn storm<R: Threads + Wait + Clock + Sync>(
     rt: &R,
     alloc: Global,
     system: &System,
-    hosts: &mut [Host],
-    guests: &mut [Guest],
+    parties: &mut Parties,
 ) -> bool {
     let over = AtomicBool::new(false);
     let is_over = &over;
+    let parties = &mut *parties;
     thread::scope(thread::scope_env(), rt, move |scope| {
+        let Parties { hosts, guests } = parties;
         let mut all = true;
         for host in hosts.iter_mut() {
             let spawned = scope.spawn(move || host.live_on(rt, alloc, system, is_over));
@@ -275,47 +313,55 @@ fn storm<R: Threads + Wait + Clock + Net + Sync>(
     })
 }
 
-// Whether both handlers took the two blocks in one order.
-fn agree(one: &Drawn, other: &Drawn) -> bool {
-    one.first != other.first
-        && one.second != other.second
-        && (one.first < other.first) == (one.second < other.second)
-}
-
-fn all_agree(drawn: &[Drawn]) -> bool {
-    for (place, one) in drawn.iter().enumerate() {
-        if !drawn[..place].iter().all(|other| agree(one, other)) {
-            return false;
-        }
-    }
-    true
-}
-
-// What the clients were told is one order, and all that they drew is there.
-fn were_told_one_order(rt: &impl Abort, alloc: Global, guests: &[Guest]) -> Result<(), Fail> {
-    let mut drawn = Vec::new(alloc);
+// Gathers what the clients were told, each of which did what it was to do.
+fn gather(rt: &impl Abort, guests: &[Guest], deals: &mut Vec<Deal>) -> Result<(), Fail> {
     for guest in guests {
         assert!(rt; !guest.failed);
-        drawn.extend_from_slice(&guest.drawn)?;
+        deals.extend_from_slice(&guest.deals)?;
     }
-    // Three clients with two whole lives of three blocks, and two that are cut, of two.
-    assert_eq!(rt; drawn.len(), 30);
-    assert!(rt; all_agree(&drawn));
+    Ok(())
+}
+
+// The deals are replayed, and leave the purses as the nodes have stored them. No money is gone but what was withdrawn alone.
+fn comes_out_even(rt: &impl Abort, parties: &mut Parties, deals: &mut Vec<Deal>) {
+    let mut money = 0u64;
+    for deal in deals.iter() {
+        money = money.wrapping_add(deal.lost());
+    }
+    let mut purses = [Purse {
+        tickets: 0,
+        money: 1_000,
+    }; 3];
+    assert!(rt; replay(deals, &mut purses));
+    for (handler, purse) in (1u32..).zip(purses.iter()) {
+        assert_eq!(rt; parties.stored(HandlerId(handler)), Some(*purse));
+        money = money.wrapping_add(purse.money);
+    }
+    assert_eq!(rt; money, 3_000);
+}
+
+// All rounds, and what came of them.
+fn plays<R: Threads + Wait + Clock + Net + Sync + Abort>(
+    rt: &R,
+    alloc: Global,
+    system: &System,
+    parties: &mut Parties,
+) -> Result<(), Fail> {
+    for _ in 0..ROUNDS {
+        assert!(rt; parties.open(rt, alloc, system));
+        assert!(rt; storm(rt, alloc, system, parties));
+    }
+    let mut deals = Vec::new(alloc);
+    gather(rt, &parties.guests, &mut deals)?;
+    assert_eq!(rt; deals.len(), 22);
+    comes_out_even(rt, parties, &mut deals);
     Ok(())
 }
 
 #[test]
 fn blocks_keep_one_order_through_a_storm(rt: HostRuntime) -> Result<(), Fail> {
     let alloc = rt.alloc();
-    let system = System::read(alloc, COUNTERS).ok().ok_or("no system")?;
-    let mut hosts = [Host::new(alloc, 1), Host::new(alloc, 2)];
-    let mut guests = [
-        Guest::new(alloc, 7),
-        Guest::new(alloc, 8),
-        Guest::new(alloc, 9),
-    ];
-    assert!(rt; storm(&rt, alloc, &system, &mut hosts, &mut guests));
-    assert_eq!(rt; hosts[0].count_at(HandlerId(1)), Some(30));
-    assert_eq!(rt; hosts[1].count_at(HandlerId(2)), Some(30));
-    were_told_one_order(&rt, alloc, &guests)
+    let system = System::read(alloc, PURSES).ok().ok_or("no system")?;
+    let mut parties = Parties::new(alloc);
+    plays(&rt, alloc, &system, &mut parties)
 }

@@ -1,0 +1,214 @@
+//! Deals, each of which carries money from one purse to another in one block, and what clients were told of them.
+
+/// How many lines a deal has.
+pub const DEAL_LINES: usize = 7;
+
+/// One more than all deals have lines.
+pub const LINES_BOUND: u64 = 22;
+
+/// The lines of three deals, one after another. Each draws a ticket at both purses before it touches the money.
+pub const LINES: &[u8] = b"\
+reserve 1 2
+query 1 ticket
+query 2 ticket
+query 1 withdraw 5
+call 2 deposit 5
+query 2 balance
+end
+reserve 3 1
+query 3 ticket
+query 1 ticket
+query 3 withdraw 7
+call 1 deposit 7
+query 1 balance
+end
+reserve 2 3
+query 2 ticket
+query 3 ticket
+query 2 withdraw 11
+call 3 deposit 11
+query 3 balance
+end
+";
+
+// From which purse to which the deals carry how much. Purses are counted from 0.
+const ROUTES: [Route; 3] = [
+    Route {
+        from: 0,
+        to: 1,
+        amount: 5,
+    },
+    Route {
+        from: 2,
+        to: 0,
+        amount: 7,
+    },
+    Route {
+        from: 1,
+        to: 2,
+        amount: 11,
+    },
+];
+
+// What stands before the number in the answer to each line of a deal.
+const REPLIES: [&str; DEAL_LINES] = [
+    "reserved ",
+    "answer ",
+    "answer ",
+    "answer ",
+    "logged ",
+    "answer ",
+    "ended",
+];
+
+// The lines of a deal whose answers say what it saw and did.
+const TICKET_FROM: usize = 1;
+
+const TICKET_TO: usize = 2;
+
+const WITHDRAWN: usize = 3;
+
+const DEPOSITED: usize = 4;
+
+const BALANCE: usize = 5;
+
+#[derive(Clone, Copy)]
+struct Route {
+    from: usize,
+    to: usize,
+    amount: u64,
+}
+
+/// What a client was told of a deal, as far as it got.
+#[derive(Clone, Copy)]
+pub struct Deal {
+    route: Route,
+    heard: usize,
+    numbers: [u64; DEAL_LINES],
+}
+
+/// What one purse had of a deal, as its client was told: the ticket, by how much the money changed, and what it was then.
+#[derive(Clone, Copy)]
+pub struct Visit {
+    pub purse: usize,
+    pub ticket: Option<u64>,
+    pub change: u64,
+    pub money: Option<u64>,
+}
+
+impl Deal {
+    // The deal of this number in the lines, of which nothing was heard yet.
+    fn numbered(number: usize) -> Option<Deal> {
+        let route = *ROUTES.get(number)?;
+        Some(Deal {
+            route,
+            heard: 0,
+            numbers: [0; DEAL_LINES],
+        })
+    }
+
+    // Takes the answer to its next line. Answers whether it is one.
+    fn hear(&mut self, answer: &str) -> bool {
+        let Some(reply) = REPLIES.get(self.heard) else {
+            return false;
+        };
+        let Some(rest) = answer.strip_prefix(*reply) else {
+            return false;
+        };
+        if let Some(number) = self.numbers.get_mut(self.heard) {
+            *number = rest.parse::<u64>().unwrap_or(0);
+        }
+        self.heard = self.heard.saturating_add(1);
+        true
+    }
+
+    // The number in the answer to a line, where it was heard.
+    fn told(&self, line: usize) -> Option<u64> {
+        if line < self.heard {
+            self.numbers.get(line).copied()
+        } else {
+            None
+        }
+    }
+
+    /// What both purses had of it.
+    pub fn visits(&self) -> [Visit; 2] {
+        let withdrawn = self.told(WITHDRAWN);
+        let taken = if withdrawn.is_some() {
+            self.route.amount
+        } else {
+            0
+        };
+        let given = if self.told(DEPOSITED).is_some() {
+            self.route.amount
+        } else {
+            0
+        };
+        [
+            Visit {
+                purse: self.route.from,
+                ticket: self.told(TICKET_FROM),
+                change: 0u64.wrapping_sub(taken),
+                money: withdrawn,
+            },
+            Visit {
+                purse: self.route.to,
+                ticket: self.told(TICKET_TO),
+                change: given,
+                money: self.told(BALANCE),
+            },
+        ]
+    }
+
+    /// What it withdrew and never deposited, since its client was gone.
+    pub fn lost(&self) -> u64 {
+        if self.told(WITHDRAWN).is_some() && self.told(DEPOSITED).is_none() {
+            self.route.amount
+        } else {
+            0
+        }
+    }
+}
+
+// Takes what was printed for the line of this number.
+fn read_line(number: usize, line: &str, deals: &mut Vec<Deal>) -> bool {
+    if number % DEAL_LINES == 0 {
+        let Some(deal) = Deal::numbered(number / DEAL_LINES) else {
+            return false;
+        };
+        if deals.push(deal).is_err() {
+            return false;
+        }
+    }
+    match deals.last_mut() {
+        Some(deal) => deal.hear(line),
+        None => false,
+    }
+}
+
+/// Reads what a client printed in one life, line by line. Answers whether each line is one that a deal is answered with.
+pub fn read_deals(printed: &[u8], deals: &mut Vec<Deal>) -> bool {
+    let Ok(printed) = str::from_utf8(printed) else {
+        return false;
+    };
+    for (number, line) in printed.lines().enumerate() {
+        if !read_line(number, line, deals) {
+            return false;
+        }
+    }
+    true
+}
+
+/// The first so many lines of the deals.
+pub fn first_lines(count: usize) -> &'static [u8] {
+    let mut left = count;
+    for (place, byte) in LINES.iter().enumerate() {
+        if left == 0 {
+            return &LINES[..place];
+        }
+        if *byte == b'\n' {
+            left -= 1;
+        }
+    }
+    LINES
+}
