@@ -127,29 +127,27 @@ fn a_new_store_is_gone_on_with(rt: HostRuntime) {
 }
 
 // Client 7 has greeted and holds the lock.
-const HELD: [&str; 2] = [
-    "INSERT INTO handlers (h, image) VALUES (1, x'020000000101000000000000000001000000070000000100000001010000000700000001000000010100000000000000')",
-    "INSERT INTO pending (h, entries) VALUES (1, x'')",
-];
+const IMAGE: &str =
+    "INSERT INTO handlers (h, image) VALUES (1, x'020000000101000000000000000001000000070000000100000001010000000700000001000000010100000000000000')";
 
-// The same without the last byte of the image.
-const CUT: [&str; 3] = [
-    HELD[0],
-    HELD[1],
-    "UPDATE handlers SET image = x'0200000001010000000000000000010000000700000001000000010100000007000000010000000101000000000000' WHERE h = 1",
-];
+// No entry waits.
+const PENDING: &str = "INSERT INTO pending (h, entries) VALUES (1, x'')";
 
-const LATER: [&str; 1] = ["UPDATE meta SET version = 9"];
+// The image without its last byte.
+const CUT: &str =
+    "UPDATE handlers SET image = x'0200000001010000000000000000010000000700000001000000010100000007000000010000000101000000000000' WHERE h = 1";
+
+const LATER: &str = "UPDATE meta SET version = 9";
 
 #[test]
 fn a_damaged_store_is_refused(rt: HostRuntime) {
     let alloc = rt.alloc();
-    let held = changed(&rt, alloc, blank(alloc), &HELD);
+    let held = changed(&rt, alloc, blank(alloc), &[IMAGE, PENDING]);
     runs(&rt, alloc, held, LOCKED);
-    let cut = changed(&rt, alloc, blank(alloc), &CUT);
+    let cut = changed(&rt, alloc, blank(alloc), &[IMAGE, PENDING, CUT]);
     let refusal = RunError::Store(KeeperError::BadImage(ONE));
     assert_eq!(rt; unopened(&rt, alloc, cut), Some(refusal));
-    let later = database(&rt, alloc, blank(alloc), &LATER);
+    let later = database(&rt, alloc, blank(alloc), &[LATER]);
     let refusal = Store::adopt(alloc, later).err();
     assert_eq!(rt; refusal, Some(KeeperError::WrongSchema));
 }
