@@ -46,7 +46,8 @@ run 1 > refused NothingToRun
 // Client 8 logs 64 calls, each of which is acknowledged.
 fn push_logged(text: &mut String) -> Result<(), AllocError> {
     for n in 1..65_u32 {
-        let (sent, told) = (2 * n + 15, 2 * n + 16);
+        let sent = 2 * n + 15;
+        let told = 2 * n + 16;
         writeln!(text, "call 8 1 1 {n} > done")?;
         writeln!(
             text,
@@ -223,7 +224,8 @@ fn push_parties(text: &mut String, handlers: u32, clients: u32) -> Result<(), Al
 fn full_world(text: &mut String) -> Result<(), AllocError> {
     push_parties(text, 64, 64)?;
     for n in 0..64_u32 {
-        let (sent, told) = (2 * n + 1, 2 * n + 2);
+        let sent = 2 * n + 1;
+        let told = 2 * n + 2;
         writeln!(
             text,
             "trip {n} 63 > sent {sent} Hello; Greeted sent {told}; Welcomed 63"
