@@ -6,7 +6,7 @@ use scoop_classes::{CellObject, demo_class};
 use scoop_demo::*;
 use scoop_keeper::Keeper;
 use scoop_message::{HandlerId, Words};
-use scoop_object::{Behaviour, Boxed, Object, Table};
+use scoop_object::{Behaviour, Boxed, Table};
 use std::alloc::Global;
 use std::process::Abort;
 
@@ -62,11 +62,11 @@ const HELLO: &str = "53510101 00000001 00000007 00000001 00000000 00000000 0000\
 /// An input, how the run over it ends, and what it writes.
 type Case<'a> = (&'a str, Result<(), RunError>, &'a str);
 
-/// An object in a box.
-fn boxed<O: Object + Send + 'static>(rt: &impl Abort, alloc: Global, object: O) -> Boxed {
-    match Box::new(alloc, object) {
-        Ok(object) => Boxed::new(object),
-        Err(_) => panic!(rt; "no object"),
+/// A cell that holds 0.
+fn cell(rt: &impl Abort, alloc: Global) -> Boxed {
+    match Box::new(alloc, CellObject::new(0)) {
+        Ok(cell) => Boxed::new(cell),
+        Err(_) => panic!(rt; "no cell"),
     }
 }
 
@@ -84,16 +84,7 @@ fn opened<B: Behaviour, K: Keeper<Global>>(
     }
 }
 
-/// The same with a cell in a box, which holds 0.
-fn cell_book<K: Keeper<Global>>(rt: &impl Abort, alloc: Global, keeper: K) -> Book<Boxed, K> {
-    let cell = boxed(rt, alloc, CellObject::new(0));
-    match opened(rt, alloc, keeper, "cell", cell) {
-        Ok(book) => book,
-        Err(_) => panic!(rt; "no book"),
-    }
-}
-
-/// The same with a table of a cell.
+/// The same with a table of a cell, which holds 0.
 fn table_book<K: Keeper<Global>>(rt: &impl Abort, alloc: Global, keeper: K) -> Book<Table, K> {
     match opened(rt, alloc, keeper, "cell", table(rt, alloc)) {
         Ok(book) => book,
@@ -123,6 +114,25 @@ fn answers<B: Behaviour, K: Keeper<Global>>(
     let result = answer_run(book, shown, input.as_bytes(), &mut written);
     assert_eq!(rt; result, ended, "{input}");
     assert_eq!(rt; written.as_slice(), output.as_bytes(), "{input}");
+}
+
+/// An object of this class answers an input so, over what a keeper has, and its words are shown. The keeper is handed
+/// back.
+fn runs_over<B: Behaviour, K: Keeper<Global>>(
+    rt: &impl Abort,
+    alloc: Global,
+    keeper: K,
+    class: &str,
+    object: B,
+    case: Case<'_>,
+) -> K {
+    match opened(rt, alloc, keeper, class, object) {
+        Ok(mut book) => {
+            answers(rt, alloc, &mut book, Some(ONE), case);
+            book.into_keeper()
+        }
+        Err(_) => panic!(rt; "no book"),
+    }
 }
 
 /// The error has this text.

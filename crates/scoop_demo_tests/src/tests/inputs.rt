@@ -1,18 +1,19 @@
 //! What is answered to inputs.
 
-use super::{Case, ONE, answers, boxed, cell_book, opened, says, table_book};
+use super::{Case, ONE, answers, cell, runs_over, says, table_book};
 use scoop_classes::AccountObject;
 use scoop_demo::*;
 use scoop_keeper::{KeeperError, MemoryKeeper};
 use scoop_message::HandlerId;
+use scoop_object::Boxed;
 use std::alloc::Global;
 use std::process::Abort;
 use std::test::Fail;
 
 // A cell of its own answers the input so, and its words are shown.
 fn runs(rt: &impl Abort, alloc: Global, case: Case<'_>) {
-    let mut book = cell_book(rt, alloc, MemoryKeeper::new(alloc));
-    answers(rt, alloc, &mut book, Some(ONE), case);
+    let keeper = MemoryKeeper::new(alloc);
+    runs_over(rt, alloc, keeper, "cell", cell(rt, alloc), case);
 }
 
 const BLOCK: Case = (
@@ -103,14 +104,20 @@ const WITHDRAWAL: Case = (
     ),
 );
 
+// An account with a balance of 150.
+fn account(rt: &impl Abort, alloc: Global) -> Boxed {
+    match Box::new(alloc, AccountObject::new(150)) {
+        Ok(account) => Boxed::new(account),
+        Err(_) => panic!(rt; "no account"),
+    }
+}
+
 #[test]
 fn answers_a_withdrawal_that_is_refused(rt: HostRuntime) {
     let alloc = rt.alloc();
-    let account = boxed(&rt, alloc, AccountObject::new(150));
-    match opened(&rt, alloc, MemoryKeeper::new(alloc), "account", account) {
-        Ok(mut book) => answers(&rt, alloc, &mut book, Some(ONE), WITHDRAWAL),
-        Err(_) => panic!(rt; "no book"),
-    }
+    let keeper = MemoryKeeper::new(alloc);
+    let account = account(&rt, alloc);
+    runs_over(&rt, alloc, keeper, "account", account, WITHDRAWAL);
 }
 
 const NO_FRAMES: Case = (

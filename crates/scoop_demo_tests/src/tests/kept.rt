@@ -1,16 +1,20 @@
 //! Runs over keepers: what is stored, and what a refusal leaves.
 
-use super::{Case, HELLO, LOCK, ONE, answers, boxed, cell_book, opened, table_book};
-use scoop_classes::{CellObject, ExchangeObject};
+use super::{Case, HELLO, LOCK, ONE, answers, cell, opened, runs_over, table_book};
+use scoop_classes::ExchangeObject;
 use scoop_demo::*;
 use scoop_keeper::{FailingKeeper, Keeper, KeeperError, MemoryKeeper};
+use scoop_object::{Behaviour, Boxed};
 use std::alloc::Global;
-use std::io;
 use std::process::Abort;
 
 // Why no run of a cell begins over this keeper.
-fn unopened<K: Keeper<Global>>(rt: &impl Abort, alloc: Global, keeper: K) -> Option<RunError> {
-    let cell = boxed(rt, alloc, CellObject::new(0));
+fn refusal<B: Behaviour, K: Keeper<Global>>(
+    rt: &impl Abort,
+    alloc: Global,
+    keeper: K,
+    cell: B,
+) -> Option<RunError> {
     match opened(rt, alloc, keeper, "cell", cell) {
         Ok(_) => None,
         Err(error) => Some(error),
@@ -19,60 +23,78 @@ fn unopened<K: Keeper<Global>>(rt: &impl Abort, alloc: Global, keeper: K) -> Opt
 
 const EXCHANGED: Case = (LOCK, Ok(()), "none Dropped Ungreeted\nwords 0 0\n");
 
-// What a keeper has behind a run of an exchange.
-fn behind_an_exchange(rt: &impl Abort, alloc: Global) -> MemoryKeeper {
-    let exchange = boxed(rt, alloc, ExchangeObject::new(0, 0));
-    match opened(rt, alloc, MemoryKeeper::new(alloc), "exchange", exchange) {
-        Ok(mut book) => {
-            answers(rt, alloc, &mut book, Some(ONE), EXCHANGED);
-            book.into_keeper()
-        }
-        Err(_) => panic!(rt; "no book"),
+// An exchange, which has two words.
+fn exchange(rt: &impl Abort, alloc: Global) -> Boxed {
+    match Box::new(alloc, ExchangeObject::new(0, 0)) {
+        Ok(exchange) => Boxed::new(exchange),
+        Err(_) => panic!(rt; "no exchange"),
     }
 }
 
 #[test]
 fn words_of_another_class_are_refused(rt: HostRuntime) {
-    let keeper = behind_an_exchange(&rt, rt.alloc());
-    let refusal = RunError::WrongClass(ONE);
-    assert_eq!(rt; unopened(&rt, rt.alloc(), keeper), Some(refusal));
+    let alloc = rt.alloc();
+    let exchange = exchange(&rt, alloc);
+    let keeper = MemoryKeeper::new(alloc);
+    let keeper = runs_over(&rt, alloc, keeper, "exchange", exchange, EXCHANGED);
+    let refused = refusal(&rt, alloc, keeper, cell(&rt, alloc));
+    assert_eq!(rt; refused, Some(RunError::WrongClass(ONE)));
 }
 
 // Whether something is stored for handler 1 once a run has answered an input.
-fn stores(rt: &impl Abort, alloc: Global, input: &str) -> bool {
-    let mut book = cell_book(rt, alloc, MemoryKeeper::new(alloc));
-    let ended = answer_run(&mut book, Some(ONE), input.as_bytes(), &mut io::sink());
-    assert_eq!(rt; ended, Ok(()));
-    match book.into_keeper().load_handler(ONE) {
+fn stores(rt: &impl Abort, alloc: Global, case: Case<'_>) -> bool {
+    let keeper = MemoryKeeper::new(alloc);
+    let mut keeper = runs_over(rt, alloc, keeper, "cell", cell(rt, alloc), case);
+    match keeper.load_handler(ONE) {
         Ok(state) => state.is_some(),
         Err(_) => panic!(rt; "not loaded"),
     }
 }
 
-// Inputs, and whether something is stored. The third is a Hello to handler 2, and the fourth a Welcome from it.
-const STORED: [(&str, bool); 7] = [
-    ("", false),
-    ("00\n", false),
+// Inputs, what is written, and whether something is stored. The third is a Hello to handler 2, and the fourth a Welcome
+// from it.
+const STORED: [(Case, bool); 7] = [
+    (("", Ok(()), "words 0\n"), false),
+    (("00\n", Ok(()), "refused Short\nwords 0\n"), false),
     (
-        "5351010100000002000000070000000100000000000000000000",
+        (
+            "5351010100000002000000070000000100000000000000000000",
+            Ok(()),
+            "none Dropped WrongHandler\nwords 0\n",
+        ),
         false,
     ),
     (
-        "5351010200000002000000070000000100000000000000000000",
+        (
+            "5351010200000002000000070000000100000000000000000000",
+            Ok(()),
+            "none Dropped NotForHandlers\nwords 0\n",
+        ),
         false,
     ),
     (
-        "5351010200000001000000070000000100000000000000000000\n",
+        (
+            "5351010200000001000000070000000100000000000000000000\n",
+            Ok(()),
+            "none Dropped NotForHandlers\nwords 0\n",
+        ),
         true,
     ),
-    (LOCK, true),
-    (HELLO, true),
+    ((LOCK, Ok(()), "none Dropped Ungreeted\nwords 0\n"), true),
+    (
+        (
+            HELLO,
+            Ok(()),
+            "5351010200000001000000070000000100000000000000000000\nwords 0\n",
+        ),
+        true,
+    ),
 ];
 
 #[test]
 fn what_is_dropped_here_is_stored(rt: HostRuntime) {
-    for (input, stored) in STORED {
-        assert_eq!(rt; stores(&rt, rt.alloc(), input), stored, "{input}");
+    for (case, stored) in STORED {
+        assert_eq!(rt; stores(&rt, rt.alloc(), case), stored, "{}", case.0);
     }
 }
 
@@ -109,18 +131,16 @@ const REFUSED: Result<(), RunError> = Err(RunError::Store(KeeperError::Refused))
 // load. So many lines are answered.
 fn refused(rt: &impl Abort, alloc: Global, calls: u64, answered: usize) -> MemoryKeeper {
     let keeper = FailingKeeper::new(MemoryKeeper::new(alloc), calls);
-    let mut book = cell_book(rt, alloc, keeper);
     let output = ANSWERS.strip_suffix(behind(ANSWERS, answered));
     let case = (LINES, REFUSED, output.unwrap_or(""));
-    answers(rt, alloc, &mut book, Some(ONE), case);
-    book.into_keeper().into_inner()
+    runs_over(rt, alloc, keeper, "cell", cell(rt, alloc), case).into_inner()
 }
 
 // A run goes on behind that one with the lines that have no answer yet.
 fn goes_on(rt: &impl Abort, alloc: Global, calls: u64, answered: usize) {
-    let mut book = cell_book(rt, alloc, refused(rt, alloc, calls, answered));
+    let keeper = refused(rt, alloc, calls, answered);
     let case = (behind(LINES, answered), Ok(()), behind(ANSWERS, answered));
-    answers(rt, alloc, &mut book, Some(ONE), case);
+    runs_over(rt, alloc, keeper, "cell", cell(rt, alloc), case);
 }
 
 // Behind how many calls the keeper refuses, and how many lines are answered then: one load; then one put for each line
@@ -140,8 +160,8 @@ const ANSWERED: [(u64, usize); 8] = [
 fn a_refusal_stops_before_its_answer(rt: HostRuntime) {
     let alloc = rt.alloc();
     let keeper = FailingKeeper::new(MemoryKeeper::new(alloc), 0);
-    let refusal = RunError::Store(KeeperError::Refused);
-    assert_eq!(rt; unopened(&rt, alloc, keeper), Some(refusal));
+    let refused = refusal(&rt, alloc, keeper, cell(&rt, alloc));
+    assert_eq!(rt; refused, Some(RunError::Store(KeeperError::Refused)));
     for (calls, answered) in ANSWERED {
         goes_on(&rt, alloc, calls, answered);
     }

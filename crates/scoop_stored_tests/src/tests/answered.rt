@@ -5,7 +5,7 @@ use scoop_classes::CellObject;
 use scoop_demo::{RunError, answer_run, open_book};
 use scoop_keeper::{Keeper, KeeperError};
 use scoop_message::HandlerId;
-use scoop_object::Boxed;
+use scoop_object::{Behaviour, Boxed};
 use scoop_record::Store;
 use sqlite::{Alter, Connection, MemStore};
 use std::alloc::Global;
@@ -25,13 +25,13 @@ fn boxed_cell(rt: &impl Abort, alloc: Global) -> Boxed {
 }
 
 /// Runs the cell over what a keeper has, which is handed back.
-fn runs<K: Keeper<Global>>(
+fn runs<B: Behaviour, K: Keeper<Global>>(
     rt: &impl Abort,
     alloc: Global,
     keeper: K,
+    cell: B,
     (input, output): Case<'_>,
 ) -> K {
-    let cell = boxed_cell(rt, alloc);
     let mut book = match open_book(alloc, keeper, ONE, class(rt, alloc), cell) {
         Ok(book) => book,
         Err(_) => panic!(rt; "no book"),
@@ -43,9 +43,14 @@ fn runs<K: Keeper<Global>>(
     book.into_keeper()
 }
 
-/// Why no run begins over this keeper.
-fn unopened<K: Keeper<Global>>(rt: &impl Abort, alloc: Global, keeper: K) -> Option<RunError> {
-    match open_book(alloc, keeper, ONE, class(rt, alloc), boxed_cell(rt, alloc)) {
+/// Why no run of the cell begins over this keeper.
+fn refusal<B: Behaviour, K: Keeper<Global>>(
+    rt: &impl Abort,
+    alloc: Global,
+    keeper: K,
+    cell: B,
+) -> Option<RunError> {
+    match open_book(alloc, keeper, ONE, class(rt, alloc), cell) {
         Ok(_) => None,
         Err(error) => Some(error),
     }
@@ -59,10 +64,10 @@ fn runs_twice<S: Alter + Drop>(
     cases: [Case<'_>; 2],
 ) {
     let [first, second] = cases;
-    let store = runs(rt, alloc, store, first);
+    let store = runs(rt, alloc, store, boxed_cell(rt, alloc), first);
     match adopted(alloc, Some(store.into_connection())) {
         Some(store) => {
-            runs(rt, alloc, store, second);
+            runs(rt, alloc, store, boxed_cell(rt, alloc), second);
         }
         None => panic!(rt; "no store"),
     }
@@ -143,13 +148,13 @@ const LATER: &str = "UPDATE meta SET version = 9";
 fn a_damaged_store_is_refused(rt: HostRuntime) {
     let alloc = rt.alloc();
     let held = changed(&rt, alloc, blank(alloc), &[IMAGE, PENDING]);
-    runs(&rt, alloc, held, LOCKED);
+    runs(&rt, alloc, held, boxed_cell(&rt, alloc), LOCKED);
     let cut = changed(&rt, alloc, blank(alloc), &[IMAGE, PENDING, CUT]);
-    let refusal = RunError::Store(KeeperError::BadImage(ONE));
-    assert_eq!(rt; unopened(&rt, alloc, cut), Some(refusal));
+    let refused = refusal(&rt, alloc, cut, boxed_cell(&rt, alloc));
+    assert_eq!(rt; refused, Some(RunError::Store(KeeperError::BadImage(ONE))));
     let later = database(&rt, alloc, blank(alloc), &[LATER]);
-    let refusal = Store::adopt(alloc, later).err();
-    assert_eq!(rt; refusal, Some(KeeperError::WrongSchema));
+    let refused = Store::adopt(alloc, later).err();
+    assert_eq!(rt; refused, Some(KeeperError::WrongSchema));
 }
 
 // A store of version 1, in which two entries are pending.
