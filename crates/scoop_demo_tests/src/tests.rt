@@ -62,14 +62,6 @@ const HELLO: &str = "53510101 00000001 00000007 00000001 00000000 00000000 0000\
 /// An input, how the run over it ends, and what it writes.
 type Case<'a> = (&'a str, Result<(), RunError>, &'a str);
 
-/// A cell that holds 0.
-fn cell(rt: &impl Abort, alloc: Global) -> Boxed {
-    match Box::new(alloc, CellObject::new(0)) {
-        Ok(cell) => Boxed::new(cell),
-        Err(_) => panic!(rt; "no cell"),
-    }
-}
-
 /// A book of handler 1 with an object of this class, over what a keeper has; or why it doesn't open.
 fn opened<B: Behaviour, K: Keeper<Global>>(
     rt: &impl Abort,
@@ -132,6 +124,14 @@ fn runs_over<B: Behaviour, K: Keeper<Global>>(
             book.into_keeper()
         }
         Err(_) => panic!(rt; "no book"),
+    }
+}
+
+/// The same with a cell in a box, which holds 0.
+fn runs_cell<K: Keeper<Global>>(rt: &impl Abort, alloc: Global, keeper: K, case: Case<'_>) -> K {
+    match Box::new(alloc, CellObject::new(0)) {
+        Ok(cell) => runs_over(rt, alloc, keeper, "cell", Boxed::new(cell), case),
+        Err(_) => panic!(rt; "no cell"),
     }
 }
 

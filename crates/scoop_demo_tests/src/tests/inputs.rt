@@ -1,6 +1,6 @@
 //! What is answered to inputs.
 
-use super::{Case, ONE, answers, cell, runs_over, says, table_book};
+use super::{Case, ONE, answers, runs_cell, runs_over, says, table_book};
 use scoop_classes::AccountObject;
 use scoop_demo::*;
 use scoop_keeper::{KeeperError, MemoryKeeper};
@@ -12,8 +12,7 @@ use std::test::Fail;
 
 // A cell of its own answers the input so, and its words are shown.
 fn runs(rt: &impl Abort, alloc: Global, case: Case<'_>) {
-    let keeper = MemoryKeeper::new(alloc);
-    runs_over(rt, alloc, keeper, "cell", cell(rt, alloc), case);
+    runs_cell(rt, alloc, MemoryKeeper::new(alloc), case);
 }
 
 const BLOCK: Case = (
@@ -104,20 +103,17 @@ const WITHDRAWAL: Case = (
     ),
 );
 
-// An account with a balance of 150.
-fn account(rt: &impl Abort, alloc: Global) -> Boxed {
-    match Box::new(alloc, AccountObject::new(150)) {
-        Ok(account) => Boxed::new(account),
-        Err(_) => panic!(rt; "no account"),
-    }
-}
-
 #[test]
 fn answers_a_withdrawal_that_is_refused(rt: HostRuntime) {
     let alloc = rt.alloc();
     let keeper = MemoryKeeper::new(alloc);
-    let account = account(&rt, alloc);
-    runs_over(&rt, alloc, keeper, "account", account, WITHDRAWAL);
+    match Box::new(alloc, AccountObject::new(150)) {
+        Ok(account) => {
+            let account = Boxed::new(account);
+            runs_over(&rt, alloc, keeper, "account", account, WITHDRAWAL);
+        }
+        Err(_) => panic!(rt; "no account"),
+    }
 }
 
 const NO_FRAMES: Case = (

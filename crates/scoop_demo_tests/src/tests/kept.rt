@@ -1,7 +1,7 @@
 //! Runs over keepers: what is stored, and what a refusal leaves.
 
-use super::{Case, HELLO, LOCK, ONE, answers, cell, opened, runs_over, table_book};
-use scoop_classes::ExchangeObject;
+use super::{Case, HELLO, LOCK, ONE, answers, opened, runs_cell, runs_over, table_book};
+use scoop_classes::{CellObject, ExchangeObject};
 use scoop_demo::*;
 use scoop_keeper::{FailingKeeper, Keeper, KeeperError, MemoryKeeper};
 use scoop_object::{Behaviour, Boxed};
@@ -21,30 +21,35 @@ fn refusal<B: Behaviour, K: Keeper<Global>>(
     }
 }
 
+// The same of a cell in a box.
+fn cell_refusal<K: Keeper<Global>>(rt: &impl Abort, alloc: Global, keeper: K) -> Option<RunError> {
+    match Box::new(alloc, CellObject::new(0)) {
+        Ok(cell) => refusal(rt, alloc, keeper, Boxed::new(cell)),
+        Err(_) => panic!(rt; "no cell"),
+    }
+}
+
 const EXCHANGED: Case = (LOCK, Ok(()), "none Dropped Ungreeted\nwords 0 0\n");
 
-// An exchange, which has two words.
-fn exchange(rt: &impl Abort, alloc: Global) -> Boxed {
+// What a keeper has behind a run of an exchange, which has two words.
+fn behind_an_exchange(rt: &impl Abort, alloc: Global) -> MemoryKeeper {
+    let keeper = MemoryKeeper::new(alloc);
     match Box::new(alloc, ExchangeObject::new(0, 0)) {
-        Ok(exchange) => Boxed::new(exchange),
+        Ok(object) => runs_over(rt, alloc, keeper, "exchange", Boxed::new(object), EXCHANGED),
         Err(_) => panic!(rt; "no exchange"),
     }
 }
 
 #[test]
 fn words_of_another_class_are_refused(rt: HostRuntime) {
-    let alloc = rt.alloc();
-    let exchange = exchange(&rt, alloc);
-    let keeper = MemoryKeeper::new(alloc);
-    let keeper = runs_over(&rt, alloc, keeper, "exchange", exchange, EXCHANGED);
-    let refused = refusal(&rt, alloc, keeper, cell(&rt, alloc));
+    let keeper = behind_an_exchange(&rt, rt.alloc());
+    let refused = cell_refusal(&rt, rt.alloc(), keeper);
     assert_eq!(rt; refused, Some(RunError::WrongClass(ONE)));
 }
 
 // Whether something is stored for handler 1 once a run has answered an input.
 fn stores(rt: &impl Abort, alloc: Global, case: Case<'_>) -> bool {
-    let keeper = MemoryKeeper::new(alloc);
-    let mut keeper = runs_over(rt, alloc, keeper, "cell", cell(rt, alloc), case);
+    let mut keeper = runs_cell(rt, alloc, MemoryKeeper::new(alloc), case);
     match keeper.load_handler(ONE) {
         Ok(state) => state.is_some(),
         Err(_) => panic!(rt; "not loaded"),
@@ -133,14 +138,14 @@ fn refused(rt: &impl Abort, alloc: Global, calls: u64, answered: usize) -> Memor
     let keeper = FailingKeeper::new(MemoryKeeper::new(alloc), calls);
     let output = ANSWERS.strip_suffix(behind(ANSWERS, answered));
     let case = (LINES, REFUSED, output.unwrap_or(""));
-    runs_over(rt, alloc, keeper, "cell", cell(rt, alloc), case).into_inner()
+    runs_cell(rt, alloc, keeper, case).into_inner()
 }
 
 // A run goes on behind that one with the lines that have no answer yet.
 fn goes_on(rt: &impl Abort, alloc: Global, calls: u64, answered: usize) {
     let keeper = refused(rt, alloc, calls, answered);
     let case = (behind(LINES, answered), Ok(()), behind(ANSWERS, answered));
-    runs_over(rt, alloc, keeper, "cell", cell(rt, alloc), case);
+    runs_cell(rt, alloc, keeper, case);
 }
 
 // Behind how many calls the keeper refuses, and how many lines are answered then: one load; then one put for each line
@@ -160,7 +165,7 @@ const ANSWERED: [(u64, usize); 8] = [
 fn a_refusal_stops_before_its_answer(rt: HostRuntime) {
     let alloc = rt.alloc();
     let keeper = FailingKeeper::new(MemoryKeeper::new(alloc), 0);
-    let refused = refusal(&rt, alloc, keeper, cell(&rt, alloc));
+    let refused = cell_refusal(&rt, alloc, keeper);
     assert_eq!(rt; refused, Some(RunError::Store(KeeperError::Refused)));
     for (calls, answered) in ANSWERED {
         goes_on(&rt, alloc, calls, answered);

@@ -16,14 +16,6 @@ const ONE: HandlerId = HandlerId(1);
 /// An input, and what a run writes that takes all of it.
 type Case<'a> = (&'a str, &'a str);
 
-/// The cell of handler 1.
-fn boxed_cell(rt: &impl Abort, alloc: Global) -> Boxed {
-    match Box::new(alloc, CellObject::new(0)) {
-        Ok(cell) => Boxed::new(cell),
-        Err(_) => panic!(rt; "no cell"),
-    }
-}
-
 /// Runs the cell over what a keeper has, which is handed back.
 fn runs<B: Behaviour, K: Keeper<Global>>(
     rt: &impl Abort,
@@ -43,6 +35,14 @@ fn runs<B: Behaviour, K: Keeper<Global>>(
     book.into_keeper()
 }
 
+/// The same with a cell in a box, which holds 0.
+fn runs_cell<K: Keeper<Global>>(rt: &impl Abort, alloc: Global, keeper: K, case: Case<'_>) -> K {
+    match Box::new(alloc, CellObject::new(0)) {
+        Ok(cell) => runs(rt, alloc, keeper, Boxed::new(cell), case),
+        Err(_) => panic!(rt; "no cell"),
+    }
+}
+
 /// Why no run of the cell begins over this keeper.
 fn refusal<B: Behaviour, K: Keeper<Global>>(
     rt: &impl Abort,
@@ -56,6 +56,14 @@ fn refusal<B: Behaviour, K: Keeper<Global>>(
     }
 }
 
+/// The same of a cell in a box, which holds 0.
+fn cell_refusal<K: Keeper<Global>>(rt: &impl Abort, alloc: Global, keeper: K) -> Option<RunError> {
+    match Box::new(alloc, CellObject::new(0)) {
+        Ok(cell) => refusal(rt, alloc, keeper, Boxed::new(cell)),
+        Err(_) => panic!(rt; "no cell"),
+    }
+}
+
 /// A run over the store, and one over the same database opened again.
 fn runs_twice<S: Alter + Drop>(
     rt: &impl Abort,
@@ -64,10 +72,10 @@ fn runs_twice<S: Alter + Drop>(
     cases: [Case<'_>; 2],
 ) {
     let [first, second] = cases;
-    let store = runs(rt, alloc, store, boxed_cell(rt, alloc), first);
+    let store = runs_cell(rt, alloc, store, first);
     match adopted(alloc, Some(store.into_connection())) {
         Some(store) => {
-            runs(rt, alloc, store, boxed_cell(rt, alloc), second);
+            runs_cell(rt, alloc, store, second);
         }
         None => panic!(rt; "no store"),
     }
@@ -148,9 +156,9 @@ const LATER: &str = "UPDATE meta SET version = 9";
 fn a_damaged_store_is_refused(rt: HostRuntime) {
     let alloc = rt.alloc();
     let held = changed(&rt, alloc, blank(alloc), &[IMAGE, PENDING]);
-    runs(&rt, alloc, held, boxed_cell(&rt, alloc), LOCKED);
+    runs_cell(&rt, alloc, held, LOCKED);
     let cut = changed(&rt, alloc, blank(alloc), &[IMAGE, PENDING, CUT]);
-    let refused = refusal(&rt, alloc, cut, boxed_cell(&rt, alloc));
+    let refused = cell_refusal(&rt, alloc, cut);
     assert_eq!(rt; refused, Some(RunError::Store(KeeperError::BadImage(ONE))));
     let later = database(&rt, alloc, blank(alloc), &[LATER]);
     let refused = Store::adopt(alloc, later).err();
