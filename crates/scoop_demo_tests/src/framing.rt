@@ -4,8 +4,6 @@ use scoop_demo::*;
 use scoop_frame::FrameError;
 use std::alloc::Global;
 use std::process::Abort;
-use std::str;
-use std::test::Fail;
 
 // Messages in words, and their frames in hex digits.
 const FRAMES: [(&str, &str); 16] = [
@@ -75,91 +73,105 @@ const FRAMES: [(&str, &str); 16] = [
     ),
 ];
 
-// The hex digits of the frame of a message in words.
-fn framed(rt: &impl Abort, alloc: Global, words: &str) -> Result<String, Fail> {
+// Whether this is the text in one line.
+fn is_line(bytes: &[u8], text: &str) -> bool {
+    match bytes {
+        [line @ .., b'\n'] => line == text.as_bytes(),
+        _ => false,
+    }
+}
+
+// The words say the frame.
+fn frames(rt: &impl Abort, alloc: Global, words: &str, digits: &str) {
     let (version, message) = match read_message(alloc, words.as_bytes()) {
         Ok(read) => read,
         Err(error) => panic!(rt; "{words}: {error}"),
     };
-    let mut digits = Vec::new(alloc);
-    print_frame_of(version, &message, &mut digits)?;
-    let text = str::from_utf8(&digits).ok().ok_or("text")?;
-    Ok(String::from_str(alloc, text.trim_end())?)
+    let mut printed = Vec::new(alloc);
+    assert!(rt; print_frame_of(version, &message, &mut printed).is_ok());
+    assert!(rt; is_line(&printed, digits), "{words}");
+}
+
+// The frame is told in the words.
+fn tells(rt: &impl Abort, alloc: Global, words: &str, digits: &str) {
+    let mut told = Vec::new(alloc);
+    assert_eq!(rt; tell_frames(digits.as_bytes(), &mut told), Ok(()));
+    assert!(rt; is_line(&told, words), "{words}");
 }
 
 #[test]
-fn turns_words_into_frames_and_back(rt: HostRuntime) -> Result<(), Fail> {
-    let alloc = rt.alloc();
+fn turns_words_into_frames_and_back(rt: HostRuntime) {
     for (words, digits) in FRAMES {
-        assert_eq!(rt; framed(&rt, alloc, words)?.as_str(), digits, "{words}");
-        let mut told = Vec::new(alloc);
-        assert_eq!(rt; tell_frames(digits.as_bytes(), &mut told), Ok(()));
-        let line = format!(in alloc; "{words}\n")?;
-        assert!(rt; told.as_slice() == line.as_bytes(), "{words}");
+        frames(&rt, rt.alloc(), words, digits);
+        tells(&rt, rt.alloc(), words, digits);
     }
-    Ok(())
 }
+
+// Words, and why they have no frame.
+const FRAMELESS: [(&str, WordsError); 19] = [
+    ("", WordsError::Fault(InputFault::WrongNumberOfWords)),
+    ("v2", WordsError::Fault(InputFault::WrongNumberOfWords)),
+    ("lock 1 7.1.1", WordsError::Fault(InputFault::NoSuchKind)),
+    ("Lock 1", WordsError::Fault(InputFault::WrongNumberOfWords)),
+    (
+        "Lock 1 7.1.1 1",
+        WordsError::Fault(InputFault::WrongNumberOfWords),
+    ),
+    ("Lock 1 7.1", WordsError::Fault(InputFault::NotANumber)),
+    ("Lock 1 7.1.1.1", WordsError::Fault(InputFault::NotANumber)),
+    ("Lock 01 7.1.1", WordsError::Fault(InputFault::NotANumber)),
+    (
+        "Lock 4294967296 7.1.1",
+        WordsError::Fault(InputFault::NotANumber),
+    ),
+    ("Lock 1 7.0.1", WordsError::Refused(FrameError::FieldZero)),
+    ("Hello 1 7 0", WordsError::Refused(FrameError::FieldZero)),
+    (
+        "Logged 1 7.1.1 0",
+        WordsError::Refused(FrameError::FieldZero),
+    ),
+    (
+        "Log 1 7.1.1 1",
+        WordsError::Fault(InputFault::WrongNumberOfWords),
+    ),
+    (
+        "Log 1 7.1.1 1 set:5",
+        WordsError::Fault(InputFault::NoSuchKind),
+    ),
+    (
+        "Log 1 7.1.1 1 call:1:1:2:3:4:5",
+        WordsError::Fault(InputFault::TooManyArguments),
+    ),
+    (
+        "Log 1 7.1.1 1 query:2 end",
+        WordsError::Refused(FrameError::BadBody),
+    ),
+    (
+        "v2 Log 1 7.1.1 1 end end",
+        WordsError::Refused(FrameError::BadBody),
+    ),
+    (
+        "v2 Log 1 7.1.1 1 end end end end end",
+        WordsError::Refused(FrameError::BadBody),
+    ),
+    (
+        "v2 Log 1 7.1.1 4294967295 query:2 end",
+        WordsError::Refused(FrameError::BadBody),
+    ),
+];
 
 #[test]
 fn tells_why_words_have_no_frame(rt: HostRuntime) {
-    for (words, error) in [
-        ("", WordsError::Fault(InputFault::WrongNumberOfWords)),
-        ("v2", WordsError::Fault(InputFault::WrongNumberOfWords)),
-        ("lock 1 7.1.1", WordsError::Fault(InputFault::NoSuchKind)),
-        ("Lock 1", WordsError::Fault(InputFault::WrongNumberOfWords)),
-        (
-            "Lock 1 7.1.1 1",
-            WordsError::Fault(InputFault::WrongNumberOfWords),
-        ),
-        ("Lock 1 7.1", WordsError::Fault(InputFault::NotANumber)),
-        ("Lock 1 7.1.1.1", WordsError::Fault(InputFault::NotANumber)),
-        ("Lock 01 7.1.1", WordsError::Fault(InputFault::NotANumber)),
-        (
-            "Lock 4294967296 7.1.1",
-            WordsError::Fault(InputFault::NotANumber),
-        ),
-        ("Lock 1 7.0.1", WordsError::Refused(FrameError::FieldZero)),
-        ("Hello 1 7 0", WordsError::Refused(FrameError::FieldZero)),
-        (
-            "Logged 1 7.1.1 0",
-            WordsError::Refused(FrameError::FieldZero),
-        ),
-        (
-            "Log 1 7.1.1 1",
-            WordsError::Fault(InputFault::WrongNumberOfWords),
-        ),
-        (
-            "Log 1 7.1.1 1 set:5",
-            WordsError::Fault(InputFault::NoSuchKind),
-        ),
-        (
-            "Log 1 7.1.1 1 call:1:1:2:3:4:5",
-            WordsError::Fault(InputFault::TooManyArguments),
-        ),
-        (
-            "Log 1 7.1.1 1 query:2 end",
-            WordsError::Refused(FrameError::BadBody),
-        ),
-        (
-            "v2 Log 1 7.1.1 1 end end",
-            WordsError::Refused(FrameError::BadBody),
-        ),
-        (
-            "v2 Log 1 7.1.1 1 end end end end end",
-            WordsError::Refused(FrameError::BadBody),
-        ),
-        (
-            "v2 Log 1 7.1.1 4294967295 query:2 end",
-            WordsError::Refused(FrameError::BadBody),
-        ),
-    ] {
-        assert_eq!(rt;
-            read_message(rt.alloc(), words.as_bytes()),
-            Err(error),
-            "{words}"
-        );
+    for (words, error) in FRAMELESS {
+        let read = read_message(rt.alloc(), words.as_bytes());
+        assert_eq!(rt; read, Err(error), "{words}");
     }
 }
+
+const UNEVEN: Result<(), RunError> = Err(RunError::Input {
+    line: 2,
+    fault: InputFault::OddDigits,
+});
 
 #[test]
 fn tells_what_is_no_frame(rt: HostRuntime) {
@@ -167,9 +179,5 @@ fn tells_what_is_no_frame(rt: HostRuntime) {
     let input = "5351\n5351010300000000000000070000000000000001000000000000\n";
     assert_eq!(rt; tell_frames(input.as_bytes(), &mut told), Ok(()));
     assert!(rt; told.as_slice() == b"refused Short\nrefused FieldZero\n".as_slice());
-    let fault = RunError::Input {
-        line: 2,
-        fault: InputFault::OddDigits,
-    };
-    assert_eq!(rt; tell_frames("5351\n535".as_bytes(), &mut told), Err(fault));
+    assert_eq!(rt; tell_frames("5351\n535".as_bytes(), &mut told), UNEVEN);
 }

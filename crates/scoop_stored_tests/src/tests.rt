@@ -3,6 +3,7 @@
 
 ghost use Rattle.std.specs.Prelude.{◌≡◌, length};
 
+mod answered;
 mod filed;
 mod stopped;
 

@@ -1,64 +1,72 @@
 //! What the program tells of wrong command lines, and its help.
 
+use clap::Error;
 use scoop_classes::DemoClass;
 use scoop_command_line::command;
 use std::alloc::Global;
 use std::process::Abort;
-use std::test::Fail;
 
-// A command line without the program's name, and parts of what it is told, in order.
+// A command line, and parts of what it is told, in order.
 type Case<'a> = (&'a [&'a str], &'a [&'a str]);
 
 const WRONG: [Case; 12] = [
     (
-        &["answer", "--new", "a", "--store", "b"],
+        &["scoop", "answer", "--new", "a", "--store", "b"],
         &["error: the argument '--new <FILE>' cannot be used with '--store <FILE>'"],
     ),
     (
-        &["answer", "--handler", "one"],
+        &["scoop", "answer", "--handler", "one"],
         &["error: invalid value 'one' for '--handler <N>'"],
     ),
     (
-        &["answer", "--word", "18446744073709551616"],
+        &["scoop", "answer", "--word", "18446744073709551616"],
         &["error: invalid value '18446744073709551616' for '--word <W>'"],
     ),
     (
-        &["answer", "--class", "shelf"],
+        &["scoop", "answer", "--class", "shelf"],
         &[
             "error: invalid value 'shelf' for '--class <NAME>'",
             "cell, counter, account, exchange",
         ],
     ),
     (
-        &["demo", "--rounds", "five"],
+        &["scoop", "demo", "--rounds", "five"],
         &["error: invalid value 'five' for '--rounds <R>'"],
     ),
-    (&["demo", "--turns", "-1"], &["error: ", "-1"]),
-    (&["answers"], &["error: unrecognized subcommand 'answers'"]),
     (
-        &["world", "--loud"],
+        &["scoop", "demo", "--turns", "-1"],
+        &["error: unexpected argument '-1' found"],
+    ),
+    (
+        &["scoop", "answers"],
+        &["error: unrecognized subcommand 'answers'"],
+    ),
+    (
+        &["scoop", "world", "--loud"],
         &["error: unexpected argument '--loud' found"],
     ),
     (
-        &["demo", "again"],
+        &["scoop", "demo", "again"],
         &["error: unexpected argument 'again' found"],
     ),
     (
-        &["node", "1"],
+        &["scoop", "node", "1"],
         &[
-            "error: the following required arguments were not provided:",
-            "--system <FILE>",
+            "error: the following required arguments were not provided:\n\
+            \x20 --system <FILE>\n\n\
+            Usage: scoop node --system <FILE> <N>\n",
         ],
     ),
     (
-        &["node", "one", "--system", "a"],
-        &["error: invalid value 'one' for '<N>'"],
+        &["scoop", "node", "one", "--system", "a"],
+        &["error: invalid value 'one' for '<N>': invalid digit found in string\n"],
     ),
     (
-        &["client", "7", "--system", "a"],
+        &["scoop", "client", "7", "--system", "a"],
         &[
-            "error: the following required arguments were not provided:",
-            "--store <FILE>",
+            "error: the following required arguments were not provided:\n\
+            \x20 --store <FILE>\n\n\
+            Usage: scoop client --system <FILE> --store <FILE> <N>\n",
         ],
     ),
 ];
@@ -66,7 +74,7 @@ const WRONG: [Case; 12] = [
 // Each help says what the command is for, its input, its output and its statuses, with an example.
 const HELP: [Case; 8] = [
     (
-        &["--help"],
+        &["scoop", "--help"],
         &[
             "Runs SCOOP handlers",
             "answer",
@@ -79,7 +87,7 @@ const HELP: [Case; 8] = [
         ],
     ),
     (
-        &["answer", "--help"],
+        &["scoop", "answer", "--help"],
         &[
             "Runs one handler",
             "datagrams of standard input",
@@ -91,7 +99,7 @@ const HELP: [Case; 8] = [
         ],
     ),
     (
-        &["world", "--help"],
+        &["scoop", "world", "--help"],
         &[
             "Plays a script",
             "Each event prints what it did",
@@ -101,7 +109,7 @@ const HELP: [Case; 8] = [
         ],
     ),
     (
-        &["frame", "--help"],
+        &["scoop", "frame", "--help"],
         &[
             "Prints the frame",
             "Statuses: 0; 1 ",
@@ -110,7 +118,7 @@ const HELP: [Case; 8] = [
         ],
     ),
     (
-        &["demo", "--help"],
+        &["scoop", "demo", "--help"],
         &[
             "Shows the runtime at work",
             "Input: none.",
@@ -127,7 +135,7 @@ const HELP: [Case; 8] = [
         ],
     ),
     (
-        &["check", "--help"],
+        &["scoop", "check", "--help"],
         &[
             "Reads a file that says of a system",
             "class stock 2 words",
@@ -137,14 +145,14 @@ const HELP: [Case; 8] = [
         ],
     ),
     (
-        &["node", "--help"],
+        &["scoop", "node", "--help"],
         &[
             "Runs a node of the system",
             "Input: none.",
             "Output: ",
             "Statuses: 0; 1 ",
             "Example: scoop node 1 --system examples/bank.toml",
-            "Usage: scoop node",
+            "Usage: scoop node [OPTIONS] --system <FILE> <N>",
             "--executors <K>",
             "[default: 2]",
             "--history <N>",
@@ -152,52 +160,63 @@ const HELP: [Case; 8] = [
         ],
     ),
     (
-        &["client", "--help"],
+        &["scoop", "client", "--help"],
         &[
             "Runs a client of the system",
             "condition failed T",
             "Statuses: 0; 1 ",
             "Example: scoop client 7 --system examples/bank.toml",
-            "Usage: scoop client",
+            "Usage: scoop client [OPTIONS] --system <FILE> <N>",
             "--turns <T>",
             "[default: 100000]",
         ],
     ),
 ];
 
-// The program is told what the parts say, in order, and ends with this status.
-fn tells(rt: &impl Abort, alloc: Global, case: &Case, status: i32) -> Result<(), Fail> {
-    let (words, parts) = case;
-    let mut line = vec![in alloc; "scoop"]?;
-    line.extend_from_slice(words)?;
+// The error with which a command line ends that isn't taken.
+fn ended(rt: &impl Abort, alloc: Global, line: &[&str]) -> Error {
     let names = DemoClass::names();
-    let Err(told) = command(alloc, &names)?.try_get_matches_from(line.as_slice()) else {
-        panic!(rt; "it is taken");
+    let command = match command(alloc, &names) {
+        Ok(command) => command,
+        Err(_) => panic!(rt; "out of memory"),
     };
-    assert_eq!(rt; told.exit_code(), status);
-    let text = format!(in alloc; "{told}")?;
-    let mut rest = text.as_str();
-    for part in *parts {
-        let Some((_, behind)) = rest.split_once(*part) else {
-            panic!(rt; "no `{part}` in: {text}");
-        };
-        rest = behind;
+    match command.try_get_matches_from(line) {
+        Ok(_) => panic!(rt; "it is taken"),
+        Err(error) => error,
     }
-    Ok(())
+}
+
+// The text has these parts, in order.
+fn has(rt: &impl Abort, text: &str, parts: &[&str]) {
+    let mut rest = text;
+    for part in parts {
+        match rest.split_once(*part) {
+            Some((_, behind)) => rest = behind,
+            None => panic!(rt; "no `{part}` in: {text}"),
+        }
+    }
+}
+
+// The program is told what the parts say, and ends with this status.
+fn tells(rt: &impl Abort, alloc: Global, (line, parts): &Case<'_>, status: i32) {
+    let error = ended(rt, alloc, line);
+    assert_eq!(rt; error.exit_code(), status);
+    match format!(in alloc; "{error}") {
+        Ok(text) => has(rt, &text, parts),
+        Err(_) => panic!(rt; "out of memory"),
+    }
 }
 
 #[test]
-fn wrong_command_lines_are_told(rt: HostRuntime) -> Result<(), Fail> {
+fn wrong_command_lines_are_told(rt: HostRuntime) {
     for case in &WRONG {
-        tells(&rt, rt.alloc(), case, 2)?;
+        tells(&rt, rt.alloc(), case, 2);
     }
-    Ok(())
 }
 
 #[test]
-fn help_says_what_a_command_is_for(rt: HostRuntime) -> Result<(), Fail> {
+fn help_says_what_a_command_is_for(rt: HostRuntime) {
     for case in &HELP {
-        tells(&rt, rt.alloc(), case, 0)?;
+        tells(&rt, rt.alloc(), case, 0);
     }
-    Ok(())
 }

@@ -3,58 +3,64 @@
 //! A line of a text is a line of a script, and behind `> ` stands what it writes, parted by `; `. The last
 //! lines, which write the histories, have nothing before that.
 
+use super::says;
 use scoop_demo::*;
 use scoop_keeper::MemoryKeeper;
 use scoop_message::ClientId;
 use scoop_world::WorldOpenError;
-use std::alloc::Global;
+use std::alloc::{AllocError, Global};
 use std::process::Abort;
 use std::str;
-use std::test::Fail;
 
 mod faults;
 mod limits;
 
-// How a script ends over what a keeper has, and what it writes.
-fn played(alloc: Global, keeper: MemoryKeeper, script: &str) -> (Result<(), RunError>, Vec<u8>) {
-    let mut output = Vec::new(alloc);
-    let ended = world_run(alloc, keeper, script.as_bytes(), &mut output);
-    (ended, output)
-}
-
-// The script of a text, and what it is to write. `None` for want of memory.
-fn parts(alloc: Global, text: &str) -> Option<(String, String)> {
-    let mut script = String::new(alloc);
-    let mut output = String::new(alloc);
+// Parts a text into a script and what that is to write.
+fn parts(text: &str, script: &mut String, output: &mut String) -> Result<(), AllocError> {
     for line in text.split('\n') {
         let (asked, written) = line.split_once("> ").unwrap_or((line, ""));
-        push_line(&mut script, asked)?;
+        writeln!(script, "{asked}")?;
         if !written.is_empty() {
             for told in written.split("; ") {
-                push_line(&mut output, told)?;
+                writeln!(output, "{told}")?;
             }
         }
     }
-    Some((script, output))
+    Ok(())
 }
 
-fn push_line(text: &mut String, line: &str) -> Option<()> {
-    text.push_str(line).ok()?;
-    text.push('\n').ok()
+// How a script ends over what a keeper has. What it writes is put behind what was written.
+fn played(
+    alloc: Global,
+    keeper: MemoryKeeper,
+    script: &str,
+    written: &mut Vec<u8>,
+) -> Result<(), RunError> {
+    world_run(alloc, keeper, script.as_bytes(), written)
 }
 
 // Plays a text over what a keeper has: each line writes what stands behind it, and nothing else.
 fn plays_over(rt: &impl Abort, alloc: Global, keeper: MemoryKeeper, text: &str) {
-    let Some((script, output)) = parts(alloc, text) else {
-        panic!(rt; "out of memory")
-    };
-    let (ended, written) = played(alloc, keeper, &script);
-    assert!(rt; ended.is_ok());
+    let mut script = String::new(alloc);
+    let mut output = String::new(alloc);
+    assert!(rt; parts(text, &mut script, &mut output).is_ok());
+    let mut written = Vec::new(alloc);
+    assert!(rt; played(alloc, keeper, &script, &mut written).is_ok());
     assert!(rt; written.as_slice() == output.as_bytes());
 }
 
 fn plays(rt: &impl Abort, alloc: Global, text: &str) {
     plays_over(rt, alloc, MemoryKeeper::new(alloc), text);
+}
+
+// A script stops with this text, and has written this.
+fn stops(rt: &impl Abort, alloc: Global, script: &str, text: &str, output: &str) {
+    let mut written = Vec::new(alloc);
+    match played(alloc, MemoryKeeper::new(alloc), script, &mut written) {
+        Ok(()) => panic!(rt; "it doesn't stop: {text}"),
+        Err(error) => says(rt, alloc, error, text),
+    }
+    assert!(rt; written.as_slice() == output.as_bytes(), "{text}");
 }
 
 const EXAMPLE: &str = "\
@@ -374,24 +380,27 @@ restart client 8 > restarted 2
 > client 8 accepted none";
 
 // A keeper that has this incarnation of client 7.
-fn keeper_with(alloc: Global, inc: u32) -> Option<MemoryKeeper> {
-    MemoryKeeper::new(alloc)
-        .with_incarnation(ClientId(7), inc)
-        .ok()
+fn keeper_with(rt: &impl Abort, alloc: Global, inc: u32) -> MemoryKeeper {
+    match MemoryKeeper::new(alloc).with_incarnation(ClientId(7), inc) {
+        Ok(keeper) => keeper,
+        Err(_) => panic!(rt; "out of memory"),
+    }
 }
+
+const SPENT: Result<(), RunError> = Err(RunError::Input {
+    line: 2,
+    fault: InputFault::CannotOpen(WorldOpenError::IncarnationsSpent),
+});
 
 #[test]
 fn spends_the_incarnations_of_a_client(rt: HostRuntime) {
-    let Some(keeper) = keeper_with(rt.alloc(), 4294967294) else {
-        panic!(rt; "out of memory")
-    };
-    plays_over(&rt, rt.alloc(), keeper, LAST_INCARNATION);
-    let Some(keeper) = keeper_with(rt.alloc(), 4294967295) else {
-        panic!(rt; "out of memory")
-    };
-    let (ended, written) = played(rt.alloc(), keeper, "handler 1 1 cell 0\nclient 7");
-    let fault = InputFault::CannotOpen(WorldOpenError::IncarnationsSpent);
-    assert!(rt; ended == Err(RunError::Input { line: 2, fault }));
+    let alloc = rt.alloc();
+    let keeper = keeper_with(&rt, alloc, 4294967294);
+    plays_over(&rt, alloc, keeper, LAST_INCARNATION);
+    let keeper = keeper_with(&rt, alloc, 4294967295);
+    let mut written = Vec::new(alloc);
+    let script = "handler 1 1 cell 0\nclient 7";
+    assert!(rt; played(alloc, keeper, script, &mut written) == SPENT);
     assert!(rt; written.is_empty());
 }
 
@@ -454,22 +463,12 @@ fn tells_why_an_event_is_refused(rt: HostRuntime) {
     plays(&rt, rt.alloc(), REFUSED);
 }
 
-// The example of the crate's root doc.
-#[test]
-fn plays_the_example_of_the_doc(rt: HostRuntime) -> Result<(), Fail> {
-    let alloc = rt.alloc();
-    let script = "\
+const DOC_SCRIPT: &str = "\
 handler 1 1 cell 0
 client 7
 trip 7 1";
-    let mut output = Vec::new(alloc);
-    world_run(
-        alloc,
-        MemoryKeeper::new(alloc),
-        script.as_bytes(),
-        &mut output,
-    )?;
-    let text = "\
+
+const DOC_OUTPUT: &str = "\
 sent 1 Hello
 Greeted sent 2
 Welcomed 1
@@ -478,8 +477,14 @@ handler 1 opened none
 handler 1 ran none
 client 7 accepted none
 ";
-    assert!(rt; output.as_slice() == text.as_bytes());
-    Ok(())
+
+// The example of the crate's root doc.
+#[test]
+fn plays_the_example_of_the_doc(rt: HostRuntime) {
+    let alloc = rt.alloc();
+    let mut written = Vec::new(alloc);
+    assert!(rt; played(alloc, MemoryKeeper::new(alloc), DOC_SCRIPT, &mut written).is_ok());
+    assert!(rt; written.as_slice() == DOC_OUTPUT.as_bytes());
 }
 
 const ECHOED: &str = "\
@@ -494,70 +499,66 @@ take 3
 run 1
 ";
 
-const ECHOES: &str = "\
-4: trip 7 1 = Hello 7.1 to 1
-sent 1 Hello
-Greeted sent 2
-Welcomed 1
-5: reserve 7 1
-done
-6: tick 7 1
-sent 3 Lock
-7: take 3 = Lock 7.1.1 to 1
-Granted sent 4
-8: take 3 = Lock 7.1.1 to 1
-Known sent 5
-9: run 1
-refused NothingToRun
-";
+macro_rules! echoes {
+    ($behind:literal) => {
+        concat!(
+            "4: trip 7 1 = Hello 7.1 to 1\n\
+            sent 1 Hello\n\
+            Greeted sent 2\n\
+            Welcomed 1\n\
+            5: reserve 7 1\n\
+            done\n\
+            6: tick 7 1\n\
+            sent 3 Lock\n\
+            7: take 3 = Lock 7.1.1 to 1\n\
+            Granted sent 4\n\
+            8: take 3 = Lock 7.1.1 to 1\n\
+            Known sent 5\n\
+            9: run 1\n\
+            refused NothingToRun\n",
+            $behind
+        )
+    };
+}
 
-const NO_BLOCKS: &str = "\
-joint none
-handler 1 opened none
-handler 1 ran none
-client 7 accepted none
-";
+const ECHOES: &str = echoes!("");
 
-// How a script ends with these options, and what it writes.
-fn played_with(
+const ALL_ECHOES: &str = echoes!(
+    "joint none\n\
+    handler 1 opened none\n\
+    handler 1 ran none\n\
+    client 7 accepted none\n"
+);
+
+// How a script ends that tells its lines, and ends at the first refusal where it is strict; and what it writes.
+fn echoed(
     alloc: Global,
-    options: PlayOptions,
     script: &str,
-) -> (Result<(), RunError>, Vec<u8>) {
-    let mut output = Vec::new(alloc);
+    is_strict: bool,
+    written: &mut Vec<u8>,
+) -> Result<(), RunError> {
+    let options = PlayOptions {
+        echoes: true,
+        is_strict,
+        settles: false,
+    };
     let keeper = MemoryKeeper::new(alloc);
-    let ended = world_run_with(alloc, keeper, options, script.as_bytes(), &mut output);
-    (ended, output)
+    world_run_with(alloc, keeper, options, script.as_bytes(), written)
 }
 
 #[test]
-fn tells_the_lines_that_it_plays(rt: HostRuntime) -> Result<(), Fail> {
-    let options = PlayOptions {
-        echoes: true,
-        is_strict: false,
-        settles: false,
-    };
-    let (ended, output) = played_with(rt.alloc(), options, ECHOED);
-    assert_eq!(rt; ended, Ok(()));
-    let text = format!(in rt.alloc(); "{ECHOES}{NO_BLOCKS}")?;
-    assert_eq!(rt; str::from_utf8(&output).ok(), Some(text.as_str()));
-    Ok(())
+fn tells_the_lines_that_it_plays(rt: HostRuntime) {
+    let mut written = Vec::new(rt.alloc());
+    assert_eq!(rt; echoed(rt.alloc(), ECHOED, false, &mut written), Ok(()));
+    assert_eq!(rt; str::from_utf8(&written).ok(), Some(ALL_ECHOES));
 }
 
 #[test]
 fn stops_at_a_refused_event(rt: HostRuntime) {
-    let options = PlayOptions {
-        echoes: true,
-        is_strict: true,
-        settles: false,
-    };
-    let (ended, output) = played_with(rt.alloc(), options, ECHOED);
-    let fault = RunError::Input {
-        line: 9,
-        fault: InputFault::Refused,
-    };
-    assert_eq!(rt; ended, Err(fault));
-    assert_eq!(rt; str::from_utf8(&output).ok(), Some(ECHOES));
+    let mut written = Vec::new(rt.alloc());
+    let ended = echoed(rt.alloc(), ECHOED, true, &mut written);
+    assert_eq!(rt; ended, fault!(9, Refused));
+    assert_eq!(rt; str::from_utf8(&written).ok(), Some(ECHOES));
 }
 
 const RAN: &str = "\
@@ -591,14 +592,9 @@ ran 7.1.1 2 5
 
 #[test]
 fn tells_the_entries_that_run(rt: HostRuntime) {
-    let options = PlayOptions {
-        echoes: true,
-        is_strict: true,
-        settles: false,
-    };
-    let (ended, output) = played_with(rt.alloc(), options, RAN);
-    assert_eq!(rt; ended, Ok(()));
-    let text = str::from_utf8(&output).ok().unwrap_or("");
+    let mut written = Vec::new(rt.alloc());
+    assert_eq!(rt; echoed(rt.alloc(), RAN, true, &mut written), Ok(()));
+    let text = str::from_utf8(&written).ok().unwrap_or("");
     let (_, behind) = text.split_once("10: ").unwrap_or(("", ""));
     let (told, _) = behind.split_once("joint").unwrap_or((behind, ""));
     assert_eq!(rt; told, RUNS);

@@ -1,18 +1,7 @@
-//! Scripts that reach limits.
+//! Scripts that reach limits. Their texts are made, which fails for want of memory alone.
 
-use super::{played, plays};
-use scoop_demo::*;
-use scoop_keeper::MemoryKeeper;
-use std::alloc::Global;
-use std::process::Abort;
-
-// Plays a text that is made, which fails for want of memory alone.
-fn plays_made(rt: &impl Abort, alloc: Global, text: Option<String>) {
-    match text {
-        Some(text) => plays(rt, alloc, &text),
-        None => panic!(rt; "out of memory"),
-    }
-}
+use super::{plays, stops};
+use std::alloc::AllocError;
 
 const TWO_QUEUES: &str = "\
 handler 1 1 cell 0
@@ -54,42 +43,60 @@ run 1 > refused NothingToRun
 > handler 1 opened 7.1.1 8.1.1
 > handler 1 ran 7.1.1:1:end";
 
-// A private queue that is full stands behind one that is empty and has not ended.
-fn full_behind_empty(alloc: Global) -> Option<String> {
-    let mut text = String::from_str(alloc, TWO_QUEUES).ok()?;
+// Client 8 logs 64 calls, each of which is acknowledged.
+fn push_logged(text: &mut String) -> Result<(), AllocError> {
     for n in 1..65_u32 {
         let sent = 2 * n + 15;
         let told = 2 * n + 16;
-        write!(
+        writeln!(text, "call 8 1 1 {n} > done")?;
+        writeln!(
             text,
-            "call 8 1 1 {n} > done\ntrip 8 1 > sent {sent} Log; Took {n} sent {told}; Acknowledged 1 {n}\n"
-        )
-        .ok()?;
+            "trip 8 1 > sent {sent} Log; Took {n} sent {told}; Acknowledged 1 {n}"
+        )?;
     }
-    text.push_str("run 1 > refused NothingToRun\n").ok()?;
-    for _ in 0..64 {
-        text.push_str("call 8 1 1 0 > done\n").ok()?;
-    }
-    text.push_str(PENDING_FULL).ok()?;
+    Ok(())
+}
+
+// What runs of these calls behind the first one.
+fn push_runs(text: &mut String) -> Result<(), AllocError> {
     for n in 2..65_u32 {
-        writeln!(text, "run 1 > ran 8.1.1 {n} {n}").ok()?;
+        writeln!(text, "run 1 > ran 8.1.1 {n} {n}")?;
     }
-    text.push_str(TWO_QUEUES_RAN).ok()?;
+    Ok(())
+}
+
+// What has run of them.
+fn push_ran(text: &mut String) -> Result<(), AllocError> {
     for n in 1..65_u32 {
-        write!(text, " 8.1.1:{n}:{n}").ok()?;
+        write!(text, " 8.1.1:{n}:{n}")?;
     }
+    Ok(())
+}
+
+// A private queue that is full stands behind one that is empty and has not ended.
+fn full_behind_empty(text: &mut String) -> Result<(), AllocError> {
+    text.push_str(TWO_QUEUES)?;
+    push_logged(text)?;
+    text.push_str("run 1 > refused NothingToRun\n")?;
+    for _ in 0..64 {
+        text.push_str("call 8 1 1 0 > done\n")?;
+    }
+    text.push_str(PENDING_FULL)?;
+    push_runs(text)?;
+    text.push_str(TWO_QUEUES_RAN)?;
+    push_ran(text)?;
     text.push_str(" 8.1.1:65:0\n> client 7 accepted none\n> client 8 accepted none")
-        .ok()?;
-    Some(text)
 }
 
 #[test]
 fn waits_for_the_first_queue_and_takes_64_entries(rt: HostRuntime) {
-    plays_made(&rt, rt.alloc(), full_behind_empty(rt.alloc()));
+    let mut text = String::new(rt.alloc());
+    assert!(rt; full_behind_empty(&mut text).is_ok());
+    plays(&rt, rt.alloc(), &text);
 }
 
 // A block that ends, behind as many others.
-fn push_block(text: &mut String, before: u8) -> Option<()> {
+fn push_block(text: &mut String, before: u8) -> Result<(), AllocError> {
     let sent = 8 * u32::from(before) + 2;
     let [lock, locked, open, opened] = [sent + 1, sent + 2, sent + 3, sent + 4];
     let [unlock, unlocked, log, logged] = [sent + 5, sent + 6, sent + 7, sent + 8];
@@ -102,16 +109,15 @@ fn push_block(text: &mut String, before: u8) -> Option<()> {
         end 7 > done\n\
         trip 7 1 > sent {log} Log; Took 1 sent {logged}; Acknowledged 1 1\n"
     )
-    .ok()
 }
 
 // The line of 65 blocks behind its name.
-fn push_blocks(text: &mut String, name: &str) -> Option<()> {
-    text.push_str(name).ok()?;
+fn push_blocks(text: &mut String, name: &str) -> Result<(), AllocError> {
+    text.push_str(name)?;
     for n in 1..66_u32 {
-        write!(text, " 7.1.{n}").ok()?;
+        write!(text, " 7.1.{n}")?;
     }
-    text.push('\n').ok()
+    text.push_str("\n")
 }
 
 const ONE_CLIENT: &str = "\
@@ -129,22 +135,22 @@ trip 7 1 > sent 518 Open; Opened sent 519; Opened 1
 ";
 
 // 64 private queues have ended and not run.
-fn full_of_queues(alloc: Global) -> Option<String> {
-    let mut text = String::from_str(alloc, ONE_CLIENT).ok()?;
+fn full_of_queues(text: &mut String) -> Result<(), AllocError> {
+    text.push_str(ONE_CLIENT)?;
     for n in 0..64 {
-        push_block(&mut text, n)?;
+        push_block(text, n)?;
     }
-    text.push_str(QUEUE_FULL).ok()?;
-    push_blocks(&mut text, "> joint")?;
-    push_blocks(&mut text, "> handler 1 opened")?;
+    text.push_str(QUEUE_FULL)?;
+    push_blocks(text, "> joint")?;
+    push_blocks(text, "> handler 1 opened")?;
     text.push_str("> handler 1 ran 7.1.1:1:end\n> client 7 accepted none")
-        .ok()?;
-    Some(text)
 }
 
 #[test]
 fn opens_64_queues(rt: HostRuntime) {
-    plays_made(&rt, rt.alloc(), full_of_queues(rt.alloc()));
+    let mut text = String::new(rt.alloc());
+    assert!(rt; full_of_queues(&mut text).is_ok());
+    plays(&rt, rt.alloc(), &text);
 }
 
 const RESERVED: &str = "\
@@ -204,67 +210,58 @@ fn reserves_one_to_eight_handlers(rt: HostRuntime) {
 }
 
 // As many handlers, each on a node of its own, and clients.
-fn parties(alloc: Global, handlers: u32, clients: u32) -> Option<String> {
-    let mut text = String::new(alloc);
+fn push_parties(text: &mut String, handlers: u32, clients: u32) -> Result<(), AllocError> {
     for n in 0..handlers {
-        writeln!(text, "handler {n} {n} cell 0").ok()?;
+        writeln!(text, "handler {n} {n} cell 0")?;
     }
     for n in 0..clients {
-        writeln!(text, "client {n}").ok()?;
+        writeln!(text, "client {n}")?;
     }
-    Some(text)
+    Ok(())
 }
 
 // 64 handlers, and 64 clients that greet one of them.
-fn full_world(alloc: Global) -> Option<String> {
-    let mut text = parties(alloc, 64, 64)?;
+fn full_world(text: &mut String) -> Result<(), AllocError> {
+    push_parties(text, 64, 64)?;
     for n in 0..64_u32 {
         let sent = 2 * n + 1;
         let told = 2 * n + 2;
         writeln!(
             text,
             "trip {n} 63 > sent {sent} Hello; Greeted sent {told}; Welcomed 63"
-        )
-        .ok()?;
+        )?;
     }
-    text.push_str("> joint none\n").ok()?;
+    text.push_str("> joint none\n")?;
     for n in 0..64_u32 {
-        write!(text, "> handler {n} opened none\n> handler {n} ran none\n").ok()?;
+        write!(text, "> handler {n} opened none\n> handler {n} ran none\n")?;
     }
     for n in 0..64_u32 {
-        writeln!(text, "> client {n} accepted none").ok()?;
+        writeln!(text, "> client {n} accepted none")?;
     }
-    Some(text)
+    Ok(())
 }
 
 #[test]
 fn opens_with_64_handlers_and_clients(rt: HostRuntime) {
-    plays_made(&rt, rt.alloc(), full_world(rt.alloc()));
+    let mut text = String::new(rt.alloc());
+    assert!(rt; full_world(&mut text).is_ok());
+    plays(&rt, rt.alloc(), &text);
 }
 
-// Whether so many parties open no world, with this text.
-fn refuses(alloc: Global, handlers: u32, clients: u32, text: &str) -> Option<bool> {
-    let script = parties(alloc, handlers, clients)?;
-    let (ended, written) = played(alloc, MemoryKeeper::new(alloc), &script);
-    let Err(error) = ended else {
-        return Some(false);
-    };
-    let told = format!(in alloc; "{error}").ok()?;
-    Some(told.as_str() == text && written.is_empty())
-}
+// As many handlers and clients, and why they open no world.
+const TOO_MANY: [(u32, u32, &str); 5] = [
+    (65, 64, "line 129: cannot open the world: TooManyHandlers"),
+    (64, 65, "line 129: cannot open the world: TooManyClients"),
+    (65, 65, "line 130: cannot open the world: TooManyHandlers"),
+    (0, 65, "line 65: cannot open the world: NoHandlers"),
+    (70, 0, "line 70: cannot open the world: TooManyHandlers"),
+];
 
 #[test]
 fn refuses_more_handlers_or_clients(rt: HostRuntime) {
-    for (handlers, clients, text) in [
-        (65, 64, "line 129: cannot open the world: TooManyHandlers"),
-        (64, 65, "line 129: cannot open the world: TooManyClients"),
-        (65, 65, "line 130: cannot open the world: TooManyHandlers"),
-        (0, 65, "line 65: cannot open the world: NoHandlers"),
-        (70, 0, "line 70: cannot open the world: TooManyHandlers"),
-    ] {
-        assert!(rt;
-            refuses(rt.alloc(), handlers, clients, text) == Some(true),
-            "{text}"
-        );
+    for (handlers, clients, text) in TOO_MANY {
+        let mut script = String::new(rt.alloc());
+        assert!(rt; push_parties(&mut script, handlers, clients).is_ok());
+        stops(&rt, rt.alloc(), &script, text, "");
     }
 }
