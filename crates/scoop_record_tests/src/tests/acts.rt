@@ -200,7 +200,7 @@ fn behind<S: Alter + Drop>(
     store.into_connection()
 }
 
-fn step<S: Alter + Drop>(
+fn takes<S: Alter + Drop>(
     rt: &impl Abort,
     alloc: Global,
     mut conn: Connection<S>,
@@ -225,7 +225,7 @@ pub fn steps<S: Alter + Drop>(
     rows: &[Step],
 ) -> Connection<S> {
     for i in 0..rows.len() {
-        conn = step(rt, alloc, conn, rows[i], i);
+        conn = takes(rt, alloc, conn, rows[i], i);
     }
     conn
 }

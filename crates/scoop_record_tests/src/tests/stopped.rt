@@ -102,10 +102,13 @@ const CAME_AND_WENT: [Step; 2] = [
     Step::Run("DROP TABLE t"),
 ];
 
-const STORED: [Step; 1] = [Step::Create(&[Act::Put(5), Act::Next(7, Ok(1))])];
+/// A store with the word 5, nothing pending and one incarnation.
+const STORE: Step = Step::Create(&[Act::Put(5), Act::Next(7, Ok(1))]);
+
+const STORED: [Step; 1] = [STORE];
 
 const STORED_OLD: [Step; 5] = [
-    STORED[0],
+    STORE,
     NO_PENDING,
     FIRST,
     Step::Run("DELETE FROM handlers"),
