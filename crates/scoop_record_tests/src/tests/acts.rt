@@ -169,11 +169,11 @@ fn answers<S: Alter>(alloc: Global, conn: &mut Connection<S>, step: Step) -> boo
     }
 }
 
-/// A store in a database that has no tables.
-fn created<S: Alter + Drop>(rt: &impl Abort, alloc: Global, conn: Connection<S>) -> Store<S> {
+/// A store in a database that has no tables, `None` where it is refused.
+fn created<S: Alter + Drop>(alloc: Global, conn: Connection<S>) -> Option<Store<S>> {
     match Store::create(alloc, conn) {
-        Ok(store) => store,
-        Err(_) => panic!(rt; "no new store"),
+        Ok(store) => Some(store),
+        Err(_) => None,
     }
 }
 
@@ -200,7 +200,8 @@ fn behind<S: Alter + Drop>(
     store.into_connection()
 }
 
-fn takes<S: Alter + Drop>(
+/// The connection behind a step.
+fn stepped<S: Alter + Drop>(
     rt: &impl Abort,
     alloc: Global,
     mut conn: Connection<S>,
@@ -208,7 +209,7 @@ fn takes<S: Alter + Drop>(
     at: usize,
 ) -> Connection<S> {
     match step {
-        Step::Create(rows) => behind(rt, alloc, Some(created(rt, alloc, conn)), rows),
+        Step::Create(rows) => behind(rt, alloc, created(alloc, conn), rows),
         Step::Adopt(rows) => behind(rt, alloc, adopted(alloc, conn), rows),
         _ => {
             assert!(rt; answers(alloc, &mut conn, step), "step {at}");
@@ -225,7 +226,7 @@ pub fn steps<S: Alter + Drop>(
     rows: &[Step],
 ) -> Connection<S> {
     for i in 0..rows.len() {
-        conn = takes(rt, alloc, conn, rows[i], i);
+        conn = stepped(rt, alloc, conn, rows[i], i);
     }
     conn
 }
