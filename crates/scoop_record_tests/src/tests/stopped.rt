@@ -287,21 +287,41 @@ fn stopped(
     Some((done, is_kept(rt, alloc, left, call)))
 }
 
+/// The first of that part's calls that the call itself makes, by halves: before it, the files aren't open.
+fn begins_at(
+    rt: &impl Abort,
+    alloc: Global,
+    before: &Files<Stopped>,
+    call: Call,
+    part: Part,
+) -> u64 {
+    let mut low = 0u64;
+    let mut high = 256u64;
+    for _ in 0..8 {
+        let middle = low.midpoint(high);
+        if stopped(rt, alloc, before, call, part, middle).is_some() {
+            high = middle;
+        } else {
+            low = middle;
+        }
+    }
+    high
+}
+
 /// Stops the call at each of that part's calls in turn, up to where it succeeds. What is found is what was there
 /// before or what the call stores, and that it is where the call has succeeded.
-fn stops_at_each(rt: &impl Abort, alloc: Global, before: &Files<Stopped>, call: Call, part: Part) {
-    let mut any = false;
-    for calls in 0..320u64 {
-        match stopped(rt, alloc, before, call, part, calls) {
-            // At these, the files aren't open.
-            None => assert!(rt; !any),
-            Some((false, _)) => any = true,
-            Some((true, found)) => {
-                // Else the call made no call of this part: of the database file it makes none without a checkpoint.
-                assert!(rt; any);
-                assert!(rt; found, "{calls}");
-                return;
-            }
+fn stops_in_turn(rt: &impl Abort, alloc: Global, before: &Files<Stopped>, call: Call, part: Part) {
+    let first = begins_at(rt, alloc, before, call, part);
+    for more in 0..64u64 {
+        let calls = first.saturating_add(more);
+        let Some((done, found)) = stopped(rt, alloc, before, call, part, calls) else {
+            panic!(rt; "no open files");
+        };
+        assert!(rt; found || !done, "{more}");
+        if done {
+            // Else the call made no call of this part: of the database file it makes none without a checkpoint.
+            assert!(rt; more > 0);
+            return;
         }
     }
     panic!(rt; "it never succeeded")
@@ -309,7 +329,7 @@ fn stops_at_each(rt: &impl Abort, alloc: Global, before: &Files<Stopped>, call: 
 
 fn stops(rt: &impl Abort, alloc: Global, call: Call, part: Part) {
     let before = files_before(rt, alloc, call, part);
-    stops_at_each(rt, alloc, &before, call, part);
+    stops_in_turn(rt, alloc, &before, call, part);
 }
 
 /// The same at each part.
