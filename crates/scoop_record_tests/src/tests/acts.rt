@@ -157,7 +157,7 @@ fn has_texts<S: Alter>(conn: &mut Connection<S>, texts: &[&str]) -> bool {
 }
 
 /// Whether the connection answers the step so. A store's steps aren't for it.
-fn answers<S: Alter>(alloc: Global, conn: &mut Connection<S>, step: Step) -> bool {
+pub fn answers<S: Alter>(alloc: Global, conn: &mut Connection<S>, step: Step) -> bool {
     match step {
         Step::Make(error) => create_tables(conn).err() == error,
         Step::Take(error) => adopt_tables(alloc, conn).err() == error,
@@ -200,21 +200,29 @@ fn behind<S: Alter + Drop>(
     store.into_connection()
 }
 
-/// The connection behind a step.
-fn stepped<S: Alter + Drop>(
+fn answered<S: Alter + Drop>(
     rt: &impl Abort,
     alloc: Global,
     mut conn: Connection<S>,
     step: Step,
     at: usize,
 ) -> Connection<S> {
+    assert!(rt; answers(alloc, &mut conn, step), "step {at}");
+    conn
+}
+
+/// The connection behind a step. Each arm passes it on: what lends it in one and moves it in another is slow to prove.
+fn stepped<S: Alter + Drop>(
+    rt: &impl Abort,
+    alloc: Global,
+    conn: Connection<S>,
+    step: Step,
+    at: usize,
+) -> Connection<S> {
     match step {
         Step::Create(rows) => behind(rt, alloc, created(alloc, conn), rows),
         Step::Adopt(rows) => behind(rt, alloc, adopted(alloc, conn), rows),
-        _ => {
-            assert!(rt; answers(alloc, &mut conn, step), "step {at}");
-            conn
-        }
+        _ => answered(rt, alloc, conn, step, at),
     }
 }
 

@@ -3,13 +3,12 @@
 use super::acts::{
     Act, ENTRIES, FIRST, IMAGES, NO_PENDING, OLD, Step, VERSION, plays, steps, steps_in_memory,
 };
-use super::images::{IMAGE, PENDING, waiting};
-use scoop_message::{ClientId, HandlerId};
+use super::images::{IMAGE, PENDING};
+use scoop_message::{ClientId, HandlerId, OutOfMemory};
 use scoop_record::*;
 use sqlite::{Alter, Connection};
 use std::alloc::Global;
 use std::process::Abort;
-use std::test::Fail;
 
 const SPENT: Result<u32, KeeperError> = Err(KeeperError::IncarnationsSpent);
 
@@ -19,24 +18,33 @@ const IN_TURN: [Act; 3] = [
     Act::Next(8, Ok(1)),
 ];
 
-#[test]
-fn incarnations_are_spent_in_turn(rt: HostRuntime) {
-    match MemoryKeeper::new(rt.alloc()).with_incarnation(ClientId(7), 4294967294) {
-        Ok(mut keeper) => plays(&rt, rt.alloc(), &mut keeper, &IN_TURN),
+fn spends<K: Keeper<Global>>(rt: &impl Abort, alloc: Global, keeper: Result<K, OutOfMemory>) {
+    match keeper {
+        Ok(mut keeper) => plays(rt, alloc, &mut keeper, &IN_TURN),
         Err(_) => panic!(rt; "no keeper"),
     }
+}
+
+#[test]
+fn incarnations_are_spent_in_turn(rt: HostRuntime) {
+    let keeper = MemoryKeeper::new(rt.alloc()).with_incarnation(ClientId(7), 4294967294);
+    spends(&rt, rt.alloc(), keeper);
 }
 
 const FAILS: [Act; 2] = [Act::Next(7, Ok(1)), Act::Next(7, Err(KeeperError::Refused))];
 
 const SECOND: [Act; 1] = [Act::Next(7, Ok(2))];
 
+fn fails<K: Keeper<Global>>(rt: &impl Abort, alloc: Global, keeper: K) {
+    let mut failing = FailingKeeper::new(keeper, 1);
+    plays(rt, alloc, &mut failing, &FAILS);
+    let mut keeper = failing.into_inner();
+    plays(rt, alloc, &mut keeper, &SECOND);
+}
+
 #[test]
 fn a_keeper_fails_after_its_calls(rt: HostRuntime) {
-    let mut failing = FailingKeeper::new(MemoryKeeper::new(rt.alloc()), 1);
-    plays(&rt, rt.alloc(), &mut failing, &FAILS);
-    let mut keeper = failing.into_inner();
-    plays(&rt, rt.alloc(), &mut keeper, &SECOND);
+    fails(&rt, rt.alloc(), MemoryKeeper::new(rt.alloc()));
 }
 
 const LAST: [Act; 6] = [
@@ -204,22 +212,13 @@ fn what_is_no_incarnation_is_the_last_one(rt: HostRuntime) {
     steps_in_memory(&rt, rt.alloc(), &BELOW_FIRST);
 }
 
-// The example of the crate's root doc.
+// The example of the crate's root doc. Between the stores is a restart: all that stays is the database.
+const IN_DOC: [Step; 2] = [
+    Step::Create(&[Act::PutWaiting(5), Act::Next(7, Ok(1))]),
+    Step::Adopt(&[Act::LoadWaiting(5), Act::Next(7, Ok(2))]),
+];
+
 #[test]
-fn keeps_over_a_restart_as_in_the_doc(rt: HostRuntime) -> Result<(), Fail> {
-    let alloc = rt.alloc();
-    let state = waiting(&rt, alloc, 5);
-
-    let conn = Connection::open_in_memory(alloc)?;
-    let mut store = Store::create(alloc, conn)?;
-    store.put_handler(&state)?;
-    assert_eq!(rt; store.next_incarnation(ClientId(7))?, 1);
-
-    // A restart: all that stays is the database.
-    let conn = store.into_connection();
-    let mut store = Store::adopt(alloc, conn)?;
-    let found = store.load_handler(HandlerId(1))?.ok_or("a state")?;
-    assert!(rt; found.same(&state));
-    assert_eq!(rt; store.next_incarnation(ClientId(7))?, 2);
-    Ok(())
+fn keeps_over_a_restart_as_in_the_doc(rt: HostRuntime) {
+    steps_in_memory(&rt, rt.alloc(), &IN_DOC);
 }

@@ -2,7 +2,8 @@
 //! without and with a checkpoint, and each call of the database file, which is written only at a checkpoint.
 
 use super::acts::{
-    Act, ENTRIES, FIRST, IMAGES, NO_PENDING, OLD, Step, VERSION, acts, adopted, number, steps, word,
+    Act, ENTRIES, FIRST, IMAGES, NO_PENDING, OLD, Step, VERSION, acts, adopted, answers, number,
+    steps, word,
 };
 use super::images::{IMAGE, PENDING};
 use scoop_message::ClientId;
@@ -152,20 +153,31 @@ fn files_before(rt: &impl Abort, alloc: Global, call: Call, part: Part) -> Files
     left_by(medium_before(rt, alloc, conn, call, part))
 }
 
-/// The same as `called`, at a store that opens for it.
-fn called_on_store<S: Alter + Drop>(
+/// What is below a database once the call is made there, and whether that succeeded.
+fn called_there<S: Alter + Drop>(
+    alloc: Global,
+    mut conn: Connection<S>,
+    step: Step,
+    done: &mut bool,
+) -> S {
+    *done = answers(alloc, &mut conn, step);
+    conn.into_store()
+}
+
+/// The same at a store, `None` where none opens.
+fn called_at<S: Alter + Drop>(
     rt: &impl Abort,
     alloc: Global,
-    conn: Connection<S>,
+    store: Option<Store<S>>,
     act: Act,
     done: &mut bool,
 ) -> Option<S> {
-    let mut store = adopted(alloc, conn)?;
+    let mut store = store?;
     *done = acts(rt, alloc, &mut store, act);
     Some(store.into_connection().into_store())
 }
 
-/// Makes the call, and tells whether it succeeded: what is below the database then. `None` where it isn't open by then.
+/// The same of any call, `None` where the store or the database isn't open by then.
 fn called<S: Alter + Drop>(
     rt: &impl Abort,
     alloc: Global,
@@ -173,23 +185,20 @@ fn called<S: Alter + Drop>(
     call: Call,
     done: &mut bool,
 ) -> Option<S> {
-    let mut conn = conn?;
+    let conn = conn?;
     match call {
-        Call::Create => *done = create_tables(&mut conn).is_ok(),
-        Call::Adopt => *done = adopt_tables(alloc, &mut conn).is_ok(),
-        Call::Put => return called_on_store(rt, alloc, conn, Act::PutWaiting(6), done),
-        Call::Next => return called_on_store(rt, alloc, conn, Act::Next(7, Ok(2)), done),
+        Call::Create => Some(called_there(alloc, conn, Step::Make(None), done)),
+        Call::Adopt => Some(called_there(alloc, conn, Step::Take(None), done)),
+        Call::Put => called_at(rt, alloc, adopted(alloc, conn), Act::PutWaiting(6), done),
+        Call::Next => called_at(rt, alloc, adopted(alloc, conn), Act::Next(7, Ok(2)), done),
     }
-    Some(conn.into_store())
 }
 
 /// All tables, or none: where no record is taken, one is made.
-fn has_tables<S: Alter>(rt: &impl Abort, alloc: Global, conn: &mut Connection<S>) -> bool {
-    if adopt_tables(alloc, conn).is_ok() {
-        return true;
-    }
-    assert!(rt; create_tables(conn).is_ok());
-    false
+fn has_tables<S: Alter + Drop>(rt: &impl Abort, alloc: Global, mut conn: Connection<S>) -> bool {
+    let taken = answers(alloc, &mut conn, Step::Take(None));
+    assert!(rt; taken || answers(alloc, &mut conn, Step::Make(None)));
+    taken
 }
 
 const MIGRATED: [Step; 4] = [
@@ -243,12 +252,12 @@ fn is_found<S: Alter + Drop>(
     conn: Option<Connection<S>>,
     call: Call,
 ) -> bool {
-    let mut conn = match conn {
+    let conn = match conn {
         Some(conn) => conn,
         None => panic!(rt; "not opened"),
     };
     match call {
-        Call::Create => has_tables(rt, alloc, &mut conn),
+        Call::Create => has_tables(rt, alloc, conn),
         Call::Adopt => has_version(rt, alloc, conn),
         Call::Put | Call::Next => has_call(rt, adopted(alloc, conn), call),
     }
