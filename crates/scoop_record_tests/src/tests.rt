@@ -1,5 +1,6 @@
 //! The record's tests.
 
+mod acts;
 mod images;
 mod keepers;
 mod numbers;

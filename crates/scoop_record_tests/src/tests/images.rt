@@ -1,9 +1,10 @@
 //! Images of the worked state, whole, cut and changed.
 
-use scoop_message::HandlerId;
+use scoop_handler::HandlerState;
+use scoop_message::{HandlerId, OutOfMemory};
 use scoop_record::*;
 use std::alloc::Global;
-use std::test::Fail;
+use std::process::Abort;
 
 const HANDLER: HandlerId = HandlerId(1);
 
@@ -13,187 +14,278 @@ pub const IMAGE: [u8; 54] =
 
 pub const PENDING: [u8; 24] = *b"\x01\0\x01\x01\0\0\0\0\0\0\0\x05\x01\0\x01\x01\0\0\0\0\0\0\0\x06";
 
-fn fault(alloc: Global, image: &[u8], pending: &[u8]) -> Option<ReadError> {
-    read_image(alloc, HANDLER, image, pending).err()
+// The image of handler 1 with the word 0, whom nobody has greeted.
+const BARE: [u8; 17] = *b"\x02\0\0\0\x01\x01\0\0\0\0\0\0\0\0\0\0\0";
+
+fn state(rt: &impl Abort, alloc: Global, image: &[u8], pending: &[u8]) -> HandlerState {
+    match read_image(alloc, HANDLER, image, pending) {
+        Ok(state) => state,
+        Err(_) => panic!(rt; "no image"),
+    }
+}
+
+/// The state of a handler with this one word, whom nobody has greeted.
+pub fn bare(rt: &impl Abort, alloc: Global, word: u8) -> HandlerState {
+    let mut image = BARE;
+    image[13] = word;
+    state(rt, alloc, &image, &[])
+}
+
+/// The state of a handler with this one word and two pending entries.
+pub fn waiting(rt: &impl Abort, alloc: Global, word: u8) -> HandlerState {
+    let mut image = IMAGE;
+    image[13] = word;
+    state(rt, alloc, &image, &PENDING)
+}
+
+fn are(written: Result<Vec<u8>, OutOfMemory>, bytes: &[u8]) -> bool {
+    match written {
+        Ok(written) => written.as_slice() == bytes,
+        Err(_) => false,
+    }
+}
+
+/// Whether the state is written as these bytes.
+pub fn is_written(alloc: Global, state: &HandlerState, bytes: &[u8], pending: &[u8]) -> bool {
+    are(image(alloc, state), bytes) && are(pending_row(alloc, state), pending)
+}
+
+/// Whether this is the state of the image.
+fn is_worked(alloc: Global, state: &HandlerState) -> bool {
+    is_written(alloc, state, &IMAGE, &PENDING)
+        && state.marks() == 1
+        && state.queues().list_len() == 1
+}
+
+fn reads_whole(alloc: Global) -> bool {
+    match read_image(alloc, HANDLER, &IMAGE, &PENDING) {
+        Ok(state) => is_worked(alloc, &state),
+        Err(_) => false,
+    }
 }
 
 #[test]
-fn an_image_is_read_and_written(rt: HostRuntime) -> Result<(), Fail> {
-    let state = read_image(rt.alloc(), HANDLER, &IMAGE, &PENDING)?;
-    assert_eq!(rt; image(rt.alloc(), &state)?.as_slice(), IMAGE.as_slice());
-    assert_eq!(rt;
-        pending_row(rt.alloc(), &state)?.as_slice(),
-        PENDING.as_slice()
-    );
-    assert_eq!(rt; state.marks(), 1);
-    assert_eq!(rt; state.queues().list_len(), 1);
-    Ok(())
+fn an_image_is_read_and_written(rt: HostRuntime) {
+    assert!(rt; reads_whole(rt.alloc()));
 }
 
 // The same in version 1, in which each private queue is followed by its entries.
 const OLD_IMAGE: [u8; 78] =
     *b"\x01\0\0\0\x01\x01\0\0\0\0\0\0\0\0\0\x01\0\0\0\x07\0\0\0\x01\0\0\0\x01\x02\0\0\0\x02\0\0\x01\0\0\0\x07\0\0\0\x01\0\0\0\x01\x01\0\0\0\x01\x02\x01\0\x01\x01\0\0\0\0\0\0\0\x05\x01\0\x01\x01\0\0\0\0\0\0\0\x06";
 
+const BAD: Option<ReadError> = Some(ReadError::BadImage);
+
 fn old_fault(alloc: Global, handler: HandlerId, bytes: &[u8]) -> Option<ReadError> {
     read_image_with_entries(alloc, handler, bytes).err()
 }
 
-#[test]
-fn an_image_of_version_1_is_read(rt: HostRuntime) -> Result<(), Fail> {
-    let alloc = rt.alloc();
-    let state = read_image_with_entries(alloc, HANDLER, &OLD_IMAGE)?;
-    assert_eq!(rt; image(alloc, &state)?.as_slice(), IMAGE.as_slice());
-    assert_eq!(rt; pending_row(alloc, &state)?.as_slice(), PENDING.as_slice());
+fn reads_old(alloc: Global) -> bool {
+    match read_image_with_entries(alloc, HANDLER, &OLD_IMAGE) {
+        Ok(state) => is_worked(alloc, &state),
+        Err(_) => false,
+    }
+}
+
+fn reads_old_alone(rt: &impl Abort, alloc: Global) {
     let mut longer = [0; 79];
     longer[..78].copy_from_slice(&OLD_IMAGE);
-    assert_eq!(rt; old_fault(alloc, HANDLER, &longer), BAD);
-    assert_eq!(rt; old_fault(alloc, HANDLER, &OLD_IMAGE[..77]), BAD);
-    assert_eq!(rt; old_fault(alloc, HandlerId(2), &OLD_IMAGE), BAD);
-    assert_eq!(rt; old_fault(alloc, HANDLER, &IMAGE), BAD);
-    Ok(())
+    assert!(rt; reads_old(alloc));
+    assert!(rt; old_fault(alloc, HANDLER, &longer) == BAD);
+    assert!(rt; old_fault(alloc, HANDLER, &OLD_IMAGE[..77]) == BAD);
+    assert!(rt; old_fault(alloc, HandlerId(2), &OLD_IMAGE) == BAD);
+    assert!(rt; old_fault(alloc, HANDLER, &IMAGE) == BAD);
+}
+
+#[test]
+fn an_image_of_version_1_is_read(rt: HostRuntime) {
+    reads_old_alone(&rt, rt.alloc());
+}
+
+fn fault(alloc: Global, image: &[u8], pending: &[u8]) -> Option<ReadError> {
+    read_image(alloc, HANDLER, image, pending).err()
 }
 
 #[test]
 fn cut_and_longer_bytes_are_no_image(rt: HostRuntime) {
-    let bad = Some(ReadError::BadImage);
     let mut longer = [0; 55];
     longer[..54].copy_from_slice(&IMAGE);
-    assert_eq!(rt; fault(rt.alloc(), &IMAGE, &PENDING), None);
-    assert_eq!(rt; fault(rt.alloc(), &IMAGE[..53], &PENDING), bad);
-    assert_eq!(rt; fault(rt.alloc(), &longer, &PENDING), bad);
-    assert_eq!(rt; fault(rt.alloc(), &IMAGE, &PENDING[..12]), bad);
-    assert_eq!(rt; fault(rt.alloc(), &IMAGE, &[]), bad);
+    assert!(rt; fault(rt.alloc(), &IMAGE, &PENDING).is_none());
+    assert!(rt; fault(rt.alloc(), &IMAGE[..53], &PENDING) == BAD);
+    assert!(rt; fault(rt.alloc(), &longer, &PENDING) == BAD);
+    assert!(rt; fault(rt.alloc(), &IMAGE, &PENDING[..12]) == BAD);
+    assert!(rt; fault(rt.alloc(), &IMAGE, &[]) == BAD);
 }
 
+// Places of the image, and bytes that no image has there.
+const CHANGED: [(usize, u8); 13] = [
+    (0, 1), // the other version
+    (4, 2), // another handler
+    (5, 0), // no words
+    (5, 17), // too many words
+    (15, 65), // too many marks
+    (28, 4), // no stage
+    (28, 1), // a held mark that isn't the holder's
+    (32, 3), // more received than ever pending
+    (33, 2), // no flag
+    (35, 65), // too many private queues
+    (48, 3), // a cut private queue of its client's incarnation
+    (52, 0), // the first pending number is 0
+    (53, 65), // too many pending entries
+];
+
 #[test]
-fn what_no_handler_has_is_no_image(rt: HostRuntime) -> Result<(), Fail> {
-    let bad = Some(ReadError::BadImage);
-    let changed = [
-        (0, 1), // the other version
-        (4, 2), // another handler
-        (5, 0), // no words
-        (5, 17), // too many words
-        (15, 65), // too many marks
-        (28, 4), // no stage
-        (28, 1), // a held mark that isn't the holder's
-        (32, 3), // more received than ever pending
-        (33, 2), // no flag
-        (35, 65), // too many private queues
-        (48, 3), // a cut private queue of its client's incarnation
-        (52, 0), // the first pending number is 0
-        (53, 65), // too many pending entries
-    ];
-    for (at, byte) in changed {
+fn what_no_handler_has_is_no_image(rt: HostRuntime) {
+    for (at, byte) in CHANGED {
         let mut image = IMAGE;
-        *image.get_mut(at).ok_or("a byte of the image")? = byte;
-        assert_eq!(rt; fault(rt.alloc(), &image, &PENDING), bad, "{at}");
+        match image.get_mut(at) {
+            Some(place) => *place = byte,
+            None => panic!(rt; "no such place"),
+        }
+        assert!(rt; fault(rt.alloc(), &image, &PENDING) == BAD, "{at}");
     }
-    Ok(())
 }
 
-// The image of handler 1 that begins with so many words, all 0, no holder, and these parts behind them.
-fn image_of(alloc: Global, words: u8, parts: &[&[u8]]) -> Result<Vec<u8>, Fail> {
-    let mut bytes = Vec::from_slice(alloc, &[2, 0, 0, 0, 1, words])?;
-    for _ in 0..words {
-        bytes.extend_from_slice(&[0; 8])?;
-    }
-    bytes.push(0)?;
-    for part in parts {
-        bytes.extend_from_slice(part)?;
-    }
-    Ok(bytes)
+/// What there is so much of in an image of handler 1.
+#[derive(Clone, Copy)]
+enum Many {
+    /// Words that are 0.
+    Words(u8),
+    /// Marks of clients 1, 2 and on, none with a block.
+    Marks(u8),
+    /// Private queues of blocks 1, 2 and on of client 7, which have an End each.
+    Queues(u8),
+    /// Calls without arguments that are pending in the queue of client 7's block 1.
+    Calls(u8),
+    /// Arguments of the one call that is pending there.
+    Args(u8),
 }
 
-// How many times these bytes, behind their count.
-fn counted(alloc: Global, count: u8, bytes: &[u8]) -> Result<Vec<u8>, Fail> {
-    let mut all = Vec::from_slice(alloc, &[count])?;
+pub fn put(rt: &impl Abort, bytes: &mut Vec<u8>, more: &[u8]) {
+    assert!(rt; bytes.extend_from_slice(more).is_ok());
+}
+
+pub fn put_times(rt: &impl Abort, bytes: &mut Vec<u8>, count: u8, more: &[u8]) {
     for _ in 0..count {
-        all.extend_from_slice(bytes)?;
+        put(rt, bytes, more);
     }
-    Ok(all)
 }
 
-// So many marks, of clients 1, 2 and on, none with a block.
-fn marks_of(alloc: Global, count: u8) -> Result<Vec<u8>, Fail> {
-    let mut bytes = Vec::from_slice(alloc, &[count])?;
+// The count, and so many times a number, counted from 1, between these bytes.
+fn put_counted(rt: &impl Abort, bytes: &mut Vec<u8>, count: u8, before: &[u8], behind: &[u8]) {
+    put(rt, bytes, &[count]);
     for i in 0..count {
-        bytes.extend_from_slice(&[0, 0, 0, i + 1, 0, 0, 0, 1, 0, 0, 0, 0, 3, 0, 0, 0, 0, 0, 0])?;
+        put(rt, bytes, before);
+        put(rt, bytes, &[i + 1]);
+        put(rt, bytes, behind);
     }
-    Ok(bytes)
 }
 
-// So many private queues, of blocks 1, 2 and on of client 7, which have an End each.
-fn queues_of(alloc: Global, count: u8) -> Result<Vec<u8>, Fail> {
-    let mut bytes = Vec::from_slice(alloc, &[count])?;
-    for i in 0..count {
-        bytes.extend_from_slice(&[0, 0, 0, 7, 0, 0, 0, 1, 0, 0, 0, i + 1, 2, 0, 0, 0, 1, 1])?;
-    }
-    Ok(bytes)
+// So many words, and no holder.
+fn put_front(rt: &impl Abort, bytes: &mut Vec<u8>, words: u8) {
+    put(rt, bytes, &[2, 0, 0, 0, 1, words]);
+    put_times(rt, bytes, words, &[0; 8]);
+    put(rt, bytes, &[0]);
 }
 
-// What is said of such an image.
-fn told(
-    alloc: Global,
-    words: u8,
-    parts: &[&[u8]],
-    pending: &[u8],
-) -> Result<Option<ReadError>, Fail> {
-    let image = image_of(alloc, words, parts)?;
-    Ok(fault(alloc, &image, pending))
-}
-
-const BAD: Option<ReadError> = Some(ReadError::BadImage);
-
-#[test]
-fn words_and_marks_have_limits(rt: HostRuntime) -> Result<(), Fail> {
-    let alloc = rt.alloc();
-    assert_eq!(rt; told(alloc, 0, &[&[0, 0]], &[])?, BAD);
-    assert_eq!(rt; told(alloc, 1, &[&[0, 0]], &[])?, None);
-    assert_eq!(rt; told(alloc, 16, &[&[0, 0]], &[])?, None);
-    assert_eq!(rt; told(alloc, 17, &[&[0, 0]], &[])?, BAD);
-    for (count, error) in [(64, None), (65, BAD)] {
-        let marks = marks_of(alloc, count)?;
-        assert_eq!(rt; told(alloc, 1, &[&marks, &[0]], &[])?, error);
-    }
-    Ok(())
+// Client 7's block 1 is open, and its queue has so many pending entries.
+fn put_open(rt: &impl Abort, bytes: &mut Vec<u8>, pending: u8) {
+    put_front(rt, bytes, 1);
+    put(rt, bytes, b"\x01\0\0\0\x07\0\0\0\x01\0\0\0\x01\x02\0\0\0");
+    put(rt, bytes, &[pending]);
+    put(
+        rt,
+        bytes,
+        b"\0\0\x01\0\0\0\x07\0\0\0\x01\0\0\0\x01\x01\0\0\0\x01",
+    );
+    put(rt, bytes, &[pending]);
 }
 
 // The mark of client 7's block 66, which is over.
 const OVER: [u8; 20] = *b"\x01\0\0\0\x07\0\0\0\x01\0\0\0\x42\x03\0\0\0\0\0\0";
 
-#[test]
-fn private_queues_have_a_limit(rt: HostRuntime) -> Result<(), Fail> {
-    let alloc = rt.alloc();
-    for (count, error) in [(64, None), (65, BAD)] {
-        let queues = queues_of(alloc, count)?;
-        let ends = counted(alloc, count, &[3])?;
-        let ends = ends.get(1..).ok_or("the Ends")?;
-        assert_eq!(rt; told(alloc, 1, &[&OVER, &queues], ends)?, error);
+// What stands before and behind a client's number in its mark, and before and behind a block's in its queue.
+const MARK: ([u8; 3], [u8; 15]) = (*b"\0\0\0", *b"\0\0\0\x01\0\0\0\0\x03\0\0\0\0\0\0");
+
+const QUEUE: ([u8; 11], [u8; 6]) = (*b"\0\0\0\x07\0\0\0\x01\0\0\0", *b"\x02\0\0\0\x01\x01");
+
+fn put_image(rt: &impl Abort, bytes: &mut Vec<u8>, many: Many) {
+    match many {
+        Many::Words(count) => {
+            put_front(rt, bytes, count);
+            put(rt, bytes, &[0, 0]);
+        }
+        Many::Marks(count) => {
+            put_front(rt, bytes, 1);
+            put_counted(rt, bytes, count, &MARK.0, &MARK.1);
+            put(rt, bytes, &[0]);
+        }
+        Many::Queues(count) => {
+            put_front(rt, bytes, 1);
+            put(rt, bytes, &OVER);
+            put_counted(rt, bytes, count, &QUEUE.0, &QUEUE.1);
+        }
+        Many::Calls(count) => put_open(rt, bytes, count),
+        Many::Args(_) => put_open(rt, bytes, 1),
     }
-    Ok(())
 }
 
-// What is said of the image of client 7's block 1 with so many pending entries, all alike.
-fn told_of_pending(alloc: Global, count: u8, entry: &[u8]) -> Result<Option<ReadError>, Fail> {
-    let mark = [
-        1, 0, 0, 0, 7, 0, 0, 0, 1, 0, 0, 0, 1, 2, 0, 0, 0, count, 0, 0,
-    ];
-    let queue = [1, 0, 0, 0, 7, 0, 0, 0, 1, 0, 0, 0, 1, 1, 0, 0, 0, 1, count];
-    let entries = counted(alloc, count, entry)?;
-    let entries = entries.get(1..).ok_or("the entries")?;
-    told(alloc, 1, &[&mark, &queue], entries)
+fn put_pending(rt: &impl Abort, bytes: &mut Vec<u8>, many: Many) {
+    match many {
+        Many::Words(_) | Many::Marks(_) => {}
+        Many::Queues(count) => put_times(rt, bytes, count, &[3]),
+        Many::Calls(count) => put_times(rt, bytes, count, &[1, 0, 1, 0]),
+        Many::Args(count) => {
+            put(rt, bytes, &[1, 0, 0, count]);
+            put_times(rt, bytes, count, &[0; 8]);
+        }
+    }
 }
+
+// What is said of such an image.
+fn told(rt: &impl Abort, alloc: Global, many: Many) -> Option<ReadError> {
+    let mut image = Vec::new(alloc);
+    put_image(rt, &mut image, many);
+    let mut pending = Vec::new(alloc);
+    put_pending(rt, &mut pending, many);
+    fault(alloc, &image, &pending)
+}
+
+fn are_told(rt: &impl Abort, alloc: Global, rows: &[(Many, Option<ReadError>)]) {
+    for i in 0..rows.len() {
+        let (many, error) = rows[i];
+        assert!(rt; told(rt, alloc, many) == error, "row {i}");
+    }
+}
+
+const WORDS_AND_MARKS: [(Many, Option<ReadError>); 6] = [
+    (Many::Words(0), BAD),
+    (Many::Words(1), None),
+    (Many::Words(16), None),
+    (Many::Words(17), BAD),
+    (Many::Marks(64), None),
+    (Many::Marks(65), BAD),
+];
 
 #[test]
-fn pending_entries_and_arguments_have_limits(rt: HostRuntime) -> Result<(), Fail> {
-    let alloc = rt.alloc();
-    assert_eq!(rt; told_of_pending(alloc, 64, &[1, 0, 1, 0])?, None);
-    assert_eq!(rt; told_of_pending(alloc, 65, &[1, 0, 1, 0])?, BAD);
-    let mut entry = [0; 44];
-    entry[0] = 1;
-    entry[3] = 4;
-    assert_eq!(rt; told_of_pending(alloc, 1, &entry[..36])?, None);
-    entry[3] = 5;
-    assert_eq!(rt; told_of_pending(alloc, 1, &entry)?, BAD);
-    Ok(())
+fn words_and_marks_have_limits(rt: HostRuntime) {
+    are_told(&rt, rt.alloc(), &WORDS_AND_MARKS);
+}
+
+const QUEUES: [(Many, Option<ReadError>); 2] = [(Many::Queues(64), None), (Many::Queues(65), BAD)];
+
+#[test]
+fn private_queues_have_a_limit(rt: HostRuntime) {
+    are_told(&rt, rt.alloc(), &QUEUES);
+}
+
+const ENTRIES: [(Many, Option<ReadError>); 4] = [
+    (Many::Calls(64), None),
+    (Many::Calls(65), BAD),
+    (Many::Args(4), None),
+    (Many::Args(5), BAD),
+];
+
+#[test]
+fn pending_entries_and_arguments_have_limits(rt: HostRuntime) {
+    are_told(&rt, rt.alloc(), &ENTRIES);
 }

@@ -1,273 +1,310 @@
 //! Images whose numbers stand at the end of 32 bits.
 
+use super::images::{is_written, put, put_times};
 use scoop_message::HandlerId;
 use scoop_record::*;
 use std::alloc::Global;
-use std::test::Fail;
+use std::process::Abort;
 
 // The highest number of 32 bits, which is also the handler's and its client's.
 const TOP: u32 = 4294967295;
 
 const BAD: Option<ReadError> = Some(ReadError::BadImage);
 
-// What an image says of a block in its mark, or in its private queue.
+// What an image says of a block: its incarnation and its number; the stage of its mark and how many entries were
+// received, or the state of its private queue and the number of the first entry that is pending.
 #[derive(Clone, Copy)]
-struct Part {
-    inc: u32,
-    num: u32,
-    // The stage of the mark, or the state of the queue.
-    state: u8,
-    // How many entries were received, or the number of the first one that is pending.
-    number: u32,
-}
+struct Part(u32, u32, u8, u32);
 
-// The mark of a block that is open, and an open, an ended and a cut queue of it.
-const MARK: Part = Part {
-    inc: TOP,
-    num: TOP,
-    state: 2,
-    number: 1,
-};
+// The stages of marks, and the states of queues.
+const OPENED: u8 = 2;
 
-const OPEN: Part = Part { state: 1, ..MARK };
+const OVER: u8 = 3;
 
-const ENDED: Part = Part { state: 2, ..MARK };
+const OPEN: u8 = 1;
 
-const CUT: Part = Part { state: 3, ..MARK };
+const ENDED: u8 = 2;
 
-fn put_part(bytes: &mut Vec<u8>, part: Part) -> Result<(), Fail> {
-    for number in [TOP, part.inc, part.num] {
-        bytes.extend_from_slice(&number.to_be_bytes())?;
-    }
-    bytes.push(part.state)?;
-    bytes.extend_from_slice(&part.number.to_be_bytes())?;
-    Ok(())
-}
+const CUT: u8 = 3;
 
-// The image of a handler with the word 2^64-1, this holder, one mark, which these bytes end, and one private
-// queue with so many pending entries.
-fn image_of(
-    alloc: Global,
-    holder: &[u8],
+// The handler with its word, 2^64-1.
+const FRONT: [u8; 14] = *b"\x02\xff\xff\xff\xff\x01\xff\xff\xff\xff\xff\xff\xff\xff";
+
+const NO_HOLDER: [u8; 1] = [0];
+
+// A handler with a holder, one mark, which these bytes end, and one private queue, which has so many calls pending, and
+// an End where it has ended.
+#[derive(Clone, Copy)]
+struct Shape<'s> {
+    holder: &'s [u8],
     mark: Part,
-    mark_end: &[u8],
+    mark_end: &'s [u8],
     queue: Part,
-    pending: u8,
-) -> Result<Vec<u8>, Fail> {
-    let mut bytes = Vec::from_slice(alloc, &[2, 255, 255, 255, 255, 1])?;
-    bytes.extend_from_slice(&[255; 8])?;
-    bytes.extend_from_slice(holder)?;
-    bytes.push(1)?;
-    put_part(&mut bytes, mark)?;
-    bytes.extend_from_slice(mark_end)?;
-    bytes.push(1)?;
-    put_part(&mut bytes, queue)?;
-    bytes.push(pending)?;
-    Ok(bytes)
+    calls: u8,
 }
 
-// So many calls, and an End behind them if it is asked for.
-fn entries_of(alloc: Global, calls: u8, ended: bool) -> Result<Vec<u8>, Fail> {
-    let mut bytes = Vec::new(alloc);
-    for _ in 0..calls {
-        bytes.extend_from_slice(&[1, 0, 1, 0])?;
-    }
-    if ended {
-        bytes.push(3)?;
-    }
-    Ok(bytes)
+// How many Ends are pending.
+fn ends_of(queue: Part) -> u8 {
+    u8::from(queue.2 == ENDED)
+}
+
+fn put_part(rt: &impl Abort, bytes: &mut Vec<u8>, part: Part) {
+    let Part(inc, num, state, number) = part;
+    put(rt, bytes, &TOP.to_be_bytes());
+    put(rt, bytes, &inc.to_be_bytes());
+    put(rt, bytes, &num.to_be_bytes());
+    put(rt, bytes, &[state]);
+    put(rt, bytes, &number.to_be_bytes());
+}
+
+fn put_image(rt: &impl Abort, bytes: &mut Vec<u8>, shape: Shape<'_>) {
+    put(rt, bytes, &FRONT);
+    put(rt, bytes, shape.holder);
+    put(rt, bytes, &[1]);
+    put_part(rt, bytes, shape.mark);
+    put(rt, bytes, shape.mark_end);
+    put(rt, bytes, &[1]);
+    put_part(rt, bytes, shape.queue);
+    put(
+        rt,
+        bytes,
+        &[shape.calls.saturating_add(ends_of(shape.queue))],
+    );
 }
 
 // What is said of these bytes. The state that they are is written as the same bytes.
-fn told(alloc: Global, bytes: &[u8], entries: &[u8]) -> Result<Option<ReadError>, Fail> {
-    let state = match read_image(alloc, HandlerId(TOP), bytes, entries) {
-        Ok(state) => state,
-        Err(error) => return Ok(Some(error)),
-    };
-    if image(alloc, &state)?.as_slice() != bytes {
-        return Err(Fail::new("another image"));
+fn said(rt: &impl Abort, alloc: Global, bytes: &[u8], entries: &[u8]) -> Option<ReadError> {
+    match read_image(alloc, HandlerId(TOP), bytes, entries) {
+        Ok(state) => {
+            assert!(rt; is_written(alloc, &state, bytes, entries));
+            None
+        }
+        Err(error) => Some(error),
     }
-    if pending_row(alloc, &state)?.as_slice() != entries {
-        return Err(Fail::new("other entries"));
-    }
-    Ok(None)
 }
 
-// What is said of a mark and a private queue, which has so many calls pending, and an End where it has ended.
-// The mark has ended where the queue has.
-fn told_of(alloc: Global, mark: Part, queue: Part, calls: u8) -> Result<Option<ReadError>, Fail> {
-    let ended = queue.state == ENDED.state;
-    let end = u8::from(ended);
-    let pending = calls.saturating_add(end);
-    let bytes = image_of(alloc, &[0], mark, &[end, 0], queue, pending)?;
-    let entries = entries_of(alloc, calls, ended)?;
-    told(alloc, &bytes, &entries)
+// What is said of such a handler.
+fn told(rt: &impl Abort, alloc: Global, shape: Shape<'_>) -> Option<ReadError> {
+    let mut bytes = Vec::new(alloc);
+    put_image(rt, &mut bytes, shape);
+    let mut entries = Vec::new(alloc);
+    put_times(rt, &mut entries, shape.calls, &[1, 0, 1, 0]);
+    put_times(rt, &mut entries, ends_of(shape.queue), &[3]);
+    said(rt, alloc, &bytes, &entries)
 }
+
+// A mark and a private queue with so many calls, and what is said of them. The mark has ended where the queue has.
+type Row = (Part, Part, u8, Option<ReadError>);
+
+fn are_told(rt: &impl Abort, alloc: Global, rows: &[Row]) {
+    for i in 0..rows.len() {
+        let (mark, queue, calls, error) = rows[i];
+        let shape = Shape {
+            holder: &NO_HOLDER,
+            mark,
+            mark_end: &[ends_of(queue), 0],
+            queue,
+            calls,
+        };
+        assert!(rt; told(rt, alloc, shape) == error, "row {i}");
+    }
+}
+
+const OPEN_QUEUES: [Row; 7] = [
+    (
+        Part(TOP, TOP, OPENED, TOP - 1),
+        Part(TOP, TOP, OPEN, TOP),
+        0,
+        None,
+    ),
+    (
+        Part(TOP, TOP, OPENED, TOP - 1),
+        Part(TOP, TOP, OPEN, TOP - 1),
+        1,
+        None,
+    ),
+    (
+        Part(TOP, TOP, OPENED, TOP - 1),
+        Part(TOP, TOP, OPEN, TOP - 64),
+        64,
+        None,
+    ),
+    (
+        Part(TOP, TOP, OPENED, TOP),
+        Part(TOP, TOP, OPEN, TOP),
+        0,
+        BAD,
+    ),
+    (
+        Part(TOP, TOP, OPENED, TOP),
+        Part(TOP, TOP, OPEN, TOP),
+        1,
+        BAD,
+    ),
+    (
+        Part(TOP, TOP, OPENED, TOP),
+        Part(TOP, TOP, OPEN, TOP - 63),
+        64,
+        BAD,
+    ),
+    // In 32 bits the next number would be 1.
+    (Part(TOP, TOP, OPENED, 0), Part(TOP, TOP, OPEN, TOP), 2, BAD),
+];
 
 // What was received is what was pending at last, so the next entry's number is one above it. In an open queue
 // that is TOP at most, which is kept for an End: TOP-1 entries may have been received.
 #[test]
-fn an_open_queue_keeps_the_last_number(rt: HostRuntime) -> Result<(), Fail> {
-    let rows = [
-        (TOP - 1, TOP, 0, None),
-        (TOP - 1, TOP - 1, 1, None),
-        (TOP - 1, TOP - 64, 64, None),
-        (TOP, TOP, 0, BAD),
-        (TOP, TOP, 1, BAD),
-        (TOP, TOP - 63, 64, BAD),
-        // In 32 bits the next number would be 1.
-        (0, TOP, 2, BAD),
-    ];
-    for (received, first, calls, error) in rows {
-        let mark = Part {
-            number: received,
-            ..MARK
-        };
-        let queue = Part {
-            number: first,
-            ..OPEN
-        };
-        assert_eq!(rt; told_of(rt.alloc(), mark, queue, calls)?, error, "{first}");
-    }
-    Ok(())
+fn an_open_queue_keeps_the_last_number(rt: HostRuntime) {
+    are_told(&rt, rt.alloc(), &OPEN_QUEUES);
 }
+
+const ENDED_QUEUES: [Row; 6] = [
+    (
+        Part(TOP, TOP, OPENED, TOP),
+        Part(TOP, TOP, ENDED, TOP),
+        0,
+        None,
+    ),
+    (
+        Part(TOP, TOP, OPENED, TOP),
+        Part(TOP, TOP, ENDED, TOP - 1),
+        1,
+        None,
+    ),
+    (
+        Part(TOP, TOP, OPENED, TOP),
+        Part(TOP, TOP, ENDED, TOP - 63),
+        63,
+        None,
+    ),
+    (
+        Part(TOP, TOP, OPENED, TOP),
+        Part(TOP, TOP, ENDED, TOP),
+        1,
+        BAD,
+    ),
+    (
+        Part(TOP, TOP, OPENED, TOP),
+        Part(TOP, TOP, ENDED, TOP - 62),
+        63,
+        BAD,
+    ),
+    // In 32 bits the next number would be 1.
+    (
+        Part(TOP, TOP, OPENED, 0),
+        Part(TOP, TOP, ENDED, TOP),
+        1,
+        BAD,
+    ),
+];
 
 // The End may have the number TOP, so TOP entries may have been received.
 #[test]
-fn an_end_may_have_the_last_number(rt: HostRuntime) -> Result<(), Fail> {
-    let rows = [
-        (TOP, TOP, 0, None),
-        (TOP, TOP - 1, 1, None),
-        (TOP, TOP - 63, 63, None),
-        (TOP, TOP, 1, BAD),
-        (TOP, TOP - 62, 63, BAD),
-        // In 32 bits the next number would be 1.
-        (0, TOP, 1, BAD),
-    ];
-    for (received, first, calls, error) in rows {
-        let mark = Part {
-            number: received,
-            ..MARK
-        };
-        let queue = Part {
-            number: first,
-            ..ENDED
-        };
-        assert_eq!(rt; told_of(rt.alloc(), mark, queue, calls)?, error, "{first}");
-    }
-    Ok(())
+fn an_end_may_have_the_last_number(rt: HostRuntime) {
+    are_told(&rt, rt.alloc(), &ENDED_QUEUES);
 }
+
+// The client has greeted with its last incarnation, and has no block yet.
+const NO_BLOCK: Part = Part(TOP, 0, OVER, 0);
+
+const CUT_QUEUES: [Row; 5] = [
+    (NO_BLOCK, Part(TOP - 1, TOP, CUT, TOP), 1, None),
+    (NO_BLOCK, Part(TOP - 1, TOP, CUT, TOP - 63), 64, None),
+    (NO_BLOCK, Part(TOP - 1, TOP, CUT, TOP), 2, BAD),
+    (NO_BLOCK, Part(TOP - 1, TOP, CUT, TOP - 62), 64, BAD),
+    (NO_BLOCK, Part(TOP, TOP, CUT, TOP), 1, BAD),
+];
 
 // The last entry of a cut queue may have the number TOP, and its incarnation is below that of the mark.
 #[test]
-fn a_cut_queue_may_have_the_last_number(rt: HostRuntime) -> Result<(), Fail> {
-    let rows = [
-        (TOP - 1, TOP, 1, None),
-        (TOP - 1, TOP - 63, 64, None),
-        (TOP - 1, TOP, 2, BAD),
-        (TOP - 1, TOP - 62, 64, BAD),
-        (TOP, TOP, 1, BAD),
-    ];
-    // The client has greeted with its last incarnation, and has no block yet.
-    let mark = Part {
-        num: 0,
-        state: 3,
-        number: 0,
-        ..MARK
-    };
-    for (inc, first, calls, error) in rows {
-        let queue = Part {
-            inc,
-            number: first,
-            ..CUT
-        };
-        assert_eq!(rt; told_of(rt.alloc(), mark, queue, calls)?, error, "{first}");
-    }
-    Ok(())
+fn a_cut_queue_may_have_the_last_number(rt: HostRuntime) {
+    are_told(&rt, rt.alloc(), &CUT_QUEUES);
 }
+
+const BLOCKS: [Row; 8] = [
+    (Part(TOP, TOP, OPENED, 1), Part(TOP, TOP, ENDED, 1), 0, None),
+    (
+        Part(TOP, TOP, OPENED, 1),
+        Part(TOP, TOP - 1, ENDED, 1),
+        0,
+        None,
+    ),
+    (Part(TOP, TOP, OPENED, 1), Part(0, 0, ENDED, 1), 0, None),
+    (
+        Part(TOP, TOP - 1, OPENED, 1),
+        Part(TOP, TOP, ENDED, 1),
+        0,
+        BAD,
+    ),
+    (
+        Part(TOP, 0, OPENED, 1),
+        Part(TOP - 1, TOP, ENDED, 1),
+        0,
+        None,
+    ),
+    (
+        Part(TOP - 1, TOP, OPENED, 1),
+        Part(TOP, 0, ENDED, 1),
+        0,
+        BAD,
+    ),
+    (Part(0, 0, OPENED, 1), Part(0, 0, ENDED, 1), 0, None),
+    (Part(0, 0, OPENED, 1), Part(TOP, TOP, ENDED, 1), 0, BAD),
+];
 
 // A private queue's block isn't above that of its client's mark: by the incarnation, then by the number.
 #[test]
-fn no_queue_is_above_the_last_block(rt: HostRuntime) -> Result<(), Fail> {
-    let rows = [
-        ((TOP, TOP), (TOP, TOP), None),
-        ((TOP, TOP), (TOP, TOP - 1), None),
-        ((TOP, TOP), (0, 0), None),
-        ((TOP, TOP - 1), (TOP, TOP), BAD),
-        ((TOP, 0), (TOP - 1, TOP), None),
-        ((TOP - 1, TOP), (TOP, 0), BAD),
-        ((0, 0), (0, 0), None),
-        ((0, 0), (TOP, TOP), BAD),
-    ];
-    for ((inc, num), (queue_inc, queue_num), error) in rows {
-        let mark = Part { inc, num, ..MARK };
-        let queue = Part {
-            inc: queue_inc,
-            num: queue_num,
-            ..ENDED
-        };
-        assert_eq!(rt;
-            told_of(rt.alloc(), mark, queue, 0)?,
-            error,
-            "{inc} {num} {queue_inc} {queue_num}"
-        );
-    }
-    Ok(())
+fn no_queue_is_above_the_last_block(rt: HostRuntime) {
+    are_told(&rt, rt.alloc(), &BLOCKS);
 }
 
-// A holder of the client's last incarnation, and of the last block where this is 255.
-fn holder_of(last: u8) -> [u8; 13] {
-    let mut holder = [255; 13];
-    holder[0] = 1;
-    holder[12] = last;
-    holder
-}
+// The last block, which has ended, with one of these holders: itself, and the block before it.
+const HELD: Shape<'static> = Shape {
+    holder: b"\x01\xff\xff\xff\xff\xff\xff\xff\xff\xff\xff\xff\xff",
+    mark: Part(TOP, TOP, OPENED, 1),
+    mark_end: &[1, 0],
+    queue: Part(TOP, TOP, ENDED, 1),
+    calls: 0,
+};
+
+const HELD_BY_OTHER: Shape<'static> = Shape {
+    holder: b"\x01\xff\xff\xff\xff\xff\xff\xff\xff\xff\xff\xff\xfe",
+    ..HELD
+};
 
 #[test]
-fn the_last_block_may_hold_the_lock(rt: HostRuntime) -> Result<(), Fail> {
+fn the_last_block_may_hold_the_lock(rt: HostRuntime) {
     // It is its client's newest block, and no other.
-    for (last, error) in [(255, None), (254, BAD)] {
-        let holder = holder_of(last);
-        let bytes = image_of(rt.alloc(), &holder, MARK, &[1, 0], ENDED, 1)?;
-        assert_eq!(rt; told(rt.alloc(), &bytes, &[3])?, error);
-    }
-    Ok(())
+    assert!(rt; told(&rt, rt.alloc(), HELD).is_none());
+    assert!(rt; told(&rt, rt.alloc(), HELD_BY_OTHER) == BAD);
 }
 
 // The kept answer 2^64-1 of the query with the number TOP, behind a mark that has not ended.
-fn kept_answer() -> [u8; 15] {
-    let mut bytes = [255; 15];
-    bytes[0] = 0;
-    bytes[1] = 1;
-    bytes[6] = 1;
-    bytes
-}
+const KEPT: [u8; 15] = *b"\0\x01\xff\xff\xff\xff\x01\xff\xff\xff\xff\xff\xff\xff\xff";
+
+const OPEN_KEPT: Shape<'static> = Shape {
+    holder: &NO_HOLDER,
+    mark: Part(TOP, TOP, OPENED, TOP - 1),
+    mark_end: &KEPT,
+    queue: Part(TOP, TOP, OPEN, TOP),
+    calls: 0,
+};
+
+const OVER_KEPT: Shape<'static> = Shape {
+    mark: Part(TOP, TOP, OVER, 0),
+    queue: Part(TOP - 1, TOP, ENDED, 1),
+    ..OPEN_KEPT
+};
+
+const OVER_BARE: Shape<'static> = Shape {
+    mark_end: &[0, 0],
+    ..OVER_KEPT
+};
 
 // Nothing but its 32 bits binds the number of a kept answer, but only an open block has one.
 #[test]
-fn the_last_query_may_have_a_kept_answer(rt: HostRuntime) -> Result<(), Fail> {
-    let mark = Part {
-        number: TOP - 1,
-        ..MARK
-    };
-    let queue = Part {
-        number: TOP,
-        ..OPEN
-    };
-    let bytes = image_of(rt.alloc(), &[0], mark, &kept_answer(), queue, 0)?;
-    assert_eq!(rt; told(rt.alloc(), &bytes, &[])?, None);
-    let mark = Part {
-        state: 3,
-        number: 0,
-        ..MARK
-    };
-    let queue = Part {
-        inc: TOP - 1,
-        ..ENDED
-    };
-    let bytes = image_of(rt.alloc(), &[0], mark, &kept_answer(), queue, 1)?;
-    assert_eq!(rt; told(rt.alloc(), &bytes, &[3])?, BAD);
-    let bytes = image_of(rt.alloc(), &[0], mark, &[0, 0], queue, 1)?;
-    assert_eq!(rt; told(rt.alloc(), &bytes, &[3])?, None);
-    Ok(())
+fn the_last_query_may_have_a_kept_answer(rt: HostRuntime) {
+    assert!(rt; told(&rt, rt.alloc(), OPEN_KEPT).is_none());
+    assert!(rt; told(&rt, rt.alloc(), OVER_KEPT) == BAD);
+    assert!(rt; told(&rt, rt.alloc(), OVER_BARE).is_none());
 }

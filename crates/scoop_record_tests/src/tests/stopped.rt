@@ -1,27 +1,23 @@
 //! Stores over files that are stopped at a call of the disk, and opened again. Each call of the log is stopped,
 //! without and with a checkpoint, and each call of the database file, which is written only at a checkpoint.
 
+use super::acts::{
+    Act, ENTRIES, FIRST, IMAGES, NO_PENDING, OLD, Step, VERSION, acts, adopted, answers, number,
+    steps, word,
+};
 use super::images::{IMAGE, PENDING};
-use super::keepers::{OLD, bytes_by, kept, waiting, word_of};
-use super::tables::version;
-use scoop_handler::HandlerState;
-use scoop_message::{ClientId, HandlerId};
+use scoop_message::ClientId;
 use scoop_record::*;
-use sqlite::{Connection, FileStore, Files, Options};
+use sqlite::{Alter, Connection, FileStore, Files, Options};
 use sqlite_disk::{Crash, Disk, Fuse, Memory};
 use std::alloc::Global;
 use std::process::Abort;
-use std::test::Fail;
 
 type Stopped = Fuse<Memory>;
 
-type Stoppable = Connection<FileStore<Stopped>>;
+type Stoppable = FileStore<Stopped>;
 
-type StoppableStore = Store<FileStore<Stopped>>;
-
-const CLIENT: ClientId = ClientId(7);
-
-// The call of a store that is stopped.
+/// The call of a store that is stopped.
 #[derive(Clone, Copy)]
 enum Call {
     Create,
@@ -30,8 +26,8 @@ enum Call {
     Adopt,
 }
 
-// Where it is stopped: at the log's calls, or at those of the log or of the database file where the call begins
-// with a checkpoint.
+/// Where it is stopped: at the log's calls, or at those of the log or of the database file where the call begins
+/// with a checkpoint.
 #[derive(Clone, Copy)]
 enum Part {
     Log,
@@ -39,32 +35,40 @@ enum Part {
     File,
 }
 
-// A file with these bytes that takes so many calls.
-fn file_with(alloc: Global, bytes: &[u8], calls: u64) -> Result<Stopped, Fail> {
+/// A file with these bytes that takes so many calls.
+fn file(rt: &impl Abort, alloc: Global, bytes: &[u8], calls: u64) -> Stopped {
     let mut file = Memory::new(alloc);
-    file.write_at(0, bytes)?;
-    file.sync()?;
-    Ok(Fuse::new(file, calls))
+    let written = file.write_at(0, bytes).is_ok() && file.sync().is_ok();
+    assert!(rt; written);
+    Fuse::new(file, calls)
 }
 
-// Files with the same bytes, of which that part takes so many calls.
+fn blank(rt: &impl Abort, alloc: Global) -> Files<Stopped> {
+    Files {
+        log: file(rt, alloc, &[], u64::MAX),
+        db: file(rt, alloc, &[], u64::MAX),
+    }
+}
+
+/// Files with the same bytes, of which that part takes so many calls.
 fn copy_of(
+    rt: &impl Abort,
     alloc: Global,
     files: &Files<Stopped>,
     part: Part,
     calls: u64,
-) -> Result<Files<Stopped>, Fail> {
+) -> Files<Stopped> {
     let (log, db) = match part {
         Part::Log | Part::LogAtCheckpoint => (calls, u64::MAX),
         Part::File => (u64::MAX, calls),
     };
-    Ok(Files {
-        log: file_with(alloc, files.log.inner().bytes(), log)?,
-        db: file_with(alloc, files.db.inner().bytes(), db)?,
-    })
+    Files {
+        log: file(rt, alloc, files.log.inner().bytes(), log),
+        db: file(rt, alloc, files.db.inner().bytes(), db),
+    }
 }
 
-// With a checkpoint where a transaction first writes to a log that isn't empty, or with none.
+/// With a checkpoint where a transaction first writes to a log that isn't empty, or with none.
 fn options_of(part: Part) -> Options {
     match part {
         Part::Log => Options::new(1),
@@ -75,280 +79,291 @@ fn options_of(part: Part) -> Options {
     }
 }
 
-fn open(alloc: Global, files: Files<Stopped>, part: Part) -> Result<Stoppable, Files<Stopped>> {
+// What names the files' type does one thing alone, and takes nothing apart.
+fn connected(
+    alloc: Global,
+    files: Files<Stopped>,
+    options: Options,
+) -> Option<Connection<Stoppable>> {
     if !files.may_be_used() {
-        return Err(files);
+        return None;
     }
-    match Connection::open_files(alloc, files, options_of(part)) {
-        Ok(conn) => Ok(conn),
-        Err((_, left)) => Err(left.into_files()),
-    }
-}
-
-// Without a checkpoint.
-fn opened(alloc: Global, files: Files<Stopped>) -> Result<Stoppable, Fail> {
-    Ok(open(alloc, files, Part::Log).ok().ok_or("opened")?)
-}
-
-// What the files hold once the connection is gone.
-fn left_by(conn: Stoppable) -> Files<Stopped> {
-    conn.into_store().close()
-}
-
-fn run_texts(conn: &mut Stoppable, texts: &[&str]) -> Result<(), Fail> {
-    for text in texts {
-        conn.execute(text, &[])?;
-    }
-    Ok(())
-}
-
-// Each call of a store stands alone here, so that the functions below don't carry what all of them say.
-fn created(alloc: Global, conn: Stoppable) -> Result<StoppableStore, Fail> {
-    Ok(Store::create(alloc, conn)?)
-}
-
-fn adopted(alloc: Global, conn: Stoppable) -> Option<StoppableStore> {
-    Store::adopt(alloc, conn).ok()
-}
-
-fn puts(store: &mut StoppableStore, state: &HandlerState) -> bool {
-    store.put_handler(state).is_ok()
-}
-
-fn next(store: &mut StoppableStore) -> Option<u32> {
-    store.next_incarnation(CLIENT).ok()
-}
-
-fn connection(store: StoppableStore) -> Stoppable {
-    store.into_connection()
-}
-
-fn creates_in(conn: &mut Stoppable) -> bool {
-    create_tables(conn).is_ok()
-}
-
-fn adopts_in(alloc: Global, conn: &mut Stoppable) -> bool {
-    adopt_tables(alloc, conn).is_ok()
-}
-
-// Files with no tables; for what comes after a creation, a store with the word 5, nothing pending and one
-// incarnation; for a migration, one of version 1 whose handler has pending entries. Where there is to be a
-// checkpoint, the log isn't empty: before a creation, it has a table that came and went.
-fn files_before(alloc: Global, call: Call, part: Part) -> Result<Files<Stopped>, Fail> {
-    let blank = Files {
-        log: file_with(alloc, &[], u64::MAX)?,
-        db: file_with(alloc, &[], u64::MAX)?,
-    };
-    let mut conn = opened(alloc, blank)?;
-    if matches!(call, Call::Create) {
-        if !matches!(part, Part::Log) {
-            run_texts(
-                &mut conn,
-                &["CREATE TABLE t (a INTEGER) STRICT", "DROP TABLE t"],
-            )?;
-        }
-        return Ok(left_by(conn));
-    }
-    let mut store = created(alloc, conn)?;
-    puts(&mut store, &kept(alloc, 5)?);
-    next(&mut store);
-    let mut conn = connection(store);
-    if matches!(call, Call::Adopt) {
-        let texts = [
-            "DROP TABLE pending",
-            "UPDATE meta SET version = 1",
-            "DELETE FROM handlers",
-            OLD,
-        ];
-        run_texts(&mut conn, &texts)?;
-    }
-    Ok(left_by(conn))
-}
-
-// Makes the call, and tells whether it succeeded. `None` where the store isn't open by then.
-fn called(
-    alloc: Global,
-    mut conn: Stoppable,
-    call: Call,
-) -> Result<Option<(bool, Stoppable)>, Fail> {
-    let done = match call {
-        Call::Create => creates_in(&mut conn),
-        Call::Adopt => adopts_in(alloc, &mut conn),
-        Call::Put | Call::Next => return called_on_store(alloc, conn, call),
-    };
-    Ok(Some((done, conn)))
-}
-
-fn called_on_store(
-    alloc: Global,
-    conn: Stoppable,
-    call: Call,
-) -> Result<Option<(bool, Stoppable)>, Fail> {
-    let Some(mut store) = adopted(alloc, conn) else {
-        return Ok(None);
-    };
-    let done = match call {
-        Call::Put => puts(&mut store, &waiting(alloc, 6)?),
-        _ => next(&mut store).is_some(),
-    };
-    Ok(Some((done, connection(store))))
-}
-
-// All tables, or none: where no record is taken, one is made.
-fn has_tables(alloc: Global, conn: &mut Stoppable) -> Result<bool, Fail> {
-    if adopts_in(alloc, conn) {
-        return Ok(true);
-    }
-    if creates_in(conn) {
-        return Ok(false);
-    }
-    Err(Fail::new("some of the tables"))
-}
-
-// Version 2, or version 1, of which an adoption still makes the same of version 2.
-fn has_version(alloc: Global, conn: &mut Stoppable) -> Result<bool, Fail> {
-    let before = version(conn).ok_or("a version")?;
-    if !adopts_in(alloc, conn) || version(conn) != Some(2) {
-        return Err(Fail::new("no record"));
-    }
-    let image = bytes_by(conn, "SELECT image FROM handlers WHERE h = ?1")?;
-    let entries = bytes_by(conn, "SELECT entries FROM pending WHERE h = ?1")?;
-    if image.as_slice() != IMAGE.as_slice() || entries.as_slice() != PENDING.as_slice() {
-        return Err(Fail::new("another state"));
-    }
-    Ok(before == 2)
-}
-
-// These take the store, so that it is dropped in here and not at each way out of the functions below.
-fn loaded_in(mut store: StoppableStore) -> Option<HandlerState> {
-    match store.load_handler(HandlerId(1)) {
-        Ok(found) => found,
+    match Connection::open_files(alloc, files, options) {
+        Ok(conn) => Some(conn),
         Err(_) => None,
     }
 }
 
-fn next_in(mut store: StoppableStore) -> Option<u32> {
-    next(&mut store)
+fn left_by(medium: Stoppable) -> Files<Stopped> {
+    medium.close()
 }
 
-fn number_in(store: StoppableStore, call: Call) -> Result<u64, Fail> {
-    match call {
-        Call::Put => word_of(&loaded_in(store).ok_or("a state")?),
-        _ => Ok(u64::from(next_in(store).ok_or("a number")?)),
+const CAME_AND_WENT: [Step; 2] = [
+    Step::Run("CREATE TABLE t (a INTEGER) STRICT"),
+    Step::Run("DROP TABLE t"),
+];
+
+/// A store with the word 5, nothing pending and one incarnation.
+const STORE: Step = Step::Create(&[Act::Put(5), Act::Next(7, Ok(1))]);
+
+const STORED: [Step; 1] = [STORE];
+
+const STORED_OLD: [Step; 5] = [
+    STORE,
+    NO_PENDING,
+    FIRST,
+    Step::Run("DELETE FROM handlers"),
+    OLD,
+];
+
+/// For a creation no tables; for what comes after one, a store with the word 5, nothing pending and one incarnation;
+/// for a migration, one of version 1 whose handler has pending entries. Where there is to be a checkpoint, the log
+/// isn't empty: before a creation, it has a table that came and went.
+fn prepared<S: Alter + Drop>(
+    rt: &impl Abort,
+    alloc: Global,
+    conn: Connection<S>,
+    call: Call,
+    part: Part,
+) -> Connection<S> {
+    match (call, part) {
+        (Call::Create, Part::Log) => conn,
+        (Call::Create, _) => steps(rt, alloc, conn, &CAME_AND_WENT),
+        (Call::Put | Call::Next, _) => steps(rt, alloc, conn, &STORED),
+        (Call::Adopt, _) => steps(rt, alloc, conn, &STORED_OLD),
     }
 }
 
-// The word or the incarnation that the call stores, or the one before it.
-fn has_number(alloc: Global, conn: Stoppable, call: Call) -> Result<bool, Fail> {
-    let store = adopted(alloc, conn).ok_or("a store")?;
-    let found = number_in(store, call)?;
-    let (old, new) = match call {
-        Call::Put => (5, 6),
-        _ => (2, 3),
+/// What is below such a database.
+fn medium_before<S: Alter + Drop>(
+    rt: &impl Abort,
+    alloc: Global,
+    conn: Option<Connection<S>>,
+    call: Call,
+    part: Part,
+) -> S {
+    match conn {
+        Some(conn) => prepared(rt, alloc, conn, call, part).into_store(),
+        None => panic!(rt; "no connection"),
+    }
+}
+
+fn files_before(rt: &impl Abort, alloc: Global, call: Call, part: Part) -> Files<Stopped> {
+    let conn = connected(alloc, blank(rt, alloc), Options::new(1));
+    left_by(medium_before(rt, alloc, conn, call, part))
+}
+
+/// What is below a database once the call is made there, and whether that succeeded.
+fn called_there<S: Alter + Drop>(
+    alloc: Global,
+    mut conn: Connection<S>,
+    step: Step,
+    done: &mut bool,
+) -> S {
+    *done = answers(alloc, &mut conn, step);
+    conn.into_store()
+}
+
+/// The same at a store, `None` where none opens.
+fn called_at<S: Alter + Drop>(
+    rt: &impl Abort,
+    alloc: Global,
+    store: Option<Store<S>>,
+    act: Act,
+    done: &mut bool,
+) -> Option<S> {
+    let mut store = store?;
+    *done = acts(rt, alloc, &mut store, act);
+    Some(store.into_connection().into_store())
+}
+
+/// The same of any call, `None` where the store or the database isn't open by then.
+fn called<S: Alter + Drop>(
+    rt: &impl Abort,
+    alloc: Global,
+    conn: Option<Connection<S>>,
+    call: Call,
+    done: &mut bool,
+) -> Option<S> {
+    let conn = conn?;
+    match call {
+        Call::Create => Some(called_there(alloc, conn, Step::Make(None), done)),
+        Call::Adopt => Some(called_there(alloc, conn, Step::Take(None), done)),
+        Call::Put => called_at(rt, alloc, adopted(alloc, conn), Act::PutWaiting(6), done),
+        Call::Next => called_at(rt, alloc, adopted(alloc, conn), Act::Next(7, Ok(2)), done),
+    }
+}
+
+/// All tables, or none: where no record is taken, one is made.
+fn has_tables<S: Alter + Drop>(rt: &impl Abort, alloc: Global, mut conn: Connection<S>) -> bool {
+    let taken = answers(alloc, &mut conn, Step::Take(None));
+    assert!(rt; taken || answers(alloc, &mut conn, Step::Make(None)));
+    taken
+}
+
+const MIGRATED: [Step; 4] = [
+    Step::Take(None),
+    Step::Number(VERSION, Some(2)),
+    Step::Bytes(IMAGES, &IMAGE),
+    Step::Bytes(ENTRIES, &PENDING),
+];
+
+/// Version 2, or version 1, of which an adoption still makes the same of version 2.
+fn has_version<S: Alter + Drop>(rt: &impl Abort, alloc: Global, mut conn: Connection<S>) -> bool {
+    let before = number(&mut conn, VERSION);
+    assert!(rt; before.is_some());
+    let _conn = steps(rt, alloc, conn, &MIGRATED);
+    before == Some(2)
+}
+
+/// The word that the put stores, or the one before it.
+fn has_word<K: Keeper<Global>>(rt: &impl Abort, keeper: &mut K) -> bool {
+    match word(rt, keeper) {
+        Ok(Some(5)) => false,
+        Ok(Some(6)) => true,
+        _ => panic!(rt; "another state"),
+    }
+}
+
+/// The number behind the incarnation that the call stores, or behind the one before it.
+fn has_number<K: Keeper<Global>>(rt: &impl Abort, keeper: &mut K) -> bool {
+    match keeper.next_incarnation(ClientId(7)) {
+        Ok(2) => false,
+        Ok(3) => true,
+        _ => panic!(rt; "another number"),
+    }
+}
+
+fn has_call<K: Keeper<Global>>(rt: &impl Abort, keeper: Option<K>, call: Call) -> bool {
+    let mut keeper = match keeper {
+        Some(keeper) => keeper,
+        None => panic!(rt; "no store"),
     };
-    if found != old && found != new {
-        return Err(Fail::new("another state"));
-    }
-    Ok(found == new)
-}
-
-// Whether what is found in the files is what the call stores, and not what was there before it.
-fn has_it(alloc: Global, files: Files<Stopped>, call: Call) -> Result<bool, Fail> {
-    let mut conn = opened(alloc, files)?;
     match call {
-        Call::Create => has_tables(alloc, &mut conn),
-        Call::Adopt => has_version(alloc, &mut conn),
-        Call::Put | Call::Next => has_number(alloc, conn, call),
+        Call::Put => has_word(rt, &mut keeper),
+        _ => has_number(rt, &mut keeper),
     }
 }
 
-// Whether what the call stores is found in the files as they were written, and as a crash leaves them, which
-// loses all that wasn't synced.
-fn is_found(alloc: Global, mut left: Files<Stopped>, call: Call, part: Part) -> Result<bool, Fail> {
-    let written = has_it(alloc, copy_of(alloc, &left, part, u64::MAX)?, call)?;
+/// Whether what is found in a database is what the call stores, and not what was there before it.
+fn is_found<S: Alter + Drop>(
+    rt: &impl Abort,
+    alloc: Global,
+    conn: Option<Connection<S>>,
+    call: Call,
+) -> bool {
+    let conn = match conn {
+        Some(conn) => conn,
+        None => panic!(rt; "not opened"),
+    };
+    match call {
+        Call::Create => has_tables(rt, alloc, conn),
+        Call::Adopt => has_version(rt, alloc, conn),
+        Call::Put | Call::Next => has_call(rt, adopted(alloc, conn), call),
+    }
+}
+
+/// The same of files.
+fn is_in(rt: &impl Abort, alloc: Global, files: &Files<Stopped>, call: Call) -> bool {
+    let copied = copy_of(rt, alloc, files, Part::Log, u64::MAX);
+    is_found(rt, alloc, connected(alloc, copied, Options::new(1)), call)
+}
+
+/// Whether what the call stores is found in the files as they were written, and as a crash leaves them, which
+/// loses all that wasn't synced.
+fn is_kept(rt: &impl Abort, alloc: Global, mut left: Files<Stopped>, call: Call) -> bool {
+    let written = is_in(rt, alloc, &left, call);
     left.log.crash();
     left.db.crash();
-    let synced = has_it(alloc, copy_of(alloc, &left, part, u64::MAX)?, call)?;
-    Ok(written && synced)
+    let synced = is_in(rt, alloc, &left, call);
+    written && synced
 }
 
-// Stops the call after so many calls of that part: whether it succeeded, and whether what it stores is found
-// afterwards. `None` where the files weren't open by then.
+/// Stops the call after so many calls of that part: whether it succeeded, and whether what it stores is found
+/// afterwards. `None` where the files weren't open by then.
 fn stopped(
+    rt: &impl Abort,
     alloc: Global,
     before: &Files<Stopped>,
     call: Call,
     part: Part,
     calls: u64,
-) -> Result<Option<(bool, bool)>, Fail> {
-    let conn = match open(alloc, copy_of(alloc, before, part, calls)?, part) {
-        Ok(conn) => conn,
-        Err(_) => return Ok(None),
-    };
-    let (done, conn) = match called(alloc, conn, call)? {
-        Some(made) => made,
-        None => return Ok(None),
-    };
-    let found = is_found(alloc, left_by(conn), call, part)?;
-    Ok(Some((done, found)))
+) -> Option<(bool, bool)> {
+    let copied = copy_of(rt, alloc, before, part, calls);
+    let conn = connected(alloc, copied, options_of(part));
+    let mut done = false;
+    let left = left_by(called(rt, alloc, conn, call, &mut done)?);
+    Some((done, is_kept(rt, alloc, left, call)))
 }
 
-// The first of that part's calls that the call itself makes, by halves: before it, the files aren't open.
-fn begins_at(alloc: Global, before: &Files<Stopped>, call: Call, part: Part) -> Result<u64, Fail> {
+/// The first of that part's calls that the call itself makes, by halves: before it, the files aren't open.
+fn begins_at(
+    rt: &impl Abort,
+    alloc: Global,
+    before: &Files<Stopped>,
+    call: Call,
+    part: Part,
+) -> u64 {
     let mut low = 0u64;
     let mut high = 256u64;
     for _ in 0..8 {
         let middle = low.midpoint(high);
-        if stopped(alloc, before, call, part, middle)?.is_some() {
+        if stopped(rt, alloc, before, call, part, middle).is_some() {
             high = middle;
         } else {
             low = middle;
         }
     }
-    Ok(high)
+    high
 }
 
-// Stops the call at each of that part's calls in turn, up to where it succeeds. What is found is what was there
-// before or what the call stores, and that it is where the call has succeeded.
-fn stops(rt: &impl Abort, alloc: Global, call: Call, part: Part) -> Result<(), Fail> {
-    let before = files_before(alloc, call, part)?;
-    let first = begins_at(alloc, &before, call, part)?;
+/// Stops the call at each of that part's calls in turn, up to where it succeeds. What is found is what was there
+/// before or what the call stores, and that it is where the call has succeeded.
+fn stops_in_turn(rt: &impl Abort, alloc: Global, before: &Files<Stopped>, call: Call, part: Part) {
+    let first = begins_at(rt, alloc, before, call, part);
     for more in 0..64u64 {
         let calls = first.saturating_add(more);
-        let (done, found) = stopped(alloc, &before, call, part, calls)?.ok_or("open files")?;
+        let Some((done, found)) = stopped(rt, alloc, before, call, part, calls) else {
+            panic!(rt; "no open files");
+        };
         assert!(rt; found || !done, "{more}");
         if done {
             // Else the call made no call of this part: of the database file it makes none without a checkpoint.
             assert!(rt; more > 0);
-            return Ok(());
+            return;
         }
     }
     panic!(rt; "it never succeeded")
 }
 
-// The same at each part.
-fn stops_everywhere(rt: &impl Abort, alloc: Global, call: Call) -> Result<(), Fail> {
-    stops(rt, alloc, call, Part::Log)?;
-    stops(rt, alloc, call, Part::LogAtCheckpoint)?;
-    stops(rt, alloc, call, Part::File)
+fn stops(rt: &impl Abort, alloc: Global, call: Call, part: Part) {
+    let before = files_before(rt, alloc, call, part);
+    stops_in_turn(rt, alloc, &before, call, part);
+}
+
+/// The same at each part.
+fn stops_everywhere(rt: &impl Abort, alloc: Global, call: Call) {
+    stops(rt, alloc, call, Part::Log);
+    stops(rt, alloc, call, Part::LogAtCheckpoint);
+    stops(rt, alloc, call, Part::File);
 }
 
 #[test]
-fn a_stopped_creation_makes_all_tables_or_none(rt: HostRuntime) -> Result<(), Fail> {
-    stops_everywhere(&rt, rt.alloc(), Call::Create)
+fn a_stopped_creation_makes_all_tables_or_none(rt: HostRuntime) {
+    stops_everywhere(&rt, rt.alloc(), Call::Create);
 }
 
 #[test]
-fn a_stopped_put_leaves_a_whole_state(rt: HostRuntime) -> Result<(), Fail> {
-    stops_everywhere(&rt, rt.alloc(), Call::Put)
+fn a_stopped_put_leaves_a_whole_state(rt: HostRuntime) {
+    stops_everywhere(&rt, rt.alloc(), Call::Put);
 }
 
 #[test]
-fn a_stopped_rise_leaves_an_incarnation(rt: HostRuntime) -> Result<(), Fail> {
-    stops_everywhere(&rt, rt.alloc(), Call::Next)
+fn a_stopped_rise_leaves_an_incarnation(rt: HostRuntime) {
+    stops_everywhere(&rt, rt.alloc(), Call::Next);
 }
 
 #[test]
-fn a_stopped_migration_leaves_one_version(rt: HostRuntime) -> Result<(), Fail> {
-    stops_everywhere(&rt, rt.alloc(), Call::Adopt)
+fn a_stopped_migration_leaves_one_version(rt: HostRuntime) {
+    stops_everywhere(&rt, rt.alloc(), Call::Adopt);
 }
