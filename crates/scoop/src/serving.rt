@@ -1,15 +1,17 @@
 //! `scoop node`: a node of a system, over UDP.
 
 use crate::failure::Failure;
-use crate::storing::{adopt, close, create};
+use crate::storing::{FiledStore, adopt, close, create};
 use crate::system_file::{read_key, read_system, tell};
 use clap::ArgMatches;
-use scoop_keeper::{Keeper, MemoryKeeper};
+use scoop_keeper::{Keeper, KeeperError, MemoryKeeper};
 use scoop_link::Link;
 use scoop_message::OutOfMemory;
+use scoop_record::Store;
 use scoop_runtime::{NodePlan, Serving, node_run, open_node_link};
 use scoop_seal::SealedLink;
 use scoop_system::System;
+use sqlite::Alter;
 use std::alloc::Global;
 use std::io;
 use std::io::BufWriter;
@@ -65,7 +67,7 @@ fn serving_in(given: &ArgMatches<'_>) -> Option<Serving> {
     Serving::new(executors, usize::try_from(history).ok()?, turns)
 }
 
-// Serves the node over the store that is asked for, which is closed behind it.
+// Serves the node over the store that is asked for, if one is.
 fn serve_over<L: Link, T: Threads + Wait + Clock + Net + Sync>(
     rt: &HostRuntime,
     threads: &T,
@@ -74,26 +76,73 @@ fn serve_over<L: Link, T: Threads + Wait + Clock + Net + Sync>(
     serving: &Serving,
     link: L,
 ) -> Result<(), Failure> {
-    let store = if let Some(path) = given.get_str("new") {
-        create(rt, path)?
-    } else if let Some(path) = given.get_str("store") {
-        adopt(rt, path)?
-    } else {
-        let _ = eprintln!(rt;
-            "scoop: no store: a restart of this node breaks the promise, since it forgets what was acknowledged"
-        );
-        serve_with(
-            rt,
-            threads,
-            plan,
-            serving,
-            MemoryKeeper::new(rt.alloc()),
-            link,
-        )?;
-        return Ok(());
-    };
-    let store = serve_with(rt, threads, plan, serving, store, link)?;
-    Ok(close(store)?)
+    match open_store(rt, given) {
+        Ok(Some(store)) => serve_stored(rt, threads, plan, serving, store, link),
+        Ok(None) => serve_unstored(rt, threads, plan, serving, link),
+        Err(error) => Err(Failure::from(error)),
+    }
+}
+
+// The store that the command line names, if it names one.
+fn open_store(rt: &HostRuntime, given: &ArgMatches<'_>) -> Result<Option<FiledStore>, KeeperError> {
+    if let Some(path) = given.get_str("new") {
+        return Ok(Some(create(rt, path)?));
+    }
+    match given.get_str("store") {
+        Some(path) => Ok(Some(adopt(rt, path)?)),
+        None => Ok(None),
+    }
+}
+
+// Serves the node over this store, which is closed behind it. What names the files' type does one thing alone: the prover
+// takes too many steps at more.
+fn serve_stored<L: Link, T: Threads + Wait + Clock + Net + Sync>(
+    rt: &HostRuntime,
+    threads: &T,
+    plan: &NodePlan,
+    serving: &Serving,
+    store: FiledStore,
+    link: L,
+) -> Result<(), Failure> {
+    closed(serve_kept(rt, threads, plan, serving, store, link))
+}
+
+// Closes the store over which a node was served.
+fn closed(served: Result<FiledStore, Failure>) -> Result<(), Failure> {
+    Ok(close(served?)?)
+}
+
+// Serves the node over a store in any place, which is handed back.
+fn serve_kept<S, L, T>(
+    rt: &HostRuntime,
+    threads: &T,
+    plan: &NodePlan,
+    serving: &Serving,
+    store: Store<S>,
+    link: L,
+) -> Result<Store<S>, Failure>
+where
+    S: Alter + Drop + Send,
+    L: Link,
+    T: Threads + Wait + Clock + Net + Sync,
+{
+    serve_with(rt, threads, plan, serving, store, link)
+}
+
+// Serves the node over a record that is in memory alone.
+fn serve_unstored<L: Link, T: Threads + Wait + Clock + Net + Sync>(
+    rt: &HostRuntime,
+    threads: &T,
+    plan: &NodePlan,
+    serving: &Serving,
+    link: L,
+) -> Result<(), Failure> {
+    let _ = eprintln!(rt;
+        "scoop: no store: a restart of this node breaks the promise, since it forgets what was acknowledged"
+    );
+    let keeper = MemoryKeeper::new(rt.alloc());
+    serve_with(rt, threads, plan, serving, keeper, link)?;
+    Ok(())
 }
 
 // Serves the node over this keeper, which is handed back.
