@@ -324,16 +324,26 @@ fn a_query_is_run(rt: HostRuntime) -> Result<(), Fail> {
     let (Some(class), Some(object)) = (class(alloc), object(alloc)) else {
         panic!(rt; "no object");
     };
-    let block = block(7, 1, 1);
     // the object has one word, which is 0, and the operation ADD of its class adds to it
     let mut handler = Handler::new(alloc, HERE, class, object)
         .ok()
         .ok_or("another class")?;
+    opens_anew(&rt, &mut handler, block(7, 1, 1))?;
+    queries(&rt, &mut handler, block(7, 1, 1))
+}
+
+// The example goes on: a client greets, and its block opens.
+fn opens_anew(rt: &impl Abort, handler: &mut Handler<Table>, block: Block) -> Result<(), Fail> {
     let greeted = handler.hear(&Message::Hello(HERE, ClientId(7), 1))?;
     assert_eq!(rt; greeted.reply, Some(Message::Welcome(HERE, ClientId(7), 1)));
     handler.hear(&Message::Lock(HERE, block))?;
     handler.hear(&Message::Open(HERE, block))?;
     handler.hear(&Message::Unlock(HERE, block))?;
+    Ok(())
+}
+
+// It ends: the block's query is logged and run.
+fn queries(rt: &impl Abort, handler: &mut Handler<Table>, block: Block) -> Result<(), Fail> {
     let args = Args::of(&[5])?;
     let query = Entries::of(&[Entry::Query(Request { op: ADD, args })])?;
     let logged = handler.hear(&Message::Log(HERE, block, 1, query))?;

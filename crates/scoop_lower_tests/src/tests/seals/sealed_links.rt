@@ -283,6 +283,11 @@ fn a_seal_is_opened_by_the_key(rt: HostRuntime) -> Result<(), Fail> {
     link.send(HANDLER, b"lock")?;
     let (_, sealed) = link.inner().sent(0).ok_or("nothing sent")?;
     assert_eq!(rt; sealed.len(), 4 + TAG_LEN);
+    opens(&rt, alloc, key, sealed)
+}
+
+// The example goes on, at the other end.
+fn opens(rt: &impl Abort, alloc: Global, key: Key, sealed: &[u8]) -> Result<(), Fail> {
     // who has the key gets the bytes, and what came without their tag is passed over
     let mut tape = TapeLink::new(alloc, 0)?;
     tape.feed(b"forged")?;
