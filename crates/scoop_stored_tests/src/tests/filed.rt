@@ -1,10 +1,9 @@
 //! A node over a store in a file.
 
 use super::{Act, Cells, Place, adopted, created, does_all, opened, word};
-use scoop_book::{Closed, Node, Pass};
+use scoop_book::{Closed, Pass};
 use scoop_keeper::Keeper;
 use scoop_message::{ClientId, HandlerId};
-use scoop_object::Table;
 use scoop_record::Store;
 use sqlite::{Alter, Connection, File, FileStore};
 use std::alloc::Global;
@@ -16,8 +15,6 @@ use std::thread::Threads;
 use std::{env, fs, process, thread};
 
 type Filed = FileStore<File>;
-
-type FiledNode = Node<Table, Store<Filed>>;
 
 const FIRST: Place = Place {
     client: ClientId(7),
@@ -130,13 +127,14 @@ fn words_of<S: Alter + Drop>(
     }
 }
 
-/// 1,000 events at a node over a store, from two threads.
+/// 1,000 events at a node over a new store, from two threads: how many entries its history has then, and the words of
+/// its keeper.
 fn worked<S: Alter + Drop + Send, R: Threads + Wait + Abort + Sync>(
     rt: &R,
     alloc: Global,
-    opened: (Cells<Store<S>>, Vec<Pass>),
+    connection: Option<Connection<S>>,
 ) -> (usize, (u64, u64)) {
-    let (node, passes) = opened;
+    let (node, passes) = node_over(rt, alloc, connection);
     let passes = all_work(rt, alloc, &node, passes);
     closed(rt, node, passes)
 }
@@ -149,18 +147,13 @@ fn connected(host: &HostRuntime, path: &str) -> Option<Connection<Filed>> {
     }
 }
 
-/// A node over a new store in the file, and its passes.
-fn node_in(rt: &impl Abort, host: &HostRuntime, path: &str) -> (FiledNode, Vec<Pass>) {
-    node_over(rt, host.alloc(), connected(host, path))
-}
-
-/// How many entries the history of such a node has when two threads have worked at it, and the words of its keeper.
+/// The same over a new store in the file.
 fn worked_in<R: Threads + Wait + Abort + Sync>(
     rt: &R,
     host: &HostRuntime,
     path: &str,
 ) -> (usize, (u64, u64)) {
-    worked(rt, host.alloc(), node_in(rt, host, path))
+    worked(rt, host.alloc(), connected(host, path))
 }
 
 /// The words of the store that is in the file.
