@@ -208,6 +208,9 @@ class ClientParty(Party, threading.Thread):
                 if code not in (0, -9):
                     self.errors.append(f"client {self.number} ended with {code}: {open(self.file + '.err').read()}")
                     return
+        # Killed in its last block, it would leave others waiting for it.
+        if self.blocks and not self.blocks[-1]["ended"]:
+            self.storm.greet(self)
 
     def live(self):
         err = open(self.file + ".err", "wb")
