@@ -9,14 +9,14 @@ pub fn check_command<'a>(alloc: Global) -> Result<Command<'a>, AllocError> {
         .about("Reads the file of a system, and prints what was understood")
         .long_about(
             "Reads a file that says of a system its nodes, handlers and clients, their addresses, and its own classes, in \
-            TOML, and prints what was understood:\n\
+            TOML, and prints what was understood.\n\n\
+            Input: none but the file. Output:\n\
             \x20 node 1 127.0.0.1:47101                a node, and its address\n\
             \x20   handler 1 stock 10 0                a handler there, with its class and its words\n\
             \x20 client 7 127.0.0.1:47107 batch 4      a client, and how many entries it puts into one Log\n\
             \x20 class stock 2 words                   a class of the file\n\
             \x20   1 order: a0 <= w0; w0 := w0 + 0 - a0, w1 := w1 + a0 - 0; w0\n\
             \x20                                       an operation: its test, what it writes, and what it answers\n\n\
-            Input: none but the file.\n\n\
             Statuses: 0; 1 for the file's first fault, told as `scoop: FILE: TEXT`; 2 for the command line; 3 for memory \
             or output.\n\n\
             Example: scoop check examples/bank.toml",
@@ -30,9 +30,10 @@ pub fn node_command<'a>(alloc: Global) -> Result<Command<'a>, AllocError> {
         .about("Runs a node of a system, over UDP")
         .long_about(
             "Runs a node of the system that a file says (`scoop check` shows it): it answers the datagrams that come to its \
-            address, and runs its handlers in threads. Their states are kept in a file; the node can be killed at any \
-            time, and goes on with --store. What it had taken and not run is run first. Once its history is full it is \
-            closed, which holds it against what each thread did, and opened again.\n\n\
+            address, and runs its handlers in threads. Their states are kept in the file of --new or --store; with neither \
+            nothing is kept, and a restart breaks the promise. The node can be killed at any time, and goes on with \
+            --store. What it had taken and not run is run first. Once its history is full it is closed, which holds it \
+            against what each thread did, and opened again.\n\n\
             Input: none.\n\n\
             Output: `node 1 at 127.0.0.1:47101: handlers 1 2` once it is ready, `node 1 reopened` at each reopening, and \
             with --turns at its end `node 1 closed`. A call of the socket that fails is told on standard error.\n\n\
@@ -59,8 +60,10 @@ pub fn client_command<'a>(alloc: Global) -> Result<Command<'a>, AllocError> {
         .about("Runs a client of a system, over UDP, with the commands of standard input")
         .long_about(
             "Runs a client of the system that a file says (`scoop check` shows it). It takes its port, and then its next \
-            incarnation from its store; it greets every handler, which frees what an earlier incarnation has held; and \
-            then it does what the lines of standard input ask, one after another, with a line for each:\n\
+            incarnation from its store, which --new makes for a client that never ran and --store names for one that did; \
+            it greets every handler, which frees what an earlier incarnation has held; and then it does what the lines \
+            ask, one after another.\n\n\
+            Input: lines. Output: a line for each:\n\
             \x20 reserve H..         `reserved 7.1.1`: a block over 1 to 8 handlers\n\
             \x20 call H OP A..       `logged H N`: the call is acknowledged as the block's N-th entry there\n\
             \x20 query H OP A..      `answer 150` or `answer refused`\n\
@@ -73,8 +76,8 @@ pub fn client_command<'a>(alloc: Global) -> Result<Command<'a>, AllocError> {
             says which ones it waits for.\n\n\
             Statuses: 0; 1 for the file or the key, told as `scoop: FILE: TEXT`, for a line that can't be read, told as \
             `scoop: line N: TEXT` (at a terminal the client goes on), and for an input that ends inside a block; 2 for the \
-            command line; 3 for links, told as `scoop: link: NAME`, for the store, told as `scoop: store: NAME`, for \
-            memory or output.\n\n\
+            command line; 3 for links, told as `scoop: link: NAME` (`TurnsOver` where a command has spent its --turns), for \
+            the store, told as `scoop: store: NAME`, for memory or output.\n\n\
             Example: scoop client 7 --system examples/bank.toml --new /tmp/client-7.db < examples/bank-7.lines",
         )
         .arg(number_argument(alloc, "The number of the client"))?
