@@ -9,19 +9,10 @@ several runs.
 """
 import argparse, multiprocessing, os, shutil, socket, struct, subprocess, sys, tempfile, threading, time
 
+from ports import free_ports
+
 TOP = os.path.dirname(os.path.dirname(os.path.abspath(__file__)))
 NODES, CLIENTS = [1, 2], range(11, 20)
-
-
-def free_ports(count):
-    """Ports of this machine that nobody uses now."""
-    sockets = [socket.socket(socket.AF_INET, socket.SOCK_DGRAM) for _ in range(count)]
-    for s in sockets:
-        s.bind(("127.0.0.1", 0))
-    ports = [s.getsockname()[1] for s in sockets]
-    for s in sockets:
-        s.close()
-    return ports
 
 
 class System:

@@ -11,6 +11,8 @@ order the blocks ran there, and the replay goes in that order. Statuses: 0, or 1
 """
 import argparse, os, random, select, shutil, signal, socket, subprocess, sys, tempfile, threading, time
 
+from ports import free_ports
+
 # Handlers and their nodes. Every object has the words tickets, balance.
 HANDLERS = {1: 1, 2: 2, 3: 1, 4: 2}
 NODES = [1, 2]
@@ -42,17 +44,6 @@ number = 4
 name = "balance"
 answer = "w1"
 """
-
-
-def free_ports(count):
-    """Ports of this machine that nobody uses now."""
-    sockets = [socket.socket(socket.AF_INET, socket.SOCK_DGRAM) for _ in range(count)]
-    for s in sockets:
-        s.bind(("127.0.0.1", 0))
-    ports = [s.getsockname()[1] for s in sockets]
-    for s in sockets:
-        s.close()
-    return ports
 
 
 class Relay(threading.Thread):
