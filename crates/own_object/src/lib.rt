@@ -7,8 +7,12 @@
 //!
 //! ```
 //! let mut stock = StockObject::new(10, 0);
-//! let order = Request { op: ORDER, args: Args::of(&[4])? };
+//! let order = Request {
+//!     op: ORDER,
+//!     args: Args::of(&[4])?,
+//! };
 //! assert_eq!(rt; stock.apply(&order), Answer::Value(6));
+//! assert_eq!(rt; stock.words(), Words::of(&[6, 4])?);
 //! ```
 #![tactic(auto)]
 

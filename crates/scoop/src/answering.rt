@@ -4,12 +4,13 @@ ghost use Rattle.std.specs.Prelude.{◌≡◌, ◌∷◌, [], IfOk};
 ghost use Rattle.scoop_book.specs.Opening.{AllOpen};
 ghost use Rattle.scoop_classes.specs.Classes.{table_of};
 
+use crate::ending::tell_file;
 use crate::failure::Failure;
-use crate::storing::{FiledStore, adopt, close, create};
 use clap::ArgMatches;
 use scoop_book::Book;
 use scoop_classes::{AccountObject, CellObject, CounterObject, DemoClass, ExchangeObject};
 use scoop_demo::{RunError, answer_run, open_book};
+use scoop_files::{FileError, FiledStore, adopt, close, create};
 use scoop_keeper::{Keeper, MemoryKeeper};
 use scoop_message::{HandlerId, OutOfMemory};
 use scoop_object::{Behaviour, Boxed};
@@ -29,25 +30,32 @@ struct Options {
 /// that is asked for.
 pub fn answer(rt: &HostRuntime, given: &ArgMatches<'_>) -> Result<(), Failure> {
     if let Some(path) = given.get_str("new") {
-        return answer_over_file(rt, given, create(rt, path)?);
+        return answer_over_file(rt, given, create(rt, path));
     }
     if let Some(path) = given.get_str("store") {
-        return answer_over_file(rt, given, adopt(rt, path)?);
+        return answer_over_file(rt, given, adopt(rt, path));
     }
     let (answered, _) = answer_over(rt, given, MemoryKeeper::new(rt.alloc()))?;
     answered
 }
 
-// The same over a store in a file, which is closed behind it.
+// The same over a store in a file, where it is had, which is closed behind it.
 fn answer_over_file(
     rt: &HostRuntime,
     given: &ArgMatches<'_>,
-    store: FiledStore,
+    opened: Result<FiledStore, FileError>,
 ) -> Result<(), Failure> {
+    let store = match opened {
+        Ok(store) => store,
+        Err(error) => return Err(tell_file(rt, given, error)),
+    };
     let (answered, store) = answer_over(rt, given, store)?;
     let closed = close(store);
     answered?;
-    Ok(closed?)
+    match closed {
+        Ok(()) => Ok(()),
+        Err(error) => Err(tell_file(rt, given, error)),
+    }
 }
 
 // The same over this keeper, which is handed back unless nothing was opened over it.

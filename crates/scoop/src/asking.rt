@@ -1,13 +1,14 @@
 //! `scoop client`: a client of a system, whose commands are the lines of standard input.
 
+use crate::ending::{End, store_path, tell_end};
 use crate::failure::Failure;
-use crate::storing::{FiledStore, adopt_for, close, create};
 use crate::system_file::{read_key, read_system, tell};
 use crate::typed_lines::TypedLines;
 use clap::ArgMatches;
+use scoop_files::{FileError, FiledStore, adopt_for, close, create};
 use scoop_link::{Link, UdpLink};
 use scoop_message::{ClientId, OutOfMemory};
-use scoop_runtime::{ClientPlan, RuntimeError, client_run, open_client_link};
+use scoop_runtime::{ClientPlan, client_run, open_client_link};
 use scoop_seal::{Key, SealedLink};
 use scoop_system::System;
 use std::io;
@@ -16,6 +17,24 @@ use std::net::Net;
 
 /// Runs the client that is asked for. Its system, its key and its port come first, and then its store.
 pub fn run_client<T: Net>(
+    rt: &HostRuntime,
+    net: &T,
+    given: &ArgMatches<'_>,
+) -> Result<(), Failure> {
+    if names_store(given) {
+        run_client_of_file(rt, net, given)
+    } else {
+        Err(Failure::NoStore)
+    }
+}
+
+// Whether the command line names a store, old or new.
+fn names_store(given: &ArgMatches<'_>) -> bool {
+    store_path(given).is_some()
+}
+
+// Runs the client of the file that is asked for.
+fn run_client_of_file<T: Net>(
     rt: &HostRuntime,
     net: &T,
     given: &ArgMatches<'_>,
@@ -44,8 +63,22 @@ fn run_in<T: Net>(
         turns: given.get_one::<u64>("turns").unwrap_or(100_000),
         is_typed: rt.stdin().is_terminal(),
     };
-    let link = open_client_link(net, rt.alloc(), system, place)?;
-    run_stored(rt, given, &plan, key, link)
+    match run_at(rt, net, given, &plan, key) {
+        Ok(()) => Ok(()),
+        Err(end) => Err(tell_end(rt, given, place.address, end)),
+    }
+}
+
+// Runs the client at its place.
+fn run_at<T: Net>(
+    rt: &HostRuntime,
+    net: &T,
+    given: &ArgMatches<'_>,
+    plan: &ClientPlan<'_>,
+    key: Option<Key>,
+) -> Result<(), End> {
+    let link = open_client_link(net, rt.alloc(), plan.system, &plan.place)?;
+    run_stored(rt, given, plan, key, link)
 }
 
 // Runs the client over the store that the command line names, which is closed behind it.
@@ -55,7 +88,7 @@ fn run_stored(
     plan: &ClientPlan<'_>,
     key: Option<Key>,
     link: UdpLink,
-) -> Result<(), Failure> {
+) -> Result<(), End> {
     let mut store = open_store(rt, given, plan.place.client)?;
     let ran = match key {
         Some(key) => run_over(rt, plan, &mut store, SealedLink::new(link, key)),
@@ -71,13 +104,10 @@ fn open_store(
     rt: &HostRuntime,
     given: &ArgMatches<'_>,
     client: ClientId,
-) -> Result<FiledStore, Failure> {
-    if let Some(path) = given.get_str("new") {
-        return Ok(create(rt, path)?);
-    }
-    match adopt_for(rt, given.get_str("store").unwrap_or(""), client)? {
-        Some(store) => Ok(store),
-        None => Err(Failure::NeverRan(client)),
+) -> Result<FiledStore, FileError> {
+    match given.get_str("new") {
+        Some(path) => create(rt, path),
+        None => adopt_for(rt, given.get_str("store").unwrap_or(""), client),
     }
 }
 
@@ -87,7 +117,7 @@ fn run_over<L: Link>(
     plan: &ClientPlan<'_>,
     store: &mut FiledStore,
     link: L,
-) -> Result<(), RuntimeError> {
+) -> Result<(), End> {
     let alloc = rt.alloc();
     let mut output = BufWriter::new(alloc, io::writer(rt)).map_err(|_| OutOfMemory)?;
     client_run(
@@ -99,5 +129,6 @@ fn run_over<L: Link>(
         rt.stderr(),
         &mut output,
         &mut rt.stderr(),
-    )
+    )?;
+    Ok(())
 }

@@ -3,9 +3,7 @@
 use clap::Error;
 use clap::error::ErrorKind;
 use scoop_demo::{RunError, WordsError};
-use scoop_keeper::KeeperError;
-use scoop_message::{ClientId, OutOfMemory};
-use scoop_runtime::RuntimeError;
+use scoop_message::OutOfMemory;
 use scoop_show::ShowError;
 use std::alloc::{AllocError, AllocFailed};
 
@@ -30,10 +28,8 @@ pub enum Failure {
     Show(ShowError),
     /// A number of the command line is out of its range.
     Ranges,
-    /// The store has no incarnation of this client.
-    NeverRan(ClientId),
-    /// A node or a client ended early.
-    Runtime(RuntimeError),
+    /// The command line names no store for a client.
+    NoStore,
     /// The user has been told, and the program ends with this status.
     Told(u8),
 }
@@ -75,13 +71,11 @@ impl Failure {
                 let _ = eprintln!(rt; "scoop: --executors is 1 to 64, and --history 2 to 1000000");
                 2
             }
-            Failure::NeverRan(client) => {
-                let _ = eprintln!(rt; "scoop: store: NoIncarnation {client}");
-                3
-            }
-            Failure::Runtime(error) => {
-                let _ = eprintln!(rt; "scoop: {error}");
-                error.status()
+            Failure::NoStore => {
+                let _ = eprintln!(rt;
+                    "scoop: a client needs a store: --new FILE makes one for a client that never ran, --store FILE goes on with the one that it made"
+                );
+                2
             }
             Failure::Told(status) => status,
         }
@@ -117,24 +111,12 @@ impl From<ShowError> for Failure {
     }
 }
 
-impl From<RuntimeError> for Failure {
-    fn from(error: RuntimeError) -> Failure {
-        Failure::Runtime(error)
-    }
-}
-
 impl From<WordsError> for Failure {
     fn from(error: WordsError) -> Failure {
         match error {
             WordsError::OutOfMemory => Failure::from(OutOfMemory),
             error => Failure::Words(error),
         }
-    }
-}
-
-impl From<KeeperError> for Failure {
-    fn from(refusal: KeeperError) -> Failure {
-        Failure::Run(RunError::from(refusal))
     }
 }
 

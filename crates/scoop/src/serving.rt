@@ -1,16 +1,17 @@
 //! `scoop node`: a node of a system, over UDP.
 
+use crate::ending::{End, tell_end};
 use crate::failure::Failure;
-use crate::storing::{FiledStore, adopt, close, create};
 use crate::system_file::{read_key, read_system, tell};
 use clap::ArgMatches;
-use scoop_keeper::{Keeper, KeeperError, MemoryKeeper};
+use scoop_files::{FileError, FiledStore, adopt, close, create};
+use scoop_keeper::{Keeper, MemoryKeeper};
 use scoop_link::Link;
 use scoop_message::OutOfMemory;
 use scoop_record::Store;
-use scoop_runtime::{NodePlan, Serving, node_run, open_node_link};
-use scoop_seal::SealedLink;
-use scoop_system::System;
+use scoop_runtime::{NodePlan, RuntimeError, Serving, node_run, open_node_link};
+use scoop_seal::{Key, SealedLink};
+use scoop_system::{NodePlace, System};
 use sqlite::Alter;
 use std::alloc::Global;
 use std::io;
@@ -48,6 +49,22 @@ fn serve_in<T: Threads + Wait + Clock + Net + Sync>(
         return Err(tell(rt, path, format_args!("no node {number}")));
     };
     let key = read_key(rt, given)?;
+    match serve_at(rt, threads, given, serving, system, place, key) {
+        Ok(()) => Ok(()),
+        Err(end) => Err(tell_end(rt, given, place.address, end)),
+    }
+}
+
+// Serves the node at its place.
+fn serve_at<T: Threads + Wait + Clock + Net + Sync>(
+    rt: &HostRuntime,
+    threads: &T,
+    given: &ArgMatches<'_>,
+    serving: &Serving,
+    system: &System,
+    place: &NodePlace,
+    key: Option<Key>,
+) -> Result<(), End> {
     let plan = NodePlan::of(rt.alloc(), system, place)?;
     let link = open_node_link(threads, rt.alloc(), system, place)?;
     match key {
@@ -64,7 +81,11 @@ fn serving_in(given: &ArgMatches<'_>) -> Option<Serving> {
     let executors = given.get_one::<u32>("executors").unwrap_or(2);
     let history = given.get_one::<u32>("history").unwrap_or(100_000);
     let turns = given.get_one::<u64>("turns").unwrap_or(u64::MAX);
-    Serving::new(executors, usize::try_from(history).ok()?, turns)
+    let serving = Serving::new(executors, usize::try_from(history).ok()?, turns)?;
+    match given.get_str("store") {
+        Some(_) => Some(serving.going_on()),
+        None => Some(serving),
+    }
 }
 
 // Serves the node over the store that is asked for, if one is.
@@ -75,16 +96,16 @@ fn serve_over<L: Link, T: Threads + Wait + Clock + Net + Sync>(
     plan: &NodePlan,
     serving: &Serving,
     link: L,
-) -> Result<(), Failure> {
+) -> Result<(), End> {
     match open_store(rt, given) {
         Ok(Some(store)) => serve_stored(rt, threads, plan, serving, store, link),
         Ok(None) => serve_unstored(rt, threads, plan, serving, link),
-        Err(error) => Err(Failure::from(error)),
+        Err(error) => Err(End::from(error)),
     }
 }
 
 // The store that the command line names, if it names one.
-fn open_store(rt: &HostRuntime, given: &ArgMatches<'_>) -> Result<Option<FiledStore>, KeeperError> {
+fn open_store(rt: &HostRuntime, given: &ArgMatches<'_>) -> Result<Option<FiledStore>, FileError> {
     if let Some(path) = given.get_str("new") {
         return Ok(Some(create(rt, path)?));
     }
@@ -103,12 +124,12 @@ fn serve_stored<L: Link, T: Threads + Wait + Clock + Net + Sync>(
     serving: &Serving,
     store: FiledStore,
     link: L,
-) -> Result<(), Failure> {
+) -> Result<(), End> {
     closed(serve_kept(rt, threads, plan, serving, store, link))
 }
 
 // Closes the store over which a node was served.
-fn closed(served: Result<FiledStore, Failure>) -> Result<(), Failure> {
+fn closed(served: Result<FiledStore, RuntimeError>) -> Result<(), End> {
     Ok(close(served?)?)
 }
 
@@ -120,7 +141,7 @@ fn serve_kept<S, L, T>(
     serving: &Serving,
     store: Store<S>,
     link: L,
-) -> Result<Store<S>, Failure>
+) -> Result<Store<S>, RuntimeError>
 where
     S: Alter + Drop + Send,
     L: Link,
@@ -136,7 +157,7 @@ fn serve_unstored<L: Link, T: Threads + Wait + Clock + Net + Sync>(
     plan: &NodePlan,
     serving: &Serving,
     link: L,
-) -> Result<(), Failure> {
+) -> Result<(), End> {
     let _ = eprintln!(rt;
         "scoop: no store: a restart of this node breaks the promise, since it forgets what was acknowledged"
     );
@@ -153,7 +174,7 @@ fn serve_with<K, L, T>(
     serving: &Serving,
     keeper: K,
     link: L,
-) -> Result<K, Failure>
+) -> Result<K, RuntimeError>
 where
     K: Keeper<Global> + Send,
     L: Link,
@@ -161,7 +182,7 @@ where
 {
     let alloc = rt.alloc();
     let mut output = BufWriter::new(alloc, io::writer(rt)).map_err(|_| OutOfMemory)?;
-    let keeper = node_run(
+    node_run(
         threads,
         alloc,
         plan,
@@ -170,6 +191,5 @@ where
         link,
         rt.stderr(),
         &mut output,
-    )?;
-    Ok(keeper)
+    )
 }

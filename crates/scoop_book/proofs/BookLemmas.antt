@@ -1,4 +1,6 @@
--- What is so of the handlers of a book after a move, and of a book after one more entry.
+-- What is so of the handlers of a book after a move, and of a book after one more entry. The code writes the handler that it
+-- found at its place, and puts its state with the keeper: that is the move of the event's handler, after which the keeper has
+-- the new state, and of all others what it had. A refusal leaves the handlers as they were, and tells what stood in the way.
 use Rattle.std.proofs.Common.{◌≡◌, ◌⊎◌, ⊎_elim, ◌||◌, ℕ, zero, suc, ◌+◌, ◌<◌, ◌≤◌, Bool, true, false, true≢false, List, [], ◌∷◌, ◌++◌, map, length, set, get_or, slice_get, Option, Some, None, Result, Ok, Err, refl, sym, ap, ◌∙◌, subst, arith, length-append}
 use Rattle.std.specs.Prelude.{◌≢◌, ◌↔◌, ⊤, IfSome, IfOk, IfErr, OnOk, OnErr}
 use Rattle.std.specs.List.{AllByRecursion}
@@ -27,10 +29,10 @@ use Rattle.scoop_book.specs.Moves.{LocalHandler, Entry, number_in, is_handler, h
 use Rattle.scoop_keeper.specs.declared.running.JobRefusal.{JobRefusal}
 use Rattle.scoop_keeper.specs.declared.running.JobRefusal.TheVariants as jobs
 use Rattle.scoop_book.specs.declared.error.BookError.{BookError}
-use Rattle.scoop_book.specs.declared.error.BookError.TheVariants.{StoreRefused, OutOfMemory}
+use Rattle.scoop_book.specs.declared.error.BookError.TheVariants.{NodeFailed, HistoryFull, UnknownHandler, StoreRefused, OutOfMemory}
 use Rattle.scoop_book.specs.declared.error.FinishRefusal.{FinishRefusal}
 use Rattle.scoop_book.specs.declared.error.FinishRefusal.TheVariants as unfinished
-use Rattle.scoop_book.specs.Books.{BookValue, IsBook, HasStored, KeepsNew, Gains, MayHappen, IsRefused, IsStranger, MayFinish, IsUnfinished, fails_to_finish, refusal_of}
+use Rattle.scoop_book.specs.Books.{BookValue, IsBook, HasStored, KeepsNew, Gains, MayHappen, IsRefused, IsStranger, MayFinish, IsUnfinished, HasNoPlace, fails_to_finish, no_place_to_finish, refusal_of}
 use Rattle.scoop_book.specs.Kept.{IsHeld, HandlersValue, handlers_kept, book_kept}
 use Rattle.scoop_book.proofs.Places.{key_found, own_found, all_at}
 
@@ -298,6 +300,13 @@ module _ {K : Type 0} (opening : List LocalHandler) (v : HandlersValue K) (es : 
       let s = some_at v.handlers i first.within in
       subst (λ (x : BookValue K). MayHappen x h) view (record { enter = record { works = works; room = room }; handler = s.0; here = first.found ∙ s.1 })
 
+  pub room_left : (h : HandlerId) → MayHappen b h → length es < limit
+  room_left h may = subst (λ (x : BookValue K). length x.history < x.limit) (sym view) may.enter.room
+
+  pub first_at : (h g : HandlerId) (i : ℕ) → g ≡ h → IsFirst (is_handler g) b.handlers i → IsFirst (is_handler h) v.handlers i
+  first_at h g i same first = subst (λ (x : HandlerId). IsFirst (is_handler x) v.handlers i) same
+      (subst (λ (x : BookValue K). IsFirst (is_handler g) x.handlers i) (sym view) first)
+
   -- one more entry
   module _ (w : HandlersValue K) (fs : List Entry) (pass : ℕ) (event : Event) (reply : Reply) (moves : Moves event reply v.handlers w.handlers)
       (entered : fs ≡ es ++ (pass, event, reply) ∷ []) where
@@ -334,13 +343,32 @@ module _ {K : Type 0} (opening : List LocalHandler) (v : HandlersValue K) (es : 
 pub put_refusal : {K : Type 0} (b : BookValue K) (h : HandlerId) (e : BookError) → (e ≡ StoreRefused) ⊎ (e ≡ OutOfMemory) → MayHappen b h → IsRefused b h e
 put_refusal b h e which may = ⊎_elim (λ is. subst (IsRefused b h) (sym is) may) (λ is. subst (IsRefused b h) (sym is) may) which
 
+pub no_place_unfinished : {K : Type 0} (b : BookValue K) (t : Task) (e : BookError) → HasNoPlace e → IsRefused b t.handler e
+    → IsUnfinished b t (no_place_to_finish e)
+no_place_unfinished b t NodeFailed early is = is
+no_place_unfinished b t HistoryFull early is = is
+no_place_unfinished b t UnknownHandler early is = is
+no_place_unfinished b t StoreRefused early is = absurd early
+no_place_unfinished b t OutOfMemory early is = absurd early
+
+or_false : (t : Bool) → (t || false) ≡ t
+or_false true = refl
+or_false false = refl
+
+-- no place for an event leaves the book working
+pub no_place_unfinishes : (failed : Bool) (e : BookError) (f : FinishRefusal) → HasNoPlace e → f ≡ no_place_to_finish e → failed ≡ (failed || fails_to_finish f)
+no_place_unfinishes failed e f early is = sym (ap (λ x. failed || fails_to_finish x) is ∙ (ap (λ t. failed || t) (works e early) ∙ or_false failed))
+  where
+    works : (e : BookError) → HasNoPlace e → fails_to_finish (no_place_to_finish e) ≡ false
+    works NodeFailed early = refl
+    works HistoryFull early = refl
+    works UnknownHandler early = refl
+    works StoreRefused early = absurd early
+    works OutOfMemory early = absurd early
+
 not_failed : (failed : Bool) (e : FinishRefusal) → (e ≡ unfinished.Stranger) ⊎ (e ≡ unfinished.OutOfMemory) → failed ≡ (failed || fails_to_finish e)
 not_failed failed e which = ⊎_elim (λ is. sym (ap (λ x. failed || fails_to_finish x) is ∙ or_false failed))
     (λ is. sym (ap (λ x. failed || fails_to_finish x) is ∙ or_false failed)) which
-  where
-    or_false : (t : Bool) → (t || false) ≡ t
-    or_false true = refl
-    or_false false = refl
 
 pub still_works : {K : Type 0} (b : BookValue K) (failed : Bool) (e f : FinishRefusal) → failed ≡ b.failed → e ≡ f → (f ≡ unfinished.Stranger)
     ⊎ (f ≡ unfinished.OutOfMemory) → failed ≡ (b.failed || fails_to_finish e)

@@ -140,3 +140,19 @@ abbrev pub refusal_of : JobRefusal → FinishRefusal
 refusal_of Stranger = unfinished.Stranger
 refusal_of Refused = unfinished.StoreRefused
 refusal_of jobs.OutOfMemory = unfinished.OutOfMemory
+
+-- the history takes no event of the handler, or it isn't here
+abbrev pub HasNoPlace : BookError → Type 0
+HasNoPlace NodeFailed = ⊤
+HasNoPlace HistoryFull = ⊤
+HasNoPlace UnknownHandler = ⊤
+HasNoPlace StoreRefused = ⊥
+HasNoPlace OutOfMemory = ⊥
+
+-- by why there is no place for the job's event
+abbrev pub no_place_to_finish : BookError → FinishRefusal
+no_place_to_finish NodeFailed = unfinished.NodeFailed
+no_place_to_finish HistoryFull = unfinished.HistoryFull
+no_place_to_finish UnknownHandler = unfinished.UnknownHandler
+no_place_to_finish StoreRefused = unfinished.StoreRefused
+no_place_to_finish OutOfMemory = unfinished.OutOfMemory

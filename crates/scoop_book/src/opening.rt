@@ -43,16 +43,29 @@ impl<A: Allocator> Model for Opening<A> {
 
 impl<A: Allocator + Copy> Opening<A> {
     ghost use Rattle.std.specs.Prelude.{◌↔◌, IsTrue};
+    ghost use Rattle.scoop_book.specs.Kept.{local_kept};
+
+    // Of this class and state, kept with this allocator.
+    fn of<C: Allocator>(
+        alloc: A,
+        class: &Class<C>,
+        state: &HandlerState<A>,
+        is_stored: bool,
+    ) -> Result<Opening<A>, OutOfMemory>
+        ensures { IfOk result (λ o. o ≡ local_kept (core_of class.now state.now false) is_stored) }
+    {
+        Ok(Opening {
+            class: class.copy_in(alloc)?,
+            state: state.copy()?,
+            is_stored,
+        })
+    }
 
     /// The same, kept with this allocator.
     fn copy(&self, alloc: A) -> Result<Opening<A>, OutOfMemory>
         ensures { IfOk result (λ copy. copy ≡ self.now) }
     {
-        Ok(Opening {
-            class: self.class.copy_in(alloc)?,
-            state: self.state.copy()?,
-            is_stored: self.is_stored,
-        })
+        Opening::of(alloc, &self.class, &self.state, self.is_stored)
     }
 
     /// Whether the other one is the same.
@@ -176,11 +189,7 @@ fn open_stored<B: Behaviour, A: Allocator + Copy>(
     ensures refused { IfErr result (λ e. (e ≡ OpenError.OutOfMemory) ⊎ ((e ≡ OpenError.WrongClass handed.0) × (FitsClass handed.1 state → ⊥))) }
 {
     let (number, class, object) = handed;
-    let kept = Opening {
-        class: class.copy_in(alloc)?,
-        state: state.copy()?,
-        is_stored: true,
-    };
+    let kept = Opening::of(alloc, &class, &state, true)?;
     match Handler::restart(class, object, state) {
         Ok(handler) => Ok((Local::new(handler, true), kept)),
         Err(_) => Err(OpenError::WrongClass(number)),

@@ -1,4 +1,6 @@
--- What a client hears, and what it commands, keeps that it attends to its block.
+-- What a client hears, and what it commands, keeps that it attends to its block: where it had asked it is at work still, or
+-- the handler is done with the block (`Follows`). It leaves a block only once it was given up and its locks are back, or once
+-- its windows are all over, and `Around` has that handlers are done with such a block.
 use Rattle.std.proofs.Common.{◌≡◌, ◌⊎◌, inl, inr, ℕ, ◌-◌, ◌<◌, ◌≤◌, ◌&&◌, Bool, true, false, true≢false, nat_le, List, map, Option, Some, None, refl, sym, ap, ◌∙◌, subst, ⊎_elim, arith}
 use Rattle.std.specs.Prelude.{if◌then◌else◌, Ok}
 use Rattle.std.proofs.lemmas.Bool.Decides.{nat_tests}

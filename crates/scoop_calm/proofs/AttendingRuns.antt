@@ -1,4 +1,6 @@
--- Whatever happens, clients attend to their blocks.
+-- Whatever happens, clients attend to their blocks. A client that hears or takes a command keeps it (`AttendingClients`), by
+-- what the other layers tell of the world around it; a Lock that it sends is of a block that it is at; and where a handler
+-- goes on, what it is done with it stays done with.
 use Rattle.std.proofs.Common.{◌≡◌, ◌⊎◌, inl, inr, ℕ, ◌+◌, ◌<◌, ◌≤◌, Bool, true, false, List, [], ◌∷◌, length, map, find, Option, Some, None, refl, sym, ap, ◌∙◌, subst, ⊎_elim, arith}
 use Rattle.std.specs.Prelude.{if◌then◌else◌, option_to_list}
 use Rattle.std.specs.List.{AllByRecursion}

@@ -1,4 +1,6 @@
--- What is so of every client: whom it greets, how its reservation stands, and what its windows have left.
+-- What is so of every client: whom it greets, how its reservation stands, and what its windows have left. It has a block only
+-- once all have welcomed it, and waits for an answer only in a block. Each row of what it hears keeps that, and each command
+-- that it takes; nothing else changes a client but its restart, which begins it anew.
 use Rattle.std.proofs.Common.{◌≡◌, ℕ, ◌+◌, ◌<◌, ◌≤◌, ◌==◌, true, false, true≢false, List, [], ◌∷◌, length, map, Option, Some, None, refl, sym, ◌∙◌, subst, arith}
 use Rattle.std.specs.Prelude.{if◌then◌else◌, Ok}
 use Rattle.std.specs.List.{AllByRecursion}

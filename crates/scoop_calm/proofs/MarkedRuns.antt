@@ -1,4 +1,6 @@
--- Whatever happens, handlers' marks are as they should be.
+-- Whatever happens, handlers' marks are as they should be. Blocks that were reserved, logs, and what was sent only grow
+-- (`Further`), and what is so of a mark stays so beside more of them. A mark that a handler makes of a message is borne out
+-- by what that message tells; and incarnations begin at 1, as their greetings do.
 use Rattle.std.proofs.Common.{◌≡◌, ℕ, ◌≤◌, ◌==◌, false, true≢false, IsFalse, List, [], ◌∷◌, ◌++◌, map, Option, Some, None, refl, sym, ◌∙◌, subst, ⊎_elim, arith, append-nil}
 use Rattle.std.specs.Prelude.{if◌then◌else◌, option_to_list}
 use Rattle.std.specs.List.{AllByRecursion}

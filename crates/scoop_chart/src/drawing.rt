@@ -6,7 +6,7 @@ use std::alloc::Allocator;
 use std::io;
 use std::io::Write;
 
-// Lengths are in pixels. A letter of the labels has at most this width.
+// Lengths are in pixels. A letter of labels and names has at most this width.
 const LETTER: usize = 8;
 
 const MARGIN: usize = 16;
@@ -16,6 +16,7 @@ const TOP: usize = 72;
 
 const ROW_HEIGHT: usize = 24;
 
+// How far lifelines are apart at least.
 const COLUMN_WIDTH: usize = 96;
 
 // How far the arrow of a message goes that is never taken.
@@ -40,19 +41,23 @@ orient=\"auto\"><path d=\"M0 0L8 4L0 8z\"/></marker></defs>";
 struct Room {
     // of the first lifeline
     first: usize,
+    // how far the lifelines are apart
+    column: usize,
     width: usize,
     height: usize,
 }
 
 impl Room {
     fn of<A: Allocator>(chart: &Chart<A>) -> Room {
+        let column = column_width(&chart.parties);
         let first = longest(&chart.rows)
             .saturating_mul(LETTER)
             .saturating_add(MARGIN)
-            .saturating_add(COLUMN_WIDTH);
-        let lines = chart.parties.len().saturating_mul(COLUMN_WIDTH);
+            .saturating_add(column);
+        let lines = chart.parties.len().saturating_mul(column);
         Room {
             first,
+            column,
             width: first.saturating_add(lines),
             height: row_at(chart.rows.len()).saturating_add(MARGIN),
         }
@@ -60,9 +65,17 @@ impl Room {
 
     // Where a lifeline stands.
     fn line_at(self, place: usize) -> usize {
-        self.first
-            .saturating_add(place.saturating_mul(COLUMN_WIDTH))
+        self.first.saturating_add(place.saturating_mul(self.column))
     }
+}
+
+// How far lifelines are apart, so that no name reaches its neighbour's.
+fn column_width(parties: &[Party]) -> usize {
+    let mut width = COLUMN_WIDTH;
+    for party in parties {
+        width = party.name_length().saturating_mul(LETTER).max(width);
+    }
+    width
 }
 
 // Where a row stands.
@@ -139,7 +152,7 @@ impl<A: Allocator + Copy> Chart<A> {
             let label = self.labels.get(begin..row.label_end).unwrap_or(&[]);
             begin = row.label_end;
             if let Some(place) = row.place {
-                let left = room.first.saturating_sub(COLUMN_WIDTH / 2);
+                let left = room.first.saturating_sub(room.column / 2);
                 let x = room.line_at(place);
                 writeln!(
                     writer,

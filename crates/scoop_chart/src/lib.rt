@@ -6,13 +6,30 @@
 //! runs there, and a bar at a restart. Each row's label stands in a column of its own, so that nothing overlaps.
 //!
 //! ```
-//! let handlers = [(1, HandlerId(1))];
-//! let mut chart = Chart::new(rt.alloc(), &[ClientId(7)], &handlers)?;
-//! let hello = Event::Tick(ClientId(7), HandlerId(1));
-//! chart.note(&hello, &Ok(WorldNote::Sent(1)), b"sent 1 Hello")?;
-//! let heard = WorldNote::Handler(Note::Greeted, Some(2));
-//! chart.note(&Event::Take(1), &Ok(heard), b"Greeted sent 2")?;
-//! chart.draw(&mut picture)?;
+//! // client 7 and handler 1 of node 1
+//! match Chart::new(alloc, &[SEVEN], handlers) {
+//!     Ok(chart) => chart,
+//!     Err(_) => panic!(rt; "no chart"),
+//! }
+//! // each event, what came of it, and the text of its row
+//! const GREETING: [Row; 2] = [
+//!     (
+//!         Event::Tick(SEVEN, ONE),
+//!         Ok(WorldNote::Sent(1)),
+//!         b"sent 1 Hello",
+//!     ),
+//!     (
+//!         Event::Take(1),
+//!         Ok(WorldNote::Handler(Note::Greeted, Some(2))),
+//!         b"Greeted sent 2",
+//!     ),
+//! ];
+//! // is noted as it happens
+//! let (event, outcome, label) = row;
+//! chart.note(event, outcome, label)
+//! // and once the run is over the chart is drawn
+//! let mut picture = Vec::new(alloc);
+//! let drawn = chart.draw(&mut picture);
 //! ```
 #![tactic(auto)]
 

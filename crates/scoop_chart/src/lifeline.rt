@@ -21,6 +21,17 @@ impl Party {
         }
     }
 
+    /// How many letters its name has, or that of its node, whichever has more.
+    pub(crate) fn name_length(self) -> usize {
+        match self {
+            Party::Client(client) => "client ".len().saturating_add(digits(client.0)),
+            Party::Handler(node, handler) => {
+                let name = "handler ".len().saturating_add(digits(handler.0));
+                name.max("node ".len().saturating_add(digits(node)))
+            }
+        }
+    }
+
     /// Whether it is a handler on this node.
     pub(crate) fn is_on(self, node: u32) -> bool {
         matches!(self, Party::Handler(own, _) if own == node)
@@ -33,6 +44,11 @@ impl Party {
     fn is_handler(self, handler: HandlerId) -> bool {
         matches!(self, Party::Handler(_, own) if own == handler)
     }
+}
+
+// How many decimal digits a number has.
+fn digits(number: u32) -> usize {
+    1 + number.max(1).ilog10() as usize
 }
 
 /// The lifelines from left to right: the clients, then the handlers by node.

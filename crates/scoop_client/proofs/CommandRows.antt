@@ -1,4 +1,5 @@
--- Each command is answered by one of the cases, and what fits a case is the answer.
+-- Each command is answered by one of the cases, and what fits a case is the answer. The command's tests go both ways, and what
+-- they say on a way is what its case asks; back, what a case asks makes the tests come out its way.
 use Rattle.std.proofs.Common.{◌≡◌, ◌≢◌, ◌↔◌, ℕ, ◌+◌, ◌-◌, ◌^◌, ◌==◌, Bool, true, false, List, Option, Some, None, refl, sym, ap, subst, ◌∙◌}
 use Rattle.std.specs.Prelude.{if◌then◌else◌, nat_le, Result, Ok, Err}
 use Rattle.scoop_message.specs.declared.name.HandlerId.{HandlerId}

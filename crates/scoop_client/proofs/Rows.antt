@@ -1,4 +1,5 @@
--- Each message is heard by one of the cases.
+-- Each message is heard by one of the cases. Where a message isn't awaited each case changes nothing and tells nothing, and
+-- `heard` is silent only there. So what fits a case is what `heard` gives, with a silent case kept for what isn't awaited.
 use Rattle.std.proofs.Common.{◌≡◌, ◌↔◌, ℕ, ◌==◌, ◌&&◌, ◌||◌, Bool, true, false, Option, Some, None, refl, sym, ap, ◌∙◌, subst}
 use Rattle.std.specs.Prelude.{if◌then◌else◌, nat_lt, nat_le}
 use Rattle.std.proofs.lemmas.Bool.Decides.{Decides-eqb}

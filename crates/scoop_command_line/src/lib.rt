@@ -4,10 +4,15 @@
 //! ```
 //! // what is wrong with a command line, and its help, is an error with a text and the program's status
 //! let names = DemoClass::names();
-//! let Err(told) = command(alloc, &names)?.try_get_matches_from(line.as_slice()) else {
-//!     panic!(rt; "it is taken");
+//! let command = match command(alloc, &names) {
+//!     Ok(command) => command,
+//!     Err(_) => panic!(rt; "out of memory"),
 //! };
-//! assert_eq!(rt; told.exit_code(), status);
+//! match command.try_get_matches_from(line) {
+//!     Ok(_) => panic!(rt; "it is taken"),
+//!     Err(error) => error,
+//! }
+//! assert_eq!(rt; error.exit_code(), status);
 //! ```
 #![tactic(auto)]
 
@@ -19,20 +24,36 @@ use system_commands::{check_command, client_command, node_command};
 
 /// What the program and its subcommands take, with their help. A class is one of these names.
 pub fn command<'a>(alloc: Global, class_names: &'a [&'a str]) -> Result<Command<'a>, AllocError> {
-    Command::new(alloc, "scoop")
+    let command = Command::new(alloc, "scoop")
         .bin_name("scoop")?
         .version("0.1.0")
         .about("Runs SCOOP handlers, which answer the messages that clients send them")
         .propagate_version(true)
         .subcommand_required(true)
-        .arg_required_else_help(true)
-        .subcommand(answer_command(alloc, class_names)?)?
-        .subcommand(world_command(alloc)?)?
-        .subcommand(frame_command(alloc)?)?
-        .subcommand(demo_command(alloc)?)?
-        .subcommand(check_command(alloc)?)?
-        .subcommand(node_command(alloc)?)?
-        .subcommand(client_command(alloc)?)
+        .arg_required_else_help(true);
+    let command = with_subcommand(command, answer_command(alloc, class_names))?;
+    let command = with_subcommand(command, world_command(alloc))?;
+    let command = with_subcommand(command, frame_command(alloc))?;
+    let command = with_subcommand(command, demo_command(alloc))?;
+    let command = with_subcommand(command, check_command(alloc))?;
+    let command = with_subcommand(command, node_command(alloc))?;
+    with_subcommand(command, client_command(alloc))
+}
+
+// The command with this one below it. Here is the one way out that drops a command.
+fn with_subcommand<'a>(
+    command: Command<'a>,
+    below: Result<Command<'a>, AllocError>,
+) -> Result<Command<'a>, AllocError> {
+    command.subcommand(below?)
+}
+
+// The command with this option, in the same way.
+pub(crate) fn with_option<'a>(
+    command: Command<'a>,
+    option: Result<Arg<'a>, AllocError>,
+) -> Result<Command<'a>, AllocError> {
+    command.arg(option?)
 }
 
 // The help of a command that runs objects, with the table of classes inside.
@@ -169,7 +190,9 @@ fn rounds_option<'a>(alloc: Global) -> Arg<'a> {
     Arg::new(alloc, "rounds")
         .long("rounds")
         .value_name("R")
-        .help("In how many blocks clients 7 and 8 paint the cells, each of them")
+        .help(
+            "In how many blocks clients 7 and 8 paint the cells, each of them: up to some 8000, for which a node's history has room",
+        )
         .action(ArgAction::Set)
         .value_parser(value_parser!(u64))
         .default_value("5")
@@ -213,7 +236,7 @@ fn answer_command<'a>(
     alloc: Global,
     class_names: &'a [&'a str],
 ) -> Result<Command<'a>, AllocError> {
-    Command::new(alloc, "answer")
+    let command = Command::new(alloc, "answer")
         .about("Answers the datagrams of standard input, with one line for each")
         .long_about(with_classes!(
             "Runs one handler with one object, and gives it the datagrams of standard input. Each line is one \
@@ -229,8 +252,8 @@ fn answer_command<'a>(
         ))
         .arg(handler_option(alloc))?
         .arg(class_option(alloc, class_names))?
-        .arg(word_option(alloc))?
-        .arg(new_option(alloc)?)?
+        .arg(word_option(alloc))?;
+    with_option(command, new_option(alloc))?
         .arg(store_option(alloc))?
         .arg(words_flag(alloc))
 }

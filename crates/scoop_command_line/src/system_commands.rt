@@ -1,5 +1,6 @@
 //! What `check`, `node` and `client` take.
 
+use crate::with_option;
 use clap::{Arg, ArgAction, Command, value_parser};
 use std::alloc::{AllocError, Global};
 
@@ -26,28 +27,34 @@ pub fn check_command<'a>(alloc: Global) -> Result<Command<'a>, AllocError> {
 
 /// What `scoop node` takes.
 pub fn node_command<'a>(alloc: Global) -> Result<Command<'a>, AllocError> {
-    Command::new(alloc, "node")
+    let command = Command::new(alloc, "node")
         .about("Runs a node of a system, over UDP")
         .long_about(
             "Runs a node of the system that a file says (`scoop check` shows it): it answers the datagrams that come to its \
             address, and runs its handlers in threads. Their states are kept in the file of --new or --store; with neither \
             nothing is kept, and a restart breaks the promise. The node can be killed at any time, and goes on with \
-            --store. What it had taken and not run is run first. Once its history is full it is closed, which holds it \
-            against what each thread did, and opened again.\n\n\
+            --store: this node's own, which has every handler that the file gives it. What it had taken and not run is run \
+            first. Once its history is full it is closed, which holds it against what each thread did, and opened \
+            again.\n\n\
             Input: none.\n\n\
             Output: `node 1 at 127.0.0.1:47101: handlers 1 2` once it is ready, `node 1 reopened` at each reopening, and \
             with --turns at its end `node 1 closed`. A call of the socket that fails is told on standard error.\n\n\
             Statuses: 0; 1 for the file or the key, told as `scoop: FILE: TEXT`; 2 for the command line; 3 for links and \
-            threads, told as `scoop: link: NAME`, for the store, told as `scoop: store: NAME`, for memory or output.\n\n\
+            threads, told as `scoop: link: NAME`, for the store, told as `scoop: store: NAME`, for memory or output. A second \
+            line of standard error says where to look and what to do.\n\n\
             Example: scoop node 1 --system examples/bank.toml --new /tmp/node-1.db",
         )
         .arg(number_argument(alloc, "The number of the node"))?
-        .arg(system_option(alloc))?
-        .arg(new_option(
+        .arg(system_option(alloc))?;
+    let new = new_option(
+        alloc,
+        "Makes a store in this file: for a node that never ran",
+    );
+    with_option(command, new)?
+        .arg(store_option(
             alloc,
-            "Makes a store in this file: for a node that never ran",
-        )?)?
-        .arg(store_option(alloc))?
+            "Goes on with the store in this file: for a node that ran, with the store that it made",
+        ))?
         .arg(key_option(alloc))?
         .arg(executors_option(alloc))?
         .arg(history_option(alloc))?
@@ -56,12 +63,12 @@ pub fn node_command<'a>(alloc: Global) -> Result<Command<'a>, AllocError> {
 
 /// What `scoop client` takes.
 pub fn client_command<'a>(alloc: Global) -> Result<Command<'a>, AllocError> {
-    Command::new(alloc, "client")
+    let command = Command::new(alloc, "client")
         .about("Runs a client of a system, over UDP, with the commands of standard input")
         .long_about(
             "Runs a client of the system that a file says (`scoop check` shows it). It takes its port, and then its next \
-            incarnation from its store, which --new makes for a client that never ran and --store names for one that did; \
-            it greets every handler, which frees what an earlier incarnation has held; and then it does what the lines \
+            incarnation from its store: give --new for a client that never ran, which makes one, and --store for one that did. \
+            It greets every handler, which frees what an earlier incarnation has held; and then it does what the lines \
             ask, one after another.\n\n\
             Input: lines. Output: a line for each:\n\
             \x20 reserve H..         `reserved 7.1.1`: a block over 1 to 8 handlers\n\
@@ -77,16 +84,21 @@ pub fn client_command<'a>(alloc: Global) -> Result<Command<'a>, AllocError> {
             Statuses: 0; 1 for the file or the key, told as `scoop: FILE: TEXT`, for a line that can't be read, told as \
             `scoop: line N: TEXT` (at a terminal the client goes on), and for an input that ends inside a block; 2 for the \
             command line; 3 for links, told as `scoop: link: NAME` (`TurnsOver` where a command has spent its --turns), for \
-            the store, told as `scoop: store: NAME`, for memory or output.\n\n\
+            the store, told as `scoop: store: NAME`, for memory or output. Further lines of standard error say where to \
+            look, what to do, and which lines are done.\n\n\
             Example: scoop client 7 --system examples/bank.toml --new /tmp/client-7.db < examples/bank-7.lines",
         )
         .arg(number_argument(alloc, "The number of the client"))?
-        .arg(system_option(alloc))?
-        .arg(new_option(
+        .arg(system_option(alloc))?;
+    let new = new_option(
+        alloc,
+        "Makes a store in this file: for a client that never ran",
+    );
+    with_option(command, new)?
+        .arg(store_option(
             alloc,
-            "Makes a store in this file: for a client that never ran",
-        )?)?
-        .arg(store_option(alloc).required_unless_present("new")?)?
+            "Goes on with the store in this file: for a client that ran, with the store that it made",
+        ))?
         .arg(key_option(alloc))?
         .arg(client_turns_option(alloc))
 }
@@ -126,11 +138,11 @@ fn new_option<'a>(alloc: Global, help: &'a str) -> Result<Arg<'a>, AllocError> {
         .conflicts_with("store")
 }
 
-fn store_option<'a>(alloc: Global) -> Arg<'a> {
+fn store_option<'a>(alloc: Global, help: &'a str) -> Arg<'a> {
     Arg::new(alloc, "store")
         .long("store")
         .value_name("FILE")
-        .help("Goes on with the store that is in this file")
+        .help(help)
         .action(ArgAction::Set)
 }
 

@@ -1,4 +1,6 @@
--- What is printed for a datagram, and what the keeper has behind it.
+-- What is printed for a datagram, and what the keeper has behind it. The answer is a refusal, a note or a reply, and only
+-- behind some notes, of a handler that is here, may something run. Which handlers are here stays the same, so what the
+-- keeper has of every other handler does too.
 use Rattle.std.proofs.Common.{◌≡◌, ◌≢◌, if◌then◌else◌, ℕ, Bool, true, false, List, [], ◌∷◌, length, drop, Option, Some, None, refl, sym, ap, ◌∙◌, subst}
 use Rattle.std.proofs.lemmas.List.{take_at}
 use Rattle.hex.specs.Hex.{encode_lower}

@@ -1,5 +1,5 @@
-mod ChunkLemmas
 mod LineLemmas
+mod ChunkLemmas
 mod InputLemmas
 mod HexLemmas
 mod OpenLemmas

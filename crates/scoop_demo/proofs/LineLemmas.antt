@@ -1,19 +1,42 @@
--- The lines of an input, met one byte at a time.
-use Rattle.std.proofs.Common.{◌≡◌, ℕ, ◌<◌, List, [], ◌∷◌, ◌++◌, length, refl, sym, ◌∙◌, ap, arith, Option, Some, None, nat_eq, Bool, true, false, not, ◌==◌, append_assoc, append-nil, length-append}
-use Rattle.std.proofs.lemmas.List.{length_push}
+-- The lines of an input, met piece by piece.
+use Rattle.std.proofs.Common.{◌≡◌, ℕ, zero, suc, ◌+◌, ◌<◌, ◌≤◌, List, [], ◌∷◌, ◌++◌, length, take, slice_index, refl, sym, ◌∙◌, ap, arith, Option, Some, None, Result, Ok, Err, nat_eq, Bool, true, false, not, ◌==◌, append_assoc, append-nil, length-append, take_all}
+use Rattle.std.proofs.lemmas.Bool.{eqb-true}
 use Rattle.std.proofs.lemmas.Bool.Decides.{nat_tests}
+use Rattle.std.proofs.lemmas.List.{take_more}
 use Rattle.std.specs.Bool.{OnTrue}
 use Rattle.std.specs.Io.KnownBytes.{Consumes, IsAtEnd, Keeps}
+use Rattle.memchr.specs.Find.{IsFirstByte, is_byte}
+use Rattle.scoop_demo.specs.declared.source.SourceError.{SourceError}
 use Rattle.scoop_demo.specs.Line.{line_limit, lines_of, BeginsTooLong, TakesFirst}
+use Rattle.scoop_demo.specs.Piece.{Extends, HasNoNewline, IsNothing, Overflows, newline_of}
 
--- no byte ends a line
-abbrev pub HasNoNewline : List ℕ → Type 0
-HasNoNewline [] = Unit {0}
-HasNoNewline (x ∷ xs) = (nat_eq x 10 ≡ false) × HasNoNewline xs
+HasNoNewline-append : (xs ys : List ℕ) → HasNoNewline xs → HasNoNewline ys → HasNoNewline (xs ++ ys)
+HasNoNewline-append [] ys h g = g
+HasNoNewline-append (x ∷ xs) ys h g = (h.0, HasNoNewline-append xs ys h.1 g)
 
-pub HasNoNewline-push : (line : List ℕ) (x : ℕ) → HasNoNewline line → nat_eq x 10 ≡ false → HasNoNewline (line ++ x ∷ [])
-HasNoNewline-push [] x h n = (n, tt)
-HasNoNewline-push (y ∷ ys) x h n = (h.0, HasNoNewline-push ys x h.1 n)
+-- bytes before the first newline
+no_newline : (xs : List ℕ) (n : ℕ) → ((k : ℕ) → k < n → ¬ ((slice_index xs k == 10) ≡ true)) → HasNoNewline (take n xs)
+no_newline [] zero none = tt
+no_newline [] (suc n) none = tt
+no_newline (x ∷ xs) zero none = tt
+no_newline (x ∷ xs) (suc n) none =
+    let first : ¬ ((x == 10) ≡ true) = none 0 (omega arith) in
+    let other : nat_eq x 10 ≡ false = grind (arith, nat_tests, first) in
+    (other, no_newline xs n (λ k below. none (suc k) (omega arith)))
+
+-- a search found no newline
+pub none_found : (xs : List ℕ) → IsFirstByte (is_byte 10) xs None → HasNoNewline xs
+none_found xs none =
+    let all = take_all (length xs) xs (omega arith) in
+    rw all at (no_newline xs (length xs) (λ k below is. none k (omega arith) below is))
+
+-- bytes up to the newline that a search found, and with it
+pub one_found : (xs : List ℕ) (k : ℕ) → IsFirstByte (is_byte 10) xs (Some k)
+    → HasNoNewline (take k xs) × (take (k + 1) xs ≡ take k xs ++ 10 ∷ [])
+one_found xs k found =
+    let before = found.0 in
+    let byte : slice_index xs k ≡ 10 = eqb-true (slice_index xs k) 10 found.1 in
+    (no_newline xs k (λ i below is. before.before i (omega arith) below is), take_more xs k 0 before.high ∙ ap (λ (x : ℕ). take k xs ++ x ∷ []) byte)
 
 -- a line that a newline ends
 pub lines_of-line : (line rest : List ℕ) → HasNoNewline line → lines_of (line ++ 10 ∷ rest) ≡ line ∷ lines_of rest
@@ -26,12 +49,12 @@ lines_of-last [] h l = absurd (omega arith)
 lines_of-last (x ∷ []) h l = rw h.0 refl
 lines_of-last (x ∷ y ∷ ys) h l = let more : 0 < length (y ∷ ys) = omega arith in rw (h.0, lines_of-last (y ∷ ys) h.1 more) refl
 
--- one byte more is taken
-pub Consumes-push : (a b c : Option (List ℕ)) (line : List ℕ) (x : ℕ) → Consumes a b line → Consumes b c (x ∷ []) → Consumes a c (line ++ x ∷ [])
-Consumes-push None b c line x f s = tt
-Consumes-push (Some xs) None c line x f s = absurd f
-Consumes-push (Some xs) (Some ys) None line x f s = absurd s
-Consumes-push (Some xs) (Some ys) (Some zs) line x f s = f ∙ ap (λ v. line ++ v) s ∙ sym (append_assoc line (x ∷ []) zs)
+-- more bytes are taken
+pub Consumes-more : (a b c : Option (List ℕ)) (xs ys : List ℕ) → Consumes a b xs → Consumes b c ys → Consumes a c (xs ++ ys)
+Consumes-more None b c xs ys f s = tt
+Consumes-more (Some us) None c xs ys f s = absurd f
+Consumes-more (Some us) (Some vs) None xs ys f s = absurd s
+Consumes-more (Some us) (Some vs) (Some ws) xs ys f s = f ∙ ap (λ v. xs ++ v) s ∙ sym (append_assoc xs ys ws)
 
 pub Keeps-keeps : (a b c : Option (List ℕ)) → Keeps a b → Keeps b c → Keeps a c
 Keeps-keeps None b c f s = tt
@@ -40,11 +63,38 @@ Keeps-keeps (Some xs) (Some ys) None f s = absurd s
 Keeps-keeps (Some xs) (Some ys) (Some zs) f s = s ∙ f
 
 -- a line and the newline after it were taken
-pub takes_line : (a b c : Option (List ℕ)) (line : List ℕ) → HasNoNewline line → Consumes a b line → Consumes b c (10 ∷ []) → TakesFirst a line c
-takes_line None b c line h f s = tt
-takes_line (Some xs) None c line h f s = absurd f
-takes_line (Some xs) (Some ys) None line h f s = absurd s
-takes_line (Some xs) (Some ys) (Some zs) line h f s = ap lines_of (f ∙ ap (λ v. line ++ v) s) ∙ lines_of-line line zs h
+takes_line : (a c : Option (List ℕ)) (line : List ℕ) → HasNoNewline line → Consumes a c (line ++ 10 ∷ []) → TakesFirst a line c
+takes_line None c line h f = tt
+takes_line (Some xs) None line h f = absurd f
+takes_line (Some xs) (Some zs) line h f = ap lines_of (f ∙ append_assoc line (10 ∷ []) zs) ∙ lines_of-line line zs h
+
+-- a line that was read so far, one piece later
+pub record Grown (a : Option (List ℕ)) (line : List ℕ) (c : Option (List ℕ)) (ended : Bool) : Type 0 where
+  pub unended : HasNoNewline line
+  pub taken : Consumes a c (line ++ newline_of ended)
+
+grown : (a b c : Option (List ℕ)) (before after : List ℕ) (ended : Bool) → HasNoNewline before → Consumes a b before
+    → Extends b before after c ended → Grown a after c ended
+grown a b c before after ended h f e =
+    let all = Consumes-more a b c before (e.piece ++ newline_of ended) f e.taken in
+    rw e.line record {
+      unended = HasNoNewline-append before e.piece h e.unended;
+      taken = rw (append_assoc before e.piece (newline_of ended)) all;
+    }
+
+-- the line goes on
+pub goes_on : (a b c : Option (List ℕ)) (before after : List ℕ) → HasNoNewline before → Consumes a b before
+    → Extends b before after c false → HasNoNewline after × Consumes a c after
+goes_on a b c before after h f e =
+    let g = grown a b c before after false h f e in
+    (g.unended, rw (append-nil after) at g.taken)
+
+-- the line was taken whole
+pub ends_at_newline : (a b c : Option (List ℕ)) (before after : List ℕ) → HasNoNewline before → Consumes a b before
+    → Extends b before after c true → TakesFirst a after c
+ends_at_newline a b c before after h f e =
+    let g = grown a b c before after true h f e in
+    takes_line a c after g.unended g.taken
 
 -- the last line was taken
 pub takes_last : (a b c : Option (List ℕ)) (line : List ℕ) → HasNoNewline line → 0 < length line → Consumes a b line → Consumes b c [] → IsAtEnd b
@@ -65,11 +115,22 @@ ends_line a b c line false h f s e is =
     let some : 0 < length line = grind (arith, nat_tests, is) in
     takes_last a b c line h some f s e
 
+-- the input ends behind what was read
+pub ends_input : (a b c : Option (List ℕ)) (before after : List ℕ) (empty : Bool) → HasNoNewline before → Consumes a b before
+    → IsNothing b before after c → empty ≡ (length after == 0) → OnTrue (not empty) (TakesFirst a after c)
+ends_input a b c before after empty h f n is =
+    rw n.same (ends_line a b c before empty h f n.taken n.end (rw n.same at is))
+
 -- nothing was left
 pub IsAtEnd-empty : (a b : Option (List ℕ)) → Consumes a b [] → IsAtEnd b → IsAtEnd a
 IsAtEnd-empty None b f e = tt
 IsAtEnd-empty (Some xs) None f e = absurd f
 IsAtEnd-empty (Some xs) (Some ys) f e = f ∙ e
+
+-- nothing was read
+pub was_at_end : (a b c : Option (List ℕ)) (before after : List ℕ) → Consumes a b before → IsNothing b before after c → length after ≡ 0 → IsAtEnd a
+was_at_end a b c [] after f n none = IsAtEnd-empty a b f n.end
+was_at_end a b c (x ∷ xs) after f n none = let long : length after ≡ suc (length xs) = ap length n.same in absurd (omega (arith, long))
 
 -- the bytes of a line that may go on
 record Begins (bytes line : List ℕ) : Type 0 where
@@ -90,15 +151,23 @@ begins (x ∷ []) rest h l = one_begins x rest (lines_of rest) h.0 refl
 begins (x ∷ y ∷ ys) rest h l = onto_begins x ((y ∷ ys) ++ rest) (y ∷ ys) h.0 (begins (y ∷ ys) rest h.1 (omega arith))
 
 -- more bytes than a line may have were taken, and none of them was a newline
-pub begins_too_long : (a b c : Option (List ℕ)) (line : List ℕ) (x : ℕ) → HasNoNewline line → nat_eq x 10 ≡ false → length line ≡ line_limit
-    → Consumes a b line → Consumes b c (x ∷ []) → BeginsTooLong a
-begins_too_long None b c line x h n l f s = record { line = line ++ x ∷ []; long = omega (arith, length_push line x); next = tt }
-begins_too_long (Some xs) None c line x h n l f s = absurd f
-begins_too_long (Some xs) (Some ys) None line x h n l f s = absurd s
-begins_too_long (Some xs) (Some ys) (Some zs) line x h n l f s =
-    let whole = line ++ x ∷ [] in
-    let some : 0 < length whole = omega (arith, length_push line x) in
-    let front = begins whole zs (HasNoNewline-push line x h n) some in
-    let is : xs ≡ whole ++ zs = f ∙ ap (λ v. line ++ v) s ∙ sym (append_assoc line (x ∷ []) zs) in
-    let long : line_limit < length (whole ++ front.more) = omega (arith, length_push line x, length-append whole front.more) in
-    record { line = whole ++ front.more; long = long; next = (front.others, ap lines_of is ∙ front.is) }
+too_long : (a c : Option (List ℕ)) (line : List ℕ) → HasNoNewline line → line_limit < length line → Consumes a c line → BeginsTooLong a
+too_long None c line h l f = record { line = line; long = l; next = tt }
+too_long (Some xs) None line h l f = absurd f
+too_long (Some xs) (Some zs) line h l f =
+    let front = begins line zs h (omega arith) in
+    let long : line_limit < length (line ++ front.more) = omega (arith, length-append line front.more) in
+    record { line = line ++ front.more; long = long; next = (front.others, ap lines_of f ∙ front.is) }
+
+pub begins_too_long : (a b : Option (List ℕ)) (before : List ℕ) → HasNoNewline before → Consumes a b before → Overflows b before → BeginsTooLong a
+begins_too_long a b before h f o =
+    too_long a o.rest (before ++ o.piece) (HasNoNewline-append before o.piece h o.unended) o.long
+    (Consumes-more a b o.rest before o.piece f o.taken)
+
+-- the error of a result, or another one
+abbrev error_or : {A : Type 0} → SourceError → Result A SourceError → SourceError
+error_or other (Ok x) = other
+error_or other (Err e) = e
+
+pub same_error : {A : Type 0} (e other : SourceError) → ◌≡◌ {A = Result A SourceError} (Err e) (Err other) → e ≡ other
+same_error e other is = ap (error_or other) is

@@ -1,11 +1,15 @@
 -- What decimal digits write.
-use Rattle.std.proofs.Common.{◌≡◌, ℕ, zero, suc, [], ◌∷◌, get_or, ◌<◌, ◌^◌, Bool, true, false, ◌&&◌, nat_lt, List, length, Err, refl, arith, rules, ◌++◌, Ok, sym, ap, append_assoc, append-nil}
+use Rattle.std.proofs.Common.{◌≡◌, ℕ, zero, suc, [], ◌∷◌, get_or, ◌<◌, ◌^◌, Bool, true, false, ◌&&◌, nat_lt, List, length, Err, refl, arith, rules, ◌++◌, Ok, sym, ap, append_assoc, append-nil, ◌+◌, ◌-◌, ◌*◌, ◌≤◌, take, le_trans, lt_of_lt_of_le, lit≤}
+use native.Mathlib.Nat.{pow-le-pow_right}
 use Rattle.std.specs.List.{list_all}
 use Rattle.std.specs.Str.{IsUtf8}
 use Rattle.std.specs.Str.Parse.{digits_value, ParsesUnsigned}
+use Rattle.std.specs.Char.{digit_value}
+use Rattle.std.proofs.lemmas.Int.Digits.{digits_value-lt, digits_value_more}
 use Rattle.std.proofs.lemmas.Bool.Decides.{nat_tests}
 use Rattle.std.proofs.lemmas.Str.{IsUtf8-from_ascii}
-use Rattle.std.proofs.lemmas.Str.Parse.{IsDigitsTest, IsNumeralModel, numerals_by_value, parse_digits}
+use Rattle.std.proofs.lemmas.Str.{digit_value_digit}
+use Rattle.std.proofs.lemmas.Str.Parse.{IsDigitsTest, IsNumeralModel, numerals_by_value, parse_digits, digit_at, digits_value-take-le}
 use Rattle.scoop_demo.specs.declared.fault.InputFault.{InputFault}
 use Rattle.scoop_demo.specs.declared.fault.InputFault.TheVariants.{NotANumber}
 use Rattle.scoop_demo.specs.ScriptNumber.{Word, Read, ◌>>=◌, each_of, is_digit, is_decimal, number_below}
@@ -34,6 +38,30 @@ pub too_large : {E : Type 0} (word : List ℕ) (e : E) → ParsesUnsigned 64 10 
 too_large word e h is =
     let refused = parse_digits digits_model 64 word (Err e) h (decimal-digits word is) in
     rw (is, at_least (digits_value 10 word) (2 ^ 64) (λ below. refused (decimal-some word is, below))) refl
+
+-- a few digits write a number that fits
+pub short_fits : (word : List ℕ) → list_all is_digit word ≡ true → length word ≤ 19 → digits_value 10 word < 2 ^ 64
+short_fits word is short =
+    lt_of_lt_of_le (digits_value-lt 10 word (digits_model.to word is)) (le_trans (pow-le-pow_right (lit≤ tt) short) (lit≤ tt))
+
+-- one digit more
+pub record NextDigit (word : List ℕ) (i byte : ℕ) : Type 0 where
+  pub low : 48 ≤ byte
+  pub high : byte ≤ 57
+  pub more : 10 * digits_value 10 (take i word) + (byte - 48) ≡ digits_value 10 (take (i + 1) word)
+  pub most : digits_value 10 (take (i + 1) word) ≤ digits_value 10 word
+
+pub next_digit : (word : List ℕ) (i byte : ℕ) → list_all is_digit word ≡ true → i < length word → byte ≡ get_or word i 0 → NextDigit word i byte
+next_digit word i byte is within at =
+    let range = digit_at word i (digits_model.to word is) within in
+    let value = digit_value_digit (get_or word i 0) range in
+    let step = digits_value_more 10 word i within in
+    record {
+      low = omega (arith, range);
+      high = omega (arith, range);
+      more = omega (arith, value, step);
+      most = digits_value-take-le 10 word (i + 1) (lit≤ tt);
+    }
 
 first_ascii : (d : ℕ) (others : Bool) → (is_digit d && others) ≡ true → d < 128
 first_ascii d others is = grind (arith, nat_tests)

@@ -1,4 +1,6 @@
--- A line has one answer, and what a book does is told by its handlers and its history.
+-- A line has one answer, and what a book does is told by its handlers and its history. Bytes are read in one way, a move of
+-- known handlers has one reply and one outcome, and what runs is what is in front, until nothing is. So books that differ in
+-- their keepers alone print the same for the same lines, and differ in nothing else behind them.
 use Rattle.std.proofs.Common.{◌≡◌, ℕ, ◌+◌, List, [], ◌∷◌, ◌++◌, codes, Option, Some, None, Result, Ok, Err, refl, sym, ap, ◌∙◌, subst}
 use Rattle.hex.proofs.HexLemmas.{decode_of-same}
 use Rattle.scoop_message.specs.declared.name.Block.{Block}

@@ -1,4 +1,6 @@
--- A run over lines, one line at a time.
+-- A run over lines, one line at a time. The lines that were taken, and what is left, make the input; each line that was taken
+-- has its answer, written behind those before it (`Progress`). At the input's end these are all lines; a line that can't be
+-- taken or answered stops the run behind them.
 use Rattle.std.proofs.Common.{◌≡◌, ◌≤◌, ℕ, ◌+◌, List, [], ◌∷◌, ◌++◌, length, Option, Some, None, IfSome, Result, Ok, Err, IfErr, OnOk, refl, sym, ◌∙◌, ap, subst, arith, append_assoc, append-nil}
 use Rattle.std.specs.Prelude.{⊤}
 use Rattle.std.proofs.lemmas.List.{length_push}

@@ -1,4 +1,5 @@
--- A script, one line at a time.
+-- A script, one line at a time. The lines that were taken have no fault, and the cast stands for the parties that they name
+-- (`Taken`). A line more goes on so, or has the fault that is told; at the end of the input the world opens if it hasn't.
 use Rattle.std.proofs.Common.{◌≡◌, ◌≤◌, if◌then◌else◌, ℕ, ◌+◌, max, Bool, true, false, ◌||◌, ◌&&◌, not, List, [], ◌∷◌, ◌++◌, length, Option, Some, None, Result, Ok, Err, IfErr, OnOk, refl, sym, ◌∙◌, ap, subst, arith}
 use Rattle.std.proofs.lemmas.List.{length_push}
 use Rattle.std.proofs.lemmas.List.Folds.{list_any-append}

@@ -1,4 +1,6 @@
--- The parties of a script are those that its lines name.
+-- The parties of a script are those that its lines name. Only as many are kept as there may be, and one more: that one tells
+-- as well as all would that there are too many, and where it isn't there, all are kept. So the world of what is kept opens,
+-- or why not, as that of all the named parties does.
 use Rattle.std.proofs.Common.{◌≡◌, ◌≢◌, ℕ, ◌+◌, ◌≤◌, ◌<◌, Bool, true, false, List, [], ◌∷◌, ◌++◌, length, map, take, Option, Some, None, Result, Ok, Err, IfErr, OnOk, refl, sym, ◌∙◌, ap, subst, arith, append-nil}
 use Rattle.std.specs.Prelude.{slice_get, option_map}
 use Rattle.std.specs.List.{AllByRecursion, cons_option, filter_map, take-map}

@@ -1,7 +1,7 @@
 -- The datagrams that lines of hex digits stand for.
-use Rattle.std.specs.Prelude.{◌≡◌, ℕ, ◌==◌, ◌%◌, not, List, length, filter, if◌then◌else◌, Option, Some, None, Ok}
+use Rattle.std.specs.Prelude.{◌≡◌, ℕ, ◌==◌, ◌%◌, not, Bool, true, false, List, length, filter, if◌then◌else◌, Option, Some, None, unwrap_or, Ok, IsErr}
 use Rattle.std.specs.List.{list_all}
-use Rattle.hex.specs.Hex.{decode_of, is_hex_digit}
+use Rattle.hex.specs.Hex.{decode_of, hex_digit_value, is_hex_digit}
 use Rattle.scoop_demo.specs.declared.fault.InputFault.{InputFault}
 use Rattle.scoop_demo.specs.declared.fault.InputFault.TheVariants.{NotHex, OddDigits}
 
@@ -19,3 +19,19 @@ hex_fault line =
 -- the line's digits, two for each byte, are those of the datagram
 abbrev pub StandsFor : List ℕ → List ℕ → Type 0
 StandsFor line datagram = decode_of (digits_of line) ≡ Ok datagram
+
+-- the value of the hex digit that a byte is, and 255 of another byte
+abbrev pub value_of : ℕ → ℕ
+value_of byte = unwrap_or (hex_digit_value byte) 255
+
+-- whether bytes are an even number of hex digits, which were turned into these
+abbrev pub IsDecoded : Bool → List ℕ → List ℕ → Type 0
+IsDecoded true digits bytes = decode_of digits ≡ Ok bytes
+IsDecoded false digits bytes = IsErr (decode_of digits)
+
+-- what `hex_fault` says of a line without spaces
+abbrev pub fault_among : List ℕ → Option InputFault
+fault_among digits =
+    if not (list_all is_hex_digit digits) then Some NotHex
+    else if length digits % 2 == 1 then Some OddDigits
+    else None

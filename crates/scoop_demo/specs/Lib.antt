@@ -1,6 +1,7 @@
 pub mod OpenErrorText
 pub mod Text
 pub mod Line
+pub mod Piece
 pub mod Input
 pub mod Hex
 pub mod Storing

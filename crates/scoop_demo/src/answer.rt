@@ -55,9 +55,12 @@ fn elsewhere(datagram: &[u8]) -> Note
 fn runs_by(note: Note, datagram: &[u8]) -> Option<HandlerId>
     ensures { (v : Version) (m : Message) → IsFrame v m datagram.now → result ≡ runs_by note (handler_of m) }
 {
+    if !runs_after(note) {
+        return None;
+    }
     match decode(datagram) {
-        Ok((_, message)) if runs_after(note) => Some(message.handler()),
-        _ => None,
+        Ok((_, message)) => Some(message.handler()),
+        Err(_) => None,
     }
 }
 

@@ -1,9 +1,9 @@
 //! The datagrams that lines of hex digits stand for.
 
-ghost use Rattle.std.specs.Prelude.{◌≡◌, ◌*◌, true, Ok, None, Some, IfOk, MatchResult, length};
+ghost use Rattle.std.specs.Prelude.{◌≡◌, ◌≤◌, ◌*◌, Ok, None, Some, IfOk, IsErr, MatchOption, MatchResult, length, take};
 ghost use Rattle.std.specs.List.{list_all};
 ghost use Rattle.hex.specs.Hex.{is_hex_digit, decode_of};
-ghost use Rattle.scoop_demo.specs.Hex.{digits_of, hex_fault, StandsFor};
+ghost use Rattle.scoop_demo.specs.Hex.{IsDecoded, StandsFor, digits_of, fault_among, hex_fault, value_of};
 
 use crate::fault::InputFault;
 use crate::source::LineBytes;
@@ -12,7 +12,7 @@ use crate::source::LineBytes;
 pub const MAX_DATAGRAM_LEN: usize = 2048;
 
 /// The datagram that a line of hex digits of either case stands for, at the front of the buffer. Spaces are
-/// skipped: the line loses them.
+/// skipped: where there are some, the line loses them.
 ///
 /// The error is `NotHex` where another byte is no hex digit, else `OddDigits` where the number of digits
 /// is odd.
@@ -23,23 +23,83 @@ pub fn read_datagram<'a>(
     ensures ok { IfOk result (λ datagram. StandsFor line.old.items datagram.now) }
     ensures fault { MatchResult result (λ _. hex_fault line.old.items ≡ None) (λ fault. hex_fault line.old.items ≡ Some fault) }
 {
+    // Most lines have no spaces.
+    match read_digits(line.as_slice(), buffer) {
+        Some(len) => return Ok(&buffer[..len]),
+        None => {}
+    }
     remove_spaces(line);
-    let digits = line.as_slice();
-    if !are_digits(digits) {
-        return Err(InputFault::NotHex);
+    match read_digits(line.as_slice(), buffer) {
+        Some(len) => Ok(&buffer[..len]),
+        None => Err(fault_of(line.as_slice())),
     }
-    if digits.len() % 2 == 1 {
-        return Err(InputFault::OddDigits);
+}
+
+// Writes the bytes of an even number of hex digits to the front of the buffer, and says how many they are. None
+// where the line is something else.
+fn read_digits(line: &[u8], buffer: &mut [u8; MAX_DATAGRAM_LEN]) -> Option<usize>
+    requires { length line.now ≤ 4096 }
+    ensures { MatchOption result (IsErr (decode_of line.now)) (λ len. (len ≤ 2048) × (decode_of line.now ≡ Ok (take len buffer.new))) }
+{
+    if line.len() % 2 == 1 {
+        return None;
     }
-    let datagram = &mut buffer[..digits.len() / 2];
-    decode_digits(digits, datagram);
-    Ok(datagram)
+    let len = line.len() / 2;
+    if decode_digits(line, &mut buffer[..len]) {
+        Some(len)
+    } else {
+        None
+    }
+}
+
+// Writes the bytes of hex digits, two for each byte. False where another byte is among them.
+fn decode_digits(digits: &[u8], bytes: &mut [u8]) -> bool
+    requires { length digits.now ≡ 2 * length bytes.old }
+    ensures bytes { IsDecoded result digits.now bytes.new }
+    ensures len { length bytes.new ≡ length bytes.old }
+{
+    for i in 0..bytes.len() {
+        let high = digit_value(digits[2 * i]);
+        let low = digit_value(digits[2 * i + 1]);
+        if high > 15 {
+            return false;
+        }
+        if low > 15 {
+            return false;
+        }
+        bytes[i] = 16 * high + low;
+    }
+    true
+}
+
+// The value of a hex digit, and 255 of another byte.
+fn digit_value(byte: u8) -> u8
+    ensures { result ≡ value_of byte }
+{
+    match byte {
+        b'0'..=b'9' => byte - b'0',
+        b'a'..=b'f' => byte - b'a' + 10,
+        b'A'..=b'F' => byte - b'A' + 10,
+        _ => 255,
+    }
 }
 
 fn remove_spaces(line: &mut LineBytes)
     ensures { line.new.items ≡ digits_of line.old.items }
 {
     line.retain(|byte| *byte != b' ');
+}
+
+// What is wrong with bytes that are not an even number of hex digits.
+fn fault_of(digits: &[u8]) -> InputFault
+    requires { IsErr (decode_of digits.now) }
+    ensures { fault_among digits.now ≡ Some result }
+{
+    if are_digits(digits) {
+        InputFault::OddDigits
+    } else {
+        InputFault::NotHex
+    }
 }
 
 // Whether all bytes are hex digits.
@@ -53,13 +113,4 @@ fn is_digit(byte: u8) -> bool
     ensures { result ≡ is_hex_digit byte }
 {
     matches!(byte, b'0'..=b'9' | b'a'..=b'f' | b'A'..=b'F')
-}
-
-// Writes the bytes of hex digits, two for each byte.
-fn decode_digits(digits: &[u8], bytes: &mut [u8])
-    requires pairs { length digits.now ≡ 2 * length bytes.old }
-    requires digits { list_all is_hex_digit digits.now ≡ true }
-    ensures { decode_of digits.now ≡ Ok bytes.new }
-{
-    hex::decode_to_slice(digits, bytes).unwrap();
 }

@@ -6,18 +6,13 @@
 //! clients.
 //!
 //! ```
-//! let script = "\
+//! const DOC_SCRIPT: &str = "\
 //! handler 1 1 cell 0
 //! client 7
 //! trip 7 1";
-//! let mut output = Vec::new(alloc);
-//! world_run(
-//!     alloc,
-//!     MemoryKeeper::new(alloc),
-//!     script.as_bytes(),
-//!     &mut output,
-//! )?;
-//! let text = "\
+//! // `played` over a keeper, with what is written behind what was written
+//! world_run(alloc, keeper, script.as_bytes(), written)
+//! const DOC_OUTPUT: &str = "\
 //! sent 1 Hello
 //! Greeted sent 2
 //! Welcomed 1
@@ -26,7 +21,8 @@
 //! handler 1 ran none
 //! client 7 accepted none
 //! ";
-//! assert!(rt; output.as_slice() == text.as_bytes());
+//! assert!(rt; played(alloc, MemoryKeeper::new(alloc), DOC_SCRIPT, &mut written).is_ok());
+//! assert!(rt; written.as_slice() == DOC_OUTPUT.as_bytes());
 //! ```
 #![tactic(auto)]
 
@@ -50,7 +46,7 @@ pub use framing::{
 pub use lines::{Lines, MAX_LINES};
 pub use opening::open_book;
 pub use playing::{Picture, PlayOptions, world_run, world_run_charted, world_run_with};
-pub use printing::{print_accepted, print_all_ran, print_blocks, print_note};
+pub use printing::print_note;
 pub use run::answer_run;
 pub use script::{
     EventKind, EventLine, LineError, LineKind, PlacedLine, is_blank, line_kind, read_client,

@@ -3,8 +3,10 @@
 mod cast;
 mod echo;
 mod events;
+mod histories;
 mod picture;
 mod settling;
+mod telling;
 
 ghost use Rattle.std.specs.Prelude.{◌≡◌, IfErr, OnOk, false, [], is_some};
 ghost use Rattle.scoop_demo.specs.Script.{PlaysAll, StopsPlaying, parties_of};

@@ -1,4 +1,4 @@
-//! What is printed of the events of a world, and of what happened in it.
+//! What is printed of the events of a world.
 
 ghost use Rattle.std.specs.Prelude.{◌≡◌, ◌∷◌, ◌++◌, [], OnOk};
 ghost use Rattle.std.specs.Option.{option_copied};
@@ -7,7 +7,7 @@ ghost use Rattle.scoop_demo.specs.NoteText.{note_text, client_note_text, sent_te
 
 use scoop_client::ClientNote;
 use scoop_handler::Ran;
-use scoop_message::{Answer, Block, HandlerId, Message};
+use scoop_message::Message;
 use scoop_world::WorldNote;
 use std::io;
 use std::io::Write;
@@ -97,49 +97,4 @@ fn print_ran<W: Write>(ran: &Ran, writer: &mut W) -> io::Result<()>
         Some(answer) => writeln!(writer, "ran {block} {number} {answer}"),
         None => writeln!(writer, "ran {block} {number} end"),
     }
-}
-
-/// Writes blocks behind the name of their line: `none` where there are none.
-pub fn print_blocks<W: Write>(blocks: &[Block], writer: &mut W) -> io::Result<()> {
-    if blocks.is_empty() {
-        return writer.write_all(b" none\n");
-    }
-    for block in blocks {
-        write!(writer, " {block}")?;
-    }
-    writer.write_all(b"\n")
-}
-
-/// Writes entries that have run behind the name of their line: `none` where there are none.
-pub fn print_all_ran<W: Write>(all: &[Ran], writer: &mut W) -> io::Result<()> {
-    if all.is_empty() {
-        return writer.write_all(b" none\n");
-    }
-    for ran in all {
-        print_ran_item(ran, writer)?;
-    }
-    writer.write_all(b"\n")
-}
-
-fn print_ran_item<W: Write>(ran: &Ran, writer: &mut W) -> io::Result<()> {
-    let block = ran.block;
-    let number = ran.number;
-    match ran.answer {
-        Some(answer) => write!(writer, " {block}:{number}:{answer}"),
-        None => write!(writer, " {block}:{number}:end"),
-    }
-}
-
-/// Writes accepted answers behind the name of their line: `none` where there are none.
-pub fn print_accepted<W: Write>(
-    accepted: &[(HandlerId, Block, u32, Answer)],
-    writer: &mut W,
-) -> io::Result<()> {
-    if accepted.is_empty() {
-        return writer.write_all(b" none\n");
-    }
-    for (handler, block, number, answer) in accepted {
-        write!(writer, " {handler}:{block}:{number}:{answer}")?;
-    }
-    writer.write_all(b"\n")
 }

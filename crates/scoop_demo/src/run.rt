@@ -100,25 +100,31 @@ fn answer_lines<B: Behaviour, K: Keeper<Global>, R: Read + Drop, W: Write>(
     ensures others { KeepsElsewhere K.handlers K.incarnations K.is_honest book.old.handlers book.old.keeper book.new.keeper }
 {
     let mut lines = Lines::new(reader);
+    // Made once, since what is made is cleared.
     let mut line = ArrayVec::new();
+    let mut room = [0; MAX_DATAGRAM_LEN];
+    let mut out = [0; BUFFER_LEN];
     loop {
         match lines.next_line(&mut line, writer) {
             Ok(true) => {}
             Ok(false) => return Ok(()),
             Err(error) => return Err(error),
         }
-        match answer_line(book, lines.number(), &mut line, writer) {
+        match answer_line(book, lines.number(), &mut line, &mut room, &mut out, writer) {
             Ok(()) => {}
             Err(error) => return Err(error),
         }
     }
 }
 
-// Answers the datagram of the line of this number, which is within the limits, and runs the handler.
+// Answers the datagram of the line of this number, which is within the limits, and runs the handler. The datagram
+// and the reply's frame are left in the buffers.
 fn answer_line<B: Behaviour, K: Keeper<Global>, W: Write>(
     book: &mut Book<B, K>,
     number: u32,
     line: &mut LineBytes,
+    room: &mut [u8; MAX_DATAGRAM_LEN],
+    out: &mut [u8; BUFFER_LEN],
     writer: &mut W,
 ) -> Result<(), RunError>
     requires { limit_fault number line.old.items ≡ None }
@@ -127,8 +133,7 @@ fn answer_line<B: Behaviour, K: Keeper<Global>, W: Write>(
     ensures sound { IsBook K.handlers K.is_honest book.old → IsBook K.handlers K.is_honest book.new }
     ensures others { KeepsElsewhere K.handlers K.incarnations K.is_honest book.old.handlers book.old.keeper book.new.keeper }
 {
-    let mut buffer = [0; MAX_DATAGRAM_LEN];
-    let datagram = match read_datagram(line, &mut buffer) {
+    let datagram = match read_datagram(line, room) {
         Ok(datagram) => datagram,
         Err(fault) => {
             return Err(RunError::Input {
@@ -137,12 +142,11 @@ fn answer_line<B: Behaviour, K: Keeper<Global>, W: Write>(
             });
         }
     };
-    let mut out = [0; BUFFER_LEN];
-    let (answered, runs_next) = match answer(book, datagram, &mut out) {
+    let (answered, runs_next) = match answer(book, datagram, out) {
         Ok(told) => told,
         Err(error) => return Err(error),
     };
-    match print_answer(answered, &out, writer) {
+    match print_answer(answered, out, writer) {
         Ok(()) => {}
         Err(_) => return Err(RunError::Write),
     }

@@ -1,13 +1,14 @@
 //! The bytes of an input, which are read in chunks.
 
-ghost use Rattle.std.specs.Prelude.{◌≡◌, ◌≢◌, ◌≤◌, ℕ, List, Option, None, Ok, Some, Err, false, IfOk, IfErr, IfSome, OnErr, slice_range};
+ghost use Rattle.std.specs.Prelude.{◌≡◌, ◌≢◌, ◌≤◌, ℕ, List, Option, None, Ok, Some, Err, false, IfOk, IfErr, IfSome, MatchOption, OnErr, slice_range};
 ghost use Rattle.std.specs.Bool.{OnTrue};
-ghost use Rattle.std.specs.Option.{option_to_list};
 ghost use Rattle.std.specs.Io.{ReadsAtMost};
-ghost use Rattle.std.specs.Io.KnownBytes.{prepend_known, Consumes, Keeps, IsAtEnd, ReadConsumes};
+ghost use Rattle.std.specs.Io.KnownBytes.{prepend_known, Keeps, IsAtEnd, ReadConsumes};
 ghost use Rattle.scoop_demo.specs.Line.{TakesFirst, IsWithin, BeginsTooLong};
+ghost use Rattle.scoop_demo.specs.Piece.{IsFront, IsPiece, IsTooMuch, Overflows};
 
 use arrayvec::ArrayVec;
+use memchr::memchr;
 use std::io::{ErrorKind, Read, Write};
 use std::marker::Model;
 
@@ -28,6 +29,16 @@ pub enum SourceError {
     LineTooLong,
     Read,
     Write,
+}
+
+/// What was read of a line.
+enum Piece {
+    /// A part of the line, which may go on.
+    Part,
+    /// The rest of the line, with its newline.
+    Last,
+    /// Nothing, at the end of the input.
+    Nothing,
 }
 
 /// The bytes of a reader, which is read a chunk at a time. Contracts see the bytes that are left,
@@ -78,22 +89,25 @@ impl<R: Read> Source<R> {
     {
         line.clear();
         loop {
-            match self.next_byte(output) {
-                Ok(Some(b'\n')) => return Ok(true),
-                Ok(Some(_)) if line.is_full() => return Err(SourceError::LineTooLong),
-                Ok(Some(byte)) => line.push(byte),
-                Ok(None) => return Ok(!line.is_empty()),
+            match self.next_piece(line, output) {
+                Ok(Piece::Part) => {}
+                Ok(Piece::Last) => return Ok(true),
+                Ok(Piece::Nothing) => return Ok(!line.is_empty()),
                 Err(error) => return Err(error),
             }
         }
     }
 
-    // The next byte, or nothing at the end of the input.
-    fn next_byte<W: Write>(&mut self, output: &mut W) -> Result<Option<u8>, SourceError>
-        ensures byte { IfOk result (λ b. Consumes self.old self.new (option_to_list b)) }
-        ensures end { result ≡ Ok None → IsAtEnd self.old }
-        ensures err { OnErr result (Keeps self.old self.new) }
-        ensures cause { IfErr result (λ e. e ≢ SourceError.LineTooLong) }
+    // Puts what the chunk has of a line behind the bytes that are there. Where nothing is left of the chunk, the next
+    // one is read.
+    fn next_piece<W: Write>(
+        &mut self,
+        line: &mut LineBytes,
+        output: &mut W,
+    ) -> Result<Piece, SourceError>
+        ensures piece { IfOk result (λ piece. IsPiece piece self.old line.old.items line.new.items self.new) }
+        ensures within { IsWithin line.old.items → IsWithin line.new.items }
+        ensures long { result ≡ Err SourceError.LineTooLong → Overflows self.old line.old.items }
         ensures output { Keeps (W.contents output.old) (W.contents output.new) }
     {
         if self.start == self.end {
@@ -104,12 +118,35 @@ impl<R: Read> Source<R> {
             self.start = 0;
             self.end = len;
             if len == 0 {
-                return Ok(None);
+                return Ok(Piece::Nothing);
             }
         }
-        let byte = self.chunk[self.start];
-        self.start += 1;
-        Ok(Some(byte))
+        let Some((taken, ended)) = take_piece(&self.chunk[self.start..self.end], line) else {
+            return Err(SourceError::LineTooLong);
+        };
+        self.start += taken;
+        if ended {
+            return Ok(Piece::Last);
+        }
+        Ok(Piece::Part)
+    }
+}
+
+// Puts the bytes up to a newline, or all where there is none, behind those of a line. Answers how many were taken,
+// the newline too, and whether there was one. None where the line would be too long.
+fn take_piece(bytes: &[u8], line: &mut LineBytes) -> Option<(usize, bool)>
+    ensures piece { MatchOption result (IsTooMuch bytes.now line.old.items) (λ t. IsFront bytes.now line.old.items line.new.items t.0 t.1) }
+    ensures within { IsWithin line.old.items → IsWithin line.new.items }
+{
+    let newline = memchr(b'\n', bytes);
+    let len = newline.unwrap_or(bytes.len());
+    match line.try_extend_from_slice(&bytes[..len]) {
+        Ok(()) => {}
+        Err(_) => return None,
+    }
+    match newline {
+        Some(_) => Some((len + 1, true)),
+        None => Some((len, false)),
     }
 }
 

@@ -1,4 +1,6 @@
--- A client keeps its block, and what it waits for, while it hears.
+-- A client keeps its block, and what it waits for, while it hears: what a message leaves of either is the same or nothing. So
+-- in turns without a command a block that runs is the one that was reserved, and an answer that is accepted is that of the
+-- query that waited before them.
 use Rattle.std.proofs.Common.{◌≡◌, ℕ, ◌==◌, ◌⊎◌, List, [], ◌∷◌, length, Option, Some, None, Result, Ok, Err, Bool, true, false, arith, refl, ap, sym, ◌∙◌, subst, inl, inr}
 use Rattle.std.proofs.lemmas.List.Elements.{Contains-push_cases, Contains-append_cases}
 use Rattle.std.specs.Prelude.{if◌then◌else◌, nat_lt, Contains}

@@ -1,4 +1,6 @@
--- What a wait does, from what its blocks do.
+-- What a wait does, from what its blocks do. A block reserves, asks, logs its body where the condition held, and ends; each
+-- part takes no more turns than its calls may (`IsPart`), and in their sum the block doesn't. Blocks in which the condition
+-- failed stand one behind the other (`Failing`), until one is done or breaks off, or the tries are over.
 use Rattle.std.proofs.Common.{◌≡◌, ℕ, suc, ◌+◌, ◌-◌, ◌*◌, ◌<◌, ◌≤◌, Bool, true, false, List, [], ◌∷◌, ◌++◌, length, drop, get_or, Result, Ok, Err, refl, ap, sym, ◌∙◌, subst, inl, inr, arith, append_assoc, add-one, zero-add}
 use Rattle.std.proofs.Math.Nat.{mul-le-mul_right}
 use Rattle.std.proofs.lemmas.List.{append-nil, drop_more}

@@ -1,4 +1,6 @@
--- What is true of every handler is kept when the first entry of its first private queue has run.
+-- What is true of every handler is kept when the first entry of its first private queue has run. That queue begins one entry
+-- further or is gone, and of the marks only the one at the entry's own block may keep another answer. Such a mark is of an
+-- open block, so one whose block hasn't opened stays as it was.
 use Rattle.std.proofs.Common.{◌≡◌, ℕ, ◌+◌, ◌<◌, ◌≤◌, Bool, true, false, cond, not, ◌&&◌, IsTrue, IsFalse, List, [], ◌∷◌, ◌++◌, length, map, Option, Some, None, is_some, refl, sym, ap, ◌∙◌, subst, inl, inr, arith, true≢false}
 use Rattle.std.specs.List.{AllByRecursion}
 use Rattle.std.specs.Option.{option_map}

@@ -1,4 +1,5 @@
--- Look-up, change and addition in a list of marks.
+-- Look-up, change and addition in a list of marks, which stand in the order of their clients, one for each. A mark that is
+-- changed or added is found for its own client, and for every other client what was found before.
 use Rattle.std.proofs.Common.{◌≡◌, ℕ, suc, ◌+◌, ◌<◌, Bool, true, false, cond, nat_lt, List, [], ◌∷◌, ◌++◌, Some, None, find, map, insert, length, take, drop, set, get_or, refl, sym, ap, subst, inl, inr, arith}
 use Rattle.std.specs.List.{AllByRecursion, prefix_len}
 use Rattle.std.proofs.lemmas.Bool.{eqb-true, eq-eqb, cases_Bool}

@@ -1,4 +1,6 @@
--- What fits a row is what `hear` gives, so a message has one outcome.
+-- What fits a row is what `hear` gives, so a message has one outcome. What a row asks of the handler and of the client's mark
+-- makes the tests of the table before its outcome true or false, so `hear` comes to that outcome; and what `hear` gives has
+-- its row by `TableRows`.
 use Rattle.std.proofs.Common.{◌≡◌, ◌≢◌, ◌↔◌, ℕ, ◌+◌, ◌<◌, ◌≤◌, Bool, true, false, cond, ◌==◌, nat_lt, nat_le, ◌&&◌, ◌||◌, not, IsTrue, IsFalse, List, ◌⊎◌, Option, Some, None, length, refl, sym, ap, subst, ◌∙◌, inl, inr, arith}
 use Rattle.std.specs.Prelude.{is_none, Ok}
 use Rattle.std.proofs.lemmas.Bool.{eqb-true, eq-eqb}

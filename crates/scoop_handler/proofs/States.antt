@@ -1,4 +1,6 @@
--- Which changes of a handler's state keep what is true of every state.
+-- Which changes of a handler's state keep what is true of every state. All but a first greeting put one client's mark in the
+-- place of its old one: `IsChange` says what such a mark asks of the holder and of the private queues beside it, and a newer
+-- incarnation, a granted lock, a block that is passed over, a lock given back, an opened queue and new entries each meet it.
 use Rattle.std.proofs.Common.{◌≡◌, ℕ, zero, suc, ◌+◌, ◌-◌, ◌^◌, ◌<◌, ◌≤◌, Bool, true, false, cond, ◌&&◌, ◌||◌, ◌==◌, nat_lt, nat_le, not, IsTrue, List, [], ◌∷◌, ◌++◌, Option, Some, None, length, take, drop, refl, sym, ap, subst, ◌∙◌, inl, inr, arith, length-append}
 use Rattle.std.proofs.lemmas.List.{length-drop, take-append-drop}
 use Rattle.std.specs.Prelude.{IsFalse}

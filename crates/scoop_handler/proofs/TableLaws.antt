@@ -1,4 +1,5 @@
--- What is true of each row of the table, and so of `hear`.
+-- What is true of each row of the table, and so of `hear`. Each law is shown of the relation, row by row; `hear`'s outcome has
+-- a row, so the law is true of it; and a call gives that outcome, or has changed nothing.
 use Rattle.std.proofs.Common.{◌≡◌, ℕ, ◌<◌, ◌≤◌, ◌⊎◌, Bool, true, false, ◌||◌, IsTrue, cond, List, length, Option, Some, None, refl, sym, ap, subst, ◌∙◌, inl, inr, arith}
 use Rattle.std.proofs.lemmas.Bool.Decides.{nat_tests}
 use Rattle.std.specs.Prelude.{IsFalse, Result, Ok, Err, IfOk, OnErr}

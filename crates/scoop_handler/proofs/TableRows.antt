@@ -1,4 +1,5 @@
--- Every message has its row.
+-- Every message has its row. `hear` is a nest of tests in the table's order: `split` goes both ways at each of them, and what
+-- the tests on a way say, as facts of the handler and of the client's mark, is what the row at its end asks.
 use Rattle.std.proofs.Common.{◌≡◌, ◌≢◌, ℕ, ◌+◌, ◌<◌, ◌≤◌, Bool, true, false, cond, ◌==◌, nat_lt, nat_le, ◌&&◌, ◌||◌, not, IsTrue, List, ◌⊎◌, Option, Some, None, length, refl, sym, ap, subst, ◌∙◌, inl, inr, arith}
 use Rattle.std.specs.Prelude.{is_none}
 use Rattle.std.proofs.lemmas.Bool.{eqb-true}

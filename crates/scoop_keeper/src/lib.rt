@@ -5,13 +5,16 @@
 //! [`hear_and_store`] and [`finish_and_store`]: a new state is stored before it is kept.
 //!
 //! ```
-//! let mut keeper = MemoryKeeper::new(rt.alloc()).with_incarnation(ClientId(7), 4294967294)?;
-//! assert_eq!(rt; keeper.next_incarnation(ClientId(7)), Ok(4294967295));
-//! assert_eq!(rt;
-//!     keeper.next_incarnation(ClientId(7)),
-//!     Err(KeeperError::IncarnationsSpent)
-//! );
-//! assert_eq!(rt; keeper.next_incarnation(ClientId(8)), Ok(1));
+//! // client 7 has one incarnation left, and client 8 all
+//! let keeper = MemoryKeeper::new(rt.alloc()).with_incarnation(ClientId(7), 4294967294);
+//! // what the keeper is asked, and whether it answers so
+//! Act::Next(client, next) => keeper.next_incarnation(ClientId(client)) == next,
+//! const SPENT: Result<u32, KeeperError> = Err(KeeperError::IncarnationsSpent);
+//! const IN_TURN: [Act; 3] = [
+//!     Act::Next(7, Ok(4294967295)),
+//!     Act::Next(7, SPENT),
+//!     Act::Next(8, Ok(1)),
+//! ];
 //! ```
 #![tactic(auto)]
 

@@ -9,7 +9,7 @@ use std::alloc::Allocator;
 use std::collections::VecDeque;
 use std::marker::Model;
 
-/// A datagram as links keep it: its first 192 bytes. Contracts see it as these bytes.
+/// A datagram as links keep it: its first `BUFFER_LEN` bytes. Contracts see it as these bytes.
 #[derive(Drop)]
 pub struct Datagram {
     bytes: [u8; BUFFER_LEN],
@@ -48,7 +48,7 @@ impl Datagram {
         Datagram { bytes: buffer, len }
     }
 
-    /// The bytes, at most 192.
+    /// The bytes, at most `BUFFER_LEN`.
     pub fn as_slice(&self) -> &[u8]
         ensures value { result.now ≡ self.now }
         ensures limit { length self.now ≤ BUFFER_LEN }

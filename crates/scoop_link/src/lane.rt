@@ -48,7 +48,7 @@ impl<A: Allocator> Lane<A> {
         })
     }
 
-    /// Puts a datagram in last, of which the lane keeps the first 192 bytes. The k-th put, counted from
+    /// Puts a datagram in last, of which the lane keeps the first `BUFFER_LEN` bytes. The k-th put, counted from
     /// 1, is dropped where `drop_every` divides k, and else appended twice where `double_every` divides
     /// k. A copy that finds no room is lost. The count of puts stops at 2^64-1.
     pub fn put(&mut self, bytes: &[u8])
@@ -62,7 +62,7 @@ impl<A: Allocator> Lane<A> {
         }
     }
 
-    /// Takes the first datagram out: its length, at most 192, and its bytes at the start of the buffer.
+    /// Takes the first datagram out: its length, at most `BUFFER_LEN`, and its bytes at the start of the buffer.
     /// `None` comes where the lane is empty.
     pub fn take(&mut self, buffer: &mut [u8; BUFFER_LEN]) -> Option<usize>
         ensures first { TakesFirst result self.old.datagrams self.new.datagrams buffer.old buffer.new }

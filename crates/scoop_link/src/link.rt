@@ -23,14 +23,14 @@ pub trait Link: Drop {
     /// How many sends and receives failed.
     ghost fault_count: { Self → ℕ };
 
-    /// Sends some bytes as one datagram, of which a link keeps the first 192 bytes. `LinkFault` comes
+    /// Sends some bytes as one datagram, of which a link keeps the first `BUFFER_LEN` bytes. `LinkFault` comes
     /// exactly where the count of faults rises. Otherwise a link that tells has sent them.
     fn send(&mut self, to: Party, bytes: &[u8]) -> Result<(), LinkFault>
         ensures faults { CountsFault result (fault_count self.old) (fault_count self.new) }
         ensures told { Exchanges (told self.old) (told self.new) [] (sent_by result to bytes.now) };
 
-    /// Receives one datagram: its length, at most 192, and its bytes at the start of the buffer. A longer
-    /// one gives its first 192 bytes, which are never a frame. `None` means that nothing came in this
+    /// Receives one datagram: its length, at most `BUFFER_LEN`, and its bytes at the start of the buffer. A longer
+    /// one gives its first `BUFFER_LEN` bytes, which are never a frame. `None` means that nothing came in this
     /// turn, and `LinkFault` comes exactly where the count of faults rises. Either leaves what is to come.
     fn receive(&mut self, buffer: &mut [u8; BUFFER_LEN]) -> Result<Option<usize>, LinkFault>
         ensures in_bounds { IfOk result (λ got. IfSome got (λ n. n ≤ BUFFER_LEN)) }

@@ -20,8 +20,8 @@ use std::marker::Model;
 /// one may be on its way.
 ///
 /// It counts the datagrams that it passed on and those that it received since the last silence, which is a
-/// receive that gave nothing; the last of 64 datagrams in a row without one counts as a silence. A datagram
-/// other than the last one that was passed on to its party is passed on. The same one again is passed on
+/// receive that gave nothing; the last of `MAX_IN_A_ROW` datagrams in a row without one counts as a silence. A
+/// datagram other than the last one that was passed on to its party is passed on. The same one again is passed on
 /// where a silence came since, or where at least as many were received as passed on and it was repeated
 /// fewer than `repeats` times in a row; else it is lost, and the send answers `Ok`. Another datagram to that
 /// party begins the row anew. A call that fails in the link behind it counts as nothing.

@@ -55,7 +55,7 @@ impl<A: Allocator + Clone> TapeLink<A> {
 }
 
 impl<A: Allocator> TapeLink<A> {
-    /// Appends a datagram to those to come, of which the link keeps the first 192 bytes. `OutOfMemory`
+    /// Appends a datagram to those to come, of which the link keeps the first `BUFFER_LEN` bytes. `OutOfMemory`
     /// comes where there is no memory for it, and nothing has changed then.
     pub fn feed(&mut self, bytes: &[u8]) -> Result<(), OutOfMemory>
         ensures ok { OnOk result (self.new ≡ record self.old { to_come = self.old.to_come ++ kept bytes.now ∷ [] }) }

@@ -16,9 +16,9 @@
 //! // a command names nine handlers at most
 //! assert_eq!(rt; HandlerList::of(&[HandlerId(1); 10]), Err(TooManyHandlers));
 //! // a proof that calls a theorem has it: every world that is reached is safe
-//! theorems::reached_safe();
+//! scoop_model::theorems::reached_safe();
 //! // and over a whole list of events a block that opens was the holder from its grant on
-//! theorems::held_until_opened();
+//! scoop_model::theorems::held_until_opened();
 //! ```
 #![tactic(auto)]
 

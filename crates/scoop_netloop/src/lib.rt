@@ -9,13 +9,15 @@
 //! // client 7 greets handler 1 of the book, and the handler's reply is a frame too
 //! let hello = b"SQ\x01\x01\0\0\0\x01\0\0\0\x07\0\0\0\x01\0\0\0\0\0\0\0\0\0\0";
 //! let mut reply = [0; BUFFER_LEN];
-//! let answered = answer_datagram(&mut book, 0, hello, &mut reply)?;
+//! let answered = answer_datagram(book, 0, hello, &mut reply)?;
 //! assert_eq!(rt; answered, Answered::Reply(26, Note::Greeted));
 //! // what is no frame is told as such, and nothing has happened
-//! let cut = answer_datagram(&mut book, 0, &hello[..25], &mut reply)?;
+//! let cut = answer_datagram(book, 0, &hello[..25], &mut reply)?;
 //! assert_eq!(rt; cut, Answered::RefusedFrame(FrameError::Short));
 //! // a client's driver reaches the same book without a network
-//! let mut driver = Driver::new(client, LoopLink::new(alloc, book, 0), 10);
+//! let link = LoopLink::new(alloc, book, 0);
+//! Driver::new(client(rt, alloc, SEVEN, handler), link, turns)
+//! // it is welcomed, and reserves
 //! assert_eq!(rt; driver.turn()?, Some(ClientNote::Welcomed(ONE)));
 //! driver.reserve(&[ONE])?;
 //! ```

@@ -1,4 +1,6 @@
--- What is true of the private queues at any time is kept by each change of them.
+-- What is true of the private queues at any time is kept by each change of them. A change of one queue leaves at most one in
+-- its place, of the same block (`Leaves`), so all stay apart and are no more, and only that one is to be looked at. A new
+-- queue goes last, where its block has none and there is room.
 use Rattle.std.proofs.Common.{◌≡◌, ℕ, ◌+◌, ◌-◌, ◌^◌, ◌<◌, ◌≤◌, Bool, true, false, ◌&&◌, ◌||◌, ◌==◌, nat_le, nat_lt, if◌then◌else◌, IsTrue, List, [], ◌∷◌, ◌++◌, length, Option, None, Some, refl, sym, ◌∙◌, subst, arith, true≢false, length-append}
 use Rattle.std.specs.Bool.{⊤}
 use Rattle.std.specs.List.{AllByRecursion}

@@ -1,4 +1,5 @@
--- What the map's calls do to the private queues that it keeps.
+-- What the map's calls do to the private queues that it keeps. Its keys are the blocks, in the order of the queues: the place
+-- of a block's key is that of its queue, and a write, an insertion or a removal there is that change of the list.
 use Rattle.std.proofs.Common.{◌≡◌, ℕ, zero, suc, ◌+◌, ◌<◌, ◌≤◌, Bool, true, false, cond, List, [], ◌∷◌, ◌++◌, length, remove, slice_get, get_or, Option, None, Some, position, MatchOption, is_some, nat_lt, refl, sym, ap, ◌∙◌, subst, arith, append_assoc}
 use Rattle.std.specs.List.{position_or_len}
 use Rattle.std.specs.Option.{option_map_or}

@@ -1,4 +1,5 @@
--- The rows of a record of version 1, by their numbers.
+-- The rows of a record of version 1, by their numbers. They were listed with their numbers rising, so no two rows have one
+-- number, the states read from them rise too, and the first row whose image is no state's has the lowest such number.
 use Rattle.std.proofs.Common.{◌≡◌, ◌≢◌, inl, inr, ◌<◌, ◌≤◌, ◌+◌, ◌^◌, ℕ, pos, List, [], ◌∷◌, ◌++◌, take, drop, map, find, Option, Some, None, option_map, refl, sym, ap, ◌∙◌, subst, arith, IsPermutation, append_assoc, take-append-drop}
 use Rattle.std.specs.List.{AllByRecursion, AllZip}
 use Rattle.std.proofs.lemmas.List.Sorted.{IsPermutation-sym}

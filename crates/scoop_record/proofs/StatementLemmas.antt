@@ -1,4 +1,5 @@
--- What the statements of the record do to a connection.
+-- What the statements of the record do to a connection. One that ran has made of the database what its compiled form makes
+-- (`UpsertLemmas`), and a plain query nothing; one that failed has committed nothing, nor has one inside a transaction.
 use Rattle.std.proofs.lemmas.Bool.{cases_Bool}
 use Rattle.scoop_record.specs.Store.{IsSound}
 use Rattle.std.proofs.Common.{IsPermutation, codes, cond, IsErr, IsTrue, IfOk, IfErr, arith, ◌≡◌, ◌≤◌, length, ◌⊎◌, inl, inr, ℕ, nat_le, ◌^◌, pos, List, [], ◌∷◌, map, true, false, find, slice_get, Option, option_map, Some, None, Ok, Err, Result, OnOk, refl, sym, ap, ◌∙◌, subst}

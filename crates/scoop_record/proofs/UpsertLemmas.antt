@@ -1,4 +1,6 @@
--- What INSERT .. ON CONFLICT DO UPDATE does to a table with an integer key.
+-- What INSERT .. ON CONFLICT DO UPDATE does to a table with an integer key. Where no row has the key the new row is inserted;
+-- where one has, the row that the update makes of it takes its place; two can't have it. Each way the table has the value at
+-- the key, what it had at every other key, and the other tables stay. The statements of the version are shown so too.
 use Rattle.std.proofs.Common.{codes, ◌≡◌, ◌≢◌, ◌⊎◌, ℕ, nat_le, ◌^◌, pos, List, [], ◌∷◌, ◌++◌, map, Bool, true, false, ◌&&◌, ◌||◌, cond, filter, find, slice_get, Option, Some, None, Result, Ok, Err, refl, sym, ap, ◌∙◌, subst, subst₂, not, length, inl, inr, arith, int_cmp, ℤ, IsPermutation}
 use Rattle.std.specs.List.{AllByRecursion}
 use Rattle.std.proofs.lemmas.Bool.{cases_Bool, and_parts}

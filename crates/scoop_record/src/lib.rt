@@ -5,17 +5,28 @@
 //! [`pending_row`].
 //!
 //! ```
-//! let conn = Connection::open_in_memory(alloc)?;
-//! let mut store = Store::create(alloc, conn)?;
-//! store.put_handler(&state)?;
-//! assert_eq!(rt; store.next_incarnation(ClientId(7))?, 1);
-//!
-//! // A restart: all that stays is the database.
-//! let conn = store.into_connection();
-//! let mut store = Store::adopt(alloc, conn)?;
-//! let found = store.load_handler(HandlerId(1))?.ok_or("a state")?;
-//! assert!(rt; found.same(&state));
-//! assert_eq!(rt; store.next_incarnation(ClientId(7))?, 2);
+//! // a store makes the tables of a database that has none, and takes those that are there
+//! match Store::create(alloc, conn) {
+//!     Ok(store) => Some(store),
+//!     Err(_) => None,
+//! }
+//! match Store::adopt(alloc, conn) {
+//!     Ok(store) => Some(store),
+//!     Err(_) => None,
+//! }
+//! // what it is asked: to put a state, to load it, and for a client's next incarnation
+//! keeper.put_handler(state).is_ok()
+//! match keeper.load_handler(HandlerId(1)) {
+//!     Ok(Some(state)) => state.same(wanted),
+//!     _ => false,
+//! }
+//! Act::Next(client, next) => keeper.next_incarnation(ClientId(client)) == next,
+//! // between the two stores is a restart: all that stays is the database
+//! const IN_DOC: [Step; 2] = [
+//!     Step::Create(&[Act::PutWaiting(5), Act::Next(7, Ok(1))]),
+//!     Step::Adopt(&[Act::LoadWaiting(5), Act::Next(7, Ok(2))]),
+//! ];
+//! store.into_connection()
 //! ```
 #![tactic(auto)]
 

@@ -9,17 +9,17 @@
 //!
 //! ```
 //! // nothing was reserved and nothing has run where a world opens
-//! theorems::opens_empty();
+//! scoop_rules::theorems::opens_empty();
 //! // whatever happens next in a world that is reached is a list of moves, each of which the rules allow
-//! theorems::follows_rules();
+//! scoop_rules::theorems::follows_rules();
 //! // so any list of events from a world that opens is a run of the rules
-//! theorems::runs_by_rules();
+//! scoop_rules::theorems::runs_by_rules();
 //! // and its moves, played one after another, make what the last world stands for
-//! theorems::replays();
+//! scoop_rules::theorems::replays();
 //! // three clients in a circle of locks: their events, and the moves of these events, are computed
-//! examples::three_clients();
+//! scoop_rules::examples::three_clients();
 //! // a client restarts with two calls received that have not run
-//! examples::runs_what_came();
+//! scoop_rules::examples::runs_what_came();
 //! ```
 #![tactic(auto)]
 

@@ -1,4 +1,6 @@
--- Running nodes and clients, in one order of what they did, are a world.
+-- Running nodes and clients, in one order of what they did, are a world. What a place of the order has is one party's own
+-- list. Each handler is of one node, so of all moves those that concern a node's handlers are just that node's, and those of
+-- a client its own. They lead each party on from where it opened, which makes the moves a weave, and so a world.
 use Rattle.std.proofs.Common.{◌≡◌, ℕ, zero, suc, ◌+◌, ◌≤◌, ◌==◌, ◌||◌, Bool, true, false, true≢false, List, [], ◌∷◌, ◌++◌, map, find, flat_map, filter, length, slice_get, Some, refl, sym, ap, ◌∙◌, subst, arith}
 use Rattle.std.specs.Prelude.{if◌then◌else◌, unwrap_or}
 use Rattle.std.specs.List.{AllByRecursion, list_any}

@@ -1,5 +1,9 @@
+pub mod Advice
 pub mod Answering
 pub mod Errors
+pub mod News
 pub mod NodeTexts
+pub mod Progress
+pub mod Records
 pub mod Sources
 pub mod Texts

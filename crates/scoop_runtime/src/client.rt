@@ -1,6 +1,8 @@
 //! A client whose commands are the lines of an input.
 
 use crate::error::RuntimeError;
+use crate::news_link::NewsLink;
+use crate::progress::{ClientStop, Progress};
 use crate::reply::print_reply;
 use crate::session::Session;
 use crate::source::LineSource;
@@ -88,11 +90,12 @@ fn tell_fault<N: Write>(number: u32, fault: LineFault, notes: &mut N) {
     }
 }
 
-// Does what the lines of the input ask, one after another, with one line for each.
+// Does what the lines of the input ask, one after another, with one line for each, and notes how far it is.
 fn obey_lines<L: Link, I: LineSource, W: Write, N: Write>(
     plan: &ClientPlan<'_>,
     session: &mut Session<L>,
     lines: &mut I,
+    progress: &mut Progress,
     writer: &mut W,
     notes: &mut N,
 ) -> Result<(), RuntimeError> {
@@ -102,10 +105,15 @@ fn obey_lines<L: Link, I: LineSource, W: Write, N: Write>(
             return Ok(());
         };
         match read_line(plan.system, &line) {
-            Ok(asked) => obey_line(session, &asked, writer)?,
+            Ok(asked) => {
+                progress.has_begun = true;
+                obey_line(session, &asked, writer)?;
+            }
             Err(fault) if plan.is_typed => tell_fault(number, fault, notes),
             Err(fault) => return Err(RuntimeError::Line(number, fault)),
         }
+        progress.has_begun = false;
+        progress.done = Some(number);
     }
     Ok(())
 }
@@ -126,15 +134,16 @@ fn obey_line<L: Link, W: Write>(
     }
 }
 
-// The link, paced, and telling who doesn't answer.
+// The link, paced, giving news alone, and telling who doesn't answer.
 fn waiting_link<L: Link, E: Write + Drop>(
     alloc: Global,
     link: L,
     waits: E,
-    handlers: usize,
-) -> Result<WaitingLink<PacedLink<L>, E>, OutOfMemory> {
-    let link = PacedLink::new(alloc, link, handlers, REPEATS)?;
-    WaitingLink::new(alloc, link, waits, handlers)
+    known: &[HandlerId],
+) -> Result<WaitingLink<PacedLink<NewsLink<L>>, E>, OutOfMemory> {
+    let link = NewsLink::new(alloc, link, known)?;
+    let link = PacedLink::new(alloc, link, known.len(), REPEATS)?;
+    WaitingLink::new(alloc, link, waits, known.len())
 }
 
 // Greets, and does what the lines ask. The session is lent, so that no way out of here has it to drop.
@@ -142,31 +151,27 @@ fn run_session<L: Link, I: LineSource, W: Write, N: Write>(
     plan: &ClientPlan<'_>,
     session: &mut Session<L>,
     lines: &mut I,
+    progress: &mut Progress,
     writer: &mut W,
     notes: &mut N,
 ) -> Result<(), RuntimeError> {
     session.greet()?;
-    obey_lines(plan, session, lines, writer, notes)?;
-    if session.has_block() {
-        return Err(RuntimeError::InsideBlock);
+    let obeyed = obey_lines(plan, session, lines, progress, writer, notes);
+    progress.has_block = session.has_block();
+    match obeyed {
+        Ok(()) if progress.has_block => Err(RuntimeError::InsideBlock),
+        obeyed => obeyed,
     }
-    Ok(())
 }
 
-/// Runs a client over a link: it takes its next incarnation from the keeper, greets every handler, and then does what the
-/// lines of the input ask, one after another. Each line is answered with one line, which goes out at once; what the client
-/// refuses is answered as `refused` and why, and it goes on. Repeated datagrams are paced. Handlers that don't answer
-/// within a second are told to `waits`, and lines that somebody types and that can't be read to `notes`.
-///
-/// Refused: what the keeper refuses, before anything is sent; `link: TurnsOver` and `link: LinkFault`; the first line that
-/// can't be read, unless somebody types; what ends the input early; `InsideBlock` where the input ends inside a block;
-/// `write fault`, and `out of memory`.
-pub fn client_run<K, L, I, E, W, N>(
+// Begins the client, and runs it.
+fn run_begun<K, L, I, E, W, N>(
     alloc: Global,
     plan: &ClientPlan<'_>,
     keeper: &mut K,
     link: L,
     lines: &mut I,
+    progress: &mut Progress,
     waits: E,
     writer: &mut W,
     notes: &mut N,
@@ -180,8 +185,52 @@ where
     N: Write,
 {
     let known = known_handlers(alloc, plan.system)?;
-    let link = waiting_link(alloc, link, waits, known.len())?;
+    let link = waiting_link(alloc, link, waits, &known)?;
     let client = begin_client(alloc, plan, keeper, &known)?;
     let mut session = Session::new(alloc, client, link, plan.turns);
-    run_session(plan, &mut session, lines, writer, notes)
+    run_session(plan, &mut session, lines, progress, writer, notes)
+}
+
+/// Runs a client over a link: it takes its next incarnation from the keeper, greets every handler, and then does what the
+/// lines of the input ask, one after another. Each line is answered with one line, which goes out at once; what the client
+/// refuses is answered as `refused` and why, and it goes on. Repeated datagrams are paced. Handlers that don't answer
+/// within a second are told to `waits`, and lines that somebody types and that can't be read to `notes`.
+///
+/// Refused: what the keeper refuses, before anything is sent; `link: TurnsOver` and `link: LinkFault`; the first line that
+/// can't be read, unless somebody types; what ends the input early; `InsideBlock` where the input ends inside a block;
+/// `write fault`, and `out of memory`; each with how far the lines are done.
+pub fn client_run<K, L, I, E, W, N>(
+    alloc: Global,
+    plan: &ClientPlan<'_>,
+    keeper: &mut K,
+    link: L,
+    lines: &mut I,
+    waits: E,
+    writer: &mut W,
+    notes: &mut N,
+) -> Result<(), ClientStop>
+where
+    K: Keeper<Global>,
+    L: Link,
+    I: LineSource,
+    E: Write + Drop,
+    W: Write,
+    N: Write,
+{
+    let mut progress = Progress::new();
+    let ran = run_begun(
+        alloc,
+        plan,
+        keeper,
+        link,
+        lines,
+        &mut progress,
+        waits,
+        writer,
+        notes,
+    );
+    match ran {
+        Ok(()) => Ok(()),
+        Err(error) => Err(ClientStop { error, progress }),
+    }
 }

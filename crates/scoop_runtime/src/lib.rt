@@ -2,18 +2,45 @@
 //! served by threads over a record, and a client whose commands are the lines of an input.
 //!
 //! [`node_run`] serves a node, and opens it again over the same record and link where its history is full; [`client_run`]
-//! takes its next incarnation, greets every handler and answers line by line. [`open_node_link`] and
-//! [`open_client_link`] take their ports. [`print_reply`] writes what a client is answered.
+//! takes its next incarnation, greets every handler and answers line by line, or tells how far it came.
+//! [`open_node_link`] and [`open_client_link`] take their ports. [`print_reply`] writes what a client is answered.
+//!
+//! ```
+//! // a node of the system, by two threads beside the one that receives
+//! let plan = NodePlan::of(alloc, system, place).ok()?;
+//! let serving = Serving::new(2, history, turns)?;
+//! let ended = node_run(rt, alloc, &plan, &serving, keeper, link, notes, &mut output);
+//! // a client of it, whose commands are these lines
+//! let plan = ClientPlan {
+//!     system,
+//!     place: *system.client(ClientId(number))?,
+//!     turns: TURNS,
+//!     is_typed,
+//! };
+//! let ended = client_run(
+//!     alloc,
+//!     &plan,
+//!     keeper,
+//!     link,
+//!     &mut TextLines::new(lines),
+//!     waits,
+//!     &mut output,
+//!     &mut notes,
+//! );
+//! ```
 #![tactic(auto)]
 
 mod client;
 mod error;
 mod last_block;
 mod links;
+mod news_link;
 mod node;
+mod openings;
 mod patient_link;
 mod plan;
 mod printing;
+mod progress;
 mod reply;
 mod session;
 mod source;
@@ -25,5 +52,6 @@ pub use error::RuntimeError;
 pub use links::{open_client_link, open_node_link};
 pub use node::node_run;
 pub use plan::{NodePlan, Serving};
+pub use progress::{ClientStop, Progress};
 pub use reply::{Reply, print_reply};
 pub use source::{LineBytes, LineSource, MAX_LINE_LEN, SourceError, SourceFault};

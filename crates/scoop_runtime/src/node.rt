@@ -3,6 +3,7 @@
 ghost use Rattle.std.specs.Prelude.{◌≤◌, vec_len};
 
 use crate::error::RuntimeError;
+use crate::openings::{require_handlers, store_openings};
 use crate::patient_link::PatientLink;
 use crate::plan::{NodePlan, Serving};
 use crate::printing::{print_closed, print_ready, print_reopened};
@@ -107,6 +108,23 @@ fn run_all<K: Keeper<Global>, R: Wait>(
     unreachable!()
 }
 
+// What a node begins with: every handler is in its record, and has run out.
+fn run_first<K: Keeper<Global>, R: Wait>(
+    rt: &R,
+    alloc: Global,
+    plan: &NodePlan,
+    serving: &Serving,
+    keeper: K,
+) -> Result<K, RuntimeError> {
+    let mut keeper = keeper;
+    if serving.goes_on() {
+        require_handlers(plan, &mut keeper)?;
+    } else {
+        store_openings(alloc, plan, &mut keeper)?;
+    }
+    run_all(rt, alloc, plan, keeper)
+}
+
 // The node with its passes, over this keeper.
 fn open_node<K: Keeper<Global>>(
     alloc: Global,
@@ -200,15 +218,16 @@ where
     unreachable!()
 }
 
-/// Serves a node over a keeper of its handlers' states, and over a link. Before it serves it runs each handler until
-/// nothing can run. Where its history is full it is closed, which holds each pass against the history, and opened again
-/// over the same keeper and link: a restart of the node, which loses no answer to a client that repeats. Writes a line
-/// once it is ready, one at each reopening, and one at its end. A call of the link that fails is told to `notes`, and only
-/// the thousandth in a row ends the node.
+/// Serves a node over a keeper of its handlers' states, and over a link. Before it serves it stores each handler of which
+/// nothing is stored, or refuses it where the node goes on, and runs each until nothing can run. Where its history is full
+/// it is closed, which holds each pass against the history, and opened again over the same keeper and link: a restart of
+/// the node, which loses no answer to a client that repeats. Writes a line once it is ready, one at each reopening, and one
+/// at its end. A call of the link that fails is told to `notes`, and only the thousandth in a row ends the node.
 ///
-/// It ends once its turns are over, and hands the keeper back. Refused with the keeper gone: `store: WrongClass` where the
-/// stored words of a handler are not as many as its class has, what the keeper refuses, a loop that ends otherwise, a node
-/// that can't be closed, `write fault`, and `out of memory`.
+/// It ends once its turns are over, and hands the keeper back. Refused with the keeper gone: `store: NoHandler` where the
+/// node goes on and the keeper has nothing of a handler, `store: WrongClass` where the stored words of a handler are not as
+/// many as its class has, what the keeper refuses, a loop that ends otherwise, a node that can't be closed, `write fault`,
+/// and `out of memory`.
 pub fn node_run<K, L, E, W, R>(
     rt: &R,
     alloc: Global,
@@ -227,7 +246,7 @@ where
     R: Threads + Wait + Clock + Sync,
 {
     let mut link = PatientLink::new(link, notes);
-    let keeper = run_all(rt, alloc, plan, keeper)?;
+    let keeper = run_first(rt, alloc, plan, serving, keeper)?;
     let written = print_ready(&plan.place, &plan.numbers, writer);
     told(written, writer)?;
     let keeper = serve_on(rt, alloc, plan, serving, keeper, &mut link, writer)?;

@@ -21,14 +21,16 @@ pub struct Serving {
     executors: u32,
     history: usize,
     turns: u64,
+    goes_on: bool,
     ghost some: { 1 ≤ executors },
     ghost many: { executors ≤ 64 },
     ghost limit: { history ≤ 1000000 },
 }
 
 impl Serving {
-    /// By so many threads beside the one that receives, 1 to 64; with a history of so many entries at most, 2 to 1,000,000,
-    /// behind which the node is opened again; and for so many turns of its loop. `None` where a number is out of its range.
+    /// By so many threads beside the one that receives, 1 to `MAX_EXECUTORS`; with a history of so many entries at most,
+    /// 2 to `MAX_HISTORY`, behind which the node is opened again; and for so many turns of its loop. Its record may be
+    /// new. `None` where a number is out of its range.
     pub fn new(executors: u32, history: usize, turns: u64) -> Option<Serving> {
         if executors < 1 || executors > MAX_EXECUTORS || history < 2 || history > MAX_HISTORY {
             return None;
@@ -37,7 +39,24 @@ impl Serving {
             executors,
             history,
             turns,
+            goes_on: false,
         })
+    }
+
+    /// The same over a record that isn't new: a node of which it lacks a handler is refused.
+    pub fn going_on(self) -> Serving {
+        let Serving {
+            executors,
+            history,
+            turns,
+            ..
+        } = self;
+        Serving {
+            executors,
+            history,
+            turns,
+            goes_on: true,
+        }
     }
 
     /// How many passes its node has: the receiver's, and one for each executor.
@@ -58,6 +77,11 @@ impl Serving {
     pub(crate) fn turns(&self) -> u64 {
         self.turns
     }
+
+    /// Whether the node ran before, so that its record has every handler.
+    pub(crate) fn goes_on(&self) -> bool {
+        self.goes_on
+    }
 }
 
 /// A handler of the node: its number, and its object's class and opening words.
@@ -66,6 +90,17 @@ pub(crate) struct Member {
     pub(crate) handler: HandlerId,
     pub(crate) class: Class,
     pub(crate) words: Words,
+}
+
+impl Member {
+    /// The handler with its class and a new object.
+    pub(crate) fn open(&self, alloc: Global) -> Result<(HandlerId, Class, Table), RuntimeError> {
+        let class = self.class.copy_in(alloc)?;
+        match Table::new(self.class.copy_in(alloc)?, self.words) {
+            Ok(object) => Ok((self.handler, class, object)),
+            Err(_) => Err(RuntimeError::from(ShowError::WrongClass(self.handler))),
+        }
+    }
 }
 
 /// A node of a system.
@@ -116,21 +151,12 @@ impl NodePlan {
     {
         let mut handlers = Vec::new(alloc);
         for member in &self.members {
-            let opened = open_member(alloc, member)?;
+            let opened = member.open(alloc)?;
             handlers.push(opened).map_err(OutOfMemory::from)?;
         }
         if handlers.len() > MAX_HANDLERS {
             return Err(RuntimeError::Handlers(BeginError::TooManyHandlers));
         }
         Ok(handlers)
-    }
-}
-
-// A handler of the node with its class and a new object.
-fn open_member(alloc: Global, member: &Member) -> Result<(HandlerId, Class, Table), RuntimeError> {
-    let class = member.class.copy_in(alloc)?;
-    match Table::new(member.class.copy_in(alloc)?, member.words) {
-        Ok(object) => Ok((member.handler, class, object)),
-        Err(_) => Err(RuntimeError::from(ShowError::WrongClass(member.handler))),
     }
 }

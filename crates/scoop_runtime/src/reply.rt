@@ -2,12 +2,11 @@
 
 ghost use Rattle.std.specs.Prelude.{◌≡◌, OnOk};
 ghost use Rattle.std.specs.Io.KnownBytes.{Appends};
-ghost use Rattle.scoop_show.specs.ErrorText.{client_name, client_number, reserve_name, reserve_number};
 ghost use Rattle.scoop_runtime.specs.Texts.{refusal_text, reply_text};
 
 use scoop_client::ClientError;
 use scoop_message::{Answer, Block, HandlerId};
-use scoop_reserve::ReserveError;
+use scoop_show::{client_name, client_number};
 use std::io;
 use std::io::Write;
 
@@ -32,63 +31,6 @@ pub enum Reply {
     Refused(ClientError),
     /// A block that waits for its condition takes calls and its end alone.
     NotInWhen,
-}
-
-// The name of a refusal, with the number of the handler that it names.
-
-fn client_name(error: &ClientError) -> &'static str
-    ensures { result.now ≡ client_name error.now }
-{
-    match error {
-        ClientError::NotGreeted => "NotGreeted",
-        ClientError::NotIdle => "NotIdle",
-        ClientError::NoBlock => "NoBlock",
-        ClientError::Waiting(_) => "Waiting",
-        ClientError::NotReserved(_) => "NotReserved",
-        ClientError::WindowFull(_) => "WindowFull",
-        ClientError::TooLate => "TooLate",
-        ClientError::Spent => "Spent",
-        ClientError::Reserve(error) => reserve_name(error),
-        ClientError::OutOfMemory => "OutOfMemory",
-    }
-}
-
-fn client_number(error: &ClientError) -> Option<u32>
-    ensures { result ≡ client_number error.now }
-{
-    match error {
-        ClientError::Waiting(handler)
-        | ClientError::NotReserved(handler)
-        | ClientError::WindowFull(handler) => Some(handler.0),
-        ClientError::Reserve(error) => reserve_number(error),
-        ClientError::NotGreeted
-        | ClientError::NotIdle
-        | ClientError::NoBlock
-        | ClientError::TooLate
-        | ClientError::Spent
-        | ClientError::OutOfMemory => None,
-    }
-}
-
-fn reserve_name(error: &ReserveError) -> &'static str
-    ensures { result.now ≡ reserve_name error.now }
-{
-    match error {
-        ReserveError::Empty => "Empty",
-        ReserveError::TooMany => "TooMany",
-        ReserveError::Repeated(_) => "Repeated",
-        ReserveError::Unknown(_) => "Unknown",
-        ReserveError::OutOfMemory => "OutOfMemory",
-    }
-}
-
-fn reserve_number(error: &ReserveError) -> Option<u32>
-    ensures { result ≡ reserve_number error.now }
-{
-    match error {
-        ReserveError::Repeated(handler) | ReserveError::Unknown(handler) => Some(handler.0),
-        ReserveError::Empty | ReserveError::TooMany | ReserveError::OutOfMemory => None,
-    }
 }
 
 // Writes the line of a refusal.

@@ -1,27 +1,31 @@
-//! A link that tells which handlers don't answer.
+//! A link that tells for which handlers a client waits.
 
 ghost use Rattle.std.specs.Prelude.{◌≡◌, ◌++◌, ◌∷◌, [], None, OnOk};
 ghost use Rattle.std.specs.Io.KnownBytes.{Appends};
 ghost use Rattle.scoop_runtime.specs.Texts.{numbers_text};
 
-use scoop_link::{Link, LinkFault, Party};
+use scoop_link::{Datagram, Link, LinkFault, Party};
 use scoop_message::limits::BUFFER_LEN;
 use scoop_message::{HandlerId, OutOfMemory};
 use std::alloc::Global;
 use std::io;
 use std::io::Write;
 
-// After so many receives in a row that gave nothing it is told who doesn't answer: over UDP after a second.
+// After so many receives that gave nothing, with no news between, it is told for whom the client waits: over UDP after
+// a second.
 const PATIENCE: u32 = 100;
 
 /// A link of a client that notes which handlers it was asked to send to since its last receive, and tells them once a
-/// hundred receives in a row have given nothing; over UDP that takes a second. It is told once until something comes.
-/// A writer that fails is left alone. It doesn't tell its datagrams.
+/// hundred receives have given nothing, and none between them something else than the last one that gave something; over
+/// UDP that takes a second. So who waits for a handler that answers the same again and again, as where another client's
+/// block stands before its own, is told as well as who waits for one that doesn't answer. It is told once until something
+/// else comes. A writer that fails is left alone. It doesn't tell its datagrams.
 #[derive(Drop)]
 pub(crate) struct WaitingLink<L: Link, E: Write + Drop> {
     inner: L,
     notes: E,
     asked: Vec<HandlerId>,
+    heard: Datagram,
     silences: u32,
 }
 
@@ -38,6 +42,7 @@ impl<L: Link, E: Write + Drop> WaitingLink<L, E> {
             inner,
             notes,
             asked,
+            heard: Datagram::of(&[]),
             silences: 0,
         })
     }
@@ -50,6 +55,16 @@ impl<L: Link, E: Write + Drop> WaitingLink<L, E> {
             if self.asked.len() < self.asked.capacity() && !self.asked.contains(&handler) {
                 self.asked.push_reserved(handler);
             }
+        }
+    }
+
+    // This came. What came last, once more, is no news.
+    fn hear(&mut self, bytes: &[u8])
+        ensures { self.new.inner ≡ self.old.inner }
+    {
+        if self.heard.as_slice() != bytes {
+            self.heard = Datagram::of(bytes);
+            self.silences = 0;
         }
     }
 
@@ -80,7 +95,7 @@ pub(crate) fn print_numbers<W: Write>(numbers: &[HandlerId], writer: &mut W) -> 
     }
 }
 
-// Tells who doesn't answer.
+// Tells for whom the client waits.
 fn print_waiting<W: Write>(handlers: &[HandlerId], writer: &mut W) -> io::Result<()> {
     writer.write_all(b"scoop: waiting for handlers")?;
     print_numbers(handlers, writer)?;
@@ -107,7 +122,7 @@ impl<L: Link, E: Write + Drop> Link for WaitingLink<L, E> {
     fn receive(&mut self, buffer: &mut [u8; BUFFER_LEN]) -> Result<Option<usize>, LinkFault> {
         let got = self.inner.receive(buffer)?;
         match got {
-            Some(_) => self.silences = 0,
+            Some(len) => self.hear(&buffer[..len]),
             None => self.wait(),
         }
         self.asked.clear();

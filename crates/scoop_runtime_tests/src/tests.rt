@@ -1,6 +1,7 @@
 //! Nodes and clients of systems in texts, over UDP of this machine.
 
 mod deals;
+mod going_on;
 mod lossy_link;
 mod moments;
 mod printing;
@@ -14,7 +15,7 @@ use scoop_keeper::{Keeper, MemoryKeeper};
 use scoop_link::{Link, UdpLink};
 use scoop_message::ClientId;
 use scoop_runtime::{
-    ClientPlan, NodePlan, RuntimeError, Serving, client_run, node_run, open_client_link,
+    ClientPlan, NodePlan, Progress, RuntimeError, Serving, client_run, node_run, open_client_link,
     open_node_link,
 };
 use scoop_system::System;
@@ -28,10 +29,11 @@ use text_lines::TextLines;
 /// How many turns a client's command takes at most: no more than twenty seconds.
 const TURNS: u64 = 2_000;
 
-/// How a client ended, what it wrote, and what its user was told.
+/// How a client ended, how far it came where it ended early, what it wrote, and what its user was told.
 #[derive(Drop)]
 struct Told {
     ended: Result<(), RuntimeError>,
+    progress: Option<Progress>,
     output: Vec<u8>,
     notes: Vec<u8>,
 }
@@ -101,8 +103,10 @@ fn ask<L: Link>(
         &mut output,
         &mut notes,
     );
+    let stop = ended.err();
     Some(Told {
-        ended,
+        ended: stop.map_or(Ok(()), |stop| Err(stop.error)),
+        progress: stop.map(|stop| stop.progress),
         output,
         notes,
     })

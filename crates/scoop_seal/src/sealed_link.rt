@@ -26,9 +26,9 @@ enum Taken {
 /// A link that sends bytes sealed, and gives only those that were sealed with its key.
 ///
 /// Behind the bytes stand the first sixteen bytes of their code by RFC 2104 with SHA-256 and the key. A
-/// send of more than 176 bytes is a fault of its own. A receive takes datagrams from the link behind, at
-/// most 64, until one has the right tag, and gives the bytes before that; the others are counted. It gives
-/// nothing where nothing came or none of the 64 had the right tag. Its count of faults is that of its own
+/// send of more than `MAX_BYTES` bytes is a fault of its own. A receive takes datagrams from the link behind, at
+/// most `MAX_TAKEN`, until one has the right tag, and gives the bytes before that; the others are counted. It gives
+/// nothing where nothing came or none of these had the right tag. Its count of faults is that of its own
 /// ones and those of the link behind.
 ///
 /// Who has not the key can't make a datagram that is given, but can repeat one that was sent. Nothing is

@@ -2,12 +2,12 @@
 //! a calm one.
 //!
 //! ```
-//! // a client that joins is to greet the handler
-//! assert_eq!(rt; next_of(&world)?, Some(Next::Ask(ClientId(7), HandlerId(1))));
+//! // a client that joins is to greet the handler (`next` is `next_of` where memory isn't refused)
+//! let greets = Next::Ask(ClientId(7), HandlerId(1));
+//! assert_eq!(rt; next(world), Ok(Some(greets)));
 //! // it does, and hears the reply: then the world is calm
-//! let greeting = [Event::Tick(ClientId(7), HandlerId(1)), Event::Take(1), Event::Take(2)];
-//! assert_eq!(rt; world.run(&greeting), Ok(3));
-//! assert_eq!(rt; next_of(&world)?, None);
+//! assert_eq!(rt; world.run(&GREETING), Ok(3));
+//! assert_eq!(rt; next(world), Ok(None));
 //! ```
 #![tactic(auto)]
 

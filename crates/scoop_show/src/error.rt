@@ -99,7 +99,8 @@ fn driver_number(error: &DriverError) -> Option<u32>
     }
 }
 
-fn client_name(error: &ClientError) -> &'static str
+/// The name of a client's refusal.
+pub fn client_name(error: &ClientError) -> &'static str
     ensures { result.now ≡ client_name error.now }
 {
     match error {
@@ -116,8 +117,8 @@ fn client_name(error: &ClientError) -> &'static str
     }
 }
 
-// The handler that the error names.
-fn client_number(error: &ClientError) -> Option<u32>
+/// The number of the handler that a client's refusal names, if it names one.
+pub fn client_number(error: &ClientError) -> Option<u32>
     ensures { result ≡ client_number error.now }
 {
     match error {

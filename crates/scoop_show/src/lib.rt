@@ -35,7 +35,7 @@ mod progress;
 mod run;
 mod showing;
 
-pub use error::ShowError;
+pub use error::{ShowError, client_name, client_number};
 pub use outcome::{Outcome, Waited, Woven, print_outcome};
 pub use plan::{Objects, PORTS, Plan, Ports};
 pub use run::demo_run;

@@ -4,6 +4,7 @@ mod NameLemmas
 mod LineLemmas
 mod Start
 mod AddressLemmas
+mod ArgumentLemmas
 mod RowLemmas
 mod ClassRowLemmas
 mod ViewLemmas

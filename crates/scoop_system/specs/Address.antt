@@ -1,8 +1,9 @@
 -- The socket address that a text writes.
-use Rattle.std.specs.Prelude.{ℕ, List, Option, Some, None}
+use Rattle.std.specs.Prelude.{ℕ, Bool, List, Option, Some, None}
 use Rattle.std.specs.Option.{option_map}
 use Rattle.std.specs.declared.net.socket_addr.SocketAddr.{SocketAddr}
 use Rattle.std.specs.declared.net.socket_addr.SocketAddr.TheVariants.{V4, V6}
+use Rattle.std.specs.contracts.net.socket_addr.SocketAddrPartialEq.TheImpl as on_address
 use Rattle.std.specs.Net.Reader.{read_socket_v4, read_socket_v6, whole_value}
 
 abbrev pub v4_of : List ℕ × ℕ → SocketAddr
@@ -18,3 +19,7 @@ or_else (Some a) other = Some a
 -- an IPv4 address with a port, or an IPv6 address in brackets with a port
 unfoldable pub address_of : List ℕ → Option SocketAddr
 address_of text = or_else (option_map v4_of (whole_value (read_socket_v4 text))) (option_map v6_of (whole_value (read_socket_v6 text)))
+
+-- the same IP address with the same port
+abbrev pub same_address : SocketAddr → SocketAddr → Bool
+same_address = on_address.eq-value.it

@@ -1,5 +1,5 @@
 -- The classes of a file.
-use Rattle.std.specs.Prelude.{ℕ, ◌||◌, ◌+◌, ◌^◌, ◌-◌, Bool, if◌then◌else◌, List, [], ◌∷◌, ◌++◌, length, is_some, Option, Some, None, Result, Ok, Err}
+use Rattle.std.specs.Prelude.{ℕ, ◌+◌, ◌^◌, ◌-◌, if◌then◌else◌, List, [], ◌∷◌, ◌++◌, length, is_some, Option, Some, None, Result, Ok, Err}
 use Rattle.std.specs.Result.{result_ok}
 use Rattle.toml.specs.Data.{Data}
 use Rattle.scoop_message.specs.declared.limits.TheConstants.{MAX_OPS, MAX_WORDS}
@@ -9,7 +9,7 @@ use Rattle.scoop_system.specs.declared.class.OwnOperation.{OwnOperation}
 use Rattle.scoop_system.specs.declared.error.Key.{Key}
 use Rattle.scoop_system.specs.declared.error.Key.TheVariants as key
 use Rattle.scoop_system.specs.declared.error.Wrong.{Wrong}
-use Rattle.scoop_system.specs.declared.error.Wrong.TheVariants.{Twice}
+use Rattle.scoop_system.specs.declared.error.Wrong.TheVariants.{Twice, KnownClass}
 use Rattle.scoop_system.specs.declared.error.Place.{Place}
 use Rattle.scoop_system.specs.declared.error.Place.TheVariants.{Class, Nameless, Operation, NamelessOperation}
 use Rattle.scoop_system.specs.System.{NamedClass, class_named}
@@ -43,12 +43,12 @@ class_place count d = class_place_of count (result_ok (name_at key.Name d))
 abbrev pub class_keys : List Key
 class_keys = key.Name ∷ key.Words ∷ key.Operation ∷ []
 
--- a class has this name already
-abbrev pub is_taken : List NamedClass → List ℕ → Bool
-is_taken classes name = is_some (class_of_name name) || is_some (class_named classes name)
-
+-- a class has this name already: one that every system has, or one of the file
 abbrev pub class_before : List NamedClass → List ℕ → Option Wrong
-class_before classes name = if is_taken classes name then Some Twice else None
+class_before classes name =
+    if is_some (class_of_name name) then Some KnownClass
+    else (if is_some (class_named classes name) then Some Twice
+    else None)
 
 -- what a class is but for its operations, and the values that are to be these
 pub record ClassHead : Type 0 where

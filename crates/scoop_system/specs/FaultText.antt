@@ -9,7 +9,7 @@ use Rattle.scoop_system.specs.declared.error.Wrong.TheVariants as wrong
 use Rattle.scoop_system.specs.declared.error.Fault.{Fault as TheFault}
 use Rattle.scoop_system.specs.declared.error.SystemError.{SystemError}
 use Rattle.scoop_system.specs.declared.error.SystemError.TheVariants.{Toml, Fault, OutOfMemory}
-use Rattle.scoop_system.specs.KeyText.{key_text}
+use Rattle.scoop_system.specs.KeyText.{key_text, hint_text}
 
 abbrev pub quoted : List ℕ → List ℕ
 quoted name = codes "\"" ++ name ++ codes "\""
@@ -26,19 +26,22 @@ abbrev pub wrong_text : Wrong → List ℕ
 wrong_text (wrong.UnknownKey key) = codes "unknown key " ++ quoted key
 wrong_text (wrong.Missing key) = codes "no " ++ key_text key
 wrong_text (wrong.NotANumber key low high) = key_text key ++ codes " is no whole number from " ++ decimal low ++ codes " to " ++ decimal high
-wrong_text (wrong.NotAName key) = key_text key ++ codes " is no name"
-wrong_text wrong.NotAnAddress = codes "address is no IP address with a port"
-wrong_text wrong.OtherFamily = codes "address of another family than the first one"
-wrong_text (wrong.NotAList key) = key_text key ++ codes " is no list"
-wrong_text wrong.NoTable = codes "no table"
+wrong_text (wrong.NotAName key) = key_text key ++ codes " is not 1 to 32 letters, digits, _ and -, a letter first"
+wrong_text wrong.NotAnAddress = codes "address is no IP address with a port from 1 to 65535"
+wrong_text (wrong.AddressOf kind number) = codes "address is that of " ++ key_text kind ++ codes " " ++ decimal number
+wrong_text wrong.OtherFamily = codes "address is of another family, IPv4 or IPv6, than the first one"
+wrong_text (wrong.NotAList key) = key_text key ++ codes " is no list" ++ hint_text key
+wrong_text wrong.NoTable = codes "not a table"
 wrong_text (wrong.TooMany key limit) = key_text key ++ codes ": more than " ++ decimal limit
 wrong_text wrong.Twice = codes "twice"
+wrong_text wrong.KnownClass = codes "the name of a class that every system has"
 wrong_text (wrong.NameTwice name) = codes "name " ++ quoted name ++ codes " twice"
 wrong_text (wrong.NoSuchNode number) = codes "no such node " ++ decimal number
 wrong_text (wrong.NoSuchClass name) = codes "no such class " ++ quoted name
 wrong_text wrong.NotWords = codes "words are not 1 to 16 whole numbers below 2^64"
 wrong_text (wrong.WordCount given wanted) = decimal given ++ codes " words in place of " ++ decimal wanted
 wrong_text (wrong.NotATerm text) = quoted text ++ codes " is no term"
+wrong_text wrong.NotAText = codes "a term is no text: write it in quotes"
 wrong_text (wrong.NoSuchWord term) = term ++ codes " is no word"
 wrong_text (wrong.NoSuchArgument term) = term ++ codes " is no argument"
 wrong_text wrong.NotATest = codes "test is no list of two terms"

@@ -1,5 +1,5 @@
 -- The keys of a system's file.
-use Rattle.std.specs.Prelude.{ℕ, List, codes}
+use Rattle.std.specs.Prelude.{ℕ, List, [], codes}
 use Rattle.scoop_system.specs.declared.error.Key.{Key}
 use Rattle.scoop_system.specs.declared.error.Key.TheVariants.{Class, Node, Handler, Client, Operation, Number, Name, Address, Words, Batch, Test, Writes, Answer}
 
@@ -17,3 +17,19 @@ key_text Batch = codes "batch"
 key_text Test = codes "test"
 key_text Writes = codes "writes"
 key_text Answer = codes "answer"
+
+-- how the tables of a key are written
+abbrev pub hint_text : Key → List ℕ
+hint_text Class = codes ": a class is written [[class]], not [class]"
+hint_text Node = codes ": a node is written [[node]], not [node]"
+hint_text Handler = codes ": a handler is written [[handler]], not [handler]"
+hint_text Client = codes ": a client is written [[client]], not [client]"
+hint_text Operation = codes ": an operation is written [[class.operation]], not [class.operation]"
+hint_text Number = []
+hint_text Name = []
+hint_text Address = []
+hint_text Words = []
+hint_text Batch = []
+hint_text Test = []
+hint_text Writes = []
+hint_text Answer = []

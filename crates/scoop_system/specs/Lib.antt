@@ -4,6 +4,7 @@ pub mod Words
 pub mod Number
 pub mod Operations
 pub mod System
+pub mod Arguments
 pub mod Line
 pub mod LineText
 pub mod Address

@@ -6,11 +6,12 @@ use Rattle.scoop_message.specs.declared.request.Request.{Request}
 use Rattle.scoop_classes.specs.Classes.{same_text}
 use Rattle.scoop_system.specs.declared.named_handlers.TheConstants.{MAX_NAMED}
 use Rattle.scoop_system.specs.declared.line.fault.LineFault.{LineFault}
-use Rattle.scoop_system.specs.declared.line.fault.LineFault.TheVariants.{UnknownLine, WrongNumberOfWords, NotANumber, TooManyArguments, TooManyHandlers, NoSuchOperation}
+use Rattle.scoop_system.specs.declared.line.fault.LineFault.TheVariants.{UnknownLine, WrongNumberOfWords, NotANumber, TooFewArguments, TooManyArguments, TooManyHandlers, NoSuchOperation}
 use Rattle.scoop_system.specs.declared.line.ClientLine.{ClientLine}
 use Rattle.scoop_system.specs.declared.line.ClientLine.TheVariants.{Blank, Reserve, Call, Query, End, ReserveWhen}
 use Rattle.scoop_system.specs.Number.{is_decimal, decimal_of}
 use Rattle.scoop_system.specs.System.{Plan, operation_named}
+use Rattle.scoop_system.specs.Arguments.{handler_arguments}
 use Rattle.scoop_system.specs.Words.{Word, words_of, is_blank, without_return, before, behind}
 
 -- what words say, or what is wrong with them
@@ -55,14 +56,26 @@ operation_of s handler word = if is_decimal word then number_below (2 ^ 16) word
 abbrev pub asked : HandlerId → ℕ → List ℕ → HandlerId × Request
 asked handler op args = (handler, record { op = op; args = args })
 
--- a handler, an operation, and up to four arguments, which end where `least` stands
+-- fewer or more arguments than the operation reads, where that is known
+abbrev pub count_fault : Option ℕ → ℕ → Option LineFault
+count_fault None given = None
+count_fault (Some wanted) given = if nat_lt given wanted then Some TooFewArguments else (if nat_lt wanted given then Some TooManyArguments else None)
+
+abbrev pub unless : {A : Type 0} → Option LineFault → Read A → Read A
+unless None read = read
+unless (Some fault) read = Err fault
+
+abbrev pub counted : Plan → HandlerId → ℕ → List ℕ → Read (HandlerId × Request)
+counted s handler op args = unless (count_fault (handler_arguments s handler op) (length args)) (Ok (asked handler op args))
+
+-- a handler, an operation, and up to four arguments, which end where `least` stands: as many as the operation reads
 abbrev pub request_of : Plan → List Word → Read (HandlerId × Request)
 request_of s [] = Err WrongNumberOfWords
 request_of s (h ∷ []) = Err WrongNumberOfWords
 request_of s (h ∷ o ∷ words) =
     let args = before (codes "least") words in
     if nat_lt MAX_ARGS (length args) then Err TooManyArguments
-    else (handler_of h >>= λ handler. operation_of s handler o >>= λ op. each_of number_of args >>= λ xs. Ok (asked handler op xs))
+    else (handler_of h >>= λ handler. operation_of s handler o >>= λ op. each_of number_of args >>= counted s handler op)
 
 -- a request, and no word `least`
 abbrev pub alone : Option (List Word) → Read (HandlerId × Request) → Read (HandlerId × Request)

@@ -1,6 +1,7 @@
 -- What a TOML table means as a system, or its first fault.
-use Rattle.std.specs.Prelude.{ℕ, ◌==◌, ◌+◌, ◌^◌, ◌-◌, not, Bool, true, false, if◌then◌else◌, List, [], ◌∷◌, ◌++◌, length, Option, Some, None, Result, Ok, Err}
+use Rattle.std.specs.Prelude.{ℕ, ◌==◌, ◌+◌, ◌^◌, ◌-◌, not, Bool, true, false, if◌then◌else◌, List, [], ◌∷◌, ◌++◌, length, find, Option, Some, None, Result, Ok, Err}
 use Rattle.std.specs.List.{list_any}
+use Rattle.std.specs.Option.{option_map}
 use Rattle.std.specs.declared.net.socket_addr.SocketAddr.{SocketAddr}
 use Rattle.std.specs.Net.Socket.{socket_ip}
 use Rattle.std.specs.Net.Addr.{is_ipv4}
@@ -11,7 +12,7 @@ use Rattle.scoop_classes.specs.declared.classes.DemoClass.{DemoClass}
 use Rattle.scoop_system.specs.declared.error.Key.{Key}
 use Rattle.scoop_system.specs.declared.error.Key.TheVariants as key
 use Rattle.scoop_system.specs.declared.error.Wrong.{Wrong}
-use Rattle.scoop_system.specs.declared.error.Wrong.TheVariants.{Twice, OtherFamily, NoSuchNode, NoSuchClass, WordCount}
+use Rattle.scoop_system.specs.declared.error.Wrong.TheVariants.{Twice, AddressOf, OtherFamily, NoSuchNode, NoSuchClass, WordCount}
 use Rattle.scoop_system.specs.declared.error.Place.TheVariants.{File}
 use Rattle.scoop_system.specs.declared.place.NodePlace.{NodePlace}
 use Rattle.scoop_system.specs.declared.place.HandlerPlace.{HandlerPlace}
@@ -23,6 +24,7 @@ use Rattle.scoop_system.specs.Name.{told}
 use Rattle.scoop_system.specs.System.{Plan, NamedClass, class_named}
 use Rattle.scoop_system.specs.Value.{Read, ◌>>=◌, unless, number_at, number_in, text_at, address_at, words_at, list_at, key_fault, in_range, whole_of}
 use Rattle.scoop_system.specs.KeyText.{key_text}
+use Rattle.scoop_system.specs.Address.{same_address}
 use Rattle.scoop_system.specs.Place.{Told, ◌>>>◌, at, place_at}
 use Rattle.scoop_system.specs.Classes.{classes_from}
 
@@ -55,6 +57,25 @@ abbrev pub first_address : List NodePlace → List ClientPlace → Option Socket
 first_address [] clients = first_client clients
 first_address (n ∷ ns) clients = Some n.address
 
+-- the node, or the client, that has the address
+abbrev pub node_at : List NodePlace → SocketAddr → Option NodePlace
+node_at nodes a = find (λ n. same_address n.address a) nodes
+
+abbrev pub client_at : List ClientPlace → SocketAddr → Option ClientPlace
+client_at clients a = find (λ c. same_address c.address a) clients
+
+abbrev pub or_else : Option Wrong → Option Wrong → Option Wrong
+or_else None other = other
+or_else (Some wrong) other = Some wrong
+
+abbrev pub address_taken : List NodePlace → List ClientPlace → SocketAddr → Option Wrong
+address_taken nodes clients a =
+    or_else (option_map (λ n. AddressOf key.Node n.number) (node_at nodes a)) (option_map (λ c. AddressOf key.Client c.client.0) (client_at clients a))
+
+-- what is wrong with the address of a party behind these: somebody has it, or it is of the other family
+abbrev pub address_fault : List NodePlace → List ClientPlace → SocketAddr → Option Wrong
+address_fault nodes clients a = or_else (address_taken nodes clients a) (wrong_if (other_family (first_address nodes clients) a) OtherFamily)
+
 abbrev pub node_keys : List Key
 node_keys = key.Number ∷ key.Address ∷ []
 
@@ -66,7 +87,7 @@ abbrev pub node_of : List NodePlace → Data → Read NodePlace
 node_of nodes d =
     unless (key_fault node_keys d)
     (number_of d >>= λ number. address_at d >>= λ address. unless (wrong_if (list_any (λ n. n.number == number) nodes) Twice)
-    (unless (wrong_if (other_family (first_address nodes []) address) OtherFamily) (Ok (new_node number address))))
+    (unless (address_fault nodes [] address) (Ok (new_node number address))))
 
 abbrev pub nodes_from : List NodePlace → List Data → Told (List NodePlace)
 nodes_from nodes [] = Ok nodes
@@ -128,7 +149,7 @@ abbrev pub client_of : List NodePlace → List ClientPlace → Data → Read Cli
 client_of nodes clients d =
     unless (key_fault client_keys d)
     (number_of d >>= λ number. address_at d >>= λ address. batch_at d >>= λ batch. unless (wrong_if (list_any (λ c. c.client.0 == number) clients) Twice)
-    (unless (wrong_if (other_family (first_address nodes clients) address) OtherFamily) (Ok (new_client number address batch))))
+    (unless (address_fault nodes clients address) (Ok (new_client number address batch))))
 
 abbrev pub clients_from : List NodePlace → List ClientPlace → List Data → Told (List ClientPlace)
 clients_from nodes clients [] = Ok clients

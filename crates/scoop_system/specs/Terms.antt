@@ -12,7 +12,7 @@ use Rattle.scoop_system.specs.declared.class.OwnOperation.{OwnOperation}
 use Rattle.scoop_system.specs.declared.error.Key.{Key}
 use Rattle.scoop_system.specs.declared.error.Key.TheVariants as key
 use Rattle.scoop_system.specs.declared.error.Wrong.{Wrong}
-use Rattle.scoop_system.specs.declared.error.Wrong.TheVariants.{Missing, NotAName, NotATerm, NoSuchWord, NoSuchArgument, NotATest, NotAWrite, WrittenTwice, Twice, NameTwice}
+use Rattle.scoop_system.specs.declared.error.Wrong.TheVariants.{Missing, NotAName, NotATerm, NotAText, NoSuchWord, NoSuchArgument, NotATest, NotAWrite, WrittenTwice, Twice, NameTwice}
 use Rattle.scoop_system.specs.Name.{told}
 use Rattle.scoop_system.specs.Number.{decimal_of}
 use Rattle.scoop_system.specs.KeyText.{key_text}
@@ -43,7 +43,7 @@ term_of words (byte ∷ digits) =
     else constant_term (byte ∷ digits) (decimal_of (byte ∷ digits)))
 
 abbrev pub or_no_term : ℕ → Option (List ℕ) → Read Term
-or_no_term words None = Err (NotATerm (told []))
+or_no_term words None = Err NotAText
 or_no_term words (Some text) = term_of words text
 
 abbrev pub term_in : ℕ → Data → Read Term

@@ -22,6 +22,8 @@ pub struct TomlFault {
     /// Characters, not bytes, are counted.
     pub column: usize,
     pub error: toml::de::Error,
+    /// The kind of tables of which the text has one in single brackets, as `[node]`, where the fault is at a later table.
+    pub single: Option<Key>,
 }
 
 /// What is wrong, and where. Printed as `node 1: unknown key "adress"`.
@@ -79,6 +81,8 @@ pub enum Wrong {
     NotAName(Key),
     /// The address isn't an IP address with a port that isn't 0.
     NotAnAddress,
+    /// The address is that of this node or client.
+    AddressOf(Key, u32),
     /// The address is of the other family than the first one of the file.
     OtherFamily,
     /// The value of the key isn't a list.
@@ -89,6 +93,8 @@ pub enum Wrong {
     TooMany(Key, usize),
     /// The number, or the name of a class, is taken.
     Twice,
+    /// The name is that of a class that every system has.
+    KnownClass,
     /// The name of the operation is taken.
     NameTwice(Name),
     /// The handler's node isn't in the file.
@@ -101,6 +107,8 @@ pub enum Wrong {
     WordCount(usize, usize),
     /// The text isn't a term.
     NotATerm(Name),
+    /// What is to be a term isn't a text.
+    NotAText,
     /// The term names a word that the class hasn't.
     NoSuchWord(Name),
     /// The term names an argument above the fourth.
@@ -126,10 +134,12 @@ impl fmt::Display for SystemError {
                     line,
                     column,
                     error,
+                    single,
                 },
             ) => {
                 let message = error.message();
-                write!(f, "line {line}, column {column}: {message}")
+                let hint = single.map_or("", Key::hint);
+                write!(f, "line {line}, column {column}: {message}{hint}")
             }
             SystemError::Fault(fault) => write!(f, "{fault}"),
             SystemError::OutOfMemory => f.write_str("out of memory"),
@@ -178,7 +188,7 @@ impl fmt::Display for Place {
 
 impl Key {
     ghost use Rattle.std.specs.Prelude.{◌≡◌};
-    ghost use Rattle.scoop_system.specs.KeyText.{key_text};
+    ghost use Rattle.scoop_system.specs.KeyText.{key_text, hint_text};
 
     /// The key as it is written in the file.
     pub fn as_str(self) -> &'static str
@@ -198,6 +208,29 @@ impl Key {
             Key::Test => "test",
             Key::Writes => "writes",
             Key::Answer => "answer",
+        }
+    }
+
+    // How the tables of the key are written, for who writes one in single brackets.
+    fn hint(self) -> &'static str
+        ensures { result.now ≡ hint_text self }
+    {
+        match self {
+            Key::Class => ": a class is written [[class]], not [class]",
+            Key::Node => ": a node is written [[node]], not [node]",
+            Key::Handler => ": a handler is written [[handler]], not [handler]",
+            Key::Client => ": a client is written [[client]], not [client]",
+            Key::Operation => {
+                ": an operation is written [[class.operation]], not [class.operation]"
+            }
+            Key::Number
+            | Key::Name
+            | Key::Address
+            | Key::Words
+            | Key::Batch
+            | Key::Test
+            | Key::Writes
+            | Key::Answer => "",
         }
     }
 }
@@ -226,19 +259,34 @@ impl fmt::Display for Wrong {
             Wrong::NotANumber(key, low, high) => {
                 write!(f, "{key} is no whole number from {low} to {high}")
             }
-            Wrong::NotAName(key) => write!(f, "{key} is no name"),
-            Wrong::NotAnAddress => f.write_str("address is no IP address with a port"),
-            Wrong::OtherFamily => f.write_str("address of another family than the first one"),
-            Wrong::NotAList(key) => write!(f, "{key} is no list"),
-            Wrong::NoTable => f.write_str("no table"),
+            Wrong::NotAName(key) => {
+                write!(
+                    f,
+                    "{key} is not 1 to 32 letters, digits, _ and -, a letter first"
+                )
+            }
+            Wrong::NotAnAddress => {
+                f.write_str("address is no IP address with a port from 1 to 65535")
+            }
+            Wrong::AddressOf(kind, number) => write!(f, "address is that of {kind} {number}"),
+            Wrong::OtherFamily => {
+                f.write_str("address is of another family, IPv4 or IPv6, than the first one")
+            }
+            Wrong::NotAList(key) => {
+                let hint = key.hint();
+                write!(f, "{key} is no list{hint}")
+            }
+            Wrong::NoTable => f.write_str("not a table"),
             Wrong::TooMany(key, limit) => write!(f, "{key}: more than {limit}"),
             Wrong::Twice => f.write_str("twice"),
+            Wrong::KnownClass => f.write_str("the name of a class that every system has"),
             Wrong::NameTwice(name) => write!(f, "name \"{name}\" twice"),
             Wrong::NoSuchNode(number) => write!(f, "no such node {number}"),
             Wrong::NoSuchClass(name) => write!(f, "no such class \"{name}\""),
             Wrong::NotWords => f.write_str("words are not 1 to 16 whole numbers below 2^64"),
             Wrong::WordCount(given, wanted) => write!(f, "{given} words in place of {wanted}"),
             Wrong::NotATerm(text) => write!(f, "\"{text}\" is no term"),
+            Wrong::NotAText => f.write_str("a term is no text: write it in quotes"),
             Wrong::NoSuchWord(term) => write!(f, "{term} is no word"),
             Wrong::NoSuchArgument(term) => write!(f, "{term} is no argument"),
             Wrong::NotATest => f.write_str("test is no list of two terms"),

@@ -3,8 +3,26 @@
 //!
 //! [`System::read`] reads a TOML text, and tells its first fault with the place. [`print_system`] writes what was
 //! understood. [`read_line`] reads what a line asks of a client of the system.
+//!
+//! ```
+//! let text = "\
+//! node = [{number = 4, address = \"[::1]:9\"}]
+//! class = [{name = \"one\", words = 1}]
+//! handler = [{number = 9, node = 4, class = \"one\", words = [0]}]
+//! ";
+//! let system = System::read(alloc, text)?;
+//! let mut output = Vec::new(alloc);
+//! print_system(&system, &mut output)?;
+//! let wanted = "\
+//! node 4 [::1]:9
+//!   handler 9 one 0
+//! class one 1 word
+//! ";
+//! assert!(rt; output.as_slice() == wanted.as_bytes());
+//! ```
 #![tactic(auto)]
 
+mod arguments;
 mod class;
 mod decimal;
 mod error;

@@ -10,7 +10,7 @@ use std::net::SocketAddr;
 #[derive(Clone, Copy, Debug, PartialEq, Eq)]
 pub struct NodePlace {
     pub number: u32,
-    /// Its port isn't 0, and its family is that of all addresses of the system.
+    /// Its port isn't 0, its family is that of all addresses of the system, and no other party has it.
     pub address: SocketAddr,
 }
 
@@ -37,7 +37,7 @@ pub struct HandlerPlace {
 #[derive(Clone, Copy, Debug, PartialEq, Eq)]
 pub struct ClientPlace {
     pub client: ClientId,
-    /// Its port isn't 0, and its family is that of all addresses of the system.
+    /// Its port isn't 0, its family is that of all addresses of the system, and no other party has it.
     pub address: SocketAddr,
     pub batch: u8,
 }

@@ -16,7 +16,7 @@ mod stop;
 mod term;
 mod value;
 
-use crate::error::{SystemError, TomlFault};
+use crate::error::{Key, SystemError, TomlFault};
 use crate::system::System;
 use class::read_classes;
 use party::{read_clients, read_handlers, read_nodes};
@@ -76,7 +76,34 @@ fn toml_error(text: &str, error: toml::de::Error) -> SystemError
         line,
         column,
         error,
+        single: single_before(text, line),
     })
+}
+
+// The kind of the first table in single brackets up to this line, counted from 1, where the line begins a table. In such
+// a file each table stands in double ones, so TOML's fault comes of that.
+fn single_before(text: &str, line: usize) -> Option<Key> {
+    let mut single = None;
+    for (above, header) in text.lines().take(line).enumerate() {
+        single = single.or(single_header(header));
+        if above + 1 == line && header.trim_start().starts_with('[') {
+            return single;
+        }
+    }
+    None
+}
+
+// The kind of the table that a line begins in single brackets.
+fn single_header(line: &str) -> Option<Key> {
+    let (header, _) = line.split_once('#').unwrap_or((line, ""));
+    match header.trim() {
+        "[class]" => Some(Key::Class),
+        "[node]" => Some(Key::Node),
+        "[handler]" => Some(Key::Handler),
+        "[client]" => Some(Key::Client),
+        "[class.operation]" => Some(Key::Operation),
+        _ => None,
+    }
 }
 
 // The line and the column of a place in a text, both from 1. A column counts characters.

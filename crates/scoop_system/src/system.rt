@@ -2,8 +2,10 @@
 
 ghost use Rattle.std.specs.Prelude.{◌≡◌, ◌==◌, find, IfOk};
 ghost use Rattle.std.specs.Option.{option_copied, option_map};
+ghost use Rattle.scoop_system.specs.Arguments.{handler_arguments};
 ghost use Rattle.scoop_system.specs.System.{Plan, class_table, class_operation, handler_named, operation_named};
 
+use crate::arguments::class_arguments;
 use crate::class::{OwnClass, class_named};
 use crate::operations::known_operation;
 use crate::place::{ClientPlace, HandlerClass, HandlerPlace, NodePlace};
@@ -118,6 +120,17 @@ impl System {
     {
         match self.handler(handler) {
             Some(place) => class_operation(self.classes.as_slice(), name, place.class),
+            None => None,
+        }
+    }
+
+    /// How many arguments the operation of this number reads, if the handler's class has it: with fewer the object
+    /// refuses, and it ignores further ones.
+    pub fn arguments(&self, handler: HandlerId, op: u16) -> Option<usize>
+        ensures { result ≡ handler_arguments self.now handler op }
+    {
+        match self.handler(handler) {
+            Some(place) => class_arguments(self.classes.as_slice(), op, place.class),
             None => None,
         }
     }

@@ -1,4 +1,6 @@
--- Every world that is reached is that of a weave.
+-- Every world that is reached is that of a weave: one that opens is, with no move, and where a world changes its weave is one
+-- move longer (or stays, where a node restarts that has no handler). What is looked up in the world stands for a handler or
+-- a client of the system, which makes that move, and what it hears was sent, since the world has it.
 use Rattle.std.proofs.Common.{◌≡◌, ℕ, ◌-◌, ◌==◌, true, false, List, [], ◌∷◌, ◌++◌, map, slice_get, Option, Some, None, refl, sym, ap, ◌∙◌, subst}
 use Rattle.std.specs.Prelude.{◌||◌, Contains, if◌then◌else◌, Ok}
 use Rattle.std.specs.List.{list_any}

@@ -1,4 +1,6 @@
--- A client that hears is the event that takes the message, or nothing where the message is not meant for it.
+-- A client that hears is the event that takes the message, or nothing where the message is not meant for it. An answer is
+-- accepted for the block that its message names, so the move itself tells what was accepted; and a message of another
+-- client, or of its block, changes nothing.
 use Rattle.std.proofs.Common.{◌≡◌, ℕ, ◌==◌, Bool, true, false, not, ◌&&◌, List, [], ◌∷◌, ◌++◌, Option, Some, None, refl, sym, ap, ◌∙◌, subst}
 use Rattle.std.specs.Prelude.{Contains, if◌then◌else◌, Ok}
 use Rattle.scoop_message.specs.declared.name.Block.{Block}

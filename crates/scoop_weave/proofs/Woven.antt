@@ -1,4 +1,6 @@
--- Where each party's own moves lead it by themselves, and what is heard was sent before, all moves are a weave.
+-- Where each party's own moves lead it by themselves, and what is heard was sent before, all moves are a weave. The first of
+-- them is the first of the own moves of whom it concerns, who goes on by it while all others stay. Numbers, nodes and names
+-- stay, so the system is one of the same parties again, and the rest of the moves leads on from there.
 use Rattle.std.proofs.Common.{◌≡◌, ℕ, ◌==◌, Bool, true, false, List, [], ◌∷◌, ◌++◌, map, refl, sym, ap, ◌∙◌, subst}
 use Rattle.std.specs.Prelude.{if◌then◌else◌}
 use Rattle.std.specs.List.{list_any, AllByRecursion}

@@ -12,7 +12,7 @@ pub enum WorldOpenError {
     /// No handler is placed.
     #[error("NoHandlers")]
     NoHandlers,
-    /// More than 64 handlers are placed.
+    /// More than `MAX_HANDLERS` handlers are placed.
     #[error("TooManyHandlers")]
     TooManyHandlers,
     /// This handler stands at the first place that repeats an earlier one.
@@ -21,7 +21,7 @@ pub enum WorldOpenError {
     /// This handler is the first whose object isn't of the class that is placed with it.
     #[error("WrongClass")]
     WrongClass(HandlerId),
-    /// There are more than 64 clients.
+    /// There are more than `MAX_CLIENTS` clients.
     #[error("TooManyClients")]
     TooManyClients,
     /// This client stands at the first place that repeats an earlier one.

@@ -6,15 +6,26 @@
 //!
 //! ```
 //! // a handler whose object has one word, and a client
-//! let class = Class::build(alloc, 1, &[])?;
-//! let object = Table::new(Class::build(alloc, 1, &[])?, Words::of(&[0])?)?;
 //! let mut placements = Vec::new(alloc);
-//! placements.push(Placement { node: 1, handler: HandlerId(1), class, object })?;
+//! let placement = Placement {
+//!     node: 1,
+//!     handler: HandlerId(1),
+//!     class: class_of(rt, alloc, &[]),
+//!     object: object(rt, class_of(rt, alloc, &[])),
+//! };
+//! place(rt, &mut placements, placement);
 //! let keeper = MemoryKeeper::new(alloc);
-//! let mut world = World::open(alloc, placements, &[(ClientId(7), 1)], keeper)?;
+//! match World::open(alloc, placements, &[(ClientId(7), 1)], keeper) {
+//!     Ok(world) => world,
+//!     Err(_) => panic!(rt; "no world"),
+//! }
 //! // the client greets the handler, which hears that, and the client hears the reply
-//! let greeting = [Event::Tick(ClientId(7), HandlerId(1)), Event::Take(1), Event::Take(2)];
-//! assert_eq!(rt; world.run(&greeting), Ok(3));
+//! const GREETING: [Event; 3] = [
+//!     Event::Tick(ClientId(7), HandlerId(1)),
+//!     Event::Take(1),
+//!     Event::Take(2),
+//! ];
+//! assert_eq!(rt; world.run(&GREETING), Ok(3));
 //! let welcome = Message::Welcome(HandlerId(1), ClientId(7), 1);
 //! assert_eq!(rt; world.sent(2).copied(), Some(welcome));
 //! ```

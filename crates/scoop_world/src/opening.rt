@@ -33,8 +33,8 @@ impl<B: Behaviour, A: Allocator + Copy> World<B, A> {
     /// state and each incarnation is stored in the keeper. Nothing has happened yet: the world is safe, and
     /// stands for the configuration of the written rules in which nothing was reserved and nothing has run.
     ///
-    /// Refused, in this order: `NoHandlers`, `TooManyHandlers` above 64, `Repeated`, `WrongClass`,
-    /// `TooManyClients` above 64, `RepeatedClient`, `IncarnationsSpent`, `OutOfMemory`. Where memory is
+    /// Refused, in this order: `NoHandlers`, `TooManyHandlers` above `MAX_HANDLERS`, `Repeated`, `WrongClass`,
+    /// `TooManyClients` above `MAX_CLIENTS`, `RepeatedClient`, `IncarnationsSpent`, `OutOfMemory`. Where memory is
     /// refused before the incarnations are asked for, `OutOfMemory` comes though one of them is the last.
     pub fn open(
         alloc: A,

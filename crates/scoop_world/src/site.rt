@@ -9,7 +9,7 @@ ghost use Rattle.scoop_keeper.specs.Keeper.{Keeps};
 ghost use Rattle.scoop_keeper.specs.Memory.{Has};
 
 use scoop_handler::{Done, Handler, HandlerState, Heard, Note, Ran};
-use scoop_keeper::{Keeper, MemoryKeeper, finish_and_store, hear_and_store};
+use scoop_keeper::{Keeper, MemoryKeeper, finish_beside, hear_beside};
 use scoop_message::{Block, Entry, HandlerId, Message, OutOfMemory, Request, Words};
 use scoop_object::Behaviour;
 use std::alloc::Allocator;
@@ -21,6 +21,8 @@ pub(crate) struct Site<B: Behaviour, A: Allocator> {
     node: u32,
     placed: Words,
     handler: Handler<B, A>,
+    // The handler's state once more, so that its room is used again. None before it is needed.
+    beside: Option<HandlerState<A>>,
     // The entry that has left, with what it does: that counts once it is finished.
     job: Option<Done<B>>,
     opened: Vec<Block, A>,
@@ -28,7 +30,7 @@ pub(crate) struct Site<B: Behaviour, A: Allocator> {
 }
 
 impl<B: Behaviour, A: Allocator> Model for Site<B, A> {
-    ghost use Rattle.std.specs.Prelude.{◌≡◌};
+    ghost use Rattle.std.specs.Prelude.{◌≡◌, IfSome};
     ghost use Rattle.scoop_handler.specs.Running.{job_out};
     ghost use Rattle.scoop_model.specs.World.{Site as Place};
     ghost use Rattle.scoop_world.specs.Kept.{site_kept};
@@ -37,7 +39,7 @@ impl<B: Behaviour, A: Allocator> Model for Site<B, A> {
 
     ghost view = { λ s. site_kept s.node s.placed s.handler s.opened.items s.ran.items };
 
-    ghost invariant = { λ s. s.job ≡ job_out s.handler };
+    ghost invariant = { λ s. (s.job ≡ job_out s.handler) × IfSome s.beside (λ b. b ≡ s.handler.state) };
 }
 
 // Puts down what has run. There is room for it.
@@ -66,6 +68,7 @@ impl<B: Behaviour, A: Allocator + Copy> Site<B, A> {
             node,
             placed,
             handler,
+            beside: None,
             job: None,
             opened: Vec::new(alloc),
             ran: Vec::new(alloc),
@@ -142,7 +145,8 @@ impl<B: Behaviour, A: Allocator + Copy> Site<B, A> {
         ensures kept { OnErr result (KeepsAll keeper.old keeper.new) }
     {
         self.opened.reserve(1)?;
-        let Ok(heard) = hear_and_store(&mut self.handler, keeper, true, message) else {
+        let told = hear_beside(&mut self.handler, &mut self.beside, keeper, true, message);
+        let Ok(heard) = told else {
             return Err(OutOfMemory);
         };
         if let Note::Opened(block) = heard.note {
@@ -183,7 +187,7 @@ impl<B: Behaviour, A: Allocator + Copy> Site<B, A> {
             self.job = Some(done);
             return Err(OutOfMemory);
         }
-        match finish_and_store(&mut self.handler, keeper, done) {
+        match finish_beside(&mut self.handler, &mut self.beside, keeper, done) {
             Ok(ran) => {
                 put_down(&mut self.ran, &ran);
                 Ok(Some(ran))

@@ -4,9 +4,14 @@
 //! way a message is lost and another comes twice. The chart of the run is drawn as it goes.
 //!
 //! ```
-//! let mut transfer = Transfer::open(rt.alloc(), 100, 0)?;
-//! assert_eq!(rt; transfer.pay(30)?, Some(Answer::Value(30)));
-//! transfer.draw(&mut picture)?;
+//! let Ok(mut transfer) = Transfer::open(rt.alloc(), 100, 0) else {
+//!     panic!(&rt; "no accounts");
+//! };
+//! // 30 are paid, and the second account has 30 then
+//! assert_eq!(rt; transfer.pay(amount), Ok(Some(Answer::Value(balance))));
+//! let mut picture = Vec::new(alloc);
+//! assert!(rt; transfer.draw(&mut picture).is_ok());
+//! assert!(rt; picture.starts_with(b"<svg "));
 //! ```
 #![tactic(auto)]
 

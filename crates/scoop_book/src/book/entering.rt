@@ -4,8 +4,9 @@ ghost use Rattle.std.specs.Prelude.{◌≡◌, ◌≢◌, ◌⊎◌, ◌||◌, �
 ghost use Rattle.std.specs.Option.{option_map};
 ghost use Rattle.scoop_handler.specs.Running.{job_out, ran_of, ready};
 ghost use Rattle.scoop_keeper.specs.Keeper.{IsPutError, IsSame, Stays as KeeperStays};
-ghost use Rattle.scoop_book.specs.Moves.{handler_at, handler_in, leaves};
-ghost use Rattle.scoop_book.specs.Books.{Gains, IsBook, IsRefused, IsUnfinished, KeepsNew, MayHappen, Stays, IsHear, HasReply, fails, fails_to_finish, refusal_of};
+ghost use Rattle.scoop_book.specs.Moves.{handler_at, handler_in, is_handler, leaves};
+ghost use Rattle.scoop_keeper.specs.Keyed.{IsFirst};
+ghost use Rattle.scoop_book.specs.Books.{Gains, IsBook, IsRefused, IsUnfinished, KeepsNew, MayHappen, Stays, IsHear, HasNoPlace, HasReply, fails, fails_to_finish, no_place_to_finish, refusal_of};
 
 use crate::book::{Book, enter};
 use crate::error::{BookError, FinishError, FinishRefusal};
@@ -70,7 +71,39 @@ fn refused<B: Behaviour>(cause: FinishRefusal, done: Done<B>) -> FinishError<B>
     FinishError { cause, done }
 }
 
+// Why a job isn't finished where there is no place for its event.
+fn no_place(error: BookError) -> FinishRefusal
+    ensures { result ≡ no_place_to_finish error }
+{
+    match error {
+        BookError::NodeFailed => FinishRefusal::NodeFailed,
+        BookError::HistoryFull => FinishRefusal::HistoryFull,
+        BookError::UnknownHandler => FinishRefusal::UnknownHandler,
+        BookError::StoreRefused => FinishRefusal::StoreRefused,
+        BookError::OutOfMemory => FinishRefusal::OutOfMemory,
+    }
+}
+
 impl<B: Behaviour, K: Keeper<A>, A: Allocator + Copy> Book<B, K, A> {
+    // The place of a handler of which an event may be entered.
+    fn place_for(&self, handler: HandlerId) -> Result<usize, BookError>
+        ensures may { OnOk result (MayHappen self.now handler) }
+        ensures place { IfOk result (IsFirst (is_handler handler) self.now.handlers) }
+        ensures refused { IfErr result (IsRefused self.now handler) }
+        ensures early { IfErr result HasNoPlace }
+    {
+        if self.failed {
+            return Err(BookError::NodeFailed);
+        }
+        if self.history.len() >= self.limit {
+            return Err(BookError::HistoryFull);
+        }
+        match self.handlers.place(handler) {
+            Some(at) => Ok(at),
+            None => Err(BookError::UnknownHandler),
+        }
+    }
+
     /// A handler hears a message, for the pass of this number. Its new state is stored before it takes it; a
     /// put is left out where the keeper is known to have that state. The entry is the history's last.
     ///
@@ -94,15 +127,7 @@ impl<B: Behaviour, K: Keeper<A>, A: Allocator + Copy> Book<B, K, A> {
         let Event::Hear(message) = &event else {
             unreachable!()
         };
-        if self.failed {
-            return Err(BookError::NodeFailed);
-        }
-        if self.history.len() >= self.limit {
-            return Err(BookError::HistoryFull);
-        }
-        let Some(at) = self.handlers.place(message.handler()) else {
-            return Err(BookError::UnknownHandler);
-        };
+        let at = self.place_for(message.handler())?;
         let Ok(()) = self.history.reserve(1) else {
             return Err(BookError::OutOfMemory);
         };
@@ -132,15 +157,7 @@ impl<B: Behaviour, K: Keeper<A>, A: Allocator + Copy> Book<B, K, A> {
         ensures was { IsBook K.handlers K.is_honest self.old }
         ensures sound { IsBook K.handlers K.is_honest self.new }
     {
-        if self.failed {
-            return Err(BookError::NodeFailed);
-        }
-        if self.history.len() >= self.limit {
-            return Err(BookError::HistoryFull);
-        }
-        let Some(at) = self.handlers.place(handler) else {
-            return Err(BookError::UnknownHandler);
-        };
+        let at = self.place_for(handler)?;
         let Ok(()) = self.history.reserve(1) else {
             return Err(BookError::OutOfMemory);
         };
@@ -172,15 +189,10 @@ impl<B: Behaviour, K: Keeper<A>, A: Allocator + Copy> Book<B, K, A> {
         ensures was { IsBook K.handlers K.is_honest self.old }
         ensures sound { IsBook K.handlers K.is_honest self.new }
     {
-        if self.failed {
-            return Err(refused(FinishRefusal::NodeFailed, done));
-        }
-        if self.history.len() >= self.limit {
-            return Err(refused(FinishRefusal::HistoryFull, done));
-        }
         let handler = done.handler();
-        let Some(at) = self.handlers.place(handler) else {
-            return Err(refused(FinishRefusal::UnknownHandler, done));
+        let at = match self.place_for(handler) {
+            Ok(at) => at,
+            Err(error) => return Err(refused(no_place(error), done)),
         };
         let Ok(()) = self.history.reserve(1) else {
             let cause = self.handlers.no_room_to_finish(at, &done);

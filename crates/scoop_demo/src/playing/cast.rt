@@ -13,11 +13,11 @@ ghost use Rattle.scoop_demo.specs.Staging.{AreFirst, AreFirstClients, IsStaged, 
 
 use super::echo::Echo;
 use super::events::{Outcome, Stop, play};
+use super::histories::print_world;
 use super::picture::Picture;
 use super::settling::settle;
 use crate::fault::{InputFault, RunError};
 use crate::playing::PlayOptions;
-use crate::printing::{print_accepted, print_all_ran, print_blocks};
 use crate::script::{
     EventKind, EventLine, LineError, LineKind, PlacedLine, is_blank, line_kind, read_client,
     read_event, read_placement,
@@ -228,14 +228,14 @@ impl Cast {
             Ok(event) => event,
             Err(fault) => return Err(fault_at(number, fault)),
         };
-        self.play_in_world(number, event, echo, picture, writer)
+        self.play_in_world(number, &event, echo, picture, writer)
     }
 
     // Plays events in the world, which has opened.
     fn play_in_world<W: Write>(
         &mut self,
         number: u32,
-        event: EventLine,
+        event: &EventLine,
         echo: Option<Echo<'_>>,
         picture: &mut Picture,
         writer: &mut W,
@@ -335,26 +335,4 @@ impl Cast {
         self.names.sort_unstable();
         print_world(world, &self.handlers, &self.names, writer)
     }
-}
-
-// Writes the histories of these handlers and clients.
-fn print_world<W: Write>(
-    world: &World<Table>,
-    handlers: &[HandlerId],
-    clients: &[ClientId],
-    writer: &mut W,
-) -> io::Result<()> {
-    writer.write_all(b"joint")?;
-    print_blocks(world.joint(), writer)?;
-    for handler in handlers {
-        write!(writer, "handler {handler} opened")?;
-        print_blocks(world.opened(*handler).unwrap_or(&[]), writer)?;
-        write!(writer, "handler {handler} ran")?;
-        print_all_ran(world.ran(*handler).unwrap_or(&[]), writer)?;
-    }
-    for client in clients {
-        write!(writer, "client {client} accepted")?;
-        print_accepted(world.accepted(*client).unwrap_or(&[]), writer)?;
-    }
-    Ok(())
 }

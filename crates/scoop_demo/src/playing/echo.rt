@@ -13,11 +13,11 @@ pub struct Echo<'a> {
 
 /// What a line's event is about.
 #[derive(Clone, Copy)]
-pub enum Subject {
+pub enum Subject<'a> {
     /// The message that was sent or taken.
-    Message(Message),
+    Message(&'a Message),
     /// The entry that ran.
-    Entry(Entry),
+    Entry(&'a Entry),
     Nothing,
 }
 
@@ -43,28 +43,21 @@ impl<'a> Echo<'a> {
         }
     }
 
-    /// Writes the echo that is asked for, if one is: the line's number and the line, and what its event is about.
-    pub fn print<W: Write>(
-        echo: Option<Echo<'_>>,
-        subject: Subject,
-        writer: &mut W,
-    ) -> io::Result<()> {
-        let Some(echo) = echo else {
-            return Ok(());
-        };
-        match echo.number {
+    /// Writes the echo: the line's number and the line, and what its event is about.
+    pub fn print<W: Write>(&self, subject: Subject<'_>, writer: &mut W) -> io::Result<()> {
+        match self.number {
             Some(number) => write!(writer, "{number}: ")?,
             None => writer.write_all(b"settle: ")?,
         }
-        writer.write_all(echo.line)?;
+        writer.write_all(self.line)?;
         match subject {
             Subject::Message(message) => {
                 writer.write_all(b" = ")?;
-                print_told(&message, writer)?;
+                print_told(message, writer)?;
             }
             Subject::Entry(entry) => {
                 writer.write_all(b" =")?;
-                print_entry(&entry, writer)?;
+                print_entry(entry, writer)?;
             }
             Subject::Nothing => {}
         }

@@ -2,9 +2,9 @@
 
 use crate::playing::echo::{Echo, Subject};
 use crate::playing::picture::Picture;
-use crate::printing::print_note;
+use crate::playing::telling::tell_note;
 use crate::script::EventLine;
-use scoop_message::{ClientId, HandlerId, Message, OutOfMemory};
+use scoop_message::{ClientId, HandlerId, OutOfMemory};
 use scoop_object::Table;
 use scoop_world::{Event, World, WorldError, WorldNote};
 use std::io;
@@ -34,27 +34,27 @@ pub enum Outcome {
 /// behind the echo that is asked for. The picture is told each event. The outcome is that of the last event.
 pub fn play<W: Write>(
     world: &mut World<Table>,
-    event: EventLine,
+    event: &EventLine,
     echo: Option<Echo<'_>>,
     picture: &mut Picture,
     writer: &mut W,
 ) -> Result<Outcome, Stop> {
     match event {
         EventLine::One(event) => step(world, event, echo, picture, writer),
-        EventLine::Run(handler) => run(world, handler, echo, picture, writer),
-        EventLine::Trip(client, handler) => trip(world, client, handler, echo, picture, writer),
+        EventLine::Run(handler) => run(world, *handler, echo, picture, writer),
+        EventLine::Trip(client, handler) => trip(world, *client, *handler, echo, picture, writer),
     }
 }
 
-// One event, which the picture is told.
-fn happen(
-    world: &mut World<Table>,
-    event: &Event,
+// Tells the picture what came of an event.
+fn draw(
     picture: &mut Picture,
-) -> Result<Result<WorldNote, WorldError>, Stop> {
-    let outcome = world.step(*event);
-    match picture.note(world, event, &outcome) {
-        Ok(()) => Ok(outcome),
+    world: &World<Table>,
+    event: &Event,
+    outcome: &Result<WorldNote, WorldError>,
+) -> Result<(), Stop> {
+    match picture.note(world, event, outcome) {
+        Ok(()) => Ok(()),
         Err(OutOfMemory) => Err(Stop::OutOfMemory),
     }
 }
@@ -62,43 +62,58 @@ fn happen(
 // One event, with its line behind the echo.
 fn step<W: Write>(
     world: &mut World<Table>,
-    event: Event,
+    event: &Event,
     echo: Option<Echo<'_>>,
     picture: &mut Picture,
     writer: &mut W,
 ) -> Result<Outcome, Stop> {
-    let taken = match event {
-        Event::Take(place) => world.sent(place).copied(),
-        _ => None,
-    };
-    match happen(world, &event, picture)? {
-        Ok(note) => {
-            written(Echo::print(echo, subject(taken, &note), writer))?;
-            tell(world, &note, writer)
-        }
-        Err(error) => {
-            written(Echo::print(echo, subject(taken, &WorldNote::Silent), writer))?;
-            refuse(error, writer)
-        }
+    let outcome = world.step(*event);
+    draw(picture, world, event, &outcome)?;
+    if let Some(echo) = &echo {
+        written(echo.print(subject(world, event, &outcome), writer))?;
     }
+    tell(world, &outcome, writer)
 }
 
 // What an event is about: the message that was taken, or the entry that ran.
-fn subject(taken: Option<Message>, note: &WorldNote) -> Subject {
-    match (taken, note) {
-        (Some(message), _) => Subject::Message(message),
-        (None, WorldNote::Ran(ran)) => Subject::Entry(ran.entry),
+fn subject<'a>(
+    world: &'a World<Table>,
+    event: &Event,
+    outcome: &'a Result<WorldNote, WorldError>,
+) -> Subject<'a> {
+    match (event, outcome) {
+        (Event::Take(place), _) => subject_at(world, Some(*place)),
+        (_, Ok(WorldNote::Ran(ran))) => Subject::Entry(&ran.entry),
         _ => Subject::Nothing,
     }
 }
 
-// Writes the line of what an event did.
-fn tell<W: Write>(world: &World<Table>, note: &WorldNote, writer: &mut W) -> Result<Outcome, Stop> {
+// The message that was sent at this place, where there is one.
+fn subject_at(world: &World<Table>, place: Option<usize>) -> Subject<'_> {
+    let Some(place) = place else {
+        return Subject::Nothing;
+    };
+    match world.sent(place) {
+        Some(message) => Subject::Message(message),
+        None => Subject::Nothing,
+    }
+}
+
+// Writes the line of what came of an event.
+fn tell<W: Write>(
+    world: &World<Table>,
+    outcome: &Result<WorldNote, WorldError>,
+    writer: &mut W,
+) -> Result<Outcome, Stop> {
+    let note = match outcome {
+        Ok(note) => note,
+        Err(error) => return refuse(*error, writer),
+    };
     let Some(place) = sent_by(note) else {
-        written(print_note(note, None, writer))?;
+        written(tell_note(note, None, writer))?;
         return Ok(Outcome::Taken);
     };
-    written(print_note(note, world.sent(place), writer))?;
+    written(tell_note(note, world.sent(place), writer))?;
     Ok(Outcome::Sent(place))
 }
 
@@ -138,11 +153,16 @@ fn run<W: Write>(
     picture: &mut Picture,
     writer: &mut W,
 ) -> Result<Outcome, Stop> {
-    if let Err(error) = happen(world, &Event::Begin(handler), picture)? {
-        written(Echo::print(echo, Subject::Nothing, writer))?;
+    let event = Event::Begin(handler);
+    let outcome = world.step(event);
+    draw(picture, world, &event, &outcome)?;
+    if let Err(error) = outcome {
+        if let Some(echo) = &echo {
+            written(echo.print(Subject::Nothing, writer))?;
+        }
         return refuse(error, writer);
     }
-    step(world, Event::Finish(handler), echo, picture, writer)
+    step(world, &Event::Finish(handler), echo, picture, writer)
 }
 
 // The client sends the handler what it owes; the handler hears it, and the client the reply.
@@ -158,8 +178,8 @@ fn trip<W: Write>(
         Outcome::Sent(place) => place,
         outcome => return Ok(outcome),
     };
-    match step(world, Event::Take(place), None, picture, writer)? {
-        Outcome::Sent(reply) => step(world, Event::Take(reply), None, picture, writer),
+    match step(world, &Event::Take(place), None, picture, writer)? {
+        Outcome::Sent(reply) => step(world, &Event::Take(reply), None, picture, writer),
         outcome => Ok(outcome),
     }
 }
@@ -173,18 +193,15 @@ fn send<W: Write>(
     picture: &mut Picture,
     writer: &mut W,
 ) -> Result<Outcome, Stop> {
-    match happen(world, &Event::Tick(client, handler), picture)? {
-        Ok(note) => {
-            let sent = match sent_by(&note) {
-                Some(place) => world.sent(place).copied(),
-                None => None,
-            };
-            written(Echo::print(echo, subject(sent, &note), writer))?;
-            tell(world, &note, writer)
-        }
-        Err(error) => {
-            written(Echo::print(echo, Subject::Nothing, writer))?;
-            refuse(error, writer)
-        }
+    let event = Event::Tick(client, handler);
+    let outcome = world.step(event);
+    draw(picture, world, &event, &outcome)?;
+    if let Some(echo) = &echo {
+        let place = match &outcome {
+            Ok(note) => sent_by(note),
+            Err(_) => None,
+        };
+        written(echo.print(subject_at(world, place), writer))?;
     }
+    tell(world, &outcome, writer)
 }

@@ -31,7 +31,7 @@ pub fn settle<W: Write>(
             return Err(Stop::OutOfMemory);
         };
         let echo = Echo::unnumbered(echoes, &line);
-        play(world, line_of(next), echo, picture, writer)?;
+        play(world, &line_of(next), echo, picture, writer)?;
     }
     Ok(())
 }

@@ -110,5 +110,5 @@ fn event_kind(word: &[u8]) -> Option<EventKind>
 pub fn is(word: &[u8], name: &str) -> bool
     ensures { result ≡ same_text word.now name.now }
 {
-    word == name.as_bytes()
+    word.len() == name.len() && word == name.as_bytes()
 }

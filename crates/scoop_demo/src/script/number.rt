@@ -1,7 +1,8 @@
 //! Numbers in decimal digits.
 
-ghost use Rattle.std.specs.Prelude.{◌≡◌, ◌≤◌, ◌^◌, length, MatchResult};
+ghost use Rattle.std.specs.Prelude.{◌≡◌, ◌≤◌, ◌^◌, true, length, MatchResult};
 ghost use Rattle.std.specs.List.{list_all};
+ghost use Rattle.std.specs.Str.Parse.{digits_value};
 ghost use Rattle.scoop_message.specs.declared.limits.TheConstants.{MAX_WORDS};
 ghost use Rattle.scoop_demo.specs.ScriptWords.{words_of};
 ghost use Rattle.scoop_demo.specs.ScriptNumber.{number_below, number_of, each_of, is_decimal, is_digit};
@@ -12,12 +13,18 @@ use arrayvec::ArrayVec;
 use scoop_message::limits::MAX_WORDS;
 use std::str;
 
+// Every number of so many digits is below 2^64.
+const SHORT_LEN: usize = 19;
+
 /// The number below 2^64 that a word writes in decimal digits. `NotANumber` comes exactly where it writes none.
 pub fn read_u64(word: &[u8]) -> Result<u64, InputFault>
     ensures { result ≡ number_below (2 ^ 64) word.now }
 {
     if !is_decimal(word) {
         return Err(InputFault::NotANumber);
+    }
+    if word.len() <= SHORT_LEN {
+        return Ok(short_number(word));
     }
     let Ok(text) = str::from_utf8(word) else {
         unreachable!()
@@ -26,6 +33,19 @@ pub fn read_u64(word: &[u8]) -> Result<u64, InputFault>
         Ok(number) => Ok(number),
         Err(_) => Err(InputFault::NotANumber),
     }
+}
+
+// The number that a few digits write.
+fn short_number(digits: &[u8]) -> u64
+    requires short { length digits.now ≤ 19 }
+    requires digits { list_all is_digit digits.now ≡ true }
+    ensures { result ≡ digits_value 10 digits.now }
+{
+    let mut number = 0;
+    for digit in digits {
+        number = 10 * number + u64::from(*digit - b'0');
+    }
+    number
 }
 
 /// The same below 2^32.

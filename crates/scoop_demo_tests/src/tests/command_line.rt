@@ -62,12 +62,8 @@ const WRONG: [Case; 12] = [
         &["error: invalid value 'one' for '<N>': invalid digit found in string\n"],
     ),
     (
-        &["scoop", "client", "7", "--system", "a"],
-        &[
-            "error: the following required arguments were not provided:\n\
-            \x20 --store <FILE>\n\n\
-            Usage: scoop client --system <FILE> --store <FILE> <N>\n",
-        ],
+        &["scoop", "client", "7", "--new", "a", "--store", "b"],
+        &["error: the argument '--new <FILE>' cannot be used with '--store <FILE>'"],
     ),
 ];
 
@@ -163,6 +159,7 @@ const HELP: [Case; 8] = [
         &["scoop", "client", "--help"],
         &[
             "Runs a client of the system",
+            "give --new for a client that never ran",
             "condition failed T",
             "Statuses: 0; 1 ",
             "Example: scoop client 7 --system examples/bank.toml",

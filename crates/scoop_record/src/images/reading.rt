@@ -1,6 +1,6 @@
 //! Images to states.
 
-ghost use Rattle.std.specs.Prelude.{◌≡◌, IfOk, IfErr};
+ghost use Rattle.std.specs.Prelude.{◌≡◌, [], IfOk, IfErr, OnOk};
 ghost use Rattle.scoop_handler.specs.State.{HandlerState as State};
 ghost use Rattle.scoop_record.specs.Reading.{AreNoQueues, AreNoneWithEntries, AreQueues, AreWithEntries, HasNoQueue, IfHasQueue, IsStored, IsStoredWithEntries};
 
@@ -58,21 +58,21 @@ fn add_queue<A: Allocator + Copy>(
     }
 }
 
-// The private queues whose heads are all of the first bytes and whose entries are all of the others.
-fn queues_from<A: Allocator + Copy>(
-    alloc: A,
+// Reads the private queues whose heads are all of the first bytes and whose entries are all of the others.
+fn read_queues<A: Allocator + Copy>(
+    queues: &mut QueueOfQueues<A>,
     heads: &[u8],
     entries: &[u8],
     count: usize,
-) -> Result<QueueOfQueues<A>, ReadError>
-    ensures ok { IfOk result (λ queues. AreQueues count heads.now entries.now queues) }
+) -> Result<(), ReadError>
+    requires { queues.old ≡ [] }
+    ensures ok { OnOk result (AreQueues count heads.now entries.now queues.new) }
     ensures bad { IfErr result (λ e. e ≡ ReadError.BadImage → AreNoQueues count heads.now entries.now) }
 {
-    let mut queues = QueueOfQueues::new(alloc);
     let mut head_at = 0;
     let mut entry_at = 0;
     for _i in 0..count {
-        match add_queue(&mut queues, &heads[head_at..], &entries[entry_at..]) {
+        match add_queue(queues, &heads[head_at..], &entries[entry_at..]) {
             Ok(len) => {
                 head_at += HEAD_LEN;
                 entry_at += len;
@@ -86,7 +86,50 @@ fn queues_from<A: Allocator + Copy>(
     if entry_at != entries.len() {
         return Err(ReadError::BadImage);
     }
-    Ok(queues)
+    Ok(())
+}
+
+// The private queues whose heads are all of the first bytes and whose entries are all of the others.
+fn queues_from<A: Allocator + Copy>(
+    alloc: A,
+    heads: &[u8],
+    entries: &[u8],
+    count: usize,
+) -> Result<QueueOfQueues<A>, ReadError>
+    ensures ok { IfOk result (λ queues. AreQueues count heads.now entries.now queues) }
+    ensures bad { IfErr result (λ e. e ≡ ReadError.BadImage → AreNoQueues count heads.now entries.now) }
+{
+    let mut queues = QueueOfQueues::new(alloc);
+    match read_queues(&mut queues, heads, entries, count) {
+        Ok(()) => Ok(queues),
+        Err(error) => Err(error),
+    }
+}
+
+// Reads the private queues that the bytes are, each followed by its entries.
+fn read_queues_with_entries<A: Allocator + Copy>(
+    queues: &mut QueueOfQueues<A>,
+    bytes: &[u8],
+    count: usize,
+) -> Result<(), ReadError>
+    requires { queues.old ≡ [] }
+    ensures ok { OnOk result (AreWithEntries count bytes.now queues.new) }
+    ensures bad { IfErr result (λ e. e ≡ ReadError.BadImage → AreNoneWithEntries count bytes.now) }
+{
+    let mut at = 0;
+    for _i in 0..count {
+        if bytes.len() - at < HEAD_LEN {
+            return Err(ReadError::BadImage);
+        }
+        match add_queue(queues, &bytes[at..], &bytes[at + HEAD_LEN..]) {
+            Ok(len) => at += HEAD_LEN + len,
+            Err(error) => return Err(error),
+        }
+    }
+    if at != bytes.len() {
+        return Err(ReadError::BadImage);
+    }
+    Ok(())
 }
 
 // The private queues that the bytes are, each followed by its entries.
@@ -99,20 +142,10 @@ fn queues_with_entries_from<A: Allocator + Copy>(
     ensures bad { IfErr result (λ e. e ≡ ReadError.BadImage → AreNoneWithEntries count bytes.now) }
 {
     let mut queues = QueueOfQueues::new(alloc);
-    let mut at = 0;
-    for _i in 0..count {
-        if bytes.len() - at < HEAD_LEN {
-            return Err(ReadError::BadImage);
-        }
-        match add_queue(&mut queues, &bytes[at..], &bytes[at + HEAD_LEN..]) {
-            Ok(len) => at += HEAD_LEN + len,
-            Err(error) => return Err(error),
-        }
+    match read_queues_with_entries(&mut queues, bytes, count) {
+        Ok(()) => Ok(queues),
+        Err(error) => Err(error),
     }
-    if at != bytes.len() {
-        return Err(ReadError::BadImage);
-    }
-    Ok(queues)
 }
 
 /// The state of the handler whose image and pending entries the bytes are.

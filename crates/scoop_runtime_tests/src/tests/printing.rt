@@ -1,9 +1,11 @@
 //! The texts of a client.
 
 use scoop_client::{BeginError, ClientError};
+use scoop_keeper::KeeperError;
 use scoop_message::{Answer, Block, ClientId, HandlerId};
+use scoop_netloop::{DriverError, ServeEnd};
 use scoop_reserve::ReserveError;
-use scoop_runtime::{Reply, RuntimeError, SourceError, SourceFault, print_reply};
+use scoop_runtime::{Progress, Reply, RuntimeError, SourceError, SourceFault, print_reply};
 use scoop_show::ShowError;
 use std::alloc::Global;
 use std::process::Abort;
@@ -113,5 +115,65 @@ fn errors_are_told(rt: HostRuntime) -> Result<(), Fail> {
     let none = RuntimeError::Handlers(BeginError::NoHandlers);
     reads(&rt, alloc, none, "handlers: NoHandlers", 3)?;
     let twice = RuntimeError::Handlers(BeginError::Repeated(HandlerId(3)));
-    reads(&rt, alloc, twice, "handlers: Repeated 3", 3)
+    reads(&rt, alloc, twice, "handlers: Repeated 3", 3)?;
+    let missing = RuntimeError::NoHandler(HandlerId(2));
+    reads(&rt, alloc, missing, "store: NoHandler 2", 3)
+}
+
+// What is told behind the error is of the store, or else of the own address, and has these words.
+fn advises(rt: &impl Abort, error: RuntimeError, of_store: bool, words: &str) {
+    assert_eq!(rt; error.is_of_store(), of_store);
+    assert!(rt; error.advice().contains(words));
+}
+
+#[test]
+fn errors_are_told_with_what_to_do(rt: HostRuntime) {
+    let ended = |error| RuntimeError::Ended(error);
+    advises(&rt, RuntimeError::NoHandler(HandlerId(2)), true, "by --new");
+    advises(&rt, ended(ShowError::NoLink), false, "another program");
+    advises(
+        &rt,
+        ended(ShowError::Store(KeeperError::Refused)),
+        true,
+        "the disk is full",
+    );
+    advises(
+        &rt,
+        ended(ShowError::Loop(ServeEnd::NodeFailed)),
+        true,
+        "--store",
+    );
+    advises(
+        &rt,
+        ended(ShowError::Driver(DriverError::TurnsOver)),
+        false,
+        "the same key",
+    );
+    assert!(rt; RuntimeError::InsideBlock.advice().is_empty());
+}
+
+fn says(rt: &impl Abort, alloc: Global, progress: Progress, text: &str) -> Result<(), Fail> {
+    let printed = format!(in alloc; "{progress}")?;
+    assert_eq!(rt; printed.as_str(), text);
+    Ok(())
+}
+
+#[test]
+fn progress_is_told(rt: HostRuntime) -> Result<(), Fail> {
+    let alloc = rt.alloc();
+    let none = Progress {
+        done: None,
+        has_begun: false,
+        has_block: false,
+    };
+    says(&rt, alloc, none, "no line is done: go on with --store")?;
+    let inside = Progress {
+        done: Some(3),
+        has_begun: true,
+        has_block: true,
+    };
+    let text =
+        "the lines up to line 3 are done, the next one may be, and the block is left to the next incarnation: go on with \
+        --store";
+    says(&rt, alloc, inside, text)
 }

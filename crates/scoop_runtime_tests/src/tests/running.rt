@@ -3,7 +3,7 @@
 use super::{Told, ask, client_link, node_link, serve};
 use scoop_keeper::MemoryKeeper;
 use scoop_link::UdpLink;
-use scoop_runtime::RuntimeError;
+use scoop_runtime::{Progress, RuntimeError};
 use scoop_seal::{Key, SealedLink};
 use scoop_show::ShowError;
 use scoop_system::{LineFault, System};
@@ -207,6 +207,7 @@ fn answers<R: Threads + Wait + Clock + Net + Sync + Abort>(
     let told = run_beside(rt, alloc, system, node, history, LINES, false).ok_or("no client")?;
     assert!(rt; is(&told.output, REPLIES));
     assert_eq!(rt; told.ended, Ok(()));
+    assert_eq!(rt; told.progress, None);
     Ok(())
 }
 
@@ -253,7 +254,17 @@ fn a_line_that_cannot_be_read_is_told_to_who_types(rt: HostRuntime) -> Result<()
     assert!(rt; is(&told.output, "reserved 7.1.1\nanswer 100\n"));
     assert!(rt; is(&told.notes, "scoop: line 2: no such operation\n"));
     assert_eq!(rt; told.ended, Err(RuntimeError::InsideBlock));
+    assert_eq!(rt; told.progress, Some(left_behind(3)));
     Ok(())
+}
+
+// The lines are done up to this one, and a block is left.
+fn left_behind(line: u32) -> Progress {
+    Progress {
+        done: Some(line),
+        has_begun: false,
+        has_block: true,
+    }
 }
 
 #[test]
@@ -264,6 +275,7 @@ fn a_line_that_cannot_be_read_ends_a_client(rt: HostRuntime) -> Result<(), Fail>
     assert!(rt; told.notes.is_empty());
     let fault = RuntimeError::Line(2, LineFault::NoSuchOperation);
     assert_eq!(rt; told.ended, Err(fault));
+    assert_eq!(rt; told.progress, Some(left_behind(1)));
     Ok(())
 }
 

@@ -168,6 +168,10 @@ fn operations_are_looked_up_by_name(rt: HostRuntime) -> Result<(), Fail> {
     assert_eq!(rt; system.operation(HandlerId(3), b"balance"), Some(3));
     assert_eq!(rt; system.operation(HandlerId(3), b"withdraw"), Some(2));
     assert_eq!(rt; system.operation(HandlerId(2), b"left"), None);
+    assert_eq!(rt; system.arguments(HandlerId(1), 1), Some(1));
+    assert_eq!(rt; system.arguments(HandlerId(1), 3), None);
+    assert_eq!(rt; system.arguments(HandlerId(3), 3), Some(0));
+    assert_eq!(rt; system.arguments(HandlerId(2), 1), None);
     Ok(())
 }
 

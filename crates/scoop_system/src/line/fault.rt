@@ -12,7 +12,9 @@ pub enum LineFault {
     WrongNumberOfWords,
     /// A word that is to be a number isn't one, or is out of its range.
     NotANumber,
-    /// A request has more than four arguments.
+    /// A request has fewer arguments than its operation reads.
+    TooFewArguments,
+    /// A request has more arguments than its operation reads, or more than four.
     TooManyArguments,
     /// More than nine handlers are named.
     TooManyHandlers,
@@ -31,6 +33,7 @@ impl fmt::Display for LineFault {
             LineFault::UnknownLine => "unknown line",
             LineFault::WrongNumberOfWords => "wrong number of words",
             LineFault::NotANumber => "not a number",
+            LineFault::TooFewArguments => "too few arguments",
             LineFault::TooManyArguments => "too many arguments",
             LineFault::TooManyHandlers => "too many handlers",
             LineFault::NoSuchOperation => "no such operation",

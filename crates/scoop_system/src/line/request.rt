@@ -3,7 +3,7 @@
 ghost use Rattle.std.specs.Prelude.{◌≡◌, ◌≤◌, length, codes};
 ghost use Rattle.scoop_message.specs.declared.limits.TheConstants.{MAX_ARGS};
 ghost use Rattle.scoop_system.specs.Words.{words_of, before};
-ghost use Rattle.scoop_system.specs.Line.{request_line, request_of, operation_of, each_of, number_of};
+ghost use Rattle.scoop_system.specs.Line.{request_line, request_of, operation_of, each_of, number_of, count_fault};
 
 use super::fault::LineFault;
 use super::number::{read_handler, read_u16, read_u64};
@@ -45,7 +45,21 @@ pub(super) fn read_request(system: &System, line: &[u8]) -> Result<(HandlerId, R
     let handler = read_handler(handler)?;
     let op = read_operation(system, handler, op)?;
     let args = read_args(args)?;
-    Ok((handler, Request { op, args }))
+    match count_fault(system.arguments(handler, op), args.len()) {
+        Some(fault) => Err(fault),
+        None => Ok((handler, Request { op, args })),
+    }
+}
+
+// What is wrong with how many arguments are given, where it is known how many are wanted.
+fn count_fault(wanted: Option<usize>, given: usize) -> Option<LineFault>
+    ensures { result ≡ count_fault wanted given }
+{
+    match wanted {
+        Some(wanted) if given < wanted => Some(LineFault::TooFewArguments),
+        Some(wanted) if given > wanted => Some(LineFault::TooManyArguments),
+        _ => None,
+    }
 }
 
 // An operation by its number, or by its name in the class of the handler.

@@ -6,7 +6,7 @@ ghost use Rattle.toml.specs.View.{view};
 ghost use Rattle.scoop_message.specs.declared.limits.TheConstants.{MAX_WORDS, MAX_OPS};
 ghost use Rattle.scoop_object.specs.Class.{IsClass};
 ghost use Rattle.scoop_classes.specs.Classes.{same_text, class_of_name};
-ghost use Rattle.scoop_system.specs.Classes.{class_of, class_head, operations_from, is_taken};
+ghost use Rattle.scoop_system.specs.Classes.{class_of, class_head, operations_from, class_before};
 ghost use Rattle.scoop_system.specs.Meaning.{classes_of};
 ghost use Rattle.scoop_system.specs.Terms.{operation_of};
 ghost use Rattle.scoop_system.specs.Stop.{IfFault};
@@ -91,8 +91,8 @@ fn class_head<'a>(value: &'a Value, done: &[OwnClass]) -> Result<ClassHead<'a>, 
     let name = name_at(value, Key::Name)?;
     let words = number_at(value, Key::Words, 1, MAX_WORDS as u64)? as u8;
     let operations = list_at(value, Key::Operation, MAX_OPS)?;
-    if is_taken(done, name) {
-        return Err(Wrong::Twice);
+    if let Some(wrong) = class_before(done, name) {
+        return Err(wrong);
     }
     Ok(ClassHead {
         name,
@@ -101,11 +101,17 @@ fn class_head<'a>(value: &'a Value, done: &[OwnClass]) -> Result<ClassHead<'a>, 
     })
 }
 
-// Whether a class has this name already.
-fn is_taken(classes: &[OwnClass], name: Name) -> bool
-    ensures { result ≡ is_taken classes.now name }
+// Why no class may have this name: one has it already.
+fn class_before(classes: &[OwnClass], name: Name) -> Option<Wrong>
+    ensures { result ≡ class_before classes.now name }
 {
-    DemoClass::from_name(name.as_str()).is_some() || class_named(classes, name.as_bytes()).is_some()
+    if DemoClass::from_name(name.as_str()).is_some() {
+        Some(Wrong::KnownClass)
+    } else if class_named(classes, name.as_bytes()).is_some() {
+        Some(Wrong::Twice)
+    } else {
+        None
+    }
 }
 
 // The operations of a class, with their names.

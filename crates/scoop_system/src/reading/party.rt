@@ -2,9 +2,10 @@
 
 ghost use Rattle.std.specs.Prelude.{◌≡◌, ◌==◌, [], map, not, Ok, Err, IfOk, IfErr, MatchResult};
 ghost use Rattle.std.specs.List.{list_any};
+ghost use Rattle.std.specs.Option.{option_copied};
 ghost use Rattle.toml.specs.View.{view};
 ghost use Rattle.scoop_classes.specs.Classes.{table_of};
-ghost use Rattle.scoop_system.specs.Meaning.{node_of, nodes_of, handler_of, handlers_of, handler_class, client_of, clients_of, batch_at, number_of, first_address, first_client, other_family, is_v4};
+ghost use Rattle.scoop_system.specs.Meaning.{node_of, nodes_of, handler_of, handlers_of, handler_class, client_of, clients_of, batch_at, number_of, first_address, first_client, other_family, is_v4, node_at, client_at, address_taken, address_fault};
 ghost use Rattle.scoop_system.specs.Stop.{IfFault};
 
 use super::place::{at, place_at};
@@ -48,8 +49,8 @@ fn read_node(value: &Value, done: &[NodePlace]) -> Result<NodePlace, Wrong>
     if has_node(done, number) {
         return Err(Wrong::Twice);
     }
-    if other_family(first_address(done, &[]), address) {
-        return Err(Wrong::OtherFamily);
+    if let Some(wrong) = address_fault(done, &[], address) {
+        return Err(wrong);
     }
     Ok(NodePlace { number, address })
 }
@@ -86,6 +87,42 @@ fn other_family(first: Option<SocketAddr>, address: SocketAddr) -> bool
         Some(first) => first.is_ipv4() != address.is_ipv4(),
         None => false,
     }
+}
+
+// What is wrong with the address of a party behind these.
+fn address_fault(nodes: &[NodePlace], clients: &[ClientPlace], address: SocketAddr) -> Option<Wrong>
+    ensures { result ≡ address_fault nodes.now clients.now address }
+{
+    if let Some(wrong) = address_taken(nodes, clients, address) {
+        Some(wrong)
+    } else if other_family(first_address(nodes, clients), address) {
+        Some(Wrong::OtherFamily)
+    } else {
+        None
+    }
+}
+
+// Whose the address is, where somebody has it.
+fn address_taken(nodes: &[NodePlace], clients: &[ClientPlace], address: SocketAddr) -> Option<Wrong>
+    ensures { result ≡ address_taken nodes.now clients.now address }
+{
+    match (node_at(nodes, address), client_at(clients, address)) {
+        (Some(node), _) => Some(Wrong::AddressOf(Key::Node, node.number)),
+        (None, Some(place)) => Some(Wrong::AddressOf(Key::Client, place.client.0)),
+        (None, None) => None,
+    }
+}
+
+fn node_at(nodes: &[NodePlace], address: SocketAddr) -> Option<&NodePlace>
+    ensures { option_copied result ≡ node_at nodes.now address }
+{
+    nodes.iter().find(|node| node.address == address)
+}
+
+fn client_at(clients: &[ClientPlace], address: SocketAddr) -> Option<&ClientPlace>
+    ensures { option_copied result ≡ client_at clients.now address }
+{
+    clients.iter().find(|place| place.address == address)
 }
 
 // The handlers of a file.
@@ -209,8 +246,8 @@ fn read_client(
     if has_client(done, number) {
         return Err(Wrong::Twice);
     }
-    if other_family(first_address(nodes, done), address) {
-        return Err(Wrong::OtherFamily);
+    if let Some(wrong) = address_fault(nodes, done, address) {
+        return Err(wrong);
     }
     Ok(ClientPlace {
         client: ClientId(number),

@@ -74,7 +74,7 @@ fn term_in(value: &Value, words: usize) -> Result<Term, Wrong>
 {
     match value.as_str() {
         Some(text) => read_term(text, words),
-        None => Err(Wrong::NotATerm(Name::told(""))),
+        None => Err(Wrong::NotAText),
     }
 }
 

@@ -17,11 +17,23 @@ use scoop_model::{WorldError, WorldNote};
 use scoop_object::Behaviour;
 use std::alloc::Allocator;
 
+// Whether the handler stands on the node.
+fn is_on<B: Behaviour, A: Allocator + Copy>(site: &Site<B, A>, node: u32) -> bool
+    ensures { result ≡ on_node node site.now }
+{
+    site.node() == node
+}
+
 // Whether a handler stands on the node.
 fn any_on<B: Behaviour, A: Allocator + Copy>(sites: &[Site<B, A>], node: u32) -> bool
     ensures { result ≡ list_any (on_node node) sites.now }
 {
-    sites.iter().any(|site| site.node() == node)
+    for site in sites {
+        if is_on(site, node) {
+            return true;
+        }
+    }
+    false
 }
 
 // The stored state of the handler, if it stands on this node.

@@ -14,9 +14,9 @@ const ONE: HandlerId = HandlerId(1);
 /// An event, what came of it, and its label.
 type Row = (Event, Result<WorldNote, WorldError>, &'static [u8]);
 
-/// A chart of client 7 and handler 1.
-fn chart(rt: &impl Abort, alloc: Global) -> Chart {
-    match Chart::new(alloc, &[SEVEN], &[(1, ONE)]) {
+/// A chart of client 7 and these handlers, with their nodes.
+fn chart(rt: &impl Abort, alloc: Global, handlers: &[(u32, HandlerId)]) -> Chart {
+    match Chart::new(alloc, &[SEVEN], handlers) {
         Ok(chart) => chart,
         Err(_) => panic!(rt; "no chart"),
     }
@@ -49,13 +49,14 @@ fn has_lines(rt: &impl Abort, picture: &[u8], lines: &[&[u8]]) {
 /// The chart's picture has these lines.
 fn draws(rt: &impl Abort, alloc: Global, chart: &Chart, lines: &[&[u8]]) {
     let mut picture = Vec::new(alloc);
-    assert!(rt; chart.draw(&mut picture).is_ok());
+    let drawn = chart.draw(&mut picture);
+    assert!(rt; drawn.is_ok());
     has_lines(rt, &picture, lines);
 }
 
 /// The picture of these rows has these lines.
 fn is_drawn(rt: &impl Abort, alloc: Global, rows: &[Row], lines: &[&[u8]]) {
-    let mut chart = chart(rt, alloc);
+    let mut chart = chart(rt, alloc, &[(1, ONE)]);
     notes_all(rt, &mut chart, rows);
     draws(rt, alloc, &chart, lines);
 }
@@ -110,6 +111,24 @@ fn restarts_are_bars(rt: HostRuntime) {
     is_drawn(&rt, rt.alloc(), &RESTARTS, &RESTARTS_DRAWN);
 }
 
+/// Names of ten digits, so that lifelines are 18 letters apart.
+const LONG: [(u32, HandlerId); 2] = [
+    (4294967295, HandlerId(4294967293)),
+    (4294967295, HandlerId(4294967294)),
+];
+
+const LONG_DRAWN: [&[u8]; 3] = [
+    b"<text class=\"name\" x=\"160\" y=\"36\">client 7</text>",
+    b"<text class=\"name\" x=\"304\" y=\"36\">handler 4294967293</text>",
+    b"<text class=\"name\" x=\"448\" y=\"36\">handler 4294967294</text>",
+];
+
+#[test]
+fn long_names_are_apart(rt: HostRuntime) {
+    let chart = chart(&rt, rt.alloc(), &LONG);
+    draws(&rt, rt.alloc(), &chart, &LONG_DRAWN);
+}
+
 const SILENT: Row = (Event::Tick(SEVEN, ONE), Ok(WorldNote::Silent), b"silent");
 
 fn fills_up(rt: &impl Abort, chart: &mut Chart) {
@@ -121,6 +140,6 @@ fn fills_up(rt: &impl Abort, chart: &mut Chart) {
 
 #[test]
 fn a_chart_has_its_length(rt: HostRuntime) {
-    let mut chart = chart(&rt, rt.alloc());
+    let mut chart = chart(&rt, rt.alloc(), &[(1, ONE)]);
     fills_up(&rt, &mut chart);
 }

@@ -1,15 +1,35 @@
-use Rattle.std.proofs.Common.{length, refl, ◌∙◌, ap, Ok, sym}
-use Rattle.scoop_demo.proofs.HexLemmas.{pairs_decode}
+use Rattle.std.proofs.Common.{◌≡◌, ◌+◌, ◌*◌, ◌%◌, length, slice_index, refl, ◌∙◌, arith}
+use Rattle.std.proofs.lemmas.List.{length-set}
+use Rattle.hex.proofs.HexLemmas.{decode_of-even}
+use Rattle.hex.proofs.Pairs.{decode_done, decode_err, decode_start, decode_step}
+use Rattle.scoop_demo.proofs.HexLemmas.{first_fails, pair_reads, pairs_fail, second_fails}
 use Rattle.scoop_demo.proofs.datagram.decode_digits.Goals as goal
 
-pub unwrap-requires : goal.unwrap-requires
-unwrap-requires c =
-    let found = pairs_decode c.args.digits.now (length c.args.bytes.now) c.requires.digits c.requires.pairs in
-    let done = rw found.sized at c.decode_to_slice.ensures.value in
-    rw done.0 refl
+pub loop-i-init : goal.loop-i-init
+loop-i-init c = record { decoded = decode_start c.args.digits.now c.args.bytes.now; room = refl }
 
-pub returns : goal.returns
-returns c =
-    let found = pairs_decode c.args.digits.now (length c.args.bytes.now) c.requires.digits c.requires.pairs in
-    let done = rw found.sized at c.decode_to_slice.ensures.value in
-    found.whole ∙ ap Ok (sym done.1)
+pub returns-then-high-gt15-clause-bytes : goal.returns-then-high-gt15-clause-bytes
+returns-then-high-gt15-clause-bytes c =
+    let even : length c.args.digits.now % 2 ≡ 0 = omega (arith, c.requires) in
+    pairs_fail c.args.digits.now _ even (decode_err c.args.digits.now c.loop-i.bytes c.loop-i.i _ (omega arith)
+    (first_fails (slice_index c.args.digits.now (2 * c.loop-i.i)) (slice_index c.args.digits.now (2 * c.loop-i.i + 1)) (2 * c.loop-i.i) c.digit_value-high.result c.digit_value-high.ensures (omega arith)) c.loop-i.invariant.decoded)
+
+pub returns-then-low-gt15-clause-bytes : goal.returns-then-low-gt15-clause-bytes
+returns-then-low-gt15-clause-bytes c =
+    let even : length c.args.digits.now % 2 ≡ 0 = omega (arith, c.requires) in
+    pairs_fail c.args.digits.now _ even (decode_err c.args.digits.now c.loop-i.bytes c.loop-i.i _ (omega arith)
+    (second_fails (slice_index c.args.digits.now (2 * c.loop-i.i)) (slice_index c.args.digits.now (2 * c.loop-i.i + 1))
+    (2 * c.loop-i.i) c.digit_value-high.result c.digit_value-low.result c.digit_value-high.ensures (omega arith) c.digit_value-low.ensures (omega arith)) c.loop-i.invariant.decoded)
+
+pub loop-i-preserved : goal.loop-i-preserved
+loop-i-preserved c = record {
+  decoded = decode_step c.args.digits.now c.loop-i.bytes c.loop-i.i (16 * c.digit_value-high.result + c.digit_value-low.result) (omega arith) (omega arith)
+      (pair_reads (slice_index c.args.digits.now (2 * c.loop-i.i)) (slice_index c.args.digits.now (2 * c.loop-i.i + 1))
+      (2 * c.loop-i.i) c.digit_value-high.result c.digit_value-low.result c.digit_value-high.ensures c.digit_value-low.ensures (omega arith) (omega arith)) c.loop-i.invariant.decoded;
+  room = omega (arith, length-set c.loop-i.bytes c.loop-i.i (16 * c.digit_value-high.result + c.digit_value-low.result));
+}
+
+pub returns-clause-bytes : goal.returns-clause-bytes
+returns-clause-bytes c =
+    let even : length c.args.digits.now % 2 ≡ 0 = omega (arith, c.requires) in
+    decode_of-even c.args.digits.now even ∙ decode_done c.args.digits.now c.loop-i.bytes c.loop-i.i (omega arith) (omega arith) c.loop-i.invariant.decoded

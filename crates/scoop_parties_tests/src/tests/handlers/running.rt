@@ -157,7 +157,9 @@ fn is_first(rt: &impl Abort, job: &Job<Table>) {
 fn done_aside<R: Threads + Sync + Abort>(rt: &R, handler: &mut Handler<Table>) -> Done<Table> {
     let job = taken(rt, handler);
     is_first(rt, &job);
-    work_aside(rt, job)
+    let done = work_aside(rt, job);
+    assert!(rt; (done.handler(), done.block(), done.number()) == (HERE, block(7, 1, 1), 1));
+    done
 }
 
 fn after<B: Behaviour>(handler: &Handler<B>, done: &Done<B>) -> Option<HandlerState> {

@@ -5,10 +5,13 @@ use std::alloc::Global;
 use std::test::Fail;
 
 // Texts that are no systems, each with what is told of it.
-const FAULTS: [(&str, &str); 33] = [
+const FAULTS: [(&str, &str); 40] = [
     ("nodes = 1", "unknown key \"nodes\""),
-    ("node = 1", "node is no list"),
-    ("node = [1]", "[[node]] 1: no table"),
+    (
+        "[node]\nnumber = 1",
+        "node is no list: a node is written [[node]], not [node]",
+    ),
+    ("node = [1]", "[[node]] 1: not a table"),
     (
         "[[node]]\nnumber = 1\nadress = \"127.0.0.1:1\"",
         "node 1: unknown key \"adress\"",
@@ -24,11 +27,11 @@ const FAULTS: [(&str, &str); 33] = [
     ("[[node]]\nnumber = 1", "node 1: no address"),
     (
         "[[node]]\nnumber = 1\naddress = \"127.0.0.1:0\"",
-        "node 1: address is no IP address with a port",
+        "node 1: address is no IP address with a port from 1 to 65535",
     ),
     (
         "[[node]]\nnumber = 1\naddress = \"localhost:1\"",
-        "node 1: address is no IP address with a port",
+        "node 1: address is no IP address with a port from 1 to 65535",
     ),
     (
         "node = [{number = 1, address = \"127.0.0.1:1\"}, {number = 1, address = \"[::1]:1\"}]",
@@ -36,11 +39,23 @@ const FAULTS: [(&str, &str); 33] = [
     ),
     (
         "node = [{number = 1, address = \"127.0.0.1:1\"}, {number = 2, address = \"[::1]:1\"}]",
-        "node 2: address of another family than the first one",
+        "node 2: address is of another family, IPv4 or IPv6, than the first one",
     ),
     (
         "node = [{number = 1, address = \"[::1]:1\"}]\nclient = [{number = 7, address = \"127.0.0.1:1\"}]",
-        "client 7: address of another family than the first one",
+        "client 7: address is of another family, IPv4 or IPv6, than the first one",
+    ),
+    (
+        "node = [{number = 1, address = \"127.0.0.1:1\"}, {number = 2, address = \"127.0.0.1:1\"}]",
+        "node 2: address is that of node 1",
+    ),
+    (
+        "client = [{number = 8, address = \"[::1]:1\"}]\nnode = [{number = 1, address = \"[::1]:2\"}, {number = 3, address = \"[0:0::1]:1\"}]",
+        "client 8: address is that of node 3",
+    ),
+    (
+        "client = [{number = 7, address = \"127.0.0.1:1\"}, {number = 8, address = \"127.0.0.1:1\"}]",
+        "client 8: address is that of client 7",
     ),
     (
         "client = [{number = 7, address = \"127.0.0.1:1\", batch = 5}]",
@@ -72,7 +87,7 @@ const FAULTS: [(&str, &str); 33] = [
     ),
     (
         "class = [{name = \"1st\", words = 1}]",
-        "[[class]] 1: name is no name",
+        "[[class]] 1: name is not 1 to 32 letters, digits, _ and -, a letter first",
     ),
     ("class = [{name = \"a\"}]", "class \"a\": no words"),
     (
@@ -81,7 +96,19 @@ const FAULTS: [(&str, &str); 33] = [
     ),
     (
         "class = [{name = \"cell\", words = 1}]",
-        "class \"cell\": twice",
+        "class \"cell\": the name of a class that every system has",
+    ),
+    (
+        "class = [{name = \"a\", words = 1}, {name = \"a\", words = 2}]",
+        "class \"a\": twice",
+    ),
+    (
+        "[[class]]\nname = \"a\"\nwords = 1\n[class.operation]\nnumber = 1",
+        "class \"a\": operation is no list: an operation is written [[class.operation]], not [class.operation]",
+    ),
+    (
+        "class = [{name = \"a\", words = 1, operation = [{number = 1, name = \"b\", writes = 1, answer = \"0\"}]}]",
+        "operation 1 of class \"a\": writes is no list",
     ),
     (
         "class = [{name = \"a\", words = 1, operation = [{name = \"b\", answer = \"w0\"}]}]",
@@ -102,6 +129,10 @@ const FAULTS: [(&str, &str); 33] = [
     (
         "class = [{name = \"a\", words = 1, operation = [{number = 1, name = \"b\", answer = \"x\"}]}]",
         "operation 1 of class \"a\": \"x\" is no term",
+    ),
+    (
+        "class = [{name = \"a\", words = 1, operation = [{number = 1, name = \"b\", answer = 5}]}]",
+        "operation 1 of class \"a\": a term is no text: write it in quotes",
     ),
     (
         "class = [{name = \"a\", words = 1, operation = [{number = 1, name = \"b\", test = [\"a0\"], answer = \"0\"}]}]",
@@ -125,6 +156,26 @@ const FAULTS: [(&str, &str); 33] = [
     ),
 ];
 
+// Texts that are no TOML, each with what is told of it.
+const NO_TOML: [(&str, &str); 4] = [
+    (
+        "[node]\nnumber = 1\n[node]\nnumber = 2\n",
+        "line 3, column 1: duplicate key: a node is written [[node]], not [node]",
+    ),
+    (
+        " [client] # the first\n\r\n [[client]]\nnumber = 2\n",
+        "line 3, column 2: duplicate key: a client is written [[client]], not [client]",
+    ),
+    (
+        "[[class]]\n[class.operation]\n[class.operation]\n",
+        "line 3, column 1: duplicate key: an operation is written [[class.operation]], not [class.operation]",
+    ),
+    (
+        "[node]\nnumber = 1\nnumber = 2\n",
+        "line 3, column 1: duplicate key",
+    ),
+];
+
 fn told(alloc: Global, text: &str) -> Result<String, Fail> {
     let Err(error) = System::read(alloc, text) else {
         return Err(Fail::from("a system"));
@@ -135,7 +186,7 @@ fn told(alloc: Global, text: &str) -> Result<String, Fail> {
 #[test]
 fn the_first_fault_is_told(rt: HostRuntime) -> Result<(), Fail> {
     let alloc = rt.alloc();
-    for (text, wanted) in &FAULTS {
+    for (text, wanted) in FAULTS.iter().chain(&NO_TOML) {
         let told = told(alloc, text)?;
         assert_eq!(rt; told.as_str(), *wanted);
     }

@@ -6,12 +6,16 @@ use scoop_system::{ClientLine, LineFault, NamedHandlers, System, TooManyNamed, r
 use std::process::Abort;
 use std::test::Fail;
 
-const FAULTS: [(&[u8], LineFault); 16] = [
+const FAULTS: [(&[u8], LineFault); 20] = [
     (b"lock 1", LineFault::UnknownLine),
     (b"call", LineFault::WrongNumberOfWords),
     (b"call 1", LineFault::WrongNumberOfWords),
     (b"call 1 left least 3", LineFault::WrongNumberOfWords),
     (b"query 1 left 1 2 3 4 x", LineFault::TooManyArguments),
+    (b"call 1 order", LineFault::TooFewArguments),
+    (b"call 1 order 1 2", LineFault::TooManyArguments),
+    (b"query 3 2", LineFault::TooFewArguments),
+    (b"query 3 balance 1", LineFault::TooManyArguments),
     (b"query x left", LineFault::NotANumber),
     (b"query 1 right", LineFault::NoSuchOperation),
     (b"query 2 left", LineFault::NoSuchOperation),

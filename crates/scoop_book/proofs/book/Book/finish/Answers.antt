@@ -1,75 +1,81 @@
-use Rattle.std.proofs.Common.{◌≡◌, ◌++◌, ◌∷◌, [], ap, sym, ◌∙◌, subst, arith}
+use Rattle.std.proofs.Common.{◌≡◌, ◌++◌, ◌∷◌, [], ap, sym, ◌∙◌, subst}
 use Rattle.scoop_message.specs.declared.name.HandlerId.{HandlerId}
 use Rattle.scoop_keeper.specs.Keeper.{IsSame, Stays}
 use Rattle.scoop_keeper.proofs.KeeperLemmas.{is_same_same, stays_same}
 use Rattle.scoop_book.specs.declared.event.Event.TheVariants.{Finish}
 use Rattle.scoop_book.specs.declared.event.Reply.TheVariants.{Finished}
-use Rattle.scoop_book.specs.Moves.{is_handler}
-use Rattle.scoop_book.specs.Books.{BookValue, IsUnfinished, KeepsNew}
-use Rattle.scoop_keeper.specs.Keyed.{IsFirst}
-use Rattle.scoop_book.proofs.BookLemmas.{book_more, book_same, entered, gains, job_refusal, keeper_is, failed_is, may_happen, room_refusal, still_works}
+use Rattle.scoop_book.specs.Books.{BookValue, IsRefused, IsUnfinished, KeepsNew, MayHappen}
+use Rattle.scoop_book.proofs.BookLemmas.{book_more, book_same, entered, gains, job_refusal, keeper_is, failed_is, first_at, no_place_unfinished, no_place_unfinishes, room_left, room_refusal, still_works}
 use Rattle.scoop_book.proofs.book.Book.finish.Goals as goal
 
-pub returns-in_default-reserve-clause-incarnations : goal.returns-in_default-reserve-clause-incarnations
-returns-in_default-reserve-clause-incarnations g c honest =
+pub returns-in_default-clause-incarnations : goal.returns-in_default-clause-incarnations
+returns-in_default-clause-incarnations g c honest =
     subst (λ k. IsSame (g.K.Keeper.incarnations k) (g.K.Keeper.incarnations c.self.inside.handlers.keeper))
     (keeper_is c.self.inside.opening.items c.self.inside.handlers c.self.inside.history.items c.self.inside.limit c.self.inside.failed c.args.self.now
     c.self.view_is) (is_same_same (g.K.Keeper.incarnations c.self.inside.handlers.keeper))
 
-pub returns-in_default-reserve-clause-refused : goal.returns-in_default-reserve-clause-refused
-returns-in_default-reserve-clause-refused g c =
-    subst (IsUnfinished c.args.self.now c.args.done) (sym c.refused-in_default-reserve.ensures.cause)
-    (room_refusal c.args.self.now c.args.done c.self.inside.handlers.handlers c.in-Some.at (ap (λ (x : BookValue g.row.K.Denot). x.handlers) c.self.view_is)
-    (subst (λ (h : HandlerId). IsFirst (is_handler h) c.self.inside.handlers.handlers c.in-Some.at) c.handler-handler.ensures c.in-Some.ensures)
-    (may_happen c.self.inside.opening.items c.self.inside.handlers c.self.inside.history.items c.self.inside.limit c.self.inside.failed c.args.self.now
-    c.self.view_is c.args.done.handler c.in-Some.at c.if-self.false (omega (arith, c.if-len-self.false, c.len.ensures))
-    (subst (λ (h : HandlerId). IsFirst (is_handler h) c.self.inside.handlers.handlers c.in-Some.at) c.handler-handler.ensures c.in-Some.ensures))
+pub returns-in_default-clause-refused : goal.returns-in_default-clause-refused
+returns-in_default-clause-refused g c =
+    subst (IsUnfinished c.args.self.now c.args.done) (sym c.refused-in_default.ensures.cause)
+    (room_refusal c.args.self.now c.args.done c.self.inside.handlers.handlers c.in-Ok.at (ap (λ (x : BookValue g.row.K.Denot). x.handlers) c.self.view_is)
+    (first_at c.self.inside.opening.items c.self.inside.handlers c.self.inside.history.items c.self.inside.limit c.self.inside.failed c.args.self.now
+    c.self.view_is c.args.done.handler c.handler-handler.result c.in-Ok.at c.handler-handler.ensures c.in-Ok.ensures.place)
+    (subst (MayHappen c.args.self.now) c.handler-handler.ensures c.in-Ok.ensures.may)
     c.no_room_to_finish-cause.result c.no_room_to_finish-cause.ensures.stranger c.no_room_to_finish-cause.ensures.named)
 
-pub returns-in_default-reserve-clause-failed : goal.returns-in_default-reserve-clause-failed
-returns-in_default-reserve-clause-failed g c =
-    still_works c.args.self.now c.self.inside.failed c.refused-in_default-reserve.result.cause c.no_room_to_finish-cause.result
+pub returns-in_default-clause-failed : goal.returns-in_default-clause-failed
+returns-in_default-clause-failed g c =
+    still_works c.args.self.now c.self.inside.failed c.refused-in_default.result.cause c.no_room_to_finish-cause.result
     (failed_is c.self.inside.opening.items c.self.inside.handlers c.self.inside.history.items c.self.inside.limit c.self.inside.failed c.args.self.now
-    c.self.view_is) c.refused-in_default-reserve.ensures.cause c.no_room_to_finish-cause.ensures.named
+    c.self.view_is) c.refused-in_default.ensures.cause c.no_room_to_finish-cause.ensures.named
 
-pub returns-in_default-reserve-clause-kept : goal.returns-in_default-reserve-clause-kept
-returns-in_default-reserve-clause-kept g c honest =
+pub returns-in_default-clause-kept : goal.returns-in_default-clause-kept
+returns-in_default-clause-kept g c honest =
     subst (λ k. Stays (g.K.Keeper.handlers k) (g.K.Keeper.handlers c.self.inside.handlers.keeper))
     (keeper_is c.self.inside.opening.items c.self.inside.handlers c.self.inside.history.items c.self.inside.limit c.self.inside.failed c.args.self.now
     c.self.view_is) (stays_same (g.K.Keeper.handlers c.self.inside.handlers.keeper))
 
-pub invariant_of-self-in-Err : goal.invariant_of-self-in-Err
-invariant_of-self-in-Err g c =
+pub returns-in-Err-clause-refused : goal.returns-in-Err-clause-refused
+returns-in-Err-clause-refused g c =
+    subst (IsUnfinished c.args.self.now c.args.done) (sym (c.refused.ensures.cause ∙ c.no_place.ensures))
+    (no_place_unfinished c.args.self.now c.args.done c.in-Err.error c.in-Err.ensures.early
+    (subst (λ (h : HandlerId). IsRefused c.args.self.now h c.in-Err.error) c.handler-handler.ensures c.in-Err.ensures.refused))
+
+pub returns-in-Err-clause-failed : goal.returns-in-Err-clause-failed
+returns-in-Err-clause-failed g c =
+    no_place_unfinishes c.args.self.now.failed c.in-Err.error c.refused.result.cause c.in-Err.ensures.early (c.refused.ensures.cause ∙ c.no_place.ensures)
+
+pub invariant_of-self-in-Err-finish : goal.invariant_of-self-in-Err-finish
+invariant_of-self-in-Err-finish g c =
     book_same c.self.inside.opening.items c.self.inside.handlers c.self.inside.history.items c.self.inside.limit c.self.inside.failed c.args.self.now
-    c.self.view_is g.K.Keeper.handlers g.K.Keeper.is_honest c.finish.new.self c.reserve.new.self.items _ c.self.invariant c.in-Err.ensures.err
+    c.self.view_is g.K.Keeper.handlers g.K.Keeper.is_honest c.finish.new.self c.reserve.new.self.items _ c.self.invariant c.in-Err-finish.ensures.err
     c.reserve.ensures.items c.finish.ensures.held
 
-pub returns-in-Err-clause-incarnations : goal.returns-in-Err-clause-incarnations
-returns-in-Err-clause-incarnations g c honest =
+pub returns-in-Err-finish-clause-incarnations : goal.returns-in-Err-finish-clause-incarnations
+returns-in-Err-finish-clause-incarnations g c honest =
     subst (λ k. IsSame (g.K.Keeper.incarnations k) (g.K.Keeper.incarnations c.finish.new.self.keeper))
     (keeper_is c.self.inside.opening.items c.self.inside.handlers c.self.inside.history.items c.self.inside.limit c.self.inside.failed c.args.self.now
     c.self.view_is) (c.finish.ensures.incarnations honest)
 
-pub returns-in-Err-clause-refused : goal.returns-in-Err-clause-refused
-returns-in-Err-clause-refused g c =
-    subst (IsUnfinished c.args.self.now c.args.done) (sym (c.refused-in-Err.ensures.cause ∙ c.job_refused-cause.ensures.cause))
-    (job_refusal c.args.self.now c.args.done c.self.inside.handlers.handlers c.in-Some.at (ap (λ (x : BookValue g.row.K.Denot). x.handlers) c.self.view_is)
-    (subst (λ (h : HandlerId). IsFirst (is_handler h) c.self.inside.handlers.handlers c.in-Some.at) c.handler-handler.ensures c.in-Some.ensures)
-    (may_happen c.self.inside.opening.items c.self.inside.handlers c.self.inside.history.items c.self.inside.limit c.self.inside.failed c.args.self.now
-    c.self.view_is c.args.done.handler c.in-Some.at c.if-self.false (omega (arith, c.if-len-self.false, c.len.ensures))
-    (subst (λ (h : HandlerId). IsFirst (is_handler h) c.self.inside.handlers.handlers c.in-Some.at) c.handler-handler.ensures c.in-Some.ensures))
-    c.in-Err.error.cause c.in-Err.ensures.stranger)
+pub returns-in-Err-finish-clause-refused : goal.returns-in-Err-finish-clause-refused
+returns-in-Err-finish-clause-refused g c =
+    subst (IsUnfinished c.args.self.now c.args.done) (sym (c.refused-in-Err-finish.ensures.cause ∙ c.job_refused-cause.ensures.cause))
+    (job_refusal c.args.self.now c.args.done c.self.inside.handlers.handlers c.in-Ok.at (ap (λ (x : BookValue g.row.K.Denot). x.handlers) c.self.view_is)
+    (first_at c.self.inside.opening.items c.self.inside.handlers c.self.inside.history.items c.self.inside.limit c.self.inside.failed c.args.self.now
+    c.self.view_is c.args.done.handler c.handler-handler.result c.in-Ok.at c.handler-handler.ensures c.in-Ok.ensures.place)
+    (subst (MayHappen c.args.self.now) c.handler-handler.ensures c.in-Ok.ensures.may)
+    c.in-Err-finish.error.cause c.in-Err-finish.ensures.stranger)
 
-pub returns-in-Err-clause-kept : goal.returns-in-Err-clause-kept
-returns-in-Err-clause-kept g c honest =
+pub returns-in-Err-finish-clause-kept : goal.returns-in-Err-finish-clause-kept
+returns-in-Err-finish-clause-kept g c honest =
     subst (λ k. Stays (g.K.Keeper.handlers k) (g.K.Keeper.handlers c.finish.new.self.keeper))
     (keeper_is c.self.inside.opening.items c.self.inside.handlers c.self.inside.history.items c.self.inside.limit c.self.inside.failed c.args.self.now
-    c.self.view_is) (c.in-Err.ensures.kept honest)
+    c.self.view_is) (c.in-Err-finish.ensures.kept honest)
 
-pub returns-in-Err-clause-sound : goal.returns-in-Err-clause-sound
-returns-in-Err-clause-sound g c =
+pub returns-in-Err-finish-clause-sound : goal.returns-in-Err-finish-clause-sound
+returns-in-Err-finish-clause-sound g c =
     book_same c.self.inside.opening.items c.self.inside.handlers c.self.inside.history.items c.self.inside.limit c.self.inside.failed c.args.self.now
-    c.self.view_is g.K.Keeper.handlers g.K.Keeper.is_honest c.finish.new.self c.reserve.new.self.items _ c.self.invariant c.in-Err.ensures.err
+    c.self.view_is g.K.Keeper.handlers g.K.Keeper.is_honest c.finish.new.self c.reserve.new.self.items _ c.self.invariant c.in-Err-finish.ensures.err
     c.reserve.ensures.items c.finish.ensures.held
 
 pub returns-clause-stored : goal.returns-clause-stored
@@ -98,7 +104,8 @@ invariant_of-self-2 g c =
     (Finished c.in-Ok-finish.ran) c.finished-reply.result
     (subst (λ (h : HandlerId). c.enter.new.history.items ≡ c.reserve.new.self.items ++ (c.args.pass, Finish h, c.finished-reply.result) ∷ [])
     c.handler-handler.ensures c.enter.ensures) c.reserve.ensures.items c.finished-reply.ensures)
-    g.K.Keeper.handlers g.K.Keeper.is_honest c.self.invariant.replays (omega (arith, c.if-len-self.false, c.len.ensures)) c.finish.ensures.held
+    g.K.Keeper.handlers g.K.Keeper.is_honest c.self.invariant.replays (room_left c.self.inside.opening.items c.self.inside.handlers c.self.inside.history.items c.self.inside.limit c.self.inside.failed c.args.self.now
+    c.self.view_is c.handler-handler.result c.in-Ok.ensures.may) c.finish.ensures.held
 
 pub returns-clause-gains : goal.returns-clause-gains
 returns-clause-gains g c =
@@ -118,4 +125,10 @@ returns-clause-sound g c =
     (Finished c.in-Ok-finish.ran) c.finished-reply.result
     (subst (λ (h : HandlerId). c.enter.new.history.items ≡ c.reserve.new.self.items ++ (c.args.pass, Finish h, c.finished-reply.result) ∷ [])
     c.handler-handler.ensures c.enter.ensures) c.reserve.ensures.items c.finished-reply.ensures)
-    g.K.Keeper.handlers g.K.Keeper.is_honest c.self.invariant.replays (omega (arith, c.if-len-self.false, c.len.ensures)) c.finish.ensures.held
+    g.K.Keeper.handlers g.K.Keeper.is_honest c.self.invariant.replays (room_left c.self.inside.opening.items c.self.inside.handlers c.self.inside.history.items c.self.inside.limit c.self.inside.failed c.args.self.now
+    c.self.view_is c.handler-handler.result c.in-Ok.ensures.may) c.finish.ensures.held
+
+pub returns-in-Err-finish-clause-honest : goal.returns-in-Err-finish-clause-honest
+returns-in-Err-finish-clause-honest g c honest = subst (λ k. g.K.Keeper.is_honest k)
+    (keeper_is c.self.inside.opening.items c.self.inside.handlers c.self.inside.history.items c.self.inside.limit c.self.inside.failed c.args.self.now
+    c.self.view_is) (c.finish.ensures.honest honest)

@@ -1,19 +1,16 @@
-use Rattle.std.proofs.Common.{refl, ap, sym, ◌∙◌, subst, arith}
+use Rattle.std.proofs.Common.{refl, ap, sym, ◌∙◌, subst}
 use Rattle.scoop_message.specs.declared.name.HandlerId.{HandlerId}
 use Rattle.scoop_keeper.specs.Keeper.{IsSame, Stays}
 use Rattle.scoop_keeper.proofs.KeeperLemmas.{stays_same}
 use Rattle.scoop_book.specs.declared.event.Event.{Event}
 use Rattle.scoop_book.specs.declared.event.Reply.TheVariants.{Heard}
-use Rattle.scoop_book.specs.Moves.{Moves, handler_at, is_handler}
-use Rattle.scoop_keeper.specs.Keyed.{IsFirst}
-use Rattle.scoop_book.proofs.BookLemmas.{book_more, book_same, entered, gains, keeper_is, may_happen, put_refusal}
+use Rattle.scoop_book.specs.Moves.{Moves, handler_at}
+use Rattle.scoop_book.specs.Books.{KeepsNew, MayHappen}
+use Rattle.scoop_book.proofs.BookLemmas.{book_more, book_same, entered, gains, keeper_is, put_refusal, room_left}
 use Rattle.scoop_book.proofs.book.Book.step.Goals as goal
 
 pub returns-in_default-reserve-clause-refused : goal.returns-in_default-reserve-clause-refused
-returns-in_default-reserve-clause-refused g c = (may_happen c.self.inside.opening.items c.self.inside.handlers c.self.inside.history.items c.self.inside.limit
-    c.self.inside.failed c.args.self.now c.self.view_is (handler_at c.args.event) c.in-Some.at c.if-self.false
-    (omega (arith, c.if-len-self.false, c.len.ensures)) (subst (λ (h : HandlerId). IsFirst (is_handler h) c.self.inside.handlers.handlers c.in-Some.at)
-    (c.handler.ensures ∙ sym (ap handler_at c.in-Hear.is)) c.in-Some.ensures))
+returns-in_default-reserve-clause-refused g c = subst (MayHappen c.args.self.now) (c.handler.ensures ∙ sym (ap handler_at c.in-Hear.is)) c.in_ok-at.ensures.may
 
 pub returns-in_default-reserve-clause-kept : goal.returns-in_default-reserve-clause-kept
 returns-in_default-reserve-clause-kept g c honest =
@@ -36,10 +33,7 @@ returns-in-Err-clause-incarnations g c honest =
 pub returns-in-Err-clause-refused : goal.returns-in-Err-clause-refused
 returns-in-Err-clause-refused g c =
     put_refusal c.args.self.now (handler_at c.args.event) c.put_refused.result c.put_refused.ensures.named
-    (may_happen c.self.inside.opening.items c.self.inside.handlers c.self.inside.history.items c.self.inside.limit c.self.inside.failed c.args.self.now
-    c.self.view_is (handler_at c.args.event) c.in-Some.at c.if-self.false (omega (arith, c.if-len-self.false, c.len.ensures))
-    (subst (λ (h : HandlerId). IsFirst (is_handler h) c.self.inside.handlers.handlers c.in-Some.at)
-    (c.handler.ensures ∙ sym (ap handler_at c.in-Hear.is)) c.in-Some.ensures))
+    (subst (MayHappen c.args.self.now) (c.handler.ensures ∙ sym (ap handler_at c.in-Hear.is)) c.in_ok-at.ensures.may)
 
 pub returns-in-Err-clause-kept : goal.returns-in-Err-clause-kept
 returns-in-Err-clause-kept g c honest =
@@ -66,7 +60,8 @@ invariant_of-self-2 g c =
     (subst (λ (e : Event). Moves e (Heard c.in-Ok-hear.heard) c.self.inside.handlers.handlers c.hear.new.self.handlers)
     (sym c.in-Hear.is) c.in-Ok-hear.ensures.moves) (entered c.self.inside.history.items c.reserve.new.self.items c.enter.new.history.items c.args.pass
     c.args.event (Heard c.in-Ok-hear.heard) (Heard c.in-Ok-hear.heard) c.enter.ensures c.reserve.ensures.items refl)
-    g.K.Keeper.handlers g.K.Keeper.is_honest c.self.invariant.replays (omega (arith, c.if-len-self.false, c.len.ensures)) c.hear.ensures.held
+    g.K.Keeper.handlers g.K.Keeper.is_honest c.self.invariant.replays (room_left c.self.inside.opening.items c.self.inside.handlers c.self.inside.history.items c.self.inside.limit c.self.inside.failed c.args.self.now
+    c.self.view_is c.handler.result c.in_ok-at.ensures.may) c.hear.ensures.held
 
 pub returns-clause-gains : goal.returns-clause-gains
 returns-clause-gains g c =
@@ -83,4 +78,25 @@ returns-clause-sound g c =
     (subst (λ (e : Event). Moves e (Heard c.in-Ok-hear.heard) c.self.inside.handlers.handlers c.hear.new.self.handlers)
     (sym c.in-Hear.is) c.in-Ok-hear.ensures.moves) (entered c.self.inside.history.items c.reserve.new.self.items c.enter.new.history.items c.args.pass
     c.args.event (Heard c.in-Ok-hear.heard) (Heard c.in-Ok-hear.heard) c.enter.ensures c.reserve.ensures.items refl)
-    g.K.Keeper.handlers g.K.Keeper.is_honest c.self.invariant.replays (omega (arith, c.if-len-self.false, c.len.ensures)) c.hear.ensures.held
+    g.K.Keeper.handlers g.K.Keeper.is_honest c.self.invariant.replays (room_left c.self.inside.opening.items c.self.inside.handlers c.self.inside.history.items c.self.inside.limit c.self.inside.failed c.args.self.now
+    c.self.view_is c.handler.result c.in_ok-at.ensures.may) c.hear.ensures.held
+
+pub returns-in-Err-clause-honest : goal.returns-in-Err-clause-honest
+returns-in-Err-clause-honest g c honest = subst (λ k. g.K.Keeper.is_honest k)
+    (keeper_is c.self.inside.opening.items c.self.inside.handlers c.self.inside.history.items c.self.inside.limit c.self.inside.failed c.args.self.now
+    c.self.view_is) (c.hear.ensures.honest honest)
+
+pub returns-clause-honest : goal.returns-clause-honest
+returns-clause-honest g c honest = subst (λ k. g.K.Keeper.is_honest k)
+    (keeper_is c.self.inside.opening.items c.self.inside.handlers c.self.inside.history.items c.self.inside.limit c.self.inside.failed c.args.self.now
+    c.self.view_is) (c.hear.ensures.honest honest)
+
+pub returns-clause-stored : goal.returns-clause-stored
+returns-clause-stored g c honest =
+    subst (λ k. KeepsNew (handler_at c.args.event) c.hear.new.self.handlers (g.K.Keeper.handlers k) (g.K.Keeper.handlers c.hear.new.self.keeper))
+    (keeper_is c.self.inside.opening.items c.self.inside.handlers c.self.inside.history.items c.self.inside.limit c.self.inside.failed c.args.self.now
+    c.self.view_is) (subst (λ (h : HandlerId). KeepsNew h c.hear.new.self.handlers (g.K.Keeper.handlers c.self.inside.handlers.keeper) (g.K.Keeper.handlers c.hear.new.self.keeper))
+    (sym (ap handler_at c.in-Hear.is)) (c.in-Ok-hear.ensures.stored honest))
+
+pub returns-clause-may : goal.returns-clause-may
+returns-clause-may g c = subst (MayHappen c.args.self.now) (c.handler.ensures ∙ sym (ap handler_at c.in-Hear.is)) c.in_ok-at.ensures.may

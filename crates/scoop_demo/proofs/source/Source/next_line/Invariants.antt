@@ -1,7 +1,7 @@
 use Rattle.std.proofs.Common.{◌-◌, length}
 use Rattle.std.specs.Io.KnownBytes.{Consumes, Keeps}
 use Rattle.scoop_demo.specs.Line.{line_limit, IsWithin}
-use Rattle.scoop_demo.proofs.LineLemmas.{HasNoNewline}
+use Rattle.scoop_demo.specs.Piece.{HasNoNewline}
 use Rattle.scoop_demo.proofs.source.Source.next_line.Given as goal
 
 abbrev pub invariant-loop-line : goal.invariant-loop-line

@@ -8,12 +8,12 @@ use Rattle.scoop_keeper.proofs.KeeperLemmas.{is_same_same, stays_same}
 use Rattle.scoop_world.specs.Kept.{Stores}
 use Rattle.scoop_world.proofs.site.Site.hear.Goals as goal
 
-pub hear_and_store-requires : goal.hear_and_store-requires
-hear_and_store-requires g c = λ known honest.
+pub hear_beside-told-requires-clause-stored : goal.hear_beside-told-requires-clause-stored
+hear_beside-told-requires-clause-stored g c = λ known honest.
     subst (λ (s : Site). stored_of (state_at c.args.keeper.now (number_of s).0) ≡ Holds s.stored) (sym c.self.view_is) (ap stored_of c.requires.state)
 
 pub returns-clause-stored : goal.returns-clause-stored
 returns-clause-stored g c =
     let core : c.self.inside.handler ≡ c.args.self.now.core = ap (λ (s : Site). s.core) c.self.view_is in
-    subst (λ (k : Core). Stores c.args.keeper.now c.hear_and_store.new.keeper (hear k.state c.args.message.now).0) core
-    (record { states = c.in-Ok.ensures.stored tt; incarnations = c.hear_and_store.ensures.incarnations tt })
+    subst (λ (k : Core). Stores c.args.keeper.now c.hear_beside-told.new.keeper (hear k.state c.args.message.now).0) core
+    (record { states = c.in-Ok.ensures.stored tt; incarnations = c.hear_beside-told.ensures.incarnations tt })

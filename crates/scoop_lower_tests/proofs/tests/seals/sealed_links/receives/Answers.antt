@@ -7,7 +7,8 @@ stays_full : (forged : List (List ℕ)) → count_after (2 ^ 64 - 1) forged ≡ 
 stays_full [] = refl
 stays_full (d ∷ forged) = stays_full forged
 
-opens_full : (key : List ℕ) (before after : Option Told) (refused now : ℕ) (given : List (List ℕ)) → Opens key before after refused now given → refused ≡ 2 ^ 64 - 1 → now ≡ 2 ^ 64 - 1
+opens_full : (key : List ℕ) (before after : Option Told) (refused now : ℕ) (given : List (List ℕ))
+    → Opens key before after refused now given → refused ≡ 2 ^ 64 - 1 → now ≡ 2 ^ 64 - 1
 opens_full key before after refused now given opens full =
     opens.counted ∙ (ap (λ k. count_after k opens.forged) full ∙ stays_full opens.forged)
 

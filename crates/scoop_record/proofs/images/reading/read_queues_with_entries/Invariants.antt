@@ -2,7 +2,7 @@ use Rattle.std.proofs.Common.{◌≡◌, ◌≤◌, ◌++◌, length, drop}
 use Rattle.std.specs.List.{flat_map, AllByRecursion}
 use Rattle.scoop_record.specs.Image.{queue_bytes}
 use Rattle.scoop_record.specs.Range.{BareInRange, EntriesInRange}
-use Rattle.scoop_record.proofs.images.reading.queues_with_entries_from.Given as goal
+use Rattle.scoop_record.proofs.images.reading.read_queues_with_entries.Given as goal
 
 abbrev pub invariant-loop-i : goal.invariant-loop-i
 invariant-loop-i g l = record {

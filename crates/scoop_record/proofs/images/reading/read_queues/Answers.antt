@@ -1,11 +1,11 @@
-use Rattle.std.proofs.Common.{◌+◌, ◌-◌, List, ℕ, drop, take, length, sym, ap, subst, ◌∙◌, arith}
+use Rattle.std.proofs.Common.{◌+◌, ◌-◌, List, ℕ, drop, take, length, refl, sym, ap, subst, ◌∙◌, arith}
 use Rattle.std.specs.List.{flat_map}
 use Rattle.std.proofs.lemmas.List.{length-drop, take_rest}
 use Rattle.scoop_queue.specs.Sound.{IsQueues}
 use Rattle.scoop_record.specs.Image.{bare_bytes, entries_bytes}
 use Rattle.scoop_record.specs.Reading.{IfHasQueue}
 use Rattle.scoop_record.proofs.Queues.{grown-at, grown-bare, grown-count, grown-entries, grown-heads, grown-place, grown-row, next_queue, nothing_left, within}
-use Rattle.scoop_record.proofs.images.reading.queues_from.Goals as goal
+use Rattle.scoop_record.proofs.images.reading.read_queues.Goals as goal
 
 pub loop-i-preserved : goal.loop-i-preserved
 loop-i-preserved g c =
@@ -64,3 +64,16 @@ returns-then-entry_at-entries-clause-bad g c = λ _ qs sound are.
     let left = nothing_left c.loop-i.queues qs c.args.count c.args.heads.now row c.loop-i.head_at c.loop-i.entry_at
     (omega (arith, inv.count)) are inv.bare inv.ranges inv.heads_read inv.row_read in
     omega (arith, ap length left.2, length-drop c.loop-i.entry_at row, inv.row_in, c.if-entry_at-entries.true)
+
+pub loop-i-init : goal.loop-i-init
+loop-i-init g c = rw c.requires (record {
+  count = refl;
+  bare = tt;
+  ranges = tt;
+  head_place = refl;
+  row_place = refl;
+  heads_read = refl;
+  row_read = refl;
+  head_in = omega arith;
+  row_in = omega arith;
+})

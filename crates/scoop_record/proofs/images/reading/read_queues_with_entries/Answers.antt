@@ -1,4 +1,4 @@
-use Rattle.std.proofs.Common.{◌+◌, ◌-◌, ◌++◌, List, ℕ, drop, take, length, sym, ap, subst, ◌∙◌, arith}
+use Rattle.std.proofs.Common.{◌+◌, ◌-◌, ◌++◌, List, ℕ, drop, take, length, refl, sym, ap, subst, ◌∙◌, arith}
 use Rattle.std.specs.List.{flat_map}
 use Rattle.std.proofs.lemmas.List.{drop-drop, length-drop, take_rest}
 use Rattle.scoop_queue.specs.Sound.{IsQueues}
@@ -6,7 +6,7 @@ use Rattle.scoop_record.specs.Image.{entries_bytes, queue_bytes}
 use Rattle.scoop_record.specs.Reading.{IfHasQueue}
 use Rattle.scoop_record.proofs.Queues.{grown-bare, grown-count, grown-entries, within}
 use Rattle.scoop_record.proofs.WithEntries.{begins_bare, entries_follow, has_head, next_whole, no_more, whole_bytes, whole_place}
-use Rattle.scoop_record.proofs.images.reading.queues_with_entries_from.Goals as goal
+use Rattle.scoop_record.proofs.images.reading.read_queues_with_entries.Goals as goal
 
 pub loop-i-preserved : goal.loop-i-preserved
 loop-i-preserved g c =
@@ -60,3 +60,13 @@ returns-then-at-bytes-clause-bad g c = λ _ qs sound are.
     let inv = c.loop-i.invariant in
     let none = no_more c.loop-i.queues qs inv.bare are.bare inv.ranges are.entries bytes at inv.read are.bytes_are (omega (arith, inv.count, are.count_is)) in
     omega (arith, ap length none, length-drop at bytes, inv.inside, c.if-at-bytes.true)
+
+pub loop-i-init : goal.loop-i-init
+loop-i-init g c = rw c.requires (record {
+  count = refl;
+  bare = tt;
+  ranges = tt;
+  place = refl;
+  read = refl;
+  inside = omega arith;
+})

@@ -1,0 +1,104 @@
+//! What a user is told where a node or a client ends early, or a store isn't had.
+
+use crate::failure::Failure;
+use clap::ArgMatches;
+use scoop_files::FileError;
+use scoop_message::OutOfMemory;
+use scoop_runtime::{ClientStop, RuntimeError};
+use std::net::SocketAddr;
+
+/// Why a node or a client ends early.
+#[derive(Clone, Copy)]
+pub enum End {
+    /// Its store isn't had.
+    File(FileError),
+    /// It doesn't begin or go on.
+    Runtime(RuntimeError),
+    /// A client's lines are done up to one of them.
+    Lines(ClientStop),
+}
+
+impl From<FileError> for End {
+    fn from(error: FileError) -> End {
+        match error {
+            FileError::Store(refusal) => End::Runtime(RuntimeError::from(refusal)),
+            error => End::File(error),
+        }
+    }
+}
+
+impl From<RuntimeError> for End {
+    fn from(error: RuntimeError) -> End {
+        End::Runtime(error)
+    }
+}
+
+impl From<OutOfMemory> for End {
+    fn from(error: OutOfMemory) -> End {
+        End::Runtime(RuntimeError::from(error))
+    }
+}
+
+impl From<ClientStop> for End {
+    fn from(stop: ClientStop) -> End {
+        End::Lines(stop)
+    }
+}
+
+/// The file of the store that the command line names, if it names one.
+pub fn store_path<'a>(given: &'a ArgMatches<'_>) -> Option<&'a str> {
+    match given.get_str("new") {
+        Some(path) => Some(path),
+        None => given.get_str("store"),
+    }
+}
+
+/// Tells why a node or a client with this address ends, and behind it where to look and what to do.
+pub fn tell_end(
+    rt: &HostRuntime,
+    given: &ArgMatches<'_>,
+    address: SocketAddr,
+    end: End,
+) -> Failure {
+    match end {
+        End::File(error) => tell_file(rt, given, error),
+        End::Runtime(error) => tell_runtime(rt, given, address, error),
+        End::Lines(stop) => {
+            let told = tell_runtime(rt, given, address, stop.error);
+            let _ = eprintln!(rt; "scoop: {}", stop.progress);
+            told
+        }
+    }
+}
+
+/// Tells why a store in a file isn't had, and behind it which file it is and what to do.
+pub fn tell_file(rt: &HostRuntime, given: &ArgMatches<'_>, error: FileError) -> Failure {
+    let _ = eprintln!(rt; "scoop: {error}");
+    tell_advice(rt, given, error.advice());
+    Failure::Told(error.status())
+}
+
+fn tell_runtime(
+    rt: &HostRuntime,
+    given: &ArgMatches<'_>,
+    address: SocketAddr,
+    error: RuntimeError,
+) -> Failure {
+    let _ = eprintln!(rt; "scoop: {error}");
+    let advice = error.advice();
+    if error.is_of_store() {
+        tell_advice(rt, given, advice);
+    } else if !advice.is_empty() {
+        let _ = eprintln!(rt; "scoop: {address}: {advice}");
+    }
+    Failure::Told(error.status())
+}
+
+// Tells what to do with the store.
+fn tell_advice(rt: &HostRuntime, given: &ArgMatches<'_>, advice: &str) {
+    if let Some(path) = store_path(given) {
+        if !advice.is_empty() {
+            let _ = eprintln!(rt; "scoop: {path}: {advice}");
+        }
+    }
+}

@@ -1,0 +1,37 @@
+-- What is told of a store in a file that isn't had: the error, and behind it what is wrong and what to do.
+use Rattle.std.specs.Prelude.{ℕ, List, [], ◌++◌, codes}
+use Rattle.std.specs.Fmt.{decimal}
+use Rattle.scoop_keeper.specs.Text.{error_text as keeper_text}
+use Rattle.scoop_keeper.specs.declared.keeper.KeeperError.{KeeperError}
+use Rattle.scoop_keeper.specs.declared.keeper.KeeperError.TheVariants as keeper
+use Rattle.scoop_files.specs.declared.error.FileError.{FileError}
+use Rattle.scoop_files.specs.declared.error.FileError.TheVariants.{NoFile, Taken, InUse, Unopened, Foreign, NoStore, NoIncarnation, Unclosed, Store}
+
+abbrev pub refusal_text : KeeperError → List ℕ
+refusal_text keeper.OutOfMemory = codes "out of memory"
+refusal_text keeper.Refused = codes "store: " ++ keeper_text keeper.Refused
+refusal_text (keeper.BadImage h) = codes "store: " ++ keeper_text (keeper.BadImage h)
+refusal_text keeper.IncarnationsSpent = codes "store: " ++ keeper_text keeper.IncarnationsSpent
+refusal_text keeper.WrongSchema = codes "store: " ++ keeper_text keeper.WrongSchema
+
+abbrev pub error_text : FileError → List ℕ
+error_text NoFile = codes "store: Refused"
+error_text Taken = codes "store: Refused"
+error_text InUse = codes "store: Refused"
+error_text Unopened = codes "store: Refused"
+error_text Foreign = codes "store: Refused"
+error_text NoStore = codes "store: Refused"
+error_text Unclosed = codes "store: Refused"
+error_text (NoIncarnation c) = codes "store: NoIncarnation " ++ decimal c.0
+error_text (Store refusal) = refusal_text refusal
+
+abbrev pub advice_text : FileError → List ℕ
+advice_text NoFile = codes "there is no such file: --new makes one, for who never ran"
+advice_text Taken = codes "there is something in this file: go on with --store where it is the right store, else name a new file"
+advice_text InUse = codes "another program has it open: end that one"
+advice_text Unopened = codes "it can't be opened or made: see whether its folder is there, and who may read and write it and its -wal"
+advice_text Foreign = codes "it is no store: name another file"
+advice_text NoStore = codes "it has no tables of a store: name another file, or, where a kill came as it was made, make it by --new"
+advice_text (NoIncarnation c) = codes "this client never ran with it: name the client's own store, or make one by --new where the client never ran"
+advice_text Unclosed = codes "its -wal could not be copied into it: keep both, which have all that was answered, and go on with --store"
+advice_text (Store _) = []

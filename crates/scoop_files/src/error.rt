@@ -1,0 +1,101 @@
+//! Why a store in a file isn't had.
+
+ghost use Rattle.std.specs.Prelude.{◌≡◌};
+ghost use Rattle.scoop_files.specs.Errors.{advice_text};
+
+use scoop_keeper::KeeperError;
+use scoop_message::ClientId;
+use std::error::Error;
+use std::fmt;
+
+// The status with which a program ends whose store isn't had.
+const STATUS: u8 = 3;
+
+/// Why a store in a file isn't had. Printed as what the program tells behind `scoop: `.
+#[derive(Clone, Copy, Debug, PartialEq, Eq)]
+pub enum FileError {
+    /// There is no such file to go on with.
+    NoFile,
+    /// The file of a new store has something already.
+    Taken,
+    /// Another program has the file open.
+    InUse,
+    /// The file, or its log beside it, can't be opened or made.
+    Unopened,
+    /// The file is no database.
+    Foreign,
+    /// The file has no tables of a store.
+    NoStore,
+    /// The store has no incarnation of this client.
+    NoIncarnation(ClientId),
+    /// The log can't be copied into the file.
+    Unclosed,
+    /// This refusal of the store.
+    Store(KeeperError),
+}
+
+impl FileError {
+    /// The status with which the program ends: 3, whatever it is.
+    pub fn status(self) -> u8
+        ensures { result ≡ 3 }
+    {
+        STATUS
+    }
+
+    /// What is wrong with the file, and what to do. Empty for a refusal of the store, which has its own words.
+    pub fn advice(self) -> &'static str
+        ensures { result.now ≡ advice_text self }
+    {
+        match self {
+            FileError::NoFile => "there is no such file: --new makes one, for who never ran",
+            FileError::Taken => {
+                "there is something in this file: go on with --store where it is the right store, else name a new file"
+            }
+            FileError::InUse => "another program has it open: end that one",
+            FileError::Unopened => {
+                "it can't be opened or made: see whether its folder is there, and who may read and write it and its -wal"
+            }
+            FileError::Foreign => "it is no store: name another file",
+            FileError::NoStore => {
+                "it has no tables of a store: name another file, or, where a kill came as it was made, make it by --new"
+            }
+            FileError::NoIncarnation(_) => {
+                "this client never ran with it: name the client's own store, or make one by --new where the client never ran"
+            }
+            FileError::Unclosed => {
+                "its -wal could not be copied into it: keep both, which have all that was answered, and go on with --store"
+            }
+            FileError::Store(_) => "",
+        }
+    }
+}
+
+impl fmt::Display for FileError {
+    ghost use Rattle.std.specs.Prelude.{Some};
+    ghost use Rattle.scoop_files.specs.Errors.{error_text};
+
+    ghost output = { λ e. Some (error_text e) };
+
+    fn fmt<W: fmt::Write>(&self, f: &mut fmt::Formatter<W>) -> fmt::Result {
+        match self {
+            FileError::NoFile
+            | FileError::Taken
+            | FileError::InUse
+            | FileError::Unopened
+            | FileError::Foreign
+            | FileError::NoStore
+            | FileError::Unclosed => f.write_str("store: Refused"),
+            FileError::NoIncarnation(client) => write!(f, "store: NoIncarnation {client}"),
+            FileError::Store(KeeperError::OutOfMemory) => f.write_str("out of memory"),
+            FileError::Store(refusal) => write!(f, "store: {refusal}"),
+        }
+    }
+}
+
+impl Error for FileError {}
+
+impl From<KeeperError> for FileError {
+    fn from(refusal: KeeperError) -> FileError {
+        FileError::Store(refusal)
+    }
+}

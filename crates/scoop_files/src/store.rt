@@ -1,0 +1,117 @@
+//! Stores that are in files.
+
+use crate::error::FileError;
+use scoop_keeper::KeeperError;
+use scoop_message::ClientId;
+use scoop_record::{Store, adopt_tables};
+use sqlite::{Alter, Connection, Error, ErrorCode, File, FileStore, params};
+use std::alloc::Global;
+use std::fs;
+
+/// A store in a file, with its log beside it.
+pub type FiledStore = Store<FileStore<File>>;
+
+/// A new store in the file, which is made where there is none. `Taken` where the file has anything.
+pub fn create(rt: &HostRuntime, path: &str) -> Result<FiledStore, FileError> {
+    let connection = open(rt, path)?;
+    match Store::create(rt.alloc(), connection) {
+        Ok(store) => Ok(store),
+        Err(refusal) => Err(refused(refusal, FileError::Taken)),
+    }
+}
+
+/// The store that is in the file. Where there is no file, none is made. `NoStore` where it has other tables.
+pub fn adopt(rt: &HostRuntime, path: &str) -> Result<FiledStore, FileError> {
+    let connection = open_old(rt, path)?;
+    match Store::adopt(rt.alloc(), connection) {
+        Ok(store) => Ok(store),
+        Err(refusal) => Err(refused(refusal, FileError::NoStore)),
+    }
+}
+
+/// The store that is in the file, where it has an incarnation of this client; else `NoIncarnation`.
+pub fn adopt_for(rt: &HostRuntime, path: &str, client: ClientId) -> Result<FiledStore, FileError> {
+    let mut connection = open_old(rt, path)?;
+    match require_client(rt.alloc(), &mut connection, client) {
+        Ok(()) => {}
+        Err(error) => return Err(error),
+    }
+    match Store::adopt(rt.alloc(), connection) {
+        Ok(store) => Ok(store),
+        Err(refusal) => Err(refused(refusal, FileError::NoStore)),
+    }
+}
+
+// Makes the tables those of this version, and looks for an incarnation of the client.
+fn require_client<S: Alter>(
+    alloc: Global,
+    connection: &mut Connection<S>,
+    client: ClientId,
+) -> Result<(), FileError> {
+    match adopt_tables(alloc, connection) {
+        Ok(()) => {}
+        Err(refusal) => return Err(refused(refusal, FileError::NoStore)),
+    }
+    match has_incarnation(connection, client) {
+        Ok(true) => Ok(()),
+        Ok(false) => Err(FileError::NoIncarnation(client)),
+        Err(error) => Err(error),
+    }
+}
+
+// Whether the client has an incarnation there.
+fn has_incarnation<S: Alter>(
+    connection: &mut Connection<S>,
+    client: ClientId,
+) -> Result<bool, FileError> {
+    match connection.query_all("SELECT inc FROM clients WHERE c = ?1", params![client.0]) {
+        Ok(rows) => Ok(!rows.is_empty()),
+        Err(error) => Err(unread(error, FileError::Store(KeeperError::Refused))),
+    }
+}
+
+/// Copies the log into the file, so that the file is whole without it. `Unclosed` where that is refused: then both
+/// together are the store.
+pub fn close(store: FiledStore) -> Result<(), FileError> {
+    match store.into_connection().close() {
+        Ok(()) => Ok(()),
+        Err(error) => Err(unread(error, FileError::Unclosed)),
+    }
+}
+
+// Opens the file as a database, where it is there.
+fn open_old(rt: &HostRuntime, path: &str) -> Result<Connection<FileStore<File>>, FileError> {
+    match fs::exists(rt, path) {
+        Ok(true) => open(rt, path),
+        Ok(false) => Err(FileError::NoFile),
+        Err(_) => Err(FileError::Unopened),
+    }
+}
+
+// Opens the file as a database.
+fn open(rt: &HostRuntime, path: &str) -> Result<Connection<FileStore<File>>, FileError> {
+    match Connection::open(rt, path) {
+        Ok(connection) => Ok(connection),
+        Err(error) => Err(unread(error, FileError::Unopened)),
+    }
+}
+
+// Why a store isn't taken, where a refusal without a name means this.
+fn refused(refusal: KeeperError, meaning: FileError) -> FileError {
+    match refusal {
+        KeeperError::Refused => meaning,
+        refusal => FileError::Store(refusal),
+    }
+}
+
+// What an error of the database is, where one of the medium means this.
+fn unread(error: Error, meaning: FileError) -> FileError {
+    match error {
+        Error::SqliteFailure(ErrorCode::OutOfMemory) => FileError::Store(KeeperError::OutOfMemory),
+        Error::SqliteFailure(ErrorCode::DatabaseBusy) => FileError::InUse,
+        Error::SqliteFailure(ErrorCode::NotADatabase | ErrorCode::DatabaseCorrupt) => {
+            FileError::Foreign
+        }
+        _ => meaning,
+    }
+}

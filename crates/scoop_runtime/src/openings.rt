@@ -1,0 +1,98 @@
+//! What a record has of a node's handlers before the node opens.
+
+ghost use Rattle.std.specs.Prelude.{◌≡◌, IfOk, IfSome, OnOk, Some, None, Ok};
+ghost use Rattle.std.specs.List.{AllByRecursion};
+ghost use Rattle.scoop_handler.specs.State.{new_state};
+ghost use Rattle.scoop_keeper.specs.Keeper.{IsTheOne, Keeps, Missing, Stays, stored_of};
+ghost use Rattle.scoop_runtime.specs.Records.{HasState, LacksState};
+
+use crate::error::RuntimeError;
+use crate::plan::{Member, NodePlan};
+use scoop_handler::Handler;
+use scoop_keeper::{Keeper, KeeperError};
+use scoop_message::HandlerId;
+use scoop_object::{Class, Table};
+use scoop_show::ShowError;
+use std::alloc::Global;
+
+// The first of the handlers of which the keeper has no state. Those behind it are asked for first.
+fn missing_handler<K: Keeper<Global>>(
+    handlers: &[HandlerId],
+    keeper: &mut K,
+) -> Result<Option<HandlerId>, KeeperError>
+    ensures none { K.is_honest keeper.new → result ≡ Ok None → AllByRecursion (HasState (K.handlers keeper.old)) handlers.now }
+    ensures some { K.is_honest keeper.new → IfOk result (λ found. IfSome found (LacksState (K.handlers keeper.old))) }
+    ensures handlers { K.is_honest keeper.new → Stays (K.handlers keeper.old) (K.handlers keeper.new) }
+    ensures honest { K.is_honest keeper.new → K.is_honest keeper.old }
+{
+    match handlers {
+        [] => Ok(None),
+        [first, rest @ ..] => {
+            let later = missing_handler(rest, keeper)?;
+            match keeper.load_handler(*first)? {
+                Some(_) => Ok(later),
+                None => Ok(Some(*first)),
+            }
+        }
+    }
+}
+
+/// Refuses a record that has nothing of a handler of the node: `NoHandler`, or what the keeper refuses. It is another
+/// party's, or was left before the node was ready.
+pub(crate) fn require_handlers<K: Keeper<Global>>(
+    plan: &NodePlan,
+    keeper: &mut K,
+) -> Result<(), RuntimeError>
+    ensures all { K.is_honest keeper.new → OnOk result (AllByRecursion (HasState (K.handlers keeper.old)) plan.now.numbers.items) }
+{
+    match missing_handler(&plan.numbers, keeper) {
+        Ok(None) => Ok(()),
+        Ok(Some(handler)) => Err(RuntimeError::NoHandler(handler)),
+        Err(refusal) => Err(RuntimeError::from(refusal)),
+    }
+}
+
+// Stores the state of a handler that nobody has greeted yet.
+fn put_opening<K: Keeper<Global>>(
+    alloc: Global,
+    opening: (HandlerId, Class, Table),
+    keeper: &mut K,
+) -> Result<(), RuntimeError>
+    ensures { K.is_honest keeper.new → OnOk result (Keeps (K.handlers keeper.old) (K.handlers keeper.new) (new_state opening.0 opening.2.words)) }
+{
+    let (number, class, object) = opening;
+    let state = match Handler::new(alloc, number, class, object) {
+        Ok(handler) => handler.copy()?,
+        Err(_) => return Err(RuntimeError::from(ShowError::WrongClass(number))),
+    };
+    match keeper.put_handler(&state) {
+        Ok(()) => Ok(()),
+        Err(refusal) => Err(RuntimeError::from(refusal)),
+    }
+}
+
+// Stores what the handler opens with, where the keeper has nothing of it.
+fn store_opening<K: Keeper<Global>>(
+    alloc: Global,
+    member: &Member,
+    keeper: &mut K,
+) -> Result<(), RuntimeError> {
+    match keeper.load_handler(member.handler) {
+        Ok(Some(_)) => Ok(()),
+        Ok(None) => put_opening(alloc, member.open(alloc)?, keeper),
+        Err(refusal) => Err(RuntimeError::from(refusal)),
+    }
+}
+
+/// Stores what each handler of the node opens with, where the keeper has nothing of it, so that a node that was ready
+/// finds all of them again.
+pub(crate) fn store_openings<K: Keeper<Global>>(
+    alloc: Global,
+    plan: &NodePlan,
+    keeper: &mut K,
+) -> Result<(), RuntimeError> {
+    for member in &plan.members {
+        store_opening(alloc, member, keeper)?;
+    }
+    Ok(())
+}

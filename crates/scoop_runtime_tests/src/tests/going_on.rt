@@ -1,0 +1,112 @@
+//! What a node finds in its record, and what it leaves there.
+
+use scoop_keeper::{Keeper, KeeperError, MemoryKeeper};
+use scoop_link::TapeLink;
+use scoop_message::HandlerId;
+use scoop_runtime::{NodePlan, RuntimeError, Serving, node_run};
+use scoop_system::System;
+use std::alloc::Global;
+use std::process::Abort;
+use std::sync::Wait;
+use std::test::Fail;
+use std::thread::Threads;
+use std::time::Clock;
+
+const ONE: HandlerId = HandlerId(1);
+
+const TWO: HandlerId = HandlerId(2);
+
+// A node of one handler, and behind it what makes it one of two.
+const NODE: &str = "\
+node = [{number = 1, address = \"127.0.0.1:47101\"}]
+[[handler]]
+number = 1
+node = 1
+class = \"cell\"
+words = [4]
+[[handler]]
+number = 2
+node = 1
+class = \"cell\"
+words = [5]
+";
+
+// The node of this text.
+fn node_of(alloc: Global, text: &str) -> Option<NodePlan> {
+    let system = System::read(alloc, text).ok()?;
+    NodePlan::of(alloc, &system, system.node(1)?).ok()
+}
+
+// Serves the node for one turn, over a link that gives nothing. Answers the keeper, and whether anything was written.
+fn serve<R: Threads + Wait + Clock + Sync>(
+    rt: &R,
+    alloc: Global,
+    plan: &NodePlan,
+    serving: Serving,
+    keeper: MemoryKeeper,
+) -> Option<(Result<MemoryKeeper, RuntimeError>, bool)> {
+    let link = TapeLink::new(alloc, 1).ok()?;
+    let mut output = Vec::new(alloc);
+    let notes = Vec::new(alloc);
+    let ended = node_run(rt, alloc, plan, &serving, keeper, link, notes, &mut output);
+    Some((ended, !output.is_empty()))
+}
+
+// The first word that is stored of a handler.
+fn stored(keeper: &mut MemoryKeeper, handler: HandlerId) -> Result<Option<u64>, KeeperError> {
+    match keeper.load_handler(handler)? {
+        Some(state) => Ok(state.words().get(0)),
+        None => Ok(None),
+    }
+}
+
+// A node of one handler leaves it, a node of two goes on over no such record, and makes the other one where it may.
+fn goes_on<R: Threads + Wait + Clock + Sync + Abort>(
+    rt: &R,
+    alloc: Global,
+    one: &NodePlan,
+    two: &NodePlan,
+    serving: Serving,
+) -> Result<(), Fail> {
+    let new = MemoryKeeper::new(alloc);
+    let (ended, _) = serve(rt, alloc, one, serving, new).ok_or("no link")?;
+    let mut keeper = ended?;
+    assert_eq!(rt; stored(&mut keeper, ONE), Ok(Some(4)));
+    let (ended, _) = serve(rt, alloc, one, serving.going_on(), keeper).ok_or("no link")?;
+    let (ended, _) = serve(rt, alloc, two, serving, ended?).ok_or("no link")?;
+    let mut keeper = ended?;
+    assert_eq!(rt; stored(&mut keeper, TWO), Ok(Some(5)));
+    let (ended, has_written) = serve(rt, alloc, two, serving.going_on(), keeper).ok_or("no link")?;
+    assert!(rt; ended.is_ok() && has_written);
+    Ok(())
+}
+
+// A node of two handlers doesn't go on over the record of a node of one.
+fn refuses<R: Threads + Wait + Clock + Sync + Abort>(
+    rt: &R,
+    alloc: Global,
+    one: &NodePlan,
+    two: &NodePlan,
+    serving: Serving,
+) -> Result<(), Fail> {
+    let new = MemoryKeeper::new(alloc);
+    let (ended, _) = serve(rt, alloc, one, serving, new).ok_or("no link")?;
+    let (ended, has_written) = serve(rt, alloc, two, serving.going_on(), ended?).ok_or("no link")?;
+    assert_eq!(rt; ended.err(), Some(RuntimeError::NoHandler(TWO)));
+    assert!(rt; !has_written);
+    let new = MemoryKeeper::new(alloc);
+    let (ended, _) = serve(rt, alloc, two, serving.going_on(), new).ok_or("no link")?;
+    assert_eq!(rt; ended.err(), Some(RuntimeError::NoHandler(ONE)));
+    Ok(())
+}
+
+#[test]
+fn a_node_goes_on_over_its_own_record_alone(rt: HostRuntime) -> Result<(), Fail> {
+    let alloc = rt.alloc();
+    let two = node_of(alloc, NODE).ok_or("no node")?;
+    let (front, _) = NODE.rsplit_once("[[handler]]").ok_or("one handler")?;
+    let one = node_of(alloc, front).ok_or("no node")?;
+    let serving = Serving::new(1, 1_000, 1).ok_or("out of range")?;
+    goes_on(&rt, alloc, &one, &two, serving)?;
+    refuses(&rt, alloc, &one, &two, serving)
+}
