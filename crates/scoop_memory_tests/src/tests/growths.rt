@@ -126,9 +126,12 @@ pub trait Trying: Copy {
     fn tries<R: Net>(self, rt: &R, alloc: Global, count: u32, number: u64) -> Result<Trial, Fail>;
 }
 
-// Want of memory is answered exactly where a growth is refused, and changes nothing; it ends as without.
-fn agrees(rt: &impl Abort, number: u64, trial: &Trial, free: &Trial) {
-    assert_eq!(rt; trial.wanted, trial.refused, "growth {number}");
+// Want of memory is answered exactly where a growth is refused, or only there, if the call may keep room for a next one.
+// It changes nothing; the call ends as without.
+fn agrees(rt: &impl Abort, number: u64, keeps_room: bool, trial: &Trial, free: &Trial) {
+    if trial.wanted || !keeps_room {
+        assert_eq!(rt; trial.wanted, trial.refused, "growth {number}");
+    }
     assert!(rt; !trial.changed, "growth {number}");
     assert_eq!(rt;
         trial.shown.as_str(),
@@ -137,25 +140,46 @@ fn agrees(rt: &impl Abort, number: u64, trial: &Trial, free: &Trial) {
     );
 }
 
-/// Makes trials of a call, with none of its growths refused, then with the first one, the second and so
-/// on, until it has no more of them: how many it has. Want of memory is answered exactly where a growth is
-/// refused, and changes nothing; all trials end alike.
+// Makes trials of a call, with none of its growths refused, then with the first one, the second and so on, until it has no
+// more of them: how many it has.
+fn trials<R: Net + Abort, T: Trying>(
+    rt: &R,
+    alloc: Global,
+    call: T,
+    count: u32,
+    keeps_room: bool,
+) -> Result<u64, Fail> {
+    let free = call.tries(rt, alloc, count, 0)?;
+    assert!(rt; !free.wanted);
+    for number in 1..TOO_MANY {
+        let trial = call.tries(rt, alloc, count, number)?;
+        agrees(rt, number, keeps_room, &trial, &free);
+        if !trial.refused {
+            return Ok(number - 1);
+        }
+    }
+    Err("too many growths".into())
+}
+
+/// How many growths a call has. Each is refused in turn: want of memory is answered exactly there, and changes nothing; all
+/// trials end alike.
 pub fn growths<R: Net + Abort, T: Trying>(
     rt: &R,
     alloc: Global,
     call: T,
     count: u32,
 ) -> Result<u64, Fail> {
-    let free = call.tries(rt, alloc, count, 0)?;
-    assert!(rt; !free.wanted);
-    for number in 1..TOO_MANY {
-        let trial = call.tries(rt, alloc, count, number)?;
-        agrees(rt, number, &trial, &free);
-        if !trial.refused {
-            return Ok(number - 1);
-        }
-    }
-    Err("too many growths".into())
+    trials(rt, alloc, call, count, false)
+}
+
+/// The same of a call that keeps room for a next one, and does without where that is refused.
+pub fn growths_with_room<R: Net + Abort, T: Trying>(
+    rt: &R,
+    alloc: Global,
+    call: T,
+    count: u32,
+) -> Result<u64, Fail> {
+    trials(rt, alloc, call, count, true)
 }
 
 /// Each of these calls has more growths than that, over all counts.
