@@ -89,7 +89,8 @@ impl<B: Behaviour, K: Keeper<A>, A: Allocator + Copy> Handlers<B, K, A> {
         requires first { IsFirst (is_handler (handler_of message.now)) self.old.handlers at }
         requires held { IsHeld K.handlers K.is_honest self.old }
         ensures moves { IfOk result (λ heard. Moves (Event.Hear message.now) (Reply.Heard heard) self.old.handlers self.new.handlers) }
-        ensures stored { K.is_honest self.new.keeper → OnOk result (KeepsNew (handler_of message.now) self.new.handlers (K.handlers self.old.keeper) (K.handlers self.new.keeper)) }
+        ensures stored { K.is_honest self.new.keeper
+            → OnOk result (KeepsNew (handler_of message.now) self.new.handlers (K.handlers self.old.keeper) (K.handlers self.new.keeper)) }
         ensures incarnations { K.is_honest self.new.keeper → IsSame (K.incarnations self.old.keeper) (K.incarnations self.new.keeper) }
         ensures err { OnErr result (self.new.handlers ≡ self.old.handlers) }
         ensures kept { K.is_honest self.new.keeper → OnErr result (Stays (K.handlers self.old.keeper) (K.handlers self.new.keeper)) }
@@ -130,7 +131,8 @@ impl<B: Behaviour, K: Keeper<A>, A: Allocator + Copy> Handlers<B, K, A> {
         ensures ran { IfOk result (λ ran. ran ≡ ran_of done) }
         ensures out { OnOk result (IfSome (slice_get self.old.handlers at) (λ s. job_out s.core ≡ Some done)) }
         ensures moves { IfOk result (λ ran. Moves (Event.Finish done.handler) (Reply.Finished ran) self.old.handlers self.new.handlers) }
-        ensures stored { K.is_honest self.new.keeper → OnOk result (KeepsNew done.handler self.new.handlers (K.handlers self.old.keeper) (K.handlers self.new.keeper)) }
+        ensures stored { K.is_honest self.new.keeper
+            → OnOk result (KeepsNew done.handler self.new.handlers (K.handlers self.old.keeper) (K.handlers self.new.keeper)) }
         ensures incarnations { K.is_honest self.new.keeper → IsSame (K.incarnations self.old.keeper) (K.incarnations self.new.keeper) }
         ensures handed_back { IfErr result (λ e. e.done ≡ done) }
         ensures stranger { IfErr result (λ e. IfSome (slice_get self.old.handlers at) (λ s. (e.cause ≡ JobRefusal.Stranger) ↔ (job_out s.core ≢ Some done))) }

@@ -252,7 +252,8 @@ pub(crate) fn open_all<B: Behaviour, A: Allocator + Copy, K: Keeper<A>>(
     requires { AllByRecursion (IsOfClass B.class) handlers.items }
     ensures opens { IfOk result (λ o. AllOpen B.words (K.handlers keeper.old) (K.is_honest keeper.new) handlers.items o.0.items) }
     ensures kept { IfOk result (λ o. o.1.items ≡ o.0.items) }
-    ensures refused { IfErr result (λ e. (e ≡ OpenError.OutOfMemory) ⊎ Any (λ p. IsLoadRefusal (K.handlers keeper.old) (K.is_honest keeper.new) p.0 p.1 e) handlers.items) }
+    ensures refused { IfErr result
+        (λ e. (e ≡ OpenError.OutOfMemory) ⊎ Any (λ p. IsLoadRefusal (K.handlers keeper.old) (K.is_honest keeper.new) p.0 p.1 e) handlers.items) }
     ensures handlers { K.is_honest keeper.new → Stays (K.handlers keeper.old) (K.handlers keeper.new) }
     ensures incarnations { K.is_honest keeper.new → IsSame (K.incarnations keeper.old) (K.incarnations keeper.new) }
     ensures honest { K.is_honest keeper.new → K.is_honest keeper.old }

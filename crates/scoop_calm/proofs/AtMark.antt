@@ -1,6 +1,7 @@
 -- A client's mark at a handler that has welcomed it: it is of the client's incarnation, and where its block is
 -- unfinished the client is at that block.
 use Rattle.std.proofs.Common.{◌≡◌, ◌⊎◌, ◌<◌, ◌≤◌, ◌&&◌, ◌||◌, not, Bool, true, false, true≢false, IsFalse, map, Some, refl, sym, ap, ◌∙◌, subst, ⊎_elim, arith}
+use Rattle.std.proofs.lemmas.Option.{same_Some}
 use Rattle.scoop_message.specs.declared.name.HandlerId.{HandlerId}
 use Rattle.scoop_message.specs.declared.message.Message.TheVariants.{Lock}
 use Rattle.scoop_handler.specs.declared.mark.Mark.{Mark}
@@ -20,7 +21,7 @@ use Rattle.scoop_model.proofs.Keys.{number_found}
 use Rattle.scoop_model.proofs.Order.Facts.{PartyFits, IsNamed, all_found}
 use Rattle.scoop_model.proofs.Logging.Greetings.{IsMarkUpto, MarksUpto, inc_there}
 use Rattle.scoop_model.proofs.Knowing.Facts.{PartyKnown}
-use Rattle.scoop_calm.proofs.Totals.{Member, all_member, some_is}
+use Rattle.scoop_calm.proofs.Totals.{Member, all_member}
 use Rattle.scoop_calm.proofs.Marked.{MarkFits}
 use Rattle.scoop_calm.proofs.MarkedRuns.{SiteMarked}
 use Rattle.scoop_calm.proofs.Leaving.{IsOverIn}
@@ -50,7 +51,7 @@ not_shut s k is found unfinished at =
     let holds : s.holder ≡ Some (block_of k) = holder_from_test s.holder (block_of k)
     (or_holder (is_holder s.holder (block_of k)) _ unfinished (shut_open (not k.ended) k.stage at)) in
     let way : HolderIsUnderWay (Some (block_of k)) s.marks = subst (λ o. HolderIsUnderWay o s.marks) holds is.holder in
-    let one : way.mark ≡ k = some_is way.mark k (sym way.found ∙ found) in
+    let one : way.mark ≡ k = same_Some way.mark k (sym way.found ∙ found) in
     let stage : IsFalse (is_shut k.stage) = subst (λ (x : Mark). IsFalse (is_shut x.stage)) one way.stage in
     true≢false (sym (ap is_shut at) ∙ stage)
 
@@ -111,11 +112,11 @@ module _ (w : World) (r : IsReached w) (e : Everything (map (λ (p : Placement).
       (λ (rest : IsOver w (number_of s) (block_of k) ⊎ AtWork w (number_of s) (block_of k)).
       ⊎_elim
       (λ (o : IsOver w (number_of s) (block_of k)).
-      let one : o.site ≡ s = some_is o.site s (sym o.found ∙ ap (λ j. site_of j w) m.number ∙ m.found) in
+      let one : o.site ≡ s = same_Some o.site s (sym o.found ∙ ap (λ j. site_of j w) m.number ∙ m.found) in
       let over : IsOverIn s.core.state (block_of k) = subst (λ (x : Site). IsOverIn x.core.state (block_of k)) one o.so in
       absurd (true≢false (sym unfinished ∙ over.finished k own refl)))
       (λ (a : AtWork w (number_of s) (block_of k)).
-      let one : a.party ≡ p = some_is a.party p (sym a.at ∙ ap (λ c. party_of c w) m.client ∙ at) in
+      let one : a.party ≡ p = same_Some a.party p (sym a.at ∙ ap (λ c. party_of c w) m.client ∙ at) in
       subst (λ (q : Party). Goes q.client h (block_of k)) one (subst (λ j. Goes a.party.client j (block_of k)) m.number a.goes))
       rest) a)
       f.locked

@@ -1,6 +1,7 @@
 -- A client attends to its block until nothing of it is left unfinished anywhere: where a Lock was sent, its client is
 -- still at the block, or the handler is done with it.
 use Rattle.std.proofs.Common.{◌≡◌, ◌⊎◌, inl, inr, ℕ, ◌<◌, ◌≤◌, true, false, List, [], ◌∷◌, ◌++◌, map, find, Option, Some, refl, sym, ap, ◌∙◌, subst, ⊎_elim, arith}
+use Rattle.std.proofs.lemmas.Option.{same_Some}
 use Rattle.std.specs.Prelude.{if◌then◌else◌, ⊤}
 use Rattle.std.specs.List.{AllByRecursion}
 use Rattle.scoop_message.specs.declared.name.Block.{Block}
@@ -53,12 +54,9 @@ at_first P h x y xs ys same later a =
     subst (λ n. AtSite P (if same_handler n h then Some y else find (is_site h) ys)) (sym k)
     (by_test (λ t. AtSite P (if t then Some x else find (is_site h) xs) → AtSite P (if t then Some y else find (is_site h) ys)) (is_site h x)
     (λ first a.
-    let one : x ≡ a.site = some_is x a.site a.found in
+    let one : x ≡ a.site = same_Some x a.site a.found in
     record { site = y; found = refl; so = subst P (sym same) (subst (λ (z : Site). P z.core.state) (sym one) a.so) })
     (λ other a. later a) a)
-  where
-    some_is : (p q : Site) → Some p ≡ Some q → p ≡ q
-    some_is p q e = cc
 
 pub at_anew : (P : HandlerState → Type 0) (js : List Block) (n : ℕ) (h : HandlerId) (xs : List Site) → AllByRecursion (SiteFits js) xs
     → AtSite P (find (is_site h) xs) → AtSite P (find (is_site h) (map (reopened n) xs))

@@ -2,6 +2,7 @@
 -- the handler is done with the block (`Follows`). It leaves a block only once it was given up and its locks are back, or once
 -- its windows are all over, and `Around` has that handlers are done with such a block.
 use Rattle.std.proofs.Common.{◌≡◌, ◌⊎◌, inl, inr, ℕ, ◌-◌, ◌<◌, ◌≤◌, ◌&&◌, Bool, true, false, true≢false, nat_le, List, map, Option, Some, None, refl, sym, ap, ◌∙◌, subst, ⊎_elim, arith}
+use Rattle.std.proofs.lemmas.Option.{same_Some}
 use Rattle.std.specs.Prelude.{if◌then◌else◌, Ok}
 use Rattle.std.proofs.lemmas.Bool.Decides.{nat_tests}
 use Rattle.scoop_message.specs.declared.name.Block.{Block}
@@ -35,7 +36,6 @@ use Rattle.scoop_model.proofs.Logging.OpeningClients.{unlocking_is}
 use Rattle.scoop_calm.proofs.Handlers.{gone_without, lowest_has, lowest_below}
 use Rattle.scoop_calm.proofs.Attending.{IsOver, IsReleased, AskedAt, Goes, Attends, ClientAttends, PartyAttends}
 use Rattle.scoop_model.specs.World.{log_of}
-use Rattle.scoop_calm.proofs.Totals.{some_is}
 
 -- the client goes on to another state: where it had asked, it is at work still, or the handler is done with its block
 pub record Follows (w : World) (c d : ClientState) : Type 0 where
@@ -84,7 +84,7 @@ module _ (w : World) (c : ClientState) (f : PartyAttends w c) where
       (leaves : is_gone s ≡ true → (h : HandlerId) → AskedAt r h r.stage → IsOver w h r.block) where
     own_asked : (h : HandlerId) (b : Block) (a : Goes c h b) → AskedAt r h r.stage × (r.block ≡ b)
     own_asked h b a =
-        let one : a.reservation ≡ r = some_is a.reservation r (sym a.held ∙ held) in
+        let one : a.reservation ≡ r = same_Some a.reservation r (sym a.held ∙ held) in
         (subst (λ (q : ReservationState). AskedAt q h q.stage) one a.asked, ap (λ (q : ReservationState). q.block) (sym one) ∙ a.block)
 
     stepped_follows : Follows w c (stepped c s)
@@ -101,7 +101,7 @@ module _ (w : World) (c : ClientState) (f : PartyAttends w c) where
               (λ (n : AskedAt s h s.stage). inr (record { reservation = s; held = refl; block = block ∙ own.1; asked = n })) (asks h own.0);
           attends = λ q e.
               let g = f r held in
-              subst (ClientAttends w (with_reservation c s)) (some_is s q e) (record {
+              subst (ClientAttends w (with_reservation c s)) (same_Some s q e) (record {
                 unlocked = λ at h named free. subst (IsReleased w h) (sym block) (frees at h named free);
                 acked = λ h l found some. subst (IsReleased w h) (sym block) (g.acked h l found some);
                 counts = λ h l found. subst (λ b. l.acked ≤ greatest_count h b w.sent) (sym block) (g.counts h l found);
@@ -210,7 +210,7 @@ module _ (w : World) (c : ClientState) (f : PartyAttends w c) where
 
       news_attend : (waits : Option (HandlerId × ℕ)) → PartyAttends w (with_windows c news waits)
       news_attend waits q e =
-          let one : r ≡ q = some_is r q (sym held ∙ e) in
+          let one : r ≡ q = same_Some r q (sym held ∙ e) in
           let t = news_told in
           subst (ClientAttends w (with_windows c news waits)) one (record { unlocked = (f r held).unlocked; acked = t.released; counts = t.counts })
 
@@ -223,7 +223,7 @@ module _ (w : World) (c : ClientState) (f : PartyAttends w c) where
           by_test (λ t. all_over news ≡ t → Follows w c (if t then idle (with_windows c news waits) else with_windows c news waits)) (all_over news)
           (λ _ over. record {
             goes = λ x b a.
-                let one : a.reservation ≡ r = some_is a.reservation r (sym a.held ∙ held) in
+                let one : a.reservation ≡ r = same_Some a.reservation r (sym a.held ∙ held) in
                 let asked_now : AskedAt r x Unlocking = subst (AskedAt r x) at (subst (λ (q : ReservationState). AskedAt q x q.stage) one a.asked) in
                 inl (subst (IsOver w x) (ap (λ (q : ReservationState). q.block) (sym one) ∙ a.block) (round.ends_over r news news_told over x asked_now));
             attends = λ q e. absurd (cc);

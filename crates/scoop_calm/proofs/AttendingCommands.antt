@@ -1,5 +1,6 @@
 -- What a client commands keeps that it attends to its block.
 use Rattle.std.proofs.Common.{◌≡◌, ◌⊎◌, inr, ◌||◌, not, Bool, true, false, true≢false, List, map, Some, None, refl, sym, ap, ◌∙◌, subst, ⊎_elim, arith}
+use Rattle.std.proofs.lemmas.Option.{same_Some}
 use Rattle.std.specs.Prelude.{if◌then◌else◌, Ok}
 use Rattle.scoop_message.specs.declared.name.HandlerId.{HandlerId}
 use Rattle.scoop_message.specs.declared.request.Entry.{Entry}
@@ -23,7 +24,6 @@ use Rattle.scoop_model.proofs.Logging.Windows.{fresh_found}
 use Rattle.scoop_calm.proofs.Handlers.{in_asked}
 use Rattle.scoop_calm.proofs.Attending.{AskedAt, ClientAttends, PartyAttends}
 use Rattle.scoop_calm.proofs.AttendingClients.{Follows, log_attends, end_attends}
-use Rattle.scoop_calm.proofs.Totals.{some_is}
 
 ok_is : (c d : ClientState) → ◌≡◌ {A = Outcome} (Ok c) (Ok d) → c ≡ d
 ok_is c d e = cc
@@ -51,7 +51,7 @@ module _ (w : World) (c : ClientState) (f : PartyAttends w c) where
       subst (Follows w c) (ok_is (with_block c hs r) d e) (record {
         goes = λ h b a. absurd (idle_none c a.reservation at_idle a.held);
         attends = λ q held.
-            let one : fresh (next_block c) hs ≡ q = started_fresh (next_block c) hs c.handlers r begins ∙ some_is r q held in
+            let one : fresh (next_block c) hs ≡ q = started_fresh (next_block c) hs c.handlers r begins ∙ same_Some r q held in
             record {
               unlocked = λ at. absurd (let g : Locking ≡ Unlocking = ap (λ (y : ReservationState). y.stage) one ∙ at in cc);
               acked = λ h l found some. absurd (let z : 0 ≡ l.acked = ap (λ (y : WindowState). y.acked) (fresh_found hs h l found) in omega (arith, z, some));
@@ -80,7 +80,7 @@ module _ (w : World) (c : ClientState) (f : PartyAttends w c) where
       let is : at_stage r GivingUp (asked r.handlers r.left) ≡ s = cc in
       subst (λ x. Follows w c (with_reservation c x)) is (record {
         goes = λ h b a.
-            let one : a.reservation ≡ r = some_is a.reservation r (sym a.held ∙ held) in
+            let one : a.reservation ≡ r = same_Some a.reservation r (sym a.held ∙ held) in
             let old : AskedAt r h Locking = subst (AskedAt r h) at (subst (λ (q : ReservationState). AskedAt q h q.stage) one a.asked) in
             inr (record {
               reservation = at_stage r GivingUp (asked r.handlers r.left);
@@ -90,7 +90,7 @@ module _ (w : World) (c : ClientState) (f : PartyAttends w c) where
             });
         attends = λ q own.
             let g = f r held in
-            let one : at_stage r GivingUp (asked r.handlers r.left) ≡ q = some_is (at_stage r GivingUp (asked r.handlers r.left)) q own in
+            let one : at_stage r GivingUp (asked r.handlers r.left) ≡ q = same_Some (at_stage r GivingUp (asked r.handlers r.left)) q own in
             subst (ClientAttends w (with_reservation c (at_stage r GivingUp (asked r.handlers r.left)))) one (record {
               unlocked = λ e. absurd (cc);
               acked = g.acked;

@@ -2,6 +2,7 @@
 -- client is in the world, at that block in the mark's incarnation (`Owner`). By the stage of its reservation: it opens where
 -- there is room, or goes on with what it logged, since its locks are back; and one that gave up is gone by then.
 use Rattle.std.proofs.Common.{◌≡◌, ◌⊎◌, inl, inr, ◌≤◌, ◌==◌, ◌&&◌, ◌||◌, Bool, true, false, true≢false, List, [], ◌∷◌, length, map, find, Option, Some, None, refl, sym, ap, ◌∙◌, subst, ⊎_elim, arith}
+use Rattle.std.proofs.lemmas.Option.{same_Some}
 use Rattle.std.specs.Prelude.{if◌then◌else◌, is_some}
 use Rattle.std.specs.List.{list_any, AllByRecursion}
 use Rattle.std.specs.Option.{option_map_or}
@@ -41,7 +42,7 @@ use Rattle.scoop_model.proofs.Logging.Openings.{NoOpen, IsMarkOpened, SiteOpened
 use Rattle.scoop_model.proofs.Knowing.Facts.{PartyKnown}
 use Rattle.scoop_rules.proofs.Front.{left_has}
 use Rattle.scoop_calm.proofs.Resting.{IsSettled, HasGivenBack, GaveBack}
-use Rattle.scoop_calm.proofs.Totals.{Member, all_member, distinct, member_found, found_member, some_is}
+use Rattle.scoop_calm.proofs.Totals.{Member, all_member, distinct, member_found, found_member}
 use Rattle.scoop_calm.proofs.Handlers.{Filled, none, some, filled, has_head}
 use Rattle.scoop_calm.proofs.Reserving.{IsSettingOut, opens}
 use Rattle.scoop_calm.specs.declared.next.Next.TheVariants as next
@@ -182,14 +183,14 @@ module _ (w : World) (r : IsReached w) (e : Everything (map (λ (p : Placement).
       let mp : Member p w.parties = found_in _ w.parties p there.1 in
       let id : id_of p ≡ k.client = id_found k.client w p there.1 in
       let a = mark_there s m p mp in
-      let site : a.site ≡ s = some_is a.site s (sym a.found ∙ site_found w r e s m) in
+      let site : a.site ≡ s = same_Some a.site s (sym a.found ∙ site_found w r e s m) in
       record {
         party = p;
         in_world = mp;
         at = party_found w r e p mp;
         mark = a;
         site = site;
-        own = some_is a.mark k (sym a.there ∙ (λ i. mark_of (id i) (site i).core.state.marks) ∙ found);
+        own = same_Some a.mark k (sym a.there ∙ (λ i. mark_of (id i) (site i).core.state.marks) ∙ found);
       }
 
   -- ---- what a client that opens, or has opened, can do

@@ -1,5 +1,6 @@
 -- What may be next, and that the one that is next is of these, and is there where one is.
 use Rattle.std.proofs.Common.{◌≡◌, inl, inr, Bool, true, false, true≢false, List, [], ◌∷◌, find, Option, Some, None, refl, sym, ap, ◌∙◌, subst, ⊎_elim}
+use Rattle.std.proofs.lemmas.Option.{same_Some}
 use Rattle.std.specs.Prelude.{if◌then◌else◌}
 use Rattle.std.specs.Option.{option_map, option_or}
 use Rattle.scoop_model.specs.World.{World, Site, Party, number_of, id_of}
@@ -7,7 +8,7 @@ use Rattle.scoop_model.proofs.Basics.{by_test}
 use Rattle.scoop_calm.specs.declared.next.Next.{Next}
 use Rattle.scoop_calm.specs.declared.next.Next.TheVariants as next
 use Rattle.scoop_calm.specs.Next.{asks_well, is_out, can_begin, can_end, next_finish, next_begin, ask_of, next_ask, next_end, next_of}
-use Rattle.scoop_calm.proofs.Totals.{Member, some_is}
+use Rattle.scoop_calm.proofs.Totals.{Member}
 
 pub data IsChoice (w : World) : Next → Type 0 where
   finishes : (s : Site) → Member s w.sites → is_out s ≡ true → IsChoice w (next.Finish (number_of s))
@@ -31,7 +32,7 @@ made_of : {A : Type 0} (test : A → Bool) (make : A → Next) (xs : List A) (x 
 made_of test make [] x e = absurd (cc)
 made_of test make (y ∷ ys) x e =
     by_test (λ t. test y ≡ t → option_map make (if t then Some y else find test ys) ≡ Some x → MadeOf test make (y ∷ ys) x) (test y)
-    (λ _ is f. record { found = record { item = y; in_list = inl refl; passes = is }; makes = some_is (make y) x f })
+    (λ _ is f. record { found = record { item = y; in_list = inl refl; passes = is }; makes = same_Some (make y) x f })
     (λ _ is f. let m = made_of test make ys x f in record {
       found = record { item = m.found.item; in_list = inr m.found.in_list; passes = m.found.passes };
       makes = m.makes;

@@ -2,6 +2,7 @@
 -- once all have welcomed it, and waits for an answer only in a block. Each row of what it hears keeps that, and each command
 -- that it takes; nothing else changes a client but its restart, which begins it anew.
 use Rattle.std.proofs.Common.{◌≡◌, ℕ, ◌+◌, ◌<◌, ◌≤◌, ◌==◌, true, false, true≢false, List, [], ◌∷◌, length, map, Option, Some, None, refl, sym, ◌∙◌, subst, arith}
+use Rattle.std.proofs.lemmas.Option.{same_Some}
 use Rattle.std.specs.Prelude.{if◌then◌else◌, Ok}
 use Rattle.std.specs.List.{AllByRecursion}
 use Rattle.std.proofs.lemmas.Bool.Decides.{nat_tests}
@@ -38,7 +39,6 @@ use Rattle.scoop_model.proofs.Order.Facts.{all_found, all_set_party}
 use Rattle.scoop_model.proofs.Logging.Commands.{running_is}
 use Rattle.scoop_calm.proofs.Reserving.{Reserves, fresh_reserves, heard_reserves, give_up_reserves}
 use Rattle.scoop_calm.proofs.WindowsGo.{WindowsGo, fresh_go, logged_go, ended_go, counted_go, answered_go}
-use Rattle.scoop_calm.proofs.Totals.{some_is}
 
 -- of a client that has a block
 pub record BlockFits (c : ClientState) (r : ReservationState) : Type 0 where
@@ -69,8 +69,8 @@ stepped_fits c r s held f g =
           let b = g.block r held in
           record {
             welcome = b.welcome;
-            reserves = subst (Reserves c.handlers) (some_is s q e) f;
-            on = subst (λ y. is_gone y ≡ false) (some_is s q e) on;
+            reserves = subst (Reserves c.handlers) (same_Some s q e) f;
+            on = subst (λ y. is_gone y ≡ false) (same_Some s q e) on;
             windows = b.windows;
             begun = b.begun;
           };
@@ -140,7 +140,7 @@ reserve_fits c d hs o (begins_block r at_idle room begins) e g =
       within = g.within;
       quiet = λ f. absurd (cc);
       block = λ q held.
-          let one : fresh (next_block c) hs ≡ q = same ∙ some_is r q held in
+          let one : fresh (next_block c) hs ≡ q = same ∙ same_Some r q held in
           record {
             welcome = idle_left c at_idle;
             reserves = subst (Reserves c.handlers) one fits.0;
@@ -161,7 +161,7 @@ log_fits c d h n o (is_logged l running free window room more) e own g =
     (with_windows_fits c (at_window h (with_entry n) c.windows) now run.reservation run.held g
     (logged_go c.windows h n run.going (subst (WindowsGo c.windows) free b.windows) now
     (λ x found query. let both : Some x ≡ Some l = sym found ∙ window in
-    subst (λ (y : WindowState). now ≡ Some (h, y.acked + length y.unacked + 1)) (sym (some_is x l both)) (own l query))))
+    subst (λ (y : WindowState). now ≡ Some (h, y.acked + length y.unacked + 1)) (sym (same_Some x l both)) (own l query))))
 log_fits c d h n o row e own g = absurd (cc)
 
 end_fits : (c d : ClientState) (o : Outcome) → EndRow c o → o ≡ Ok d → ClientFits c → ClientFits d
@@ -181,9 +181,9 @@ give_up_fits c d o (gives_up r s locking held given) e g =
       quiet = λ n. absurd (cc);
       block = λ q is. record {
         welcome = b.welcome;
-        reserves = subst (Reserves c.handlers) (some_is s q is) f.0;
+        reserves = subst (Reserves c.handlers) (same_Some s q is) f.0;
         on =
-            subst (λ y. is_gone y ≡ false) (some_is s q is) f.1;
+            subst (λ y. is_gone y ≡ false) (same_Some s q is) f.1;
         windows = b.windows;
         begun = b.begun;
       };

@@ -2,6 +2,7 @@
 -- out, a client that asks, a client that ends its block. A client that asks sends what is due (a greeting, its reservation's
 -- message, a Log), and the test of the choice is what the useful move of that message needs.
 use Rattle.std.proofs.Common.{◌≡◌, inl, inr, ◌<◌, ◌==◌, ◌&&◌, ◌||◌, Bool, true, false, true≢false, List, [], ◌∷◌, length, map, find, Option, Some, None, refl, sym, ap, ◌∙◌, subst, ⊎_elim, arith, not}
+use Rattle.std.proofs.lemmas.Option.{same_Some}
 use Rattle.std.specs.Prelude.{if◌then◌else◌, is_none, is_some, ◌⊎◌, Ok, Err}
 use Rattle.std.specs.Option.{option_map, option_map_or}
 use Rattle.std.specs.Result.{is_ok}
@@ -45,7 +46,7 @@ use Rattle.scoop_model.proofs.Logging.Windows.{handlers_at, found_has}
 use Rattle.scoop_calm.specs.declared.next.Next.{Next}
 use Rattle.scoop_calm.specs.declared.next.Next.TheVariants as next
 use Rattle.scoop_calm.specs.Next.{is_open_at, can_do, asks_well, is_out, can_begin, can_end}
-use Rattle.scoop_calm.proofs.Totals.{Member, all_member, some_is, none_long}
+use Rattle.scoop_calm.proofs.Totals.{Member, all_member, none_long}
 use Rattle.scoop_calm.proofs.Handlers.{lowest_has}
 use Rattle.scoop_calm.proofs.Chosen.{IsChoice, finishes, begins, asks, ends}
 use Rattle.scoop_calm.proofs.Engine.{Helps}
@@ -63,7 +64,7 @@ use Rattle.scoop_calm.proofs.Locking.{if_free, if_own}
 use Rattle.scoop_calm.proofs.Everything.{Everything}
 
 given : (t : Bool) (m n : Message) → (if t then Some n else None) ≡ Some m → (t ≡ true) × (n ≡ m)
-given true m n e = (refl, some_is n m e)
+given true m n e = (refl, same_Some n m e)
 given false m n e = absurd (cc)
 
 not_given : (t : Bool) (n : Message) → ◌≡◌ {A = Option Message} (if t then Some n else None) None → t ≡ false
@@ -153,7 +154,7 @@ module _ (w : World) (r : IsReached w) (e : Everything (map (λ (p : Placement).
           own = beside w r e p at q held h named
 
           same : own.mark.site ≡ s
-          same = some_is own.mark.site s (sym own.mark.found ∙ here)
+          same = same_Some own.mark.site s (sym own.mark.found ∙ here)
 
           by_holder : (o : Option Block) → s.core.state.holder ≡ o → (is_none o || is_holder o q.block) ≡ true → Helps w (next.Ask (id_of p) h)
           by_holder None is f = if_free w r e p at q held stage h named (ap (λ (x : Site). x.core.state.holder) same ∙ is) low
@@ -162,15 +163,15 @@ module _ (w : World) (r : IsReached w) (e : Everything (map (λ (p : Placement).
               let way : HolderIsUnderWay (Some b) s.core.state.marks = subst (λ o. HolderIsUnderWay o s.core.state.marks) is core.state.holder in
               let found : mark_of q.block.client s.core.state.marks ≡ Some way.mark = ap (λ (y : Block). mark_of y.client s.core.state.marks) (sym block)
               ∙ way.found in
-              let one : own.mark.mark ≡ way.mark = some_is own.mark.mark way.mark
+              let one : own.mark.mark ≡ way.mark = same_Some own.mark.mark way.mark
               (sym own.found ∙ ap (λ (x : Site). mark_of q.block.client x.core.state.marks) same ∙ found) in
               let num : own.mark.mark.num ≡ q.block.num = ap (λ (k : Mark). k.num) one ∙ ap (λ (y : Block). y.num) (way.newest ∙ block) in
               if_own w r e p at q held stage h named num low
 
       open_helps : q.stage ≡ Opening → has q.left h ≡ true → can_do s.core.state (Open h q.block) ≡ true → Helps w (next.Ask (id_of p) h)
       open_helps stage left can = open_useful w r e p at q held stage h left
-          (λ x found is. subst (λ (y : Site). (length y.core.state.queues == MAX_QUEUES) ≡ false) (some_is s x (sym here ∙ found))
-          (room (subst (λ (y : Site). IsHeldIn y.core.state.marks q.block) (some_is x s (sym found ∙ here)) is)))
+          (λ x found is. subst (λ (y : Site). (length y.core.state.queues == MAX_QUEUES) ≡ false) (same_Some s x (sym here ∙ found))
+          (room (subst (λ (y : Site). IsHeldIn y.core.state.marks q.block) (same_Some x s (sym found ∙ here)) is)))
         where
           room : IsHeldIn s.core.state.marks q.block → (length s.core.state.queues == MAX_QUEUES) ≡ false
           room is =
@@ -192,7 +193,7 @@ module _ (w : World) (r : IsReached w) (e : Everything (map (λ (p : Placement).
           let free : has q.left h ≡ false = not_given (has q.left h) (Unlock h q.block) (ap (owed.due_in q h) (sym stage) ∙ owes) in
           let more : 0 < length l.unacked = grind (arith, nat_tests) in
           let own = beside w r e p at q held h named in
-          let same : s ≡ own.mark.site = some_is s own.mark.site (sym here ∙ own.mark.found) in
+          let same : s ≡ own.mark.site = same_Some s own.mark.site (sym here ∙ own.mark.found) in
           log_useful w r e p at q held stage h named free l window more
           (subst (λ (x : Site). IsIdleIn x.core.state.queues q.block) same (idle_in q.block s.core.state.queues core.state.queues.apart none))
 

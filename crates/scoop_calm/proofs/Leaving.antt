@@ -1,6 +1,7 @@
 -- What a handler keeps of a block that its client has left: the lock is given back, and nothing of it is unfinished.
 -- Both stay so, whatever comes.
 use Rattle.std.proofs.Common.{◌≡◌, ◌&&◌, ◌||◌, not, Bool, true, false, true≢false, List, map, Option, Some, None, refl, sym, ap, ◌∙◌, subst, arith}
+use Rattle.std.proofs.lemmas.Option.{same_Some}
 use Rattle.std.specs.Prelude.{if◌then◌else◌}
 use Rattle.std.specs.Option.{option_map}
 use Rattle.scoop_message.specs.declared.name.Block.{Block}
@@ -27,7 +28,6 @@ use Rattle.scoop_model.proofs.Basics.{by_test}
 use Rattle.scoop_model.proofs.Order.Lists.{same_block_itself}
 use Rattle.scoop_model.proofs.Order.Holding.{Upto, IsReachedIn, reached_more}
 use Rattle.scoop_calm.proofs.Marked.{below_at, older_num}
-use Rattle.scoop_calm.proofs.Totals.{some_is}
 
 -- the block's lock is given back, or never will be got
 pub record IsReleasedIn (s : HandlerState) (b : Block) : Type 0 where
@@ -76,11 +76,11 @@ set_case Q y old marks c k x was here now own other =
     by_test (λ t. same_client c y.client ≡ t → Q k x) (same_client c y.client)
     (λ _ is.
     let c_is : c ≡ y.client = client_from_same c y.client is in
-    let k_is : old ≡ k = some_is old k (sym was ∙ ap (λ d. mark_of d marks) (sym c_is) ∙ here) in
-    let x_is : y ≡ x = some_is y x (sym (mark_of-set_mark_own y old marks was) ∙ ap (λ d. mark_of d (set_mark y marks)) (sym c_is) ∙ now) in
+    let k_is : old ≡ k = same_Some old k (sym was ∙ ap (λ d. mark_of d marks) (sym c_is) ∙ here) in
+    let x_is : y ≡ x = same_Some y x (sym (mark_of-set_mark_own y old marks was) ∙ ap (λ d. mark_of d (set_mark y marks)) (sym c_is) ∙ now) in
     subst (λ z. Q z x) k_is (subst (Q old) x_is own))
     (λ _ is.
-    let x_is : k ≡ x = some_is k x (sym here ∙ sym (mark_of-set_mark_other c y marks is) ∙ now) in
+    let x_is : k ≡ x = same_Some k x (sym here ∙ sym (mark_of-set_mark_other c y marks is) ∙ now) in
     subst (Q k) x_is (other is)) refl
 
 own_place : (b : Block) (k : Mark) (marks : List Mark) → mark_of b.client marks ≡ Some k → mark_of k.client marks ≡ Some k
@@ -109,7 +109,7 @@ finished-row : (s : HandlerState) (m : Message) (h : Hearing) → Row s m h → 
 finished-row s m h (first_greeting y d inc here none room) is = λ c k x found now inc_same num_same e.
     let apart : same_client d c ≡ false = by_test (λ t. same_client d c ≡ t → t ≡ false) (same_client d c)
     (λ _ same. absurd (let both : None ≡ Some k = sym none ∙ ap (λ z. mark_of z s.marks) (client_from_same d c same) ∙ found in cc)) (λ _ same. refl) refl in
-    let one : k ≡ x = some_is k x (sym found ∙ sym (mark_of-add_mark_other c (greeting_mark d inc) s.marks apart) ∙ now) in
+    let one : k ≡ x = same_Some k x (sym found ∙ sym (mark_of-add_mark_other c (greeting_mark d inc) s.marks apart) ∙ now) in
     subst (λ z. unfinished s.holder z ≡ false) one e
 finished-row s m h (newer_greeting y d inc k0 here found0 newer) is = λ c k x found now.
     set_case (StaysFinished s.holder (holder_without d s.holder)) (greeting_mark d inc) k0 s.marks c k x found0 found now
@@ -135,7 +135,7 @@ finished-row s m h (is_taken y b n es k0 here at next goes_on room) is = λ c k 
     set_case (StaysFinished s.holder s.holder) (with_received _ _ k0) k0 s.marks c k x (own_place b k0 s.marks at.heard.found) found now
     (λ _ _ e. absurd (open_unfinished s.holder k0 at.stage (roomy k0 (last_number n es) es goes_on).ended e))
     (λ apart _ _ e. e)
-finished-row s m h r is = λ c k x found now _ _ e. let one : k ≡ x = some_is k x (sym found ∙ now) in subst (λ z. unfinished s.holder z ≡ false) one e
+finished-row s m h r is = λ c k x found now _ _ e. let one : k ≡ x = same_Some k x (sym found ∙ now) in subst (λ z. unfinished s.holder z ≡ false) one e
 
 -- ---- what is over stays over
 
@@ -165,7 +165,7 @@ module _ (s t : HandlerState) (grows : MarksGrow s.marks t.marks)
         let later = reached_more s.marks t.marks (block_of k) grows (own_mark b k s.marks o.reached.found) in
         let there : mark_of b.client t.marks ≡ Some later.mark = ap (λ c. mark_of c t.marks) (sym (mark_of-client b.client s.marks k o.reached.found))
         ∙ later.found in
-        let one : later.mark ≡ x = some_is later.mark x (sym there ∙ found) in
+        let one : later.mark ≡ x = same_Some later.mark x (sym there ∙ found) in
         let onward : Upto k.inc k.num x.inc x.num = subst (λ (z : Mark). Upto k.inc k.num z.inc z.num) one later.upto in
         let same = same_later b k x o.reached.upto onward is in
         let client : k.client ≡ b.client = mark_of-client b.client s.marks k o.reached.found in
@@ -187,7 +187,7 @@ free-row s m h (newer_greeting y d inc k here found newer) b f e = without_some 
     without_some None c b off e = cc
     without_some (Some z) c b off e = by_test (λ t. (if t then None else Some z) ≡ Some b → ⊥) (same_client z.client c) (λ _ g. cc) (λ _ g. off g) e
 free-row s m h (lock_granted y d k here at new free clear) b f e =
-    let same : d ≡ b = some_is d b e in
+    let same : d ≡ b = same_Some d b e in
     below_at s.marks d k at.found (older_num d k at.inc new) (subst (IsReachedIn s.marks) (sym same) f.reached)
 free-row s m h (is_freed y d k here at same holds) b f e = absurd (cc)
 free-row s m h r b f e = f.free e
@@ -201,7 +201,7 @@ after_stays : (o : Option Block) (r : Ran) (marks : List Mark) (c : ClientId) (k
     → mark_of c (map (mark_after r) marks) ≡ Some x → StaysFinished o o k x
 after_stays o r marks c k x found now _ _ e =
     let both : Some (mark_after r k) ≡ Some x = sym (ap (option_map (mark_after r)) found) ∙ sym (mark_of-after r c marks) ∙ now in
-    let one : mark_after r k ≡ x = some_is (mark_after r k) x both in
+    let one : mark_after r k ≡ x = same_Some (mark_after r k) x both in
     subst (λ z. unfinished o z ≡ false) one e
 
 pub over-after : (t : Task) (s : HandlerState) (b : Block) → IsOverIn s b → IsOverIn (after t s) b

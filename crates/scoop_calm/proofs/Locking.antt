@@ -1,6 +1,7 @@
 -- Where every client is idle or locks, one of them gets the lock that it asks for: of those that hold locks, each asks
 -- for a higher one than it holds.
 use Rattle.std.proofs.Common.{◌≡◌, ◌⊎◌, inl, inr, ℕ, zero, suc, ◌+◌, ◌<◌, ◌≤◌, ◌&&◌, ◌||◌, not, true, false, true≢false, nat_lt, List, [], ◌∷◌, length, map, Option, Some, None, refl, sym, ap, ◌∙◌, subst, ⊎_elim, arith}
+use Rattle.std.proofs.lemmas.Option.{same_Some}
 use Rattle.std.specs.Prelude.{if◌then◌else◌, is_none}
 use Rattle.std.specs.List.{AllByRecursion}
 use Rattle.std.specs.Option.{option_map_or}
@@ -41,7 +42,7 @@ use Rattle.scoop_model.proofs.Logging.Openings.{NoOpen, IsOpenedAtAll, IsGivenUp
 use Rattle.scoop_rules.proofs.Front.{left_has}
 use Rattle.scoop_calm.specs.Left.{stage_work, total}
 use Rattle.scoop_calm.proofs.Resting.{IsSettled}
-use Rattle.scoop_calm.proofs.Totals.{Member, all_member, some_is}
+use Rattle.scoop_calm.proofs.Totals.{Member, all_member}
 use Rattle.scoop_calm.proofs.Handlers.{Filled, none, some, filled, less_without, lowest_has, lowest_of}
 use Rattle.scoop_calm.proofs.Reserving.{IsSettingOut, locks}
 use Rattle.scoop_calm.specs.declared.next.Next.TheVariants as following
@@ -202,7 +203,7 @@ module _ (w : World) (r : IsReached w) (e : Everything (map (λ (p : Placement).
         let n : IsNamed w (number_of s) (block_of k) = shows.0 in
         ⊎_elim
         (λ (all : IsOpenedAtAll w (block_of k)).
-        let same : n.handlers ≡ all.handlers = some_is n.handlers all.handlers (sym n.set ∙ all.set) in
+        let same : n.handlers ≡ all.handlers = same_Some n.handlers all.handlers (sym n.set ∙ all.set) in
         let opened = all.opened (number_of s) (ap (λ hs. has hs (number_of s)) (sym same) ∙ n.member) in
         opened_nowhere (number_of s) (ap (has_block (option_map_or (λ (y : Site). y.opened) (site_of (number_of s) w) [])) (sym (own_is num)) ∙ opened))
         (λ (g : IsGivenUp w (block_of k)).
@@ -274,13 +275,13 @@ module _ (w : World) (r : IsReached w) (e : Everything (map (λ (p : Placement).
         → (o : Owner w r e settled s k) (a : Goes o.party.client (number_of s) (block_of o.mark.mark)) → IsLockingOrNone o.party → Useful w
     by_state n next s k room o a (has_none none_held) = absurd (let f : None ≡ Some a.reservation = sym none_held ∙ a.held in cc)
     by_state n next s k room o a (is_locking q held stage) =
-        let one : a.reservation ≡ q = some_is a.reservation q (sym a.held ∙ held) in
+        let one : a.reservation ≡ q = same_Some a.reservation q (sym a.held ∙ held) in
         let block : q.block ≡ block_of o.mark.mark = ap (λ (y : ReservationState). y.block) (sym one) ∙ a.block in
         let asked : AskedAt q (number_of s) Locking = subst (AskedAt q (number_of s)) stage
         (subst (λ (y : ReservationState). AskedAt y (number_of s) y.stage) one a.asked) in
         let x = beside w r e o.party o.at q held (number_of s) asked.0 in
-        let same_site : x.mark.site ≡ o.mark.site = some_is x.mark.site o.mark.site (sym x.mark.found ∙ o.mark.found) in
-        let same_mark : x.mark.mark ≡ o.mark.mark = some_is x.mark.mark o.mark.mark
+        let same_site : x.mark.site ≡ o.mark.site = same_Some x.mark.site o.mark.site (sym x.mark.found ∙ o.mark.found) in
+        let same_mark : x.mark.mark ≡ o.mark.mark = same_Some x.mark.mark o.mark.mark
         (sym x.mark.there ∙ ap (λ (y : Site). mark_of (id_of o.party) y.core.state.marks) same_site ∙ o.mark.there) in
         let num : x.mark.mark.num ≡ q.block.num = ap (λ (y : Mark). y.num) same_mark ∙ sym (ap (λ (y : Block). y.num) block) in
         ⊎_elim

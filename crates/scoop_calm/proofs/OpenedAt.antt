@@ -1,5 +1,6 @@
 -- A block that has opened at a handler, while its client is in the same incarnation, is open there.
 use Rattle.std.proofs.Common.{◌≡◌, inl, inr, ◌+◌, ◌<◌, ◌≤◌, ◌||◌, true, false, true≢false, IsTrue, List, [], ◌∷◌, ◌++◌, length, Option, Some, None, refl, sym, ap, ◌∙◌, subst, ⊎_elim, arith}
+use Rattle.std.proofs.lemmas.Option.{same_Some}
 use Rattle.scoop_message.specs.declared.name.Block.{Block}
 use Rattle.scoop_message.specs.declared.request.Entry.{Entry}
 use Rattle.scoop_message.specs.Entries.{ends}
@@ -19,7 +20,7 @@ use Rattle.scoop_model.proofs.Tape.Slots.{Slot, slot_queue, queue_at, queues_of,
 use Rattle.scoop_model.proofs.Whole.Marks.{MarkTold}
 use Rattle.scoop_model.proofs.Whole.Slots.{IsPassed, IsDone, SlotWhole}
 use Rattle.scoop_model.proofs.Whole.Facts.{SiteTaped}
-use Rattle.scoop_calm.proofs.Totals.{Member, all_member, some_is}
+use Rattle.scoop_calm.proofs.Totals.{Member, all_member}
 use Rattle.scoop_calm.proofs.Members.{member_more}
 
 -- ---- slots
@@ -70,7 +71,7 @@ module _ (w : World) (s : Site) (is : IsState s.core.state) (tape : SiteTaped w 
   pub opened_reached : Upto b.inc b.num k.inc k.num
   opened_reached =
       let r : IsReachedIn s.core.state.marks b = subst (IsReachedIn s.core.state.marks) own_slot.block own_whole.reached in
-      subst (λ (x : Mark). Upto b.inc b.num x.inc x.num) (some_is r.mark k (sym r.found ∙ found)) r.upto
+      subst (λ (x : Mark). Upto b.inc b.num x.inc x.num) (same_Some r.mark k (sym r.found ∙ found)) r.upto
 
   module _ (own : block_of k ≡ b) where
     -- a mark that isn't open has received nothing, so its block has no queue, and has not run
@@ -97,7 +98,7 @@ module _ (w : World) (s : Site) (is : IsState s.core.state) (tape : SiteTaped w 
         omega (arith, told, count, alike, some, none))
         (λ (p : IsPassed s.core.state.marks t.block).
         let there : mark_of t.block.client s.core.state.marks ≡ Some k = ap (λ (y : Block). mark_of y.client s.core.state.marks) own_slot.block ∙ found in
-        let one : p.mark ≡ k = some_is p.mark k (sym p.found ∙ there) in
+        let one : p.mark ≡ k = same_Some p.mark k (sym p.found ∙ there) in
         let later : t.block.inc + 1 ≤ k.inc = subst (λ (x : Mark). t.block.inc + 1 ≤ x.inc) one p.upto.inc in
         let same : k.inc ≡ t.block.inc = ap (λ (y : Block). y.inc) (own ∙ sym own_slot.block) in
         omega (arith, later, same))

@@ -9,9 +9,6 @@ use Rattle.scoop_calm.specs.Left.{total}
 
 -- ---- lists and options
 
-pub some_is : {A : Type 0} (a b : A) → Some a ≡ Some b → a ≡ b
-some_is a b e = cc
-
 pub none_long : {A : Type 0} (xs : List A) → length xs ≤ 0 → xs ≡ []
 none_long [] le = refl
 none_long (x ∷ xs) le = absurd (omega (arith, le))

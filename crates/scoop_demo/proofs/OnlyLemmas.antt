@@ -2,6 +2,7 @@
 -- known handlers has one reply and one outcome, and what runs is what is in front, until nothing is. So books that differ in
 -- their keepers alone print the same for the same lines, and differ in nothing else behind them.
 use Rattle.std.proofs.Common.{◌≡◌, ℕ, ◌+◌, List, [], ◌∷◌, ◌++◌, codes, Option, Some, None, Result, Ok, Err, refl, sym, ap, ◌∙◌, subst}
+use Rattle.std.proofs.lemmas.Option.{same_Some}
 use Rattle.hex.proofs.HexLemmas.{decode_of-same}
 use Rattle.scoop_message.specs.declared.name.Block.{Block}
 use Rattle.scoop_message.specs.declared.name.HandlerId.{HandlerId}
@@ -28,9 +29,6 @@ use Rattle.scoop_demo.specs.Hex.{digits_of}
 use Rattle.scoop_demo.specs.Answer.{Prints, PrintsElsewhere, PrintsHeard, PrintsRefused, Rests, note_elsewhere, runs_by, text_of}
 use Rattle.scoop_demo.specs.Answer.Prints.{refused, heard, elsewhere}
 use Rattle.scoop_demo.specs.Run.{AnswersFirst, AnswersLine, AnswersLines, RunsBehind}
-
-some_same : {A : Type 0} (x y : A) → Some x ≡ Some y → x ≡ y
-some_same x y e = cc
 
 -- ---- bytes are read in one way
 
@@ -66,7 +64,7 @@ handler_only (Begin h) (Began a) (Finished b) s t u x y = absurd y
 handler_only (Begin h) (Heard a) q s t u x y = absurd x
 handler_only (Begin h) (Finished a) q s t u x y = absurd x
 handler_only (Finish h) (Finished a) (Finished b) s t u x y =
-    let task : x.task ≡ y.task = some_same x.task y.task (sym x.out ∙ y.out) in
+    let task : x.task ≡ y.task = same_Some x.task y.task (sym x.out ∙ y.out) in
     (ap Finished (x.tells ∙ ap ran_of task ∙ sym y.tells), x.after ∙ ap (λ (k : Task). after_finish k s) task ∙ sym y.after)
 handler_only (Finish h) (Finished a) (Heard b) s t u x y = absurd y
 handler_only (Finish h) (Finished a) (Began b) s t u x y = absurd y
@@ -75,7 +73,7 @@ handler_only (Finish h) (Began a) q s t u x y = absurd x
 
 moves_only : (event : Event) (r q : Reply) (hs ks ls : List LocalHandler) → Moves event r hs ks → Moves event q hs ls → (r ≡ q) × (ks ≡ ls)
 moves_only event r q hs ks ls x y =
-    let same : y.handler ≡ x.handler = some_same y.handler x.handler (sym y.here ∙ x.here) in
+    let same : y.handler ≡ x.handler = same_Some y.handler x.handler (sym y.here ∙ x.here) in
     let moves = subst (λ (s : LocalHandler). HandlerMoves event q s y.new) same y.moves in
     let one = handler_only event r q x.handler x.new y.new x.moves moves in
     (one.0, x.after ∙ ap (λ (s : LocalHandler). with_handler s hs) one.1 ∙ sym y.after)

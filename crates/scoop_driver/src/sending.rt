@@ -83,7 +83,8 @@ pub(crate) fn take_turn<L: Link, D: Diary<A>, A: Allocator>(
     link: &mut L,
     diary: &mut D,
 ) -> Result<Option<ClientNote>, DriverError>
-    ensures does { TakesTurn result (seen_of L.told L.fault_count D.steps client.old link.old diary.old) (seen_of L.told L.fault_count D.steps client.new link.new diary.new) }
+    ensures does { TakesTurn result (seen_of L.told L.fault_count D.steps client.old link.old diary.old)
+        (seen_of L.told L.fault_count D.steps client.new link.new diary.new) }
     ensures memory { result ≡ Err (DriverError.Client ClientError.OutOfMemory) → D.wants_memory }
 {
     if diary.make_room().is_err() {

@@ -73,8 +73,10 @@ impl<L: Link, D: Diary<A>, A: Allocator + Clone> Driver<L, D, A> {
         tries: u32,
     ) -> Result<u32, DriverError>
         requires { 1 ≤ tries }
-        ensures outside { IfSome (first_outside (wish handlers.now condition body.now)) (λ h. (result ≡ Err (DriverError.Client (ClientError.NotReserved h))) × (self.new ≡ self.old)) }
-        ensures waits { first_outside (wish handlers.now condition body.now) ≡ None → Waits (wish handlers.now condition body.now) self.old.turns tries result self.old.seen self.new.seen }
+        ensures outside { IfSome (first_outside (wish handlers.now condition body.now))
+            (λ h. (result ≡ Err (DriverError.Client (ClientError.NotReserved h))) × (self.new ≡ self.old)) }
+        ensures waits { first_outside (wish handlers.now condition body.now) ≡ None
+            → Waits (wish handlers.now condition body.now) self.old.turns tries result self.old.seen self.new.seen }
         ensures turns { self.new.turns ≡ self.old.turns }
     {
         if let Some(handler) = first_outside(handlers, &condition, body) {

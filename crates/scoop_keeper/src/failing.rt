@@ -102,7 +102,8 @@ impl<A: Allocator, K: Keeper<A>> Keeper<A> for FailingKeeper<K> {
         ensures refuses { self.old.left ≡ 0 → (result ≡ Err KeeperError.Refused) × (self.new ≡ self.old) }
         ensures next { K.is_honest self.new.keeper → IfOk result (λ inc. inc ≡ next_of (K.incarnations self.old.keeper client.0)) }
         ensures stored { K.is_honest self.new.keeper → IfOk result (Sets (K.incarnations self.old.keeper) (K.incarnations self.new.keeper) client.0) }
-        ensures spent { K.is_honest self.new.keeper → result ≡ Err KeeperError.IncarnationsSpent → K.incarnations self.old.keeper client.0 ≡ Some last_incarnation }
+        ensures spent { K.is_honest self.new.keeper → result ≡ Err KeeperError.IncarnationsSpent
+            → K.incarnations self.old.keeper client.0 ≡ Some last_incarnation }
         ensures refused { K.is_honest self.new.keeper → OnErr result (IsSame (K.incarnations self.old.keeper) (K.incarnations self.new.keeper)) }
         ensures named { IfErr result (λ e. IsPutError e ⊎ (e ≡ KeeperError.IncarnationsSpent)) }
         ensures handlers { K.is_honest self.new.keeper → Stays (K.handlers self.old.keeper) (K.handlers self.new.keeper) }

@@ -4,7 +4,7 @@ use Rattle.std.proofs.Common.{◌≡◌, ℕ, ◌+◌, ◌-◌, ◌==◌, List, 
 use Rattle.std.specs.Prelude.{if◌then◌else◌, option_to_list, Contains}
 use Rattle.std.specs.List.{AllByRecursion}
 use Rattle.std.proofs.lemmas.List.Elements.{Contains-append_left}
-use Rattle.std.proofs.lemmas.Option.{slice_get_within, get_or_from_slice_get}
+use Rattle.std.proofs.lemmas.Option.{get_or_from_slice_get, same_Some, slice_get_within}
 use Rattle.scoop_message.specs.declared.name.Block.{Block}
 use Rattle.scoop_message.specs.declared.name.ClientId.{ClientId}
 use Rattle.scoop_message.specs.declared.name.HandlerId.{HandlerId}
@@ -24,7 +24,7 @@ use Rattle.scoop_client.proofs.Rows.{heard_row}
 use Rattle.scoop_model.specs.World.{World, Party, BlockLog, id_of, is_party, party_of, set_party, handlers_of, sent_at}
 use Rattle.scoop_model.specs.Step.{Placement, Newcomer, opening, core_command, newest_block, logs_after, with_sent, with_site, heard_world, heard_party, begun_site, finished_site, restarted_party, reopened_world}
 use Rattle.scoop_model.specs.Told.{WasGranted, WasGrantedAtAll, TellsGranted}
-use Rattle.scoop_model.proofs.Basics.{by_test, some_is}
+use Rattle.scoop_model.proofs.Basics.{by_test}
 use Rattle.scoop_model.proofs.Events.{Changes}
 use Rattle.scoop_model.proofs.Keys.{by_party, id_found}
 use Rattle.scoop_model.proofs.Locking.{HasLocks, Locks, locks_more, heard_locks, command_locks}
@@ -109,7 +109,7 @@ module _
 reply_granted : (w : World) (s : HandlerState) (o : Option Message) → TellsBack s o → (m : Message) → o ≡ Some m → TellsGranted w m
 reply_granted w s None t m e = absurd (cc)
 reply_granted w s (Some (Open x b)) t m e = absurd t
-reply_granted w s (Some n) t m e = no_open_sent w n m (some_is n m e) (λ x b is. cc)
+reply_granted w s (Some n) t m e = no_open_sent w n m (same_Some n m e) (λ x b is. cc)
 
 module _ (w : World) (i : Granting w) (c : ClientId) (p q : Party) (at : party_of c w ≡ Some p) (same : id_of q ≡ id_of p) (ls : List BlockLog)
     (sets : (b : Block) (hs : List HandlerId) → handlers_of b w ≡ Some hs → handlers_of b (record w { logs = ls }) ≡ Some hs)

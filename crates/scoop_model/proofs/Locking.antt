@@ -1,6 +1,7 @@
 -- A fact of handlers and blocks that each Locked brings, and that lasts: a reservation that locks has it at each of its
 -- handlers that isn't left, and one that opens has it at all. What a client does keeps that.
 use Rattle.std.proofs.Common.{◌≡◌, true, false, true≢false, List, Some, refl, sym, ◌∙◌, subst}
+use Rattle.std.proofs.lemmas.Option.{same_Some}
 use Rattle.std.specs.Prelude.{⊤, if◌then◌else◌, Ok}
 use Rattle.scoop_message.specs.declared.name.Block.{Block}
 use Rattle.scoop_message.specs.declared.name.HandlerId.{HandlerId}
@@ -23,7 +24,7 @@ use Rattle.scoop_client.specs.Hearing.{after_step, stepped, up_to}
 use Rattle.scoop_client.specs.Commands as client
 use Rattle.scoop_client.specs.Rows.{HeardRow, passed_over, is_welcomed, takes_step, is_acknowledged, is_accepted, ReserveRow, begins_block, LogRow, is_logged, EndRow, ends_block, GiveUpRow, gives_up}
 use Rattle.scoop_client.proofs.CommandRows.{command_row}
-use Rattle.scoop_model.proofs.Basics.{by_test, some_is}
+use Rattle.scoop_model.proofs.Basics.{by_test}
 use Rattle.scoop_model.proofs.Order.Clients.{is_gone_one, none_in_empty}
 use Rattle.scoop_model.proofs.Order.Commands.{started_fresh}
 
@@ -83,7 +84,7 @@ module _ (G : HandlerId → Block → Type 0) (c : ClientState) (i : (r : Reserv
   stepped_locks s f =
       by_test (λ t. AllLock (if t then idle c else with_reservation c s)) (is_gone s)
       (λ over. idle_locks c)
-      (λ on q e. subst (HasLocks G) (some_is s q e) f)
+      (λ on q e. subst (HasLocks G) (same_Some s q e) f)
 
   after_locks : (s : ReservationState) (st : Step) → HasLocks G s → AllLock (after_step c s st).0
   after_locks s (step.Locked h) f = stepped_locks s f
@@ -112,7 +113,7 @@ module _ (G : HandlerId → Block → Type 0) (c : ClientState) (i : (r : Reserv
     reserve_locks hs q (begins_block r at_idle room begins) e =
         made (client.with_block c hs r) e
         (λ s held.
-        subst (HasLocks G) (started_fresh (client.next_block c) hs c.handlers r begins ∙ some_is r s held)
+        subst (HasLocks G) (started_fresh (client.next_block c) hs c.handlers r begins ∙ same_Some r s held)
         (record { stage = λ h member gone. absurd (true≢false (sym member ∙ gone)) }))
     reserve_locks hs q r e = absurd (cc)
 
@@ -132,7 +133,7 @@ module _ (G : HandlerId → Block → Type 0) (c : ClientState) (i : (r : Reserv
 
     give_up_locks : (q : client.Outcome) → GiveUpRow c q → q ≡ Ok d → AllLock d
     give_up_locks q (gives_up r s locking held given) e =
-        made (with_reservation c s) e (λ y is. subst (HasLocks G) (some_is s y is) (given_locks r s r.stage given))
+        made (with_reservation c s) e (λ y is. subst (HasLocks G) (same_Some s y is) (given_locks r s r.stage given))
     give_up_locks q r e = absurd (cc)
 
     pub command_locks : (x : client.Command) → client.command c x ≡ Ok d → AllLock d

@@ -1,5 +1,6 @@
 -- The pending entries of a handler get fewer as they run.
 use Rattle.std.proofs.Common.{◌≡◌, ◌≢◌, ◌<◌, ◌||◌, ℕ, Bool, true, false, if◌then◌else◌, is_some, List, Option, Some, None, IsTrue, IfSome, refl, ap, sym, ◌∙◌, subst, arith}
+use Rattle.std.proofs.lemmas.Option.{same_Some}
 use Rattle.std.specs.Option.{option_map, option_map_or}
 use Rattle.scoop_message.specs.declared.name.Block.{Block}
 use Rattle.scoop_message.specs.declared.name.HandlerId.{HandlerId}
@@ -38,9 +39,6 @@ moved_there event reply hs ks moves =
     ∙ ap (λ (h : HandlerId). handler_in h (with_handler moves.new hs)) (sym named)
     ∙ own_found number_in same_handler handler_decides moves.new moves.handler hs was
 
-some_same : {A : Type 0} (x y : A) → Some x ≡ Some y → x ≡ y
-some_same x y e = cc
-
 told_some : (x : Option Task) (l : Block × ℕ) → Some l ≡ option_map leaves x → IsTrue (is_some (option_map ran_of x))
 told_some None l e = cc
 told_some (Some t) l e = refl
@@ -61,7 +59,7 @@ entry_fewer pass h old new runs =
     let less : all_pending (advance c.state.queues) < all_pending c.state.queues =
     subst (λ (qs : List PrivateQueue). all_pending qs < all_pending c.state.queues) (ran_queues c (ready c) some) (fewer_pending c some) in
     let same : f.handler ≡ after_begin b.handler =
-    some_same f.handler b.new (sym f.here ∙ moved_there (Begin h) (Began (Some (leaves runs.task))) old.handlers runs.between.handlers b) ∙ b.moves.after in
+    same_Some f.handler b.new (sym f.here ∙ moved_there (Begin h) (Began (Some (leaves runs.task))) old.handlers runs.between.handlers b) ∙ b.moves.after in
     let now : pending_at h new.handlers ≡ all_pending (advance c.state.queues) =
     ap (λ (o : Option LocalHandler). option_map_or (λ (s : LocalHandler). all_pending s.core.state.queues) o 0)
     (moved_there (Finish h) (Finished (ran_of runs.task)) runs.between.handlers new.handlers f)
@@ -81,11 +79,11 @@ own_number : (c : Core) (o : Bool) (x : Option (Block × ℕ × Entry)) (t : Tas
     → t.handler ≡ c.state.number
 own_number c true x t e = cc
 own_number c false None t e = cc
-own_number c false (Some f) t e = sym (ap (λ (u : Task). u.handler) (some_same (task_of c f) t e))
+own_number c false (Some f) t e = sym (ap (λ (u : Task). u.handler) (same_Some (task_of c f) t e))
 
 pub if_here : {A : Type 0} (P : A → Type 0) (o : Option A) (x : A) → o ≡ Some x → IfSome o P → P x
 if_here P None x e is = cc
-if_here P (Some y) x e is = subst P (some_same y x e) is
+if_here P (Some y) x e is = subst P (same_Some y x e) is
 
 -- it is its handler's
 pub own_job : {K : Type 0} (pass : ℕ) (h : HandlerId) (told : Option (Block × ℕ)) (old between : BookValue K) (t : Task)
@@ -108,5 +106,5 @@ no_stranger pass h told old between t cause gains job why e =
     let here : handler_in h between.handlers ≡ Some stranger.handler =
     ap (λ (n : HandlerId). handler_in n between.handlers) (sym (own_job pass h told old between t gains job)) ∙ stranger.here in
     let same : stranger.handler ≡ after_begin b.handler =
-    some_same stranger.handler b.new (sym here ∙ moved_there (Begin h) (Began told) old.handlers between.handlers b) ∙ b.moves.after in
+    same_Some stranger.handler b.new (sym here ∙ moved_there (Begin h) (Began told) old.handlers between.handlers b) ∙ b.moves.after in
     stranger.other (ap (λ (s : LocalHandler). job_out s.core) same ∙ out_now c.out (first_task c) t is)

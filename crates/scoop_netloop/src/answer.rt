@@ -44,7 +44,8 @@ pub fn answer_datagram<B: Behaviour, K: Keeper<A>, A: Allocator + Copy>(
 ) -> Result<Answered, BookError>
     ensures ok { IfOk result (λ answered. AnswersDatagram pass datagram.now book.old book.new answered out.old out.new) }
     ensures limit { IfOk result IsWithinBuffer }
-    ensures stored { K.is_honest book.new.keeper → IfOk result (λ _. KeepsAnswered datagram.now book.new.handlers (K.handlers book.old.keeper) (K.handlers book.new.keeper)) }
+    ensures stored { K.is_honest book.new.keeper
+        → IfOk result (λ _. KeepsAnswered datagram.now book.new.handlers (K.handlers book.old.keeper) (K.handlers book.new.keeper)) }
     ensures refused { IfErr result (IsUnheard datagram.now book.old) }
     ensures stays { OnErr result (Stays book.old book.new) }
     ensures failed { IfErr result (λ e. book.new.failed ≡ (book.old.failed || fails e)) }

@@ -81,7 +81,8 @@ impl<'a, 'l, 'p, B: Behaviour, K: Keeper<A>, A: Allocator + Copy, L: Link, R: Wa
     for Receiving<'a, 'l, 'p, B, K, A, L, R> {
     type Output = (&'l mut L, &'p mut Pass<A>, ServeEnd);
 
-    ghost run_gives = { λ t r. (r.0.ghost_name ≡ t.link.ghost_name) × (r.1.ghost_name ≡ t.pass.ghost_name) × ServesPass false t.pass.now r.1.now (L.told t.link.now) (L.told r.0.now) };
+    ghost run_gives = { λ t r. (r.0.ghost_name ≡ t.link.ghost_name) × (r.1.ghost_name ≡ t.pass.ghost_name)
+        × ServesPass false t.pass.now r.1.now (L.told t.link.now) (L.told r.0.now) };
 
     fn run(self) -> (&'l mut L, &'p mut Pass<A>, ServeEnd) {
         let Receiving {

@@ -163,7 +163,8 @@ module _ (db new : Database) (rows : List Row) (all : List HandlerState) (same :
             found = None;
             before = missing_one handler (value_at (db.trees 1) handler) empty;
             after =
-                others_stay db new all handler apart saves Missing (missing_there handler (value_at (db.trees 1) handler) (value_at (db.trees 3) handler) empty);
+                others_stay db new all handler apart saves Missing
+                (missing_there handler (value_at (db.trees 1) handler) (value_at (db.trees 3) handler) empty);
           }
       go (Some r) some =
           let stands = has_found (has_rowid (pos handler)) (db.trees 1) r some in

@@ -26,10 +26,13 @@ fn take_tables<S: Alter>(alloc: Global, conn: &mut Connection<S>) -> Result<(), 
     ensures is_open { IsOpenOnOk result (state S.Store conn.old) (state S.Store conn.new) }
     ensures adopted { IsSound (state S.Store conn.new) → OnOk result (Adopts (state S.Store conn.old).now (state S.Store conn.new).now) }
     ensures refused { IsSound (state S.Store conn.new) → OnErr result ((state S.Store conn.new).now ≡ (state S.Store conn.old).now) }
-    ensures bad { IsSound (state S.Store conn.new) → (handler : HandlerId) → result ≡ Err (KeeperError.BadImage handler) → IsLowestBad (state S.Store conn.old).now handler.0 }
-    ensures wrong { IsSound (state S.Store conn.new) → result ≡ Err KeeperError.WrongSchema → IsLaidOut (state S.Store conn.old).now → IsWrongSchema (state S.Store conn.old).now }
+    ensures bad { IsSound (state S.Store conn.new) → (handler : HandlerId) → result ≡ Err (KeeperError.BadImage handler)
+        → IsLowestBad (state S.Store conn.old).now handler.0 }
+    ensures wrong { IsSound (state S.Store conn.new) → result ≡ Err KeeperError.WrongSchema → IsLaidOut (state S.Store conn.old).now
+        → IsWrongSchema (state S.Store conn.old).now }
     ensures named { IfErr result IsAdoptError }
-    ensures survives { Survives (state S.Store conn.old) (state S.Store conn.new) (λ trees. (db : Database) × Migrates (state S.Store conn.old).now db × (trees ≡ db.trees)) }
+    ensures survives { Survives (state S.Store conn.old) (state S.Store conn.new) (λ trees. (db : Database) × Migrates (state S.Store conn.old).now db
+        × (trees ≡ db.trees)) }
 {
     let Some(found) = version(conn)? else {
         return Err(KeeperError::WrongSchema);
@@ -60,12 +63,15 @@ pub fn adopt_tables<S: Alter>(alloc: Global, conn: &mut Connection<S>) -> Result
     ensures adopted { IsSound (state S.Store conn.new) → OnOk result (Adopts (state S.Store conn.old).now (state S.Store conn.new).now) }
     ensures inside { IsTrue conn.old.in_transaction → (result ≡ Err KeeperError.Refused) × (conn.new ≡ conn.old) }
     ensures refused { IsSound (state S.Store conn.new) → OnErr result ((state S.Store conn.new).now ≡ (state S.Store conn.old).now) }
-    ensures bad { IsSound (state S.Store conn.new) → (handler : HandlerId) → result ≡ Err (KeeperError.BadImage handler) → IsLowestBad (state S.Store conn.old).now handler.0 }
-    ensures wrong { IsSound (state S.Store conn.new) → result ≡ Err KeeperError.WrongSchema → IsLaidOut (state S.Store conn.old).now → IsWrongSchema (state S.Store conn.old).now }
+    ensures bad { IsSound (state S.Store conn.new) → (handler : HandlerId) → result ≡ Err (KeeperError.BadImage handler)
+        → IsLowestBad (state S.Store conn.old).now handler.0 }
+    ensures wrong { IsSound (state S.Store conn.new) → result ≡ Err KeeperError.WrongSchema → IsLaidOut (state S.Store conn.old).now
+        → IsWrongSchema (state S.Store conn.old).now }
     ensures named { IfErr result IsAdoptError }
     ensures sound { IsSound (state S.Store conn.new) → IsSound (state S.Store conn.old) }
     // A crash leaves what it could leave before the call, or the whole record in version 2.
-    ensures survives { Survives (state S.Store conn.old) (state S.Store conn.new) (λ trees. (db : Database) × Migrates (state S.Store conn.old).now db × (trees ≡ db.trees)) }
+    ensures survives { Survives (state S.Store conn.old) (state S.Store conn.new) (λ trees. (db : Database) × Migrates (state S.Store conn.old).now db
+        × (trees ≡ db.trees)) }
 {
     if !conn.is_autocommit() {
         return Err(KeeperError::Refused);

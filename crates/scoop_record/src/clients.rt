@@ -19,7 +19,8 @@ use sqlite::{Alter, Connection, Error, Row, Transaction, params};
 fn rows_of_client<S: Alter>(tx: &mut Transaction<'_, S>, client: u32) -> Result<Vec<Row>, Error>
     requires { IsSound (state S.Store tx.old.conn.now) → IsRecord (state S.Store tx.old.conn.now).now }
     ensures same_reference { tx.new.conn.ghost_name ≡ tx.old.conn.ghost_name }
-    ensures rows { HasCleanDisk (state S.Store tx.new.conn.now) → IfOk result (λ rows. IsUnchanged (state S.Store tx.old.conn.now) (state S.Store tx.new.conn.now)
+    ensures rows { HasCleanDisk (state S.Store tx.new.conn.now)
+        → IfOk result (λ rows. IsUnchanged (state S.Store tx.old.conn.now) (state S.Store tx.new.conn.now)
         × (length rows.items ≤ 1 → rows.items ≡ map (λ v. v ∷ []) (option_to_list (value_at ((state S.Store tx.old.conn.now).now.trees 2) client)))) }
     ensures kept { HasCleanDisk (state S.Store tx.new.conn.now) → KeepsCommit (state S.Store tx.old.conn.now) (state S.Store tx.new.conn.now) }
     ensures survives { Survives (state S.Store tx.old.conn.now) (state S.Store tx.new.conn.now) (λ _. ⊥) }
@@ -31,8 +32,10 @@ fn rows_of_client<S: Alter>(tx: &mut Transaction<'_, S>, client: u32) -> Result<
 fn put_inc<S: Alter>(tx: &mut Transaction<'_, S>, client: u32, inc: u32) -> Result<usize, Error>
     requires { IsSound (state S.Store tx.old.conn.now) → IsRecord (state S.Store tx.old.conn.now).now }
     ensures same_reference { tx.new.conn.ghost_name ≡ tx.old.conn.ghost_name }
-    ensures put { HasCleanDisk (state S.Store tx.new.conn.now) → OnOk result (Puts (state S.Store tx.old.conn.now).now (state S.Store tx.new.conn.now).now 2 client (Int (pos inc))
-        × Shows (state S.Store tx.old.conn.now) (state S.Store tx.new.conn.now) (state S.Store tx.new.conn.now).now (state S.Store tx.old.conn.now).committed true) }
+    ensures put { HasCleanDisk (state S.Store tx.new.conn.now)
+        → OnOk result (Puts (state S.Store tx.old.conn.now).now (state S.Store tx.new.conn.now).now 2 client (Int (pos inc))
+        × Shows (state S.Store tx.old.conn.now) (state S.Store tx.new.conn.now) (state S.Store tx.new.conn.now).now
+        (state S.Store tx.old.conn.now).committed true) }
     ensures kept { HasCleanDisk (state S.Store tx.new.conn.now) → KeepsCommit (state S.Store tx.old.conn.now) (state S.Store tx.new.conn.now) }
     ensures survives { Survives (state S.Store tx.old.conn.now) (state S.Store tx.new.conn.now) (λ _. ⊥) }
 {
@@ -44,8 +47,10 @@ fn put_inc<S: Alter>(tx: &mut Transaction<'_, S>, client: u32, inc: u32) -> Resu
 
 /// The incarnation after the one in the row, if there is one.
 fn next_in(rows: &[Row]) -> Result<u32, KeeperError>
-    ensures next { (stored : Option SqlValue) → (length rows.now ≤ 1 → rows.now ≡ map (λ v. v ∷ []) (option_to_list stored)) → IfOk result (λ inc. inc ≡ next_of (option_map inc_in stored)) }
-    ensures spent { (stored : Option SqlValue) → (length rows.now ≤ 1 → rows.now ≡ map (λ v. v ∷ []) (option_to_list stored)) → result ≡ Err KeeperError.IncarnationsSpent → option_map inc_in stored ≡ Some last_incarnation }
+    ensures next { (stored : Option SqlValue) → (length rows.now ≤ 1 → rows.now ≡ map (λ v. v ∷ []) (option_to_list stored))
+        → IfOk result (λ inc. inc ≡ next_of (option_map inc_in stored)) }
+    ensures spent { (stored : Option SqlValue) → (length rows.now ≤ 1 → rows.now ≡ map (λ v. v ∷ []) (option_to_list stored))
+        → result ≡ Err KeeperError.IncarnationsSpent → option_map inc_in stored ≡ Some last_incarnation }
     ensures named { IfErr result (λ e. IsPutError e ⊎ (e ≡ KeeperError.IncarnationsSpent)) }
 {
     let row = match rows {
@@ -67,9 +72,11 @@ fn next_in(rows: &[Row]) -> Result<u32, KeeperError>
 fn next_after<S: Alter>(tx: &mut Transaction<'_, S>, client: u32) -> Result<u32, KeeperError>
     requires { IsSound (state S.Store tx.old.conn.now) → IsRecord (state S.Store tx.old.conn.now).now }
     ensures same_reference { tx.new.conn.ghost_name ≡ tx.old.conn.ghost_name }
-    ensures next { HasCleanDisk (state S.Store tx.new.conn.now) → IfOk result (λ inc. IsUnchanged (state S.Store tx.old.conn.now) (state S.Store tx.new.conn.now)
+    ensures next { HasCleanDisk (state S.Store tx.new.conn.now)
+        → IfOk result (λ inc. IsUnchanged (state S.Store tx.old.conn.now) (state S.Store tx.new.conn.now)
         × (inc ≡ next_of (incs_in (state S.Store tx.old.conn.now).now.trees client))) }
-    ensures spent { HasCleanDisk (state S.Store tx.new.conn.now) → result ≡ Err KeeperError.IncarnationsSpent → incs_in (state S.Store tx.old.conn.now).now.trees client ≡ Some last_incarnation }
+    ensures spent { HasCleanDisk (state S.Store tx.new.conn.now) → result ≡ Err KeeperError.IncarnationsSpent
+        → incs_in (state S.Store tx.old.conn.now).now.trees client ≡ Some last_incarnation }
     ensures named { IfErr result (λ e. IsPutError e ⊎ (e ≡ KeeperError.IncarnationsSpent)) }
     ensures kept { HasCleanDisk (state S.Store tx.new.conn.now) → KeepsCommit (state S.Store tx.old.conn.now) (state S.Store tx.new.conn.now) }
     ensures survives { Survives (state S.Store tx.old.conn.now) (state S.Store tx.new.conn.now) (λ _. ⊥) }
@@ -90,10 +97,12 @@ pub(crate) fn advance<S: Alter>(conn: &mut Connection<S>, client: u32) -> Result
     ensures is_open { IsOpenOnOk result (state S.Store conn.new) (state S.Store conn.new) }
     ensures next { IsSound (state S.Store conn.new) → IfOk result (λ inc. (inc ≡ next_of (incs_in (state S.Store conn.old).now.trees client))
         × Advances (state S.Store conn.old).now (state S.Store conn.new).now client) }
-    ensures spent { IsSound (state S.Store conn.new) → result ≡ Err KeeperError.IncarnationsSpent → incs_in (state S.Store conn.old).now.trees client ≡ Some last_incarnation }
+    ensures spent { IsSound (state S.Store conn.new) → result ≡ Err KeeperError.IncarnationsSpent
+        → incs_in (state S.Store conn.old).now.trees client ≡ Some last_incarnation }
     ensures refused { IsSound (state S.Store conn.new) → OnErr result ((state S.Store conn.new).now ≡ (state S.Store conn.old).now) }
     ensures named { IfErr result (λ e. IsPutError e ⊎ (e ≡ KeeperError.IncarnationsSpent)) }
-    ensures survives { Survives (state S.Store conn.old) (state S.Store conn.new) (λ trees. (db : Database) × Advances (state S.Store conn.old).now db client × (trees ≡ db.trees)) }
+    ensures survives { Survives (state S.Store conn.old) (state S.Store conn.new) (λ trees. (db : Database)
+        × Advances (state S.Store conn.old).now db client × (trees ≡ db.trees)) }
 {
     let mut tx = conn.transaction();
     let next = next_after(&mut tx, client)?;

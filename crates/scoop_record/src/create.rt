@@ -18,8 +18,10 @@ use sqlite::{Alter, Connection, Error, Transaction, params};
 fn create_meta<S: Alter>(tx: &mut Transaction<'_, S>) -> Result<usize, Error>
     requires { IsSound (state S.Store tx.old.conn.now) → (state S.Store tx.old.conn.now).now.schema ≡ no_schema }
     ensures same_reference { tx.new.conn.ghost_name ≡ tx.old.conn.ghost_name }
-    ensures made { HasCleanDisk (state S.Store tx.new.conn.now) → OnOk result (Makes (state S.Store tx.old.conn.now).now (state S.Store tx.new.conn.now).now no_schema meta_schema 0
-        × Shows (state S.Store tx.old.conn.now) (state S.Store tx.new.conn.now) (state S.Store tx.new.conn.now).now (state S.Store tx.old.conn.now).committed true) }
+    ensures made { HasCleanDisk (state S.Store tx.new.conn.now)
+        → OnOk result (Makes (state S.Store tx.old.conn.now).now (state S.Store tx.new.conn.now).now no_schema meta_schema 0
+        × Shows (state S.Store tx.old.conn.now) (state S.Store tx.new.conn.now) (state S.Store tx.new.conn.now).now
+        (state S.Store tx.old.conn.now).committed true) }
     ensures kept { HasCleanDisk (state S.Store tx.new.conn.now) → KeepsCommit (state S.Store tx.old.conn.now) (state S.Store tx.new.conn.now) }
     ensures survives { Survives (state S.Store tx.old.conn.now) (state S.Store tx.new.conn.now) (λ _. ⊥) }
 {
@@ -32,8 +34,10 @@ fn create_meta<S: Alter>(tx: &mut Transaction<'_, S>) -> Result<usize, Error>
 fn create_handlers<S: Alter>(tx: &mut Transaction<'_, S>) -> Result<usize, Error>
     requires { IsSound (state S.Store tx.old.conn.now) → (state S.Store tx.old.conn.now).now.schema ≡ meta_schema }
     ensures same_reference { tx.new.conn.ghost_name ≡ tx.old.conn.ghost_name }
-    ensures made { HasCleanDisk (state S.Store tx.new.conn.now) → OnOk result (Makes (state S.Store tx.old.conn.now).now (state S.Store tx.new.conn.now).now meta_schema two_schema 1
-        × Shows (state S.Store tx.old.conn.now) (state S.Store tx.new.conn.now) (state S.Store tx.new.conn.now).now (state S.Store tx.old.conn.now).committed true) }
+    ensures made { HasCleanDisk (state S.Store tx.new.conn.now)
+        → OnOk result (Makes (state S.Store tx.old.conn.now).now (state S.Store tx.new.conn.now).now meta_schema two_schema 1
+        × Shows (state S.Store tx.old.conn.now) (state S.Store tx.new.conn.now) (state S.Store tx.new.conn.now).now
+        (state S.Store tx.old.conn.now).committed true) }
     ensures kept { HasCleanDisk (state S.Store tx.new.conn.now) → KeepsCommit (state S.Store tx.old.conn.now) (state S.Store tx.new.conn.now) }
     ensures survives { Survives (state S.Store tx.old.conn.now) (state S.Store tx.new.conn.now) (λ _. ⊥) }
 {
@@ -46,8 +50,10 @@ fn create_handlers<S: Alter>(tx: &mut Transaction<'_, S>) -> Result<usize, Error
 fn create_clients<S: Alter>(tx: &mut Transaction<'_, S>) -> Result<usize, Error>
     requires { IsSound (state S.Store tx.old.conn.now) → (state S.Store tx.old.conn.now).now.schema ≡ two_schema }
     ensures same_reference { tx.new.conn.ghost_name ≡ tx.old.conn.ghost_name }
-    ensures made { HasCleanDisk (state S.Store tx.new.conn.now) → OnOk result (Makes (state S.Store tx.old.conn.now).now (state S.Store tx.new.conn.now).now two_schema first_schema 2
-        × Shows (state S.Store tx.old.conn.now) (state S.Store tx.new.conn.now) (state S.Store tx.new.conn.now).now (state S.Store tx.old.conn.now).committed true) }
+    ensures made { HasCleanDisk (state S.Store tx.new.conn.now)
+        → OnOk result (Makes (state S.Store tx.old.conn.now).now (state S.Store tx.new.conn.now).now two_schema first_schema 2
+        × Shows (state S.Store tx.old.conn.now) (state S.Store tx.new.conn.now) (state S.Store tx.new.conn.now).now
+        (state S.Store tx.old.conn.now).committed true) }
     ensures kept { HasCleanDisk (state S.Store tx.new.conn.now) → KeepsCommit (state S.Store tx.old.conn.now) (state S.Store tx.new.conn.now) }
     ensures survives { Survives (state S.Store tx.old.conn.now) (state S.Store tx.new.conn.now) (λ _. ⊥) }
 {
@@ -60,8 +66,10 @@ fn create_clients<S: Alter>(tx: &mut Transaction<'_, S>) -> Result<usize, Error>
 pub(crate) fn create_pending<S: Alter>(tx: &mut Transaction<'_, S>) -> Result<usize, Error>
     requires { IsSound (state S.Store tx.old.conn.now) → (state S.Store tx.old.conn.now).now.schema ≡ first_schema }
     ensures same_reference { tx.new.conn.ghost_name ≡ tx.old.conn.ghost_name }
-    ensures made { HasCleanDisk (state S.Store tx.new.conn.now) → OnOk result (Makes (state S.Store tx.old.conn.now).now (state S.Store tx.new.conn.now).now first_schema record_schema 3
-        × Shows (state S.Store tx.old.conn.now) (state S.Store tx.new.conn.now) (state S.Store tx.new.conn.now).now (state S.Store tx.old.conn.now).committed true) }
+    ensures made { HasCleanDisk (state S.Store tx.new.conn.now)
+        → OnOk result (Makes (state S.Store tx.old.conn.now).now (state S.Store tx.new.conn.now).now first_schema record_schema 3
+        × Shows (state S.Store tx.old.conn.now) (state S.Store tx.new.conn.now) (state S.Store tx.new.conn.now).now
+        (state S.Store tx.old.conn.now).committed true) }
     ensures kept { HasCleanDisk (state S.Store tx.new.conn.now) → KeepsCommit (state S.Store tx.old.conn.now) (state S.Store tx.new.conn.now) }
     ensures survives { Survives (state S.Store tx.old.conn.now) (state S.Store tx.new.conn.now) (λ _. ⊥) }
 {
@@ -74,10 +82,12 @@ pub(crate) fn create_pending<S: Alter>(tx: &mut Transaction<'_, S>) -> Result<us
 fn put_version<S: Alter>(tx: &mut Transaction<'_, S>, version: u32) -> Result<usize, Error>
     requires { IsSound (state S.Store tx.old.conn.now) → (state S.Store tx.old.conn.now).now.schema ≡ record_schema }
     ensures same_reference { tx.new.conn.ghost_name ≡ tx.old.conn.ghost_name }
-    ensures put { HasCleanDisk (state S.Store tx.new.conn.now) → OnOk result ((Puts (state S.Store tx.old.conn.now).now (state S.Store tx.new.conn.now).now 0 1 (Int (pos version))
+    ensures put { HasCleanDisk (state S.Store tx.new.conn.now)
+        → OnOk result ((Puts (state S.Store tx.old.conn.now).now (state S.Store tx.new.conn.now).now 0 1 (Int (pos version))
         × IsDatabase (state S.Store tx.new.conn.now).now
         × ((state S.Store tx.old.conn.now).now.trees 0 ≡ [] → (state S.Store tx.new.conn.now).now.trees 0 ≡ row_of 1 (Int (pos version)) ∷ []))
-        × Shows (state S.Store tx.old.conn.now) (state S.Store tx.new.conn.now) (state S.Store tx.new.conn.now).now (state S.Store tx.old.conn.now).committed true) }
+        × Shows (state S.Store tx.old.conn.now) (state S.Store tx.new.conn.now) (state S.Store tx.new.conn.now).now
+        (state S.Store tx.old.conn.now).committed true) }
     ensures kept { HasCleanDisk (state S.Store tx.new.conn.now) → KeepsCommit (state S.Store tx.old.conn.now) (state S.Store tx.new.conn.now) }
     ensures survives { Survives (state S.Store tx.old.conn.now) (state S.Store tx.new.conn.now) (λ _. ⊥) }
 {
@@ -91,7 +101,8 @@ fn make_all<S: Alter>(tx: &mut Transaction<'_, S>, version: u32) -> Result<(), E
     requires { IsSound (state S.Store tx.old.conn.now) → (state S.Store tx.old.conn.now).now.schema ≡ no_schema }
     ensures same_reference { tx.new.conn.ghost_name ≡ tx.old.conn.ghost_name }
     ensures made { HasCleanDisk (state S.Store tx.new.conn.now) → OnOk result (IsNewRecord (state S.Store tx.new.conn.now).now version
-        × Shows (state S.Store tx.old.conn.now) (state S.Store tx.new.conn.now) (state S.Store tx.new.conn.now).now (state S.Store tx.old.conn.now).committed true) }
+        × Shows (state S.Store tx.old.conn.now) (state S.Store tx.new.conn.now) (state S.Store tx.new.conn.now).now
+        (state S.Store tx.old.conn.now).committed true) }
     ensures kept { HasCleanDisk (state S.Store tx.new.conn.now) → KeepsCommit (state S.Store tx.old.conn.now) (state S.Store tx.new.conn.now) }
     ensures survives { Survives (state S.Store tx.old.conn.now) (state S.Store tx.new.conn.now) (λ _. ⊥) }
 {
@@ -106,11 +117,13 @@ fn make_all<S: Alter>(tx: &mut Transaction<'_, S>, version: u32) -> Result<(), E
 /// The tables are made in one transaction.
 fn make_tables<S: Alter>(conn: &mut Connection<S>, version: u32) -> Result<(), KeeperError>
     requires mode { conn.old.in_transaction ≡ false }
-    requires blank { IsSound (state S.Store conn.old) → ((state S.Store conn.old).now.schema ≡ no_schema) × ((state S.Store conn.old).now ≡ (state S.Store conn.old).committed) }
+    requires blank { IsSound (state S.Store conn.old) → ((state S.Store conn.old).now.schema ≡ no_schema)
+        × ((state S.Store conn.old).now ≡ (state S.Store conn.old).committed) }
     ensures mode { conn.new.in_transaction ≡ false }
     ensures sound { IsSound (state S.Store conn.new) → IsSound (state S.Store conn.old) }
     ensures is_open { IsOpenOnOk result (state S.Store conn.new) (state S.Store conn.new) }
-    ensures made { IsSound (state S.Store conn.new) → OnOk result (IsNewRecord (state S.Store conn.new).now version × ((state S.Store conn.new).now ≡ (state S.Store conn.new).committed)) }
+    ensures made { IsSound (state S.Store conn.new)
+        → OnOk result (IsNewRecord (state S.Store conn.new).now version × ((state S.Store conn.new).now ≡ (state S.Store conn.new).committed)) }
     ensures refused { IsSound (state S.Store conn.new) → OnErr result ((state S.Store conn.new).now ≡ (state S.Store conn.old).now) }
     ensures named { IfErr result IsPutError }
     ensures survives { Survives (state S.Store conn.old) (state S.Store conn.new) (λ trees. (db : Database) × IsNewRecord db version × (trees ≡ db.trees)) }

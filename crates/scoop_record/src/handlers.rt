@@ -24,7 +24,8 @@ use std::alloc::Global;
 fn rows_of_handler<S: Alter>(tx: &mut Transaction<'_, S>, handler: u32) -> Result<Vec<Row>, Error>
     requires { IsSound (state S.Store tx.old.conn.now) → IsRecord (state S.Store tx.old.conn.now).now }
     ensures same_reference { tx.new.conn.ghost_name ≡ tx.old.conn.ghost_name }
-    ensures rows { HasCleanDisk (state S.Store tx.new.conn.now) → IfOk result (λ rows. IsUnchanged (state S.Store tx.old.conn.now) (state S.Store tx.new.conn.now)
+    ensures rows { HasCleanDisk (state S.Store tx.new.conn.now)
+        → IfOk result (λ rows. IsUnchanged (state S.Store tx.old.conn.now) (state S.Store tx.new.conn.now)
         × (length rows.items ≤ 1 → rows.items ≡ map (λ v. v ∷ []) (option_to_list (value_at ((state S.Store tx.old.conn.now).now.trees 1) handler)))) }
     ensures kept { HasCleanDisk (state S.Store tx.new.conn.now) → KeepsCommit (state S.Store tx.old.conn.now) (state S.Store tx.new.conn.now) }
     ensures survives { Survives (state S.Store tx.old.conn.now) (state S.Store tx.new.conn.now) (λ _. ⊥) }
@@ -36,7 +37,8 @@ fn rows_of_handler<S: Alter>(tx: &mut Transaction<'_, S>, handler: u32) -> Resul
 fn rows_of_pending<S: Alter>(tx: &mut Transaction<'_, S>, handler: u32) -> Result<Vec<Row>, Error>
     requires { IsSound (state S.Store tx.old.conn.now) → IsRecord (state S.Store tx.old.conn.now).now }
     ensures same_reference { tx.new.conn.ghost_name ≡ tx.old.conn.ghost_name }
-    ensures rows { HasCleanDisk (state S.Store tx.new.conn.now) → IfOk result (λ rows. IsUnchanged (state S.Store tx.old.conn.now) (state S.Store tx.new.conn.now)
+    ensures rows { HasCleanDisk (state S.Store tx.new.conn.now)
+        → IfOk result (λ rows. IsUnchanged (state S.Store tx.old.conn.now) (state S.Store tx.new.conn.now)
         × (length rows.items ≤ 1 → rows.items ≡ map (λ v. v ∷ []) (option_to_list (value_at ((state S.Store tx.old.conn.now).now.trees 3) handler)))) }
     ensures kept { HasCleanDisk (state S.Store tx.new.conn.now) → KeepsCommit (state S.Store tx.old.conn.now) (state S.Store tx.new.conn.now) }
     ensures survives { Survives (state S.Store tx.old.conn.now) (state S.Store tx.new.conn.now) (λ _. ⊥) }
@@ -52,8 +54,10 @@ fn put_image<S: Alter>(
 ) -> Result<usize, Error>
     requires { IsSound (state S.Store tx.old.conn.now) → IsRecord (state S.Store tx.old.conn.now).now }
     ensures same_reference { tx.new.conn.ghost_name ≡ tx.old.conn.ghost_name }
-    ensures put { HasCleanDisk (state S.Store tx.new.conn.now) → OnOk result (Puts (state S.Store tx.old.conn.now).now (state S.Store tx.new.conn.now).now 1 handler (Blob image.now)
-        × Shows (state S.Store tx.old.conn.now) (state S.Store tx.new.conn.now) (state S.Store tx.new.conn.now).now (state S.Store tx.old.conn.now).committed true) }
+    ensures put { HasCleanDisk (state S.Store tx.new.conn.now)
+        → OnOk result (Puts (state S.Store tx.old.conn.now).now (state S.Store tx.new.conn.now).now 1 handler (Blob image.now)
+        × Shows (state S.Store tx.old.conn.now) (state S.Store tx.new.conn.now) (state S.Store tx.new.conn.now).now
+        (state S.Store tx.old.conn.now).committed true) }
     ensures kept { HasCleanDisk (state S.Store tx.new.conn.now) → KeepsCommit (state S.Store tx.old.conn.now) (state S.Store tx.new.conn.now) }
     ensures survives { Survives (state S.Store tx.old.conn.now) (state S.Store tx.new.conn.now) (λ _. ⊥) }
 {
@@ -71,8 +75,10 @@ fn put_entries<S: Alter>(
 ) -> Result<usize, Error>
     requires { IsSound (state S.Store tx.old.conn.now) → IsRecord (state S.Store tx.old.conn.now).now }
     ensures same_reference { tx.new.conn.ghost_name ≡ tx.old.conn.ghost_name }
-    ensures put { HasCleanDisk (state S.Store tx.new.conn.now) → OnOk result (Puts (state S.Store tx.old.conn.now).now (state S.Store tx.new.conn.now).now 3 handler (Blob entries.now)
-        × Shows (state S.Store tx.old.conn.now) (state S.Store tx.new.conn.now) (state S.Store tx.new.conn.now).now (state S.Store tx.old.conn.now).committed true) }
+    ensures put { HasCleanDisk (state S.Store tx.new.conn.now)
+        → OnOk result (Puts (state S.Store tx.old.conn.now).now (state S.Store tx.new.conn.now).now 3 handler (Blob entries.now)
+        × Shows (state S.Store tx.old.conn.now) (state S.Store tx.new.conn.now) (state S.Store tx.new.conn.now).now
+        (state S.Store tx.old.conn.now).committed true) }
     ensures kept { HasCleanDisk (state S.Store tx.new.conn.now) → KeepsCommit (state S.Store tx.old.conn.now) (state S.Store tx.new.conn.now) }
     ensures survives { Survives (state S.Store tx.old.conn.now) (state S.Store tx.new.conn.now) (λ _. ⊥) }
 {
@@ -84,7 +90,8 @@ fn put_entries<S: Alter>(
 
 /// The bytes in the row, if there is one.
 fn bytes_of(rows: &[Row]) -> Result<Option<Vec<u8>>, KeeperError>
-    ensures bytes { (stored : Option SqlValue) → (length rows.now ≤ 1 → rows.now ≡ map (λ v. v ∷ []) (option_to_list stored)) → IfOk result (λ found. stored ≡ option_map (λ b. Blob b.items) found) }
+    ensures bytes { (stored : Option SqlValue) → (length rows.now ≤ 1 → rows.now ≡ map (λ v. v ∷ []) (option_to_list stored))
+        → IfOk result (λ found. stored ≡ option_map (λ b. Blob b.items) found) }
     ensures named { IfErr result IsPutError }
 {
     let row = match rows {
@@ -105,9 +112,11 @@ fn state_of(
     image: Option<Vec<u8>>,
     entries: Option<Vec<u8>>,
 ) -> Result<Option<HandlerState>, KeeperError>
-    ensures loaded { IfOk result (λ found. IsTheOne (Has handler.0 (option_map (λ b. Blob b.items) image) (option_map (λ b. Blob b.items) entries)) (stored_of found)) }
+    ensures loaded { IfOk result
+        (λ found. IsTheOne (Has handler.0 (option_map (λ b. Blob b.items) image) (option_map (λ b. Blob b.items) entries)) (stored_of found)) }
     ensures own { IfOk result (λ found. IfSome found (λ s. s.number ≡ handler)) }
-    ensures bad { result ≡ Err (KeeperError.BadImage handler) → IsTheOne (Has handler.0 (option_map (λ b. Blob b.items) image) (option_map (λ b. Blob b.items) entries)) Damaged }
+    ensures bad { result ≡ Err (KeeperError.BadImage handler)
+        → IsTheOne (Has handler.0 (option_map (λ b. Blob b.items) image) (option_map (λ b. Blob b.items) entries)) Damaged }
     ensures named { IfErr result (λ e. IsPutError e ⊎ (e ≡ KeeperError.BadImage handler)) }
 {
     let Some(image) = image else {
@@ -132,8 +141,10 @@ pub(crate) fn put_both<S: Alter>(
 ) -> Result<(), KeeperError>
     requires { IsSound (state S.Store tx.old.conn.now) → IsRecord (state S.Store tx.old.conn.now).now }
     ensures same_reference { tx.new.conn.ghost_name ≡ tx.old.conn.ghost_name }
-    ensures put { HasCleanDisk (state S.Store tx.new.conn.now) → OnOk result (PutsBoth (state S.Store tx.old.conn.now).now (state S.Store tx.new.conn.now).now handler image.now entries.now
-        × Shows (state S.Store tx.old.conn.now) (state S.Store tx.new.conn.now) (state S.Store tx.new.conn.now).now (state S.Store tx.old.conn.now).committed true) }
+    ensures put { HasCleanDisk (state S.Store tx.new.conn.now)
+        → OnOk result (PutsBoth (state S.Store tx.old.conn.now).now (state S.Store tx.new.conn.now).now handler image.now entries.now
+        × Shows (state S.Store tx.old.conn.now) (state S.Store tx.new.conn.now) (state S.Store tx.new.conn.now).now
+        (state S.Store tx.old.conn.now).committed true) }
     ensures kept { HasCleanDisk (state S.Store tx.new.conn.now) → KeepsCommit (state S.Store tx.old.conn.now) (state S.Store tx.new.conn.now) }
     ensures named { IfErr result IsPutError }
     ensures survives { Survives (state S.Store tx.old.conn.now) (state S.Store tx.new.conn.now) (λ _. ⊥) }
@@ -160,10 +171,12 @@ pub(crate) fn write_state<S: Alter>(
     ensures ready { IsReady (state S.Store conn.new) }
     ensures sound { IsSound (state S.Store conn.new) → IsSound (state S.Store conn.old) }
     ensures is_open { IsOpenOnOk result (state S.Store conn.new) (state S.Store conn.new) }
-    ensures written { IsSound (state S.Store conn.new) → OnOk result (PutsBoth (state S.Store conn.old).now (state S.Store conn.new).now handler image.now entries.now) }
+    ensures written { IsSound (state S.Store conn.new)
+        → OnOk result (PutsBoth (state S.Store conn.old).now (state S.Store conn.new).now handler image.now entries.now) }
     ensures refused { IsSound (state S.Store conn.new) → OnErr result ((state S.Store conn.new).now ≡ (state S.Store conn.old).now) }
     ensures named { IfErr result IsPutError }
-    ensures survives { Survives (state S.Store conn.old) (state S.Store conn.new) (λ trees. (db : Database) × PutsBoth (state S.Store conn.old).now db handler image.now entries.now × (trees ≡ db.trees)) }
+    ensures survives { Survives (state S.Store conn.old) (state S.Store conn.new) (λ trees. (db : Database)
+        × PutsBoth (state S.Store conn.old).now db handler image.now entries.now × (trees ≡ db.trees)) }
 {
     let mut tx = conn.transaction();
     put_both(&mut tx, handler, image, entries)?;
@@ -182,9 +195,11 @@ fn find_state<S: Alter>(
     requires { IsSound (state S.Store tx.old.conn.now) → IsRecord (state S.Store tx.old.conn.now).now }
     ensures same_reference { tx.new.conn.ghost_name ≡ tx.old.conn.ghost_name }
     ensures is_open { IsOpenOnOk result (state S.Store tx.old.conn.now) (state S.Store tx.new.conn.now) }
-    ensures loaded { HasCleanDisk (state S.Store tx.new.conn.now) → IfOk result (λ found. IsTheOne (handlers_in (state S.Store tx.old.conn.now).now.trees handler.0) (stored_of found)) }
+    ensures loaded { HasCleanDisk (state S.Store tx.new.conn.now)
+        → IfOk result (λ found. IsTheOne (handlers_in (state S.Store tx.old.conn.now).now.trees handler.0) (stored_of found)) }
     ensures own { IfOk result (λ found. IfSome found (λ s. s.number ≡ handler)) }
-    ensures bad { HasCleanDisk (state S.Store tx.new.conn.now) → result ≡ Err (KeeperError.BadImage handler) → IsTheOne (handlers_in (state S.Store tx.old.conn.now).now.trees handler.0) Damaged }
+    ensures bad { HasCleanDisk (state S.Store tx.new.conn.now) → result ≡ Err (KeeperError.BadImage handler)
+        → IsTheOne (handlers_in (state S.Store tx.old.conn.now).now.trees handler.0) Damaged }
     ensures kept { HasCleanDisk (state S.Store tx.new.conn.now) → KeepsCommit (state S.Store tx.old.conn.now) (state S.Store tx.new.conn.now) }
     ensures named { IfErr result (λ e. IsPutError e ⊎ (e ≡ KeeperError.BadImage handler)) }
     ensures survives { Survives (state S.Store tx.old.conn.now) (state S.Store tx.new.conn.now) (λ _. ⊥) }
@@ -215,9 +230,11 @@ pub(crate) fn load<S: Alter>(
     ensures sound { IsSound (state S.Store conn.new) → IsSound (state S.Store conn.old) }
     ensures same { IsSound (state S.Store conn.new) → (state S.Store conn.new).now ≡ (state S.Store conn.old).now }
     ensures is_open { IsOpenOnOk result (state S.Store conn.old) (state S.Store conn.new) }
-    ensures loaded { HasCleanDisk (state S.Store conn.new) → IfOk result (λ found. IsTheOne (handlers_in (state S.Store conn.old).now.trees handler.0) (stored_of found)) }
+    ensures loaded { HasCleanDisk (state S.Store conn.new)
+        → IfOk result (λ found. IsTheOne (handlers_in (state S.Store conn.old).now.trees handler.0) (stored_of found)) }
     ensures own { IfOk result (λ found. IfSome found (λ s. s.number ≡ handler)) }
-    ensures bad { HasCleanDisk (state S.Store conn.new) → result ≡ Err (KeeperError.BadImage handler) → IsTheOne (handlers_in (state S.Store conn.old).now.trees handler.0) Damaged }
+    ensures bad { HasCleanDisk (state S.Store conn.new) → result ≡ Err (KeeperError.BadImage handler)
+        → IsTheOne (handlers_in (state S.Store conn.old).now.trees handler.0) Damaged }
     ensures named { IfErr result (λ e. IsPutError e ⊎ (e ≡ KeeperError.BadImage handler)) }
     ensures survives { Survives (state S.Store conn.old) (state S.Store conn.new) (λ _. ⊥) }
 {

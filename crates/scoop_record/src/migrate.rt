@@ -28,7 +28,8 @@ use std::alloc::Global;
 fn rows_of_handlers<S: Alter>(tx: &mut Transaction<'_, S>) -> Result<Vec<Row>, Error>
     requires { IsSound (state S.Store tx.old.conn.now) → IsRecord (state S.Store tx.old.conn.now).now }
     ensures same_reference { tx.new.conn.ghost_name ≡ tx.old.conn.ghost_name }
-    ensures rows { HasCleanDisk (state S.Store tx.new.conn.now) → IfOk result (λ rows. IsUnchanged (state S.Store tx.old.conn.now) (state S.Store tx.new.conn.now)
+    ensures rows { HasCleanDisk (state S.Store tx.new.conn.now)
+        → IfOk result (λ rows. IsUnchanged (state S.Store tx.old.conn.now) (state S.Store tx.new.conn.now)
         × IsPermutation (map keyed_value ((state S.Store tx.old.conn.now).now.trees 1)) rows.items) }
     ensures kept { HasCleanDisk (state S.Store tx.new.conn.now) → KeepsCommit (state S.Store tx.old.conn.now) (state S.Store tx.new.conn.now) }
     ensures survives { Survives (state S.Store tx.old.conn.now) (state S.Store tx.new.conn.now) (λ _. ⊥) }
@@ -38,10 +39,14 @@ fn rows_of_handlers<S: Alter>(tx: &mut Transaction<'_, S>) -> Result<Vec<Row>, E
 
 /// The version becomes this one, where there is one.
 fn raise_version<S: Alter>(tx: &mut Transaction<'_, S>, version: u32) -> Result<usize, Error>
-    requires { IsSound (state S.Store tx.old.conn.now) → IsRecord (state S.Store tx.old.conn.now).now × (value_at ((state S.Store tx.old.conn.now).now.trees 0) 1 ≡ Some (Int (pos 1))) }
+    requires { IsSound (state S.Store tx.old.conn.now) → IsRecord (state S.Store tx.old.conn.now).now
+        × (value_at ((state S.Store tx.old.conn.now).now.trees 0) 1 ≡ Some (Int (pos 1))) }
     ensures same_reference { tx.new.conn.ghost_name ≡ tx.old.conn.ghost_name }
-    ensures put { HasCleanDisk (state S.Store tx.new.conn.now) → OnOk result ((Puts (state S.Store tx.old.conn.now).now (state S.Store tx.new.conn.now).now 0 1 (Int (pos version)) × IsDatabase (state S.Store tx.new.conn.now).now)
-        × Shows (state S.Store tx.old.conn.now) (state S.Store tx.new.conn.now) (state S.Store tx.new.conn.now).now (state S.Store tx.old.conn.now).committed true) }
+    ensures put { HasCleanDisk (state S.Store tx.new.conn.now)
+        → OnOk result ((Puts (state S.Store tx.old.conn.now).now (state S.Store tx.new.conn.now).now 0 1 (Int (pos version))
+        × IsDatabase (state S.Store tx.new.conn.now).now)
+        × Shows (state S.Store tx.old.conn.now) (state S.Store tx.new.conn.now) (state S.Store tx.new.conn.now).now
+        (state S.Store tx.old.conn.now).committed true) }
     ensures kept { HasCleanDisk (state S.Store tx.new.conn.now) → KeepsCommit (state S.Store tx.old.conn.now) (state S.Store tx.new.conn.now) }
     ensures survives { Survives (state S.Store tx.old.conn.now) (state S.Store tx.new.conn.now) (λ _. ⊥) }
 {
@@ -59,8 +64,10 @@ fn put_state<S: Alter>(
 ) -> Result<(), KeeperError>
     requires { IsSound (state S.Store tx.old.conn.now) → IsRecord (state S.Store tx.old.conn.now).now }
     ensures same_reference { tx.new.conn.ghost_name ≡ tx.old.conn.ghost_name }
-    ensures put { HasCleanDisk (state S.Store tx.new.conn.now) → OnOk result (IsState it.now × InRange it.now × Saves (state S.Store tx.old.conn.now).now (state S.Store tx.new.conn.now).now it.now
-        × Shows (state S.Store tx.old.conn.now) (state S.Store tx.new.conn.now) (state S.Store tx.new.conn.now).now (state S.Store tx.old.conn.now).committed true) }
+    ensures put { HasCleanDisk (state S.Store tx.new.conn.now)
+        → OnOk result (IsState it.now × InRange it.now × Saves (state S.Store tx.old.conn.now).now (state S.Store tx.new.conn.now).now it.now
+        × Shows (state S.Store tx.old.conn.now) (state S.Store tx.new.conn.now) (state S.Store tx.new.conn.now).now
+        (state S.Store tx.old.conn.now).committed true) }
     ensures kept { HasCleanDisk (state S.Store tx.new.conn.now) → KeepsCommit (state S.Store tx.old.conn.now) (state S.Store tx.new.conn.now) }
     ensures named { IfErr result IsPutError }
     ensures survives { Survives (state S.Store tx.old.conn.now) (state S.Store tx.new.conn.now) (λ _. ⊥) }
@@ -79,7 +86,8 @@ fn put_states<S: Alter>(
 ) -> Result<(), KeeperError>
     requires { IsSound (state S.Store tx.old.conn.now) → IsRecord (state S.Store tx.old.conn.now).now }
     ensures same_reference { tx.new.conn.ghost_name ≡ tx.old.conn.ghost_name }
-    ensures put { IsSound (state S.Store tx.new.conn.now) → OnOk result (SavesAll (state S.Store tx.old.conn.now).now (state S.Store tx.new.conn.now).now all.now) }
+    ensures put { IsSound (state S.Store tx.new.conn.now)
+        → OnOk result (SavesAll (state S.Store tx.old.conn.now).now (state S.Store tx.new.conn.now).now all.now) }
     ensures kept { HasCleanDisk (state S.Store tx.new.conn.now) → KeepsCommit (state S.Store tx.old.conn.now) (state S.Store tx.new.conn.now) }
     ensures named { IfErr result IsPutError }
     ensures survives { Survives (state S.Store tx.old.conn.now) (state S.Store tx.new.conn.now) (λ _. ⊥) }
@@ -92,12 +100,16 @@ fn put_states<S: Alter>(
 
 /// The tables of version 1 become those of version 2, in the transaction.
 fn migrate_in<S: Alter>(alloc: Global, tx: &mut Transaction<'_, S>) -> Result<(), KeeperError>
-    requires { IsSound (state S.Store tx.old.conn.now) → IsFirstRecord (state S.Store tx.old.conn.now).now × (value_at ((state S.Store tx.old.conn.now).now.trees 0) 1 ≡ Some (Int (pos 1))) }
+    requires { IsSound (state S.Store tx.old.conn.now) → IsFirstRecord (state S.Store tx.old.conn.now).now
+        × (value_at ((state S.Store tx.old.conn.now).now.trees 0) 1 ≡ Some (Int (pos 1))) }
     ensures same_reference { tx.new.conn.ghost_name ≡ tx.old.conn.ghost_name }
-    ensures migrated { HasCleanDisk (state S.Store tx.new.conn.now) → OnOk result (Migrates (state S.Store tx.old.conn.now).now (state S.Store tx.new.conn.now).now) }
-    ensures inside { HasCleanDisk (state S.Store tx.new.conn.now) → OnOk result (IsTrue (state S.Store tx.new.conn.now).is_open × IsTrue (state S.Store tx.new.conn.now).in_transaction) }
+    ensures migrated { HasCleanDisk (state S.Store tx.new.conn.now)
+        → OnOk result (Migrates (state S.Store tx.old.conn.now).now (state S.Store tx.new.conn.now).now) }
+    ensures inside { HasCleanDisk (state S.Store tx.new.conn.now)
+        → OnOk result (IsTrue (state S.Store tx.new.conn.now).is_open × IsTrue (state S.Store tx.new.conn.now).in_transaction) }
     ensures kept { HasCleanDisk (state S.Store tx.new.conn.now) → KeepsCommit (state S.Store tx.old.conn.now) (state S.Store tx.new.conn.now) }
-    ensures bad { HasCleanDisk (state S.Store tx.new.conn.now) → (handler : HandlerId) → result ≡ Err (KeeperError.BadImage handler) → IsLowestBad (state S.Store tx.old.conn.now).now handler.0 }
+    ensures bad { HasCleanDisk (state S.Store tx.new.conn.now) → (handler : HandlerId) → result ≡ Err (KeeperError.BadImage handler)
+        → IsLowestBad (state S.Store tx.old.conn.now).now handler.0 }
     ensures wrong { HasCleanDisk (state S.Store tx.new.conn.now) → result ≡ Err KeeperError.WrongSchema → HasOtherNumber (state S.Store tx.old.conn.now).now }
     ensures named { IfErr result IsAdoptError }
     ensures survives { Survives (state S.Store tx.old.conn.now) (state S.Store tx.new.conn.now) (λ _. ⊥) }
@@ -120,17 +132,22 @@ fn migrate_in<S: Alter>(alloc: Global, tx: &mut Transaction<'_, S>) -> Result<()
 /// The tables of version 1 become those of version 2, in one transaction.
 pub(crate) fn migrate<S: Alter>(alloc: Global, conn: &mut Connection<S>) -> Result<(), KeeperError>
     requires mode { conn.old.in_transaction ≡ false }
-    requires first { IsSound (state S.Store conn.old) → IsFirstRecord (state S.Store conn.old).now × (value_at ((state S.Store conn.old).now.trees 0) 1 ≡ Some (Int (pos 1))) }
+    requires first { IsSound (state S.Store conn.old) → IsFirstRecord (state S.Store conn.old).now
+        × (value_at ((state S.Store conn.old).now.trees 0) 1 ≡ Some (Int (pos 1))) }
     requires settled { IsSound (state S.Store conn.old) → (state S.Store conn.old).now ≡ (state S.Store conn.old).committed }
     ensures mode { conn.new.in_transaction ≡ false }
     ensures sound { IsSound (state S.Store conn.new) → IsSound (state S.Store conn.old) }
     ensures is_open { IsOpenOnOk result (state S.Store conn.new) (state S.Store conn.new) }
-    ensures migrated { IsSound (state S.Store conn.new) → OnOk result (Migrates (state S.Store conn.old).now (state S.Store conn.new).now × ((state S.Store conn.new).now ≡ (state S.Store conn.new).committed)) }
+    ensures migrated { IsSound (state S.Store conn.new)
+        → OnOk result (Migrates (state S.Store conn.old).now (state S.Store conn.new).now
+        × ((state S.Store conn.new).now ≡ (state S.Store conn.new).committed)) }
     ensures refused { IsSound (state S.Store conn.new) → OnErr result ((state S.Store conn.new).now ≡ (state S.Store conn.old).now) }
-    ensures bad { IsSound (state S.Store conn.new) → (handler : HandlerId) → result ≡ Err (KeeperError.BadImage handler) → IsLowestBad (state S.Store conn.old).now handler.0 }
+    ensures bad { IsSound (state S.Store conn.new) → (handler : HandlerId) → result ≡ Err (KeeperError.BadImage handler)
+        → IsLowestBad (state S.Store conn.old).now handler.0 }
     ensures wrong { IsSound (state S.Store conn.new) → result ≡ Err KeeperError.WrongSchema → HasOtherNumber (state S.Store conn.old).now }
     ensures named { IfErr result IsAdoptError }
-    ensures survives { Survives (state S.Store conn.old) (state S.Store conn.new) (λ trees. IsTrue (state S.Store conn.old).is_open × (db : Database) × Migrates (state S.Store conn.old).now db × (trees ≡ db.trees)) }
+    ensures survives { Survives (state S.Store conn.old) (state S.Store conn.new) (λ trees. IsTrue (state S.Store conn.old).is_open × (db : Database)
+        × Migrates (state S.Store conn.old).now db × (trees ≡ db.trees)) }
 {
     let mut tx = conn.transaction();
     migrate_in(alloc, &mut tx)?;

@@ -39,7 +39,8 @@ fn has_no_rule(table: &Table) -> bool
 }
 
 fn computes_nothing(table: &Table) -> bool
-    ensures { IsTrue result → (table.now.computed ≡ []) × (table.now.stamps ≡ record { places = []; terms = []; formats = [] }) × (table.now.is_counted ≡ false) }
+    ensures { IsTrue result → (table.now.computed ≡ []) × (table.now.stamps ≡ record { places = []; terms = []; formats = [] })
+        × (table.now.is_counted ≡ false) }
 {
     table.computed.as_slice().is_empty()
         && table.stamps.places.as_slice().is_empty()
@@ -49,7 +50,8 @@ fn computes_nothing(table: &Table) -> bool
 }
 
 fn has_columns(table: &Table, key: &[u8], column: &[u8], kind: Kind) -> bool
-    ensures { IsTrue result → (table.now.columns ≡ column_of key.now Kind.Integer false ∷ column_of column.now kind true ∷ []) × (table.now.key ≡ Some 0) × (table.now.primary ≡ 0 ∷ []) }
+    ensures { IsTrue result → (table.now.columns ≡ column_of key.now Kind.Integer false ∷ column_of column.now kind true ∷ []) × (table.now.key ≡ Some 0)
+        × (table.now.primary ≡ 0 ∷ []) }
 {
     let [first, second] = table.columns.as_slice() else {
         return false;

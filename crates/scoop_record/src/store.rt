@@ -55,7 +55,8 @@ impl<S: Alter + Drop> Store<S> {
         ensures inside { IsTrue conn.in_transaction → result ≡ Err KeeperError.Refused }
         ensures sound { IfOk result (λ store. IsSound (state S.Store store) → IsSound (state S.Store conn)) }
         ensures named { IfErr result IsPutError }
-        ensures survives { IfOk result (λ store. Survives (state S.Store conn) (state S.Store store) (λ trees. (db : Database) × IsNewRecord db 2 × (trees ≡ db.trees))) }
+        ensures survives { IfOk result (λ store. Survives (state S.Store conn) (state S.Store store) (λ trees. (db : Database) × IsNewRecord db 2
+            × (trees ≡ db.trees))) }
     {
         create_tables(&mut conn)?;
         Ok(Store { conn, alloc })
@@ -76,10 +77,13 @@ impl<S: Alter + Drop> Store<S> {
         ensures inside { IsTrue conn.in_transaction → result ≡ Err KeeperError.Refused }
         // The connection goes with a refusal, so these ask for storage that is honest at every moment, as memory
         // is. Of a file they say nothing: there `adopt_tables` tells why.
-        ensures bad { ((held : Held S) → IsSound (state S.Store held)) → (handler : HandlerId) → result ≡ Err (KeeperError.BadImage handler) → IsLowestBad (state S.Store conn).now handler.0 }
-        ensures wrong { ((held : Held S) → IsSound (state S.Store held)) → result ≡ Err KeeperError.WrongSchema → IsLaidOut (state S.Store conn).now → IsWrongSchema (state S.Store conn).now }
+        ensures bad { ((held : Held S) → IsSound (state S.Store held)) → (handler : HandlerId) → result ≡ Err (KeeperError.BadImage handler)
+            → IsLowestBad (state S.Store conn).now handler.0 }
+        ensures wrong { ((held : Held S) → IsSound (state S.Store held)) → result ≡ Err KeeperError.WrongSchema → IsLaidOut (state S.Store conn).now
+            → IsWrongSchema (state S.Store conn).now }
         ensures named { IfErr result IsAdoptError }
-        ensures survives { IfOk result (λ store. Survives (state S.Store conn) (state S.Store store) (λ trees. (db : Database) × Migrates (state S.Store conn).now db × (trees ≡ db.trees))) }
+        ensures survives { IfOk result (λ store. Survives (state S.Store conn) (state S.Store store) (λ trees. (db : Database)
+            × Migrates (state S.Store conn).now db × (trees ≡ db.trees))) }
     {
         adopt_tables(alloc, &mut conn)?;
         Ok(Store { conn, alloc })
@@ -116,13 +120,17 @@ impl<S: Alter + Drop> Keeper<Global> for Store<S> {
 
     fn put_handler(&mut self, state: &HandlerState) -> Result<(), KeeperError>
         ensures is_open { IsOpenOnOk result (seen S.Store self.new) (seen S.Store self.new) }
-        ensures stored { IsSound (seen S.Store self.new) → OnOk result (Keeps (handlers_in (seen S.Store self.old).now.trees) (handlers_in (seen S.Store self.new).now.trees) state.now) }
-        ensures incarnations { IsSound (seen S.Store self.new) → IsSame (incs_in (seen S.Store self.old).now.trees) (incs_in (seen S.Store self.new).now.trees) }
-        ensures refused { IsSound (seen S.Store self.new) → OnErr result (Stays (handlers_in (seen S.Store self.old).now.trees) (handlers_in (seen S.Store self.new).now.trees)) }
+        ensures stored { IsSound (seen S.Store self.new)
+            → OnOk result (Keeps (handlers_in (seen S.Store self.old).now.trees) (handlers_in (seen S.Store self.new).now.trees) state.now) }
+        ensures incarnations { IsSound (seen S.Store self.new)
+            → IsSame (incs_in (seen S.Store self.old).now.trees) (incs_in (seen S.Store self.new).now.trees) }
+        ensures refused { IsSound (seen S.Store self.new)
+            → OnErr result (Stays (handlers_in (seen S.Store self.old).now.trees) (handlers_in (seen S.Store self.new).now.trees)) }
         ensures named { IfErr result IsPutError }
         ensures honest { IsSound (seen S.Store self.new) → IsSound (seen S.Store self.old) }
         // A crash leaves what it could leave before the call, or the state for its handler.
-        ensures survives { Survives (seen S.Store self.old) (seen S.Store self.new) (λ trees. (db : Database) × Saves (seen S.Store self.old).now db state.now × (trees ≡ db.trees)) }
+        ensures survives { Survives (seen S.Store self.old) (seen S.Store self.new) (λ trees. (db : Database)
+            × Saves (seen S.Store self.old).now db state.now × (trees ≡ db.trees)) }
     {
         let Ok((bytes, row)) = handlers::images_of(self.alloc, state) else {
             return Err(KeeperError::OutOfMemory);
@@ -137,12 +145,16 @@ impl<S: Alter + Drop> Keeper<Global> for Store<S> {
 
     fn load_handler(&mut self, handler: HandlerId) -> Result<Option<HandlerState>, KeeperError>
         ensures is_open { IsOpenOnOk result (seen S.Store self.old) (seen S.Store self.new) }
-        ensures loaded { HasCleanDisk (seen S.Store self.new) → IfOk result (λ found. IsTheOne (handlers_in (seen S.Store self.old).now.trees handler.0) (stored_of found)) }
+        ensures loaded { HasCleanDisk (seen S.Store self.new)
+            → IfOk result (λ found. IsTheOne (handlers_in (seen S.Store self.old).now.trees handler.0) (stored_of found)) }
         ensures own { IfOk result (λ found. IfSome found (λ s. s.number ≡ handler)) }
-        ensures bad { HasCleanDisk (seen S.Store self.new) → result ≡ Err (KeeperError.BadImage handler) → IsTheOne (handlers_in (seen S.Store self.old).now.trees handler.0) Damaged }
+        ensures bad { HasCleanDisk (seen S.Store self.new) → result ≡ Err (KeeperError.BadImage handler)
+            → IsTheOne (handlers_in (seen S.Store self.old).now.trees handler.0) Damaged }
         ensures named { IfErr result (λ e. IsPutError e ⊎ (e ≡ KeeperError.BadImage handler)) }
-        ensures handlers { IsSound (seen S.Store self.new) → Stays (handlers_in (seen S.Store self.old).now.trees) (handlers_in (seen S.Store self.new).now.trees) }
-        ensures incarnations { IsSound (seen S.Store self.new) → IsSame (incs_in (seen S.Store self.old).now.trees) (incs_in (seen S.Store self.new).now.trees) }
+        ensures handlers { IsSound (seen S.Store self.new)
+            → Stays (handlers_in (seen S.Store self.old).now.trees) (handlers_in (seen S.Store self.new).now.trees) }
+        ensures incarnations { IsSound (seen S.Store self.new)
+            → IsSame (incs_in (seen S.Store self.old).now.trees) (incs_in (seen S.Store self.new).now.trees) }
         ensures honest { IsSound (seen S.Store self.new) → IsSound (seen S.Store self.old) }
         // The whole database is as it was, and a crash leaves what it could leave before the call.
         ensures same { IsSound (seen S.Store self.new) → (seen S.Store self.new).now ≡ (seen S.Store self.old).now }
@@ -154,14 +166,19 @@ impl<S: Alter + Drop> Keeper<Global> for Store<S> {
     fn next_incarnation(&mut self, client: ClientId) -> Result<u32, KeeperError>
         ensures is_open { IsOpenOnOk result (seen S.Store self.new) (seen S.Store self.new) }
         ensures next { IsSound (seen S.Store self.new) → IfOk result (λ inc. inc ≡ next_of (incs_in (seen S.Store self.old).now.trees client.0)) }
-        ensures stored { IsSound (seen S.Store self.new) → IfOk result (Sets (incs_in (seen S.Store self.old).now.trees) (incs_in (seen S.Store self.new).now.trees) client.0) }
-        ensures spent { IsSound (seen S.Store self.new) → result ≡ Err KeeperError.IncarnationsSpent → incs_in (seen S.Store self.old).now.trees client.0 ≡ Some last_incarnation }
-        ensures refused { IsSound (seen S.Store self.new) → OnErr result (IsSame (incs_in (seen S.Store self.old).now.trees) (incs_in (seen S.Store self.new).now.trees)) }
+        ensures stored { IsSound (seen S.Store self.new)
+            → IfOk result (Sets (incs_in (seen S.Store self.old).now.trees) (incs_in (seen S.Store self.new).now.trees) client.0) }
+        ensures spent { IsSound (seen S.Store self.new) → result ≡ Err KeeperError.IncarnationsSpent
+            → incs_in (seen S.Store self.old).now.trees client.0 ≡ Some last_incarnation }
+        ensures refused { IsSound (seen S.Store self.new)
+            → OnErr result (IsSame (incs_in (seen S.Store self.old).now.trees) (incs_in (seen S.Store self.new).now.trees)) }
         ensures named { IfErr result (λ e. IsPutError e ⊎ (e ≡ KeeperError.IncarnationsSpent)) }
-        ensures handlers { IsSound (seen S.Store self.new) → Stays (handlers_in (seen S.Store self.old).now.trees) (handlers_in (seen S.Store self.new).now.trees) }
+        ensures handlers { IsSound (seen S.Store self.new)
+            → Stays (handlers_in (seen S.Store self.old).now.trees) (handlers_in (seen S.Store self.new).now.trees) }
         ensures honest { IsSound (seen S.Store self.new) → IsSound (seen S.Store self.old) }
         // A crash leaves what it could leave before the call, or the next incarnation.
-        ensures survives { Survives (seen S.Store self.old) (seen S.Store self.new) (λ trees. (db : Database) × Advances (seen S.Store self.old).now db client.0 × (trees ≡ db.trees)) }
+        ensures survives { Survives (seen S.Store self.old) (seen S.Store self.new) (λ trees. (db : Database)
+            × Advances (seen S.Store self.old).now db client.0 × (trees ≡ db.trees)) }
     {
         clients::advance(&mut self.conn, client.0)
     }

@@ -22,7 +22,8 @@ fn rows_of_meta<S: Alter>(tx: &mut Transaction<'_, S>) -> Result<Vec<Row>, Error
     ensures is_open { IsOpenOnOk result (state S.Store tx.old.conn.now) (state S.Store tx.new.conn.now) }
     ensures version { HasCleanDisk (state S.Store tx.new.conn.now) → IfOk result (λ rows. IsLaidOut (state S.Store tx.old.conn.now).now
         → length rows.items ≤ 1 → rows.items ≡ map (λ v. v ∷ []) (option_to_list (value_at ((state S.Store tx.old.conn.now).now.trees 0) 1))) }
-    ensures kept { HasCleanDisk (state S.Store tx.new.conn.now) → IsTrue (state S.Store tx.old.conn.now).in_transaction → KeepsCommit (state S.Store tx.old.conn.now) (state S.Store tx.new.conn.now) }
+    ensures kept { HasCleanDisk (state S.Store tx.new.conn.now) → IsTrue (state S.Store tx.old.conn.now).in_transaction
+        → KeepsCommit (state S.Store tx.old.conn.now) (state S.Store tx.new.conn.now) }
     ensures survives { Survives (state S.Store tx.old.conn.now) (state S.Store tx.new.conn.now) (λ _. ⊥) }
 {
     tx.query_all("SELECT version FROM meta WHERE id = 1", &[])
@@ -30,7 +31,8 @@ fn rows_of_meta<S: Alter>(tx: &mut Transaction<'_, S>) -> Result<Vec<Row>, Error
 
 /// The number in the row, if there is a row with one.
 fn number_in(rows: &[Row]) -> Result<Option<i64>, KeeperError>
-    ensures number { (stored : Option SqlValue) → (length rows.now ≤ 1 → rows.now ≡ map (λ v. v ∷ []) (option_to_list stored)) → IfOk result (λ found. found ≡ number_of stored) }
+    ensures number { (stored : Option SqlValue) → (length rows.now ≤ 1 → rows.now ≡ map (λ v. v ∷ []) (option_to_list stored))
+        → IfOk result (λ found. found ≡ number_of stored) }
     ensures named { IfErr result IsPutError }
 {
     let row = match rows {
@@ -49,7 +51,8 @@ fn find_version<S: Alter>(tx: &mut Transaction<'_, S>) -> Result<Option<i64>, Ke
     ensures same_reference { tx.new.conn.ghost_name ≡ tx.old.conn.ghost_name }
     ensures is_open { IsOpenOnOk result (state S.Store tx.old.conn.now) (state S.Store tx.new.conn.now) }
     ensures version { HasCleanDisk (state S.Store tx.new.conn.now) → IfOk result (TellsVersion (state S.Store tx.old.conn.now).now) }
-    ensures kept { HasCleanDisk (state S.Store tx.new.conn.now) → IsTrue (state S.Store tx.old.conn.now).in_transaction → KeepsCommit (state S.Store tx.old.conn.now) (state S.Store tx.new.conn.now) }
+    ensures kept { HasCleanDisk (state S.Store tx.new.conn.now) → IsTrue (state S.Store tx.old.conn.now).in_transaction
+        → KeepsCommit (state S.Store tx.old.conn.now) (state S.Store tx.new.conn.now) }
     ensures named { IfErr result IsPutError }
     ensures survives { Survives (state S.Store tx.old.conn.now) (state S.Store tx.new.conn.now) (λ _. ⊥) }
 {
@@ -64,7 +67,8 @@ pub(crate) fn version<S: Alter>(conn: &mut Connection<S>) -> Result<Option<i64>,
     requires mode { conn.old.in_transaction ≡ false }
     ensures mode { conn.new.in_transaction ≡ false }
     ensures sound { IsSound (state S.Store conn.new) → IsSound (state S.Store conn.old) }
-    ensures same { IsSound (state S.Store conn.new) → ((state S.Store conn.new).now ≡ (state S.Store conn.old).committed) × ((state S.Store conn.new).committed ≡ (state S.Store conn.old).committed) }
+    ensures same { IsSound (state S.Store conn.new) → ((state S.Store conn.new).now ≡ (state S.Store conn.old).committed)
+        × ((state S.Store conn.new).committed ≡ (state S.Store conn.old).committed) }
     ensures is_open { IsOpenOnOk result (state S.Store conn.old) (state S.Store conn.new) }
     ensures version { IsSound (state S.Store conn.new) → IfOk result (TellsVersion (state S.Store conn.old).now) }
     ensures named { IfErr result IsPutError }

@@ -2,6 +2,7 @@
 -- while a query waits, and an answer is accepted only for the query that waits; where it is, the query has run, and being
 -- the log's last entry, so has all that was logged before it.
 use Rattle.std.proofs.Common.{◌≡◌, ℕ, ◌+◌, ◌-◌, ◌≤◌, false, true≢false, List, [], ◌∷◌, ◌++◌, length, map, take, Some, None, refl, sym, ap, ◌∙◌, subst, arith, length-append, append-nil, ⊎_elim}
+use Rattle.std.proofs.lemmas.Option.{same_Some}
 use Rattle.std.specs.Prelude.{if◌then◌else◌, Ok}
 use Rattle.std.specs.List.{AllByRecursion}
 use Rattle.std.proofs.Math.Seq.{take-append_seam}
@@ -87,10 +88,7 @@ module _ (w : World) (tape : Taped w) (c : ClientState) (fits : (r : Reservation
       (λ over. idle_asked c)
       (λ on q e.
       let same : s ≡ q =
-      some_is s q e in subst (λ (y : ReservationState). AskedFor w y.block c.waits) same (subst (λ b. AskedFor w b c.waits) (sym block) (f r held)))
-    where
-      some_is : (a b : ReservationState) → Some a ≡ Some b → a ≡ b
-      some_is a b e = cc
+      same_Some s q e in subst (λ (y : ReservationState). AskedFor w y.block c.waits) same (subst (λ b. AskedFor w b c.waits) (sym block) (f r held)))
 
   step_asked : (r s : ReservationState) (st : Step) → c.reservation ≡ Some r → s.block ≡ r.block → ClientAsked w (after_step c s st).0
   step_asked r s (step.Locked h) held block = stepped_asked r s held block
@@ -108,12 +106,9 @@ module _ (w : World) (tape : Taped w) (c : ClientState) (fits : (r : Reservation
       let e : ClientState = with_windows c (at_window h (acknowledged (up_to h n c.waits)) c.windows) c.waits in
       by_test (λ t. ClientAsked w (if t then idle e else e)) (all_over e.windows) (λ over. idle_asked e) (λ on. f)
   heard_asked m d note (is_accepted h n a r held opened waits) t = λ q e.
-      let same : r ≡ q = some_is r q (sym held ∙ e) in
+      let same : r ≡ q = same_Some r q (sym held ∙ e) in
       subst (λ (y : ReservationState). AskedFor w y.block None) same
       (answered_asked w tape c r (fits r held) h n waits (answer_counts w tape h r.block n a t) (f r held))
-    where
-      some_is : (a b : ReservationState) → Some a ≡ Some b → a ≡ b
-      some_is a b e = cc
 
 -- nothing is logged, and nothing runs
 same_world : (w : World) (p : Party) → Asked w → PartyAsked w p → Asked (with_party w p)
@@ -186,16 +181,13 @@ module _ (w : World) (p : Party) (d : ClientState) (fits : PartyFits w p) (logs 
   reserve_asked hs o (begins_block r at_idle room begins) e =
       subst (λ y. ClientAsked (commanded_world w p (Reserve hs) y) y) (ok_is (client.with_block c hs r) d e)
       (λ q held h.
-      let same : r ≡ q = some_is r q held in
+      let same : r ≡ q = same_Some r q held in
       let b : Block = client.next_block c in
       let block : b ≡ q.block = ap (λ (y : ReservationState). y.block) (started_fresh b hs c.handlers r begins ∙ same) in
       let v : World = commanded_world w p (Reserve hs) (client.with_block c hs r) in
       let none : log_of b h v ≡ [] = reserved_same hs b b h w.logs ∙ unreserved_empty b h w.logs (next_is_new w p fits (handlers_of b w) refl) in
       subst (λ y. any_query (unrun v y h) ≡ false) block (subst (λ es. any_query (left_of w b h es) ≡ false) (sym none)
       (none_later 0 (count_of b (ran_at h w)) [] (omega arith) refl)))
-    where
-      some_is : (a b : ReservationState) → Some a ≡ Some b → a ≡ b
-      some_is a b e = cc
   reserve_asked hs o row e = absurd (cc)
 
   call_asked : (k : HandlerId) (s : Request) (o : client.Outcome) → LogRow c k (CallEntry s) o → o ≡ Ok d → ClientAsked (commanded_world w p (Call k s) d) d
@@ -239,13 +231,10 @@ module _ (w : World) (p : Party) (d : ClientState) (fits : PartyFits w p) (logs 
   give_up_asked o (gives_up r s locking held given) e =
       subst (λ y. ClientAsked (commanded_world w p GiveUp y) y) (ok_is (with_reservation c s) d e)
       (λ q is.
-      let same : s ≡ q = some_is s q is in
+      let same : s ≡ q = same_Some s q is in
       let block = given_block r s r.stage given ∙ ap (λ (y : ReservationState). y.block) same in
       subst (λ b. AskedFor (commanded_world w p GiveUp (with_reservation c s)) b c.waits) block
       (asked_more w (commanded_world w p GiveUp (with_reservation c s)) r.block (λ h. refl) (λ h. omega arith) c.waits (f.asked r held)))
-    where
-      some_is : (a b : ReservationState) → Some a ≡ Some b → a ≡ b
-      some_is a b e = cc
   give_up_asked o row e = absurd (cc)
 
   command_asked : (x : Command) → client.command c (core_command x) ≡ Ok d → ClientAsked (commanded_world w p x d) d

@@ -11,7 +11,8 @@ ghost use Rattle.scoop_rules.specs.Paper.{FollowsRules, RunsByRules, configurati
 /// A world that opens stands for the configuration in which nothing was reserved and nothing has run, with the
 /// incarnations that its clients begin with.
 pub fn opens_empty()
-    ensures { (placements : List Placement) (newcomers : List Newcomer) → configuration_of (opening placements newcomers) ≡ empty_configuration (inc_of (opening placements newcomers)) }
+    ensures { (placements : List Placement) (newcomers : List Newcomer)
+        → configuration_of (opening placements newcomers) ≡ empty_configuration (inc_of (opening placements newcomers)) }
 {}
 
 /// Whatever happens next in a world that can be reached is a list of moves of the written rules: a joint
@@ -24,11 +25,14 @@ pub fn follows_rules()
 /// Any list of events from a world that opens is a run of the written rules: the moves of its events, one after
 /// another, lead from the configuration in which nothing was reserved to the one that the last world stands for.
 pub fn runs_by_rules()
-    ensures { (placements : List Placement) (newcomers : List Newcomer) (events : List WorldEvent) → MayOpen placements newcomers → RunsByRules (opening placements newcomers) events (steps (opening placements newcomers) events) }
+    ensures { (placements : List Placement) (newcomers : List Newcomer) (events : List WorldEvent) → MayOpen placements newcomers
+        → RunsByRules (opening placements newcomers) events (steps (opening placements newcomers) events) }
 {}
 
 /// Played one after another, without a look at when each may be made, these moves make the configuration that the
 /// last world stands for.
 pub fn replays()
-    ensures { (placements : List Placement) (newcomers : List Newcomer) (events : List WorldEvent) → MayOpen placements newcomers → replayed (objects_of (opening placements newcomers)) (moves_in (opening placements newcomers) events) (empty_configuration (inc_of (opening placements newcomers))) ≡ configuration_of (steps (opening placements newcomers) events) }
+    ensures { (placements : List Placement) (newcomers : List Newcomer) (events : List WorldEvent) → MayOpen placements newcomers
+        → replayed (objects_of (opening placements newcomers)) (moves_in (opening placements newcomers) events)
+        (empty_configuration (inc_of (opening placements newcomers))) ≡ configuration_of (steps (opening placements newcomers) events) }
 {}

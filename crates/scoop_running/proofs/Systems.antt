@@ -8,7 +8,7 @@ use Rattle.std.specs.Option.{option_map}
 use Rattle.std.specs.Bool.{Decides}
 use Rattle.std.proofs.lemmas.Bool.Decides.{Decides-eqb}
 use Rattle.std.proofs.lemmas.List.{map-append}
-use Rattle.std.proofs.lemmas.Option.{slice_get_within}
+use Rattle.std.proofs.lemmas.Option.{same_Some, slice_get_within}
 use Rattle.std.proofs.lemmas.Simd.{map-map}
 use Rattle.scoop_message.specs.declared.name.ClientId.{ClientId}
 use Rattle.scoop_message.specs.declared.name.HandlerId.{HandlerId}
@@ -218,11 +218,8 @@ module _ (nodes : List NodeLife) (clients : List ClientLife) (opens : MayOpen (p
 
     same_node : (n k : NodeLife) (h : HandlerId) → IsAt n h → IsAt k h → n.number ≡ k.number
     same_node n k h a b =
-        let one : a.handler ≡ b.handler = some_inj (sym a.found ∙ b.found) in
+        let one : a.handler ≡ b.handler = same_Some _ _ (sym a.found ∙ b.found) in
         sym a.node ∙ (ap (λ (s : LocalHandler). s.node) one ∙ b.node)
-      where
-        some_inj : {x y : LocalHandler} → Some x ≡ Some y → x ≡ y
-        some_inj e = cc
 
     not_here : (n k : NodeLife) (h : HandlerId) → Facts n → Facts k → (k.number ≡ n.number → ⊥) → has (names k) h ≡ true → has (names n) h ≡ false
     not_here n k h f g differ e =

@@ -18,7 +18,8 @@ ghost use Rattle.scoop_running.specs.System.{NodeLife, ClientLife, Runs, placeme
 /// The entries of a history that replays, as that of every closed node does, are moves of the node, and lead its handlers
 /// where the history leads them.
 pub fn histories_move()
-    ensures { (words : HandlerId → List ℕ) (number : ℕ) (opening : List LocalHandler) (history : List Entry) (handlers : List LocalHandler) → Replays opening history handlers → NodeRuns (map (local_of words number) opening) (map move_in history) (map (local_of words number) handlers) }
+    ensures { (words : HandlerId → List ℕ) (number : ℕ) (opening : List LocalHandler) (history : List Entry) (handlers : List LocalHandler)
+        → Replays opening history handlers → NodeRuns (map (local_of words number) opening) (map move_in history) (map (local_of words number) handlers) }
 {}
 
 /// The steps of a driver, its commands and its turns, are moves of its client, and lead it where the steps lead it.
@@ -33,5 +34,6 @@ pub fn drivers_move()
 /// network. What they did is what happens in a world: handlers opened their blocks in the order of one common list, ran
 /// what was logged block after block, and answered right, and all of it is a run of the written rules.
 pub fn running_is_a_world()
-    ensures { (nodes : List NodeLife) (clients : List ClientLife) (order : List (ℕ × LocalMove)) → MayOpen (placements_of nodes) (newcomers_of clients) → Runs nodes clients order → IsWorld (placements_of nodes) (newcomers_of clients) (map (λ x. x.1) order) (system_of nodes clients) }
+    ensures { (nodes : List NodeLife) (clients : List ClientLife) (order : List (ℕ × LocalMove)) → MayOpen (placements_of nodes) (newcomers_of clients)
+        → Runs nodes clients order → IsWorld (placements_of nodes) (newcomers_of clients) (map (λ x. x.1) order) (system_of nodes clients) }
 {}

@@ -108,10 +108,13 @@ impl<L: Link> Link for SealedLink<L> {
     ghost fault_count = { λ s. fault_sum s.faults (L.fault_count s.inner) };
 
     fn send(&mut self, to: Party, bytes: &[u8]) -> Result<(), LinkFault>
-        ensures faults { CountsFault result (fault_sum self.old.faults (L.fault_count self.old.inner)) (fault_sum self.new.faults (L.fault_count self.new.inner)) }
+        ensures faults { CountsFault result (fault_sum self.old.faults (L.fault_count self.old.inner))
+            (fault_sum self.new.faults (L.fault_count self.new.inner)) }
 
         ensures too_long { MAX_BYTES < length bytes.now → self.new ≡ record self.old { faults = own_after self.old.faults (L.fault_count self.old.inner) } }
-        ensures sealed { length bytes.now ≤ MAX_BYTES → Exchanges (L.told self.old.inner) (L.told self.new.inner) [] (gone (L.fault_count self.old.inner) (L.fault_count self.new.inner) to (sealed self.old.key bytes.now)) }
+        ensures sealed { length bytes.now ≤ MAX_BYTES
+            → Exchanges (L.told self.old.inner) (L.told self.new.inner) []
+            (gone (L.fault_count self.old.inner) (L.fault_count self.new.inner) to (sealed self.old.key bytes.now)) }
         ensures others { length bytes.now ≤ MAX_BYTES → self.new ≡ record self.old { inner = self.new.inner } }
     {
         let full = self.count() == u64::MAX;
@@ -130,7 +133,8 @@ impl<L: Link> Link for SealedLink<L> {
 
     fn receive(&mut self, buffer: &mut [u8; BUFFER_LEN]) -> Result<Option<usize>, LinkFault>
         ensures in_bounds { IfOk result (λ got. IfSome got (λ n. n ≤ BUFFER_LEN)) }
-        ensures faults { CountsFault result (fault_sum self.old.faults (L.fault_count self.old.inner)) (fault_sum self.new.faults (L.fault_count self.new.inner)) }
+        ensures faults { CountsFault result (fault_sum self.old.faults (L.fault_count self.old.inner))
+            (fault_sum self.new.faults (L.fault_count self.new.inner)) }
 
         ensures opened { Opens self.old.key (L.told self.old.inner) (L.told self.new.inner) self.old.refused self.new.refused (taken_by result buffer.new) }
         ensures tagged { IfOk result (λ got. IfSome got (IsTagged self.old.key buffer.new)) }

@@ -35,7 +35,8 @@ fn add_painters<L: Link>(
     painters: &[Painter<L, StepList>],
     parties: &mut Vec<Party>,
 ) -> Result<(), OutOfMemory>
-    ensures { OnOk result (parties.new.items ≡ parties.old.items ++ map (λ p. client_traffic p.player.number p.player.inc p.player.waits p.player.driver.diary.steps) painters.now) }
+    ensures { OnOk result (parties.new.items
+        ≡ parties.old.items ++ map (λ p. client_traffic p.player.number p.player.inc p.player.waits p.player.driver.diary.steps) painters.now) }
 {
     for painter in painters {
         let party = painter.player.traffic(alloc)?;
@@ -49,7 +50,11 @@ pub(crate) fn parties_of(
     alloc: Global,
     shown: &Shown<'_, StepList>,
 ) -> Result<Vec<Party>, OutOfMemory>
-    ensures { IfOk result (λ parties. parties.items ≡ map (λ h. node_traffic h.items) shown.now.histories.items ++ map (λ p. client_traffic p.player.number p.player.inc p.player.waits p.player.driver.diary.steps) shown.now.clients.painters.items ++ client_traffic shown.now.clients.reader.number shown.now.clients.reader.inc shown.now.clients.reader.waits shown.now.clients.reader.driver.diary.steps ∷ []) }
+    ensures { IfOk result (λ parties. parties.items
+        ≡ map (λ h. node_traffic h.items) shown.now.histories.items
+        ++ map (λ p. client_traffic p.player.number p.player.inc p.player.waits p.player.driver.diary.steps) shown.now.clients.painters.items
+        ++ client_traffic shown.now.clients.reader.number shown.now.clients.reader.inc shown.now.clients.reader.waits
+        shown.now.clients.reader.driver.diary.steps ∷ []) }
 {
     let mut parties = Vec::new(alloc);
     add_nodes(alloc, &shown.histories, &mut parties)?;

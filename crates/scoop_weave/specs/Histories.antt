@@ -1,13 +1,12 @@
 -- What moves tell of themselves: what opened and ran at a handler, what a client logged and accepted, and the order
 -- in which blocks opened for the first time.
-use Rattle.std.specs.Prelude.{ℕ, ◌+◌, Bool, not, ◌&&◌, if◌then◌else◌, List, [], ◌∷◌, ◌++◌, map, flat_map, Option, Some, None}
+use Rattle.std.specs.Prelude.{ℕ, ◌+◌, Bool, not, ◌&&◌, if◌then◌else◌, List, [], ◌∷◌, ◌++◌, map, flat_map, Option, Some, None, unwrap_or}
 use Rattle.scoop_message.specs.contracts.message.MessagePartialEq.TheImpl as on_message
 use Rattle.scoop_message.specs.declared.name.Block.{Block}
 use Rattle.scoop_message.specs.declared.name.ClientId.{ClientId}
 use Rattle.scoop_message.specs.declared.name.HandlerId.{HandlerId}
 use Rattle.scoop_message.specs.declared.message.Message.{Message}
-use Rattle.scoop_message.specs.declared.message.Message.TheVariants.{Hello, Welcome, Lock, Locked, Busy, Open, Opened, Unlock, Unlocked, Log, Logged, Answer}
-use Rattle.scoop_message.specs.Message.{same_handler, same_client, handler_of, client_of, is_for_handler}
+use Rattle.scoop_message.specs.Message.{same_handler, same_client, handler_of, client_of, inc_of, named_block, is_for_handler}
 use Rattle.scoop_handler.specs.declared.ran.Ran.{Ran}
 use Rattle.scoop_client.specs.State.{block_named}
 use Rattle.scoop_client.specs.Commands as client
@@ -65,18 +64,7 @@ ran_by h ms = flat_map (ran_here h) ms
 
 -- the block that a message names; no block of a client is numbered 0
 abbrev pub block_in : Message → Block
-block_in (Hello h c inc) = block_named c inc 0
-block_in (Welcome h c inc) = block_named c inc 0
-block_in (Lock h b) = b
-block_in (Locked h b) = b
-block_in (Busy h b) = b
-block_in (Open h b) = b
-block_in (Opened h b) = b
-block_in (Unlock h b) = b
-block_in (Unlocked h b) = b
-block_in (Log h b n es) = b
-block_in (Logged h b n) = b
-block_in (Answer h b n a) = b
+block_in m = unwrap_or (named_block m) (block_named (client_of m) (inc_of m) 0)
 
 -- the answer that the client accepted by the move
 abbrev pub accepted_here : ClientId → LocalMove → List Accepted

@@ -14,24 +14,28 @@ ghost use Rattle.scoop_weave.specs.Weave.{Weave, IsWorld, IsOfWeave};
 /// Where each handler's and each client's own moves lead it by themselves, from how it opens to how it is now, and
 /// each message that is heard was sent before, all moves one after another lead the whole system there.
 pub fn woven_is_a_weave()
-    ensures { (placements : List Placement) (newcomers : List Newcomer) (moves : List LocalMove) (now : System) → MayOpen placements newcomers → IsWoven placements newcomers moves now → Weave placements newcomers moves now }
+    ensures { (placements : List Placement) (newcomers : List Newcomer) (moves : List LocalMove) (now : System) → MayOpen placements newcomers
+        → IsWoven placements newcomers moves now → Weave placements newcomers moves now }
 {}
 
 /// What handlers and clients do, each by itself, in any order in which a message is heard only after it was sent, is
 /// what happens in a world: so what they tell of themselves is safe, and a run of the written rules.
 pub fn weave_is_a_world()
-    ensures { (placements : List Placement) (newcomers : List Newcomer) (moves : List LocalMove) (now : System) → MayOpen placements newcomers → Weave placements newcomers moves now → IsWorld placements newcomers moves now }
+    ensures { (placements : List Placement) (newcomers : List Newcomer) (moves : List LocalMove) (now : System) → MayOpen placements newcomers
+        → Weave placements newcomers moves now → IsWorld placements newcomers moves now }
 {}
 
 /// Nothing is left out: every world that events lead to is that of a weave.
 pub fn world_is_of_a_weave()
-    ensures { (placements : List Placement) (newcomers : List Newcomer) (events : List WorldEvent) → MayOpen placements newcomers → IsOfWeave placements newcomers (steps (opening placements newcomers) events) }
+    ensures { (placements : List Placement) (newcomers : List Newcomer) (events : List WorldEvent) → MayOpen placements newcomers
+        → IsOfWeave placements newcomers (steps (opening placements newcomers) events) }
 {}
 
 /// Where each node's own list leads its handlers by itself, one handler at a time and all of them where it restarts, so
 /// does what the list has of each handler.
 pub fn nodes_are_woven()
-    ensures { (placements : List Placement) (newcomers : List Newcomer) (moves : List LocalMove) (now : System) → MayOpen placements newcomers → IsWovenOfNodes placements newcomers moves now → IsWoven placements newcomers moves now }
+    ensures { (placements : List Placement) (newcomers : List Newcomer) (moves : List LocalMove) (now : System) → MayOpen placements newcomers
+        → IsWovenOfNodes placements newcomers moves now → IsWoven placements newcomers moves now }
 {}
 
 /// The promise for a running system. Take nodes and clients that run side by side, each with its own list of what it did,
@@ -40,5 +44,6 @@ pub fn nodes_are_woven()
 /// order of one common list, ran what was logged block after block, and answered right, and all of it is a run of the
 /// written rules.
 pub fn system_is_a_world()
-    ensures { (placements : List Placement) (newcomers : List Newcomer) (moves : List LocalMove) (now : System) → MayOpen placements newcomers → IsWovenOfNodes placements newcomers moves now → IsWorld placements newcomers moves now }
+    ensures { (placements : List Placement) (newcomers : List Newcomer) (moves : List LocalMove) (now : System) → MayOpen placements newcomers
+        → IsWovenOfNodes placements newcomers moves now → IsWorld placements newcomers moves now }
 {}

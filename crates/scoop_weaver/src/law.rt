@@ -14,16 +14,20 @@ ghost use Rattle.scoop_weaver.specs.Weaving.{IsWoven};
 /// an order that [`weave`](crate::weave) finds of what they let through is that of a world: so all that was promised of a
 /// world holds of what these nodes and clients did.
 pub fn woven_is_a_world()
-    ensures { (nodes : List NodeLife) (clients : List ClientLife) (order : List (ℕ × Move)) → MayOpen (placements_of nodes) (newcomers_of clients) → AreLives nodes clients → IsWoven (traffic_by nodes clients) order → IsOfWorld nodes clients order }
+    ensures { (nodes : List NodeLife) (clients : List ClientLife) (order : List (ℕ × Move)) → MayOpen (placements_of nodes) (newcomers_of clients)
+        → AreLives nodes clients → IsWoven (traffic_by nodes clients) order → IsOfWorld nodes clients order }
 {}
 
 /// What a node lets through in its histories and one more is what it lets through in these, a reopening, and what it lets
 /// through in that one: so [`begin_anew`](crate::Party::begin_anew) makes of the party of some histories that of one more.
 pub fn one_more_history()
-    ensures { (number : ℕ) (first : List Entry) (more : List (List Entry)) (next : List Entry) → by_node number first (more ++ next ∷ []) ≡ by_node number first more ++ silent ∷ by_node number next [] }
+    ensures { (number : ℕ) (first : List Entry) (more : List (List Entry)) (next : List Entry)
+        → by_node number first (more ++ next ∷ []) ≡ by_node number first more ++ silent ∷ by_node number next [] }
 {}
 
 /// The same of a client, whose next driver begins with the client as it restarts.
 pub fn one_more_driver()
-    ensures { (client : LocalClient) (first : List Made) (more : List (List Made)) (next : List Made) → by_client client first (more ++ next ∷ []) ≡ by_client client first more ++ silent ∷ by_client (after_restart (last_client client first more)) next [] }
+    ensures { (client : LocalClient) (first : List Made) (more : List (List Made)) (next : List Made)
+        → by_client client first (more ++ next ∷ [])
+        ≡ by_client client first more ++ silent ∷ by_client (after_restart (last_client client first more)) next [] }
 {}

@@ -114,7 +114,8 @@ impl<B: Behaviour, K: Keeper<A>, A: Allocator + Copy> Book<B, K, A> {
         ensures gains { IfOk result (λ reply. Gains pass event reply self.old self.new) }
         ensures may { OnOk result (MayHappen self.old (handler_at event)) }
         ensures replies { IfOk result (HasReply event) }
-        ensures stored { K.is_honest self.new.keeper → OnOk result (KeepsNew (handler_at event) self.new.handlers (K.handlers self.old.keeper) (K.handlers self.new.keeper)) }
+        ensures stored { K.is_honest self.new.keeper
+            → OnOk result (KeepsNew (handler_at event) self.new.handlers (K.handlers self.old.keeper) (K.handlers self.new.keeper)) }
         ensures incarnations { K.is_honest self.new.keeper → IsSame (K.incarnations self.old.keeper) (K.incarnations self.new.keeper) }
         ensures refused { IfErr result (IsRefused self.old (handler_at event)) }
         ensures stays { OnErr result (Stays self.old self.new) }
@@ -178,7 +179,8 @@ impl<B: Behaviour, K: Keeper<A>, A: Allocator + Copy> Book<B, K, A> {
         ensures may { OnOk result (MayHappen self.old done.handler) }
         ensures out { OnOk result (IfSome (handler_in done.handler self.old.handlers) (λ s. job_out s.core ≡ Some done)) }
         ensures ran { IfOk result (λ ran. ran ≡ ran_of done) }
-        ensures stored { K.is_honest self.new.keeper → OnOk result (KeepsNew done.handler self.new.handlers (K.handlers self.old.keeper) (K.handlers self.new.keeper)) }
+        ensures stored { K.is_honest self.new.keeper
+            → OnOk result (KeepsNew done.handler self.new.handlers (K.handlers self.old.keeper) (K.handlers self.new.keeper)) }
         ensures incarnations { K.is_honest self.new.keeper → IsSame (K.incarnations self.old.keeper) (K.incarnations self.new.keeper) }
         ensures handed_back { IfErr result (λ e. e.done ≡ done) }
         ensures refused { IfErr result (λ e. IsUnfinished self.old done e.cause) }

@@ -2,6 +2,7 @@
 -- reserves only once no handler is left to greet, and each Welcome tells that the handler's mark has come to the client's
 -- incarnation; so from the reserve on every handler knows the incarnation of the block.
 use Rattle.std.proofs.Common.{◌≡◌, ◌+◌, true, false, List, Option, Some, None, refl, ap, ◌∙◌, subst}
+use Rattle.std.proofs.lemmas.Option.{same_Some}
 use Rattle.std.specs.Prelude.{if◌then◌else◌, Ok}
 use Rattle.scoop_message.specs.declared.name.Block.{Block}
 use Rattle.scoop_message.specs.declared.name.HandlerId.{HandlerId}
@@ -33,12 +34,6 @@ use Rattle.scoop_model.proofs.Order.Commands.{started_fresh}
 use Rattle.scoop_model.proofs.Logging.Greetings.{Greets}
 use Rattle.scoop_model.proofs.Knowing.Facts.{HasGreeted, IsKnown, Names, ClientKnown}
 
-some_is : (r s : ReservationState) → Some r ≡ Some s → r ≡ s
-some_is r s e = cc
-
-some_block : (b d : Block) → Some b ≡ Some d → b ≡ d
-some_block b d e = cc
-
 -- a reservation keeps its block
 step_block : (r : ReservationState) (m : Message) (s : ReservationState) (st : Step) → StepRow r m s st → r.block ≡ s.block
 step_block r m s st (steps_over n) = refl
@@ -62,10 +57,10 @@ module _ (hs : List HandlerId) (ss : List Site) where
   -- ---- what a client owes
 
   owed_names : (r : ReservationState) (h : HandlerId) (m : Message) → OwedRow r h m → IsKnown hs ss r.block → Names hs ss m
-  owed_names r h m (asks at low) k = λ b e. subst (IsKnown hs ss) (some_block r.block b e) k
-  owed_names r h m (opens at is) k = λ b e. subst (IsKnown hs ss) (some_block r.block b e) k
-  owed_names r h m (unlocks at is) k = λ b e. subst (IsKnown hs ss) (some_block r.block b e) k
-  owed_names r h m (gives_back at is) k = λ b e. subst (IsKnown hs ss) (some_block r.block b e) k
+  owed_names r h m (asks at low) k = λ b e. subst (IsKnown hs ss) (same_Some r.block b e) k
+  owed_names r h m (opens at is) k = λ b e. subst (IsKnown hs ss) (same_Some r.block b e) k
+  owed_names r h m (unlocks at is) k = λ b e. subst (IsKnown hs ss) (same_Some r.block b e) k
+  owed_names r h m (gives_back at is) k = λ b e. subst (IsKnown hs ss) (same_Some r.block b e) k
 
   pub due_names : (c : ClientState) (h : HandlerId) (o : Option Message) → DueRow c h o → ClientKnown hs ss c → (m : Message) → o ≡ Some m → Names hs ss m
   due_names c h o owes_nothing k m e = absurd (cc)
@@ -75,7 +70,7 @@ module _ (hs : List HandlerId) (ss : List Site) where
   due_names c h o (reserves r n greeted has_one owes) k m e = owed_names r h m (owed_row r h m (owes ∙ e)) (k.block r has_one)
   due_names c h o (logs r l greeted has_one free opened window some) k m e =
       let same : Log l.handler r.block (l.acked + 1) (first_entries c.batch l.unacked) ≡ m = cc in
-      subst (Names hs ss) same (λ b f. subst (IsKnown hs ss) (some_block r.block b f) (k.block r has_one))
+      subst (Names hs ss) same (λ b f. subst (IsKnown hs ss) (same_Some r.block b f) (k.block r has_one))
 
   -- ---- what a client hears
 
@@ -85,7 +80,7 @@ module _ (hs : List HandlerId) (ss : List Site) where
   in_block c r s k has_one same = record {
     handlers = k.handlers;
     greeted = k.greeted;
-    block = λ q e. subst (λ (x : ReservationState). IsKnown hs ss x.block) (some_is s q e) (subst (IsKnown hs ss) same (k.block r has_one));
+    block = λ q e. subst (λ (x : ReservationState). IsKnown hs ss x.block) (same_Some s q e) (subst (IsKnown hs ss) same (k.block r has_one));
   }
 
   idle_known : (c : ClientState) → ClientKnown hs ss c → ClientKnown hs ss (idle c)
@@ -153,7 +148,7 @@ module _ (hs : List HandlerId) (ss : List Site) (c d : ClientState) (k : ClientK
         handlers = k.handlers;
         greeted = k.greeted;
         block = λ q f.
-            subst (λ (x : ReservationState). IsKnown hs ss x.block) (started_fresh (next_block c) ks c.handlers r begins ∙ some_is r q f) own;
+            subst (λ (x : ReservationState). IsKnown hs ss x.block) (started_fresh (next_block c) ks c.handlers r begins ∙ same_Some r q f) own;
       })
   reserve_known ks o row e = absurd (cc)
 

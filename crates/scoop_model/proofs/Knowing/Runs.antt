@@ -1,5 +1,6 @@
 -- Whatever happens, where a message names a block, every handler knows the block's incarnation.
 use Rattle.std.proofs.Common.{◌≡◌, true, true≢false, List, [], ◌∷◌, map, find, Some, refl, sym, ap, ◌∙◌, subst}
+use Rattle.std.proofs.lemmas.Option.{same_Some}
 use Rattle.std.specs.Prelude.{if◌then◌else◌, ◌||◌}
 use Rattle.std.specs.List.{AllByRecursion}
 use Rattle.scoop_message.specs.declared.name.HandlerId.{HandlerId}
@@ -142,13 +143,10 @@ names_shown hs w numbers m n = record {
   known = λ b e. record {
     marked = λ h s found.
         let g = n b e h (ap (λ ks. has ks h) (sym numbers) ∙ found_has h w.sites s found) in
-        let one : g.site ≡ s = some_site g.site s (sym g.found ∙ found) in
+        let one : g.site ≡ s = same_Some g.site s (sym g.found ∙ found) in
         subst (λ (x : Site). IsMarked b x.core.state.marks) one (record { mark = g.reached.mark; found = g.reached.found; inc = g.reached.upto.inc });
   };
 }
-  where
-    some_site : (x y : Site) → Some x ≡ Some y → x ≡ y
-    some_site x y e = cc
 
 -- what is known in a world that is reached
 reached_knowing : (w : World) (r : IsReached w) → Knowing (map (λ (p : Placement). p.handler) r.placements) w

@@ -2,6 +2,7 @@
 -- of a window, from the number behind the acknowledged ones, so they stand in the log with these numbers; an acknowledgement
 -- takes entries off a window's front alone. Hearing and restarting log nothing.
 use Rattle.std.proofs.Common.{◌≡◌, ℕ, ◌+◌, ◌||◌, Bool, true, false, true≢false, nat_lt, nat_le, List, [], ◌++◌, Option, Some, refl, sym, ap, ◌∙◌, subst, append_assoc, append-nil}
+use Rattle.std.proofs.lemmas.Option.{same_Some}
 use Rattle.std.specs.Prelude.{if◌then◌else◌}
 use Rattle.std.specs.List.{AllByRecursion}
 use Rattle.std.specs.Option.{option_map}
@@ -163,7 +164,7 @@ module _ (w : World) (c : ClientState) (fits : AllFit w c) where
       by_test (λ t. AllFit w (if t then idle c else with_reservation c s)) (is_gone s)
       (λ over. idle_fits c)
       (λ on q e.
-      let same : s ≡ q = some_is s q e in
+      let same : s ≡ q = same_Some s q e in
       subst (WindowsFit w (with_reservation c s)) same
       (fit_again w c (with_reservation c s) r s (record {
         newest = refl;
@@ -174,9 +175,6 @@ module _ (w : World) (c : ClientState) (fits : AllFit w c) where
         opened =
             g.opened;
       }) (fits r held)))
-    where
-      some_is : (a b : ReservationState) → Some a ≡ Some b → a ≡ b
-      some_is a b e = cc
 
   step_fits : (r s : ReservationState) (st : Step) → c.reservation ≡ Some r → GoesOn r s → AllFit w (after_step c s st).0
   step_fits r s (step.Locked h) held g = stepped_fits r s held g
@@ -206,7 +204,7 @@ module _ (w : World) (c : ClientState) (fits : AllFit w c) where
       (λ _ is.
       let same : h ≡ j = (handler_decides h j).0 is in
       let there : window_of h c.windows ≡ Some g.window = ap (λ i. window_of i c.windows) same ∙ g.found in
-      let one : l ≡ g.window = window_is l g.window (sym window ∙ there) in
+      let one : l ≡ g.window = same_Some l g.window (sym window ∙ there) in
       let now : up_to h n c.waits ≡ up_to h n (Some (h, q)) = ap (up_to h n) waits ∙ ap (λ i. up_to h n (Some (i, q))) (sym same) in
       let new : nat_le (up_to h n (Some (h, q))) g.window.acked ≡ false =
       ap (λ a. nat_le a g.window.acked) (sym now) ∙ ap (λ (x : WindowState). nat_le k x.acked) (sym one)
@@ -224,9 +222,6 @@ module _ (w : World) (c : ClientState) (fits : AllFit w c) where
         query = g.query;
       }) refl
     where
-      window_is : (a b : WindowState) → Some a ≡ Some b → a ≡ b
-      window_is a b e = cc
-
       second : (s t : Bool) → (s || t) ≡ false → t ≡ false
       second true t e = absurd (true≢false e)
       second false t e = e

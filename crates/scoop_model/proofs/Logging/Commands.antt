@@ -2,6 +2,7 @@
 -- grow by the same entry, so that the window stays the log's end; other blocks' logs stay; and nothing is logged before the
 -- block has opened at all of its handlers. Command by command, by the rows of the client's table.
 use Rattle.std.proofs.Common.{◌≡◌, ℕ, ◌+◌, ◌-◌, ◌^◌, Bool, true, false, true≢false, nat_le, List, [], ◌∷◌, ◌++◌, map, Option, Some, None, refl, sym, ap, ◌∙◌, subst, append-nil, ⊎_elim}
+use Rattle.std.proofs.lemmas.Option.{same_Some}
 use Rattle.std.specs.Prelude.{if◌then◌else◌, Ok}
 use Rattle.std.specs.Option.{option_map}
 use Rattle.scoop_message.specs.declared.name.Block.{Block}
@@ -177,16 +178,13 @@ module _
       let own = f.block r held in
       by_window (λ h m. WindowFits (log_of r.block h after) m) k (with_window_entry e) (λ m. refl) p.client.windows
       (λ m there.
-      let same : l ≡ m = window_is l m (sym window ∙ there) in
+      let same : l ≡ m = same_Some l m (sym window ∙ there) in
       subst (λ log. WindowFits log (with_window_entry e m)) (own_log r held)
       (fits_logged (log_of r.block k w) m e (own.windows k m there) (not_ended k p.client.windows m run.going there) no_end
       (subst (λ (y : WindowState). nat_le (2 ^ 32 - 2) (logged y) ≡ false) same more)))
       (λ h m apart there.
       subst (λ log. WindowFits log m) (sym (append-nil (log_of r.block h w)) ∙ ap (λ es. log_of r.block h w ++ es) (sym (adds_elsewhere h apart))
       ∙ log_grows w p fits f x r held h m there later refl) (own.windows h m there))
-    where
-      window_is : (a b : WindowState) → Some a ≡ Some b → a ≡ b
-      window_is a b e = cc
 
   waits_logged :
       (r : ReservationState) → p.client.reservation ≡ Some r → (n : Entry) → e ≡ n → (h : HandlerId) (q : ℕ)
@@ -272,12 +270,9 @@ module _ (w : World) (p : Party) (hs : List HandlerId) (r : ReservationState) (f
   reserve_logs = record {
     id = refl;
     going = λ b h more. ap ends (sym (unlogged_before b h more));
-    windows = λ q held. (let same : r ≡ q = some_is r q held in subst (WindowsFit first begun) (begins ∙ same) fresh_fits);
+    windows = λ q held. (let same : r ≡ q = same_Some r q held in subst (WindowsFit first begun) (begins ∙ same) fresh_fits);
   }
     where
-      some_is : (a b : ReservationState) → Some a ≡ Some b → a ≡ b
-      some_is a b e = cc
-
       unlogged_before : (b : Block) (h : HandlerId) → IsAdded (Reserve hs) (newest_block begun) b h w.logs → [] ≡ log_of b h w
       unlogged_before b h more =
           subst (λ y. [] ≡ log_of y h w) more.block (sym (unreserved_empty (client.next_block p.client) h w.logs
@@ -310,14 +305,11 @@ give_up_logs w p r s f held given =
           let same : r.block ≡ b = (f.block r held).block ∙ more.block in
           subst (λ y. ends (log_of y h w) ≡ false) same (ap ends ((f.block r held).unlogged (given_shut r s r.stage given) h)));
       windows = λ q is. (
-          let same : s ≡ q = some_is s q is in
+          let same : s ≡ q = same_Some s q is in
           subst (WindowsFit (commanded_world w p GiveUp d) d) same
           (windows_more w (commanded_world w p GiveUp d) d s (λ h. refl)
           (fit_again w p.client d r s (given_stays p.client r s r.stage refl given) (f.block r held))));
     }
-  where
-    some_is : (a b : ReservationState) → Some a ≡ Some b → a ≡ b
-    some_is a b e = cc
 
 -- ---- any command
 

@@ -2,6 +2,7 @@
 -- of the block can be read off that reservation's stage: no Open is sent while it locks or is given up, an Unlock only once
 -- all handlers have told Opened. Each row of the client's table either leaves the stage or goes on to the next one.
 use Rattle.std.proofs.Common.{◌≡◌, ◌⊎◌, inl, inr, ◌+◌, ◌||◌, not, Bool, true, false, true≢false, List, [], ◌∷◌, filter, find, Option, Some, None, refl, sym, ap, ◌∙◌, subst, ⊎_elim, append-nil}
+use Rattle.std.proofs.lemmas.Option.{same_Some}
 use Rattle.std.specs.Prelude.{if◌then◌else◌, Ok}
 use Rattle.std.specs.List.{AllByRecursion, list_any}
 use Rattle.scoop_message.specs.declared.name.Block.{Block}
@@ -36,7 +37,7 @@ use Rattle.scoop_model.specs.declared.event.Command.TheVariants.{Reserve, Call, 
 use Rattle.std.specs.Option.{option_map}
 use Rattle.scoop_model.specs.World.{World, Party, BlockLog, HandlerLog, handlers_in, lines_of, log_of, handlers_of, id_of, is_log_of, is_party, party_of, set_party}
 use Rattle.scoop_model.specs.Step.{core_command, logs_after, newest_block, with_sent}
-use Rattle.scoop_model.proofs.Basics.{by_test}
+use Rattle.scoop_model.proofs.Basics.{by_test, some_same}
 use Rattle.scoop_model.proofs.Keys.{by_party, id_found}
 use Rattle.scoop_model.proofs.Order.Facts.{IsNamed, PartyFits, Ordered, Tells, all_found, all_more_of, all_pushed}
 use Rattle.scoop_model.proofs.Order.Clients.{has_without, is_gone_one, none_in_empty}
@@ -47,12 +48,6 @@ use Rattle.scoop_model.proofs.Logging.Windows.{found_has, window_handler}
 use Rattle.scoop_model.proofs.Logging.Logs.{IsAdded, log_after, log_in, named_lines}
 use Rattle.scoop_model.proofs.Logging.Commands.{IsRunning, running_is}
 use Rattle.scoop_model.proofs.Logging.Openings.{IsOpenedAt, IsOpenedAtAll, IsGivenUp, NoOpen, Shows, SiteOpened, StageOpened, ReservationOpened, Onto, Openings, is_open_of, logs_more, none_pushed, reservation_more, shows_more, site_more}
-
-same_party : (o : Option Party) (p q : Party) → o ≡ Some p → o ≡ Some q → p ≡ q
-same_party o p q e f = cc
-
-same_reservation : (o : Option ReservationState) (r s : ReservationState) → o ≡ Some r → o ≡ Some s → r ≡ s
-same_reservation o r s e f = cc
 
 -- ---- two reservations of one block are one
 
@@ -66,8 +61,8 @@ one_owner :
     → (r s : ReservationState) → p.client.reservation ≡ Some r → q.client.reservation ≡ Some s → s.block ≡ r.block → s ≡ r
 one_owner w l c d p q at there r s held has same =
     let own : d ≡ c = sym (block_own w l d q there s has) ∙ ap (λ (b : Block). b.client) same ∙ block_own w l c p at r held in
-    let one : q ≡ p = same_party (party_of d w) q p there (ap (λ j. party_of j w) own ∙ at) in
-    same_reservation p.client.reservation s r (ap (λ (y : Party). y.client.reservation) (sym one) ∙ has) held
+    let one : q ≡ p = some_same (party_of d w) q p there (ap (λ j. party_of j w) own ∙ at) in
+    some_same p.client.reservation s r (ap (λ (y : Party). y.client.reservation) (sym one) ∙ has) held
 
 -- ---- what a client sends
 
@@ -323,7 +318,7 @@ module _ (w : World) (c : ClientState) (fits : (r : ReservationState) → c.rese
   stepped_from s f =
       by_test (λ t. AllFrom (if t then idle c else with_reservation c s)) (is_gone s)
       (λ over. idle_from c)
-      (λ on q e. subst (IsFrom w c) (same_reservation (Some s) s q refl e) f)
+      (λ on q e. subst (IsFrom w c) (same_Some s q e) f)
 
   after_from : (s : ReservationState) (st : Step) → IsFrom w c s → AllFrom (after_step c s st).0
   after_from s (step.Locked h) f = stepped_from s f
@@ -421,7 +416,7 @@ module _
     reserve_from hs q (begins_block r at_idle room begins) e =
         from_made (client.with_block p.client hs r) e
         (λ s held.
-        subst (IsFrom w p.client) (started_fresh (client.next_block p.client) hs p.client.handlers r begins ∙ same_reservation (Some r) r s refl held)
+        subst (IsFrom w p.client) (started_fresh (client.next_block p.client) hs p.client.handlers r begins ∙ same_Some r s held)
         (fresh_from hs))
     reserve_from hs q r e = absurd (cc)
 
@@ -436,7 +431,7 @@ module _
     give_up_from : (q : client.Outcome) → GiveUpRow p.client q → q ≡ Ok d → From
     give_up_from q (gives_up r s locking has_one given) e =
         from_made (with_reservation p.client s) e
-        (λ y held. subst (IsFrom w p.client) (same_reservation (Some s) s y refl held) (given_from r s r.stage has_one refl given))
+        (λ y held. subst (IsFrom w p.client) (same_Some s y held) (given_from r s r.stage has_one refl given))
     give_up_from q r e = absurd (cc)
 
     pub command_from : (x : client.Command) → client.command p.client x ≡ Ok d → From

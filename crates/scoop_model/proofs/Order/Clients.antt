@@ -2,6 +2,7 @@
 -- are left; a Locked that it hears was sent, so the handler has granted the lock, for good. So an Open, which is due only
 -- once none is left, is of a block that was granted at each of its handlers.
 use Rattle.std.proofs.Common.{◌≡◌, ◌+◌, ◌&&◌, ◌||◌, not, Bool, true, false, true≢false, length, List, [], ◌∷◌, Option, Some, None, refl, sym, ◌∙◌, subst, arith}
+use Rattle.std.proofs.lemmas.Option.{same_Some}
 use Rattle.std.proofs.lemmas.Bool.{eqb-true}
 use Rattle.std.specs.Prelude.{if◌then◌else◌}
 use Rattle.scoop_message.specs.declared.name.HandlerId.{HandlerId}
@@ -172,10 +173,7 @@ module _ (w : World) (c : ClientState) (fits : (r : ReservationState) → c.rese
   keeps_stepped s f =
       by_test (λ t. Keeps w c (if t then idle c else with_reservation c s)) (is_gone s)
       (λ over. record { id = refl; inc = refl; last = refl; reservation = λ r e. absurd (cc) })
-      (λ on. record { id = refl; inc = refl; last = refl; reservation = λ r e. let same : s ≡ r = some_is s r e in subst (ReservationFits w) same f })
-    where
-      some_is : (s r : ReservationState) → Some s ≡ Some r → s ≡ r
-      some_is s r e = cc
+      (λ on. record { id = refl; inc = refl; last = refl; reservation = λ r e. let same : s ≡ r = same_Some s r e in subst (ReservationFits w) same f })
 
   keeps_step : (s : ReservationState) (st : Step) → ReservationFits w s → Keeps w c (after_step c s st).0
   keeps_step s (step.Locked h) f = keeps_stepped s f

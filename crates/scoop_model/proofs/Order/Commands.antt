@@ -1,6 +1,7 @@
 -- What a command to a client does keeps the order. Only a reserve matters: its block is newer than all that its client has
 -- named, so it has no handlers yet; they are set once, as the reserve names them, and all of them are left to lock.
 use Rattle.std.proofs.Common.{◌≡◌, ◌==◌, ◌≤◌, nat_lt, false, true≢false, length, List, Option, Some, None, refl, sym, ap, ◌∙◌, subst, ⊎_elim, arith}
+use Rattle.std.proofs.lemmas.Option.{same_Some}
 use Rattle.std.specs.Prelude.{if◌then◌else◌, Ok, Err}
 use Rattle.scoop_message.specs.declared.limits.TheConstants.{MAX_BLOCK_HANDLERS}
 use Rattle.scoop_message.specs.declared.name.Block.{Block}
@@ -128,16 +129,13 @@ reserve_goes_on w p hs d o (begins_block r idle room begins) e f =
       inc = refl;
       last = omega arith;
       reservation = λ q is.
-          let same : r ≡ q = some_is r q is in
+          let same : r ≡ q = same_Some r q is in
           let one : fresh (client.next_block p.client) hs ≡ q = started_fresh (client.next_block p.client) hs p.client.handlers r begins ∙ same in
           subst (ReservationFits (commanded_world w p (Reserve hs) (client.with_block p.client hs r))) one (record {
             named = handlers_fresh (client.next_block p.client) hs w.logs (next_is_new w p f (handlers_of (client.next_block p.client) w) refl);
             locks = ((λ h there. there), (λ h there gone. absurd (true≢false (sym there ∙ gone))));
           });
     })
-  where
-    some_is : (a b : ReservationState) → Some a ≡ Some b → a ≡ b
-    some_is a b e = cc
 reserve_goes_on w p hs d o r e f = absurd (cc)
 
 log_goes_on :
@@ -163,13 +161,10 @@ give_up_goes_on w p d o (gives_up r s locking has_one given) e f =
       inc = refl;
       last = omega arith;
       reservation = λ q is.
-          let same : s ≡ q = some_is s q is in
+          let same : s ≡ q = same_Some s q is in
           subst (ReservationFits (commanded_world w p GiveUp a)) same
           (reservation_more w (commanded_world w p GiveUp a) (extends w p GiveUp a) s (given_up_fits w r s r.stage given (f.reservation r has_one)));
     })
-  where
-    some_is : (a b : ReservationState) → Some a ≡ Some b → a ≡ b
-    some_is a b e = cc
 give_up_goes_on w p d o r e f = absurd (cc)
 
 pub goes_on : (w : World) (p : Party) (x : Command) (d : ClientState) → client.command p.client (core_command x) ≡ Ok d → PartyFits w p → GoesOn w p x d

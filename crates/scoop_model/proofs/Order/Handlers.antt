@@ -2,6 +2,7 @@
 -- opened here stands before it there; if not, it is put at that list's end, behind all of them. A lock is granted only where
 -- the mark hasn't reached the block, so never for a block of the common list, which was granted at each of its handlers.
 use Rattle.std.proofs.Common.{◌≡◌, ℕ, ◌-◌, ◌==◌, true, List, [], ◌∷◌, ◌++◌, map, find, slice_get, Option, Some, None, refl, sym, ap, ◌∙◌, subst, ⊎_elim, arith, append-nil}
+use Rattle.std.proofs.lemmas.Option.{same_Some}
 use Rattle.std.specs.Prelude.{if◌then◌else◌, ◌<◌, ◌≤◌, option_to_list}
 use Rattle.std.specs.List.{AllByRecursion}
 use Rattle.scoop_message.specs.declared.name.Block.{Block}
@@ -246,7 +247,7 @@ granted_first h b x y xs ys same later g =
     let k : number_of y ≡ number_of x = ap (λ (st : HandlerState). st.number) same in
     subst (λ n. IsGrantedIn (if same_handler n h then Some y else find (is_site h) ys) b) (sym k)
     (by_test (λ t. IsGrantedIn (if t then Some x else find (is_site h) xs) b → IsGrantedIn (if t then Some y else find (is_site h) ys) b) (is_site h x)
-    (λ first g. let one : x ≡ g.site = cc_some x g.site g.found in
+    (λ first g. let one : x ≡ g.site = same_Some x g.site g.found in
     record {
       site = y;
       found = refl;
@@ -254,9 +255,6 @@ granted_first h b x y xs ys same later g =
           (subst (λ (z : Site). IsReachedIn z.core.state.marks b) (sym one) g.reached);
     })
     (λ other g. later g) g)
-  where
-    cc_some : (p q : Site) → Some p ≡ Some q → p ≡ q
-    cc_some p q e = cc
 
 pub state_anew : (js : List Block) (n : ℕ) (x : Site) → SiteFits js x → (reopened n x).core.state ≡ x.core.state
 state_anew js n x f = by_test (λ t. (if t then reopened_site x else x).core.state ≡ x.core.state) (x.node == n) (λ here. f.stored) (λ there. refl)

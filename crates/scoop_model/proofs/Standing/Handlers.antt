@@ -2,6 +2,7 @@
 -- held only by opening, by a newer greeting of its client (then it is past there), or by its own Unlock, which is sent only
 -- of a block that has opened at all of its handlers or was given up.
 use Rattle.std.proofs.Common.{◌≡◌, ◌⊎◌, inl, inr, ℕ, ◌||◌, true, true≢false, List, [], ◌∷◌, ◌++◌, map, find, Some, None, refl, sym, ap, ◌∙◌, subst, ⊎_elim, append-nil}
+use Rattle.std.proofs.lemmas.Option.{same_Some}
 use Rattle.std.specs.Prelude.{if◌then◌else◌}
 use Rattle.std.specs.List.{AllByRecursion}
 use Rattle.std.specs.Option.{option_map_or}
@@ -214,12 +215,9 @@ stands_anew js n h b (x ∷ xs) fits g =
     subst (λ j. StandsFor (if same_handler j h then Some y else rest) b) (sym (ap (λ (st : HandlerState). st.number) state))
     (by_test (λ t. StandsFor (if t then Some x else find (is_site h) xs) b → StandsFor (if t then Some y else rest) b) (is_site h x)
     (λ first q.
-    let one : x ≡ q.site = is_one q.found in
+    let one : x ≡ q.site = same_Some _ _ q.found in
     record { site = y; found = refl; stands = same_stands x y b state (same_list n x) (subst (λ (z : Site). StandsIn z b) (sym one) q.stands) })
     (λ other q. stands_anew js n h b xs fits.1 q) g)
-  where
-    is_one : {p q : Site} → Some p ≡ Some q → p ≡ q
-    is_one e = cc
 
 pub reopens_standing : (w : World) → Ordered w → Openings w → Standing w → (n : ℕ) → Standing (reopened_world w n)
 reopens_standing w o openings i n =

@@ -1,5 +1,6 @@
 -- What a handler hears leaves a block that holds the lock there held, past or opened, unless it is the block's Unlock.
 use Rattle.std.proofs.Common.{◌≡◌, ◌⊎◌, inl, inr, ◌||◌, ◌&&◌, not, true, false, true≢false, List, map, Some, refl, sym, ap, ◌∙◌, subst, arith}
+use Rattle.std.proofs.lemmas.Option.{same_Some}
 use Rattle.scoop_message.specs.declared.name.Block.{Block}
 use Rattle.scoop_message.specs.declared.name.ClientId.{ClientId}
 use Rattle.scoop_message.specs.declared.name.HandlerId.{HandlerId}
@@ -97,29 +98,23 @@ pub locked_row :
     (s : HandlerState) (m : Message) (h : Hearing) → Row s m h → (x : HandlerId) (b : Block) → h.1.reply ≡ Some (Locked x b)
     → (x ≡ h.0.number) × IsHeldIn h.0.marks b
 locked_row s m h (lock_granted y c k here at new free clear) = λ x b e.
-    let same : Locked s.number c ≡ Locked x b = some_is e in
+    let same : Locked s.number c ≡ Locked x b = same_Some _ _ e in
     let block = locked_block same in (
       sym (locked_handler same),
       subst (IsHeldIn (set_mark (fresh_mark c AtHeld) s.marks)) block
           (record { mark = fresh_mark c AtHeld; found = mark_of-set_mark_own (fresh_mark c AtHeld) k s.marks at.found; inc = refl; num = refl; stage = refl }),
     )
   where
-    some_is : {p q : Message} → Some p ≡ Some q → p ≡ q
-    some_is e = cc
-
     locked_block : {p q : HandlerId} {a b : Block} → Locked p a ≡ Locked q b → a ≡ b
     locked_block e = cc
 
     locked_handler : {p q : HandlerId} {a b : Block} → Locked p a ≡ Locked q b → p ≡ q
     locked_handler e = cc
 locked_row s m h (repeated_lock y c k here at same_num was) = λ x b e.
-    let same : Locked s.number c ≡ Locked x b = some_is e in
+    let same : Locked s.number c ≡ Locked x b = same_Some _ _ e in
     let block = locked_block same in
     (sym (locked_handler same), subst (IsHeldIn s.marks) block (record { mark = k; found = at.found; inc = at.inc; num = same_num; stage = was }))
   where
-    some_is : {p q : Message} → Some p ≡ Some q → p ≡ q
-    some_is e = cc
-
     locked_block : {p q : HandlerId} {a b : Block} → Locked p a ≡ Locked q b → a ≡ b
     locked_block e = cc
 

@@ -25,7 +25,7 @@ use Rattle.scoop_handler.specs.Running.{mark_after}
 use Rattle.scoop_handler.proofs.After.{MarksGrow-after}
 use Rattle.scoop_handler.proofs.MarkLists.{mark_of-client}
 use Rattle.scoop_model.specs.World.{greatest_count}
-use Rattle.scoop_model.proofs.Basics.{by_test}
+use Rattle.scoop_model.proofs.Basics.{by_test, some_same}
 use Rattle.scoop_model.proofs.Order.Holding.{IsReachedIn, Upto, reached_more}
 use Rattle.scoop_model.proofs.Order.Lists.{same_block_is}
 use Rattle.scoop_model.proofs.Tape.Taking.{InQueue, each_queue, all_both}
@@ -45,13 +45,10 @@ IsPassed marks b = IsReachedIn marks (next_incarnation b)
 abbrev pub HasEnded : List Mark → Block → Type 0
 HasEnded marks b = (k : Mark) → mark_of b.client marks ≡ Some k → block_of k ≡ b → k.ended ≡ true
 
-mark_is : (o : Option Mark) (k x : Mark) → o ≡ Some k → o ≡ Some x → k ≡ x
-mark_is o k x e f = cc
-
 -- a block of an older incarnation isn't the client's newest
 passed_ended : (marks : List Mark) (b : Block) → IsPassed marks b → HasEnded marks b
 passed_ended marks b p k found own =
-    let same : p.mark ≡ k = mark_is (mark_of b.client marks) p.mark k p.found found in
+    let same : p.mark ≡ k = some_same (mark_of b.client marks) p.mark k p.found found in
     let inc : k.inc ≡ b.inc = ap (λ (y : Block). y.inc) own in
     let le : b.inc + 1 ≤ k.inc = subst (λ (y : Mark). b.inc + 1 ≤ y.inc) same p.upto.inc in
     absurd (omega (arith, inc, le))
@@ -64,7 +61,7 @@ ended_more : (old new : List Mark) (b : Block) → MarksGrow old new → IsReach
 ended_more old new b grows r has x found own =
     let k = r.mark in
     let g = grows b.client k r.found in
-    let same : g.0 ≡ x = mark_is (mark_of b.client new) g.0 x g.1 found in
+    let same : g.0 ≡ x = some_same (mark_of b.client new) g.0 x g.1 found in
     ⊎_elim (λ (n : IsNewer k x). absurd (past k n r.upto)) (λ (f : IsFurther k x). f.ended (has k r.found (block_is k f r.found))) (subst (Grows k) same g.2)
   where
     inc : x.inc ≡ b.inc
@@ -220,7 +217,7 @@ put_whole ms ns h old new b es k t w = at t.block t.ran t.rest t.state w
                   let last : ends es ≡ true =
                   by_test (λ u. takes_more (Some (if u then Ended else Open)) ≡ false → u ≡ true) (ends es) (λ _ _. refl) (λ _ f. absurd (true≢false f)) off in
                   subst (HasEnded new) one
-                  (λ x found own. subst (λ (y : Mark). y.ended ≡ true) (mark_is (mark_of b.client new) k.next x k.now found) (k.ended last));
+                  (λ x found own. subst (λ (y : Mark). y.ended ≡ true) (some_same (mark_of b.client new) k.next x k.now found) (k.ended last));
               gone = λ none. absurd (cc);
               received =
                   let count : greatest_count h c ns ≡ greatest_count h c ms + length es =

@@ -19,7 +19,9 @@ pub fn handlers_stay()
 
 /// Whatever opened at a handler stands in the common list.
 pub fn opened_in_joint()
-    ensures { (placements : List Placement) (newcomers : List Newcomer) (events : List WorldEvent) → AllByRecursion (λ s. (b : Block) → has_block s.opened b ≡ true → has_block (steps (opening placements newcomers) events).joint b ≡ true) (steps (opening placements newcomers) events).sites }
+    ensures { (placements : List Placement) (newcomers : List Newcomer) (events : List WorldEvent)
+        → AllByRecursion (λ s. (b : Block) → has_block s.opened b ≡ true
+        → has_block (steps (opening placements newcomers) events).joint b ≡ true) (steps (opening placements newcomers) events).sites }
 {}
 
 /// After any list of events, each handler has opened its blocks in the order of one common list, in which no
@@ -31,5 +33,6 @@ pub fn in_order()
 /// The state of every handler meets the conditions of a state, with the count of words of its class, and a job is
 /// out only of an entry that is pending.
 pub fn handlers_sound()
-    ensures { (placements : List Placement) (newcomers : List Newcomer) (events : List WorldEvent) → MayOpen placements newcomers → AllByRecursion (λ s. IsCore s.core) (steps (opening placements newcomers) events).sites }
+    ensures { (placements : List Placement) (newcomers : List Newcomer) (events : List WorldEvent) → MayOpen placements newcomers
+        → AllByRecursion (λ s. IsCore s.core) (steps (opening placements newcomers) events).sites }
 {}

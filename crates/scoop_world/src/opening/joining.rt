@@ -26,9 +26,11 @@ fn join<A: Allocator + Copy>(
     requires { IsBatched client.now }
     ensures party { IfOk result (λ p. p ≡ new_party handlers.now (newcomer_of (incarnation_at keeper.old) client.now)) }
     ensures joining { OnOk result (IsJoining (newcomer_of (incarnation_at keeper.old) client.now)) }
-    ensures stored { OnOk result (Sets (incarnation_at keeper.old) (incarnation_at keeper.new) client.now.0.0 (next_of (incarnation_at keeper.old client.now.0.0))) }
+    ensures stored { OnOk result
+        (Sets (incarnation_at keeper.old) (incarnation_at keeper.new) client.now.0.0 (next_of (incarnation_at keeper.old client.now.0.0))) }
     ensures states { keeper.new.states ≡ keeper.old.states }
-    ensures refused { IfErr result (λ e. (e ≡ WorldOpenError.OutOfMemory) ⊎ ((e ≡ WorldOpenError.IncarnationsSpent) × (incarnation_at keeper.old client.now.0.0 ≡ Some last_incarnation))) }
+    ensures refused { IfErr result (λ e. (e ≡ WorldOpenError.OutOfMemory) ⊎ ((e ≡ WorldOpenError.IncarnationsSpent)
+        × (incarnation_at keeper.old client.now.0.0 ≡ Some last_incarnation))) }
 {
     let (id, batch) = *client;
     let inc = match keeper.next_incarnation(id) {
@@ -52,7 +54,8 @@ pub(crate) fn join_all<A: Allocator + Copy>(
     ensures joining { OnOk result (AllByRecursion IsJoining (newcomers_of (incarnation_at keeper.old) clients.now)) }
     ensures stored { IfOk result (λ ps. AllByRecursion (HasIncarnation keeper.new) ps.items) }
     ensures states { keeper.new.states ≡ keeper.old.states }
-    ensures refused { IfErr result (λ e. (e ≡ WorldOpenError.OutOfMemory) ⊎ ((e ≡ WorldOpenError.IncarnationsSpent) × Any (λ c. incarnation_at keeper.old c.0.0 ≡ Some last_incarnation) clients.now)) }
+    ensures refused { IfErr result (λ e. (e ≡ WorldOpenError.OutOfMemory) ⊎ ((e ≡ WorldOpenError.IncarnationsSpent)
+        × Any (λ c. incarnation_at keeper.old c.0.0 ≡ Some last_incarnation) clients.now)) }
 {
     let mut parties = Vec::new(alloc);
     for client in clients {

@@ -104,7 +104,8 @@ invariant_of-self-2 g c =
     (Finished c.in-Ok-finish.ran) c.finished-reply.result
     (subst (λ (h : HandlerId). c.enter.new.history.items ≡ c.reserve.new.self.items ++ (c.args.pass, Finish h, c.finished-reply.result) ∷ [])
     c.handler-handler.ensures c.enter.ensures) c.reserve.ensures.items c.finished-reply.ensures)
-    g.K.Keeper.handlers g.K.Keeper.is_honest c.self.invariant.replays (room_left c.self.inside.opening.items c.self.inside.handlers c.self.inside.history.items c.self.inside.limit c.self.inside.failed c.args.self.now
+    g.K.Keeper.handlers g.K.Keeper.is_honest c.self.invariant.replays
+    (room_left c.self.inside.opening.items c.self.inside.handlers c.self.inside.history.items c.self.inside.limit c.self.inside.failed c.args.self.now
     c.self.view_is c.handler-handler.result c.in-Ok.ensures.may) c.finish.ensures.held
 
 pub returns-clause-gains : goal.returns-clause-gains
@@ -125,7 +126,8 @@ returns-clause-sound g c =
     (Finished c.in-Ok-finish.ran) c.finished-reply.result
     (subst (λ (h : HandlerId). c.enter.new.history.items ≡ c.reserve.new.self.items ++ (c.args.pass, Finish h, c.finished-reply.result) ∷ [])
     c.handler-handler.ensures c.enter.ensures) c.reserve.ensures.items c.finished-reply.ensures)
-    g.K.Keeper.handlers g.K.Keeper.is_honest c.self.invariant.replays (room_left c.self.inside.opening.items c.self.inside.handlers c.self.inside.history.items c.self.inside.limit c.self.inside.failed c.args.self.now
+    g.K.Keeper.handlers g.K.Keeper.is_honest c.self.invariant.replays
+    (room_left c.self.inside.opening.items c.self.inside.handlers c.self.inside.history.items c.self.inside.limit c.self.inside.failed c.args.self.now
     c.self.view_is c.handler-handler.result c.in-Ok.ensures.may) c.finish.ensures.held
 
 pub returns-in-Err-finish-clause-honest : goal.returns-in-Err-finish-clause-honest

@@ -60,7 +60,8 @@ invariant_of-self-2 g c =
     (subst (λ (e : Event). Moves e (Heard c.in-Ok-hear.heard) c.self.inside.handlers.handlers c.hear.new.self.handlers)
     (sym c.in-Hear.is) c.in-Ok-hear.ensures.moves) (entered c.self.inside.history.items c.reserve.new.self.items c.enter.new.history.items c.args.pass
     c.args.event (Heard c.in-Ok-hear.heard) (Heard c.in-Ok-hear.heard) c.enter.ensures c.reserve.ensures.items refl)
-    g.K.Keeper.handlers g.K.Keeper.is_honest c.self.invariant.replays (room_left c.self.inside.opening.items c.self.inside.handlers c.self.inside.history.items c.self.inside.limit c.self.inside.failed c.args.self.now
+    g.K.Keeper.handlers g.K.Keeper.is_honest c.self.invariant.replays
+    (room_left c.self.inside.opening.items c.self.inside.handlers c.self.inside.history.items c.self.inside.limit c.self.inside.failed c.args.self.now
     c.self.view_is c.handler.result c.in_ok-at.ensures.may) c.hear.ensures.held
 
 pub returns-clause-gains : goal.returns-clause-gains
@@ -78,7 +79,8 @@ returns-clause-sound g c =
     (subst (λ (e : Event). Moves e (Heard c.in-Ok-hear.heard) c.self.inside.handlers.handlers c.hear.new.self.handlers)
     (sym c.in-Hear.is) c.in-Ok-hear.ensures.moves) (entered c.self.inside.history.items c.reserve.new.self.items c.enter.new.history.items c.args.pass
     c.args.event (Heard c.in-Ok-hear.heard) (Heard c.in-Ok-hear.heard) c.enter.ensures c.reserve.ensures.items refl)
-    g.K.Keeper.handlers g.K.Keeper.is_honest c.self.invariant.replays (room_left c.self.inside.opening.items c.self.inside.handlers c.self.inside.history.items c.self.inside.limit c.self.inside.failed c.args.self.now
+    g.K.Keeper.handlers g.K.Keeper.is_honest c.self.invariant.replays
+    (room_left c.self.inside.opening.items c.self.inside.handlers c.self.inside.history.items c.self.inside.limit c.self.inside.failed c.args.self.now
     c.self.view_is c.handler.result c.in_ok-at.ensures.may) c.hear.ensures.held
 
 pub returns-in-Err-clause-honest : goal.returns-in-Err-clause-honest
@@ -95,7 +97,8 @@ pub returns-clause-stored : goal.returns-clause-stored
 returns-clause-stored g c honest =
     subst (λ k. KeepsNew (handler_at c.args.event) c.hear.new.self.handlers (g.K.Keeper.handlers k) (g.K.Keeper.handlers c.hear.new.self.keeper))
     (keeper_is c.self.inside.opening.items c.self.inside.handlers c.self.inside.history.items c.self.inside.limit c.self.inside.failed c.args.self.now
-    c.self.view_is) (subst (λ (h : HandlerId). KeepsNew h c.hear.new.self.handlers (g.K.Keeper.handlers c.self.inside.handlers.keeper) (g.K.Keeper.handlers c.hear.new.self.keeper))
+    c.self.view_is) (subst (λ (h : HandlerId). KeepsNew h c.hear.new.self.handlers (g.K.Keeper.handlers c.self.inside.handlers.keeper)
+    (g.K.Keeper.handlers c.hear.new.self.keeper))
     (sym (ap handler_at c.in-Hear.is)) (c.in-Ok-hear.ensures.stored honest))
 
 pub returns-clause-may : goal.returns-clause-may

@@ -54,7 +54,8 @@ returns-in_default-reserve g c =
     subst (λ (xs : List Site). IsFirst (is_site c.args.handler) xs c.in-Some-site_at.field-0) c.deref-2.ensures.value c.in-Some-site_at.ensures in
     let p = read_at c.self.inside.parties.items c.in-Some.at first.within in (
       tick_ok c.self.inside.sites.items c.self.inside.parties.items c.self.inside.sent.items c.self.inside.joint.keys
-          (logs_kept c.self.inside.logs.entries) c.args.self.now c.self.view_is c.args.client c.args.handler c.in-Some.at c.in-Some-site_at.field-0 p.0 first p.1
+          (logs_kept c.self.inside.logs.entries) c.args.self.now c.self.view_is c.args.client c.args.handler c.in-Some.at c.in-Some-site_at.field-0
+          p.0 first p.1
           there,
       ap (λ (ms : List Message). world_kept c.self.inside.sites.items c.self.inside.parties.items ms c.self.inside.joint.keys
           (logs_kept c.self.inside.logs.entries)) c.in_default-reserve.ensures.items
