@@ -67,8 +67,10 @@ fn runs_by(note: Note, datagram: &[u8]) -> Option<HandlerId>
 // The same after this answer.
 fn runs_next(answered: Answered, datagram: &[u8]) -> Option<HandlerId>
     ensures refused { (e : FrameError) → answered ≡ Answered.RefusedFrame e → result ≡ None }
-    ensures silent { (note : Note) (v : Version) (m : Message) → answered ≡ Answered.Silent note → IsFrame v m datagram.now → result ≡ runs_by note (handler_of m) }
-    ensures replied { (n : ℕ) (note : Note) (v : Version) (m : Message) → answered ≡ Answered.Reply n note → IsFrame v m datagram.now → result ≡ runs_by note (handler_of m) }
+    ensures silent { (note : Note) (v : Version) (m : Message) → answered ≡ Answered.Silent note → IsFrame v m datagram.now
+        → result ≡ runs_by note (handler_of m) }
+    ensures replied { (n : ℕ) (note : Note) (v : Version) (m : Message) → answered ≡ Answered.Reply n note → IsFrame v m datagram.now
+        → result ≡ runs_by note (handler_of m) }
 {
     match answered {
         Answered::Reply(_, note) | Answered::Silent(note) => runs_by(note, datagram),

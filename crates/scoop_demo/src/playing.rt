@@ -136,7 +136,8 @@ fn play_lines<R: Read + Drop, W: Write>(
     writer: &mut W,
 ) -> Result<(), RunError>
     requires closed { is_some cast.old.world ≡ false }
-    requires waits { IsWaiting ⟦<Table as Behaviour>⟧.class cast.old.placements.items cast.old.clients.items (incarnation_at cast.old.keeper) (parties_of []) (incarnation_at cast.old.keeper) }
+    requires waits { IsWaiting ⟦<Table as Behaviour>⟧.class cast.old.placements.items cast.old.clients.items (incarnation_at cast.old.keeper)
+        (parties_of []) (incarnation_at cast.old.keeper) }
     ensures ok { OnOk result (PlaysAll (R.remaining reader) (incarnation_at cast.old.keeper)) }
     ensures err { IfErr result (StopsPlaying options.is_strict (R.remaining reader) (incarnation_at cast.old.keeper)) }
 {

@@ -47,7 +47,8 @@ pub fn answer_run<B: Behaviour, K: Keeper<Global>, R: Read + Drop, W: Write>(
     reader: R,
     writer: &mut W,
 ) -> Result<(), RunError>
-    ensures ok { OnOk result (AnswersAll (R.remaining reader) book.old book.new (words_line shown book.new.handlers) (W.contents writer.old) (W.contents writer.new)) }
+    ensures ok { OnOk result
+        (AnswersAll (R.remaining reader) book.old book.new (words_line shown book.new.handlers) (W.contents writer.old) (W.contents writer.new)) }
     ensures err { IfErr result (StopsEarly (R.remaining reader) book.old book.new (W.contents writer.old) (W.contents writer.new)) }
 
     // What the keeper has.
@@ -69,7 +70,8 @@ fn answer_all<B: Behaviour, K: Keeper<Global>, R: Read + Drop, W: Write>(
     reader: R,
     writer: &mut W,
 ) -> Result<(), RunError>
-    ensures ok { OnOk result (AnswersAll (R.remaining reader) book.old book.new (words_line shown book.new.handlers) (W.contents writer.old) (W.contents writer.new)) }
+    ensures ok { OnOk result
+        (AnswersAll (R.remaining reader) book.old book.new (words_line shown book.new.handlers) (W.contents writer.old) (W.contents writer.new)) }
     ensures err { IfErr result (StopsEarly (R.remaining reader) book.old book.new (W.contents writer.old) (W.contents writer.new)) }
     ensures sound { IsBook K.handlers K.is_honest book.old → IsBook K.handlers K.is_honest book.new }
     ensures others { KeepsElsewhere K.handlers K.incarnations K.is_honest book.old.handlers book.old.keeper book.new.keeper }

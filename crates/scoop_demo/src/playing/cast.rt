@@ -57,7 +57,8 @@ impl Cast {
     /// A cast without parties, whose world will open over this keeper.
     pub fn new(alloc: Global, keeper: MemoryKeeper) -> Cast
         ensures closed { is_some result.world ≡ false }
-        ensures waits { IsWaiting ⟦<Table as Behaviour>⟧.class result.placements.items result.clients.items (incarnation_at result.keeper) (parties_of []) (incarnation_at keeper) }
+        ensures waits { IsWaiting ⟦<Table as Behaviour>⟧.class result.placements.items result.clients.items (incarnation_at result.keeper) (parties_of [])
+            (incarnation_at keeper) }
         ensures own { incarnation_at result.keeper ≡ incarnation_at keeper }
     {
         Cast {
@@ -84,10 +85,13 @@ impl Cast {
         ensures ok { OnOk result (words_fault (is_some self.old.world) line.now ≡ None) }
         ensures opened { OnOk result (is_some self.new.world ≡ (is_some self.old.world || is_event line.now)) }
         ensures staged { (parties : Parties) (stored : ℕ → Option ℕ)
-            → IsStaged ⟦<Table as Behaviour>⟧.class (is_some self.old.world) self.old.placements.items self.old.clients.items (incarnation_at self.old.keeper) parties stored
-            → OnOk result (IsStaged ⟦<Table as Behaviour>⟧.class (is_some self.new.world) self.new.placements.items self.new.clients.items (incarnation_at self.new.keeper) (with_line parties line.now) stored) }
+            → IsStaged ⟦<Table as Behaviour>⟧.class (is_some self.old.world) self.old.placements.items self.old.clients.items
+            (incarnation_at self.old.keeper) parties stored
+            → OnOk result (IsStaged ⟦<Table as Behaviour>⟧.class (is_some self.new.world) self.new.placements.items self.new.clients.items
+            (incarnation_at self.new.keeper) (with_line parties line.now) stored) }
         ensures err { (parties : Parties) (stored : ℕ → Option ℕ)
-            → IsStaged ⟦<Table as Behaviour>⟧.class (is_some self.old.world) self.old.placements.items self.old.clients.items (incarnation_at self.old.keeper) parties stored
+            → IsStaged ⟦<Table as Behaviour>⟧.class (is_some self.old.world) self.old.placements.items self.old.clients.items
+            (incarnation_at self.old.keeper) parties stored
             → IfErr result (StopsAtLine number (opens_at (is_some self.old.world) line.now) (words_fault (is_some self.old.world) line.now) parties stored) }
     {
         if is_blank(line) {
@@ -111,7 +115,8 @@ impl Cast {
         ensures ok { OnOk result (party_fault (is_some self.old.world) (result_err (handler_line (words_of words.now))) ≡ None) }
         ensures same { is_some self.new.world ≡ is_some self.old.world }
         ensures kept { (placed : List Placed) → AreFirst ⟦<Table as Behaviour>⟧.class self.old.placements.items placed
-            → OnOk result (AreFirst ⟦<Table as Behaviour>⟧.class self.new.placements.items (placed ++ cons_option (result_ok (handler_line (words_of words.now))) [])) }
+            → OnOk result (AreFirst ⟦<Table as Behaviour>⟧.class self.new.placements.items
+            (placed ++ cons_option (result_ok (handler_line (words_of words.now))) [])) }
         ensures others { (self.new.clients ≡ self.old.clients) × (self.new.keeper ≡ self.old.keeper) }
         ensures err { (parties : Parties) (stored : ℕ → Option ℕ)
             → IfErr result (StopsAtLine number false (party_fault (is_some self.old.world) (result_err (handler_line (words_of words.now)))) parties stored) }
@@ -214,10 +219,12 @@ impl Cast {
         ensures ok { OnOk result (result_err (event_line kind (words_of words.now)) ≡ None) }
         ensures opened { OnOk result (is_some self.new.world ≡ true) }
         ensures opens { (parties : Parties) (stored : ℕ → Option ℕ)
-            → IsStaged ⟦<Table as Behaviour>⟧.class (is_some self.old.world) self.old.placements.items self.old.clients.items (incarnation_at self.old.keeper) parties stored
+            → IsStaged ⟦<Table as Behaviour>⟧.class (is_some self.old.world) self.old.placements.items self.old.clients.items
+            (incarnation_at self.old.keeper) parties stored
             → OnOk result (Opens parties stored) }
         ensures err { (parties : Parties) (stored : ℕ → Option ℕ)
-            → IsStaged ⟦<Table as Behaviour>⟧.class (is_some self.old.world) self.old.placements.items self.old.clients.items (incarnation_at self.old.keeper) parties stored
+            → IsStaged ⟦<Table as Behaviour>⟧.class (is_some self.old.world) self.old.placements.items self.old.clients.items
+            (incarnation_at self.old.keeper) parties stored
             → IfErr result (StopsAtLine number (not (is_some self.old.world)) (result_err (event_line kind (words_of words.now))) parties stored) }
     {
         match self.open_by(number, picture) {
@@ -261,10 +268,12 @@ impl Cast {
     pub fn open_by(&mut self, number: u32, picture: &mut Picture) -> Result<(), RunError>
         ensures ok { OnOk result (is_some self.new.world ≡ true) }
         ensures opens { (parties : Parties) (stored : ℕ → Option ℕ)
-            → IsStaged ⟦<Table as Behaviour>⟧.class (is_some self.old.world) self.old.placements.items self.old.clients.items (incarnation_at self.old.keeper) parties stored
+            → IsStaged ⟦<Table as Behaviour>⟧.class (is_some self.old.world) self.old.placements.items self.old.clients.items
+            (incarnation_at self.old.keeper) parties stored
             → OnOk result (Opens parties stored) }
         ensures err { (parties : Parties) (stored : ℕ → Option ℕ)
-            → IsStaged ⟦<Table as Behaviour>⟧.class (is_some self.old.world) self.old.placements.items self.old.clients.items (incarnation_at self.old.keeper) parties stored
+            → IsStaged ⟦<Table as Behaviour>⟧.class (is_some self.old.world) self.old.placements.items self.old.clients.items
+            (incarnation_at self.old.keeper) parties stored
             → IfErr result (StopsClosed (is_some self.old.world) number parties stored) }
     {
         if self.world.is_some() {

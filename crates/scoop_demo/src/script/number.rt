@@ -71,7 +71,8 @@ pub fn read_u16(word: &[u8]) -> Result<u16, InputFault>
 /// The numbers of a line that has no more of them than an object may have words.
 pub fn read_numbers(line: &[u8]) -> Result<ArrayVec<u64, MAX_WORDS>, InputFault>
     requires { length (words_of line.now) ≤ MAX_WORDS }
-    ensures { MatchResult result (λ numbers. each_of number_of (words_of line.now) ≡ Ok numbers.items) (λ fault. each_of number_of (words_of line.now) ≡ Err fault) }
+    ensures { MatchResult result (λ numbers. each_of number_of (words_of line.now) ≡ Ok numbers.items)
+        (λ fault. each_of number_of (words_of line.now) ≡ Err fault) }
 {
     let mut numbers = ArrayVec::new();
     let mut rest = line;
