@@ -28,7 +28,7 @@ use Rattle.scoop_client.specs.Commands.{Outcome}
 use Rattle.scoop_client.specs.Rows.{HeardRow, passed_over, is_welcomed, takes_step, is_acknowledged, is_accepted}
 use Rattle.scoop_client.proofs.Rows.{heard_row}
 use Rattle.scoop_model.specs.World.{World, greatest_count}
-use Rattle.scoop_model.proofs.Basics.{by_test}
+use Rattle.scoop_model.proofs.Basics.{by_test, ok_is}
 use Rattle.scoop_model.proofs.Order.Clients.{has_without, is_gone_one, none_in_empty}
 use Rattle.scoop_model.proofs.Logging.Facts.{WindowFits, WindowsFit}
 use Rattle.scoop_model.proofs.Logging.Windows.{handlers_at, by_window, by_all, handlers_at_window, fits_acknowledged}
@@ -244,9 +244,6 @@ pub heard_follows : (w : World) (c : ClientState) (m : Message) → PartyAttends
 heard_follows w c m f round t = row_follows w c f m round (heard c m).0 (heard c m).1 (heard_row c m) t
 
 -- ---- it takes a command
-
-ok_is : (c d : ClientState) → ◌≡◌ {A = Outcome} (Ok c) (Ok d) → c ≡ d
-ok_is c d e = cc
 
 module _ (w : World) (c : ClientState) (f : PartyAttends w c) where
   pub log_attends : (h : HandlerId) (e : Entry) (waits : Option (HandlerId × ℕ)) → PartyAttends w (with_windows c (at_window h (with_entry e) c.windows) waits)

@@ -18,15 +18,12 @@ use Rattle.scoop_client.specs.Commands.{Command, Outcome, command, Reserve, DoCa
 use Rattle.scoop_client.specs.Rows.{ReserveRow, begins_block, LogRow, is_logged, EndRow, ends_block, GiveUpRow, gives_up}
 use Rattle.scoop_client.proofs.CommandRows.{command_row}
 use Rattle.scoop_model.specs.World.{World}
-use Rattle.scoop_model.proofs.Basics.{by_test}
+use Rattle.scoop_model.proofs.Basics.{by_test, ok_is}
 use Rattle.scoop_model.proofs.Order.Commands.{started_fresh}
 use Rattle.scoop_model.proofs.Logging.Windows.{fresh_found}
 use Rattle.scoop_calm.proofs.Handlers.{in_asked}
 use Rattle.scoop_calm.proofs.Attending.{AskedAt, ClientAttends, PartyAttends}
 use Rattle.scoop_calm.proofs.AttendingClients.{Follows, log_attends, end_attends}
-
-ok_is : (c d : ClientState) → ◌≡◌ {A = Outcome} (Ok c) (Ok d) → c ≡ d
-ok_is c d e = cc
 
 -- an idle client has no block
 phase_busy : (stage : Stage) (t : Bool) → phase_at stage t ≡ Idle → ⊥

@@ -2,6 +2,7 @@
 -- so it is over once its lock is given back; a block whose windows are over was received up to its End at each of its
 -- handlers, and is over too. That a lock is given back is told by the handler's own replies.
 use Rattle.std.proofs.Common.{◌≡◌, ℕ, ◌<◌, ◌≤◌, ◌==◌, ◌&&◌, ◌||◌, not, Bool, true, false, true≢false, List, [], ◌∷◌, ◌++◌, length, Option, Some, None, refl, sym, ap, ◌∙◌, subst, arith, length-append, append-nil}
+use Rattle.std.proofs.lemmas.Bool.{and_parts}
 use Rattle.std.specs.Prelude.{if◌then◌else◌, ⊤}
 use Rattle.std.proofs.lemmas.Bool.Decides.{nat_tests}
 use Rattle.scoop_message.specs.declared.name.Block.{Block}
@@ -115,10 +116,6 @@ some_if_ends : (es : List Entry) → ends es ≡ true → 0 < length es
 some_if_ends [] e = absurd (true≢false (sym e))
 some_if_ends (x ∷ xs) e = omega arith
 
-both_tests : (t u : Bool) → (t && u) ≡ true → (t ≡ true) × (u ≡ true)
-both_tests true u e = (refl, e)
-both_tests false u e = absurd (true≢false (sym e))
-
 module _ (w : World) (marked : Marked w) (tape : Taped w) where
   pub over_ended : (r : ReservationState) (ls : List WindowState) → WindowsTold w r ls → all_over ls ≡ true → (h : HandlerId) → has r.handlers h ≡ true
       → IsOver w h r.block
@@ -126,7 +123,7 @@ module _ (w : World) (marked : Marked w) (tape : Taped w) where
       let there = window_there ls h (ap (λ hs. has hs h) told.handlers ∙ named) in
       let l = there.0 in
       let fits = told.fits h l there.1 in
-      let is = both_tests l.ended (length l.unacked == 0) (over_at ls h l over there.1) in
+      let is = and_parts l.ended (length l.unacked == 0) (over_at ls h l over there.1) in
       let log : List Entry = log_of r.block h w in
       let none = empty_is l.unacked is.1 in
       let whole : fits.acknowledged ≡ log = sym (append-nil fits.acknowledged) ∙ ap (λ es. fits.acknowledged ++ es) (sym none) ∙ fits.all in

@@ -1,5 +1,6 @@
 -- Lists of handlers: which is the lowest, and what goes out of a list.
 use Rattle.std.proofs.Common.{◌≡◌, ◌<◌, ◌≤◌, ◌&&◌, ◌||◌, not, Bool, true, false, true≢false, nat_le, List, [], ◌∷◌, ◌++◌, length, filter, Some, None, refl, sym, ap, ◌∙◌, subst, arith}
+use Rattle.std.proofs.lemmas.Bool.{and_from}
 use Rattle.std.specs.Prelude.{⊤, if◌then◌else◌}
 use Rattle.std.specs.List.{list_all}
 use Rattle.std.proofs.lemmas.Bool.Decides.{nat_tests}
@@ -84,9 +85,6 @@ all_higher h g (x ∷ xs) le e =
     (λ _ is f. let here : nat_le h.0 x.0 ≡ true = grind (arith, nat_tests) in ap (λ t. t && list_all (λ z. nat_le h.0 z.0) xs) here ∙ all_higher h g xs le f)
     (λ _ is f. absurd (true≢false (sym f))) refl e
 
-both_true : (s t : Bool) → s ≡ true → t ≡ true → (s && t) ≡ true
-both_true s t p q = ap (λ x. x && t) p ∙ q
-
 second : (s t : Bool) → (s && t) ≡ true → t ≡ true
 second true t e = e
 second false t e = absurd (true≢false (sym e))
@@ -94,7 +92,7 @@ second false t e = absurd (true≢false (sym e))
 pub lowest_of : (h : HandlerId) (hs : List HandlerId) → Lowest (h ∷ hs)
 lowest_of h [] = record {
   handler = h;
-  is = both_true (has (h ∷ []) h) _ (has_head h []) (let le : nat_le h.0 h.0 ≡ true = grind (arith, nat_tests) in ap (λ t. t && true) le);
+  is = and_from (has (h ∷ []) h) _ (has_head h []) (let le : nat_le h.0 h.0 ≡ true = grind (arith, nat_tests) in ap (λ t. t && true) le);
 }
 lowest_of h (x ∷ xs) =
     let l = lowest_of x xs in
@@ -102,14 +100,14 @@ lowest_of h (x ∷ xs) =
     by_test (λ t. nat_le h.0 g.0 ≡ t → Lowest (h ∷ x ∷ xs)) (nat_le h.0 g.0)
     (λ _ is. record {
       handler = h;
-      is = both_true (has (h ∷ x ∷ xs) h) _ (has_head h (x ∷ xs))
+      is = and_from (has (h ∷ x ∷ xs) h) _ (has_head h (x ∷ xs))
           (let le : nat_le h.0 h.0 ≡ true = grind (arith, nat_tests) in
-          both_true (nat_le h.0 h.0) _ le (all_higher h g (x ∷ xs) (grind (arith, nat_tests)) (second (has (x ∷ xs) g) _ l.is)));
+          and_from (nat_le h.0 h.0) _ le (all_higher h g (x ∷ xs) (grind (arith, nat_tests)) (second (has (x ∷ xs) g) _ l.is)));
     })
     (λ _ is. record {
       handler = g;
-      is = both_true (has (h ∷ x ∷ xs) g) _ (or_second (same_handler h g) (has (x ∷ xs) g) (lowest_has g (x ∷ xs) l.is))
-          (let le : nat_le g.0 h.0 ≡ true = grind (arith, nat_tests) in both_true (nat_le g.0 h.0) _ le (second (has (x ∷ xs) g) _ l.is));
+      is = and_from (has (h ∷ x ∷ xs) g) _ (or_second (same_handler h g) (has (x ∷ xs) g) (lowest_has g (x ∷ xs) l.is))
+          (let le : nat_le g.0 h.0 ≡ true = grind (arith, nat_tests) in and_from (nat_le g.0 h.0) _ le (second (has (x ∷ xs) g) _ l.is));
     }) refl
   where
     or_second : (s t : Bool) → t ≡ true → (s || t) ≡ true

@@ -1,6 +1,7 @@
 -- The events that are next, again and again, lead from every reached world to a calm one. What is next leaves less to do, and
 -- that ends. Where nothing is next no useful move is left, so the world is calm; and in a calm world nothing is next.
 use Rattle.std.proofs.Common.{◌≡◌, ◌⊎◌, inl, inr, ℕ, zero, suc, ◌<◌, ◌≤◌, Bool, true, false, true≢false, ◌&&◌, ◌||◌, nat_lt, List, [], ◌∷◌, ◌++◌, length, find, Option, Some, None, refl, sym, ap, ◌∙◌, subst, ⊎_elim, arith}
+use Rattle.std.proofs.lemmas.Bool.{and_from}
 use Rattle.std.specs.Prelude.{◌↔◌, if◌then◌else◌, is_some, nat_le, Ok}
 use Rattle.std.specs.Option.{option_map, option_map_or, option_or}
 use Rattle.std.specs.Result.{is_ok}
@@ -43,10 +44,6 @@ or_right : (t u : Bool) → u ≡ true → (t || u) ≡ true
 or_right true u e = refl
 or_right false u e = e
 
-both_true : (t u : Bool) → t ≡ true → u ≡ true → (t && u) ≡ true
-both_true true u s e = e
-both_true false u s e = absurd (true≢false (sym s))
-
 lt_true : (a b : ℕ) → a < b → nat_lt a b ≡ true
 lt_true a b l = grind (arith, nat_tests)
 
@@ -72,11 +69,11 @@ module _ (v w : World) where
   pub less_has : Less v w → has_less v w ≡ true
   less_has (for_clients l) = ap (λ x. x || (d && (r || (s && t)))) (lt_true (clients_left v) (clients_left w) l)
   less_has (for_room l m) = or_right c (d && (r || (s && t)))
-      (both_true d (r || (s && t)) (le_true (clients_left v) (clients_left w) l) (ap (λ x. x || (s && t)) (lt_true (room_left v) (room_left w) m)))
+      (and_from d (r || (s && t)) (le_true (clients_left v) (clients_left w) l) (ap (λ x. x || (s && t)) (lt_true (room_left v) (room_left w) m)))
   less_has (for_work l m n) =
       or_right c (d && (r || (s && t)))
-      (both_true d (r || (s && t)) (le_true (clients_left v) (clients_left w) l)
-      (or_right r (s && t) (both_true s t (le_true (room_left v) (room_left w) m) (lt_true (work_left v) (work_left w) n))))
+      (and_from d (r || (s && t)) (le_true (clients_left v) (clients_left w) l)
+      (or_right r (s && t) (and_from s t (le_true (room_left v) (room_left w) m) (lt_true (work_left v) (work_left w) n))))
 
 -- ---- where something is next
 

@@ -1,6 +1,7 @@
 -- A script, one line at a time. The lines that were taken have no fault, and the cast stands for the parties that they name
 -- (`Taken`). A line more goes on so, or has the fault that is told; at the end of the input the world opens if it hasn't.
 use Rattle.std.proofs.Common.{◌≡◌, ◌≤◌, if◌then◌else◌, ℕ, ◌+◌, max, Bool, true, false, ◌||◌, ◌&&◌, not, List, [], ◌∷◌, ◌++◌, length, Option, Some, None, Result, Ok, Err, IfErr, OnOk, refl, sym, ◌∙◌, ap, subst, arith}
+use Rattle.std.proofs.lemmas.Bool.{and_parts}
 use Rattle.std.proofs.lemmas.List.{length_push}
 use Rattle.std.proofs.lemmas.List.Folds.{list_any-append}
 use Rattle.std.specs.List.{list_any}
@@ -65,10 +66,6 @@ module _ (parties : Parties) (stored : ℕ → Option ℕ) where
   inside_if number opens found (Ok u) s = tt
   inside_if number opens found (Err e) s = inside_stops number opens found e s
 
-and_true : (a b : Bool) → (a && b) ≡ true → (a ≡ true) × (b ≡ true)
-and_true true b is = (refl, is)
-and_true false b is = cc
-
 -- the first words say nothing that is known
 unknown_found : (opened blank : Bool) (kind : Option (LineKind × List (List ℕ))) → blank ≡ false → kind ≡ None
     → (if blank then None else kind_fault opened kind) ≡ Some UnknownLine
@@ -91,7 +88,7 @@ unknown_stops number opened line parties stored e blank unknown told =
     none_there false is = no_kind (kind_of (words_of line)) unknown
 
     no_event_here : opens_at opened line ≡ true → ⊥
-    no_event_here opens = let none = none_there (is_blank line) blank in let both = and_true (not opened) (is_event line) opens in let is = both.1 in cc
+    no_event_here opens = let none = none_there (is_blank line) blank in let both = and_parts (not opened) (is_event line) opens in let is = both.1 in cc
 
 -- ---- several lines
 
@@ -246,7 +243,7 @@ module _ {B : Type 0} {class : B → ClassTable} {input : Option (List ℕ)} {st
       (splits_next _ _ p.taken line p.splits (begins_with _ _ line t.bytes)) in
       subst P (sym (next_number t)) stops t.limits (ap (λ o. words_fault o line) p.events ∙ found)
   line_stops {next = next} e line t (in_opening {error} is why) =
-      let first = and_true (not opened) (is_event line) is in
+      let first = and_parts (not opened) (is_event line) is in
       let P : ℕ → Type 0 = λ n. limit_fault n line ≡ None → StopsPlaying strict input stored (InputError n (CannotOpen error)) in
       let stops : P (length p.taken + 1) = λ none.
       first_event p.taken line first_lines none (p.events ∙ not_true opened first.0) first.1 why

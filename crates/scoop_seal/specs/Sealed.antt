@@ -3,6 +3,7 @@ use Rattle.std.specs.Prelude.{◌≡◌, ℕ, ◌+◌, ◌-◌, ◌^◌, ◌≤�
 use Rattle.scoop_link.specs.declared.party.Party.{Party}
 use Rattle.scoop_link.specs.declared.link.LinkFault.{LinkFault}
 use Rattle.scoop_link.specs.Link.{Datagrams, Told, Exchanges}
+use Rattle.scoop_seal.specs.declared.sealed_link.TheConstants.{MAX_TAKEN}
 use Rattle.scoop_seal.specs.declared.sealed_link.Taken.{Taken}
 use Rattle.scoop_seal.specs.declared.sealed_link.Taken.TheVariants.{Nothing, Forged, Genuine}
 use Rattle.scoop_seal.specs.Tag.{sealed, IsForged}
@@ -45,13 +46,13 @@ pub record Refuses (key : List ℕ) (before after : Option Told) (refused now : 
   pub counted : now ≡ count_after refused forged
 
 -- What was given was taken with its tag behind it. What was taken before it was not sealed and was counted: no
--- more than 64 datagrams in all.
+-- more than MAX_TAKEN datagrams in all.
 pub record Opens (key : List ℕ) (before after : Option Told) (refused now : ℕ) (given : List (List ℕ)) : Type 0 where
   pub forged : List (List ℕ)
   pub exchanged : Exchanges before after (forged ++ map (sealed key) given) []
   pub all_forged : All (IsForged key) forged
   pub counted : now ≡ count_after refused forged
-  pub at_most : length forged + length given ≤ 64
+  pub at_most : length forged + length given ≤ MAX_TAKEN
 
 -- so many bytes at the start of a buffer have their tag behind them
 pub record IsTagged (key buffer : List ℕ) (n : ℕ) : Type 0 where
