@@ -101,13 +101,7 @@ Attends w (Unlocked h b) = IsReleased w h b
 Attends w (Log h b n es) = IsReleased w h b
 Attends w (Logged h b n) = IsReleased w h b
 Attends w (Answer h b n a) = IsReleased w h b
-Attends w (Hello h c inc) = ⊤
-Attends w (Welcome h c inc) = ⊤
-Attends w (Locked h b) = ⊤
-Attends w (Busy h b) = ⊤
-Attends w (Open h b) = ⊤
-Attends w (Opened h b) = ⊤
-Attends w (Unlock h b) = ⊤
+Attends w other = ⊤
 
 -- what is acknowledged was told to be received, by a handler that had given back the lock
 pub record ClientAttends (w : World) (c : ClientState) (r : ReservationState) : Type 0 where

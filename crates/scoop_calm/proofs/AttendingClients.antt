@@ -3,7 +3,7 @@
 -- its windows are all over, and `Around` has that handlers are done with such a block.
 use Rattle.std.proofs.Common.{◌≡◌, ◌⊎◌, inl, inr, ℕ, ◌-◌, ◌<◌, ◌≤◌, ◌&&◌, Bool, true, false, true≢false, nat_le, List, map, Option, Some, None, refl, sym, ap, ◌∙◌, subst, ⊎_elim, arith}
 use Rattle.std.proofs.lemmas.Option.{same_Some}
-use Rattle.std.specs.Prelude.{if◌then◌else◌, Ok}
+use Rattle.std.specs.Prelude.{if◌then◌else◌}
 use Rattle.std.proofs.lemmas.Bool.Decides.{nat_tests}
 use Rattle.scoop_message.specs.declared.name.Block.{Block}
 use Rattle.scoop_message.specs.declared.name.HandlerId.{HandlerId}
@@ -24,11 +24,10 @@ use Rattle.scoop_client.specs.declared.phase.ClientNote.{ClientNote}
 use Rattle.scoop_client.specs.Window.{WindowState, with_entry, with_end, acknowledged, window_of, at_window, all_over}
 use Rattle.scoop_client.specs.State.{ClientState, with_windows, with_reservation, idle}
 use Rattle.scoop_client.specs.Hearing.{heard, stepped, after_step, up_to}
-use Rattle.scoop_client.specs.Commands.{Outcome}
 use Rattle.scoop_client.specs.Rows.{HeardRow, passed_over, is_welcomed, takes_step, is_acknowledged, is_accepted}
 use Rattle.scoop_client.proofs.Rows.{heard_row}
 use Rattle.scoop_model.specs.World.{World, greatest_count}
-use Rattle.scoop_model.proofs.Basics.{by_test, ok_is}
+use Rattle.scoop_model.proofs.Basics.{by_test}
 use Rattle.scoop_model.proofs.Order.Clients.{has_without, is_gone_one, none_in_empty}
 use Rattle.scoop_model.proofs.Logging.Facts.{WindowFits, WindowsFit}
 use Rattle.scoop_model.proofs.Logging.Windows.{handlers_at, by_window, by_all, handlers_at_window, fits_acknowledged}

@@ -1,9 +1,9 @@
 -- What may be next in a world that is reached leaves less to do there. By the kind of the choice: a job that is out or can go
 -- out, a client that asks, a client that ends its block. A client that asks sends what is due (a greeting, its reservation's
 -- message, a Log), and the test of the choice is what the useful move of that message needs.
-use Rattle.std.proofs.Common.{◌≡◌, inl, inr, ◌<◌, ◌==◌, ◌&&◌, ◌||◌, Bool, true, false, true≢false, List, [], ◌∷◌, length, map, find, Option, Some, None, refl, sym, ap, ◌∙◌, subst, ⊎_elim, arith, not}
+use Rattle.std.proofs.Common.{◌≡◌, ◌<◌, ◌==◌, ◌&&◌, ◌||◌, Bool, true, false, true≢false, List, [], ◌∷◌, length, map, Option, Some, None, refl, sym, ap, ◌∙◌, subst, ⊎_elim, arith, not}
 use Rattle.std.proofs.lemmas.Option.{same_Some}
-use Rattle.std.specs.Prelude.{if◌then◌else◌, is_none, is_some, ◌⊎◌, Ok, Err}
+use Rattle.std.specs.Prelude.{if◌then◌else◌, is_none, is_some}
 use Rattle.std.specs.Option.{option_map, option_map_or}
 use Rattle.std.specs.Result.{is_ok}
 use Rattle.std.proofs.lemmas.Bool.{eqb-true}
@@ -15,13 +15,12 @@ use Rattle.scoop_message.specs.declared.request.Entry.{Entry}
 use Rattle.scoop_message.specs.declared.message.Message.{Message}
 use Rattle.scoop_message.specs.declared.message.Message.TheVariants.{Lock, Open, Unlock}
 use Rattle.scoop_message.specs.Message.{same_block}
-use Rattle.scoop_queue.specs.Queue.{PrivateQueue, is_queue_of, queue_of, has_queue, pending, front}
+use Rattle.scoop_queue.specs.Queue.{PrivateQueue, queue_of, pending, front}
 use Rattle.scoop_queue.specs.Sound.{AreApart}
 use Rattle.scoop_handler.specs.declared.mark.Mark.{Mark}
-use Rattle.scoop_handler.specs.declared.mark.Stage.TheVariants.{Held as AtHeld}
 use Rattle.scoop_handler.specs.Core.{IsCore}
-use Rattle.scoop_handler.specs.Marks.{is_open as is_open_stage, block_of, mark_of}
-use Rattle.scoop_handler.specs.State.{HandlerState, HolderIsUnderWay, is_holder}
+use Rattle.scoop_handler.specs.Marks.{is_open as is_open_stage, mark_of}
+use Rattle.scoop_handler.specs.State.{HolderIsUnderWay, is_holder}
 use Rattle.scoop_handler.specs.Running.{Task, task_of, first_task, ready, job_out}
 use Rattle.scoop_reserve.specs.declared.stage.Stage.{Stage}
 use Rattle.scoop_reserve.specs.declared.stage.Stage.TheVariants.{Locking, Opening, Unlocking, GivingUp}
@@ -34,7 +33,7 @@ use Rattle.scoop_client.specs.Commands.{Outcome, command, DoEnd}
 use Rattle.scoop_client.specs.Rows.{DueRow, owes_nothing, greets, reserves, logs, EndRow, ends_block}
 use Rattle.scoop_client.proofs.DueRows.{due_row}
 use Rattle.scoop_client.proofs.CommandRows.{command_row}
-use Rattle.scoop_model.specs.World.{World, Site, Party, number_of, id_of, is_party, party_of, site_of}
+use Rattle.scoop_model.specs.World.{World, Site, Party, number_of, id_of, party_of, site_of}
 use Rattle.scoop_model.specs.Step.{Placement}
 use Rattle.scoop_model.specs.Reach.{IsReached}
 use Rattle.scoop_model.proofs.Basics.{by_test}
@@ -42,7 +41,7 @@ use Rattle.scoop_model.proofs.Order.Lists.{same_block_is, same_block_itself}
 use Rattle.scoop_model.proofs.Order.Holding.{IsHeldIn}
 use Rattle.scoop_model.proofs.Logging.OpeningClients.{unlocking_is}
 use Rattle.scoop_model.proofs.Logging.Commands.{running_is}
-use Rattle.scoop_model.proofs.Logging.Windows.{handlers_at, found_has}
+use Rattle.scoop_model.proofs.Logging.Windows.{found_has}
 use Rattle.scoop_calm.specs.declared.next.Next.{Next}
 use Rattle.scoop_calm.specs.declared.next.Next.TheVariants as next
 use Rattle.scoop_calm.specs.Next.{is_open_at, can_do, asks_well, is_out, can_begin, can_end}

@@ -25,7 +25,7 @@ use Rattle.scoop_model.specs.Reach.{IsReached}
 use Rattle.scoop_model.proofs.Reaching.{reached_more}
 use Rattle.scoop_calm.specs.Settling as settling
 use Rattle.scoop_calm.specs.declared.next.Next.TheVariants as next
-use Rattle.scoop_calm.specs.Next.{can_do, can_begin, can_end}
+use Rattle.scoop_calm.specs.Next.{can_do}
 use Rattle.scoop_calm.proofs.Totals.{Member, found_member}
 use Rattle.scoop_calm.proofs.Measures.{Less}
 use Rattle.scoop_calm.proofs.Chosen.{finishes as finish_chosen, begins as begin_chosen, asks as ask_chosen, ends as end_chosen}

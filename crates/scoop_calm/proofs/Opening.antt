@@ -40,7 +40,7 @@ use Rattle.scoop_model.proofs.Whole.Facts.{SiteTaped}
 use Rattle.scoop_calm.specs.Left.{stage_work}
 use Rattle.scoop_calm.proofs.Handlers.{less_without}
 use Rattle.scoop_calm.specs.declared.next.Next.TheVariants as next
-use Rattle.scoop_calm.specs.Next.{can_do, is_open_at}
+use Rattle.scoop_calm.specs.Next.{is_open_at}
 use Rattle.scoop_calm.proofs.Engine.{Helps}
 use Rattle.scoop_calm.proofs.AtMark.{MarkAt}
 use Rattle.scoop_calm.proofs.OpenedAt.{opened_reached, opened_open}

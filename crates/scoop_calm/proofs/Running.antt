@@ -22,7 +22,7 @@ use Rattle.scoop_calm.proofs.Resting.{HasRunOut}
 use Rattle.scoop_calm.proofs.Totals.{each_or, all_member, distinct, member_found}
 use Rattle.scoop_calm.proofs.Measures.{Less, for_work, sites_total}
 use Rattle.scoop_calm.specs.declared.next.Next.TheVariants as next
-use Rattle.scoop_calm.proofs.Engine.{Helps, Useful, useful}
+use Rattle.scoop_calm.proofs.Engine.{Useful, useful}
 use Rattle.scoop_calm.proofs.Moves.{begin_useful, finish_useful}
 
 -- ---- what is left to run

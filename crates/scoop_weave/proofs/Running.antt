@@ -59,7 +59,7 @@ module _ (past : List LocalMove) (v : System) (h : HandlerId) (s : LocalHandler)
 
   begin_brings : (o : Option Task) → IsReached w → ready s.core ≡ o → Brings w (begin_event h (told o)) (after o)
   begin_brings None reached e =
-      let stays : after_begin s ≡ s = ap (λ c. let x : LocalHandler = record s { core = c } in x)
+      let stays : after_begin s ≡ s = ap (λ c. let x : LocalHandler = record { node = s.node; placed = s.placed; core = c; stored = s.stored } in x)
       (no_more s.core e) in
       let same : with_handler (after_begin s) v ≡ v = ap (λ x. with_handler x v) stays ∙ handler_itself past v reached h s here in
       brings_none w (after None) (told_nothing past (Began h None) v (silent None) ∙ ap (world_by (past ++ Began h None ∷ [])) (sym same))

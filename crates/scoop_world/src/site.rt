@@ -99,7 +99,6 @@ impl<B: Behaviour, A: Allocator + Copy> Site<B, A> {
     pub(crate) fn is_out(&self) -> bool
         ensures { result ≡ self.now.core.out }
     {
-        // For the prover: says that the handler is sound.
         let _sound = self.handler.number();
         self.job.is_some()
     }
