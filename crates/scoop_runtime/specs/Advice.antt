@@ -37,7 +37,7 @@ line_advice line.NotANumber = codes "write a decimal number: below 65536 of an o
 line_advice line.TooFewArguments = codes "scoop check shows which arguments, a0 to a3, the operation reads: give so many"
 line_advice line.TooManyArguments = codes "scoop check shows which arguments, a0 to a3, the operation reads: give so many"
 line_advice line.TooManyHandlers = codes "a block has at most 8 handlers: reserve fewer"
-line_advice line.NoSuchOperation = codes "scoop check shows the operations of the file's classes, and scoop answer --help those of the others: name one of them"
+line_advice line.NoSuchOperation = codes "scoop check shows the operations of the file's classes, and scoop client --help those of the others: name one of them"
 line_advice line.NoSuchHandler = codes "scoop check shows the handlers of the system: name one of them"
 
 abbrev pub source_advice : SourceFault → List ℕ

@@ -150,7 +150,7 @@ fn line_advice(fault: LineFault) -> &'static str
         }
         LineFault::TooManyHandlers => "a block has at most 8 handlers: reserve fewer",
         LineFault::NoSuchOperation => {
-            "scoop check shows the operations of the file's classes, and scoop answer --help those of the others: name one of \
+            "scoop check shows the operations of the file's classes, and scoop client --help those of the others: name one of \
             them"
         }
         LineFault::NoSuchHandler => {
