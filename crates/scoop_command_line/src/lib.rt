@@ -135,7 +135,9 @@ fn chart_option<'a>(alloc: Global) -> Arg<'a> {
     Arg::new(alloc, "chart")
         .long("chart")
         .value_name("FILE")
-        .help("Writes a sequence chart of the run to the file, as SVG, of at most 2000 events")
+        .help(
+            "Writes a sequence chart of the run to this file, as SVG; a run of more than 2000 events has none",
+        )
 }
 
 fn frame_command<'a>(alloc: Global) -> Result<Command<'a>, AllocError> {
@@ -203,7 +205,8 @@ fn turns_option<'a>(alloc: Global) -> Arg<'a> {
         .long("turns")
         .value_name("T")
         .help(
-            "How many turns a client's call takes at most; a node's loop takes at most 100 times as many",
+            "How many turns a client's call takes at most, each of which takes a datagram or ten milliseconds; a node's loop takes \
+            at most 100 times as many",
         )
         .action(ArgAction::Set)
         .value_parser(value_parser!(u64))
@@ -227,7 +230,7 @@ fn wait_flag<'a>(alloc: Global) -> Arg<'a> {
 fn words_argument<'a>(alloc: Global) -> Arg<'a> {
     Arg::new(alloc, "words")
         .value_name("WORD")
-        .help("The words of a message")
+        .help("The words of a message; with none, frames are read from standard input")
         .action(ArgAction::Append)
         .num_args(0..)
 }
@@ -262,7 +265,7 @@ fn handler_option<'a>(alloc: Global) -> Arg<'a> {
     Arg::new(alloc, "handler")
         .long("handler")
         .value_name("N")
-        .help("The number of the handler")
+        .help("The number of the handler, up to 4294967295")
         .action(ArgAction::Set)
         .value_parser(value_parser!(u32))
         .default_value("1")
@@ -282,7 +285,9 @@ fn word_option<'a>(alloc: Global) -> Arg<'a> {
     Arg::new(alloc, "word")
         .long("word")
         .value_name("W")
-        .help("The object's first word; any others are 0")
+        .help(
+            "The first word of a new handler's object, up to 18446744073709551615; any others are 0",
+        )
         .action(ArgAction::Set)
         .value_parser(value_parser!(u64))
         .default_value("0")
@@ -292,7 +297,10 @@ fn new_option<'a>(alloc: Global) -> Result<Arg<'a>, AllocError> {
     Arg::new(alloc, "new")
         .long("new")
         .value_name("FILE")
-        .help("Makes a store in this file, and keeps the handler's state there")
+        .help(
+            "Makes a store in this file, which is missing or empty, and keeps the handler's state there. Without --new and --store \
+            nothing is kept",
+        )
         .action(ArgAction::Set)
         .conflicts_with("store")
 }
@@ -301,13 +309,13 @@ fn store_option<'a>(alloc: Global) -> Arg<'a> {
     Arg::new(alloc, "store")
         .long("store")
         .value_name("FILE")
-        .help("Keeps the handler's state in the store that is in this file")
+        .help("Goes on with the store that is in this file, and keeps the handler's state there")
         .action(ArgAction::Set)
 }
 
 fn words_flag<'a>(alloc: Global) -> Arg<'a> {
     Arg::new(alloc, "words")
         .long("words")
-        .help("Shows the object's words in decimal after the last line")
+        .help("Prints the object's words, in decimal, behind the last line")
         .action(ArgAction::SetTrue)
 }

@@ -44,11 +44,11 @@ pub fn node_command<'a>(alloc: Global) -> Result<Command<'a>, AllocError> {
             line of standard error says where to look and what to do.\n\n\
             Example: scoop node 1 --system examples/bank.toml --new /tmp/node-1.db",
         )
-        .arg(number_argument(alloc, "The number of the node"))?
+        .arg(number_argument(alloc, "The number of the node in the system's file"))?
         .arg(system_option(alloc))?;
     let new = new_option(
         alloc,
-        "Makes a store in this file: for a node that never ran",
+        "Makes a store in this file, which is missing or empty: for a node that never ran. Without --new and --store nothing is kept",
     );
     with_option(command, new)?
         .arg(store_option(
@@ -78,9 +78,12 @@ pub fn client_command<'a>(alloc: Global) -> Result<Command<'a>, AllocError> {
             \x20 reserve H.. when H OP A.. least V tries T\n\
             \x20                     `noted`: then only `call` (`noted`) and `end` are taken, and the block is tried until \
             the answer is at least V: `ended K` at the K-th try, or `condition failed T`\n\
-            OP is a number or a name of an operation. What the client refuses is `refused` and why, and it goes on. Empty \
-            lines and lines that begin with `#` are skipped. While a handler doesn't answer for a second, standard error \
-            says which ones it waits for.\n\n\
+            OP is a number or a name of an operation of the handler's class: set or get of a cell, add or get of a counter, \
+            deposit, withdraw or balance of an account, put of an exchange; `scoop check` shows those of the file's classes. \
+            What the client refuses is `refused` and why, and it goes on. Empty lines and lines that begin with `#` are \
+            skipped; a line may end in a carriage return and a newline. Where somebody types the lines, standard error says \
+            when the client is ready, and which lines there are. While a handler doesn't answer for a second, standard \
+            error says which ones it waits for.\n\n\
             Statuses: 0; 1 for the file or the key, told as `scoop: FILE: TEXT`, for a line that can't be read, told as \
             `scoop: line N: TEXT` (at a terminal the client goes on), and for an input that ends inside a block; 2 for the \
             command line; 3 for links, told as `scoop: link: NAME` (`TurnsOver` where a command has spent its --turns), for \
@@ -88,11 +91,11 @@ pub fn client_command<'a>(alloc: Global) -> Result<Command<'a>, AllocError> {
             look, what to do, and which lines are done.\n\n\
             Example: scoop client 7 --system examples/bank.toml --new /tmp/client-7.db < examples/bank-7.lines",
         )
-        .arg(number_argument(alloc, "The number of the client"))?
+        .arg(number_argument(alloc, "The number of the client in the system's file"))?
         .arg(system_option(alloc))?;
     let new = new_option(
         alloc,
-        "Makes a store in this file: for a client that never ran",
+        "Makes a store in this file, which is missing or empty: for a client that never ran",
     );
     with_option(command, new)?
         .arg(store_option(
@@ -106,7 +109,7 @@ pub fn client_command<'a>(alloc: Global) -> Result<Command<'a>, AllocError> {
 fn file_argument<'a>(alloc: Global) -> Arg<'a> {
     Arg::new(alloc, "file")
         .value_name("FILE")
-        .help("The file of the system")
+        .help("The file that says the system, in TOML")
         .action(ArgAction::Set)
         .required(true)
 }
@@ -124,7 +127,7 @@ fn system_option<'a>(alloc: Global) -> Arg<'a> {
     Arg::new(alloc, "system")
         .long("system")
         .value_name("FILE")
-        .help("The file of the system")
+        .help("The file that says the system, in TOML; all programs of a system read the same one")
         .action(ArgAction::Set)
         .required(true)
 }
@@ -151,7 +154,7 @@ fn key_option<'a>(alloc: Global) -> Arg<'a> {
         .long("key")
         .value_name("FILE")
         .help(
-            "Seals datagrams with the key in this file, of 64 hex digits; all programs of a system have one key",
+            "Seals datagrams with the key in this file, of 64 hex digits; all programs of a system have one key. Without it nothing is sealed",
         )
         .action(ArgAction::Set)
 }
@@ -170,7 +173,9 @@ fn history_option<'a>(alloc: Global) -> Arg<'a> {
     Arg::new(alloc, "history")
         .long("history")
         .value_name("N")
-        .help("Behind how many entries of its history the node is opened again, 2 to 1000000")
+        .help(
+            "Behind how many entries of its history the node is opened again, 2 to 1000000; an entry takes some 1.1 KB of memory",
+        )
         .action(ArgAction::Set)
         .value_parser(value_parser!(u32))
         .default_value("100000")
@@ -181,7 +186,8 @@ fn node_turns_option<'a>(alloc: Global) -> Arg<'a> {
         .long("turns")
         .value_name("T")
         .help(
-            "Ends the node after so many turns, each of which takes a datagram or ten milliseconds",
+            "Ends the node after so many turns, 1 or more, each of which takes a datagram or ten milliseconds. Without it the node \
+            serves until it is killed",
         )
         .action(ArgAction::Set)
         .value_parser(value_parser!(u64))
@@ -191,7 +197,9 @@ fn client_turns_option<'a>(alloc: Global) -> Arg<'a> {
     Arg::new(alloc, "turns")
         .long("turns")
         .value_name("T")
-        .help("How many turns each command takes at most")
+        .help(
+            "How many turns each command takes at most, 1 or more, each of which takes a datagram or ten milliseconds",
+        )
         .action(ArgAction::Set)
         .value_parser(value_parser!(u64))
         .default_value("100000")
