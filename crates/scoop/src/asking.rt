@@ -8,7 +8,7 @@ use clap::ArgMatches;
 use scoop_files::{FileError, FiledStore, adopt_for, close, create};
 use scoop_link::{Link, UdpLink};
 use scoop_message::{ClientId, OutOfMemory};
-use scoop_runtime::{ClientPlan, client_run, open_client_link};
+use scoop_runtime::{ClientPlan, FileFault, client_run, open_client_link};
 use scoop_seal::{Key, SealedLink};
 use scoop_system::System;
 use std::io;
@@ -54,15 +54,19 @@ fn run_in<T: Net>(
 ) -> Result<(), Failure> {
     let client = ClientId(given.get_one::<u32>("number").unwrap_or(0));
     let Some(place) = system.client(client) else {
-        return Err(tell(rt, path, format_args!("no client {client}")));
+        return Err(tell(
+            rt,
+            path,
+            format_args!("no client {client}"),
+            FileFault::NoClient,
+        ));
+    };
+    let turns = given.get_one::<u64>("turns").unwrap_or(100_000);
+    let plan = match ClientPlan::new(system, *place, turns, rt.stdin().is_terminal()) {
+        Ok(plan) => plan,
+        Err(range) => return Err(Failure::Range(range)),
     };
     let key = read_key(rt, given)?;
-    let plan = ClientPlan {
-        system,
-        place: *place,
-        turns: given.get_one::<u64>("turns").unwrap_or(100_000),
-        is_typed: rt.stdin().is_terminal(),
-    };
     match run_at(rt, net, given, &plan, key) {
         Ok(()) => Ok(()),
         Err(end) => Err(tell_end(rt, given, place.address, end)),
@@ -77,7 +81,7 @@ fn run_at<T: Net>(
     plan: &ClientPlan<'_>,
     key: Option<Key>,
 ) -> Result<(), End> {
-    let link = open_client_link(net, rt.alloc(), plan.system, &plan.place)?;
+    let link = open_client_link(net, rt.alloc(), plan.system(), &plan.place())?;
     run_stored(rt, given, plan, key, link)
 }
 
@@ -89,7 +93,7 @@ fn run_stored(
     key: Option<Key>,
     link: UdpLink,
 ) -> Result<(), End> {
-    let mut store = open_store(rt, given, plan.place.client)?;
+    let mut store = open_store(rt, given, plan.place().client)?;
     let ran = match key {
         Some(key) => run_over(rt, plan, &mut store, SealedLink::new(link, key)),
         None => run_over(rt, plan, &mut store, link),

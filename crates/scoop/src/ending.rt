@@ -4,7 +4,7 @@ use crate::failure::Failure;
 use clap::ArgMatches;
 use scoop_files::FileError;
 use scoop_message::OutOfMemory;
-use scoop_runtime::{ClientStop, RuntimeError};
+use scoop_runtime::{About, ClientStop, RuntimeError};
 use std::net::SocketAddr;
 
 /// Why a node or a client ends early.
@@ -74,7 +74,10 @@ pub fn tell_end(
 /// Tells why a store in a file isn't had, and behind it which file it is and what to do.
 pub fn tell_file(rt: &HostRuntime, given: &ArgMatches<'_>, error: FileError) -> Failure {
     let _ = eprintln!(rt; "scoop: {error}");
-    tell_advice(rt, given, error.advice());
+    let advice = error.advice();
+    if !advice.is_empty() {
+        tell_advice(rt, given, advice);
+    }
     Failure::Told(error.status())
 }
 
@@ -86,19 +89,30 @@ fn tell_runtime(
 ) -> Failure {
     let _ = eprintln!(rt; "scoop: {error}");
     let advice = error.advice();
-    if error.is_of_store() {
-        tell_advice(rt, given, advice);
-    } else if !advice.is_empty() {
-        let _ = eprintln!(rt; "scoop: {address}: {advice}");
+    match error.about() {
+        About::Store => tell_advice(rt, given, advice),
+        About::Address => {
+            let _ = eprintln!(rt; "scoop: {address}: {advice}");
+        }
+        About::Neither => {
+            let _ = eprintln!(rt; "scoop: {advice}");
+        }
     }
+    Failure::Told(error.status())
+}
+
+/// Tells why a command ends that is about neither a store nor an address, and behind it what to do.
+pub fn tell_plainly(rt: &HostRuntime, error: RuntimeError) -> Failure {
+    let _ = eprintln!(rt; "scoop: {error}");
+    let _ = eprintln!(rt; "scoop: {}", error.advice());
     Failure::Told(error.status())
 }
 
 // Tells what to do with the store.
 fn tell_advice(rt: &HostRuntime, given: &ArgMatches<'_>, advice: &str) {
     if let Some(path) = store_path(given) {
-        if !advice.is_empty() {
-            let _ = eprintln!(rt; "scoop: {path}: {advice}");
-        }
+        let _ = eprintln!(rt; "scoop: {path}: {advice}");
+    } else {
+        let _ = eprintln!(rt; "scoop: {advice}");
     }
 }

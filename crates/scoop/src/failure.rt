@@ -4,6 +4,7 @@ use clap::Error;
 use clap::error::ErrorKind;
 use scoop_demo::{RunError, WordsError};
 use scoop_message::OutOfMemory;
+use scoop_runtime::OutOfRange;
 use scoop_show::ShowError;
 use std::alloc::{AllocError, AllocFailed};
 
@@ -18,8 +19,6 @@ pub enum Failure {
     NoSuchClass,
     /// The words are no message with a frame.
     Words(WordsError),
-    /// The chart's file could not be written.
-    Chart,
     /// The run has more events than a chart shows, and its file is empty.
     LongChart,
     /// The work on the input ended early.
@@ -27,7 +26,7 @@ pub enum Failure {
     /// The demo ended early.
     Show(ShowError),
     /// A number of the command line is out of its range.
-    Ranges,
+    Range(OutOfRange),
     /// The command line names no store for a client.
     NoStore,
     /// The user has been told, and the program ends with this status.
@@ -40,46 +39,53 @@ impl Failure {
     pub fn report<R: Print + Eprint>(self, rt: &R) -> u8 {
         match self {
             Failure::CommandLine(error) => report_command_line(rt, &error),
-            Failure::Arguments => {
-                let _ = eprintln!(rt; "scoop: the arguments are not text");
-                2
-            }
+            Failure::Arguments => report_arguments(rt),
             Failure::NoSuchClass => {
                 let _ = eprintln!(rt; "scoop: no such class");
                 2
             }
-            Failure::Words(error) => {
-                let _ = eprintln!(rt; "scoop: {error}");
-                2
-            }
-            Failure::Chart => {
-                let _ = eprintln!(rt; "scoop: chart: the file could not be written");
-                3
-            }
-            Failure::LongChart => {
-                let _ = eprintln!(rt;
-                    "scoop: chart: a chart shows at most 2000 events, and the run has more"
-                );
-                1
-            }
+            Failure::Words(error) => report_words(rt, error),
+            Failure::LongChart => report_long_chart(rt),
             Failure::Run(error) => report_run(rt, error),
             Failure::Show(error) => {
                 let _ = eprintln!(rt; "scoop: {error}");
                 error.status()
             }
-            Failure::Ranges => {
-                let _ = eprintln!(rt; "scoop: --executors is 1 to 64, and --history 2 to 1000000");
-                2
-            }
-            Failure::NoStore => {
-                let _ = eprintln!(rt;
-                    "scoop: a client needs a store: --new FILE makes one for a client that never ran, --store FILE goes on with the one that it made"
-                );
-                2
-            }
+            Failure::Range(range) => report_range(rt, range),
+            Failure::NoStore => report_no_store(rt),
             Failure::Told(status) => status,
         }
     }
+}
+
+fn report_arguments<R: Eprint>(rt: &R) -> u8 {
+    let _ = eprintln!(rt; "scoop: the arguments are not text");
+    let _ = eprintln!(rt; "scoop: write each argument in UTF-8, the names of files too");
+    2
+}
+
+fn report_words<R: Eprint>(rt: &R, error: WordsError) -> u8 {
+    let _ = eprintln!(rt; "scoop: {error}");
+    2
+}
+
+fn report_long_chart<R: Eprint>(rt: &R) -> u8 {
+    let _ = eprintln!(rt; "scoop: chart: a chart shows at most 2000 events, and the run has more");
+    1
+}
+
+fn report_range<R: Eprint>(rt: &R, range: OutOfRange) -> u8 {
+    let _ = eprintln!(rt; "scoop: {range}");
+    let _ = eprintln!(rt; "scoop: {}", range.advice());
+    2
+}
+
+fn report_no_store<R: Eprint>(rt: &R) -> u8 {
+    let _ = eprintln!(rt; "scoop: a client needs a store");
+    let _ = eprintln!(rt;
+        "scoop: --new FILE makes one for a client that never ran, --store FILE goes on with the one that it made"
+    );
+    2
 }
 
 fn report_run<R: Eprint>(rt: &R, error: RunError) -> u8 {

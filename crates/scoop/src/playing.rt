@@ -9,6 +9,9 @@ use std::fs::File;
 use std::io;
 use std::io::{BufWriter, Write};
 
+// The status where the chart's file can't be written.
+const STATUS: u8 = 3;
+
 /// Plays the script of standard input, in a world that nothing is stored for.
 pub fn play(rt: &HostRuntime, given: &ArgMatches<'_>) -> Result<(), Failure> {
     let options = PlayOptions {
@@ -44,7 +47,7 @@ fn play_charted<W: Write>(
     output: &mut W,
 ) -> Result<(), Failure> {
     let Ok(file) = File::create(rt, path) else {
-        return Err(Failure::Chart);
+        return Err(tell_unwritten(rt, path));
     };
     let mut chart = BufWriter::new(rt.alloc(), file).map_err(|_| OutOfMemory)?;
     let mut picture = Picture::wanted(rt.alloc());
@@ -61,5 +64,17 @@ fn play_charted<W: Write>(
     if picture.is_too_long() {
         return Err(Failure::LongChart);
     }
-    drawn.map_err(|_| Failure::Chart)
+    match drawn {
+        Ok(()) => Ok(()),
+        Err(_) => Err(tell_unwritten(rt, path)),
+    }
+}
+
+// Tells that the chart's file could not be written, and which file it is.
+fn tell_unwritten(rt: &HostRuntime, path: &str) -> Failure {
+    let _ = eprintln!(rt; "scoop: chart: the file could not be written");
+    let _ = eprintln!(rt;
+        "scoop: {path}: see whether its folder is there, whether it may be written, and whether the disk is full"
+    );
+    Failure::Told(STATUS)
 }

@@ -9,7 +9,9 @@ use scoop_keeper::{Keeper, MemoryKeeper};
 use scoop_link::Link;
 use scoop_message::OutOfMemory;
 use scoop_record::Store;
-use scoop_runtime::{NodePlan, RuntimeError, Serving, node_run, open_node_link};
+use scoop_runtime::{
+    FileFault, NodePlan, OutOfRange, RuntimeError, Serving, node_run, open_node_link,
+};
 use scoop_seal::{Key, SealedLink};
 use scoop_system::{NodePlace, System};
 use sqlite::Alter;
@@ -27,8 +29,9 @@ pub fn serve_node<T: Threads + Wait + Clock + Net + Sync>(
     threads: &T,
     given: &ArgMatches<'_>,
 ) -> Result<(), Failure> {
-    let Some(serving) = serving_in(given) else {
-        return Err(Failure::Ranges);
+    let serving = match serving_in(given) {
+        Ok(serving) => serving,
+        Err(range) => return Err(Failure::Range(range)),
     };
     let path = given.get_str("system").unwrap_or("");
     let system = read_system(rt, path)?;
@@ -46,7 +49,12 @@ fn serve_in<T: Threads + Wait + Clock + Net + Sync>(
 ) -> Result<(), Failure> {
     let number = given.get_one::<u32>("number").unwrap_or(0);
     let Some(place) = system.node(number) else {
-        return Err(tell(rt, path, format_args!("no node {number}")));
+        return Err(tell(
+            rt,
+            path,
+            format_args!("no node {number}"),
+            FileFault::NoNode,
+        ));
     };
     let key = read_key(rt, given)?;
     match serve_at(rt, threads, given, serving, system, place, key) {
@@ -77,14 +85,14 @@ fn serve_at<T: Threads + Wait + Clock + Net + Sync>(
 }
 
 // How the command line says that the node is served.
-fn serving_in(given: &ArgMatches<'_>) -> Option<Serving> {
+fn serving_in(given: &ArgMatches<'_>) -> Result<Serving, OutOfRange> {
     let executors = given.get_one::<u32>("executors").unwrap_or(2);
     let history = given.get_one::<u32>("history").unwrap_or(100_000);
     let turns = given.get_one::<u64>("turns").unwrap_or(u64::MAX);
-    let serving = Serving::new(executors, usize::try_from(history).ok()?, turns)?;
+    let serving = Serving::new(executors, history as usize, turns)?;
     match given.get_str("store") {
-        Some(_) => Some(serving.going_on()),
-        None => Some(serving),
+        Some(_) => Ok(serving.going_on()),
+        None => Ok(serving),
     }
 }
 

@@ -1,8 +1,10 @@
 //! The files that a node and a client read before they begin.
 
+use crate::ending::tell_plainly;
 use crate::failure::Failure;
 use clap::ArgMatches;
 use scoop_message::OutOfMemory;
+use scoop_runtime::{FileFault, RuntimeError};
 use scoop_seal::Key;
 use scoop_system::{System, SystemError};
 use std::fmt::Display;
@@ -12,10 +14,21 @@ use std::{fs, io};
 // The status of a file that can't be used.
 const STATUS: u8 = 1;
 
-/// Tells what is wrong with a file, and how the program ends.
-pub fn tell<E: Display + Drop>(rt: &HostRuntime, path: &str, wrong: E) -> Failure {
+/// Tells what is wrong with a file, and what to do, and how the program ends.
+pub fn tell<E: Display + Drop>(
+    rt: &HostRuntime,
+    path: &str,
+    wrong: E,
+    fault: FileFault,
+) -> Failure {
     let _ = eprintln!(rt; "scoop: {path}: {wrong}");
+    let _ = eprintln!(rt; "scoop: {path}: {}", fault.advice());
     Failure::Told(STATUS)
+}
+
+// Tells that there is no memory for a file, and what to do.
+fn tell_memory(rt: &HostRuntime) -> Failure {
+    tell_plainly(rt, RuntimeError::from(OutOfMemory))
 }
 
 // What a file has, as text.
@@ -28,9 +41,10 @@ fn read_text(rt: &HostRuntime, path: &str) -> Result<String, Failure> {
 
 fn unread(rt: &HostRuntime, path: &str, error: &io::Error) -> Failure {
     match error.kind() {
-        ErrorKind::OutOfMemory => Failure::from(OutOfMemory),
-        ErrorKind::InvalidData => tell(rt, path, "the file is not text"),
-        _ => tell(rt, path, "the file could not be read"),
+        ErrorKind::OutOfMemory => tell_memory(rt),
+        ErrorKind::NotFound => tell(rt, path, "there is no such file", FileFault::Missing),
+        ErrorKind::InvalidData => tell(rt, path, "the file is not text", FileFault::NotText),
+        _ => tell(rt, path, "the file could not be read", FileFault::Unread),
     }
 }
 
@@ -39,8 +53,8 @@ pub fn read_system(rt: &HostRuntime, path: &str) -> Result<System, Failure> {
     let text = read_text(rt, path)?;
     match System::read(rt.alloc(), &text) {
         Ok(system) => Ok(system),
-        Err(SystemError::OutOfMemory) => Err(Failure::from(OutOfMemory)),
-        Err(error) => Err(tell(rt, path, error)),
+        Err(SystemError::OutOfMemory) => Err(tell_memory(rt)),
+        Err(error) => Err(tell(rt, path, error, FileFault::NoSystem)),
     }
 }
 
@@ -52,6 +66,6 @@ pub fn read_key(rt: &HostRuntime, given: &ArgMatches<'_>) -> Result<Option<Key>,
     let text = read_text(rt, path)?;
     match Key::read(text.as_bytes()) {
         Ok(key) => Ok(Some(key)),
-        Err(error) => Err(tell(rt, path, error)),
+        Err(error) => Err(tell(rt, path, error, FileFault::NoKey)),
     }
 }

@@ -4,6 +4,8 @@ pub mod Errors
 pub mod News
 pub mod NodeTexts
 pub mod Progress
+pub mod Ranges
 pub mod Records
 pub mod Sources
 pub mod Texts
+pub mod Typing

@@ -2,10 +2,12 @@
 
 use crate::error::RuntimeError;
 use crate::news_link::NewsLink;
+use crate::plan::ClientPlan;
 use crate::progress::{ClientStop, Progress};
 use crate::reply::print_reply;
 use crate::session::Session;
 use crate::source::LineSource;
+use crate::typing::tell_ready;
 use crate::waiting_link::WaitingLink;
 use arrayvec::ArrayVec;
 use scoop_client::{BeginError, Client};
@@ -18,22 +20,8 @@ use std::alloc::Global;
 use std::io;
 use std::io::Write;
 
-// Entries of one Log, at most.
-const MAX_BATCH: u8 = 4;
-
 // How often a client repeats a datagram at once before it waits for a silence.
 const REPEATS: u64 = 8;
-
-/// Which client of which system runs, and how.
-#[derive(Clone, Copy)]
-pub struct ClientPlan<'a> {
-    pub system: &'a System,
-    pub place: ClientPlace,
-    /// How many turns each command takes at most.
-    pub turns: u64,
-    /// Whether somebody types the lines: then a line that can't be read is told, and the client goes on.
-    pub is_typed: bool,
-}
 
 // The handlers of a system: node by node in the order of the nodes, as the promise wants every client to know them.
 fn known_handlers(alloc: Global, system: &System) -> Result<Vec<HandlerId>, OutOfMemory> {
@@ -55,13 +43,12 @@ fn begin_client<K: Keeper<Global>>(
     keeper: &mut K,
     known: &[HandlerId],
 ) -> Result<Client, RuntimeError> {
-    let ClientPlace { client, batch, .. } = plan.place;
+    let ClientPlace { client, batch, .. } = plan.place();
     let inc = match keeper.next_incarnation(client) {
         Ok(0) => return Err(RuntimeError::from(KeeperError::Refused)),
         Ok(inc) => inc,
         Err(refusal) => return Err(RuntimeError::from(refusal)),
     };
-    let batch = batch.max(1).min(MAX_BATCH);
     match Client::begin_batched(alloc, client, inc, known, batch) {
         Ok(client) => Ok(client),
         Err(error) => Err(unbegun(error)),
@@ -104,12 +91,12 @@ fn obey_lines<L: Link, I: LineSource, W: Write, N: Write>(
         let Some(number) = lines.next_line(&mut line)? else {
             return Ok(());
         };
-        match read_line(plan.system, &line) {
+        match read_line(plan.system(), &line) {
             Ok(asked) => {
                 progress.has_begun = true;
                 obey_line(session, &asked, writer)?;
             }
-            Err(fault) if plan.is_typed => tell_fault(number, fault, notes),
+            Err(fault) if plan.is_typed() => tell_fault(number, fault, notes),
             Err(fault) => return Err(RuntimeError::Line(number, fault)),
         }
         progress.has_begun = false;
@@ -156,6 +143,7 @@ fn run_session<L: Link, I: LineSource, W: Write, N: Write>(
     notes: &mut N,
 ) -> Result<(), RuntimeError> {
     session.greet()?;
+    tell_ready(plan.place().client, plan.is_typed(), notes);
     let obeyed = obey_lines(plan, session, lines, progress, writer, notes);
     progress.has_block = session.has_block();
     match obeyed {
@@ -184,17 +172,18 @@ where
     W: Write,
     N: Write,
 {
-    let known = known_handlers(alloc, plan.system)?;
+    let known = known_handlers(alloc, plan.system())?;
     let link = waiting_link(alloc, link, waits, &known)?;
     let client = begin_client(alloc, plan, keeper, &known)?;
-    let mut session = Session::new(alloc, client, link, plan.turns);
+    let mut session = Session::new(alloc, client, link, plan.turns());
     run_session(plan, &mut session, lines, progress, writer, notes)
 }
 
 /// Runs a client over a link: it takes its next incarnation from the keeper, greets every handler, and then does what the
 /// lines of the input ask, one after another. Each line is answered with one line, which goes out at once; what the client
 /// refuses is answered as `refused` and why, and it goes on. Repeated datagrams are paced. Handlers that don't answer
-/// within a second are told to `waits`, and lines that somebody types and that can't be read to `notes`.
+/// within a second are told to `waits`. Where somebody types the lines, `notes` is told that every handler has greeted and
+/// which lines there are, and of each that can't be read; else it is told nothing.
 ///
 /// Refused: what the keeper refuses, before anything is sent; `link: TurnsOver` and `link: LinkFault`; the first line that
 /// can't be read, unless somebody types; what ends the input early; `InsideBlock` where the input ends inside a block;

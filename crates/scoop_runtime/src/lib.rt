@@ -8,15 +8,11 @@
 //! ```
 //! // a node of the system, by two threads beside the one that receives
 //! let plan = NodePlan::of(alloc, system, place).ok()?;
-//! let serving = Serving::new(2, history, turns)?;
+//! let serving = Serving::new(2, history, turns).ok()?;
 //! let ended = node_run(rt, alloc, &plan, &serving, keeper, link, notes, &mut output);
 //! // a client of it, whose commands are these lines
-//! let plan = ClientPlan {
-//!     system,
-//!     place: *system.client(ClientId(number))?,
-//!     turns: TURNS,
-//!     is_typed,
-//! };
+//! let place = *system.client(ClientId(number))?;
+//! let plan = ClientPlan::new(system, place, TURNS, is_typed).ok()?;
 //! let ended = client_run(
 //!     alloc,
 //!     &plan,
@@ -30,6 +26,7 @@
 //! ```
 #![tactic(auto)]
 
+mod advice;
 mod client;
 mod error;
 mod last_block;
@@ -41,17 +38,21 @@ mod patient_link;
 mod plan;
 mod printing;
 mod progress;
+mod ranges;
 mod reply;
 mod session;
 mod source;
+mod typing;
 mod waiting_link;
 mod wish;
 
-pub use client::{ClientPlan, client_run};
+pub use advice::{About, FileFault};
+pub use client::client_run;
 pub use error::RuntimeError;
 pub use links::{open_client_link, open_node_link};
 pub use node::node_run;
-pub use plan::{NodePlan, Serving};
+pub use plan::{ClientPlan, NodePlan, Serving};
 pub use progress::{ClientStop, Progress};
+pub use ranges::{MAX_EXECUTORS, MIN_HISTORY, OutOfRange};
 pub use reply::{Reply, print_reply};
 pub use source::{LineBytes, LineSource, MAX_LINE_LEN, SourceError, SourceFault};

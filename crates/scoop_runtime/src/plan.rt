@@ -1,19 +1,19 @@
-//! Which node is served, and how.
+//! Which node is served or which client runs, and how.
 
-ghost use Rattle.std.specs.Prelude.{◌≤◌, length, IfOk};
-ghost use Rattle.scoop_message.specs.declared.limits.TheConstants.{MAX_HANDLERS, MAX_HISTORY};
+ghost use Rattle.std.specs.Prelude.{◌≡◌, ◌≤◌, ◌+◌, true, length, IfOk, MatchResult, Some, None};
+ghost use Rattle.scoop_message.specs.declared.limits.TheConstants.{MAX_ENTRIES, MAX_HANDLERS, MAX_HISTORY};
+ghost use Rattle.scoop_runtime.specs.declared.ranges.TheConstants.{MAX_EXECUTORS};
+ghost use Rattle.scoop_runtime.specs.Ranges.{client_fault, serving_fault};
 
 use crate::error::RuntimeError;
+use crate::ranges::OutOfRange;
 use scoop_client::BeginError;
-use scoop_message::limits::{MAX_HANDLERS, MAX_HISTORY};
+use scoop_message::limits::MAX_HANDLERS;
 use scoop_message::{HandlerId, OutOfMemory, Words};
 use scoop_object::{Class, Table};
 use scoop_show::ShowError;
-use scoop_system::{HandlerPlace, NodePlace, System};
+use scoop_system::{ClientPlace, HandlerPlace, NodePlace, System};
 use std::alloc::Global;
-
-/// Threads that run a node's handlers, at most.
-pub const MAX_EXECUTORS: u32 = 64;
 
 /// How a node is served.
 #[derive(Clone, Copy, Debug)]
@@ -23,19 +23,28 @@ pub struct Serving {
     turns: u64,
     goes_on: bool,
     ghost some: { 1 ≤ executors },
-    ghost many: { executors ≤ 64 },
-    ghost limit: { history ≤ 1000000 },
+    ghost many: { executors ≤ MAX_EXECUTORS },
+    ghost limit: { history ≤ MAX_HISTORY },
 }
 
 impl Serving {
-    /// By so many threads beside the one that receives, 1 to `MAX_EXECUTORS`; with a history of so many entries at most,
-    /// 2 to `MAX_HISTORY`, behind which the node is opened again; and for so many turns of its loop. Its record may be
-    /// new. `None` where a number is out of its range.
-    pub fn new(executors: u32, history: usize, turns: u64) -> Option<Serving> {
-        if executors < 1 || executors > MAX_EXECUTORS || history < 2 || history > MAX_HISTORY {
-            return None;
+    /// By so many threads beside the one that receives, 1 to 64; with a history of so many entries at most, 2 to
+    /// 1,000,000, behind which the node is opened again; and for so many turns of its loop, at least one. Its record may
+    /// be new. Refused is the first number that is out of its range.
+    pub fn new(executors: u32, history: usize, turns: u64) -> Result<Serving, OutOfRange>
+        ensures ranges { MatchResult result (λ s. serving_fault executors history turns ≡ None) (λ range. serving_fault executors history turns ≡ Some range) }
+        ensures kept { IfOk result (λ s. (s.executors ≡ executors) × (s.history ≡ history) × (s.turns ≡ turns)) }
+    {
+        if !OutOfRange::Executors.is_within(u64::from(executors)) {
+            return Err(OutOfRange::Executors);
         }
-        Some(Serving {
+        if !OutOfRange::History.is_within(history as u64) {
+            return Err(OutOfRange::History);
+        }
+        if !OutOfRange::Turns.is_within(turns) {
+            return Err(OutOfRange::Turns);
+        }
+        Ok(Serving {
             executors,
             history,
             turns,
@@ -44,7 +53,9 @@ impl Serving {
     }
 
     /// The same over a record that isn't new: a node of which it lacks a handler is refused.
-    pub fn going_on(self) -> Serving {
+    pub fn going_on(self) -> Serving
+        ensures { (result.executors ≡ self.executors) × (result.history ≡ self.history) × (result.turns ≡ self.turns) × (result.goes_on ≡ true) }
+    {
         let Serving {
             executors,
             history,
@@ -61,25 +72,31 @@ impl Serving {
 
     /// How many passes its node has: the receiver's, and one for each executor.
     pub(crate) fn passes(&self) -> u32
-        ensures { 2 ≤ result }
+        ensures value { result ≡ self.now.executors + 1 }
+        ensures enough { 2 ≤ result }
     {
         self.executors + 1
     }
 
     /// How many entries its history has at most.
     pub(crate) fn history(&self) -> usize
-        ensures { result ≤ MAX_HISTORY }
+        ensures value { result ≡ self.now.history }
+        ensures limit { result ≤ MAX_HISTORY }
     {
         self.history
     }
 
     /// How many turns it takes at most.
-    pub(crate) fn turns(&self) -> u64 {
+    pub(crate) fn turns(&self) -> u64
+        ensures { result ≡ self.now.turns }
+    {
         self.turns
     }
 
     /// Whether the node ran before, so that its record has every handler.
-    pub(crate) fn goes_on(&self) -> bool {
+    pub(crate) fn goes_on(&self) -> bool
+        ensures { result ≡ self.now.goes_on }
+    {
         self.goes_on
     }
 }
@@ -158,5 +175,72 @@ impl NodePlan {
             return Err(RuntimeError::Handlers(BeginError::TooManyHandlers));
         }
         Ok(handlers)
+    }
+}
+
+/// Which client of which system runs, and how.
+#[derive(Clone, Copy)]
+pub struct ClientPlan<'a> {
+    system: &'a System,
+    place: ClientPlace,
+    turns: u64,
+    is_typed: bool,
+    ghost some: { 1 ≤ place.batch },
+    ghost limit: { place.batch ≤ MAX_ENTRIES },
+}
+
+impl<'a> ClientPlan<'a> {
+    /// The client at this place of the system, each command of which takes so many turns at most, at least one. Where
+    /// somebody types its lines, one that can't be read is told, and the client goes on. Refused is the first number that
+    /// is out of its range: the turns, or the batch of the client's place.
+    pub fn new(
+        system: &'a System,
+        place: ClientPlace,
+        turns: u64,
+        is_typed: bool,
+    ) -> Result<ClientPlan<'a>, OutOfRange>
+        ensures ranges { MatchResult result (λ p. client_fault turns place.batch ≡ None) (λ range. client_fault turns place.batch ≡ Some range) }
+        ensures kept { IfOk result (λ p. (p.place ≡ place) × (p.turns ≡ turns) × (p.is_typed ≡ is_typed)) }
+    {
+        if !OutOfRange::Turns.is_within(turns) {
+            return Err(OutOfRange::Turns);
+        }
+        if !OutOfRange::Batch.is_within(u64::from(place.batch)) {
+            return Err(OutOfRange::Batch);
+        }
+        Ok(ClientPlan {
+            system,
+            place,
+            turns,
+            is_typed,
+        })
+    }
+
+    /// The system.
+    pub fn system(&self) -> &'a System {
+        self.system
+    }
+
+    /// The client's place.
+    pub fn place(&self) -> ClientPlace
+        ensures place { result ≡ self.now.place }
+        ensures some { 1 ≤ result.batch }
+        ensures limit { result.batch ≤ MAX_ENTRIES }
+    {
+        self.place
+    }
+
+    /// How many turns each command takes at most.
+    pub(crate) fn turns(&self) -> u64
+        ensures { result ≡ self.now.turns }
+    {
+        self.turns
+    }
+
+    /// Whether somebody types the lines.
+    pub(crate) fn is_typed(&self) -> bool
+        ensures { result ≡ self.now.is_typed }
+    {
+        self.is_typed
     }
 }

@@ -67,7 +67,7 @@ where
 {
     let place = system.node(number)?;
     let plan = NodePlan::of(alloc, system, place).ok()?;
-    let serving = Serving::new(2, history, turns)?;
+    let serving = Serving::new(2, history, turns).ok()?;
     let mut output = Vec::new(alloc);
     let notes = Vec::new(alloc);
     let ended = node_run(rt, alloc, &plan, &serving, keeper, link, notes, &mut output);
@@ -84,12 +84,8 @@ fn ask<L: Link>(
     lines: &[u8],
     is_typed: bool,
 ) -> Option<Told> {
-    let plan = ClientPlan {
-        system,
-        place: *system.client(ClientId(number))?,
-        turns: TURNS,
-        is_typed,
-    };
+    let place = *system.client(ClientId(number))?;
+    let plan = ClientPlan::new(system, place, TURNS, is_typed).ok()?;
     let mut output = Vec::new(alloc);
     let mut notes = Vec::new(alloc);
     let waits = Vec::new(alloc);

@@ -6,11 +6,12 @@ use Rattle.scoop_message.specs.declared.request.Request.{Request}
 use Rattle.scoop_classes.specs.Classes.{same_text}
 use Rattle.scoop_system.specs.declared.named_handlers.TheConstants.{MAX_NAMED}
 use Rattle.scoop_system.specs.declared.line.fault.LineFault.{LineFault}
-use Rattle.scoop_system.specs.declared.line.fault.LineFault.TheVariants.{UnknownLine, WrongNumberOfWords, NotANumber, TooFewArguments, TooManyArguments, TooManyHandlers, NoSuchOperation}
+use Rattle.scoop_system.specs.declared.line.fault.LineFault.TheVariants.{UnknownLine, WrongNumberOfWords, NotANumber, TooFewArguments, TooManyArguments, TooManyHandlers, NoSuchOperation, NoSuchHandler}
+use Rattle.scoop_system.specs.declared.place.HandlerPlace.{HandlerPlace}
 use Rattle.scoop_system.specs.declared.line.ClientLine.{ClientLine}
 use Rattle.scoop_system.specs.declared.line.ClientLine.TheVariants.{Blank, Reserve, Call, Query, End, ReserveWhen}
 use Rattle.scoop_system.specs.Number.{is_decimal, decimal_of}
-use Rattle.scoop_system.specs.System.{Plan, operation_named}
+use Rattle.scoop_system.specs.System.{Plan, handler_named, operation_named}
 use Rattle.scoop_system.specs.Arguments.{handler_arguments}
 use Rattle.scoop_system.specs.Words.{Word, words_of, is_blank, without_return, before, behind}
 
@@ -45,13 +46,20 @@ handler_of word = number_below (2 ^ 32) word >>= λ n. Ok (record { 0 = n })
 
 -- ---- requests
 
-abbrev pub or_no_operation : Option ℕ → Read ℕ
-or_no_operation None = Err NoSuchOperation
-or_no_operation (Some op) = Ok op
+-- why no operation of the handler has a name: the system has no such handler, or its class no such operation
+abbrev pub unnamed_fault : Option HandlerPlace → LineFault
+unnamed_fault None = NoSuchHandler
+unnamed_fault (Some place) = NoSuchOperation
+
+abbrev pub or_fault : LineFault → Option ℕ → Read ℕ
+or_fault fault None = Err fault
+or_fault fault (Some op) = Ok op
 
 -- an operation by its number, or by its name in the class of the handler
 abbrev pub operation_of : Plan → HandlerId → Word → Read ℕ
-operation_of s handler word = if is_decimal word then number_below (2 ^ 16) word else or_no_operation (operation_named s handler word)
+operation_of s handler word =
+    if is_decimal word then number_below (2 ^ 16) word
+    else or_fault (unnamed_fault (handler_named s.handlers handler)) (operation_named s handler word)
 
 abbrev pub asked : HandlerId → ℕ → List ℕ → HandlerId × Request
 asked handler op args = (handler, record { op = op; args = args })

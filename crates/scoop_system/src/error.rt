@@ -246,6 +246,29 @@ impl fmt::Display for Key {
     }
 }
 
+impl Wrong {
+    ghost use Rattle.std.specs.Prelude.{◌≡◌};
+    ghost use Rattle.scoop_system.specs.FaultText.{plain_text};
+
+    // What is told of a fault that names nothing. Empty for the others, which `Display` tells.
+    fn plain_text(self) -> &'static str
+        ensures { result.now ≡ plain_text self }
+    {
+        match self {
+            Wrong::NotAnAddress => "address is no IP address with a port from 1 to 65535",
+            Wrong::OtherFamily => "address is of another family, IPv4 or IPv6, than the first one",
+            Wrong::NoTable => "not a table",
+            Wrong::Twice => "twice",
+            Wrong::KnownClass => "the name of a class that every system has",
+            Wrong::NotWords => "words are not 1 to 16 whole numbers below 2^64",
+            Wrong::NotAText => "a term is no text: write it in quotes",
+            Wrong::NotATest => "test is no list of two terms",
+            Wrong::NotAWrite => "a write is no list of a word and three terms",
+            _ => "",
+        }
+    }
+}
+
 impl fmt::Display for Wrong {
     ghost use Rattle.std.specs.Prelude.{Some};
     ghost use Rattle.scoop_system.specs.FaultText.{wrong_text};
@@ -265,33 +288,29 @@ impl fmt::Display for Wrong {
                     "{key} is not 1 to 32 letters, digits, _ and -, a letter first"
                 )
             }
-            Wrong::NotAnAddress => {
-                f.write_str("address is no IP address with a port from 1 to 65535")
-            }
             Wrong::AddressOf(kind, number) => write!(f, "address is that of {kind} {number}"),
-            Wrong::OtherFamily => {
-                f.write_str("address is of another family, IPv4 or IPv6, than the first one")
-            }
             Wrong::NotAList(key) => {
                 let hint = key.hint();
                 write!(f, "{key} is no list{hint}")
             }
-            Wrong::NoTable => f.write_str("not a table"),
             Wrong::TooMany(key, limit) => write!(f, "{key}: more than {limit}"),
-            Wrong::Twice => f.write_str("twice"),
-            Wrong::KnownClass => f.write_str("the name of a class that every system has"),
             Wrong::NameTwice(name) => write!(f, "name \"{name}\" twice"),
             Wrong::NoSuchNode(number) => write!(f, "no such node {number}"),
             Wrong::NoSuchClass(name) => write!(f, "no such class \"{name}\""),
-            Wrong::NotWords => f.write_str("words are not 1 to 16 whole numbers below 2^64"),
             Wrong::WordCount(given, wanted) => write!(f, "{given} words in place of {wanted}"),
             Wrong::NotATerm(text) => write!(f, "\"{text}\" is no term"),
-            Wrong::NotAText => f.write_str("a term is no text: write it in quotes"),
             Wrong::NoSuchWord(term) => write!(f, "{term} is no word"),
             Wrong::NoSuchArgument(term) => write!(f, "{term} is no argument"),
-            Wrong::NotATest => f.write_str("test is no list of two terms"),
-            Wrong::NotAWrite => f.write_str("a write is no list of a word and three terms"),
             Wrong::WrittenTwice(word) => write!(f, "w{word} written twice"),
+            Wrong::NotAnAddress
+            | Wrong::OtherFamily
+            | Wrong::NoTable
+            | Wrong::Twice
+            | Wrong::KnownClass
+            | Wrong::NotWords
+            | Wrong::NotAText
+            | Wrong::NotATest
+            | Wrong::NotAWrite => f.write_str(self.plain_text()),
         }
     }
 }

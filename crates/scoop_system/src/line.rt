@@ -48,8 +48,8 @@ pub enum ClientLine {
 ///
 /// The error is `UnknownLine` by the first word. Of a `call` or a `query` it is `WrongNumberOfWords`, else
 /// `TooManyArguments` where there are more than four, else the first from the left of `NotANumber` and
-/// `NoSuchOperation`, else, where the handler is of the system and its class has the operation, `TooFewArguments` or
-/// `TooManyArguments` where it reads another number of them; of an `end`
+/// `NoSuchOperation`, in whose place `NoSuchHandler` comes where the system doesn't have the handler, else, where its
+/// class has the operation, `TooFewArguments` or `TooManyArguments` where it reads another number of them; of an `end`
 /// `WrongNumberOfWords`. Of a `reserve` it is `TooManyHandlers`, else `NotANumber` of a handler, else that of the words
 /// behind `when`: `WrongNumberOfWords`, or as of a `call`, or `NotANumber` of the least value or the tries, which are 1
 /// or more.

@@ -106,7 +106,7 @@ fn a_node_goes_on_over_its_own_record_alone(rt: HostRuntime) -> Result<(), Fail>
     let two = node_of(alloc, NODE).ok_or("no node")?;
     let (front, _) = NODE.rsplit_once("[[handler]]").ok_or("one handler")?;
     let one = node_of(alloc, front).ok_or("no node")?;
-    let serving = Serving::new(1, 1_000, 1).ok_or("out of range")?;
+    let serving = Serving::new(1, 1_000, 1)?;
     goes_on(&rt, alloc, &one, &two, serving)?;
     refuses(&rt, alloc, &one, &two, serving)
 }

@@ -5,8 +5,12 @@ use scoop_keeper::KeeperError;
 use scoop_message::{Answer, Block, ClientId, HandlerId};
 use scoop_netloop::{DriverError, ServeEnd};
 use scoop_reserve::ReserveError;
-use scoop_runtime::{Progress, Reply, RuntimeError, SourceError, SourceFault, print_reply};
+use scoop_runtime::{
+    About, OutOfRange, Progress, Reply, RuntimeError, Serving, SourceError, SourceFault,
+    print_reply,
+};
 use scoop_show::ShowError;
+use scoop_system::LineFault;
 use std::alloc::Global;
 use std::process::Abort;
 use std::test::Fail;
@@ -120,36 +124,80 @@ fn errors_are_told(rt: HostRuntime) -> Result<(), Fail> {
     reads(&rt, alloc, missing, "store: NoHandler 2", 3)
 }
 
-// What is told behind the error is of the store, or else of the own address, and has these words.
-fn advises(rt: &impl Abort, error: RuntimeError, of_store: bool, words: &str) {
-    assert_eq!(rt; error.is_of_store(), of_store);
+// What is told behind the error is about this, and has these words.
+fn advises(rt: &impl Abort, error: RuntimeError, about: About, words: &str) {
+    assert_eq!(rt; error.about(), about);
     assert!(rt; error.advice().contains(words));
 }
 
 #[test]
 fn errors_are_told_with_what_to_do(rt: HostRuntime) {
     let ended = |error| RuntimeError::Ended(error);
-    advises(&rt, RuntimeError::NoHandler(HandlerId(2)), true, "by --new");
-    advises(&rt, ended(ShowError::NoLink), false, "another program");
+    advises(
+        &rt,
+        RuntimeError::NoHandler(HandlerId(2)),
+        About::Store,
+        "by --new",
+    );
+    advises(
+        &rt,
+        ended(ShowError::NoLink),
+        About::Address,
+        "another program",
+    );
     advises(
         &rt,
         ended(ShowError::Store(KeeperError::Refused)),
-        true,
+        About::Store,
         "the disk is full",
     );
     advises(
         &rt,
         ended(ShowError::Loop(ServeEnd::NodeFailed)),
-        true,
+        About::Store,
         "--store",
     );
     advises(
         &rt,
         ended(ShowError::Driver(DriverError::TurnsOver)),
-        false,
+        About::Address,
         "the same key",
     );
-    assert!(rt; RuntimeError::InsideBlock.advice().is_empty());
+    let inside = RuntimeError::InsideBlock;
+    advises(&rt, inside, About::Neither, "write end behind");
+    let line = RuntimeError::Line(4, LineFault::NoSuchHandler);
+    advises(&rt, line, About::Neither, "scoop check shows the handlers");
+    let full = ended(ShowError::Write);
+    advises(&rt, full, About::Neither, "room for the output");
+}
+
+// The range is told in these words.
+fn ranges(
+    rt: &impl Abort,
+    alloc: Global,
+    refused: Option<OutOfRange>,
+    text: &str,
+) -> Result<(), Fail> {
+    let range = refused.ok_or("it is taken")?;
+    let printed = format!(in alloc; "{range}")?;
+    assert_eq!(rt; printed.as_str(), text);
+    Ok(())
+}
+
+#[test]
+fn numbers_out_of_range_are_told(rt: HostRuntime) -> Result<(), Fail> {
+    let alloc = rt.alloc();
+    let refused = |executors, history, turns| Serving::new(executors, history, turns).err();
+    let executors = "--executors is a whole number from 1 to 64";
+    ranges(&rt, alloc, refused(0, 1, 0), executors)?;
+    ranges(&rt, alloc, refused(65, 2, 1), executors)?;
+    let history = "--history is a whole number from 2 to 1000000";
+    ranges(&rt, alloc, refused(64, 1, 0), history)?;
+    ranges(&rt, alloc, refused(1, 1_000_001, 1), history)?;
+    let turns = "--turns is a whole number from 1 to 18446744073709551615";
+    ranges(&rt, alloc, refused(1, 2, 0), turns)?;
+    assert!(rt; Serving::new(64, 1_000_000, u64::MAX).is_ok());
+    Ok(())
 }
 
 fn says(rt: &impl Abort, alloc: Global, progress: Progress, text: &str) -> Result<(), Fail> {

@@ -234,6 +234,12 @@ fn a_sealed_node_goes_on_behind_its_history(rt: HostRuntime) -> Result<(), Fail>
     Ok(())
 }
 
+const NOTES: &str = "\
+scoop: client 7 is ready
+scoop: type reserve H.., call H OP A.., query H OP A.., end, or reserve H.. when H OP A.. least V tries T; control-D ends the client
+scoop: line 2: no such operation
+";
+
 // How a client ends behind a line that can't be read.
 fn misread<R: Threads + Wait + Clock + Net + Sync>(
     rt: &R,
@@ -252,7 +258,7 @@ fn a_line_that_cannot_be_read_is_told_to_who_types(rt: HostRuntime) -> Result<()
     let system = accounts_at(alloc, "4773").ok_or("no system")?;
     let told = misread(&rt, alloc, &system, true).ok_or("no client")?;
     assert!(rt; is(&told.output, "reserved 7.1.1\nanswer 100\n"));
-    assert!(rt; is(&told.notes, "scoop: line 2: no such operation\n"));
+    assert!(rt; is(&told.notes, NOTES));
     assert_eq!(rt; told.ended, Err(RuntimeError::InsideBlock));
     assert_eq!(rt; told.progress, Some(left_behind(3)));
     Ok(())

@@ -20,6 +20,8 @@ pub enum LineFault {
     TooManyHandlers,
     /// A word that is no number names no operation of the handler's class.
     NoSuchOperation,
+    /// A word that is no number is to name an operation of a handler that the system doesn't have.
+    NoSuchHandler,
 }
 
 impl fmt::Display for LineFault {
@@ -37,6 +39,7 @@ impl fmt::Display for LineFault {
             LineFault::TooManyArguments => "too many arguments",
             LineFault::TooManyHandlers => "too many handlers",
             LineFault::NoSuchOperation => "no such operation",
+            LineFault::NoSuchHandler => "no such handler",
         })
     }
 }

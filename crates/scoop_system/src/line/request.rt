@@ -3,7 +3,8 @@
 ghost use Rattle.std.specs.Prelude.{◌≡◌, ◌≤◌, length, codes};
 ghost use Rattle.scoop_message.specs.declared.limits.TheConstants.{MAX_ARGS};
 ghost use Rattle.scoop_system.specs.Words.{words_of, before};
-ghost use Rattle.scoop_system.specs.Line.{request_line, request_of, operation_of, each_of, number_of, count_fault};
+ghost use Rattle.scoop_system.specs.System.{handler_named};
+ghost use Rattle.scoop_system.specs.Line.{request_line, request_of, operation_of, unnamed_fault, each_of, number_of, count_fault};
 
 use super::fault::LineFault;
 use super::number::{read_handler, read_u16, read_u64};
@@ -71,7 +72,17 @@ fn read_operation(system: &System, handler: HandlerId, word: &[u8]) -> Result<u1
     }
     match system.operation(handler, word) {
         Some(op) => Ok(op),
-        None => Err(LineFault::NoSuchOperation),
+        None => Err(unnamed_fault(system, handler)),
+    }
+}
+
+// Why no operation of the handler has a name.
+fn unnamed_fault(system: &System, handler: HandlerId) -> LineFault
+    ensures { result ≡ unnamed_fault (handler_named system.now.handlers handler) }
+{
+    match system.handler(handler) {
+        Some(_) => LineFault::NoSuchOperation,
+        None => LineFault::NoSuchHandler,
     }
 }
 

@@ -6,7 +6,7 @@ use scoop_system::{ClientLine, LineFault, NamedHandlers, System, TooManyNamed, r
 use std::process::Abort;
 use std::test::Fail;
 
-const FAULTS: [(&[u8], LineFault); 20] = [
+const FAULTS: [(&[u8], LineFault); 22] = [
     (b"lock 1", LineFault::UnknownLine),
     (b"call", LineFault::WrongNumberOfWords),
     (b"call 1", LineFault::WrongNumberOfWords),
@@ -18,7 +18,12 @@ const FAULTS: [(&[u8], LineFault); 20] = [
     (b"query 3 balance 1", LineFault::TooManyArguments),
     (b"query x left", LineFault::NotANumber),
     (b"query 1 right", LineFault::NoSuchOperation),
-    (b"query 2 left", LineFault::NoSuchOperation),
+    (b"query 2 left", LineFault::NoSuchHandler),
+    (
+        b"reserve 1 when 2 left least 1 tries 1",
+        LineFault::NoSuchHandler,
+    ),
+    (b"query 2 left x", LineFault::NoSuchHandler),
     (b"query 1 65536", LineFault::NotANumber),
     (b"query 1 left 18446744073709551616", LineFault::NotANumber),
     (b"end 1", LineFault::WrongNumberOfWords),
