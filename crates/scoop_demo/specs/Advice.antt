@@ -37,7 +37,7 @@ abbrev pub fault_advice : InputFault → List ℕ
 fault_advice fault.LineTooLong = codes "a line has at most 4096 bytes: write a shorter one"
 fault_advice fault.TooManyLines = codes "an input has at most 1000000 lines: give the others to another run"
 fault_advice fault.ReadFault = codes "see whether the input can still be read; it is read at most 10000000 times, so give it in larger pieces"
-fault_advice fault.NotHex = codes "write hex digits, two for each byte of the datagram; spaces are skipped"
+fault_advice fault.NotHex = codes "write hex digits, two for each byte of the datagram; spaces are skipped, tabs and carriage returns are not"
 fault_advice fault.OddDigits = codes "write two hex digits for each byte of the datagram, 0a for ten"
 fault_advice fault.UnknownLine = codes "scoop world --help has the lines that there are"
 fault_advice fault.WrongNumberOfWords = codes "scoop world --help says which words each line has, and scoop frame --help which a message has"

@@ -53,7 +53,7 @@ impl InputFault {
                 "see whether the input can still be read; it is read at most 10000000 times, so give it in larger pieces"
             }
             InputFault::NotHex => {
-                "write hex digits, two for each byte of the datagram; spaces are skipped"
+                "write hex digits, two for each byte of the datagram; spaces are skipped, tabs and carriage returns are not"
             }
             InputFault::OddDigits => {
                 "write two hex digits for each byte of the datagram, 0a for ten"
@@ -110,8 +110,7 @@ fn store_advice(refusal: KeeperError) -> &'static str
             had no answer, since what was answered is there"
         }
         KeeperError::BadImage(_) => {
-            "what it has of this handler was changed or damaged, and can't be repaired: begin anew, with new stores for handlers \
-            and clients"
+            "what it has of this handler was changed or damaged, and can't be repaired: begin anew, with new stores for handlers and clients"
         }
         KeeperError::IncarnationsSpent => {
             "this client has begun as often as a client can: take another number"
