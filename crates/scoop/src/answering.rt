@@ -4,7 +4,7 @@ ghost use Rattle.std.specs.Prelude.{◌≡◌, ◌∷◌, [], IfOk};
 ghost use Rattle.scoop_book.specs.Opening.{AllOpen};
 ghost use Rattle.scoop_classes.specs.Classes.{table_of};
 
-use crate::ending::tell_file;
+use crate::ending::{tell_file, tell_run};
 use crate::failure::Failure;
 use clap::ArgMatches;
 use scoop_book::Book;
@@ -49,12 +49,26 @@ fn answer_over_file(
         Ok(store) => store,
         Err(error) => return Err(tell_file(rt, given, error)),
     };
-    let (answered, store) = answer_over(rt, given, store)?;
+    let (answered, store) = match answer_over(rt, given, store) {
+        Ok(ended) => ended,
+        Err(failure) => return Err(told(rt, given, failure)),
+    };
     let closed = close(store);
-    answered?;
+    match answered {
+        Ok(()) => {}
+        Err(failure) => return Err(told(rt, given, failure)),
+    }
     match closed {
         Ok(()) => Ok(()),
         Err(error) => Err(tell_file(rt, given, error)),
+    }
+}
+
+// The failure, which the user has been told where it is the run's.
+fn told(rt: &HostRuntime, given: &ArgMatches<'_>, failure: Failure) -> Failure {
+    match failure {
+        Failure::Run(error) => tell_run(rt, given, error),
+        failure => failure,
     }
 }
 

@@ -2,6 +2,7 @@
 
 use crate::failure::Failure;
 use clap::ArgMatches;
+use scoop_demo::RunError;
 use scoop_files::FileError;
 use scoop_message::OutOfMemory;
 use scoop_runtime::{About, ClientStop, RuntimeError};
@@ -73,10 +74,24 @@ pub fn tell_end(
 
 /// Tells why a store in a file isn't had, and behind it which file it is and what to do.
 pub fn tell_file(rt: &HostRuntime, given: &ArgMatches<'_>, error: FileError) -> Failure {
+    if let FileError::Store(refusal) = error {
+        return tell_run(rt, given, RunError::from(refusal));
+    }
     let _ = eprintln!(rt; "scoop: {error}");
-    let advice = error.advice();
-    if !advice.is_empty() {
-        tell_advice(rt, given, advice);
+    tell_advice(rt, given, error.advice());
+    Failure::Told(error.status())
+}
+
+/// Tells why a run over a store ends early, and behind it what to do, with the store's file where it is about that.
+pub fn tell_run(rt: &HostRuntime, given: &ArgMatches<'_>, error: RunError) -> Failure {
+    let _ = eprintln!(rt; "scoop: {error}");
+    match error {
+        RunError::Store(_) | RunError::WrongClass(_) | RunError::NodeFailed => {
+            tell_advice(rt, given, error.advice());
+        }
+        _ => {
+            let _ = eprintln!(rt; "scoop: {}", error.advice());
+        }
     }
     Failure::Told(error.status())
 }

@@ -4,6 +4,7 @@ use clap::Error;
 use clap::error::ErrorKind;
 use scoop_demo::{RunError, WordsError};
 use scoop_message::OutOfMemory;
+use scoop_netloop::{DriverError, ServeEnd};
 use scoop_runtime::OutOfRange;
 use scoop_show::ShowError;
 use std::alloc::{AllocError, AllocFailed};
@@ -40,17 +41,11 @@ impl Failure {
         match self {
             Failure::CommandLine(error) => report_command_line(rt, &error),
             Failure::Arguments => report_arguments(rt),
-            Failure::NoSuchClass => {
-                let _ = eprintln!(rt; "scoop: no such class");
-                2
-            }
+            Failure::NoSuchClass => report_no_class(rt),
             Failure::Words(error) => report_words(rt, error),
             Failure::LongChart => report_long_chart(rt),
             Failure::Run(error) => report_run(rt, error),
-            Failure::Show(error) => {
-                let _ = eprintln!(rt; "scoop: {error}");
-                error.status()
-            }
+            Failure::Show(error) => report_show(rt, error),
             Failure::Range(range) => report_range(rt, range),
             Failure::NoStore => report_no_store(rt),
             Failure::Told(status) => status,
@@ -64,13 +59,32 @@ fn report_arguments<R: Eprint>(rt: &R) -> u8 {
     2
 }
 
+fn report_no_class<R: Eprint>(rt: &R) -> u8 {
+    let _ = eprintln!(rt; "scoop: no such class");
+    let _ = eprintln!(rt; "scoop: scoop answer --help has the classes that there are");
+    2
+}
+
 fn report_words<R: Eprint>(rt: &R, error: WordsError) -> u8 {
     let _ = eprintln!(rt; "scoop: {error}");
+    let _ = eprintln!(rt; "scoop: {}", words_advice(error));
     2
+}
+
+fn words_advice(error: WordsError) -> &'static str {
+    match error {
+        WordsError::Fault(fault) => fault.advice(),
+        WordsError::Refused(_) => {
+            "incarnations, blocks and entries are numbered from 1 to 4294967295; version 1 has one entry, v2 up to 4, an end only \
+            as the last"
+        }
+        WordsError::OutOfMemory => RunError::OutOfMemory.advice(),
+    }
 }
 
 fn report_long_chart<R: Eprint>(rt: &R) -> u8 {
     let _ = eprintln!(rt; "scoop: chart: a chart shows at most 2000 events, and the run has more");
+    let _ = eprintln!(rt; "scoop: draw a shorter script, or a part of this one");
     1
 }
 
@@ -90,7 +104,42 @@ fn report_no_store<R: Eprint>(rt: &R) -> u8 {
 
 fn report_run<R: Eprint>(rt: &R, error: RunError) -> u8 {
     let _ = eprintln!(rt; "scoop: {error}");
+    let _ = eprintln!(rt; "scoop: {}", error.advice());
     error.status()
+}
+
+fn report_show<R: Eprint>(rt: &R, error: ShowError) -> u8 {
+    let _ = eprintln!(rt; "scoop: {error}");
+    let _ = eprintln!(rt; "scoop: {}", demo_advice(error));
+    error.status()
+}
+
+// What to do where the demo ends early.
+fn demo_advice(error: ShowError) -> &'static str {
+    match error {
+        ShowError::NoLink => {
+            "the demo needs the ports 47101, 47102 and 47107 to 47109 of this machine: end the program that uses one"
+        }
+        ShowError::NoThread => "the system gives no more threads: end other programs",
+        ShowError::Driver(DriverError::TurnsOver) | ShowError::Loop(ServeEnd::TurnsOver) => {
+            "give more turns by --turns, or fewer rounds by --rounds"
+        }
+        ShowError::Driver(DriverError::LinkFault) | ShowError::Loop(ServeEnd::LinkFault) => {
+            "a datagram could not be sent or received: see whether 127.0.0.1 can be reached on this machine"
+        }
+        ShowError::Loop(ServeEnd::HistoryFull) => {
+            "give fewer rounds by --rounds: a node's history has room for some 8000"
+        }
+        ShowError::OutOfMemory => "end other programs, or give fewer rounds by --rounds",
+        ShowError::Write => {
+            "see whether there is room for the output, and whether its reader still runs"
+        }
+        ShowError::Driver(_)
+        | ShowError::Loop(_)
+        | ShowError::NotClosed(_)
+        | ShowError::WrongClass(_)
+        | ShowError::Store(_) => "this can't come: tell the authors which options led to it",
+    }
 }
 
 // Prints help or the version, or what is wrong with the command line.

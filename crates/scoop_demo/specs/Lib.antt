@@ -1,3 +1,4 @@
+pub mod Advice
 pub mod OpenErrorText
 pub mod Text
 pub mod Line

@@ -26,6 +26,7 @@
 //! ```
 #![tactic(auto)]
 
+mod advice;
 mod answer;
 mod datagram;
 mod fault;

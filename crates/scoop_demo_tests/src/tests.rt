@@ -46,6 +46,7 @@ macro_rules! fault {
     };
 }
 
+mod advice;
 mod command_line;
 mod inputs;
 mod kept;

@@ -1,0 +1,81 @@
+//! What is told behind an error of a run: what to do.
+
+use super::ONE;
+use scoop_demo::*;
+use scoop_keeper::KeeperError;
+use scoop_message::ClientId;
+use scoop_world::WorldOpenError;
+
+const FAULTS: [InputFault; 14] = [
+    InputFault::LineTooLong,
+    InputFault::TooManyLines,
+    InputFault::ReadFault,
+    InputFault::NotHex,
+    InputFault::OddDigits,
+    InputFault::UnknownLine,
+    InputFault::WrongNumberOfWords,
+    InputFault::NotANumber,
+    InputFault::NoSuchClass,
+    InputFault::TooLateForParty,
+    InputFault::TooManyArguments,
+    InputFault::TooManyHandlers,
+    InputFault::NoSuchKind,
+    InputFault::Refused,
+];
+
+const UNOPENED: [WorldOpenError; 8] = [
+    WorldOpenError::NoHandlers,
+    WorldOpenError::TooManyHandlers,
+    WorldOpenError::Repeated(ONE),
+    WorldOpenError::WrongClass(ONE),
+    WorldOpenError::TooManyClients,
+    WorldOpenError::RepeatedClient(ClientId(7)),
+    WorldOpenError::IncarnationsSpent,
+    WorldOpenError::OutOfMemory,
+];
+
+const ERRORS: [RunError; 9] = [
+    RunError::Write,
+    RunError::OutOfMemory,
+    RunError::Store(KeeperError::OutOfMemory),
+    RunError::Store(KeeperError::Refused),
+    RunError::Store(KeeperError::IncarnationsSpent),
+    RunError::Store(KeeperError::WrongSchema),
+    RunError::WrongClass(ONE),
+    RunError::NodeFailed,
+    RunError::HistoryFull,
+];
+
+const ADVICES: [(RunError, &str); 3] = [
+    (
+        RunError::Input {
+            line: 3,
+            fault: InputFault::NotHex,
+        },
+        "write hex digits, two for each byte of the datagram; spaces are skipped, tabs and carriage returns are not",
+    ),
+    (
+        RunError::WrongClass(ONE),
+        "name the class that the store was made with by --class",
+    ),
+    (
+        RunError::Store(KeeperError::BadImage(ONE)),
+        "what it has of this handler was changed or damaged, and can't be repaired: begin anew, with new stores for handlers and clients",
+    ),
+];
+
+#[test]
+fn each_error_says_what_to_do(rt: HostRuntime) {
+    for fault in FAULTS {
+        assert!(rt; !RunError::Input { line: 3, fault }.advice().is_empty());
+    }
+    for error in UNOPENED {
+        assert!(rt; !InputFault::CannotOpen(error).advice().is_empty());
+    }
+    for error in ERRORS {
+        assert!(rt; !error.advice().is_empty());
+    }
+    for (error, advice) in ADVICES {
+        assert_eq!(rt; error.advice(), advice);
+    }
+}
