@@ -19,8 +19,11 @@ const ROW_HEIGHT: usize = 24;
 // How far lifelines are apart at least.
 const COLUMN_WIDTH: usize = 96;
 
-// How far the arrow of a message goes that is never taken.
+// How far the arrow of a message goes to the side that is never taken, and how far down: what came in its row comes from
+// above, and so it lies on no other.
 const LOST: usize = 36;
+
+const LOST_DOWN: usize = 12;
 
 // The colours of blocks. The block after the last has the first one again.
 const COLOURS: [&str; 8] = [
@@ -115,6 +118,7 @@ impl<A: Allocator + Copy> Chart<A> {
         for piece in &self.pieces {
             draw_piece(room, *piece, writer)?;
         }
+        self.draw_dots(room, writer)?;
         self.draw_messages(room, writer)?;
         self.draw_restarts(room, writer)?;
         writeln!(writer, "</svg>")
@@ -158,11 +162,21 @@ impl<A: Allocator + Copy> Chart<A> {
                     writer,
                     "<line class=\"row\" x1=\"{left}\" y1=\"{y}\" x2=\"{x}\" y2=\"{y}\"/>"
                 )?;
-                writeln!(writer, "<circle cx=\"{x}\" cy=\"{y}\" r=\"3\"/>")?;
             }
             write!(writer, "<text x=\"{MARGIN}\" y=\"{base}\">")?;
             print_escaped(label, writer)?;
             writeln!(writer, "</text>")?;
+        }
+        Ok(())
+    }
+
+    // A dot for each row on the lifeline that it is about, over the pieces of blocks.
+    fn draw_dots<W: Write>(&self, room: Room, writer: &mut W) -> io::Result<()> {
+        for (number, row) in self.rows.iter().enumerate() {
+            if let Some(place) = row.place {
+                let (x, y) = (room.line_at(place), row_at(number));
+                writeln!(writer, "<circle cx=\"{x}\" cy=\"{y}\" r=\"3\"/>")?;
+            }
         }
         Ok(())
     }
@@ -229,9 +243,10 @@ fn draw_lost<W: Write>(room: Room, sent: Sent, writer: &mut W) -> io::Result<()>
     } else {
         x.saturating_sub(LOST)
     };
+    let down = y.saturating_add(LOST_DOWN);
     writeln!(
         writer,
-        "<path class=\"lost\" d=\"M{x} {y}H{end}m-4 -4l8 8m0 -8l-8 8\"/>"
+        "<path class=\"lost\" d=\"M{x} {y}L{end} {down}m-4 -4l8 8m0 -8l-8 8\"/>"
     )
 }
 

@@ -27,6 +27,22 @@ enum Told {
     Nothing,
 }
 
+// The word of an event in a script: whose event it is and where its message goes shows the chart itself.
+fn word_of(event: &Event) -> &'static str {
+    match event {
+        Event::Do(_, Command::Reserve(_)) => "reserve",
+        Event::Do(_, Command::Call(_, _)) => "call",
+        Event::Do(_, Command::Query(_, _)) => "query",
+        Event::Do(_, Command::End) => "end",
+        Event::Do(_, Command::GiveUp) => "giveup",
+        Event::Tick(_, _) => "tick",
+        Event::Take(_) => "take",
+        Event::Begin(_) => "begin",
+        Event::Finish(_) => "finish",
+        Event::ClientRestart(_) | Event::NodeRestart(_) => "restart",
+    }
+}
+
 fn sent_by(note: &WorldNote) -> Told {
     match note {
         WorldNote::Sent(place) => Told::Sent(*place),
@@ -108,10 +124,11 @@ impl Transfer {
         Ok(())
     }
 
-    // One event, which the chart is told.
+    // One event, which the chart is told with its word.
     fn step(&mut self, event: Event) -> Result<Told, TransferError> {
         let outcome = self.world.step(event);
-        self.chart.note(&event, &outcome, b"")?;
+        self.chart
+            .note(&event, &outcome, word_of(&event).as_bytes())?;
         match outcome {
             Ok(note) => Ok(sent_by(&note)),
             Err(error) => Err(TransferError::Event(error)),

@@ -2,7 +2,7 @@
 
 use scoop_chart::{Chart, ChartError, MAX_ROWS};
 use scoop_handler::Note;
-use scoop_message::{ClientId, HandlerId};
+use scoop_message::{Block, ClientId, HandlerId};
 use scoop_model::{Event, WorldError, WorldNote};
 use std::alloc::Global;
 use std::process::Abort;
@@ -34,7 +34,7 @@ fn notes_all(rt: &impl Abort, chart: &mut Chart, rows: &[Row]) {
     assert_eq!(rt; chart.rows(), rows.len());
 }
 
-fn has_line(picture: &[u8], line: &[u8]) -> bool {
+pub(super) fn has_line(picture: &[u8], line: &[u8]) -> bool {
     picture
         .split(|byte| *byte == b'\n')
         .any(|other| other == line)
@@ -76,7 +76,7 @@ const GREETING: [Row; 2] = [
 
 const GREETING_DRAWN: [&[u8]; 4] = [
     b"<line class=\"sent\" x1=\"224\" y1=\"72\" x2=\"320\" y2=\"96\"/>",
-    b"<path class=\"lost\" d=\"M320 96H284m-4 -4l8 8m0 -8l-8 8\"/>",
+    b"<path class=\"lost\" d=\"M320 96L284 108m-4 -4l8 8m0 -8l-8 8\"/>",
     b"<text x=\"16\" y=\"76\">sent 1 Hello</text>",
     b"</svg>",
 ];
@@ -84,6 +84,41 @@ const GREETING_DRAWN: [&[u8]; 4] = [
 #[test]
 fn a_run_is_drawn(rt: HostRuntime) {
     is_drawn(&rt, rt.alloc(), &GREETING, &GREETING_DRAWN);
+}
+
+const BLOCK: Block = Block {
+    client: SEVEN,
+    inc: 1,
+    num: 1,
+};
+
+const RUN: [Row; 1] = [(
+    Event::Begin(ONE),
+    Ok(WorldNote::Began(BLOCK, 1)),
+    b"began 7.1.1 1",
+)];
+
+const PIECE: &[u8] =
+    b"<line class=\"runs\" stroke=\"#1f77b4\" x1=\"312\" y1=\"64\" x2=\"312\" y2=\"80\"/>";
+
+const DOT: &[u8] = b"<circle cx=\"312\" cy=\"72\" r=\"3\"/>";
+
+fn line_at(picture: &[u8], line: &[u8]) -> Option<usize> {
+    picture
+        .split(|byte| *byte == b'\n')
+        .position(|other| other == line)
+}
+
+#[test]
+fn dots_lie_over_blocks(rt: HostRuntime) {
+    let mut chart = chart(&rt, rt.alloc(), &[(1, ONE)]);
+    notes_all(&rt, &mut chart, &RUN);
+    let mut picture = Vec::new(rt.alloc());
+    assert!(&rt; chart.draw(&mut picture).is_ok());
+    match (line_at(&picture, PIECE), line_at(&picture, DOT)) {
+        (Some(piece), Some(dot)) => assert!(&rt; piece < dot),
+        _ => panic!(&rt; "a piece or a dot is missing"),
+    }
 }
 
 const RESTARTS: [Row; 3] = [

@@ -1,5 +1,6 @@
 //! The example of a transfer.
 
+use super::charts::has_line;
 use scoop_message::Answer;
 use std::alloc::Global;
 use std::process::Abort;
@@ -14,6 +15,7 @@ fn is_drawn(rt: &impl Abort, alloc: Global, transfer: &Transfer) {
     let mut picture = Vec::new(alloc);
     assert!(rt; transfer.draw(&mut picture).is_ok());
     assert!(rt; picture.starts_with(b"<svg "));
+    assert!(rt; has_line(&picture, b"<text x=\"16\" y=\"76\">tick</text>"));
 }
 
 #[test]
