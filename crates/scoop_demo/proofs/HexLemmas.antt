@@ -1,14 +1,15 @@
 -- The bytes of hex digits.
-use Rattle.std.proofs.Common.{◌≡◌, ℕ, ◌+◌, ◌*◌, ◌%◌, ◌<◌, ◌==◌, ◌&&◌, inl, inr, not, nat_eq, Bool, true, false, List, [], ◌∷◌, length, filter, Option, Some, None, unwrap_or, Result, Ok, Err, IsErr, is_err, ◌∙◌, sym, ap, arith, refl}
+use Rattle.std.proofs.Common.{◌≡◌, ℕ, ◌+◌, ◌*◌, ◌%◌, ◌<◌, ◌≤◌, ◌==◌, inl, inr, not, bit_or, Bool, true, false, List, [], ◌∷◌, length, filter, Option, Some, None, unwrap_or, Ok, Err, IsErr, is_err, ◌∙◌, sym, ap, arith, refl}
 use Rattle.std.specs.List.Retain.{RetainsInTurn}
-use Rattle.std.specs.List.{AllPass, list_all}
-use Rattle.std.proofs.lemmas.Bool.{and_parts, cases_eq}
+use Rattle.std.specs.List.{list_all}
+use Rattle.std.proofs.lemmas.Bool.{and_parts, cases_eq, cases_lt}
+use Rattle.std.proofs.lemmas.Nat.{le_or_l, le_or_r, or_lt}
 use Rattle.std.proofs.lemmas.List.Sums.{AllPass-from_list_all, list_all-from_AllPass}
 use Rattle.hex.specs.Hex.{is_hex_digit, decode_of, decode_pairs, digit_or_error, hex_digit_value, pair_value, value_at}
 use Rattle.hex.specs.declared.error.FromHexError.{FromHexError}
 use Rattle.hex.specs.declared.error.FromHexError.TheVariants.{InvalidHexCharacter}
 use Rattle.hex.proofs.HexLemmas.{decode_of-digits, decode_of-even, decode_of-odd, decode_of-ok}
-use Rattle.scoop_demo.specs.declared.fault.InputFault.TheVariants.{NotHex, OddDigits}
+use Rattle.scoop_demo.specs.declared.fault.InputFault.TheVariants.{OddDigits}
 use Rattle.scoop_demo.specs.Hex.{digits_of, fault_among, hex_fault, value_of}
 
 -- a value below 16 is that of a digit
@@ -44,18 +45,35 @@ pair_reads a b i high low is_high is_low below_high below_low =
     both ∙ ap Ok same
 
 -- the first of two is no digit
-pub first_fails : (a b i high : ℕ) → high ≡ value_of a → 15 < high → pair_value a b i ≡ Err (InvalidHexCharacter a i)
+first_fails : (a b i high : ℕ) → high ≡ value_of a → 15 < high → pair_value a b i ≡ Err (InvalidHexCharacter a i)
 first_fails a b i high is above =
     let first : value_at a i ≡ Err (InvalidHexCharacter a i) = ap (digit_or_error a i) (digit_missed a high is above) in
     rw first refl
 
 -- the second of two is no digit
-pub second_fails : (a b i high low : ℕ) → high ≡ value_of a → high < 16 → low ≡ value_of b → 15 < low
+second_fails : (a b i high low : ℕ) → high ≡ value_of a → high < 16 → low ≡ value_of b → 15 < low
     → pair_value a b i ≡ Err (InvalidHexCharacter b (i + 1))
 second_fails a b i high low is_high below is_low above =
     let first : value_at a i ≡ Ok high = ap (digit_or_error a i) (digit_found a high is_high below) in
     let second : value_at b (i + 1) ≡ Err (InvalidHexCharacter b (i + 1)) = ap (digit_or_error b (i + 1)) (digit_missed b low is_low above) in
     rw (first, second) refl
+
+-- one of two is no digit, where the bits of both values together are above 15
+pub pair_fails : (a b i high low : ℕ) → high ≡ value_of a → low ≡ value_of b → 15 < bit_or high low
+    → (e : FromHexError) × (pair_value a b i ≡ Err e)
+pair_fails a b i high low is_high is_low above =
+    elim (cases_lt 15 high) [
+      | inl first ↦ (InvalidHexCharacter a i, first_fails a b i high is_high first)
+      | inr below_high ↦
+          elim (cases_lt 15 low) [
+            | inl second ↦ (InvalidHexCharacter b (i + 1), second_fails a b i high low is_high (omega arith) is_low second)
+            | inr below_low ↦ absurd (omega (arith, or_lt 4 high low (omega arith) (omega arith)))
+          ]
+    ]
+
+-- both are digits, where the bits of both values together are at most 15
+pub both_below : (high low : ℕ) → bit_or high low ≤ 15 → (high < 16) × (low < 16)
+both_below high low below = (omega (arith, le_or_l high low), omega (arith, le_or_r high low))
 
 -- what stops at a pair decodes to nothing
 pub pairs_fail : (digits : List ℕ) (e : FromHexError) → length digits % 2 ≡ 0 → decode_pairs 0 digits ≡ Err e → IsErr (decode_of digits)
@@ -100,9 +118,6 @@ fault_odd digits fails are =
           let even : length digits % 2 ≡ 0 = omega (arith, other) in
           cc (sym fails ∙ evenly digits are even)
     ]
-
-pub fault_other : (digits : List ℕ) → list_all is_hex_digit digits ≡ false → fault_among digits ≡ Some NotHex
-fault_other digits are = rw are refl
 
 -- what `retain` leaves, where the closure is a test that changes nothing
 pub retains_filter : {S : Type 0} (R : S → ℕ → Bool → S → ℕ → Type 0) (test : ℕ → Bool)

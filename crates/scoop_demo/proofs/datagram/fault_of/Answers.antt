@@ -1,5 +1,5 @@
 use Rattle.std.proofs.Common.{sym, ◌∙◌}
-use Rattle.scoop_demo.proofs.HexLemmas.{fault_odd, fault_other}
+use Rattle.scoop_demo.proofs.HexLemmas.{fault_odd}
 use Rattle.scoop_demo.proofs.datagram.fault_of.Goals as goal
 
 pub returns-then-are_digits : goal.returns-then-are_digits
