@@ -103,10 +103,10 @@ const PIECE: &[u8] =
 
 const DOT: &[u8] = b"<circle cx=\"312\" cy=\"72\" r=\"3\"/>";
 
-fn line_at(picture: &[u8], line: &[u8]) -> Option<usize> {
-    picture
-        .split(|byte| *byte == b'\n')
-        .position(|other| other == line)
+/// The picture has these lines, one behind the other: what stands behind is drawn over what stands before.
+fn draws_over(picture: &[u8], under: &[u8], over: &[u8]) -> bool {
+    let mut lines = picture.split(|byte| *byte == b'\n');
+    lines.any(|line| line == under) && lines.any(|line| line == over)
 }
 
 #[test]
@@ -115,10 +115,7 @@ fn dots_lie_over_blocks(rt: HostRuntime) {
     notes_all(&rt, &mut chart, &RUN);
     let mut picture = Vec::new(rt.alloc());
     assert!(&rt; chart.draw(&mut picture).is_ok());
-    match (line_at(&picture, PIECE), line_at(&picture, DOT)) {
-        (Some(piece), Some(dot)) => assert!(&rt; piece < dot),
-        _ => panic!(&rt; "a piece or a dot is missing"),
-    }
+    assert!(&rt; draws_over(&picture, PIECE, DOT));
 }
 
 const RESTARTS: [Row; 3] = [
