@@ -2,9 +2,10 @@
 """Measures running systems: python3 bench/joint.py [--program PATH] [--blocks N]
 
 Two nodes as processes of their own, with a cell each, and clients that set both cells in each of their blocks: how many
-blocks a second one client gets and eight get together, with the record in memory and in a file; how many queries a second
-one client gets; what one client gets while a flood of repeated datagrams comes to one node; and beside them bare round trips
-of a datagram between two processes, and the same joint blocks in Erlang (`erlang_joint.escript`), where `escript` is there. On a machine that others use too, take the best of
+blocks a second one client gets and eight get together, with the record in memory and in a file; how many blocks with one
+query, and how many queries, a second one client gets; what one client gets while a flood of repeated datagrams comes to one
+node; and beside them bare round trips of a datagram between two processes, and the same joint blocks in Erlang
+(`erlang_joint.escript`), where `escript` is there. On a machine that others use too, take the best of
 several runs.
 """
 import argparse, multiprocessing, os, shutil, socket, struct, subprocess, sys, tempfile, threading, time
@@ -74,6 +75,11 @@ def blocks(count):
     return b"reserve 1 2\ncall 1 set 1\ncall 2 set 1\nend\n" * count
 
 
+def asking(count):
+    """Blocks over two handlers with one query: five round trips each (two locks, the openings, the query, the unlocks)."""
+    return b"reserve 1 2\nquery 1 get\nend\n" * count
+
+
 def queries(count):
     return b"reserve 1\n" + b"query 1 get\n" * count + b"end\n"
 
@@ -138,6 +144,10 @@ def main():
             taken = system.run_clients(clients, blocks(count // some))
             tell(f"joint blocks, {some} clients, record in {where}", count // some * some, taken)
             system.end()
+        system = System(program, in_file)
+        taken = system.run_clients([11], asking(count))
+        tell(f"joint blocks with one query, 1 client, record in {where}", count, taken)
+        system.end()
         system = System(program, in_file)
         taken = system.run_clients([11], queries(count))
         tell(f"queries in one block, 1 client, record in {where}", count, taken)
