@@ -2,7 +2,6 @@
 -- only blocks of an older incarnation of that client that are in the common list and name the handler: each keeps what was
 -- told to be received, as its slot does. All other queues, seen before and after the greeting, are the same.
 use Rattle.std.proofs.Common.{◌≡◌, ℕ, zero, suc, ◌-◌, ◌≤◌, ◌<◌, ◌==◌, Bool, true, false, not, ◌&&◌, ◌||◌, nat_le, true≢false, List, [], ◌∷◌, ◌++◌, length, map, filter, flat_map, take, drop, refl, sym, ap, ◌∙◌, subst, arith, length-append, append-nil}
-use Rattle.std.proofs.lemmas.Bool.{and_parts}
 use Rattle.std.specs.Prelude.{if◌then◌else◌}
 use Rattle.std.proofs.lemmas.Bool.Decides.{nat_tests}
 use Rattle.std.proofs.lemmas.List.{length-drop}
@@ -275,14 +274,18 @@ module _ (v : World) (sites : List Site) (same_ran : (j : HandlerId) → ran_in 
         let count = ap (λ (s : Seen). s.count) looks in
         omega (arith, count)) refl
 
+    both_so : (t u : Bool) → (t && u) ≡ true → (t ≡ true) × (u ≡ true)
+    both_so true u e = (refl, e)
+    both_so false u e = absurd (true≢false (sym e))
+
     may : (b : Block) → is_cut_by v greeted_world h b ≡ true → (b.inc < inc_of v b.client) × (count_of b (ran_at h v) ≤ received b h v)
     may b e = (
       by_test (λ t. is_succeeded b h v ≡ t → b.inc < inc_of v b.client) (is_succeeded b h v)
           (λ _ is. ready.below b h is)
           (λ _ old.
-          let p = and_parts (has (set_of b v) h) (is_cut_off (seen b h greeted_world) && not (is_cut_off (seen b h v))) e in
-          let q = and_parts (is_cut_off (seen b h greeted_world)) (not (is_cut_off (seen b h v))) p.1 in
-          let n = and_parts (is_succeeded b h greeted_world) (not (has_end (take (received b h greeted_world) (log_of b h v)))) q.0 in
+          let p = both_so (has (set_of b v) h) (is_cut_off (seen b h greeted_world) && not (is_cut_off (seen b h v))) e in
+          let q = both_so (is_cut_off (seen b h greeted_world)) (not (is_cut_off (seen b h v))) p.1 in
+          let n = both_so (is_succeeded b h greeted_world) (not (has_end (take (received b h greeted_world) (log_of b h v)))) q.0 in
           let says = newer_welcome_says h h b c inc (newly b h n.0 old) in
           subst (λ d. b.inc < inc_of v d) (sym says.1) (let l = says.2 in omega (arith, l, below))) refl,
       count_least b,

@@ -1,6 +1,5 @@
 -- Messages that leave the configuration that a world stands for.
 use Rattle.std.proofs.Common.{◌≡◌, ℕ, ◌≤◌, ◌<◌, Bool, true, false, ◌&&◌, ◌||◌, true≢false, List, [], ◌∷◌, ◌++◌, refl, sym, ap, ◌∙◌, subst, arith}
-use Rattle.std.proofs.lemmas.Bool.{and_parts}
 use Rattle.std.specs.Prelude.{max, nat_lt, if◌then◌else◌}
 use Rattle.std.specs.List.{list_any}
 use Rattle.std.proofs.lemmas.Bool.Decides.{nat_tests}
@@ -108,12 +107,17 @@ request_plain (Unlocked x y) goes = absurd (true≢false (sym goes))
 request_plain (Logged x y n) goes = absurd (true≢false (sym goes))
 request_plain (Answer x y n a) goes = absurd (true≢false (sym goes))
 
+-- both of two tests
+both_so : (t u : Bool) → (t && u) ≡ true → (t ≡ true) × (u ≡ true)
+both_so true u e = (refl, e)
+both_so false u e = absurd (true≢false (sym e))
+
 -- what a newer welcome says
 pub newer_welcome_says :
     (h x : HandlerId) (b : Block) (c : ClientId) (inc : ℕ) → is_newer_welcome h b (Welcome x c inc) ≡ true → (x ≡ h) × (b.client ≡ c) × (b.inc < inc)
 newer_welcome_says h x b c inc e =
-    let p = and_parts (same_handler x h) (same_client c b.client && nat_lt b.inc inc) e in
-    let q = and_parts (same_client c b.client) (nat_lt b.inc inc) p.1 in
+    let p = both_so (same_handler x h) (same_client c b.client && nat_lt b.inc inc) e in
+    let q = both_so (same_client c b.client) (nat_lt b.inc inc) p.1 in
     ((handler_decides x h).0 p.0, sym ((client_decides c b.client).0 q.0), below b.inc inc q.1)
   where
     below : (i j : ℕ) → nat_lt i j ≡ true → i < j
@@ -135,7 +139,7 @@ count_quiet ms x y n not_so = record {
   tells = λ h b e.
       by_test (λ t. same_handler x h && same_block y b ≡ t → (if t then n else 0) ≤ greatest_count h b ms) (same_handler x h && same_block y b)
       (λ _ is.
-      let p = and_parts (same_handler x h) (same_block y b) is in
+      let p = both_so (same_handler x h) (same_block y b) is in
       let there : list_any (is_newer_welcome x y) ms ≡ true =
       subst (λ z. list_any (is_newer_welcome x z) ms ≡ true) (sym ((block_decides y b).0 p.1))
       (subst (λ j. list_any (is_newer_welcome j b) ms ≡ true) (sym ((handler_decides x h).0 p.0)) e) in

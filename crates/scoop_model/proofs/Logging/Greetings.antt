@@ -1,7 +1,6 @@
 -- Who greets whom: a client greets in no incarnation above its own, no handler's mark is above its client's incarnation,
 -- and a handler that has welcomed an incarnation has a mark that isn't below it.
-use Rattle.std.proofs.Common.{◌≡◌, ℕ, ◌+◌, ◌<◌, ◌≤◌, ◌||◌, true, true≢false, nat_lt, List, [], ◌∷◌, map, find, Option, Some, None, refl, sym, ap, ◌∙◌, subst, arith}
-use Rattle.std.proofs.lemmas.Bool.{and_parts}
+use Rattle.std.proofs.Common.{◌≡◌, ℕ, ◌+◌, ◌<◌, ◌≤◌, ◌&&◌, ◌||◌, true, false, true≢false, nat_lt, Bool, List, [], ◌∷◌, map, find, Option, Some, None, refl, sym, ap, ◌∙◌, subst, arith}
 use Rattle.std.specs.Prelude.{⊤}
 use Rattle.std.specs.List.{AllByRecursion, list_any}
 use Rattle.std.specs.Option.{option_map_or}
@@ -281,10 +280,14 @@ pub record IsPassed (w : World) (h : HandlerId) (b : Block) : Type 0 where
   pub marked : mark_of b.client site.core.state.marks ≡ Some mark
   pub newer : b.inc < mark.inc
 
+both_true : (t u : Bool) → (t && u) ≡ true → (t ≡ true) × (u ≡ true)
+both_true true u e = (refl, e)
+both_true false u e = absurd (true≢false (sym e))
+
 welcome_passes : (w : World) (h : HandlerId) (b : Block) (m : Message) → Greets w m → is_newer_welcome h b m ≡ true → IsPassed w h b
 welcome_passes w h b (Welcome x c inc) g e =
-    let one = and_parts (same_handler x h) _ e in
-    let two = and_parts (same_client c b.client) (nat_lt b.inc inc) one.1 in
+    let one = both_true (same_handler x h) _ e in
+    let two = both_true (same_client c b.client) (nat_lt b.inc inc) one.1 in
     let at : x ≡ h = (handler_decides x h).0 one.0 in
     let own : c ≡ b.client = (client_decides c b.client).0 two.0 in
     let r = g.reached in
