@@ -112,7 +112,7 @@ show_about show.NoLink = Address
 show_about (show.Driver e) = driver_about e
 show_about (show.Loop end) = loop_about end
 show_about (show.WrongClass h) = Store
-show_about (show.Store refusal) = Store
+show_about (show.Store _) = Store
 show_about error = Neither
 
 abbrev pub about : RuntimeError → About
