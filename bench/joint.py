@@ -76,7 +76,7 @@ def blocks(count):
 
 
 def asking(count):
-    """Blocks over two handlers with one query: five round trips each (two locks, the openings, the query, the unlocks)."""
+    """Blocks over two handlers with one query, whose answer travels as the reply to the repeated question."""
     return b"reserve 1 2\nquery 1 get\nend\n" * count
 
 
