@@ -29,7 +29,7 @@ use Rattle.scoop_client.specs.Rows.{DueRow, owes_nothing, greets, reserves, logs
 use Rattle.scoop_client.proofs.DueRows.{due_row}
 use Rattle.scoop_client.proofs.Rows.{heard_row}
 use Rattle.scoop_model.specs.World.{World, Site, Party, BlockLog, number_of, id_of, is_site, is_party, site_of, party_of, set_site, set_party, sent_at, greatest_count, ran_at}
-use Rattle.scoop_model.specs.Step.{Placement, Newcomer, opening, newest_block, core_command, commanded_world, with_sent, heard_site, heard_world, heard_party, with_site, begun_site, finished_site, restarted_party, reopened_world}
+use Rattle.scoop_model.specs.Step.{Placement, Newcomer, opening, newest_block, commanded_world, with_sent, heard_site, heard_world, heard_party, with_site, begun_site, finished_site, restarted_party, reopened_world}
 use Rattle.scoop_model.specs.Safe.{HasRun, numbered, untold}
 use Rattle.scoop_model.specs.World.{inc_of}
 use Rattle.scoop_model.proofs.Events.{Changes}
@@ -292,7 +292,7 @@ attending_kept w g i = record {
   commands = λ c p x d at is. (
       let goes = goes_on w p x d is (all_found (PartyFits w) (is_party c) w.parties p g.ordered.parties at) in
       let logs = all_found (PartyLogs w) (is_party c) w.parties p g.logging.parties at in
-      let follows = command_follows w p.client (i.parties c p at) d (core_command x) is in
+      let follows = command_follows w p.client (i.parties c p at) d x is in
       let inc = goes.inc in
       next_attends w i c p (record p { client = d }) at goes.id (commanded_world w p x d).logs (omega (arith, inc)) (λ r held. (logs.block r held).block)
       (λ h b a. inl (follows.goes h b a)) follows.attends);

@@ -30,7 +30,7 @@ use Rattle.scoop_client.specs.Rows.{HeardRow, passed_over, is_welcomed, takes_st
 use Rattle.scoop_client.proofs.Rows.{heard_row}
 use Rattle.scoop_client.proofs.CommandRows.{command_row}
 use Rattle.scoop_model.specs.World.{World, Party, is_party, set_party}
-use Rattle.scoop_model.specs.Step.{Placement, Newcomer, new_party, opening, core_command, heard_party, restarted_party}
+use Rattle.scoop_model.specs.Step.{Placement, Newcomer, new_party, opening, heard_party, restarted_party}
 use Rattle.scoop_model.proofs.Basics.{by_test}
 use Rattle.scoop_model.proofs.Events.{Changes}
 use Rattle.scoop_model.proofs.Order.Clients.{has_without}
@@ -219,7 +219,7 @@ set_fits q ps own all = all_set_party PartyFitsWell PartyFitsWell q ps own (λ y
 pub fit_kept : (w : World) → AllFit w → Changes AllFit w
 fit_kept w i = record {
   commands = λ c p x d at is. set_fits (record p { client = d }) w.parties
-      (command_fits p.client d (core_command x) is (all_found PartyFitsWell (is_party c) w.parties p i at)) i;
+      (command_fits p.client d x is (all_found PartyFitsWell (is_party c) w.parties p i at)) i;
   sends = λ c p h s at here. i;
   hears = λ k m s was goes here. i;
   notices = λ k m p was goes at. set_fits (heard_party p (heard p.client m)) w.parties

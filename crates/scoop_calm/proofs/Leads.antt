@@ -3,7 +3,7 @@ use Rattle.std.proofs.Common.{◌≡◌, ℕ, ◌+◌, List, [], ◌∷◌, leng
 use Rattle.std.specs.Prelude.{Some, Ok}
 use Rattle.scoop_model.specs.declared.event.Event.{Event}
 use Rattle.scoop_model.specs.declared.event.Event.TheVariants.{Do, Tick, Take, Begin, Finish}
-use Rattle.scoop_model.specs.declared.event.Command.TheVariants.{End}
+use Rattle.scoop_client.specs.declared.command.Command.TheVariants.{End}
 use Rattle.scoop_model.specs.declared.note.WorldNote.{WorldNote}
 use Rattle.scoop_model.specs.declared.note.WorldNote.TheVariants as note
 use Rattle.scoop_model.specs.World.{World}

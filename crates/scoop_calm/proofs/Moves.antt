@@ -16,7 +16,7 @@ use Rattle.scoop_client.specs.State.{ClientState}
 use Rattle.scoop_client.specs.Due.{due}
 use Rattle.scoop_client.specs.Hearing.{Notice, heard}
 use Rattle.scoop_client.specs.Commands as client
-use Rattle.scoop_model.specs.declared.event.Command.TheVariants.{End}
+use Rattle.scoop_client.specs.declared.command.Command.TheVariants.{End}
 use Rattle.scoop_model.specs.declared.event.Event.TheVariants.{Do, Tick, Take, Begin, Finish}
 use Rattle.scoop_model.specs.declared.note.WorldNote.TheVariants as note
 use Rattle.scoop_model.specs.World.{World, Site, Party, number_of, id_of, site_of, party_of, sent_at}

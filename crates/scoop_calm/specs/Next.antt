@@ -13,7 +13,7 @@ use Rattle.scoop_handler.specs.State.{HandlerState, is_holder}
 use Rattle.scoop_handler.specs.Running.{ready}
 use Rattle.scoop_client.specs.Due.{due}
 use Rattle.scoop_client.specs.Commands.{command, DoEnd}
-use Rattle.scoop_model.specs.declared.event.Command.TheVariants as command
+use Rattle.scoop_client.specs.declared.command.Command.TheVariants as command
 use Rattle.scoop_model.specs.declared.event.Event.{Event}
 use Rattle.scoop_model.specs.declared.event.Event.TheVariants.{Do, Tick, Take, Begin, Finish}
 use Rattle.scoop_model.specs.World.{World, Site, Party, number_of, id_of}

@@ -9,7 +9,7 @@ use Rattle.scoop_handler.specs.declared.ran.Ran.{Ran}
 use Rattle.scoop_client.specs.declared.phase.ClientNote.{ClientNote}
 use Rattle.scoop_client.specs.declared.phase.Phase.TheVariants.{Idle}
 use Rattle.scoop_client.specs.State.{phase_of}
-use Rattle.scoop_model.specs.declared.event.Command.TheVariants.{End}
+use Rattle.scoop_client.specs.declared.command.Command.TheVariants.{End}
 use Rattle.scoop_model.specs.declared.event.Event.{Event}
 use Rattle.scoop_model.specs.declared.event.Event.TheVariants.{Do, Tick, Take, Begin, Finish}
 use Rattle.scoop_model.specs.declared.note.WorldNote.TheVariants as note

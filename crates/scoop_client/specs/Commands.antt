@@ -1,5 +1,5 @@
--- A client's commands.
-use Rattle.std.specs.Prelude.{◌≡◌, ℕ, ◌+◌, ◌-◌, ◌^◌, ◌==◌, nat_le, if◌then◌else◌, List, map, Option, Some, None, Result, Ok, Err, IsOk}
+-- A client's commands: `DoCall`, `DoQuery` and `DoEnd` are those by which a call, a query and an end are logged.
+use Rattle.std.specs.Prelude.{◌≡◌, ℕ, ◌+◌, ◌-◌, ◌^◌, ◌==◌, ⊤, nat_le, if◌then◌else◌, List, map, Option, Some, None, Result, Ok, Err, IsOk}
 use Rattle.scoop_message.specs.declared.name.HandlerId.{HandlerId}
 use Rattle.scoop_message.specs.declared.name.Block.{Block}
 use Rattle.scoop_message.specs.declared.request.Entry.{Entry}
@@ -10,19 +10,14 @@ use Rattle.scoop_reserve.specs.declared.error.TooLate.{TooLate as AfterLocking}
 use Rattle.scoop_reserve.specs.State.{ReservationState}
 use Rattle.scoop_reserve.specs.Starting.{started}
 use Rattle.scoop_reserve.specs.Hearing.{given_up}
+pub use Rattle.scoop_client.specs.declared.command.Command.{Command}
+pub use Rattle.scoop_client.specs.declared.command.Command.TheVariants.{Reserve, Call as DoCall, Query as DoQuery, End as DoEnd, GiveUp}
 use Rattle.scoop_client.specs.declared.phase.Phase.{Phase}
 use Rattle.scoop_client.specs.declared.phase.Phase.TheVariants.{Greeting, Idle, Locking, Opening, Running, Ending, GivingUp}
 use Rattle.scoop_client.specs.declared.error.ClientError.{ClientError}
 use Rattle.scoop_client.specs.declared.error.ClientError.TheVariants.{NotGreeted, NotIdle, NoBlock, Waiting, NotReserved, WindowFull, TooLate, Spent, Reserve as NotReservable, OutOfMemory}
 use Rattle.scoop_client.specs.Window.{WindowState, fresh_window, logged, is_full, with_entry, with_end, window_of, at_window, lowest_full}
 use Rattle.scoop_client.specs.State.{ClientState, phase_of, block_named, with_reservation, with_windows}
-
-pub data Command : Type 0 where
-  Reserve : List HandlerId → Command
-  DoCall : HandlerId → Request → Command
-  DoQuery : HandlerId → Request → Command
-  DoEnd : Command
-  GiveUp : Command
 
 -- the client after a command, or why it is refused
 abbrev pub Outcome : Type 0
@@ -132,6 +127,14 @@ command c (DoCall h r) = log c h (Call r) (phase_of c)
 command c (DoQuery h r) = log c h (Query r) (phase_of c)
 command c DoEnd = end_block c (phase_of c)
 command c GiveUp = give_up c (phase_of c)
+
+-- the command that takes memory
+abbrev pub IsReserve : Command → Type 0
+IsReserve (Reserve hs) = ⊤
+IsReserve (DoCall h r) = ⊥
+IsReserve (DoQuery h r) = ⊥
+IsReserve DoEnd = ⊥
+IsReserve GiveUp = ⊥
 
 -- ---- what a call answers
 

@@ -2,12 +2,14 @@
 
 ghost use Rattle.std.specs.Prelude.{◌≡◌, ◌+◌, ◌<◌, ◌^◌, IfOk, IfErr, IfSome, OnOk, Ok, Err, None, false};
 ghost use Rattle.scoop_message.specs.declared.request.Entry.{Entry as LoggedEntry};
-ghost use Rattle.scoop_client.specs.Commands.{Commanded, CommandedAlways, AnswersAlways, Foretells, command, log, waits_for, with_block, with_ends, with_logged};
+ghost use Rattle.scoop_client.specs.Commands.{Commanded, CommandedAlways, AnswersAlways, Foretells, IsReserve, command, command as outcome_of, log, waits_for};
+ghost use Rattle.scoop_client.specs.Commands.{with_block, with_ends, with_logged};
 ghost use Rattle.scoop_client.specs.Window.{HasRoom, is_ended, window_of, lowest_full};
-ghost use Rattle.scoop_client.specs.Commands.Command.{Reserve, DoCall, DoQuery, DoEnd, GiveUp};
+ghost use Rattle.scoop_client.specs.Commands.{Reserve, DoCall, DoQuery, DoEnd, GiveUp};
 ghost use Rattle.scoop_client.specs.State.{phase_of};
 
 use crate::client::Client;
+use crate::command::Command;
 use crate::error::ClientError;
 use crate::phase::Phase;
 use crate::windows::{end_all, fresh_windows, log_at, lowest_full, window_of};
@@ -194,5 +196,48 @@ impl<A: Allocator> Client<A> {
         }
         self.reservation = Some(reservation);
         Ok(())
+    }
+
+    /// Whether the block may be given up now: what `give_up` would say.
+    pub fn may_give_up(&self) -> Result<(), ClientError>
+        ensures { Foretells (command self.now GiveUp) result }
+    {
+        match self.phase() {
+            Phase::Greeting => Err(ClientError::NotGreeted),
+            Phase::Idle => Err(ClientError::NoBlock),
+            Phase::Locking => Ok(()),
+            Phase::Opening | Phase::Running | Phase::Ending | Phase::GivingUp => {
+                Err(ClientError::TooLate)
+            }
+        }
+    }
+
+    /// Whether the command would be taken now: what `carry_out` would say, want of memory apart. Takes no memory.
+    pub fn may_carry_out(&self, command: &Command) -> Result<(), ClientError>
+        ensures { Foretells (outcome_of self.now command.now) result }
+    {
+        match command {
+            Command::Reserve(handlers) => self.may_reserve(handlers.as_slice()),
+            Command::Call(handler, _) => self.may_log(*handler),
+            Command::Query(handler, _) => self.may_log(*handler),
+            Command::End => self.may_end(),
+            Command::GiveUp => self.may_give_up(),
+        }
+    }
+}
+
+impl<A: Allocator + Clone> Client<A> {
+    /// Takes a command: `reserve`, `call`, `query`, `end` or `give_up`, refused as that is.
+    pub fn carry_out(&mut self, command: &Command) -> Result<(), ClientError>
+        ensures takes { Commanded command.now result self.old self.new }
+        ensures memory { result ≡ Err ClientError.OutOfMemory → IsReserve command.now }
+    {
+        match *command {
+            Command::Reserve(handlers) => self.reserve(handlers.as_slice()),
+            Command::Call(handler, request) => self.call(handler, request),
+            Command::Query(handler, request) => self.query(handler, request),
+            Command::End => self.end(),
+            Command::GiveUp => self.give_up(),
+        }
     }
 }

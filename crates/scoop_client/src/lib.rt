@@ -23,8 +23,10 @@
 #![tactic(auto)]
 
 mod client;
+mod command;
 mod commands;
 mod error;
+mod handlers;
 mod hearing;
 mod phase;
 pub mod theorems;
@@ -32,5 +34,7 @@ mod window;
 mod windows;
 
 pub use client::Client;
+pub use command::Command;
 pub use error::{BeginError, ClientError};
+pub use handlers::{HandlerList, MAX_NAMED_HANDLERS, TooManyHandlers};
 pub use phase::{ClientNote, Phase};

@@ -5,8 +5,8 @@ use Rattle.scoop_message.specs.declared.name.ClientId.{ClientId}
 use Rattle.scoop_message.specs.declared.name.HandlerId.{HandlerId}
 use Rattle.scoop_message.specs.declared.request.Request.{Request}
 use Rattle.scoop_object.specs.Class.{ClassTable}
-use Rattle.scoop_model.specs.declared.handlers.TheConstants.{MAX_NAMED_HANDLERS}
-use Rattle.scoop_model.specs.declared.event.Command.TheVariants as command
+use Rattle.scoop_client.specs.declared.handlers.TheConstants.{MAX_NAMED_HANDLERS}
+use Rattle.scoop_client.specs.declared.command.Command.TheVariants as command
 use Rattle.scoop_model.specs.declared.event.Event.TheVariants as event
 use Rattle.scoop_demo.specs.declared.fault.InputFault.TheVariants.{WrongNumberOfWords, NotANumber, NoSuchClass, TooManyArguments, TooManyHandlers}
 use Rattle.scoop_demo.specs.declared.script.event.EventLine.{EventLine}

@@ -19,13 +19,13 @@ use Rattle.scoop_client.specs.Hearing.{heard}
 use Rattle.scoop_client.specs.Commands as client
 use Rattle.scoop_driver.specs.declared.error.DriverError.{DriverError}
 use Rattle.scoop_driver.specs.declared.error.DriverError.TheVariants.{Client, TurnsOver, LinkFault, ConditionFailed}
-use Rattle.scoop_driver.specs.declared.step.Command.{Command}
-use Rattle.scoop_driver.specs.declared.step.Command.TheVariants as given
+use Rattle.scoop_client.specs.declared.command.Command.{Command}
+use Rattle.scoop_client.specs.declared.command.Command.TheVariants as given
 use Rattle.scoop_driver.specs.declared.step.Received.{Received}
 use Rattle.scoop_driver.specs.declared.step.Received.TheVariants.{Nothing, Frame, NoFrame, Fault}
 use Rattle.scoop_driver.specs.declared.step.Step.{Step}
 use Rattle.scoop_driver.specs.declared.step.Step.TheVariants.{Gave, Turned, Broke}
-use Rattle.scoop_driver.specs.Steps.{after_command, commands_by, core_command, faults_at, faults_in, notes_by, turns_in, walk}
+use Rattle.scoop_driver.specs.Steps.{after_command, commands_by, faults_at, faults_in, notes_by, turns_in, walk}
 use Rattle.scoop_driver.specs.State.{Seen, Goes}
 use Rattle.scoop_driver.specs.Turning.{TakesTurn, TurnAnswers, StepAnswers}
 use Rattle.scoop_driver.specs.Calls.{GivesCommands, StopsBefore, TellsFault, TakesTurns, Does, Called, Queried, QueryAnswers, RunsNext, IsTakeable, IsRefusal}
@@ -268,14 +268,14 @@ taken_is c u (Ok x) (d, is) same = ap Ok (sym same)
 taken_is c u (Err e) (d, is) same = cc
 
 -- the command that was given
-pub given_is : (x : Command) (t u : Seen) → Goes (Gave x ∷ []) t u → client.command t.client (core_command x) ≡ Ok u.client
-given_is x t u goes = taken_is t.client u.client (client.command t.client (core_command x)) goes.can.0 goes.client
+pub given_is : (x : Command) (t u : Seen) → Goes (Gave x ∷ []) t u → client.command t.client x ≡ Ok u.client
+given_is x t u goes = taken_is t.client u.client (client.command t.client x) goes.can.0 goes.client
 
 pub logged_after : (x : Command) (n left bound : ℕ) (s t u : Seen) → Turning n s t → n + left ≡ bound → Goes (Gave x ∷ []) t u
-    → Logged (core_command x) bound (Ok left) s u
+    → Logged x bound (Ok left) s u
 logged_after x n left bound s t u (xs, so_far) sum goes =
-    let one : commands_by (xs ++ Gave x ∷ []) ≡ core_command x ∷ [] = commands_by-append xs (Gave x ∷ [])
-    ∙ ap (λ zs. zs ++ core_command x ∷ []) so_far.silent in
+    let one : commands_by (xs ++ Gave x ∷ []) ≡ x ∷ [] = commands_by-append xs (Gave x ∷ [])
+    ∙ ap (λ zs. zs ++ x ∷ []) so_far.silent in
     let count : turns_in (xs ++ Gave x ∷ []) ≡ n = turns_in-append xs (Gave x ∷ []) ∙ (add-zero (turns_in xs) ∙ so_far.count) in (
       xs ++ Gave x ∷ [],
       record {
@@ -323,9 +323,9 @@ pub offered_true : (x : Command) (b : Bool) (t u : Seen) → b ≡ true → Offe
 offered_true x true t u is h = h
 offered_true x false t u is h = cc
 
-pub offered_false : (x : Command) (b : Bool) (t u : Seen) → b ≡ false → Offered x (Ok b) t u → IsTakeable (client.command u.client (core_command x)) × (u ≡ t)
+pub offered_false : (x : Command) (b : Bool) (t u : Seen) → b ≡ false → Offered x (Ok b) t u → IsTakeable (client.command u.client x) × (u ≡ t)
 offered_false x true t u is h = cc
-offered_false x false t u is h = (subst (λ (v : Seen). IsTakeable (client.command v.client (core_command x))) (sym h.1) h.0, h.1)
+offered_false x false t u is h = (subst (λ (v : Seen). IsTakeable (client.command v.client x)) (sym h.1) h.0, h.1)
 
 -- ---- until an answer
 
@@ -377,7 +377,7 @@ answered_not h n bound e s t u below so_far turn =
 -- ---- the calls
 
 -- a command alone
-pub given_does : (x : Command) (s t : Seen) → Goes (Gave x ∷ []) s t → Does {T = Unit {0}} (core_command x ∷ []) 0 (Ok (tt {0})) (Gave x ∷ []) s t
+pub given_does : (x : Command) (s t : Seen) → Goes (Gave x ∷ []) s t → Does {T = Unit {0}} (x ∷ []) 0 (Ok (tt {0})) (Gave x ∷ []) s t
 given_does x s t goes = record { goes = goes; commands = refl; faults = refl; bound = omega arith }
 
 -- a refusal that comes before any turn
@@ -387,9 +387,9 @@ refused_now x bound e s t refuses same = refused_same x 0 bound (Client e) s s t
 
 -- a command, and then turns up to a phase
 pub given_reached : (x : Command) (phase : Phase) (turns : ℕ) (r : Result (Unit {0}) DriverError) (s t u : Seen) → Goes (Gave x ∷ []) s t
-    → Reached phase turns r t u → Called (core_command x) turns r s u
+    → Reached phase turns r t u → Called x turns r s u
 given_reached x phase turns r s t u goes (ys, does, there) =
-    (Gave x ∷ ys, does_on (tt {0}) r (core_command x ∷ []) 0 turns turns (Gave x ∷ []) ys s t u (given_does x s t goes) (zero-add turns) does)
+    (Gave x ∷ ys, does_on (tt {0}) r (x ∷ []) 0 turns turns (Gave x ∷ []) ys s t u (given_does x s t goes) (zero-add turns) does)
 
 pub logged_reached : (x : client.Command) (phase : Phase) (left turns : ℕ) (r : Result (Unit {0}) DriverError) (s t u : Seen) → Logged x turns (Ok left) s t
     → Reached phase left r t u → Called x turns r s u
@@ -407,7 +407,7 @@ runs_where hs turns (Ok u) c ys s t taken does there = runs_next hs ys c s.clien
 runs_where hs turns (Err e) c ys s t taken does there = there
 
 -- a reserve that answers Ok leaves the next block running
-pub reserve_runs : (x : Command) (hs : List HandlerId) (turns : ℕ) (r : Result (Unit {0}) DriverError) (s t u : Seen) → core_command x ≡ client.Reserve hs
+pub reserve_runs : (x : Command) (hs : List HandlerId) (turns : ℕ) (r : Result (Unit {0}) DriverError) (s t u : Seen) → x ≡ client.Reserve hs
     → Goes (Gave x ∷ []) s t → Reached Running turns r t u → OnOk r (RunsNext s.client u.client)
 reserve_runs x hs turns r s t u is goes (ys, does, there) =
     runs_where hs turns r s.client ys t u (subst (λ y. client.command s.client y ≡ Ok t.client) is (given_is x s t goes)) does there
@@ -447,14 +447,14 @@ called_logged x left turns s t (xs, logs) =
     (xs, record { goes = logs.does.goes; commands = logs.does.commands; faults = logs.does.faults; bound = logs.does.bound })
 
 -- a reserve of handlers that are handed over as a list
-pub reserve_reached : (x : Command) (hs : List HandlerId) (n turns : ℕ) (r : Result (Unit {0}) DriverError) (s t u : Seen) → core_command x ≡ client.Reserve hs
+pub reserve_reached : (x : Command) (hs : List HandlerId) (n turns : ℕ) (r : Result (Unit {0}) DriverError) (s t u : Seen) → x ≡ client.Reserve hs
     → n ≡ turns
     → Goes (Gave x ∷ []) s t → Reached Running n r t u → Called (client.Reserve hs) turns r s u
 reserve_reached x hs n turns r s t u is same goes reached =
-    subst (λ y. Called y turns r s u) is (subst (λ k. Called (core_command x) k r s u) same (given_reached x Running n r s t u goes reached))
+    subst (λ y. Called y turns r s u) is (subst (λ k. Called x k r s u) same (given_reached x Running n r s t u goes reached))
 
-pub reserve_refused : (x : Command) (hs : List HandlerId) (turns : ℕ) (e : ClientError) (s t : Seen) → core_command x ≡ client.Reserve hs
-    → client.IsRefused (client.command s.client (core_command x)) e × (t ≡ s) → Called {T = Unit {0}} (client.Reserve hs) turns (Err (Client e)) s t
+pub reserve_refused : (x : Command) (hs : List HandlerId) (turns : ℕ) (e : ClientError) (s t : Seen) → x ≡ client.Reserve hs
+    → client.IsRefused (client.command s.client x) e × (t ≡ s) → Called {T = Unit {0}} (client.Reserve hs) turns (Err (Client e)) s t
 reserve_refused x hs turns e s t is (refused, same) =
     refused_now (client.Reserve hs) turns e s t
     (reserve_refuses s.client hs e (subst (λ y. client.IsRefused (client.command s.client y) e) is refused)) same

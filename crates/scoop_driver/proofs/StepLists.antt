@@ -5,10 +5,10 @@ use Rattle.scoop_link.specs.Link.{Told, Exchanges}
 use Rattle.scoop_link.proofs.Exchanges.{exchanges_nothing, exchanges-append}
 use Rattle.scoop_client.specs.State.{ClientState}
 use Rattle.scoop_client.specs.Commands as client
-use Rattle.scoop_driver.specs.declared.step.Command.{Command}
+use Rattle.scoop_client.specs.declared.command.Command.{Command}
 use Rattle.scoop_driver.specs.declared.step.Step.{Step}
 use Rattle.scoop_driver.specs.declared.step.Step.TheVariants.{Gave}
-use Rattle.scoop_driver.specs.Steps.{AllCan, walk, after, after_command, sent_at, sent_by, taken_at, taken_by, faults_at, faults_in, turns_at, turns_in, command_at, commands_by, note_at, notes_by, noted, core_command}
+use Rattle.scoop_driver.specs.Steps.{AllCan, walk, after, after_command, sent_at, sent_by, taken_at, taken_by, faults_at, faults_in, turns_at, turns_in, command_at, commands_by, note_at, notes_by, noted}
 use Rattle.scoop_driver.specs.State.{Seen, Goes}
 
 pub walk-append : (xs ys : List Step) (c : ClientState) → walk c (xs ++ ys) ≡ walk (walk c xs) ys
@@ -86,10 +86,10 @@ accepted c d (Ok x) is = cc
 accepted c d (Err e) is = cc
 
 pub goes_command : (x : Command) (c d : ClientState) (told : Option Told) (faults : ℕ) (old new : Option (List Step))
-    → client.command c (core_command x) ≡ Ok d → new ≡ noted old (Gave x ∷ [])
+    → client.command c x ≡ Ok d → new ≡ noted old (Gave x ∷ [])
     → Goes (Gave x ∷ []) (record { client = c; told = told; faults = faults; diary = old }) (record { client = d; told = told; faults = faults; diary = new })
 goes_command x c d told faults old new is kept = record {
-  client = accepted c d (client.command c (core_command x)) is;
+  client = accepted c d (client.command c x) is;
   can = ((d, is), tt {0});
   link = exchanges_nothing told;
   faults = sym (add-zero _);

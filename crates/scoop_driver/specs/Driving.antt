@@ -39,7 +39,7 @@ walk c (s ∷ ss) = walk (client_after c s) ss
 -- ---- a driver's own steps
 
 abbrev pub move_of : ClientState → Step → DriverStep
-move_of c (Gave x) = Gives (driver.core_command x) (driver.after c (Gave x))
+move_of c (Gave x) = Gives x (driver.after c (Gave x))
 move_of c (Turned got) = Turns (driver.message_in got)
 move_of c (Broke place) = Breaks (take (place + 1) c.handlers)
 

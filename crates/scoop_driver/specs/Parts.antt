@@ -10,31 +10,23 @@ use Rattle.scoop_client.specs.State.{ClientState, phase_of}
 use Rattle.scoop_client.specs.Commands as client
 use Rattle.scoop_driver.specs.declared.error.DriverError.{DriverError}
 use Rattle.scoop_driver.specs.declared.error.DriverError.TheVariants.{Client, TurnsOver, LinkFault, ConditionFailed}
-use Rattle.scoop_driver.specs.declared.step.Command.{Command}
-use Rattle.scoop_driver.specs.declared.step.Command.TheVariants.{Reserve, Call, Query, End, GiveUp}
+use Rattle.scoop_client.specs.declared.command.Command.{Command}
+use Rattle.scoop_client.specs.declared.command.Command.TheVariants.{Reserve, Call, Query, End, GiveUp}
 use Rattle.scoop_driver.specs.declared.step.Step.{Step}
 use Rattle.scoop_driver.specs.declared.step.Step.TheVariants.{Gave}
-use Rattle.scoop_driver.specs.Steps.{core_command, noted, notes_by, turns_in}
+use Rattle.scoop_driver.specs.Steps.{noted, notes_by, turns_in}
 use Rattle.scoop_driver.specs.State.{Seen, Goes}
 use Rattle.scoop_driver.specs.Calls.{Does, Called, IsRefusal, IsTakeable}
 
--- what takes memory of the client
-abbrev pub IsReserve : Command → Type 0
-IsReserve (Reserve hs) = ⊤
-IsReserve (Call h r) = ⊥
-IsReserve (Query h r) = ⊥
-IsReserve End = ⊥
-IsReserve GiveUp = ⊥
-
 -- a client and its diary: the command is taken and kept, or refused with nothing changed
 abbrev pub Gives : Command → Result (Unit {0}) ClientError → ClientState → ClientState → Option (List Step) → Option (List Step) → Type 0
-Gives x (Ok u) c d old new = (client.command c (core_command x) ≡ Ok d) × (new ≡ noted old (Gave x ∷ []))
-Gives x (Err e) c d old new = client.IsRefused (client.command c (core_command x)) e × (d ≡ c) × (new ≡ old)
+Gives x (Ok u) c d old new = (client.command c x ≡ Ok d) × (new ≡ noted old (Gave x ∷ []))
+Gives x (Err e) c d old new = client.IsRefused (client.command c x) e × (d ≡ c) × (new ≡ old)
 
 -- the command is given, or refused with nothing changed
 abbrev pub Given : Command → Result (Unit {0}) ClientError → Seen → Seen → Type 0
 Given x (Ok u) old new = Goes (Gave x ∷ []) old new
-Given x (Err e) old new = client.IsRefused (client.command old.client (core_command x)) e × (new ≡ old)
+Given x (Err e) old new = client.IsRefused (client.command old.client x) e × (new ≡ old)
 
 -- a refusal of the client, and no other error
 abbrev pub RefusesWith : client.Outcome → DriverError → Type 0
@@ -46,8 +38,8 @@ RefusesWith outcome (ConditionFailed t) = ⊥
 -- the command is given, or the window is full, or it is refused
 abbrev pub Offered : Command → Result Bool DriverError → Seen → Seen → Type 0
 Offered x (Ok true) old new = Goes (Gave x ∷ []) old new
-Offered x (Ok false) old new = IsTakeable (client.command old.client (core_command x)) × (new ≡ old)
-Offered x (Err e) old new = RefusesWith (client.command old.client (core_command x)) e × (new ≡ old)
+Offered x (Ok false) old new = IsTakeable (client.command old.client x) × (new ≡ old)
+Offered x (Err e) old new = RefusesWith (client.command old.client x) e × (new ≡ old)
 
 -- turns until the client is at this phase
 abbrev pub Reached : Phase → ℕ → Result (Unit {0}) DriverError → Seen → Seen → Type 0

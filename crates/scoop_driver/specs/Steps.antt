@@ -12,20 +12,12 @@ use Rattle.scoop_client.specs.State.{ClientState}
 use Rattle.scoop_client.specs.Due.{due}
 use Rattle.scoop_client.specs.Hearing.{heard}
 use Rattle.scoop_client.specs.Commands as client
-use Rattle.scoop_driver.specs.declared.step.Command.{Command}
-use Rattle.scoop_driver.specs.declared.step.Command.TheVariants.{Reserve, Call, Query, End, GiveUp}
+use Rattle.scoop_client.specs.declared.command.Command.{Command}
+use Rattle.scoop_client.specs.declared.command.Command.TheVariants.{Reserve, Call, Query, End, GiveUp}
 use Rattle.scoop_driver.specs.declared.step.Received.{Received}
 use Rattle.scoop_driver.specs.declared.step.Received.TheVariants.{Nothing, Frame, NoFrame, Fault}
 use Rattle.scoop_driver.specs.declared.step.Step.{Step}
 use Rattle.scoop_driver.specs.declared.step.Step.TheVariants.{Gave, Turned, Broke}
-
--- the command as the client's table names it
-abbrev pub core_command : Command → client.Command
-core_command (Reserve hs) = client.Reserve hs
-core_command (Call h r) = client.DoCall h r
-core_command (Query h r) = client.DoQuery h r
-core_command End = client.DoEnd
-core_command GiveUp = client.GiveUp
 
 -- ---- what is due, as datagrams
 
@@ -65,7 +57,7 @@ after_message c None = c
 after_message c (Some m) = (heard c m).0
 
 abbrev pub after : ClientState → Step → ClientState
-after c (Gave x) = after_command c (client.command c (core_command x))
+after c (Gave x) = after_command c (client.command c x)
 after c (Turned got) = after_message c (message_in got)
 after c (Broke place) = c
 
@@ -123,7 +115,7 @@ pub record IsDueAt (c : ClientState) (place : ℕ) : Type 0 where
 
 -- a command that the client takes; a turn; or one that broke off where something was due
 abbrev pub Can : ClientState → Step → Type 0
-Can c (Gave x) = (d : ClientState) × (client.command c (core_command x) ≡ Ok d)
+Can c (Gave x) = (d : ClientState) × (client.command c x ≡ Ok d)
 Can c (Turned got) = CanReceive got
 Can c (Broke place) = IsDueAt c place
 
@@ -154,7 +146,7 @@ turns_in [] = 0
 turns_in (s ∷ ss) = turns_at s + turns_in ss
 
 abbrev pub command_at : Step → List client.Command
-command_at (Gave x) = core_command x ∷ []
+command_at (Gave x) = x ∷ []
 command_at (Turned got) = []
 command_at (Broke place) = []
 

@@ -3,18 +3,16 @@
 ghost use Rattle.std.specs.Prelude.{◌≡◌, OnOk};
 ghost use Rattle.scoop_client.specs.Due.{due};
 ghost use Rattle.scoop_client.specs.State.{phase_of};
-ghost use Rattle.scoop_client.specs.Commands.Command.{Reserve, DoCall, DoEnd, GiveUp as DoGiveUp};
+ghost use Rattle.scoop_client.specs.Commands.{Reserve, DoCall, DoEnd, GiveUp as DoGiveUp};
 ghost use Rattle.scoop_client.specs.declared.phase.Phase.TheVariants.{Idle as AtIdle};
 ghost use Rattle.scoop_driver.specs.State.{state_of};
 ghost use Rattle.scoop_driver.specs.Turning.{TakesTurn};
 ghost use Rattle.scoop_driver.specs.Calls.{Called, Queried, RunsNext};
 
-use crate::block_handlers::BlockHandlers;
 use crate::diary::{Diary, NoDiary};
 use crate::error::DriverError;
 use crate::sending::take_turn;
-use crate::step::Command;
-use scoop_client::{Client, ClientError, ClientNote, Phase};
+use scoop_client::{Client, ClientError, ClientNote, Command, HandlerList, Phase};
 use scoop_link::Link;
 use scoop_message::{Answer, HandlerId, Message, Request};
 use std::alloc::{Allocator, Global};
@@ -121,7 +119,10 @@ impl<L: Link, D: Diary<A>, A: Allocator + Clone> Driver<L, D, A> {
             Ok(()) => {}
             Err(error) => return Err(DriverError::Client(error)),
         }
-        match self.give(&Command::Reserve(BlockHandlers::of(handlers))) {
+        let Ok(handlers) = HandlerList::of(handlers) else {
+            unreachable!()
+        };
+        match self.give(&Command::Reserve(handlers)) {
             Ok(()) => self.turns_until(Phase::Running, turns),
             Err(error) => Err(DriverError::Client(error)),
         }

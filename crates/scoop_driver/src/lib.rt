@@ -20,7 +20,6 @@
 //! ```
 #![tactic(auto)]
 
-mod block_handlers;
 mod diary;
 mod driver;
 mod error;
@@ -30,10 +29,10 @@ mod sending;
 mod step;
 mod wait;
 
-pub use block_handlers::BlockHandlers;
 pub use diary::{Diary, NoDiary, StepList};
 pub use driver::Driver;
 pub use error::DriverError;
 pub use law::steps_are_moves;
-pub use step::{Command, Received, Step};
+pub use scoop_client::{Command, HandlerList};
+pub use step::{Received, Step};
 pub use wait::Condition;

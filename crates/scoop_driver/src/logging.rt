@@ -1,59 +1,16 @@
 //! Commands to the client, and the turns that they take.
 
 ghost use Rattle.std.specs.Prelude.{◌≡◌, ◌⊎◌};
-ghost use Rattle.scoop_client.specs.Commands.{Foretells, Commanded, command as taken};
-ghost use Rattle.scoop_driver.specs.Steps.{core_command};
-ghost use Rattle.scoop_driver.specs.Parts.{Gives, Given, Offered, Reached, Logged, Answered, IsAcceptedFrom, IsReserve};
+ghost use Rattle.scoop_client.specs.Commands.{IsReserve};
+ghost use Rattle.scoop_driver.specs.Parts.{Gives, Given, Offered, Reached, Logged, Answered, IsAcceptedFrom};
 
 use crate::diary::Diary;
 use crate::driver::Driver;
 use crate::error::DriverError;
-use crate::step::Command;
-use scoop_client::{Client, ClientError, ClientNote, Phase};
+use scoop_client::{Client, ClientError, ClientNote, Command, Phase};
 use scoop_link::Link;
 use scoop_message::{Answer, HandlerId};
 use std::alloc::Allocator;
-
-// Whether the block may be given up now: what `give_up` would say.
-fn may_give_up<A: Allocator>(client: &Client<A>) -> Result<(), ClientError>
-    ensures { Foretells (taken client.now (core_command Command.GiveUp)) result }
-{
-    match client.phase() {
-        Phase::Greeting => Err(ClientError::NotGreeted),
-        Phase::Idle => Err(ClientError::NoBlock),
-        Phase::Locking => Ok(()),
-        Phase::Opening | Phase::Running | Phase::Ending | Phase::GivingUp => {
-            Err(ClientError::TooLate)
-        }
-    }
-}
-
-// Whether the client takes a command now, want of memory apart.
-fn may_take<A: Allocator>(client: &Client<A>, command: &Command) -> Result<(), ClientError>
-    ensures { Foretells (taken client.now (core_command command.now)) result }
-{
-    match command {
-        Command::Reserve(handlers) => client.may_reserve(handlers.as_slice()),
-        Command::Call(handler, _) => client.may_log(*handler),
-        Command::Query(handler, _) => client.may_log(*handler),
-        Command::End => client.may_end(),
-        Command::GiveUp => may_give_up(client),
-    }
-}
-
-// The client takes a command, or refuses it.
-fn take<A: Allocator + Clone>(client: &mut Client<A>, command: &Command) -> Result<(), ClientError>
-    ensures takes { Commanded (core_command command.now) result client.old client.new }
-    ensures memory { result ≡ Err ClientError.OutOfMemory → IsReserve command.now }
-{
-    match *command {
-        Command::Reserve(handlers) => client.reserve(handlers.as_slice()),
-        Command::Call(handler, request) => client.call(handler, request),
-        Command::Query(handler, request) => client.query(handler, request),
-        Command::End => client.end(),
-        Command::GiveUp => client.give_up(),
-    }
-}
 
 // Gives the client a command that it takes, and hands it to the diary.
 fn give<D: Diary<A>, A: Allocator + Clone>(
@@ -64,14 +21,14 @@ fn give<D: Diary<A>, A: Allocator + Clone>(
     ensures does { Gives command.now result client.old client.new (D.steps diary.old) (D.steps diary.new) }
     ensures memory { result ≡ Err ClientError.OutOfMemory → IsReserve command.now ⊎ D.wants_memory }
 {
-    match may_take(client, command) {
+    match client.may_carry_out(command) {
         Ok(()) => {}
         Err(error) => return Err(error),
     }
     if diary.make_room().is_err() {
         return Err(ClientError::OutOfMemory);
     }
-    match take(client, command) {
+    match client.carry_out(command) {
         Ok(()) => {}
         Err(error) => return Err(error),
     }
@@ -115,7 +72,7 @@ impl<L: Link, D: Diary<A>, A: Allocator + Clone> Driver<L, D, A> {
 
     // Takes turns until the window has room, and gives the command. Answers how many turns are left.
     pub(crate) fn log(&mut self, command: &Command) -> Result<u64, DriverError>
-        ensures does { Logged (core_command command.now) self.old.turns result self.old.seen self.new.seen }
+        ensures does { Logged command.now self.old.turns result self.old.seen self.new.seen }
         ensures turns { self.new.turns ≡ self.old.turns }
         ensures memory { result ≡ Err (DriverError.Client ClientError.OutOfMemory) → IsReserve command.now ⊎ D.wants_memory }
     {

@@ -1,24 +1,9 @@
 //! What a driver does, step by step.
 
-use crate::block_handlers::BlockHandlers;
+use scoop_client::Command;
 use scoop_frame::Version;
 use scoop_link::Datagram;
-use scoop_message::{HandlerId, Message, Request};
-
-/// A command that a client takes.
-#[derive(Clone, Copy, Debug, PartialEq, Eq)]
-pub enum Command {
-    /// Begin a block over these handlers.
-    Reserve(BlockHandlers),
-    /// Log a call at this handler.
-    Call(HandlerId, Request),
-    /// Log a query at this handler.
-    Query(HandlerId, Request),
-    /// Log the block's end at each of its handlers.
-    End,
-    /// Give up the block, which isn't locked at all its handlers yet.
-    GiveUp,
-}
+use scoop_message::Message;
 
 /// What the receive of a turn gave.
 #[derive(Drop)]

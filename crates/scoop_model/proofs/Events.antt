@@ -13,14 +13,14 @@ use Rattle.scoop_client.specs.State.{ClientState}
 use Rattle.scoop_client.specs.Due.{due}
 use Rattle.scoop_client.specs.Hearing.{heard}
 use Rattle.scoop_client.specs.Commands.{Outcome, command}
-use Rattle.scoop_model.specs.declared.event.Command.{Command}
+use Rattle.scoop_client.specs.declared.command.Command.{Command}
 use Rattle.scoop_model.specs.declared.event.Event.{Event}
 use Rattle.scoop_model.specs.declared.event.Event.TheVariants.{Do, Tick, Take, Begin, Finish, ClientRestart, NodeRestart}
 use Rattle.scoop_model.specs.declared.note.WorldNote.{WorldNote}
 use Rattle.scoop_model.specs.declared.note.WorldNote.TheVariants as note
 use Rattle.scoop_model.specs.declared.error.WorldError.TheVariants.{NoSuchParty, IncarnationsSpent}
 use Rattle.scoop_model.specs.World.{World, Site, Party, site_of, party_of, sent_at}
-use Rattle.scoop_model.specs.Step.{Stepped, step, core_command, commanded, commanded_world, do_at, with_sent, place_of, sent_or_silent, tick_at, heard_world, taken_by_handler, heard_party, taken_by_client, taken, with_site, with_party, begun_site, begins, begin_at, finished_site, finishes, finish_at, restarted_party, restart_client, reopened_world, restart_node}
+use Rattle.scoop_model.specs.Step.{Stepped, step, commanded, commanded_world, do_at, with_sent, place_of, sent_or_silent, tick_at, heard_world, taken_by_handler, heard_party, taken_by_client, taken, with_site, with_party, begun_site, begins, begin_at, finished_site, finishes, finish_at, restarted_party, restart_client, reopened_world, restart_node}
 use Rattle.scoop_model.specs.Reach.{Run, next, run_after, steps}
 use Rattle.scoop_model.proofs.Basics.{by_test}
 
@@ -36,7 +36,7 @@ heard_by s m = hear s.core.state m
 -- each way in which an event changes a world gives the property
 pub record Happens (Q : Event → World → WorldNote → Type 0) (w : World) : Type 0 where
   pub commands :
-      (c : ClientId) (p : Party) (x : Command) (d : ClientState) → party_of c w ≡ Some p → command p.client (core_command x) ≡ Ok d
+      (c : ClientId) (p : Party) (x : Command) (d : ClientState) → party_of c w ≡ Some p → command p.client x ≡ Ok d
       → Q (Do c x) (commanded_world w p x d) note.Done
   pub sends :
       (c : ClientId) (p : Party) (h : HandlerId) (s : Site) → party_of c w ≡ Some p → site_of h w ≡ Some s
@@ -60,14 +60,14 @@ pub record Happens (Q : Event → World → WorldNote → Type 0) (w : World) : 
 
 module _ (Q : Event → World → WorldNote → Type 0) (w : World) (all : Happens Q w) where
   command_happens :
-      (c : ClientId) (p : Party) (x : Command) (o : Outcome) → party_of c w ≡ Some p → command p.client (core_command x) ≡ o
+      (c : ClientId) (p : Party) (x : Command) (o : Outcome) → party_of c w ≡ Some p → command p.client x ≡ o
       → Gives (Q (Do c x)) (commanded w p x o)
   command_happens c p x (Err e) at is = tt
   command_happens c p x (Ok d) at is = all.commands c p x d at is
 
   do_happens : (c : ClientId) (x : Command) (o : Option Party) → party_of c w ≡ o → Gives (Q (Do c x)) (do_at w x o)
   do_happens c x None at = tt
-  do_happens c x (Some p) at = command_happens c p x (command p.client (core_command x)) at refl
+  do_happens c x (Some p) at = command_happens c p x (command p.client x) at refl
 
   tick_happens :
       (c : ClientId) (h : HandlerId) (o : Option Party) (t : Option Site) → party_of c w ≡ o → site_of h w ≡ t → Gives (Q (Tick c h)) (tick_at w h o t)
@@ -146,7 +146,7 @@ Kept P o = Gives (λ v told. P v) o
 -- each way in which a world changes gives the property
 pub record Changes (P : World → Type 0) (w : World) : Type 0 where
   pub commands :
-      (c : ClientId) (p : Party) (x : Command) (d : ClientState) → party_of c w ≡ Some p → command p.client (core_command x) ≡ Ok d
+      (c : ClientId) (p : Party) (x : Command) (d : ClientState) → party_of c w ≡ Some p → command p.client x ≡ Ok d
       → P (commanded_world w p x d)
   pub sends : (c : ClientId) (p : Party) (h : HandlerId) (s : Site) → party_of c w ≡ Some p → site_of h w ≡ Some s → P (with_sent w (due p.client h))
   pub hears :

@@ -22,7 +22,7 @@ use Rattle.scoop_client.specs.Rows.{DueRow, owes_nothing, greets, reserves, logs
 use Rattle.scoop_client.proofs.DueRows.{due_row}
 use Rattle.scoop_client.proofs.Rows.{heard_row}
 use Rattle.scoop_model.specs.World.{World, Party, BlockLog, id_of, is_party, party_of, set_party, handlers_of, sent_at}
-use Rattle.scoop_model.specs.Step.{Placement, Newcomer, opening, core_command, newest_block, logs_after, with_sent, with_site, heard_world, heard_party, begun_site, finished_site, restarted_party, reopened_world}
+use Rattle.scoop_model.specs.Step.{Placement, Newcomer, opening, newest_block, logs_after, with_sent, with_site, heard_world, heard_party, begun_site, finished_site, restarted_party, reopened_world}
 use Rattle.scoop_model.specs.Told.{WasGranted, WasGrantedAtAll, TellsGranted}
 use Rattle.scoop_model.proofs.Basics.{by_test}
 use Rattle.scoop_model.proofs.Events.{Changes}
@@ -156,7 +156,7 @@ granting_kept w o i = record {
   commands = λ c p x d at is. (
       let fits = all_found (PartyFits w) (is_party c) w.parties p o.parties at in
       party_granted w i c p (record p { client = d }) at (goes_on w p x d is fits).id (logs_after x (newest_block d) w.logs)
-      (λ b hs e. handlers_after x (newest_block d) b w.logs hs e) (command_locks (WasGranted w) p.client (i.parties c p at) d (core_command x) is));
+      (λ b hs e. handlers_after x (newest_block d) b w.logs hs e) (command_locks (WasGranted w) p.client (i.parties c p at) d x is));
   sends = λ c p h s at here. (
       let fits = all_found (PartyFits w) (is_party c) w.parties p o.parties at in
       sent_granted w (with_sent w (due p.client h)) i (due p.client h) refl refl refl

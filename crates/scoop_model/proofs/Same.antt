@@ -7,12 +7,12 @@ use Rattle.scoop_message.specs.declared.name.HandlerId.{HandlerId}
 use Rattle.scoop_message.specs.declared.name.ClientId.{ClientId}
 use Rattle.scoop_message.specs.declared.request.Request.{Request}
 use Rattle.scoop_message.proofs.Same.{pair_decides, handler_decides, client_decides, request_decides}
-use Rattle.scoop_model.specs.declared.event.Command.{Command}
-use Rattle.scoop_model.specs.declared.event.Command.TheVariants.{Reserve, Call, Query, End, GiveUp}
+use Rattle.scoop_client.specs.declared.command.Command.{Command}
+use Rattle.scoop_client.specs.declared.command.Command.TheVariants.{Reserve, Call, Query, End, GiveUp}
 use Rattle.scoop_model.specs.declared.event.Event.{Event}
 use Rattle.scoop_model.specs.declared.event.Event.TheVariants.{Do, Tick, Take, Begin, Finish, ClientRestart, NodeRestart}
-use Rattle.scoop_model.specs.contracts.handlers.HandlerListPartialEq.TheImpl as on_list
-use Rattle.scoop_model.specs.contracts.event.CommandPartialEq.TheImpl as on_command
+use Rattle.scoop_client.specs.contracts.handlers.HandlerListPartialEq.TheImpl as on_list
+use Rattle.scoop_client.specs.contracts.command.CommandPartialEq.TheImpl as on_command
 use Rattle.scoop_model.specs.contracts.event.EventPartialEq.TheImpl as on_event
 
 list_decides : (xs ys : List HandlerId) → Decides (on_list.eq-value.it xs ys) (xs ≡ ys)

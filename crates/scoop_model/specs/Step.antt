@@ -23,8 +23,8 @@ use Rattle.scoop_client.specs.Beginning.{greeting}
 use Rattle.scoop_client.specs.Due.{due}
 use Rattle.scoop_client.specs.Hearing.{Notice, heard}
 use Rattle.scoop_client.specs.Commands as client
-use Rattle.scoop_model.specs.declared.event.Command.{Command}
-use Rattle.scoop_model.specs.declared.event.Command.TheVariants.{Reserve, Call, Query, End, GiveUp}
+use Rattle.scoop_client.specs.declared.command.Command.{Command}
+use Rattle.scoop_client.specs.declared.command.Command.TheVariants.{Reserve, Call, Query, End, GiveUp}
 use Rattle.scoop_model.specs.declared.event.Event.{Event}
 use Rattle.scoop_model.specs.declared.event.Event.TheVariants.{Do, Tick, Take, Begin, Finish, ClientRestart, NodeRestart}
 use Rattle.scoop_model.specs.declared.note.WorldNote.{WorldNote}
@@ -45,14 +45,6 @@ abbrev pub with_party : World → Party → World
 with_party w p = record w { parties = set_party p w.parties }
 
 -- ---- a client takes a command
-
--- the command as the client's core knows it
-abbrev pub core_command : Command → client.Command
-core_command (Reserve hs) = client.Reserve hs
-core_command (Call h r) = client.DoCall h r
-core_command (Query h r) = client.DoQuery h r
-core_command End = client.DoEnd
-core_command GiveUp = client.GiveUp
 
 -- the newest block that the client began
 abbrev pub newest_block : ClientState → Block
@@ -91,7 +83,7 @@ commanded w p x (Ok c) = Ok (commanded_world w p x c, note.Done)
 
 abbrev pub do_at : World → Command → Option Party → Stepped
 do_at w x None = Err NoSuchParty
-do_at w x (Some p) = commanded w p x (client.command p.client (core_command x))
+do_at w x (Some p) = commanded w p x (client.command p.client x)
 
 -- ---- a client sends what it owes
 

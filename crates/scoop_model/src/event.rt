@@ -1,22 +1,7 @@
 //! What may happen in a world.
 
-use crate::handlers::HandlerList;
-use scoop_message::{ClientId, HandlerId, Request};
-
-/// What a client is told to do.
-#[derive(Clone, Copy, Debug, PartialEq, Eq)]
-pub enum Command {
-    /// Begin a block over these handlers.
-    Reserve(HandlerList),
-    /// Log a call at this handler.
-    Call(HandlerId, Request),
-    /// Log a query at this handler.
-    Query(HandlerId, Request),
-    /// Log the block's end at each of its handlers.
-    End,
-    /// Give up the block, which isn't locked at all its handlers yet.
-    GiveUp,
-}
+use scoop_client::Command;
+use scoop_message::{ClientId, HandlerId};
 
 /// One event. It moves one party; a message that is lost is one that is never taken.
 #[derive(Clone, Copy, Debug, PartialEq, Eq)]

@@ -6,15 +6,15 @@ use crate::event::Event;
 use crate::note::WorldNote;
 
 /// `==` tells exactly whether two events are the same, the commands and requests in them included.
-pub fn same_event(left: &Event, right: &Event) -> bool
-    ensures { IsTrue result ↔ (left.now ≡ right.now) }
+pub fn same_event(event: &Event, other: &Event) -> bool
+    ensures { IsTrue result ↔ (event.now ≡ other.now) }
 {
-    left == right
+    event == other
 }
 
 /// `==` tells exactly whether two notes are the same, the entries and answers in them included.
-pub fn same_note(left: &WorldNote, right: &WorldNote) -> bool
-    ensures { IsTrue result ↔ (left.now ≡ right.now) }
+pub fn same_note(note: &WorldNote, other: &WorldNote) -> bool
+    ensures { IsTrue result ↔ (note.now ≡ other.now) }
 {
-    left == right
+    note == other
 }

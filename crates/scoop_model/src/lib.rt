@@ -25,13 +25,12 @@
 mod error;
 mod event;
 pub mod examples;
-mod handlers;
 mod law;
 mod note;
 pub mod theorems;
 
 pub use error::WorldError;
-pub use event::{Command, Event};
-pub use handlers::{HandlerList, MAX_NAMED_HANDLERS, TooManyHandlers};
+pub use event::Event;
 pub use law::{same_event, same_note};
 pub use note::WorldNote;
+pub use scoop_client::{Command, HandlerList, MAX_NAMED_HANDLERS, TooManyHandlers};

@@ -37,7 +37,7 @@ pub use loop_link::LoopLink;
 pub use node_loop::serve;
 pub use running::run_out;
 pub use scoop_driver::{
-    BlockHandlers, Command, Condition, Diary, Driver, DriverError, NoDiary, Received, Step,
-    StepList, steps_are_moves,
+    Command, Condition, Diary, Driver, DriverError, HandlerList, NoDiary, Received, Step, StepList,
+    steps_are_moves,
 };
 pub use stop::{ServeEnd, Stop};

@@ -30,10 +30,10 @@ use Rattle.scoop_client.specs.Commands as client
 use Rattle.scoop_client.specs.Rows.{HeardRow, passed_over, is_welcomed, takes_step, is_acknowledged, is_accepted, ReserveRow, begins_block, LogRow, is_logged, EndRow, ends_block, GiveUpRow, gives_up}
 use Rattle.scoop_client.proofs.Rows.{heard_row}
 use Rattle.scoop_client.proofs.CommandRows.{command_row}
-use Rattle.scoop_model.specs.declared.event.Command.{Command}
-use Rattle.scoop_model.specs.declared.event.Command.TheVariants.{Reserve, Call, Query, End, GiveUp}
+use Rattle.scoop_client.specs.declared.command.Command.{Command}
+use Rattle.scoop_client.specs.declared.command.Command.TheVariants.{Reserve, Call, Query, End, GiveUp}
 use Rattle.scoop_model.specs.World.{World, Party, id_of, is_party, log_of, handlers_of, ran_at, set_party}
-use Rattle.scoop_model.specs.Step.{core_command, newest_block, commanded_world, with_party, heard_party, restarted_party}
+use Rattle.scoop_model.specs.Step.{newest_block, commanded_world, with_party, heard_party, restarted_party}
 use Rattle.scoop_rules.specs.Paper.{count_of}
 use Rattle.scoop_model.proofs.Basics.{ok_is, by_test}
 use Rattle.scoop_model.proofs.Order.Facts.{PartyFits, all_set_party}
@@ -237,12 +237,12 @@ module _ (w : World) (p : Party) (d : ClientState) (fits : PartyFits w p) (logs 
       (asked_more w (commanded_world w p GiveUp (with_reservation c s)) r.block (λ h. refl) (λ h. omega arith) c.waits (f.asked r held)))
   give_up_asked o row e = absurd (cc)
 
-  command_asked : (x : Command) → client.command c (core_command x) ≡ Ok d → ClientAsked (commanded_world w p x d) d
-  command_asked (Reserve hs) e = reserve_asked hs _ (command_row c (core_command (Reserve hs))) e
-  command_asked (Call h r) e = call_asked h r _ (command_row c (core_command (Call h r))) e
-  command_asked (Query h r) e = query_asked h r _ (command_row c (core_command (Query h r))) e
-  command_asked End e = end_asked _ (command_row c (core_command End)) e
-  command_asked GiveUp e = give_up_asked _ (command_row c (core_command GiveUp)) e
+  command_asked : (x : Command) → client.command c x ≡ Ok d → ClientAsked (commanded_world w p x d) d
+  command_asked (Reserve hs) e = reserve_asked hs _ (command_row c (Reserve hs)) e
+  command_asked (Call h r) e = call_asked h r _ (command_row c (Call h r)) e
+  command_asked (Query h r) e = query_asked h r _ (command_row c (Query h r)) e
+  command_asked End e = end_asked _ (command_row c End) e
+  command_asked GiveUp e = give_up_asked _ (command_row c GiveUp) e
 
 all_set_beside :
     (P Q R : Party → Type 0) (p : Party) (parties : List Party) → R p → ((y : Party) → is_party (id_of p) y ≡ false → P y → Q y → R y)
@@ -257,7 +257,7 @@ all_set_beside P Q R p (y ∷ ys) own others all beside = (
 pub commands_asked :
     (w : World) → Asked w → AllByRecursion (PartyLogs w) w.parties → (p : Party) (x : Command) (d : ClientState) → PartyFits w p → PartyLogs w p
     → PartyAsked w p
-    → client.command p.client (core_command x) ≡ Ok d → Asked (commanded_world w p x d)
+    → client.command p.client x ≡ Ok d → Asked (commanded_world w p x d)
 commands_asked w i logs p x d fits own f e =
     all_set_beside (PartyLogs w) (PartyAsked w) (PartyAsked (commanded_world w p x d)) (record p { client = d }) w.parties
     (record { asked = command_asked w p d fits own f x e })

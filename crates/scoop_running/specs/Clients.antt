@@ -8,7 +8,7 @@ use Rattle.scoop_client.specs.Hearing.{heard}
 use Rattle.scoop_model.specs.Step.{newest_block}
 use Rattle.scoop_driver.specs.declared.step.Step.{Step}
 use Rattle.scoop_driver.specs.declared.step.Step.TheVariants.{Gave, Turned, Broke}
-use Rattle.scoop_driver.specs.Steps.{AllCan, after, core_command, message_in, walk}
+use Rattle.scoop_driver.specs.Steps.{AllCan, after, message_in, walk}
 use Rattle.scoop_weave.specs.System.{LocalClient, id_in, after_step, after_restart}
 use Rattle.scoop_weave.specs.Moves.{LocalMove, Commanded, Sent, ClientHeard, ClientRestarted}
 
@@ -24,7 +24,7 @@ hears c (Some m) = ClientHeard c.id m (heard c m).1 ∷ []
 
 -- a send that failed may have been sent
 abbrev pub moves_at : ClientState → Step → List LocalMove
-moves_at c (Gave x) = Commanded c.id (core_command x) (newest_block (after c (Gave x))) ∷ []
+moves_at c (Gave x) = Commanded c.id x (newest_block (after c (Gave x))) ∷ []
 moves_at c (Turned got) = sends_to c c.handlers ++ hears c (message_in got)
 moves_at c (Broke place) = sends_to c (take (place + 1) c.handlers)
 

@@ -10,11 +10,11 @@ use Rattle.scoop_queue.specs.Queue.{front}
 use Rattle.scoop_handler.specs.Running.{task_of}
 use Rattle.scoop_client.specs.State.{ClientState}
 use Rattle.scoop_model.specs.World.{World, Site, Party, number_of}
-use Rattle.scoop_world.specs.Standing.{numbered, standing}
+use Rattle.scoop_world.specs.Standing.{Standing, numbered, standing}
 use Rattle.scoop_calm.specs.declared.next.Next.{Next}
 use Rattle.scoop_calm.specs.declared.next.Next.TheVariants as next
 use Rattle.scoop_calm.specs.Next.{can_begin, next_finish, next_begin}
-use Rattle.scoop_settle.specs.Standing.{Standing, can_leave, first_out, first_to_begin}
+use Rattle.scoop_settle.specs.Standing.{can_leave, first_out, first_to_begin}
 
 -- ---- place by place
 
@@ -86,9 +86,9 @@ leaves_is s = by_cases s.core.out (front s.core.state.queues)
 
 module _ (w : World) (ss : List Standing) (is : ss ≡ map standing w.sites) where
   pub finish_is : first_out ss ≡ next_finish w
-  finish_is = ap first_out is ∙ standing_found (λ (s : Standing). s.1) (λ (s : Standing). next.Finish s.0.number) w.sites
+  finish_is = ap first_out is ∙ standing_found (λ (s : Standing). s.is_out) (λ (s : Standing). next.Finish s.state.number) w.sites
 
   pub begin_is : first_to_begin ss ≡ next_begin w
   begin_is =
-      ap first_to_begin is ∙ standing_found can_leave (λ (s : Standing). next.Begin s.0.number) w.sites
+      ap first_to_begin is ∙ standing_found can_leave (λ (s : Standing). next.Begin s.state.number) w.sites
       ∙ ap (option_map (λ (s : Site). next.Begin (number_of s))) (find_same (λ (s : Site). can_leave (standing s)) can_begin w.sites leaves_is)

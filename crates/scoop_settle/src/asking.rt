@@ -11,6 +11,7 @@ use scoop_client::Client;
 use scoop_handler::{HandlerState, Mark, Stage};
 use scoop_message::limits::MAX_QUEUES;
 use scoop_message::{Block, ClientId, Message};
+use scoop_world::Standing;
 use std::alloc::Allocator;
 
 // The mark of a client.
@@ -64,10 +65,10 @@ pub(crate) fn can_do<A: Allocator>(state: &HandlerState<A>, message: &Message) -
 }
 
 // Whether the client owes this handler something that it can do.
-fn gets_from<A: Allocator>(client: &Client<A>, standing: &(HandlerState<A>, bool)) -> bool
+fn gets_from<A: Allocator>(client: &Client<A>, standing: &Standing<A>) -> bool
     ensures { result ≡ gets_from client.now standing.now }
 {
-    let state = &standing.0;
+    let state = standing.state();
     match client.due(state.handler()) {
         Some(message) => can_do(state, &message),
         None => false,
@@ -78,13 +79,13 @@ fn gets_from<A: Allocator>(client: &Client<A>, standing: &(HandlerState<A>, bool
 pub(crate) fn first_ask<A: Allocator>(
     id: ClientId,
     client: &Client<A>,
-    states: &[(HandlerState<A>, bool)],
+    states: &[Standing<A>],
 ) -> Option<Next>
     ensures { result ≡ first_ask id client.now states.now }
 {
     for standing in states {
         if gets_from(client, standing) {
-            return Some(Next::Ask(id, standing.0.handler()));
+            return Some(Next::Ask(id, standing.state().handler()));
         }
     }
     None

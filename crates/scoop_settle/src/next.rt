@@ -11,46 +11,45 @@ ghost use Rattle.scoop_settle.specs.Standing.{can_leave, first_out, first_to_beg
 use crate::asking::first_ask;
 use scoop_calm::{Next, calm_has_no_next};
 use scoop_client::Client;
-use scoop_handler::HandlerState;
 use scoop_message::OutOfMemory;
 use scoop_object::Behaviour;
-use scoop_world::World;
+use scoop_world::{Standing, World};
 use std::alloc::Allocator;
 
 // Whether a job is out.
-fn is_out<A: Allocator>(standing: &(HandlerState<A>, bool)) -> bool
-    ensures { result ≡ standing.now.1 }
+fn is_out<A: Allocator>(standing: &Standing<A>) -> bool
+    ensures { result ≡ standing.now.is_out }
 {
-    standing.1
+    standing.is_out()
 }
 
 // The first job that is out is finished.
-fn first_out<A: Allocator>(states: &[(HandlerState<A>, bool)]) -> Option<Next>
+fn first_out<A: Allocator>(states: &[Standing<A>]) -> Option<Next>
     ensures { result ≡ first_out states.now }
 {
     for standing in states {
         if is_out(standing) {
-            return Some(Next::Finish(standing.0.handler()));
+            return Some(Next::Finish(standing.state().handler()));
         }
     }
     None
 }
 
 // Whether the next entry can leave.
-fn can_leave<A: Allocator>(standing: &(HandlerState<A>, bool)) -> bool
+fn can_leave<A: Allocator>(standing: &Standing<A>) -> bool
     ensures { result ≡ can_leave standing.now }
 {
-    let queues = standing.0.queues();
-    !standing.1 && queues.front().is_some()
+    let queues = standing.state().queues();
+    !standing.is_out() && queues.front().is_some()
 }
 
 // The first entry that can leaves to be run.
-fn first_to_begin<A: Allocator>(states: &[(HandlerState<A>, bool)]) -> Option<Next>
+fn first_to_begin<A: Allocator>(states: &[Standing<A>]) -> Option<Next>
     ensures { result ≡ first_to_begin states.now }
 {
     for standing in states {
         if can_leave(standing) {
-            return Some(Next::Begin(standing.0.handler()));
+            return Some(Next::Begin(standing.state().handler()));
         }
     }
     None
@@ -59,7 +58,7 @@ fn first_to_begin<A: Allocator>(states: &[(HandlerState<A>, bool)]) -> Option<Ne
 // The first client that can asks the first handler that can do it.
 fn ask<B: Behaviour, A: Allocator + Copy>(
     world: &World<B, A>,
-    states: &[(HandlerState<A>, bool)],
+    states: &[Standing<A>],
 ) -> Option<Next>
     requires { states.now ≡ map standing world.now.sites }
     ensures { result ≡ next_ask world.now.sites world.now.parties }
@@ -101,7 +100,7 @@ fn end<B: Behaviour, A: Allocator + Copy>(world: &World<B, A>) -> Option<Next>
 // What is next, by how the handlers stand.
 fn first_of<B: Behaviour, A: Allocator + Copy>(
     world: &World<B, A>,
-    states: &[(HandlerState<A>, bool)],
+    states: &[Standing<A>],
 ) -> Option<Next>
     requires { states.now ≡ map standing world.now.sites }
     ensures { result ≡ next_of world.now }

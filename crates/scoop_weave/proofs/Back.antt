@@ -19,11 +19,11 @@ use Rattle.scoop_client.specs.State.{ClientState}
 use Rattle.scoop_client.specs.Due.{due}
 use Rattle.scoop_client.specs.Hearing.{heard}
 use Rattle.scoop_client.specs.Commands as client
-use Rattle.scoop_model.specs.declared.event.Command.{Command}
-use Rattle.scoop_model.specs.declared.event.Command.TheVariants.{Reserve, Call, Query, End, GiveUp}
+use Rattle.scoop_client.specs.declared.command.Command.{Command}
+use Rattle.scoop_client.specs.declared.command.Command.TheVariants.{Reserve, Call, Query, End, GiveUp}
 use Rattle.scoop_model.specs.declared.event.Event.{Event}
 use Rattle.scoop_model.specs.World.{World, Site, Party, number_of, is_party, sent_at, site_of, party_of}
-use Rattle.scoop_model.specs.Step.{Placement, Newcomer, opening, core_command, newest_block, commanded_world, with_sent, heard_world, heard_party, with_party, with_site, begun_site, finished_site, restarted_party, reopened, reopened_world}
+use Rattle.scoop_model.specs.Step.{Placement, Newcomer, opening, newest_block, commanded_world, with_sent, heard_world, heard_party, with_party, with_site, begun_site, finished_site, restarted_party, reopened, reopened_world}
 use Rattle.scoop_model.specs.Opening.{MayOpen}
 use Rattle.scoop_model.specs.Reach.{steps, IsReached}
 use Rattle.scoop_model.proofs.Basics.{by_test}
@@ -34,7 +34,7 @@ use Rattle.scoop_model.proofs.Knowing.Runs.{clients_know}
 use Rattle.scoop_model.proofs.Reaching.{reached_ordered}
 use Rattle.scoop_weave.specs.System.{System, number_in, id_in, handler_in, client_in, with_handler, with_client, after_hearing, after_begin, after_finish, after_reopening, after_step, after_restart, new_system}
 use Rattle.scoop_weave.specs.Moves.{LocalMove, Heard, Began, Finished, NodeReopened, Commanded, Sent, ClientHeard, ClientRestarted, leaves, HeardIn, Moves, IsWeave, sent_by}
-use Rattle.scoop_weave.specs.Histories.{site_by, party_by, world_by, world_command}
+use Rattle.scoop_weave.specs.Histories.{site_by, party_by, world_by}
 use Rattle.scoop_weave.specs.Weave.{Weave, IsOfWeave}
 use Rattle.scoop_weave.proofs.Lists.{find_through, found_has}
 use Rattle.scoop_weave.proofs.Telling.{party_stays}
@@ -88,13 +88,6 @@ was_sent w i m was =
     (λ some e. (i - 1, slice_get_within w.sent (i - 1) m e, get_or_from_slice_get w.sent (i - 1) m m e))
     was
 
-forth : (x : Command) → world_command (core_command x) ≡ x
-forth (Reserve hs) = refl
-forth (Call h r) = refl
-forth (Query h r) = refl
-forth End = refl
-forth GiveUp = refl
-
 -- ---- each way in which a world changes
 
 module _ (ps : List Placement) (ns : List Newcomer) (opens : MayOpen ps ns) where
@@ -111,16 +104,14 @@ module _ (ps : List Placement) (ns : List Newcomer) (opens : MayOpen ps ns) wher
     more : (m : LocalMove) (u : System) (x : World) → HeardIn (sent_by ms) m → Moves m v u → x ≡ world_by (ms ++ m ∷ []) u → Woven x
     more m u x sent r is = record { moves = ms ++ m ∷ []; now = u; weave = longer [] ms m (new_system ps ns) v u weave sent r; is = is }
 
-    commands : (c : ClientId) (p : Party) (x : Command) (d : ClientState) → party_of c w ≡ Some p → client.command p.client (core_command x) ≡ Ok d
+    commands : (c : ClientId) (p : Party) (x : Command) (d : ClientState) → party_of c w ≡ Some p → client.command p.client x ≡ Ok d
         → Woven (commanded_world w p x d)
     commands c p x d at is =
         let t = party_from ms v c p at in
-        let y = core_command x in
-        let taken : client.command t.it.client y ≡ Ok d = ap (λ (q : Party). client.command q.client y) t.is ∙ is in
-        more (Commanded c y (newest_block d)) (with_client (after_step d t.it) v) (commanded_world w p x d) tt
+        let taken : client.command t.it.client x ≡ Ok d = ap (λ (q : Party). client.command q.client x) t.is ∙ is in
+        more (Commanded c x (newest_block d)) (with_client (after_step d t.it) v) (commanded_world w p x d) tt
         (record { client = t.it; here = t.found; new = after_step d t.it; moves = record { new = d; taken = taken; tells = refl; after = refl }; after = refl })
-        (ap (λ q. commanded_world w q x d) (sym t.is) ∙ ap (λ z. commanded_world w (party_by ms t.it) z d) (sym (forth x))
-        ∙ takes_world ms v c y t.it d t.found taken)
+        (ap (λ q. commanded_world w q x d) (sym t.is) ∙ takes_world ms v c x t.it d t.found taken)
 
     sends : (c : ClientId) (p : Party) (h : HandlerId) (s : Site) → party_of c w ≡ Some p → site_of h w ≡ Some s → Woven (with_sent w (due p.client h))
     sends c p h s at here =

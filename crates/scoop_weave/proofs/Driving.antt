@@ -12,24 +12,17 @@ use Rattle.scoop_model.specs.declared.event.Event.TheVariants.{Do, Tick, ClientR
 use Rattle.scoop_model.specs.declared.note.WorldNote.TheVariants as note
 use Rattle.scoop_model.specs.declared.error.WorldError.TheVariants.{IncarnationsSpent}
 use Rattle.scoop_model.specs.World.{World, Party, party_of, site_of}
-use Rattle.scoop_model.specs.Step.{core_command, newest_block, commanded, commanded_world, do_at, with_sent, sends, sent_or_silent, place_of, tick_at, with_party, restarted_party, restart_client}
+use Rattle.scoop_model.specs.Step.{newest_block, commanded, commanded_world, do_at, with_sent, sends, sent_or_silent, place_of, tick_at, with_party, restarted_party, restart_client}
 use Rattle.scoop_model.specs.Reach.{IsReached}
 use Rattle.scoop_model.proofs.Answering.Onward.{onward_commanded}
 use Rattle.scoop_weave.specs.System.{LocalClient, System, id_in, client_in, handler_in, with_client, after_step, after_restart}
 use Rattle.scoop_weave.specs.Moves.{LocalMove, Commanded, Sent, ClientRestarted, AtClient, sent_by}
-use Rattle.scoop_weave.specs.Histories.{accepted_by, party_with, party_by, world_by, world_command, tick_event, event_in}
+use Rattle.scoop_weave.specs.Histories.{accepted_by, party_with, party_by, world_by, tick_event, event_in}
 use Rattle.scoop_weave.proofs.Brings.{Brings, brings_none, brings_one}
 use Rattle.scoop_weave.proofs.Telling.{sent_more, logged_more, party_stays}
 use Rattle.scoop_weave.proofs.Worlds.{same_world, site_there, party_there, sites_same, parties_changed, parties_same, nothing_sent, nothing_opened, nothing_logged, receiver_there, client_itself, IsSilent, told_nothing}
 
 -- ---- a command
-
-pub back : (x : client.Command) → core_command (world_command x) ≡ x
-back (client.Reserve hs) = refl
-back (client.DoCall h r) = refl
-back (client.DoQuery h r) = refl
-back client.DoEnd = refl
-back client.GiveUp = refl
 
 module _ (past : List LocalMove) (v : System) (c : ClientId) (x : client.Command) (d : LocalClient) (new : ClientState) (here : client_in c v ≡ Some d)
     (taken : client.command d.client x ≡ Ok new) where
@@ -43,7 +36,7 @@ module _ (past : List LocalMove) (v : System) (c : ClientId) (x : client.Command
   a = after_step new d
 
   name : id_in a ≡ id_in d
-  name = (onward_commanded d.client (world_command x) new (ap (client.command d.client) (back x) ∙ taken)).id
+  name = (onward_commanded d.client x new taken).id
 
   party_goes : record (party_by past d) { client = new } ≡ party_by more a
   party_goes =
@@ -51,30 +44,29 @@ module _ (past : List LocalMove) (v : System) (c : ClientId) (x : client.Command
       let to : record (party_by past d) { client = new } ≡ party_by past a = λ i. party_with a (accepted_to i) in
       to ∙ party_stays past move a refl
 
-  pub takes_world : commanded_world (world_by past v) (party_by past d) (world_command x) new ≡ world_by more (with_client a v)
+  pub takes_world : commanded_world (world_by past v) (party_by past d) x new ≡ world_by more (with_client a v)
   takes_world =
       same_world _ _ _ _ _ _ _ _ _ _
       (sites_same past move v (λ h. record { opened = refl; ran = refl }))
       (parties_changed past move v a (record (party_by past d) { client = new }) party_goes (λ y e. refl))
       (nothing_sent past move v refl) (nothing_opened past move v refl) (sym (logged_more past move))
 
-  take_brings : Brings (world_by past v) (Do c (world_command x) ∷ []) (world_by more (with_client a v))
+  take_brings : Brings (world_by past v) (Do c x ∷ []) (world_by more (with_client a v))
   take_brings =
       let w : World = world_by past v in
-      let is : do_at w (world_command x) (party_of c w) ≡ Ok (commanded_world w (party_by past d) (world_command x) new, note.Done) =
-      ap (do_at w (world_command x)) (party_there past v c d here)
-      ∙ ap (λ y. commanded w (party_by past d) (world_command x) (client.command d.client y)) (back x)
-      ∙ ap (commanded w (party_by past d) (world_command x)) taken in
-      brings_one w (world_by more (with_client a v)) (commanded_world w (party_by past d) (world_command x) new)
-      (Do c (world_command x)) note.Done is takes_world
+      let is : do_at w x (party_of c w) ≡ Ok (commanded_world w (party_by past d) x new, note.Done) =
+      ap (do_at w x) (party_there past v c d here)
+      ∙ ap (commanded w (party_by past d) x) taken in
+      brings_one w (world_by more (with_client a v)) (commanded_world w (party_by past d) x new)
+      (Do c x) note.Done is takes_world
 
 pub takes_brings :
     (past : List LocalMove) (v u : System) (c : ClientId) (x : client.Command) (b : Block) → AtClient c (Commanded c x b) v u
     → Brings (world_by past v) (event_in (sent_by past) (Commanded c x b)) (world_by (past ++ Commanded c x b ∷ []) u)
 takes_brings past v u c x b r =
     let w : World = world_by past v in
-    subst (λ t. Brings w (Do c (world_command x) ∷ []) (world_by (past ++ Commanded c x t ∷ []) u)) (sym r.moves.tells)
-    (subst (λ y. Brings w (Do c (world_command x) ∷ []) (world_by (past ++ Commanded c x (newest_block r.moves.new) ∷ []) y))
+    subst (λ t. Brings w (Do c x ∷ []) (world_by (past ++ Commanded c x t ∷ []) u)) (sym r.moves.tells)
+    (subst (λ y. Brings w (Do c x ∷ []) (world_by (past ++ Commanded c x (newest_block r.moves.new) ∷ []) y))
     (sym (r.after ∙ ap (λ y. with_client y v) r.moves.after))
     (take_brings past v c x r.client r.moves.new r.here r.moves.taken))
 

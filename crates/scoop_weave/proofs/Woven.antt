@@ -26,12 +26,10 @@ use Rattle.scoop_model.proofs.Answering.Onward.{onward_heard, onward_commanded}
 use Rattle.scoop_weave.specs.System.{LocalHandler, LocalClient, System, number_in, id_in, on_node, after_reopening, new_handler, new_client, new_system}
 use Rattle.scoop_weave.specs.Moves.{LocalMove, Heard, Began, Finished, NodeReopened, Commanded, Sent, ClientHeard, ClientRestarted, HandlerMoves, ClientMoves, AtHandler, AtNode, AtClient, Moves, IsWeave}
 use Rattle.scoop_weave.specs.Parties.{is_at, is_by, moves_at, moves_by, HandlerRuns, ClientRuns, EachHandler, EachClient, HeardAfterSent, has_handler, has_node, has_client, IsMember, IsWoven}
-use Rattle.scoop_weave.specs.Histories.{world_command}
 use Rattle.scoop_weave.specs.Weave.{Weave}
 use Rattle.scoop_weave.proofs.Lists.{has_found}
 use Rattle.scoop_weave.proofs.Steps.{StepAt, goes, stays, EachStep, keys_stay, all_stay, all_go, one_goes}
 use Rattle.scoop_weave.proofs.Running.{any_through}
-use Rattle.scoop_weave.proofs.Driving.{back}
 
 -- ---- a handler
 
@@ -129,7 +127,7 @@ module _ (m : LocalMove) (ms : List LocalMove) where
       kept (Finished h ran) c d r = absurd r
       kept (NodeReopened n) c d r = absurd r
       kept (Commanded z y b) c d r =
-          ap id_in r.after ∙ (onward_commanded c.client (world_command y) r.new (ap (command c.client) (back y) ∙ r.taken)).id
+          ap id_in r.after ∙ (onward_commanded c.client y r.new r.taken).id
       kept (Sent z h y) c d r = ap id_in r.after
       kept (ClientHeard z y note) c d r = ap id_in r.after ∙ (onward_heard c.client y (heard c.client y).0 (heard c.client y).1 (heard_row c.client y)).id
       kept (ClientRestarted z) c d r = ap id_in r.after

@@ -9,9 +9,6 @@ use Rattle.scoop_message.specs.declared.message.Message.{Message}
 use Rattle.scoop_message.specs.Message.{same_handler, same_client, handler_of, client_of, inc_of, named_block, is_for_handler}
 use Rattle.scoop_handler.specs.declared.ran.Ran.{Ran}
 use Rattle.scoop_client.specs.State.{block_named}
-use Rattle.scoop_client.specs.Commands as client
-use Rattle.scoop_model.specs.declared.event.Command.{Command}
-use Rattle.scoop_model.specs.declared.event.Command.TheVariants.{Reserve, Call, Query, End, GiveUp}
 use Rattle.scoop_model.specs.declared.event.Event.{Event}
 use Rattle.scoop_model.specs.declared.event.Event.TheVariants.{Do, Tick, Take, Begin, Finish, ClientRestart, NodeRestart}
 use Rattle.scoop_model.specs.World.{World, Site, Party, Accepted, BlockLog}
@@ -80,21 +77,13 @@ accepted_here c (ClientRestarted d) = []
 abbrev pub accepted_by : ClientId → List LocalMove → List Accepted
 accepted_by c ms = flat_map (accepted_here c) ms
 
--- the command as a world has it
-abbrev pub world_command : client.Command → Command
-world_command (client.Reserve hs) = Reserve hs
-world_command (client.DoCall h r) = Call h r
-world_command (client.DoQuery h r) = Query h r
-world_command client.DoEnd = End
-world_command client.GiveUp = GiveUp
-
 -- the blocks that were reserved, with what was logged for each of their handlers, once a move is made
 abbrev pub logs_more : List BlockLog → LocalMove → List BlockLog
 logs_more logs (Heard h m told) = logs
 logs_more logs (Began h told) = logs
 logs_more logs (Finished h ran) = logs
 logs_more logs (NodeReopened n) = logs
-logs_more logs (Commanded c x b) = logs_after (world_command x) b logs
+logs_more logs (Commanded c x b) = logs_after x b logs
 logs_more logs (Sent c h m) = logs
 logs_more logs (ClientHeard c m note) = logs
 logs_more logs (ClientRestarted c) = logs
@@ -172,7 +161,7 @@ event_in sent (Heard h m told) = if is_for h m then Take (place_in sent m) ∷ [
 event_in sent (Began h told) = begin_event h told
 event_in sent (Finished h ran) = Finish h ∷ []
 event_in sent (NodeReopened n) = NodeRestart n ∷ []
-event_in sent (Commanded c x b) = Do c (world_command x) ∷ []
+event_in sent (Commanded c x b) = Do c x ∷ []
 event_in sent (Sent c h m) = tick_event c h m
 event_in sent (ClientHeard c m note) = if is_to c m then Take (place_in sent m) ∷ [] else []
 event_in sent (ClientRestarted c) = ClientRestart c ∷ []

@@ -3,9 +3,9 @@
 ghost use Rattle.std.specs.Prelude.{◌≡◌, ◌+◌, ◌++◌, map, take, OnOk};
 ghost use Rattle.scoop_client.specs.State.{ClientState};
 ghost use Rattle.scoop_client.specs.Due.{due};
-ghost use Rattle.scoop_client.specs.Commands.{Commanded, command as outcome_of};
+ghost use Rattle.scoop_client.specs.Commands.{command as outcome_of};
 ghost use Rattle.scoop_driver.specs.declared.step.Step.TheVariants.{Broke, Turned};
-ghost use Rattle.scoop_driver.specs.Steps.{after, after_command, core_command, message_in};
+ghost use Rattle.scoop_driver.specs.Steps.{after, after_command, message_in};
 ghost use Rattle.scoop_weave.specs.Moves.LocalMove.{Sent as SentTo};
 ghost use Rattle.scoop_running.specs.Clients.{hears, moves_at, sends_to};
 ghost use Rattle.scoop_weaver.specs.Passing.{traffic_of};
@@ -114,24 +114,11 @@ pub(crate) fn note_step<A: Allocator>(
     }
 }
 
-// The client takes the command, or refuses it.
-fn take<A: Allocator + Clone>(client: &mut Client<A>, command: &Command) -> Result<(), ClientError>
-    ensures { Commanded (core_command command.now) result client.old client.new }
-{
-    match *command {
-        Command::Reserve(handlers) => client.reserve(handlers.as_slice()),
-        Command::Call(handler, request) => client.call(handler, request),
-        Command::Query(handler, request) => client.query(handler, request),
-        Command::End => client.end(),
-        Command::GiveUp => client.give_up(),
-    }
-}
-
 // The client is given the command. One that it refuses leaves it as it was.
 fn give<A: Allocator + Clone>(client: &mut Client<A>, command: &Command) -> Result<(), OutOfMemory>
-    ensures { OnOk result (client.new ≡ after_command client.old (outcome_of client.old (core_command command.now))) }
+    ensures { OnOk result (client.new ≡ after_command client.old (outcome_of client.old command.now)) }
 {
-    match take(client, command) {
+    match client.carry_out(command) {
         Err(ClientError::OutOfMemory) => Err(OutOfMemory),
         Ok(()) => Ok(()),
         Err(_) => Ok(()),

@@ -10,13 +10,13 @@ use Rattle.scoop_client.specs.State.{ClientState}
 use Rattle.scoop_client.specs.Commands as client
 use Rattle.scoop_client.specs.Rows.{LogRow, is_logged, EndRow, ends_block}
 use Rattle.scoop_client.proofs.CommandRows.{command_row}
-use Rattle.scoop_model.specs.declared.event.Command.{Command}
-use Rattle.scoop_model.specs.declared.event.Command.TheVariants.{Reserve, Call, Query, End, GiveUp}
+use Rattle.scoop_client.specs.declared.command.Command.{Command}
+use Rattle.scoop_client.specs.declared.command.Command.TheVariants.{Reserve, Call, Query, End, GiveUp}
 use Rattle.scoop_model.specs.declared.note.WorldNote.TheVariants as note
 use Rattle.scoop_model.specs.declared.error.WorldError.{WorldError}
 use Rattle.scoop_model.specs.declared.error.WorldError.TheVariants.{NoSuchMessage, NoSuchParty, NothingToRun, ClientRefused, IncarnationsSpent, OutOfMemory}
 use Rattle.scoop_model.specs.World.{World, Party, BlockLog, id_of, set_party}
-use Rattle.scoop_model.specs.Step.{Stepped, core_command, newest_block, changed_log, logs_after, commanded_world, commanded, do_at}
+use Rattle.scoop_model.specs.Step.{Stepped, newest_block, changed_log, logs_after, commanded_world, commanded, do_at}
 use Rattle.scoop_model.specs.Reach.{IsReached}
 use Rattle.scoop_world.specs.Kept.{has_log, logged_by, with_entry_for}
 use Rattle.scoop_world.specs.Answers.{IsRefusal, IsRefused, RefusesLog, outcome_of}
@@ -39,9 +39,9 @@ end_newest c d o r is = absurd (cc)
 pub logged_newest :
     (c d : ClientState) (x : Command) (t : Option HandlerId × Entry) → logged_by x ≡ Some t → outcome_of c x ≡ Ok d → newest_block d ≡ newest_block c
 logged_newest c d (Reserve hs) t logs is = absurd (cc)
-logged_newest c d (Call h r) t logs is = log_newest c d h _ _ (command_row c (core_command (Call h r))) is
-logged_newest c d (Query h r) t logs is = log_newest c d h _ _ (command_row c (core_command (Query h r))) is
-logged_newest c d End t logs is = end_newest c d _ (command_row c (core_command End)) is
+logged_newest c d (Call h r) t logs is = log_newest c d h _ _ (command_row c (Call h r)) is
+logged_newest c d (Query h r) t logs is = log_newest c d h _ _ (command_row c (Query h r)) is
+logged_newest c d End t logs is = end_newest c d _ (command_row c End) is
 logged_newest c d GiveUp t logs is = absurd (cc)
 
 -- what it logs

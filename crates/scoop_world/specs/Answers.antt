@@ -4,20 +4,20 @@ use Rattle.scoop_message.specs.declared.name.HandlerId.{HandlerId}
 use Rattle.scoop_message.specs.declared.request.Entry.{Entry}
 use Rattle.scoop_client.specs.State.{ClientState, phase_of}
 use Rattle.scoop_client.specs.Commands.{Outcome, command, log, DoEnd}
-use Rattle.scoop_model.specs.declared.event.Command.{Command}
+use Rattle.scoop_client.specs.declared.command.Command.{Command}
 use Rattle.scoop_model.specs.declared.event.Event.{Event}
 use Rattle.scoop_model.specs.declared.note.WorldNote.{WorldNote}
 use Rattle.scoop_model.specs.declared.error.WorldError.{WorldError}
 use Rattle.scoop_model.specs.declared.error.WorldError.TheVariants.{NoSuchMessage, NoSuchParty, NothingToRun, ClientRefused, IncarnationsSpent, OutOfMemory}
 use Rattle.scoop_model.specs.World.{World, Party}
-use Rattle.scoop_model.specs.Step.{Stepped, core_command, step}
+use Rattle.scoop_model.specs.Step.{Stepped, step}
 use Rattle.scoop_model.specs.Reach.{Leads}
 
 -- ---- a client's command
 
 -- what the client's core makes of a command
 abbrev pub outcome_of : ClientState → Command → Outcome
-outcome_of c x = command c (core_command x)
+outcome_of c x = command c x
 
 -- why the command is refused; want of memory is the last refusal: all others would have come first
 abbrev pub IsRefusal : Outcome → WorldError → Type 0

@@ -14,8 +14,8 @@ use Rattle.scoop_handler.specs.Running.{Task}
 use Rattle.scoop_client.specs.State.{ClientState}
 use Rattle.scoop_keeper.specs.Keeper.{IsSame, Keeps, Stays}
 use Rattle.scoop_keeper.specs.Memory.{MemoryRecord, Has, state_at, incarnation_at}
-use Rattle.scoop_model.specs.declared.event.Command.{Command}
-use Rattle.scoop_model.specs.declared.event.Command.TheVariants.{Reserve, Call, Query, End, GiveUp}
+use Rattle.scoop_client.specs.declared.command.Command.{Command}
+use Rattle.scoop_client.specs.declared.command.Command.TheVariants.{Reserve, Call, Query, End, GiveUp}
 use Rattle.scoop_world.specs.declared.logs.LoggedAt.{LoggedAt}
 use Rattle.scoop_model.specs.World.{World, Site, Party, Accepted, HandlerLog, BlockLog, number_of, id_of, is_log_of, is_line_of}
 use Rattle.scoop_model.specs.Step.{with_entry, finished_site}

@@ -39,6 +39,7 @@ mod party;
 mod placing;
 mod running;
 mod site;
+mod standing;
 mod world;
 
 pub use error::WorldOpenError;
@@ -47,4 +48,5 @@ pub use scoop_model::{
     Command, Event, HandlerList, MAX_NAMED_HANDLERS, TooManyHandlers, WorldError, WorldNote,
     same_event, same_note,
 };
+pub use standing::Standing;
 pub use world::World;

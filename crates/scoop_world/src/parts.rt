@@ -16,9 +16,9 @@ mod sending;
 use crate::logs::{Logs, logged};
 use crate::party::Party;
 use crate::site::Site;
+use crate::standing::Standing;
 use indexmap::{IndexMap, IndexSet};
 use scoop_client::Client;
-use scoop_handler::HandlerState;
 use scoop_keeper::MemoryKeeper;
 use scoop_message::{Block, ClientId, Entry, HandlerId, Message, OutOfMemory};
 use scoop_object::Behaviour;
@@ -83,13 +83,13 @@ pub(crate) fn party_at<A: Allocator + Copy>(parties: &[Party<A>], client: Client
 fn states_of<B: Behaviour, A: Allocator + Copy>(
     alloc: A,
     sites: &[Site<B, A>],
-) -> Result<Vec<(HandlerState<A>, bool), A>, OutOfMemory>
+) -> Result<Vec<Standing<A>, A>, OutOfMemory>
     ensures { IfOk result (λ states. states.items ≡ map standing sites.now) }
 {
     let mut states = Vec::new(alloc);
     for site in sites {
         let state = site.state()?;
-        states.push((state, site.is_out()))?;
+        states.push(Standing::new(state, site.is_out()))?;
     }
     Ok(states)
 }
@@ -161,7 +161,7 @@ impl<B: Behaviour, A: Allocator + Copy> Parts<B, A> {
     }
 
     /// The state of each handler, and whether a job of it is out.
-    pub(crate) fn states(&self) -> Result<Vec<(HandlerState<A>, bool), A>, OutOfMemory>
+    pub(crate) fn states(&self) -> Result<Vec<Standing<A>, A>, OutOfMemory>
         ensures { IfOk result (λ states. states.items ≡ map standing self.now.sites) }
     {
         states_of(*self.sent.allocator(), &self.sites)

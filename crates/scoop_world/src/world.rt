@@ -10,8 +10,9 @@ ghost use Rattle.scoop_world.specs.Standing.{numbered, standing};
 ghost use Rattle.scoop_rules.specs.Paper.{FollowsRules};
 
 use crate::parts::Parts;
+use crate::standing::Standing;
 use scoop_client::Client;
-use scoop_handler::{HandlerState, Ran};
+use scoop_handler::Ran;
 use scoop_message::{Answer, Block, ClientId, Entry, HandlerId, Message, OutOfMemory};
 use scoop_model::{Event, WorldError, WorldNote};
 use scoop_object::Behaviour;
@@ -114,7 +115,7 @@ impl<B: Behaviour, A: Allocator + Copy> World<B, A> {
 
     /// A copy of each handler's state, in the order in which they were placed, and whether a job of it is out.
     /// `OutOfMemory` is the one refusal.
-    pub fn states(&self) -> Result<Vec<(HandlerState<A>, bool), A>, OutOfMemory>
+    pub fn states(&self) -> Result<Vec<Standing<A>, A>, OutOfMemory>
         ensures states { IfOk result (λ states. states.items ≡ map standing self.now.sites) }
         ensures reached { IsReached self.now }
     {

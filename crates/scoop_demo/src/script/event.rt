@@ -2,7 +2,7 @@
 
 ghost use Rattle.std.specs.Prelude.{◌≡◌, ◌≤◌, length};
 ghost use Rattle.scoop_message.specs.declared.limits.TheConstants.{MAX_ARGS};
-ghost use Rattle.scoop_model.specs.declared.handlers.TheConstants.{MAX_NAMED_HANDLERS};
+ghost use Rattle.scoop_client.specs.declared.handlers.TheConstants.{MAX_NAMED_HANDLERS};
 ghost use Rattle.scoop_demo.specs.ScriptWords.{words_of};
 ghost use Rattle.scoop_demo.specs.ScriptNumber.{each_of, number_of};
 ghost use Rattle.scoop_demo.specs.ScriptLine.{event_line, reserve_line, request_line, place_line, node_line, client_alone, handler_alone, pair_of, handler_of};

@@ -27,9 +27,9 @@ use Rattle.scoop_client.specs.Commands as client
 use Rattle.scoop_client.specs.Rows.{DueRow, owes_nothing, greets, reserves, logs, HeardRow, passed_over, is_welcomed, takes_step, is_acknowledged, is_accepted}
 use Rattle.scoop_client.proofs.DueRows.{due_row}
 use Rattle.scoop_client.proofs.Rows.{heard_row}
-use Rattle.scoop_model.specs.declared.event.Command.{Command}
+use Rattle.scoop_client.specs.declared.command.Command.{Command}
 use Rattle.scoop_model.specs.World.{World, Party, Accepted, BlockLog, set_party, ran_at}
-use Rattle.scoop_model.specs.Step.{newest_block, core_command, commanded_world, with_sent, with_party, newly_accepted, heard_party, restarted_party}
+use Rattle.scoop_model.specs.Step.{newest_block, commanded_world, with_sent, with_party, newly_accepted, heard_party, restarted_party}
 use Rattle.scoop_message.specs.Lists.{NoRepeats}
 use Rattle.scoop_model.specs.Safe.{HasRun, query_of}
 use Rattle.scoop_model.proofs.Order.Holding.{upto_itself}
@@ -178,7 +178,7 @@ notices_answering w i m p tells logging f =
 -- ---- a client takes a command, or restarts
 
 pub commands_answering :
-    (w : World) → Answering w → (p : Party) (x : Command) (d : ClientState) → PartyAnswers w p → client.command p.client (core_command x) ≡ Ok d
+    (w : World) → Answering w → (p : Party) (x : Command) (d : ClientState) → PartyAnswers w p → client.command p.client x ≡ Ok d
     → Answering (commanded_world w p x d)
 commands_answering w i p x d f e =
     party_moves w p (record p { client = d }) _ i (goes_on w p (record p { client = d }) (onward_commanded p.client x d e) refl f)

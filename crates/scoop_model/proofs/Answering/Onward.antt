@@ -16,10 +16,9 @@ use Rattle.scoop_client.specs.Hearing.{stepped, after_step, settled, up_to}
 use Rattle.scoop_client.specs.Commands as client
 use Rattle.scoop_client.specs.Rows.{HeardRow, passed_over, is_welcomed, takes_step, is_acknowledged, is_accepted, ReserveRow, begins_block, LogRow, is_logged, EndRow, ends_block, GiveUpRow, gives_up}
 use Rattle.scoop_client.proofs.CommandRows.{command_row}
-use Rattle.scoop_model.specs.declared.event.Command.{Command}
-use Rattle.scoop_model.specs.declared.event.Command.TheVariants.{Reserve, Call, Query, End, GiveUp}
+use Rattle.scoop_client.specs.declared.command.Command.{Command}
+use Rattle.scoop_client.specs.declared.command.Command.TheVariants.{Reserve, Call, Query, End, GiveUp}
 use Rattle.scoop_model.specs.World.{Accepted}
-use Rattle.scoop_model.specs.Step.{core_command}
 use Rattle.scoop_model.proofs.Basics.{ok_is, by_test}
 use Rattle.scoop_model.proofs.Order.Holding.{Upto, upto_more}
 use Rattle.scoop_model.proofs.Answering.Facts.{acked_at, IsBehind}
@@ -139,9 +138,9 @@ module _ (c : ClientState) where
   onward_give_up d o (gives_up r s locking held given) e = subst (Onward c) (ok_is (with_reservation c s) d e) (onward_reserved r s held)
   onward_give_up d o row e = absurd (cc)
 
-  pub onward_commanded : (x : Command) (d : ClientState) → client.command c (core_command x) ≡ Ok d → Onward c d
-  onward_commanded (Reserve hs) d e = onward_reserve hs d _ (command_row c (core_command (Reserve hs))) e
-  onward_commanded (Call h r) d e = onward_log h _ d _ (command_row c (core_command (Call h r))) e
-  onward_commanded (Query h r) d e = onward_log h _ d _ (command_row c (core_command (Query h r))) e
-  onward_commanded End d e = onward_end d _ (command_row c (core_command End)) e
-  onward_commanded GiveUp d e = onward_give_up d _ (command_row c (core_command GiveUp)) e
+  pub onward_commanded : (x : Command) (d : ClientState) → client.command c x ≡ Ok d → Onward c d
+  onward_commanded (Reserve hs) d e = onward_reserve hs d _ (command_row c (Reserve hs)) e
+  onward_commanded (Call h r) d e = onward_log h _ d _ (command_row c (Call h r)) e
+  onward_commanded (Query h r) d e = onward_log h _ d _ (command_row c (Query h r)) e
+  onward_commanded End d e = onward_end d _ (command_row c End) e
+  onward_commanded GiveUp d e = onward_give_up d _ (command_row c GiveUp) e

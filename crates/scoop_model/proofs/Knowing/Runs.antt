@@ -19,7 +19,7 @@ use Rattle.scoop_client.specs.Hearing.{heard}
 use Rattle.scoop_client.proofs.DueRows.{due_row}
 use Rattle.scoop_client.proofs.Rows.{heard_row}
 use Rattle.scoop_model.specs.World.{World, Site, Party, number_of, is_party, is_site, sent_at, set_party, set_site, site_of}
-use Rattle.scoop_model.specs.Step.{Placement, Newcomer, core_command, new_party, opening, begun_site, finished_site, heard_party, heard_site, heard_world, reopened, restarted_party}
+use Rattle.scoop_model.specs.Step.{Placement, Newcomer, new_party, opening, begun_site, finished_site, heard_party, heard_site, heard_world, reopened, restarted_party}
 use Rattle.scoop_model.specs.Reach.{Run, IsReached}
 use Rattle.scoop_model.specs.Named.{IsMarked, NamesKnown}
 use Rattle.scoop_model.proofs.Events.{Changes, steps_kept}
@@ -81,7 +81,7 @@ module _ (hs : List HandlerId) where
     commands = λ c p x d at is. record {
       messages = i.messages;
       parties = set_known w (record p { client = d }) i (command_known hs w.sites p.client d
-          (all_found (PartyKnown hs w.sites) (is_party c) w.parties p i.parties at) (core_command x) is);
+          (all_found (PartyKnown hs w.sites) (is_party c) w.parties p i.parties at) x is);
     };
     sends = λ c p h s at here. record {
       messages = all_pushed (Names hs w.sites) w.sent (due p.client h) i.messages

@@ -26,10 +26,10 @@ use Rattle.scoop_client.specs.State.{ClientState, phase_at, phase_of, phase_of_b
 use Rattle.scoop_client.specs.Commands as client
 use Rattle.scoop_client.specs.Rows.{ReserveRow, begins_block, LogRow, is_logged, EndRow, ends_block, GiveUpRow, gives_up}
 use Rattle.scoop_client.proofs.CommandRows.{command_row}
-use Rattle.scoop_model.specs.declared.event.Command.{Command}
-use Rattle.scoop_model.specs.declared.event.Command.TheVariants.{Reserve, Call, Query, End, GiveUp}
+use Rattle.scoop_client.specs.declared.command.Command.{Command}
+use Rattle.scoop_client.specs.declared.command.Command.TheVariants.{Reserve, Call, Query, End, GiveUp}
 use Rattle.scoop_model.specs.World.{World, Party, HandlerLog, id_of, is_party, log_of, lines_of, handlers_of}
-use Rattle.scoop_model.specs.Step.{core_command, newest_block, logs_after, commanded_world}
+use Rattle.scoop_model.specs.Step.{newest_block, logs_after, commanded_world}
 use Rattle.scoop_model.proofs.Basics.{ok_is, by_test}
 use Rattle.scoop_model.proofs.Order.Facts.{PartyFits, all_more_of, all_set_party}
 use Rattle.scoop_model.proofs.Order.Commands.{next_is_new, started_fresh}
@@ -336,14 +336,14 @@ module _ (w : World) (p : Party) (d : ClientState) (fits : PartyFits w p) (f : P
       subst (Logs w p GiveUp) (ok_is (with_reservation p.client s) d e) (give_up_logs w p r s f has_one given)
   give_up_row o r e = absurd (cc)
 
-  logs_of : (x : Command) → client.command p.client (core_command x) ≡ Ok d → Logs w p x d
-  logs_of (Reserve hs) e = reserve_row hs _ (command_row p.client (core_command (Reserve hs))) e
-  logs_of (Call h r) e = log_row (Call h r) h (CallEntry r) _ (λ j. refl) refl (command_row p.client (core_command (Call h r))) e
-  logs_of (Query h r) e = log_row (Query h r) h (QueryEntry r) _ (λ j. refl) refl (command_row p.client (core_command (Query h r))) e
-  logs_of End e = end_row _ (command_row p.client (core_command End)) e
-  logs_of GiveUp e = give_up_row _ (command_row p.client (core_command GiveUp)) e
+  logs_of : (x : Command) → client.command p.client x ≡ Ok d → Logs w p x d
+  logs_of (Reserve hs) e = reserve_row hs _ (command_row p.client (Reserve hs)) e
+  logs_of (Call h r) e = log_row (Call h r) h (CallEntry r) _ (λ j. refl) refl (command_row p.client (Call h r)) e
+  logs_of (Query h r) e = log_row (Query h r) h (QueryEntry r) _ (λ j. refl) refl (command_row p.client (Query h r)) e
+  logs_of End e = end_row _ (command_row p.client End) e
+  logs_of GiveUp e = give_up_row _ (command_row p.client GiveUp) e
 
 pub commands_logging :
-    (w : World) → Logging w → (p : Party) (x : Command) (d : ClientState) → PartyFits w p → PartyLogs w p → client.command p.client (core_command x) ≡ Ok d
+    (w : World) → Logging w → (p : Party) (x : Command) (d : ClientState) → PartyFits w p → PartyLogs w p → client.command p.client x ≡ Ok d
     → Logging (commanded_world w p x d)
 commands_logging w i p x d fits f e = commanded_logging w p x d i (logs_of w p d fits f x e)

@@ -11,8 +11,8 @@ use Rattle.scoop_message.specs.declared.request.Entry.TheVariants.{End as EndEnt
 use Rattle.scoop_message.specs.Entries.{EndOnlyLast}
 use Rattle.scoop_message.specs.Message.{same_handler, same_block}
 use Rattle.scoop_message.proofs.Same.{handler_decides, block_decides}
-use Rattle.scoop_model.specs.declared.event.Command.{Command}
-use Rattle.scoop_model.specs.declared.event.Command.TheVariants.{Reserve, Call, Query, End, GiveUp}
+use Rattle.scoop_client.specs.declared.command.Command.{Command}
+use Rattle.scoop_client.specs.declared.command.Command.TheVariants.{Reserve, Call, Query, End, GiveUp}
 use Rattle.scoop_model.specs.World.{HandlerLog, BlockLog, is_log_of, is_line_of, handlers_in, lines_of}
 use Rattle.scoop_model.specs.Step.{fresh_log, with_entry, with_entry_at, changed_log, logs_after}
 use Rattle.scoop_model.proofs.Basics.{by_test}

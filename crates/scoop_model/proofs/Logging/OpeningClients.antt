@@ -32,11 +32,11 @@ use Rattle.scoop_client.specs.Commands as client
 use Rattle.scoop_client.specs.Rows.{DueRow, owes_nothing, greets, reserves, logs, HeardRow, passed_over, is_welcomed, takes_step, is_acknowledged, is_accepted, ReserveRow, begins_block, LogRow, is_logged, EndRow, ends_block, GiveUpRow, gives_up}
 use Rattle.scoop_client.proofs.DueRows.{due_row}
 use Rattle.scoop_client.proofs.CommandRows.{command_row}
-use Rattle.scoop_model.specs.declared.event.Command.{Command}
-use Rattle.scoop_model.specs.declared.event.Command.TheVariants.{Reserve, Call, Query, End, GiveUp}
+use Rattle.scoop_client.specs.declared.command.Command.{Command}
+use Rattle.scoop_client.specs.declared.command.Command.TheVariants.{Reserve, Call, Query, End, GiveUp}
 use Rattle.std.specs.Option.{option_map}
 use Rattle.scoop_model.specs.World.{World, Party, BlockLog, HandlerLog, handlers_in, lines_of, log_of, handlers_of, id_of, is_log_of, is_party, party_of, set_party}
-use Rattle.scoop_model.specs.Step.{core_command, logs_after, newest_block, with_sent}
+use Rattle.scoop_model.specs.Step.{logs_after, newest_block, with_sent}
 use Rattle.scoop_model.proofs.Basics.{by_test, some_same}
 use Rattle.scoop_model.proofs.Keys.{by_party, id_found}
 use Rattle.scoop_model.proofs.Order.Facts.{IsNamed, PartyFits, Ordered, Tells, all_found, all_more_of, all_pushed}
@@ -474,15 +474,15 @@ module _
     end_logs q (ends_block running free room) e = logs_made End _ e (logs_running End (running_is p.client running))
     end_logs q r e = absurd (cc)
 
-    added_opened : (x : Command) → client.command p.client (core_command x) ≡ Ok d → LogsOpened x d
+    added_opened : (x : Command) → client.command p.client x ≡ Ok d → LogsOpened x d
     added_opened (Reserve hs) e = λ b h more. inl (more.grows ∙ append-nil (log_of b h w))
-    added_opened (Call k r) e = log_logs (Call k r) k _ _ (command_row p.client (core_command (Call k r))) e
-    added_opened (Query k r) e = log_logs (Query k r) k _ _ (command_row p.client (core_command (Query k r))) e
-    added_opened End e = end_logs _ (command_row p.client (core_command End)) e
+    added_opened (Call k r) e = log_logs (Call k r) k _ _ (command_row p.client (Call k r)) e
+    added_opened (Query k r) e = log_logs (Query k r) k _ _ (command_row p.client (Query k r)) e
+    added_opened End e = end_logs _ (command_row p.client End) e
     added_opened GiveUp e = λ b h more. inl (more.grows ∙ append-nil (log_of b h w))
 
     pub logs_opened :
-        (x : Command) → client.command p.client (core_command x) ≡ Ok d → (b : Block) (h : HandlerId)
+        (x : Command) → client.command p.client x ≡ Ok d → (b : Block) (h : HandlerId)
         → (log_in b h (logs_after x (newest_block d) w.logs) ≡ log_of b h w) ⊎ (IsNamed w h b × IsOpenedAtAll w b)
     logs_opened x e b h =
         ⊎_elim

@@ -8,7 +8,7 @@ use Rattle.scoop_reserve.specs.State.{ReservationState}
 use Rattle.scoop_client.specs.Hearing.{heard}
 use Rattle.scoop_client.proofs.Rows.{heard_row}
 use Rattle.scoop_model.specs.World.{World, Party, is_party}
-use Rattle.scoop_model.specs.Step.{Placement, Newcomer, new_site, new_party, opening, core_command, heard_party, newest_block, logs_after, restarted_party}
+use Rattle.scoop_model.specs.Step.{Placement, Newcomer, new_site, new_party, opening, heard_party, newest_block, logs_after, restarted_party}
 use Rattle.std.specs.Prelude.{if◌then◌else◌}
 use Rattle.scoop_model.proofs.Events.{Changes}
 use Rattle.scoop_model.proofs.Basics.{by_test}
@@ -32,7 +32,7 @@ openings_kept w o sound l i = record {
       let l_at = all_found (PartyLogs w) (is_party c) w.parties p l.parties at in
       party_goes_on w i c p (record p { client = d }) at (goes_on w p x d is f).id (logs_after x (newest_block d) w.logs)
       (λ b hs e. handlers_after x (newest_block d) b w.logs hs e)
-      (command_from w o p f l_at (i.parties c p at) d (core_command x) is) (logs_opened w o p f l_at (i.parties c p at) d x is));
+      (command_from w o p f l_at (i.parties c p at) d x is) (logs_opened w o p f l_at (i.parties c p at) d x is));
   sends = λ c p h s at here. sends_openings w o l i c p at h;
   hears = λ k m s was goes here. hears_openings w sound i k m s was here;
   notices = λ k m p was goes at. (

@@ -18,10 +18,10 @@ use Rattle.scoop_client.specs.State.{ClientState, with_reservation}
 use Rattle.scoop_client.specs.Commands as client
 use Rattle.scoop_client.specs.Rows.{ReserveRow, begins_block, LogRow, is_logged, EndRow, ends_block, GiveUpRow, gives_up}
 use Rattle.scoop_client.proofs.CommandRows.{command_row}
-use Rattle.scoop_model.specs.declared.event.Command.{Command}
-use Rattle.scoop_model.specs.declared.event.Command.TheVariants.{Reserve, Call, Query, End, GiveUp}
+use Rattle.scoop_client.specs.declared.command.Command.{Command}
+use Rattle.scoop_client.specs.declared.command.Command.TheVariants.{Reserve, Call, Query, End, GiveUp}
 use Rattle.scoop_model.specs.World.{World, Party, id_of, is_party, handlers_of}
-use Rattle.scoop_model.specs.Step.{core_command, newest_block, commanded_world}
+use Rattle.scoop_model.specs.Step.{newest_block, commanded_world}
 use Rattle.scoop_model.proofs.Basics.{ok_is, by_test}
 use Rattle.scoop_model.proofs.Order.Sets.{handlers_after, handlers_before, handlers_fresh}
 use Rattle.scoop_model.proofs.Order.Holding.{Upto, upto_itself, upto_more}
@@ -167,14 +167,14 @@ give_up_goes_on w p d o (gives_up r s locking has_one given) e f =
     })
 give_up_goes_on w p d o r e f = absurd (cc)
 
-pub goes_on : (w : World) (p : Party) (x : Command) (d : ClientState) → client.command p.client (core_command x) ≡ Ok d → PartyFits w p → GoesOn w p x d
-goes_on w p (Reserve hs) d e f = reserve_goes_on w p hs d _ (command_row p.client (core_command (Reserve hs))) e f
-goes_on w p (Call h r) d e f = log_goes_on w p (Call h r) h _ d _ (command_row p.client (core_command (Call h r))) e f
-goes_on w p (Query h r) d e f = log_goes_on w p (Query h r) h _ d _ (command_row p.client (core_command (Query h r))) e f
-goes_on w p End d e f = end_goes_on w p d _ (command_row p.client (core_command End)) e f
-goes_on w p GiveUp d e f = give_up_goes_on w p d _ (command_row p.client (core_command GiveUp)) e f
+pub goes_on : (w : World) (p : Party) (x : Command) (d : ClientState) → client.command p.client x ≡ Ok d → PartyFits w p → GoesOn w p x d
+goes_on w p (Reserve hs) d e f = reserve_goes_on w p hs d _ (command_row p.client (Reserve hs)) e f
+goes_on w p (Call h r) d e f = log_goes_on w p (Call h r) h _ d _ (command_row p.client (Call h r)) e f
+goes_on w p (Query h r) d e f = log_goes_on w p (Query h r) h _ d _ (command_row p.client (Query h r)) e f
+goes_on w p End d e f = end_goes_on w p d _ (command_row p.client End) e f
+goes_on w p GiveUp d e f = give_up_goes_on w p d _ (command_row p.client GiveUp) e f
 
 pub commands_ordered :
-    (w : World) → Ordered w → (p : Party) (x : Command) (d : ClientState) → PartyFits w p → client.command p.client (core_command x) ≡ Ok d
+    (w : World) → Ordered w → (p : Party) (x : Command) (d : ClientState) → PartyFits w p → client.command p.client x ≡ Ok d
     → Ordered (commanded_world w p x d)
 commands_ordered w o p x d f e = goes_on_ordered w p x d o f (goes_on w p x d e f)

@@ -8,8 +8,8 @@ use Rattle.scoop_message.specs.declared.request.Entry.{Entry}
 use Rattle.scoop_message.specs.declared.request.Entry.TheVariants.{End as EndEntry, Call as CallEntry, Query as QueryEntry}
 use Rattle.scoop_message.specs.Message.{same_block}
 use Rattle.scoop_message.proofs.Same.{block_decides}
-use Rattle.scoop_model.specs.declared.event.Command.{Command}
-use Rattle.scoop_model.specs.declared.event.Command.TheVariants.{Reserve, Call, Query, End, GiveUp}
+use Rattle.scoop_client.specs.declared.command.Command.{Command}
+use Rattle.scoop_client.specs.declared.command.Command.TheVariants.{Reserve, Call, Query, End, GiveUp}
 use Rattle.scoop_model.specs.declared.event.Event.{Event}
 use Rattle.scoop_model.specs.World.{World, HandlerLog, BlockLog, is_log_of, is_line_of, handlers_in, handlers_of}
 use Rattle.scoop_model.specs.Step.{fresh_log, with_entry, with_entry_at, changed_log, logs_after, newest_block}

@@ -16,7 +16,7 @@ use Rattle.scoop_handler.proofs.After.{IsCore-begun, IsCore-finished, job-first}
 use Rattle.scoop_client.specs.Due.{due}
 use Rattle.scoop_client.specs.Hearing.{heard}
 use Rattle.scoop_model.specs.World.{World, Site, Party, is_site, is_party, sent_at, set_party, set_site}
-use Rattle.scoop_model.specs.Step.{Placement, Newcomer, new_site, new_party, opening, core_command, heard_site, heard_party, begun_site, finished_site, restarted_party, reopened}
+use Rattle.scoop_model.specs.Step.{Placement, Newcomer, new_site, new_party, opening, heard_site, heard_party, begun_site, finished_site, restarted_party, reopened}
 use Rattle.scoop_model.specs.Opening.{IsPlaced, IsJoining, MayOpen}
 use Rattle.scoop_model.proofs.Events.{Changes}
 use Rattle.scoop_model.proofs.Basics.{by_test}
@@ -73,7 +73,7 @@ module _ (w : World) (o : Ordered w) (i : Sound w) where
     commands = λ c p x d at is. record {
       sites = i.sites;
       messages = i.messages;
-      parties = set_party_sound (record p { client = d }) (same_batch p.client d (command_batch p.client d (core_command x) is)
+      parties = set_party_sound (record p { client = d }) (same_batch p.client d (command_batch p.client d x is)
           (all_found PartySound (is_party c) w.parties p i.parties at));
     };
     sends = λ c p h s at here. record {

@@ -6,7 +6,7 @@ use Rattle.scoop_client.specs.Hearing.{heard}
 use Rattle.scoop_client.proofs.Rows.{heard_row}
 use Rattle.scoop_model.specs.declared.event.Event.{Event}
 use Rattle.scoop_model.specs.World.{World, has_block, is_party}
-use Rattle.scoop_model.specs.Step.{Placement, Newcomer, core_command, heard_party, logs_after, newest_block, opening, restarted_party}
+use Rattle.scoop_model.specs.Step.{Placement, Newcomer, heard_party, logs_after, newest_block, opening, restarted_party}
 use Rattle.scoop_model.specs.Opening.{MayOpen}
 use Rattle.scoop_model.specs.Reach.{steps}
 use Rattle.scoop_model.proofs.Events.{Changes, steps_kept}
@@ -35,8 +35,8 @@ standing_kept w o sound l openings i = record {
       let own = all_found (PartyLogs w) (is_party c) w.parties p l.parties at in
       party_standing w openings i c p (record p { client = d }) at (goes_on w p x d is f).id (logs_after x (newest_block d) w.logs)
       (λ b hs e. handlers_after x (newest_block d) b w.logs hs e)
-      (command_from w o p f own (openings.parties c p at) d (core_command x) is) (logs_opened w o p f own (openings.parties c p at) d x is)
-      (command_stands w c p at (i.parties c p at) d (core_command x) is));
+      (command_from w o p f own (openings.parties c p at) d x is) (logs_opened w o p f own (openings.parties c p at) d x is)
+      (command_stands w c p at (i.parties c p at) d x is));
   sends = λ c p h s at here. sends_standing w o l openings i c p at h;
   hears = λ k m s was goes here. hears_standing w o sound openings i k m s was here;
   notices = λ k m p was goes at. (

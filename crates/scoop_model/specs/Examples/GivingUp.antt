@@ -3,7 +3,7 @@ use Rattle.std.specs.Prelude.{◌≡◌, List, [], ◌∷◌, ◌++◌, Ok, Err}
 use Rattle.scoop_handler.specs.declared.note.Note.TheVariants.{Granted, Held, Freed, Opened, Dropped}
 use Rattle.scoop_handler.specs.declared.note.Reason.TheVariants.{Stale}
 use Rattle.scoop_client.specs.declared.error.ClientError.TheVariants.{TooLate, NoBlock}
-use Rattle.scoop_model.specs.declared.event.Command.TheVariants.{GiveUp}
+use Rattle.scoop_client.specs.declared.command.Command.TheVariants.{GiveUp}
 use Rattle.scoop_model.specs.declared.event.Event.{Event}
 use Rattle.scoop_model.specs.declared.event.Event.TheVariants.{Do, Tick, Take}
 use Rattle.scoop_model.specs.declared.error.WorldError.TheVariants.{ClientRefused}

@@ -8,7 +8,7 @@ use Rattle.scoop_object.specs.declared.term.Term.TheVariants.{Const, Word, Arg}
 use Rattle.scoop_object.specs.Class.{ClassTable}
 use Rattle.scoop_handler.specs.declared.note.Note.{Note}
 use Rattle.scoop_client.specs.declared.phase.ClientNote.{ClientNote}
-use Rattle.scoop_model.specs.declared.event.Command.TheVariants.{Reserve}
+use Rattle.scoop_client.specs.declared.command.Command.TheVariants.{Reserve}
 use Rattle.scoop_model.specs.declared.event.Event.{Event}
 use Rattle.scoop_model.specs.declared.event.Event.TheVariants.{Do, Tick, Take, Begin, Finish}
 use Rattle.scoop_model.specs.declared.note.WorldNote.{WorldNote}

@@ -5,7 +5,7 @@ use Rattle.scoop_message.specs.declared.request.Answer.TheVariants.{Value}
 use Rattle.scoop_handler.specs.declared.note.Note.TheVariants.{Took, Known}
 use Rattle.scoop_client.specs.declared.error.ClientError.TheVariants.{Waiting}
 use Rattle.scoop_client.specs.declared.phase.ClientNote.TheVariants.{Accepted, Ignored}
-use Rattle.scoop_model.specs.declared.event.Command.TheVariants.{Call, Query}
+use Rattle.scoop_client.specs.declared.command.Command.TheVariants.{Call, Query}
 use Rattle.scoop_model.specs.declared.event.Event.{Event}
 use Rattle.scoop_model.specs.declared.event.Event.TheVariants.{Do, Tick, Take}
 use Rattle.scoop_model.specs.declared.error.WorldError.TheVariants.{ClientRefused}

@@ -4,7 +4,7 @@ use Rattle.scoop_message.specs.declared.name.Block.{Block}
 use Rattle.scoop_handler.specs.declared.ran.Ran.{Ran}
 use Rattle.scoop_handler.specs.declared.note.Note.TheVariants.{Dropped}
 use Rattle.scoop_handler.specs.declared.note.Reason.TheVariants.{PendingFull}
-use Rattle.scoop_model.specs.declared.event.Command.TheVariants.{Call, End}
+use Rattle.scoop_client.specs.declared.command.Command.TheVariants.{Call, End}
 use Rattle.scoop_model.specs.declared.event.Event.{Event}
 use Rattle.scoop_model.specs.declared.event.Event.TheVariants.{Do, Tick, Take, Begin}
 use Rattle.scoop_model.specs.declared.error.WorldError.TheVariants.{NothingToRun}

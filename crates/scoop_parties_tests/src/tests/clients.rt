@@ -2,7 +2,7 @@
 
 ghost use Rattle.std.specs.Prelude.{◌≤◌};
 
-use scoop_client::{BeginError, Client, ClientError, ClientNote, Phase};
+use scoop_client::{BeginError, Client, ClientError, ClientNote, Command, HandlerList, Phase};
 use scoop_message::limits::{MAX_HANDLERS, MAX_UNACKNOWLEDGED};
 use scoop_message::{Answer, Args, Block, ClientId, Entries, Entry, HandlerId, Message, Request};
 use scoop_reserve::ReserveError;
@@ -117,7 +117,7 @@ fn notes(rt: &impl Abort, client: &mut Client, message: Message, note: ClientNot
 
 /// What a program asks of its client.
 #[derive(Clone, Copy)]
-enum Command {
+enum Act {
     ReserveNothing,
     Call(HandlerId, u64),
     Query(HandlerId, u64),
@@ -139,25 +139,25 @@ fn query_refusal(client: &mut Client, handler: HandlerId, value: u64) -> Option<
     }
 }
 
-fn refusal(client: &mut Client, command: Command) -> Option<ClientError> {
+fn refusal(client: &mut Client, command: Act) -> Option<ClientError> {
     match command {
-        Command::ReserveNothing => reserve_refusal(client, &[]),
-        Command::Call(handler, value) => call_refusal(client, handler, value),
-        Command::Query(handler, value) => query_refusal(client, handler, value),
-        Command::End => client.end().err(),
-        Command::GiveUp => client.give_up().err(),
+        Act::ReserveNothing => reserve_refusal(client, &[]),
+        Act::Call(handler, value) => call_refusal(client, handler, value),
+        Act::Query(handler, value) => query_refusal(client, handler, value),
+        Act::End => client.end().err(),
+        Act::GiveUp => client.give_up().err(),
     }
 }
 
-fn does(rt: &impl Abort, client: &mut Client, command: Command) {
+fn does(rt: &impl Abort, client: &mut Client, command: Act) {
     assert_eq!(rt; refusal(client, command), None);
 }
 
-fn refuses(rt: &impl Abort, client: &mut Client, command: Command, error: ClientError) {
+fn refuses(rt: &impl Abort, client: &mut Client, command: Act, error: ClientError) {
     assert_eq!(rt; refusal(client, command), Some(error));
 }
 
-fn refuses_all(rt: &impl Abort, client: &mut Client, rows: &[(Command, ClientError)]) {
+fn refuses_all(rt: &impl Abort, client: &mut Client, rows: &[(Act, ClientError)]) {
     for (command, error) in rows {
         refuses(rt, client, *command, *error);
     }
@@ -225,11 +225,11 @@ fn greeting(rt: &impl Abort, alloc: Global) -> Client {
 fn it_greets_before_all_else(rt: HostRuntime) {
     let mut client = greeting(&rt, rt.alloc());
     let rows = [
-        (Command::ReserveNothing, ClientError::NotGreeted),
-        (Command::Call(FIVE, 1), ClientError::NotGreeted),
-        (Command::Query(FIVE, 1), ClientError::NotGreeted),
-        (Command::End, ClientError::NotGreeted),
-        (Command::GiveUp, ClientError::NotGreeted),
+        (Act::ReserveNothing, ClientError::NotGreeted),
+        (Act::Call(FIVE, 1), ClientError::NotGreeted),
+        (Act::Query(FIVE, 1), ClientError::NotGreeted),
+        (Act::End, ClientError::NotGreeted),
+        (Act::GiveUp, ClientError::NotGreeted),
     ];
     refuses_all(&rt, &mut client, &rows);
     is_due(&rt, &client, ONE, Some(Message::Hello(ONE, SEVEN, 1)));
@@ -251,9 +251,9 @@ fn it_is_welcomed(rt: HostRuntime) {
         is_welcomed(&rt, &mut client, row);
     }
     let rows = [
-        (Command::Call(ONE, 1), ClientError::NoBlock),
-        (Command::End, ClientError::NoBlock),
-        (Command::GiveUp, ClientError::NoBlock),
+        (Act::Call(ONE, 1), ClientError::NoBlock),
+        (Act::End, ClientError::NoBlock),
+        (Act::GiveUp, ClientError::NoBlock),
     ];
     refuses_all(&rt, &mut client, &rows);
 }
@@ -264,12 +264,7 @@ fn it_reserves_once(rt: HostRuntime) {
     reserves(&rt, &mut client, &[ONE]);
     is_at(&rt, &client, Phase::Locking);
     has_block(&rt, &client, Some(BLOCK));
-    refuses(
-        &rt,
-        &mut client,
-        Command::ReserveNothing,
-        ClientError::NotIdle,
-    );
+    refuses(&rt, &mut client, Act::ReserveNothing, ClientError::NotIdle);
     settle(&mut client);
     is_at(&rt, &client, Phase::Running);
 }
@@ -277,8 +272,8 @@ fn it_reserves_once(rt: HostRuntime) {
 // A running client that has called and waits for an answer.
 fn waiting(rt: &impl Abort, alloc: Global) -> Client {
     let mut client = running(rt, alloc, &[ONE]);
-    does(rt, &mut client, Command::Call(ONE, 5));
-    does(rt, &mut client, Command::Query(ONE, 1));
+    does(rt, &mut client, Act::Call(ONE, 5));
+    does(rt, &mut client, Act::Query(ONE, 1));
     client
 }
 
@@ -312,6 +307,48 @@ fn is_answered(rt: &impl Abort, client: &mut Client, num: u32, number: u32, note
     );
 }
 
+fn reserve_of(handlers: &[HandlerId]) -> Option<Command> {
+    Some(Command::Reserve(HandlerList::of(handlers).ok()?))
+}
+
+fn call_of(value: u64) -> Option<Command> {
+    Some(Command::Call(ONE, add(value)?))
+}
+
+fn query_of(value: u64) -> Option<Command> {
+    Some(Command::Query(ONE, add(value)?))
+}
+
+fn carries_out(rt: &impl Abort, client: &mut Client, command: Option<Command>) {
+    let Some(command) = command else {
+        panic!(rt; "no command");
+    };
+    assert_eq!(rt; client.may_carry_out(&command), Ok(()));
+    assert_eq!(rt; client.carry_out(&command), Ok(()));
+}
+
+#[test]
+fn it_carries_out_each_command(rt: HostRuntime) {
+    let mut client = settled(&rt, rt.alloc(), &[ONE]);
+    carries_out(&rt, &mut client, reserve_of(&[ONE]));
+    settle(&mut client);
+    carries_out(&rt, &mut client, call_of(5));
+    carries_out(&rt, &mut client, query_of(1));
+    is_answered(
+        &rt,
+        &mut client,
+        1,
+        2,
+        ClientNote::Accepted(ONE, 2, Answer::Value(6)),
+    );
+    carries_out(&rt, &mut client, Some(Command::End));
+    settle(&mut client);
+    is_at(&rt, &client, Phase::Idle);
+    carries_out(&rt, &mut client, reserve_of(&[ONE]));
+    carries_out(&rt, &mut client, Some(Command::GiveUp));
+    is_at(&rt, &client, Phase::GivingUp);
+}
+
 #[test]
 fn it_waits_for_an_answer(rt: HostRuntime) {
     let mut client = waiting(&rt, rt.alloc());
@@ -319,7 +356,7 @@ fn it_waits_for_an_answer(rt: HostRuntime) {
     refuses_all(
         &rt,
         &mut client,
-        &[(Command::Call(ONE, 1), waits), (Command::End, waits)],
+        &[(Act::Call(ONE, 1), waits), (Act::End, waits)],
     );
     is_due(&rt, &client, ONE, log_of_call(1, 5));
     is_answered(&rt, &mut client, 0, 2, ClientNote::Ignored);
@@ -333,7 +370,7 @@ fn it_waits_for_an_answer(rt: HostRuntime) {
 
 // The client ends its block, and handler 1 has all of it.
 fn ends(rt: &impl Abort, client: &mut Client) {
-    does(rt, client, Command::End);
+    does(rt, client, Act::End);
     is_at(rt, client, Phase::Ending);
     is_due(rt, client, ONE, log(3, Entry::End));
     is_logged(rt, client, 3, ClientNote::Acknowledged(ONE, 3));
@@ -393,19 +430,14 @@ fn refused(rt: &impl Abort, alloc: Global) -> Client {
 #[test]
 fn giving_up_unlocks_the_one_asked_last(rt: HostRuntime) {
     let mut client = refused(&rt, rt.alloc());
-    does(&rt, &mut client, Command::GiveUp);
+    does(&rt, &mut client, Act::GiveUp);
     is_at(&rt, &client, Phase::GivingUp);
-    refuses(&rt, &mut client, Command::GiveUp, ClientError::TooLate);
-    refuses(
-        &rt,
-        &mut client,
-        Command::Call(ONE, 1),
-        ClientError::NoBlock,
-    );
+    refuses(&rt, &mut client, Act::GiveUp, ClientError::TooLate);
+    refuses(&rt, &mut client, Act::Call(ONE, 1), ClientError::NoBlock);
     unlocks(&rt, &mut client, ONE);
     unlocks(&rt, &mut client, TWO);
     is_at(&rt, &client, Phase::Idle);
-    refuses(&rt, &mut client, Command::GiveUp, ClientError::NoBlock);
+    refuses(&rt, &mut client, Act::GiveUp, ClientError::NoBlock);
     reserves(&rt, &mut client, &[ONE]);
     has_block(&rt, &client, Some(Block { num: 2, ..BLOCK }));
 }
@@ -444,11 +476,11 @@ fn reserving_is_refused_in_order(rt: HostRuntime) {
 // As many calls as may stand without an acknowledgement, and no more.
 fn fills(rt: &impl Abort, client: &mut Client, handler: HandlerId) {
     for _ in 0..MAX_UNACKNOWLEDGED {
-        does(rt, client, Command::Call(handler, 1));
+        does(rt, client, Act::Call(handler, 1));
     }
     let filled = ClientError::WindowFull(handler);
-    refuses(rt, client, Command::Call(handler, 1), filled);
-    refuses(rt, client, Command::End, filled);
+    refuses(rt, client, Act::Call(handler, 1), filled);
+    refuses(rt, client, Act::End, filled);
 }
 
 #[test]
@@ -458,15 +490,15 @@ fn limits_are_met_and_passed(rt: HostRuntime) {
     refuses(
         &rt,
         &mut client,
-        Command::Call(FIVE, 1),
+        Act::Call(FIVE, 1),
         ClientError::NotReserved(FIVE),
     );
     fills(&rt, &mut client, TWO);
     fills(&rt, &mut client, ONE);
     is_logged(&rt, &mut client, 1, ClientNote::Acknowledged(ONE, 1));
-    does(&rt, &mut client, Command::Call(ONE, 1));
+    does(&rt, &mut client, Act::Call(ONE, 1));
     settle(&mut client);
-    does(&rt, &mut client, Command::End);
+    does(&rt, &mut client, Act::End);
     settle(&mut client);
     is_at(&rt, &client, Phase::Idle);
 }
@@ -504,9 +536,9 @@ fn calls_four_times(rt: &impl Abort, client: &mut Client) {
     reserves(rt, client, &[ONE]);
     settle(client);
     for value in 0..4 {
-        does(rt, client, Command::Call(ONE, value));
+        does(rt, client, Act::Call(ONE, value));
     }
-    does(rt, client, Command::End);
+    does(rt, client, Act::End);
 }
 
 // A client that logs four calls and an End in batches.

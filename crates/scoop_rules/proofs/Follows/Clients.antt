@@ -14,10 +14,10 @@ use Rattle.scoop_client.specs.State.{ClientState}
 use Rattle.scoop_client.specs.Hearing.{heard}
 use Rattle.scoop_client.specs.Commands.{command}
 use Rattle.scoop_client.proofs.Rows.{heard_row}
-use Rattle.scoop_model.specs.declared.event.Command.{Command}
-use Rattle.scoop_model.specs.declared.event.Command.TheVariants.{Reserve, GiveUp}
+use Rattle.scoop_client.specs.declared.command.Command.{Command}
+use Rattle.scoop_client.specs.declared.command.Command.TheVariants.{Reserve, GiveUp}
 use Rattle.scoop_model.specs.World.{World, Party, id_of, is_party, party_of, set_party, sent_at, has_block, set_of, log_of, inc_of}
-use Rattle.scoop_model.specs.Step.{core_command, newest_block, commanded_world, with_party, heard_party, restarted_party}
+use Rattle.scoop_model.specs.Step.{newest_block, commanded_world, with_party, heard_party, restarted_party}
 use Rattle.scoop_rules.specs.Paper.{Objects, Restart, MovesLead, put_at_client, restart, seen, queue_of, queue_at, configuration_of}
 use Rattle.scoop_model.proofs.Basics.{by_test}
 use Rattle.scoop_model.proofs.Keys.{id_found, by_party}
@@ -99,7 +99,7 @@ same_set w o p x d b m =
 
 pub reserve_same :
     (w : World) (o : Ordered w) (c : ClientId) (p : Party) (hs : List HandlerId) (d : ClientState) → party_of c w ≡ Some p
-    → command p.client (core_command (Reserve hs)) ≡ Ok d
+    → command p.client (Reserve hs) ≡ Ok d
     → configuration_of w ≡ configuration_of (commanded_world w p (Reserve hs) d)
 reserve_same w o c p hs d at is =
     let fits = all_found (PartyFits w) (is_party c) w.parties p o.parties at in
@@ -117,7 +117,7 @@ reserve_same w o c p hs d at is =
         λ i. if has (same_set w o p (Reserve hs) d b m i) h then queue_of b (record (seen b h w) { logged = log i }) else []
 
 pub give_up_same :
-    (w : World) (o : Ordered w) (c : ClientId) (p : Party) (d : ClientState) → party_of c w ≡ Some p → command p.client (core_command GiveUp) ≡ Ok d
+    (w : World) (o : Ordered w) (c : ClientId) (p : Party) (d : ClientState) → party_of c w ≡ Some p → command p.client GiveUp ≡ Ok d
     → configuration_of w ≡ configuration_of (commanded_world w p GiveUp d)
 give_up_same w o c p d at is =
     let g = goes_on w p GiveUp d is (all_found (PartyFits w) (is_party c) w.parties p o.parties at) in

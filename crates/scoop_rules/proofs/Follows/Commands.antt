@@ -19,10 +19,10 @@ use Rattle.scoop_client.specs.State.{ClientState}
 use Rattle.scoop_client.specs.Commands as client
 use Rattle.scoop_client.specs.Rows.{LogRow, is_logged, EndRow, ends_block}
 use Rattle.scoop_client.proofs.CommandRows.{command_row}
-use Rattle.scoop_model.specs.declared.event.Command.{Command}
-use Rattle.scoop_model.specs.declared.event.Command.TheVariants.{Reserve, Call, Query, End, GiveUp}
+use Rattle.scoop_client.specs.declared.command.Command.{Command}
+use Rattle.scoop_client.specs.declared.command.Command.TheVariants.{Reserve, Call, Query, End, GiveUp}
 use Rattle.scoop_model.specs.World.{World, Party, HandlerLog, is_line_of, is_party, party_of, has_block, lines_of, handlers_of, set_of, log_of, opened_at, is_succeeded, has_end, inc_of}
-use Rattle.scoop_model.specs.Step.{core_command, newest_block, logs_after, commanded_world}
+use Rattle.scoop_model.specs.Step.{newest_block, logs_after, commanded_world}
 use Rattle.scoop_rules.specs.Paper.{LogOne, MovesLead, logged_to, has_open, waits, Seen, seen, queue_of, queue_at, configuration_of, objects_of, command_moves}
 use Rattle.scoop_model.proofs.Basics.{ok_is, by_test}
 use Rattle.scoop_model.proofs.Keys.{id_found}
@@ -65,7 +65,7 @@ handler_there h (m ∷ ms) l e =
 
 module _
     (w : World) (f : Following w) (c : ClientId) (p : Party) (at : party_of c w ≡ Some p) (x : Command) (d : ClientState)
-    (is : client.command p.client (core_command x) ≡ Ok d) (run : IsRunning p.client) (free : p.client.waits ≡ None)
+    (is : client.command p.client x ≡ Ok d) (run : IsRunning p.client) (free : p.client.waits ≡ None)
     (same : newest_block d ≡ newest_block p.client)
   where
     abbrev b : Block
@@ -272,7 +272,7 @@ module _
 module _ (w : World) (f : Following w) (c : ClientId) (p : Party) (at : party_of c w ≡ Some p) (d : ClientState) where
   log_row :
       (x : Command) (k : HandlerId) (e : Entry) (o : client.Outcome) → ((h : HandlerId) → added x h ≡ (if same_handler h k then e ∷ [] else []))
-      → client.command p.client (core_command x) ≡ Ok d → LogRow p.client k e o → o ≡ Ok d
+      → client.command p.client x ≡ Ok d → LogRow p.client k e o → o ≡ Ok d
       → MovesLead (objects_of w) (configuration_of w) (LogOne (newest_block p.client) k e ∷ []) (configuration_of (commanded_world w p x d))
   log_row x k e o adds is (is_logged l running free window room more) done =
       let run = running_is p.client running in
@@ -282,17 +282,17 @@ module _ (w : World) (f : Following w) (c : ClientId) (p : Party) (at : party_of
       one_leads w f c p at x d is run free same k e (subst (λ hs. has hs k ≡ true) (sym (set_is w f c p at x d is run free same)) member) adds
   log_row x k e o adds is r done = absurd (cc)
 
-  end_row : (o : client.Outcome) → client.command p.client (core_command End) ≡ Ok d → EndRow p.client o → o ≡ Ok d
+  end_row : (o : client.Outcome) → client.command p.client End ≡ Ok d → EndRow p.client o → o ≡ Ok d
       → MovesLead (objects_of w) (configuration_of w) (map (λ h. LogOne (newest_block p.client) h EndEntry) (set_of (newest_block p.client) w))
       (configuration_of (commanded_world w p End d))
   end_row o is (ends_block running free room) done =
       end_leads w f c p at End d is (running_is p.client running) free (sym (ap newest_block (ok_is _ d done))) (λ h. refl)
   end_row o is r done = absurd (cc)
 
-  pub command_follows : (x : Command) → client.command p.client (core_command x) ≡ Ok d
+  pub command_follows : (x : Command) → client.command p.client x ≡ Ok d
       → MovesLead (objects_of w) (configuration_of w) (command_moves w (newest_block p.client) x) (configuration_of (commanded_world w p x d))
   command_follows (Reserve hs) is = reserve_same w f.ordered c p hs d at is
-  command_follows (Call h r) is = log_row (Call h r) h (CallEntry r) _ (λ j. refl) is (command_row p.client (core_command (Call h r))) is
-  command_follows (Query h r) is = log_row (Query h r) h (QueryEntry r) _ (λ j. refl) is (command_row p.client (core_command (Query h r))) is
-  command_follows End is = end_row _ is (command_row p.client (core_command End)) is
+  command_follows (Call h r) is = log_row (Call h r) h (CallEntry r) _ (λ j. refl) is (command_row p.client (Call h r)) is
+  command_follows (Query h r) is = log_row (Query h r) h (QueryEntry r) _ (λ j. refl) is (command_row p.client (Query h r)) is
+  command_follows End is = end_row _ is (command_row p.client End) is
   command_follows GiveUp is = give_up_same w f.ordered c p d at is

@@ -10,13 +10,13 @@ use Rattle.scoop_handler.specs.Running.{Task, ready, job_out}
 use Rattle.scoop_client.specs.Due.{due}
 use Rattle.scoop_client.specs.Hearing.{heard}
 use Rattle.scoop_client.specs.Commands.{Outcome, command}
-use Rattle.scoop_model.specs.declared.event.Command.{Command}
+use Rattle.scoop_client.specs.declared.command.Command.{Command}
 use Rattle.scoop_model.specs.declared.event.Event.{Event}
 use Rattle.scoop_model.specs.declared.event.Event.TheVariants.{Do, Tick, Take, Begin, Finish, ClientRestart, NodeRestart}
 use Rattle.scoop_model.specs.declared.note.WorldNote.TheVariants as note
 use Rattle.scoop_model.specs.declared.error.WorldError.TheVariants.{NoSuchParty, IncarnationsSpent}
 use Rattle.scoop_model.specs.World.{World, Site, Party, site_of, party_of, sent_at}
-use Rattle.scoop_model.specs.Step.{Stepped, core_command, commanded, commanded_world, do_at, tick_at, taken_by_handler, heard_party, taken_by_client, taken, with_party, begins, begin_at, finishes, finish_at, restarted_party, restart_client, reopened_world, restart_node}
+use Rattle.scoop_model.specs.Step.{Stepped, commanded, commanded_world, do_at, tick_at, taken_by_handler, heard_party, taken_by_client, taken, with_party, begins, begin_at, finishes, finish_at, restarted_party, restart_client, reopened_world, restart_node}
 use Rattle.scoop_rules.specs.Paper.{MovesLead, Follows, FollowsRules, configuration_of, objects_of, client_moves, message_moves}
 use Rattle.scoop_model.proofs.Basics.{by_test}
 use Rattle.scoop_model.proofs.Whole.Steps.{due_goes}
@@ -36,7 +36,7 @@ FollowsTo w e (Err x) = ⊤
 
 module _ (w : World) (f : Following w) where
   commanded_follows :
-      (c : ClientId) (p : Party) (x : Command) (o : Outcome) → party_of c w ≡ Some p → command p.client (core_command x) ≡ o
+      (c : ClientId) (p : Party) (x : Command) (o : Outcome) → party_of c w ≡ Some p → command p.client x ≡ o
       → FollowsTo w (Do c x) (commanded w p x o)
   commanded_follows c p x (Err e) at is = tt
   commanded_follows c p x (Ok d) at is =
@@ -45,7 +45,7 @@ module _ (w : World) (f : Following w) where
 
   do_follows : (c : ClientId) (x : Command) (o : Option Party) → party_of c w ≡ o → FollowsTo w (Do c x) (do_at w x o)
   do_follows c x None at = tt
-  do_follows c x (Some p) at = commanded_follows c p x (command p.client (core_command x)) at refl
+  do_follows c x (Some p) at = commanded_follows c p x (command p.client x) at refl
 
   -- what a client sends goes to a handler
   tick_follows : (c : ClientId) (h : HandlerId) (o : Option Party) (t : Option Site) → FollowsTo w (Tick c h) (tick_at w h o t)

@@ -16,10 +16,10 @@ use Rattle.scoop_client.specs.State.{ClientState}
 use Rattle.scoop_client.specs.Commands as client
 use Rattle.scoop_client.specs.Rows.{ReserveRow, begins_block}
 use Rattle.scoop_client.proofs.CommandRows.{command_row}
-use Rattle.scoop_model.specs.declared.event.Command.{Command}
-use Rattle.scoop_model.specs.declared.event.Command.TheVariants.{Reserve, Call, Query, End, GiveUp}
+use Rattle.scoop_client.specs.declared.command.Command.{Command}
+use Rattle.scoop_client.specs.declared.command.Command.TheVariants.{Reserve, Call, Query, End, GiveUp}
 use Rattle.scoop_model.specs.World.{World, Party, is_party, handlers_of}
-use Rattle.scoop_model.specs.Step.{Placement, Newcomer, core_command, newest_block, with_entry, with_entry_at, commanded_world, opening}
+use Rattle.scoop_model.specs.Step.{Placement, Newcomer, newest_block, with_entry, with_entry_at, commanded_world, opening}
 use Rattle.scoop_model.proofs.Basics.{ok_is, by_test}
 use Rattle.scoop_model.proofs.Events.{Changes}
 use Rattle.scoop_model.proofs.Order.Facts.{PartyFits, Ordered, all_found}
@@ -100,8 +100,8 @@ module _ (w : World) (i : Sets w) (p : Party) (d : ClientState) (fits : PartyFit
       (handlers_before (Reserve ks) (newest_block d) b w.logs hs e)
   reserve_sets ks o r done b hs e = absurd (cc)
 
-  commands_sets : (x : Command) → client.command p.client (core_command x) ≡ Ok d → Sets (commanded_world w p x d)
-  commands_sets (Reserve ks) is = reserve_sets ks _ (command_row p.client (core_command (Reserve ks))) is
+  commands_sets : (x : Command) → client.command p.client x ≡ Ok d → Sets (commanded_world w p x d)
+  commands_sets (Reserve ks) is = reserve_sets ks _ (command_row p.client (Reserve ks)) is
   commands_sets (Call h r) is = λ b hs e. i b hs (sym (found_changed b (newest_block d) (with_entry_at h (CallEntry r)) (leaves_at h (CallEntry r)) w.logs) ∙ e)
   commands_sets (Query h r) is =
       λ b hs e. i b hs (sym (found_changed b (newest_block d) (with_entry_at h (QueryEntry r)) (leaves_at h (QueryEntry r)) w.logs) ∙ e)

@@ -7,7 +7,7 @@ use Rattle.scoop_handler.specs.declared.note.Note.TheVariants.{Greeted, Opened, 
 use Rattle.scoop_handler.specs.declared.note.Reason.TheVariants.{Stale}
 use Rattle.scoop_handler.specs.declared.ran.Ran.{Ran}
 use Rattle.scoop_client.specs.declared.phase.ClientNote.TheVariants.{Welcomed}
-use Rattle.scoop_model.specs.declared.event.Command.TheVariants.{Call}
+use Rattle.scoop_client.specs.declared.command.Command.TheVariants.{Call}
 use Rattle.scoop_model.specs.declared.event.Event.{Event}
 use Rattle.scoop_model.specs.declared.event.Event.TheVariants.{Do, Tick, Take, Begin, ClientRestart}
 use Rattle.scoop_model.specs.declared.error.WorldError.TheVariants.{NothingToRun}

@@ -7,7 +7,7 @@ use Rattle.scoop_queue.specs.declared.state.QueueState.TheVariants.{Open}
 use Rattle.scoop_handler.specs.declared.note.Note.TheVariants.{Known}
 use Rattle.scoop_handler.specs.declared.ran.Ran.{Ran}
 use Rattle.scoop_client.specs.declared.phase.ClientNote.TheVariants.{Accepted}
-use Rattle.scoop_model.specs.declared.event.Command.TheVariants.{Query}
+use Rattle.scoop_client.specs.declared.command.Command.TheVariants.{Query}
 use Rattle.scoop_model.specs.declared.event.Event.{Event}
 use Rattle.scoop_model.specs.declared.event.Event.TheVariants.{Do, Tick, Take, Begin, Finish, NodeRestart}
 use Rattle.scoop_model.specs.declared.error.WorldError.TheVariants.{NothingToRun}

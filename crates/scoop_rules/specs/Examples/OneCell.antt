@@ -5,7 +5,7 @@ use Rattle.scoop_message.specs.declared.request.Answer.TheVariants.{Value}
 use Rattle.scoop_handler.specs.declared.note.Note.TheVariants.{Greeted, Granted, Opened, Freed, Took}
 use Rattle.scoop_handler.specs.declared.ran.Ran.{Ran}
 use Rattle.scoop_client.specs.declared.phase.ClientNote.TheVariants.{Welcomed, Locked, Opened as OpenedNote, Unlocked, Acknowledged}
-use Rattle.scoop_model.specs.declared.event.Command.TheVariants.{Call, End}
+use Rattle.scoop_client.specs.declared.command.Command.TheVariants.{Call, End}
 use Rattle.scoop_model.specs.declared.event.Event.{Event}
 use Rattle.scoop_model.specs.declared.event.Event.TheVariants.{Do}
 use Rattle.scoop_model.specs.declared.note.WorldNote.TheVariants.{Done, Sent, Handler, Client, Began, Ran as RanNote}

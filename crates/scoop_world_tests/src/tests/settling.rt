@@ -1,10 +1,9 @@
 //! A world settles: what is next in it is played until nothing is, and it is calm.
 
 use scoop_client::{ClientNote, Phase};
-use scoop_handler::HandlerState;
 use scoop_object::Table;
 use scoop_settle::{Next, next_of};
-use scoop_world::{Command, Event, World, WorldError, WorldNote};
+use scoop_world::{Command, Event, Standing, World, WorldError, WorldNote};
 use std::alloc::Allocator;
 
 /// Why a world doesn't settle.
@@ -49,13 +48,14 @@ fn play<A: Allocator + Copy>(world: &mut World<Table, A>, next: Next) -> Result<
 }
 
 // Nobody holds the lock, no private queue is left, and no job is out.
-fn is_free<A: Allocator + Copy>(state: &HandlerState<A>, is_out: bool) -> bool {
-    !is_out && state.holder().is_none() && state.queues().list_len() == 0
+fn is_free<A: Allocator + Copy>(standing: &Standing<A>) -> bool {
+    let state = standing.state();
+    !standing.is_out() && state.holder().is_none() && state.queues().list_len() == 0
 }
 
-fn are_free<A: Allocator + Copy>(states: &[(HandlerState<A>, bool)]) -> bool {
-    for (state, is_out) in states {
-        if !is_free(state, *is_out) {
+fn are_free<A: Allocator + Copy>(states: &[Standing<A>]) -> bool {
+    for standing in states {
+        if !is_free(standing) {
             return false;
         }
     }

@@ -3,7 +3,7 @@
 use super::{GREETS, IS_WELCOME, LOCKS, ONE, SEVEN, SILENT, answers, did, hears, sends};
 use scoop_book::{Event, Reply};
 use scoop_client::Client;
-use scoop_driver::{BlockHandlers, Command, Received, Step};
+use scoop_driver::{Command, HandlerList, Received, Step};
 use scoop_frame::Version;
 use scoop_handler::{Heard, Note};
 use scoop_message::{ClientId, Message};
@@ -51,7 +51,7 @@ fn a_diary_is_what_was_due_and_heard(rt: HostRuntime) -> Result<(), Fail> {
     let alloc = rt.alloc();
     let mut steps = Vec::new(alloc);
     steps.push(Step::Turned(Received::Frame(Version::One, IS_WELCOME)))?;
-    steps.push(Step::Gave(Command::Reserve(BlockHandlers::of(&[ONE]))))?;
+    steps.push(Step::Gave(Command::Reserve(HandlerList::of(&[ONE])?)))?;
     steps.push(Step::Turned(Received::Nothing))?;
     steps.push(Step::Broke(0))?;
     let mut party = Party::of_client(alloc, client(&rt, alloc, 1), &steps)?;

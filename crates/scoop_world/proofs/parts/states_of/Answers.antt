@@ -1,8 +1,6 @@
 use Rattle.std.proofs.Common.{◌≡◌, ◌++◌, [], ◌∷◌, List, map, take, get_or, sym, ap, ◌∙◌, arith, ◌+◌}
-use Rattle.std.specs.Prelude.{Bool}
 use Rattle.std.proofs.lemmas.List.{take_all, take_more, map-append}
-use Rattle.scoop_handler.specs.State.{HandlerState}
-use Rattle.scoop_world.specs.Standing.{standing}
+use Rattle.scoop_world.specs.Standing.{Standing, standing}
 use Rattle.scoop_world.proofs.parts.states_of.Goals as goal
 
 pub loop-site-preserved : goal.loop-site-preserved
@@ -12,11 +10,11 @@ loop-site-preserved g c =
     let xs = c.args.sites.now in
     let longer : map standing (take (i + 1) xs) ≡ map standing (take i xs) ++ standing (get_or xs i x) ∷ [] =
     ap (map standing) (take_more xs i x c.loop-site-test.true) ∙ map-append standing (take i xs) (get_or xs i x ∷ []) in
-    let now : HandlerState × Bool = (c.in_ok-state.state, c.is_out.result) in
-    let same : now ≡ standing x = λ j. (c.in_ok-state.ensures j, c.is_out.ensures j) in
+    let now : Standing = record { state = c.in_ok-state.state; is_out = c.is_out.result } in
+    let same : now ≡ standing x = λ j. record { state = c.in_ok-state.ensures j; is_out = c.is_out.ensures j } in
     c.in_ok-push.ensures.items
-    ∙ ap (λ (ys : List (HandlerState × Bool)). ys ++ now ∷ []) c.loop-site.invariant
-    ∙ ap (λ (y : HandlerState × Bool). map standing (take i xs) ++ y ∷ []) (same ∙ ap standing c.site-item.is)
+    ∙ ap (λ (ys : List Standing). ys ++ now ∷ []) c.loop-site.invariant
+    ∙ ap (λ (y : Standing). map standing (take i xs) ++ y ∷ []) (same ∙ ap standing c.site-item.is)
     ∙ sym longer
 
 pub returns : goal.returns

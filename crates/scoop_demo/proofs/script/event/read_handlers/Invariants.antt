@@ -1,5 +1,5 @@
 use Rattle.std.proofs.Common.{◌≡◌, ◌≤◌, ◌+◌, length, take}
-use Rattle.scoop_model.specs.declared.handlers.TheConstants.{MAX_NAMED_HANDLERS}
+use Rattle.scoop_client.specs.declared.handlers.TheConstants.{MAX_NAMED_HANDLERS}
 use Rattle.scoop_demo.specs.ScriptWords.{words_of}
 use Rattle.scoop_demo.specs.ScriptNumber.{each_of}
 use Rattle.scoop_demo.specs.ScriptLine.{handler_of}

@@ -1,5 +1,4 @@
 use Rattle.std.proofs.Common.{◌≡◌, ◌-◌, ◌∙◌, ap, subst, arith, [], ◌∷◌}
-use Rattle.scoop_driver.specs.Steps.{core_command}
 use Rattle.scoop_driver.specs.State.{DriverState}
 use Rattle.scoop_driver.proofs.Calling.{Turning, turning_more, turning_same, turning_stops, turning_over, logged_after, refused_same, offered_true, offered_false}
 use Rattle.scoop_driver.proofs.driver.Driver.log.Goals as goal
@@ -21,14 +20,14 @@ returns-in-Ok-true-clause-does g c =
 pub returns-in-Err-clause-does : goal.returns-in-Err-clause-does
 returns-in-Err-clause-does g c =
     let same : c.self.inside.turns ≡ c.args.self.now.turns = ap (λ (d : DriverState _ _). d.turns) c.self.view_is in
-    refused_same (core_command c.args.command.now) _ _ c.in-Err.error _ _ _
+    refused_same c.args.command.now _ _ c.in-Err.error _ _ _
     (omega (arith, same, c.loop-taken-test.true)) c.loop-taken.invariant.0 c.in-Err.ensures.does
 
 pub returns-in-Err-turn-clause-does : goal.returns-in-Err-turn-clause-does
 returns-in-Err-turn-clause-does g c =
     let same : c.self.inside.turns ≡ c.args.self.now.turns = ap (λ (d : DriverState _ _). d.turns) c.self.view_is in
     let full = offered_false _ _ _ _ c.in-Ok-false.field-0-test c.in-Ok-false.ensures.does in
-    turning_stops (core_command c.args.command.now ∷ []) _ _ c.in-Err-turn.error _ _ _ (omega (arith, same, c.loop-taken-test.true))
+    turning_stops (c.args.command.now ∷ []) _ _ c.in-Err-turn.error _ _ _ (omega (arith, same, c.loop-taken-test.true))
     (turning_same _ _ _ _ full.1 c.loop-taken.invariant.0) full.0 c.in-Err-turn.ensures.does
 
 pub returns-in-Ok-true-offer-clause-does : goal.returns-in-Ok-true-offer-clause-does
@@ -42,11 +41,11 @@ returns-in-Ok-false-offer-clause-does g c =
     let same : c.self.inside.turns ≡ c.args.self.now.turns = ap (λ (d : DriverState _ _). d.turns) c.self.view_is in
     let over : c.loop-taken.taken ≡ c.args.self.now.turns = omega (arith, same, c.loop-taken-test.false, c.loop-taken.auto.taken-end) in
     let full = offered_false _ _ _ _ c.in-Ok-false-offer.field-0-test c.in-Ok-false-offer.ensures.does in
-    turning_over (core_command c.args.command.now ∷ []) _ _ _
+    turning_over (c.args.command.now ∷ []) _ _ _
     (subst (λ n. Turning n c.args.self.now.seen c.offer-2.new.self.seen) over (turning_same _ _ _ _ full.1 c.loop-taken.invariant.0))
 
 pub returns-in-Err-offer-clause-does : goal.returns-in-Err-offer-clause-does
 returns-in-Err-offer-clause-does g c =
     let same : c.self.inside.turns ≡ c.args.self.now.turns = ap (λ (d : DriverState _ _). d.turns) c.self.view_is in
-    refused_same (core_command c.args.command.now) _ _ c.in-Err-offer.error _ _ _
+    refused_same c.args.command.now _ _ c.in-Err-offer.error _ _ _
     (omega (arith, same, c.loop-taken-test.false, c.loop-taken.auto.taken-end)) c.loop-taken.invariant.0 c.in-Err-offer.ensures.does

@@ -1,7 +1,7 @@
 use Rattle.std.proofs.Common.{◌≡◌, ap, subst, refl, Err}
 use Rattle.scoop_client.specs.State.{ClientState}
 use Rattle.scoop_client.specs.Commands.{Reserve, command}
-use Rattle.scoop_driver.specs.declared.step.Command.TheVariants as given
+use Rattle.scoop_client.specs.declared.command.Command.TheVariants as given
 use Rattle.scoop_driver.specs.State.{DriverState}
 use Rattle.scoop_driver.proofs.Refusals.{reserve_is_refused}
 use Rattle.scoop_driver.proofs.Calling.{refused_now, reserve_reached, reserve_refused, reserve_runs}

@@ -1,5 +1,5 @@
 use Rattle.std.proofs.Common.{◌≡◌, List, Option, slice_get, sym, subst}
-use Rattle.scoop_model.specs.declared.event.Command.{Command}
+use Rattle.scoop_client.specs.declared.command.Command.{Command}
 use Rattle.scoop_model.specs.World.{World, Party, is_party, party_of}
 use Rattle.scoop_model.specs.Step.{do_at}
 use Rattle.scoop_keeper.specs.Keyed.{IsFirst}

@@ -1,6 +1,6 @@
 use Rattle.scoop_world.proofs.KeptPlaces.{has_party}
 use Rattle.std.proofs.Common.{refl}
-use Rattle.scoop_model.specs.declared.event.Command.TheVariants.{GiveUp}
+use Rattle.scoop_client.specs.declared.command.Command.TheVariants.{GiveUp}
 use Rattle.scoop_world.specs.Kept.{logs_kept}
 use Rattle.scoop_world.proofs.TakenEvents.{command_taken, command_refused, party_there}
 use Rattle.scoop_world.proofs.parts.Parts.give_up.Goals as goal

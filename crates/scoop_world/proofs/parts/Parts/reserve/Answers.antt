@@ -1,7 +1,7 @@
 use Rattle.scoop_world.proofs.KeptPlaces.{has_party}
 use Rattle.std.proofs.Common.{◌≡◌, List, ◌++◌, [], ◌∷◌, false, map, sym, ap, ◌∙◌, refl, subst}
 use Rattle.scoop_message.specs.declared.name.Block.{Block}
-use Rattle.scoop_model.specs.declared.event.Command.TheVariants.{Reserve}
+use Rattle.scoop_client.specs.declared.command.Command.TheVariants.{Reserve}
 use Rattle.scoop_model.specs.World.{World, BlockLog, HandlerLog}
 use Rattle.scoop_model.specs.Step.{newest_block, fresh_log}
 use Rattle.scoop_model.specs.Reach.{IsReached}

@@ -35,7 +35,7 @@ impl Model for HandlerList {
     ghost use Rattle.scoop_message.specs.declared.name.HandlerId.{HandlerId as Handler};
     ghost use Rattle.scoop_message.specs.Padded.{IsPadded, padded, length-first, padded-first};
     ghost use Rattle.scoop_reserve.specs.Handlers.{nobody};
-    ghost use Rattle.scoop_model.specs.declared.handlers.TheConstants.{MAX_NAMED_HANDLERS};
+    ghost use Rattle.scoop_client.specs.declared.handlers.TheConstants.{MAX_NAMED_HANDLERS};
 
     ghost Value = { List Handler };
 

@@ -3,7 +3,7 @@ use Rattle.std.proofs.Common.{◌≤◌, arith, drop, length, ◌∙◌, replica
 use Rattle.std.proofs.lemmas.List.{drop-replicate, length-append, length-drop}
 use Rattle.std.proofs.Math.Seq.{drop-append_seam}
 use Rattle.scoop_reserve.specs.Handlers.{nobody}
-use Rattle.scoop_model.proofs.handlers.HandlerList.of.Goals as goal
+use Rattle.scoop_client.proofs.handlers.HandlerList.of.Goals as goal
 
 pub invariant_of-result : goal.invariant_of-result
 invariant_of-result c =

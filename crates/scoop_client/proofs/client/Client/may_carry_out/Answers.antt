@@ -1,5 +1,5 @@
 use Rattle.scoop_message.specs.declared.request.Entry.TheVariants.{Call, Query}
-use Rattle.scoop_driver.proofs.logging.may_take.Goals as goal
+use Rattle.scoop_client.proofs.client.Client.may_carry_out.Goals as goal
 
 pub returns-in-Call : goal.returns-in-Call
 returns-in-Call g c = rw c.in-Call.is (c.may_log.ensures (Call c.in-Call.field-1))
