@@ -7,7 +7,7 @@ use Rattle.std.specs.Option.{option_map}
 use Rattle.std.proofs.lemmas.Bool.{cases_Bool}
 use Rattle.std.proofs.lemmas.Bool.Decides.{nat_tests}
 use Rattle.std.proofs.lemmas.List.{length-map}
-use Rattle.std.proofs.lemmas.Option.{same_Some}
+use Rattle.std.proofs.lemmas.Option.{none-some, same_Some}
 use Rattle.scoop_message.specs.declared.name.Block.{Block}
 use Rattle.scoop_message.specs.declared.name.ClientId.{ClientId}
 use Rattle.scoop_message.specs.declared.request.Entry.{Entry}
@@ -30,7 +30,8 @@ use Rattle.scoop_handler.specs.State.{HandlerState, IsState, IsAscending, Holder
 use Rattle.scoop_handler.specs.Core.{Core, IsCore, core_of}
 use Rattle.scoop_handler.specs.Growing.{MarksGrow}
 use Rattle.scoop_handler.specs.Running.{Task, after, after_ran, begun, finished, first_task, job_out, kept_after, mark_after, ran_of, ready, run, task_effect, task_of}
-use Rattle.scoop_handler.proofs.MarkLists.{none_some, same_client-refl}
+use Rattle.scoop_handler.proofs.MarkLists.{same_client-refl}
+use Rattle.scoop_handler.proofs.MarkPlaces.{tail-ascending}
 
 -- ---- the marks
 
@@ -81,10 +82,6 @@ All-above c x (y ∷ ys) lt up =
 tail-above : (x : Mark) (xs : List Mark) → IsAscending (x ∷ xs) → AllByRecursion (IsAbove x.client) xs
 tail-above x [] up = tt
 tail-above x (y ∷ ys) up = All-above x.client y ys up.0 up.1
-
-tail-ascending : (x : Mark) (xs : List Mark) → IsAscending (x ∷ xs) → IsAscending xs
-tail-ascending x [] up = tt
-tail-ascending x (y ∷ ys) up = up.1
 
 abbrev pub IsFound : List Mark → Mark → Type 0
 IsFound marks k = mark_of k.client marks ≡ Some k
@@ -189,11 +186,11 @@ kept-other r k other =
 
 not-open-kept : (marks : List Mark) (qs : List PrivateQueue) (r : Ran) (k : Mark) → IsQueues qs → AllByRecursion (HasMark marks) qs → IsFirst r qs
     → IsFound marks k → IsUnusedUnlessOpen k → IsFalse (is_open k.stage) → kept_after r k ≡ k.kept
-not-open-kept marks [] r k sound marked first found unless shut = absurd (none_some first)
+not-open-kept marks [] r k sound marked first found unless shut = absurd (none-some _ first)
 not-open-kept marks (q ∷ qs) r k sound marked first found unless shut = by q.entries refl first
   where
     by : (es : List Entry) → q.entries ≡ es → first_of q es ≡ Some (r.block, r.number, r.entry) → kept_after r k ≡ k.kept
-    by [] are none = absurd (none_some none)
+    by [] are none = absurd (none-some _ none)
     by (e ∷ es) are some =
         let block : q.block ≡ r.block = IsFirst-block r q e es some in
         elim (cases_Bool (same_block (block_of k) r.block)) [
@@ -295,9 +292,6 @@ pub MarksGrow-after : (r : Ran) (marks : List Mark) → MarksGrow marks (map (ma
 MarksGrow-after r marks c k found =
     (mark_after r k, found-after r c marks k found, inr (record { inc = refl; num = refl; stage = inl refl; received = omega arith; ended = λ t. t }))
 
-pub MarksGrow-same : (marks : List Mark) → MarksGrow marks marks
-MarksGrow-same marks c k found = (k, found, inr (record { inc = refl; num = refl; stage = inl refl; received = omega arith; ended = λ t. t }))
-
 -- ---- what runs, and the handler afterwards
 
 -- the first task, and the first entry
@@ -305,7 +299,7 @@ pub first-entry : (c : Core) (t : Task) → first_task c ≡ Some t → IsFirst 
 first-entry c t first = by (front c.state.queues) refl
   where
     by : (f : Option (Block × ℕ × Entry)) → front c.state.queues ≡ f → IsFirst (ran_of t) c.state.queues
-    by None none = absurd (none_some (sym (ap (option_map (task_of c)) none) ∙ first))
+    by None none = absurd (none-some _ (sym (ap (option_map (task_of c)) none) ∙ first))
     by (Some f) some =
         let is : task_of c f ≡ t = same_Some (task_of c f) t (sym (ap (option_map (task_of c)) some) ∙ first) in
         some ∙ ap (λ (x : Task). Some (x.block, x.number, x.entry)) is
@@ -314,7 +308,7 @@ first-words : (c : Core) (t : Task) → first_task c ≡ Some t → t.words ≡ 
 first-words c t first = by (front c.state.queues) refl
   where
     by : (f : Option (Block × ℕ × Entry)) → front c.state.queues ≡ f → t.words ≡ c.state.words
-    by None none = absurd (none_some (sym (ap (option_map (task_of c)) none) ∙ first))
+    by None none = absurd (none-some _ (sym (ap (option_map (task_of c)) none) ∙ first))
     by (Some f) some =
         let is : task_of c f ≡ t = same_Some (task_of c f) t (sym (ap (option_map (task_of c)) some) ∙ first) in
         sym (ap (λ (x : Task). x.words) is)
@@ -349,20 +343,20 @@ job-first c t is = by c.out refl
   where
     by : (b : Bool) → c.out ≡ b → first_task c ≡ Some t
     by true out = rw out at is
-    by false out = absurd (none_some (rw out at is))
+    by false out = absurd (none-some _ (rw out at is))
 
 pub ready-first : (c : Core) (t : Task) → ready c ≡ Some t → first_task c ≡ Some t
 ready-first c t is = by c.out refl
   where
     by : (b : Bool) → c.out ≡ b → first_task c ≡ Some t
-    by true out = absurd (none_some (rw out at is))
+    by true out = absurd (none-some _ (rw out at is))
     by false out = rw out at is
 
 pub job-class : (c : Core) (t : Task) → job_out c ≡ Some t → t.class ≡ c.class
 job-class c t is = by (front c.state.queues) refl
   where
     by : (f : Option (Block × ℕ × Entry)) → front c.state.queues ≡ f → t.class ≡ c.class
-    by None none = absurd (none_some (sym (ap (option_map (task_of c)) none) ∙ job-first c t is))
+    by None none = absurd (none-some _ (sym (ap (option_map (task_of c)) none) ∙ job-first c t is))
     by (Some f) some =
         let same : task_of c f ≡ t = same_Some (task_of c f) t (sym (ap (option_map (task_of c)) some) ∙ job-first c t is) in
         sym (ap (λ (x : Task). x.class) same)

@@ -4,7 +4,7 @@
 use Rattle.std.proofs.Common.{◌≡◌, ℕ, ◌+◌, ◌<◌, ◌≤◌, Bool, true, false, cond, ◌&&◌, not, IsTrue, List, [], ◌∷◌, ◌++◌, Option, Some, None, length, refl, sym, ap, subst, ◌∙◌, inl, inr, arith}
 use Rattle.std.specs.List.{AllByRecursion}
 use Rattle.std.specs.Option.{option_map_or}
-use Rattle.std.proofs.lemmas.Bool.{cases_Bool}
+use Rattle.std.proofs.lemmas.Bool.{cases_Bool, true≢false}
 use Rattle.scoop_message.specs.declared.name.Block.{Block}
 use Rattle.scoop_message.specs.declared.name.ClientId.{ClientId}
 use Rattle.scoop_message.specs.declared.request.Entry.{Entry}
@@ -18,10 +18,8 @@ use Rattle.scoop_queue.proofs.Lookup.{same_block-true, same_block-refl, absent-f
 use Rattle.scoop_handler.specs.declared.mark.Mark.{Mark}
 use Rattle.scoop_handler.specs.Marks.{is_open, block_of, mark_of, set_mark, add_mark}
 use Rattle.scoop_handler.specs.State.{IsUnused, IsNotAbove, FitsMark, HasMark}
+use Rattle.scoop_handler.proofs.Basics.{all_append}
 use Rattle.scoop_handler.proofs.MarkLists.{client_from_same, mark_of-set_mark_own, mark_of-set_mark_other, mark_of-add_mark_other}
-
-true_false : true ≡ false → ⊥
-true_false e = cc
 
 -- ---- blocks
 
@@ -41,10 +39,10 @@ apart_blocks b d apart = rw apart refl
 pub takes_none : (q : PrivateQueue) (k : Mark) → FitsMark q k → (is_open k.stage && not k.ended) ≡ false → takes_more q.state ≡ false
 takes_none q k fits done = elim (cases_Bool (same_block (block_of k) q.block)) [
   | inl same ↦ by_test (takes_more q.state) refl (same_block-true (block_of k) q.block same)
-  | inr apart ↦ fits.older (λ same. true_false (sym (same_block-refl q.block) ∙ (ap (λ d. same_block d q.block) (sym same) ∙ apart)))
+  | inr apart ↦ fits.older (λ same. true≢false (sym (same_block-refl q.block) ∙ (ap (λ d. same_block d q.block) (sym same) ∙ apart)))
 ] where
   by_test : (t : Bool) → takes_more q.state ≡ t → block_of k ≡ q.block → t ≡ false
-  by_test true takes same = absurd (true_false (sym ((fits.newest same).unfinished takes) ∙ done))
+  by_test true takes same = absurd (true≢false (sym ((fits.newest same).unfinished takes) ∙ done))
   by_test false takes same = refl
 
 not_above_inc : (b : Block) (k : Mark) → IsNotAbove b k → b.inc ≤ k.inc
@@ -109,8 +107,8 @@ no_queue_yet q k sound fits unused closed same = by_state q.state q.entries refl
   by_state : (s : QueueState) (es : List Entry) → q.entries ≡ es → ends es ≡ is_ended q.state → (IsTrue (is_cut q.state) → 0 < length q.entries) → ⊥
   by_state s es are ended some = by (q.state) refl es are ended some where
     by : (t : QueueState) → q.state ≡ t → (fs : List Entry) → q.entries ≡ fs → ends fs ≡ is_ended q.state → (IsTrue (is_cut q.state) → 0 < length q.entries) → ⊥
-    by Taking is fs here e f = true_false (sym (ap takes_more is) ∙ done)
-    by Ended is [] here e f = true_false (sym (e ∙ ap is_ended is))
+    by Taking is fs here e f = true≢false (sym (ap takes_more is) ∙ done)
+    by Ended is [] here e f = true≢false (sym (e ∙ ap is_ended is))
     by Ended is (x ∷ xs) here e f = let some_more : length q.entries ≡ length (x ∷ xs) = ap length here in let none_here = none in omega arith
     by Cut is fs here e f = let some_here = f (ap is_cut is) in let none_here = none in omega arith
 
@@ -154,15 +152,6 @@ HasMark-add k marks q none has = elim (cases_Bool (same_client k.client q.block.
 
 -- ---- all private queues
 
-pub All-queues : (P Q R : PrivateQueue → Type 0) (qs : List PrivateQueue) → ((q : PrivateQueue) → P q → Q q → R q) → AllByRecursion P qs → AllByRecursion Q qs
-    → AllByRecursion R qs
-All-queues P Q R [] each ps qs = tt
-All-queues P Q R (x ∷ xs) each ps qs = (each x ps.0 qs.0, All-queues P Q R xs each ps.1 qs.1)
-
-pub All-append : (P : PrivateQueue → Type 0) (xs ys : List PrivateQueue) → AllByRecursion P xs → AllByRecursion P ys → AllByRecursion P (xs ++ ys)
-All-append P [] ys all more = more
-All-append P (x ∷ xs) ys all more = (all.0, All-append P xs ys all.1 more)
-
 All-absent : (P Q : PrivateQueue → Type 0) (b : Block) (qs : List PrivateQueue) → has_queue b qs ≡ false
     → ((q : PrivateQueue) → is_queue_of b q ≡ false → P q → Q q) → AllByRecursion P qs → AllByRecursion Q qs
 All-absent P Q b [] none others all = tt
@@ -176,7 +165,7 @@ All-at_first P Q b change q qs apart own others all rest = by_test (is_queue_of 
   by_test : (t : Bool) → is_queue_of b q ≡ t → AllByRecursion Q (cond t (change q ++ qs) (q ∷ at_block b change qs))
   by_test true is =
       let none : has_queue b qs ≡ false = ap (λ d. has_queue d qs) (same_block-true b q.block is) ∙ apart.0 in
-      All-append Q (change q) qs (own q is all.0) (All-absent P Q b qs none others all.1)
+      all_append Q (change q) qs (own q is all.0) (All-absent P Q b qs none others all.1)
   by_test false is = (others q is all.0, rest)
 
 -- one block's private queue changes
@@ -210,5 +199,5 @@ pub open_queue : (b : Block) (qs : List PrivateQueue) → has_open b qs ≡ true
 open_queue b qs has = by_found (queue_of b qs) refl has where
   by_found : (o : Option PrivateQueue) → queue_of b qs ≡ o → option_map_or (λ (q : PrivateQueue). takes_more q.state) o false ≡ true → (q : PrivateQueue)
       × (queue_of b qs ≡ Some q) × (takes_more q.state ≡ true)
-  by_found None is e = absurd (true_false (sym e))
+  by_found None is e = absurd (true≢false (sym e))
   by_found (Some q) is e = (q, is, e)

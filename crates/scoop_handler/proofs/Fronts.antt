@@ -2,6 +2,7 @@
 use Rattle.std.proofs.Common.{◌≡◌, ℕ, Bool, true, false, cond, List, [], ◌∷◌, ◌++◌, Option, Some, None, refl, sym, ap, subst, ◌∙◌, inl, inr, arith}
 use Rattle.std.specs.Prelude.{is_some}
 use Rattle.std.proofs.lemmas.Bool.{cases_Bool}
+use Rattle.std.proofs.lemmas.Option.{none-some}
 use Rattle.scoop_message.specs.declared.name.Block.{Block}
 use Rattle.scoop_message.specs.declared.request.Entry.{Entry}
 use Rattle.scoop_message.specs.Message.{same_client}
@@ -10,9 +11,6 @@ use Rattle.scoop_handler.specs.declared.mark.Mark.{Mark}
 use Rattle.scoop_handler.specs.Marks.{mark_of, set_mark, add_mark}
 use Rattle.scoop_handler.specs.Growing.{Grows, MarksGrow}
 use Rattle.scoop_handler.proofs.MarkLists.{client_from_same, mark_of-set_mark_own, mark_of-set_mark_other, mark_of-add_mark_other}
-
-none_some : {X : Type 0} {x : X} → None ≡ Some x → ⊥
-none_some e = cc
 
 -- ---- the entry that runs next
 
@@ -30,14 +28,14 @@ FrontStays-is_some old new stays there = by_front (front old) refl there where
   by_front (Some f) e t = ap is_some (stays f e)
 
 pub FrontStays-opened : (b : Block) (qs : List PrivateQueue) → FrontStays qs (opened b qs)
-FrontStays-opened b [] f e = absurd (none_some e)
+FrontStays-opened b [] f e = absurd (none-some _ e)
 FrontStays-opened b (q ∷ qs) f e = e
 
 pub FrontStays-cut : (b : Block) (qs : List PrivateQueue) → FrontStays qs (cut b qs)
 FrontStays-cut b [] f e = e
 FrontStays-cut b (q ∷ qs) f e = by_test (is_queue_of b q) (takes_more q.state) where
   cut_first : (es : List Entry) → first_of q es ≡ Some f → front (cut_open q es ++ qs) ≡ Some f
-  cut_first [] there = absurd (none_some there)
+  cut_first [] there = absurd (none-some _ there)
   cut_first (x ∷ xs) there = there
 
   by_test : (t u : Bool) → front (cond t (cond u (cut_open q q.entries) (q ∷ []) ++ qs) (q ∷ cut b qs)) ≡ Some f
@@ -49,7 +47,7 @@ pub FrontStays-put_all : (b : Block) (es : List Entry) (qs : List PrivateQueue) 
 FrontStays-put_all b es [] f e = e
 FrontStays-put_all b es (q ∷ qs) f e = by_test (is_queue_of b q) where
   put_first : (xs : List Entry) → first_of q xs ≡ Some f → first_of (with_entries es q) (xs ++ es) ≡ Some f
-  put_first [] there = absurd (none_some there)
+  put_first [] there = absurd (none-some _ there)
   put_first (x ∷ xs) there = there
 
   by_test : (t : Bool) → front (cond t ((with_entries es q ∷ []) ++ qs) (q ∷ put_all b es qs)) ≡ Some f
@@ -76,6 +74,6 @@ MarksGrow-set k old marks found grows c x e = elim (cases_Bool (same_client c k.
 
 pub MarksGrow-add : (k : Mark) (marks : List Mark) → mark_of k.client marks ≡ None → MarksGrow marks (add_mark k marks)
 MarksGrow-add k marks none c x e = elim (cases_Bool (same_client k.client c)) [
-  | inl same ↦ absurd (none_some (sym none ∙ (ap (λ d. mark_of d marks) (client_from_same k.client c same) ∙ e)))
+  | inl same ↦ absurd (none-some _ (sym none ∙ (ap (λ d. mark_of d marks) (client_from_same k.client c same) ∙ e)))
   | inr apart ↦ (x, mark_of-add_mark_other c k marks apart ∙ e, Grows-refl x)
 ]

@@ -1,3 +1,5 @@
+pub mod Basics
+pub mod Once
 pub mod MarkLists
 pub mod MarkPlaces
 pub mod QueuePlaces

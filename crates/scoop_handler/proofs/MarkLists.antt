@@ -6,14 +6,12 @@ use Rattle.std.proofs.lemmas.Bool.{eqb-true, eq-eqb, cases_Bool}
 use Rattle.std.proofs.lemmas.Bool.Decides.{nat_tests}
 use Rattle.std.proofs.lemmas.List.{get_or_default, length-map}
 use Rattle.std.proofs.lemmas.List.Edits.{map_over_more}
+use Rattle.std.proofs.lemmas.Option.{none-some}
 use Rattle.scoop_message.specs.declared.name.ClientId.{ClientId}
 use Rattle.scoop_message.specs.Message.{same_client}
 use Rattle.scoop_handler.specs.declared.mark.Mark.{Mark}
 use Rattle.scoop_handler.specs.Marks.{mark_of, newer_mark, set_mark, add_mark, place_of}
 use Rattle.scoop_handler.specs.State.{IsAscending}
-
-pub none_some : {X : Type 0} {x : X} → None ≡ Some x → ⊥
-none_some e = cc
 
 -- ---- clients
 
@@ -58,7 +56,7 @@ insert-add_mark k (x ∷ xs) =
 -- ---- look-up
 
 find_passes : {X : Type 0} (p : X → Bool) (xs : List X) (x : X) → find p xs ≡ Some x → p x ≡ true
-find_passes p [] x e = absurd (none_some e)
+find_passes p [] x e = absurd (none-some _ e)
 find_passes p (y ∷ ys) x e =
     elim (p y) as (λ b. p y ≡ b → cond b (Some y) (find p ys) ≡ Some x → p x ≡ true) [
       | true ↦ λ is found. let same : y ≡ x = cc in subst (λ z. p z ≡ true) same is
@@ -70,7 +68,7 @@ pub mark_of-client : (c : ClientId) (marks : List Mark) (k : Mark) → mark_of c
 mark_of-client c marks k found = client_from_same k.client c (find_passes (λ x. same_client x.client c) marks k found)
 
 pub mark_of-set_mark_own : (k old : Mark) (marks : List Mark) → mark_of k.client marks ≡ Some old → mark_of k.client (set_mark k marks) ≡ Some k
-mark_of-set_mark_own k old [] found = absurd (none_some found)
+mark_of-set_mark_own k old [] found = absurd (none-some _ found)
 mark_of-set_mark_own k old (x ∷ xs) found =
     elim (cases_Bool (same_client x.client k.client)) [
       | inl same ↦ rw (same, same_client-refl k.client) refl
@@ -97,7 +95,7 @@ pub mark_of-add_mark_own : (k : Mark) (marks : List Mark) → mark_of k.client m
 mark_of-add_mark_own k [] none = rw (same_client-refl k.client) refl
 mark_of-add_mark_own k (x ∷ xs) none =
     elim (cases_Bool (same_client x.client k.client)) [
-      | inl same ↦ absurd (none_some (sym (rw same at none)))
+      | inl same ↦ absurd (none-some _ (sym (rw same at none)))
       | inr other ↦
           elim (nat_lt x.client.0 k.client.0) as (λ b. mark_of k.client (cond b (x ∷ add_mark k xs) (k ∷ x ∷ xs)) ≡ Some k) [
             | true ↦ rw other (mark_of-add_mark_own k xs (rw other at none))
@@ -142,7 +140,7 @@ above-add_mark : (k x : Mark) (marks : List Mark) → x.client.0 < k.client.0 �
 above-add_mark k x [] lt none up = (lt, tt)
 above-add_mark k x (y ∷ ys) lt none up =
     elim (cases_Bool (same_client y.client k.client)) [
-      | inl same ↦ absurd (none_some (sym (rw same at none)))
+      | inl same ↦ absurd (none-some _ (sym (rw same at none)))
       | inr other ↦
           elim (cases_Bool (nat_lt y.client.0 k.client.0)) [
             | inl below ↦
@@ -158,7 +156,7 @@ pub IsAscending-add_mark : (k : Mark) (marks : List Mark) → mark_of k.client m
 IsAscending-add_mark k [] none up = tt
 IsAscending-add_mark k (x ∷ xs) none up =
     elim (cases_Bool (same_client x.client k.client)) [
-      | inl same ↦ absurd (none_some (sym (rw same at none)))
+      | inl same ↦ absurd (none-some _ (sym (rw same at none)))
       | inr other ↦
           elim (cases_Bool (nat_lt x.client.0 k.client.0)) [
             | inl below ↦
@@ -173,7 +171,7 @@ IsAscending-add_mark k (x ∷ xs) none up =
 -- ---- facts of each mark
 
 pub All-mark_of : (P : Mark → Type 0) (c : ClientId) (marks : List Mark) (k : Mark) → AllByRecursion P marks → mark_of c marks ≡ Some k → P k
-All-mark_of P c [] k all found = absurd (none_some found)
+All-mark_of P c [] k all found = absurd (none-some _ found)
 All-mark_of P c (x ∷ xs) k all found =
     elim (same_client x.client c) as (λ b. cond b (Some x) (mark_of c xs) ≡ Some k → P k) [
       | true ↦ λ here. let same : x ≡ k = cc in subst P same all.0

@@ -13,9 +13,9 @@ use Rattle.scoop_handler.specs.State.{IsAscending}
 
 -- ---- order
 
-tail : (x : Mark) (xs : List Mark) → IsAscending (x ∷ xs) → IsAscending xs
-tail x [] up = tt
-tail x (y ∷ ys) up = up.1
+pub tail-ascending : (x : Mark) (xs : List Mark) → IsAscending (x ∷ xs) → IsAscending xs
+tail-ascending x [] up = tt
+tail-ascending x (y ∷ ys) up = up.1
 
 above : (x : Mark) (xs : List Mark) (j : ℕ) (d : Mark) → IsAscending (x ∷ xs) → j < length xs → x.client.0 < (get_or xs j d).client.0
 above x [] j d up within = absurd (omega arith)
@@ -27,7 +27,7 @@ in_order [] up i j d le within = absurd (omega arith)
 in_order (x ∷ xs) up zero zero d le within = omega arith
 in_order (x ∷ xs) up zero (suc j) d le within = let later = above x xs j d up (omega arith) in omega (arith, later)
 in_order (x ∷ xs) up (suc i) zero d le within = absurd (omega arith)
-in_order (x ∷ xs) up (suc i) (suc j) d le within = in_order xs (tail x xs up) i j d (omega arith) (omega arith)
+in_order (x ∷ xs) up (suc i) (suc j) d le within = in_order xs (tail-ascending x xs up) i j d (omega arith) (omega arith)
 
 -- ---- the place
 
@@ -59,7 +59,7 @@ found c (x ∷ xs) d e up within same =
           let more : 1 + n ≡ suc n = omega arith in
           let other : same_client x.client c ≡ false = grind (arith, nat_tests) in
           let inside = rw (below, more) at within in
-          rw (below, more, other) (found c xs d e (tail x xs up) (omega (arith, inside)) (rw (below, more) at same))
+          rw (below, more, other) (found c xs d e (tail-ascending x xs up) (omega (arith, inside)) (rw (below, more) at same))
       | inr past ↦ let here = rw past at same in rw (past, here) refl
     ]
 
@@ -73,7 +73,7 @@ none c (x ∷ xs) d up apart =
           let more : 1 + n ≡ suc n = omega arith in
           let other : same_client x.client c ≡ false = grind (arith, nat_tests) in
           let rest = rw (below, more) at apart in
-          rw other (none c xs d (tail x xs up) (λ within. rest (omega (arith, within))))
+          rw other (none c xs d (tail-ascending x xs up) (λ within. rest (omega (arith, within))))
       | inr past ↦
           let rest = rw past at apart in
           rw (rest (omega arith)) (none_above c x xs up past)
@@ -103,7 +103,7 @@ changed k (x ∷ xs) d up within same =
           let more : 1 + n ≡ suc n = omega arith in
           let other : same_client x.client k.client ≡ false = grind (arith, nat_tests) in
           let inside = rw (below, more) at within in
-          rw (below, more, other) (ap (λ (zs : List Mark). x ∷ zs) (changed k xs d (tail x xs up) (omega (arith, inside)) (rw (below, more) at same)))
+          rw (below, more, other) (ap (λ (zs : List Mark). x ∷ zs) (changed k xs d (tail-ascending x xs up) (omega (arith, inside)) (rw (below, more) at same)))
       | inr past ↦ let here = rw past at same in rw (past, here) (ap (λ (zs : List Mark). k ∷ zs) (kept k xs (none_above k.client x xs up past)))
     ]
 

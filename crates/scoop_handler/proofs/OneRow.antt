@@ -3,8 +3,8 @@
 -- its row by `TableRows`.
 use Rattle.std.proofs.Common.{◌≡◌, ◌≢◌, ◌↔◌, ℕ, ◌+◌, ◌<◌, ◌≤◌, Bool, true, false, cond, ◌==◌, nat_lt, nat_le, ◌&&◌, ◌||◌, not, IsTrue, IsFalse, List, ◌⊎◌, Option, Some, None, length, refl, sym, ap, subst, ◌∙◌, inl, inr, arith}
 use Rattle.std.specs.Prelude.{is_none, Ok}
-use Rattle.std.proofs.lemmas.Bool.{eqb-true, eq-eqb}
-use Rattle.std.proofs.lemmas.Bool.Decides.{nat_tests}
+use Rattle.std.proofs.lemmas.Bool.{and_from, and_left, and_right, cond-false, cond-true, eq-eqb, false_from_ne_true, le-leb, le-ltb, lt-leb, lt-ltb, ne_eqb, or_from, or_left, or_right}
+use Rattle.std.proofs.lemmas.Option.{same_Some}
 use Rattle.scoop_message.specs.declared.limits.TheConstants.{MAX_MARKS, MAX_QUEUES}
 use Rattle.scoop_message.specs.declared.name.Block.{Block}
 use Rattle.scoop_message.specs.declared.name.ClientId.{ClientId}
@@ -27,37 +27,8 @@ use Rattle.scoop_handler.proofs.TableRows.{handler_from_same, row}
 
 -- ---- tests, from what they say
 
-chosen : {A : Type 0} (t : Bool) (x y : A) → t ≡ true → cond t x y ≡ x
-chosen true x y e = refl
-chosen false x y e = cc
-
-passed : {A : Type 0} (t : Bool) (x y : A) → t ≡ false → cond t x y ≡ y
-passed true x y e = cc
-passed false x y e = refl
-
-is_below : (a b : ℕ) → a < b → nat_lt a b ≡ true
-is_below a b lt = grind (arith, nat_tests)
-
-not_below : (a b : ℕ) → b ≤ a → nat_lt a b ≡ false
-not_below a b le = grind (arith, nat_tests)
-
-at_most : (a b : ℕ) → a ≤ b → nat_le a b ≡ true
-at_most a b le = grind (arith, nat_tests)
-
-above : (a b : ℕ) → b < a → nat_le a b ≡ false
-above a b lt = grind (arith, nat_tests)
-
-apart_numbers : (a b : ℕ) → a ≢ b → (a == b) ≡ false
-apart_numbers a b apart = by (a == b) refl where
-  by : (t : Bool) → (a == b) ≡ t → t ≡ false
-  by true e = absurd (apart (eqb-true a b e))
-  by false e = refl
-
 apart_handlers : (h k : HandlerId) → h ≢ k → same_handler h k ≡ false
-apart_handlers h k apart = by (same_handler h k) refl where
-  by : (t : Bool) → same_handler h k ≡ t → t ≡ false
-  by true e = absurd (apart (handler_from_same h k e))
-  by false e = refl
+apart_handlers h k apart = false_from_ne_true (same_handler h k) (λ e. apart (handler_from_same h k e))
 
 not_held : (stage : Stage) → stage ≢ AtHeld → is_held stage ≡ false
 not_held AtHeld apart = absurd (apart refl)
@@ -75,63 +46,37 @@ holds (Some x) b e = let same : x ≡ b = cc in (block_decides x b).1 same
 
 holds_not : (holder : Option Block) (b : Block) → holder ≢ Some b → is_holder holder b ≡ false
 holds_not None b apart = refl
-holds_not (Some x) b apart = by (is_holder (Some x) b) refl where
-  by : (t : Bool) → is_holder (Some x) b ≡ t → t ≡ false
-  by true e = absurd (apart (ap Some ((block_decides x b).0 e)))
-  by false e = refl
-
-both : (t u : Bool) → t ≡ true → u ≡ true → (t && u) ≡ true
-both t u e f = rw (e, f) refl
-
-not_first : (t u : Bool) → t ≡ false → (t && u) ≡ false
-not_first t u e = rw e refl
-
-not_second : (t u : Bool) → u ≡ false → (t && u) ≡ false
-not_second true u e = e
-not_second false u e = refl
-
-first_of : (t u : Bool) → t ≡ true → (t || u) ≡ true
-first_of t u e = rw e refl
-
-second_of : (t u : Bool) → u ≡ true → (t || u) ≡ true
-second_of true u e = refl
-second_of false u e = e
-
-neither : (t u : Bool) → t ≡ false → u ≡ false → (t || u) ≡ false
-neither t u e f = rw (e, f) refl
-
-some_block : (b d : Block) → Some b ≡ Some d → b ≡ d
-some_block b d e = cc
+holds_not (Some x) b apart = false_from_ne_true (is_holder (Some x) b) (λ e. apart (ap Some ((block_decides x b).0 e)))
 
 module _ (s : HandlerState) where
   -- ---- which row a message comes to
 
   here_gives : (h : HandlerId) (x y : Hearing) → h ≡ s.number → x ≡ y → if_here s h x ≡ y
-  here_gives h x y here is = chosen (same_handler h s.number) x (dropped s WrongHandler) ((handler_decides h s.number).1 here) ∙ is
+  here_gives h x y here is = cond-true (same_handler h s.number) x (dropped s WrongHandler) ((handler_decides h s.number).1 here) ∙ is
 
   elsewhere : (h : HandlerId) (x : Hearing) → h ≢ s.number → if_here s h x ≡ dropped s WrongHandler
-  elsewhere h x apart = passed (same_handler h s.number) x (dropped s WrongHandler) (apart_handlers h s.number apart)
+  elsewhere h x apart = cond-false (same_handler h s.number) x (dropped s WrongHandler) (apart_handlers h s.number apart)
 
   at_mark : (b : Block) (k : Mark) (heard : Mark → Hearing) → IsHeardAt s b k → hear_of s b heard ≡ heard k
   at_mark b k heard at =
-      let greeted : nat_lt k.inc b.inc ≡ false = not_below k.inc b.inc (omega (arith, at.inc)) in
+      let greeted : nat_lt k.inc b.inc ≡ false = le-ltb k.inc b.inc (omega (arith, at.inc)) in
       let newest : (nat_lt b.inc k.inc || nat_lt b.num k.num) ≡ false =
-      neither _ _ (not_below b.inc k.inc (omega (arith, at.inc))) (not_below b.num k.num at.num) in
+      or_from _ _ (le-ltb b.inc k.inc (omega (arith, at.inc))) (le-ltb b.num k.num at.num) in
       ap (λ m. hear_at s (mark_for b m) heard) at.found ∙ rw (greeted, newest) refl
 
   ungreeted_gives : (b : Block) (heard : Mark → Hearing) → IsUngreeted b (mark_of b.client s.marks) → hear_of s b heard ≡ dropped s Ungreeted
   ungreeted_gives b heard out = by (mark_of b.client s.marks) out where
     by : (m : Option Mark) → IsUngreeted b m → hear_at s (mark_for b m) heard ≡ dropped s Ungreeted
     by None out = refl
-    by (Some k) out = rw (is_below k.inc b.inc out) refl
+    by (Some k) out = rw (lt-ltb k.inc b.inc out) refl
 
   past_gives : (b : Block) (k : Mark) (heard : Mark → Hearing) → mark_of b.client s.marks ≡ Some k → IsPast b k → hear_of s b heard ≡ dropped s Stale
   past_gives b k heard found is = ap (λ m. hear_at s (mark_for b m) heard) found ∙ by is where
     by : IsPast b k → hear_at s (mark_for b (Some k)) heard ≡ dropped s Stale
-    by (inl newer) = rw (not_below k.inc b.inc (omega (arith, newer)), is_below b.inc k.inc newer) refl
+    by (inl newer) = rw (le-ltb k.inc b.inc (omega (arith, newer)), lt-ltb b.inc k.inc newer) refl
     by (inr same) =
-        let greeted : nat_lt k.inc b.inc ≡ false = not_below k.inc b.inc (omega (arith, same.0)) in
-        let past : (nat_lt b.inc k.inc || nat_lt b.num k.num) ≡ true = second_of _ _ (is_below b.num k.num same.1) in
+        let greeted : nat_lt k.inc b.inc ≡ false = le-ltb k.inc b.inc (omega (arith, same.0)) in
+        let past : (nat_lt b.inc k.inc || nat_lt b.num k.num) ≡ true = or_right _ _ (lt-ltb b.num k.num same.1) in
         rw (greeted, past) refl
 
   lock_is : (h : HandlerId) (b : Block) (k : Mark) (n : Hearing) → h ≡ s.number → IsHeardAt s b k → hear_lock s b k ≡ n → hear s (Lock h b) ≡ n
@@ -183,56 +128,56 @@ module _ (s : HandlerState) where
   asked (Hello h c inc) b n here asks gives = cc
   asked (Welcome h c inc) b n here asks gives = cc
   asked (Lock h d) b n here asks gives =
-      let P : Block → Type 0 = λ x. hear s (Lock h x) ≡ n in subst P (sym (some_block d b asks)) (here_gives h _ n here (gives (hear_lock s b)))
+      let P : Block → Type 0 = λ x. hear s (Lock h x) ≡ n in subst P (sym (same_Some d b asks)) (here_gives h _ n here (gives (hear_lock s b)))
   asked (Locked h d) b n here asks gives = cc
   asked (Busy h d) b n here asks gives = cc
   asked (Open h d) b n here asks gives =
-      let P : Block → Type 0 = λ x. hear s (Open h x) ≡ n in subst P (sym (some_block d b asks)) (here_gives h _ n here (gives (hear_open s b)))
+      let P : Block → Type 0 = λ x. hear s (Open h x) ≡ n in subst P (sym (same_Some d b asks)) (here_gives h _ n here (gives (hear_open s b)))
   asked (Opened h d) b n here asks gives = cc
   asked (Unlock h d) b n here asks gives =
-      let P : Block → Type 0 = λ x. hear s (Unlock h x) ≡ n in subst P (sym (some_block d b asks)) (here_gives h _ n here (gives (hear_unlock s b)))
+      let P : Block → Type 0 = λ x. hear s (Unlock h x) ≡ n in subst P (sym (same_Some d b asks)) (here_gives h _ n here (gives (hear_unlock s b)))
   asked (Unlocked h d) b n here asks gives = cc
   asked (Log h d i es) b n here asks gives =
-      let P : Block → Type 0 = λ x. hear s (Log h x i es) ≡ n in subst P (sym (some_block d b asks)) (here_gives h _ n here (gives (hear_log s b i es)))
+      let P : Block → Type 0 = λ x. hear s (Log h x i es) ≡ n in subst P (sym (same_Some d b asks)) (here_gives h _ n here (gives (hear_log s b i es)))
   asked (Logged h d i) b n here asks gives = cc
   asked (Answer h d i a) b n here asks gives = cc
 
   -- ---- tests of a block at its client's mark
 
   is_newer : (b : Block) (k : Mark) → k.num < b.num → is_new b k ≡ true
-  is_newer b k lt = is_below k.num b.num lt
+  is_newer b k lt = lt-ltb k.num b.num lt
 
   is_newest : (b : Block) (k : Mark) → k.num ≡ b.num → is_new b k ≡ false
-  is_newest b k same = not_below k.num b.num (omega (arith, same))
+  is_newest b k same = le-ltb k.num b.num (omega (arith, same))
 
   shut_gives : (b : Block) (k : Mark) → k.stage ≡ AtShut → hear_open s b k ≡ dropped s NotHolder
   shut_gives b k shut = by (is_new b k) refl where
     by : (t : Bool) → is_new b k ≡ t → hear_open s b k ≡ dropped s NotHolder
-    by true e = chosen (is_new b k) _ _ e
+    by true e = cond-true (is_new b k) _ _ e
     by false e =
-        passed (is_new b k) _ _ e ∙ passed (is_open k.stage) _ _ (ap is_open shut) ∙ chosen (not (is_held k.stage)) _ _ (ap (λ x. not (is_held x)) shut)
+        cond-false (is_new b k) _ _ e ∙ cond-false (is_open k.stage) _ _ (ap is_open shut) ∙ cond-true (not (is_held k.stage)) _ _ (ap (λ x. not (is_held x)) shut)
 
   takes : (b : Block) (k : Mark) → IsLogAt s b k → (is_new b k || not (is_open k.stage)) ≡ false
-  takes b k at = neither _ _ (is_newest b k at.num) (ap (λ x. not (is_open x)) at.stage)
+  takes b k at = or_from _ _ (is_newest b k at.num) (ap (λ x. not (is_open x)) at.stage)
 
   -- entries some of which are new come to the tests behind these
   next_is : (b : Block) (i : ℕ) (es : List Entry) (k : Mark) (n : Hearing) → IsLogAt s b k → IsNext k i es
       → cond (is_closed k (last_number i es) es) (dropped s NotOpen)
       (cond (has_no_room s b (length (new_entries i es k))) (dropped s PendingFull) (took s b i es k)) ≡ n → hear_log s b i es k ≡ n
   next_is b i es k n at next is =
-      passed (is_new b k || not (is_open k.stage)) _ _ (takes b k at)
-      ∙ passed (nat_le (last_number i es) k.received) _ _ (above (last_number i es) k.received next.new)
-      ∙ passed (nat_lt (k.received + 1) i) _ _ (not_below (k.received + 1) i next.no_gap) ∙ is
+      cond-false (is_new b k || not (is_open k.stage)) _ _ (takes b k at)
+      ∙ cond-false (nat_le (last_number i es) k.received) _ _ (lt-leb (last_number i es) k.received next.new)
+      ∙ cond-false (nat_lt (k.received + 1) i) _ _ (le-ltb (k.received + 1) i next.no_gap) ∙ is
 
   before_is : (b : Block) (i : ℕ) (es : List Entry) (k : Mark) (n : Hearing) → IsLogAt s b k → last_number i es ≤ k.received
       → received_before s b (last_number i es) k (kept_answer (last_number i es) k.kept) ≡ n → hear_log s b i es k ≡ n
   before_is b i es k n at before is =
-      passed (is_new b k || not (is_open k.stage)) _ _ (takes b k at)
-      ∙ chosen (nat_le (last_number i es) k.received) _ _ (at_most (last_number i es) k.received before) ∙ is
+      cond-false (is_new b k || not (is_open k.stage)) _ _ (takes b k at)
+      ∙ cond-true (nat_le (last_number i es) k.received) _ _ (le-leb (last_number i es) k.received before) ∙ is
 
   not_taking : (b : Block) (k : Mark) → (k.num < b.num) ⊎ (k.stage ≢ AtOpen) → (is_new b k || not (is_open k.stage)) ≡ true
-  not_taking b k (inl newer) = first_of _ _ (is_newer b k newer)
-  not_taking b k (inr shut) = second_of _ _ (not_open k.stage shut)
+  not_taking b k (inl newer) = or_left _ _ (is_newer b k newer)
+  not_taking b k (inr shut) = or_right _ _ (not_open k.stage shut)
 
   -- ---- every row
 
@@ -240,86 +185,86 @@ module _ (s : HandlerState) where
   row_gives m n (kind_for_clients x is) = to_clients m is
   row_gives m n (another_handler x is apart) = to_another m is apart
   row_gives m n (too_many_clients h c inc here none full) =
-      here_gives h _ n here (ap (hear_hello s c inc) none ∙ chosen (length s.marks == MAX_MARKS) _ _ (eq-eqb (length s.marks) MAX_MARKS full))
+      here_gives h _ n here (ap (hear_hello s c inc) none ∙ cond-true (length s.marks == MAX_MARKS) _ _ (eq-eqb (length s.marks) MAX_MARKS full))
   row_gives m n (first_greeting h c inc here none room) =
-      here_gives h _ n here (ap (hear_hello s c inc) none ∙ passed (length s.marks == MAX_MARKS) _ _ (apart_numbers (length s.marks) MAX_MARKS room))
+      here_gives h _ n here (ap (hear_hello s c inc) none ∙ cond-false (length s.marks == MAX_MARKS) _ _ (ne_eqb (length s.marks) MAX_MARKS room))
   row_gives m n (newer_greeting h c inc k here found newer) =
-      here_gives h _ n here (ap (hear_hello s c inc) found ∙ chosen (nat_lt k.inc inc) _ _ (is_below k.inc inc newer))
+      here_gives h _ n here (ap (hear_hello s c inc) found ∙ cond-true (nat_lt k.inc inc) _ _ (lt-ltb k.inc inc newer))
   row_gives m n (repeated_greeting h c inc k here found same) =
       here_gives h _ n here
-      (ap (hear_hello s c inc) found ∙ passed (nat_lt k.inc inc) _ _ (not_below k.inc inc (omega (arith, same)))
-      ∙ chosen (k.inc == inc) _ _ (eq-eqb k.inc inc same))
+      (ap (hear_hello s c inc) found ∙ cond-false (nat_lt k.inc inc) _ _ (le-ltb k.inc inc (omega (arith, same)))
+      ∙ cond-true (k.inc == inc) _ _ (eq-eqb k.inc inc same))
   row_gives m n (stale_greeting h c inc k here found older) =
       here_gives h _ n here
-      (ap (hear_hello s c inc) found ∙ passed (nat_lt k.inc inc) _ _ (not_below k.inc inc (omega (arith, older)))
-      ∙ passed (k.inc == inc) _ _ (apart_numbers k.inc inc (λ same. omega (arith, older, same))))
+      (ap (hear_hello s c inc) found ∙ cond-false (nat_lt k.inc inc) _ _ (le-ltb k.inc inc (omega (arith, older)))
+      ∙ cond-false (k.inc == inc) _ _ (ne_eqb k.inc inc (λ same. omega (arith, older, same))))
   row_gives m n (ungreeted x b here asks out) = asked m b n here asks (λ heard. ungreeted_gives b heard out)
   row_gives m n (stale x b k here asks found is) = asked m b n here asks (λ heard. past_gives b k heard found is)
   row_gives m n (lock_granted h b k here at newer free clear) =
       lock_is h b k n here at
-      (chosen (is_new b k && (is_none s.holder && not (is_unfinished s k))) _ _ (both _ _ (is_newer b k newer) (both _ _ (ap is_none free) (ap not clear))))
+      (cond-true (is_new b k && (is_none s.holder && not (is_unfinished s k))) _ _ (and_from _ _ (is_newer b k newer) (and_from _ _ (ap is_none free) (ap not clear))))
   row_gives m n (lock_refused h b k here at newer taken) =
       lock_is h b k n here at
-      (passed (is_new b k && (is_none s.holder && not (is_unfinished s k))) _ _ (not_second _ _ taken) ∙ chosen (is_new b k) _ _ (is_newer b k newer))
+      (cond-false (is_new b k && (is_none s.holder && not (is_unfinished s k))) _ _ (and_right _ _ taken) ∙ cond-true (is_new b k) _ _ (is_newer b k newer))
   row_gives m n (repeated_lock h b k here at same held) =
       lock_is h b k n here at
-      (passed (is_new b k && (is_none s.holder && not (is_unfinished s k))) _ _ (not_first _ _ (is_newest b k same))
-      ∙ passed (is_new b k) _ _ (is_newest b k same)
-      ∙ chosen (is_held k.stage) _ _ (ap is_held held))
+      (cond-false (is_new b k && (is_none s.holder && not (is_unfinished s k))) _ _ (and_left _ _ (is_newest b k same))
+      ∙ cond-false (is_new b k) _ _ (is_newest b k same)
+      ∙ cond-true (is_held k.stage) _ _ (ap is_held held))
   row_gives m n (late_lock h b k here at same other) =
       lock_is h b k n here at
-      (passed (is_new b k && (is_none s.holder && not (is_unfinished s k))) _ _ (not_first _ _ (is_newest b k same))
-      ∙ passed (is_new b k) _ _ (is_newest b k same)
-      ∙ passed (is_held k.stage) _ _ (not_held k.stage other))
-  row_gives m n (open_without_lock h b k here at (inl newer)) = open_is h b k n here at (chosen (is_new b k) _ _ (is_newer b k newer))
+      (cond-false (is_new b k && (is_none s.holder && not (is_unfinished s k))) _ _ (and_left _ _ (is_newest b k same))
+      ∙ cond-false (is_new b k) _ _ (is_newest b k same)
+      ∙ cond-false (is_held k.stage) _ _ (not_held k.stage other))
+  row_gives m n (open_without_lock h b k here at (inl newer)) = open_is h b k n here at (cond-true (is_new b k) _ _ (is_newer b k newer))
   row_gives m n (open_without_lock h b k here at (inr shut)) = open_is h b k n here at (shut_gives b k shut)
   row_gives m n (no_room_for_a_queue h b k here at same held full) =
       open_is h b k n here at
-      (passed (is_new b k) _ _ (is_newest b k same) ∙ passed (is_open k.stage) _ _ (ap is_open held)
-      ∙ passed (not (is_held k.stage)) _ _ (ap (λ x. not (is_held x)) held)
-      ∙ chosen (length s.queues == MAX_QUEUES) _ _ (eq-eqb (length s.queues) MAX_QUEUES full))
+      (cond-false (is_new b k) _ _ (is_newest b k same) ∙ cond-false (is_open k.stage) _ _ (ap is_open held)
+      ∙ cond-false (not (is_held k.stage)) _ _ (ap (λ x. not (is_held x)) held)
+      ∙ cond-true (length s.queues == MAX_QUEUES) _ _ (eq-eqb (length s.queues) MAX_QUEUES full))
   row_gives m n (is_opened h b k here at same held room) =
       open_is h b k n here at
-      (passed (is_new b k) _ _ (is_newest b k same) ∙ passed (is_open k.stage) _ _ (ap is_open held)
-      ∙ passed (not (is_held k.stage)) _ _ (ap (λ x. not (is_held x)) held)
-      ∙ passed (length s.queues == MAX_QUEUES) _ _ (apart_numbers (length s.queues) MAX_QUEUES room))
+      (cond-false (is_new b k) _ _ (is_newest b k same) ∙ cond-false (is_open k.stage) _ _ (ap is_open held)
+      ∙ cond-false (not (is_held k.stage)) _ _ (ap (λ x. not (is_held x)) held)
+      ∙ cond-false (length s.queues == MAX_QUEUES) _ _ (ne_eqb (length s.queues) MAX_QUEUES room))
   row_gives m n (repeated_open h b k here at same is) =
-      open_is h b k n here at (passed (is_new b k) _ _ (is_newest b k same) ∙ chosen (is_open k.stage) _ _ (ap is_open is))
+      open_is h b k n here at (cond-false (is_new b k) _ _ (is_newest b k same) ∙ cond-true (is_open k.stage) _ _ (ap is_open is))
   row_gives m n (unlock_while_unfinished h b k here at newer busy) =
-      unlock_is h b k n here at (chosen (is_new b k && is_unfinished s k) _ _ (both _ _ (is_newer b k newer) busy))
+      unlock_is h b k n here at (cond-true (is_new b k && is_unfinished s k) _ _ (and_from _ _ (is_newer b k newer) busy))
   row_gives m n (unlock_of_a_block_never_held h b k here at newer clear) =
-      unlock_is h b k n here at (passed (is_new b k && is_unfinished s k) _ _ (not_second _ _ clear) ∙ chosen (is_new b k) _ _ (is_newer b k newer))
+      unlock_is h b k n here at (cond-false (is_new b k && is_unfinished s k) _ _ (and_right _ _ clear) ∙ cond-true (is_new b k) _ _ (is_newer b k newer))
   row_gives m n (is_freed h b k here at same held) =
       unlock_is h b k n here at
-      (passed (is_new b k && is_unfinished s k) _ _ (not_first _ _ (is_newest b k same)) ∙ passed (is_new b k) _ _ (is_newest b k same)
-      ∙ chosen (is_holder s.holder b) _ _ (holds s.holder b held))
+      (cond-false (is_new b k && is_unfinished s k) _ _ (and_left _ _ (is_newest b k same)) ∙ cond-false (is_new b k) _ _ (is_newest b k same)
+      ∙ cond-true (is_holder s.holder b) _ _ (holds s.holder b held))
   row_gives m n (repeated_unlock h b k here at same other) =
       unlock_is h b k n here at
-      (passed (is_new b k && is_unfinished s k) _ _ (not_first _ _ (is_newest b k same)) ∙ passed (is_new b k) _ _ (is_newest b k same)
-      ∙ passed (is_holder s.holder b) _ _ (holds_not s.holder b other))
+      (cond-false (is_new b k && is_unfinished s k) _ _ (and_left _ _ (is_newest b k same)) ∙ cond-false (is_new b k) _ _ (is_newest b k same)
+      ∙ cond-false (is_holder s.holder b) _ _ (holds_not s.holder b other))
   row_gives m n (log_of_a_block_not_open h b i es k here at shut) =
-      log_is h b i es k n here at (chosen (is_new b k || not (is_open k.stage)) _ _ (not_taking b k shut))
+      log_is h b i es k n here at (cond-true (is_new b k || not (is_open k.stage)) _ _ (not_taking b k shut))
   row_gives m n (is_answered h b i es k a here at before kept) =
       log_is h b i es k n here at.heard
       (before_is b i es k n at before
       (ap (λ o. received_before s b (last_number i es) k (kept_answer (last_number i es) o)) kept
-      ∙ ap (received_before s b (last_number i es) k) (chosen (last_number i es == last_number i es) (Some a) None
+      ∙ ap (received_before s b (last_number i es) k) (cond-true (last_number i es == last_number i es) (Some a) None
       (eq-eqb (last_number i es) (last_number i es) refl))))
   row_gives m n (already_received h b i es k here at before none) =
       log_is h b i es k n here at.heard (before_is b i es k n at before (ap (received_before s b (last_number i es) k) none))
   row_gives m n (has_gap h b i es k here at new gap) =
       log_is h b i es k n here at.heard
-      (passed (is_new b k || not (is_open k.stage)) _ _ (takes b k at)
-      ∙ passed (nat_le (last_number i es) k.received) _ _ (above (last_number i es) k.received new)
-      ∙ chosen (nat_lt (k.received + 1) i) _ _ (is_below (k.received + 1) i gap))
+      (cond-false (is_new b k || not (is_open k.stage)) _ _ (takes b k at)
+      ∙ cond-false (nat_le (last_number i es) k.received) _ _ (lt-leb (last_number i es) k.received new)
+      ∙ cond-true (nat_lt (k.received + 1) i) _ _ (lt-ltb (k.received + 1) i gap))
   row_gives m n (after_the_end h b i es k here at next shut) =
-      log_is h b i es k n here at.heard (next_is b i es k n at next (chosen (is_closed k (last_number i es) es) _ _ shut))
+      log_is h b i es k n here at.heard (next_is b i es k n at next (cond-true (is_closed k (last_number i es) es) _ _ shut))
   row_gives m n (pending_full h b i es k here at next goes_on full) =
       log_is h b i es k n here at.heard
-      (next_is b i es k n at next (passed (is_closed k (last_number i es) es) _ _ goes_on ∙ chosen (has_no_room s b (length (new_entries i es k))) _ _ full))
+      (next_is b i es k n at next (cond-false (is_closed k (last_number i es) es) _ _ goes_on ∙ cond-true (has_no_room s b (length (new_entries i es k))) _ _ full))
   row_gives m n (is_taken h b i es k here at next goes_on room) =
       log_is h b i es k n here at.heard
-      (next_is b i es k n at next (passed (is_closed k (last_number i es) es) _ _ goes_on ∙ passed (has_no_room s b (length (new_entries i es k))) _ _ room))
+      (next_is b i es k n at next (cond-false (is_closed k (last_number i es) es) _ _ goes_on ∙ cond-false (has_no_room s b (length (new_entries i es k))) _ _ room))
 
 -- the table gives a message one outcome
 pub heard_exactly : (s : HandlerState) (m : Message) (n : Hearing) → (hear s m ≡ n) ↔ Row s m n

@@ -5,9 +5,9 @@ use Rattle.std.proofs.Common.{◌≡◌, ℕ, zero, suc, ◌+◌, ◌-◌, ◌^�
 use Rattle.std.proofs.lemmas.List.{length-drop, take-append-drop}
 use Rattle.std.specs.Prelude.{IsFalse}
 use Rattle.std.specs.List.{AllByRecursion}
-use Rattle.std.specs.Option.{option_map_or}
-use Rattle.std.proofs.lemmas.Bool.{cases_Bool}
+use Rattle.std.proofs.lemmas.Bool.{cases_Bool, false≢true, true≢false}
 use Rattle.std.proofs.lemmas.Bool.Decides.{nat_tests}
+use Rattle.std.proofs.lemmas.Option.{none-some}
 use Rattle.scoop_message.specs.declared.limits.TheConstants.{MAX_MARKS, MAX_QUEUES, MAX_PENDING}
 use Rattle.scoop_message.specs.declared.name.Block.{Block}
 use Rattle.scoop_message.specs.declared.name.ClientId.{ClientId}
@@ -19,7 +19,7 @@ use Rattle.scoop_queue.specs.Queue.{PrivateQueue, is_open as takes_more, is_cut,
 use Rattle.scoop_queue.specs.Refusal.{HasNumbersFor, open_refusal, put_refusal}
 use Rattle.scoop_queue.specs.Sound.{IsQueue, IsQueues, number_limit}
 use Rattle.scoop_queue.proofs.Ends.{ends-append, EndOnlyLast-tail}
-use Rattle.scoop_queue.proofs.Found.{queue_of-put_all, queue_of-put_all-other, queue_of-cut-other, queue_of-opened, queue_of-opened-other, IsQueue-found, block-found}
+use Rattle.scoop_queue.proofs.Found.{queue_of-put_all, queue_of-put_all-other, queue_of-cut-other, queue_of-opened, queue_of-opened-other, block-found}
 use Rattle.scoop_queue.proofs.Keeping.{IsQueues-put_all, IsQueues-cut, IsQueues-opened, apart-before}
 use Rattle.scoop_queue.proofs.Lookup.{same_block-true, same_block-refl}
 use Rattle.scoop_handler.specs.declared.mark.Mark.{Mark}
@@ -30,17 +30,9 @@ use Rattle.scoop_handler.specs.Marks.{is_held, is_open, is_shut, block_of, fresh
 use Rattle.scoop_handler.specs.State.{HandlerState, IsState, IsUnderWay, HolderIsUnderWay, HoldsIfHeld, HasQueueIfOpen, IsUnused, IsUnusedUnlessOpen, FitsMark, HasMark, state_of, is_holder, is_unfinished}
 use Rattle.scoop_handler.specs.Hearing.{IsHeardAt, moved, with_mark, with_incarnation, with_queue, with_entries, new_entries, is_closed, has_no_room, holder_without, greeting_mark}
 use Rattle.scoop_handler.specs.Rows.{IsLogAt, IsNext}
+use Rattle.scoop_handler.proofs.Basics.{all_append, all_both}
 use Rattle.scoop_handler.proofs.MarkLists.{mark_of-client, mark_of-set_mark_own, mark_of-set_mark_other, mark_of-add_mark_other, length-set_mark, length-add_mark, IsAscending-set_mark, IsAscending-add_mark, All-mark_of, All-set_mark, All-add_mark, client_from_same}
-use Rattle.scoop_handler.proofs.Beside.{block_is, apart_blocks, takes_none, FitsMark-inc, FitsMark-incarnation, FitsMark-block, FitsMark-other, no_queue_yet, HasMark-fits, HasMark-set, HasMark-add, All-queues, All-append, All-at_block, none_of, All-found, open_queue}
-
-none_some : {X : Type 0} {x : X} → None ≡ Some x → ⊥
-none_some e = cc
-
-true_false : true ≡ false → ⊥
-true_false e = cc
-
-false_true : false ≡ true → ⊥
-false_true e = cc
+use Rattle.scoop_handler.proofs.Beside.{block_is, apart_blocks, takes_none, FitsMark-inc, FitsMark-incarnation, FitsMark-block, FitsMark-other, no_queue_yet, HasMark-fits, HasMark-set, HasMark-add, All-at_block, none_of, All-found, open_queue}
 
 -- ---- a change of one client's mark
 
@@ -84,14 +76,14 @@ fresh_unused : (b : Block) (stage : Stage) → IsUnusedUnlessOpen (fresh_mark b 
 fresh_unused b stage = record { unused = λ e. record { received = refl; ended = refl; kept = refl } }
 
 never_open : (queues : List PrivateQueue) (k : Mark) → is_open k.stage ≡ false → HasQueueIfOpen queues k
-never_open queues k closed = record { has = λ stage more. absurd (true_false (sym stage ∙ closed)) }
+never_open queues k closed = record { has = λ stage more. absurd (true≢false (sym stage ∙ closed)) }
 
 -- all private queues beside a changed mark
 marked-set : (s : HandlerState) (k old : Mark) → IsState s → mark_of k.client s.marks ≡ Some old
     → ((q : PrivateQueue) → IsQueue q → FitsMark q old → FitsMark q k) → AllByRecursion (HasMark (set_mark k s.marks)) s.queues
 marked-set s k old is found fits =
-    All-queues IsQueue (HasMark s.marks) (HasMark (set_mark k s.marks)) s.queues
-    (λ q sound has. HasMark-set k old s.marks q found (λ of fit. fits q sound fit) has) is.queues.each is.marked
+    all_both IsQueue (HasMark s.marks) (HasMark (set_mark k s.marks))
+    (λ q sound has. HasMark-set k old s.marks q found (λ of fit. fits q sound fit) has) s.queues is.queues.each is.marked
 
 -- ---- a newer incarnation
 
@@ -121,7 +113,7 @@ module _ (s : HandlerState) (c : ClientId) (inc : ℕ) (k : Mark) (is : IsState 
   left_fits q fits done = let before = FitsMark-inc q k fits in FitsMark-incarnation q (greeting_mark c inc) (omega arith) done
 
   others_fit : (q : PrivateQueue) → is_queue_of (block_of k) q ≡ false → FitsMark q k → FitsMark q (greeting_mark c inc)
-  others_fit q apart fits = left_fits q fits (fits.older (λ same. true_false
+  others_fit q apart fits = left_fits q fits (fits.older (λ same. true≢false
       (sym (same_block-refl (block_of k)) ∙ (ap (same_block (block_of k)) same ∙ apart))))
 
   others_marked : (q : PrivateQueue) → is_queue_of (block_of k) q ≡ false → HasMark s.marks q → HasMark (set_mark (greeting_mark c inc) s.marks) q
@@ -164,7 +156,7 @@ module _ (s : HandlerState) (c : ClientId) (inc : ℕ) (k : Mark) (is : IsState 
   IsState-newer = IsState-changed s (holder_without c s.holder) (greeting_mark c inc) k (cut (block_of k) s.queues) is (record {
     found = found;
     under_way = holder_without-under_way c (greeting_mark c inc) s.holder s.marks refl is.holder;
-    own = λ held. absurd (false_true held);
+    own = λ held. absurd (false≢true held);
     others = λ b apart e. holder_without-other c s.holder b apart e;
     unused = fresh_unused _ Shut;
     opened = never_open _ (greeting_mark c inc) refl;
@@ -192,7 +184,7 @@ IsState-granted s b k is at new free clear = IsState-changed s (Some b) (fresh_m
   found = at.found;
   under_way = under_way-own (fresh_mark b Held) k s.marks at.found refl;
   own = λ held. refl;
-  others = λ x apart e. absurd (none_some (sym free ∙ e));
+  others = λ x apart e. absurd (none-some _ (sym free ∙ e));
   unused = fresh_unused b Held;
   opened = never_open s.queues (fresh_mark b Held) refl;
   others_open = λ x apart. refl;
@@ -213,7 +205,7 @@ pub IsState-skipped : (s : HandlerState) (b : Block) (k : Mark) → IsState s �
 IsState-skipped s b k is at new clear = IsState-changed s s.holder (fresh_mark b Shut) k s.queues is (record {
   found = at.found;
   under_way = by_holder s.holder refl;
-  own = λ held. absurd (false_true held);
+  own = λ held. absurd (false≢true held);
   others = λ x apart e. e;
   unused = fresh_unused b Shut;
   opened = never_open s.queues (fresh_mark b Shut) refl;
@@ -227,7 +219,7 @@ IsState-skipped s b k is at new clear = IsState-changed s s.holder (fresh_mark b
         let of : x.client ≡ b.client = client_from_same x.client b.client same in
         let newest : block_of k ≡ x = holder_is_newest s x k is (ap (λ c. mark_of c s.marks) of ∙ at.found) e in
         let holds : is_holder s.holder (block_of k) ≡ true = ap (λ h. is_holder h (block_of k)) e ∙ (ap (same_block x) newest ∙ same_block-refl x) in
-        absurd (true_false (sym (ap (λ t. t || is_open k.stage && not k.ended) holds) ∙ clear))
+        absurd (true≢false (sym (ap (λ t. t || is_open k.stage && not k.ended) holds) ∙ clear))
     | inr other ↦ other
   ]
 
@@ -243,7 +235,7 @@ without_hold-unused k was = by_stage k.stage refl where
   by_stage Held e = let not_open : is_open k.stage ≡ false = ap is_open e in
       let none = was.unused not_open in
       record { unused = λ t. record { received = none.received; ended = none.ended; kept = none.kept } }
-  by_stage Open e = record { unused = λ t. absurd (true_false t) }
+  by_stage Open e = record { unused = λ t. absurd (true≢false t) }
   by_stage Shut e = let not_open : is_open k.stage ≡ false = ap is_open e in
       let none = was.unused not_open in
       record { unused = λ t. record { received = none.received; ended = none.ended; kept = none.kept } }
@@ -283,9 +275,9 @@ IsState-freed s b k is at holds =
       marked = marked-set s (without_hold k) k is own (without_hold-fits k);
     }) where
       never : (stage : Stage) → IsTrue (is_held (cond (is_held stage) Shut stage)) → ⊥
-      never Held held = false_true held
-      never Open held = false_true held
-      never Shut held = false_true held
+      never Held held = false≢true held
+      never Open held = false≢true held
+      never Shut held = false≢true held
 
       clash : (x : Block) → same_client x.client b.client ≡ false → s.holder ≡ Some x → ⊥
       clash x apart e = let same : same_block x b ≡ true = sym (ap (λ h. is_holder h b) e) ∙ holds in grind (arith, nat_tests)
@@ -298,19 +290,19 @@ IsState-first s c inc is none room = record {
   room = rw (length-add_mark (greeting_mark c inc) s.marks) (omega arith);
   ascending = IsAscending-add_mark (greeting_mark c inc) s.marks none is.ascending;
   holder = by_holder s.holder is.holder;
-  held = All-add_mark (HoldsIfHeld s.holder) (HoldsIfHeld s.holder) (greeting_mark c inc) s.marks (record { holds = λ held. absurd (false_true held) })
+  held = All-add_mark (HoldsIfHeld s.holder) (HoldsIfHeld s.holder) (greeting_mark c inc) s.marks (record { holds = λ held. absurd (false≢true held) })
       (λ x p. p) is.held;
   unused = All-add_mark IsUnusedUnlessOpen IsUnusedUnlessOpen (greeting_mark c inc) s.marks (fresh_unused _ Shut) (λ x p. p) is.unused;
   opened = All-add_mark (HasQueueIfOpen s.queues) (HasQueueIfOpen s.queues) (greeting_mark c inc) s.marks (never_open s.queues (greeting_mark c inc) refl)
       (λ x p. p) is.opened;
   queues = is.queues;
-  marked = All-queues IsQueue (HasMark s.marks) (HasMark (add_mark (greeting_mark c inc) s.marks)) s.queues
-      (λ q sound has. HasMark-add (greeting_mark c inc) s.marks q none has) is.queues.each is.marked;
+  marked = all_both IsQueue (HasMark s.marks) (HasMark (add_mark (greeting_mark c inc) s.marks))
+      (λ q sound has. HasMark-add (greeting_mark c inc) s.marks q none has) s.queues is.queues.each is.marked;
   words = is.words;
 } where
   apart : (b : Block) (m : Mark) → mark_of b.client s.marks ≡ Some m → same_client c b.client ≡ false
   apart b m found = elim (cases_Bool (same_client c b.client)) [
-    | inl same ↦ absurd (none_some (sym none ∙ (ap (λ d. mark_of d s.marks) (client_from_same c b.client same) ∙ found)))
+    | inl same ↦ absurd (none-some _ (sym none ∙ (ap (λ d. mark_of d s.marks) (client_from_same c b.client same) ∙ found)))
     | inr other ↦ other
   ]
 
@@ -346,7 +338,7 @@ module _ (s : HandlerState) (b : Block) (k : Mark) (is : IsState s) (at : IsHear
   -- the block has no private queue yet
   pub absent : has_queue b s.queues ≡ false
   absent = none_of (λ q. is_queue_of b q ≡ false) b s.queues (λ q e. e)
-      (All-queues IsQueue (HasMark s.marks) (λ q. is_queue_of b q ≡ false) s.queues apart is.queues.each is.marked) where
+      (all_both IsQueue (HasMark s.marks) (λ q. is_queue_of b q ≡ false) apart s.queues is.queues.each is.marked) where
         apart : (q : PrivateQueue) → IsQueue q → HasMark s.marks q → is_queue_of b q ≡ false
         apart q sound has = elim (cases_Bool (is_queue_of b q)) [
           | inl mine ↦
@@ -361,20 +353,20 @@ module _ (s : HandlerState) (b : Block) (k : Mark) (is : IsState s) (at : IsHear
     not_above = inr (sym at.inc, omega (arith, same_num));
     newest = λ same. let received = unused.received in record { received = omega arith; unfinished = λ takes. ap not unused.ended };
     older = λ apart. absurd (apart is_newest);
-    cut = λ cut_off. absurd (false_true cut_off);
+    cut = λ cut_off. absurd (false≢true cut_off);
   }
 
   pub IsState-opened : IsState (with_queue s b k)
   IsState-opened = IsState-changed s s.holder (opened_mark k) k (opened b s.queues) is (record {
     found = own_mark;
     under_way = subst (λ h. HolderIsUnderWay h (set_mark (opened_mark k) s.marks)) (sym holds) (under_way-own (opened_mark k) k s.marks own_mark refl);
-    own = λ is_held_now. absurd (false_true is_held_now);
+    own = λ is_held_now. absurd (false≢true is_held_now);
     others = λ x apart e. e;
-    unused = record { unused = λ not_open. absurd (true_false not_open) };
+    unused = record { unused = λ not_open. absurd (true≢false not_open) };
     opened = record { has = λ stage more. ap (λ d. has_open d (opened b s.queues)) is_newest ∙ there };
     others_open = λ x apart. others x (apart_blocks x b (ap (same_client x.client) (sym of_client) ∙ apart));
     queues = IsQueues-opened b s.queues is.queues fits;
-    marked = All-append (HasMark (set_mark (opened_mark k) s.marks)) s.queues (new_queue b ∷ [])
+    marked = all_append (HasMark (set_mark (opened_mark k) s.marks)) s.queues (new_queue b ∷ [])
         (marked-set s (opened_mark k) k is own_mark (λ q sound fit. FitsMark-other q k (opened_mark k) refl (no_queue_yet q k sound fit unused closed) fit)) (
           record {
             mark = opened_mark k;
@@ -407,12 +399,6 @@ opening_fits b qs sound =
     rw (below, none) refl
 
 -- ---- entries are taken
-
-pub pending-limit : (b : Block) (qs : List PrivateQueue) → IsQueues qs → pending b qs ≤ MAX_PENDING
-pending-limit b qs sound = by_found (queue_of b qs) refl where
-  by_found : (o : Option PrivateQueue) → queue_of b qs ≡ o → option_map_or (λ (q : PrivateQueue). length q.entries) o 0 ≤ MAX_PENDING
-  by_found None is = omega arith
-  by_found (Some q) is = let sound_one = IsQueue-found b q qs sound.each is in sound_one.limit
 
 pub has_room : (s : HandlerState) (b : Block) (more : ℕ) → has_no_room s b more ≡ false → pending b s.queues + more ≤ MAX_PENDING
 has_room s b more e = grind (arith, nat_tests)
@@ -451,7 +437,7 @@ roomy k last es e = record {
   highest : (last == 2 ^ 32 - 1 && not (ends es)) ≡ false → ends es ≡ false → last < 2 ^ 32 → last < 2 ^ 32 - 1
   highest e more lt = by_test (last == 2 ^ 32 - 1) refl (ap (λ t. last == 2 ^ 32 - 1 && not t) (sym more) ∙ e) where
     by_test : (t : Bool) → (last == 2 ^ 32 - 1) ≡ t → (t && true) ≡ false → last < 2 ^ 32 - 1
-    by_test true is f = absurd (true_false f)
+    by_test true is f = absurd (true≢false f)
     by_test false apart f = grind (arith, nat_tests)
 
 module _ (s : HandlerState) (b : Block) (n : ℕ) (es : List Entry) (k : Mark) (is : IsState s) (at : IsLogAt s b k) (next : IsNext k n es)
@@ -537,11 +523,11 @@ module _ (s : HandlerState) (b : Block) (n : ℕ) (es : List Entry) (k : Mark) (
     cut = λ cut_off. still (ends new) cut_off;
   } where
     unended : (t : Bool) → ends new ≡ t → takes_more (cond t Ended q.state) ≡ true → (is_open k.stage && not (ends es)) ≡ true
-    unended true is_end takes = absurd (false_true takes)
+    unended true is_end takes = absurd (false≢true takes)
     unended false more takes = rw (ap is_open at.stage, sym ends_new ∙ more) refl
 
     still : (t : Bool) → IsTrue (is_cut (cond t Ended q.state)) → q.block.inc < k.inc
-    still true cut_off = absurd (false_true cut_off)
+    still true cut_off = absurd (false≢true cut_off)
     still false cut_off = fits.cut cut_off
 
   own_marked_taken : (q : PrivateQueue) → is_queue_of b q ≡ true → HasMark s.marks q
@@ -562,7 +548,7 @@ module _ (s : HandlerState) (b : Block) (n : ℕ) (es : List Entry) (k : Mark) (
   others_taken : (q : PrivateQueue) → is_queue_of b q ≡ false → HasMark s.marks q → HasMark (set_mark taken_mark s.marks) q
   others_taken q apart has =
       HasMark-set taken_mark k s.marks q log_mark
-      (λ same fits. FitsMark-other q k taken_mark refl (λ block. true_false (sym (same_block-refl b) ∙ (ap (same_block b) (sym log_newest ∙ block) ∙ apart)))
+      (λ same fits. FitsMark-other q k taken_mark refl (λ block. true≢false (sym (same_block-refl b) ∙ (ap (same_block b) (sym log_newest ∙ block) ∙ apart)))
       fits)
       has
 
@@ -572,7 +558,7 @@ module _ (s : HandlerState) (b : Block) (n : ℕ) (es : List Entry) (k : Mark) (
     under_way = by_holder s.holder refl;
     own = λ held. absurd (never k.stage at.stage held);
     others = λ x apart e. e;
-    unused = record { unused = λ not_open. absurd (true_false (sym (ap is_open at.stage) ∙ not_open)) };
+    unused = record { unused = λ not_open. absurd (true≢false (sym (ap is_open at.stage) ∙ not_open)) };
     opened = record { has = λ stage more. ap (λ d. has_open d (put_all b new s.queues)) log_newest ∙ by_queue (open_queue b s.queues has_it) more };
     others_open = λ x apart. others x (apart_blocks x b (ap (same_client x.client) (sym log_client) ∙ apart));
     queues = IsQueues-put_all b new s.queues is.queues some_new end_new numbers_new fits_queue;
@@ -580,7 +566,7 @@ module _ (s : HandlerState) (b : Block) (n : ℕ) (es : List Entry) (k : Mark) (
         (λ q. queue_with_entries new q ∷ []) s.queues is.queues.apart own_marked_taken others_taken is.marked;
   }) where
     never : (stage : Stage) → stage ≡ Open → IsTrue (is_held stage) → ⊥
-    never stage e held = false_true (sym (ap is_held e) ∙ held)
+    never stage e held = false≢true (sym (ap is_held e) ∙ held)
 
     by_queue : (q : PrivateQueue) × (queue_of b s.queues ≡ Some q) × (takes_more q.state ≡ true) → ends es ≡ false → has_open b (put_all b new s.queues) ≡ true
     by_queue found more =

@@ -2,6 +2,7 @@
 -- a row, so the law is true of it; and a call gives that outcome, or has changed nothing.
 use Rattle.std.proofs.Common.{◌≡◌, ℕ, ◌<◌, ◌≤◌, ◌⊎◌, Bool, true, false, ◌||◌, IsTrue, cond, List, length, Option, Some, None, refl, sym, ap, subst, ◌∙◌, inl, inr, arith}
 use Rattle.std.proofs.lemmas.Bool.Decides.{nat_tests}
+use Rattle.std.proofs.lemmas.Option.{none-some}
 use Rattle.std.specs.Prelude.{IsFalse, Result, Ok, Err, IfOk, OnErr}
 use Rattle.scoop_message.specs.declared.name.Block.{Block}
 use Rattle.scoop_message.specs.declared.name.ClientId.{ClientId}
@@ -29,9 +30,6 @@ use Rattle.scoop_handler.proofs.MarkLists.{mark_of-client, client_from_same, All
 use Rattle.scoop_handler.proofs.Fronts.{FrontStays, FrontStays-is_some, FrontStays-opened, FrontStays-cut, FrontStays-put_all, MarksGrow-refl, MarksGrow-set, MarksGrow-add}
 use Rattle.scoop_handler.proofs.States.{IsState-first, IsState-newer, IsState-granted, IsState-opened, IsState-skipped, IsState-freed, may_take, holder_is_newest}
 use Rattle.scoop_handler.proofs.TableRows.{row}
-
-none_some : {X : Type 0} {x : X} → None ≡ Some x → ⊥
-none_some e = cc
 
 -- every message that a program holds
 pub HasEntries-message : (m : Message) → IsMessage m → HasEntries m
@@ -208,7 +206,7 @@ replies-row s m h (already_received x b n es k here at before kept) has =
     given (Log x b n es) (Logged s.number b k.received) (sym here) refl refl refl refl (λ f. numbered b n es f has.0 k.received before)
 replies-row s m h (is_taken x b n es k here at next goes_on room) has =
     given (Log x b n es) (Logged s.number b (last_number n es)) (sym here) refl refl refl refl (λ f. numbered b n es f has.0 (last_number n es) (omega arith))
-replies-row s m h r has = λ reply e. absurd (none_some e)
+replies-row s m h r has = λ reply e. absurd (none-some _ e)
 
 -- ---- where a call has heard
 

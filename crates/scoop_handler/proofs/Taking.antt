@@ -1,7 +1,7 @@
 -- A handler that takes another state.
 use Rattle.std.proofs.Common.{◌≡◌, ℕ, Bool, true, false, IsTrue, List, ◌++◌, length, take, drop, Option, Some, None, is_some, refl, sym, ap, ◌∙◌, subst, true≢false}
 use Rattle.std.specs.Option.{option_map}
-use Rattle.std.proofs.lemmas.Option.{same_Some}
+use Rattle.std.proofs.lemmas.Option.{none-some, same_Some}
 use Rattle.scoop_message.specs.declared.name.Block.{Block}
 use Rattle.scoop_message.specs.declared.name.HandlerId.{HandlerId}
 use Rattle.scoop_message.specs.declared.request.Entry.{Entry}
@@ -13,7 +13,7 @@ use Rattle.scoop_handler.specs.Marks.{set_mark}
 use Rattle.scoop_handler.specs.State.{HandlerState, IsState, state_of}
 use Rattle.scoop_handler.specs.Core.{Core, IsCore, core_of, with_state}
 use Rattle.scoop_handler.specs.Running.{Task, FitsClass, MayReset, first_task, job_out, task_of}
-use Rattle.scoop_handler.proofs.MarkLists.{length-set_mark, none_some}
+use Rattle.scoop_handler.proofs.MarkLists.{length-set_mark}
 use Rattle.scoop_handler.proofs.Fronts.{FrontStays, FrontStays-is_some}
 
 out-first : (c : Core) → c.out ≡ true → job_out c ≡ first_task c
@@ -34,7 +34,7 @@ alike d c same some = by (front c.state.queues) refl (front d.state.queues) refl
     by None none e is = absurd (true≢false (sym (rw none at some)))
     by (Some f) there None is =
         let none : None ≡ Some (task_of c f) = sym (ap (option_map (task_of d)) is) ∙ same ∙ ap (option_map (task_of c)) there in
-        absurd (none_some none)
+        absurd (none-some _ none)
     by (Some f) there (Some e) is =
         let both : Some (task_of d e) ≡ Some (task_of c f) = sym (ap (option_map (task_of d)) is) ∙ same ∙ ap (option_map (task_of c)) there in
         (ap (λ (t : Task). t.words) (same_Some (task_of d e) (task_of c f) both), rw is refl)

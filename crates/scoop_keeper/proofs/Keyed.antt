@@ -1,18 +1,17 @@
 -- Lists whose items are found by a key. Code finds a place and writes there; the definitions look up by a key. As keys
 -- don't repeat, the first item that passes a test is the one with the key, and a write at its place is a replacement by key.
-use Rattle.std.proofs.Common.{◌≡◌, ◌⊎◌, inl, inr, ⊎_elim, ℕ, zero, suc, ◌+◌, ◌<◌, Bool, true, false, ◌||◌, true≢false, List, [], ◌∷◌, ◌++◌, map, find, length, drop, take, get_or, set, slice_get, Option, Some, None, Contains, refl, sym, ap, ◌∙◌, subst, arith}
+use Rattle.std.proofs.Common.{◌≡◌, ℕ, zero, suc, ◌+◌, ◌<◌, Bool, true, false, ◌||◌, true≢false, List, [], ◌∷◌, map, find, length, drop, take, get_or, set, slice_get, Option, Some, None, Contains, refl, sym, ap, ◌∙◌, subst, arith}
 use Rattle.std.specs.Prelude.{if◌then◌else◌}
 use Rattle.std.specs.Bool.{Decides}
 use Rattle.std.specs.List.{AllByRecursion, list_any}
 use Rattle.std.specs.Option.{option_map}
-use Rattle.std.proofs.lemmas.Option.{slice_get-map, slice_get-get_or, slice_get_within, get_or_from_slice_get}
-use Rattle.std.proofs.lemmas.List.{set-get_or, take-map, take_more, map-append}
+use Rattle.std.proofs.lemmas.Option.{slice_get-map, slice_get-get_or}
+use Rattle.std.proofs.lemmas.List.{set-get_or, take-map}
 use Rattle.scoop_message.specs.Lists.{NoRepeats}
+pub use Rattle.scoop_handler.proofs.Basics.{by_test}
+use Rattle.scoop_handler.proofs.Once.{once_more}
 use Rattle.scoop_keeper.specs.Keyed.{IsFirst, IsFirstRepeat}
-
-pub by_test : (Q : Bool → Type 0) (b : Bool) → (b ≡ true → Q true) → (b ≡ false → Q false) → Q b
-by_test Q true t f = t refl
-by_test Q false t f = f refl
+use Rattle.scoop_keeper.proofs.Lists.{taken}
 
 -- ---- the first that passes a test
 
@@ -95,45 +94,6 @@ all_set_at P (x ∷ xs) (suc i) a all own = (all.0, all_set_at P xs i a all.1 ow
 
 -- ---- a list in which nothing is repeated
 
-module _ {A : Type 0} where
-  pushed_at : (xs : List A) (y x : A) (i : ℕ) → slice_get (xs ++ y ∷ []) i ≡ Some x → (slice_get xs i ≡ Some x) ⊎ ((i ≡ length xs) × (y ≡ x))
-  pushed_at [] y x zero e = inr (refl, cc)
-  pushed_at [] y x (suc i) e = absurd (cc)
-  pushed_at (z ∷ zs) y x zero e = inl e
-  pushed_at (z ∷ zs) y x (suc i) e =
-      ⊎_elim
-      (λ (p : slice_get zs i ≡ Some x). inl p)
-      (λ (p : (i ≡ length zs) × (y ≡ x)). inr (ap suc p.0, p.1))
-      (pushed_at zs y x i e)
-
-  once_pushed : (xs : List A) (y : A) → NoRepeats xs → ((i : ℕ) → slice_get xs i ≡ Some y → ⊥) → NoRepeats (xs ++ y ∷ [])
-  once_pushed xs y once new i j x e f =
-      ⊎_elim
-      (λ (p : slice_get xs i ≡ Some x).
-      ⊎_elim
-      (λ (q : slice_get xs j ≡ Some x). once i j x p q)
-      (λ (q : (j ≡ length xs) × (y ≡ x)). absurd (new i (p ∙ ap Some (sym q.1))))
-      (pushed_at xs y x j f))
-      (λ (p : (i ≡ length xs) × (y ≡ x)).
-      ⊎_elim
-      (λ (q : slice_get xs j ≡ Some x). absurd (new j (q ∙ ap Some (sym p.1))))
-      (λ (q : (j ≡ length xs) × (y ≡ x)). p.0 ∙ sym q.0)
-      (pushed_at xs y x j f))
-      (pushed_at xs y x i e)
-
-module _ {A B : Type 0} (key : A → B) where
-  absent : (xs : List A) (b : B) → AllByRecursion (λ x. key x ≡ b → ⊥) xs → (i : ℕ) → slice_get (map key xs) i ≡ Some b → ⊥
-  absent [] b apart i e = absurd (cc)
-  absent (x ∷ xs) b apart zero e = let same : key x ≡ b = cc in apart.0 same
-  absent (x ∷ xs) b apart (suc i) e = absent xs b apart.1 i e
-
-  -- no key stands twice, where the new one's is none of the others'
-  pub once_more : (xs : List A) (y : A) → NoRepeats (map key xs) → AllByRecursion (λ x. key x ≡ key y → ⊥) xs → NoRepeats (map key (xs ++ y ∷ []))
-  once_more xs y once apart = subst NoRepeats (sym (map-append key xs (y ∷ []))) (once_pushed (map key xs) (key y) once (absent xs (key y) apart))
-
-longer : {A : Type 0} (xs : List A) (i : ℕ) (x : A) → slice_get xs i ≡ Some x → take (i + 1) xs ≡ take i xs ++ x ∷ []
-longer {A} xs i x at = take_more xs i x (slice_get_within xs i x at) ∙ ap (λ (y : A). take i xs ++ y ∷ []) (get_or_from_slice_get xs i x x at)
-
 module _ {A K : Type 0} (key : A → K) (same : K → K → Bool) (decides : (a b : K) → Decides (same a b) (a ≡ b)) where
   none_has : (xs : List A) (k : K) → list_any (λ x. same (key x) k) xs ≡ false → AllByRecursion (λ x. key x ≡ k → ⊥) xs
   none_has [] k e = tt
@@ -153,7 +113,7 @@ module _ {A K : Type 0} (key : A → K) (same : K → K → Bool) (decides : (a 
   pub once_longer : (xs : List A) (i : ℕ) (x : A) → slice_get xs i ≡ Some x → NoRepeats (map key (take i xs))
       → list_any (λ y. same (key y) (key x)) (take i xs) ≡ false → NoRepeats (map key (take (i + 1) xs))
   once_longer xs i x at once new =
-      subst (λ (ys : List A). NoRepeats (map key ys)) (sym (longer xs i x at)) (once_more key (take i xs) x once (none_has (take i xs) (key x) new))
+      subst (λ (ys : List A). NoRepeats (map key ys)) (sym (taken xs i x at)) (once_more key (take i xs) x once (none_has (take i xs) (key x) new))
 
   -- and one whose key one of them has
   pub first_repeat : (xs : List A) (i : ℕ) (x : A) → slice_get xs i ≡ Some x → NoRepeats (map key (take i xs))

@@ -4,6 +4,5 @@ pub mod Facts
 pub mod Handlers
 pub mod Windows
 pub mod Onward
-pub mod Once
 pub mod Clients
 pub mod Runs

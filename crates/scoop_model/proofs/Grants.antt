@@ -25,7 +25,8 @@ use Rattle.scoop_handler.specs.Rows.{Row, lock_granted}
 use Rattle.scoop_handler.proofs.MarkLists.{mark_of-set_mark_own}
 use Rattle.scoop_handler.proofs.TableRows.{row}
 use Rattle.scoop_handler.proofs.TableLaws.{grows-row, number-row}
-use Rattle.scoop_handler.proofs.After.{MarksGrow-after, MarksGrow-same}
+use Rattle.scoop_handler.proofs.After.{MarksGrow-after}
+use Rattle.scoop_handler.proofs.Fronts.{MarksGrow-refl}
 use Rattle.scoop_model.specs.declared.event.Event.{Event}
 use Rattle.scoop_model.specs.declared.event.Event.TheVariants.{Take, Begin, Finish}
 use Rattle.scoop_model.specs.declared.note.WorldNote.{WorldNote}
@@ -230,7 +231,7 @@ module _ (w : World) (o : Ordered w) where
         granted_set w (heard_site s now) s (subst (λ j. site_of j w ≡ Some s) (sym (number-row s.core.state m now by)) (own_site w (handler_of m) s here))
         (grows-row s.core.state m now by) h b g);
     notices = λ i m p was goes at. g;
-    begins = λ j s t here is. granted_set w (begun_site s) s (own_site w j s here) (MarksGrow-same s.core.state.marks) h b g;
+    begins = λ j s t here is. granted_set w (begun_site s) s (own_site w j s here) (MarksGrow-refl s.core.state.marks) h b g;
     finishes = λ j s t here is. granted_set w (finished_site s t) s (own_site w j s here) (MarksGrow-after (ran_of t) s.core.state.marks) h b g;
     restarts = λ c p at room. g;
     reopens = λ n. granted_anew w.joint n h b w.sites o.sites g;

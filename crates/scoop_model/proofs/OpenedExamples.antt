@@ -7,7 +7,7 @@ use Rattle.scoop_model.specs.Opening.{IsPlaced, IsJoining}
 use Rattle.scoop_message.specs.Lists.{NoRepeats}
 use Rattle.scoop_model.specs.Examples.Parties.{CellsMayOpen, CounterMayOpen, handler, client, cell, counter, placed, joins}
 use Rattle.scoop_model.proofs.Beginnings.{no_repeats}
-use Rattle.scoop_model.proofs.Answering.Once.{once_more}
+use Rattle.scoop_handler.proofs.Once.{once_more}
 
 other_handler : (m n : ℕ) → (m ≡ n → ⊥) → handler m ≡ handler n → ⊥
 other_handler m n apart e = apart (ap (λ (h : HandlerId). h.0) e)

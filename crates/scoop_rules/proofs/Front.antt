@@ -8,7 +8,7 @@ use Rattle.scoop_message.specs.declared.request.Entry.{Entry}
 use Rattle.scoop_message.specs.Message.{same_block}
 use Rattle.scoop_queue.specs.declared.state.QueueState.{QueueState}
 use Rattle.scoop_queue.specs.Queue.{front, first_of}
-use Rattle.scoop_handler.proofs.MarkLists.{none_some}
+use Rattle.std.proofs.lemmas.Option.{none-some}
 use Rattle.scoop_model.specs.World.{has_block}
 use Rattle.scoop_model.specs.Safe.{IsSubsequence, nothing, left_out, taken}
 use Rattle.scoop_rules.specs.Paper.{Waiting}
@@ -36,7 +36,7 @@ pub record FirstSlot (u : Block × ℕ × Entry) (s : Slot) : Type 0 where
   pub number : length s.ran + 1 ≡ u.1
 
 first_slot : (s : Slot) (t : QueueState) (u : Block × ℕ × Entry) (es : List Entry) → s.rest ≡ es → first_of (slot_queue s t) es ≡ Some u → FirstSlot u s
-first_slot s t u [] is e = absurd (none_some e)
+first_slot s t u [] is e = absurd (none-some _ e)
 first_slot s t u (x ∷ es) is e =
     let same : (s.block, length s.ran + 1, x) ≡ u = cc in
     record {
@@ -159,7 +159,7 @@ pub parted :
     → IsSubsequence (blocks_of ss) js → AreApart js → ((b : Block) → has_block js b ≡ true → IsPlaced f (blocks_of ss) js b) → AllByRecursion P ss
     → front (queues_of ss) ≡ Some u
     → Parted f P u js
-parted f P u gone [] js sub d placed all e = absurd (none_some e)
+parted f P u gone [] js sub d placed all e = absurd (none-some _ e)
 parted f P u gone (s ∷ ss) [] sub d placed all e = absurd (left_nothing s.block (blocks_of ss) sub)
 parted f P u gone (s ∷ ss) (y ∷ ys) sub d placed all e = ⊎_elim
     (λ (t : IsSubsequence (blocks_of (s ∷ ss)) ys).

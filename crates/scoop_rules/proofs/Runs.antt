@@ -9,7 +9,7 @@ use Rattle.std.proofs.lemmas.Bool.Decides.{nat_tests}
 use Rattle.std.proofs.lemmas.Grind.{flat_map-append}
 use Rattle.std.proofs.lemmas.List.Elements.{filter-append}
 use Rattle.std.proofs.lemmas.List.Folds.{list_any-append}
-use Rattle.std.proofs.lemmas.Option.{same_Some}
+use Rattle.std.proofs.lemmas.Option.{none-some, same_Some}
 use Rattle.scoop_message.specs.declared.name.Block.{Block}
 use Rattle.scoop_message.specs.declared.name.HandlerId.{HandlerId}
 use Rattle.scoop_message.specs.declared.request.Entry.{Entry}
@@ -23,7 +23,6 @@ use Rattle.scoop_queue.specs.Queue.{front}
 use Rattle.scoop_handler.specs.declared.ran.Ran.{Ran}
 use Rattle.scoop_handler.specs.Core.{Core}
 use Rattle.scoop_handler.specs.Running.{Task, job_out, task_of, ran_of as told_of}
-use Rattle.scoop_handler.proofs.MarkLists.{none_some}
 use Rattle.scoop_handler.proofs.After.{job-front, job-class, job-first}
 use Rattle.scoop_reserve.specs.Handlers.{has}
 use Rattle.scoop_model.specs.World.{World, Site, number_of, site_of, ran_at, opened_at, has_block, set_of, log_of, is_succeeded, received, has_end}
@@ -177,7 +176,7 @@ job_words : (c : Core) (t : Task) → job_out c ≡ Some t → t.words ≡ c.sta
 job_words c t out = of (front c.state.queues) refl
   where
     of : (f : Option (Block × ℕ × Entry)) → front c.state.queues ≡ f → t.words ≡ c.state.words
-    of None none = absurd (none_some (sym (ap (option_map (task_of c)) none) ∙ job-first c t out))
+    of None none = absurd (none-some _ (sym (ap (option_map (task_of c)) none) ∙ job-first c t out))
     of (Some f) some =
         let same : task_of c f ≡ t = same_Some (task_of c f) t (sym (ap (option_map (task_of c)) some) ∙ job-first c t out) in
         sym (ap (λ (x : Task). x.words) same)

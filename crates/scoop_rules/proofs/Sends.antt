@@ -13,7 +13,7 @@ use Rattle.scoop_handler.specs.declared.ran.Ran.{Ran}
 use Rattle.scoop_handler.specs.Marks.{mark_of}
 use Rattle.scoop_handler.specs.Hearing.{Hearing}
 use Rattle.scoop_handler.specs.Rows.{Row, first_greeting, newer_greeting, repeated_greeting, lock_granted, lock_refused, repeated_lock, is_opened, repeated_open, unlock_of_a_block_never_held, is_freed, repeated_unlock, is_answered, already_received, is_taken}
-use Rattle.scoop_handler.proofs.MarkLists.{none_some}
+use Rattle.std.proofs.lemmas.Option.{none-some}
 use Rattle.scoop_reserve.specs.Handlers.{has}
 use Rattle.scoop_model.specs.World.{World, Site, number_of, is_site, site_of, ran_at, set_of, log_of}
 use Rattle.scoop_rules.specs.Paper.{count_of, has_ended, queue_of, queue_at, configuration_of}
@@ -97,4 +97,4 @@ module _ (w : World) (s : Site) (here : site_of (number_of s) w ≡ Some s) (rea
   quiet-row m h (is_answered x b n es k a at heard upto kept) old = plain_reply (Answer (number_of s) b _ a) (λ j y. (refl, refl))
   quiet-row m h (already_received x b n es k at heard upto none) old = count_reply b k _ heard.heard.found heard.heard.inc
   quiet-row m h (is_taken x b n es k at heard next goes_on room) old = count_reply b k _ heard.heard.found heard.heard.inc
-  quiet-row m h r old = λ n e. absurd (none_some e)
+  quiet-row m h r old = λ n e. absurd (none-some _ e)

@@ -38,7 +38,7 @@ use Rattle.scoop_model.proofs.Logging.Facts.{PartyLogs}
 use Rattle.scoop_model.proofs.Answering.Facts.{acked_at, TellsAnswer, IsBehind, AcceptedFits, PartyAnswers, Answering, messages_more, party_answers_more}
 use Rattle.scoop_model.proofs.Answering.Windows.{acked_there, acknowledged_raises, acknowledged_all}
 use Rattle.scoop_model.proofs.Answering.Onward.{Onward, behind_more, onward_heard, onward_commanded}
-use Rattle.scoop_model.proofs.Answering.Once.{once_more}
+use Rattle.scoop_handler.proofs.Once.{once_more}
 
 -- ---- what a client owes is no answer
 

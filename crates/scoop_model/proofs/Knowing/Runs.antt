@@ -13,7 +13,8 @@ use Rattle.scoop_handler.specs.Hearing.{Hearing, hear}
 use Rattle.scoop_handler.specs.Running.{ran_of}
 use Rattle.scoop_handler.proofs.TableRows.{row}
 use Rattle.scoop_handler.proofs.TableLaws.{grows-row, number-row, replies-row}
-use Rattle.scoop_handler.proofs.After.{MarksGrow-after, MarksGrow-same}
+use Rattle.scoop_handler.proofs.After.{MarksGrow-after}
+use Rattle.scoop_handler.proofs.Fronts.{MarksGrow-refl}
 use Rattle.scoop_client.specs.Due.{due}
 use Rattle.scoop_client.specs.Hearing.{heard}
 use Rattle.scoop_client.proofs.DueRows.{due_row}
@@ -97,7 +98,7 @@ module _ (hs : List HandlerId) where
               (heard_known hs w p.client m now.0 now.1 (heard_row p.client m) (sent_all w k m was (Greets w) g.messages)
               (all_found (PartyKnown hs w.sites) (is_party (client_of m)) w.parties p i.parties at));
         });
-    begins = λ h s t here is. site_known w (begun_site s) s i (place w h s here) (MarksGrow-same s.core.state.marks);
+    begins = λ h s t here is. site_known w (begun_site s) s i (place w h s here) (MarksGrow-refl s.core.state.marks);
     finishes = λ h s t here is. site_known w (finished_site s t) s i (place w h s here) (MarksGrow-after (ran_of t) s.core.state.marks);
     restarts = λ c p at room. (
         let k = all_found (PartyKnown hs w.sites) (is_party c) w.parties p i.parties at in

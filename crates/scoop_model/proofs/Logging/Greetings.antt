@@ -25,7 +25,8 @@ use Rattle.scoop_handler.specs.Rows.{Row, first_greeting, newer_greeting, repeat
 use Rattle.scoop_handler.proofs.MarkLists.{mark_of-client, mark_of-add_mark_own, mark_of-set_mark_own, All-mark_of, All-set_mark, All-add_mark}
 use Rattle.scoop_handler.proofs.TableRows.{row}
 use Rattle.scoop_handler.proofs.TableLaws.{grows-row, number-row}
-use Rattle.scoop_handler.proofs.After.{MarksGrow-after, MarksGrow-same}
+use Rattle.scoop_handler.proofs.After.{MarksGrow-after}
+use Rattle.scoop_handler.proofs.Fronts.{MarksGrow-refl}
 use Rattle.scoop_client.specs.Window.{first_entries}
 use Rattle.scoop_client.specs.State.{block_named}
 use Rattle.scoop_client.specs.Due.{due}
@@ -358,9 +359,9 @@ greetings_kept w o i = record {
       party_greets w (with_party w (heard_party p (heard p.client m))) (client_of m) p (heard_party p (heard p.client m)) i at kept.id
       (let e = kept.inc in omega (arith, e)) refl refl refl);
   begins = λ h s t here is.
-      site_greets w (with_site w (begun_site s)) i (begun_site s) s (place w h s here) (MarksGrow-same s.core.state.marks) refl refl
+      site_greets w (with_site w (begun_site s)) i (begun_site s) s (place w h s here) (MarksGrow-refl s.core.state.marks) refl refl
       (all_found (MarksUpto w) (is_site h) w.sites s i.marks here)
-      (old_greets w (with_site w (begun_site s)) i (begun_site s) s (place w h s here) (MarksGrow-same s.core.state.marks) refl refl);
+      (old_greets w (with_site w (begun_site s)) i (begun_site s) s (place w h s here) (MarksGrow-refl s.core.state.marks) refl refl);
   finishes = λ h s t here is.
       site_greets w (with_site w (finished_site s t)) i (finished_site s t) s (place w h s here) (MarksGrow-after (ran_of t) s.core.state.marks) refl refl
       (after_upto (inc_of w) (ran_of t) s.core.state.marks (all_found (MarksUpto w) (is_site h) w.sites s i.marks here))

@@ -20,7 +20,8 @@ use Rattle.scoop_handler.specs.Hearing.{Hearing, hear}
 use Rattle.scoop_handler.specs.Running.{Task, ran_of}
 use Rattle.scoop_handler.proofs.TableRows.{row}
 use Rattle.scoop_handler.proofs.TableLaws.{grows-row, number-row}
-use Rattle.scoop_handler.proofs.After.{MarksGrow-after, MarksGrow-same}
+use Rattle.scoop_handler.proofs.After.{MarksGrow-after}
+use Rattle.scoop_handler.proofs.Fronts.{MarksGrow-refl}
 use Rattle.scoop_reserve.specs.Handlers.{has}
 use Rattle.scoop_model.specs.World.{World, Site, number_of, is_site, site_of, set_site, has_block, sent_at}
 use Rattle.scoop_model.specs.Step.{joined, newly_opened, heard_world, with_site, begun_site, finished_site, reopened, reopened_world, reopened_site}
@@ -220,7 +221,7 @@ module _ (w : World) (o : Ordered w) (h : HandlerId) (s : Site) (found : site_of
   pub begins_ordered : Ordered (with_site w (begun_site s))
   begins_ordered =
       let f = site_fits in
-      site_moves w (begun_site s) s place (MarksGrow-same s.core.state.marks) w.sent o
+      site_moves w (begun_site s) s place (MarksGrow-refl s.core.state.marks) w.sent o
       (record { stored = f.stored; holds = f.holds; next = f.next; left = f.left })
       (λ v there all. all)
 

@@ -3,7 +3,7 @@ use Rattle.std.proofs.Common.{◌≡◌, ◌⊎◌, inl, inr, ◌<◌, Bool, tru
 use Rattle.std.specs.Prelude.{unwrap_or}
 use Rattle.std.specs.List.{AllByRecursion}
 use Rattle.std.specs.Option.{option_map_or}
-use Rattle.std.proofs.lemmas.Option.{same_Some}
+use Rattle.std.proofs.lemmas.Option.{none-some, same_Some}
 use Rattle.scoop_message.specs.declared.name.Block.{Block}
 use Rattle.scoop_message.specs.declared.name.HandlerId.{HandlerId}
 use Rattle.scoop_message.specs.declared.message.Message.TheVariants.{Hello}
@@ -13,7 +13,7 @@ use Rattle.scoop_message.specs.Entries.{ends}
 use Rattle.scoop_message.specs.Message.{same_block}
 use Rattle.scoop_handler.specs.declared.mark.Mark.{Mark}
 use Rattle.scoop_handler.specs.Marks.{mark_of}
-use Rattle.scoop_handler.proofs.MarkLists.{mark_of-client, All-mark_of, none_some}
+use Rattle.scoop_handler.proofs.MarkLists.{mark_of-client, All-mark_of}
 use Rattle.scoop_reserve.specs.Handlers.{has}
 use Rattle.scoop_model.specs.World.{World, Site, number_of, is_site, site_of, has_block, has_end, set_of, opened_at, log_of, is_succeeded}
 use Rattle.scoop_model.specs.Safe.{IsSubsequence, untold}
@@ -148,7 +148,7 @@ module _
     slots = [];
     opened = ap opened_in at;
     ran = ap (λ q. map untold (option_map_or (λ (x : Site). x.ran) q [])) at;
-    queues = λ s e. absurd (none_some (sym at ∙ e));
+    queues = λ s e. absurd (none-some _ (sym at ∙ e));
     begun = tt;
     told = tt;
     gone = tt;
@@ -158,7 +158,7 @@ module _
     placed = λ b m named. (
         let all = joint_stands w standing b m in
         let here : StandsAt w h b = all.stands h (subst (λ hs. has hs h ≡ true) (ap (λ (q : Option (List HandlerId)). unwrap_or q []) all.set) named) in
-        absurd (none_some (sym at ∙ here.found)));
+        absurd (none-some _ (sym at ∙ here.found)));
   }
 
   handler_ready : (h : HandlerId) (q : Option Site) → site_of h w ≡ q → HandlerReady w h

@@ -19,7 +19,8 @@ use Rattle.scoop_handler.specs.State.{HandlerState}
 use Rattle.scoop_handler.specs.Growing.{MarksGrow}
 use Rattle.scoop_handler.specs.Hearing.{Hearing, hear}
 use Rattle.scoop_handler.specs.Running.{Task, ran_of}
-use Rattle.scoop_handler.proofs.After.{MarksGrow-after, MarksGrow-same}
+use Rattle.scoop_handler.proofs.After.{MarksGrow-after}
+use Rattle.scoop_handler.proofs.Fronts.{MarksGrow-refl}
 use Rattle.scoop_handler.proofs.TableRows.{row}
 use Rattle.scoop_handler.proofs.TableLaws.{grows-row, number-row}
 use Rattle.scoop_model.specs.World.{World, Site, has_block, is_site, number_of, opened_at, sent_at, set_site, site_of}
@@ -188,7 +189,7 @@ module _ (w : World) (i : Standing w) (h : HandlerId) (s : Site) (found : site_o
       (λ c p at r held. reservation_more w (with_site w t) on i c p at r held)
 
   pub begins_standing : Standing (with_site w (begun_site s))
-  begins_standing = quiet_site (begun_site s) refl refl (MarksGrow-same s.core.state.marks) (λ b e. e)
+  begins_standing = quiet_site (begun_site s) refl refl (MarksGrow-refl s.core.state.marks) (λ b e. e)
 
   pub finishes_standing : (t : Task) → Standing (with_site w (finished_site s t))
   finishes_standing t =

@@ -1,6 +1,6 @@
 -- What a handler hears leaves a block that holds the lock there held, past or opened, unless it is the block's Unlock.
 use Rattle.std.proofs.Common.{◌≡◌, ◌⊎◌, inl, inr, ◌||◌, ◌&&◌, not, true, false, true≢false, List, map, Some, refl, sym, ap, ◌∙◌, subst, arith}
-use Rattle.std.proofs.lemmas.Option.{same_Some}
+use Rattle.std.proofs.lemmas.Option.{none-some, same_Some}
 use Rattle.scoop_message.specs.declared.name.Block.{Block}
 use Rattle.scoop_message.specs.declared.name.ClientId.{ClientId}
 use Rattle.scoop_message.specs.declared.name.HandlerId.{HandlerId}
@@ -17,7 +17,7 @@ use Rattle.scoop_handler.specs.Hearing.{Hearing, greeting_mark}
 use Rattle.scoop_handler.specs.Running.{mark_after}
 use Rattle.scoop_handler.specs.Rows.{Row, first_greeting, newer_greeting, lock_granted, repeated_lock, is_opened, unlock_of_a_block_never_held, is_freed, is_taken}
 use Rattle.scoop_handler.proofs.After.{found-after}
-use Rattle.scoop_handler.proofs.MarkLists.{none_some, client_from_same, mark_of-client, mark_of-set_mark_own, mark_of-set_mark_other, mark_of-add_mark_other}
+use Rattle.scoop_handler.proofs.MarkLists.{client_from_same, mark_of-client, mark_of-set_mark_own, mark_of-set_mark_other, mark_of-add_mark_other}
 use Rattle.scoop_model.proofs.Basics.{by_test, some_same}
 use Rattle.scoop_model.proofs.Order.Holding.{HeldHolds, IsHeldIn}
 use Rattle.scoop_model.proofs.Order.Lists.{same_block_itself}
@@ -59,7 +59,7 @@ module _ (s : HandlerState) (b : Block) (holds : HeldHolds s) (held : IsHeldIn s
         mark = held.mark;
         found = mark_of-add_mark_other b.client (greeting_mark c inc) s.marks
             (by_test (λ t. same_client c b.client ≡ t → t ≡ false) (same_client c b.client)
-            (λ _ e. absurd (none_some (sym none ∙ ap (λ d. mark_of d s.marks) (client_from_same c b.client e) ∙ held.found)))
+            (λ _ e. absurd (none-some _ (sym none ∙ ap (λ d. mark_of d s.marks) (client_from_same c b.client e) ∙ held.found)))
             (λ _ e. refl) refl)
             ∙ held.found;
         inc = held.inc;
@@ -75,7 +75,7 @@ module _ (s : HandlerState) (b : Block) (holds : HeldHolds s) (held : IsHeldIn s
         found = ap (λ d. mark_of d (set_mark (greeting_mark c inc) s.marks)) same ∙ mark_of-set_mark_own (greeting_mark c inc) k s.marks found;
         newer = omega (arith, before, newer);
       })))
-  held_row m h (lock_granted x y k here at new free clear) = absurd (none_some (sym free ∙ holder))
+  held_row m h (lock_granted x y k here at new free clear) = absurd (none-some _ (sym free ∙ holder))
   held_row m h (is_opened x y k here at same was room) =
       let one : y ≡ b = some_same s.holder y b (holds y (record { mark = k; found = at.found; inc = at.inc; num = same; stage = was })) holder in
       inr (inr (inl (ap OpenedNote one)))

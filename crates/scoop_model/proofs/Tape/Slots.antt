@@ -5,7 +5,7 @@ use Rattle.std.specs.Prelude.{⊤, if◌then◌else◌}
 use Rattle.std.specs.List.{AllByRecursion}
 use Rattle.std.proofs.lemmas.Grind.{flat_map-append}
 use Rattle.std.proofs.lemmas.List.{map-append}
-use Rattle.std.proofs.lemmas.Option.{same_Some}
+use Rattle.std.proofs.lemmas.Option.{none-some, same_Some}
 use Rattle.scoop_message.specs.declared.name.Block.{Block}
 use Rattle.scoop_message.specs.declared.request.Entry.{Entry}
 use Rattle.scoop_message.specs.Entries.{ends}
@@ -15,7 +15,6 @@ use Rattle.scoop_queue.specs.declared.state.QueueState.TheVariants.{Open, Ended,
 use Rattle.scoop_queue.specs.Queue.{PrivateQueue, is_open, at_block, has_queue, with_entries, opened, put_all, left_by_cut, cut, first_of, front, goes_with, advance}
 use Rattle.scoop_queue.specs.Sound.{AreApart}
 use Rattle.scoop_queue.proofs.Lookup.{same_block-true, at_block-absent}
-use Rattle.scoop_handler.proofs.MarkLists.{none_some}
 use Rattle.scoop_model.specs.Safe.{numbered}
 use Rattle.scoop_model.proofs.Basics.{by_test}
 
@@ -333,7 +332,7 @@ first-runs :
     (b : Block) (ran rest : List Entry) (t : QueueState) (ss : List Slot) (f : Block × ℕ × Entry) → NoneRan ss → InTurn ss
     → first_of (slot_queue (slot_of b ran rest (Some t)) t) rest ≡ Some f
     → Runs (slot_of b ran rest (Some t) ∷ ss) (run_rest (slot_of b ran rest (Some t)) t rest ∷ ss) f
-first-runs b ran [] t ss f none turn e = absurd (none_some e)
+first-runs b ran [] t ss f none turn e = absurd (none-some _ e)
 first-runs b ran (x ∷ es) t ss f none turn e = record {
   queues = by_test
       (λ y. queue_in (slot_of b (ran ++ x ∷ []) es (if y then None else Some t)) ++ queues_of ss
@@ -356,7 +355,7 @@ gone-runs b ran rest ss ts f r = record {
 }
 
 pub slots-run : (ss : List Slot) (f : Block × ℕ × Entry) → InTurn ss → front (queues_of ss) ≡ Some f → Runs ss (slots_run ss) f
-slots-run [] f turn e = absurd (none_some e)
+slots-run [] f turn e = absurd (none-some _ e)
 slots-run (s ∷ ss) f turn e = at s.block s.ran s.rest s.state turn.0 e (slots-run ss f turn.1)
   where
     at :

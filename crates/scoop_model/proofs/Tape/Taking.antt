@@ -3,7 +3,7 @@
 use Rattle.std.proofs.Common.{◌≡◌, ℕ, ◌+◌, ◌-◌, Bool, true, false, not, IsTrue, List, [], ◌∷◌, ◌++◌, length, drop, Option, Some, None, refl, sym, ap, ◌∙◌, subst, arith, length-append, append_assoc, append-nil, true≢false}
 use Rattle.std.specs.Prelude.{IsFalse, if◌then◌else◌}
 use Rattle.std.specs.List.{AllByRecursion}
-use Rattle.std.proofs.lemmas.Option.{same_Some}
+use Rattle.std.proofs.lemmas.Option.{none-some, same_Some}
 use Rattle.scoop_message.specs.declared.name.Block.{Block}
 use Rattle.scoop_message.specs.declared.name.HandlerId.{HandlerId}
 use Rattle.scoop_message.specs.declared.request.Entry.{Entry}
@@ -20,7 +20,6 @@ use Rattle.scoop_handler.specs.Marks.{block_of, is_open, mark_of}
 use Rattle.scoop_handler.specs.State.{HandlerState, IsState, FitsMark, FitsNewest, HasMark}
 use Rattle.scoop_handler.specs.Hearing.{Hearing, new_entries}
 use Rattle.scoop_handler.specs.Rows.{Row, IsLogAt, IsNext, newer_greeting, is_opened, is_taken}
-use Rattle.scoop_handler.proofs.MarkLists.{none_some}
 use Rattle.scoop_handler.proofs.TableLaws.{block_of-same}
 use Rattle.scoop_model.specs.Step.{newly_opened}
 use Rattle.scoop_model.proofs.Basics.{by_test}
@@ -48,7 +47,7 @@ each_queue P (s ∷ ss) all = at s.block s.ran s.rest s.state all (each_queue P 
     at :
         (b : Block) (ran rest : List Entry) (o : Option QueueState) → AllByRecursion P (queues_of (slot_of b ran rest o ∷ ss))
         → (AllByRecursion P (queues_of ss) → AllByRecursion (InQueue P) ss) → AllByRecursion (InQueue P) (slot_of b ran rest o ∷ ss)
-    at b ran rest None all later = (record { has = λ t e. absurd (none_some e) }, later all)
+    at b ran rest None all later = (record { has = λ t e. absurd (none-some _ e) }, later all)
     at b ran rest (Some u) all later =
         (record { has = λ t e. subst (λ v. P (slot_queue (slot_of b ran rest (Some u)) v)) (same_Some u t e) all.0 }, later all.1)
 

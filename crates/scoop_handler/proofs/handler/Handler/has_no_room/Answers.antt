@@ -1,5 +1,5 @@
 use Rattle.std.proofs.Common.{arith}
-use Rattle.scoop_handler.proofs.States.{pending-limit}
+use Rattle.scoop_handler.proofs.QueuePlaces.{pending-limit}
 use Rattle.scoop_handler.proofs.handler.Handler.has_no_room.Goals as goal
 
 pub overflow_add-result : goal.overflow_add-result

@@ -1,13 +1,14 @@
 use Rattle.std.proofs.Common.{◌≡◌, sym, ◌∙◌}
 use Rattle.scoop_object.specs.Play.{entry_effect}
-use Rattle.scoop_handler.proofs.After.{IsCore-ran, MarksGrow-after, MarksGrow-same}
+use Rattle.scoop_handler.proofs.After.{IsCore-ran, MarksGrow-after}
+use Rattle.scoop_handler.proofs.Fronts.{MarksGrow-refl}
 use Rattle.scoop_handler.proofs.handler.Handler.run.Goals as goal
 
 pub returns-in_default-clause-grows : goal.returns-in_default-clause-grows
-returns-in_default-clause-grows g c = rw (← c.self.view_is) (MarksGrow-same c.self.inside.marks.items)
+returns-in_default-clause-grows g c = rw (← c.self.view_is) (MarksGrow-refl c.self.inside.marks.items)
 
 pub returns-in_err-block-clause-grows : goal.returns-in_err-block-clause-grows
-returns-in_err-block-clause-grows g c = rw (← c.self.view_is) (MarksGrow-same c.self.inside.marks.items)
+returns-in_err-block-clause-grows g c = rw (← c.self.view_is) (MarksGrow-refl c.self.inside.marks.items)
 
 pub invariant_of-self-2 : goal.invariant_of-self-2
 invariant_of-self-2 g c =
