@@ -4,8 +4,8 @@ ghost use Rattle.std.specs.Prelude.{◌≡◌, ◌<◌, ⊤, [], ◌∷◌, ◌+
 ghost use Rattle.scoop_driver.specs.declared.step.Step.{Step as Made};
 ghost use Rattle.scoop_driver.specs.Steps.{noted};
 
-use crate::step::{Command, Received, Step};
-use scoop_client::Client;
+use crate::step::{Received, Step};
+use scoop_client::{Client, Command};
 use scoop_message::OutOfMemory;
 use std::alloc::{Allocator, Global};
 use std::marker::Model;
