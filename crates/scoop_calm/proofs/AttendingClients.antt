@@ -1,10 +1,11 @@
 -- What a client hears, and what it commands, keeps that it attends to its block: where it had asked it is at work still, or
 -- the handler is done with the block (`Follows`). It leaves a block only once it was given up and its locks are back, or once
 -- its windows are all over, and `Around` has that handlers are done with such a block.
-use Rattle.std.proofs.Common.{◌≡◌, ◌⊎◌, inl, inr, ℕ, ◌-◌, ◌<◌, ◌≤◌, ◌&&◌, Bool, true, false, true≢false, nat_le, List, map, Option, Some, None, refl, sym, ap, ◌∙◌, subst, ⊎_elim, arith}
+use Rattle.std.proofs.Common.{◌≡◌, ◌⊎◌, inl, inr, ℕ, ◌-◌, ◌<◌, ◌≤◌, ◌&&◌, true, false, true≢false, nat_le, List, map, Option, Some, None, refl, sym, ap, ◌∙◌, subst, ⊎_elim, arith}
 use Rattle.std.proofs.lemmas.Option.{same_Some}
 use Rattle.std.specs.Prelude.{if◌then◌else◌}
 use Rattle.std.proofs.lemmas.Bool.Decides.{nat_tests}
+use Rattle.std.proofs.lemmas.Bool.{and_parts}
 use Rattle.scoop_message.specs.declared.name.Block.{Block}
 use Rattle.scoop_message.specs.declared.name.HandlerId.{HandlerId}
 use Rattle.scoop_message.specs.declared.request.Entry.{Entry}
@@ -17,7 +18,7 @@ use Rattle.scoop_reserve.specs.declared.stage.Stage.TheVariants.{Locking, Openin
 use Rattle.scoop_reserve.specs.declared.stage.Step.{Step}
 use Rattle.scoop_reserve.specs.Handlers.{has, without, is_empty, is_lowest}
 use Rattle.scoop_reserve.specs.State.{ReservationState, at_stage}
-use Rattle.scoop_reserve.specs.Hearing.{is_gone, given_up, given_up_in}
+use Rattle.scoop_reserve.specs.Hearing.{is_gone}
 use Rattle.scoop_reserve.specs.Hearing as reservation
 use Rattle.scoop_reserve.proofs.Rows.{HeardRow as StepRow, passed_over as steps_over, one_is_locked, all_are_locked, is_busy, one_is_opened, all_are_opened, is_unlocked, is_given_back, heard_row as step_row}
 use Rattle.scoop_client.specs.declared.phase.ClientNote.{ClientNote}
@@ -175,13 +176,9 @@ module _ (w : World) (c : ClientState) (f : PartyAttends w c) where
     up_to_le h n None = omega arith
     up_to_le h n (Some q) =
         by_test (λ t. (same_handler q.0 h && nat_le q.1 n) ≡ t → (if t then q.1 - 1 else n) ≤ n) (same_handler q.0 h && nat_le q.1 n)
-        (λ _ e. let le : nat_le q.1 n ≡ true = second (same_handler q.0 h) (nat_le q.1 n) e in below le)
+        (λ _ e. let le : nat_le q.1 n ≡ true = (and_parts (same_handler q.0 h) (nat_le q.1 n) e).1 in below le)
         (λ _ e. omega arith) refl
       where
-        second : (t u : Bool) → (t && u) ≡ true → u ≡ true
-        second true u e = e
-        second false u e = absurd (true≢false (sym e))
-
         below : nat_le q.1 n ≡ true → q.1 - 1 ≤ n
         below e = grind (arith, nat_tests)
 

@@ -1,10 +1,10 @@
 -- What a world tells a client that leaves its block, and what replies tell. A block of which no Open was sent is open nowhere,
 -- so it is over once its lock is given back; a block whose windows are over was received up to its End at each of its
 -- handlers, and is over too. That a lock is given back is told by the handler's own replies.
-use Rattle.std.proofs.Common.{◌≡◌, ℕ, ◌<◌, ◌≤◌, ◌==◌, ◌&&◌, ◌||◌, not, Bool, true, false, true≢false, List, [], ◌∷◌, ◌++◌, length, Option, Some, None, refl, sym, ap, ◌∙◌, subst, arith, length-append, append-nil}
+use Rattle.std.proofs.Common.{◌≡◌, ℕ, ◌≤◌, ◌==◌, ◌&&◌, ◌||◌, not, Bool, true, false, true≢false, List, [], ◌∷◌, ◌++◌, length, Option, Some, None, refl, sym, ap, ◌∙◌, subst, arith, length-append, append-nil}
 use Rattle.std.proofs.lemmas.Bool.{and_parts}
 use Rattle.std.specs.Prelude.{if◌then◌else◌, ⊤}
-use Rattle.std.proofs.lemmas.Bool.Decides.{nat_tests}
+use Rattle.std.proofs.Math.Bool.{and-false}
 use Rattle.scoop_message.specs.declared.name.Block.{Block}
 use Rattle.scoop_message.specs.declared.name.HandlerId.{HandlerId}
 use Rattle.scoop_message.specs.declared.request.Entry.{Entry}
@@ -37,6 +37,8 @@ use Rattle.scoop_rules.proofs.Front.{left_has}
 use Rattle.scoop_model.proofs.Standing.Facts.{Standing}
 use Rattle.scoop_model.proofs.Whole.Marks.{MarkTold}
 use Rattle.scoop_model.proofs.Whole.Facts.{SiteTaped, Taped}
+use Rattle.scoop_model.proofs.Whole.Slots.{none_behind}
+use Rattle.scoop_calm.proofs.OpenedAt.{some_if_ends}
 use Rattle.scoop_calm.proofs.Marked.{MarkFits}
 use Rattle.scoop_calm.proofs.MarkedRuns.{SiteMarked, Marked}
 use Rattle.scoop_calm.proofs.Leaving.{IsReleasedIn, IsOverIn}
@@ -50,10 +52,6 @@ open_not : (e : Bool) (stage : MarkStage) → (stage ≡ AtOpen → ⊥) → (is
 open_not e AtHeld off = refl
 open_not e AtOpen off = absurd (off refl)
 open_not e AtShut off = refl
-
-and_not : (t : Bool) → (t && false) ≡ false
-and_not true = refl
-and_not false = refl
 
 pub over_if : (s : HandlerState) (b : Block) → IsReleasedIn s b
     → ((k : Mark) → mark_of b.client s.marks ≡ Some k → block_of k ≡ b → (is_open k.stage && not k.ended) ≡ false) → IsOverIn s b
@@ -108,14 +106,6 @@ over_at (x ∷ xs) h l all found =
     (λ there f. over_at xs h l rest f) found)
     (λ _ own f. absurd (true≢false (sym f))) refl all
 
-empty_is : (es : List Entry) → (length es == 0) ≡ true → es ≡ []
-empty_is [] e = refl
-empty_is (x ∷ xs) e = absurd (true≢false (sym e ∙ (let n : (length (x ∷ xs) == 0) ≡ false = grind (arith, nat_tests) in n)))
-
-some_if_ends : (es : List Entry) → ends es ≡ true → 0 < length es
-some_if_ends [] e = absurd (true≢false (sym e))
-some_if_ends (x ∷ xs) e = omega arith
-
 module _ (w : World) (marked : Marked w) (tape : Taped w) where
   pub over_ended : (r : ReservationState) (ls : List WindowState) → WindowsTold w r ls → all_over ls ≡ true → (h : HandlerId) → has r.handlers h ≡ true
       → IsOver w h r.block
@@ -125,7 +115,7 @@ module _ (w : World) (marked : Marked w) (tape : Taped w) where
       let fits = told.fits h l there.1 in
       let is = and_parts l.ended (length l.unacked == 0) (over_at ls h l over there.1) in
       let log : List Entry = log_of r.block h w in
-      let none = empty_is l.unacked is.1 in
+      let none = none_behind l.unacked is.1 in
       let whole : fits.acknowledged ≡ log = sym (append-nil fits.acknowledged) ∙ ap (λ es. fits.acknowledged ++ es) (sym none) ∙ fits.all in
       let log_ends : ends log ≡ true = sym fits.ended ∙ is.0 in
       let size = some_if_ends log log_ends in
@@ -151,7 +141,7 @@ module _ (w : World) (marked : Marked w) (tape : Taped w) where
             let rest : f.behind ≡ [] = none_long f.behind (omega (arith, sum, parts, at_least, taken_count, long, count)) in
             let all : f.taken ≡ log = sym (append-nil f.taken) ∙ ap (λ es. f.taken ++ es) (sym rest) ∙ here in
             let ended : k.ended ≡ true = sym f.ended ∙ ap ends all ∙ log_ends in
-            ap (λ e. is_open k.stage && not e) ended ∙ and_not (is_open k.stage));
+            ap (λ e. is_open k.stage && not e) ended ∙ and-false (is_open k.stage));
       }
 
 -- ---- what replies tell

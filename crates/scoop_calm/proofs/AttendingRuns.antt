@@ -43,7 +43,7 @@ use Rattle.scoop_model.proofs.Order.Clients.{keeps_row}
 use Rattle.scoop_model.proofs.Order.Commands.{goes_on}
 use Rattle.scoop_model.proofs.Logging.Facts.{WindowsFit, PartyLogs, Logging}
 use Rattle.scoop_model.proofs.Logging.Windows.{window_handler, found_has}
-use Rattle.scoop_model.proofs.Logging.Greetings.{place}
+use Rattle.scoop_model.proofs.Sites.{own_site}
 use Rattle.scoop_model.proofs.Logging.Openings.{StageOpened, Openings}
 use Rattle.scoop_model.proofs.Logging.OpeningClients.{unlocking_is}
 use Rattle.scoop_model.proofs.Logging.OpeningSteps.{none_reserved}
@@ -52,7 +52,8 @@ use Rattle.scoop_model.proofs.Standing.Facts.{Standing}
 use Rattle.scoop_model.proofs.Tape.Slots.{Slot, ran_in, ran_of}
 use Rattle.scoop_model.proofs.Whole.Slots.{SlotWhole}
 use Rattle.scoop_model.proofs.Whole.Facts.{SiteTaped, Taped}
-use Rattle.scoop_calm.proofs.Totals.{Member, all_append}
+use Rattle.scoop_handler.proofs.Basics.{all_append}
+use Rattle.scoop_calm.proofs.Totals.{Member}
 use Rattle.scoop_calm.proofs.Members.{sent_member}
 use Rattle.scoop_calm.proofs.Handlers.{lowest_has}
 use Rattle.scoop_calm.proofs.Reserving.{Reserves}
@@ -240,7 +241,7 @@ module _ (w : World) (g : Background w) (i : Attending w) (k : ℕ) (m : Message
   heard_now = heard_world w s now
 
   still_here : site_of (number_of site_now) w ≡ Some s
-  still_here = subst (λ j. site_of j w ≡ Some s) (sym (number-row s.core.state m now (row s.core.state m))) (place w (handler_of m) s found)
+  still_here = subst (λ j. site_of j w ≡ Some s) (sym (number-row s.core.state m now (row s.core.state m))) (own_site w (handler_of m) s found)
 
   onto_heard : Onto w heard_now
   onto_heard = record {
@@ -324,16 +325,16 @@ attending_kept w g i = record {
       (λ h b a. inl (follows.goes h b a)) follows.attends);
   begins = λ h s t here is.
       same_attends w (with_site w (begun_site s)) i (record {
-        over = λ j b o. at_set (λ st. IsOverIn st b) w (begun_site s) s (place w h s here) (λ x. x) j o;
-        released = λ j b o. at_set (λ st. IsReleasedIn st b) w (begun_site s) s (place w h s here) (λ x. x) j o;
+        over = λ j b o. at_set (λ st. IsOverIn st b) w (begun_site s) s (own_site w h s here) (λ x. x) j o;
+        released = λ j b o. at_set (λ st. IsReleasedIn st b) w (begun_site s) s (own_site w h s here) (λ x. x) j o;
         counts = λ j b. omega arith;
         incs = λ c. omega arith;
         work = λ j b a. inr (inr (record { party = a.party; at = a.at; goes = a.goes }));
       }) refl refl;
   finishes = λ h s t here is.
       same_attends w (with_site w (finished_site s t)) i (record {
-        over = λ j b o. at_set (λ st. IsOverIn st b) w (finished_site s t) s (place w h s here) (over-after t s.core.state b) j o;
-        released = λ j b o. at_set (λ st. IsReleasedIn st b) w (finished_site s t) s (place w h s here) (released-after t s.core.state b) j o;
+        over = λ j b o. at_set (λ st. IsOverIn st b) w (finished_site s t) s (own_site w h s here) (over-after t s.core.state b) j o;
+        released = λ j b o. at_set (λ st. IsReleasedIn st b) w (finished_site s t) s (own_site w h s here) (released-after t s.core.state b) j o;
         counts = λ j b. omega arith;
         incs = λ c. omega arith;
         work = λ j b a. inr (inr (record { party = a.party; at = a.at; goes = a.goes }));

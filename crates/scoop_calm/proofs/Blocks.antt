@@ -42,7 +42,7 @@ use Rattle.scoop_model.proofs.Logging.Openings.{NoOpen, IsMarkOpened, SiteOpened
 use Rattle.scoop_model.proofs.Knowing.Facts.{PartyKnown}
 use Rattle.scoop_rules.proofs.Front.{left_has}
 use Rattle.scoop_calm.proofs.Resting.{IsSettled, HasGivenBack, GaveBack}
-use Rattle.scoop_calm.proofs.Totals.{Member, all_member, distinct, member_found, found_member}
+use Rattle.scoop_calm.proofs.Totals.{Member, all_member, distinct, member_found, found_member, found_in}
 use Rattle.scoop_calm.proofs.Handlers.{Filled, none, some, filled, has_head}
 use Rattle.scoop_calm.proofs.Reserving.{IsSettingOut, opens}
 use Rattle.scoop_calm.specs.declared.next.Next.TheVariants as next
@@ -93,12 +93,6 @@ pub queue_found : (b : Block) (qs : List PrivateQueue) (o : Option PrivateQueue)
     × (queue_of b qs ≡ Some x)
 queue_found b qs None is e = absurd (true≢false (sym e))
 queue_found b qs (Some x) is e = (x, is)
-
-pub found_in : {A : Type 0} (f : A → Bool) (xs : List A) (x : A) → find f xs ≡ Some x → Member x xs
-found_in f [] x e = absurd (cc)
-found_in f (y ∷ ys) x e =
-    by_test (λ t. (if t then Some y else find f ys) ≡ Some x → Member x (y ∷ ys)) (f y) (λ here g. inl (let p : y ≡ x = cc in p))
-    (λ there g. inr (found_in f ys x g)) e
 
 -- a client that has greeted is in the world
 pub party_there : (w : World) (c : ClientId) → 1 ≤ inc_of w c → (p : Party) × (party_of c w ≡ Some p)

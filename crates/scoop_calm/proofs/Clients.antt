@@ -21,9 +21,8 @@ use Rattle.scoop_reserve.specs.declared.stage.Step.{Step}
 use Rattle.scoop_reserve.specs.declared.stage.Step.TheVariants as step
 use Rattle.scoop_reserve.proofs.Rows.{heard_row as step_row}
 use Rattle.scoop_client.specs.declared.phase.ClientNote.{ClientNote}
-use Rattle.scoop_client.specs.declared.phase.Phase.TheVariants.{Greeting, Idle}
 use Rattle.scoop_client.specs.Window.{WindowState, logged, with_entry, with_end, acknowledged, at_window, all_over}
-use Rattle.scoop_client.specs.State.{ClientState, phase_of, phase_of_block, with_windows, with_reservation, idle}
+use Rattle.scoop_client.specs.State.{ClientState, with_windows, with_reservation, idle}
 use Rattle.scoop_client.specs.Hearing.{heard, stepped, after_step, up_to}
 use Rattle.scoop_client.specs.Commands.{Command, Outcome, command, Reserve, DoCall, DoQuery, DoEnd, GiveUp, next_block, with_block, waits_for}
 use Rattle.scoop_client.specs.Rows.{HeardRow, passed_over, is_welcomed, takes_step, is_acknowledged, is_accepted, ReserveRow, begins_block, LogRow, is_logged, EndRow, ends_block, GiveUpRow, gives_up}
@@ -37,6 +36,7 @@ use Rattle.scoop_model.proofs.Order.Clients.{has_without}
 use Rattle.scoop_model.proofs.Order.Commands.{started_fresh}
 use Rattle.scoop_model.proofs.Order.Facts.{all_found, all_set_party}
 use Rattle.scoop_model.proofs.Logging.Commands.{running_is}
+use Rattle.scoop_model.proofs.Knowing.Clients.{none_left as idle_left}
 use Rattle.scoop_calm.proofs.Reserving.{Reserves, fresh_reserves, heard_reserves, give_up_reserves}
 use Rattle.scoop_calm.proofs.WindowsGo.{WindowsGo, fresh_go, logged_go, ended_go, counted_go, answered_go}
 
@@ -123,11 +123,6 @@ heard_fits c m g = row_fits c m (heard c m).0 (heard c m).1 (heard_row c m) g
 
 ok_fits : (c d : ClientState) → ◌≡◌ {A = Outcome} (Ok c) (Ok d) → ClientFits c → ClientFits d
 ok_fits c d e f = let same : c ≡ d = cc in subst ClientFits same f
-
-idle_left : (c : ClientState) → phase_of c ≡ Idle → is_empty c.unwelcomed ≡ true
-idle_left c e =
-    by_test (λ t. (if t then phase_of_block c.windows c.reservation else Greeting) ≡ Idle → t ≡ true) (is_empty c.unwelcomed) (λ _ _. refl)
-    (λ _ f. absurd (cc)) e
 
 some_length : (hs : List HandlerId) → is_empty hs ≡ false → 0 < length hs
 some_length hs e = grind (arith, nat_tests)

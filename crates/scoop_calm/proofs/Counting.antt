@@ -2,6 +2,7 @@
 use Rattle.std.proofs.Common.{◌≡◌, ℕ, ◌+◌, ◌-◌, ◌<◌, ◌≤◌, ◌==◌, ◌&&◌, ◌||◌, Bool, true, false, true≢false, nat_le, nat_lt, List, [], ◌∷◌, length, drop, Option, Some, None, refl, sym, ap, ◌∙◌, arith, length-drop}
 use Rattle.std.specs.Prelude.{if◌then◌else◌}
 use Rattle.std.proofs.lemmas.Bool.Decides.{nat_tests}
+use Rattle.std.proofs.lemmas.Bool.{and_parts}
 use Rattle.scoop_message.specs.declared.name.Block.{Block}
 use Rattle.scoop_message.specs.declared.name.HandlerId.{HandlerId}
 use Rattle.scoop_message.specs.declared.request.Answer.{Answer as ObjectAnswer}
@@ -104,13 +105,9 @@ module _ (c : ClientState) (q : ReservationState) (held : c.reservation ≡ Some
           at None = omega arith
           at (Some x) =
               by_test (λ t. (same_handler x.0 h && nat_le x.1 n) ≡ t → (if t then x.1 - 1 else n) ≤ n) (same_handler x.0 h && nat_le x.1 n)
-              (λ _ e. below x.1 (second (same_handler x.0 h) (nat_le x.1 n) e))
+              (λ _ e. below x.1 (and_parts (same_handler x.0 h) (nat_le x.1 n) e).1)
               (λ _ e. omega arith) refl
             where
-              second : (t u : Bool) → (t && u) ≡ true → u ≡ true
-              second true u e = e
-              second false u e = absurd (true≢false (sym e))
-
               below : (m : ℕ) → nat_le m n ≡ true → m - 1 ≤ n
               below m e = grind (arith, nat_tests)
 

@@ -1,6 +1,7 @@
 -- A client that waits for no answer, and has room in its windows, can end its block.
-use Rattle.std.proofs.Common.{◌≡◌, ℕ, ◌+◌, ◌<◌, ◌||◌, Bool, true, false, true≢false, List, [], ◌∷◌, length, map, Some, None, refl, ap, ◌∙◌, arith, length-append}
+use Rattle.std.proofs.Common.{◌≡◌, ℕ, ◌+◌, ◌<◌, true, false, List, [], ◌∷◌, length, map, Some, None, refl, ap, ◌∙◌, arith, length-append}
 use Rattle.std.specs.Prelude.{if◌then◌else◌, Ok}
+use Rattle.std.proofs.lemmas.Bool.{or_parts}
 use Rattle.scoop_message.specs.declared.request.Entry.TheVariants.{End as EndEntry}
 use Rattle.scoop_reserve.specs.declared.stage.Stage.TheVariants.{Unlocking}
 use Rattle.scoop_reserve.specs.Handlers.{is_empty}
@@ -35,14 +36,10 @@ ended_window l on =
     let was : window_work l ≡ length l.unacked + 2 = ap (λ t. length l.unacked + (if t then 0 else 2)) on in
     omega (arith, size, was)
 
-or_both : (t u : Bool) → (t || u) ≡ false → (t ≡ false) × (u ≡ false)
-or_both true u e = absurd (true≢false e)
-or_both false u e = (refl, e)
-
 ended_windows : (ls : List WindowState) → is_ended ls ≡ false → windows_work (map with_end ls) + length ls ≡ windows_work ls
 ended_windows [] on = refl
 ended_windows (l ∷ ls) on =
-    let b = or_both l.ended (is_ended ls) on in
+    let b = or_parts l.ended (is_ended ls) on in
     let one = ended_window l b.0 in
     let rest = ended_windows ls b.1 in
     omega (arith, one, rest)

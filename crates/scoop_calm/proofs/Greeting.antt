@@ -30,9 +30,11 @@ use Rattle.scoop_model.proofs.Basics.{by_test}
 use Rattle.scoop_model.proofs.Keys.{number_found}
 use Rattle.scoop_model.proofs.Reaching.{sites_placed}
 use Rattle.scoop_model.proofs.Order.Facts.{all_found}
-use Rattle.scoop_model.proofs.Logging.Greetings.{IsMarkUpto, MarksUpto, inc_there, place}
+use Rattle.scoop_model.proofs.Logging.Greetings.{IsMarkUpto, MarksUpto, inc_there}
+use Rattle.scoop_model.proofs.Sites.{own_site}
 use Rattle.scoop_model.proofs.Knowing.Facts.{PartyKnown}
-use Rattle.scoop_calm.proofs.Handlers.{itself, less_without}
+use Rattle.scoop_model.proofs.Whole.Sent.{same_handler_itself}
+use Rattle.scoop_calm.proofs.Handlers.{less_without}
 use Rattle.scoop_calm.proofs.Clients.{PartyFitsWell}
 use Rattle.scoop_calm.proofs.MarkedRuns.{SiteMarked}
 use Rattle.scoop_calm.specs.declared.next.Next.TheVariants as next
@@ -49,11 +51,12 @@ hello_heard s c inc None room le found = record {
   state = with_mark s (greeting_mark c inc);
   told = Greeted;
   is =
-      ap (λ t. if t then hear_hello s c inc (mark_of c s.marks) else dropped s WrongHandler) (itself s.number) ∙ ap (hear_hello s c inc) found
+      ap (λ t. if t then hear_hello s c inc (mark_of c s.marks) else dropped s WrongHandler) (same_handler_itself s.number) ∙ ap (hear_hello s c inc) found
       ∙ ap (λ t. if t then dropped s TooManyClients else greeted_first s c inc) (room refl);
 }
 hello_heard s c inc (Some k) room le found =
-    let start = ap (λ t. if t then hear_hello s c inc (mark_of c s.marks) else dropped s WrongHandler) (itself s.number) ∙ ap (hear_hello s c inc) found in
+    let start = ap (λ t. if t then hear_hello s c inc (mark_of c s.marks) else dropped s WrongHandler) (same_handler_itself s.number)
+    ∙ ap (hear_hello s c inc) found in
     by_test (λ t. nat_lt k.inc inc ≡ t → Replies s (Hello s.number c inc) (Welcome s.number c inc)) (nat_lt k.inc inc)
     (λ _ is. record {
       state = with_incarnation s c inc k;
@@ -93,7 +96,7 @@ greet_useful w r e p at h left =
     let there = site_there h w.sites named in
     let s : Site = there.0 in
     let number : number_of s ≡ h = number_found h w s there.1 in
-    let here : site_of (number_of s) w ≡ Some s = place w h s there.1 in
+    let here : site_of (number_of s) w ≡ Some s = own_site w h s there.1 in
     let left_here : has c.unwelcomed (number_of s) ≡ true = ap (has c.unwelcomed) number ∙ left in
     let core = all_found (λ (x : Site). IsCore x.core) (is_site h) w.sites s g.sound.sites there.1 in
     let marks = all_found (SiteMarked w) (is_site h) w.sites s g.marked.sites there.1 in

@@ -1,6 +1,8 @@
--- Lists of handlers: which is the lowest, and what goes out of a list.
+-- Lists of handlers: which is the lowest, and what goes out of a list. A client asks for its locks one after another, the lowest
+-- handler that is left first. So a list with an item has a lowest one, and is shorter without it; what was asked is among the
+-- block's handlers; and where a block could be reserved, its handlers are known and named once each.
 use Rattle.std.proofs.Common.{◌≡◌, ◌<◌, ◌≤◌, ◌&&◌, ◌||◌, not, Bool, true, false, true≢false, nat_le, List, [], ◌∷◌, ◌++◌, length, filter, Some, None, refl, sym, ap, ◌∙◌, subst, arith}
-use Rattle.std.proofs.lemmas.Bool.{and_from}
+use Rattle.std.proofs.lemmas.Bool.{and_from, and_parts, or_right}
 use Rattle.std.specs.Prelude.{⊤, if◌then◌else◌}
 use Rattle.std.specs.List.{list_all}
 use Rattle.std.proofs.lemmas.Bool.Decides.{nat_tests}
@@ -9,12 +11,10 @@ use Rattle.scoop_message.specs.Message.{same_handler}
 use Rattle.scoop_message.proofs.Same.{handler_decides}
 use Rattle.scoop_reserve.specs.Handlers.{has, without, is_empty, is_lowest, asked, first_unknown, first_repeated, first_repeated_after}
 use Rattle.scoop_model.proofs.Basics.{by_test}
-
-pub itself : (h : HandlerId) → same_handler h h ≡ true
-itself h = (handler_decides h h).1 refl
+use Rattle.scoop_model.proofs.Whole.Sent.{same_handler_itself}
 
 pub has_head : (h : HandlerId) (hs : List HandlerId) → has (h ∷ hs) h ≡ true
-has_head h hs = ap (λ t. t || has hs h) (itself h)
+has_head h hs = ap (λ t. t || has hs h) (same_handler_itself h)
 
 -- a list with an item, and one without
 pub some_in : (hs : List HandlerId) (h : HandlerId) → has hs h ≡ true → is_empty hs ≡ false
@@ -85,10 +85,6 @@ all_higher h g (x ∷ xs) le e =
     (λ _ is f. let here : nat_le h.0 x.0 ≡ true = grind (arith, nat_tests) in ap (λ t. t && list_all (λ z. nat_le h.0 z.0) xs) here ∙ all_higher h g xs le f)
     (λ _ is f. absurd (true≢false (sym f))) refl e
 
-second : (s t : Bool) → (s && t) ≡ true → t ≡ true
-second true t e = e
-second false t e = absurd (true≢false (sym e))
-
 pub lowest_of : (h : HandlerId) (hs : List HandlerId) → Lowest (h ∷ hs)
 lowest_of h [] = record {
   handler = h;
@@ -102,17 +98,13 @@ lowest_of h (x ∷ xs) =
       handler = h;
       is = and_from (has (h ∷ x ∷ xs) h) _ (has_head h (x ∷ xs))
           (let le : nat_le h.0 h.0 ≡ true = grind (arith, nat_tests) in
-          and_from (nat_le h.0 h.0) _ le (all_higher h g (x ∷ xs) (grind (arith, nat_tests)) (second (has (x ∷ xs) g) _ l.is)));
+          and_from (nat_le h.0 h.0) _ le (all_higher h g (x ∷ xs) (grind (arith, nat_tests)) (and_parts (has (x ∷ xs) g) _ l.is).1));
     })
     (λ _ is. record {
       handler = g;
-      is = and_from (has (h ∷ x ∷ xs) g) _ (or_second (same_handler h g) (has (x ∷ xs) g) (lowest_has g (x ∷ xs) l.is))
-          (let le : nat_le g.0 h.0 ≡ true = grind (arith, nat_tests) in and_from (nat_le g.0 h.0) _ le (second (has (x ∷ xs) g) _ l.is));
+      is = and_from (has (h ∷ x ∷ xs) g) _ (or_right (same_handler h g) (has (x ∷ xs) g) (lowest_has g (x ∷ xs) l.is))
+          (let le : nat_le g.0 h.0 ≡ true = grind (arith, nat_tests) in and_from (nat_le g.0 h.0) _ le (and_parts (has (x ∷ xs) g) _ l.is).1);
     }) refl
-  where
-    or_second : (s t : Bool) → t ≡ true → (s || t) ≡ true
-    or_second true t e = refl
-    or_second false t e = e
 
 -- ---- the asked, and the known
 
@@ -128,13 +120,6 @@ in_filter f (x ∷ xs) h e y =
     by_test (λ t. has (if t then x ∷ filter f xs else filter f xs) h ≡ true) (f x)
     (λ kept. ap (λ t. t || has (filter f xs) h) is ∙ rest)
     (λ left. rest)) refl e
-
-pub from_filter : (f : HandlerId → Bool) (hs : List HandlerId) (h : HandlerId) → has (filter f hs) h ≡ true → has hs h ≡ true
-from_filter f [] h e = e
-from_filter f (x ∷ xs) h e =
-    by_test (λ t. has (if t then x ∷ filter f xs else filter f xs) h ≡ true → (same_handler x h || has xs h) ≡ true) (f x)
-    (λ kept g. by_test (λ t. (t || has (filter f xs) h) ≡ true → (t || has xs h) ≡ true) (same_handler x h) (λ _ _. refl) (λ _ k. from_filter f xs h k) g)
-    (λ left g. let rest = from_filter f xs h g in by_test (λ t. (t || has xs h) ≡ true) (same_handler x h) (λ _. refl) (λ _. rest)) e
 
 -- a handler that was asked for its lock is among those to be given back
 pub in_asked : (hs left : List HandlerId) (h : HandlerId) → has hs h ≡ true → (not (has left h) || is_lowest h left) ≡ true → has (asked hs left) h ≡ true

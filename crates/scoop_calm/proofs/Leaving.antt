@@ -4,6 +4,7 @@ use Rattle.std.proofs.Common.{◌≡◌, ◌&&◌, ◌||◌, not, Bool, true, fa
 use Rattle.std.proofs.lemmas.Option.{same_Some}
 use Rattle.std.specs.Prelude.{if◌then◌else◌}
 use Rattle.std.specs.Option.{option_map}
+use Rattle.std.proofs.lemmas.Bool.{or_parts}
 use Rattle.scoop_message.specs.declared.name.Block.{Block}
 use Rattle.scoop_message.specs.declared.name.ClientId.{ClientId}
 use Rattle.scoop_message.specs.declared.message.Message.{Message}
@@ -27,7 +28,8 @@ use Rattle.scoop_handler.proofs.TableLaws.{block_of-same, held_holds, grows-row}
 use Rattle.scoop_model.proofs.Basics.{by_test}
 use Rattle.scoop_model.proofs.Order.Lists.{same_block_itself}
 use Rattle.scoop_model.proofs.Order.Holding.{Upto, IsReachedIn, reached_more}
-use Rattle.scoop_calm.proofs.Marked.{below_at, older_num}
+use Rattle.scoop_model.proofs.Order.Holding.{own_place}
+use Rattle.scoop_model.proofs.Whole.Marks.{newer_num, not_reached}
 
 -- the block's lock is given back, or never will be got
 pub record IsReleasedIn (s : HandlerState) (b : Block) : Type 0 where
@@ -44,28 +46,20 @@ pub record IsOverIn (s : HandlerState) (b : Block) : Type 0 where
 abbrev unfinished : Option Block → Mark → Bool
 unfinished o k = is_holder o (block_of k) || (is_open k.stage && not k.ended)
 
-or_left : (t u : Bool) → (t || u) ≡ false → t ≡ false
-or_left true u e = absurd (true≢false e)
-or_left false u e = refl
-
-or_right : (t u : Bool) → (t || u) ≡ false → u ≡ false
-or_right true u e = absurd (true≢false e)
-or_right false u e = e
-
 -- another holder
 unless_holder : (o p : Option Block) (k : Mark) → (is_holder o (block_of k) ≡ false → is_holder p (block_of k) ≡ false) → unfinished o k ≡ false
     → unfinished p k ≡ false
-unless_holder o p k less e = ap (λ t. t || (is_open k.stage && not k.ended)) (less (or_left _ _ e)) ∙ or_right (is_holder o (block_of k)) _ e
+unless_holder o p k less e = ap (λ t. t || (is_open k.stage && not k.ended)) (less (or_parts _ _ e).0) ∙ (or_parts (is_holder o (block_of k)) _ e).1
 
 held_unfinished : (o : Option Block) (b : Block) (k : Mark) → o ≡ Some b → block_of k ≡ b → unfinished o k ≡ false → ⊥
 held_unfinished o b k holds same e =
     let is : is_holder o (block_of k) ≡ true = ap (λ x. is_holder x (block_of k)) holds ∙ ap (same_block b) same ∙ same_block_itself b in
-    true≢false (sym is ∙ or_left _ _ e)
+    true≢false (sym is ∙ (or_parts _ _ e).0)
 
 open_unfinished : (o : Option Block) (k : Mark) → k.stage ≡ AtOpen → k.ended ≡ false → unfinished o k ≡ false → ⊥
 open_unfinished o k at on e =
     let is : (is_open k.stage && not k.ended) ≡ true = (λ i. is_open (at i) && not (on i)) in
-    true≢false (sym is ∙ or_right (is_holder o (block_of k)) _ e)
+    true≢false (sym is ∙ (or_parts (is_holder o (block_of k)) _ e).1)
 
 -- a mark is as it was, or the one that is new
 set_case :
@@ -82,9 +76,6 @@ set_case Q y old marks c k x was here now own other =
     (λ _ is.
     let x_is : k ≡ x = same_Some k x (sym here ∙ sym (mark_of-set_mark_other c y marks is) ∙ now) in
     subst (Q k) x_is (other is)) refl
-
-own_place : (b : Block) (k : Mark) (marks : List Mark) → mark_of b.client marks ≡ Some k → mark_of k.client marks ≡ Some k
-own_place b k marks found = ap (λ c. mark_of c marks) (mark_of-client b.client marks k found) ∙ found
 
 -- the same block is finished later too
 abbrev StaysFinished : Option Block → Option Block → Mark → Mark → Type 0
@@ -188,7 +179,7 @@ free-row s m h (newer_greeting y d inc k here found newer) b f e = without_some 
     without_some (Some z) c b off e = by_test (λ t. (if t then None else Some z) ≡ Some b → ⊥) (same_client z.client c) (λ _ g. cc) (λ _ g. off g) e
 free-row s m h (lock_granted y d k here at new free clear) b f e =
     let same : d ≡ b = same_Some d b e in
-    below_at s.marks d k at.found (older_num d k at.inc new) (subst (IsReachedIn s.marks) (sym same) f.reached)
+    not_reached s.marks d k at.found (newer_num d k at.inc new) (subst (IsReachedIn s.marks) (sym same) f.reached)
 free-row s m h (is_freed y d k here at same holds) b f e = absurd (cc)
 free-row s m h r b f e = f.free e
 

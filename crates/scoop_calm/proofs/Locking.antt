@@ -37,7 +37,7 @@ use Rattle.scoop_model.proofs.Basics.{by_test}
 use Rattle.scoop_model.proofs.Keys.{number_found}
 use Rattle.scoop_model.proofs.Order.Lists.{same_block_itself}
 use Rattle.scoop_model.proofs.Order.Facts.{SiteFits, IsNamed, all_found}
-use Rattle.scoop_model.proofs.Logging.Greetings.{place}
+use Rattle.scoop_model.proofs.Sites.{own_site}
 use Rattle.scoop_model.proofs.Logging.Openings.{NoOpen, IsOpenedAtAll, IsGivenUp, Shows, StageOpened}
 use Rattle.scoop_rules.proofs.Front.{left_has}
 use Rattle.scoop_calm.specs.Left.{stage_work, total}
@@ -141,7 +141,7 @@ module _ (w : World) (r : IsReached w) (e : Everything (map (λ (p : Placement).
       let n = number_of s in
       let low_here : is_lowest n q.left ≡ true = ap (λ j. is_lowest j q.left) o.mark.number ∙ low in
       subst (λ j. Helps w (following.Ask (id_of p) j)) o.mark.number
-      (asks_useful w r p s (Lock n q.block) (Locked n q.block) at (place w h s o.mark.found)
+      (asks_useful w r p s (Lock n q.block) (Locked n q.block) at (own_site w h s o.mark.found)
       (due_reserved p.client n q (Lock n q.block) (welcome w r e p at q held n) held (locking_owes q n stage low_here))
       refl refl (lock_heard s.core.state q.block o.mark.mark o.found o.inc o.num can) test refl (client_is w r e p at q held)
       (stepped p.client (after_locked q n), LockedNote n) (locked_heard p.client q n held stage low_here)

@@ -1,9 +1,9 @@
 -- A client whose block is opened at all, and that has entries to send to a handler where nothing of it is pending, sends
 -- them, and gets on.
-use Rattle.std.proofs.Common.{◌≡◌, inl, inr, ℕ, ◌+◌, ◌-◌, ◌<◌, ◌≤◌, ◌==◌, ◌&&◌, Bool, true, false, true≢false, nat_le, nat_lt, List, [], ◌∷◌, length, map, find, Option, Some, None, refl, sym, ap, ◌∙◌, subst, arith}
+use Rattle.std.proofs.Common.{◌≡◌, ℕ, ◌+◌, ◌-◌, ◌<◌, ◌≤◌, ◌==◌, ◌&&◌, true, false, true≢false, nat_le, nat_lt, List, length, map, Option, Some, None, refl, sym, ap, ◌∙◌, subst, arith}
 use Rattle.std.specs.Prelude.{if◌then◌else◌}
 use Rattle.std.specs.Option.{option_map_or}
-use Rattle.std.proofs.lemmas.Bool.{eq-eqb}
+use Rattle.std.proofs.lemmas.Bool.{and_parts, eq-eqb}
 use Rattle.std.proofs.lemmas.Bool.Decides.{nat_tests}
 use Rattle.scoop_message.specs.declared.name.Block.{Block}
 use Rattle.scoop_message.specs.declared.name.HandlerId.{HandlerId}
@@ -32,9 +32,9 @@ use Rattle.scoop_model.specs.Step.{Placement, heard_site, heard_party}
 use Rattle.scoop_model.specs.Reach.{IsReached}
 use Rattle.scoop_model.proofs.Basics.{by_test}
 use Rattle.scoop_model.proofs.Order.Facts.{all_found}
-use Rattle.scoop_model.proofs.Logging.Greetings.{place}
+use Rattle.scoop_model.proofs.Sites.{own_site}
 use Rattle.scoop_calm.specs.Left.{client_work, mark_room, site_room, total}
-use Rattle.scoop_calm.proofs.Totals.{Member}
+use Rattle.scoop_calm.proofs.Totals.{found_in}
 use Rattle.scoop_calm.proofs.Measures.{for_room, parties_total, sites_total}
 use Rattle.scoop_calm.specs.declared.next.Next.TheVariants as next
 use Rattle.scoop_calm.proofs.Engine.{Helps}
@@ -47,12 +47,6 @@ use Rattle.scoop_calm.proofs.Opening.{OwnMark, beside, client_is}
 use Rattle.scoop_calm.proofs.Logs.{log_due, is_due, received_le, last_le, last_more}
 use Rattle.scoop_calm.proofs.Waiting.{IsIdleIn, has_answer, answer_waits}
 use Rattle.scoop_calm.proofs.Everything.{Everything}
-
-found_in : {A : Type 0} (f : A → Bool) (xs : List A) (x : A) → find f xs ≡ Some x → Member x xs
-found_in f [] x e = absurd (cc)
-found_in f (y ∷ ys) x e =
-    by_test (λ t. (if t then Some y else find f ys) ≡ Some x → Member x (y ∷ ys)) (f y) (λ here g. inl (let p : y ≡ x = cc in p))
-    (λ there g. inr (found_in f ys x g)) e
 
 pub none_pending : (b : Block) (qs : List PrivateQueue) → IsIdleIn qs b → pending b qs ≡ 0
 none_pending b qs idle = at (queue_of b qs) refl
@@ -87,7 +81,7 @@ module _ (w : World) (r : IsReached w) (e : Everything (map (λ (p : Placement).
   is_opened = ap is_open_in stage
 
   here : site_of (number_of s) w ≡ Some s
-  here = place w h s o.mark.found
+  here = own_site w h s o.mark.found
 
   owes : due c (number_of s) ≡ Some (Log (number_of s) q.block (l.acked + 1) es)
   owes =
@@ -145,7 +139,7 @@ module _ (w : World) (r : IsReached w) (e : Everything (map (λ (p : Placement).
       × (k.received ≡ logged l) × (last ≡ logged l))
       (same_handler y.0 h && nat_le y.1 k.received)
       (λ _ test down.
-      let tests = both (same_handler y.0 h) (nat_le y.1 k.received) test in
+      let tests = and_parts (same_handler y.0 h) (nat_le y.1 k.received) test in
       let le : y.1 ≤ k.received = below tests.1 in
       let there : c.waits ≡ Some (h, y.1) = is ∙ (λ i. Some ((handler_decides y.0 h).0 tests.0 i, y.1)) in
       let g = (own_windows w r e p at q held).waits h y.1 there in
@@ -163,10 +157,6 @@ module _ (w : World) (r : IsReached w) (e : Everything (map (λ (p : Placement).
       ))
       (λ _ test down. absurd (let more = more_than in down (omega (arith, more, before)))) refl off
     where
-      both : (t u : Bool) → (t && u) ≡ true → (t ≡ true) × (u ≡ true)
-      both true u f = (refl, f)
-      both false u f = absurd (true≢false (sym f))
-
       below : nat_le y.1 k.received ≡ true → y.1 ≤ k.received
       below f = grind (arith, nat_tests)
 

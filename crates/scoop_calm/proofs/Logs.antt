@@ -5,6 +5,7 @@ use Rattle.std.proofs.Common.{◌≡◌, ℕ, ◌+◌, ◌-◌, ◌^◌, ◌<◌
 use Rattle.std.specs.Prelude.{if◌then◌else◌}
 use Rattle.std.specs.Option.{option_map_or}
 use Rattle.std.proofs.lemmas.Bool.Decides.{nat_tests}
+use Rattle.std.proofs.lemmas.Bool.{and_parts}
 use Rattle.scoop_message.specs.declared.name.HandlerId.{HandlerId}
 use Rattle.scoop_message.specs.declared.request.Entry.{Entry}
 use Rattle.scoop_message.specs.declared.message.Message.TheVariants.{Hello, Unlock, Log}
@@ -53,11 +54,7 @@ end_only (x ∷ []) (y ∷ ys) only e =
     by_test (λ t. is_end x ≡ t → (not t && end_only_last (y ∷ ys)) ≡ true → y ∷ ys ≡ []) (is_end x)
     (λ _ is f. absurd (true≢false (sym f)))
     (λ _ is f. absurd (true≢false (sym e ∙ is))) refl only
-end_only (x ∷ z ∷ zs) ys only e = end_only (z ∷ zs) ys (second (not (is_end x)) _ only) e
-  where
-    second : (t u : Bool) → (t && u) ≡ true → u ≡ true
-    second true u e = e
-    second false u e = absurd (true≢false (sym e))
+end_only (x ∷ z ∷ zs) ys only e = end_only (z ∷ zs) ys (and_parts (not (is_end x)) _ only).1 e
 
 -- ---- what the client owes
 

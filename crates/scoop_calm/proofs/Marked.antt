@@ -1,9 +1,10 @@
 -- What is so of each mark that a handler keeps: its block was reserved, and asked for its lock if it got it, what was
 -- received of it is a beginning of its log, and the answer that is kept is that of its last query that has run.
-use Rattle.std.proofs.Common.{◌≡◌, ◌⊎◌, inl, inr, ℕ, ◌+◌, ◌<◌, ◌≤◌, ◌&&◌, Bool, true, false, List, [], ◌∷◌, ◌++◌, length, map, Option, Some, None, refl, sym, ap, ◌∙◌, subst, ⊎_elim, arith, length-append, append_assoc}
+use Rattle.std.proofs.Common.{◌≡◌, ◌⊎◌, inl, inr, ℕ, ◌+◌, ◌<◌, ◌≤◌, ◌&&◌, List, [], ◌∷◌, ◌++◌, length, map, Option, Some, None, refl, sym, ap, ◌∙◌, subst, ⊎_elim, arith, length-append, append_assoc}
 use Rattle.std.specs.Prelude.{if◌then◌else◌}
 use Rattle.std.specs.List.{AllByRecursion}
 use Rattle.std.specs.Option.{option_map}
+use Rattle.std.proofs.Math.Bool.{and-false}
 use Rattle.scoop_message.specs.declared.name.Block.{Block}
 use Rattle.scoop_message.specs.declared.name.ClientId.{ClientId}
 use Rattle.scoop_message.specs.declared.name.HandlerId.{HandlerId}
@@ -31,11 +32,13 @@ use Rattle.scoop_model.specs.Safe.{numbered, untold}
 use Rattle.scoop_model.proofs.Basics.{by_test}
 use Rattle.scoop_model.proofs.Stands.{Stands}
 use Rattle.scoop_model.proofs.Order.Lists.{same_block_is}
-use Rattle.scoop_model.proofs.Order.Holding.{Upto, IsReachedIn}
+use Rattle.scoop_model.proofs.Order.Holding.{IsReachedIn}
 use Rattle.scoop_model.proofs.Order.Facts.{IsNamed}
 use Rattle.scoop_model.proofs.Logging.Facts.{Grown}
 use Rattle.scoop_model.proofs.Tape.Slots.{Slot, ran_in, ran_of}
-use Rattle.scoop_calm.proofs.Totals.{Member, all_append}
+use Rattle.scoop_handler.proofs.Basics.{all_append}
+use Rattle.scoop_model.proofs.Whole.Marks.{newer_inc, newer_num, none_reached, not_reached}
+use Rattle.scoop_calm.proofs.Totals.{Member}
 
 -- ---- one mark
 
@@ -111,21 +114,6 @@ pub record IsGiven (w : World) (m : Message) : Type 0 where
 abbrev pub RanReached : List Ran → List Mark → Type 0
 RanReached ran marks = (b : Block) → (IsReachedIn marks b → ⊥) → last_answer b ran None ≡ None
 
-pub none_at : (marks : List Mark) (b : Block) → mark_of b.client marks ≡ None → IsReachedIn marks b → ⊥
-none_at marks b none r = let both : None ≡ Some r.mark = sym none ∙ r.found in cc
-
-pub below_at : (marks : List Mark) (b : Block) (k : Mark) → mark_of b.client marks ≡ Some k → (Upto b.inc b.num k.inc k.num → ⊥) → IsReachedIn marks b → ⊥
-below_at marks b k found below r =
-    let both : Some r.mark ≡ Some k = sym r.found ∙ found in
-    let same : r.mark ≡ k = cc in
-    below (subst (λ (y : Mark). Upto b.inc b.num y.inc y.num) same r.upto)
-
-pub older_inc : (b : Block) (k : Mark) → k.inc < b.inc → Upto b.inc b.num k.inc k.num → ⊥
-older_inc b k older u = let le = u.inc in omega (arith, older, le)
-
-pub older_num : (b : Block) (k : Mark) → k.inc ≡ b.inc → k.num < b.num → Upto b.inc b.num k.inc k.num → ⊥
-older_num b k inc older u = let le = u.num inc in omega (arith, older, le)
-
 held_not_shut : AtHeld ≡ AtShut → ⊥
 held_not_shut e = cc
 
@@ -174,18 +162,18 @@ module _ (w : World) (s : HandlerState) (ran : List Ran) (reached : RanReached r
           locked = locked;
           unlocked = λ at. inr (unlocked at);
           taken = nothing_taken _ b stage;
-          kept = sym (reached b (below_at s.marks b k at.found (older_num b k at.inc newer)));
+          kept = sym (reached b (not_reached s.marks b k at.found (newer_num b k at.inc newer)));
         }
 
 pub marked-row : (w : World) (s : HandlerState) (ran : List Ran) (m : Message) (h : Hearing) → Row s m h → RanReached ran s.marks → IsGiven w m
     → MarksFit w s.number ran s.marks → MarksFit w s.number ran h.0.marks
 marked-row w s ran m h (first_greeting x c inc here none room) reached given all =
     All-add_mark (MarkFits w s.number ran) (MarkFits w s.number ran) (greeting_mark c inc) s.marks
-    (greeted w s ran reached all (Hello x c inc) given x c inc refl (none_at s.marks (block_of (greeting_mark c inc)) none)) (λ y f. f) all
+    (greeted w s ran reached all (Hello x c inc) given x c inc refl (none_reached s.marks (block_of (greeting_mark c inc)) none)) (λ y f. f) all
 marked-row w s ran m h (newer_greeting x c inc k here found newer) reached given all =
     in_place w s ran reached all (greeting_mark c inc)
     (greeted w s ran reached all (Hello x c inc) given x c inc refl
-    (below_at s.marks (block_of (greeting_mark c inc)) k found (older_inc (block_of (greeting_mark c inc)) k newer)))
+    (not_reached s.marks (block_of (greeting_mark c inc)) k found (newer_inc (block_of (greeting_mark c inc)) k newer)))
 marked-row w s ran m h (lock_granted x b k here at new free clear) reached given all =
     let g = given.lock x b refl in
     in_place w s ran reached all (fresh_mark b AtHeld)
@@ -255,7 +243,7 @@ marked-row w s ran m h r reached given all = all
 
 -- ---- an entry runs
 
-last_pushed : (b : Block) (rs : List Ran) (r : Ran) (kept : Option (ℕ × ObjectAnswer))
+pub last_pushed : (b : Block) (rs : List Ran) (r : Ran) (kept : Option (ℕ × ObjectAnswer))
     → last_answer b (rs ++ r ∷ []) kept ≡ next_answer b r (last_answer b rs kept)
 last_pushed b [] r kept = refl
 last_pushed b (x ∷ xs) r kept = last_pushed b xs r (next_answer b x kept)
@@ -292,10 +280,6 @@ all_told : (P : Block → Type 0) (rs : List Ran) → AllByRecursion (λ (u : Bl
 all_told P [] all = tt
 all_told P (r ∷ rs) all = (all.0, all_told P rs all.1)
 
-and_false : (t : Bool) → (t && false) ≡ false
-and_false true = refl
-and_false false = refl
-
 pub none_answered : (P : Block → Type 0) (b : Block) (rs : List Ran) (kept : Option (ℕ × ObjectAnswer)) → (P b → ⊥) → AllByRecursion (λ (r : Ran). P r.block) rs
     → last_answer b rs kept ≡ kept
 none_answered P b [] kept off all = refl
@@ -304,7 +288,7 @@ none_answered P b (r ∷ rs) kept off all =
     (λ _ is. absurd (off (subst P (sym (same_block_is b r.block is)) all.0)))
     (λ _ is.
     ap (λ t. last_answer b rs (if is_query r.entry && t then option_map (λ a. (r.number, a)) r.answer else kept)) is
-    ∙ ap (λ t. last_answer b rs (if t then option_map (λ a. (r.number, a)) r.answer else kept)) (and_false (is_query r.entry))
+    ∙ ap (λ t. last_answer b rs (if t then option_map (λ a. (r.number, a)) r.answer else kept)) (and-false (is_query r.entry))
     ∙ none_answered P b rs kept off all.1) refl
 
 pub ran_reached : (marks : List Mark) (ran : List Ran) (ss : List Slot) → map untold ran ≡ ran_of ss

@@ -1,4 +1,6 @@
--- What the kinds of events that a world settles by make of it.
+-- What the kinds of events that a world settles by make of it. A job goes out or is finished, a client ends its block, or a client
+-- asks and hears the reply, which is three events: it sends, the handler takes, the client takes. Where less is left to do in the
+-- world behind them, the move helps: that world is reached, settling goes on from it, and the move may be chosen.
 use Rattle.std.proofs.Common.{◌≡◌, ℕ, ◌+◌, ◌-◌, ◌==◌, true, false, List, [], ◌∷◌, ◌++◌, length, slice_get, Some, None, refl, sym, ap, ◌∙◌, subst, arith}
 use Rattle.std.specs.Prelude.{if◌then◌else◌, is_some, Ok}
 use Rattle.std.specs.Option.{option_map_or}

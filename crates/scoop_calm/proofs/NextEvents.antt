@@ -1,7 +1,7 @@
 -- The events that are next, again and again, lead from every reached world to a calm one. What is next leaves less to do, and
 -- that ends. Where nothing is next no useful move is left, so the world is calm; and in a calm world nothing is next.
 use Rattle.std.proofs.Common.{◌≡◌, inl, inr, ℕ, zero, suc, ◌<◌, ◌≤◌, Bool, true, false, ◌&&◌, ◌||◌, nat_lt, List, [], ◌∷◌, ◌++◌, length, Option, Some, None, refl, sym, ap, ◌∙◌, subst, ⊎_elim, arith}
-use Rattle.std.proofs.lemmas.Bool.{and_from}
+use Rattle.std.proofs.lemmas.Bool.{and_from, or_right}
 use Rattle.std.specs.Prelude.{◌↔◌, if◌then◌else◌, is_some, nat_le, Ok}
 use Rattle.std.specs.Option.{option_map, option_map_or, option_or}
 use Rattle.std.specs.Result.{is_ok}
@@ -39,10 +39,6 @@ use Rattle.scoop_calm.proofs.Everything.{everything}
 use Rattle.scoop_calm.proofs.NeverStuck.{calm_or}
 
 -- ---- less is left to do, as a test
-
-or_right : (t u : Bool) → u ≡ true → (t || u) ≡ true
-or_right true u e = refl
-or_right false u e = e
 
 lt_true : (a b : ℕ) → a < b → nat_lt a b ≡ true
 lt_true a b l = grind (arith, nat_tests)

@@ -53,7 +53,7 @@ queue_member (x ∷ xs) t q m e =
     (λ (n : Member t xs). member_behind (slot_queue t q) (queue_at x x.state) (queues_of xs) (queue_member xs t q n e))
     m
 
-some_if_ends : (es : List Entry) → ends es ≡ true → 0 < length es
+pub some_if_ends : (es : List Entry) → ends es ≡ true → 0 < length es
 some_if_ends [] e = absurd (true≢false (sym e))
 some_if_ends (x ∷ xs) e = omega arith
 

@@ -1,10 +1,11 @@
 -- A client that opens its block can open it wherever there is room for a private queue. Its mark at each handler of the block
 -- is at that block, held or open already, since the lock was granted everywhere before. So the handler tells it Opened, and
 -- the client has one handler less to open.
-use Rattle.std.proofs.Common.{◌≡◌, ◌⊎◌, inl, inr, ◌+◌, ◌<◌, ◌≤◌, ◌==◌, ◌&&◌, ◌||◌, not, Bool, true, false, length, map, Some, None, refl, sym, ap, ◌∙◌, subst, ⊎_elim, arith}
+use Rattle.std.proofs.Common.{◌≡◌, ◌⊎◌, inl, inr, ◌+◌, ◌<◌, ◌≤◌, ◌==◌, ◌&&◌, ◌||◌, not, true, false, length, map, Some, None, refl, sym, ap, ◌∙◌, subst, ⊎_elim, arith}
 use Rattle.std.specs.Prelude.{if◌then◌else◌}
 use Rattle.std.proofs.lemmas.Bool.{eq-eqb}
 use Rattle.std.proofs.lemmas.Bool.Decides.{nat_tests}
+use Rattle.std.proofs.Math.Bool.{or-true}
 use Rattle.scoop_message.specs.declared.limits.TheConstants.{MAX_QUEUES}
 use Rattle.scoop_message.specs.declared.name.Block.{Block}
 use Rattle.scoop_message.specs.declared.name.HandlerId.{HandlerId}
@@ -34,7 +35,7 @@ use Rattle.scoop_model.proofs.Basics.{by_test}
 use Rattle.scoop_model.proofs.Order.Lists.{same_block_itself}
 use Rattle.scoop_model.proofs.Order.Holding.{IsHeldIn}
 use Rattle.scoop_model.proofs.Order.Facts.{all_found}
-use Rattle.scoop_model.proofs.Logging.Greetings.{place}
+use Rattle.scoop_model.proofs.Sites.{own_site}
 use Rattle.scoop_model.proofs.Standing.Facts.{IsPastIn, StandsIn, StandsAt, StageStands}
 use Rattle.scoop_model.proofs.Whole.Facts.{SiteTaped}
 use Rattle.scoop_calm.specs.Left.{stage_work}
@@ -86,11 +87,7 @@ can_open_test s b k found num can =
     ap (λ o. is_open_at b o || not (length s.queues == MAX_QUEUES)) found
     ∙ (λ i. eq-eqb k.num b.num num i && open_here i || not (length s.queues == MAX_QUEUES)))
     (λ (held : (k.stage ≡ AtHeld) × ((length s.queues == MAX_QUEUES) ≡ false)).
-    ap (λ t. is_open_at b (mark_of b.client s.marks) || not t) held.1 ∙ or_true (is_open_at b (mark_of b.client s.marks))) can
-  where
-    or_true : (t : Bool) → (t || true) ≡ true
-    or_true true = refl
-    or_true false = refl
+    ap (λ t. is_open_at b (mark_of b.client s.marks) || not t) held.1 ∙ or-true (is_open_at b (mark_of b.client s.marks))) can
 
 -- ---- the client
 
@@ -199,7 +196,7 @@ module _ (w : World) (r : IsReached w) (e : Everything (map (λ (p : Placement).
       let can = can_open h o (subst (λ (x : Site). StandsIn x q.block) one a.stands) (room s m.found) in
       let left_here : has q.left n ≡ true = ap (has q.left) m.number ∙ left in
       subst (λ j. Helps w (next.Ask (id_of p) j)) m.number
-      (asks_useful w r p s (Open n q.block) (Opened n q.block) at (place w h s m.found)
+      (asks_useful w r p s (Open n q.block) (Opened n q.block) at (own_site w h s m.found)
       (due_reserved p.client n q (Open n q.block) (welcome w r e p at q held n) held (opening_owes q n stage left_here))
       refl refl (open_heard s.core.state q.block m.mark o.found o.inc can.0 can.1)
       (can_open_test s.core.state q.block m.mark o.found can.0 can.1) refl client_is

@@ -1,9 +1,12 @@
--- Queries that have run: their answers are kept, and they are those that their clients wait for.
+-- Queries that have run: their answers are kept, and they are those that their clients wait for. Entries of other blocks leave a
+-- block's last answer, and its own have run in their order; so where the last of them is a query, what is kept is that query's
+-- answer. It has one, and it stands in the block's log at the number that is kept.
 use Rattle.std.proofs.Common.{◌≡◌, ℕ, suc, ◌+◌, ◌-◌, ◌&&◌, Bool, true, false, true≢false, List, [], ◌∷◌, ◌++◌, length, map, filter, slice_get, Option, Some, refl, sym, ap, ◌∙◌, subst, arith, length-append, append_assoc}
 use Rattle.std.specs.Prelude.{if◌then◌else◌, Contains}
 use Rattle.std.specs.List.{AllByRecursion}
 use Rattle.std.specs.Option.{option_map}
 use Rattle.std.proofs.lemmas.List.Elements.{All-contains, All-from_recursion}
+use Rattle.std.proofs.Math.Bool.{and-false}
 use Rattle.scoop_message.specs.declared.name.Block.{Block}
 use Rattle.scoop_message.specs.declared.request.Entry.{Entry}
 use Rattle.scoop_message.specs.declared.request.Entry.TheVariants.{Call, Query, End}
@@ -21,11 +24,8 @@ use Rattle.scoop_queue.proofs.Lookup.{same_block-sym}
 use Rattle.scoop_model.specs.Safe.{numbered, untold}
 use Rattle.scoop_model.proofs.Basics.{by_test}
 use Rattle.scoop_model.proofs.Order.Lists.{same_block_itself}
-use Rattle.scoop_calm.proofs.Marked.{next_answer, last_answer}
-
-and_false : (t : Bool) → (t && false) ≡ false
-and_false true = refl
-and_false false = refl
+use Rattle.scoop_handler.proofs.Basics.{all_append}
+use Rattle.scoop_calm.proofs.Marked.{next_answer, last_answer, last_pushed}
 
 -- entries of other blocks leave the last answer
 pub own_answers : (b : Block) (rs : List Ran) (kept : Option (ℕ × ObjectAnswer))
@@ -38,7 +38,7 @@ own_answers b (r ∷ rs) kept =
     (λ _ is.
     let other : same_block b r.block ≡ false = same_block-sym r.block b is in
     ap (λ t. last_answer b rs (if is_query r.entry && t then option_map (λ a. (r.number, a)) r.answer else kept)) other
-    ∙ ap (λ t. last_answer b rs (if t then option_map (λ a. (r.number, a)) r.answer else kept)) (and_false (is_query r.entry))
+    ∙ ap (λ t. last_answer b rs (if t then option_map (λ a. (r.number, a)) r.answer else kept)) (and-false (is_query r.entry))
     ∙ own_answers b rs kept) refl
 
 -- the last of what ran of a block
@@ -76,11 +76,6 @@ last_ran (r ∷ rs) b n (x ∷ es) e told =
       number = l.number ∙ omega arith;
       entry = l.entry;
     }
-
-last_pushed : (b : Block) (rs : List Ran) (r : Ran) (kept : Option (ℕ × ObjectAnswer))
-    → last_answer b (rs ++ r ∷ []) kept ≡ next_answer b r (last_answer b rs kept)
-last_pushed b [] r kept = refl
-last_pushed b (x ∷ xs) r kept = last_pushed b xs r (next_answer b x kept)
 
 -- a query that ran last has its answer kept
 pub query_last : (rs : List Ran) (b : Block) (n : ℕ) (e : Entry) (l : LastRan rs b n e) → is_query e ≡ true → (kept : Option (ℕ × ObjectAnswer))
@@ -141,15 +136,11 @@ module _ (log : Block → List Entry) where
         subst (λ (n : ℕ). AllByRecursion IsLoggedAt (numbered b (n + 1) es)) size (numbered_logged b (before ++ e ∷ []) es behind more),
       )
 
-  all_joined : (xs ys : List (Block × ℕ × Entry)) → AllByRecursion IsLoggedAt xs → AllByRecursion IsLoggedAt ys → AllByRecursion IsLoggedAt (xs ++ ys)
-  all_joined [] ys p q = q
-  all_joined (x ∷ xs) ys p q = (p.0, all_joined xs ys p.1 q)
-
   slots_logged : (ss : List Slot) → AllByRecursion (IsBegun log) ss → AllByRecursion IsLoggedAt (ran_of ss)
   slots_logged [] all = tt
   slots_logged (t ∷ ts) all =
       let b = all.0 in
-      all_joined (ran_in t) (ran_of ts) (numbered_logged t.block [] t.ran (t.rest ++ b.behind) (sym (append_assoc t.ran t.rest b.behind) ∙ b.all))
+      all_append IsLoggedAt (ran_in t) (ran_of ts) (numbered_logged t.block [] t.ran (t.rest ++ b.behind) (sym (append_assoc t.ran t.rest b.behind) ∙ b.all))
       (slots_logged ts all.1)
 
   all_told : (rs : List Ran) → AllByRecursion IsLoggedAt (map untold rs) → AllByRecursion (λ (r : Ran). IsLoggedAt (untold r)) rs

@@ -1,6 +1,10 @@
--- No private queue has to stay: the client of the earliest block that has one gets on.
-use Rattle.std.proofs.Common.{◌≡◌, ◌⊎◌, inl, inr, ◌==◌, ◌&&◌, ◌||◌, not, Bool, true, false, true≢false, List, [], ◌∷◌, length, map, Option, Some, None, refl, sym, ap, ◌∙◌, subst, ⊎_elim}
+-- No private queue has to stay: the client of the earliest block that has one gets on. Of the blocks with a queue, take the first
+-- of the common list. As nothing can run, its queue is empty and takes more wherever it stands, since no other stands before it;
+-- nor does another fill the room where it still has to open. So its client is at this block, and has a move that helps at every
+-- stage. Where there are no queues at all, the same is so of each block that is past locking.
+use Rattle.std.proofs.Common.{◌≡◌, ◌⊎◌, inl, inr, ◌==◌, ◌&&◌, not, Bool, true, false, true≢false, List, [], ◌∷◌, length, map, Option, Some, None, refl, sym, ap, ◌∙◌, subst, ⊎_elim}
 use Rattle.std.specs.List.{list_any, AllByRecursion}
+use Rattle.std.proofs.lemmas.Bool.{or_right}
 use Rattle.scoop_message.specs.declared.limits.TheConstants.{MAX_QUEUES}
 use Rattle.scoop_message.specs.declared.name.Block.{Block}
 use Rattle.scoop_message.specs.Message.{same_block}
@@ -23,13 +27,13 @@ use Rattle.scoop_model.proofs.Logging.Openings.{NoOpen, StageOpened}
 use Rattle.scoop_rules.proofs.Front.{left_has}
 use Rattle.scoop_model.proofs.Whole.Facts.{SiteTaped}
 use Rattle.scoop_calm.proofs.Resting.{HasRunOut, IsSettled}
-use Rattle.scoop_calm.proofs.Totals.{Member, each_or, all_member}
+use Rattle.scoop_calm.proofs.Totals.{Member, each_or, all_member, found_in}
 use Rattle.scoop_calm.proofs.Engine.{Useful}
 use Rattle.scoop_calm.proofs.Attending.{Goes}
 use Rattle.scoop_calm.proofs.AtMark.{at_work}
 use Rattle.scoop_calm.proofs.Waiting.{IsIdleIn}
 use Rattle.scoop_calm.proofs.Earliest.{Before, left_before, next_before, First, first_or, opened_queue, order_of, first_empty}
-use Rattle.scoop_calm.proofs.Blocks.{any_member, passing, queue_there, queue_found, found_in, must_be_open, owner, no_open_mark, is_open_at, by_stage}
+use Rattle.scoop_calm.proofs.Blocks.{any_member, passing, queue_there, queue_found, must_be_open, owner, no_open_mark, is_open_at, by_stage}
 use Rattle.scoop_queue.proofs.Found.{block-found}
 use Rattle.scoop_calm.proofs.Everything.{Everything}
 use Rattle.scoop_calm.proofs.Clearing.{party_found}
@@ -126,10 +130,6 @@ module _ (w : World) (r : IsReached w) (e : Everything (map (λ (p : Placement).
         (λ t mt h. first_room joined t mt (subst (IsHeldIn t.core.state.marks) block h))
         (λ t mt y my same. first_idle t mt y my (same ∙ block))
         a.reservation.stage refl)
-      where
-        or_right : (t u : Bool) → u ≡ true → (t || u) ≡ true
-        or_right true u g = refl
-        or_right false u g = g
 
   -- ---- all queues
 

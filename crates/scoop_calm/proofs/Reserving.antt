@@ -19,7 +19,8 @@ use Rattle.scoop_reserve.specs.Hearing.{is_gone, given_up, given_up_in}
 use Rattle.scoop_reserve.proofs.Rows.{HeardRow, passed_over, one_is_locked, all_are_locked, is_busy, one_is_opened, all_are_opened, is_unlocked, is_given_back}
 use Rattle.scoop_model.proofs.Basics.{by_test}
 use Rattle.scoop_model.proofs.Order.Clients.{has_without, is_gone_one}
-use Rattle.scoop_calm.proofs.Handlers.{Filled, none, some, filled, some_in, gone_without, lowest_has, lowest_below, lowest_of, from_filter, in_asked, all_known, NoTwice, none_repeated}
+use Rattle.scoop_model.proofs.Logging.OpeningClients.{has_filtered}
+use Rattle.scoop_calm.proofs.Handlers.{Filled, none, some, filled, some_in, gone_without, lowest_has, lowest_below, lowest_of, in_asked, all_known, NoTwice, none_repeated}
 
 -- locks are got, or blocks opened
 pub data IsSettingOut : Stage → Type 0 where
@@ -174,7 +175,7 @@ given_reserves known r s Locking at e f =
         known_all = f.known_all;
         some = f.some;
         apart = f.apart;
-        within = λ x m. from_filter _ r.handlers x m;
+        within = λ x m. has_filtered _ r.handlers x m;
         stays = λ out. absurd (off_giving out);
         order = λ is x y in_set gone there. absurd (cc);
       },

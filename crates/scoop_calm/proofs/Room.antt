@@ -18,6 +18,7 @@ use Rattle.scoop_model.specs.World.{World, Party, is_party, party_of, newer_part
 use Rattle.scoop_model.specs.Step.{Placement, new_party, opening}
 use Rattle.scoop_model.specs.World.{inc_of}
 use Rattle.scoop_model.specs.Reach.{Run, IsReached}
+use Rattle.scoop_handler.proofs.MarkPlaces.{tail-ascending}
 use Rattle.scoop_model.proofs.Basics.{by_test}
 use Rattle.scoop_model.proofs.Events.{Changes, steps_kept}
 use Rattle.scoop_model.proofs.Order.Clients.{is_gone_one}
@@ -59,16 +60,12 @@ above k (z ∷ zs) up x e =
     (λ _ is f. subst (λ (y : HandlerId). k.client.0 < y.0) ((handler_decides (name z.client) x).0 is) up.0)
     (λ _ is f. let later = above z zs up.1 x f in let first = up.0 in omega (arith, first, later)) refl e
 
-ascending_tail : (k : Mark) (marks : List Mark) → IsAscending (k ∷ marks) → IsAscending marks
-ascending_tail k [] up = tt
-ascending_tail k (z ∷ zs) up = up.1
-
 marks_once : (marks : List Mark) → IsAscending marks → NoTwice (names marks)
 marks_once [] up = tt
 marks_once (k ∷ ks) up = (
   by_test (λ t. has (names ks) (name k.client) ≡ t → t ≡ false) (has (names ks) (name k.client))
       (λ _ is. let less = above k ks up (name k.client) is in absurd (omega (arith, less))) (λ _ is. refl) refl,
-  marks_once ks (ascending_tail k ks up),
+  marks_once ks (tail-ascending k ks up),
 )
 
 none_named : (c : ClientId) (marks : List Mark) → mark_of c marks ≡ None → has (names marks) (name c) ≡ false

@@ -19,7 +19,8 @@ use Rattle.scoop_model.specs.Reach.{IsReached}
 use Rattle.scoop_model.proofs.Basics.{by_test}
 use Rattle.scoop_model.proofs.Logging.Windows.{handlers_at, found_has}
 use Rattle.scoop_calm.proofs.Totals.{Member, each_or}
-use Rattle.scoop_calm.proofs.Handlers.{NoTwice, itself}
+use Rattle.scoop_model.proofs.Whole.Sent.{same_handler_itself}
+use Rattle.scoop_calm.proofs.Handlers.{NoTwice}
 use Rattle.scoop_calm.proofs.Clients.{BlockFits}
 use Rattle.scoop_calm.specs.declared.next.Next.TheVariants as next
 use Rattle.scoop_calm.proofs.Engine.{Useful, useful}
@@ -39,7 +40,7 @@ NothingLeft ls h = (l : WindowState) → window_of h ls ≡ Some l → l.unacked
 all_empty : (ls : List WindowState) → NoTwice (handlers_at ls) → ((h : HandlerId) → NothingLeft ls h) → AllByRecursion (λ (l : WindowState). l.unacked ≡ []) ls
 all_empty [] once none = tt
 all_empty (l ∷ ls) once none = (
-  none l.handler l (ap (λ t. if t then Some l else window_of l.handler ls) (itself l.handler)),
+  none l.handler l (ap (λ t. if t then Some l else window_of l.handler ls) (same_handler_itself l.handler)),
   all_empty ls once.1 (λ h x found.
       none h x
       (by_test (λ t. same_handler l.handler h ≡ t → (if t then Some l else window_of h ls) ≡ Some x) (same_handler l.handler h)
@@ -95,7 +96,7 @@ module _ (w : World) (r : IsReached w) (e : Everything (map (λ (p : Placement).
   member_has : (h : HandlerId) (hs : List HandlerId) → Member h hs → has hs h ≡ true
   member_has h [] m = absurd m
   member_has h (x ∷ xs) m =
-      ⊎_elim (λ (f : x ≡ h). ap (λ t. t || has xs h) (ap (λ y. same_handler y h) f ∙ itself h))
+      ⊎_elim (λ (f : x ≡ h). ap (λ t. t || has xs h) (ap (λ y. same_handler y h) f ∙ same_handler_itself h))
       (λ (n : Member h xs). let rest = member_has h xs n in by_test (λ t. (t || has xs h) ≡ true) (same_handler x h) (λ _. refl) (λ _. rest)) m
 
   all_at : (hs : List HandlerId) → AllByRecursion (NothingLeft c.windows) hs → (h : HandlerId) → has hs h ≡ true → NothingLeft c.windows h

@@ -2,6 +2,7 @@
 use Rattle.std.proofs.Common.{◌≡◌, ℕ, ◌+◌, ◌-◌, ◌^◌, ◌<◌, ◌≤◌, ◌==◌, ◌&&◌, ◌||◌, not, Bool, true, false, nat_le, nat_lt, List, [], ◌∷◌, length, Option, Some, None, refl, ap, ◌∙◌, arith, length-drop}
 use Rattle.std.specs.Prelude.{if◌then◌else◌}
 use Rattle.std.proofs.lemmas.Bool.Decides.{nat_tests}
+use Rattle.std.proofs.Math.Bool.{and-false}
 use Rattle.scoop_message.specs.declared.limits.TheConstants.{MAX_PENDING, MAX_ENTRIES}
 use Rattle.scoop_message.specs.declared.name.Block.{Block}
 use Rattle.scoop_message.specs.declared.request.Entry.{Entry}
@@ -18,6 +19,7 @@ use Rattle.scoop_handler.specs.Marks.{is_open, mark_of, set_mark}
 use Rattle.scoop_handler.specs.State.{HandlerState, IsAscending}
 use Rattle.scoop_handler.specs.Hearing.{is_new, hear_of, if_here, hear_log, dropped, took, with_entries, received_before, kept_answer, new_entries, is_closed, has_no_room}
 use Rattle.scoop_calm.specs.Left.{mark_room, total}
+use Rattle.scoop_handler.proofs.MarkPlaces.{tail-ascending}
 use Rattle.scoop_calm.proofs.Totals.{Distinct, total_newer}
 use Rattle.scoop_calm.proofs.Talk.{Replies, heard_of}
 use Rattle.scoop_model.proofs.Basics.{by_test}
@@ -35,13 +37,9 @@ none_later k (z ∷ zs) up =
     let other : same_client z.client k.client ≡ false = grind (arith, nat_tests) in
     ap (λ t. if t then Some z else mark_of k.client zs) other ∙ none_later k zs (ascending_from k z zs up)
 
-tail_of : (k : Mark) (marks : List Mark) → IsAscending (k ∷ marks) → IsAscending marks
-tail_of k [] up = tt
-tail_of k (z ∷ zs) up = up.1
-
 marks_distinct : (marks : List Mark) → IsAscending marks → Distinct (λ (k : Mark). k.client) same_client client_decides marks
 marks_distinct [] up = tt
-marks_distinct (k ∷ ks) up = (none_later k ks up, marks_distinct ks (tail_of k ks up))
+marks_distinct (k ∷ ks) up = (none_later k ks up, marks_distinct ks (tail-ascending k ks up))
 
 -- a mark in the place of its client's takes more
 pub less_room : (k old : Mark) (marks : List Mark) → IsAscending marks → mark_of k.client marks ≡ Some old → old.received < k.received → k.received ≤ 2 ^ 32
@@ -99,11 +97,7 @@ module _ (s : HandlerState) (b : Block) (k : Mark) (n : ℕ) (es : List Entry) (
       (λ i. going i || (fits i || (last == 2 ^ 32 - 1 && not (ends es)))) ∙ by_end (ends es) refl
     where
       by_end : (t : Bool) → ends es ≡ t → (last == 2 ^ 32 - 1 && not (ends es)) ≡ false
-      by_end true is = ap (λ t. last == 2 ^ 32 - 1 && not t) is ∙ and_not (last == 2 ^ 32 - 1)
-        where
-          and_not : (t : Bool) → (t && false) ≡ false
-          and_not true = refl
-          and_not false = refl
+      by_end true is = ap (λ t. last == 2 ^ 32 - 1 && not t) is ∙ and-false (last == 2 ^ 32 - 1)
       by_end false is =
           let below = d.end is in
           let other : (last == 2 ^ 32 - 1) ≡ false = grind (arith, nat_tests) in

@@ -25,7 +25,7 @@ use Rattle.scoop_model.proofs.Basics.{by_test}
 use Rattle.scoop_calm.specs.declared.next.Next.TheVariants as next
 use Rattle.scoop_calm.specs.Next.{can_do}
 use Rattle.scoop_calm.specs.Left.{block_work, client_work, windows_work, stage_work, wait_work}
-use Rattle.scoop_calm.proofs.Handlers.{itself}
+use Rattle.scoop_model.proofs.Whole.Sent.{same_handler_itself}
 use Rattle.scoop_calm.proofs.Measures.{for_clients, parties_total}
 use Rattle.scoop_calm.proofs.Engine.{Helps}
 use Rattle.scoop_calm.proofs.Moves.{ask_useful}
@@ -69,7 +69,7 @@ known_mark b k inc num =
 pub heard_of : (s : HandlerState) (b : Block) (k : Mark) (f : Mark → Hearing) → mark_of b.client s.marks ≡ Some k → k.inc ≡ b.inc → k.num ≤ b.num
     → if_here s s.number (hear_of s b f) ≡ f k
 heard_of s b k f found inc num =
-    ap (λ t. if t then hear_of s b f else dropped s WrongHandler) (itself s.number)
+    ap (λ t. if t then hear_of s b f else dropped s WrongHandler) (same_handler_itself s.number)
     ∙ ap (λ o. hear_at s (mark_for b o) f) found
     ∙ ap (λ r. hear_at s r f) (known_mark b k inc num)
 

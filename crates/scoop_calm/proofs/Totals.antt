@@ -1,5 +1,5 @@
 -- Sums over lists, and what one item in the place of that with its key makes of them.
-use Rattle.std.proofs.Common.{◌++◌, length, ◌≡◌, ◌⊎◌, inl, inr, ℕ, zero, suc, ◌+◌, ◌≤◌, Bool, List, [], ◌∷◌, map, find, slice_get, Option, Some, None, refl, sym, ap, ◌∙◌, subst, ⊎_elim, arith}
+use Rattle.std.proofs.Common.{length, ◌≡◌, ◌⊎◌, inl, inr, ℕ, zero, suc, ◌+◌, ◌≤◌, Bool, List, [], ◌∷◌, map, find, slice_get, Option, Some, None, refl, sym, ap, ◌∙◌, subst, ⊎_elim, arith}
 use Rattle.std.specs.Prelude.{⊤, if◌then◌else◌}
 use Rattle.std.specs.Bool.{Decides}
 use Rattle.std.specs.List.{AllByRecursion}
@@ -13,14 +13,17 @@ pub none_long : {A : Type 0} (xs : List A) → length xs ≤ 0 → xs ≡ []
 none_long [] le = refl
 none_long (x ∷ xs) le = absurd (omega (arith, le))
 
-pub all_append : {A : Type 0} (P : A → Type 0) (xs ys : List A) → AllByRecursion P xs → AllByRecursion P ys → AllByRecursion P (xs ++ ys)
-all_append P [] ys p q = q
-all_append P (x ∷ xs) ys p q = (p.0, all_append P xs ys p.1 q)
-
 -- the item stands in the list
 abbrev pub Member : {A : Type 0} → A → List A → Type 0
 Member x [] = ⊥
 Member x (y ∷ ys) = (y ≡ x) ⊎ Member x ys
+
+-- what is found is one of them
+pub found_in : {A : Type 0} (f : A → Bool) (xs : List A) (x : A) → find f xs ≡ Some x → Member x xs
+found_in f [] x e = absurd (cc)
+found_in f (y ∷ ys) x e =
+    by_test (λ t. (if t then Some y else find f ys) ≡ Some x → Member x (y ∷ ys)) (f y) (λ here g. inl (let p : y ≡ x = cc in p))
+    (λ there g. inr (found_in f ys x g)) e
 
 -- each item has a property, or another thing is so
 pub each_or : {A : Type 0} (P : A → Type 0) (Q : Type 0) (xs : List A) → ((x : A) → Member x xs → P x ⊎ Q) → AllByRecursion P xs ⊎ Q

@@ -1,4 +1,5 @@
--- A client that has something to unlock can unlock it.
+-- A client that has something to unlock can unlock it. Its mark at the handler is at the block, or at an earlier one that is
+-- finished; on each row that this leaves, the handler tells Unlocked. With it the client has one handler less to unlock.
 use Rattle.std.proofs.Common.{◌≡◌, ◌<◌, ◌≤◌, ◌&&◌, true, false, true≢false, nat_lt, map, Some, None, refl, sym, ap, ◌∙◌, arith, subst}
 use Rattle.std.specs.Prelude.{if◌then◌else◌}
 use Rattle.std.proofs.lemmas.Bool.Decides.{nat_tests}
@@ -33,7 +34,7 @@ use Rattle.scoop_model.proofs.Order.Lists.{same_block_itself}
 use Rattle.scoop_model.proofs.Order.Clients.{none_in_empty}
 use Rattle.scoop_model.proofs.Order.Facts.{all_found}
 use Rattle.scoop_model.proofs.Logging.Facts.{WindowsFit, PartyLogs}
-use Rattle.scoop_model.proofs.Logging.Greetings.{place}
+use Rattle.scoop_model.proofs.Sites.{own_site}
 use Rattle.scoop_calm.specs.Left.{stage_work}
 use Rattle.scoop_calm.proofs.Handlers.{less_without}
 use Rattle.scoop_calm.proofs.Clients.{BlockFits, PartyFitsWell}
@@ -160,7 +161,7 @@ module _ (w : World) (r : IsReached w) (e : Everything (map (λ (p : Placement).
       let found : mark_of b.client s.core.state.marks ≡ Some m.mark = ap (λ c. mark_of c s.core.state.marks) client ∙ m.there in
       let left_here : has q.left n ≡ true = ap (has q.left) number ∙ left in
       subst (λ j. Helps w (next.Ask (id_of p) j)) number
-      (asks_useful w r p s (Unlock n b) (Unlocked n b) at (place w h s m.found)
+      (asks_useful w r p s (Unlock n b) (Unlocked n b) at (own_site w h s m.found)
       (due_reserved p.client n q (Unlock n b) (welcome n) held (releasing_owes q n q.stage stage left_here))
       refl refl (unlock_heard s.core.state b m.mark found inc (omega (arith, low, last)) (newer_clear h m)) refl refl client
       (stepped p.client (at_stage q q.stage (without n q.left)), UnlockedNote n) (unlocked_heard p.client q n held stage left_here)

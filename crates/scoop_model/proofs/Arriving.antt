@@ -1,4 +1,6 @@
--- What a handler told to have received of a block has run there, or is pending there.
+-- What a handler told to have received of a block has run there, or is pending there. A handler has a slot for each block that
+-- opened at it, with what ran of the block and what waits in its private queue. Together these are a beginning of the block's
+-- log, as long as the greatest count that was told; so as many entries as any message tells have arrived, and they are the first.
 use Rattle.std.proofs.Common.{◌≡◌, ℕ, ◌≤◌, true, false, ◌||◌, true≢false, List, [], ◌∷◌, ◌++◌, length, take, Option, Some, None, refl, sym, ap, ◌∙◌, subst, arith}
 use Rattle.std.specs.Prelude.{if◌then◌else◌}
 use Rattle.std.specs.List.{AllByRecursion}
@@ -21,7 +23,7 @@ use Rattle.scoop_model.proofs.Order.Facts.{all_more_of}
 use Rattle.scoop_model.proofs.Order.Lists.{AreApart, same_block_is, same_block_itself}
 use Rattle.scoop_model.proofs.Tape.Slots.{Slot, slot_queue, queue_at, queues_of, blocks_of}
 use Rattle.scoop_model.proofs.Tape.Fits.{IsBegun}
-use Rattle.scoop_model.proofs.Tape.Taking.{all_both}
+use Rattle.scoop_handler.proofs.Basics.{all_both}
 use Rattle.scoop_model.proofs.Tape.Shown.{IsPart, left_apart, part_of, slot_parts}
 use Rattle.scoop_model.proofs.Whole.Sent.{count_itself}
 use Rattle.scoop_model.proofs.Whole.Shown.{told_entries}

@@ -1,13 +1,12 @@
 -- Small lemmas that many proofs share.
-use Rattle.std.proofs.Common.{◌≡◌, Bool, true, false, ◌||◌, true≢false, Option, Some, refl}
+use Rattle.std.proofs.Common.{◌≡◌, Bool, true, false, ◌||◌, true≢false, Option, Some, refl, ap, ◌∙◌}
 use Rattle.std.specs.Prelude.{Ok}
+use Rattle.std.proofs.lemmas.Option.{same_Some}
+pub use Rattle.scoop_handler.proofs.Basics.{by_test}
 use Rattle.scoop_client.specs.State.{ClientState}
 use Rattle.scoop_client.specs.Commands as client
-
--- a goal that speaks of a test, by cases
-pub by_test : (Q : Bool → Type 0) (b : Bool) → (b ≡ true → Q true) → (b ≡ false → Q false) → Q b
-by_test Q true t f = t refl
-by_test Q false t f = f refl
+use Rattle.scoop_reserve.specs.State.{ReservationState}
+use Rattle.scoop_model.specs.World.{Party}
 
 pub first_false : (t u : Bool) → (t || u) ≡ false → t ≡ false
 first_false true u e = absurd (true≢false e)
@@ -19,3 +18,7 @@ some_same o x y e f = cc
 -- what a client's command gives, where it is taken
 pub ok_is : (a b : ClientState) → ◌≡◌ {A = client.Outcome} (Ok a) (Ok b) → a ≡ b
 ok_is a b e = cc
+
+-- what the reservation is of a party that was found
+pub of_party : (q y : Party) (s : ReservationState) → Some q ≡ Some y → y.client.reservation ≡ Some s → q.client.reservation ≡ Some s
+of_party q y s e has = ap (λ (z : Party). z.client.reservation) (same_Some q y e) ∙ has

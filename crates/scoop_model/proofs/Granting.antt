@@ -24,7 +24,7 @@ use Rattle.scoop_client.proofs.Rows.{heard_row}
 use Rattle.scoop_model.specs.World.{World, Party, BlockLog, id_of, is_party, party_of, set_party, handlers_of, sent_at}
 use Rattle.scoop_model.specs.Step.{Placement, Newcomer, opening, newest_block, logs_after, with_sent, with_site, heard_world, heard_party, begun_site, finished_site, restarted_party, reopened_world}
 use Rattle.scoop_model.specs.Told.{WasGranted, WasGrantedAtAll, TellsGranted}
-use Rattle.scoop_model.proofs.Basics.{by_test}
+use Rattle.scoop_model.proofs.Basics.{by_test, of_party}
 use Rattle.scoop_model.proofs.Events.{Changes}
 use Rattle.scoop_model.proofs.Keys.{by_party, id_found}
 use Rattle.scoop_model.proofs.Locking.{HasLocks, Locks, locks_more, heard_locks, command_locks}
@@ -120,16 +120,13 @@ module _ (w : World) (i : Granting w) (c : ClientId) (p q : Party) (at : party_o
   onward : Onward w gone_on
   onward = record { sent = λ m was. was; sets = sets }
 
-  of_party : (y : Party) (s : ReservationState) → Some q ≡ Some y → y.client.reservation ≡ Some s → q.client.reservation ≡ Some s
-  of_party y s e has_one = let one : q ≡ y = cc in ap (λ (z : Party). z.client.reservation) one ∙ has_one
-
   -- one client goes on, and nothing is sent
   party_granted : Granting gone_on
   party_granted = record {
     messages = all_more_of (TellsGranted w) (TellsGranted gone_on) (tells_more w gone_on onward) w.sent i.messages;
     parties = λ d y there s has_one.
         by_party (λ o. o ≡ Some y → ReservationGranted gone_on s) w q p d (subst (λ j. party_of j w ≡ Some p) (sym (id_found c w p at) ∙ sym same) at)
-        (λ is e. reservation_more w gone_on onward s (own s (of_party y s e has_one)))
+        (λ is e. reservation_more w gone_on onward s (own s (of_party q y s e has_one)))
         (λ apart e. reservation_more w gone_on onward s (i.parties d y e s has_one)) there;
   }
 

@@ -1,4 +1,6 @@
--- Which worlds are reached, and what is so of them.
+-- Which worlds are reached, and what is so of them. A world that opens is reached, and so is what an event makes of a reached
+-- world: the event stands behind those that led there. No event changes a handler's number or a client's, so in every reached
+-- world these are the ones that were placed, in their order, each once.
 use Rattle.std.proofs.Common.{◌≡◌, ℕ, ◌+◌, ◌==◌, false, List, [], ◌∷◌, ◌++◌, map, length, refl, sym, ap, ◌∙◌, subst, arith, length-append}
 use Rattle.std.specs.Prelude.{if◌then◌else◌, Ok, Err}
 use Rattle.std.specs.List.{AllByRecursion}

@@ -13,6 +13,7 @@ use Rattle.scoop_model.proofs.Keys.{number_found, by_site}
 use Rattle.scoop_model.proofs.Order.Facts.{SiteFits, Ordered}
 use Rattle.scoop_model.proofs.Order.Handlers.{state_anew}
 
+-- the site that is found for a handler is that of its own number
 pub own_site : (w : World) (h : HandlerId) (s : Site) → site_of h w ≡ Some s → site_of (number_of s) w ≡ Some s
 own_site w h s found = subst (λ j. site_of j w ≡ Some s) (sym (number_found h w s found)) found
 

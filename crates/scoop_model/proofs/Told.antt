@@ -16,6 +16,7 @@ use Rattle.scoop_handler.specs.declared.mark.Mark.{Mark}
 use Rattle.scoop_handler.specs.declared.mark.Stage.{Stage}
 use Rattle.scoop_handler.specs.declared.mark.Stage.TheVariants.{Held as AtHeld, Open as AtOpen, Shut as AtShut}
 use Rattle.scoop_handler.specs.Marks.{block_of}
+use Rattle.scoop_handler.proofs.Basics.{all_both}
 use Rattle.scoop_handler.proofs.MarkLists.{mark_of-client, All-mark_of}
 use Rattle.scoop_model.specs.World.{World, Site, Party, is_site, is_party, party_of, inc_of, has_block, log_of}
 use Rattle.scoop_model.specs.Reach.{IsReached}
@@ -173,10 +174,6 @@ module _ (w : World) (f : Facts w) where
 
 -- ---- every message of a world that is reached
 
-both_all : {A : Type 0} (P Q R : A → Type 0) → ((a : A) → P a → Q a → R a) → (xs : List A) → AllByRecursion P xs → AllByRecursion Q xs → AllByRecursion R xs
-both_all P Q R f [] p q = tt
-both_all P Q R f (x ∷ xs) p q = (f x p.0 q.0, both_all P Q R f xs p.1 q.1)
-
 module _ (w : World) (r : IsReached w) where
   facts : Facts w
   facts = reached_facts w r
@@ -202,7 +199,7 @@ module _ (w : World) (r : IsReached w) where
   all_unlocked = all_more_of (Shows w) (TellsUnlocked w) (tells_unlocked w facts) w.sent facts.openings.messages
 
   pub all_logged : AllByRecursion (TellsLogged w) w.sent
-  all_logged = both_all (Carries w) (Shows w) (TellsLogged w) (tells_logged w facts) w.sent facts.logging.messages facts.openings.messages
+  all_logged = all_both (Carries w) (Shows w) (TellsLogged w) (tells_logged w facts) w.sent facts.logging.messages facts.openings.messages
 
   pub all_ran : AllByRecursion (TellsRan w) w.sent
   all_ran = all_more_of (TellsAnswer w) (TellsRan w) (tells_ran w facts) w.sent facts.answering.messages

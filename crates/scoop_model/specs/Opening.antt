@@ -17,7 +17,7 @@ pub record IsJoining (n : Newcomer) : Type 0 where
   pub limit : n.batch ≤ MAX_ENTRIES
   pub next : n.stored < 2 ^ 32 - 1
 
--- one to 64 handlers and at most 64 clients, each once
+-- one to MAX_HANDLERS handlers and at most MAX_CLIENTS clients, each once
 pub record MayOpen (placements : List Placement) (newcomers : List Newcomer) : Type 0 where
   pub some : 1 ≤ length placements
   pub few : length placements ≤ MAX_HANDLERS

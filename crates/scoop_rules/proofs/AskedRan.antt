@@ -13,6 +13,7 @@ use Rattle.scoop_handler.specs.declared.ran.Ran.{Ran}
 use Rattle.scoop_model.specs.World.{World, Site, is_site, ran_at, site_of}
 use Rattle.scoop_model.specs.Safe.{HasRun, numbered, untold}
 use Rattle.scoop_rules.specs.Paper.{count_of}
+use Rattle.scoop_handler.proofs.Basics.{all_append}
 use Rattle.scoop_model.proofs.Basics.{by_test}
 use Rattle.scoop_model.proofs.Order.Facts.{all_found, all_more_of}
 use Rattle.scoop_model.proofs.Order.Lists.{same_block_itself}
@@ -52,16 +53,12 @@ numbers_upto :
 numbers_upto us b n [] le = tt
 numbers_upto us b n (e ∷ es) le = (omega (arith, le), numbers_upto us b (n + 1) es (omega (arith, le)))
 
-all_both_parts : {A : Type 0} (P : A → Type 0) (xs ys : List A) → AllByRecursion P xs → AllByRecursion P ys → AllByRecursion P (xs ++ ys)
-all_both_parts P [] ys p q = q
-all_both_parts P (x ∷ xs) ys p q = (p.0, all_both_parts P xs ys p.1 q)
-
 all_upto : (ss : List Slot) → AllByRecursion (IsUpto (ran_of ss)) (ran_of ss)
 all_upto [] = tt
 all_upto (s ∷ ss) =
     let own : count_told s.block (ran_of (s ∷ ss)) ≡ length s.ran + count_told s.block (ran_of ss) =
     count_both s.block (ran_in s) (ran_of ss) ∙ ap (λ n. n + count_told s.block (ran_of ss)) (count_own s.block 1 s.ran) in
-    all_both_parts (IsUpto (ran_of (s ∷ ss))) (ran_in s) (ran_of ss)
+    all_append (IsUpto (ran_of (s ∷ ss))) (ran_in s) (ran_of ss)
     (numbers_upto (ran_of (s ∷ ss)) s.block 1 s.ran (omega (arith, own)))
     (all_more_of (IsUpto (ran_of ss)) (IsUpto (ran_of (s ∷ ss))) (λ u le. let both = count_both u.0 (ran_in s) (ran_of ss) in omega (arith, le, both))
     (ran_of ss) (all_upto ss))

@@ -3,8 +3,11 @@
 -- told to be received, as its slot does. All other queues, seen before and after the greeting, are the same.
 use Rattle.std.proofs.Common.{◌≡◌, ℕ, zero, suc, ◌-◌, ◌≤◌, ◌<◌, ◌==◌, Bool, true, false, not, ◌&&◌, ◌||◌, nat_le, true≢false, List, [], ◌∷◌, ◌++◌, length, map, filter, flat_map, take, drop, refl, sym, ap, ◌∙◌, subst, arith, length-append, append-nil}
 use Rattle.std.specs.Prelude.{if◌then◌else◌}
+use Rattle.std.proofs.lemmas.Bool.{and_parts}
 use Rattle.std.proofs.lemmas.Bool.Decides.{nat_tests}
 use Rattle.std.proofs.lemmas.List.{length-drop}
+use Rattle.std.proofs.Math.Bool.{or-false}
+use Rattle.std.proofs.Math.Seq.{take-nil}
 use Rattle.scoop_message.specs.declared.name.Block.{Block}
 use Rattle.scoop_message.specs.declared.name.ClientId.{ClientId}
 use Rattle.scoop_message.specs.declared.name.HandlerId.{HandlerId}
@@ -20,9 +23,10 @@ use Rattle.scoop_rules.specs.Paper.{Waiting, Configuration, Objects, CutTo, Move
 use Rattle.scoop_model.proofs.Basics.{by_test}
 use Rattle.scoop_model.proofs.Order.Lists.{AreApart, same_block_is, same_block_itself}
 use Rattle.scoop_model.proofs.Tape.Slots.{blocks_of}
-use Rattle.scoop_rules.proofs.Lists.{same_configuration, queues_same, cut_over, cut_other, AreOwn, own_queue_at, own_cut}
+use Rattle.scoop_rules.proofs.Lists.{and_never, same_configuration, queues_same, cut_over, cut_other, AreOwn, own_queue_at, own_cut}
 use Rattle.scoop_rules.proofs.Seen.{seen_none, slot_at}
-use Rattle.scoop_rules.proofs.Messages.{greatest_more, newer_more, newer_welcome_says}
+use Rattle.scoop_model.proofs.Whole.Sent.{greatest_pushed}
+use Rattle.scoop_rules.proofs.Messages.{newer_more, newer_welcome_says}
 use Rattle.scoop_model.proofs.Ready.Facts.{HandlerReady, Ready}
 use Rattle.scoop_rules.proofs.Runs.{SlotReady, slots_ready}
 use Rattle.scoop_rules.proofs.Sends.{ran_in}
@@ -32,11 +36,7 @@ use Rattle.scoop_rules.proofs.Sends.{ran_in}
 take_of_drop : (r c : ℕ) (es : List Entry) → take (r - c) (drop c es) ≡ drop c (take r es)
 take_of_drop r zero es = let e : r - 0 ≡ r = omega arith in ap (λ n. take n es) e
 take_of_drop zero (suc c) es = let e : 0 - suc c ≡ 0 = omega arith in ap (λ n. take n (drop (suc c) es)) e
-take_of_drop (suc r) (suc c) [] = none (suc r - suc c)
-  where
-    none : (n : ℕ) → take {A = Entry} n [] ≡ []
-    none zero = refl
-    none (suc n) = refl
+take_of_drop (suc r) (suc c) [] = take-nil (suc r - suc c)
 take_of_drop (suc r) (suc c) (x ∷ es) = let e : suc r - suc c ≡ r - c = omega arith in ap (λ n. take n (drop c es)) e ∙ take_of_drop r c es
 
 none_dropped : (c : ℕ) (es : List Entry) → (length (drop c es) == 0) ≡ nat_le (length es) c
@@ -183,17 +183,13 @@ module _
       (ap (λ t. if t then cut_one b (f b) else f b) cuts ∙ sym (ap (λ t. if t && is_cut_by v w h b then cut_one b (cut_one b (f b)) else cut_one b (f b)) new)))
       (λ _ other. refl) refl
 
-  and_false : (t : Bool) (ps qs : List Waiting) → (if t && false then ps else qs) ≡ qs
-  and_false true ps qs = refl
-  and_false false ps qs = refl
-
   cut_all_not : (b : Block) (bs : List Block) (f : Block → List Waiting) → is_cut_by v w h b ≡ false → (y : Block) → cut_all (b ∷ bs) f y ≡ cut_all bs f y
   cut_all_not b bs f stays y =
       by_test (λ t. same_block b y ≡ t → (if (t || has_block bs y) && is_cut_by v w h y then cut_one y (f y) else f y) ≡ cut_all bs f y) (same_block b y)
       (λ _ same.
       let not_so : is_cut_by v w h y ≡ false = subst (λ z. is_cut_by v w h z ≡ false) (same_block_is b y same) stays in
       ap (λ t. if t then cut_one y (f y) else f y) not_so
-      ∙ sym (ap (λ t. if has_block bs y && t then cut_one y (f y) else f y) not_so ∙ and_false (has_block bs y) (cut_one y (f y)) (f y)))
+      ∙ sym (ap (λ t. if has_block bs y && t then cut_one y (f y) else f y) not_so ∙ and_never (has_block bs y) (cut_one y (f y)) (f y)))
       (λ _ other. refl) refl
 
   pub cuts :
@@ -219,7 +215,7 @@ module _ (v : World) (sites : List Site) (same_ran : (j : HandlerId) → ran_in 
 
   -- it tells nothing of received entries
   same_received : (b : Block) (x : HandlerId) → received b x greeted_world ≡ received b x v
-  same_received b x = greatest_more x b v.sent (Welcome h c inc) ∙ (let n = greatest_count x b v.sent in omega arith)
+  same_received b x = greatest_pushed x b v.sent (Welcome h c inc) ∙ (let n = greatest_count x b v.sent in omega arith)
 
   or_true : (t u : Bool) → t ≡ true → (t || u) ≡ true
   or_true t u e = ap (λ x. x || u) e
@@ -236,11 +232,7 @@ module _ (v : World) (sites : List Site) (same_ran : (j : HandlerId) → ran_in 
       newer_more x b v.sent (Welcome h c inc)
       ∙ by_test (λ t. is_newer_welcome x b (Welcome h c inc) ≡ t → (is_succeeded b x v || t) ≡ is_succeeded b x v) (is_newer_welcome x b (Welcome h c inc))
       (λ _ e. absurd (apart (sym (newer_welcome_says x h b c inc e).0)))
-      (λ _ e. or_nothing (is_succeeded b x v)) refl
-    where
-      or_nothing : (t : Bool) → (t || false) ≡ t
-      or_nothing true = refl
-      or_nothing false = refl
+      (λ _ e. or-false (is_succeeded b x v)) refl
 
   other_place : (b : Block) (x : HandlerId) → (x ≡ h → ⊥) → queue_at greeted_world x b ≡ queue_at v x b
   other_place b x apart =
@@ -274,18 +266,14 @@ module _ (v : World) (sites : List Site) (same_ran : (j : HandlerId) → ran_in 
         let count = ap (λ (s : Seen). s.count) looks in
         omega (arith, count)) refl
 
-    both_so : (t u : Bool) → (t && u) ≡ true → (t ≡ true) × (u ≡ true)
-    both_so true u e = (refl, e)
-    both_so false u e = absurd (true≢false (sym e))
-
     may : (b : Block) → is_cut_by v greeted_world h b ≡ true → (b.inc < inc_of v b.client) × (count_of b (ran_at h v) ≤ received b h v)
     may b e = (
       by_test (λ t. is_succeeded b h v ≡ t → b.inc < inc_of v b.client) (is_succeeded b h v)
           (λ _ is. ready.below b h is)
           (λ _ old.
-          let p = both_so (has (set_of b v) h) (is_cut_off (seen b h greeted_world) && not (is_cut_off (seen b h v))) e in
-          let q = both_so (is_cut_off (seen b h greeted_world)) (not (is_cut_off (seen b h v))) p.1 in
-          let n = both_so (is_succeeded b h greeted_world) (not (has_end (take (received b h greeted_world) (log_of b h v)))) q.0 in
+          let p = and_parts (has (set_of b v) h) (is_cut_off (seen b h greeted_world) && not (is_cut_off (seen b h v))) e in
+          let q = and_parts (is_cut_off (seen b h greeted_world)) (not (is_cut_off (seen b h v))) p.1 in
+          let n = and_parts (is_succeeded b h greeted_world) (not (has_end (take (received b h greeted_world) (log_of b h v)))) q.0 in
           let says = newer_welcome_says h h b c inc (newly b h n.0 old) in
           subst (λ d. b.inc < inc_of v d) (sym says.1) (let l = says.2 in omega (arith, l, below))) refl,
       count_least b,

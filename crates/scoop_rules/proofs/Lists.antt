@@ -1,5 +1,5 @@
 -- The private queues of the rules as lists over blocks, and what one move does to the queue of one block.
-use Rattle.std.proofs.Common.{◌≡◌, ℕ, zero, suc, ◌+◌, true, false, ◌||◌, true≢false, List, [], ◌∷◌, ◌++◌, length, map, flat_map, take, drop, refl, sym, ap, ◌∙◌, subst, arith, append-nil}
+use Rattle.std.proofs.Common.{◌≡◌, ℕ, zero, suc, ◌+◌, Bool, true, false, ◌&&◌, ◌||◌, true≢false, List, [], ◌∷◌, ◌++◌, length, map, flat_map, take, drop, refl, sym, ap, ◌∙◌, subst, arith, append-nil}
 use Rattle.std.specs.Prelude.{if◌then◌else◌}
 use Rattle.std.specs.List.{AllByRecursion}
 use Rattle.std.proofs.lemmas.Grind.{flat_map-append}
@@ -14,6 +14,11 @@ use Rattle.scoop_model.specs.World.{World, has_block, set_of}
 use Rattle.scoop_rules.specs.Paper.{Waiting, Configuration, is_of, logged_to, cut_queue, cut_waiting, Seen, seen, kept, is_gone, state_of, queue_of, queue_at}
 use Rattle.scoop_model.proofs.Basics.{by_test}
 use Rattle.scoop_model.proofs.Order.Lists.{same_block_itself}
+
+-- what two tests choose, of which one fails
+pub and_never : (t : Bool) (ps qs : List Waiting) → (if t && false then ps else qs) ≡ qs
+and_never true ps qs = refl
+and_never false ps qs = refl
 
 -- ---- configurations are the same where they are so at every handler and client
 

@@ -2,7 +2,8 @@
 use Rattle.std.proofs.Common.{◌≡◌, ℕ, ◌≤◌, ◌<◌, Bool, true, false, ◌&&◌, ◌||◌, true≢false, List, [], ◌∷◌, ◌++◌, refl, sym, ap, ◌∙◌, subst, arith}
 use Rattle.std.specs.Prelude.{max, nat_lt, if◌then◌else◌}
 use Rattle.std.specs.List.{list_any}
-use Rattle.std.proofs.lemmas.Bool.Decides.{nat_tests}
+use Rattle.std.proofs.lemmas.Bool.{and_parts, ltb-true}
+use Rattle.std.proofs.Math.Bool.{or-false}
 use Rattle.std.proofs.lemmas.List.Folds.{list_any-append}
 use Rattle.scoop_message.specs.declared.name.Block.{Block}
 use Rattle.scoop_message.specs.declared.name.ClientId.{ClientId}
@@ -14,6 +15,7 @@ use Rattle.scoop_message.specs.Message.{is_for_handler, same_block, same_client,
 use Rattle.scoop_message.proofs.Same.{block_decides, client_decides, handler_decides}
 use Rattle.scoop_model.specs.World.{is_newer_welcome, count_in, greatest_count}
 use Rattle.scoop_rules.specs.Paper.{Seen, queue_of}
+use Rattle.scoop_model.proofs.Whole.Sent.{greatest_pushed}
 use Rattle.scoop_model.proofs.Basics.{by_test}
 
 -- ---- what one message more tells
@@ -21,20 +23,11 @@ use Rattle.scoop_model.proofs.Basics.{by_test}
 max_none : (n : ℕ) → max n 0 ≡ n
 max_none n = omega arith
 
-pub greatest_more :
-    (h : HandlerId) (b : Block) (ms : List Message) (m : Message) → greatest_count h b (ms ++ m ∷ []) ≡ max (greatest_count h b ms) (count_in h b m)
-greatest_more h b [] m = omega arith
-greatest_more h b (x ∷ xs) m = let later = greatest_more h b xs m in omega (arith, later)
-
-or_nothing : (t : Bool) → (t || false) ≡ t
-or_nothing true = refl
-or_nothing false = refl
-
 pub newer_more :
     (h : HandlerId) (b : Block) (ms : List Message) (m : Message)
     → list_any (is_newer_welcome h b) (ms ++ m ∷ []) ≡ (list_any (is_newer_welcome h b) ms || is_newer_welcome h b m)
 newer_more h b ms m =
-    list_any-append (is_newer_welcome h b) ms (m ∷ []) ∙ ap (λ t. list_any (is_newer_welcome h b) ms || t) (or_nothing (is_newer_welcome h b m))
+    list_any-append (is_newer_welcome h b) ms (m ∷ []) ∙ ap (λ t. list_any (is_newer_welcome h b) ms || t) (or-false (is_newer_welcome h b m))
 
 -- ---- quiet messages
 
@@ -50,7 +43,7 @@ quiet_newer h b ms m q =
     newer_more h b ms m
     ∙ by_test (λ t. is_newer_welcome h b m ≡ t → (list_any (is_newer_welcome h b) ms || t) ≡ list_any (is_newer_welcome h b) ms) (is_newer_welcome h b m)
     (λ _ e. let g = q.greets h b e in ap (λ t. t || true) g ∙ sym g)
-    (λ _ e. or_nothing (list_any (is_newer_welcome h b) ms)) refl
+    (λ _ e. or-false (list_any (is_newer_welcome h b) ms)) refl
 
 -- a block that some messages show
 abbrev pub told_seen : HandlerId → Block → List Entry → ℕ → Bool → List Message → Seen
@@ -75,7 +68,7 @@ quiet_queue h b log count over ms m q =
     (list_any (is_newer_welcome h b) ms)
     (λ _ e.
     let least = q.tells h b e in
-    let same : greatest_count h b (ms ++ m ∷ []) ≡ greatest_count h b ms = greatest_more h b ms m ∙ most (greatest_count h b ms) (count_in h b m) least in
+    let same : greatest_count h b (ms ++ m ∷ []) ≡ greatest_count h b ms = greatest_pushed h b ms m ∙ most (greatest_count h b ms) (count_in h b m) least in
     ap (λ n. queue_of b (record { logged = log; count = count; over = over; newer = list_any (is_newer_welcome h b) ms; received = n })) same)
     (λ _ e. not_succeeded b log count over (list_any (is_newer_welcome h b) ms) (greatest_count h b (ms ++ m ∷ [])) (greatest_count h b ms) e) refl
   where
@@ -107,21 +100,13 @@ request_plain (Unlocked x y) goes = absurd (true≢false (sym goes))
 request_plain (Logged x y n) goes = absurd (true≢false (sym goes))
 request_plain (Answer x y n a) goes = absurd (true≢false (sym goes))
 
--- both of two tests
-both_so : (t u : Bool) → (t && u) ≡ true → (t ≡ true) × (u ≡ true)
-both_so true u e = (refl, e)
-both_so false u e = absurd (true≢false (sym e))
-
 -- what a newer welcome says
 pub newer_welcome_says :
     (h x : HandlerId) (b : Block) (c : ClientId) (inc : ℕ) → is_newer_welcome h b (Welcome x c inc) ≡ true → (x ≡ h) × (b.client ≡ c) × (b.inc < inc)
 newer_welcome_says h x b c inc e =
-    let p = both_so (same_handler x h) (same_client c b.client && nat_lt b.inc inc) e in
-    let q = both_so (same_client c b.client) (nat_lt b.inc inc) p.1 in
-    ((handler_decides x h).0 p.0, sym ((client_decides c b.client).0 q.0), below b.inc inc q.1)
-  where
-    below : (i j : ℕ) → nat_lt i j ≡ true → i < j
-    below i j e = grind (arith, nat_tests)
+    let p = and_parts (same_handler x h) (same_client c b.client && nat_lt b.inc inc) e in
+    let q = and_parts (same_client c b.client) (nat_lt b.inc inc) p.1 in
+    ((handler_decides x h).0 p.0, sym ((client_decides c b.client).0 q.0), ltb-true b.inc inc q.1)
 
 -- a welcome of an incarnation that was welcomed before
 pub welcome_quiet :
@@ -139,7 +124,7 @@ count_quiet ms x y n not_so = record {
   tells = λ h b e.
       by_test (λ t. same_handler x h && same_block y b ≡ t → (if t then n else 0) ≤ greatest_count h b ms) (same_handler x h && same_block y b)
       (λ _ is.
-      let p = both_so (same_handler x h) (same_block y b) is in
+      let p = and_parts (same_handler x h) (same_block y b) is in
       let there : list_any (is_newer_welcome x y) ms ≡ true =
       subst (λ z. list_any (is_newer_welcome x z) ms ≡ true) (sym ((block_decides y b).0 p.1))
       (subst (λ j. list_any (is_newer_welcome j b) ms ≡ true) (sym ((handler_decides x h).0 p.0)) e) in

@@ -1,12 +1,12 @@
 -- At its first opening anywhere a block is reserved in one step, and cut wherever it can't open any more. Nothing is logged
 -- for it yet, so each new queue is empty and open; where a newer incarnation of its client has greeted it is cut at once and
 -- gone. A later opening is no move: the block is in the common list already.
-use Rattle.std.proofs.Common.{◌≡◌, ◌⊎◌, inl, inr, ℕ, zero, suc, ◌-◌, ◌<◌, Bool, true, false, ◌&&◌, ◌||◌, true≢false, List, [], ◌∷◌, ◌++◌, map, filter, flat_map, take, Option, refl, sym, ap, ◌∙◌, subst, ⊎_elim, arith, append-nil}
+use Rattle.std.proofs.Common.{◌≡◌, ◌⊎◌, inl, inr, ℕ, ◌-◌, ◌<◌, Bool, true, false, ◌&&◌, ◌||◌, true≢false, List, [], ◌∷◌, ◌++◌, map, filter, flat_map, take, Option, refl, sym, ap, ◌∙◌, subst, ⊎_elim, arith, append-nil}
 use Rattle.std.specs.Prelude.{if◌then◌else◌}
 use Rattle.std.proofs.lemmas.Grind.{flat_map-append}
+use Rattle.std.proofs.Math.Seq.{take-nil}
 use Rattle.scoop_message.specs.declared.name.Block.{Block}
 use Rattle.scoop_message.specs.declared.name.HandlerId.{HandlerId}
-use Rattle.scoop_message.specs.declared.request.Entry.{Entry}
 use Rattle.scoop_message.specs.declared.message.Message.{Message}
 use Rattle.scoop_message.specs.Message.{same_block, same_handler}
 use Rattle.scoop_message.proofs.Same.{handler_decides}
@@ -15,17 +15,15 @@ use Rattle.scoop_model.specs.World.{World, Site, has_block, set_of, ran_at, open
 use Rattle.scoop_model.specs.Step.{joined}
 use Rattle.scoop_rules.specs.Paper.{Waiting, Configuration, Objects, Separate, CutTo, MovesLead, put_at_handler, separate, cut_to, cut_queue, cut_waiting, new_queue, count_of, Seen, seen, queue_of, queue_at, configuration_of, late_cuts}
 use Rattle.scoop_model.proofs.Basics.{by_test}
+use Rattle.scoop_model.proofs.Whole.Sent.{same_handler_itself}
 use Rattle.scoop_model.proofs.Order.Lists.{same_block_is, same_block_itself}
-use Rattle.scoop_rules.proofs.Lists.{same_configuration, queues_same, queues_last, cut_over, cut_other, own_queue_at}
+use Rattle.scoop_rules.proofs.Lists.{and_never, same_configuration, queues_same, queues_last, cut_over, cut_other, own_queue_at}
 use Rattle.scoop_rules.proofs.Seen.{seen_none}
 use Rattle.scoop_rules.proofs.Front.{left_has}
 use Rattle.scoop_model.proofs.Ready.Facts.{HandlerReady, Ready}
 use Rattle.scoop_rules.proofs.Sends.{IsQuietIfSome, ran_in, with_news, same_queue, quiet_same}
 
 -- ---- tests of handlers
-
-handler_itself : (h : HandlerId) → same_handler h h ≡ true
-handler_itself h = (handler_decides h h).1 refl
 
 handlers_turned : (x h : HandlerId) → same_handler x h ≡ false → same_handler h x ≡ false
 handlers_turned x h e =
@@ -44,12 +42,8 @@ other_than b y js none m =
     (λ _ is. absurd (true≢false (sym m ∙ ap (has_block js) (same_block_is y b is) ∙ none)))
     (λ _ is. refl) refl
 
-cut_nothing : (n : ℕ) → take {A = Entry} n [] ≡ []
-cut_nothing zero = refl
-cut_nothing (suc n) = refl
-
 cut_new : (b : Block) (k : ℕ) → flat_map (cut_waiting b k) (new_queue b ∷ []) ≡ []
-cut_new b k = ap (λ t. (if t then cut_queue b (take k []) else new_queue b ∷ []) ++ []) (same_block_itself b) ∙ ap (λ es. cut_queue b es ++ []) (cut_nothing k)
+cut_new b k = ap (λ t. (if t then cut_queue b (take k []) else new_queue b ∷ []) ++ []) (same_block_itself b) ∙ ap (λ es. cut_queue b es ++ []) (take-nil k)
 
 -- a cut of a block that isn't in the list
 cut_behind : (w : World) (h : HandlerId) (b : Block) (k : ℕ) (qs : List Waiting) → has_block w.joint b ≡ false
@@ -97,10 +91,6 @@ module _
   abbrev cut_where : List HandlerId → (HandlerId → List Waiting) → HandlerId → List Waiting
   cut_where hs last x = if has hs x && is_succeeded b x w then [] else last x
 
-  and_false : (t : Bool) (ps qs : List Waiting) → (if t && false then ps else qs) ≡ qs
-  and_false true ps qs = refl
-  and_false false ps qs = refl
-
   cut_where_first :
       (h : HandlerId) (hs : List HandlerId) (last : HandlerId → List Waiting) → is_succeeded b h w ≡ true → (x : HandlerId)
       → cut_where (h ∷ hs) last x ≡ cut_where hs (without_at h last) x
@@ -113,7 +103,8 @@ module _
       (λ _ same.
       let one : h ≡ x = (handler_decides h x).0 same in
       ap (λ t. if t then [] else last x) (subst (λ j. is_succeeded b j w ≡ true) one newer)
-      ∙ sym (ap (λ t. if has hs x && is_succeeded b x w then [] else (if t then [] else last x)) (subst (λ j. same_handler j h ≡ true) one (handler_itself h))
+      ∙ sym (ap (λ t. if has hs x && is_succeeded b x w then [] else (if t then [] else last x))
+      (subst (λ j. same_handler j h ≡ true) one (same_handler_itself h))
       ∙ either (has hs x && is_succeeded b x w)))
       (λ _ other. ap (λ t. if has hs x && is_succeeded b x w then [] else (if t then [] else last x)) (sym (handlers_turned h x other))) refl
     where
@@ -128,7 +119,7 @@ module _
       by_test (λ t. same_handler h x ≡ t → (if (t || has hs x) && is_succeeded b x w then [] else last x) ≡ cut_where hs last x) (same_handler h x)
       (λ _ same.
       let not_so : is_succeeded b x w ≡ false = subst (λ j. is_succeeded b j w ≡ false) ((handler_decides h x).0 same) older in
-      ap (λ t. if t then [] else last x) not_so ∙ sym (ap (λ t. if has hs x && t then [] else last x) not_so ∙ and_false (has hs x) [] (last x)))
+      ap (λ t. if t then [] else last x) not_so ∙ sym (ap (λ t. if has hs x && t then [] else last x) not_so ∙ and_never (has hs x) [] (last x)))
       (λ _ other. refl) refl
 
   late : (hs : List HandlerId) (last : HandlerId → List Waiting) → IsNewOrNone last → (end : Configuration) → with_last w js (cut_where hs last) ≡ end

@@ -9,6 +9,7 @@ use Rattle.std.proofs.lemmas.Bool.Decides.{nat_tests}
 use Rattle.std.proofs.lemmas.Grind.{flat_map-append}
 use Rattle.std.proofs.lemmas.List.Elements.{filter-append}
 use Rattle.std.proofs.lemmas.List.Folds.{list_any-append}
+use Rattle.std.proofs.Math.Bool.{or-false}
 use Rattle.std.proofs.lemmas.Option.{none-some, same_Some}
 use Rattle.scoop_message.specs.declared.name.Block.{Block}
 use Rattle.scoop_message.specs.declared.name.HandlerId.{HandlerId}
@@ -48,14 +49,10 @@ count_pushed b rs r =
     ∙ length-append (filter (λ x. same_block x.block b) rs) (filter (λ x. same_block x.block b) (r ∷ []))
     ∙ by_test (λ t. count_of b rs + length (if t then r ∷ [] else []) ≡ count_of b rs + (if t then 1 else 0)) (same_block r.block b) (λ _. refl) (λ _. refl)
 
-or_nothing : (t : Bool) → (t || false) ≡ t
-or_nothing true = refl
-or_nothing false = refl
-
 pub ended_pushed : (b : Block) (rs : List Ran) (r : Ran) → has_ended b (rs ++ r ∷ []) ≡ (has_ended b rs || same_block r.block b && is_end r.entry)
 ended_pushed b rs r =
     list_any-append (λ x. same_block x.block b && is_end x.entry) rs (r ∷ [])
-    ∙ ap (λ t. has_ended b rs || t) (or_nothing (same_block r.block b && is_end r.entry))
+    ∙ ap (λ t. has_ended b rs || t) (or-false (same_block r.block b && is_end r.entry))
 
 -- ---- the common list around a block
 
@@ -211,7 +208,7 @@ module _ (w : World) (h : HandlerId) (s : Site) (t : Task) (found : site_of h w 
       ap (count_of b) ran_here ∙ count_pushed b (ran_at h w) (told_of t) ∙ ap (λ y. count_of b (ran_at h w) + (if y then 1 else 0)) other ∙ omega arith in
       let over =
       ap (has_ended b) ran_here ∙ ended_pushed b (ran_at h w) (told_of t) ∙ ap (λ y. has_ended b (ran_at h w) || y && is_end t.entry) other
-      ∙ or_nothing (has_ended b (ran_at h w)) in
+      ∙ or-false (has_ended b (ran_at h w)) in
       λ i. if has (set_of b w) h then queue_of b (record {
         logged = log_of b h w;
         count = count i;

@@ -4,6 +4,7 @@
 use Rattle.std.proofs.Common.{◌≡◌, ◌⊎◌, ℕ, ◌+◌, Bool, true, false, not, ◌&&◌, ◌||◌, ◌==◌, nat_le, true≢false, IsTrue, List, [], ◌∷◌, ◌++◌, length, map, take, drop, refl, sym, ap, ◌∙◌, ⊎_elim, arith, length-append, append_assoc, append-nil}
 use Rattle.std.specs.Prelude.{if◌then◌else◌}
 use Rattle.std.specs.List.{AllByRecursion, list_any}
+use Rattle.std.proofs.Math.Bool.{and-false}
 use Rattle.std.proofs.Math.Seq.{take-append_seam}
 use Rattle.std.proofs.lemmas.Bool.Decides.{nat_tests}
 use Rattle.scoop_message.specs.declared.name.Block.{Block}
@@ -29,21 +30,17 @@ use Rattle.scoop_rules.proofs.Lists.{drop_all, drop_more}
 
 -- ---- where an End stands
 
+not_so : (t : Bool) → IsTrue (not t) → t ≡ false
+not_so true e = absurd (true≢false (sym e))
+not_so false e = refl
+
 -- in entries with an End only last there is none before the last
 pub none_before : (xs : List Entry) (y : Entry) (ys : List Entry) → EndOnlyLast (xs ++ y ∷ ys) → has_end xs ≡ false
 none_before [] y ys only = refl
 none_before (x ∷ []) y ys only = ap (λ t. t || false) (not_so (is_end x) (both (not (is_end x)) (end_only_last (y ∷ ys)) only).0)
-  where
-    not_so : (t : Bool) → IsTrue (not t) → t ≡ false
-    not_so true e = absurd (true≢false (sym e))
-    not_so false e = refl
 none_before (x ∷ z ∷ xs) y ys only =
     let b = both (not (is_end x)) (end_only_last (z ∷ xs ++ y ∷ ys)) only in
     (λ i. not_so (is_end x) b.0 i || has_end (z ∷ xs)) ∙ none_before (z ∷ xs) y ys b.1
-  where
-    not_so : (t : Bool) → IsTrue (not t) → t ≡ false
-    not_so true e = absurd (true≢false (sym e))
-    not_so false e = refl
 
 pub no_end_left : (xs ys : List Entry) → has_end (xs ++ ys) ≡ false → has_end xs ≡ false
 no_end_left [] ys e = refl
@@ -182,13 +179,13 @@ first_queue ran x es more newer e =
     let took : take (length (ran ++ x ∷ es)) ((ran ++ x ∷ es) ++ more) ≡ ran ++ x ∷ es = take-append_seam (ran ++ x ∷ es) more in
     by_test (λ t. is_cut_off s ≡ t → HasFirst s x) (is_cut_off s)
     (λ _ c. record {
-      there = (λ i. e i || is_cut_off s && (ap (λ ys. nat_le (length ys) (length ran)) took ∙ longer) i) ∙ and_false (is_cut_off s);
+      there = (λ i. e i || is_cut_off s && (ap (λ ys. nat_le (length ys) (length ran)) took ∙ longer) i) ∙ and-false (is_cut_off s);
       later = es;
       entries = ap (λ t. drop (length ran) (if t then take (length (ran ++ x ∷ es)) ((ran ++ x ∷ es) ++ more) else (ran ++ x ∷ es) ++ more)) c
           ∙ ap (drop (length ran)) took ∙ drop_all ran (x ∷ es);
     })
     (λ _ c. record {
-      there = (λ i. e i || is_cut_off s && (ap (λ ys. nat_le (length ys) (length ran)) took ∙ longer) i) ∙ and_false (is_cut_off s);
+      there = (λ i. e i || is_cut_off s && (ap (λ ys. nat_le (length ys) (length ran)) took ∙ longer) i) ∙ and-false (is_cut_off s);
       later = es ++ more;
       entries = ap (λ t. drop (length ran) (if t then take (length (ran ++ x ∷ es)) ((ran ++ x ∷ es) ++ more) else (ran ++ x ∷ es) ++ more)) c
           ∙ ap (drop (length ran)) (append_assoc ran (x ∷ es) more) ∙ drop_all ran (x ∷ es ++ more);
@@ -196,10 +193,6 @@ first_queue ran x es more newer e =
   where
     longer : nat_le (length (ran ++ x ∷ es)) (length ran) ≡ false
     longer = let l = length-append ran (x ∷ es) in grind (arith, nat_tests)
-
-    and_false : (t : Bool) → (t && false) ≡ false
-    and_false true = refl
-    and_false false = refl
 
 -- ---- the queue once its first entry has run
 

@@ -1,11 +1,10 @@
 -- Every world that is reached is that of a weave: one that opens is, with no move, and where a world changes its weave is one
 -- move longer (or stays, where a node restarts that has no handler). What is looked up in the world stands for a handler or
 -- a client of the system, which makes that move, and what it hears was sent, since the world has it.
-use Rattle.std.proofs.Common.{◌≡◌, ℕ, ◌-◌, ◌==◌, true, false, List, [], ◌∷◌, ◌++◌, map, slice_get, Option, Some, None, refl, sym, ap, ◌∙◌, subst}
-use Rattle.std.specs.Prelude.{◌||◌, Contains, if◌then◌else◌, Ok}
+use Rattle.std.proofs.Common.{◌≡◌, ℕ, ◌==◌, true, false, List, [], ◌∷◌, ◌++◌, map, Option, Some, None, refl, sym, ap, ◌∙◌, subst}
+use Rattle.std.specs.Prelude.{◌||◌, if◌then◌else◌, Ok}
 use Rattle.std.specs.List.{list_any}
 use Rattle.std.specs.Option.{option_map}
-use Rattle.std.proofs.lemmas.Option.{slice_get_within, get_or_from_slice_get}
 use Rattle.scoop_message.specs.declared.name.ClientId.{ClientId}
 use Rattle.scoop_message.specs.declared.name.HandlerId.{HandlerId}
 use Rattle.scoop_message.specs.declared.message.Message.{Message}
@@ -26,6 +25,7 @@ use Rattle.scoop_model.specs.World.{World, Site, Party, number_of, is_party, sen
 use Rattle.scoop_model.specs.Step.{Placement, Newcomer, opening, newest_block, commanded_world, with_sent, heard_world, heard_party, with_party, with_site, begun_site, finished_site, restarted_party, reopened, reopened_world}
 use Rattle.scoop_model.specs.Opening.{MayOpen}
 use Rattle.scoop_model.specs.Reach.{steps, IsReached}
+use Rattle.scoop_model.proofs.Granting.{sent_in}
 use Rattle.scoop_model.proofs.Basics.{by_test}
 use Rattle.scoop_model.proofs.Events.{Changes, steps_kept}
 use Rattle.scoop_model.proofs.Keys.{key_found}
@@ -81,13 +81,6 @@ party_from : (past : List LocalMove) (v : System) (c : ClientId) (p : Party) →
 party_from past v c p at = through (party_by past) (client_in c v) p
     (sym (find_through (λ (p : Party). p.client.id) same_client (party_by past) c v.clients) ∙ at)
 
-was_sent : (w : World) (i : ℕ) (m : Message) → sent_at i w ≡ Some m → Contains w.sent m
-was_sent w i m was =
-    by_test (λ t. (if t then None else slice_get w.sent (i - 1)) ≡ Some m → Contains w.sent m) (i == 0)
-    (λ none e. absurd (cc))
-    (λ some e. (i - 1, slice_get_within w.sent (i - 1) m e, get_or_from_slice_get w.sent (i - 1) m m e))
-    was
-
 -- ---- each way in which a world changes
 
 module _ (ps : List Placement) (ns : List Newcomer) (opens : MayOpen ps ns) where
@@ -138,7 +131,7 @@ module _ (ps : List Placement) (ns : List Newcomer) (opens : MayOpen ps ns) wher
         let t = site_from ms v h s here in
         let own = key_found number_in same_handler handler_decides h v.handlers t.it t.found in
         let now = hear t.it.core.state m in
-        more (Heard h m now.1) (with_handler (after_hearing now.0 t.it) v) (heard_world w s (hear s.core.state m)) (was_sent w i m was)
+        more (Heard h m now.1) (with_handler (after_hearing now.0 t.it) v) (heard_world w s (hear s.core.state m)) (sent_in w i m was)
         (record { handler = t.it; here = t.found; new = after_hearing now.0 t.it; moves = record { tells = refl; after = refl }; after = refl })
         (ap (λ (x : Site). heard_world w x (hear x.core.state m)) (sym t.is) ∙ hearing.world_hears ms v h m t.it t.found own)
 
@@ -149,7 +142,7 @@ module _ (ps : List Placement) (ns : List Newcomer) (opens : MayOpen ps ns) wher
         let t = party_from ms v c p at in
         let own = key_found id_in same_client client_decides c v.clients t.it t.found in
         let now = heard t.it.client m in
-        more (ClientHeard c m now.1) (with_client (after_step now.0 t.it) v) (with_party w (heard_party p (heard p.client m))) (was_sent w i m was)
+        more (ClientHeard c m now.1) (with_client (after_step now.0 t.it) v) (with_party w (heard_party p (heard p.client m))) (sent_in w i m was)
         (record { client = t.it; here = t.found; new = after_step now.0 t.it; moves = record { tells = refl; after = refl }; after = refl })
         (ap (λ (q : Party). with_party w (heard_party q (heard q.client m))) (sym t.is) ∙ noticing.world_hears ms v c m t.it t.found own reached)
 
@@ -209,7 +202,7 @@ module _ (ps : List Placement) (ns : List Newcomer) (opens : MayOpen ps ns) wher
         by_test (λ t. list_any (λ (s : Site). s.node == n) w.sites ≡ t → Woven (reopened_world w n)) (list_any (λ (s : Site). s.node == n) w.sites)
         (λ _ e.
         let m : LocalMove = NodeReopened n in
-        let u : System = record { handlers = map (after_reopening n) v.handlers; clients = v.clients } in
+        let u : System = record v { handlers = map (after_reopening n) v.handlers } in
         more m u (reopened_world w n) tt
         (record { some = sym (any_through (site_by ms) (λ (s : Site). s.node == n) v.handlers) ∙ e; after = refl })
         (same_world _ _ _ _ _ _ _ _ _ _ (all_reopen ms n v.handlers w.joint (reached_ordered w reached).sites) (parties_same ms m v (λ c. refl))

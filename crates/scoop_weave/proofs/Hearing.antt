@@ -1,6 +1,9 @@
--- A handler that hears is the event that takes the message, or nothing where the message is not meant for it.
-use Rattle.std.proofs.Common.{◌≡◌, Bool, true, false, ◌&&◌, List, [], ◌∷◌, ◌++◌, Some, refl, sym, ap, ◌∙◌, subst, append-nil}
+-- A handler that hears is the event that takes the message, or nothing where the message is not meant for it. In the first case
+-- the world that the moves tell is the event's, part by part: the handler has the new state, a block more where one opened, the
+-- reply was sent, and all else is as it was. In the second the handler drops the message, so the moves tell of the world before.
+use Rattle.std.proofs.Common.{◌≡◌, true, false, List, [], ◌∷◌, ◌++◌, Some, refl, sym, ap, ◌∙◌, subst, append-nil}
 use Rattle.std.specs.Prelude.{Contains, if◌then◌else◌, option_to_list, Ok}
+use Rattle.std.proofs.lemmas.Bool.{and_parts}
 use Rattle.scoop_message.specs.declared.name.HandlerId.{HandlerId}
 use Rattle.scoop_message.specs.declared.message.Message.{Message}
 use Rattle.scoop_message.specs.declared.message.Message.TheVariants.{Hello, Welcome, Lock, Locked, Busy, Open, Opened, Unlock, Unlocked, Log, Logged, Answer}
@@ -30,10 +33,6 @@ use Rattle.scoop_weave.proofs.Brings.{Brings, brings_none, brings_one}
 use Rattle.scoop_weave.proofs.Telling.{sent_more, logged_more, joint_more, site_goes_on}
 use Rattle.scoop_weave.proofs.Places.{sent_there}
 use Rattle.scoop_weave.proofs.Worlds.{same_world, site_there, stored_state, handler_itself, sites_changed, parties_same, IsElsewhere, IsSilent, told_nothing}
-
-pub both_true : (a b : Bool) → (a && b) ≡ true → (a ≡ true) × (b ≡ true)
-both_true true b e = (refl, e)
-both_true false b e = absurd (cc)
 
 -- ---- a message that is not meant for the handler
 
@@ -127,8 +126,7 @@ module _ (past : List LocalMove) (v : System) (h : HandlerId) (m : Message) (s :
   passes_over reached e =
       let d = not_meant s.core.state m (ap (λ k. is_for k m) own ∙ e) in
       let state : now.0 ≡ s.core.state = ap (λ (x : Hearing). x.0) d.is in
-      let stays : a ≡ s = ap (λ t. after_hearing t s) state ∙ ap
-      (λ t. let x : LocalHandler = record { node = s.node; placed = s.placed; core = s.core; stored = t } in x)
+      let stays : a ≡ s = ap (λ t. after_hearing t s) state ∙ ap (λ t. let x : LocalHandler = record s { stored = t } in x)
       (sym (stored_state past v reached h s here)) in
       let same : with_handler a v ≡ v = ap (λ x. with_handler x v) stays ∙ handler_itself past v reached h s here in
       let told : now.1 ≡ (dropped s.core.state d.why).1 = ap (λ (x : Hearing). x.1) d.is in
@@ -148,7 +146,7 @@ module _ (past : List LocalMove) (v : System) (h : HandlerId) (m : Message) (s :
   brings : IsReached w → sent_at (place_in (sent_by past) m) w ≡ Some m → Brings w (event_in (sent_by past) move) (world_by more (with_handler a v))
   brings reached was =
       by_test (λ t. is_for h m ≡ t → Brings w (if t then Take (place_in (sent_by past) m) ∷ [] else []) (world_by more (with_handler a v))) (is_for h m)
-      (λ _ e. let both = both_true (is_for_handler m) (same_handler (handler_of m) h) e in takes was both.0 ((handler_decides (handler_of m) h).0 both.1))
+      (λ _ e. let both = and_parts (is_for_handler m) (same_handler (handler_of m) h) e in takes was both.0 ((handler_decides (handler_of m) h).0 both.1))
       (λ _ e. passes_over reached e)
       refl
 

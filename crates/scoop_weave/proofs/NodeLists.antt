@@ -122,7 +122,7 @@ reopens : (n : ℕ) (xs : List LocalHandler) → AllStored xs → EachKept (Node
 reopens n [] is = tt
 reopens n (x ∷ xs) is =
     let m : LocalMove = NodeReopened n in
-    let anew : LocalHandler = record { node = x.node; placed = x.placed; core = core_of x.core.class x.stored false; stored = x.stored } in
+    let anew : LocalHandler = record x { core = core_of x.core.class x.stored false } in
     let step : StepAt (HandlerMoves m) x (on_node n x) (after_reopening n x) =
     by_test (λ t. on_node n x ≡ t → StepAt (HandlerMoves m) x t (if t then anew else x)) (on_node n x)
     (λ _ e. goes anew (ap (λ t. if t then anew else x) (sym e)))

@@ -1,8 +1,9 @@
 -- A client that hears is the event that takes the message, or nothing where the message is not meant for it. An answer is
 -- accepted for the block that its message names, so the move itself tells what was accepted; and a message of another
 -- client, or of its block, changes nothing.
-use Rattle.std.proofs.Common.{◌≡◌, ℕ, ◌==◌, Bool, true, false, not, ◌&&◌, List, [], ◌∷◌, ◌++◌, Option, Some, None, refl, sym, ap, ◌∙◌, subst}
+use Rattle.std.proofs.Common.{◌≡◌, ℕ, ◌==◌, false, not, ◌&&◌, List, [], ◌∷◌, ◌++◌, Option, Some, None, refl, sym, ap, ◌∙◌, subst}
 use Rattle.std.specs.Prelude.{Contains, if◌then◌else◌, Ok}
+use Rattle.std.proofs.lemmas.Bool.{and_parts, not-true}
 use Rattle.scoop_message.specs.declared.name.Block.{Block}
 use Rattle.scoop_message.specs.declared.name.ClientId.{ClientId}
 use Rattle.scoop_message.specs.declared.name.HandlerId.{HandlerId}
@@ -40,7 +41,6 @@ use Rattle.scoop_weave.proofs.Brings.{Brings, brings_none, brings_one}
 use Rattle.scoop_weave.proofs.Telling.{party_goes_on}
 use Rattle.scoop_weave.proofs.Places.{sent_there}
 use Rattle.scoop_weave.proofs.Worlds.{same_world, party_there, client_itself, sites_same, parties_changed, nothing_sent, nothing_opened, nothing_logged, IsSilent, told_nothing}
-use Rattle.scoop_weave.proofs.Hearing.{both_true}
 
 -- the block that the client has is the newest that it began
 abbrev HasNewest : ClientState → Type 0
@@ -196,14 +196,10 @@ module _ (past : List LocalMove) (v : System) (c : ClientId) (m : Message) (d : 
   brings : sent_at (place_in (sent_by past) m) w ≡ Some m → Brings w (event_in (sent_by past) move) (world_by more (with_client a v))
   brings was =
       by_test (λ t. is_to c m ≡ t → Brings w (if t then Take (place_in (sent_by past) m) ∷ [] else []) (world_by more (with_client a v))) (is_to c m)
-      (λ _ e. let both = both_true (not (is_for_handler m)) (same_client (client_of m) c) e in
-      takes was (is_not (is_for_handler m) both.0) ((client_decides (client_of m) c).0 both.1))
+      (λ _ e. let both = and_parts (not (is_for_handler m)) (same_client (client_of m) c) e in
+      takes was (not-true (is_for_handler m) both.0) ((client_decides (client_of m) c).0 both.1))
       (λ _ e. passes_over e)
       refl
-    where
-      is_not : (b : Bool) → not b ≡ true → b ≡ false
-      is_not true e = sym e
-      is_not false e = refl
 
 pub notices_brings :
     (past : List LocalMove) (v u : System) (c : ClientId) (m : Message) (told : ClientNote) → IsReached (world_by past v) → Contains (sent_by past) m

@@ -1,4 +1,6 @@
--- A handler whose job goes out or has run, and a node that restarts, are the events of that name.
+-- A handler whose job goes out or has run, and a node that restarts, are the events of that name. A job that could not go out is no
+-- event, and the handler stays. A restart gives each handler of the node its stored state; in a reached world that is the
+-- handler's own, so its number stays, and with it what opened and ran there.
 use Rattle.std.proofs.Common.{◌≡◌, ℕ, ◌==◌, Bool, true, false, ◌||◌, List, [], ◌∷◌, ◌++◌, map, Option, Some, None, is_some, refl, sym, ap, ◌∙◌, subst, append-nil}
 use Rattle.std.specs.Prelude.{if◌then◌else◌, Ok, Err}
 use Rattle.std.specs.List.{list_any, AllByRecursion}
@@ -59,7 +61,7 @@ module _ (past : List LocalMove) (v : System) (h : HandlerId) (s : LocalHandler)
 
   begin_brings : (o : Option Task) → IsReached w → ready s.core ≡ o → Brings w (begin_event h (told o)) (after o)
   begin_brings None reached e =
-      let stays : after_begin s ≡ s = ap (λ c. let x : LocalHandler = record { node = s.node; placed = s.placed; core = c; stored = s.stored } in x)
+      let stays : after_begin s ≡ s = ap (λ c. let x : LocalHandler = record s { core = c } in x)
       (no_more s.core e) in
       let same : with_handler (after_begin s) v ≡ v = ap (λ x. with_handler x v) stays ∙ handler_itself past v reached h s here in
       brings_none w (after None) (told_nothing past (Began h None) v (silent None) ∙ ap (world_by (past ++ Began h None ∷ [])) (sym same))
@@ -148,7 +150,7 @@ module _ (past : List LocalMove) (n : ℕ) where
 
   one_reopens : (x : LocalHandler) (js : List Block) → SiteFits js (site_by past x) → reopened n (site_by past x) ≡ site_by then_on (after_reopening n x)
   one_reopens x js fits =
-      let back : LocalHandler = record { node = x.node; placed = x.placed; core = core_of x.core.class x.stored false; stored = x.stored } in
+      let back : LocalHandler = record x { core = core_of x.core.class x.stored false } in
       let number : number_in x ≡ number_in back = sym (ap (λ (s : HandlerState). s.number) fits.stored) in
       let opened_to : opened_by (number_in x) past ≡ opened_by (number_in back) past = ap (λ k. opened_by k past) number in
       let ran_to : ran_by (number_in x) past ≡ ran_by (number_in back) past = ap (λ k. ran_by k past) number in
@@ -171,7 +173,7 @@ pub reopens_brings :
 reopens_brings past v u n reached r =
     let w : World = world_by past v in
     let m : LocalMove = NodeReopened n in
-    let new : System = record { handlers = map (after_reopening n) v.handlers; clients = v.clients } in
+    let new : System = record v { handlers = map (after_reopening n) v.handlers } in
     let some : list_any (λ (s : Site). s.node == n) w.sites ≡ true = any_through (site_by past) (λ (s : Site). s.node == n) v.handlers ∙ r.some in
     let is : step w (NodeRestart n) ≡ Ok (reopened_world w n, note.Reopened) =
     ap (λ t. if t then Ok (reopened_world w n, note.Reopened) else Err NoSuchParty) some in

@@ -56,12 +56,12 @@ module _ (past : List LocalMove) (v : System) (reached : IsReached (world_by pas
 
   pub handler_itself : (h : HandlerId) (s : LocalHandler) → handler_in h v ≡ Some s → with_handler s v ≡ v
   handler_itself h s here =
-      ap (λ hs. let u : System = record { handlers = hs; clients = v.clients } in u)
+      ap (λ hs. let u : System = record v { handlers = hs } in u)
       (put_itself number_in same_handler handler_decides h v.handlers s handlers_apart here)
 
   pub client_itself : (c : ClientId) (d : LocalClient) → client_in c v ≡ Some d → with_client d v ≡ v
   client_itself c d here =
-      ap (λ cs. let u : System = record { handlers = v.handlers; clients = cs } in u)
+      ap (λ cs. let u : System = record v { clients = cs } in u)
       (put_itself id_in same_client client_decides c v.clients d clients_apart here)
 
   -- a handler that a client knows is one of the handlers

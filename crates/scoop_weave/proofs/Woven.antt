@@ -44,7 +44,7 @@ handler_kept (Heard h x told) s t is r =
 handler_kept (Began h told) s t is r = subst (HandlerKept s) (sym r.after) (record { number = refl; node = refl; stored = is })
 handler_kept (Finished h ran) s t is r = subst (HandlerKept s) (sym r.after) (record { number = refl; node = refl; stored = refl })
 handler_kept (NodeReopened n) s t is r =
-    let anew : LocalHandler = record { node = s.node; placed = s.placed; core = core_of s.core.class s.stored false; stored = s.stored } in
+    let anew : LocalHandler = record s { core = core_of s.core.class s.stored false } in
     subst (HandlerKept s) (sym r)
     (by_test (λ t. HandlerKept s (if t then anew else s)) (on_node n s)
     (λ here. record { number = ap (λ (x : HandlerState). x.number) is; node = refl; stored = refl })

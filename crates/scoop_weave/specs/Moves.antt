@@ -112,7 +112,7 @@ pub record AtHandler (h : HandlerId) (m : LocalMove) (v w : System) : Type 0 whe
 -- each handler of the node takes its stored state, and some handler stands on it
 pub record AtNode (n : ℕ) (v w : System) : Type 0 where
   pub some : list_any (on_node n) v.handlers ≡ true
-  pub after : w ≡ record { handlers = map (after_reopening n) v.handlers; clients = v.clients }
+  pub after : w ≡ record v { handlers = map (after_reopening n) v.handlers }
 
 pub record AtClient (c : ClientId) (m : LocalMove) (v w : System) : Type 0 where
   pub client : LocalClient

@@ -52,40 +52,38 @@ abbrev pub newer_handler : LocalHandler → LocalHandler → LocalHandler
 newer_handler s x = if is_handler (number_in s) x then s else x
 
 abbrev pub with_handler : LocalHandler → System → System
-with_handler s v = record { handlers = map (newer_handler s) v.handlers; clients = v.clients }
+with_handler s v = record v { handlers = map (newer_handler s) v.handlers }
 
 abbrev pub newer_client : LocalClient → LocalClient → LocalClient
 newer_client c x = if is_client (id_in c) x then c else x
 
 abbrev pub with_client : LocalClient → System → System
-with_client c v = record { handlers = v.handlers; clients = map (newer_client c) v.clients }
+with_client c v = record v { clients = map (newer_client c) v.clients }
 
 -- ---- how
 
 -- the handler has this state, which is stored
 abbrev pub after_hearing : HandlerState → LocalHandler → LocalHandler
-after_hearing t s = record { node = s.node; placed = s.placed; core = with_state t s.core; stored = t }
+after_hearing t s = record s { core = with_state t s.core; stored = t }
 
 -- a job goes out, and the stored state stays
 abbrev pub after_begin : LocalHandler → LocalHandler
-after_begin s = record { node = s.node; placed = s.placed; core = begun s.core; stored = s.stored }
+after_begin s = record s { core = begun s.core }
 
 -- the job has run, and the new state is stored
 abbrev pub after_finish : Task → LocalHandler → LocalHandler
-after_finish t s = record { node = s.node; placed = s.placed; core = finished t s.core; stored = (finished t s.core).state }
+after_finish t s = record s { core = finished t s.core; stored = (finished t s.core).state }
 
 -- a handler of the node takes its stored state, with no job out
 abbrev pub on_node : ℕ → LocalHandler → Bool
 on_node n s = s.node == n
 
 abbrev pub after_reopening : ℕ → LocalHandler → LocalHandler
-after_reopening n s =
-    if on_node n s then record { node = s.node; placed = s.placed; core = core_of s.core.class s.stored false; stored = s.stored }
-    else s
+after_reopening n s = if on_node n s then record s { core = core_of s.core.class s.stored false } else s
 
 -- the client is this now
 abbrev pub after_step : ClientState → LocalClient → LocalClient
-after_step d c = record { client = d; stored = c.stored }
+after_step d c = record c { client = d }
 
 -- the next incarnation is stored, and the client greets again
 abbrev pub after_restart : LocalClient → LocalClient

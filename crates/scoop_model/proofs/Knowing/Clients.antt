@@ -132,7 +132,7 @@ heard_known hs w c m d note (is_accepted h n a r has_one opened waits) g k = win
 -- ---- what a client is told to do
 
 -- an idle client has been welcomed everywhere
-none_left : (c : ClientState) → phase_of c ≡ Idle → is_empty c.unwelcomed ≡ true
+pub none_left : (c : ClientState) → phase_of c ≡ Idle → is_empty c.unwelcomed ≡ true
 none_left c e =
     by_test (λ t. (if t then phase_of_block c.windows c.reservation else Greeting) ≡ Idle → t ≡ true) (is_empty c.unwelcomed) (λ _ f. refl)
     (λ _ f. absurd (cc)) e

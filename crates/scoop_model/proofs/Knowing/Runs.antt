@@ -1,4 +1,6 @@
--- Whatever happens, where a message names a block, every handler knows the block's incarnation.
+-- Whatever happens, where a message names a block, every handler knows the block's incarnation. A client begins a block only
+-- once every handler has welcomed it, and a handler's Welcome tells that its mark has reached the incarnation. Marks only go on,
+-- so what a handler knew it knows later too; a message names its client's block, or that of the message that it replies to.
 use Rattle.std.proofs.Common.{◌≡◌, true, true≢false, List, [], ◌∷◌, map, find, Some, refl, sym, ap, ◌∙◌, subst}
 use Rattle.std.proofs.lemmas.Option.{same_Some}
 use Rattle.std.specs.Prelude.{if◌then◌else◌, ◌||◌}
@@ -31,8 +33,9 @@ use Rattle.scoop_model.proofs.Order.Runs.{opens_ordered}
 use Rattle.scoop_model.proofs.Sound.Facts.{Sound}
 use Rattle.scoop_model.proofs.Sound.Runs.{InOrderAndSound, both_kept, ordered_sound_kept}
 use Rattle.scoop_model.proofs.Sound.Steps.{opens_sound, sent_all}
-use Rattle.scoop_model.proofs.Logging.Greetings.{Greetings, Greets, greetings_kept, opens_greetings, place}
+use Rattle.scoop_model.proofs.Logging.Greetings.{Greetings, Greets, greetings_kept, opens_greetings}
 use Rattle.scoop_model.proofs.Reaching.{sites_placed}
+use Rattle.scoop_model.proofs.Sites.{own_site}
 use Rattle.scoop_model.proofs.Knowing.Facts.{Names, PartyKnown, Knowing, Remember, names_more, party_more}
 use Rattle.scoop_model.proofs.Knowing.Clients.{command_known, due_names, heard_known}
 
@@ -70,7 +73,7 @@ module _ (hs : List HandlerId) where
       let t : Site = heard_site s now in
       let v : World = heard_world w s now in
       let here : site_of (number_of t) w ≡ Some s =
-      subst (λ j. site_of j w ≡ Some s) (sym (number-row s.core.state m now by)) (place w (handler_of m) s found) in
+      subst (λ j. site_of j w ≡ Some s) (sym (number-row s.core.state m now by)) (own_site w (handler_of m) s found) in
       let more = granted_set w t s here (grows-row s.core.state m now by) in
       let named : Names hs v.sites m = names_more hs w.sites v.sites more m (sent_all w k m was (Names hs w.sites) i.messages) in
       let replies = replies-row s.core.state m now by (sent_all w k m was HasEntries sound.messages) in
@@ -98,8 +101,8 @@ module _ (hs : List HandlerId) where
               (heard_known hs w p.client m now.0 now.1 (heard_row p.client m) (sent_all w k m was (Greets w) g.messages)
               (all_found (PartyKnown hs w.sites) (is_party (client_of m)) w.parties p i.parties at));
         });
-    begins = λ h s t here is. site_known w (begun_site s) s i (place w h s here) (MarksGrow-refl s.core.state.marks);
-    finishes = λ h s t here is. site_known w (finished_site s t) s i (place w h s here) (MarksGrow-after (ran_of t) s.core.state.marks);
+    begins = λ h s t here is. site_known w (begun_site s) s i (own_site w h s here) (MarksGrow-refl s.core.state.marks);
+    finishes = λ h s t here is. site_known w (finished_site s t) s i (own_site w h s here) (MarksGrow-after (ran_of t) s.core.state.marks);
     restarts = λ c p at room. (
         let k = all_found (PartyKnown hs w.sites) (is_party c) w.parties p i.parties at in
         record {

@@ -1,9 +1,10 @@
 -- Who greets whom: a client greets in no incarnation above its own, no handler's mark is above its client's incarnation,
 -- and a handler that has welcomed an incarnation has a mark that isn't below it.
-use Rattle.std.proofs.Common.{◌≡◌, ℕ, ◌+◌, ◌<◌, ◌≤◌, ◌&&◌, ◌||◌, true, false, true≢false, nat_lt, Bool, List, [], ◌∷◌, map, find, Option, Some, None, refl, sym, ap, ◌∙◌, subst, arith}
+use Rattle.std.proofs.Common.{◌≡◌, ℕ, ◌+◌, ◌<◌, ◌≤◌, ◌||◌, true, true≢false, nat_lt, List, [], ◌∷◌, map, find, Option, Some, None, refl, sym, ap, ◌∙◌, subst, arith}
 use Rattle.std.specs.Prelude.{⊤}
 use Rattle.std.specs.List.{AllByRecursion, list_any}
 use Rattle.std.specs.Option.{option_map_or}
+use Rattle.std.proofs.lemmas.Bool.{and_parts}
 use Rattle.std.proofs.lemmas.Bool.Decides.{nat_tests}
 use Rattle.scoop_message.specs.declared.name.Block.{Block}
 use Rattle.scoop_message.specs.declared.name.ClientId.{ClientId}
@@ -38,7 +39,8 @@ use Rattle.scoop_model.specs.World.{World, Site, Party, number_of, id_of, is_par
 use Rattle.scoop_model.specs.Step.{Placement, Newcomer, new_site, opening, commanded_world, with_sent, heard_site, heard_world, heard_party, begun_site, finished_site, restarted_party, reopened, reopened_world, with_party, with_site}
 use Rattle.scoop_model.proofs.Events.{Changes}
 use Rattle.scoop_model.proofs.Basics.{by_test}
-use Rattle.scoop_model.proofs.Keys.{by_party, by_site, id_found, number_found}
+use Rattle.scoop_model.proofs.Keys.{by_party, by_site, id_found}
+use Rattle.scoop_model.proofs.Sites.{own_site}
 use Rattle.scoop_reserve.specs.State.{ReservationState}
 use Rattle.scoop_model.proofs.Sound.Owed.{OwedRow, asks, opens, unlocks, gives_back, owed_row}
 use Rattle.scoop_model.proofs.Sound.Steps.{sent_all}
@@ -236,10 +238,6 @@ module _
   old_greets : AllByRecursion (Greets v) w.sent
   old_greets = all_more_of (Greets w) (Greets v) (greets_more w v site_onward) w.sent i.messages
 
--- the site that is found for a handler is that of its own number
-pub place : (w : World) (h : HandlerId) (s : Site) → site_of h w ≡ Some s → site_of (number_of s) w ≡ Some s
-place w h s found = subst (λ j. site_of j w ≡ Some s) (sym (number_found h w s found)) found
-
 hears_greets :
     (w : World) → Greetings w → (k : ℕ) (m : Message) (s : Site) → sent_at k w ≡ Some m → site_of (handler_of m) w ≡ Some s
     → Greetings (heard_world w s (hear s.core.state m))
@@ -248,7 +246,8 @@ hears_greets w i k m s was found =
     let by = row s.core.state m in
     let t : Site = heard_site s now in
     let v : World = heard_world w s now in
-    let here : site_of (number_of t) w ≡ Some s = subst (λ j. site_of j w ≡ Some s) (sym (number-row s.core.state m now by)) (place w (handler_of m) s found) in
+    let here : site_of (number_of t) w ≡ Some s =
+    subst (λ j. site_of j w ≡ Some s) (sym (number-row s.core.state m now by)) (own_site w (handler_of m) s found) in
     let grows = grows-row s.core.state m now by in
     let there : site_of (number_of t) v ≡ Some t = by_site (λ q. q ≡ Some t) w t s (number_of t) here (λ same. refl) (λ apart. absurd (apart refl)) in
     let was_greeted = sent_all w k m was (Greets w) i.messages in
@@ -281,14 +280,10 @@ pub record IsPassed (w : World) (h : HandlerId) (b : Block) : Type 0 where
   pub marked : mark_of b.client site.core.state.marks ≡ Some mark
   pub newer : b.inc < mark.inc
 
-both_true : (t u : Bool) → (t && u) ≡ true → (t ≡ true) × (u ≡ true)
-both_true true u e = (refl, e)
-both_true false u e = absurd (true≢false (sym e))
-
 welcome_passes : (w : World) (h : HandlerId) (b : Block) (m : Message) → Greets w m → is_newer_welcome h b m ≡ true → IsPassed w h b
 welcome_passes w h b (Welcome x c inc) g e =
-    let one = both_true (same_handler x h) _ e in
-    let two = both_true (same_client c b.client) (nat_lt b.inc inc) one.1 in
+    let one = and_parts (same_handler x h) _ e in
+    let two = and_parts (same_client c b.client) (nat_lt b.inc inc) one.1 in
     let at : x ≡ h = (handler_decides x h).0 one.0 in
     let own : c ≡ b.client = (client_decides c b.client).0 two.0 in
     let r = g.reached in
@@ -359,13 +354,13 @@ greetings_kept w o i = record {
       party_greets w (with_party w (heard_party p (heard p.client m))) (client_of m) p (heard_party p (heard p.client m)) i at kept.id
       (let e = kept.inc in omega (arith, e)) refl refl refl);
   begins = λ h s t here is.
-      site_greets w (with_site w (begun_site s)) i (begun_site s) s (place w h s here) (MarksGrow-refl s.core.state.marks) refl refl
+      site_greets w (with_site w (begun_site s)) i (begun_site s) s (own_site w h s here) (MarksGrow-refl s.core.state.marks) refl refl
       (all_found (MarksUpto w) (is_site h) w.sites s i.marks here)
-      (old_greets w (with_site w (begun_site s)) i (begun_site s) s (place w h s here) (MarksGrow-refl s.core.state.marks) refl refl);
+      (old_greets w (with_site w (begun_site s)) i (begun_site s) s (own_site w h s here) (MarksGrow-refl s.core.state.marks) refl refl);
   finishes = λ h s t here is.
-      site_greets w (with_site w (finished_site s t)) i (finished_site s t) s (place w h s here) (MarksGrow-after (ran_of t) s.core.state.marks) refl refl
+      site_greets w (with_site w (finished_site s t)) i (finished_site s t) s (own_site w h s here) (MarksGrow-after (ran_of t) s.core.state.marks) refl refl
       (after_upto (inc_of w) (ran_of t) s.core.state.marks (all_found (MarksUpto w) (is_site h) w.sites s i.marks here))
-      (old_greets w (with_site w (finished_site s t)) i (finished_site s t) s (place w h s here) (MarksGrow-after (ran_of t) s.core.state.marks) refl refl);
+      (old_greets w (with_site w (finished_site s t)) i (finished_site s t) s (own_site w h s here) (MarksGrow-after (ran_of t) s.core.state.marks) refl refl);
   restarts = λ c p at room. (
       let stored = (all_found (PartyFits w) (is_party c) w.parties p o.parties at).stored in
       party_greets w (with_party w (restarted_party p)) c p (restarted_party p) i at refl (omega (arith, stored)) refl refl refl);

@@ -2,7 +2,7 @@
 -- of the block can be read off that reservation's stage: no Open is sent while it locks or is given up, an Unlock only once
 -- all handlers have told Opened. Each row of the client's table either leaves the stage or goes on to the next one.
 use Rattle.std.proofs.Common.{◌≡◌, ◌⊎◌, inl, inr, ◌+◌, ◌||◌, not, Bool, true, false, true≢false, List, [], ◌∷◌, filter, find, Option, Some, None, refl, sym, ap, ◌∙◌, subst, ⊎_elim, append-nil}
-use Rattle.std.proofs.lemmas.Option.{same_Some}
+use Rattle.std.proofs.lemmas.Option.{none-some, same_Some}
 use Rattle.std.specs.Prelude.{if◌then◌else◌, Ok}
 use Rattle.std.specs.List.{AllByRecursion, list_any}
 use Rattle.scoop_message.specs.declared.name.Block.{Block}
@@ -37,7 +37,7 @@ use Rattle.scoop_client.specs.declared.command.Command.TheVariants.{Reserve, Cal
 use Rattle.std.specs.Option.{option_map}
 use Rattle.scoop_model.specs.World.{World, Party, BlockLog, HandlerLog, handlers_in, lines_of, log_of, handlers_of, id_of, is_log_of, is_party, party_of, set_party}
 use Rattle.scoop_model.specs.Step.{logs_after, newest_block, with_sent}
-use Rattle.scoop_model.proofs.Basics.{by_test, some_same}
+use Rattle.scoop_model.proofs.Basics.{by_test, of_party, some_same}
 use Rattle.scoop_model.proofs.Keys.{by_party, id_found}
 use Rattle.scoop_model.proofs.Order.Facts.{IsNamed, PartyFits, Ordered, Tells, all_found, all_more_of, all_pushed}
 use Rattle.scoop_model.proofs.Order.Clients.{has_without, is_gone_one, none_in_empty}
@@ -208,9 +208,6 @@ module _
   place : party_of (id_of q) w ≡ Some p
   place = subst (λ j. party_of j w ≡ Some p) (sym (id_found c w p at) ∙ sym same) at
 
-  of_party : (y : Party) (s : ReservationState) → Some q ≡ Some y → y.client.reservation ≡ Some s → q.client.reservation ≡ Some s
-  of_party y s e has = let one : q ≡ y = cc in ap (λ (z : Party). z.client.reservation) one ∙ has
-
   pub party_onto : Onto w gone_on
   party_onto = record {
     sets = sets;
@@ -221,7 +218,7 @@ module _
       none = g.none;
       left = λ d y there s has of_block.
           by_party (λ o. o ≡ Some y → s.stage ≡ GivingBack) w q p d place
-          (λ is e. (from s (of_party y s e has)).given_up b g of_block (λ r held. g.left c p at r held))
+          (λ is e. (from s (of_party q y s e has)).given_up b g of_block (λ r held. g.left c p at r held))
           (λ apart e. g.left d y e s has of_block) there;
     };
   }
@@ -233,7 +230,7 @@ module _
     sites = all_more_of (SiteOpened w) (SiteOpened gone_on) (site_more w gone_on party_onto) w.sites i.sites;
     parties = λ d y there s has.
         by_party (λ o. o ≡ Some y → ReservationOpened gone_on s) w q p d place
-        (λ is e. reservation_more w gone_on party_onto s (λ none. none) (from s (of_party y s e has)).opened)
+        (λ is e. reservation_more w gone_on party_onto s (λ none. none) (from s (of_party q y s e has)).opened)
         (λ apart e. reservation_more w gone_on party_onto s (λ none. none) (i.parties d y e s has)) there;
   }
 
@@ -366,7 +363,7 @@ none_before w b none (m ∷ ms) all = ap (λ t. t || list_any (is_open_of b) ms)
     no_open (Logged h y n) t = refl
     no_open (Answer h y n a) t = refl
 
-has_filtered : (test : HandlerId → Bool) (hs : List HandlerId) (x : HandlerId) → has (filter test hs) x ≡ true → has hs x ≡ true
+pub has_filtered : (test : HandlerId → Bool) (hs : List HandlerId) (x : HandlerId) → has (filter test hs) x ≡ true → has hs x ≡ true
 has_filtered test [] x e = e
 has_filtered test (y ∷ ys) x e =
     by_test (λ t. has (if t then y ∷ filter test ys else filter test ys) x ≡ true → (same_handler y x || has ys x) ≡ true) (test y)
@@ -384,11 +381,8 @@ module _
   fresh_from hs = record {
     opened = record { within = λ h e. e; stage = none_before w (client.next_block p.client) next_new w.sent o.messages };
     given_up = λ b g same left. (let there : handlers_of (client.next_block p.client) w ≡ Some g.handlers = ap (λ y. handlers_of y w) same ∙ g.set in
-        absurd (none_some (sym next_new ∙ there)));
+        absurd (none-some _ (sym next_new ∙ there)));
   }
-    where
-      none_some : {A : Type 0} {a : A} → None ≡ Some a → ⊥
-      none_some e = cc
 
   given_from : (r s : ReservationState) (stage : Stage) → p.client.reservation ≡ Some r → r.stage ≡ stage → given_up_in r stage ≡ Ok s → IsFrom w p.client s
   given_from r s Locking held at e =

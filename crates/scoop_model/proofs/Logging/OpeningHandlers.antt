@@ -36,7 +36,7 @@ use Rattle.scoop_model.proofs.Order.Facts.{IsNamed, SiteFits, all_found, all_mor
 use Rattle.scoop_model.proofs.Order.Handlers.{state_anew}
 use Rattle.scoop_model.proofs.Sound.Facts.{Sound}
 use Rattle.scoop_model.proofs.Sound.Steps.{sent_all}
-use Rattle.scoop_model.proofs.Logging.Greetings.{place}
+use Rattle.scoop_model.proofs.Sites.{own_site}
 use Rattle.scoop_model.proofs.Logging.Openings.{IsOpenedAt, IsMarkOpened, SiteOpened, Shows, Onto, Openings, is_open_of, logs_more, named_more, none_pushed, reservation_more, shows_more, site_more}
 
 -- ---- the marks
@@ -198,7 +198,7 @@ module _
   same_number = number-row s.core.state m now (row s.core.state m)
 
   still_here : site_of (number_of later) w ≡ Some s
-  still_here = subst (λ j. site_of j w ≡ Some s) (sym same_number) (place w (handler_of m) s found)
+  still_here = subst (λ j. site_of j w ≡ Some s) (sym same_number) (own_site w (handler_of m) s found)
 
   new_block : (b : Block) → now.1.note ≡ OpenedNote b → has_block later.opened b ≡ true
   new_block b e = subst (λ n. has_block (s.opened ++ newly_opened n) b ≡ true) (sym e) (in_last s.opened b)
@@ -250,30 +250,30 @@ module _ (w : World) (i : Openings w) (h : HandlerId) (s : Site) (found : site_o
   nothing_sent : (b : Block) (m : Message) → None ≡ Some m → is_open_of b m ≡ false
   nothing_sent b m e = absurd (cc)
 
-  own_site : SiteOpened w s
-  own_site = all_found (SiteOpened w) (is_site h) w.sites s i.sites found
+  site_opened : SiteOpened w s
+  site_opened = all_found (SiteOpened w) (is_site h) w.sites s i.sites found
 
   -- the handler goes on with the blocks that opened at it
   quiet_site :
       (t : Site) → number_of t ≡ number_of s → t.opened ≡ s.opened → AllByRecursion (IsMarkOpened s.opened) t.core.state.marks → Openings (with_site w t)
   quiet_site t same opened marks =
-      let there : site_of (number_of t) w ≡ Some s = subst (λ j. site_of j w ≡ Some s) (sym same) (place w h s found) in
+      let there : site_of (number_of t) w ≡ Some s = subst (λ j. site_of j w ≡ Some s) (sym same) (own_site w h s found) in
       let more : OpenedMore s t = λ b e. ap (λ bs. has_block bs b) opened ∙ e in
       subst (λ ms. Openings (record w { sites = set_site t w.sites; sent = ms })) (append-nil w.sent)
       (site_goes_on w i t s there more None w.joint nothing_sent
       (record {
         named = λ b has.
             named_more w (after w i t s there more None w.joint nothing_sent) (site_onto w i t s there more None w.joint nothing_sent) (number_of t) b
-            (subst (λ j. IsNamed w j b) (sym same) (own_site.named b (ap (λ bs. has_block bs b) (sym opened) ∙ has)));
+            (subst (λ j. IsNamed w j b) (sym same) (site_opened.named b (ap (λ bs. has_block bs b) (sym opened) ∙ has)));
         marks = subst (λ bs. AllByRecursion (IsMarkOpened bs) t.core.state.marks) (sym opened) marks;
       })
       (λ m e. absurd (cc)))
 
   pub begins_openings : Openings (with_site w (begun_site s))
-  begins_openings = quiet_site (begun_site s) refl refl own_site.marks
+  begins_openings = quiet_site (begun_site s) refl refl site_opened.marks
 
   pub finishes_openings : (t : Task) → Openings (with_site w (finished_site s t))
-  finishes_openings t = quiet_site (finished_site s t) refl refl (after_opened (ran_of t) s.core.state.marks own_site.marks)
+  finishes_openings t = quiet_site (finished_site s t) refl refl (after_opened (ran_of t) s.core.state.marks site_opened.marks)
     where
       after_opened :
           (r : Ran) (marks : List Mark) → AllByRecursion (IsMarkOpened s.opened) marks → AllByRecursion (IsMarkOpened s.opened) (map (mark_after r) marks)

@@ -1,6 +1,7 @@
 -- Every event keeps what is told of openings, and nothing has opened in a world that opens.
-use Rattle.std.proofs.Common.{◌≡◌, inl, ◌∙◌, ap, List, [], ◌∷◌, map, find, Some, None, refl}
+use Rattle.std.proofs.Common.{◌≡◌, inl, ◌∙◌, ap, List, [], ◌∷◌, map, find, Some, refl}
 use Rattle.std.specs.List.{AllByRecursion}
+use Rattle.std.proofs.lemmas.Option.{none-some}
 use Rattle.scoop_message.specs.declared.name.ClientId.{ClientId}
 use Rattle.scoop_message.specs.declared.name.HandlerId.{HandlerId}
 use Rattle.scoop_message.specs.Message.{client_of}
@@ -58,11 +59,8 @@ pub none_reserved :
 none_reserved c hs [] p e r held = cc
 none_reserved c hs (n ∷ ns) p e r held =
     by_test (λ t. (if t then Some (new_party hs n) else find (is_party c) (map (new_party hs) ns)) ≡ Some p → ⊥) (is_party c (new_party hs n))
-    (λ here f. let same : new_party hs n ≡ p = cc in absurd (none_some (ap (λ (y : Party). y.client.reservation) same ∙ held)))
+    (λ here f. let same : new_party hs n ≡ p = cc in absurd (none-some _ (ap (λ (y : Party). y.client.reservation) same ∙ held)))
     (λ there f. none_reserved c hs ns p f r held) e
-  where
-    none_some : {A : Type 0} {a : A} → None ≡ Some a → ⊥
-    none_some e = cc
 
 pub opens_openings : (ps : List Placement) (ns : List Newcomer) → Openings (opening ps ns)
 opens_openings ps ns = record {

@@ -173,7 +173,7 @@ TellsBack s (Some (Unlock x b)) = ⊥
 TellsBack s (Some (Log x b n es)) = ⊥
 TellsBack s (Some m) = ⊤
 
-open_not_held : AtOpen ≡ AtHeld → ⊥
+pub open_not_held : AtOpen ≡ AtHeld → ⊥
 open_not_held e = cc
 
 shut_not_held : AtShut ≡ AtHeld → ⊥
@@ -184,7 +184,7 @@ freed_not_held AtHeld e = cc
 freed_not_held AtOpen e = cc
 freed_not_held AtShut e = cc
 
-own_place : (b : Block) (k : Mark) (marks : List Mark) → mark_of b.client marks ≡ Some k → mark_of k.client marks ≡ Some k
+pub own_place : (b : Block) (k : Mark) (marks : List Mark) → mark_of b.client marks ≡ Some k → mark_of k.client marks ≡ Some k
 own_place b k marks found = ap (λ c. mark_of c marks) (mark_of-client b.client marks k found) ∙ found
 
 still_holds : (o : Option Block) (c : ClientId) (b : Block) → o ≡ Some b → (b.client ≡ c → ⊥) → holder_without c o ≡ Some b

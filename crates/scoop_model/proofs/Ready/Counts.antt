@@ -1,5 +1,5 @@
 -- Whatever happens, a handler tells counts of received entries only of blocks that have opened there.
-use Rattle.std.proofs.Common.{◌≡◌, ℕ, ◌==◌, true, false, ◌&&◌, true≢false, List, [], Option, Some, None, refl, sym, ap, ◌∙◌, subst, arith}
+use Rattle.std.proofs.Common.{◌≡◌, true, false, ◌&&◌, true≢false, List, [], Option, Some, None, refl, sym, ap, ◌∙◌, subst, arith}
 use Rattle.std.specs.Prelude.{⊤, if◌then◌else◌}
 use Rattle.std.specs.List.{AllByRecursion}
 use Rattle.std.specs.Option.{option_map_or}
@@ -10,7 +10,6 @@ use Rattle.scoop_message.specs.declared.message.Message.{Message}
 use Rattle.scoop_message.specs.declared.message.Message.TheVariants.{Hello, Welcome, Lock, Locked, Busy, Open, Opened, Unlock, Unlocked, Log, Logged, Answer}
 use Rattle.scoop_message.specs.Message.{handler_of, same_block, same_handler}
 use Rattle.scoop_message.proofs.Same.{handler_decides}
-use Rattle.scoop_handler.specs.Core.{core_of}
 use Rattle.scoop_handler.specs.State.{HandlerState}
 use Rattle.scoop_handler.specs.Hearing.{Hearing, hear}
 use Rattle.scoop_handler.specs.Rows.{Row, IsLogAt, already_received, is_taken}
@@ -20,12 +19,13 @@ use Rattle.scoop_handler.proofs.TableRows.{row}
 use Rattle.scoop_handler.proofs.TableLaws.{block_of-same, number-row}
 use Rattle.scoop_client.specs.Due.{due}
 use Rattle.scoop_model.specs.World.{World, Site, number_of, is_site, site_of, has_block, opened_at, received}
-use Rattle.scoop_model.specs.Step.{Placement, Newcomer, opening, newly_opened, heard_site, heard_world, begun_site, finished_site, reopened}
+use Rattle.scoop_model.specs.Step.{Placement, Newcomer, opening, newly_opened, heard_site, heard_world, begun_site, finished_site}
 use Rattle.scoop_model.proofs.Events.{Changes}
 use Rattle.scoop_model.proofs.Basics.{by_test, first_false}
 use Rattle.scoop_model.proofs.Keys.{by_site}
 use Rattle.scoop_model.proofs.Order.Facts.{Ordered, all_found}
 use Rattle.scoop_model.proofs.Order.Lists.{same_block_is}
+use Rattle.scoop_model.proofs.Logging.OpeningHandlers.{same_list}
 use Rattle.scoop_model.proofs.Logging.Openings.{IsMarkOpened, SiteOpened, Openings}
 use Rattle.scoop_model.proofs.Whole.Sent.{told_in, greatest_stays, alike_from_client}
 use Rattle.scoop_model.proofs.Whole.Steps.{due_goes}
@@ -120,10 +120,6 @@ module _ (w : World) (i : Openings w) (counts : Counts w) (m : Message) (s : Sit
 
 -- ---- every event
 
-opened_kept : (n : ℕ) (s : Site) → (reopened n s).opened ≡ s.opened
-opened_kept n s =
-    by_test (λ t. (if t then record s { core = core_of s.core.class s.stored false } else s).opened ≡ s.opened) (s.node == n) (λ here. refl) (λ there. refl)
-
 pub counts_kept : (w : World) → Ordered w → Openings w → Counts w → Changes Counts w
 counts_kept w o openings i = record {
   commands = λ c p x d at is. i;
@@ -135,7 +131,7 @@ counts_kept w o openings i = record {
   finishes = λ h s t here is j b off. i j b (ap (λ bs. has_block bs b)
       (sym (set_same (λ (x : Site). x.opened) [] w (finished_site s t) s (own_site w h s here) refl j)) ∙ off);
   restarts = λ c p at room. i;
-  reopens = λ n j b off. i j b (ap (λ bs. has_block bs b) (sym (anew_same (λ (x : Site). x.opened) [] opened_kept n j w.sites (states_anew w o n))) ∙ off);
+  reopens = λ n j b off. i j b (ap (λ bs. has_block bs b) (sym (anew_same (λ (x : Site). x.opened) [] same_list n j w.sites (states_anew w o n))) ∙ off);
 }
 
 pub opens_counts : (ps : List Placement) (ns : List Newcomer) → Counts (opening ps ns)

@@ -1,4 +1,6 @@
--- What every event keeps, joined: what is shown of each handler of a world.
+-- What every event keeps, joined: what is shown of each handler of a world. The layers speak of sites, each by its place, and of
+-- messages; here it is said of a handler by its number: its slots are its tape's, each with what was told of it, and a block of
+-- the common list has opened there, is succeeded, or may come next. Of a handler that isn't in the world it is so of no slot.
 use Rattle.std.proofs.Common.{◌≡◌, ◌⊎◌, inl, inr, ◌<◌, Bool, true, false, ◌||◌, true≢false, IsTrue, List, [], ◌∷◌, ◌++◌, map, Option, Some, None, refl, sym, ap, ◌∙◌, subst, ⊎_elim, arith, length-append}
 use Rattle.std.specs.Prelude.{unwrap_or}
 use Rattle.std.specs.List.{AllByRecursion}
@@ -32,7 +34,7 @@ use Rattle.scoop_model.proofs.Tape.Slots.{Slot, queues_of, blocks_of}
 use Rattle.scoop_model.proofs.Tape.Fits.{IsBegun}
 use Rattle.scoop_model.proofs.Whole.Sent.{IsGreeted}
 use Rattle.scoop_model.proofs.Whole.Marks.{MarkTold}
-use Rattle.scoop_model.proofs.Whole.Slots.{SlotWhole, IsDone}
+use Rattle.scoop_model.proofs.Whole.Slots.{SlotWhole}
 use Rattle.scoop_model.proofs.Whole.Slots as slot
 use Rattle.scoop_model.proofs.Whole.Facts.{SiteTaped, Taped}
 use Rattle.scoop_model.proofs.Ready.Facts.{IsToldAs, IsOverIfGone, IsNamedAt, HandlerReady, MarksReady, Ready}

@@ -1,4 +1,6 @@
--- Every event keeps what is true of handlers, messages and clients, and it is true of a world that opens.
+-- Every event keeps what is true of handlers, messages and clients, and it is true of a world that opens. Hearing, beginning and
+-- finishing keep a handler sound, and a restart gives it its stored state, which is its own. A client's batch stays what it was, so
+-- the Log that it owes carries entries, and a reply carries none.
 use Rattle.std.proofs.Common.{◌≡◌, ℕ, ◌-◌, ◌==◌, false, true≢false, IsFalse, List, [], ◌∷◌, length, map, slice_get, Some, None, refl, sym, ap, ◌∙◌, subst, arith}
 use Rattle.std.specs.Prelude.{if◌then◌else◌}
 use Rattle.std.specs.List.{AllByRecursion}

@@ -21,6 +21,7 @@ use Rattle.scoop_client.specs.Rows.{DueRow, owes_nothing, greets, reserves, logs
 use Rattle.scoop_client.proofs.DueRows.{due_row}
 use Rattle.scoop_model.specs.World.{World, Party, BlockLog, handlers_in, handlers_of, id_of, is_log_of, is_party, log_of, party_of, set_party}
 use Rattle.scoop_model.specs.Step.{with_sent}
+use Rattle.scoop_model.proofs.Basics.{of_party}
 use Rattle.scoop_model.proofs.Keys.{by_party, id_found}
 use Rattle.scoop_model.proofs.Order.Facts.{IsNamed, PartyFits, Ordered, all_found}
 use Rattle.scoop_model.proofs.Locking.{heard_locks, command_locks}
@@ -106,15 +107,12 @@ module _
   party_on : StandsOn w gone_on
   party_on = record { onto = party_onto w openings c p q at same ls sets from grown; stands = λ h b g. inl g }
 
-  of_party : (y : Party) (s : ReservationState) → Some q ≡ Some y → y.client.reservation ≡ Some s → q.client.reservation ≡ Some s
-  of_party y s e has_one = let one : q ≡ y = cc in ap (λ (z : Party). z.client.reservation) one ∙ has_one
-
   pub party_standing : Standing gone_on
   party_standing =
       standing_more w gone_on party_on i None (sym (append-nil w.sent)) (λ m e. absurd (cc)) (λ b new. absurd (let f = new.is in cc)) i.joint
       (λ d y there s has_one.
       by_party (λ r. r ≡ Some y → ReservationStands gone_on s) w q p d (subst (λ j. party_of j w ≡ Some p) (sym (id_found c w p at) ∙ sym same) at)
-      (λ is e. reservation_on w gone_on party_on i s (λ h g. g) (stands s (of_party y s e has_one)))
+      (λ is e. reservation_on w gone_on party_on i s (λ h g. g) (stands s (of_party q y s e has_one)))
       (λ apart e. reservation_more w gone_on party_on i d y e s has_one) there)
 
 -- ---- a client hears

@@ -26,7 +26,8 @@ use Rattle.scoop_handler.proofs.TableLaws.{grows-row, number-row}
 use Rattle.scoop_model.specs.World.{World, Site, has_block, is_site, number_of, opened_at, sent_at, set_site, site_of}
 use Rattle.scoop_model.specs.Step.{begun_site, finished_site, heard_site, heard_world, joined, newly_opened, reopened, reopened_world, with_site}
 use Rattle.scoop_model.proofs.Basics.{by_test}
-use Rattle.scoop_model.proofs.Keys.{by_site, number_found}
+use Rattle.scoop_model.proofs.Keys.{by_site}
+use Rattle.scoop_model.proofs.Sites.{own_site}
 use Rattle.scoop_model.proofs.Order.Holding.{IsHeldIn, hears_row}
 use Rattle.scoop_model.proofs.Order.Facts.{SiteFits, Ordered, all_found}
 use Rattle.scoop_model.proofs.Order.Handlers.{state_anew}
@@ -53,9 +54,6 @@ module _ (w : World) (s old : Site) (here : site_of (number_of s) w ≡ Some old
       (goes b (subst (λ (x : Site). StandsIn x b) one g.stands)))
       (λ apart. inl g)
 
-place : (w : World) (h : HandlerId) (s : Site) → site_of h w ≡ Some s → site_of (number_of s) w ≡ Some s
-place w h s found = subst (λ j. site_of j w ≡ Some s) (sym (number_found h w s found)) found
-
 -- ---- a handler hears
 
 module _
@@ -71,7 +69,7 @@ module _
   after = heard_world w s now
 
   here : site_of (number_of s) w ≡ Some s
-  here = place w (handler_of m) s found
+  here = own_site w (handler_of m) s found
 
   still_here : site_of now.0.number w ≡ Some s
   still_here = subst (λ j. site_of j w ≡ Some s) (sym (number-row s.core.state m now (row s.core.state m))) here
@@ -165,7 +163,7 @@ module _ (w : World) (i : Standing w) (h : HandlerId) (s : Site) (found : site_o
       (t : Site) → number_of t ≡ number_of s → t.opened ≡ s.opened → MarksGrow s.core.state.marks t.core.state.marks
       → ((b : Block) → IsHeldIn s.core.state.marks b → IsHeldIn t.core.state.marks b) → Standing (with_site w t)
   quiet_site t same opened grows held =
-      let there : site_of (number_of t) w ≡ Some s = subst (λ j. site_of j w ≡ Some s) (sym same) (place w h s found) in
+      let there : site_of (number_of t) w ≡ Some s = subst (λ j. site_of j w ≡ Some s) (sym same) (own_site w h s found) in
       let more : (b : Block) → has_block s.opened b ≡ true → has_block t.opened b ≡ true = λ b e. ap (λ bs. has_block bs b) opened ∙ e in
       let onto : Onto w (with_site w t) = record {
         sets = λ b hs e. e;

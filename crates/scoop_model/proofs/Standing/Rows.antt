@@ -8,7 +8,7 @@ use Rattle.scoop_message.specs.declared.message.Message.{Message}
 use Rattle.scoop_message.specs.declared.message.Message.TheVariants.{Locked, Unlock}
 use Rattle.scoop_message.specs.Message.{same_client}
 use Rattle.scoop_handler.specs.declared.mark.Mark.{Mark}
-use Rattle.scoop_handler.specs.declared.mark.Stage.TheVariants.{Held as AtHeld, Open as AtOpen}
+use Rattle.scoop_handler.specs.declared.mark.Stage.TheVariants.{Held as AtHeld}
 use Rattle.scoop_handler.specs.declared.note.Note.TheVariants.{Opened as OpenedNote}
 use Rattle.scoop_handler.specs.declared.ran.Ran.{Ran}
 use Rattle.scoop_handler.specs.Marks.{block_of, fresh_mark, mark_of, set_mark, with_received, is_open}
@@ -19,7 +19,7 @@ use Rattle.scoop_handler.specs.Rows.{Row, first_greeting, newer_greeting, lock_g
 use Rattle.scoop_handler.proofs.After.{found-after}
 use Rattle.scoop_handler.proofs.MarkLists.{client_from_same, mark_of-client, mark_of-set_mark_own, mark_of-set_mark_other, mark_of-add_mark_other}
 use Rattle.scoop_model.proofs.Basics.{by_test, some_same}
-use Rattle.scoop_model.proofs.Order.Holding.{HeldHolds, IsHeldIn}
+use Rattle.scoop_model.proofs.Order.Holding.{HeldHolds, IsHeldIn, open_not_held}
 use Rattle.scoop_model.proofs.Order.Lists.{same_block_itself}
 use Rattle.scoop_model.proofs.Standing.Facts.{IsPastIn}
 
@@ -34,9 +34,6 @@ held_beside k marks b apart h =
 
 held_is : (marks : List Mark) (b : Block) (h : IsHeldIn marks b) → block_of h.mark ≡ b
 held_is marks b h = λ t. record { client = mark_of-client b.client marks h.mark h.found t; inc = h.inc t; num = h.num t }
-
-open_not_held : AtOpen ≡ AtHeld → ⊥
-open_not_held e = cc
 
 module _ (s : HandlerState) (b : Block) (holds : HeldHolds s) (held : IsHeldIn s.marks b) where
   holder : s.holder ≡ Some b
@@ -93,6 +90,12 @@ module _ (s : HandlerState) (b : Block) (holds : HeldHolds s) (held : IsHeldIn s
       (λ same is. absurd (open_not_held (sym at.stage ∙ ap (λ (z : Mark). z.stage) is ∙ held.stage)))
   held_row m h r = inl held
 
+locked_block : {p q : HandlerId} {a b : Block} → Locked p a ≡ Locked q b → a ≡ b
+locked_block e = cc
+
+locked_handler : {p q : HandlerId} {a b : Block} → Locked p a ≡ Locked q b → p ≡ q
+locked_handler e = cc
+
 -- a Locked is of a block that holds the lock
 pub locked_row :
     (s : HandlerState) (m : Message) (h : Hearing) → Row s m h → (x : HandlerId) (b : Block) → h.1.reply ≡ Some (Locked x b)
@@ -104,22 +107,10 @@ locked_row s m h (lock_granted y c k here at new free clear) = λ x b e.
       subst (IsHeldIn (set_mark (fresh_mark c AtHeld) s.marks)) block
           (record { mark = fresh_mark c AtHeld; found = mark_of-set_mark_own (fresh_mark c AtHeld) k s.marks at.found; inc = refl; num = refl; stage = refl }),
     )
-  where
-    locked_block : {p q : HandlerId} {a b : Block} → Locked p a ≡ Locked q b → a ≡ b
-    locked_block e = cc
-
-    locked_handler : {p q : HandlerId} {a b : Block} → Locked p a ≡ Locked q b → p ≡ q
-    locked_handler e = cc
 locked_row s m h (repeated_lock y c k here at same_num was) = λ x b e.
     let same : Locked s.number c ≡ Locked x b = same_Some _ _ e in
     let block = locked_block same in
     (sym (locked_handler same), subst (IsHeldIn s.marks) block (record { mark = k; found = at.found; inc = at.inc; num = same_num; stage = was }))
-  where
-    locked_block : {p q : HandlerId} {a b : Block} → Locked p a ≡ Locked q b → a ≡ b
-    locked_block e = cc
-
-    locked_handler : {p q : HandlerId} {a b : Block} → Locked p a ≡ Locked q b → p ≡ q
-    locked_handler e = cc
 locked_row s m h r = λ x b e. absurd (let f = e in cc)
 
 -- running changes neither place nor stage

@@ -20,6 +20,7 @@ use Rattle.scoop_handler.specs.Marks.{block_of, is_open, mark_of}
 use Rattle.scoop_handler.specs.State.{HandlerState, IsState, FitsMark, FitsNewest, HasMark}
 use Rattle.scoop_handler.specs.Hearing.{Hearing, new_entries}
 use Rattle.scoop_handler.specs.Rows.{Row, IsLogAt, IsNext, newer_greeting, is_opened, is_taken}
+use Rattle.scoop_handler.proofs.Basics.{all_both}
 use Rattle.scoop_handler.proofs.TableLaws.{block_of-same}
 use Rattle.scoop_model.specs.Step.{newly_opened}
 use Rattle.scoop_model.proofs.Basics.{by_test}
@@ -50,10 +51,6 @@ each_queue P (s ∷ ss) all = at s.block s.ran s.rest s.state all (each_queue P 
     at b ran rest None all later = (record { has = λ t e. absurd (none-some _ e) }, later all)
     at b ran rest (Some u) all later =
         (record { has = λ t e. subst (λ v. P (slot_queue (slot_of b ran rest (Some u)) v)) (same_Some u t e) all.0 }, later all.1)
-
-pub all_both : {A : Type 0} (P Q R : A → Type 0) → ((a : A) → P a → Q a → R a) → (xs : List A) → AllByRecursion P xs → AllByRecursion Q xs → AllByRecursion R xs
-all_both P Q R f [] p q = tt
-all_both P Q R f (x ∷ xs) p q = (f x p.0 q.0, all_both P Q R f xs p.1 q.1)
 
 -- ---- an open slot
 

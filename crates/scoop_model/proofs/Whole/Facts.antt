@@ -9,7 +9,7 @@ use Rattle.scoop_model.specs.Safe.{Tape, WholeBeforeNext}
 use Rattle.scoop_model.proofs.Order.Facts.{SiteFits, Ordered}
 use Rattle.scoop_model.proofs.Logging.Facts.{Grown}
 use Rattle.scoop_model.proofs.Tape.Slots.{Slot}
-use Rattle.scoop_model.proofs.Tape.Taking.{all_both}
+use Rattle.scoop_handler.proofs.Basics.{all_both}
 use Rattle.scoop_model.proofs.Tape.Sites.{SiteTape, logs_at, grown_tape, site_tape_shown}
 use Rattle.scoop_model.proofs.Whole.Sent.{TellsAlike}
 use Rattle.scoop_model.proofs.Whole.Marks.{MarksTold, marks_alike}

@@ -77,20 +77,20 @@ none_counted ms h marks b all past =
     positive some = omega (arith, some)
 
 -- no mark of the client, or one that is below the block
-not_reached : (marks : List Mark) (b : Block) (k : Mark) → mark_of b.client marks ≡ Some k → (Upto b.inc b.num k.inc k.num → ⊥) → IsReachedIn marks b → ⊥
+pub not_reached : (marks : List Mark) (b : Block) (k : Mark) → mark_of b.client marks ≡ Some k → (Upto b.inc b.num k.inc k.num → ⊥) → IsReachedIn marks b → ⊥
 not_reached marks b k found below r =
     let both : Some r.mark ≡ Some k = sym r.found ∙ found in
     let same : r.mark ≡ k = cc in
     below (subst (λ (x : Mark). Upto b.inc b.num x.inc x.num) same r.upto)
 
-none_reached : (marks : List Mark) (b : Block) → mark_of b.client marks ≡ None → IsReachedIn marks b → ⊥
+pub none_reached : (marks : List Mark) (b : Block) → mark_of b.client marks ≡ None → IsReachedIn marks b → ⊥
 none_reached marks b none r = let both : None ≡ Some r.mark = sym none ∙ r.found in cc
 
 -- a newer incarnation, or a newer block of the same one
-newer_inc : (b : Block) (k : Mark) → k.inc < b.inc → Upto b.inc b.num k.inc k.num → ⊥
+pub newer_inc : (b : Block) (k : Mark) → k.inc < b.inc → Upto b.inc b.num k.inc k.num → ⊥
 newer_inc b k newer u = let le = u.inc in omega (arith, newer, le)
 
-newer_num : (b : Block) (k : Mark) → k.inc ≡ b.inc → k.num < b.num → Upto b.inc b.num k.inc k.num → ⊥
+pub newer_num : (b : Block) (k : Mark) → k.inc ≡ b.inc → k.num < b.num → Upto b.inc b.num k.inc k.num → ⊥
 newer_num b k inc newer u = let le = u.num inc in omega (arith, newer, le)
 
 clients_apart : (c d : ClientId) → same_client c d ≡ false → d ≡ c → ⊥

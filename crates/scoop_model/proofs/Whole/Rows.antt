@@ -1,5 +1,5 @@
 -- Every row of the table by which a handler hears keeps what is so of the slots.
-use Rattle.std.proofs.Common.{◌≡◌, ℕ, ◌+◌, ◌-◌, ◌<◌, Bool, true, false, ◌||◌, List, [], ◌∷◌, ◌++◌, length, take, drop, Some, refl, sym, ap, ◌∙◌, subst, arith, true≢false}
+use Rattle.std.proofs.Common.{◌≡◌, ℕ, ◌+◌, ◌-◌, ◌<◌, false, List, [], ◌∷◌, ◌++◌, length, take, drop, Some, sym, ap, ◌∙◌, subst, arith}
 use Rattle.std.specs.Prelude.{option_to_list}
 use Rattle.std.specs.List.{AllByRecursion}
 use Rattle.std.proofs.lemmas.List.{length-drop, take-append-drop}
@@ -19,6 +19,7 @@ use Rattle.scoop_handler.specs.Rows.{Row, IsLogAt, IsNext, newer_greeting, is_op
 use Rattle.scoop_handler.proofs.MarkLists.{mark_of-client, mark_of-set_mark_own, All-mark_of}
 use Rattle.scoop_handler.proofs.TableLaws.{grows-row, block_of-same}
 use Rattle.scoop_model.specs.World.{greatest_count}
+use Rattle.scoop_model.proofs.Basics.{first_false}
 use Rattle.scoop_model.proofs.Order.Facts.{all_more_of, all_pushed}
 use Rattle.scoop_model.proofs.Order.Holding.{reached_more}
 use Rattle.scoop_model.proofs.Tape.Slots.{Slot, new_slot}
@@ -41,11 +42,6 @@ slots_moved ms ns h old new ss alike grows all =
 
 ends-drop : (i : ℕ) (es : List Entry) → 0 < length (drop i es) → ends (drop i es) ≡ ends es
 ends-drop i es some = sym (ends-append (take i es) (drop i es) some) ∙ ap ends (take-append-drop i es)
-
--- it takes none where the block has ended
-not_ended : (ended more : Bool) → (ended || more) ≡ false → ended ≡ false
-not_ended true more e = absurd (true≢false e)
-not_ended false more e = refl
 
 module _
     (ms : List Message) (s : HandlerState) (b : Block) (n : ℕ) (es : List Entry) (k : Mark) (at : IsLogAt s b k) (next : IsNext k n es)
@@ -79,7 +75,7 @@ module _
     mark = k;
     found = at.heard.found;
     newest = same;
-    running = not_ended k.ended _ goes_on;
+    running = first_false k.ended _ goes_on;
     next = after;
     now = subst (λ c. mark_of c (set_mark after s.marks) ≡ Some after) client
         (mark_of-set_mark_own after k s.marks (subst (λ c. mark_of c s.marks ≡ Some k) (sym client) at.heard.found));

@@ -16,7 +16,7 @@ use Rattle.scoop_model.proofs.Basics.{by_test}
 
 -- ---- one message
 
-same_handler_itself : (h : HandlerId) → same_handler h h ≡ true
+pub same_handler_itself : (h : HandlerId) → same_handler h h ≡ true
 same_handler_itself h = (handler_decides h h).1 refl
 
 -- a count is told of its own handler and block
@@ -74,7 +74,7 @@ newer_welcome h b c inc own newer =
 
 -- ---- one message more
 
-greatest_pushed :
+pub greatest_pushed :
     (h : HandlerId) (b : Block) (ms : List Message) (m : Message) → greatest_count h b (ms ++ m ∷ []) ≡ max (greatest_count h b ms) (count_in h b m)
 greatest_pushed h b [] m = omega arith
 greatest_pushed h b (x ∷ xs) m = let later = greatest_pushed h b xs m in omega (arith, later)

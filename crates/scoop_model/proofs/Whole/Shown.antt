@@ -14,7 +14,7 @@ use Rattle.scoop_model.specs.Safe.{IsSubsequence, untold, numbered, part, entrie
 use Rattle.scoop_model.proofs.Order.Lists.{AreApart}
 use Rattle.scoop_model.proofs.Tape.Slots.{Slot, ran_in, blocks_of, NoneRan, Waits, InTurn}
 use Rattle.scoop_model.proofs.Tape.Fits.{IsBegun}
-use Rattle.scoop_model.proofs.Tape.Taking.{all_both}
+use Rattle.scoop_handler.proofs.Basics.{all_both}
 use Rattle.scoop_model.proofs.Tape.Shown.{once_apart, left_apart, IsPart, slot_parts}
 use Rattle.scoop_model.proofs.Tape.Sites.{SiteTape, logs_at}
 use Rattle.scoop_model.proofs.Whole.Marks.{MarkTold, MarksTold}

@@ -1,9 +1,9 @@
 -- A block whose private queue is gone has run to its End, or a newer incarnation of its client has greeted; and of each
 -- block as many entries were received as the greatest count tells. Every change of the slots keeps it.
-use Rattle.std.proofs.Common.{◌≡◌, ◌⊎◌, inl, inr, ◌+◌, ◌<◌, ◌≤◌, Bool, true, false, ◌||◌, ◌&&◌, ◌==◌, not, IsTrue, true≢false, List, [], ◌∷◌, ◌++◌, length, map, Option, Some, None, refl, sym, ap, ◌∙◌, subst, ⊎_elim, arith, length-append}
+use Rattle.std.proofs.Common.{◌≡◌, ◌⊎◌, inl, inr, ◌+◌, ◌<◌, ◌≤◌, Bool, true, false, ◌&&◌, ◌==◌, not, IsTrue, true≢false, List, [], ◌∷◌, ◌++◌, length, map, Option, Some, None, refl, sym, ap, ◌∙◌, subst, ⊎_elim, arith, length-append}
 use Rattle.std.specs.Prelude.{if◌then◌else◌}
 use Rattle.std.specs.List.{AllByRecursion}
-use Rattle.std.proofs.lemmas.Bool.{eqb-true}
+use Rattle.std.proofs.lemmas.Bool.{eqb-true, or_cases}
 use Rattle.scoop_message.specs.declared.name.Block.{Block}
 use Rattle.scoop_message.specs.declared.name.HandlerId.{HandlerId}
 use Rattle.scoop_message.specs.declared.request.Entry.{Entry}
@@ -28,7 +28,8 @@ use Rattle.scoop_model.specs.World.{greatest_count}
 use Rattle.scoop_model.proofs.Basics.{by_test, some_same}
 use Rattle.scoop_model.proofs.Order.Holding.{IsReachedIn, Upto, reached_more}
 use Rattle.scoop_model.proofs.Order.Lists.{same_block_is}
-use Rattle.scoop_model.proofs.Tape.Taking.{InQueue, each_queue, all_both}
+use Rattle.scoop_handler.proofs.Basics.{all_both}
+use Rattle.scoop_model.proofs.Tape.Taking.{InQueue, each_queue}
 use Rattle.scoop_model.proofs.Tape.Slots.{Slot, slot_of, new_slot, put_slot, put_in, slots_put, state_cut, cut_slot, cut_in, slots_cut, run_rest, slots_run, slot_queue, queues_of, each_kept, each_run}
 
 -- ---- what the marks tell of a block
@@ -238,13 +239,9 @@ end_last : (e : Entry) (es : List Entry) → EndOnlyLast (e ∷ es) → is_end e
 end_last e [] only is = refl
 end_last e (x ∷ xs) only is = absurd (true≢false (sym (both (not (is_end e)) _ only).0 ∙ ap not is))
 
-none_behind : (es : List Entry) → (length es == 0) ≡ true → es ≡ []
+pub none_behind : (es : List Entry) → (length es == 0) ≡ true → es ≡ []
 none_behind [] e = refl
 none_behind (x ∷ xs) e = absurd (let l = eqb-true (length (x ∷ xs)) 0 e in omega (arith, l))
-
-or_cases : (t u : Bool) → (t || u) ≡ true → (t ≡ true) ⊎ (u ≡ true)
-or_cases true u e = inl refl
-or_cases false u e = inr e
 
 -- an entry goes ahead of others, in a queue that is as all are
 module _

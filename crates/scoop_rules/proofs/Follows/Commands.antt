@@ -25,6 +25,7 @@ use Rattle.scoop_model.specs.World.{World, Party, HandlerLog, is_line_of, is_par
 use Rattle.scoop_model.specs.Step.{newest_block, logs_after, commanded_world}
 use Rattle.scoop_rules.specs.Paper.{LogOne, MovesLead, logged_to, has_open, waits, Seen, seen, queue_of, queue_at, configuration_of, objects_of, command_moves}
 use Rattle.scoop_model.proofs.Basics.{ok_is, by_test}
+use Rattle.scoop_model.proofs.Whole.Sent.{same_handler_itself}
 use Rattle.scoop_model.proofs.Keys.{id_found}
 use Rattle.scoop_model.proofs.Order.Facts.{PartyFits, all_found}
 use Rattle.scoop_model.proofs.Order.Commands.{goes_on}
@@ -233,16 +234,15 @@ module _
         (k : HandlerId) (e : Entry) → has (set_of b w) k ≡ true → ((h : HandlerId) → added x h ≡ (if same_handler h k then e ∷ [] else []))
         → MovesLead (objects_of w) (configuration_of w) (LogOne b k e ∷ []) (configuration_of after)
     one_leads k e m adds = (
-      (its_inc, takes_more k m e (here k (itself k)), none_waits),
+      (its_inc, takes_more k m e (here k (same_handler_itself k)), none_waits),
       one_at_all b e k (configuration_of w)
           ∙ all_logged (k ∷ []) e
-          (λ h there. let mine : k ≡ h = one_of h there in subst (λ y. (has (set_of b w) y ≡ true) × (added x y ≡ e ∷ [])) mine (m, here k (itself k)))
+          (λ h there.
+          let mine : k ≡ h = one_of h there in
+          subst (λ y. (has (set_of b w) y ≡ true) × (added x y ≡ e ∷ [])) mine (m, here k (same_handler_itself k)))
           (λ h off. inr (adds h ∙ ap (λ t. if t then e ∷ [] else []) (elsewhere h off))),
     )
       where
-        itself : (h : HandlerId) → same_handler h h ≡ true
-        itself h = (handler_decides h h).1 refl
-
         here : (h : HandlerId) → same_handler h k ≡ true → added x h ≡ e ∷ []
         here h so = adds h ∙ ap (λ t. if t then e ∷ [] else []) so
 
@@ -255,7 +255,7 @@ module _
         elsewhere : (h : HandlerId) → has (k ∷ []) h ≡ false → same_handler h k ≡ false
         elsewhere h off =
             by_test (λ t. same_handler h k ≡ t → t ≡ false) (same_handler h k)
-            (λ _ so. absurd (true≢false (sym (ap (λ y. has (k ∷ []) y) ((handler_decides h k).0 so) ∙ ap (λ t. t || false) (itself k)) ∙ off)))
+            (λ _ so. absurd (true≢false (sym (ap (λ y. has (k ∷ []) y) ((handler_decides h k).0 so) ∙ ap (λ t. t || false) (same_handler_itself k)) ∙ off)))
             (λ _ so. refl) refl
 
     pub end_leads :

@@ -1,9 +1,10 @@
 -- One entry that is logged at several handlers of a block, each in a move of its own; and where a block's queue stands
 -- among the others.
-use Rattle.std.proofs.Common.{◌≡◌, ℕ, zero, suc, ◌≤◌, Bool, true, false, ◌&&◌, ◌||◌, true≢false, List, [], ◌∷◌, ◌++◌, length, map, flat_map, drop, refl, sym, ap, ◌∙◌, subst, arith}
+use Rattle.std.proofs.Common.{◌≡◌, ℕ, zero, suc, ◌≤◌, true, false, ◌&&◌, ◌||◌, true≢false, List, [], ◌∷◌, ◌++◌, length, map, flat_map, drop, refl, sym, ap, ◌∙◌, subst, arith}
 use Rattle.std.specs.Prelude.{if◌then◌else◌}
 use Rattle.std.specs.List.{list_any}
 use Rattle.std.proofs.lemmas.List.Folds.{list_any-append}
+use Rattle.std.proofs.Math.Bool.{or-false, or-true}
 use Rattle.scoop_message.specs.declared.name.Block.{Block}
 use Rattle.scoop_message.specs.declared.name.HandlerId.{HandlerId}
 use Rattle.scoop_message.specs.declared.request.Entry.{Entry}
@@ -42,12 +43,8 @@ waits_logged : (b : Block) (e : Entry) → is_query e ≡ false → (qs : List W
 waits_logged b e no_query [] = refl
 waits_logged b e no_query (q ∷ qs) = λ i. one i || waits_logged b e no_query qs i
   where
-    or_nothing : (t : Bool) → (t || false) ≡ t
-    or_nothing true = refl
-    or_nothing false = refl
-
     more : list_any is_query (q.entries ++ e ∷ []) ≡ list_any is_query q.entries
-    more = list_any-append is_query q.entries (e ∷ []) ∙ (λ i. list_any is_query q.entries || (no_query i || false)) ∙ or_nothing (list_any is_query q.entries)
+    more = list_any-append is_query q.entries (e ∷ []) ∙ (λ i. list_any is_query q.entries || (no_query i || false)) ∙ or-false (list_any is_query q.entries)
 
     one : (is_of b (logged_to b e q) && list_any is_query (logged_to b e q).entries) ≡ (is_of b q && list_any is_query q.entries)
     one =
@@ -115,11 +112,7 @@ open_among b f (j ∷ js) m there =
     list_any-append (λ q. is_of b q && is_open q.state) (f j) (flat_map f js)
     ∙ by_test (λ t. same_block j b ≡ t → (t || has_block js b) ≡ true → (has_open b (f j) || has_open b (flat_map f js)) ≡ true) (same_block j b)
     (λ _ is _. ap (λ t. t || has_open b (flat_map f js)) (ap (λ y. has_open b (f y)) (same_block_is j b is) ∙ there))
-    (λ _ is n. ap (λ t. has_open b (f j) || t) (open_among b f js n there) ∙ or_true (has_open b (f j))) refl m
-  where
-    or_true : (t : Bool) → (t || true) ≡ true
-    or_true true = refl
-    or_true false = refl
+    (λ _ is n. ap (λ t. has_open b (f j) || t) (open_among b f js n there) ∙ or-true (has_open b (f j))) refl m
 
 -- ---- the queue of a block that is open
 
@@ -141,11 +134,7 @@ drop_pushed (suc n) [] e le = absurd (omega (arith, le))
 drop_pushed (suc n) (x ∷ xs) e le = drop_pushed n xs e (omega (arith, le))
 
 end_pushed : (xs : List Entry) (e : Entry) → has_end xs ≡ false → has_end (xs ++ e ∷ []) ≡ is_end e
-end_pushed xs e none = list_any-append is_end xs (e ∷ []) ∙ (λ i. none i || (is_end e || false)) ∙ or_nothing (is_end e)
-  where
-    or_nothing : (t : Bool) → (t || false) ≡ t
-    or_nothing true = refl
-    or_nothing false = refl
+end_pushed xs e none = list_any-append is_end xs (e ∷ []) ∙ (λ i. none i || (is_end e || false)) ∙ or-false (is_end e)
 
 -- one entry more is logged
 pub logged_queue : (b : Block) (s : Seen) (e : Entry) → IsOpen s → queue_of b (record s { logged = s.logged ++ e ∷ [] }) ≡ map (logged_to b e) (queue_of b s)

@@ -1,7 +1,8 @@
 -- Whatever happens, a block names each of its handlers once.
-use Rattle.std.proofs.Common.{◌≡◌, ◌==◌, Bool, true, false, ◌||◌, true≢false, List, [], ◌∷◌, ◌++◌, length, Option, Some, None, refl, sym, ap, ◌∙◌, subst, ⊎_elim}
+use Rattle.std.proofs.Common.{◌≡◌, ◌==◌, true, false, ◌||◌, true≢false, List, [], ◌∷◌, ◌++◌, length, Option, Some, None, refl, sym, ap, ◌∙◌, subst, ⊎_elim}
 use Rattle.std.specs.Prelude.{if◌then◌else◌, nat_lt, Ok, Err}
 use Rattle.std.proofs.lemmas.List.Folds.{list_any-append}
+use Rattle.std.proofs.Math.Bool.{or-true}
 use Rattle.scoop_message.specs.declared.limits.TheConstants.{MAX_BLOCK_HANDLERS}
 use Rattle.scoop_message.specs.declared.name.Block.{Block}
 use Rattle.scoop_message.specs.declared.name.HandlerId.{HandlerId}
@@ -39,11 +40,7 @@ module _ (before : List HandlerId) (h : HandlerId) where
 
   in_end : has (before ++ h ∷ []) h ≡ true
   in_end = list_any-append (λ y. same_handler y h) before (h ∷ []) ∙ ap (λ t. has before h || (t || false)) ((handler_decides h h).1 refl)
-      ∙ or_true (has before h)
-    where
-      or_true : (t : Bool) → (t || true) ≡ true
-      or_true true = refl
-      or_true false = refl
+      ∙ or-true (has before h)
 
 none_repeated : (before hs : List HandlerId) → first_repeated_after before hs ≡ None → AreDistinct hs × AreNew before hs
 none_repeated before [] e = (tt, λ x m. refl)
