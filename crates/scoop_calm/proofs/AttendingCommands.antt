@@ -14,7 +14,9 @@ use Rattle.scoop_reserve.specs.Hearing.{given_up_in}
 use Rattle.scoop_client.specs.declared.phase.Phase.TheVariants.{Greeting, Idle}
 use Rattle.scoop_client.specs.Window.{WindowState, with_entry, with_end, at_window, is_ended}
 use Rattle.scoop_client.specs.State.{ClientState, phase_of, phase_of_block, phase_at, with_windows, with_reservation}
-use Rattle.scoop_client.specs.Commands.{Command, Outcome, command, Reserve, DoCall, DoQuery, DoEnd, GiveUp, next_block, with_block}
+use Rattle.scoop_client.specs.declared.command.Command.{Command}
+use Rattle.scoop_client.specs.declared.command.Command.TheVariants.{Reserve, Call as DoCall, Query as DoQuery, End as DoEnd, GiveUp}
+use Rattle.scoop_client.specs.Commands.{Outcome, command, next_block, with_block}
 use Rattle.scoop_client.specs.Rows.{ReserveRow, begins_block, LogRow, is_logged, EndRow, ends_block, GiveUpRow, gives_up}
 use Rattle.scoop_client.proofs.CommandRows.{command_row}
 use Rattle.scoop_model.specs.World.{World}

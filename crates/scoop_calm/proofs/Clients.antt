@@ -24,7 +24,9 @@ use Rattle.scoop_client.specs.declared.phase.ClientNote.{ClientNote}
 use Rattle.scoop_client.specs.Window.{WindowState, logged, with_entry, with_end, acknowledged, at_window, all_over}
 use Rattle.scoop_client.specs.State.{ClientState, with_windows, with_reservation, idle}
 use Rattle.scoop_client.specs.Hearing.{heard, stepped, after_step, up_to}
-use Rattle.scoop_client.specs.Commands.{Command, Outcome, command, Reserve, DoCall, DoQuery, DoEnd, GiveUp, next_block, with_block, waits_for}
+use Rattle.scoop_client.specs.declared.command.Command.{Command}
+use Rattle.scoop_client.specs.declared.command.Command.TheVariants.{Reserve, Call as DoCall, Query as DoQuery, End as DoEnd, GiveUp}
+use Rattle.scoop_client.specs.Commands.{Outcome, command, next_block, with_block, waits_for}
 use Rattle.scoop_client.specs.Rows.{HeardRow, passed_over, is_welcomed, takes_step, is_acknowledged, is_accepted, ReserveRow, begins_block, LogRow, is_logged, EndRow, ends_block, GiveUpRow, gives_up}
 use Rattle.scoop_client.proofs.Rows.{heard_row}
 use Rattle.scoop_client.proofs.CommandRows.{command_row}

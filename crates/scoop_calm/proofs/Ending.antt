@@ -9,7 +9,8 @@ use Rattle.scoop_reserve.specs.State.{ReservationState}
 use Rattle.scoop_client.specs.declared.phase.Phase.TheVariants.{Greeting, Running}
 use Rattle.scoop_client.specs.Window.{WindowState, with_end, is_ended, lowest_full}
 use Rattle.scoop_client.specs.State.{ClientState, phase_of, phase_of_block, phase_at}
-use Rattle.scoop_client.specs.Commands.{command, DoEnd, end_block, end_unless_waiting, end_unless_full, with_ends}
+use Rattle.scoop_client.specs.declared.command.Command.TheVariants.{End as DoEnd}
+use Rattle.scoop_client.specs.Commands.{command, end_block, end_unless_waiting, end_unless_full, with_ends}
 use Rattle.scoop_model.specs.World.{World, Party, id_of, party_of}
 use Rattle.scoop_model.specs.Reach.{IsReached}
 use Rattle.scoop_calm.specs.Left.{block_work, client_work, window_work, windows_work, stage_work, wait_work}

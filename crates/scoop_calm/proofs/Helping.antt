@@ -29,7 +29,8 @@ use Rattle.scoop_reserve.specs.State.{ReservationState}
 use Rattle.scoop_reserve.specs.Due as owed
 use Rattle.scoop_client.specs.Window.{WindowState, window_of}
 use Rattle.scoop_client.specs.Due.{due}
-use Rattle.scoop_client.specs.Commands.{Outcome, command, DoEnd}
+use Rattle.scoop_client.specs.declared.command.Command.TheVariants.{End as DoEnd}
+use Rattle.scoop_client.specs.Commands.{Outcome, command}
 use Rattle.scoop_client.specs.Rows.{DueRow, owes_nothing, greets, reserves, logs, EndRow, ends_block}
 use Rattle.scoop_client.proofs.DueRows.{due_row}
 use Rattle.scoop_client.proofs.CommandRows.{command_row}

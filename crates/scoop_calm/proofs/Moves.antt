@@ -72,7 +72,7 @@ module _ (w : World) (reached : IsReached w) (s : Site) (t : Task) (here : site_
 -- ---- a client ends its block
 
 module _ (w : World) (reached : IsReached w) (p : Party) (c : ClientState) (at : party_of (id_of p) w ≡ Some p)
-    (ends : client.command p.client client.DoEnd ≡ Ok c) where
+    (ends : client.command p.client End ≡ Ok c) where
   abbrev pub ended_world : World
   ended_world = commanded_world w p End c
 

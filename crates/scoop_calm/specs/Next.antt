@@ -12,7 +12,8 @@ use Rattle.scoop_handler.specs.Marks.{is_open, mark_of}
 use Rattle.scoop_handler.specs.State.{HandlerState, is_holder}
 use Rattle.scoop_handler.specs.Running.{ready}
 use Rattle.scoop_client.specs.Due.{due}
-use Rattle.scoop_client.specs.Commands.{command, DoEnd}
+use Rattle.scoop_client.specs.declared.command.Command.TheVariants.{End as DoEnd}
+use Rattle.scoop_client.specs.Commands.{command}
 use Rattle.scoop_client.specs.declared.command.Command.TheVariants as command
 use Rattle.scoop_model.specs.declared.event.Event.{Event}
 use Rattle.scoop_model.specs.declared.event.Event.TheVariants.{Do, Tick, Take, Begin, Finish}

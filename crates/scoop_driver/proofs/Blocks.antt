@@ -25,7 +25,8 @@ use Rattle.scoop_client.specs.declared.phase.Phase.TheVariants.{Greeting, Runnin
 use Rattle.scoop_client.specs.Window.{WindowState, all_over, acknowledged, at_window}
 use Rattle.scoop_client.specs.State.{ClientState, phase_of, phase_of_block, block_of, idle, with_windows, with_reservation}
 use Rattle.scoop_client.specs.Hearing.{heard, after_step, stepped, up_to}
-use Rattle.scoop_client.specs.Commands.{Outcome, Reserve, command, next_block}
+use Rattle.scoop_client.specs.declared.command.Command.TheVariants.{Reserve}
+use Rattle.scoop_client.specs.Commands.{Outcome, command, next_block}
 use Rattle.scoop_client.specs.Rows.{HeardRow, passed_over, is_welcomed, takes_step, is_acknowledged, is_accepted, ReserveRow, reserve_not_greeted, reserve_not_idle, reserve_spent, reserve_refused, begins_block}
 use Rattle.scoop_client.proofs.Rows.{heard_row}
 use Rattle.scoop_client.proofs.CommandRows.{command_row}

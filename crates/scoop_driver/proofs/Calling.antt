@@ -16,6 +16,7 @@ use Rattle.scoop_client.specs.declared.error.ClientError.{ClientError}
 use Rattle.scoop_client.specs.declared.error.ClientError.TheVariants.{OutOfMemory}
 use Rattle.scoop_client.specs.State.{ClientState, phase_of}
 use Rattle.scoop_client.specs.Hearing.{heard}
+use Rattle.scoop_client.specs.declared.command.Command.TheVariants.{Reserve, Query as DoQuery, GiveUp}
 use Rattle.scoop_client.specs.Commands as client
 use Rattle.scoop_driver.specs.declared.error.DriverError.{DriverError}
 use Rattle.scoop_driver.specs.declared.error.DriverError.TheVariants.{Client, TurnsOver, LinkFault, ConditionFailed}
@@ -94,22 +95,22 @@ turning_more n told s t u (xs, so_far) (ys, goes, answers) =
 -- ---- a turn that ends a call
 
 -- what an error of a turn leaves of a call with these commands to give
-record Stopped (left : List client.Command) (e : DriverError) (ys : List Step) (t u : Seen) : Type 0 where
+record Stopped (left : List Command) (e : DriverError) (ys : List Step) (t u : Seen) : Type 0 where
   silent : commands_by ys ≡ []
   stops : StopsBefore u.client left e
   faults : (xs : List Step) → faults_in xs ≡ 0 → TellsFault {T = Unit {0}} (Err e) (xs ++ ys)
   turns : (n bound : ℕ) (xs : List Step) → n < bound → turns_in xs ≡ n → TakesTurns {T = Unit {0}} (Err e) bound (xs ++ ys)
 
 -- memory may be wanting before these
-abbrev pub MayWant : List client.Command → ClientState → Type 0
+abbrev pub MayWant : List Command → ClientState → Type 0
 MayWant [] c = Unit {0}
 MayWant (x ∷ xs) c = IsTakeable (client.command c x)
 
-wants_before : (left : List client.Command) (c d : ClientState) → d ≡ c → MayWant left c → StopsBefore d left (Client OutOfMemory)
+wants_before : (left : List Command) (c d : ClientState) → d ≡ c → MayWant left c → StopsBefore d left (Client OutOfMemory)
 wants_before [] c d same h = refl
 wants_before (x ∷ xs) c d same h = subst (λ y. IsTakeable (client.command y x)) (sym same) h
 
-faulted : (s : Step) (left : List client.Command) (t u : Seen) → commands_by (s ∷ []) ≡ [] → turns_in (s ∷ []) ≡ 1 → faults_at s ≡ 1
+faulted : (s : Step) (left : List Command) (t u : Seen) → commands_by (s ∷ []) ≡ [] → turns_in (s ∷ []) ≡ 1 → faults_at s ≡ 1
     → Stopped left LinkFault (s ∷ []) t u
 faulted s left t u silent count fault = record {
   silent = silent;
@@ -118,7 +119,7 @@ faulted s left t u silent count fault = record {
   turns = λ n bound xs below is. omega (arith, turns_in-append xs (s ∷ []), count, is);
 }
 
-wanting : (left : List client.Command) (t u : Seen) → Goes [] t u → MayWant left t.client → Stopped left (Client OutOfMemory) [] t u
+wanting : (left : List Command) (t u : Seen) → Goes [] t u → MayWant left t.client → Stopped left (Client OutOfMemory) [] t u
 wanting left t u goes may = record {
   silent = refl;
   stops = wants_before left t.client u.client goes.client may;
@@ -132,26 +133,26 @@ of_turn e = Err e
 is_error : (e x : DriverError) (P : DriverError → Type 0) → of_turn e ≡ of_turn x → P x → P e
 is_error e x P is h = (let same : e ≡ x = cc in rw same h)
 
-turned_fault : (got : Received) (c : ClientState) (e : DriverError) (left : List client.Command) (t u : Seen) → StepAnswers c (Turned got) (Err e)
+turned_fault : (got : Received) (c : ClientState) (e : DriverError) (left : List Command) (t u : Seen) → StepAnswers c (Turned got) (Err e)
     → Stopped left e (Turned got ∷ []) t u
 turned_fault Nothing c e left t u is = absurd (let x : Err e ≡ Ok None = is in cc)
 turned_fault (Frame v m) c e left t u is = absurd (let x : Err e ≡ Ok (Some (heard c m).1) = is in cc)
 turned_fault (NoFrame d) c e left t u is = absurd (let x : Err e ≡ Ok None = is in cc)
 turned_fault Fault c e left t u is = is_error e LinkFault (λ x. Stopped left x (Turned Fault ∷ []) t u) is (faulted (Turned Fault) left t u refl refl refl)
 
-fault_step : (s : Step) (c : ClientState) (e : DriverError) (left : List client.Command) (t u : Seen) → StepAnswers c s (Err e) → Stopped left e (s ∷ []) t u
+fault_step : (s : Step) (c : ClientState) (e : DriverError) (left : List Command) (t u : Seen) → StepAnswers c s (Err e) → Stopped left e (s ∷ []) t u
 fault_step (Gave x) c e left t u is = absurd is
 fault_step (Turned got) c e left t u is = turned_fault got c e left t u is
 fault_step (Broke place) c e left t u is = is_error e LinkFault (λ x. Stopped left x (Broke place ∷ []) t u) is (faulted (Broke place) left t u refl refl refl)
 
-stopped : (ys : List Step) (e : DriverError) (left : List client.Command) (t u : Seen) → Goes ys t u → TurnAnswers t.client ys (Err e) → MayWant left t.client
+stopped : (ys : List Step) (e : DriverError) (left : List Command) (t u : Seen) → Goes ys t u → TurnAnswers t.client ys (Err e) → MayWant left t.client
     → Stopped left e ys t u
 stopped [] e left t u goes is may = is_error e (Client OutOfMemory) (λ x. Stopped left x [] t u) is (wanting left t u goes may)
 stopped (s ∷ []) e left t u goes is may = fault_step s t.client e left t u is
 stopped (s ∷ r ∷ ss) e left t u goes is may = absurd is
 
 -- a call that ends by a turn's error, before these commands
-pub turning_stops : (left : List client.Command) (n bound : ℕ) (e : DriverError) (s t u : Seen) → n < bound → Turning n s t → MayWant left t.client
+pub turning_stops : (left : List Command) (n bound : ℕ) (e : DriverError) (s t u : Seen) → n < bound → Turning n s t → MayWant left t.client
     → TakesTurn (Err e) t u
     → (steps : List Step) × Does {T = Unit {0}} left bound (Err e) steps s u
 turning_stops left n bound e s t u below (xs, so_far) may (ys, goes, answers) =
@@ -166,7 +167,7 @@ turning_stops left n bound e s t u below (xs, so_far) may (ys, goes, answers) =
     )
 
 -- a call whose turns are over before these commands
-pub turning_over : (left : List client.Command) (n : ℕ) (s t : Seen) → Turning n s t → (steps : List Step)
+pub turning_over : (left : List Command) (n : ℕ) (s t : Seen) → Turning n s t → (steps : List Step)
     × Does {T = Unit {0}} left n (Err TurnsOver) steps s t
 turning_over left n s t (xs, so_far) = (
   xs,
@@ -204,7 +205,7 @@ bound_as T U TurnsOver bound steps h = h
 bound_as T U LinkFault bound steps h = h
 bound_as T U (ConditionFailed t) bound steps h = h
 
-pub does_err : (T U : Type 0) (xs : List client.Command) (bound : ℕ) (e : DriverError) (steps : List Step) (s t : Seen)
+pub does_err : (T U : Type 0) (xs : List Command) (bound : ℕ) (e : DriverError) (steps : List Step) (s t : Seen)
     → Does {T = T} xs bound (Err e) steps s t → Does {T = U} xs bound (Err e) steps s t
 does_err T U xs bound e steps s t does = record {
   goes = does.goes;
@@ -240,7 +241,7 @@ bound_on (Err TurnsOver) n left bound xs ys is sum h = omega (arith, turns_in-ap
 bound_on (Err LinkFault) n left bound xs ys is sum h = omega (arith, turns_in-append xs ys, is, sum, h)
 bound_on (Err (ConditionFailed t)) n left bound xs ys is sum h = omega (arith, turns_in-append xs ys, is, sum, h)
 
-commands_on : {T : Type 0} (r : Result T DriverError) (xs : List client.Command) (ss ts : List Step) (u : Seen) → commands_by ss ≡ xs → GivesCommands [] r ts u
+commands_on : {T : Type 0} (r : Result T DriverError) (xs : List Command) (ss ts : List Step) (u : Seen) → commands_by ss ≡ xs → GivesCommands [] r ts u
     → GivesCommands xs r (ss ++ ts) u
 commands_on (Ok v) xs ss ts u first second = commands_by-append ss ts ∙ (ap (λ zs. zs ++ commands_by ts) first ∙ (ap (λ zs. xs ++ zs) second ∙ append-nil xs))
 commands_on (Err e) xs ss ts u first second =
@@ -252,7 +253,7 @@ commands_on (Err e) xs ss ts u first second =
     )
 
 -- a call that gives its commands and then takes turns, as many as are left
-pub does_on : {T U : Type 0} (v : T) (r : Result U DriverError) (xs : List client.Command) (a left bound : ℕ) (ss ts : List Step) (s t u : Seen)
+pub does_on : {T U : Type 0} (v : T) (r : Result U DriverError) (xs : List Command) (a left bound : ℕ) (ss ts : List Step) (s t u : Seen)
     → Does xs a (Ok v) ss s t → turns_in ss + left ≡ bound → Does [] left r ts t u → Does xs bound r (ss ++ ts) s u
 does_on v r xs a left bound ss ts s t u first sum second = record {
   goes = goes_on ss ts s t u first.goes second.goes;
@@ -292,7 +293,7 @@ logged_after x n left bound s t u (xs, so_far) sum goes =
     )
 
 -- a refusal behind turns
-pub refused_after : (x : client.Command) (n bound : ℕ) (e : DriverError) (s t : Seen) → n ≤ bound → Turning n s t → RefusesWith (client.command t.client x) e
+pub refused_after : (x : Command) (n bound : ℕ) (e : DriverError) (s t : Seen) → n ≤ bound → Turning n s t → RefusesWith (client.command t.client x) e
     → (steps : List Step) × Does {T = Unit {0}} (x ∷ []) bound (Err e) steps s t
 refused_after x n bound (Client y) s t within (xs, so_far) refuses = (
   xs,
@@ -311,7 +312,7 @@ refused_after x n bound (ConditionFailed k) s t within so_far refuses = absurd r
 pub turning_same : (n : ℕ) (s t u : Seen) → u ≡ t → Turning n s t → Turning n s u
 turning_same n s t u same h = subst (Turning n s) (sym same) h
 
-pub refused_same : (x : client.Command) (n bound : ℕ) (e : DriverError) (s t u : Seen) → n ≤ bound → Turning n s t → RefusesWith (client.command t.client x) e
+pub refused_same : (x : Command) (n bound : ℕ) (e : DriverError) (s t u : Seen) → n ≤ bound → Turning n s t → RefusesWith (client.command t.client x) e
     × (u ≡ t)
     → (steps : List Step) × Does {T = Unit {0}} (x ∷ []) bound (Err e) steps s u
 refused_same x n bound e s t u within so_far (refuses, same) =
@@ -381,7 +382,7 @@ pub given_does : (x : Command) (s t : Seen) → Goes (Gave x ∷ []) s t → Doe
 given_does x s t goes = record { goes = goes; commands = refl; faults = refl; bound = omega arith }
 
 -- a refusal that comes before any turn
-pub refused_now : (x : client.Command) (bound : ℕ) (e : ClientError) (s t : Seen) → IsRefusal (client.command s.client x) e → t ≡ s
+pub refused_now : (x : Command) (bound : ℕ) (e : ClientError) (s t : Seen) → IsRefusal (client.command s.client x) e → t ≡ s
     → (steps : List Step) × Does {T = Unit {0}} (x ∷ []) bound (Err (Client e)) steps s t
 refused_now x bound e s t refuses same = refused_same x 0 bound (Client e) s s t (omega arith) (turning_none s) (refuses, same)
 
@@ -391,7 +392,7 @@ pub given_reached : (x : Command) (phase : Phase) (turns : ℕ) (r : Result (Uni
 given_reached x phase turns r s t u goes (ys, does, there) =
     (Gave x ∷ ys, does_on (tt {0}) r (x ∷ []) 0 turns turns (Gave x ∷ []) ys s t u (given_does x s t goes) (zero-add turns) does)
 
-pub logged_reached : (x : client.Command) (phase : Phase) (left turns : ℕ) (r : Result (Unit {0}) DriverError) (s t u : Seen) → Logged x turns (Ok left) s t
+pub logged_reached : (x : Command) (phase : Phase) (left turns : ℕ) (r : Result (Unit {0}) DriverError) (s t u : Seen) → Logged x turns (Ok left) s t
     → Reached phase left r t u → Called x turns r s u
 logged_reached x phase left turns r s t u (xs, logs) (ys, does, there) =
     (xs ++ ys, does_on left r (x ∷ []) turns left turns xs ys s t u logs.does logs.rest does)
@@ -401,19 +402,19 @@ pub reached_there : (phase : Phase) (turns : ℕ) (r : Result (Unit {0}) DriverE
 reached_there phase turns r s t (ys, does, there) = there
 
 runs_where : (hs : List HandlerId) (turns : ℕ) (r : Result (Unit {0}) DriverError) (c : ClientState) (ys : List Step) (s t : Seen)
-    → client.command c (client.Reserve hs) ≡ Ok s.client
+    → client.command c (Reserve hs) ≡ Ok s.client
     → Does [] turns r ys s t → OnOk r (phase_of t.client ≡ Running) → OnOk r (RunsNext c t.client)
 runs_where hs turns (Ok u) c ys s t taken does there = runs_next hs ys c s.client t.client taken does.commands does.goes.client there
 runs_where hs turns (Err e) c ys s t taken does there = there
 
 -- a reserve that answers Ok leaves the next block running
-pub reserve_runs : (x : Command) (hs : List HandlerId) (turns : ℕ) (r : Result (Unit {0}) DriverError) (s t u : Seen) → x ≡ client.Reserve hs
+pub reserve_runs : (x : Command) (hs : List HandlerId) (turns : ℕ) (r : Result (Unit {0}) DriverError) (s t u : Seen) → x ≡ Reserve hs
     → Goes (Gave x ∷ []) s t → Reached Running turns r t u → OnOk r (RunsNext s.client u.client)
 reserve_runs x hs turns r s t u is goes (ys, does, there) =
     runs_where hs turns r s.client ys t u (subst (λ y. client.command s.client y ≡ Ok t.client) is (given_is x s t goes)) does there
 
 query_answers : (h : HandlerId) (q : Request) (r : Result Answer DriverError) (left : ℕ) (xs ys : List Step) (s t u : Seen) → t.client ≡ walk s.client xs
-    → commands_by xs ≡ client.DoQuery h q ∷ []
+    → commands_by xs ≡ DoQuery h q ∷ []
     → (n : ℕ) × (t.client.waits ≡ Some (h, n)) → Does [] left r ys t u → AnswerComes t.client ys h r → QueryAnswers s.client (xs ++ ys) h q r
 query_answers h q (Ok a) left xs ys s t u is asks (n, waits) does (k, there) =
     let asked : t.client.waits ≡ Some (h, k) = accepted_waits ys t.client h k a does.commands there in
@@ -430,38 +431,38 @@ query_answers h q (Ok a) left xs ys s t u is asks (n, waits) does (k, there) =
 query_answers h q (Err e) left xs ys s t u is asks waits does there = tt
 
 pub queried_answered : (h : HandlerId) (q : Request) (left turns : ℕ) (r : Result Answer DriverError) (s t u : Seen)
-    → Logged (client.DoQuery h q) turns (Ok left) s t → Answered h left r t u → Queried h q turns r s u
+    → Logged (DoQuery h q) turns (Ok left) s t → Answered h left r t u → Queried h q turns r s u
 queried_answered h q left turns r s t u (xs, logs) (ys, does, comes) = (
   xs ++ ys,
-  does_on left r (client.DoQuery h q ∷ []) turns left turns xs ys s t u logs.does logs.rest does,
+  does_on left r (DoQuery h q ∷ []) turns left turns xs ys s t u logs.does logs.rest does,
   query_answers h q r left xs ys s t u logs.does.goes.client logs.does.commands (query_waits logs.from t.client h q logs.taken) does comes,
 )
 
-pub queried_not : (h : HandlerId) (q : Request) (turns : ℕ) (e : DriverError) (s t : Seen) → Called {T = Unit {0}} (client.DoQuery h q) turns (Err e) s t
+pub queried_not : (h : HandlerId) (q : Request) (turns : ℕ) (e : DriverError) (s t : Seen) → Called {T = Unit {0}} (DoQuery h q) turns (Err e) s t
     → Queried h q turns (Err e) s t
-queried_not h q turns e s t (xs, does) = (xs, does_err (Unit {0}) Answer (client.DoQuery h q ∷ []) turns e xs s t does, tt)
+queried_not h q turns e s t (xs, does) = (xs, does_err (Unit {0}) Answer (DoQuery h q ∷ []) turns e xs s t does, tt)
 
 -- a call that was logged
-pub called_logged : (x : client.Command) (left turns : ℕ) (s t : Seen) → Logged x turns (Ok left) s t → Called x turns (Ok (tt {0})) s t
+pub called_logged : (x : Command) (left turns : ℕ) (s t : Seen) → Logged x turns (Ok left) s t → Called x turns (Ok (tt {0})) s t
 called_logged x left turns s t (xs, logs) =
     (xs, record { goes = logs.does.goes; commands = logs.does.commands; faults = logs.does.faults; bound = logs.does.bound })
 
 -- a reserve of handlers that are handed over as a list
-pub reserve_reached : (x : Command) (hs : List HandlerId) (n turns : ℕ) (r : Result (Unit {0}) DriverError) (s t u : Seen) → x ≡ client.Reserve hs
+pub reserve_reached : (x : Command) (hs : List HandlerId) (n turns : ℕ) (r : Result (Unit {0}) DriverError) (s t u : Seen) → x ≡ Reserve hs
     → n ≡ turns
-    → Goes (Gave x ∷ []) s t → Reached Running n r t u → Called (client.Reserve hs) turns r s u
+    → Goes (Gave x ∷ []) s t → Reached Running n r t u → Called (Reserve hs) turns r s u
 reserve_reached x hs n turns r s t u is same goes reached =
     subst (λ y. Called y turns r s u) is (subst (λ k. Called x k r s u) same (given_reached x Running n r s t u goes reached))
 
-pub reserve_refused : (x : Command) (hs : List HandlerId) (turns : ℕ) (e : ClientError) (s t : Seen) → x ≡ client.Reserve hs
-    → client.IsRefused (client.command s.client x) e × (t ≡ s) → Called {T = Unit {0}} (client.Reserve hs) turns (Err (Client e)) s t
+pub reserve_refused : (x : Command) (hs : List HandlerId) (turns : ℕ) (e : ClientError) (s t : Seen) → x ≡ Reserve hs
+    → client.IsRefused (client.command s.client x) e × (t ≡ s) → Called {T = Unit {0}} (Reserve hs) turns (Err (Client e)) s t
 reserve_refused x hs turns e s t is (refused, same) =
-    refused_now (client.Reserve hs) turns e s t
+    refused_now (Reserve hs) turns e s t
     (reserve_refuses s.client hs e (subst (λ y. client.IsRefused (client.command s.client y) e) is refused)) same
 
-pub gave_up : (s t : Seen) → Goes (Gave given.GiveUp ∷ []) s t → Called client.GiveUp 0 (Ok (tt {0})) s t
+pub gave_up : (s t : Seen) → Goes (Gave given.GiveUp ∷ []) s t → Called GiveUp 0 (Ok (tt {0})) s t
 gave_up s t goes = (Gave given.GiveUp ∷ [], given_does given.GiveUp s t goes)
 
-pub not_given_up : (e : ClientError) (s t : Seen) → client.IsRefused (client.command s.client client.GiveUp) e × (t ≡ s)
-    → Called {T = Unit {0}} client.GiveUp 0 (Err (Client e)) s t
-not_given_up e s t (refused, same) = refused_now client.GiveUp 0 e s t (give_up_refuses s.client e refused) same
+pub not_given_up : (e : ClientError) (s t : Seen) → client.IsRefused (client.command s.client GiveUp) e × (t ≡ s)
+    → Called {T = Unit {0}} GiveUp 0 (Err (Client e)) s t
+not_given_up e s t (refused, same) = refused_now GiveUp 0 e s t (give_up_refuses s.client e refused) same

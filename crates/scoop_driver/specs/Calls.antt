@@ -8,7 +8,9 @@ use Rattle.scoop_client.specs.declared.phase.Phase.TheVariants.{Running}
 use Rattle.scoop_client.specs.declared.error.ClientError.{ClientError}
 use Rattle.scoop_client.specs.declared.error.ClientError.TheVariants.{NotGreeted, NotIdle, NoBlock, Waiting, NotReserved, WindowFull, TooLate, Spent, Reserve as NotReservable, OutOfMemory}
 use Rattle.scoop_client.specs.State.{ClientState, phase_of, block_of}
-use Rattle.scoop_client.specs.Commands.{Command, Outcome, command, next_block, DoQuery}
+use Rattle.scoop_client.specs.declared.command.Command.{Command}
+use Rattle.scoop_client.specs.declared.command.Command.TheVariants.{Query as DoQuery}
+use Rattle.scoop_client.specs.Commands.{Outcome, command, next_block}
 use Rattle.scoop_driver.specs.declared.error.DriverError.{DriverError}
 use Rattle.scoop_driver.specs.declared.error.DriverError.TheVariants.{Client, TurnsOver, LinkFault, ConditionFailed}
 use Rattle.scoop_driver.specs.declared.step.Step.{Step}

@@ -46,13 +46,13 @@ abbrev pub Reached : Phase → ℕ → Result (Unit {0}) DriverError → Seen �
 Reached phase turns r old new = (steps : List Step) × Does [] turns r steps old new × OnOk r (phase_of new.client ≡ phase)
 
 -- the command was the last step, and so many turns are left
-pub record LogsWith (x : client.Command) (turns left : ℕ) (steps : List Step) (old new : Seen) : Type 0 where
+pub record LogsWith (x : Command) (turns left : ℕ) (steps : List Step) (old new : Seen) : Type 0 where
   pub does : Does {T = ℕ} (x ∷ []) turns (Ok left) steps old new
   pub rest : turns_in steps + left ≡ turns
   pub from : ClientState
   pub taken : client.command from x ≡ Ok new.client
 
-abbrev pub Logged : client.Command → ℕ → Result ℕ DriverError → Seen → Seen → Type 0
+abbrev pub Logged : Command → ℕ → Result ℕ DriverError → Seen → Seen → Type 0
 Logged x turns (Ok left) old new = (steps : List Step) × LogsWith x turns left steps old new
 Logged x turns (Err e) old new = Called {T = Unit {0}} x turns (Err e) old new
 

@@ -145,13 +145,13 @@ abbrev pub turns_in : List Step → ℕ
 turns_in [] = 0
 turns_in (s ∷ ss) = turns_at s + turns_in ss
 
-abbrev pub command_at : Step → List client.Command
+abbrev pub command_at : Step → List Command
 command_at (Gave x) = x ∷ []
 command_at (Turned got) = []
 command_at (Broke place) = []
 
 -- the commands among the steps, in order
-abbrev pub commands_by : List Step → List client.Command
+abbrev pub commands_by : List Step → List Command
 commands_by [] = []
 commands_by (s ∷ ss) = command_at s ++ commands_by ss
 

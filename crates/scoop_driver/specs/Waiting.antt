@@ -7,7 +7,8 @@ use Rattle.scoop_message.specs.declared.request.Request.{Request}
 use Rattle.scoop_reserve.specs.Handlers.{has}
 use Rattle.scoop_client.specs.declared.phase.Phase.TheVariants.{Idle}
 use Rattle.scoop_client.specs.State.{ClientState, phase_of}
-use Rattle.scoop_client.specs.Commands.{Command, Reserve, DoCall, DoQuery, DoEnd}
+use Rattle.scoop_client.specs.declared.command.Command.{Command}
+use Rattle.scoop_client.specs.declared.command.Command.TheVariants.{Reserve, Call as DoCall, Query as DoQuery, End as DoEnd}
 use Rattle.scoop_driver.specs.declared.wait.Condition.{Condition}
 use Rattle.scoop_driver.specs.declared.error.DriverError.{DriverError}
 use Rattle.scoop_driver.specs.declared.error.DriverError.TheVariants.{Client, TurnsOver, LinkFault, ConditionFailed}

@@ -1,9 +1,10 @@
 //! A client over its link.
 
-ghost use Rattle.std.specs.Prelude.{◌≡◌, OnOk};
+ghost use Rattle.std.specs.Prelude.{◌≡◌, ◌≤◌, length, OnOk};
+ghost use Rattle.scoop_message.specs.declared.limits.TheConstants.{MAX_BLOCK_HANDLERS};
 ghost use Rattle.scoop_client.specs.Due.{due};
 ghost use Rattle.scoop_client.specs.State.{phase_of};
-ghost use Rattle.scoop_client.specs.Commands.{Reserve, DoCall, DoEnd, GiveUp as DoGiveUp};
+ghost use Rattle.scoop_client.specs.declared.command.Command.TheVariants.{Reserve, Call as DoCall, End as DoEnd, GiveUp as DoGiveUp};
 ghost use Rattle.scoop_client.specs.declared.phase.Phase.TheVariants.{Idle as AtIdle};
 ghost use Rattle.scoop_driver.specs.State.{state_of};
 ghost use Rattle.scoop_driver.specs.Turning.{TakesTurn};
@@ -17,6 +18,17 @@ use scoop_link::Link;
 use scoop_message::{Answer, HandlerId, Message, Request};
 use std::alloc::{Allocator, Global};
 use std::marker::Model;
+
+// The handlers of a block. A command may name more than a client takes.
+fn list_of(handlers: &[HandlerId]) -> HandlerList
+    requires { length handlers.now ≤ MAX_BLOCK_HANDLERS }
+    ensures { result ≡ handlers.now }
+{
+    let Ok(list) = HandlerList::of(handlers) else {
+        unreachable!()
+    };
+    list
+}
 
 /// A client over its link. Each of its calls takes at most so many turns, in which the client sends all
 /// that is due and receives once. After `TurnsOver`, `LinkFault` or a refusal that follows turns the client
@@ -119,10 +131,7 @@ impl<L: Link, D: Diary<A>, A: Allocator + Clone> Driver<L, D, A> {
             Ok(()) => {}
             Err(error) => return Err(DriverError::Client(error)),
         }
-        let Ok(handlers) = HandlerList::of(handlers) else {
-            unreachable!()
-        };
-        match self.give(&Command::Reserve(handlers)) {
+        match self.give(&Command::Reserve(list_of(handlers))) {
             Ok(()) => self.turns_until(Phase::Running, turns),
             Err(error) => Err(DriverError::Client(error)),
         }

@@ -21,6 +21,8 @@ use Rattle.scoop_client.specs.declared.phase.ClientNote.{ClientNote}
 use Rattle.scoop_client.specs.Window.{acknowledged, all_over, at_window}
 use Rattle.scoop_client.specs.State.{ClientState, idle, with_windows, with_reservation}
 use Rattle.scoop_client.specs.Hearing.{after_step, stepped, up_to}
+use Rattle.scoop_client.specs.declared.command.Command.{Command}
+use Rattle.scoop_client.specs.declared.command.Command.TheVariants.{Reserve, Call as DoCall, Query as DoQuery, End as DoEnd, GiveUp}
 use Rattle.scoop_client.specs.Commands as client
 use Rattle.scoop_client.specs.Rows.{HeardRow, passed_over, is_welcomed, takes_step, is_acknowledged, is_accepted, ReserveRow, begins_block, LogRow, is_logged, EndRow, ends_block, GiveUpRow, gives_up}
 use Rattle.scoop_client.proofs.CommandRows.{command_row}
@@ -136,9 +138,9 @@ module _ (G : HandlerId → Block → Type 0) (c : ClientState) (i : (r : Reserv
         made (with_reservation c s) e (λ y is. subst (HasLocks G) (same_Some s y is) (given_locks r s r.stage given))
     give_up_locks q r e = absurd (cc)
 
-    pub command_locks : (x : client.Command) → client.command c x ≡ Ok d → AllLock d
-    command_locks (client.Reserve hs) e = reserve_locks hs _ (command_row c (client.Reserve hs)) e
-    command_locks (client.DoCall h r) e = log_locks h _ _ (command_row c (client.DoCall h r)) e
-    command_locks (client.DoQuery h r) e = log_locks h _ _ (command_row c (client.DoQuery h r)) e
-    command_locks client.DoEnd e = end_locks _ (command_row c client.DoEnd) e
-    command_locks client.GiveUp e = give_up_locks _ (command_row c client.GiveUp) e
+    pub command_locks : (x : Command) → client.command c x ≡ Ok d → AllLock d
+    command_locks (Reserve hs) e = reserve_locks hs _ (command_row c (Reserve hs)) e
+    command_locks (DoCall h r) e = log_locks h _ _ (command_row c (DoCall h r)) e
+    command_locks (DoQuery h r) e = log_locks h _ _ (command_row c (DoQuery h r)) e
+    command_locks DoEnd e = end_locks _ (command_row c DoEnd) e
+    command_locks GiveUp e = give_up_locks _ (command_row c GiveUp) e

@@ -1,7 +1,8 @@
 //! What is next.
 
 ghost use Rattle.std.specs.Prelude.{◌≡◌, ◌↔◌, None, IfOk, map};
-ghost use Rattle.scoop_client.specs.Commands.{DoEnd, command};
+ghost use Rattle.scoop_client.specs.declared.command.Command.TheVariants.{End as DoEnd};
+ghost use Rattle.scoop_client.specs.Commands.{command};
 ghost use Rattle.std.specs.Result.{is_ok};
 ghost use Rattle.scoop_calm.specs.Settling.{Calm};
 ghost use Rattle.scoop_calm.specs.Next.{next_of, next_ask, next_end};

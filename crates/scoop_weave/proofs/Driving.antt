@@ -7,6 +7,7 @@ use Rattle.scoop_message.specs.declared.name.HandlerId.{HandlerId}
 use Rattle.scoop_message.specs.declared.message.Message.{Message}
 use Rattle.scoop_client.specs.State.{ClientState}
 use Rattle.scoop_client.specs.Due.{due}
+use Rattle.scoop_client.specs.declared.command.Command.{Command}
 use Rattle.scoop_client.specs.Commands as client
 use Rattle.scoop_model.specs.declared.event.Event.TheVariants.{Do, Tick, ClientRestart}
 use Rattle.scoop_model.specs.declared.note.WorldNote.TheVariants as note
@@ -24,7 +25,7 @@ use Rattle.scoop_weave.proofs.Worlds.{same_world, site_there, party_there, sites
 
 -- ---- a command
 
-module _ (past : List LocalMove) (v : System) (c : ClientId) (x : client.Command) (d : LocalClient) (new : ClientState) (here : client_in c v ≡ Some d)
+module _ (past : List LocalMove) (v : System) (c : ClientId) (x : Command) (d : LocalClient) (new : ClientState) (here : client_in c v ≡ Some d)
     (taken : client.command d.client x ≡ Ok new) where
   abbrev move : LocalMove
   move = Commanded c x (newest_block new)
@@ -61,7 +62,7 @@ module _ (past : List LocalMove) (v : System) (c : ClientId) (x : client.Command
       (Do c x) note.Done is takes_world
 
 pub takes_brings :
-    (past : List LocalMove) (v u : System) (c : ClientId) (x : client.Command) (b : Block) → AtClient c (Commanded c x b) v u
+    (past : List LocalMove) (v u : System) (c : ClientId) (x : Command) (b : Block) → AtClient c (Commanded c x b) v u
     → Brings (world_by past v) (event_in (sent_by past) (Commanded c x b)) (world_by (past ++ Commanded c x b ∷ []) u)
 takes_brings past v u c x b r =
     let w : World = world_by past v in

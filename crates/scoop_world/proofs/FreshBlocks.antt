@@ -5,6 +5,7 @@ use Rattle.std.specs.Option.{option_map}
 use Rattle.scoop_message.specs.declared.name.Block.{Block}
 use Rattle.scoop_message.specs.declared.name.HandlerId.{HandlerId}
 use Rattle.scoop_client.specs.State.{ClientState}
+use Rattle.scoop_client.specs.declared.command.Command.TheVariants.{Reserve}
 use Rattle.scoop_client.specs.Commands as client
 use Rattle.scoop_client.specs.Rows.{ReserveRow, begins_block}
 use Rattle.scoop_client.proofs.CommandRows.{command_row}
@@ -30,12 +31,12 @@ begun_block : (c d : ClientState) (hs : List HandlerId) (o : client.Outcome) →
 begun_block c d hs o (begins_block r idle room begins) is = ap newest_block (sym (ok_is (client.with_block c hs r) d is))
 begun_block c d hs o r is = absurd (cc)
 
-pub begun_is : (c d : ClientState) (hs : List HandlerId) → client.command c (client.Reserve hs) ≡ Ok d → newest_block d ≡ client.next_block c
-begun_is c d hs is = begun_block c d hs _ (command_row c (client.Reserve hs)) is
+pub begun_is : (c d : ClientState) (hs : List HandlerId) → client.command c (Reserve hs) ≡ Ok d → newest_block d ≡ client.next_block c
+begun_is c d hs is = begun_block c d hs _ (command_row c (Reserve hs)) is
 
 pub begun_is_new :
     (v : World) (at : ℕ) (p : Party) (hs : List HandlerId) (d : ClientState) → IsReached v → slice_get v.parties at ≡ Some p
-    → client.command p.client (client.Reserve hs) ≡ Ok d → has_log (newest_block d) v.logs ≡ false
+    → client.command p.client (Reserve hs) ≡ Ok d → has_log (newest_block d) v.logs ≡ false
 begun_is_new v at p hs d reached there is =
     let fits : PartyFits v p = all_at (PartyFits v) v.parties at p there (reached_ordered v reached).parties in
     let b : Block = client.next_block p.client in

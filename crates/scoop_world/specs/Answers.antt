@@ -3,7 +3,8 @@ use Rattle.std.specs.Prelude.{◌≡◌, ℕ, ◌-◌, ◌^◌, ◌<◌, ◌==�
 use Rattle.scoop_message.specs.declared.name.HandlerId.{HandlerId}
 use Rattle.scoop_message.specs.declared.request.Entry.{Entry}
 use Rattle.scoop_client.specs.State.{ClientState, phase_of}
-use Rattle.scoop_client.specs.Commands.{Outcome, command, log, DoEnd}
+use Rattle.scoop_client.specs.declared.command.Command.TheVariants.{End as DoEnd}
+use Rattle.scoop_client.specs.Commands.{Outcome, command, log}
 use Rattle.scoop_client.specs.declared.command.Command.{Command}
 use Rattle.scoop_model.specs.declared.event.Event.{Event}
 use Rattle.scoop_model.specs.declared.note.WorldNote.{WorldNote}

@@ -23,7 +23,9 @@ use Rattle.scoop_client.specs.declared.phase.Phase.TheVariants.{Greeting, Idle}
 use Rattle.scoop_client.specs.State.{ClientState, idle, phase_of, phase_of_block, with_windows, with_reservation}
 use Rattle.scoop_client.specs.Window.{acknowledged, all_over, at_window, first_entries}
 use Rattle.scoop_client.specs.Hearing.{after_step, settled, stepped, up_to}
-use Rattle.scoop_client.specs.Commands.{Command, Outcome, Reserve, DoCall, DoQuery, DoEnd, GiveUp, command, next_block, with_block}
+use Rattle.scoop_client.specs.declared.command.Command.{Command}
+use Rattle.scoop_client.specs.declared.command.Command.TheVariants.{Reserve, Call as DoCall, Query as DoQuery, End as DoEnd, GiveUp}
+use Rattle.scoop_client.specs.Commands.{Outcome, command, next_block, with_block}
 use Rattle.scoop_client.specs.Rows.{DueRow, owes_nothing, greets, reserves, logs, HeardRow, passed_over, is_welcomed, takes_step, is_acknowledged, is_accepted, ReserveRow, begins_block, LogRow, is_logged, EndRow, ends_block, GiveUpRow, gives_up}
 use Rattle.scoop_client.proofs.CommandRows.{command_row}
 use Rattle.scoop_model.specs.World.{World, Site}

@@ -428,12 +428,12 @@ module _
         (λ y held. subst (IsFrom w p.client) (same_Some s y held) (given_from r s r.stage has_one refl given))
     give_up_from q r e = absurd (cc)
 
-    pub command_from : (x : client.Command) → client.command p.client x ≡ Ok d → From
-    command_from (client.Reserve hs) e = reserve_from hs _ (command_row p.client (client.Reserve hs)) e
-    command_from (client.DoCall h r) e = log_from h _ _ (command_row p.client (client.DoCall h r)) e
-    command_from (client.DoQuery h r) e = log_from h _ _ (command_row p.client (client.DoQuery h r)) e
-    command_from client.DoEnd e = end_from _ (command_row p.client client.DoEnd) e
-    command_from client.GiveUp e = give_up_from _ (command_row p.client client.GiveUp) e
+    pub command_from : (x : Command) → client.command p.client x ≡ Ok d → From
+    command_from (Reserve hs) e = reserve_from hs _ (command_row p.client (Reserve hs)) e
+    command_from (Call h r) e = log_from h _ _ (command_row p.client (Call h r)) e
+    command_from (Query h r) e = log_from h _ _ (command_row p.client (Query h r)) e
+    command_from End e = end_from _ (command_row p.client End) e
+    command_from GiveUp e = give_up_from _ (command_row p.client GiveUp) e
 
     -- ---- what a command logs
 

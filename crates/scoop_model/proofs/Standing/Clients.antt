@@ -16,6 +16,7 @@ use Rattle.scoop_client.specs.declared.phase.ClientNote.{ClientNote}
 use Rattle.scoop_client.specs.Window.{first_entries}
 use Rattle.scoop_client.specs.State.{ClientState}
 use Rattle.scoop_client.specs.Due.{due}
+use Rattle.scoop_client.specs.declared.command.Command.{Command}
 use Rattle.scoop_client.specs.Commands as client
 use Rattle.scoop_client.specs.Rows.{DueRow, owes_nothing, greets, reserves, logs, HeardRow}
 use Rattle.scoop_client.proofs.DueRows.{due_row}
@@ -137,5 +138,5 @@ module _
       heard_locks (StandsAt w) p.client i m d note heard (λ r held is h same. told_stands r held is h (subst (LockedStands w) same t))
 
   pub command_stands :
-      (d : ClientState) (x : client.Command) → client.command p.client x ≡ Ok d → (s : ReservationState) → d.reservation ≡ Some s → ReservationStands w s
+      (d : ClientState) (x : Command) → client.command p.client x ≡ Ok d → (s : ReservationState) → d.reservation ≡ Some s → ReservationStands w s
   command_stands d x e = command_locks (StandsAt w) p.client i d x e

@@ -4,5 +4,5 @@ use Rattle.scoop_model.proofs.Same.{event_decides}
 use Rattle.scoop_model.proofs.law.same_event.Goals as goal
 
 pub returns : goal.returns
-returns c = let P : Bool → Type 0 = λ t. Decides t (c.args.left.now ≡ c.args.right.now) in
-    subst P (sym c.eq.ensures) (event_decides c.args.left.now c.args.right.now)
+returns c = let P : Bool → Type 0 = λ t. Decides t (c.args.event.now ≡ c.args.other.now) in
+    subst P (sym c.eq.ensures) (event_decides c.args.event.now c.args.other.now)

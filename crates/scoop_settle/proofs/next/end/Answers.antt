@@ -3,7 +3,8 @@ use Rattle.std.specs.Option.{option_map}
 use Rattle.std.specs.Result.{is_ok}
 use Rattle.scoop_message.specs.declared.name.ClientId.{ClientId}
 use Rattle.scoop_client.specs.State.{ClientState}
-use Rattle.scoop_client.specs.Commands.{command, DoEnd}
+use Rattle.scoop_client.specs.declared.command.Command.TheVariants.{End as DoEnd}
+use Rattle.scoop_client.specs.Commands.{command}
 use Rattle.scoop_model.specs.World.{Party, id_of}
 use Rattle.scoop_calm.specs.declared.next.Next.TheVariants as next
 use Rattle.scoop_calm.specs.Next.{can_end}

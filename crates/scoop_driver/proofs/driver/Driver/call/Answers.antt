@@ -1,4 +1,4 @@
-use Rattle.scoop_client.specs.Commands.{DoCall}
+use Rattle.scoop_client.specs.declared.command.Command.TheVariants.{Call as DoCall}
 use Rattle.scoop_driver.proofs.Calling.{called_logged}
 use Rattle.scoop_driver.proofs.driver.Driver.call.Goals as goal
 

@@ -1,4 +1,4 @@
-use Rattle.scoop_client.specs.Commands.{DoEnd}
+use Rattle.scoop_client.specs.declared.command.Command.TheVariants.{End as DoEnd}
 use Rattle.scoop_driver.proofs.Calling.{logged_reached, reached_there}
 use Rattle.scoop_driver.proofs.driver.Driver.end.Goals as goal
 

@@ -1,6 +1,7 @@
 use Rattle.std.proofs.Common.{◌≡◌, ap, subst, refl, Err}
 use Rattle.scoop_client.specs.State.{ClientState}
-use Rattle.scoop_client.specs.Commands.{Reserve, command}
+use Rattle.scoop_client.specs.declared.command.Command.TheVariants.{Reserve}
+use Rattle.scoop_client.specs.Commands.{command}
 use Rattle.scoop_client.specs.declared.command.Command.TheVariants as given
 use Rattle.scoop_driver.specs.State.{DriverState}
 use Rattle.scoop_driver.proofs.Refusals.{reserve_is_refused}
@@ -18,15 +19,15 @@ returns-in-Err-clause-does g c =
 pub returns-in-Ok-give-clause-does : goal.returns-in-Ok-give-clause-does
 returns-in-Ok-give-clause-does g c =
     let turns : c.self.inside.turns ≡ c.args.self.now.turns = ap (λ (d : DriverState _ _). d.turns) c.self.view_is in
-    reserve_reached (given.Reserve c.of.result) c.args.handlers.now c.self.inside.turns c.args.self.now.turns c.turns_until.result _ _ _
-    (ap Reserve c.of.ensures) turns c.in-Ok-give.ensures.does c.turns_until.ensures.does
+    reserve_reached (given.Reserve c.list_of.result) c.args.handlers.now c.self.inside.turns c.args.self.now.turns c.turns_until.result _ _ _
+    (ap Reserve c.list_of.ensures) turns c.in-Ok-give.ensures.does c.turns_until.ensures.does
 
 pub returns-in-Ok-give-clause-runs : goal.returns-in-Ok-give-clause-runs
 returns-in-Ok-give-clause-runs g c =
-    reserve_runs (given.Reserve c.of.result) c.args.handlers.now c.self.inside.turns c.turns_until.result _ _ _
-    (ap Reserve c.of.ensures) c.in-Ok-give.ensures.does c.turns_until.ensures.does
+    reserve_runs (given.Reserve c.list_of.result) c.args.handlers.now c.self.inside.turns c.turns_until.result _ _ _
+    (ap Reserve c.list_of.ensures) c.in-Ok-give.ensures.does c.turns_until.ensures.does
 
 pub returns-in-Err-give-clause-does : goal.returns-in-Err-give-clause-does
 returns-in-Err-give-clause-does g c =
-    reserve_refused (given.Reserve c.of.result) c.args.handlers.now c.args.self.now.turns c.in-Err-give.error _ _
-    (ap Reserve c.of.ensures) c.in-Err-give.ensures.does
+    reserve_refused (given.Reserve c.list_of.result) c.args.handlers.now c.args.self.now.turns c.in-Err-give.error _ _
+    (ap Reserve c.list_of.ensures) c.in-Err-give.ensures.does

@@ -1,5 +1,6 @@
 use Rattle.scoop_client.specs.State.{phase_of}
-use Rattle.scoop_client.specs.Commands.{command, log, DoEnd}
+use Rattle.scoop_client.specs.declared.command.Command.TheVariants.{End as DoEnd}
+use Rattle.scoop_client.specs.Commands.{command, log}
 use Rattle.scoop_world.proofs.party.Party.no_room_to_log.Goals as goal
 
 pub returns-in-Some : goal.returns-in-Some

@@ -1,6 +1,7 @@
 use Rattle.std.proofs.Common.{List, subst}
 use Rattle.scoop_message.specs.declared.name.HandlerId.{HandlerId}
-use Rattle.scoop_client.specs.Commands.{command, Reserve}
+use Rattle.scoop_client.specs.declared.command.Command.TheVariants.{Reserve}
+use Rattle.scoop_client.specs.Commands.{command}
 use Rattle.scoop_world.specs.Answers.{IsRefusal}
 use Rattle.scoop_world.proofs.party.Party.no_room_to_reserve.Goals as goal
 

@@ -1,7 +1,8 @@
 use Rattle.std.proofs.Common.{List, ap, subst}
 use Rattle.scoop_message.specs.declared.name.HandlerId.{HandlerId}
 use Rattle.scoop_client.specs.State.{ClientState}
-use Rattle.scoop_client.specs.Commands.{command, Reserve}
+use Rattle.scoop_client.specs.declared.command.Command.TheVariants.{Reserve}
+use Rattle.scoop_client.specs.Commands.{command}
 use Rattle.scoop_world.specs.Answers.{IsRefusal}
 use Rattle.scoop_world.specs.Kept.{party_kept}
 use Rattle.scoop_world.proofs.party.Party.reserve.Goals as goal
