@@ -61,7 +61,7 @@ pub record Around (w : World) (c : ClientState) (m : Message) : Type 0 where
 -- ---- the reservation stays, and windows too
 
 module _ (w : World) (c : ClientState) (f : PartyAttends w c) where
-  same_reservation : (d : ClientState) → d.reservation ≡ c.reservation → PartyAttends w d → Follows w c d
+  pub same_reservation : (d : ClientState) → d.reservation ≡ c.reservation → PartyAttends w d → Follows w c d
   same_reservation d same g = record {
     goes = λ h b a. inr (record { reservation = a.reservation; held = same ∙ a.held; block = a.block; asked = a.asked });
     attends = g;

@@ -25,7 +25,7 @@ use Rattle.scoop_model.proofs.Order.Commands.{started_fresh}
 use Rattle.scoop_model.proofs.Logging.Windows.{fresh_found}
 use Rattle.scoop_calm.proofs.Handlers.{in_asked}
 use Rattle.scoop_calm.proofs.Attending.{AskedAt, ClientAttends, PartyAttends}
-use Rattle.scoop_calm.proofs.AttendingClients.{Follows, log_attends, end_attends}
+use Rattle.scoop_calm.proofs.AttendingClients.{Follows, same_reservation, log_attends, end_attends}
 
 -- an idle client has no block
 phase_busy : (stage : Stage) (t : Bool) → phase_at stage t ≡ Idle → ⊥
@@ -42,9 +42,6 @@ idle_none c r e held =
     (λ greeting f. cc) e
 
 module _ (w : World) (c : ClientState) (f : PartyAttends w c) where
-  keeps : (d : ClientState) → d.reservation ≡ c.reservation → PartyAttends w d → Follows w c d
-  keeps d same g = record { goes = λ h b a. inr (record { reservation = a.reservation; held = same ∙ a.held; block = a.block; asked = a.asked }); attends = g }
-
   reserve_follows : (d : ClientState) (hs : List HandlerId) (o : Outcome) → ReserveRow c hs o → o ≡ Ok d → Follows w c d
   reserve_follows d hs o (begins_block r at_idle room begins) e =
       subst (Follows w c) (ok_is (with_block c hs r) d e) (record {
@@ -61,12 +58,12 @@ module _ (w : World) (c : ClientState) (f : PartyAttends w c) where
 
   log_follows : (d : ClientState) (h : HandlerId) (n : Entry) (o : Outcome) → LogRow c h n o → o ≡ Ok d → Follows w c d
   log_follows d h n o (is_logged l running free window room more) e =
-      subst (Follows w c) (ok_is _ d e) (keeps (with_windows c (at_window h (with_entry n) c.windows) _) refl (log_attends w c f h n _))
+      subst (Follows w c) (ok_is _ d e) (same_reservation w c f (with_windows c (at_window h (with_entry n) c.windows) _) refl (log_attends w c f h n _))
   log_follows d h n o row e = absurd (cc)
 
   end_follows : (d : ClientState) (o : Outcome) → EndRow c o → o ≡ Ok d → Follows w c d
   end_follows d o (ends_block running free room) e = subst (Follows w c) (ok_is (with_windows c (map with_end c.windows) None) d e)
-      (keeps (with_windows c (map with_end c.windows) None) refl (end_attends w c f))
+      (same_reservation w c f (with_windows c (map with_end c.windows) None) refl (end_attends w c f))
   end_follows d o row e = absurd (cc)
 
   or_true : (t u : Bool) → (t ≡ false) ⊎ (u ≡ true) → (not t || u) ≡ true

@@ -90,9 +90,9 @@ lower_or_same : (h y : HandlerId) → h.0 ≤ y.0 → (h ≡ y → ⊥) → h.0 
 lower_or_same h y le apart =
     by_test (λ t. (h.0 == y.0) ≡ t → h.0 < y.0) (h.0 == y.0) (λ _ e. absurd (apart ((handler_decides h y).0 e))) (λ _ e. grind (arith, nat_tests)) refl
 
-step_reserves : (known : List HandlerId) (r s : ReservationState) (m : Message) (st : Step) → HeardRow r m s st → Reserves known r → Reserves known s
-step_reserves known r s m st (passed_over n) f = f
-step_reserves known r s m st (one_is_locked h at low more) f = record {
+pub heard_reserves : (known : List HandlerId) (r s : ReservationState) (m : Message) (st : Step) → HeardRow r m s st → Reserves known r → Reserves known s
+heard_reserves known r s m st (passed_over n) f = f
+heard_reserves known r s m st (one_is_locked h at low more) f = record {
   known_all = f.known_all;
   some = f.some;
   apart = f.apart;
@@ -108,7 +108,7 @@ step_reserves known r s m st (one_is_locked h at low more) f = record {
       (λ e. true≢false (sym (subst (λ z. has (without h r.left) z ≡ true) (sym e) there) ∙ gone_without h r.left))))
       (λ _ is. f.order at x y in_set is y_left) refl;
 }
-step_reserves known r s m st (all_are_locked h at low none_left) f = record {
+heard_reserves known r s m st (all_are_locked h at low none_left) f = record {
   known_all = f.known_all;
   some = f.some;
   apart = f.apart;
@@ -116,8 +116,8 @@ step_reserves known r s m st (all_are_locked h at low none_left) f = record {
   stays = λ _. f.some;
   order = λ is x y in_set gone there. absurd (cc);
 }
-step_reserves known r s m st (is_busy h at low) f = f
-step_reserves known r s m st (one_is_opened h at is more) f = record {
+heard_reserves known r s m st (is_busy h at low) f = f
+heard_reserves known r s m st (one_is_opened h at is more) f = record {
   known_all = f.known_all;
   some = f.some;
   apart = f.apart;
@@ -125,7 +125,7 @@ step_reserves known r s m st (one_is_opened h at is more) f = record {
   stays = λ _. more;
   order = λ is x y in_set gone there. absurd (cc);
 }
-step_reserves known r s m st (all_are_opened h at is none_left) f = record {
+heard_reserves known r s m st (all_are_opened h at is none_left) f = record {
   known_all = f.known_all;
   some = f.some;
   apart = f.apart;
@@ -133,7 +133,7 @@ step_reserves known r s m st (all_are_opened h at is none_left) f = record {
   stays = λ _. f.some;
   order = λ is x y in_set gone there. absurd (cc);
 }
-step_reserves known r s m st (is_unlocked h at is) f = record {
+heard_reserves known r s m st (is_unlocked h at is) f = record {
   known_all = f.known_all;
   some = f.some;
   apart = f.apart;
@@ -141,7 +141,7 @@ step_reserves known r s m st (is_unlocked h at is) f = record {
   stays = λ out. absurd (off_unlocking out);
   order = λ is x y in_set gone there. absurd (cc);
 }
-step_reserves known r s m st (is_given_back h at is) f = record {
+heard_reserves known r s m st (is_given_back h at is) f = record {
   known_all = f.known_all;
   some = f.some;
   apart = f.apart;
@@ -149,9 +149,6 @@ step_reserves known r s m st (is_given_back h at is) f = record {
   stays = λ out. absurd (off_giving out);
   order = λ is x y in_set gone there. absurd (cc);
 }
-
-pub heard_reserves : (known : List HandlerId) (r s : ReservationState) (m : Message) (st : Step) → HeardRow r m s st → Reserves known r → Reserves known s
-heard_reserves = step_reserves
 
 -- ---- it is given up
 

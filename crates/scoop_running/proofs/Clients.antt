@@ -1,12 +1,16 @@
--- A driver's steps lead its client as moves of its own.
-use Rattle.std.proofs.Common.{◌≡◌, ℕ, ◌+◌, Bool, true, false, ◌||◌, List, [], ◌∷◌, ◌++◌, take, drop, Option, Some, None, Ok, Err, refl, sym, ap, ◌∙◌, subst, append-nil, append_assoc}
+-- A driver's steps lead its client as moves of its own. A command is one move; a turn is a send to each handler and, where a message
+-- came, that it is heard; a turn that broke off is its sends up to there. Between two drivers the client restarts. All these moves
+-- are the client's: they name it, its number stays, and they are no node's.
+use Rattle.std.proofs.Common.{◌≡◌, ℕ, ◌+◌, true, false, ◌||◌, List, [], ◌∷◌, ◌++◌, take, drop, Option, Some, None, Ok, Err, refl, sym, ap, ◌∙◌, subst, append-nil, append_assoc}
 use Rattle.std.specs.List.{AllByRecursion}
 use Rattle.std.proofs.lemmas.List.{take-append-drop}
+use Rattle.std.proofs.Math.Bool.{or-true}
 use Rattle.scoop_message.specs.declared.name.ClientId.{ClientId}
 use Rattle.scoop_message.specs.declared.name.HandlerId.{HandlerId}
 use Rattle.scoop_message.specs.declared.message.Message.{Message}
 use Rattle.scoop_message.specs.Message.{same_handler, same_client}
 use Rattle.scoop_message.proofs.Same.{handler_decides}
+use Rattle.scoop_handler.proofs.Basics.{all_append}
 use Rattle.scoop_reserve.specs.Handlers.{has}
 use Rattle.scoop_client.specs.State.{ClientState}
 use Rattle.scoop_client.specs.Commands as client
@@ -21,10 +25,6 @@ use Rattle.scoop_weave.proofs.Lists.{itself}
 use Rattle.scoop_weave.proofs.Woven.{client_kept}
 use Rattle.scoop_running.specs.Clients.{sends_to, hears, moves_at, moves_by, driven, moves_of, Lives}
 
-pub all_both : {A : Type 0} (P : A → Type 0) (xs ys : List A) → AllByRecursion P xs → AllByRecursion P ys → AllByRecursion P (xs ++ ys)
-all_both P [] ys a b = b
-all_both P (x ∷ xs) ys a b = (a.0, all_both P xs ys a.1 b)
-
 -- ---- a list of moves
 
 runs_both : (c d e : LocalClient) (ms ns : List LocalMove) → ClientRuns c ms d → ClientRuns d ns e → ClientRuns c (ms ++ ns) e
@@ -37,13 +37,9 @@ runs_kept c d (m ∷ ms) r = runs_kept r.0 d ms r.2 ∙ client_kept m [] c r.0 r
 
 -- ---- one step
 
-or_true : (b : Bool) → (b || true) ≡ true
-or_true true = refl
-or_true false = refl
-
 stands : (ys : List HandlerId) (x : HandlerId) (zs : List HandlerId) → has (ys ++ x ∷ zs) x ≡ true
 stands [] x zs = ap (λ t. t || has zs x) (itself same_handler handler_decides x)
-stands (y ∷ ys) x zs = ap (λ t. same_handler y x || t) (stands ys x zs) ∙ or_true (same_handler y x)
+stands (y ∷ ys) x zs = ap (λ t. same_handler y x || t) (stands ys x zs) ∙ or-true (same_handler y x)
 
 all_in : (ys xs zs : List HandlerId) → AllByRecursion (λ h. has (ys ++ (xs ++ zs)) h ≡ true) xs
 all_in ys [] zs = tt
@@ -108,7 +104,7 @@ hears_own c (Some m) = (refl, tt)
 
 step_own : (c : ClientState) (s : Step) → AllByRecursion (IsClients c.id) (moves_at c s)
 step_own c (Gave x) = (refl, tt)
-step_own c (Turned got) = all_both (IsClients c.id) (sends_to c c.handlers) (hears c (message_in got)) (sends_own c c.handlers) (hears_own c (message_in got))
+step_own c (Turned got) = all_append (IsClients c.id) (sends_to c c.handlers) (hears c (message_in got)) (sends_own c c.handlers) (hears_own c (message_in got))
 step_own c (Broke place) = sends_own c (take (place + 1) c.handlers)
 
 steps_own : (c : LocalClient) (ss : List Step) → AllCan c.client ss → AllByRecursion (IsClients (id_in c)) (moves_by c.client ss)
@@ -116,7 +112,7 @@ steps_own c [] can = tt
 steps_own c (s ∷ ss) can =
     let d : LocalClient = after_step (after c.client s) c in
     let kept : id_in d ≡ id_in c = runs_kept c d (moves_at c.client s) (step_runs c s can.0) in
-    all_both (IsClients (id_in c)) (moves_at c.client s) (moves_by d.client ss) (step_own c.client s)
+    all_append (IsClients (id_in c)) (moves_at c.client s) (moves_by d.client ss) (step_own c.client s)
     (all_of (id_in d) (id_in c) (moves_by d.client ss) kept (steps_own d ss can.1))
 
 -- ---- all drivers
@@ -139,7 +135,7 @@ lives_run c first (steps ∷ more) now life =
     record {
       runs = runs_both c d now (moves_by c.client first) (ClientRestarted (id_in c) ∷ moves_of e steps more) here again;
       own =
-          all_both (IsClients (id_in c)) (moves_by c.client first) (ClientRestarted (id_in c) ∷ moves_of e steps more) (steps_own c first life.0)
+          all_append (IsClients (id_in c)) (moves_by c.client first) (ClientRestarted (id_in c) ∷ moves_of e steps more) (steps_own c first life.0)
           (refl, all_of (id_in e) (id_in c) (moves_of e steps more) kept rest.own);
     }
 

@@ -1,4 +1,6 @@
--- A node's histories lead its handlers as moves of its own.
+-- A node's histories lead its handlers as moves of its own. An entry is one move of the handler that it names, and between two
+-- histories the node restarts, by which each handler takes its stored state. All these moves are the node's: whom they name is
+-- among its handlers, whose numbers stay.
 use Rattle.std.proofs.Common.{◌≡◌, ℕ, ◌==◌, true, false, List, [], ◌∷◌, ◌++◌, map, refl, sym, ap, ◌∙◌, subst}
 use Rattle.std.specs.Prelude.{if◌then◌else◌}
 use Rattle.std.specs.List.{AllByRecursion}
@@ -27,7 +29,7 @@ use Rattle.scoop_weave.specs.Nodes.{AtOne, NodeMoves, NodeRuns, is_of}
 use Rattle.scoop_weave.proofs.Lists.{find_through, set_through, found_has}
 use Rattle.scoop_weave.proofs.NodeLists.{AllStored, numbers, node_step, kept_numbers, kept_stored}
 use Rattle.scoop_running.specs.Nodes.{move_of, move_in, moves_of, reopened, Lives, local_of}
-use Rattle.scoop_running.proofs.Clients.{all_both}
+use Rattle.scoop_handler.proofs.Basics.{all_append}
 
 pub number_itself : (n : ℕ) → (n == n) ≡ true
 number_itself n = (Decides-eqb n n).1 refl
@@ -163,7 +165,7 @@ module _ (words : HandlerId → List ℕ) (n : ℕ) where
       record {
         runs = runs_both (all hs) (all last) (all now) (map move_in first) (NodeReopened n ∷ moves_of n es more) here.runs (all us, again, rest.runs);
         own =
-            all_both (λ m. is_of n (numbers (all hs)) m ≡ true) (map move_in first) (NodeReopened n ∷ moves_of n es more) here.own
+            all_append (λ m. is_of n (numbers (all hs)) m ≡ true) (map move_in first) (NodeReopened n ∷ moves_of n es more) here.own
             (number_itself n, owned hs us (moves_of n es more) (names ∙ here.names) rest.own);
         names = rest.names ∙ (names ∙ here.names);
         stored = rest.stored;
