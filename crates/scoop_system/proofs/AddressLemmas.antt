@@ -29,8 +29,9 @@ v4_text : (text : List ℕ) (read : Option ((List ℕ × ℕ) × List ℕ)) (p :
 v4_text text None p is whole = cc
 v4_text text (Some (q, rest)) p is whole = v4_whole text q rest p (length rest == 0) refl is whole
 
-v6_whole : (text : List ℕ) (q : List ℕ × ℕ × ℕ × ℕ) (rest : List ℕ) (p : List ℕ × ℕ × ℕ × ℕ) (b : Bool) → (length rest == 0) ≡ b → read_socket_v6 text ≡ Some (q, rest)
-    → (if b then Some q else None) ≡ Some p → IsSocketV6Text text (record { ip = record { segments = p.0 }; port = p.1; flowinfo = p.2; scope_id = p.3 })
+v6_whole : (text : List ℕ) (q : List ℕ × ℕ × ℕ × ℕ) (rest : List ℕ) (p : List ℕ × ℕ × ℕ × ℕ) (b : Bool) → (length rest == 0) ≡ b
+    → read_socket_v6 text ≡ Some (q, rest) → (if b then Some q else None) ≡ Some p
+    → IsSocketV6Text text (record { ip = record { segments = p.0 }; port = p.1; flowinfo = p.2; scope_id = p.3 })
 v6_whole text q rest p true end is whole =
     let same : q ≡ p = cc in
     let (front, split, written) = read_socket_v6_sound text rest (record { ip = record { segments = q.0 }; port = q.1; flowinfo = q.2; scope_id = q.3 }) is in
