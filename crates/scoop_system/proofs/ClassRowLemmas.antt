@@ -1,23 +1,22 @@
 -- The operations of a class that is read make one.
-use Rattle.std.proofs.Common.{◌≡◌, ℕ, ◌+◌, ◌≤◌, ◌<◌, ◌==◌, ◌^◌, ◌-◌, nat_lt, Bool, true, false, if◌then◌else◌, List, [], ◌∷◌, ◌++◌, length, Option, Some, None, Ok, refl, sym, ap, ◌∙◌, arith, length-append}
+use Rattle.std.proofs.Common.{◌≡◌, ℕ, ◌+◌, ◌≤◌, ◌==◌, ◌^◌, ◌-◌, nat_lt, true, false, List, [], ◌∷◌, ◌++◌, length, Option, Some, None, Ok, refl, ◌∙◌, arith, length-append}
 use Rattle.std.specs.List.{list_all, list_any}
 use Rattle.std.proofs.lemmas.Bool.Decides.{nat_tests}
 use Rattle.std.proofs.lemmas.List.Folds.{list_all-append, list_any-append}
 use Rattle.toml.specs.Data.{Data, get}
-use Rattle.scoop_words.specs.Reading.{◌>>=◌, unless}
 use Rattle.scoop_words.proofs.ReadingLemmas.{bind_ok, unless_ok}
-use Rattle.scoop_message.specs.declared.limits.TheConstants.{MAX_ARGS, MAX_OPS, MAX_WRITES, MAX_WORDS}
+use Rattle.scoop_message.specs.declared.limits.TheConstants.{MAX_ARGS, MAX_OPS, MAX_WRITES}
 use Rattle.scoop_object.specs.declared.term.Term.{Term}
 use Rattle.scoop_object.specs.declared.term.Write.{Write}
 use Rattle.scoop_object.specs.declared.row.OpRow.{OpRow}
-use Rattle.scoop_object.specs.Class.{has_words_below, has_args_below, writes_twice, fault_of, IsClass}
+use Rattle.scoop_object.specs.Class.{has_words_below, has_args_below, writes_twice, fault_of}
 use Rattle.scoop_object.specs.Repeats.{repeats}
 use Rattle.scoop_system.specs.declared.class.OwnOperation.{OwnOperation}
 use Rattle.scoop_system.specs.declared.error.Key.TheVariants as key
 use Rattle.scoop_system.specs.KeyText.{key_text}
 use Rattle.scoop_system.specs.Value.{key_fault, number_at, name_at, list_at}
 use Rattle.scoop_system.specs.Place.{at}
-use Rattle.scoop_system.specs.Terms.{test_at, writes_at, writes_from, answer_at, answer_in, operation_of, operation_keys, number_before, name_before, named_row}
+use Rattle.scoop_system.specs.Terms.{test_at, writes_at, answer_at, answer_in, operation_of, operation_keys, number_before, name_before, named_row}
 use Rattle.scoop_system.specs.Classes.{operation_place, operations_from}
 use Rattle.scoop_system.proofs.RowLemmas.{at_ok, IsTerm, IsTest, AreWrites, term_in-good, test_in-good, writes_from-good, repeats-push, no_fault_no}
 use Rattle.scoop_system.specs.declared.error.Wrong.TheVariants.{Twice}

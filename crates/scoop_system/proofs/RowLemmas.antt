@@ -1,20 +1,18 @@
 -- The operations that are read make a class.
-use Rattle.std.proofs.Common.{◌≡◌, ℕ, ◌+◌, ◌≤◌, ◌==◌, ◌&&◌, ◌||◌, nat_lt, Bool, true, false, if◌then◌else◌, List, [], ◌∷◌, ◌++◌, length, Option, Some, None, Ok, Err, refl, sym, ap, ◌∙◌, arith, length-append}
+use Rattle.std.proofs.Common.{◌≡◌, ℕ, ◌==◌, ◌||◌, nat_lt, Bool, true, false, if◌then◌else◌, List, [], ◌∷◌, ◌++◌, Option, Some, None, Ok, Err, refl, ap, arith}
 use Rattle.std.specs.List.{list_all, list_any}
 use Rattle.std.proofs.lemmas.Bool.Decides.{nat_tests}
 use Rattle.std.proofs.lemmas.List.Folds.{list_all-append, list_any-append}
 use Rattle.toml.specs.Data.{Data, Items, as_str, as_array}
 use Rattle.scoop_words.specs.Number.{decimal_of}
-use Rattle.scoop_words.specs.Reading.{Read, ◌>>=◌, unless}
+use Rattle.scoop_words.specs.Reading.{Read}
 use Rattle.scoop_words.proofs.ReadingLemmas.{bind_ok, unless_ok}
-use Rattle.scoop_message.specs.declared.limits.TheConstants.{MAX_ARGS, MAX_OPS}
+use Rattle.scoop_message.specs.declared.limits.TheConstants.{MAX_ARGS}
 use Rattle.scoop_object.specs.declared.term.Term.{Term}
 use Rattle.scoop_object.specs.declared.term.Term.TheVariants.{Const, Word, Arg}
 use Rattle.scoop_object.specs.declared.term.Write.{Write}
-use Rattle.scoop_object.specs.declared.row.OpRow.{OpRow}
-use Rattle.scoop_object.specs.Class.{is_word_below, is_arg_below, both, write_has_words_below, write_has_args_below, has_words_below, has_args_below, writes_twice, fault_of}
+use Rattle.scoop_object.specs.Class.{is_word_below, is_arg_below, both, write_has_words_below, write_has_args_below}
 use Rattle.scoop_object.specs.Repeats.{repeats}
-use Rattle.scoop_system.specs.declared.class.OwnOperation.{OwnOperation}
 use Rattle.scoop_system.specs.declared.error.Wrong.{Wrong}
 use Rattle.scoop_system.specs.declared.error.Wrong.TheVariants.{NoSuchWord, NoSuchArgument, WrittenTwice}
 use Rattle.scoop_system.specs.declared.error.Place.{Place}

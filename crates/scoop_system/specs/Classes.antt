@@ -1,5 +1,5 @@
 -- The classes of a file.
-use Rattle.std.specs.Prelude.{ℕ, ◌+◌, ◌^◌, ◌-◌, if◌then◌else◌, List, [], ◌∷◌, ◌++◌, length, is_some, Option, Some, None, Result, Ok, Err}
+use Rattle.std.specs.Prelude.{ℕ, ◌+◌, ◌^◌, ◌-◌, if◌then◌else◌, List, [], ◌∷◌, ◌++◌, length, is_some, Option, Some, None, Ok}
 use Rattle.std.specs.Result.{result_ok}
 use Rattle.toml.specs.Data.{Data}
 use Rattle.scoop_words.specs.Reading.{Read, ◌>>=◌, unless}

@@ -1,5 +1,5 @@
 -- What a line asks of a client, or what is wrong with it.
-use Rattle.std.specs.Prelude.{ℕ, ◌&&◌, ◌^◌, nat_le, nat_lt, if◌then◌else◌, List, [], ◌∷◌, length, Option, Some, None, Result, Ok, Err, codes}
+use Rattle.std.specs.Prelude.{ℕ, ◌^◌, nat_le, nat_lt, if◌then◌else◌, List, [], ◌∷◌, length, Option, Some, None, Ok, Err, codes}
 use Rattle.std.specs.Option.{ok_or}
 use Rattle.scoop_words.specs.Words.{Word, words_of, is_blank}
 use Rattle.scoop_words.specs.Number.{is_decimal, decimal_below}

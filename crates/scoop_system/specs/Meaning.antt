@@ -1,5 +1,5 @@
 -- What a TOML table means as a system, or its first fault.
-use Rattle.std.specs.Prelude.{ℕ, ◌==◌, ◌+◌, ◌^◌, ◌-◌, not, Bool, true, false, if◌then◌else◌, List, [], ◌∷◌, ◌++◌, length, find, Option, Some, None, Result, Ok, Err}
+use Rattle.std.specs.Prelude.{ℕ, ◌==◌, ◌+◌, ◌^◌, ◌-◌, not, Bool, true, false, if◌then◌else◌, List, [], ◌∷◌, ◌++◌, length, find, Option, Some, None, Ok, Err}
 use Rattle.std.specs.List.{list_any}
 use Rattle.std.specs.Option.{option_map}
 use Rattle.std.specs.declared.net.socket_addr.SocketAddr.{SocketAddr}
@@ -23,7 +23,7 @@ use Rattle.scoop_system.specs.declared.place.ClientPlace.{ClientPlace}
 use Rattle.scoop_system.specs.declared.reading.TheConstants.{MAX_CLASSES}
 use Rattle.scoop_system.specs.Name.{told}
 use Rattle.scoop_system.specs.System.{Plan, NamedClass, class_named}
-use Rattle.scoop_system.specs.Value.{number_at, number_in, text_at, address_at, words_at, list_at, key_fault, in_range, whole_of}
+use Rattle.scoop_system.specs.Value.{number_at, text_at, address_at, words_at, list_at, key_fault, in_range, whole_of}
 use Rattle.scoop_system.specs.KeyText.{key_text}
 use Rattle.scoop_system.specs.Address.{same_address}
 use Rattle.scoop_system.specs.Place.{Told, at, place_at}

@@ -1,5 +1,5 @@
 -- Where something is wrong.
-use Rattle.std.specs.Prelude.{ℕ, ◌^◌, ◌-◌, Option, Some, None, Result, Ok, Err}
+use Rattle.std.specs.Prelude.{ℕ, ◌^◌, ◌-◌, Option, Some, None, Ok, Err}
 use Rattle.std.specs.Result.{result_ok}
 use Rattle.toml.specs.Data.{Data}
 use Rattle.scoop_words.specs.Reading.{Read}

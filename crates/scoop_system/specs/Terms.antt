@@ -1,5 +1,5 @@
 -- What the rows of a class in a file say.
-use Rattle.std.specs.Prelude.{ℕ, ◌==◌, ◌+◌, ◌^◌, ◌-◌, nat_lt, nat_le, Bool, if◌then◌else◌, List, [], ◌∷◌, ◌++◌, length, find, is_some, Option, Some, None, Result, Ok, Err}
+use Rattle.std.specs.Prelude.{ℕ, ◌==◌, ◌^◌, ◌-◌, nat_lt, if◌then◌else◌, List, [], ◌∷◌, ◌++◌, find, is_some, Option, Some, None, Ok, Err}
 use Rattle.std.specs.List.{list_any}
 use Rattle.toml.specs.Data.{Data, Items, get, as_str, as_array}
 use Rattle.scoop_words.specs.Number.{decimal_of}
@@ -14,7 +14,7 @@ use Rattle.scoop_system.specs.declared.class.OwnOperation.{OwnOperation}
 use Rattle.scoop_system.specs.declared.error.Key.{Key}
 use Rattle.scoop_system.specs.declared.error.Key.TheVariants as key
 use Rattle.scoop_system.specs.declared.error.Wrong.{Wrong}
-use Rattle.scoop_system.specs.declared.error.Wrong.TheVariants.{Missing, NotAName, NotATerm, NotAText, NoSuchWord, NoSuchArgument, NotATest, NotAWrite, WrittenTwice, Twice, NameTwice}
+use Rattle.scoop_system.specs.declared.error.Wrong.TheVariants.{Missing, NotATerm, NotAText, NoSuchWord, NoSuchArgument, NotATest, NotAWrite, WrittenTwice, Twice, NameTwice}
 use Rattle.scoop_system.specs.Name.{told}
 use Rattle.scoop_system.specs.KeyText.{key_text}
 use Rattle.scoop_system.specs.Value.{list_of, number_at, name_at, list_at, key_fault}

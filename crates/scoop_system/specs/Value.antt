@@ -1,5 +1,5 @@
 -- What the values of a TOML text say, and what is wrong with them.
-use Rattle.std.specs.Prelude.{ℕ, ℤ, pos, negsuc, ◌==◌, ◌&&◌, ◌-◌, ◌^◌, nat_le, nat_lt, not, Bool, if◌then◌else◌, List, [], ◌∷◌, length, find, Option, Some, None, Result, Ok, Err}
+use Rattle.std.specs.Prelude.{ℕ, ℤ, pos, negsuc, ◌==◌, ◌&&◌, nat_le, nat_lt, not, Bool, if◌then◌else◌, List, [], ◌∷◌, length, find, Option, Some, None, Ok, Err}
 use Rattle.std.specs.List.{list_any}
 use Rattle.std.specs.Option.{option_and_then, ok_or}
 use Rattle.std.specs.declared.net.socket_addr.SocketAddr.{SocketAddr}

@@ -1,7 +1,6 @@
 use Rattle.std.proofs.Common.{codes}
 use Rattle.std.specs.Fmt.{decimal}
 use Rattle.std.proofs.Output.{has_written_of_eq}
-use Rattle.scoop_system.specs.FaultText.{place_text}
 use Rattle.scoop_system.proofs.TextLemmas.{of_class}
 use Rattle.scoop_system.proofs.error.PlaceDisplay.fmt.Goals as goal
 
