@@ -7,6 +7,7 @@ mod messages;
 mod objects;
 mod queues;
 mod seals;
+mod words;
 
 use std::alloc::Global;
 use std::fmt::Display;

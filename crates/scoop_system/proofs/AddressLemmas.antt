@@ -1,14 +1,13 @@
 -- What `parse` answers for a socket address is what the definition says.
-use Rattle.std.proofs.Common.{◌≡◌, ℕ, ◌==◌, Bool, true, false, if◌then◌else◌, List, [], ◌∷◌, ◌++◌, length, Option, Some, None, Result, Ok, Err, refl, sym, ap, ◌∙◌, subst, append-nil, arith}
-use Rattle.std.specs.Option.{option_map}
+use Rattle.std.proofs.Common.{◌≡◌, ℕ, ◌==◌, Bool, true, false, if◌then◌else◌, List, [], ◌∷◌, ◌++◌, length, Option, Some, None, Result, Ok, Err, refl, ap, ◌∙◌, append-nil, arith}
 use Rattle.std.specs.Result.{result_ok}
 use Rattle.std.specs.declared.net.socket_addr.SocketAddr.{SocketAddr}
 use Rattle.std.specs.declared.net.socket_addr.SocketAddr.TheVariants.{V4, V6}
 use Rattle.std.specs.Net.Grammar.{Parses, IsSocketText, IsSocketV4Text, IsSocketV6Text}
-use Rattle.std.specs.Net.Reader.{read_socket_v4, read_socket_v6, whole_value, v4_parts, v6_parts}
+use Rattle.std.specs.Net.Reader.{read_socket_v4, read_socket_v6, whole_value}
 use Rattle.std.proofs.NetLemmas.Sockets.{read_socket_v4_complete, read_socket_v4_sound, read_socket_v6_complete, read_socket_v6_sound, IsSocketV4Text-not_v6}
 use Rattle.std.proofs.lemmas.Bool.Decides.{nat_tests}
-use Rattle.scoop_system.specs.Address.{address_of, or_else, v4_of, v6_of}
+use Rattle.scoop_system.specs.Address.{address_of}
 
 no_rest : (rest : List ℕ) → (length rest == 0) ≡ true → rest ≡ []
 no_rest [] is = refl
@@ -29,8 +28,9 @@ v4_text : (text : List ℕ) (read : Option ((List ℕ × ℕ) × List ℕ)) (p :
 v4_text text None p is whole = cc
 v4_text text (Some (q, rest)) p is whole = v4_whole text q rest p (length rest == 0) refl is whole
 
-v6_whole : (text : List ℕ) (q : List ℕ × ℕ × ℕ × ℕ) (rest : List ℕ) (p : List ℕ × ℕ × ℕ × ℕ) (b : Bool) → (length rest == 0) ≡ b → read_socket_v6 text ≡ Some (q, rest)
-    → (if b then Some q else None) ≡ Some p → IsSocketV6Text text (record { ip = record { segments = p.0 }; port = p.1; flowinfo = p.2; scope_id = p.3 })
+v6_whole : (text : List ℕ) (q : List ℕ × ℕ × ℕ × ℕ) (rest : List ℕ) (p : List ℕ × ℕ × ℕ × ℕ) (b : Bool) → (length rest == 0) ≡ b
+    → read_socket_v6 text ≡ Some (q, rest) → (if b then Some q else None) ≡ Some p
+    → IsSocketV6Text text (record { ip = record { segments = p.0 }; port = p.1; flowinfo = p.2; scope_id = p.3 })
 v6_whole text q rest p true end is whole =
     let same : q ≡ p = cc in
     let (front, split, written) = read_socket_v6_sound text rest (record { ip = record { segments = q.0 }; port = q.1; flowinfo = q.2; scope_id = q.3 }) is in

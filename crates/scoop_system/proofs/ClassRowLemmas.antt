@@ -1,23 +1,24 @@
 -- The operations of a class that is read make one.
-use Rattle.std.proofs.Common.{◌≡◌, ℕ, ◌+◌, ◌≤◌, ◌<◌, ◌==◌, ◌^◌, ◌-◌, nat_lt, Bool, true, false, if◌then◌else◌, List, [], ◌∷◌, ◌++◌, length, Option, Some, None, Ok, refl, sym, ap, ◌∙◌, arith, length-append}
+use Rattle.std.proofs.Common.{◌≡◌, ℕ, ◌+◌, ◌≤◌, ◌==◌, ◌^◌, ◌-◌, nat_lt, true, false, List, [], ◌∷◌, ◌++◌, length, Option, Some, None, Ok, refl, ◌∙◌, arith, length-append}
 use Rattle.std.specs.List.{list_all, list_any}
 use Rattle.std.proofs.lemmas.Bool.Decides.{nat_tests}
 use Rattle.std.proofs.lemmas.List.Folds.{list_all-append, list_any-append}
 use Rattle.toml.specs.Data.{Data, get}
-use Rattle.scoop_message.specs.declared.limits.TheConstants.{MAX_ARGS, MAX_OPS, MAX_WRITES, MAX_WORDS}
+use Rattle.scoop_words.proofs.ReadingLemmas.{bind_ok, unless_ok}
+use Rattle.scoop_message.specs.declared.limits.TheConstants.{MAX_ARGS, MAX_OPS, MAX_WRITES}
 use Rattle.scoop_object.specs.declared.term.Term.{Term}
 use Rattle.scoop_object.specs.declared.term.Write.{Write}
 use Rattle.scoop_object.specs.declared.row.OpRow.{OpRow}
-use Rattle.scoop_object.specs.Class.{has_words_below, has_args_below, writes_twice, fault_of, IsClass}
+use Rattle.scoop_object.specs.Class.{has_words_below, has_args_below, writes_twice, fault_of}
 use Rattle.scoop_object.specs.Repeats.{repeats}
 use Rattle.scoop_system.specs.declared.class.OwnOperation.{OwnOperation}
 use Rattle.scoop_system.specs.declared.error.Key.TheVariants as key
 use Rattle.scoop_system.specs.KeyText.{key_text}
-use Rattle.scoop_system.specs.Value.{◌>>=◌, unless, key_fault, number_at, name_at, list_at}
+use Rattle.scoop_system.specs.Value.{key_fault, number_at, name_at, list_at}
 use Rattle.scoop_system.specs.Place.{at}
-use Rattle.scoop_system.specs.Terms.{test_at, writes_at, writes_from, answer_at, answer_in, operation_of, operation_keys, number_before, name_before, named_row}
+use Rattle.scoop_system.specs.Terms.{test_at, writes_at, answer_at, answer_in, operation_of, operation_keys, number_before, name_before, named_row}
 use Rattle.scoop_system.specs.Classes.{operation_place, operations_from}
-use Rattle.scoop_system.proofs.RowLemmas.{bind_ok, unless_ok, told_ok, at_ok, IsTerm, IsTest, AreWrites, term_in-good, test_in-good, writes_from-good, repeats-push, no_fault_no}
+use Rattle.scoop_system.proofs.RowLemmas.{at_ok, IsTerm, IsTest, AreWrites, term_in-good, test_in-good, writes_from-good, repeats-push, no_fault_no}
 use Rattle.scoop_system.specs.declared.error.Wrong.TheVariants.{Twice}
 
 -- an operation that a class of so many words may have behind these
@@ -31,8 +32,9 @@ answer_in-good : (words : ℕ) (o : Option Data) (t : Term) → answer_in words 
 answer_in-good words None t is = cc
 answer_in-good words (Some d) t is = term_in-good words d t is
 
-row_good : (words number : ℕ) (rows : List OpRow) (test : Option (Term × Term)) (writes : List Write) (answer : Term) → IsTest words test → AreWrites words writes
-    → IsTerm words answer → number_before rows number ≡ None → IsRow words rows (record { op = number; test = test; writes = writes; answer = answer })
+row_good : (words number : ℕ) (rows : List OpRow) (test : Option (Term × Term)) (writes : List Write) (answer : Term) → IsTest words test
+    → AreWrites words writes → IsTerm words answer → number_before rows number ≡ None
+    → IsRow words rows (record { op = number; test = test; writes = writes; answer = answer })
 row_good words number rows test writes answer t ws a new = record {
   word = rw (t.word, ws.word, a.word) refl;
   argument = rw (t.argument, ws.argument, a.argument) refl;
@@ -40,8 +42,8 @@ row_good words number rows test writes answer t ws a new = record {
   new = no_fault_no (list_any (λ r. r.op == number) rows) Twice new;
 }
 
-operation_of-good : (words : ℕ) (rows : List OpRow) (operations : List OwnOperation) (d : Data) (o : OpRow × OwnOperation) → operation_of words rows operations d ≡ Ok o
-    → IsRow words rows o.0
+operation_of-good : (words : ℕ) (rows : List OpRow) (operations : List OwnOperation) (d : Data) (o : OpRow × OwnOperation)
+    → operation_of words rows operations d ≡ Ok o → IsRow words rows o.0
 operation_of-good words rows operations d o is =
     unless_ok (key_fault operation_keys d) _ o is λ known one.
     bind_ok (number_at key.Number 0 (2 ^ 16 - 1) d) _ o one λ number number_is two.
@@ -79,15 +81,16 @@ record AllRows (words count : ℕ) (rows : List OpRow) : Type 0 where
   are : AreRows words rows
   length_is : length rows ≡ count
 
-operations_from-good : (class : List ℕ) (words : ℕ) (rows : List OpRow) (operations : List OwnOperation) (ds : List Data) (r : List OpRow × List OwnOperation) → AreRows words rows
-    → operations_from class words rows operations ds ≡ Ok r → AllRows words (length rows + length ds) r.0
+operations_from-good : (class : List ℕ) (words : ℕ) (rows : List OpRow) (operations : List OwnOperation) (ds : List Data) (r : List OpRow × List OwnOperation)
+    → AreRows words rows → operations_from class words rows operations ds ≡ Ok r → AllRows words (length rows + length ds) r.0
 operations_from-good class words rows operations [] r are is =
     let same : (rows, operations) ≡ r = cc in
     rw (← same) (record { are = are; length_is = omega arith })
 operations_from-good class words rows operations (d ∷ ds) r are is =
-    told_ok (at (operation_place class (length rows + 1) d) (operation_of words rows operations d)) _ r is λ o o_is more.
+    bind_ok (at (operation_place class (length rows + 1) d) (operation_of words rows operations d)) _ r is λ o o_is more.
     at_ok (operation_place class (length rows + 1) d) (operation_of words rows operations d) o o_is λ read.
-    let all = operations_from-good class words (rows ++ o.0 ∷ []) (operations ++ o.1 ∷ []) ds r (rows-push words rows o.0 are (operation_of-good words rows operations d o read)) more in
+    let all = operations_from-good class words (rows ++ o.0 ∷ []) (operations ++ o.1 ∷ []) ds r
+    (rows-push words rows o.0 are (operation_of-good words rows operations d o read)) more in
     record { are = all.are; length_is = all.length_is ∙ omega (arith, length-append rows (o.0 ∷ [])) }
 
 few_rows : (n : ℕ) → n ≤ MAX_OPS → nat_lt MAX_OPS n ≡ false

@@ -1,5 +1,3 @@
-mod DecimalLemmas
-mod WordLemmas
 mod NameLemmas
 mod LineLemmas
 mod Start

@@ -31,7 +31,8 @@ pub printable-utf8 : (bytes : List ℕ) → list_all is_printable bytes ≡ true
 printable-utf8 bytes is = IsUtf8-from_ascii bytes (printable_ascii bytes is)
 
 -- what is kept of the bytes that were told, once all are
-pub all_told : (bytes cells : List ℕ) (place : ℕ) → place ≡ length bytes → take place cells ≡ map told_byte (take place bytes) → take (length bytes) cells ≡ map told_byte bytes
+pub all_told : (bytes cells : List ℕ) (place : ℕ) → place ≡ length bytes → take place cells ≡ map told_byte (take place bytes)
+    → take (length bytes) cells ≡ map told_byte bytes
 all_told bytes cells place end front =
     rw (← end) (front ∙ ap (map told_byte) (take_all place bytes (omega (arith, end))))
 

@@ -1,41 +1,28 @@
 -- The operations that are read make a class.
-use Rattle.std.proofs.Common.{◌≡◌, ℕ, ◌+◌, ◌≤◌, ◌==◌, ◌&&◌, ◌||◌, nat_lt, Bool, true, false, if◌then◌else◌, List, [], ◌∷◌, ◌++◌, length, Option, Some, None, Ok, Err, refl, sym, ap, ◌∙◌, arith, length-append}
+use Rattle.std.proofs.Common.{◌≡◌, ℕ, ◌==◌, ◌||◌, nat_lt, Bool, true, false, if◌then◌else◌, List, [], ◌∷◌, ◌++◌, Option, Some, None, Ok, Err, refl, ap, arith}
 use Rattle.std.specs.List.{list_all, list_any}
 use Rattle.std.proofs.lemmas.Bool.Decides.{nat_tests}
 use Rattle.std.proofs.lemmas.List.Folds.{list_all-append, list_any-append}
 use Rattle.toml.specs.Data.{Data, Items, as_str, as_array}
-use Rattle.scoop_message.specs.declared.limits.TheConstants.{MAX_ARGS, MAX_OPS}
+use Rattle.scoop_words.specs.Number.{decimal_of}
+use Rattle.scoop_words.specs.Reading.{Read}
+use Rattle.scoop_words.proofs.ReadingLemmas.{bind_ok, unless_ok}
+use Rattle.scoop_message.specs.declared.limits.TheConstants.{MAX_ARGS}
 use Rattle.scoop_object.specs.declared.term.Term.{Term}
 use Rattle.scoop_object.specs.declared.term.Term.TheVariants.{Const, Word, Arg}
 use Rattle.scoop_object.specs.declared.term.Write.{Write}
-use Rattle.scoop_object.specs.declared.row.OpRow.{OpRow}
-use Rattle.scoop_object.specs.Class.{is_word_below, is_arg_below, both, write_has_words_below, write_has_args_below, has_words_below, has_args_below, writes_twice, fault_of}
+use Rattle.scoop_object.specs.Class.{is_word_below, is_arg_below, both, write_has_words_below, write_has_args_below}
 use Rattle.scoop_object.specs.Repeats.{repeats}
-use Rattle.scoop_system.specs.declared.class.OwnOperation.{OwnOperation}
 use Rattle.scoop_system.specs.declared.error.Wrong.{Wrong}
 use Rattle.scoop_system.specs.declared.error.Wrong.TheVariants.{NoSuchWord, NoSuchArgument, WrittenTwice}
 use Rattle.scoop_system.specs.declared.error.Place.{Place}
 use Rattle.scoop_system.specs.Name.{told}
-use Rattle.scoop_system.specs.Number.{decimal_of}
-use Rattle.scoop_system.specs.Value.{Read, ◌>>=◌, unless, list_of}
-use Rattle.scoop_system.specs.Place.{Told, ◌>>>◌, at}
+use Rattle.scoop_system.specs.Value.{list_of}
+use Rattle.scoop_system.specs.Place.{at}
 use Rattle.scoop_system.specs.Terms.{word_term, argument_term, constant_term, term_of, or_no_term, term_in, two_terms, listed_test, test_in, written_word, four_terms, listed_write, write_in, written_before, next_write, writes_from}
 
--- ---- what is read is read in its parts
-
-pub bind_ok : {A B P : Type 0} (r : Read A) (f : A → Read B) (y : B) → (r >>= f) ≡ Ok y → ((x : A) → r ≡ Ok x → f x ≡ Ok y → P) → P
-bind_ok (Ok x) f y is go = go x refl is
-bind_ok (Err wrong) f y is go = cc
-
-pub unless_ok : {A P : Type 0} (w : Option Wrong) (r : Read A) (y : A) → unless w r ≡ Ok y → (w ≡ None → r ≡ Ok y → P) → P
-unless_ok None r y is go = go refl is
-unless_ok (Some wrong) r y is go = cc
-
-pub told_ok : {A B P : Type 0} (r : Told A) (f : A → Told B) (y : B) → (r >>> f) ≡ Ok y → ((x : A) → r ≡ Ok x → f x ≡ Ok y → P) → P
-told_ok (Ok x) f y is go = go x refl is
-told_ok (Err fault) f y is go = cc
-
-pub at_ok : {A P : Type 0} (place : Place) (r : Read A) (y : A) → at place r ≡ Ok y → (r ≡ Ok y → P) → P
+-- what is read at a place
+pub at_ok : {A P : Type 0} (place : Place) (r : Read Wrong A) (y : A) → at place r ≡ Ok y → (r ≡ Ok y → P) → P
 at_ok place (Ok x) y is go = let same : x ≡ y = cc in go (ap Ok same)
 at_ok place (Err wrong) y is go = cc
 
@@ -46,7 +33,8 @@ pub record IsTerm (words : ℕ) (t : Term) : Type 0 where
   pub word : is_word_below words t ≡ true
   pub argument : is_arg_below MAX_ARGS t ≡ true
 
-word_or : (words : ℕ) (text : List ℕ) (i : ℕ) (t : Term) (b : Bool) → nat_lt i words ≡ b → (if b then Ok (Word i) else Err (NoSuchWord (told text))) ≡ Ok t → IsTerm words t
+word_or : (words : ℕ) (text : List ℕ) (i : ℕ) (t : Term) (b : Bool) → nat_lt i words ≡ b
+    → (if b then Ok (Word i) else Err (NoSuchWord (told text))) ≡ Ok t → IsTerm words t
 word_or words text i t true test is = let same : Word i ≡ t = cc in rw (← same) (record { word = test; argument = refl })
 word_or words text i t false test is = cc
 
@@ -54,8 +42,8 @@ word_term-good : (words : ℕ) (text : List ℕ) (o : Option ℕ) (t : Term) →
 word_term-good words text None t is = cc
 word_term-good words text (Some i) t is = word_or words text i t (nat_lt i words) refl is
 
-argument_or : (words : ℕ) (text : List ℕ) (i : ℕ) (t : Term) (b : Bool) → nat_lt i MAX_ARGS ≡ b → (if b then Ok (Arg i) else Err (NoSuchArgument (told text))) ≡ Ok t
-    → IsTerm words t
+argument_or : (words : ℕ) (text : List ℕ) (i : ℕ) (t : Term) (b : Bool) → nat_lt i MAX_ARGS ≡ b
+    → (if b then Ok (Arg i) else Err (NoSuchArgument (told text))) ≡ Ok t → IsTerm words t
 argument_or words text i t true test is = let same : Arg i ≡ t = cc in rw (← same) (record { word = refl; argument = test })
 argument_or words text i t false test is = cc
 
@@ -68,7 +56,8 @@ constant_term-good words text None t is = cc
 constant_term-good words text (Some n) t is = let same : Const n ≡ t = cc in rw (← same) (record { word = refl; argument = refl })
 
 by_letter : (words : ℕ) (text digits : List ℕ) (t : Term) (w a : Bool)
-    → (if w then word_term words text (decimal_of digits) else (if a then argument_term text (decimal_of digits) else constant_term text (decimal_of text))) ≡ Ok t
+    → (if w then word_term words text (decimal_of digits)
+    else (if a then argument_term text (decimal_of digits) else constant_term text (decimal_of text))) ≡ Ok t
     → IsTerm words t
 by_letter words text digits t true a is = word_term-good words text (decimal_of digits) t is
 by_letter words text digits t false true is = argument_term-good words text (decimal_of digits) t is
@@ -142,7 +131,8 @@ four_terms-good words (t ∷ a ∷ b ∷ c ∷ []) w is =
     let new : Write = record { word = word; base = base; plus = plus; minus = minus } in
     let same : new ≡ w = cc in
     let below = word_written words term word word_is (term_in-good words t term t_is).word in
-    rw (← same) (write_good words word base plus minus below (term_in-good words a base base_is) (term_in-good words b plus plus_is) (term_in-good words c minus minus_is))
+    rw (← same) (write_good words word base plus minus below (term_in-good words a base base_is) (term_in-good words b plus plus_is)
+    (term_in-good words c minus minus_is))
 four_terms-good words (t ∷ a ∷ b ∷ c ∷ d ∷ ds) w is = cc
 
 listed_write-good : (words : ℕ) (o : Option Items) (w : Write) → listed_write words o ≡ Ok w → IsWrite words w
@@ -175,14 +165,16 @@ pub no_fault_no : (b : Bool) (wrong : Wrong) → (if b then Some wrong else None
 no_fault_no true wrong is = cc
 no_fault_no false wrong is = refl
 
-writes-push : (words : ℕ) (done : List Write) (w : Write) → AreWrites words done → IsWrite words w → written_before done w ≡ None → AreWrites words (done ++ w ∷ [])
+writes-push : (words : ℕ) (done : List Write) (w : Write) → AreWrites words done → IsWrite words w → written_before done w ≡ None
+    → AreWrites words (done ++ w ∷ [])
 writes-push words done w are good new = record {
   word = rw (list_all-append (write_has_words_below words) done (w ∷ []), are.word, good.word) refl;
   argument = rw (list_all-append (write_has_args_below MAX_ARGS) done (w ∷ []), are.argument, good.argument) refl;
   once = repeats-push (λ v. v.word) done w are.once (no_fault_no (list_any (λ v. v.word == w.word) done) (WrittenTwice w.word) new);
 }
 
-pub writes_from-good : (words : ℕ) (done : List Write) (ds : List Data) (ws : List Write) → AreWrites words done → writes_from words done ds ≡ Ok ws → AreWrites words ws
+pub writes_from-good : (words : ℕ) (done : List Write) (ds : List Data) (ws : List Write) → AreWrites words done → writes_from words done ds ≡ Ok ws
+    → AreWrites words ws
 writes_from-good words done [] ws are is = let same : done ≡ ws = cc in rw (← same) are
 writes_from-good words done (d ∷ ds) ws are is =
     bind_ok (next_write words done d) _ ws is λ w next more.

@@ -4,7 +4,8 @@ use Rattle.std.proofs.Math.Seq.{drop-append_seam}
 use Rattle.std.proofs.lemmas.List.{length-replicate, drop-replicate}
 use Rattle.scoop_message.specs.Padded.{IsPadded}
 
-pub padded_start : {A : Type 0} (blank : A) (room : ℕ) (items front : List A) → front ≡ items → length items ≤ room → IsPadded blank room (length items) (front ++ drop (length items) (replicate room blank))
+pub padded_start : {A : Type 0} (blank : A) (room : ℕ) (items front : List A) → front ≡ items → length items ≤ room
+    → IsPadded blank room (length items) (front ++ drop (length items) (replicate room blank))
 padded_start blank room items front copied fits =
     let rest = drop (length items) (replicate room blank) in
     record {

@@ -4,4 +4,5 @@ use Rattle.scoop_system.specs.FaultText.{quoted}
 
 -- what stands at an operation, and the name of its class
 pub of_class : (front count class : List ℕ) → front ++ (count ++ (codes " of class " ++ quoted class)) ≡ front ++ count ++ codes " of class " ++ quoted class
-of_class front count class = sym (append_assoc (front ++ count) (codes " of class ") (quoted class) ∙ append_assoc front count (codes " of class " ++ quoted class))
+of_class front count class =
+    sym (append_assoc (front ++ count) (codes " of class ") (quoted class) ∙ append_assoc front count (codes " of class " ++ quoted class))

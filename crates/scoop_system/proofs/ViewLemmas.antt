@@ -1,5 +1,5 @@
 -- The values of a TOML text, as they are held and as the definitions see them.
-use Rattle.std.proofs.Common.{◌≡◌, ℕ, ◌+◌, ◌<◌, ◌≤◌, nat_lt, Bool, true, false, not, arith, Ok, Err, if◌then◌else◌, List, [], ◌∷◌, length, drop, get_or, map, Option, Some, None, String, Global, string_bytes, refl, ap, ◌∙◌, option_map}
+use Rattle.std.proofs.Common.{◌≡◌, ℕ, ◌+◌, ◌<◌, ◌≤◌, nat_lt, Bool, true, false, not, arith, Ok, Err, if◌then◌else◌, List, [], ◌∷◌, length, drop, get_or, map, Option, Some, None, String, Global, string_bytes, refl, ap, option_map}
 use Rattle.std.specs.Prelude.{find}
 use Rattle.std.specs.Map.{keys_of}
 use Rattle.std.proofs.lemmas.List.{drop_more, length-map}
@@ -24,8 +24,8 @@ list_of_view (v ∷ vs) = ap (λ ds. view v ∷ ds) (list_of_view vs)
 pub view_drop : (vs : List Value) (i : ℕ) (d : Value) → i < length vs → map view (drop i vs) ≡ view (get_or vs i d) ∷ map view (drop (i + 1) vs)
 view_drop vs i d within = ap (map view) (drop_more vs i d within)
 
-found_or : (p : List ℕ → Bool) (key : String Global) (here : Bool) (rest : Option (String Global)) (found : Option (List ℕ)) → option_map string_bytes rest ≡ found
-    → option_map string_bytes (if here then Some key else rest) ≡ (if here then Some (string_bytes key) else found)
+found_or : (p : List ℕ → Bool) (key : String Global) (here : Bool) (rest : Option (String Global)) (found : Option (List ℕ))
+    → option_map string_bytes rest ≡ found → option_map string_bytes (if here then Some key else rest) ≡ (if here then Some (string_bytes key) else found)
 found_or p key true rest found is = refl
 found_or p key false rest found is = is
 
@@ -42,16 +42,17 @@ no_more_than : (limit n : ℕ) → n ≤ limit → nat_lt limit n ≡ false
 no_more_than limit n few = grind (arith, nat_tests)
 
 -- the list at a key
-pub list_too_long : (k : Key) (limit : ℕ) (d list : Data) (vs : List Value) → get (key_text k) d ≡ Some list → as_array list ≡ Some (items_view vs) → limit < length vs
-    → list_at k limit d ≡ Err (TooMany k limit)
+pub list_too_long : (k : Key) (limit : ℕ) (d list : Data) (vs : List Value) → get (key_text k) d ≡ Some list → as_array list ≡ Some (items_view vs)
+    → limit < length vs → list_at k limit d ≡ Err (TooMany k limit)
 list_too_long k limit d list vs found array more = rw (found, array, list_of_view vs, length-map vs view, more_than limit (length vs) more) refl
 
-pub list_few : (k : Key) (limit : ℕ) (d list : Data) (vs : List Value) → get (key_text k) d ≡ Some list → as_array list ≡ Some (items_view vs) → length vs ≤ limit
-    → list_at k limit d ≡ Ok (map view vs)
+pub list_few : (k : Key) (limit : ℕ) (d list : Data) (vs : List Value) → get (key_text k) d ≡ Some list → as_array list ≡ Some (items_view vs)
+    → length vs ≤ limit → list_at k limit d ≡ Ok (map view vs)
 list_few k limit d list vs found array few = rw (found, array, list_of_view vs, length-map vs view, no_more_than limit (length vs) few) refl
 
 -- the words of a table
-pub words_listed : (d list : Data) (vs : List Value) → get (key_text key.Words) d ≡ Some list → as_array list ≡ Some (items_view vs) → some_words (map view vs) ≡ words_at d
+pub words_listed : (d list : Data) (vs : List Value) → get (key_text key.Words) d ≡ Some list → as_array list ≡ Some (items_view vs)
+    → some_words (map view vs) ≡ words_at d
 words_listed d list vs found array = rw (found, array, list_of_view vs) refl
 
 -- the first key that isn't known, and none

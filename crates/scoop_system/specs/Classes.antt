@@ -1,7 +1,8 @@
 -- The classes of a file.
-use Rattle.std.specs.Prelude.{ℕ, ◌+◌, ◌^◌, ◌-◌, if◌then◌else◌, List, [], ◌∷◌, ◌++◌, length, is_some, Option, Some, None, Result, Ok, Err}
+use Rattle.std.specs.Prelude.{ℕ, ◌+◌, ◌^◌, ◌-◌, if◌then◌else◌, List, [], ◌∷◌, ◌++◌, length, is_some, Option, Some, None, Ok}
 use Rattle.std.specs.Result.{result_ok}
 use Rattle.toml.specs.Data.{Data}
+use Rattle.scoop_words.specs.Reading.{Read, ◌>>=◌, unless}
 use Rattle.scoop_message.specs.declared.limits.TheConstants.{MAX_OPS, MAX_WORDS}
 use Rattle.scoop_object.specs.declared.row.OpRow.{OpRow}
 use Rattle.scoop_classes.specs.Classes.{class_of_name}
@@ -13,8 +14,8 @@ use Rattle.scoop_system.specs.declared.error.Wrong.TheVariants.{Twice, KnownClas
 use Rattle.scoop_system.specs.declared.error.Place.{Place}
 use Rattle.scoop_system.specs.declared.error.Place.TheVariants.{Class, Nameless, Operation, NamelessOperation}
 use Rattle.scoop_system.specs.System.{NamedClass, class_named}
-use Rattle.scoop_system.specs.Value.{Read, ◌>>=◌, unless, number_at, name_at, list_at, key_fault}
-use Rattle.scoop_system.specs.Place.{Told, ◌>>>◌, at}
+use Rattle.scoop_system.specs.Value.{number_at, name_at, list_at, key_fault}
+use Rattle.scoop_system.specs.Place.{Told, at}
 use Rattle.scoop_system.specs.Terms.{operation_of}
 
 abbrev pub operation_place_of : List ℕ → ℕ → Option ℕ → Place
@@ -29,7 +30,7 @@ operation_place class count d = operation_place_of class count (result_ok (numbe
 abbrev pub operations_from : List ℕ → ℕ → List OpRow → List OwnOperation → List Data → Told (List OpRow × List OwnOperation)
 operations_from class words rows operations [] = Ok (rows, operations)
 operations_from class words rows operations (d ∷ ds) =
-    at (operation_place class (length rows + 1) d) (operation_of words rows operations d) >>> λ o.
+    at (operation_place class (length rows + 1) d) (operation_of words rows operations d) >>= λ o.
     operations_from class words (rows ++ o.0 ∷ []) (operations ++ o.1 ∷ []) ds
 
 abbrev pub class_place_of : ℕ → Option (List ℕ) → Place
@@ -59,7 +60,7 @@ pub record ClassHead : Type 0 where
 abbrev pub head : List ℕ → ℕ → List Data → ClassHead
 head name words operations = record { name = name; words = words; operations = operations }
 
-abbrev pub class_head : List NamedClass → Data → Read ClassHead
+abbrev pub class_head : List NamedClass → Data → Read Wrong ClassHead
 class_head classes d =
     unless (key_fault class_keys d)
     (name_at key.Name d >>= λ name. number_at key.Words 1 MAX_WORDS d >>= λ words. list_at key.Operation MAX_OPS d >>= λ operations.
@@ -71,9 +72,9 @@ named_class h rows = record { name = h.name; table = record { words = h.words; r
 -- a class, behind those that come before it
 abbrev pub class_of : List NamedClass → Data → Told NamedClass
 class_of classes d =
-    at (class_place (length classes + 1) d) (class_head classes d) >>> λ h. operations_from h.name h.words [] [] h.operations >>> λ rows.
+    at (class_place (length classes + 1) d) (class_head classes d) >>= λ h. operations_from h.name h.words [] [] h.operations >>= λ rows.
     Ok (named_class h rows)
 
 abbrev pub classes_from : List NamedClass → List Data → Told (List NamedClass)
 classes_from classes [] = Ok classes
-classes_from classes (d ∷ ds) = class_of classes d >>> λ class. classes_from (classes ++ class ∷ []) ds
+classes_from classes (d ∷ ds) = class_of classes d >>= λ class. classes_from (classes ++ class ∷ []) ds

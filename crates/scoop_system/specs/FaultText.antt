@@ -1,7 +1,6 @@
 -- What is told of a fault.
 use Rattle.std.specs.Prelude.{ℕ, List, [], ◌++◌, codes, Option, Some, None}
 use Rattle.std.specs.Fmt.{decimal}
-use Rattle.scoop_system.specs.declared.error.Key.{Key}
 use Rattle.scoop_system.specs.declared.error.Place.{Place}
 use Rattle.scoop_system.specs.declared.error.Place.TheVariants as place
 use Rattle.scoop_system.specs.declared.error.Wrong.{Wrong}

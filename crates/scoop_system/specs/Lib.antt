@@ -1,7 +1,6 @@
 pub mod Name
 pub mod NamedHandlers
 pub mod Words
-pub mod Number
 pub mod Operations
 pub mod System
 pub mod Arguments

@@ -1,11 +1,12 @@
 -- What a TOML table means as a system, or its first fault.
-use Rattle.std.specs.Prelude.{ℕ, ◌==◌, ◌+◌, ◌^◌, ◌-◌, not, Bool, true, false, if◌then◌else◌, List, [], ◌∷◌, ◌++◌, length, find, Option, Some, None, Result, Ok, Err}
+use Rattle.std.specs.Prelude.{ℕ, ◌==◌, ◌+◌, ◌^◌, ◌-◌, not, Bool, true, false, if◌then◌else◌, List, [], ◌∷◌, ◌++◌, length, find, Option, Some, None, Ok, Err}
 use Rattle.std.specs.List.{list_any}
 use Rattle.std.specs.Option.{option_map}
 use Rattle.std.specs.declared.net.socket_addr.SocketAddr.{SocketAddr}
 use Rattle.std.specs.Net.Socket.{socket_ip}
 use Rattle.std.specs.Net.Addr.{is_ipv4}
 use Rattle.toml.specs.Data.{Data, get}
+use Rattle.scoop_words.specs.Reading.{Read, ◌>>=◌, unless}
 use Rattle.scoop_message.specs.declared.limits.TheConstants.{MAX_NODES, MAX_HANDLERS, MAX_CLIENTS, MAX_ENTRIES}
 use Rattle.scoop_classes.specs.Classes.{class_of_name, table_of}
 use Rattle.scoop_classes.specs.declared.classes.DemoClass.{DemoClass}
@@ -22,17 +23,17 @@ use Rattle.scoop_system.specs.declared.place.ClientPlace.{ClientPlace}
 use Rattle.scoop_system.specs.declared.reading.TheConstants.{MAX_CLASSES}
 use Rattle.scoop_system.specs.Name.{told}
 use Rattle.scoop_system.specs.System.{Plan, NamedClass, class_named}
-use Rattle.scoop_system.specs.Value.{Read, ◌>>=◌, unless, number_at, number_in, text_at, address_at, words_at, list_at, key_fault, in_range, whole_of}
+use Rattle.scoop_system.specs.Value.{number_at, text_at, address_at, words_at, list_at, key_fault, in_range, whole_of}
 use Rattle.scoop_system.specs.KeyText.{key_text}
 use Rattle.scoop_system.specs.Address.{same_address}
-use Rattle.scoop_system.specs.Place.{Told, ◌>>>◌, at, place_at}
+use Rattle.scoop_system.specs.Place.{Told, at, place_at}
 use Rattle.scoop_system.specs.Classes.{classes_from}
 
 -- this is wrong, where the test says so
 abbrev pub wrong_if : Bool → Wrong → Option Wrong
 wrong_if test wrong = if test then Some wrong else None
 
-abbrev pub number_of : Data → Read ℕ
+abbrev pub number_of : Data → Read Wrong ℕ
 number_of d = number_at key.Number 0 (2 ^ 32 - 1) d
 
 -- ---- nodes
@@ -83,7 +84,7 @@ abbrev pub new_node : ℕ → SocketAddr → NodePlace
 new_node number address = record { number = number; address = address }
 
 -- a node, behind those that come before it
-abbrev pub node_of : List NodePlace → Data → Read NodePlace
+abbrev pub node_of : List NodePlace → Data → Read Wrong NodePlace
 node_of nodes d =
     unless (key_fault node_keys d)
     (number_of d >>= λ number. address_at d >>= λ address. unless (wrong_if (list_any (λ n. n.number == number) nodes) Twice)
@@ -91,20 +92,20 @@ node_of nodes d =
 
 abbrev pub nodes_from : List NodePlace → List Data → Told (List NodePlace)
 nodes_from nodes [] = Ok nodes
-nodes_from nodes (d ∷ ds) = at (place_at key.Node (length nodes + 1) d) (node_of nodes d) >>> λ n. nodes_from (nodes ++ n ∷ []) ds
+nodes_from nodes (d ∷ ds) = at (place_at key.Node (length nodes + 1) d) (node_of nodes d) >>= λ n. nodes_from (nodes ++ n ∷ []) ds
 
 -- ---- handlers
 
-abbrev pub own_class : List ℕ → Option NamedClass → Read (HandlerClass × ℕ)
+abbrev pub own_class : List ℕ → Option NamedClass → Read Wrong (HandlerClass × ℕ)
 own_class name None = Err (NoSuchClass (told name))
 own_class name (Some class) = Ok (Own class.name, class.table.words)
 
-abbrev pub class_or_own : List NamedClass → List ℕ → Option DemoClass → Read (HandlerClass × ℕ)
+abbrev pub class_or_own : List NamedClass → List ℕ → Option DemoClass → Read Wrong (HandlerClass × ℕ)
 class_or_own classes name None = own_class name (class_named classes name)
 class_or_own classes name (Some class) = Ok (Known class, (table_of class).words)
 
 -- the class of this name, and how many words it has
-abbrev pub handler_class : List NamedClass → List ℕ → Read (HandlerClass × ℕ)
+abbrev pub handler_class : List NamedClass → List ℕ → Read Wrong (HandlerClass × ℕ)
 handler_class classes name = class_or_own classes name (class_of_name name)
 
 abbrev pub handler_keys : List Key
@@ -114,7 +115,7 @@ abbrev pub new_handler : ℕ → ℕ → HandlerClass → List ℕ → HandlerPl
 new_handler number node class words = record { handler = record { 0 = number }; node = node; class = class; words = words }
 
 -- a handler, behind those that come before it
-abbrev pub handler_of : List NamedClass → List NodePlace → List HandlerPlace → Data → Read HandlerPlace
+abbrev pub handler_of : List NamedClass → List NodePlace → List HandlerPlace → Data → Read Wrong HandlerPlace
 handler_of classes nodes handlers d =
     unless (key_fault handler_keys d)
     (number_of d >>= λ number. number_at key.Node 0 (2 ^ 32 - 1) d >>= λ node. text_at key.Class d >>= λ name. words_at d >>= λ words.
@@ -126,26 +127,26 @@ handler_of classes nodes handlers d =
 abbrev pub handlers_from : List NamedClass → List NodePlace → List HandlerPlace → List Data → Told (List HandlerPlace)
 handlers_from classes nodes handlers [] = Ok handlers
 handlers_from classes nodes handlers (d ∷ ds) =
-    at (place_at key.Handler (length handlers + 1) d) (handler_of classes nodes handlers d) >>> λ h. handlers_from classes nodes (handlers ++ h ∷ []) ds
+    at (place_at key.Handler (length handlers + 1) d) (handler_of classes nodes handlers d) >>= λ h. handlers_from classes nodes (handlers ++ h ∷ []) ds
 
 -- ---- clients
 
 abbrev pub client_keys : List Key
 client_keys = key.Number ∷ key.Address ∷ key.Batch ∷ []
 
-abbrev pub batch_in : Option Data → Read ℕ
+abbrev pub batch_in : Option Data → Read Wrong ℕ
 batch_in None = Ok 1
 batch_in (Some d) = in_range key.Batch 1 MAX_ENTRIES (whole_of d)
 
 -- how many entries a client puts into one Log: 1 where it isn't said
-abbrev pub batch_at : Data → Read ℕ
+abbrev pub batch_at : Data → Read Wrong ℕ
 batch_at d = batch_in (get (key_text key.Batch) d)
 
 abbrev pub new_client : ℕ → SocketAddr → ℕ → ClientPlace
 new_client number address batch = record { client = record { 0 = number }; address = address; batch = batch }
 
 -- a client, behind those that come before it
-abbrev pub client_of : List NodePlace → List ClientPlace → Data → Read ClientPlace
+abbrev pub client_of : List NodePlace → List ClientPlace → Data → Read Wrong ClientPlace
 client_of nodes clients d =
     unless (key_fault client_keys d)
     (number_of d >>= λ number. address_at d >>= λ address. batch_at d >>= λ batch. unless (wrong_if (list_any (λ c. c.client.0 == number) clients) Twice)
@@ -154,7 +155,7 @@ client_of nodes clients d =
 abbrev pub clients_from : List NodePlace → List ClientPlace → List Data → Told (List ClientPlace)
 clients_from nodes clients [] = Ok clients
 clients_from nodes clients (d ∷ ds) =
-    at (place_at key.Client (length clients + 1) d) (client_of nodes clients d) >>> λ c. clients_from nodes (clients ++ c ∷ []) ds
+    at (place_at key.Client (length clients + 1) d) (client_of nodes clients d) >>= λ c. clients_from nodes (clients ++ c ∷ []) ds
 
 -- ---- the whole
 
@@ -163,16 +164,16 @@ file_keys = key.Class ∷ key.Node ∷ key.Handler ∷ key.Client ∷ []
 
 -- the classes of the file, the nodes, the handlers, the clients
 abbrev pub classes_of : Data → Told (List NamedClass)
-classes_of d = at File (list_at key.Class MAX_CLASSES d) >>> classes_from []
+classes_of d = at File (list_at key.Class MAX_CLASSES d) >>= classes_from []
 
 abbrev pub nodes_of : Data → Told (List NodePlace)
-nodes_of d = at File (list_at key.Node MAX_NODES d) >>> nodes_from []
+nodes_of d = at File (list_at key.Node MAX_NODES d) >>= nodes_from []
 
 abbrev pub handlers_of : List NamedClass → List NodePlace → Data → Told (List HandlerPlace)
-handlers_of classes nodes d = at File (list_at key.Handler MAX_HANDLERS d) >>> handlers_from classes nodes []
+handlers_of classes nodes d = at File (list_at key.Handler MAX_HANDLERS d) >>= handlers_from classes nodes []
 
 abbrev pub clients_of : List NodePlace → Data → Told (List ClientPlace)
-clients_of nodes d = at File (list_at key.Client MAX_CLIENTS d) >>> clients_from nodes []
+clients_of nodes d = at File (list_at key.Client MAX_CLIENTS d) >>= clients_from nodes []
 
 abbrev pub plan_of : List NamedClass → List NodePlace → List HandlerPlace → List ClientPlace → Plan
 plan_of classes nodes handlers clients = record { classes = classes; nodes = nodes; handlers = handlers; clients = clients }
@@ -180,5 +181,5 @@ plan_of classes nodes handlers clients = record { classes = classes; nodes = nod
 -- what a table means: the first fault is that of its keys, then of its classes, nodes, handlers and clients
 abbrev pub system_of : Data → Told Plan
 system_of d =
-    at File (unless (key_fault file_keys d) (Ok d)) >>> λ file. classes_of file >>> λ classes. nodes_of file >>> λ nodes.
-    handlers_of classes nodes file >>> λ handlers. clients_of nodes file >>> λ clients. Ok (plan_of classes nodes handlers clients)
+    at File (unless (key_fault file_keys d) (Ok d)) >>= λ file. classes_of file >>= λ classes. nodes_of file >>= λ nodes.
+    handlers_of classes nodes file >>= λ handlers. clients_of nodes file >>= λ clients. Ok (plan_of classes nodes handlers clients)

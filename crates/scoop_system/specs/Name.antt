@@ -1,6 +1,7 @@
 -- Names, and what is told of a text.
 use Rattle.std.specs.Prelude.{ℕ, ◌==◌, ◌&&◌, ◌||◌, nat_le, Bool, false, if◌then◌else◌, List, [], ◌∷◌, length, map, take}
 use Rattle.std.specs.List.{list_all}
+use Rattle.scoop_words.specs.Number.{is_digit}
 use Rattle.scoop_system.specs.declared.name.TheConstants.{MAX_NAME_LEN}
 
 -- printable ASCII
@@ -17,9 +18,6 @@ told text = map told_byte (take MAX_NAME_LEN text)
 
 abbrev pub is_letter : ℕ → Bool
 is_letter byte = (nat_le 65 byte && nat_le byte 90) || (nat_le 97 byte && nat_le byte 122)
-
-abbrev pub is_digit : ℕ → Bool
-is_digit byte = nat_le 48 byte && nat_le byte 57
 
 -- a letter, a digit, `_` or `-`
 abbrev pub is_name_byte : ℕ → Bool

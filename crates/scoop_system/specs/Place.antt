@@ -1,25 +1,22 @@
 -- Where something is wrong.
-use Rattle.std.specs.Prelude.{ℕ, ◌^◌, ◌-◌, Option, Some, None, Result, Ok, Err}
+use Rattle.std.specs.Prelude.{ℕ, ◌^◌, ◌-◌, Option, Some, None, Ok, Err}
 use Rattle.std.specs.Result.{result_ok}
 use Rattle.toml.specs.Data.{Data}
+use Rattle.scoop_words.specs.Reading.{Read}
 use Rattle.scoop_system.specs.declared.error.Key.{Key}
 use Rattle.scoop_system.specs.declared.error.Key.TheVariants as key
 use Rattle.scoop_system.specs.declared.error.Place.{Place}
 use Rattle.scoop_system.specs.declared.error.Place.TheVariants.{Numbered, Nameless}
 use Rattle.scoop_system.specs.declared.error.Fault.{Fault}
-use Rattle.scoop_system.specs.Value.{Read, number_at}
+use Rattle.scoop_system.specs.declared.error.Wrong.{Wrong}
+use Rattle.scoop_system.specs.Value.{number_at}
 
 -- what a file says, or the first fault
 abbrev pub Told : Type 0 → Type 0
-Told A = Result A Fault
-
-infixl 10 ◌>>>◌
-abbrev pub ◌>>>◌ : {A B : Type 0} → Told A → (A → Told B) → Told B
-(Ok x) >>> read = read x
-(Err fault) >>> read = Err fault
+Told A = Read Fault A
 
 -- what is wrong is wrong at this place
-abbrev pub at : {A : Type 0} → Place → Read A → Told A
+abbrev pub at : {A : Type 0} → Place → Read Wrong A → Told A
 at place (Ok x) = Ok x
 at place (Err wrong) = Err (record { place = place; wrong = wrong })
 

@@ -1,7 +1,9 @@
 -- What the rows of a class in a file say.
-use Rattle.std.specs.Prelude.{ℕ, ◌==◌, ◌+◌, ◌^◌, ◌-◌, nat_lt, nat_le, Bool, if◌then◌else◌, List, [], ◌∷◌, ◌++◌, length, find, is_some, Option, Some, None, Result, Ok, Err}
+use Rattle.std.specs.Prelude.{ℕ, ◌==◌, ◌^◌, ◌-◌, nat_lt, if◌then◌else◌, List, [], ◌∷◌, ◌++◌, find, is_some, Option, Some, None, Ok, Err}
 use Rattle.std.specs.List.{list_any}
 use Rattle.toml.specs.Data.{Data, Items, get, as_str, as_array}
+use Rattle.scoop_words.specs.Number.{decimal_of}
+use Rattle.scoop_words.specs.Reading.{Read, ◌>>=◌, unless}
 use Rattle.scoop_message.specs.declared.limits.TheConstants.{MAX_ARGS, MAX_WRITES}
 use Rattle.scoop_classes.specs.Classes.{same_text}
 use Rattle.scoop_object.specs.declared.term.Term.{Term}
@@ -12,69 +14,68 @@ use Rattle.scoop_system.specs.declared.class.OwnOperation.{OwnOperation}
 use Rattle.scoop_system.specs.declared.error.Key.{Key}
 use Rattle.scoop_system.specs.declared.error.Key.TheVariants as key
 use Rattle.scoop_system.specs.declared.error.Wrong.{Wrong}
-use Rattle.scoop_system.specs.declared.error.Wrong.TheVariants.{Missing, NotAName, NotATerm, NotAText, NoSuchWord, NoSuchArgument, NotATest, NotAWrite, WrittenTwice, Twice, NameTwice}
+use Rattle.scoop_system.specs.declared.error.Wrong.TheVariants.{Missing, NotATerm, NotAText, NoSuchWord, NoSuchArgument, NotATest, NotAWrite, WrittenTwice, Twice, NameTwice}
 use Rattle.scoop_system.specs.Name.{told}
-use Rattle.scoop_system.specs.Number.{decimal_of}
 use Rattle.scoop_system.specs.KeyText.{key_text}
-use Rattle.scoop_system.specs.Value.{Read, ◌>>=◌, unless, list_of, number_at, name_at, list_at, key_fault}
+use Rattle.scoop_system.specs.Value.{list_of, number_at, name_at, list_at, key_fault}
 
 -- ---- terms, in a class of so many words
 
 -- `w` and the place of a word
-abbrev pub word_term : ℕ → List ℕ → Option ℕ → Read Term
+abbrev pub word_term : ℕ → List ℕ → Option ℕ → Read Wrong Term
 word_term words text None = Err (NotATerm (told text))
 word_term words text (Some i) = if nat_lt i words then Ok (Word i) else Err (NoSuchWord (told text))
 
 -- `a` and the place of an argument
-abbrev pub argument_term : List ℕ → Option ℕ → Read Term
+abbrev pub argument_term : List ℕ → Option ℕ → Read Wrong Term
 argument_term text None = Err (NotATerm (told text))
 argument_term text (Some i) = if nat_lt i MAX_ARGS then Ok (Arg i) else Err (NoSuchArgument (told text))
 
-abbrev pub constant_term : List ℕ → Option ℕ → Read Term
+abbrev pub constant_term : List ℕ → Option ℕ → Read Wrong Term
 constant_term text None = Err (NotATerm (told text))
 constant_term text (Some n) = Ok (Const n)
 
 -- a term: a word, an argument, or a constant in decimal digits
-abbrev pub term_of : ℕ → List ℕ → Read Term
+abbrev pub term_of : ℕ → List ℕ → Read Wrong Term
 term_of words [] = Err (NotATerm (told []))
 term_of words (byte ∷ digits) =
     if byte == 119 then word_term words (byte ∷ digits) (decimal_of digits)
     else (if byte == 97 then argument_term (byte ∷ digits) (decimal_of digits)
     else constant_term (byte ∷ digits) (decimal_of (byte ∷ digits)))
 
-abbrev pub or_no_term : ℕ → Option (List ℕ) → Read Term
+abbrev pub or_no_term : ℕ → Option (List ℕ) → Read Wrong Term
 or_no_term words None = Err NotAText
 or_no_term words (Some text) = term_of words text
 
-abbrev pub term_in : ℕ → Data → Read Term
+abbrev pub term_in : ℕ → Data → Read Wrong Term
 term_in words d = or_no_term words (as_str d)
 
 -- ---- the parts of an operation
 
-abbrev pub two_terms : ℕ → List Data → Read (Option (Term × Term))
+abbrev pub two_terms : ℕ → List Data → Read Wrong (Option (Term × Term))
 two_terms words [] = Err NotATest
 two_terms words (a ∷ []) = Err NotATest
 two_terms words (a ∷ b ∷ []) = term_in words a >>= λ left. term_in words b >>= λ right. Ok (Some (left, right))
 two_terms words (a ∷ b ∷ c ∷ ds) = Err NotATest
 
-abbrev pub listed_test : ℕ → Option Items → Read (Option (Term × Term))
+abbrev pub listed_test : ℕ → Option Items → Read Wrong (Option (Term × Term))
 listed_test words None = Err NotATest
 listed_test words (Some ds) = two_terms words (list_of ds)
 
-abbrev pub test_in : ℕ → Option Data → Read (Option (Term × Term))
+abbrev pub test_in : ℕ → Option Data → Read Wrong (Option (Term × Term))
 test_in words None = Ok None
 test_in words (Some d) = listed_test words (as_array d)
 
 -- the test: two terms, of which the left one is to be at most the right one
-abbrev pub test_at : ℕ → Data → Read (Option (Term × Term))
+abbrev pub test_at : ℕ → Data → Read Wrong (Option (Term × Term))
 test_at words d = test_in words (get (key_text key.Test) d)
 
-abbrev pub written_word : Term → Read ℕ
+abbrev pub written_word : Term → Read Wrong ℕ
 written_word (Const n) = Err NotAWrite
 written_word (Word i) = Ok i
 written_word (Arg i) = Err NotAWrite
 
-abbrev pub four_terms : ℕ → List Data → Read Write
+abbrev pub four_terms : ℕ → List Data → Read Wrong Write
 four_terms words [] = Err NotAWrite
 four_terms words (w ∷ []) = Err NotAWrite
 four_terms words (w ∷ a ∷ []) = Err NotAWrite
@@ -84,34 +85,34 @@ four_terms words (w ∷ a ∷ b ∷ c ∷ []) =
     Ok (record { word = word; base = base; plus = plus; minus = minus })
 four_terms words (w ∷ a ∷ b ∷ c ∷ d ∷ ds) = Err NotAWrite
 
-abbrev pub listed_write : ℕ → Option Items → Read Write
+abbrev pub listed_write : ℕ → Option Items → Read Wrong Write
 listed_write words None = Err NotAWrite
 listed_write words (Some ds) = four_terms words (list_of ds)
 
 -- a write: a word, and the three terms of `base + plus - minus`
-abbrev pub write_in : ℕ → Data → Read Write
+abbrev pub write_in : ℕ → Data → Read Wrong Write
 write_in words d = listed_write words (as_array d)
 
 abbrev pub written_before : List Write → Write → Option Wrong
 written_before done w = if list_any (λ v. v.word == w.word) done then Some (WrittenTwice w.word) else None
 
 -- a write, behind those that come before it
-abbrev pub next_write : ℕ → List Write → Data → Read Write
+abbrev pub next_write : ℕ → List Write → Data → Read Wrong Write
 next_write words done d = write_in words d >>= λ w. unless (written_before done w) (Ok w)
 
-abbrev pub writes_from : ℕ → List Write → List Data → Read (List Write)
+abbrev pub writes_from : ℕ → List Write → List Data → Read Wrong (List Write)
 writes_from words done [] = Ok done
 writes_from words done (d ∷ ds) = next_write words done d >>= λ w. writes_from words (done ++ w ∷ []) ds
 
 -- the writes, no word of them twice
-abbrev pub writes_at : ℕ → Data → Read (List Write)
+abbrev pub writes_at : ℕ → Data → Read Wrong (List Write)
 writes_at words d = list_at key.Writes MAX_WRITES d >>= writes_from words []
 
-abbrev pub answer_in : ℕ → Option Data → Read Term
+abbrev pub answer_in : ℕ → Option Data → Read Wrong Term
 answer_in words None = Err (Missing key.Answer)
 answer_in words (Some d) = term_in words d
 
-abbrev pub answer_at : ℕ → Data → Read Term
+abbrev pub answer_at : ℕ → Data → Read Wrong Term
 answer_at words d = answer_in words (get (key_text key.Answer) d)
 
 -- ---- an operation
@@ -130,7 +131,7 @@ named_row number name test writes answer =
     (record { op = number; test = test; writes = writes; answer = answer }, record { number = number; name = name })
 
 -- an operation and its name, behind those that come before it
-abbrev pub operation_of : ℕ → List OpRow → List OwnOperation → Data → Read (OpRow × OwnOperation)
+abbrev pub operation_of : ℕ → List OpRow → List OwnOperation → Data → Read Wrong (OpRow × OwnOperation)
 operation_of words rows operations d =
     unless (key_fault operation_keys d)
     (number_at key.Number 0 (2 ^ 16 - 1) d >>= λ number. name_at key.Name d >>= λ name. test_at words d >>= λ test. writes_at words d >>= λ writes.

@@ -1,10 +1,12 @@
 -- What the values of a TOML text say, and what is wrong with them.
-use Rattle.std.specs.Prelude.{ℕ, ℤ, pos, negsuc, ◌==◌, ◌&&◌, ◌-◌, ◌^◌, nat_le, nat_lt, not, Bool, if◌then◌else◌, List, [], ◌∷◌, length, find, Option, Some, None, Result, Ok, Err}
+use Rattle.std.specs.Prelude.{ℕ, ℤ, pos, negsuc, ◌==◌, ◌&&◌, nat_le, nat_lt, not, Bool, if◌then◌else◌, List, [], ◌∷◌, length, find, Option, Some, None, Ok, Err}
 use Rattle.std.specs.List.{list_any}
-use Rattle.std.specs.Option.{option_and_then}
+use Rattle.std.specs.Option.{option_and_then, ok_or}
 use Rattle.std.specs.declared.net.socket_addr.SocketAddr.{SocketAddr}
 use Rattle.std.specs.Net.Socket.{socket_port}
 use Rattle.toml.specs.Data.{Data, Items, no_items, item, Members, no_members, member, get, as_str, as_integer, as_array, as_table}
+use Rattle.scoop_words.specs.Number.{decimal_of}
+use Rattle.scoop_words.specs.Reading.{Read, ◌>>=◌, each_of}
 use Rattle.scoop_message.specs.declared.limits.TheConstants.{MAX_WORDS}
 use Rattle.scoop_classes.specs.Classes.{same_text}
 use Rattle.scoop_system.specs.declared.error.Key.{Key}
@@ -12,24 +14,8 @@ use Rattle.scoop_system.specs.declared.error.Key.TheVariants as key
 use Rattle.scoop_system.specs.declared.error.Wrong.{Wrong}
 use Rattle.scoop_system.specs.declared.error.Wrong.TheVariants.{UnknownKey, Missing, NotANumber, NotAName, NotAnAddress, NotAList, NoTable, TooMany, NotWords}
 use Rattle.scoop_system.specs.Name.{is_name, told}
-use Rattle.scoop_system.specs.Number.{decimal_of}
 use Rattle.scoop_system.specs.Address.{address_of}
 use Rattle.scoop_system.specs.KeyText.{key_text}
-
--- what is read, or what is wrong
-abbrev pub Read : Type 0 → Type 0
-Read A = Result A Wrong
-
--- one thing is read after another, and the first that is wrong is told
-infixl 10 ◌>>=◌
-abbrev pub ◌>>=◌ : {A B : Type 0} → Read A → (A → Read B) → Read B
-(Ok x) >>= read = read x
-(Err wrong) >>= read = Err wrong
-
--- what is wrong is told, if anything is
-abbrev pub unless : {A : Type 0} → Option Wrong → Read A → Read A
-unless None read = read
-unless (Some wrong) read = Err wrong
 
 -- the values of a list
 abbrev pub list_of : Items → List Data
@@ -55,69 +41,65 @@ abbrev pub word_of : Data → Option ℕ
 word_of d = written_or (as_str d) (whole_of d)
 
 -- the number, where it is in its range
-abbrev pub in_range : Key → ℕ → ℕ → Option ℕ → Read ℕ
+abbrev pub in_range : Key → ℕ → ℕ → Option ℕ → Read Wrong ℕ
 in_range k low high None = Err (NotANumber k low high)
 in_range k low high (Some n) = if nat_le low n && nat_le n high then Ok n else Err (NotANumber k low high)
 
-abbrev pub number_in : Key → ℕ → ℕ → Option Data → Read ℕ
+abbrev pub number_in : Key → ℕ → ℕ → Option Data → Read Wrong ℕ
 number_in k low high None = Err (Missing k)
 number_in k low high (Some d) = in_range k low high (whole_of d)
 
 -- the number at a key
-abbrev pub number_at : Key → ℕ → ℕ → Data → Read ℕ
+abbrev pub number_at : Key → ℕ → ℕ → Data → Read Wrong ℕ
 number_at k low high d = number_in k low high (get (key_text k) d)
 
 -- ---- texts
 
-abbrev pub or_no_name : Key → Option (List ℕ) → Read (List ℕ)
-or_no_name k None = Err (NotAName k)
-or_no_name k (Some text) = Ok text
-
-abbrev pub text_in : Key → Option Data → Read (List ℕ)
+abbrev pub text_in : Key → Option Data → Read Wrong (List ℕ)
 text_in k None = Err (Missing k)
-text_in k (Some d) = or_no_name k (as_str d)
+text_in k (Some d) = ok_or (as_str d) (NotAName k)
 
 -- the text at a key
-abbrev pub text_at : Key → Data → Read (List ℕ)
+abbrev pub text_at : Key → Data → Read Wrong (List ℕ)
 text_at k d = text_in k (get (key_text k) d)
 
-abbrev pub if_name : Key → List ℕ → Read (List ℕ)
+abbrev pub if_name : Key → List ℕ → Read Wrong (List ℕ)
 if_name k text = if is_name text then Ok (told text) else Err (NotAName k)
 
 -- the name at a key
-abbrev pub name_at : Key → Data → Read (List ℕ)
+abbrev pub name_at : Key → Data → Read Wrong (List ℕ)
 name_at k d = text_at k d >>= if_name k
 
 -- ---- addresses
 
-abbrev pub with_port : Option SocketAddr → Read SocketAddr
+abbrev pub with_port : Option SocketAddr → Read Wrong SocketAddr
 with_port None = Err NotAnAddress
 with_port (Some a) = if socket_port a == 0 then Err NotAnAddress else Ok a
 
-abbrev pub address_in : Option Data → Read SocketAddr
+abbrev pub address_in : Option Data → Read Wrong SocketAddr
 address_in None = Err (Missing key.Address)
 address_in (Some d) = with_port (option_and_then address_of (as_str d))
 
 -- the address of a table: an IP address with a port that isn't 0
-abbrev pub address_at : Data → Read SocketAddr
+abbrev pub address_at : Data → Read Wrong SocketAddr
 address_at d = address_in (get (key_text key.Address) d)
 
 -- ---- tables
 
-abbrev pub few : {A : Type 0} → Key → ℕ → List A → Read (List A)
+abbrev pub few : {A : Type 0} → Key → ℕ → List A → Read Wrong (List A)
 few k limit xs = if nat_lt limit (length xs) then Err (TooMany k limit) else Ok xs
 
-abbrev pub listed : Key → Option Items → Read (List Data)
+abbrev pub listed : Key → Option Items → Read Wrong (List Data)
 listed k None = Err (NotAList k)
 listed k (Some ds) = Ok (list_of ds)
 
 -- the values of the list at a key, none where the key is missing
-abbrev pub list_in : Key → Option Data → Read (List Data)
+abbrev pub list_in : Key → Option Data → Read Wrong (List Data)
 list_in k None = Ok []
 list_in k (Some d) = listed k (as_array d)
 
 -- so many values at most
-abbrev pub list_at : Key → ℕ → Data → Read (List Data)
+abbrev pub list_at : Key → ℕ → Data → Read Wrong (List Data)
 list_at k limit d = list_in k (get (key_text k) d) >>= few k limit
 
 abbrev pub names_of : Members → List (List ℕ)
@@ -141,25 +123,20 @@ key_fault known d = table_fault known (as_table d)
 
 -- ---- words
 
-abbrev pub or_not_words : Option ℕ → Read ℕ
-or_not_words None = Err NotWords
-or_not_words (Some n) = Ok n
+abbrev pub some_word : Data → Read Wrong ℕ
+some_word d = ok_or (word_of d) NotWords
 
-abbrev pub each_word : List Data → Read (List ℕ)
-each_word [] = Ok []
-each_word (d ∷ ds) = or_not_words (word_of d) >>= λ n. each_word ds >>= λ ns. Ok (n ∷ ns)
+abbrev pub some_words : List Data → Read Wrong (List ℕ)
+some_words ds = if nat_le 1 (length ds) && nat_le (length ds) MAX_WORDS then each_of some_word ds else Err NotWords
 
-abbrev pub some_words : List Data → Read (List ℕ)
-some_words ds = if nat_le 1 (length ds) && nat_le (length ds) MAX_WORDS then each_word ds else Err NotWords
-
-abbrev pub listed_words : Option Items → Read (List ℕ)
+abbrev pub listed_words : Option Items → Read Wrong (List ℕ)
 listed_words None = Err NotWords
 listed_words (Some ds) = some_words (list_of ds)
 
-abbrev pub words_in : Option Data → Read (List ℕ)
+abbrev pub words_in : Option Data → Read Wrong (List ℕ)
 words_in None = Err (Missing key.Words)
 words_in (Some d) = listed_words (as_array d)
 
 -- one to sixteen words
-abbrev pub words_at : Data → Read (List ℕ)
+abbrev pub words_at : Data → Read Wrong (List ℕ)
 words_at d = words_in (get (key_text key.Words) d)

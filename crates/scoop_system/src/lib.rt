@@ -24,7 +24,6 @@
 
 mod arguments;
 mod class;
-mod decimal;
 mod error;
 mod line;
 mod name;

@@ -2,7 +2,7 @@
 
 ghost use Rattle.std.specs.Prelude.{◌≡◌};
 ghost use Rattle.scoop_system.specs.Line.{client_line, line_of, end_line};
-ghost use Rattle.scoop_system.specs.Words.{words_of};
+ghost use Rattle.scoop_words.specs.Words.{words_of};
 
 mod fault;
 mod number;
@@ -16,8 +16,8 @@ pub use fault::LineFault;
 use request::read_request_alone;
 use reserve::read_reserve;
 use scoop_message::{HandlerId, Request};
-pub(crate) use words::is;
-use words::{is_blank, next_word, without_return};
+use scoop_words::{is, is_blank, next_word};
+use words::without_return;
 
 /// What a line asks of a client.
 #[derive(Clone, Copy, Debug, PartialEq, Eq)]

@@ -3,8 +3,8 @@
 ghost use Rattle.std.specs.Prelude.{◌≡◌};
 ghost use Rattle.scoop_system.specs.Operations.{known_operation};
 
-use crate::line::is;
 use scoop_classes::DemoClass;
+use scoop_words::is;
 
 // The number of the operation of this name, if the class has it.
 pub(crate) fn known_operation(class: DemoClass, name: &[u8]) -> Option<u16>

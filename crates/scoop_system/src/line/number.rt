@@ -4,37 +4,28 @@ ghost use Rattle.std.specs.Prelude.{◌≡◌, ◌≤◌, ◌^◌, IfOk};
 ghost use Rattle.scoop_system.specs.Line.{number_below, handler_of, tries_of};
 
 use super::fault::LineFault;
-use crate::decimal::decimal;
 use scoop_message::HandlerId;
+use scoop_words::{decimal, decimal_u16, decimal_u32};
 
 // The number below 2^64 that a word writes.
 pub(super) fn read_u64(word: &[u8]) -> Result<u64, LineFault>
     ensures { result ≡ number_below (2 ^ 64) word.now }
 {
-    match decimal(word) {
-        Some(number) => Ok(number),
-        None => Err(LineFault::NotANumber),
-    }
+    decimal(word).ok_or(LineFault::NotANumber)
 }
 
 // The same below 2^32.
 pub(super) fn read_u32(word: &[u8]) -> Result<u32, LineFault>
     ensures { result ≡ number_below (2 ^ 32) word.now }
 {
-    match decimal(word) {
-        Some(number) => u32::try_from(number).map_err(|_| LineFault::NotANumber),
-        None => Err(LineFault::NotANumber),
-    }
+    decimal_u32(word).ok_or(LineFault::NotANumber)
 }
 
 // The same below 2^16.
 pub(super) fn read_u16(word: &[u8]) -> Result<u16, LineFault>
     ensures { result ≡ number_below (2 ^ 16) word.now }
 {
-    match decimal(word) {
-        Some(number) => u16::try_from(number).map_err(|_| LineFault::NotANumber),
-        None => Err(LineFault::NotANumber),
-    }
+    decimal_u16(word).ok_or(LineFault::NotANumber)
 }
 
 // A handler by its number.

@@ -2,17 +2,19 @@
 
 ghost use Rattle.std.specs.Prelude.{◌≡◌, ◌≤◌, length, codes};
 ghost use Rattle.scoop_message.specs.declared.limits.TheConstants.{MAX_ARGS};
-ghost use Rattle.scoop_system.specs.Words.{words_of, before};
+ghost use Rattle.scoop_words.specs.Words.{words_of};
+ghost use Rattle.scoop_words.specs.Reading.{each_of};
+ghost use Rattle.scoop_system.specs.Words.{before};
 ghost use Rattle.scoop_system.specs.System.{handler_named};
-ghost use Rattle.scoop_system.specs.Line.{request_line, request_of, operation_of, unnamed_fault, each_of, number_of, count_fault};
+ghost use Rattle.scoop_system.specs.Line.{request_line, request_of, operation_of, unnamed_fault, number_of, count_fault};
 
 use super::fault::LineFault;
 use super::number::{read_handler, read_u16, read_u64};
-use super::words::{behind, count_before, is, next_word};
-use crate::decimal::is_decimal;
+use super::words::{behind, count_before};
 use crate::system::System;
 use scoop_message::limits::MAX_ARGS;
 use scoop_message::{Args, HandlerId, Request};
+use scoop_words::{is, is_decimal, next_word};
 
 // The word that ends the arguments of a condition.
 pub(super) const LEAST: &str = "least";

@@ -2,17 +2,20 @@
 
 ghost use Rattle.std.specs.Prelude.{◌≡◌, ◌≤◌, length, codes, Some, Ok, Err, MatchResult};
 ghost use Rattle.scoop_system.specs.declared.named_handlers.TheConstants.{MAX_NAMED};
-ghost use Rattle.scoop_system.specs.Words.{words_of, before, behind};
-ghost use Rattle.scoop_system.specs.Line.{reserve_line, when_line, each_of, handler_of, bounds_of};
+ghost use Rattle.scoop_words.specs.Words.{words_of};
+ghost use Rattle.scoop_words.specs.Reading.{each_of};
+ghost use Rattle.scoop_system.specs.Words.{before, behind};
+ghost use Rattle.scoop_system.specs.Line.{reserve_line, when_line, handler_of, bounds_of};
 
 use super::ClientLine;
 use super::fault::LineFault;
 use super::number::{read_handler, read_tries, read_u64};
 use super::request::{LEAST, read_request};
-use super::words::{behind, count_before, is, next_word};
+use super::words::{behind, count_before};
 use crate::named_handlers::{MAX_NAMED, NamedHandlers};
 use crate::system::System;
 use scoop_message::HandlerId;
+use scoop_words::{is, next_word};
 
 // The word that ends the handlers.
 const WHEN: &str = "when";
@@ -75,7 +78,8 @@ fn read_when(system: &System, handlers: NamedHandlers, line: &[u8]) -> Result<Cl
 
 // The two words of `V tries T` behind the word `least`.
 fn find_bounds(line: &[u8]) -> Result<(&[u8], &[u8]), LineFault>
-    ensures { MatchResult result (λ b. bounds_of (behind (codes "least") (words_of line.now)) ≡ Ok (b.0.now, b.1.now)) (λ e. bounds_of (behind (codes "least") (words_of line.now)) ≡ Err e) }
+    ensures { MatchResult result (λ b. bounds_of (behind (codes "least") (words_of line.now)) ≡ Ok (b.0.now, b.1.now))
+        (λ e. bounds_of (behind (codes "least") (words_of line.now)) ≡ Err e) }
 {
     match behind(line, LEAST) {
         Some(rest) => bounds_in(rest),

@@ -79,7 +79,8 @@ fn build_class(alloc: Global, words: u8, rows: &[OpRow]) -> Result<Class, Stop>
 
 // The name, the number of words and the operations' values of a class.
 fn class_head<'a>(value: &'a Value, done: &[OwnClass]) -> Result<ClassHead<'a>, Wrong>
-    ensures ok { IfOk result (λ h. class_head done.now (view value.now) ≡ Ok (record { name = h.name; words = h.words; operations = map view h.operations.now })) }
+    ensures ok { IfOk result (λ h. class_head done.now (view value.now)
+        ≡ Ok (record { name = h.name; words = h.words; operations = map view h.operations.now })) }
     ensures fault { IfErr result (λ wrong. class_head done.now (view value.now) ≡ Err wrong) }
     ensures some { IfOk result (λ h. 1 ≤ h.words) }
     ensures few { IfOk result (λ h. h.words ≤ MAX_WORDS) }
@@ -121,8 +122,10 @@ fn read_operations(
     operations: &mut Vec<OwnOperation>,
 ) -> Result<(), Stop>
     requires { head.now.words ≤ MAX_WORDS }
-    ensures ok { IfOk result (λ _. operations_from head.now.name head.now.words rows.old.items operations.old.items (map view head.now.operations.now) ≡ Ok (rows.new.items, operations.new.items)) }
-    ensures fault { IfErr result (λ e. IfFault e (λ fault. operations_from head.now.name head.now.words rows.old.items operations.old.items (map view head.now.operations.now) ≡ Err fault)) }
+    ensures ok { IfOk result (λ _. operations_from head.now.name head.now.words rows.old.items operations.old.items (map view head.now.operations.now)
+        ≡ Ok (rows.new.items, operations.new.items)) }
+    ensures fault { IfErr result (λ e. IfFault e (λ fault.
+        operations_from head.now.name head.now.words rows.old.items operations.old.items (map view head.now.operations.now) ≡ Err fault)) }
 {
     for value in head.operations {
         let place = operation_place(value, head.name, rows.len() + 1);

@@ -4,7 +4,8 @@ ghost use Rattle.std.specs.Prelude.{◌≡◌, None, Ok, Err, IfOk, IfErr};
 ghost use Rattle.toml.specs.View.{view};
 ghost use Rattle.scoop_system.specs.Meaning.{file_keys};
 ghost use Rattle.scoop_system.specs.Place.{at, place_at};
-ghost use Rattle.scoop_system.specs.Value.{key_fault, unless};
+ghost use Rattle.scoop_words.specs.Reading.{unless};
+ghost use Rattle.scoop_system.specs.Value.{key_fault};
 ghost use Rattle.scoop_system.specs.Classes.{class_place, operation_place};
 
 use super::value::{key_fault, name_at, number_at};

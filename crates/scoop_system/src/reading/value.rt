@@ -11,11 +11,11 @@ ghost use Rattle.scoop_system.specs.KeyText.{key_text};
 ghost use Rattle.scoop_system.specs.Value.{whole_of, word_of, in_range, number_at, text_at, name_at, address_at, with_port, list_at, is_known, key_fault, words_at, some_words};
 ghost use Rattle.scoop_system.specs.Address.{address_of};
 
-use crate::decimal::decimal;
 use crate::error::{Key, Wrong};
 use crate::name::{Name, is_name};
 use scoop_message::Words;
 use scoop_message::limits::MAX_WORDS;
+use scoop_words::decimal;
 use std::net::SocketAddr;
 use toml::{Table, Value};
 
@@ -125,7 +125,8 @@ fn parse_address(text: &str) -> Option<SocketAddr>
 
 // So many values at most of the list at a key, none where the key is missing.
 pub(super) fn list_at(value: &Value, key: Key, limit: usize) -> Result<&[Value], Wrong>
-    ensures value { MatchResult result (λ values. list_at key limit (view value.now) ≡ Ok (map view values.now)) (λ wrong. list_at key limit (view value.now) ≡ Err wrong) }
+    ensures value { MatchResult result (λ values. list_at key limit (view value.now) ≡ Ok (map view values.now))
+        (λ wrong. list_at key limit (view value.now) ≡ Err wrong) }
     ensures few { IfOk result (λ values. length values.now ≤ limit) }
 {
     let Some(list) = entry(value, key) else {

@@ -1,5 +1,4 @@
 use Rattle.std.proofs.Common.{append_assoc}
-use Rattle.scoop_system.specs.FaultText.{wrong_text}
 use Rattle.scoop_system.proofs.error.WrongDisplay.fmt.Goals as goal
 
 pub returns-in-WordCount-clause-writes : goal.returns-in-WordCount-clause-writes

@@ -1,13 +1,16 @@
 use Rattle.std.proofs.Common.{◌≡◌, ◌≤◌, ◌+◌, length, take, codes}
 use Rattle.scoop_message.specs.declared.limits.TheConstants.{MAX_ARGS}
-use Rattle.scoop_system.specs.Words.{words_of, before}
-use Rattle.scoop_system.specs.Line.{each_of, number_of}
-use Rattle.scoop_system.proofs.LineLemmas.{joined}
+use Rattle.scoop_words.specs.Words.{words_of}
+use Rattle.scoop_system.specs.Words.{before}
+use Rattle.scoop_words.specs.Reading.{each_of}
+use Rattle.scoop_system.specs.Line.{number_of}
+use Rattle.scoop_words.proofs.ReadingLemmas.{joined}
 use Rattle.scoop_system.proofs.line.request.read_args.Given as goal
 
 abbrev pub invariant-loop-word : goal.invariant-loop-word
 invariant-loop-word l = record {
-  read : each_of number_of (before (codes "least") (words_of l.fn.line)) ≡ joined (take l.count l.args) (each_of number_of (before (codes "least") (words_of l.rest)));
+  read : each_of number_of (before (codes "least") (words_of l.fn.line))
+      ≡ joined (take l.count l.args) (each_of number_of (before (codes "least") (words_of l.rest)));
   room : l.count + length (before (codes "least") (words_of l.rest)) ≤ MAX_ARGS;
   size : length l.args ≡ MAX_ARGS;
 }

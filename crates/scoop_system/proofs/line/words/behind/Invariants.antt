@@ -1,5 +1,6 @@
 use Rattle.std.proofs.Common.{length, ◌≡◌}
-use Rattle.scoop_system.specs.Words.{words_of, behind}
+use Rattle.scoop_words.specs.Words.{words_of}
+use Rattle.scoop_system.specs.Words.{behind}
 use Rattle.scoop_system.proofs.line.words.behind.Given as goal
 
 abbrev pub invariant-loop-word : goal.invariant-loop-word

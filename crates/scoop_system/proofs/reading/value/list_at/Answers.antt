@@ -1,7 +1,5 @@
-use Rattle.std.proofs.Common.{◌≡◌, ◌∙◌, ◌<◌, ◌≤◌, Some, sym, ap, arith, length, option_map}
-use Rattle.toml.specs.Data.{get, as_array}
-use Rattle.toml.specs.View.{view, array_view, items_view}
-use Rattle.scoop_system.specs.KeyText.{key_text}
+use Rattle.std.proofs.Common.{◌∙◌, sym, ap, option_map}
+use Rattle.toml.specs.View.{view, array_view}
 use Rattle.scoop_system.proofs.ViewLemmas.{list_too_long, list_few}
 use Rattle.scoop_system.proofs.reading.value.list_at.Goals as goal
 

@@ -1,12 +1,13 @@
 use Rattle.std.proofs.Common.{◌≡◌, length, take, drop, map}
 use Rattle.toml.specs.View.{view}
+use Rattle.scoop_words.specs.Reading.{each_of}
+use Rattle.scoop_words.proofs.ReadingLemmas.{joined}
 use Rattle.scoop_message.specs.declared.limits.TheConstants.{MAX_WORDS}
-use Rattle.scoop_system.specs.Value.{each_word}
-use Rattle.scoop_system.proofs.ReadLemmas.{joined}
+use Rattle.scoop_system.specs.Value.{some_word}
 use Rattle.scoop_system.proofs.reading.value.some_words.Given as goal
 
 abbrev pub invariant-loop-place : goal.invariant-loop-place
 invariant-loop-place l = record {
-  read : each_word (map view l.values) ≡ joined (take l.place l.words) (each_word (map view (drop l.place l.values)));
+  read : each_of some_word (map view l.values) ≡ joined (take l.place l.words) (each_of some_word (map view (drop l.place l.values)));
   size : length l.words ≡ MAX_WORDS;
 }

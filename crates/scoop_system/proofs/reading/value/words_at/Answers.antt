@@ -1,6 +1,5 @@
-use Rattle.std.proofs.Common.{◌∙◌, sym, ap, map, option_map}
+use Rattle.std.proofs.Common.{◌∙◌, sym, ap, option_map}
 use Rattle.toml.specs.View.{view, array_view}
-use Rattle.scoop_system.specs.Value.{some_words}
 use Rattle.scoop_system.proofs.ViewLemmas.{words_listed}
 use Rattle.scoop_system.proofs.reading.value.words_at.Goals as goal
 

@@ -1,6 +1,6 @@
 use Rattle.std.proofs.Common.{◌==◌, ◌∙◌, sym}
-use Rattle.scoop_system.proofs.WordLemmas.{position_somewhere, position_nowhere}
-use Rattle.scoop_system.proofs.line.words.word_len.Goals as goal
+use Rattle.scoop_words.proofs.WordLemmas.{position_somewhere, position_nowhere}
+use Rattle.scoop_words.proofs.words.word_len.Goals as goal
 
 pub returns-in-Some : goal.returns-in-Some
 returns-in-Some c = position_somewhere (λ byte. byte == 32) c.args.line.now _ (sym c.first_space.ensures ∙ c.in-Some.is)

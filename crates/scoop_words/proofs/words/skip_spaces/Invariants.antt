@@ -1,6 +1,6 @@
 use Rattle.std.proofs.Common.{length, ◌≤◌, ◌≡◌}
-use Rattle.scoop_system.specs.Words.{words_of}
-use Rattle.scoop_system.proofs.line.words.skip_spaces.Given as goal
+use Rattle.scoop_words.specs.Words.{words_of}
+use Rattle.scoop_words.proofs.words.skip_spaces.Given as goal
 
 abbrev pub invariant-loop-line : goal.invariant-loop-line
 invariant-loop-line l = record {

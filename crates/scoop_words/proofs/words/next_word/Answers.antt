@@ -1,6 +1,6 @@
 use Rattle.std.proofs.Common.{◌∙◌, sym}
-use Rattle.scoop_system.proofs.WordLemmas.{words_of-first, word_len-le, some_bytes}
-use Rattle.scoop_system.proofs.line.words.next_word.Goals as goal
+use Rattle.scoop_words.proofs.WordLemmas.{words_of-first, word_len-le, some_bytes}
+use Rattle.scoop_words.proofs.words.next_word.Goals as goal
 
 pub returns-clause-words : goal.returns-clause-words
 returns-clause-words c =

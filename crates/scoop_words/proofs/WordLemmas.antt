@@ -4,7 +4,7 @@ use Rattle.std.specs.Prelude.{position}
 use Rattle.std.specs.List.{slice_split, position_or_len}
 use Rattle.std.proofs.lemmas.Bool.Decides.{nat_tests}
 use Rattle.std.proofs.lemmas.List.Sums.{prefix_len-le-length}
-use Rattle.scoop_system.specs.Words.{words_of, is_word, begins_with_space}
+use Rattle.scoop_words.specs.Words.{words_of, is_word, begins_with_space}
 
 -- ---- the first place where a test passes, or the length
 
