@@ -69,7 +69,8 @@ loop_advice served.Stopped = never_advice
 loop_advice served.GateShut = never_advice
 
 abbrev pub driver_advice : DriverError → List ℕ
-driver_advice driver.TurnsOver = codes "a handler didn't answer: see whether the nodes run, and whether all programs have the same file and the same key"
+driver_advice driver.TurnsOver =
+    codes "a handler didn't answer: see whether the nodes run, whether all programs have the same file and the same key, and whether another client has stopped inside a block at that handler (begin that client again)"
 driver_advice driver.LinkFault = codes "a datagram could not be sent or received: see the addresses and the network"
 driver_advice (driver.Client client.OutOfMemory) = memory_advice
 driver_advice (driver.Client (client.Reserve reserve.OutOfMemory)) = memory_advice
@@ -90,7 +91,8 @@ show_advice show.Write = codes "see whether there is room for the output, and wh
 abbrev pub advice_text : RuntimeError → List ℕ
 advice_text (Line number fault) = line_advice fault
 advice_text (Input error) = source_advice error.fault
-advice_text InsideBlock = codes "write end behind the last line; until this client runs again, if only with empty input, its handlers wait for it"
+advice_text InsideBlock =
+    codes "write end behind the last line: this block is cut once the client runs again, if only with empty input, and until then its handlers wait for it"
 advice_text (Handlers error) = begin_advice error
 advice_text (NoHandler h) = codes "it is the store of another party, or of a node that was never ready (then nothing was answered): name this node's store, or make a new file by --new"
 advice_text (Ended error) = show_advice error

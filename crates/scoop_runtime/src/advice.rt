@@ -80,7 +80,8 @@ impl RuntimeError {
             RuntimeError::Line(_, fault) => line_advice(fault),
             RuntimeError::Input(error) => source_advice(error.fault),
             RuntimeError::InsideBlock => {
-                "write end behind the last line; until this client runs again, if only with empty input, its handlers wait for it"
+                "write end behind the last line: this block is cut once the client runs again, if only with empty input, and until then its \
+                handlers wait for it"
             }
             RuntimeError::Handlers(error) => begin_advice(error),
             RuntimeError::NoHandler(_) => {
@@ -212,7 +213,8 @@ fn driver_advice(error: DriverError) -> &'static str
 {
     match error {
         DriverError::TurnsOver => {
-            "a handler didn't answer: see whether the nodes run, and whether all programs have the same file and the same key"
+            "a handler didn't answer: see whether the nodes run, whether all programs have the same file and the same key, and \
+            whether another client has stopped inside a block at that handler (begin that client again)"
         }
         DriverError::LinkFault =>
             "a datagram could not be sent or received: see the addresses and the network",
