@@ -33,7 +33,8 @@ never_advice = codes "this can't come: tell the authors which command and which 
 abbrev pub line_advice : LineFault → List ℕ
 line_advice line.UnknownLine = codes "a line begins with reserve, call, query or end: scoop client --help has them all"
 line_advice line.WrongNumberOfWords = codes "scoop client --help says which words each line has"
-line_advice line.NotANumber = codes "write a decimal number: below 65536 of an operation, below 4294967296 of a handler, and from 1 on of the tries"
+line_advice line.NotANumber =
+    codes "write a whole number in decimal digits: an operation's is up to 65535, a handler's up to 4294967295, how often is tried 1 to 4294967295, an argument and what stands behind least 0 to 18446744073709551615"
 line_advice line.TooFewArguments = codes "scoop check shows which arguments, a0 to a3, the operation reads: give so many"
 line_advice line.TooManyArguments = codes "scoop check shows which arguments, a0 to a3, the operation reads: give so many"
 line_advice line.TooManyHandlers = codes "a block has at most 8 handlers: reserve fewer"

@@ -144,7 +144,8 @@ fn line_advice(fault: LineFault) -> &'static str
         }
         LineFault::WrongNumberOfWords => "scoop client --help says which words each line has",
         LineFault::NotANumber => {
-            "write a decimal number: below 65536 of an operation, below 4294967296 of a handler, and from 1 on of the tries"
+            "write a whole number in decimal digits: an operation's is up to 65535, a handler's up to 4294967295, how often is tried 1 \
+            to 4294967295, an argument and what stands behind least 0 to 18446744073709551615"
         }
         LineFault::TooFewArguments | LineFault::TooManyArguments => {
             "scoop check shows which arguments, a0 to a3, the operation reads: give so many"
