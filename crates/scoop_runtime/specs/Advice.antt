@@ -54,7 +54,8 @@ begin_advice begin.OutOfMemory = memory_advice
 
 abbrev pub store_advice : KeeperError → List ℕ
 store_advice keeper.Refused = codes "it could not be read or written: see whether the disk is full, and go on with --store, since what was answered is there"
-store_advice (keeper.BadImage h) = codes "what it has of this handler was changed or damaged, and can't be repaired: begin the system anew, with new stores and a new key"
+store_advice (keeper.BadImage h) =
+    codes "what it has of this handler was changed or damaged, and can't be repaired: begin the system anew, with new stores and a new key"
 store_advice keeper.IncarnationsSpent = codes "this client has begun as often as a client can: take another number"
 store_advice keeper.WrongSchema = codes "it is the store of another program, or of a later one: name the right store"
 store_advice keeper.OutOfMemory = memory_advice
@@ -83,7 +84,8 @@ show_advice show.NoLink = codes "another program uses this address, or it is non
 show_advice show.NoThread = codes "the system gives no more threads: ask for fewer by --executors"
 show_advice (show.Driver e) = driver_advice e
 show_advice (show.Loop end) = loop_advice end
-show_advice (show.WrongClass h) = codes "it has not as many words of this handler as the class has in the system's file: name this node's store, or the file that it was made with"
+show_advice (show.WrongClass h) =
+    codes "it has not as many words of this handler as the class has in the system's file: name this node's store, or the file that it was made with"
 show_advice (show.Store refusal) = store_advice refusal
 show_advice (show.NotClosed cause) = never_advice
 show_advice show.OutOfMemory = memory_advice
@@ -95,7 +97,8 @@ advice_text (Input error) = source_advice error.fault
 advice_text InsideBlock =
     codes "write end behind the last line: this block is cut once the client runs again, if only with empty input, and until then its handlers wait for it"
 advice_text (Handlers error) = begin_advice error
-advice_text (NoHandler h) = codes "it is the store of another party, or of a node that was never ready (then nothing was answered): name this node's store, or make a new file by --new"
+advice_text (NoHandler h) =
+    codes "it is the store of another party, or of a node that was never ready (then nothing was answered): name this node's store, or make a new file by --new"
 advice_text (Ended error) = show_advice error
 
 -- ---- what the advice is about

@@ -1,7 +1,9 @@
 //! What to do where a node or a client ends early, or doesn't begin.
 
 ghost use Rattle.std.specs.Prelude.{◌≡◌};
-ghost use Rattle.scoop_runtime.specs.Advice.{about, advice_text, begin_advice, driver_about, driver_advice, file_advice, line_advice, loop_about, loop_advice, show_about, show_advice, source_advice, store_advice};
+ghost use Rattle.scoop_runtime.specs.Advice.{about, driver_about, loop_about, show_about};
+ghost use Rattle.scoop_runtime.specs.Advice.{advice_text, begin_advice, driver_advice, file_advice, line_advice};
+ghost use Rattle.scoop_runtime.specs.Advice.{loop_advice, show_advice, source_advice, store_advice};
 
 use crate::error::RuntimeError;
 use crate::source::SourceFault;
