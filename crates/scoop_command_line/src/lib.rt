@@ -205,8 +205,8 @@ fn turns_option<'a>(alloc: Global) -> Arg<'a> {
         .long("turns")
         .value_name("T")
         .help(
-            "How many turns a client's call takes at most, each of which takes a datagram or ten milliseconds; a node's loop takes \
-            at most 100 times as many",
+            "How many turns a client's call takes at most, 1 or more, each of which takes a datagram or ten milliseconds; a node's \
+            loop takes at most 100 times as many",
         )
         .action(ArgAction::Set)
         .value_parser(value_parser!(u64))
