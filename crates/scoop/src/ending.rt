@@ -85,12 +85,13 @@ pub fn tell_file(rt: &HostRuntime, given: &ArgMatches<'_>, error: FileError) -> 
 /// Tells why a run over a store ends early, and behind it what to do, with the store's file where it is about that.
 pub fn tell_run(rt: &HostRuntime, given: &ArgMatches<'_>, error: RunError) -> Failure {
     let _ = eprintln!(rt; "scoop: {error}");
+    let advice = error.advice_over_store();
     match error {
         RunError::Store(_) | RunError::WrongClass(_) | RunError::NodeFailed => {
-            tell_advice(rt, given, error.advice());
+            tell_advice(rt, given, advice);
         }
         _ => {
-            let _ = eprintln!(rt; "scoop: {}", error.advice());
+            let _ = eprintln!(rt; "scoop: {advice}");
         }
     }
     Failure::Told(error.status())
@@ -103,7 +104,11 @@ fn tell_runtime(
     error: RuntimeError,
 ) -> Failure {
     let _ = eprintln!(rt; "scoop: {error}");
-    let advice = error.advice();
+    let advice = if store_path(given).is_some() {
+        error.advice_over_store()
+    } else {
+        error.advice()
+    };
     match error.about() {
         About::Store => tell_advice(rt, given, advice),
         About::Address => {

@@ -52,9 +52,20 @@ fault_advice fault.Refused = codes "the line before in the output says why; with
 
 abbrev pub run_advice : RunError → List ℕ
 run_advice (Input line mistake) = fault_advice mistake
-run_advice Write = codes "see whether there is room for the output, and whether its reader still runs; over a store, go on with --store and the lines that had no answer"
+run_advice Write = codes "see whether there is room for the output, and whether its reader still runs"
 run_advice OutOfMemory = memory_advice
 run_advice (Store refusal) = store_advice refusal
 run_advice (WrongClass handler) = codes "name the class that the store was made with by --class"
 run_advice NodeFailed = codes "a state could not be stored before: see whether the disk is full, and go on with --store, since what was answered is there"
 run_advice HistoryFull = codes "a run has at most 1000000 entries: over a store, go on with --store in another run, and with the lines that had no answer"
+
+-- of a run over a store, with which it goes on
+abbrev pub store_run_advice : RunError → List ℕ
+store_run_advice (Input line mistake) = run_advice (Input line mistake)
+store_run_advice Write =
+    codes "see whether there is room for the output, and whether its reader still runs; go on with --store and the lines that had no answer"
+store_run_advice OutOfMemory = run_advice OutOfMemory
+store_run_advice (Store refusal) = run_advice (Store refusal)
+store_run_advice (WrongClass handler) = run_advice (WrongClass handler)
+store_run_advice NodeFailed = run_advice NodeFailed
+store_run_advice HistoryFull = run_advice HistoryFull

@@ -89,7 +89,7 @@ show_advice (show.WrongClass h) =
 show_advice (show.Store refusal) = store_advice refusal
 show_advice (show.NotClosed cause) = never_advice
 show_advice show.OutOfMemory = memory_advice
-show_advice show.Write = codes "see whether there is room for the output, and whether its reader still runs; a node or a client goes on with --store"
+show_advice show.Write = codes "see whether there is room for the output, and whether its reader still runs"
 
 abbrev pub advice_text : RuntimeError → List ℕ
 advice_text (Line number fault) = line_advice fault
@@ -100,6 +100,11 @@ advice_text (Handlers error) = begin_advice error
 advice_text (NoHandler h) =
     codes "it is the store of another party, or of a node that was never ready (then nothing was answered): name this node's store, or make a new file by --new"
 advice_text (Ended error) = show_advice error
+
+-- over a store, with which a node or a client goes on
+abbrev pub stored_advice : RuntimeError → List ℕ
+stored_advice (Ended show.Write) = codes "see whether there is room for the output, and whether its reader still runs; go on with --store"
+stored_advice error = advice_text error
 
 -- ---- what the advice is about
 

@@ -3,7 +3,7 @@
 ghost use Rattle.std.specs.Prelude.{◌≡◌};
 ghost use Rattle.scoop_runtime.specs.Advice.{about, driver_about, loop_about, show_about};
 ghost use Rattle.scoop_runtime.specs.Advice.{advice_text, begin_advice, driver_advice, file_advice, line_advice};
-ghost use Rattle.scoop_runtime.specs.Advice.{loop_advice, show_advice, source_advice, store_advice};
+ghost use Rattle.scoop_runtime.specs.Advice.{loop_advice, show_advice, source_advice, store_advice, stored_advice};
 
 use crate::error::RuntimeError;
 use crate::source::SourceFault;
@@ -91,6 +91,18 @@ impl RuntimeError {
                 node's store, or make a new file by --new"
             }
             RuntimeError::Ended(error) => show_advice(error),
+        }
+    }
+
+    /// The same over a store, with which a node or a client goes on.
+    pub fn advice_over_store(self) -> &'static str
+        ensures { result.now ≡ stored_advice self }
+    {
+        match self {
+            RuntimeError::Ended(ShowError::Write) => {
+                "see whether there is room for the output, and whether its reader still runs; go on with --store"
+            }
+            error => error.advice(),
         }
     }
 
@@ -205,8 +217,7 @@ fn show_advice(error: ShowError) -> &'static str
         ShowError::NotClosed(_) => NEVER,
         ShowError::OutOfMemory => MEMORY,
         ShowError::Write => {
-            "see whether there is room for the output, and whether its reader still runs; a node or a client goes on with \
-            --store"
+            "see whether there is room for the output, and whether its reader still runs"
         }
     }
 }
