@@ -67,7 +67,7 @@ impl FileFault {
                 "name one of the clients that scoop check shows, or write this one into the file"
             }
             FileFault::NoKey => {
-                "openssl rand -hex 32 writes a key: give all programs of the system the same one"
+                "openssl rand -hex 32 > FILE writes a key: give all programs of the system the same one"
             }
         }
     }
