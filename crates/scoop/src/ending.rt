@@ -6,7 +6,11 @@ use scoop_demo::RunError;
 use scoop_files::FileError;
 use scoop_message::OutOfMemory;
 use scoop_runtime::{About, ClientStop, RuntimeError};
+use std::fs;
 use std::net::SocketAddr;
+
+/// What is told where a file is to be, and a folder is.
+pub const FOLDER: &str = "it is a folder: name a file";
 
 /// Why a node or a client ends early.
 #[derive(Clone, Copy)]
@@ -78,8 +82,20 @@ pub fn tell_file(rt: &HostRuntime, given: &ArgMatches<'_>, error: FileError) -> 
         return tell_run(rt, given, RunError::from(refusal));
     }
     let _ = eprintln!(rt; "scoop: {error}");
-    tell_advice(rt, given, error.advice());
+    if store_path(given).is_some_and(|path| is_folder(rt, path)) {
+        tell_advice(rt, given, FOLDER);
+    } else {
+        tell_advice(rt, given, error.advice());
+    }
     Failure::Told(error.status())
+}
+
+/// Whether there is a folder of this name.
+pub fn is_folder(rt: &HostRuntime, path: &str) -> bool {
+    match fs::metadata(rt, path) {
+        Ok(about) => about.is_dir(),
+        Err(_) => false,
+    }
 }
 
 /// Tells why a run over a store ends early, and behind it what to do, with the store's file where it is about that.

@@ -62,7 +62,7 @@ impl InputFault {
                 "an input has at most 1000000 lines: give the others to another run"
             }
             InputFault::ReadFault => {
-                "see whether the input can still be read; it is read at most 10000000 times, so give it in larger pieces"
+                "see whether the input is a folder, and can still be read; it is read at most 10000000 times, so give it in larger pieces"
             }
             InputFault::NotHex => {
                 "write hex digits, two for each byte of the datagram; spaces are skipped, tabs and carriage returns are not"

@@ -44,7 +44,7 @@ line_advice line.NoSuchHandler = codes "scoop check shows the handlers of the sy
 abbrev pub source_advice : SourceFault → List ℕ
 source_advice source.LineTooLong = codes "a line has at most 4096 bytes: write a shorter one"
 source_advice source.TooManyLines = codes "an input has at most 1000000 lines: give the others to another run"
-source_advice source.ReadFault = codes "see whether the input can still be read"
+source_advice source.ReadFault = codes "see whether the input is a folder, and can still be read"
 
 abbrev pub begin_advice : BeginError → List ℕ
 begin_advice begin.NoHandlers = codes "write a handler into the system's file"

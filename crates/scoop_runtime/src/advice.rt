@@ -183,7 +183,7 @@ fn source_advice(fault: SourceFault) -> &'static str
         SourceFault::TooManyLines => {
             "an input has at most 1000000 lines: give the others to another run"
         }
-        SourceFault::ReadFault => "see whether the input can still be read",
+        SourceFault::ReadFault => "see whether the input is a folder, and can still be read",
     }
 }
 
