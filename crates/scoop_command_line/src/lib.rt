@@ -75,6 +75,7 @@ macro_rules! with_classes {
 
 fn world_command<'a>(alloc: Global) -> Result<Command<'a>, AllocError> {
     Command::new(alloc, "world")
+        .override_usage("scoop world [OPTIONS] < SCRIPT")
         .about("Plays a script of standard input, and prints its events and histories")
         .long_about(with_classes!(
             "Plays a script. Its first lines place handlers and let clients join:\n\

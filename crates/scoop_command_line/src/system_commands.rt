@@ -174,7 +174,7 @@ fn history_option<'a>(alloc: Global) -> Arg<'a> {
         .long("history")
         .value_name("N")
         .help(
-            "Behind how many entries of its history the node is opened again, 2 to 1000000; an entry takes some 1.1 KB of memory",
+            "After how many entries of its history the node is opened again, 2 to 1000000; an entry takes some 1.1 KB of memory",
         )
         .action(ArgAction::Set)
         .value_parser(value_parser!(u32))
