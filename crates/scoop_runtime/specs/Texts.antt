@@ -13,10 +13,12 @@ abbrev pub numbers_text : List HandlerId → List ℕ
 numbers_text [] = []
 numbers_text (h ∷ hs) = 32 ∷ decimal h.0 ++ numbers_text hs
 
--- for whom a client waits, and why that may be
+-- handlers that a client waits for, and why that may be
+abbrev pub awaited_text : List HandlerId → List ℕ
+awaited_text hs = numbers_text hs ++ (codes ": no answer, or the block of another client stands before this one" ++ 10 ∷ [])
+
 abbrev pub waiting_text : List HandlerId → List ℕ
-waiting_text hs =
-    codes "scoop: waiting for handlers" ++ numbers_text hs ++ codes ": no answer, or the block of another client stands before this one" ++ 10 ∷ []
+waiting_text hs = codes "scoop: waiting for handlers" ++ awaited_text hs
 
 -- a call of a node's link has failed
 abbrev pub fault_text : List ℕ
