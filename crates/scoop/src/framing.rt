@@ -22,6 +22,9 @@ pub fn frame<R: Input + Print + AllocGlobal>(
     let (version, message) = match read_message(rt.alloc(), line.as_bytes()) {
         Ok(read) => read,
         Err(WordsError::OutOfMemory) => return Err(Failure::from(OutOfMemory)),
+        Err(WordsError::Refused(error)) => {
+            return Err(Failure::Words(WordsError::Refused(error), None));
+        }
         Err(error) => return Err(Failure::Words(error, form_in(&line))),
     };
     print_frame_of(version, &message, &mut output).map_err(|_| RunError::Write)?;
