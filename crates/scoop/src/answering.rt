@@ -6,11 +6,12 @@ ghost use Rattle.scoop_classes.specs.Classes.{table_of};
 
 use crate::ending::{tell_file, tell_run};
 use crate::failure::Failure;
+use crate::stores::{adopt_in, create_in};
 use clap::ArgMatches;
 use scoop_book::Book;
 use scoop_classes::{AccountObject, CellObject, CounterObject, DemoClass, ExchangeObject};
 use scoop_demo::{RunError, answer_run, open_book};
-use scoop_files::{FileError, FiledStore, adopt, close, create};
+use scoop_files::{FileError, FiledStore, close};
 use scoop_keeper::{Keeper, MemoryKeeper};
 use scoop_message::{HandlerId, OutOfMemory};
 use scoop_object::{Behaviour, Boxed};
@@ -30,10 +31,10 @@ struct Options {
 /// that is asked for.
 pub fn answer(rt: &HostRuntime, given: &ArgMatches<'_>) -> Result<(), Failure> {
     if let Some(path) = given.get_str("new") {
-        return answer_over_file(rt, given, create(rt, path));
+        return answer_over_file(rt, given, create_in(rt, path));
     }
     if let Some(path) = given.get_str("store") {
-        return answer_over_file(rt, given, adopt(rt, path));
+        return answer_over_file(rt, given, adopt_in(rt, path));
     }
     let (answered, _) = answer_over(rt, given, MemoryKeeper::new(rt.alloc()))?;
     answered
@@ -49,26 +50,25 @@ fn answer_over_file(
         Ok(store) => store,
         Err(error) => return Err(tell_file(rt, given, error)),
     };
-    let (answered, store) = match answer_over(rt, given, store) {
-        Ok(ended) => ended,
-        Err(failure) => return Err(told(rt, given, failure)),
-    };
-    let closed = close(store);
-    match answered {
-        Ok(()) => {}
-        Err(failure) => return Err(told(rt, given, failure)),
-    }
-    match closed {
-        Ok(()) => Ok(()),
-        Err(error) => Err(tell_file(rt, given, error)),
+    match answer_and_close(rt, given, store) {
+        Ok(Ok(())) => Ok(()),
+        Ok(Err(error)) => Err(tell_file(rt, given, error)),
+        Err(Failure::Run(error)) => Err(tell_run(rt, given, error)),
+        Err(failure) => Err(failure),
     }
 }
 
-// The failure, which the user has been told where it is the run's.
-fn told(rt: &HostRuntime, given: &ArgMatches<'_>, failure: Failure) -> Failure {
-    match failure {
-        Failure::Run(error) => tell_run(rt, given, error),
-        failure => failure,
+// The same over this store. Where all is answered, answers how the store is closed.
+fn answer_and_close(
+    rt: &HostRuntime,
+    given: &ArgMatches<'_>,
+    store: FiledStore,
+) -> Result<Result<(), FileError>, Failure> {
+    let (answered, store) = answer_over(rt, given, store)?;
+    let closed = close(store);
+    match answered {
+        Ok(()) => Ok(closed),
+        Err(failure) => Err(failure),
     }
 }
 

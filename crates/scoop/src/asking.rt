@@ -2,10 +2,11 @@
 
 use crate::ending::{End, store_path, tell_end};
 use crate::failure::Failure;
+use crate::stores::{adopt_client_in, create_in};
 use crate::system_file::{read_key, read_system, tell};
 use crate::typed_lines::TypedLines;
 use clap::ArgMatches;
-use scoop_files::{FileError, FiledStore, adopt_for, close, create};
+use scoop_files::{FileError, FiledStore, close};
 use scoop_link::{Link, UdpLink};
 use scoop_message::{ClientId, OutOfMemory};
 use scoop_runtime::{ClientPlan, FileFault, client_run, open_client_link};
@@ -110,8 +111,8 @@ fn open_store(
     client: ClientId,
 ) -> Result<FiledStore, FileError> {
     match given.get_str("new") {
-        Some(path) => create(rt, path),
-        None => adopt_for(rt, given.get_str("store").unwrap_or(""), client),
+        Some(path) => create_in(rt, path),
+        None => adopt_client_in(rt, given.get_str("store").unwrap_or(""), client),
     }
 }
 

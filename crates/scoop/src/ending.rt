@@ -6,7 +6,11 @@ use scoop_demo::RunError;
 use scoop_files::FileError;
 use scoop_message::OutOfMemory;
 use scoop_runtime::{About, ClientStop, RuntimeError};
+use std::fs;
 use std::net::SocketAddr;
+
+/// What is told where a file is to be, and a folder is.
+pub const FOLDER: &str = "it is a folder: name a file";
 
 /// Why a node or a client ends early.
 #[derive(Clone, Copy)]
@@ -78,19 +82,32 @@ pub fn tell_file(rt: &HostRuntime, given: &ArgMatches<'_>, error: FileError) -> 
         return tell_run(rt, given, RunError::from(refusal));
     }
     let _ = eprintln!(rt; "scoop: {error}");
-    tell_advice(rt, given, error.advice());
+    if store_path(given).is_some_and(|path| is_folder(rt, path)) {
+        tell_advice(rt, given, FOLDER);
+    } else {
+        tell_advice(rt, given, error.advice());
+    }
     Failure::Told(error.status())
+}
+
+/// Whether there is a folder of this name.
+pub fn is_folder(rt: &HostRuntime, path: &str) -> bool {
+    match fs::metadata(rt, path) {
+        Ok(about) => about.is_dir(),
+        Err(_) => false,
+    }
 }
 
 /// Tells why a run over a store ends early, and behind it what to do, with the store's file where it is about that.
 pub fn tell_run(rt: &HostRuntime, given: &ArgMatches<'_>, error: RunError) -> Failure {
     let _ = eprintln!(rt; "scoop: {error}");
+    let advice = error.advice_over_store();
     match error {
         RunError::Store(_) | RunError::WrongClass(_) | RunError::NodeFailed => {
-            tell_advice(rt, given, error.advice());
+            tell_advice(rt, given, advice);
         }
         _ => {
-            let _ = eprintln!(rt; "scoop: {}", error.advice());
+            let _ = eprintln!(rt; "scoop: {advice}");
         }
     }
     Failure::Told(error.status())
@@ -103,7 +120,11 @@ fn tell_runtime(
     error: RuntimeError,
 ) -> Failure {
     let _ = eprintln!(rt; "scoop: {error}");
-    let advice = error.advice();
+    let advice = if store_path(given).is_some() {
+        error.advice_over_store()
+    } else {
+        error.advice()
+    };
     match error.about() {
         About::Store => tell_advice(rt, given, advice),
         About::Address => {

@@ -2,7 +2,7 @@
 
 use clap::Error;
 use clap::error::ErrorKind;
-use scoop_demo::{RunError, WordsError};
+use scoop_demo::{InputFault, RunError, WordsError};
 use scoop_message::OutOfMemory;
 use scoop_netloop::{DriverError, ServeEnd};
 use scoop_runtime::OutOfRange;
@@ -18,8 +18,8 @@ pub enum Failure {
     Arguments,
     /// No class has the name that was given.
     NoSuchClass,
-    /// The words are no message with a frame.
-    Words(WordsError),
+    /// The words are no message with a frame. A message of the kind that they name has these words.
+    Words(WordsError, Option<&'static str>),
     /// The run has more events than a chart shows, and its file is empty.
     LongChart,
     /// The work on the input ended early.
@@ -42,7 +42,7 @@ impl Failure {
             Failure::CommandLine(error) => report_command_line(rt, &error),
             Failure::Arguments => report_arguments(rt),
             Failure::NoSuchClass => report_no_class(rt),
-            Failure::Words(error) => report_words(rt, error),
+            Failure::Words(error, form) => report_words(rt, error, form),
             Failure::LongChart => report_long_chart(rt),
             Failure::Run(error) => report_run(rt, error),
             Failure::Show(error) => report_show(rt, error),
@@ -65,14 +65,22 @@ fn report_no_class<R: Eprint>(rt: &R) -> u8 {
     2
 }
 
-fn report_words<R: Eprint>(rt: &R, error: WordsError) -> u8 {
+fn report_words<R: Eprint>(rt: &R, error: WordsError, form: Option<&'static str>) -> u8 {
+    let advice = words_advice(error);
     let _ = eprintln!(rt; "scoop: {error}");
-    let _ = eprintln!(rt; "scoop: {}", words_advice(error));
+    if let Some(form) = form {
+        let _ = eprintln!(rt; "scoop: its words are {form}; {advice}");
+    } else {
+        let _ = eprintln!(rt; "scoop: {advice}");
+    }
     2
 }
 
 fn words_advice(error: WordsError) -> &'static str {
     match error {
+        WordsError::Fault(InputFault::WrongNumberOfWords) => {
+            "scoop frame --help has those of all kinds"
+        }
         WordsError::Fault(fault) => fault.advice(),
         WordsError::Refused(_) => {
             "incarnations, blocks and entries are numbered from 1 to 4294967295; version 1 has one entry, v2 up to 4, an end only \
@@ -163,15 +171,6 @@ impl From<RunError> for Failure {
 impl From<ShowError> for Failure {
     fn from(error: ShowError) -> Failure {
         Failure::Show(error)
-    }
-}
-
-impl From<WordsError> for Failure {
-    fn from(error: WordsError) -> Failure {
-        match error {
-            WordsError::OutOfMemory => Failure::from(OutOfMemory),
-            error => Failure::Words(error),
-        }
     }
 }
 

@@ -24,6 +24,7 @@ mod framing;
 mod playing;
 mod serving;
 mod showing;
+mod stores;
 mod system_file;
 mod typed_lines;
 

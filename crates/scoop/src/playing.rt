@@ -1,5 +1,6 @@
 //! `scoop world`: the script of standard input.
 
+use crate::ending::{FOLDER, is_folder};
 use crate::failure::Failure;
 use clap::ArgMatches;
 use scoop_demo::{Picture, PlayOptions, world_run_charted};
@@ -73,8 +74,11 @@ fn play_charted<W: Write>(
 // Tells that the chart's file could not be written, and which file it is.
 fn tell_unwritten(rt: &HostRuntime, path: &str) -> Failure {
     let _ = eprintln!(rt; "scoop: chart: the file could not be written");
-    let _ = eprintln!(rt;
-        "scoop: {path}: see whether its folder is there, whether it may be written, and whether the disk is full"
-    );
+    let advice = if is_folder(rt, path) {
+        FOLDER
+    } else {
+        "see whether its folder is there, whether it may be written, and whether the disk is full"
+    };
+    let _ = eprintln!(rt; "scoop: {path}: {advice}");
     Failure::Told(STATUS)
 }

@@ -2,9 +2,10 @@
 
 use crate::ending::{End, tell_end};
 use crate::failure::Failure;
+use crate::stores::{adopt_in, create_in};
 use crate::system_file::{read_key, read_system, tell};
 use clap::ArgMatches;
-use scoop_files::{FileError, FiledStore, adopt, close, create};
+use scoop_files::{FileError, FiledStore, close};
 use scoop_keeper::{Keeper, MemoryKeeper};
 use scoop_link::Link;
 use scoop_message::OutOfMemory;
@@ -115,10 +116,10 @@ fn serve_over<L: Link, T: Threads + Wait + Clock + Net + Sync>(
 // The store that the command line names, if it names one.
 fn open_store(rt: &HostRuntime, given: &ArgMatches<'_>) -> Result<Option<FiledStore>, FileError> {
     if let Some(path) = given.get_str("new") {
-        return Ok(Some(create(rt, path)?));
+        return Ok(Some(create_in(rt, path)?));
     }
     match given.get_str("store") {
-        Some(path) => Ok(Some(adopt(rt, path)?)),
+        Some(path) => Ok(Some(adopt_in(rt, path)?)),
         None => Ok(None),
     }
 }

@@ -6,6 +6,7 @@ use scoop_classes::{AccountObject, CellObject, DemoClass};
 use scoop_keeper::MemoryKeeper;
 use scoop_message::OutOfMemory;
 use scoop_object::{Behaviour, Boxed};
+use scoop_runtime::OutOfRange;
 use scoop_show::{Objects, PORTS, Plan, demo_run};
 use std::alloc::Global;
 use std::io;
@@ -24,6 +25,7 @@ pub fn demonstrate<T: Threads + Wait + Clock + Net + Sync>(
     given: &ArgMatches<'_>,
 ) -> Result<u8, Failure> {
     let alloc = rt.alloc();
+    let plan = plan_in(given)?;
     let first = Boxed::new(Box::new(alloc, CellObject::new(0))?);
     let second = Boxed::new(Box::new(alloc, CellObject::new(0))?);
     let account = if given.get_flag("wait") {
@@ -31,14 +33,22 @@ pub fn demonstrate<T: Threads + Wait + Clock + Net + Sync>(
     } else {
         None
     };
-    let plan = Plan {
-        rounds: given.get_one::<u64>("rounds").unwrap_or(5),
-        turns: given.get_one::<u64>("turns").unwrap_or(100_000),
-        ports: PORTS,
-        weaves: given.get_flag("weave"),
-    };
     let objects = with_classes(alloc, first, second, account)?;
     demonstrate_with(rt, threads, &plan, objects)
+}
+
+// How the command line says that the demo is shown. Its turns have the range of a node's and a client's.
+fn plan_in(given: &ArgMatches<'_>) -> Result<Plan, Failure> {
+    let turns = given.get_one::<u64>("turns").unwrap_or(100_000);
+    if turns < OutOfRange::Turns.least() {
+        return Err(Failure::Range(OutOfRange::Turns));
+    }
+    Ok(Plan {
+        rounds: given.get_one::<u64>("rounds").unwrap_or(5),
+        turns,
+        ports: PORTS,
+        weaves: given.get_flag("weave"),
+    })
 }
 
 // The objects with the classes that they have.

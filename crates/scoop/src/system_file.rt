@@ -5,7 +5,7 @@ use crate::failure::Failure;
 use clap::ArgMatches;
 use scoop_message::OutOfMemory;
 use scoop_runtime::{FileFault, RuntimeError};
-use scoop_seal::Key;
+use scoop_seal::{Key, KeyError};
 use scoop_system::{System, SystemError};
 use std::fmt::Display;
 use std::io::ErrorKind;
@@ -66,6 +66,32 @@ pub fn read_key(rt: &HostRuntime, given: &ArgMatches<'_>) -> Result<Option<Key>,
     let text = read_text(rt, path)?;
     match Key::read(text.as_bytes()) {
         Ok(key) => Ok(Some(key)),
-        Err(error) => Err(tell(rt, path, error, FileFault::NoKey)),
+        Err(error) => Err(tell_key(rt, path, &text, error)),
+    }
+}
+
+// Tells what is wrong with the file of a key, and what to do. Of its text nothing is told but how long it is.
+fn tell_key(rt: &HostRuntime, path: &str, text: &str, error: KeyError) -> Failure {
+    match error {
+        KeyError::Length => {
+            let advice = FileFault::NoKey.advice();
+            let _ = eprintln!(rt; "scoop: {path}: {error}");
+            let _ = eprintln!(rt;
+                "scoop: {path}: it has {} bytes in place of 64: {advice}",
+                line_len(text)
+            );
+            Failure::Told(STATUS)
+        }
+        KeyError::Digit => tell(rt, path, error, FileFault::NoKey),
+    }
+}
+
+// How many bytes the text has before the end of its line.
+fn line_len(text: &str) -> usize {
+    let line = text.strip_suffix("\n").unwrap_or(text);
+    if line.len() < text.len() {
+        line.strip_suffix("\r").unwrap_or(line).len()
+    } else {
+        line.len()
     }
 }

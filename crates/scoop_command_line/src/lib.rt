@@ -75,6 +75,7 @@ macro_rules! with_classes {
 
 fn world_command<'a>(alloc: Global) -> Result<Command<'a>, AllocError> {
     Command::new(alloc, "world")
+        .override_usage("scoop world [OPTIONS] < SCRIPT")
         .about("Plays a script of standard input, and prints its events and histories")
         .long_about(with_classes!(
             "Plays a script. Its first lines place handlers and let clients join:\n\
@@ -205,8 +206,8 @@ fn turns_option<'a>(alloc: Global) -> Arg<'a> {
         .long("turns")
         .value_name("T")
         .help(
-            "How many turns a client's call takes at most, each of which takes a datagram or ten milliseconds; a node's loop takes \
-            at most 100 times as many",
+            "How many turns a client's call takes at most, 1 or more, each of which takes a datagram or ten milliseconds; a node's \
+            loop takes at most 100 times as many",
         )
         .action(ArgAction::Set)
         .value_parser(value_parser!(u64))

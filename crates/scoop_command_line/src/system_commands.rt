@@ -82,7 +82,7 @@ pub fn client_command<'a>(alloc: Global) -> Result<Command<'a>, AllocError> {
             deposit, withdraw or balance of an account, put of an exchange; `scoop check` shows those of the file's classes. \
             What the client refuses is `refused` and why, and it goes on. Empty lines and lines that begin with `#` are \
             skipped; a line may end in a carriage return and a newline. Where somebody types the lines, standard error says \
-            when the client is ready, and which lines there are. While a handler doesn't answer for a second, standard \
+            when the client is ready, which lines there are, and what a refusal means. While a handler doesn't answer for a second, standard \
             error says which ones it waits for.\n\n\
             Statuses: 0; 1 for the file or the key, told as `scoop: FILE: TEXT`, for a line that can't be read, told as \
             `scoop: line N: TEXT` (at a terminal the client goes on), and for an input that ends inside a block; 2 for the \
@@ -174,7 +174,7 @@ fn history_option<'a>(alloc: Global) -> Arg<'a> {
         .long("history")
         .value_name("N")
         .help(
-            "Behind how many entries of its history the node is opened again, 2 to 1000000; an entry takes some 1.1 KB of memory",
+            "After how many entries of its history the node is opened again, 2 to 1000000; an entry takes some 1.1 KB of memory",
         )
         .action(ArgAction::Set)
         .value_parser(value_parser!(u32))

@@ -1,7 +1,7 @@
 //! What to do where a run over the lines of an input ends early, or words say no message.
 
 ghost use Rattle.std.specs.Prelude.{◌≡◌};
-ghost use Rattle.scoop_demo.specs.Advice.{fault_advice, open_advice, run_advice, store_advice};
+ghost use Rattle.scoop_demo.specs.Advice.{fault_advice, open_advice, run_advice, store_advice, store_run_advice};
 
 use crate::fault::{InputFault, RunError};
 use scoop_keeper::KeeperError;
@@ -21,8 +21,7 @@ impl RunError {
         match self {
             RunError::Input { fault, .. } => fault.advice(),
             RunError::Write => {
-                "see whether there is room for the output, and whether its reader still runs; over a store, go on with --store and \
-                the lines that had no answer"
+                "see whether there is room for the output, and whether its reader still runs"
             }
             RunError::OutOfMemory => MEMORY,
             RunError::Store(refusal) => store_advice(refusal),
@@ -35,6 +34,19 @@ impl RunError {
                 "a run has at most 1000000 entries: over a store, go on with --store in another run, and with the lines that had \
                 no answer"
             }
+        }
+    }
+
+    /// The same of a run over a store, with which it goes on.
+    pub fn advice_over_store(self) -> &'static str
+        ensures { result.now ≡ store_run_advice self }
+    {
+        match self {
+            RunError::Write => {
+                "see whether there is room for the output, and whether its reader still runs; go on with --store and the lines that \
+                had no answer"
+            }
+            error => error.advice(),
         }
     }
 }
@@ -50,7 +62,7 @@ impl InputFault {
                 "an input has at most 1000000 lines: give the others to another run"
             }
             InputFault::ReadFault => {
-                "see whether the input can still be read; it is read at most 10000000 times, so give it in larger pieces"
+                "see whether the input is a folder, and can still be read; it is read at most 10000000 times, so give it in larger pieces"
             }
             InputFault::NotHex => {
                 "write hex digits, two for each byte of the datagram; spaces are skipped, tabs and carriage returns are not"

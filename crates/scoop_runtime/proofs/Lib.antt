@@ -1,1 +1,2 @@
 mod News
+mod Writing

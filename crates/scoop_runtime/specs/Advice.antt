@@ -33,7 +33,8 @@ never_advice = codes "this can't come: tell the authors which command and which 
 abbrev pub line_advice : LineFault → List ℕ
 line_advice line.UnknownLine = codes "a line begins with reserve, call, query or end: scoop client --help has them all"
 line_advice line.WrongNumberOfWords = codes "scoop client --help says which words each line has"
-line_advice line.NotANumber = codes "write a decimal number: below 65536 of an operation, below 4294967296 of a handler, and from 1 on of the tries"
+line_advice line.NotANumber =
+    codes "write a whole number in decimal digits: an operation's is up to 65535, a handler's up to 4294967295, how often is tried 1 to 4294967295, an argument and what stands behind least 0 to 18446744073709551615"
 line_advice line.TooFewArguments = codes "scoop check shows which arguments, a0 to a3, the operation reads: give so many"
 line_advice line.TooManyArguments = codes "scoop check shows which arguments, a0 to a3, the operation reads: give so many"
 line_advice line.TooManyHandlers = codes "a block has at most 8 handlers: reserve fewer"
@@ -43,7 +44,7 @@ line_advice line.NoSuchHandler = codes "scoop check shows the handlers of the sy
 abbrev pub source_advice : SourceFault → List ℕ
 source_advice source.LineTooLong = codes "a line has at most 4096 bytes: write a shorter one"
 source_advice source.TooManyLines = codes "an input has at most 1000000 lines: give the others to another run"
-source_advice source.ReadFault = codes "see whether the input can still be read"
+source_advice source.ReadFault = codes "see whether the input is a folder, and can still be read"
 
 abbrev pub begin_advice : BeginError → List ℕ
 begin_advice begin.NoHandlers = codes "write a handler into the system's file"
@@ -53,7 +54,8 @@ begin_advice begin.OutOfMemory = memory_advice
 
 abbrev pub store_advice : KeeperError → List ℕ
 store_advice keeper.Refused = codes "it could not be read or written: see whether the disk is full, and go on with --store, since what was answered is there"
-store_advice (keeper.BadImage h) = codes "what it has of this handler was changed or damaged, and can't be repaired: begin the system anew, with new stores and a new key"
+store_advice (keeper.BadImage h) =
+    codes "what it has of this handler was changed or damaged, and can't be repaired: begin the system anew, with new stores and a new key"
 store_advice keeper.IncarnationsSpent = codes "this client has begun as often as a client can: take another number"
 store_advice keeper.WrongSchema = codes "it is the store of another program, or of a later one: name the right store"
 store_advice keeper.OutOfMemory = memory_advice
@@ -69,7 +71,8 @@ loop_advice served.Stopped = never_advice
 loop_advice served.GateShut = never_advice
 
 abbrev pub driver_advice : DriverError → List ℕ
-driver_advice driver.TurnsOver = codes "a handler didn't answer: see whether the nodes run, and whether all programs have the same file and the same key"
+driver_advice driver.TurnsOver =
+    codes "a handler didn't answer: see whether the nodes run, whether all programs have the same file and the same key, and whether another client has stopped inside a block at that handler (begin that client again)"
 driver_advice driver.LinkFault = codes "a datagram could not be sent or received: see the addresses and the network"
 driver_advice (driver.Client client.OutOfMemory) = memory_advice
 driver_advice (driver.Client (client.Reserve reserve.OutOfMemory)) = memory_advice
@@ -81,19 +84,27 @@ show_advice show.NoLink = codes "another program uses this address, or it is non
 show_advice show.NoThread = codes "the system gives no more threads: ask for fewer by --executors"
 show_advice (show.Driver e) = driver_advice e
 show_advice (show.Loop end) = loop_advice end
-show_advice (show.WrongClass h) = codes "it has not as many words of this handler as the class has in the system's file: name this node's store, or the file that it was made with"
+show_advice (show.WrongClass h) =
+    codes "it has not as many words of this handler as the class has in the system's file: name this node's store, or the file that it was made with"
 show_advice (show.Store refusal) = store_advice refusal
 show_advice (show.NotClosed cause) = never_advice
 show_advice show.OutOfMemory = memory_advice
-show_advice show.Write = codes "see whether there is room for the output, and whether its reader still runs; a node or a client goes on with --store"
+show_advice show.Write = codes "see whether there is room for the output, and whether its reader still runs"
 
 abbrev pub advice_text : RuntimeError → List ℕ
 advice_text (Line number fault) = line_advice fault
 advice_text (Input error) = source_advice error.fault
-advice_text InsideBlock = codes "write end behind the last line; until this client runs again, if only with empty input, its handlers wait for it"
+advice_text InsideBlock =
+    codes "write end behind the last line: this block is cut once the client runs again, if only with empty input, and until then its handlers wait for it"
 advice_text (Handlers error) = begin_advice error
-advice_text (NoHandler h) = codes "it is the store of another party, or of a node that was never ready (then nothing was answered): name this node's store, or make a new file by --new"
+advice_text (NoHandler h) =
+    codes "it is the store of another party, or of a node that was never ready (then nothing was answered): name this node's store, or make a new file by --new"
 advice_text (Ended error) = show_advice error
+
+-- over a store, with which a node or a client goes on
+abbrev pub stored_advice : RuntimeError → List ℕ
+stored_advice (Ended show.Write) = codes "see whether there is room for the output, and whether its reader still runs; go on with --store"
+stored_advice error = advice_text error
 
 -- ---- what the advice is about
 
@@ -129,4 +140,4 @@ file_advice file.NotText = codes "write it as text, in UTF-8"
 file_advice file.NoSystem = codes "mend it there, and let scoop check read it again"
 file_advice file.NoNode = codes "name one of the nodes that scoop check shows, or write this one into the file"
 file_advice file.NoClient = codes "name one of the clients that scoop check shows, or write this one into the file"
-file_advice file.NoKey = codes "openssl rand -hex 32 writes a key: give all programs of the system the same one"
+file_advice file.NoKey = codes "openssl rand -hex 32 > FILE writes a key: give all programs of the system the same one"

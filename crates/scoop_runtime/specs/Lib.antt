@@ -9,3 +9,4 @@ pub mod Records
 pub mod Sources
 pub mod Texts
 pub mod Typing
+pub mod Unlocking

@@ -47,5 +47,6 @@ range_text range = name_text range ++ codes " is a whole number from " ++ decima
 abbrev pub range_advice : OutOfRange → List ℕ
 range_advice Executors = codes "give such a number, or leave the option out: then there are 2"
 range_advice History = codes "give such a number, or leave the option out: then it is 100000"
-range_advice Turns = codes "give such a number, or leave the option out: then a client's command takes up to 100000, and a node serves until it is killed"
+range_advice Turns =
+    codes "give such a number, or leave the option out: then a client's command takes up to 100000, and scoop node serves until it is killed"
 range_advice Batch = codes "mend the batch of the client in the system's file"

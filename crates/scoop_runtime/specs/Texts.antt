@@ -13,6 +13,13 @@ abbrev pub numbers_text : List HandlerId → List ℕ
 numbers_text [] = []
 numbers_text (h ∷ hs) = 32 ∷ decimal h.0 ++ numbers_text hs
 
+-- handlers that a client waits for, and why that may be
+abbrev pub awaited_text : List HandlerId → List ℕ
+awaited_text hs = numbers_text hs ++ (codes ": no answer, or the block of another client stands before this one" ++ 10 ∷ [])
+
+abbrev pub waiting_text : List HandlerId → List ℕ
+waiting_text hs = codes "scoop: waiting for handlers" ++ awaited_text hs
+
 -- a call of a node's link has failed
 abbrev pub fault_text : List ℕ
 fault_text = codes "scoop: link: LinkFault, and the node goes on" ++ 10 ∷ []

@@ -2,6 +2,16 @@
 use Rattle.std.specs.Prelude.{ℕ, List, [], ◌∷◌, ◌++◌, codes, Bool, if◌then◌else◌}
 use Rattle.std.specs.Fmt.{decimal}
 use Rattle.scoop_message.specs.declared.name.ClientId.{ClientId}
+use Rattle.scoop_client.specs.declared.error.ClientError.{ClientError}
+use Rattle.scoop_client.specs.declared.error.ClientError.TheVariants as client
+use Rattle.scoop_reserve.specs.declared.error.ReserveError.{ReserveError}
+use Rattle.scoop_reserve.specs.declared.error.ReserveError.TheVariants as reserve
+use Rattle.scoop_system.specs.declared.line.fault.LineFault.{LineFault}
+use Rattle.scoop_runtime.specs.declared.error.RuntimeError.TheVariants.{Line}
+use Rattle.scoop_runtime.specs.declared.reply.Reply.{Reply}
+use Rattle.scoop_runtime.specs.declared.reply.Reply.TheVariants.{Reserved, Logged, Answered, Ended, Noted, EndedAt, ConditionFailed, Refused, NotInWhen}
+use Rattle.scoop_runtime.specs.Advice.{advice_text}
+use Rattle.scoop_runtime.specs.Errors.{error_text}
 
 abbrev pub lines_text : List ℕ
 lines_text =
@@ -14,3 +24,45 @@ typed_text client = codes "scoop: client " ++ (decimal client.0 ++ (codes " is r
 -- a script is told nothing
 abbrev pub ready_text : Bool → ClientId → List ℕ
 ready_text is_typed client = if is_typed then typed_text client else []
+
+-- that the line of this number can't be read, and what to do: what a script is told that ends there
+abbrev pub misread_text : ℕ → LineFault → List ℕ
+misread_text number fault =
+    codes "scoop: " ++ (error_text (Line number fault) ++ (10 ∷ codes "scoop: " ++ (advice_text (Line number fault) ++ 10 ∷ [])))
+
+abbrev pub reserve_advice : ReserveError → List ℕ
+reserve_advice reserve.Empty = codes "a block has at least one handler: name it behind reserve"
+reserve_advice reserve.TooMany = codes "a block has at most 8 handlers: reserve fewer"
+reserve_advice (reserve.Repeated h) = codes "name each handler of a block once"
+reserve_advice (reserve.Unknown h) = codes "the system has no such handler: scoop check shows those that it has"
+reserve_advice reserve.OutOfMemory = codes "there was no memory for it: type it again once there is"
+
+-- what a refusal means, and what to do
+abbrev pub refusal_advice : ClientError → List ℕ
+refusal_advice client.NotGreeted = codes "a handler has not welcomed the client yet: type it again"
+refusal_advice client.NotIdle = codes "the client has a block: end it before you reserve the next one"
+refusal_advice client.NoBlock = codes "the client has no block: reserve the handlers first"
+refusal_advice (client.Waiting h) = codes "a query waits for its answer there: type it again once that is there"
+refusal_advice (client.NotReserved h) = codes "the block doesn't have this handler: end it, and reserve all handlers of the next one at once"
+refusal_advice (client.WindowFull h) = codes "64 entries there are not acknowledged yet: type it again once some are"
+refusal_advice client.TooLate = codes "all handlers are locked already: end the block"
+refusal_advice client.Spent =
+    codes "the numbers of blocks, or of the block's entries, are used up: end the block, or begin the client again with --store"
+refusal_advice (client.Reserve error) = reserve_advice error
+refusal_advice client.OutOfMemory = codes "there was no memory for it: type it again once there is"
+
+-- what is told behind an answer
+abbrev pub reply_note : Reply → List ℕ
+reply_note (Reserved block) = []
+reply_note (Logged h n) = []
+reply_note (Answered answer) = []
+reply_note Ended = []
+reply_note Noted = []
+reply_note (EndedAt n) = []
+reply_note (ConditionFailed n) = []
+reply_note (Refused e) = codes "scoop: " ++ (refusal_advice e ++ 10 ∷ [])
+reply_note NotInWhen = codes "scoop: a block that waits for its condition takes calls, and end" ++ 10 ∷ []
+
+-- a script is told nothing
+abbrev pub note_text : Bool → Reply → List ℕ
+note_text is_typed reply = if is_typed then reply_note reply else []

@@ -1,7 +1,9 @@
 //! What to do where a node or a client ends early, or doesn't begin.
 
 ghost use Rattle.std.specs.Prelude.{◌≡◌};
-ghost use Rattle.scoop_runtime.specs.Advice.{about, advice_text, begin_advice, driver_about, driver_advice, file_advice, line_advice, loop_about, loop_advice, show_about, show_advice, source_advice, store_advice};
+ghost use Rattle.scoop_runtime.specs.Advice.{about, driver_about, loop_about, show_about};
+ghost use Rattle.scoop_runtime.specs.Advice.{advice_text, begin_advice, driver_advice, file_advice, line_advice};
+ghost use Rattle.scoop_runtime.specs.Advice.{loop_advice, show_advice, source_advice, store_advice, stored_advice};
 
 use crate::error::RuntimeError;
 use crate::source::SourceFault;
@@ -65,7 +67,7 @@ impl FileFault {
                 "name one of the clients that scoop check shows, or write this one into the file"
             }
             FileFault::NoKey => {
-                "openssl rand -hex 32 writes a key: give all programs of the system the same one"
+                "openssl rand -hex 32 > FILE writes a key: give all programs of the system the same one"
             }
         }
     }
@@ -80,7 +82,8 @@ impl RuntimeError {
             RuntimeError::Line(_, fault) => line_advice(fault),
             RuntimeError::Input(error) => source_advice(error.fault),
             RuntimeError::InsideBlock => {
-                "write end behind the last line; until this client runs again, if only with empty input, its handlers wait for it"
+                "write end behind the last line: this block is cut once the client runs again, if only with empty input, and until then its \
+                handlers wait for it"
             }
             RuntimeError::Handlers(error) => begin_advice(error),
             RuntimeError::NoHandler(_) => {
@@ -88,6 +91,18 @@ impl RuntimeError {
                 node's store, or make a new file by --new"
             }
             RuntimeError::Ended(error) => show_advice(error),
+        }
+    }
+
+    /// The same over a store, with which a node or a client goes on.
+    pub fn advice_over_store(self) -> &'static str
+        ensures { result.now ≡ stored_advice self }
+    {
+        match self {
+            RuntimeError::Ended(ShowError::Write) => {
+                "see whether there is room for the output, and whether its reader still runs; go on with --store"
+            }
+            error => error.advice(),
         }
     }
 
@@ -143,7 +158,8 @@ fn line_advice(fault: LineFault) -> &'static str
         }
         LineFault::WrongNumberOfWords => "scoop client --help says which words each line has",
         LineFault::NotANumber => {
-            "write a decimal number: below 65536 of an operation, below 4294967296 of a handler, and from 1 on of the tries"
+            "write a whole number in decimal digits: an operation's is up to 65535, a handler's up to 4294967295, how often is tried 1 \
+            to 4294967295, an argument and what stands behind least 0 to 18446744073709551615"
         }
         LineFault::TooFewArguments | LineFault::TooManyArguments => {
             "scoop check shows which arguments, a0 to a3, the operation reads: give so many"
@@ -167,7 +183,7 @@ fn source_advice(fault: SourceFault) -> &'static str
         SourceFault::TooManyLines => {
             "an input has at most 1000000 lines: give the others to another run"
         }
-        SourceFault::ReadFault => "see whether the input can still be read",
+        SourceFault::ReadFault => "see whether the input is a folder, and can still be read",
     }
 }
 
@@ -201,8 +217,7 @@ fn show_advice(error: ShowError) -> &'static str
         ShowError::NotClosed(_) => NEVER,
         ShowError::OutOfMemory => MEMORY,
         ShowError::Write => {
-            "see whether there is room for the output, and whether its reader still runs; a node or a client goes on with \
-            --store"
+            "see whether there is room for the output, and whether its reader still runs"
         }
     }
 }
@@ -212,7 +227,8 @@ fn driver_advice(error: DriverError) -> &'static str
 {
     match error {
         DriverError::TurnsOver => {
-            "a handler didn't answer: see whether the nodes run, and whether all programs have the same file and the same key"
+            "a handler didn't answer: see whether the nodes run, whether all programs have the same file and the same key, and \
+            whether another client has stopped inside a block at that handler (begin that client again)"
         }
         DriverError::LinkFault =>
             "a datagram could not be sent or received: see the addresses and the network",

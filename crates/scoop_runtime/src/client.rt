@@ -4,10 +4,10 @@ use crate::error::RuntimeError;
 use crate::news_link::NewsLink;
 use crate::plan::ClientPlan;
 use crate::progress::{ClientStop, Progress};
-use crate::reply::print_reply;
+use crate::reply::{Reply, print_reply};
 use crate::session::Session;
 use crate::source::LineSource;
-use crate::typing::tell_ready;
+use crate::typing::{tell_misread, tell_note, tell_ready};
 use crate::waiting_link::WaitingLink;
 use arrayvec::ArrayVec;
 use scoop_client::{BeginError, Client};
@@ -15,9 +15,8 @@ use scoop_keeper::{Keeper, KeeperError};
 use scoop_link::{Link, PacedLink};
 use scoop_message::{HandlerId, OutOfMemory};
 use scoop_show::ShowError;
-use scoop_system::{ClientLine, ClientPlace, LineFault, System, read_line};
+use scoop_system::{ClientLine, ClientPlace, System, read_line};
 use std::alloc::Global;
-use std::io;
 use std::io::Write;
 
 // How often a client repeats a datagram at once before it waits for a silence.
@@ -65,18 +64,6 @@ fn unbegun(error: BeginError) -> RuntimeError {
     }
 }
 
-// Writes that a line can't be read.
-fn print_line_fault<N: Write>(number: u32, fault: LineFault, notes: &mut N) -> io::Result<()> {
-    writeln!(notes, "scoop: line {number}: {fault}")
-}
-
-// Tells it whoever types, at once. What can't be written is lost.
-fn tell_fault<N: Write>(number: u32, fault: LineFault, notes: &mut N) {
-    if print_line_fault(number, fault, notes).is_ok() {
-        let _flushed = notes.flush();
-    }
-}
-
 // Does what the lines of the input ask, one after another, with one line for each, and notes how far it is.
 fn obey_lines<L: Link, I: LineSource, W: Write, N: Write>(
     plan: &ClientPlan<'_>,
@@ -94,9 +81,12 @@ fn obey_lines<L: Link, I: LineSource, W: Write, N: Write>(
         match read_line(plan.system(), &line) {
             Ok(asked) => {
                 progress.has_begun = true;
-                obey_line(session, &asked, writer)?;
+                let replied = obey_line(session, &asked, writer)?;
+                if let Some(reply) = replied {
+                    tell_note(&reply, plan.is_typed(), notes);
+                }
             }
-            Err(fault) if plan.is_typed() => tell_fault(number, fault, notes),
+            Err(fault) if plan.is_typed() => tell_misread(number, fault, notes),
             Err(fault) => return Err(RuntimeError::Line(number, fault)),
         }
         progress.has_begun = false;
@@ -105,17 +95,17 @@ fn obey_lines<L: Link, I: LineSource, W: Write, N: Write>(
     Ok(())
 }
 
-// Does what a line asks, and writes what it is answered with.
+// Does what a line asks, and writes what it is answered with, which is answered too.
 fn obey_line<L: Link, W: Write>(
     session: &mut Session<L>,
     line: &ClientLine,
     writer: &mut W,
-) -> Result<(), RuntimeError> {
+) -> Result<Option<Reply>, RuntimeError> {
     let Some(reply) = session.obey(line)? else {
-        return Ok(());
+        return Ok(None);
     };
     if print_reply(&reply, writer).is_ok() && writer.flush().is_ok() {
-        Ok(())
+        Ok(Some(reply))
     } else {
         Err(RuntimeError::from(ShowError::Write))
     }
@@ -183,7 +173,7 @@ where
 /// lines of the input ask, one after another. Each line is answered with one line, which goes out at once; what the client
 /// refuses is answered as `refused` and why, and it goes on. Repeated datagrams are paced. Handlers that don't answer
 /// within a second are told to `waits`. Where somebody types the lines, `notes` is told that every handler has greeted and
-/// which lines there are, and of each that can't be read; else it is told nothing.
+/// which lines there are, of each that can't be read with what to do, and what each refusal means; else it is told nothing.
 ///
 /// Refused: what the keeper refuses, before anything is sent; `link: TurnsOver` and `link: LinkFault`; the first line that
 /// can't be read, unless somebody types; what ends the input early; `InsideBlock` where the input ends inside a block;

@@ -109,8 +109,8 @@ fn sender_of(reply: &[u8]) -> Option<HandlerId>
 /// to was not sent again since. Such a reply comes where a datagram was sent twice because the reply to the first was late. A
 /// pace in front would take it for the reply to what the handler was sent meanwhile, and let that go twice as well, and so on.
 ///
-/// A receive that passed over 64 gives nothing. Contracts see the link behind it, and what was said with each handler. It
-/// doesn't tell its datagrams.
+/// A receive that passed over `MAX_PASSED_OVER` gives nothing. Contracts see the link behind it, and what was said with each
+/// handler. It doesn't tell its datagrams.
 #[derive(Drop)]
 pub(crate) struct NewsLink<L> {
     inner: L,

@@ -1,6 +1,6 @@
 //! Which node is served or which client runs, and how.
 
-ghost use Rattle.std.specs.Prelude.{◌≡◌, ◌≤◌, ◌+◌, true, length, IfOk, MatchResult, Some, None};
+ghost use Rattle.std.specs.Prelude.{◌≡◌, ◌≤◌, ◌+◌, true, false, length, IfOk, MatchResult, Some, None};
 ghost use Rattle.scoop_message.specs.declared.limits.TheConstants.{MAX_ENTRIES, MAX_HANDLERS, MAX_HISTORY};
 ghost use Rattle.scoop_runtime.specs.declared.ranges.TheConstants.{MAX_EXECUTORS};
 ghost use Rattle.scoop_runtime.specs.Ranges.{client_fault, serving_fault};
@@ -30,10 +30,11 @@ pub struct Serving {
 impl Serving {
     /// By so many threads beside the one that receives, 1 to 64; with a history of so many entries at most, 2 to
     /// 1,000,000, behind which the node is opened again; and for so many turns of its loop, at least one. Its record may
-    /// be new. Refused is the first number that is out of its range.
+    /// be new: it doesn't go on. Refused is the first number that is out of its range.
     pub fn new(executors: u32, history: usize, turns: u64) -> Result<Serving, OutOfRange>
-        ensures ranges { MatchResult result (λ s. serving_fault executors history turns ≡ None) (λ range. serving_fault executors history turns ≡ Some range) }
-        ensures kept { IfOk result (λ s. (s.executors ≡ executors) × (s.history ≡ history) × (s.turns ≡ turns)) }
+        ensures ranges { MatchResult result (λ s. serving_fault executors history turns ≡ None)
+            (λ range. serving_fault executors history turns ≡ Some range) }
+        ensures kept { IfOk result (λ s. (s.executors ≡ executors) × (s.history ≡ history) × (s.turns ≡ turns) × (s.goes_on ≡ false)) }
     {
         if !OutOfRange::Executors.is_within(u64::from(executors)) {
             return Err(OutOfRange::Executors);

@@ -1,7 +1,7 @@
 //! How far a client came.
 
 ghost use Rattle.std.specs.Prelude.{◌≡◌};
-ghost use Rattle.scoop_runtime.specs.Progress.{begun_text, block_text};
+ghost use Rattle.scoop_runtime.specs.Progress.{begun_text, goes_on_text};
 
 use crate::error::RuntimeError;
 use std::fmt;
@@ -48,14 +48,14 @@ fn begun_text(has_begun: bool) -> &'static str
     }
 }
 
-// What is told of the block.
-fn block_text(has_block: bool) -> &'static str
-    ensures { result.now ≡ block_text has_block }
+// What is told of the block, and what to do.
+fn goes_on_text(has_block: bool) -> &'static str
+    ensures { result.now ≡ goes_on_text has_block }
 {
     if has_block {
-        ", and the block is left to the next incarnation"
+        ", and the block is left to the next incarnation, which cuts it: go on with --store, and begin with reserve"
     } else {
-        ""
+        ": go on with --store"
     }
 }
 
@@ -67,13 +67,10 @@ impl fmt::Display for Progress {
 
     fn fmt<W: fmt::Write>(&self, f: &mut fmt::Formatter<W>) -> fmt::Result {
         let begun = begun_text(self.has_begun);
-        let block = block_text(self.has_block);
+        let goes_on = goes_on_text(self.has_block);
         match self.done {
-            None => write!(f, "no line is done{begun}{block}: go on with --store"),
-            Some(done) => write!(
-                f,
-                "the lines up to line {done} are done{begun}{block}: go on with --store"
-            ),
+            None => write!(f, "no line is done{begun}{goes_on}"),
+            Some(done) => write!(f, "the lines up to line {done} are done{begun}{goes_on}"),
         }
     }
 }

@@ -20,7 +20,7 @@ pub enum OutOfRange {
     Executors,
     /// How many entries a node's history has at most.
     History,
-    /// How many turns a node's loop or a client's command takes at most.
+    /// How many turns a node's loop or a client's command takes at most, of the demo's too.
     Turns,
     /// How many entries a client puts into one Log at most.
     Batch,
@@ -80,7 +80,7 @@ impl OutOfRange {
                 "give such a number, or leave the option out: then it is 100000"
             }
             OutOfRange::Turns => {
-                "give such a number, or leave the option out: then a client's command takes up to 100000, and a node serves until \
+                "give such a number, or leave the option out: then a client's command takes up to 100000, and scoop node serves until \
                 it is killed"
             }
             OutOfRange::Batch => "mend the batch of the client in the system's file",

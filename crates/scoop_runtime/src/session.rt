@@ -1,8 +1,9 @@
 //! A client that is asked line by line.
 
-ghost use Rattle.std.specs.Prelude.{◌≡◌, None, OnOk};
+ghost use Rattle.std.specs.Prelude.{◌≡◌, None, OnOk, IsFalse};
 ghost use Rattle.scoop_client.specs.Due.{due};
 ghost use Rattle.scoop_runtime.specs.Answering.{answered};
+ghost use Rattle.scoop_runtime.specs.Unlocking.{is_unlock, owes_unlock};
 
 use crate::last_block::LastBlock;
 use crate::reply::Reply;
@@ -30,6 +31,13 @@ fn last_logged(message: &Message) -> Option<u32> {
         return None;
     };
     first.checked_add(entries.len() as u32)?.checked_sub(1)
+}
+
+// Whether the message that is due is an unlocking.
+fn is_unlock(due: Option<Message>) -> bool
+    ensures { result ≡ is_unlock due }
+{
+    matches!(due, Some(Message::Unlock(..)))
 }
 
 // What a refusal of the driver is answered with. Other errors end the session.
@@ -138,12 +146,45 @@ impl<L: Link> Session<L> {
         }
     }
 
+    // Reserves the handlers, and gives their locks back before the line is answered, so that nobody waits for them until the
+    // client's next line. Where that doesn't come about the later lines go on with it.
     fn reserve(&mut self, handlers: &NamedHandlers) -> Result<Reply, DriverError> {
         self.driver.reserve(handlers.as_slice())?;
-        match self.driver.diary().block() {
-            Some(block) => Ok(Reply::Reserved(block)),
-            None => Err(DriverError::Client(ClientError::NoBlock)),
+        let Some(block) = self.driver.diary().block() else {
+            return Err(DriverError::Client(ClientError::NoBlock));
+        };
+        match self.unlock(handlers.as_slice()) {
+            Ok(()) | Err(DriverError::TurnsOver | DriverError::LinkFault) => {
+                Ok(Reply::Reserved(block))
+            }
+            Err(error) => Err(error),
         }
+    }
+
+    // Takes turns until no unlocking is due to any of the handlers.
+    fn unlock(&mut self, handlers: &[HandlerId]) -> Result<(), DriverError>
+        ensures { OnOk result (IsFalse (owes_unlock self.new.driver.seen.client handlers.now)) }
+    {
+        for _ in 0..self.turns {
+            if !self.owes_unlock(handlers) {
+                return Ok(());
+            }
+            self.driver.turn()?;
+        }
+        if self.owes_unlock(handlers) {
+            Err(DriverError::TurnsOver)
+        } else {
+            Ok(())
+        }
+    }
+
+    // Whether an unlocking is due to one of the handlers.
+    fn owes_unlock(&self, handlers: &[HandlerId]) -> bool
+        ensures { result ≡ owes_unlock self.now.driver.seen.client handlers.now }
+    {
+        handlers
+            .iter()
+            .any(|handler| is_unlock(self.driver.due(*handler)))
     }
 
     // Logs a call, and takes turns until it is acknowledged: until nothing is due to its handler any more. An unlocking may

@@ -2,7 +2,7 @@
 
 ghost use Rattle.std.specs.Prelude.{◌≡◌, ◌++◌, ◌∷◌, [], None, OnOk};
 ghost use Rattle.std.specs.Io.KnownBytes.{Appends};
-ghost use Rattle.scoop_runtime.specs.Texts.{numbers_text};
+ghost use Rattle.scoop_runtime.specs.Texts.{awaited_text, numbers_text, waiting_text};
 
 use scoop_link::{Datagram, Link, LinkFault, Party};
 use scoop_message::limits::BUFFER_LEN;
@@ -95,11 +95,20 @@ pub(crate) fn print_numbers<W: Write>(numbers: &[HandlerId], writer: &mut W) -> 
     }
 }
 
-// Tells for whom the client waits.
-fn print_waiting<W: Write>(handlers: &[HandlerId], writer: &mut W) -> io::Result<()> {
-    writer.write_all(b"scoop: waiting for handlers")?;
+// Writes handlers that the client waits for, and why that may be.
+fn print_awaited<W: Write>(handlers: &[HandlerId], writer: &mut W) -> io::Result<()>
+    ensures { OnOk result (Appends (W.contents writer.old) (W.contents writer.new) (awaited_text handlers.now)) }
+{
     print_numbers(handlers, writer)?;
-    writer.write_all(b"\n")
+    writer.write_all(b": no answer, or the block of another client stands before this one\n")
+}
+
+// Tells for whom the client waits, and why that may be.
+fn print_waiting<W: Write>(handlers: &[HandlerId], writer: &mut W) -> io::Result<()>
+    ensures { OnOk result (Appends (W.contents writer.old) (W.contents writer.new) (waiting_text handlers.now)) }
+{
+    writer.write_all(b"scoop: waiting for handlers")?;
+    print_awaited(handlers, writer)
 }
 
 // The same at once. What can't be written is lost.

@@ -4,6 +4,7 @@ mod deals;
 mod going_on;
 mod lossy_link;
 mod moments;
+mod pausing;
 mod printing;
 mod replay;
 mod running;
@@ -15,8 +16,8 @@ use scoop_keeper::{Keeper, MemoryKeeper};
 use scoop_link::{Link, UdpLink};
 use scoop_message::ClientId;
 use scoop_runtime::{
-    ClientPlan, NodePlan, Progress, RuntimeError, Serving, client_run, node_run, open_client_link,
-    open_node_link,
+    ClientPlan, LineSource, NodePlan, Progress, RuntimeError, Serving, client_run, node_run,
+    open_client_link, open_node_link,
 };
 use scoop_system::System;
 use std::alloc::Global;
@@ -84,6 +85,20 @@ fn ask<L: Link>(
     lines: &[u8],
     is_typed: bool,
 ) -> Option<Told> {
+    let lines = &mut TextLines::new(lines);
+    ask_lines(alloc, system, number, keeper, link, lines, is_typed)
+}
+
+/// Runs a client with the lines of this source, over this link.
+fn ask_lines<L: Link, I: LineSource>(
+    alloc: Global,
+    system: &System,
+    number: u32,
+    keeper: &mut MemoryKeeper,
+    link: L,
+    lines: &mut I,
+    is_typed: bool,
+) -> Option<Told> {
     let place = *system.client(ClientId(number))?;
     let plan = ClientPlan::new(system, place, TURNS, is_typed).ok()?;
     let mut output = Vec::new(alloc);
@@ -94,7 +109,7 @@ fn ask<L: Link>(
         &plan,
         keeper,
         link,
-        &mut TextLines::new(lines),
+        lines,
         waits,
         &mut output,
         &mut notes,

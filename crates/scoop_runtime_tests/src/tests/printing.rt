@@ -221,7 +221,7 @@ fn progress_is_told(rt: HostRuntime) -> Result<(), Fail> {
         has_block: true,
     };
     let text =
-        "the lines up to line 3 are done, the next one may be, and the block is left to the next incarnation: go on with \
-        --store";
+        "the lines up to line 3 are done, the next one may be, and the block is left to the next incarnation, which cuts it: go \
+        on with --store, and begin with reserve";
     says(&rt, alloc, inside, text)
 }

@@ -237,17 +237,19 @@ fn a_sealed_node_goes_on_behind_its_history(rt: HostRuntime) -> Result<(), Fail>
 const NOTES: &str = "\
 scoop: client 7 is ready
 scoop: type reserve H.., call H OP A.., query H OP A.., end, or reserve H.. when H OP A.. least V tries T; control-D ends the client
-scoop: line 2: no such operation
+scoop: the client has a block: end it before you reserve the next one
+scoop: line 3: no such operation
+scoop: scoop check shows the operations of the file's classes, and scoop client --help those of the others: name one of them
 ";
 
-// How a client ends behind a line that can't be read.
+// How a client ends that is refused a line, and behind one that can't be read.
 fn misread<R: Threads + Wait + Clock + Net + Sync>(
     rt: &R,
     alloc: Global,
     system: &System,
     is_typed: bool,
 ) -> Option<Told> {
-    let lines = b"reserve 1\nquery 1 balanc\nquery 1 balance\n";
+    let lines = b"reserve 1\nreserve 2\nquery 1 balanc\nquery 1 balance\n";
     let mut node = Beside::new(alloc, None);
     run_beside(rt, alloc, system, &mut node, 1_000, lines, is_typed)
 }
@@ -257,10 +259,15 @@ fn a_line_that_cannot_be_read_is_told_to_who_types(rt: HostRuntime) -> Result<()
     let alloc = rt.alloc();
     let system = accounts_at(alloc, "4773").ok_or("no system")?;
     let told = misread(&rt, alloc, &system, true).ok_or("no client")?;
-    assert!(rt; is(&told.output, "reserved 7.1.1\nanswer 100\n"));
+    assert!(rt;
+        is(
+            &told.output,
+            "reserved 7.1.1\nrefused NotIdle\nanswer 100\n"
+        )
+    );
     assert!(rt; is(&told.notes, NOTES));
     assert_eq!(rt; told.ended, Err(RuntimeError::InsideBlock));
-    assert_eq!(rt; told.progress, Some(left_behind(3)));
+    assert_eq!(rt; told.progress, Some(left_behind(4)));
     Ok(())
 }
 
@@ -279,9 +286,9 @@ fn a_line_that_cannot_be_read_ends_a_client(rt: HostRuntime) -> Result<(), Fail>
     let system = accounts_at(alloc, "4775").ok_or("no system")?;
     let told = misread(&rt, alloc, &system, false).ok_or("no client")?;
     assert!(rt; told.notes.is_empty());
-    let fault = RuntimeError::Line(2, LineFault::NoSuchOperation);
+    let fault = RuntimeError::Line(3, LineFault::NoSuchOperation);
     assert_eq!(rt; told.ended, Err(fault));
-    assert_eq!(rt; told.progress, Some(left_behind(1)));
+    assert_eq!(rt; told.progress, Some(left_behind(2)));
     Ok(())
 }
 

@@ -1,0 +1,133 @@
+//! A client that pauses inside its block, and another one that wants the same handlers meanwhile.
+
+use super::text_lines::TextLines;
+use super::{Told, ask, ask_lines, client_link, node_link, serve};
+use scoop_keeper::MemoryKeeper;
+use scoop_link::UdpLink;
+use scoop_runtime::{LineBytes, LineSource, SourceError};
+use scoop_system::System;
+use std::alloc::Global;
+use std::net::Net;
+use std::process::Abort;
+use std::sync::Wait;
+use std::test::Fail;
+use std::thread;
+use std::thread::Threads;
+use std::time::Clock;
+
+// How many turns the node takes: no more than some seconds.
+const NODE_TURNS: u64 = 400;
+
+const CELLS: &str = "\
+[[node]]
+number = 1
+address = \"127.0.0.1:47731\"
+[[handler]]
+number = 1
+node = 1
+class = \"cell\"
+words = [0]
+[[handler]]
+number = 2
+node = 1
+class = \"cell\"
+words = [0]
+[[client]]
+number = 7
+address = \"127.0.0.1:47732\"
+batch = 1
+[[client]]
+number = 8
+address = \"127.0.0.1:47733\"
+batch = 1
+";
+
+// The lines of a client. Behind the first one, once that is answered, another client does all of its own.
+#[derive(Drop)]
+struct PausingLines<'a> {
+    alloc: Global,
+    system: &'a System,
+    lines: TextLines<'a>,
+    taken: u32,
+    other: Option<UdpLink>,
+    told: Option<Told>,
+}
+
+impl<'a> PausingLines<'a> {
+    // The other client reserves both handlers, over this link.
+    fn pause(&mut self) {
+        let Some(link) = self.other.take() else {
+            return;
+        };
+        let mut keeper = MemoryKeeper::new(self.alloc);
+        let lines = b"reserve 1 2\nend\n";
+        self.told = ask(self.alloc, self.system, 8, &mut keeper, link, lines, false);
+    }
+}
+
+impl<'a> LineSource for PausingLines<'a> {
+    fn next_line(&mut self, line: &mut LineBytes) -> Result<Option<u32>, SourceError> {
+        if self.taken == 1 {
+            self.pause();
+        }
+        self.taken = self.taken.saturating_add(1);
+        self.lines.next_line(line)
+    }
+}
+
+// The node in a thread, and the client that pauses beside it.
+fn run_beside<R: Threads + Wait + Clock + Sync>(
+    rt: &R,
+    alloc: Global,
+    system: &System,
+    node: UdpLink,
+    link: UdpLink,
+    lines: &mut PausingLines<'_>,
+) -> Option<Told> {
+    let lines = &mut *lines;
+    thread::scope(thread::scope_env(), rt, move |scope| {
+        let spawned = scope.spawn(move || {
+            let keeper = MemoryKeeper::new(alloc);
+            serve(rt, alloc, system, 1, 1_000, NODE_TURNS, keeper, node).is_some()
+        });
+        if spawned.is_err() {
+            return None;
+        }
+        let mut keeper = MemoryKeeper::new(alloc);
+        ask_lines(alloc, system, 7, &mut keeper, link, lines, false)
+    })
+}
+
+// Runs all of them. What is lent to this has no way out of here to drop it.
+fn plays<R: Threads + Wait + Clock + Net + Sync + Abort>(
+    rt: &R,
+    alloc: Global,
+    system: &System,
+    lines: &mut PausingLines<'_>,
+) -> Result<(), Fail> {
+    lines.other = client_link(rt, alloc, system, 8).ok_or("no client")?.ok();
+    let link = client_link(rt, alloc, system, 7).ok_or("no client")??;
+    let node = node_link(rt, alloc, system, 1).ok_or("no node")??;
+    let first = run_beside(rt, alloc, system, node, link, lines).ok_or("no client")?;
+    assert!(rt; first.output.as_slice() == "reserved 7.1.1\nended\n".as_bytes());
+    assert_eq!(rt; first.ended, Ok(()));
+    let second = lines.told.as_ref().ok_or("no pause")?;
+    assert!(rt; second.output.as_slice() == "reserved 8.1.1\nended\n".as_bytes());
+    assert_eq!(rt; second.ended, Ok(()));
+    Ok(())
+}
+
+#[test]
+fn a_client_that_pauses_in_its_block_keeps_no_lock(rt: HostRuntime) -> Result<(), Fail> {
+    let alloc = rt.alloc();
+    let system = System::read(alloc, CELLS).ok().ok_or("no system")?;
+    let mut lines = PausingLines {
+        alloc,
+        system: &system,
+        lines: TextLines::new(b"reserve 1 2\nend\n"),
+        taken: 0,
+        other: None,
+        told: None,
+    };
+    plays(&rt, alloc, &system, &mut lines)
+}
