@@ -7,7 +7,5 @@ mod OnlyLemmas
 mod AnswerLemmas
 mod RunLemmas
 mod PartyLemmas
-mod WordLemmas
-mod NumberLemmas
 mod StagingLemmas
 mod ScriptLemmas

@@ -15,7 +15,7 @@ use Rattle.scoop_demo.specs.Line.{count_limit, limit_fault}
 use Rattle.scoop_demo.specs.Input.{Input, TakesLine, StopsAtNext}
 use Rattle.scoop_demo.specs.Input.StopsAtNext.{read_fault as next_unread, past_limit, write_fault}
 use Rattle.scoop_demo.specs.Run.{first_fault}
-use Rattle.scoop_demo.specs.ScriptWords.{words_of, is_blank}
+use Rattle.scoop_words.specs.Words.{words_of, is_blank}
 use Rattle.scoop_demo.specs.ScriptKind.{kind_of}
 use Rattle.scoop_message.specs.declared.name.ClientId.{ClientId}
 use Rattle.scoop_object.specs.Class.{ClassTable}

@@ -25,7 +25,7 @@ use Rattle.scoop_demo.specs.declared.fault.RunError.{RunError}
 use Rattle.scoop_demo.specs.declared.script.kind.EventKind.{EventKind}
 use Rattle.scoop_demo.specs.declared.script.kind.LineKind.{LineKind}
 use Rattle.scoop_demo.specs.declared.script.kind.LineKind.TheVariants.{Handler, Client, Event}
-use Rattle.scoop_demo.specs.ScriptWords.{words_of, is_blank}
+use Rattle.scoop_words.specs.Words.{words_of, is_blank}
 use Rattle.scoop_demo.specs.ScriptKind.{kind_of}
 use Rattle.scoop_demo.specs.ScriptLine.{Placed, handler_line, client_line}
 use Rattle.scoop_demo.specs.Script.{Parties, Opens, IsClosed, StopsOpening, StopsClosed, own_class, placement_of, parties_of, party_fault, placed_by, placed_by_kind, joined_by, joined_by_kind}

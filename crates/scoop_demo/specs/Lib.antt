@@ -8,8 +8,6 @@ pub mod Hex
 pub mod Storing
 pub mod Answer
 pub mod Run
-pub mod ScriptWords
-pub mod ScriptNumber
 pub mod ScriptKind
 pub mod ScriptLine
 pub mod LineFault

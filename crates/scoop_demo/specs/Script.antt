@@ -17,7 +17,7 @@ use Rattle.scoop_demo.specs.declared.script.kind.LineKind.{LineKind}
 use Rattle.scoop_demo.specs.declared.script.kind.LineKind.TheVariants.{Handler, Client, Event}
 use Rattle.scoop_demo.specs.Line.{lines_of, limit_fault}
 use Rattle.scoop_demo.specs.Run.{first_fault, BeginsWithLines}
-use Rattle.scoop_demo.specs.ScriptWords.{words_of, is_blank}
+use Rattle.scoop_words.specs.Words.{words_of, is_blank}
 use Rattle.scoop_demo.specs.ScriptKind.{kind_of}
 use Rattle.scoop_demo.specs.ScriptLine.{Placed, handler_line, client_line, event_line}
 

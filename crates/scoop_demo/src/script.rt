@@ -4,12 +4,9 @@ mod event;
 mod kind;
 mod number;
 mod party;
-mod words;
 
 pub use event::{EventLine, read_event};
-pub(crate) use kind::is;
 pub use kind::{EventKind, LineKind, line_kind};
 pub(crate) use number::{read_u16, read_u32, read_u64};
 pub use party::{LineError, PlacedLine, read_client, read_placement};
-pub use words::is_blank;
-pub(crate) use words::{count_words, next_word, one_word};
+pub use scoop_words::is_blank;

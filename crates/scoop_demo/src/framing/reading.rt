@@ -7,13 +7,14 @@ ghost use Rattle.scoop_demo.specs.FrameWords.{frame_words};
 
 use super::print_message;
 use crate::fault::InputFault;
-use crate::script::{count_words, is, next_word, one_word, read_u16, read_u32, read_u64};
+use crate::script::{read_u16, read_u32, read_u64};
 use arrayvec::ArrayVec;
 use scoop_frame::{FrameError, Version};
 use scoop_message::limits::{MAX_ARGS, MAX_ENTRIES};
 use scoop_message::{
     Answer, Args, Block, ClientId, Entries, Entry, HandlerId, Message, OutOfMemory, Request,
 };
+use scoop_words::{count_words, is, next_word, one_word};
 use std::alloc::Global;
 use std::error::Error;
 use std::fmt;

@@ -6,7 +6,7 @@ ghost use Rattle.std.specs.Result.{result_ok, result_err};
 ghost use Rattle.scoop_message.specs.declared.limits.TheConstants.{MAX_ENTRIES};
 ghost use Rattle.scoop_message.specs.declared.name.ClientId.{ClientId};
 ghost use Rattle.scoop_keeper.specs.Memory.{incarnation_at};
-ghost use Rattle.scoop_demo.specs.ScriptWords.{words_of};
+ghost use Rattle.scoop_words.specs.Words.{words_of};
 ghost use Rattle.scoop_demo.specs.ScriptLine.{Placed, joining, handler_line, client_line, event_line};
 ghost use Rattle.scoop_demo.specs.Script.{Parties, Opens, StopsAtLine, StopsOpening, StopsClosed, parties_of, party_fault, words_fault, is_event, opens_at};
 ghost use Rattle.scoop_demo.specs.Staging.{AreFirst, AreFirstClients, IsStaged, IsWaiting, with_line};

@@ -3,16 +3,16 @@
 ghost use Rattle.std.specs.Prelude.{◌≡◌, ◌≤◌, length};
 ghost use Rattle.scoop_message.specs.declared.limits.TheConstants.{MAX_ARGS};
 ghost use Rattle.scoop_client.specs.declared.handlers.TheConstants.{MAX_NAMED_HANDLERS};
-ghost use Rattle.scoop_demo.specs.ScriptWords.{words_of};
-ghost use Rattle.scoop_demo.specs.ScriptNumber.{each_of, number_of};
-ghost use Rattle.scoop_demo.specs.ScriptLine.{event_line, reserve_line, request_line, place_line, node_line, client_alone, handler_alone, pair_of, handler_of};
+ghost use Rattle.scoop_words.specs.Words.{words_of};
+ghost use Rattle.scoop_words.specs.Reading.{each_of};
+ghost use Rattle.scoop_demo.specs.ScriptLine.{event_line, reserve_line, request_line, place_line, node_line, client_alone, handler_alone, pair_of, handler_of, number_of};
 
 use super::kind::EventKind;
 use super::number::{read_numbers, read_u16, read_u32, read_u64};
-use super::words::{count_words, next_word, one_word, two_words};
 use crate::fault::InputFault;
 use scoop_message::limits::MAX_ARGS;
 use scoop_message::{Args, ClientId, HandlerId, Request};
+use scoop_words::{count_words, next_word, one_word, two_words};
 use scoop_world::{Command, Event, HandlerList, MAX_NAMED_HANDLERS};
 
 /// What a line of an event asks for.

@@ -1,11 +1,10 @@
 //! What the first words of a line say that it is.
 
 ghost use Rattle.std.specs.Prelude.{◌≡◌, None, Some, MatchOption};
-ghost use Rattle.scoop_classes.specs.Classes.{same_text};
-ghost use Rattle.scoop_demo.specs.ScriptWords.{words_of};
+ghost use Rattle.scoop_words.specs.Words.{words_of};
 ghost use Rattle.scoop_demo.specs.ScriptKind.{kind_of, word_kind, event_kind, restart_kind};
 
-use super::words::next_word;
+use scoop_words::{is, next_word};
 
 /// What a line of a script is, by its first words.
 #[derive(Clone, Copy, Debug, PartialEq, Eq)]
@@ -104,11 +103,4 @@ fn event_kind(word: &[u8]) -> Option<EventKind>
     } else {
         None
     }
-}
-
-/// Whether a word is this name.
-pub fn is(word: &[u8], name: &str) -> bool
-    ensures { result ≡ same_text word.now name.now }
-{
-    word.len() == name.len() && word == name.as_bytes()
 }

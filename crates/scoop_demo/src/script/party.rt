@@ -2,18 +2,18 @@
 
 ghost use Rattle.std.specs.Prelude.{◌≡◌, ◌≤◌, length, Ok, Err, IfOk, IfErr};
 ghost use Rattle.scoop_message.specs.declared.limits.TheConstants.{MAX_WORDS, MAX_ENTRIES};
-ghost use Rattle.scoop_demo.specs.ScriptWords.{words_of};
-ghost use Rattle.scoop_demo.specs.ScriptNumber.{number_of, each_of};
-ghost use Rattle.scoop_demo.specs.ScriptLine.{client_line, batch_of, handler_line, class_of, words_for};
+ghost use Rattle.scoop_words.specs.Words.{words_of};
+ghost use Rattle.scoop_words.specs.Reading.{each_of};
+ghost use Rattle.scoop_demo.specs.ScriptLine.{client_line, batch_of, handler_line, class_of, words_for, number_of};
 ghost use Rattle.scoop_demo.specs.LineFault.{IfFault};
 
 use super::number::{read_numbers, read_u32, read_u64};
-use super::words::{count_words, next_word};
 use crate::fault::InputFault;
 use scoop_classes::demo_class;
 use scoop_message::limits::MAX_ENTRIES;
 use scoop_message::{ClientId, HandlerId, OutOfMemory, Words};
 use scoop_object::Class;
+use scoop_words::{count_words, next_word};
 use std::alloc::Global;
 use std::str;
 

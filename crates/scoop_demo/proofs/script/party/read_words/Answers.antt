@@ -1,7 +1,7 @@
 use Rattle.std.proofs.Common.{◌≡◌, length, arith}
-use Rattle.scoop_demo.specs.ScriptNumber.{number_of}
-use Rattle.scoop_demo.specs.ScriptWords.{words_of}
-use Rattle.scoop_demo.proofs.NumberLemmas.{length-each_of}
+use Rattle.scoop_demo.specs.ScriptLine.{number_of}
+use Rattle.scoop_words.specs.Words.{words_of}
+use Rattle.scoop_words.proofs.ReadingLemmas.{length-each_of}
 use Rattle.scoop_demo.proofs.script.party.read_words.Goals as goal
 
 pub unreachable-requires : goal.unreachable-requires
