@@ -82,11 +82,11 @@ pub fn tell_file(rt: &HostRuntime, given: &ArgMatches<'_>, error: FileError) -> 
         return tell_run(rt, given, RunError::from(refusal));
     }
     let _ = eprintln!(rt; "scoop: {error}");
-    if store_path(given).is_some_and(|path| is_folder(rt, path)) {
-        tell_advice(rt, given, FOLDER);
-    } else {
-        tell_advice(rt, given, error.advice());
-    }
+    let advice = match store_path(given) {
+        Some(path) if is_folder(rt, path) => FOLDER,
+        _ => error.advice(),
+    };
+    tell_advice(rt, given, advice);
     Failure::Told(error.status())
 }
 

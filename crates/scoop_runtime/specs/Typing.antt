@@ -3,9 +3,9 @@ use Rattle.std.specs.Prelude.{ℕ, List, [], ◌∷◌, ◌++◌, codes, Bool, i
 use Rattle.std.specs.Fmt.{decimal}
 use Rattle.scoop_message.specs.declared.name.ClientId.{ClientId}
 use Rattle.scoop_client.specs.declared.error.ClientError.{ClientError}
-use Rattle.scoop_client.specs.declared.error.ClientError.TheVariants as client
+use Rattle.scoop_client.specs.declared.error.ClientError.TheVariants as of_client
 use Rattle.scoop_reserve.specs.declared.error.ReserveError.{ReserveError}
-use Rattle.scoop_reserve.specs.declared.error.ReserveError.TheVariants as reserve
+use Rattle.scoop_reserve.specs.declared.error.ReserveError.TheVariants as of_reserve
 use Rattle.scoop_system.specs.declared.line.fault.LineFault.{LineFault}
 use Rattle.scoop_runtime.specs.declared.error.RuntimeError.TheVariants.{Line}
 use Rattle.scoop_runtime.specs.declared.reply.Reply.{Reply}
@@ -31,25 +31,25 @@ misread_text number fault =
     codes "scoop: " ++ (error_text (Line number fault) ++ (10 ∷ codes "scoop: " ++ (advice_text (Line number fault) ++ 10 ∷ [])))
 
 abbrev pub reserve_advice : ReserveError → List ℕ
-reserve_advice reserve.Empty = codes "a block has at least one handler: name it behind reserve"
-reserve_advice reserve.TooMany = codes "a block has at most 8 handlers: reserve fewer"
-reserve_advice (reserve.Repeated h) = codes "name each handler of a block once"
-reserve_advice (reserve.Unknown h) = codes "the system has no such handler: scoop check shows those that it has"
-reserve_advice reserve.OutOfMemory = codes "there was no memory for it: type it again once there is"
+reserve_advice of_reserve.Empty = codes "a block has at least one handler: name it behind reserve"
+reserve_advice of_reserve.TooMany = codes "a block has at most 8 handlers: reserve fewer"
+reserve_advice (of_reserve.Repeated h) = codes "name each handler of a block once"
+reserve_advice (of_reserve.Unknown h) = codes "the system has no such handler: scoop check shows those that it has"
+reserve_advice of_reserve.OutOfMemory = codes "there was no memory for it: type it again once there is"
 
 -- what a refusal means, and what to do
 abbrev pub refusal_advice : ClientError → List ℕ
-refusal_advice client.NotGreeted = codes "a handler has not welcomed the client yet: type it again"
-refusal_advice client.NotIdle = codes "the client has a block: end it before you reserve the next one"
-refusal_advice client.NoBlock = codes "the client has no block: reserve the handlers first"
-refusal_advice (client.Waiting h) = codes "a query waits for its answer there: type it again once that is there"
-refusal_advice (client.NotReserved h) = codes "the block doesn't have this handler: end it, and reserve all handlers of the next one at once"
-refusal_advice (client.WindowFull h) = codes "64 entries there are not acknowledged yet: type it again once some are"
-refusal_advice client.TooLate = codes "all handlers are locked already: end the block"
-refusal_advice client.Spent =
+refusal_advice of_client.NotGreeted = codes "a handler has not welcomed the client yet: type it again"
+refusal_advice of_client.NotIdle = codes "the client has a block: end it before you reserve the next one"
+refusal_advice of_client.NoBlock = codes "the client has no block: reserve the handlers first"
+refusal_advice (of_client.Waiting h) = codes "a query waits for its answer there: type it again once that is there"
+refusal_advice (of_client.NotReserved h) = codes "the block doesn't have this handler: end it, and reserve all handlers of the next one at once"
+refusal_advice (of_client.WindowFull h) = codes "64 entries there are not acknowledged yet: type it again once some are"
+refusal_advice of_client.TooLate = codes "all handlers are locked already: end the block"
+refusal_advice of_client.Spent =
     codes "the numbers of blocks, or of the block's entries, are used up: end the block, or begin the client again with --store"
-refusal_advice (client.Reserve error) = reserve_advice error
-refusal_advice client.OutOfMemory = codes "there was no memory for it: type it again once there is"
+refusal_advice (of_client.Reserve error) = reserve_advice error
+refusal_advice of_client.OutOfMemory = codes "there was no memory for it: type it again once there is"
 
 -- what is told behind an answer
 abbrev pub reply_note : Reply → List ℕ
