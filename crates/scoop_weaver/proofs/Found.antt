@@ -1,8 +1,9 @@
 -- A message is found among keys just where it is among their messages.
-use Rattle.std.proofs.Common.{◌≡◌, ◌⊎◌, inl, inr, ℕ, zero, suc, ◌||◌, Bool, true, false, List, [], ◌∷◌, ◌++◌, map, refl, sym, ap, ◌∙◌, subst, true≢false, arith}
+use Rattle.std.proofs.Common.{◌≡◌, ◌⊎◌, inl, inr, zero, suc, ◌||◌, Bool, true, List, [], ◌∷◌, ◌++◌, map, refl, sym, ap, ◌∙◌, subst, true≢false, arith}
 use Rattle.std.specs.Prelude.{◌↔◌, Contains, if◌then◌else◌}
 use Rattle.std.specs.List.{list_any}
 use Rattle.std.proofs.lemmas.List.{map-append}
+use Rattle.std.proofs.Math.Bool.{or-true}
 use Rattle.std.proofs.lemmas.List.Elements.{Contains-append_left, Contains-append_right, Contains-append_cases}
 use Rattle.indexmap.specs.IndexSet.{insert_key}
 use Rattle.scoop_message.specs.declared.message.Message.{Message}
@@ -31,16 +32,12 @@ found_in (k ∷ ks) m h =
     (λ _ e f. Contains-append_right (k.0 ∷ []) (messages_of ks) m (found_in ks m f))
     refl h
 
-or_true : (b : Bool) → (b || true) ≡ true
-or_true true = refl
-or_true false = refl
-
 pub in_found : (ks : List Key) (m : Message) → Contains (messages_of ks) m → has_key ks m ≡ true
 in_found [] m c = let h = c.1 in absurd (omega arith)
 in_found (k ∷ ks) m (zero, within, is) =
     ap (λ b. b || has_key ks m) ((message_decides m k.0).1 (sym is))
 in_found (k ∷ ks) m (suc j, within, is) =
-    ap (λ b. on_key.eq-value.it (key m) k || b) (in_found ks m (j, omega arith, is)) ∙ or_true (on_key.eq-value.it (key m) k)
+    ap (λ b. on_key.eq-value.it (key m) k || b) (in_found ks m (j, omega arith, is)) ∙ or-true (on_key.eq-value.it (key m) k)
 
 in_one : (x m : Message) → Contains (x ∷ []) m → m ≡ x
 in_one x m (zero, within, is) = sym is
