@@ -122,7 +122,7 @@ fn hear_over<B: Behaviour, A: Allocator + Copy, K: Keeper<A>>(
     ensures job { job_out handler.new ≡ job_out handler.old }
     ensures left { IfOk result (λ heard. IsTrue is_stored → IsTrue (leaves heard.note) → before.new ≡ handler.new.state) }
 {
-    // Says that the handler is sound.
+    // For the prover: the handler is sound.
     let _number = handler.number();
     let Ok(heard) = handler.hear(message) else {
         return Err(KeeperError::OutOfMemory);
