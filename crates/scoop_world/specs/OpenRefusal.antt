@@ -32,12 +32,12 @@ pub record IsFirstWrong {B : Type 0} (class : B → ClassTable) (ps : List (Plac
   pub wrong : class placement.object ≢ placement.class
   pub right : AllByRecursion (IsOfClass class) (take place ps)
 
--- one to 64 handlers
+-- one to MAX_HANDLERS handlers
 pub record IsCounted {B : Type 0} (ps : List (Placement B)) : Type 0 where
   pub some : 1 ≤ length ps
   pub few : length ps ≤ MAX_HANDLERS
 
--- one to 64 handlers, each once and with an object of its class, and at most 64 clients, each once
+-- one to MAX_HANDLERS handlers, each once and with an object of its class, and at most MAX_CLIENTS clients, each once
 pub record MayPlace {B : Type 0} (class : B → ClassTable) (ps : List (Placement B)) (cs : List (ClientId × ℕ)) : Type 0 where
   pub some : 1 ≤ length ps
   pub few : length ps ≤ MAX_HANDLERS

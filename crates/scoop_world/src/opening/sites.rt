@@ -46,7 +46,7 @@ fn place<B: Behaviour, A: Allocator + Copy>(alloc: A, placement: Placement<B>) -
     let Ok(handler) = Handler::new(alloc, handler, class, object) else {
         unreachable!()
     };
-    // Says that the handler is sound.
+    // For the prover: the handler is sound.
     let _number = handler.number();
     Site::new(alloc, node, handler)
 }
