@@ -75,6 +75,17 @@ impl<'a> LineSource for PausingLines<'a> {
     }
 }
 
+// Serves the node over its link for its turns.
+fn serve_node<R: Threads + Wait + Clock + Sync>(
+    rt: &R,
+    alloc: Global,
+    system: &System,
+    link: UdpLink,
+) {
+    let keeper = MemoryKeeper::new(alloc);
+    let _served = serve(rt, alloc, system, 1, 1_000, NODE_TURNS, keeper, link);
+}
+
 // The node in a thread, and the client that pauses beside it.
 fn run_beside<R: Threads + Wait + Clock + Sync>(
     rt: &R,
@@ -86,10 +97,7 @@ fn run_beside<R: Threads + Wait + Clock + Sync>(
 ) -> Option<Told> {
     let lines = &mut *lines;
     thread::scope(thread::scope_env(), rt, move |scope| {
-        let spawned = scope.spawn(move || {
-            let keeper = MemoryKeeper::new(alloc);
-            serve(rt, alloc, system, 1, 1_000, NODE_TURNS, keeper, node).is_some()
-        });
+        let spawned = scope.spawn(move || serve_node(rt, alloc, system, node));
         if spawned.is_err() {
             return None;
         }
