@@ -89,7 +89,7 @@ fn states_of<B: Behaviour, A: Allocator + Copy>(
     let mut states = Vec::new(alloc);
     for site in sites {
         let state = site.state()?;
-        states.push(Standing::new(state, site.is_out()))?;
+        states.push(Standing::of(state, site.is_out()))?;
     }
     Ok(states)
 }

@@ -22,7 +22,7 @@ impl<A: Allocator> Model for Standing<A> {
 }
 
 impl<A: Allocator> Standing<A> {
-    pub(crate) fn new(state: HandlerState<A>, is_out: bool) -> Standing<A>
+    pub(crate) fn of(state: HandlerState<A>, is_out: bool) -> Standing<A>
         ensures { result ≡ record { state = state; is_out = is_out } }
     {
         Standing { state, is_out }

@@ -10,8 +10,10 @@ loop-site-preserved g c =
     let xs = c.args.sites.now in
     let longer : map standing (take (i + 1) xs) ≡ map standing (take i xs) ++ standing (get_or xs i x) ∷ [] =
     ap (map standing) (take_more xs i x c.loop-site-test.true) ∙ map-append standing (take i xs) (get_or xs i x ∷ []) in
-    let now : Standing = record { state = c.in_ok-state.state; is_out = c.is_out.result } in
-    let same : now ≡ standing x = λ j. record { state = c.in_ok-state.ensures j; is_out = c.is_out.ensures j } in
+    let now : Standing = c.of.result in
+    let read : record { state = c.in_ok-state.state; is_out = c.is_out.result } ≡ standing x =
+    λ j. record { state = c.in_ok-state.ensures j; is_out = c.is_out.ensures j } in
+    let same : now ≡ standing x = c.of.ensures ∙ read in
     c.in_ok-push.ensures.items
     ∙ ap (λ (ys : List Standing). ys ++ now ∷ []) c.loop-site.invariant
     ∙ ap (λ (y : Standing). map standing (take i xs) ++ y ∷ []) (same ∙ ap standing c.site-item.is)
