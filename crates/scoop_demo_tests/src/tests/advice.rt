@@ -79,3 +79,9 @@ fn each_error_says_what_to_do(rt: HostRuntime) {
         assert_eq!(rt; error.advice(), advice);
     }
 }
+
+#[test]
+fn a_run_over_a_store_goes_on_with_it(rt: HostRuntime) {
+    assert!(rt; RunError::Write.advice_over_store().contains("--store"));
+    assert!(rt; !RunError::Write.advice().contains("--store"));
+}

@@ -131,6 +131,13 @@ fn advises(rt: &impl Abort, error: RuntimeError, about: About, words: &str) {
 }
 
 #[test]
+fn a_party_over_a_store_goes_on_with_it(rt: HostRuntime) {
+    let unwritten = RuntimeError::Ended(ShowError::Write);
+    assert!(rt; unwritten.advice_over_store().contains("--store"));
+    assert!(rt; !unwritten.advice().contains("--store"));
+}
+
+#[test]
 fn errors_are_told_with_what_to_do(rt: HostRuntime) {
     let ended = |error| RuntimeError::Ended(error);
     advises(
