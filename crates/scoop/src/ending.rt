@@ -6,6 +6,7 @@ use scoop_demo::RunError;
 use scoop_files::FileError;
 use scoop_message::OutOfMemory;
 use scoop_runtime::{About, ClientStop, RuntimeError};
+use scoop_show::ShowError;
 use std::fs;
 use std::net::SocketAddr;
 
@@ -70,10 +71,20 @@ pub fn tell_end(
         End::Runtime(error) => tell_runtime(rt, given, address, error),
         End::Lines(stop) => {
             let told = tell_runtime(rt, given, address, stop.error);
-            let _ = eprintln!(rt; "scoop: {}", stop.progress);
+            if had_begun(stop.error) {
+                let _ = eprintln!(rt; "scoop: {}", stop.progress);
+            }
             told
         }
     }
+}
+
+// Whether the client had its incarnation when this came: what its handlers or its store refuse comes before.
+fn had_begun(error: RuntimeError) -> bool {
+    !matches!(
+        error,
+        RuntimeError::Handlers(_) | RuntimeError::Ended(ShowError::Store(_))
+    )
 }
 
 /// Tells why a store in a file isn't had, and behind it which file it is and what to do.

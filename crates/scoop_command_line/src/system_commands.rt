@@ -82,8 +82,8 @@ pub fn client_command<'a>(alloc: Global) -> Result<Command<'a>, AllocError> {
             deposit, withdraw or balance of an account, put of an exchange; `scoop check` shows those of the file's classes. \
             What the client refuses is `refused` and why, and it goes on. Empty lines and lines that begin with `#` are \
             skipped; a line may end in a carriage return and a newline. Where somebody types the lines, standard error says \
-            when the client is ready, which lines there are, and what a refusal means. While a handler doesn't answer for a second, standard \
-            error says which ones it waits for.\n\n\
+            when the client is ready, which lines there are, and what a refusal means. Where nothing new comes for a second, \
+            standard error says for which handlers it waits; the block of another client may stand before this one.\n\n\
             Statuses: 0; 1 for the file or the key, told as `scoop: FILE: TEXT`, for a line that can't be read, told as \
             `scoop: line N: TEXT` (at a terminal the client goes on), and for an input that ends inside a block; 2 for the \
             command line; 3 for links, told as `scoop: link: NAME` (`TurnsOver` where a command has spent its --turns), for \
@@ -198,7 +198,7 @@ fn client_turns_option<'a>(alloc: Global) -> Arg<'a> {
         .long("turns")
         .value_name("T")
         .help(
-            "How many turns each command takes at most, 1 or more, each of which takes a datagram or ten milliseconds",
+            "How many turns each command takes at most, 1 or more, and a reserve as many again to give its locks back; each takes a datagram or ten milliseconds",
         )
         .action(ArgAction::Set)
         .value_parser(value_parser!(u64))

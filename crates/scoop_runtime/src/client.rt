@@ -171,8 +171,8 @@ where
 
 /// Runs a client over a link: it takes its next incarnation from the keeper, greets every handler, and then does what the
 /// lines of the input ask, one after another. Each line is answered with one line, which goes out at once; what the client
-/// refuses is answered as `refused` and why, and it goes on. Repeated datagrams are paced. Handlers that don't answer
-/// within a second are told to `waits`. Where somebody types the lines, `notes` is told that every handler has greeted and
+/// refuses is answered as `refused` and why, and it goes on. Repeated datagrams are paced. Where nothing new comes for a
+/// second, `waits` is told for which handlers. Where somebody types the lines, `notes` is told that every handler has greeted and
 /// which lines there are, of each that can't be read with what to do, and what each refusal means; else it is told nothing.
 ///
 /// Refused: what the keeper refuses, before anything is sent; `link: TurnsOver` and `link: LinkFault`; the first line that

@@ -21,7 +21,7 @@ const NODE_TURNS: u64 = 400;
 const CELLS: &str = "\
 [[node]]
 number = 1
-address = \"127.0.0.1:47731\"
+address = \"127.0.0.1:47761\"
 [[handler]]
 number = 1
 node = 1
@@ -34,11 +34,11 @@ class = \"cell\"
 words = [0]
 [[client]]
 number = 7
-address = \"127.0.0.1:47732\"
+address = \"127.0.0.1:47762\"
 batch = 1
 [[client]]
 number = 8
-address = \"127.0.0.1:47733\"
+address = \"127.0.0.1:47763\"
 batch = 1
 ";
 
