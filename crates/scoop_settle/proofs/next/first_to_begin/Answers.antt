@@ -1,5 +1,6 @@
 use Rattle.std.proofs.Common.{◌≡◌, Some, sym, ap, ◌∙◌, arith}
 use Rattle.std.specs.Option.{option_map}
+use Rattle.scoop_handler.specs.State.{HandlerState}
 use Rattle.scoop_keeper.proofs.Keyed.{item_at}
 use Rattle.scoop_calm.specs.declared.next.Next.TheVariants as next
 use Rattle.scoop_world.specs.Standing.{Standing}
@@ -13,7 +14,8 @@ returns-then-can_leave g c =
     let i = c.loop-standing.standing-index in
     let at = item_at c.args.states.now i x (omega arith) c.standing-item.is in
     let found = found_here can_leave c.args.states.now i x at c.loop-standing.invariant (sym c.can_leave.ensures ∙ c.if-can_leave.true) in
-    ap (λ h. Some (next.Begin h)) c.handler.ensures.value ∙ sym (ap (option_map (λ (s : Standing). next.Begin s.state.number)) found)
+    ap (λ h. Some (next.Begin h)) (c.handler.ensures.value ∙ ap (λ (s : HandlerState). s.number) c.state.ensures)
+    ∙ sym (ap (option_map (λ (s : Standing). next.Begin s.state.number)) found)
 
 pub loop-standing-preserved : goal.loop-standing-preserved
 loop-standing-preserved g c =
