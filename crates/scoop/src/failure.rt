@@ -1,5 +1,6 @@
 //! How the program ends where it can't do its work.
 
+use crate::kind::Kind;
 use clap::Error;
 use clap::error::ErrorKind;
 use scoop_demo::{InputFault, RunError, WordsError};
@@ -18,8 +19,8 @@ pub enum Failure {
     Arguments,
     /// No class has the name that was given.
     NoSuchClass,
-    /// The words are no message with a frame. A message of the kind that they name has these words.
-    Words(WordsError, Option<&'static str>),
+    /// The words are no message with a frame. The kind is the one that they name.
+    Words(WordsError, Option<Kind>),
     /// The run has more events than a chart shows, and its file is empty.
     LongChart,
     /// The work on the input ended early.
@@ -42,7 +43,7 @@ impl Failure {
             Failure::CommandLine(error) => report_command_line(rt, &error),
             Failure::Arguments => report_arguments(rt),
             Failure::NoSuchClass => report_no_class(rt),
-            Failure::Words(error, form) => report_words(rt, error, form),
+            Failure::Words(error, kind) => report_words(rt, error, kind),
             Failure::LongChart => report_long_chart(rt),
             Failure::Run(error) => report_run(rt, error),
             Failure::Show(error) => report_show(rt, error),
@@ -65,11 +66,11 @@ fn report_no_class<R: Eprint>(rt: &R) -> u8 {
     2
 }
 
-fn report_words<R: Eprint>(rt: &R, error: WordsError, form: Option<&'static str>) -> u8 {
+fn report_words<R: Eprint>(rt: &R, error: WordsError, kind: Option<Kind>) -> u8 {
     let advice = words_advice(error);
     let _ = eprintln!(rt; "scoop: {error}");
-    if let Some(form) = form {
-        let _ = eprintln!(rt; "scoop: its words are {form}; {advice}");
+    if let Some(kind) = kind {
+        let _ = eprintln!(rt; "scoop: its words are {}; {advice}", kind.form());
     } else {
         let _ = eprintln!(rt; "scoop: {advice}");
     }

@@ -21,6 +21,7 @@ mod checking;
 mod ending;
 mod failure;
 mod framing;
+mod kind;
 mod playing;
 mod serving;
 mod showing;
