@@ -13,11 +13,20 @@ use std::io::{BufWriter, Write};
 
 /// Reads the file that is named, and prints what was understood.
 pub fn check(rt: &HostRuntime, given: &ArgMatches<'_>) -> Result<(), Failure> {
-    let system = read_system(rt, given.get_str("file").unwrap_or(""))?;
+    let path = given.get_str("file").unwrap_or("");
+    let system = read_system(rt, path)?;
+    if is_empty(&system) {
+        let _ = eprintln!(rt; "scoop: {path}: it says no nodes, no handlers and no clients");
+    }
     match print_understood(rt, &system) {
         Ok(()) => Ok(()),
         Err(error) => Err(tell_plainly(rt, RuntimeError::from(error))),
     }
+}
+
+// Whether no program can run in the system.
+fn is_empty(system: &System) -> bool {
+    system.nodes().is_empty() && system.handlers().is_empty() && system.clients().is_empty()
 }
 
 // Prints what was understood.

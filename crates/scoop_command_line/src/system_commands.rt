@@ -78,17 +78,18 @@ pub fn client_command<'a>(alloc: Global) -> Result<Command<'a>, AllocError> {
             \x20 reserve H.. when H OP A.. least V tries T\n\
             \x20                     `noted`: then only `call` (`noted`) and `end` are taken, and the block is tried until \
             the answer is at least V: `ended K` at the K-th try, or `condition failed T`\n\
-            OP is a number or a name of an operation of the handler's class: set or get of a cell, add or get of a counter, \
-            deposit, withdraw or balance of an account, put of an exchange; `scoop check` shows those of the file's classes. \
+            OP is a number or a name of an operation of the handler's class, with the arguments that it reads: set A or get of \
+            a cell, add A or get of a counter, deposit A, withdraw A or balance of an account, put A of an exchange; \
+            `scoop check` shows those of the file's classes. \
             What the client refuses is `refused` and why, and it goes on. Empty lines and lines that begin with `#` are \
             skipped; a line may end in a carriage return and a newline. Where somebody types the lines, standard error says \
             when the client is ready, which lines there are, and what a refusal means. Where nothing new comes for a second, \
-            standard error says for which handlers it waits; the block of another client may stand before this one.\n\n\
+            standard error says for which handlers it waits, and why that may be.\n\n\
             Statuses: 0; 1 for the file or the key, told as `scoop: FILE: TEXT`, for a line that can't be read, told as \
             `scoop: line N: TEXT` (at a terminal the client goes on), and for an input that ends inside a block; 2 for the \
             command line; 3 for links, told as `scoop: link: NAME` (`TurnsOver` where a command has spent its --turns), for \
             the store, told as `scoop: store: NAME`, for memory or output. Further lines of standard error say where to \
-            look, what to do, and which lines are done.\n\n\
+            look, what to do, and which lines were answered.\n\n\
             Example: scoop client 7 --system examples/bank.toml --new /tmp/client-7.db < examples/bank-7.lines",
         )
         .arg(number_argument(alloc, "The number of the client in the system's file"))?

@@ -1,16 +1,12 @@
 -- What is told behind an error of a run over the lines of an input: what to do.
 use Rattle.std.specs.Prelude.{ℕ, List, codes}
-use Rattle.scoop_keeper.specs.declared.keeper.KeeperError.{KeeperError}
-use Rattle.scoop_keeper.specs.declared.keeper.KeeperError.TheVariants as keeper
+use Rattle.scoop_keeper.specs.Advice.{memory_advice, keeper_advice}
 use Rattle.scoop_world.specs.declared.error.WorldOpenError.{WorldOpenError}
 use Rattle.scoop_world.specs.declared.error.WorldOpenError.TheVariants as world
 use Rattle.scoop_demo.specs.declared.fault.InputFault.{InputFault}
 use Rattle.scoop_demo.specs.declared.fault.InputFault.TheVariants as fault
 use Rattle.scoop_demo.specs.declared.fault.RunError.{RunError}
 use Rattle.scoop_demo.specs.declared.fault.RunError.TheVariants.{Input, Write, OutOfMemory, Store, WrongClass, NodeFailed, HistoryFull}
-
-abbrev pub memory_advice : List ℕ
-memory_advice = codes "end other programs or give it more memory; over a store, go on with --store, since what was answered is there"
 
 -- of what no run leads to
 abbrev pub never_advice : List ℕ
@@ -26,25 +22,16 @@ open_advice (world.RepeatedClient c) = codes "give each client a number of its o
 open_advice world.IncarnationsSpent = codes "a client has begun as often as a client can: take another number"
 open_advice world.OutOfMemory = memory_advice
 
-abbrev pub store_advice : KeeperError → List ℕ
-store_advice keeper.Refused =
-    codes "it could not be read or written: see whether there is room on the disk, and go on with --store and the lines that had no answer, since what was answered is there"
-store_advice (keeper.BadImage h) =
-    codes "what it has of this handler was changed or damaged, and can't be repaired: begin anew, with new stores for handlers and clients"
-store_advice keeper.IncarnationsSpent = codes "this client has begun as often as a client can: take another number"
-store_advice keeper.WrongSchema = codes "it is the store of another program, or of a later one: name the right store"
-store_advice keeper.OutOfMemory = memory_advice
-
 abbrev pub fault_advice : InputFault → List ℕ
 fault_advice fault.LineTooLong = codes "a line has at most 4096 bytes: write a shorter one"
 fault_advice fault.TooManyLines = codes "an input has at most 1000000 lines: give the others to another run"
 fault_advice fault.ReadFault = codes "see whether the input is a folder, and can still be read; it is read at most 10000000 times, so give it in larger pieces"
-fault_advice fault.NotHex = codes "write hex digits, two for each byte of the datagram; spaces are skipped, tabs and carriage returns are not"
+fault_advice fault.NotHex = codes "write hex digits, two for each byte of the datagram (scoop frame makes them of words); spaces are skipped, tabs and carriage returns are not"
 fault_advice fault.OddDigits = codes "write two hex digits for each byte of the datagram, 0a for ten"
 fault_advice fault.UnknownLine = codes "scoop world --help has the lines that there are"
 fault_advice fault.WrongNumberOfWords = codes "scoop world --help says which words each line has, and scoop frame --help which a message has"
 fault_advice fault.NotANumber =
-    codes "write decimal digits: an operation is below 65536, an argument, an answer, a word or a place below 18446744073709551616, a client's entries are 1 to 4, and any other number is below 4294967296; scoop frame takes no zeros in front"
+    codes "write decimal digits: an operation is below 65536 (its name is for scoop client), an argument, an answer, a word or a place below 18446744073709551616, a client's entries are 1 to 4, and any other number is below 4294967296; scoop frame takes no zeros in front"
 fault_advice fault.NoSuchClass = codes "the classes are cell, counter, account and exchange"
 fault_advice fault.TooLateForParty = codes "handlers and clients come before the first event: move the line up"
 fault_advice (fault.CannotOpen error) = open_advice error
@@ -57,18 +44,13 @@ abbrev pub run_advice : RunError → List ℕ
 run_advice (Input line mistake) = fault_advice mistake
 run_advice Write = codes "see whether there is room for the output, and whether its reader still runs"
 run_advice OutOfMemory = memory_advice
-run_advice (Store refusal) = store_advice refusal
+run_advice (Store refusal) = keeper_advice refusal
 run_advice (WrongClass handler) = codes "name the class that the store was made with by --class"
 run_advice NodeFailed = codes "a state could not be stored before: see whether the disk is full, and go on with --store, since what was answered is there"
 run_advice HistoryFull = codes "a run has at most 1000000 entries: over a store, go on with --store in another run, and with the lines that had no answer"
 
 -- of a run over a store, with which it goes on
 abbrev pub store_run_advice : RunError → List ℕ
-store_run_advice (Input line mistake) = run_advice (Input line mistake)
 store_run_advice Write =
     codes "see whether there is room for the output, and whether its reader still runs; go on with --store and the lines that had no answer"
-store_run_advice OutOfMemory = run_advice OutOfMemory
-store_run_advice (Store refusal) = run_advice (Store refusal)
-store_run_advice (WrongClass handler) = run_advice (WrongClass handler)
-store_run_advice NodeFailed = run_advice NodeFailed
-store_run_advice HistoryFull = run_advice HistoryFull
+store_run_advice error = run_advice error

@@ -1,14 +1,11 @@
 //! What to do where a run over the lines of an input ends early, or words say no message.
 
 ghost use Rattle.std.specs.Prelude.{◌≡◌};
-ghost use Rattle.scoop_demo.specs.Advice.{fault_advice, open_advice, run_advice, store_advice, store_run_advice};
+ghost use Rattle.scoop_demo.specs.Advice.{fault_advice, open_advice, run_advice, store_run_advice};
 
 use crate::fault::{InputFault, RunError};
-use scoop_keeper::KeeperError;
+use scoop_keeper::memory_advice;
 use scoop_world::WorldOpenError;
-
-const MEMORY: &str =
-    "end other programs or give it more memory; over a store, go on with --store, since what was answered is there";
 
 // Of what no run leads to.
 const NEVER: &str = "this can't come: tell the authors which command and which input led to it";
@@ -23,8 +20,8 @@ impl RunError {
             RunError::Write => {
                 "see whether there is room for the output, and whether its reader still runs"
             }
-            RunError::OutOfMemory => MEMORY,
-            RunError::Store(refusal) => store_advice(refusal),
+            RunError::OutOfMemory => memory_advice(),
+            RunError::Store(refusal) => refusal.advice(),
             RunError::WrongClass(_) => "name the class that the store was made with by --class",
             RunError::NodeFailed => {
                 "a state could not be stored before: see whether the disk is full, and go on with --store, since what was answered \
@@ -65,7 +62,8 @@ impl InputFault {
                 "see whether the input is a folder, and can still be read; it is read at most 10000000 times, so give it in larger pieces"
             }
             InputFault::NotHex => {
-                "write hex digits, two for each byte of the datagram; spaces are skipped, tabs and carriage returns are not"
+                "write hex digits, two for each byte of the datagram (scoop frame makes them of words); spaces are skipped, tabs and \
+                carriage returns are not"
             }
             InputFault::OddDigits => {
                 "write two hex digits for each byte of the datagram, 0a for ten"
@@ -75,9 +73,9 @@ impl InputFault {
                 "scoop world --help says which words each line has, and scoop frame --help which a message has"
             }
             InputFault::NotANumber => {
-                "write decimal digits: an operation is below 65536, an argument, an answer, a word or a place below \
-                18446744073709551616, a client's entries are 1 to 4, and any other number is below 4294967296; scoop frame takes \
-                no zeros in front"
+                "write decimal digits: an operation is below 65536 (its name is for scoop client), an argument, an answer, a word or a \
+                place below 18446744073709551616, a client's entries are 1 to 4, and any other number is below 4294967296; scoop \
+                frame takes no zeros in front"
             }
             InputFault::NoSuchClass => "the classes are cell, counter, account and exchange",
             InputFault::TooLateForParty => {
@@ -109,27 +107,6 @@ fn open_advice(error: WorldOpenError) -> &'static str
         WorldOpenError::IncarnationsSpent => {
             "a client has begun as often as a client can: take another number"
         }
-        WorldOpenError::OutOfMemory => MEMORY,
-    }
-}
-
-fn store_advice(refusal: KeeperError) -> &'static str
-    ensures { result.now ≡ store_advice refusal }
-{
-    match refusal {
-        KeeperError::Refused => {
-            "it could not be read or written: see whether there is room on the disk, and go on with --store and the lines that \
-            had no answer, since what was answered is there"
-        }
-        KeeperError::BadImage(_) => {
-            "what it has of this handler was changed or damaged, and can't be repaired: begin anew, with new stores for handlers and clients"
-        }
-        KeeperError::IncarnationsSpent => {
-            "this client has begun as often as a client can: take another number"
-        }
-        KeeperError::WrongSchema => {
-            "it is the store of another program, or of a later one: name the right store"
-        }
-        KeeperError::OutOfMemory => MEMORY,
+        WorldOpenError::OutOfMemory => memory_advice(),
     }
 }

@@ -18,11 +18,13 @@
 //! ```
 #![tactic(auto)]
 
+mod advice;
 mod failing;
 mod keeper;
 mod memory;
 mod running;
 
+pub use advice::memory_advice;
 pub use failing::FailingKeeper;
 pub use keeper::{Keeper, KeeperError};
 pub use memory::MemoryKeeper;

@@ -1,7 +1,6 @@
 -- What is told behind an error of a node or a client: what it is about, and what to do.
 use Rattle.std.specs.Prelude.{ℕ, List, codes}
-use Rattle.scoop_keeper.specs.declared.keeper.KeeperError.{KeeperError}
-use Rattle.scoop_keeper.specs.declared.keeper.KeeperError.TheVariants as keeper
+use Rattle.scoop_keeper.specs.Advice.{memory_advice, keeper_advice}
 use Rattle.scoop_client.specs.declared.error.BeginError.{BeginError}
 use Rattle.scoop_client.specs.declared.error.BeginError.TheVariants as begin
 use Rattle.scoop_client.specs.declared.error.ClientError.TheVariants as client
@@ -21,22 +20,23 @@ use Rattle.scoop_runtime.specs.declared.advice.About.TheVariants.{Store, Address
 use Rattle.scoop_runtime.specs.declared.advice.FileFault.{FileFault}
 use Rattle.scoop_runtime.specs.declared.advice.FileFault.TheVariants as file
 use Rattle.scoop_runtime.specs.declared.error.RuntimeError.{RuntimeError}
-use Rattle.scoop_runtime.specs.declared.error.RuntimeError.TheVariants.{Line, Input, InsideBlock, Handlers, NoHandler, Ended}
-
-abbrev pub memory_advice : List ℕ
-memory_advice = codes "end other programs or give it more memory, and go on with --store, since what was answered is there"
+use Rattle.scoop_runtime.specs.declared.error.RuntimeError.TheVariants.{Line, Input, InsideBlock, InsideWhen, Handlers, NoHandler, Ended}
 
 -- of what no run leads to
 abbrev pub never_advice : List ℕ
 never_advice = codes "this can't come: tell the authors which command and which files led to it"
+
+abbrev pub arguments_advice : List ℕ
+arguments_advice =
+    codes "scoop check shows which arguments, a0 to a3, the operations of the file's classes read, and scoop client --help has those of the others: give so many"
 
 abbrev pub line_advice : LineFault → List ℕ
 line_advice line.UnknownLine = codes "a line begins with reserve, call, query or end: scoop client --help has them all"
 line_advice line.WrongNumberOfWords = codes "scoop client --help says which words each line has"
 line_advice line.NotANumber =
     codes "write a whole number in decimal digits: an operation's is up to 65535, a handler's up to 4294967295, how often is tried 1 to 4294967295, an argument and what stands behind least 0 to 18446744073709551615"
-line_advice line.TooFewArguments = codes "scoop check shows which arguments, a0 to a3, the operation reads: give so many"
-line_advice line.TooManyArguments = codes "scoop check shows which arguments, a0 to a3, the operation reads: give so many"
+line_advice line.TooFewArguments = arguments_advice
+line_advice line.TooManyArguments = arguments_advice
 line_advice line.TooManyHandlers = codes "a block has at most 8 handlers: reserve fewer"
 line_advice line.NoSuchOperation = codes "scoop check shows the operations of the file's classes, and scoop client --help those of the others: name one of them"
 line_advice line.NoSuchHandler = codes "scoop check shows the handlers of the system: name one of them"
@@ -52,14 +52,6 @@ begin_advice begin.TooManyHandlers = codes "leave at most 64 handlers in the sys
 begin_advice (begin.Repeated h) = codes "give each handler of the system's file a number of its own"
 begin_advice begin.OutOfMemory = memory_advice
 
-abbrev pub store_advice : KeeperError → List ℕ
-store_advice keeper.Refused = codes "it could not be read or written: see whether the disk is full, and go on with --store, since what was answered is there"
-store_advice (keeper.BadImage h) =
-    codes "what it has of this handler was changed or damaged, and can't be repaired: begin the system anew, with new stores and a new key"
-store_advice keeper.IncarnationsSpent = codes "this client has begun as often as a client can: take another number"
-store_advice keeper.WrongSchema = codes "it is the store of another program, or of a later one: name the right store"
-store_advice keeper.OutOfMemory = memory_advice
-
 abbrev pub loop_advice : ServeEnd → List ℕ
 loop_advice served.NodeFailed = codes "a state could not be stored: see whether the disk is full, and go on with --store, since what was answered is there"
 loop_advice served.LinkFault = codes "a thousand datagrams in a row could not be sent or received: see the network"
@@ -72,7 +64,7 @@ loop_advice served.GateShut = never_advice
 
 abbrev pub driver_advice : DriverError → List ℕ
 driver_advice driver.TurnsOver =
-    codes "a handler didn't answer: see whether the nodes run, whether all programs have the same file and the same key, and whether another client has stopped inside a block at that handler (begin that client again)"
+    codes "a handler didn't answer: see whether the nodes run, whether all programs have the same file and the same key, whether another client has stopped inside a block at that handler (begin that client again), and whether this client ran before with another store (go on with that one, and never with this one)"
 driver_advice driver.LinkFault = codes "a datagram could not be sent or received: see the addresses and the network"
 driver_advice (driver.Client client.OutOfMemory) = memory_advice
 driver_advice (driver.Client (client.Reserve reserve.OutOfMemory)) = memory_advice
@@ -80,13 +72,14 @@ driver_advice (driver.Client e) = never_advice
 driver_advice (driver.ConditionFailed tries) = never_advice
 
 abbrev pub show_advice : ShowError → List ℕ
-show_advice show.NoLink = codes "another program uses this address, or it is none of this machine's: end that program, or mend the address in the system's file"
+show_advice show.NoLink =
+    codes "another program uses this address, most often this node or client itself, which runs already, or it is none of this machine's: end that program, or mend the address in the system's file"
 show_advice show.NoThread = codes "the system gives no more threads: ask for fewer by --executors"
 show_advice (show.Driver e) = driver_advice e
 show_advice (show.Loop end) = loop_advice end
 show_advice (show.WrongClass h) =
     codes "it has not as many words of this handler as the class has in the system's file: name this node's store, or the file that it was made with"
-show_advice (show.Store refusal) = store_advice refusal
+show_advice (show.Store refusal) = keeper_advice refusal
 show_advice (show.NotClosed cause) = never_advice
 show_advice show.OutOfMemory = memory_advice
 show_advice show.Write = codes "see whether there is room for the output, and whether its reader still runs"
@@ -96,6 +89,7 @@ advice_text (Line number fault) = line_advice fault
 advice_text (Input error) = source_advice error.fault
 advice_text InsideBlock =
     codes "write end behind the last line: this block is cut once the client runs again, if only with empty input, and until then its handlers wait for it"
+advice_text InsideWhen = codes "write end behind the last line, and give all lines of this block again, since none of it is done"
 advice_text (Handlers error) = begin_advice error
 advice_text (NoHandler h) =
     codes "it is the store of another party, or of a node that was never ready (then nothing was answered): name this node's store, or make a new file by --new"

@@ -7,7 +7,7 @@ use Rattle.scoop_show.specs.ErrorText.{error_text as show_text}
 use Rattle.scoop_system.specs.LineText.{line_fault_text}
 use Rattle.scoop_runtime.specs.Sources.{source_text}
 use Rattle.scoop_runtime.specs.declared.error.RuntimeError.{RuntimeError}
-use Rattle.scoop_runtime.specs.declared.error.RuntimeError.TheVariants.{Line, Input, InsideBlock, Handlers, NoHandler, Ended}
+use Rattle.scoop_runtime.specs.declared.error.RuntimeError.TheVariants.{Line, Input, InsideBlock, InsideWhen, Handlers, NoHandler, Ended}
 
 abbrev pub begin_text : BeginError → List ℕ
 begin_text begin.NoHandlers = codes "handlers: NoHandlers"
@@ -19,6 +19,7 @@ abbrev pub error_text : RuntimeError → List ℕ
 error_text (Line number fault) = codes "line " ++ decimal number ++ codes ": " ++ line_fault_text fault
 error_text (Input error) = codes "line " ++ decimal error.line ++ codes ": " ++ source_text error.fault
 error_text InsideBlock = codes "the input ended inside a block, which is left to the next incarnation"
+error_text InsideWhen = codes "the input ended inside a block that waits for its condition, of which nothing is done"
 error_text (Handlers error) = begin_text error
 error_text (NoHandler h) = codes "store: NoHandler " ++ decimal h.0
 error_text (Ended error) = show_text error
@@ -28,6 +29,7 @@ abbrev pub status_of : RuntimeError → ℕ
 status_of (Line number fault) = 1
 status_of (Input error) = 1
 status_of InsideBlock = 1
+status_of InsideWhen = 1
 status_of (Handlers error) = 3
 status_of (NoHandler h) = 3
 status_of (Ended error) = 3

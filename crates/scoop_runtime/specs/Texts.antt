@@ -13,9 +13,14 @@ abbrev pub numbers_text : List HandlerId → List ℕ
 numbers_text [] = []
 numbers_text (h ∷ hs) = 32 ∷ decimal h.0 ++ numbers_text hs
 
+-- why a client may wait, and what to do
+abbrev pub awaited_advice : List ℕ
+awaited_advice =
+    codes ": no answer, or the block of another client stands before this one; see whether the nodes run, and whether a client has stopped inside a block (begin it again)"
+
 -- handlers that a client waits for, and why that may be
 abbrev pub awaited_text : List HandlerId → List ℕ
-awaited_text hs = numbers_text hs ++ (codes ": no answer, or the block of another client stands before this one" ++ 10 ∷ [])
+awaited_text hs = numbers_text hs ++ (awaited_advice ++ 10 ∷ [])
 
 abbrev pub waiting_text : List HandlerId → List ℕ
 waiting_text hs = codes "scoop: waiting for handlers" ++ awaited_text hs

@@ -3,19 +3,16 @@
 ghost use Rattle.std.specs.Prelude.{◌≡◌};
 ghost use Rattle.scoop_runtime.specs.Advice.{about, driver_about, loop_about, show_about};
 ghost use Rattle.scoop_runtime.specs.Advice.{advice_text, begin_advice, driver_advice, file_advice, line_advice};
-ghost use Rattle.scoop_runtime.specs.Advice.{loop_advice, show_advice, source_advice, store_advice, stored_advice};
+ghost use Rattle.scoop_runtime.specs.Advice.{loop_advice, show_advice, source_advice, stored_advice};
 
 use crate::error::RuntimeError;
 use crate::source::SourceFault;
 use scoop_client::{BeginError, ClientError};
-use scoop_keeper::KeeperError;
+use scoop_keeper::memory_advice;
 use scoop_netloop::{DriverError, ServeEnd};
 use scoop_reserve::ReserveError;
 use scoop_show::ShowError;
 use scoop_system::LineFault;
-
-const MEMORY: &str =
-    "end other programs or give it more memory, and go on with --store, since what was answered is there";
 
 // Of what no run leads to.
 const NEVER: &str = "this can't come: tell the authors which command and which files led to it";
@@ -84,6 +81,9 @@ impl RuntimeError {
             RuntimeError::InsideBlock => {
                 "write end behind the last line: this block is cut once the client runs again, if only with empty input, and until then its \
                 handlers wait for it"
+            }
+            RuntimeError::InsideWhen => {
+                "write end behind the last line, and give all lines of this block again, since none of it is done"
             }
             RuntimeError::Handlers(error) => begin_advice(error),
             RuntimeError::NoHandler(_) => {
@@ -162,7 +162,8 @@ fn line_advice(fault: LineFault) -> &'static str
             to 4294967295, an argument and what stands behind least 0 to 18446744073709551615"
         }
         LineFault::TooFewArguments | LineFault::TooManyArguments => {
-            "scoop check shows which arguments, a0 to a3, the operation reads: give so many"
+            "scoop check shows which arguments, a0 to a3, the operations of the file's classes read, and scoop client --help has those \
+            of the others: give so many"
         }
         LineFault::TooManyHandlers => "a block has at most 8 handlers: reserve fewer",
         LineFault::NoSuchOperation => {
@@ -194,7 +195,7 @@ fn begin_advice(error: BeginError) -> &'static str
         BeginError::NoHandlers => "write a handler into the system's file",
         BeginError::TooManyHandlers => "leave at most 64 handlers in the system's file",
         BeginError::Repeated(_) => { "give each handler of the system's file a number of its own" }
-        BeginError::OutOfMemory => MEMORY,
+        BeginError::OutOfMemory => memory_advice(),
     }
 }
 
@@ -203,8 +204,8 @@ fn show_advice(error: ShowError) -> &'static str
 {
     match error {
         ShowError::NoLink => {
-            "another program uses this address, or it is none of this machine's: end that program, or mend the address in the \
-            system's file"
+            "another program uses this address, most often this node or client itself, which runs already, or it is none of this \
+            machine's: end that program, or mend the address in the system's file"
         }
         ShowError::NoThread => "the system gives no more threads: ask for fewer by --executors",
         ShowError::Driver(error) => driver_advice(error),
@@ -213,9 +214,9 @@ fn show_advice(error: ShowError) -> &'static str
             "it has not as many words of this handler as the class has in the system's file: name this node's store, or the file \
             that it was made with"
         }
-        ShowError::Store(refusal) => store_advice(refusal),
+        ShowError::Store(refusal) => refusal.advice(),
         ShowError::NotClosed(_) => NEVER,
-        ShowError::OutOfMemory => MEMORY,
+        ShowError::OutOfMemory => memory_advice(),
         ShowError::Write => {
             "see whether there is room for the output, and whether its reader still runs"
         }
@@ -227,13 +228,14 @@ fn driver_advice(error: DriverError) -> &'static str
 {
     match error {
         DriverError::TurnsOver => {
-            "a handler didn't answer: see whether the nodes run, whether all programs have the same file and the same key, and \
-            whether another client has stopped inside a block at that handler (begin that client again)"
+            "a handler didn't answer: see whether the nodes run, whether all programs have the same file and the same key, whether \
+            another client has stopped inside a block at that handler (begin that client again), and whether this client ran \
+            before with another store (go on with that one, and never with this one)"
         }
         DriverError::LinkFault =>
             "a datagram could not be sent or received: see the addresses and the network",
         DriverError::Client(ClientError::OutOfMemory)
-        | DriverError::Client(ClientError::Reserve(ReserveError::OutOfMemory)) => MEMORY,
+        | DriverError::Client(ClientError::Reserve(ReserveError::OutOfMemory)) => memory_advice(),
         DriverError::Client(_) | DriverError::ConditionFailed(_) => NEVER,
     }
 }
@@ -250,28 +252,7 @@ fn loop_advice(end: ServeEnd) -> &'static str
         ServeEnd::NoThread => "the system gives no more threads: ask for fewer by --executors",
         ServeEnd::TurnsOver => "give more turns by --turns",
         ServeEnd::HistoryFull => "give more entries by --history",
-        ServeEnd::OutOfMemory => MEMORY,
+        ServeEnd::OutOfMemory => memory_advice(),
         ServeEnd::Stopped | ServeEnd::GateShut => NEVER,
-    }
-}
-
-fn store_advice(refusal: KeeperError) -> &'static str
-    ensures { result.now ≡ store_advice refusal }
-{
-    match refusal {
-        KeeperError::Refused => {
-            "it could not be read or written: see whether the disk is full, and go on with --store, since what was answered is \
-            there"
-        }
-        KeeperError::BadImage(_) => {
-            "what it has of this handler was changed or damaged, and can't be repaired: begin the system anew, with new stores \
-            and a new key"
-        }
-        KeeperError::IncarnationsSpent =>
-            "this client has begun as often as a client can: take another number",
-        KeeperError::WrongSchema => {
-            "it is the store of another program, or of a later one: name the right store"
-        }
-        KeeperError::OutOfMemory => MEMORY,
     }
 }

@@ -90,7 +90,7 @@ fn obey_lines<L: Link, I: LineSource, W: Write, N: Write>(
             Err(fault) => return Err(RuntimeError::Line(number, fault)),
         }
         progress.has_begun = false;
-        progress.done = Some(number);
+        progress.answered = Some(number);
     }
     Ok(())
 }
@@ -135,10 +135,11 @@ fn run_session<L: Link, I: LineSource, W: Write, N: Write>(
     session.greet()?;
     tell_ready(plan.place().client, plan.is_typed(), notes);
     let obeyed = obey_lines(plan, session, lines, progress, writer, notes);
-    progress.has_block = session.has_block();
-    match obeyed {
-        Ok(()) if progress.has_block => Err(RuntimeError::InsideBlock),
-        obeyed => obeyed,
+    progress.unended = session.unended();
+    obeyed?;
+    match progress.unended.error() {
+        None => Ok(()),
+        Some(error) => Err(error),
     }
 }
 

@@ -21,6 +21,8 @@ pub enum RuntimeError {
     Input(SourceError),
     /// The input ended while the client had a block, which is left to its next incarnation.
     InsideBlock,
+    /// The input ended inside a block that waits for its condition, of which nothing is done.
+    InsideWhen,
     /// The handlers of the system are none that a client begins with, or those of a node none that it opens with.
     Handlers(BeginError),
     /// The record of a node that goes on has nothing of this handler.
@@ -37,7 +39,8 @@ impl RuntimeError {
         ensures { result ≡ status_of self }
     {
         match self {
-            RuntimeError::Line(..) | RuntimeError::Input(_) | RuntimeError::InsideBlock => 1,
+            RuntimeError::Line(..) | RuntimeError::Input(_) => 1,
+            RuntimeError::InsideBlock | RuntimeError::InsideWhen => 1,
             RuntimeError::Handlers(_) => 3,
             RuntimeError::NoHandler(_) => 3,
             RuntimeError::Ended(error) => error.status(),
@@ -57,6 +60,9 @@ impl fmt::Display for RuntimeError {
             RuntimeError::Input(SourceError { line, fault }) => write!(f, "line {line}: {fault}"),
             RuntimeError::InsideBlock => f.write_str(
                 "the input ended inside a block, which is left to the next incarnation",
+            ),
+            RuntimeError::InsideWhen => f.write_str(
+                "the input ended inside a block that waits for its condition, of which nothing is done",
             ),
             RuntimeError::Handlers(BeginError::NoHandlers) => f.write_str("handlers: NoHandlers"),
             RuntimeError::Handlers(BeginError::TooManyHandlers) => {

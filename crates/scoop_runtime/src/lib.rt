@@ -52,7 +52,7 @@ pub use error::RuntimeError;
 pub use links::{open_client_link, open_node_link};
 pub use node::node_run;
 pub use plan::{ClientPlan, NodePlan, Serving};
-pub use progress::{ClientStop, Progress};
+pub use progress::{ClientStop, Progress, Unended};
 pub use ranges::{MAX_EXECUTORS, MIN_HISTORY, OutOfRange};
 pub use reply::{Reply, print_reply};
 pub use source::{LineBytes, LineSource, MAX_LINE_LEN, SourceError, SourceFault};

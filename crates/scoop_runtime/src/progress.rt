@@ -1,20 +1,31 @@
 //! How far a client came.
 
 ghost use Rattle.std.specs.Prelude.{◌≡◌};
-ghost use Rattle.scoop_runtime.specs.Progress.{begun_text, goes_on_text};
+ghost use Rattle.scoop_runtime.specs.Progress.{begun_text, ended_inside, goes_on_text};
 
 use crate::error::RuntimeError;
 use std::fmt;
 
-/// How far the lines of a client are done. Printed as what is told of it behind the error that ended it.
+/// What a client has of a block that it hasn't ended.
+#[derive(Clone, Copy, Debug, PartialEq, Eq)]
+pub enum Unended {
+    /// It has no block.
+    Nothing,
+    /// A block that is left to the next incarnation.
+    Block,
+    /// The lines of a block that waits for its condition, of which nothing is done.
+    When,
+}
+
+/// How far a client came with its lines. Printed as what is told of it behind the error that ended it.
 #[derive(Clone, Copy, Debug, PartialEq, Eq)]
 pub struct Progress {
-    /// The number of the last line that is done, counted from 1, with all before it. `None` where none is.
-    pub done: Option<u32>,
+    /// The number of the last line that was answered, counted from 1, with all before it. `None` where none was.
+    pub answered: Option<u32>,
     /// Whether the next line was begun, and may be done or not.
     pub has_begun: bool,
-    /// Whether a block is left to the next incarnation.
-    pub has_block: bool,
+    /// What is not ended.
+    pub unended: Unended,
 }
 
 /// Why a client ended early, and how far it came.
@@ -26,13 +37,26 @@ pub struct ClientStop {
     pub progress: Progress,
 }
 
+impl Unended {
+    /// The error where the input ends so. `None` where nothing is unended.
+    pub(crate) fn error(self) -> Option<RuntimeError>
+        ensures { result ≡ ended_inside self }
+    {
+        match self {
+            Unended::Nothing => None,
+            Unended::Block => Some(RuntimeError::InsideBlock),
+            Unended::When => Some(RuntimeError::InsideWhen),
+        }
+    }
+}
+
 impl Progress {
-    /// No line is done.
+    /// No line was answered.
     pub(crate) fn new() -> Progress {
         Progress {
-            done: None,
+            answered: None,
             has_begun: false,
-            has_block: false,
+            unended: Unended::Nothing,
         }
     }
 }
@@ -42,20 +66,24 @@ fn begun_text(has_begun: bool) -> &'static str
     ensures { result.now ≡ begun_text has_begun }
 {
     if has_begun {
-        ", the next one may be"
+        ", the next one may be done"
     } else {
         ""
     }
 }
 
 // What is told of the block, and what to do.
-fn goes_on_text(has_block: bool) -> &'static str
-    ensures { result.now ≡ goes_on_text has_block }
+fn goes_on_text(unended: Unended) -> &'static str
+    ensures { result.now ≡ goes_on_text unended }
 {
-    if has_block {
-        ", and the block is left to the next incarnation, which cuts it: go on with --store, and begin with reserve"
-    } else {
-        ": go on with --store"
+    match unended {
+        Unended::Nothing => ": go on with --store",
+        Unended::Block => {
+            ", and the block is left to the next incarnation, which cuts it: go on with --store, and begin with reserve"
+        }
+        Unended::When => {
+            ", and nothing is done of the block that waits for its condition: go on with --store, and begin with its reserve"
+        }
     }
 }
 
@@ -67,10 +95,13 @@ impl fmt::Display for Progress {
 
     fn fmt<W: fmt::Write>(&self, f: &mut fmt::Formatter<W>) -> fmt::Result {
         let begun = begun_text(self.has_begun);
-        let goes_on = goes_on_text(self.has_block);
-        match self.done {
-            None => write!(f, "no line is done{begun}{goes_on}"),
-            Some(done) => write!(f, "the lines up to line {done} are done{begun}{goes_on}"),
+        let goes_on = goes_on_text(self.unended);
+        match self.answered {
+            None => write!(f, "no line was answered{begun}{goes_on}"),
+            Some(line) => write!(
+                f,
+                "the lines up to line {line} were answered{begun}{goes_on}"
+            ),
         }
     }
 }

@@ -1,11 +1,14 @@
 //! A client that is asked line by line.
 
-ghost use Rattle.std.specs.Prelude.{◌≡◌, None, OnOk, IsFalse};
+ghost use Rattle.std.specs.Prelude.{◌≡◌, None, OnOk, IsFalse, is_some};
 ghost use Rattle.scoop_client.specs.Due.{due};
+ghost use Rattle.scoop_client.specs.State.{phase_of};
 ghost use Rattle.scoop_runtime.specs.Answering.{answered};
+ghost use Rattle.scoop_runtime.specs.Progress.{unended_of};
 ghost use Rattle.scoop_runtime.specs.Unlocking.{is_unlock, owes_unlock};
 
 use crate::last_block::LastBlock;
+use crate::progress::Unended;
 use crate::reply::Reply;
 use crate::wish::Wish;
 use scoop_client::{Client, ClientError, Phase};
@@ -78,9 +81,17 @@ impl<L: Link> Session<L> {
         Ok(())
     }
 
-    /// Whether the client has a block, or one that waits for its condition.
-    pub(crate) fn has_block(&self) -> bool {
-        self.wish.is_some() || self.driver.phase() != Phase::Idle
+    /// What the client hasn't ended.
+    pub(crate) fn unended(&self) -> Unended
+        ensures { result ≡ unended_of (is_some self.now.wish) (phase_of self.now.driver.seen.client) }
+    {
+        if self.wish.is_some() {
+            return Unended::When;
+        }
+        match self.driver.phase() {
+            Phase::Idle => Unended::Nothing,
+            _ => Unended::Block,
+        }
     }
 
     /// Does what a line asks, and tells what it is answered with. What the client refuses is answered too; the errors are

@@ -100,7 +100,10 @@ fn print_awaited<W: Write>(handlers: &[HandlerId], writer: &mut W) -> io::Result
     ensures { OnOk result (Appends (W.contents writer.old) (W.contents writer.new) (awaited_text handlers.now)) }
 {
     print_numbers(handlers, writer)?;
-    writer.write_all(b": no answer, or the block of another client stands before this one\n")
+    writer.write_all(
+        b": no answer, or the block of another client stands before this one; see whether the nodes run, and whether a client has \
+        stopped inside a block (begin it again)\n",
+    )
 }
 
 // Tells for whom the client waits, and why that may be.

@@ -52,7 +52,7 @@ const ADVICES: [(RunError, &str); 3] = [
             line: 3,
             fault: InputFault::NotHex,
         },
-        "write hex digits, two for each byte of the datagram; spaces are skipped, tabs and carriage returns are not",
+        "write hex digits, two for each byte of the datagram (scoop frame makes them of words); spaces are skipped, tabs and carriage returns are not",
     ),
     (
         RunError::WrongClass(ONE),
@@ -60,7 +60,7 @@ const ADVICES: [(RunError, &str); 3] = [
     ),
     (
         RunError::Store(KeeperError::BadImage(ONE)),
-        "what it has of this handler was changed or damaged, and can't be repaired: begin anew, with new stores for handlers and clients",
+        "what it has of this handler was changed or damaged, and can't be repaired: begin anew, with new stores for all nodes and clients, and a new key if there is one",
     ),
 ];
 

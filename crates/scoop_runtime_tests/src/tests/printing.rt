@@ -6,7 +6,7 @@ use scoop_message::{Answer, Block, ClientId, HandlerId};
 use scoop_netloop::{DriverError, ServeEnd};
 use scoop_reserve::ReserveError;
 use scoop_runtime::{
-    About, OutOfRange, Progress, Reply, RuntimeError, Serving, SourceError, SourceFault,
+    About, OutOfRange, Progress, Reply, RuntimeError, Serving, SourceError, SourceFault, Unended,
     print_reply,
 };
 use scoop_show::ShowError;
@@ -98,6 +98,9 @@ fn errors_are_told(rt: HostRuntime) -> Result<(), Fail> {
     let alloc = rt.alloc();
     let inside = "the input ended inside a block, which is left to the next incarnation";
     reads(&rt, alloc, RuntimeError::InsideBlock, inside, 1)?;
+    let noted =
+        "the input ended inside a block that waits for its condition, of which nothing is done";
+    reads(&rt, alloc, RuntimeError::InsideWhen, noted, 1)?;
     let long = SourceError {
         line: 4,
         fault: SourceFault::LineTooLong,
@@ -156,7 +159,7 @@ fn errors_are_told_with_what_to_do(rt: HostRuntime) {
         &rt,
         ended(ShowError::Store(KeeperError::Refused)),
         About::Store,
-        "the disk is full",
+        "room on the disk",
     );
     advises(
         &rt,
@@ -217,18 +220,27 @@ fn says(rt: &impl Abort, alloc: Global, progress: Progress, text: &str) -> Resul
 fn progress_is_told(rt: HostRuntime) -> Result<(), Fail> {
     let alloc = rt.alloc();
     let none = Progress {
-        done: None,
+        answered: None,
         has_begun: false,
-        has_block: false,
+        unended: Unended::Nothing,
     };
-    says(&rt, alloc, none, "no line is done: go on with --store")?;
+    says(&rt, alloc, none, "no line was answered: go on with --store")?;
     let inside = Progress {
-        done: Some(3),
+        answered: Some(3),
         has_begun: true,
-        has_block: true,
+        unended: Unended::Block,
     };
     let text =
-        "the lines up to line 3 are done, the next one may be, and the block is left to the next incarnation, which cuts it: go \
-        on with --store, and begin with reserve";
-    says(&rt, alloc, inside, text)
+        "the lines up to line 3 were answered, the next one may be done, and the block is left to the next incarnation, which cuts \
+        it: go on with --store, and begin with reserve";
+    says(&rt, alloc, inside, text)?;
+    let waiting = Progress {
+        answered: Some(2),
+        has_begun: false,
+        unended: Unended::When,
+    };
+    let text =
+        "the lines up to line 2 were answered, and nothing is done of the block that waits for its condition: go on with --store, \
+        and begin with its reserve";
+    says(&rt, alloc, waiting, text)
 }

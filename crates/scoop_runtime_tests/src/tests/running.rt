@@ -3,7 +3,7 @@
 use super::{Told, ask, client_link, node_link, serve};
 use scoop_keeper::MemoryKeeper;
 use scoop_link::UdpLink;
-use scoop_runtime::{Progress, RuntimeError};
+use scoop_runtime::{Progress, RuntimeError, Unended};
 use scoop_seal::{Key, SealedLink};
 use scoop_show::ShowError;
 use scoop_system::{LineFault, System};
@@ -242,14 +242,16 @@ scoop: line 3: no such operation
 scoop: scoop check shows the operations of the file's classes, and scoop client --help those of the others: name one of them
 ";
 
-// How a client ends that is refused a line, and behind one that can't be read.
-fn misread<R: Threads + Wait + Clock + Net + Sync>(
+const MISREAD: &[u8] = b"reserve 1\nreserve 2\nquery 1 balanc\nquery 1 balance\n";
+
+// How a client ends whose lines are these.
+fn ended<R: Threads + Wait + Clock + Net + Sync>(
     rt: &R,
     alloc: Global,
     system: &System,
+    lines: &[u8],
     is_typed: bool,
 ) -> Option<Told> {
-    let lines = b"reserve 1\nreserve 2\nquery 1 balanc\nquery 1 balance\n";
     let mut node = Beside::new(alloc, None);
     run_beside(rt, alloc, system, &mut node, 1_000, lines, is_typed)
 }
@@ -258,7 +260,7 @@ fn misread<R: Threads + Wait + Clock + Net + Sync>(
 fn a_line_that_cannot_be_read_is_told_to_who_types(rt: HostRuntime) -> Result<(), Fail> {
     let alloc = rt.alloc();
     let system = accounts_at(alloc, "4773").ok_or("no system")?;
-    let told = misread(&rt, alloc, &system, true).ok_or("no client")?;
+    let told = ended(&rt, alloc, &system, MISREAD, true).ok_or("no client")?;
     assert!(rt;
         is(
             &told.output,
@@ -267,16 +269,16 @@ fn a_line_that_cannot_be_read_is_told_to_who_types(rt: HostRuntime) -> Result<()
     );
     assert!(rt; is(&told.notes, NOTES));
     assert_eq!(rt; told.ended, Err(RuntimeError::InsideBlock));
-    assert_eq!(rt; told.progress, Some(left_behind(4)));
+    assert_eq!(rt; told.progress, Some(answered_to(4, Unended::Block)));
     Ok(())
 }
 
-// The lines are done up to this one, and a block is left.
-fn left_behind(line: u32) -> Progress {
+// The lines up to this one were answered, and this isn't ended.
+fn answered_to(line: u32, unended: Unended) -> Progress {
     Progress {
-        done: Some(line),
+        answered: Some(line),
         has_begun: false,
-        has_block: true,
+        unended,
     }
 }
 
@@ -284,11 +286,23 @@ fn left_behind(line: u32) -> Progress {
 fn a_line_that_cannot_be_read_ends_a_client(rt: HostRuntime) -> Result<(), Fail> {
     let alloc = rt.alloc();
     let system = accounts_at(alloc, "4775").ok_or("no system")?;
-    let told = misread(&rt, alloc, &system, false).ok_or("no client")?;
+    let told = ended(&rt, alloc, &system, MISREAD, false).ok_or("no client")?;
     assert!(rt; told.notes.is_empty());
     let fault = RuntimeError::Line(3, LineFault::NoSuchOperation);
     assert_eq!(rt; told.ended, Err(fault));
-    assert_eq!(rt; told.progress, Some(left_behind(2)));
+    assert_eq!(rt; told.progress, Some(answered_to(2, Unended::Block)));
+    Ok(())
+}
+
+#[test]
+fn nothing_is_done_of_a_block_that_waits_before_its_end(rt: HostRuntime) -> Result<(), Fail> {
+    let alloc = rt.alloc();
+    let system = accounts_at(alloc, "4776").ok_or("no system")?;
+    let lines = b"reserve 1 when 1 balance least 0 tries 1\ncall 1 deposit 5\n";
+    let told = ended(&rt, alloc, &system, lines, false).ok_or("no client")?;
+    assert!(rt; is(&told.output, "noted\nnoted\n"));
+    assert_eq!(rt; told.ended, Err(RuntimeError::InsideWhen));
+    assert_eq!(rt; told.progress, Some(answered_to(2, Unended::When)));
     Ok(())
 }
 
