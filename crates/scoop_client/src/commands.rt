@@ -2,10 +2,9 @@
 
 ghost use Rattle.std.specs.Prelude.{◌≡◌, ◌+◌, ◌<◌, ◌^◌, IfOk, IfErr, IfSome, OnOk, Ok, Err, None, false};
 ghost use Rattle.scoop_message.specs.declared.request.Entry.{Entry as LoggedEntry};
-ghost use Rattle.scoop_client.specs.Commands.{Commanded, CommandedAlways, AnswersAlways, Foretells, IsReserve, command, command as outcome_of, log, waits_for};
-ghost use Rattle.scoop_client.specs.Commands.{with_block, with_ends, with_logged};
+ghost use Rattle.scoop_client.specs.Commands.{Commanded, CommandedAlways, AnswersAlways, Foretells, IsReserve, Reserve, DoCall, DoQuery, DoEnd, GiveUp};
+ghost use Rattle.scoop_client.specs.Commands.{command, command as outcome_of, log, waits_for, with_block, with_ends, with_logged};
 ghost use Rattle.scoop_client.specs.Window.{HasRoom, is_ended, window_of, lowest_full};
-ghost use Rattle.scoop_client.specs.Commands.{Reserve, DoCall, DoQuery, DoEnd, GiveUp};
 ghost use Rattle.scoop_client.specs.State.{phase_of};
 
 use crate::client::Client;
