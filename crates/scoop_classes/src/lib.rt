@@ -12,6 +12,10 @@
 //! let withdraw = Request { op: 2, args };
 //! assert_eq!(rt; account.apply(&withdraw), Answer::Value(30));
 //! assert_eq!(rt; account.apply(&withdraw), Answer::Refused);
+//! // a table interprets the rows of the class, and does the same
+//! let mut table = Table::new(class, Words::of(&[100])?)?;
+//! assert_eq!(rt; table.apply(&withdraw), Answer::Value(30));
+//! assert_eq!(rt; table.words(), account.words());
 //! ```
 #![tactic(auto)]
 

@@ -6,19 +6,18 @@
 //! box, which is proved to do the same. Contracts see an object by its class and its words.
 //!
 //! ```
-//! let add = Write {
-//!     word: 0,
-//!     base: Term::Word(0),
-//!     plus: Term::Arg(0),
-//!     minus: Term::Const(0),
-//! };
-//! let row = OpRow {
+//! let add = OpRow {
 //!     op: 1,
 //!     test: None,
-//!     writes: Writes::of(&[add])?,
+//!     writes: Writes::of(&[Write {
+//!         word: 0,
+//!         base: Term::Word(0),
+//!         plus: Term::Arg(0),
+//!         minus: Term::Const(0),
+//!     }])?,
 //!     answer: Term::Word(0),
 //! };
-//! let class = Class::build(rt.alloc(), 1, &[row])?;
+//! let class = Class::build(rt.alloc(), 1, &[add])?;
 //! let mut counter = Table::new(class, Words::of(&[5])?)?;
 //! let args = Args::of(&[2])?;
 //! assert_eq!(rt; counter.apply(&Request { op: 1, args }), Answer::Value(7));

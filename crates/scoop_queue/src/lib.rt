@@ -1,17 +1,24 @@
 //! The queue of queues of a handler: for each block that has reserved the handler a private queue of
 //! the entries that it has logged and that have not run.
 //!
-//! The handler works on the first private queue and waits where that is empty and has not ended.
+//! The handler works on the first private queue and waits where that is empty and has not ended. In the example
+//! `block` gives the block of a number.
 //!
 //! ```
 //! let mut queues = QueueOfQueues::new(rt.alloc());
 //! queues.open(block(1))?;
 //! queues.open(block(2))?;
+//! // the first private queue is empty: its handler waits
 //! assert_eq!(rt; queues.front(), None);
 //! queues.put(block(1), Entry::End)?;
 //! assert_eq!(rt; queues.front(), Some((block(1), 1, Entry::End)));
+//! // a private queue goes with its End, and the other one is the first then
 //! assert_eq!(rt; queues.advance(), Some((block(1), 1, Entry::End)));
 //! assert_eq!(rt; queues.list_len(), 1);
+//! assert_eq!(rt; queues.open(block(2)), Err(OpenQueueError::AlreadyThere));
+//! // one that is cut, as where its client restarts, goes once it is empty
+//! assert!(rt; queues.cut(block(2)));
+//! assert_eq!(rt; queues.list_len(), 0);
 //! ```
 #![tactic(auto)]
 

@@ -2,13 +2,17 @@
 //!
 //! ```
 //! // the second growth is refused
-//! let heap = Refusing::new(alloc, 2);
+//! let heap = Refusing::new(rt.alloc(), 2);
 //! let mut list = Vec::new(&heap);
 //! list.push(5u64)?;
 //! assert!(rt; list.reserve(100).is_err() && heap.has_refused());
 //! // nothing has changed, and the next growth is granted
 //! assert_eq!(rt; list.get(0).copied(), Some(5));
 //! list.reserve(100)?;
+//! // growths are counted from 1 again, and the first one is refused
+//! heap.refuse(1);
+//! assert!(rt; Box::new(&heap, 7u64).is_err());
+//! assert!(rt; Box::new(&heap, 7u64).is_ok());
 //! ```
 #![tactic(auto)]
 

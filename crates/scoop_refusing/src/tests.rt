@@ -30,14 +30,17 @@ fn one_growth_is_refused(rt: HostRuntime) -> Result<(), Fail> {
 /// The example of the crate's doc.
 #[test]
 fn a_list_keeps_what_it_has(rt: HostRuntime) -> Result<(), Fail> {
-    let alloc = rt.alloc();
     // the second growth is refused
-    let heap = Refusing::new(alloc, 2);
+    let heap = Refusing::new(rt.alloc(), 2);
     let mut list = Vec::new(&heap);
     list.push(5u64)?;
     assert!(rt; list.reserve(100).is_err() && heap.has_refused());
     // nothing has changed, and the next growth is granted
     assert_eq!(rt; list.get(0).copied(), Some(5));
     list.reserve(100)?;
+    // growths are counted from 1 again, and the first one is refused
+    heap.refuse(1);
+    assert!(rt; Box::new(&heap, 7u64).is_err());
+    assert!(rt; Box::new(&heap, 7u64).is_ok());
     Ok(())
 }

@@ -439,19 +439,18 @@ fn classes_are_the_same_by_words_and_rows_in_order(rt: HostRuntime) -> Result<()
 /// The example of the crate.
 #[test]
 fn a_counter_adds(rt: HostRuntime) -> Result<(), Fail> {
-    let add = Write {
-        word: 0,
-        base: Term::Word(0),
-        plus: Term::Arg(0),
-        minus: Term::Const(0),
-    };
-    let row = OpRow {
+    let add = OpRow {
         op: 1,
         test: None,
-        writes: Writes::of(&[add])?,
+        writes: Writes::of(&[Write {
+            word: 0,
+            base: Term::Word(0),
+            plus: Term::Arg(0),
+            minus: Term::Const(0),
+        }])?,
         answer: Term::Word(0),
     };
-    let class = Class::build(rt.alloc(), 1, &[row])?;
+    let class = Class::build(rt.alloc(), 1, &[add])?;
     let mut counter = Table::new(class, Words::of(&[5])?)?;
     let args = Args::of(&[2])?;
     assert_eq!(rt; counter.apply(&Request { op: 1, args }), Answer::Value(7));

@@ -442,11 +442,17 @@ fn an_empty_queue_is_waited_for(rt: HostRuntime) -> Result<(), Fail> {
     let mut queues = QueueOfQueues::new(rt.alloc());
     queues.open(block(1))?;
     queues.open(block(2))?;
+    // the first private queue is empty: its handler waits
     assert_eq!(rt; queues.front(), None);
     queues.put(block(1), Entry::End)?;
     assert_eq!(rt; queues.front(), Some((block(1), 1, Entry::End)));
+    // a private queue goes with its End, and the other one is the first then
     assert_eq!(rt; queues.advance(), Some((block(1), 1, Entry::End)));
     assert_eq!(rt; queues.list_len(), 1);
+    assert_eq!(rt; queues.open(block(2)), Err(OpenQueueError::AlreadyThere));
+    // one that is cut, as where its client restarts, goes once it is empty
+    assert!(rt; queues.cut(block(2)));
+    assert_eq!(rt; queues.list_len(), 0);
     Ok(())
 }
 
