@@ -1,7 +1,8 @@
 -- What is true of every handler is kept when the first entry of its first private queue has run. That queue begins one entry
 -- further or is gone, and of the marks only the one at the entry's own block may keep another answer. Such a mark is of an
 -- open block, so one whose block hasn't opened stays as it was.
-use Rattle.std.proofs.Common.{◌≡◌, ℕ, ◌+◌, ◌<◌, ◌≤◌, Bool, true, false, cond, not, ◌&&◌, IsTrue, IsFalse, List, [], ◌∷◌, ◌++◌, length, map, Option, Some, None, is_some, refl, sym, ap, ◌∙◌, subst, inl, inr, arith, true≢false}
+use Rattle.std.proofs.Common.{◌≡◌, ℕ, ◌+◌, ◌<◌, ◌≤◌, Bool, true, false, cond, not, ◌&&◌, IsTrue, IsFalse, List, [], ◌∷◌, ◌++◌, length, map, Option, Some, None}
+use Rattle.std.proofs.Common.{is_some, refl, sym, ap, ◌∙◌, subst, inl, inr, arith, true≢false}
 use Rattle.std.specs.List.{AllByRecursion}
 use Rattle.std.specs.Option.{option_map}
 use Rattle.std.proofs.lemmas.Bool.{cases_Bool}
@@ -18,7 +19,8 @@ use Rattle.scoop_object.specs.Play.{entry_effect}
 use Rattle.scoop_object.proofs.Play.{length-entry_effect}
 use Rattle.scoop_queue.specs.declared.state.QueueState.{QueueState}
 use Rattle.scoop_queue.specs.declared.state.QueueState.TheVariants.{Open, Ended, Cut}
-use Rattle.scoop_queue.specs.Queue.{PrivateQueue, advance, first_of, front, goes_with, has_open, is_cut, is_ended, is_open as takes_more, is_queue_of, left_by_first}
+use Rattle.scoop_queue.specs.Queue.{PrivateQueue, advance, first_of, front, goes_with, has_open, is_cut, is_ended, is_open as takes_more, is_queue_of}
+use Rattle.scoop_queue.specs.Queue.{left_by_first}
 use Rattle.scoop_queue.specs.Sound.{IsQueue, IsQueues}
 use Rattle.scoop_queue.proofs.Keeping.{IsQueues-advance}
 use Rattle.scoop_queue.proofs.Ends.{both}
@@ -26,10 +28,12 @@ use Rattle.scoop_queue.proofs.Lookup.{same_block-true}
 use Rattle.scoop_handler.specs.declared.mark.Mark.{Mark}
 use Rattle.scoop_handler.specs.declared.ran.Ran.{Ran}
 use Rattle.scoop_handler.specs.Marks.{block_of, is_open, mark_of}
-use Rattle.scoop_handler.specs.State.{HandlerState, IsState, IsAscending, HolderIsUnderWay, HoldsIfHeld, IsUnused, IsUnusedUnlessOpen, HasQueueIfOpen, FitsNewest, FitsMark, HasMark, state_of}
+use Rattle.scoop_handler.specs.State.{HandlerState, IsState, IsAscending, HolderIsUnderWay, HoldsIfHeld, IsUnused, IsUnusedUnlessOpen, HasQueueIfOpen}
+use Rattle.scoop_handler.specs.State.{FitsNewest, FitsMark, HasMark, state_of}
 use Rattle.scoop_handler.specs.Core.{Core, IsCore, core_of}
 use Rattle.scoop_handler.specs.Growing.{MarksGrow}
-use Rattle.scoop_handler.specs.Running.{Task, after, after_ran, begun, finished, first_task, job_out, kept_after, mark_after, ran_of, ready, run, task_effect, task_of}
+use Rattle.scoop_handler.specs.Running.{Task, after, after_ran, begun, finished, first_task, job_out, kept_after, mark_after, ran_of, ready, run, task_effect}
+use Rattle.scoop_handler.specs.Running.{task_of}
 use Rattle.scoop_handler.proofs.MarkLists.{same_client-refl}
 use Rattle.scoop_handler.proofs.MarkPlaces.{tail-ascending}
 

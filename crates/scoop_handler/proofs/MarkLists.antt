@@ -1,25 +1,28 @@
 -- Look-up, change and addition in a list of marks, which stand in the order of their clients, one for each. A mark that is
 -- changed or added is found for its own client, and for every other client what was found before.
-use Rattle.std.proofs.Common.{◌≡◌, ℕ, suc, ◌+◌, ◌<◌, Bool, true, false, cond, nat_lt, List, [], ◌∷◌, ◌++◌, Some, None, find, map, insert, length, take, drop, set, get_or, refl, sym, ap, subst, inl, inr, arith}
+use Rattle.std.proofs.Common.{◌≡◌, ℕ, suc, ◌+◌, ◌<◌, Bool, true, false, cond, nat_lt, List, [], ◌∷◌, ◌++◌, Some, None, map, insert, length, take, drop, set}
+use Rattle.std.proofs.Common.{get_or, refl, sym, ap, subst, inl, inr, arith}
 use Rattle.std.specs.List.{AllByRecursion, prefix_len}
-use Rattle.std.proofs.lemmas.Bool.{eqb-true, eq-eqb, cases_Bool}
+use Rattle.std.proofs.lemmas.Bool.{cases_Bool}
 use Rattle.std.proofs.lemmas.Bool.Decides.{nat_tests}
 use Rattle.std.proofs.lemmas.List.{get_or_default, length-map}
 use Rattle.std.proofs.lemmas.List.Edits.{map_over_more}
 use Rattle.std.proofs.lemmas.Option.{none-some}
 use Rattle.scoop_message.specs.declared.name.ClientId.{ClientId}
 use Rattle.scoop_message.specs.Message.{same_client}
+use Rattle.scoop_message.proofs.Same.{client_decides}
 use Rattle.scoop_handler.specs.declared.mark.Mark.{Mark}
 use Rattle.scoop_handler.specs.Marks.{mark_of, newer_mark, set_mark, add_mark, place_of}
 use Rattle.scoop_handler.specs.State.{IsAscending}
+use Rattle.scoop_handler.proofs.Basics.{find_passes}
 
 -- ---- clients
 
 pub client_from_same : (c d : ClientId) → same_client c d ≡ true → c ≡ d
-client_from_same c d e = let make : ℕ → ClientId = λ n. record { 0 = n } in ap make (eqb-true c.0 d.0 e)
+client_from_same c d e = (client_decides c d).0 e
 
 pub same_client-refl : (c : ClientId) → same_client c c ≡ true
-same_client-refl c = eq-eqb c.0 c.0 refl
+same_client-refl c = (client_decides c c).1 refl
 
 newer_mark-client : (k x : Mark) → (newer_mark k x).client.0 ≡ x.client.0
 newer_mark-client k x = grind (arith, nat_tests)
@@ -54,14 +57,6 @@ insert-add_mark k (x ∷ xs) =
     ]
 
 -- ---- look-up
-
-find_passes : {X : Type 0} (p : X → Bool) (xs : List X) (x : X) → find p xs ≡ Some x → p x ≡ true
-find_passes p [] x e = absurd (none-some _ e)
-find_passes p (y ∷ ys) x e =
-    elim (p y) as (λ b. p y ≡ b → cond b (Some y) (find p ys) ≡ Some x → p x ≡ true) [
-      | true ↦ λ is found. let same : y ≡ x = cc in subst (λ z. p z ≡ true) same is
-      | false ↦ λ is found. find_passes p ys x found
-    ] refl e
 
 -- a mark that is found is its client's
 pub mark_of-client : (c : ClientId) (marks : List Mark) (k : Mark) → mark_of c marks ≡ Some k → k.client ≡ c

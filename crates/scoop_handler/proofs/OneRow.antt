@@ -1,9 +1,11 @@
 -- What fits a row is what `hear` gives, so a message has one outcome. What a row asks of the handler and of the client's mark
 -- makes the tests of the table before its outcome true or false, so `hear` comes to that outcome; and what `hear` gives has
 -- its row by `TableRows`.
-use Rattle.std.proofs.Common.{◌≡◌, ◌≢◌, ◌↔◌, ℕ, ◌+◌, ◌<◌, ◌≤◌, Bool, true, false, cond, ◌==◌, nat_lt, nat_le, ◌&&◌, ◌||◌, not, IsTrue, IsFalse, List, ◌⊎◌, Option, Some, None, length, refl, sym, ap, subst, ◌∙◌, inl, inr, arith}
+use Rattle.std.proofs.Common.{◌≡◌, ◌≢◌, ◌↔◌, ℕ, ◌+◌, ◌<◌, ◌≤◌, Bool, true, false, cond, ◌==◌, nat_lt, nat_le, ◌&&◌, ◌||◌, not, IsTrue, IsFalse, List, ◌⊎◌}
+use Rattle.std.proofs.Common.{Option, Some, None, length, refl, sym, ap, subst, ◌∙◌, inl, inr, arith}
 use Rattle.std.specs.Prelude.{is_none, Ok}
-use Rattle.std.proofs.lemmas.Bool.{and_from, and_left, and_right, cond-false, cond-true, eq-eqb, false_from_ne_true, le-leb, le-ltb, lt-leb, lt-ltb, ne_eqb, or_from, or_left, or_right}
+use Rattle.std.proofs.lemmas.Bool.{and_from, and_left, and_right, cond-false, cond-true, eq-eqb, false_from_ne_true, le-leb, le-ltb, lt-leb, lt-ltb, ne_eqb}
+use Rattle.std.proofs.lemmas.Bool.{or_from, or_left, or_right}
 use Rattle.std.proofs.lemmas.Option.{same_Some}
 use Rattle.scoop_message.specs.declared.limits.TheConstants.{MAX_MARKS, MAX_QUEUES}
 use Rattle.scoop_message.specs.declared.name.Block.{Block}
@@ -14,21 +16,26 @@ use Rattle.scoop_message.specs.declared.message.Message.TheVariants.{Hello, Welc
 use Rattle.scoop_message.specs.declared.request.Entry.{Entry}
 use Rattle.scoop_message.specs.Entries.{last_number}
 use Rattle.scoop_message.specs.Message.{same_handler, handler_of, is_for_handler}
-use Rattle.scoop_message.proofs.Same.{handler_decides, block_decides}
+use Rattle.scoop_message.proofs.Same.{handler_decides}
 use Rattle.scoop_handler.specs.declared.mark.Mark.{Mark}
 use Rattle.scoop_handler.specs.declared.mark.Stage.{Stage}
 use Rattle.scoop_handler.specs.declared.mark.Stage.TheVariants.{Held as AtHeld, Open as AtOpen, Shut as AtShut}
 use Rattle.scoop_handler.specs.declared.note.Reason.TheVariants.{NotForHandlers, WrongHandler, Ungreeted, Stale, NotHolder, NotOpen, PendingFull}
 use Rattle.scoop_handler.specs.Marks.{mark_of, is_held, is_open}
 use Rattle.scoop_handler.specs.State.{HandlerState, is_holder, is_unfinished}
-use Rattle.scoop_handler.specs.Hearing.{Hearing, IsHeardAt, hear, hear_hello, hear_lock, hear_open, hear_unlock, hear_log, hear_of, hear_at, mark_for, if_here, is_new, dropped, took, received_before, kept_answer, new_entries, is_closed, has_no_room}
-use Rattle.scoop_handler.specs.Rows.{Row, asking_block, IsUngreeted, IsPast, kind_for_clients, another_handler, too_many_clients, first_greeting, newer_greeting, repeated_greeting, stale_greeting, ungreeted, stale, lock_granted, lock_refused, repeated_lock, late_lock, open_without_lock, no_room_for_a_queue, is_opened, repeated_open, unlock_while_unfinished, unlock_of_a_block_never_held, is_freed, repeated_unlock, IsLogAt, IsNext, log_of_a_block_not_open, is_answered, already_received, has_gap, after_the_end, pending_full, is_taken}
-use Rattle.scoop_handler.proofs.TableRows.{handler_from_same, row}
+use Rattle.scoop_handler.specs.Hearing.{Hearing, IsHeardAt, hear, hear_hello, hear_lock, hear_open, hear_unlock, hear_log, hear_of, hear_at, mark_for, if_here}
+use Rattle.scoop_handler.specs.Hearing.{is_new, dropped, took, received_before, kept_answer, new_entries, is_closed, has_no_room}
+use Rattle.scoop_handler.specs.Rows.{Row, asking_block, IsUngreeted, IsPast, kind_for_clients, another_handler, too_many_clients, first_greeting}
+use Rattle.scoop_handler.specs.Rows.{newer_greeting, repeated_greeting, stale_greeting, ungreeted, stale, lock_granted, lock_refused, repeated_lock, late_lock}
+use Rattle.scoop_handler.specs.Rows.{open_without_lock, no_room_for_a_queue, is_opened, repeated_open, unlock_while_unfinished, unlock_of_a_block_never_held}
+use Rattle.scoop_handler.specs.Rows.{is_freed, repeated_unlock, IsLogAt, IsNext, log_of_a_block_not_open, is_answered, already_received, has_gap, after_the_end}
+use Rattle.scoop_handler.specs.Rows.{pending_full, is_taken}
+use Rattle.scoop_handler.proofs.TableRows.{holder_from_test, holds, row}
 
 -- ---- tests, from what they say
 
 apart_handlers : (h k : HandlerId) → h ≢ k → same_handler h k ≡ false
-apart_handlers h k apart = false_from_ne_true (same_handler h k) (λ e. apart (handler_from_same h k e))
+apart_handlers h k apart = false_from_ne_true (same_handler h k) (λ e. apart ((handler_decides h k).0 e))
 
 not_held : (stage : Stage) → stage ≢ AtHeld → is_held stage ≡ false
 not_held AtHeld apart = absurd (apart refl)
@@ -40,13 +47,8 @@ not_open AtHeld apart = refl
 not_open AtOpen apart = absurd (apart refl)
 not_open AtShut apart = refl
 
-holds : (holder : Option Block) (b : Block) → holder ≡ Some b → is_holder holder b ≡ true
-holds None b e = cc
-holds (Some x) b e = let same : x ≡ b = cc in (block_decides x b).1 same
-
 holds_not : (holder : Option Block) (b : Block) → holder ≢ Some b → is_holder holder b ≡ false
-holds_not None b apart = refl
-holds_not (Some x) b apart = false_from_ne_true (is_holder (Some x) b) (λ e. apart (ap Some ((block_decides x b).0 e)))
+holds_not holder b apart = false_from_ne_true (is_holder holder b) (λ e. apart (holder_from_test holder b e))
 
 module _ (s : HandlerState) where
   -- ---- which row a message comes to
@@ -155,7 +157,8 @@ module _ (s : HandlerState) where
     by : (t : Bool) → is_new b k ≡ t → hear_open s b k ≡ dropped s NotHolder
     by true e = cond-true (is_new b k) _ _ e
     by false e =
-        cond-false (is_new b k) _ _ e ∙ cond-false (is_open k.stage) _ _ (ap is_open shut) ∙ cond-true (not (is_held k.stage)) _ _ (ap (λ x. not (is_held x)) shut)
+        cond-false (is_new b k) _ _ e ∙ cond-false (is_open k.stage) _ _ (ap is_open shut)
+        ∙ cond-true (not (is_held k.stage)) _ _ (ap (λ x. not (is_held x)) shut)
 
   takes : (b : Block) (k : Mark) → IsLogAt s b k → (is_new b k || not (is_open k.stage)) ≡ false
   takes b k at = or_from _ _ (is_newest b k at.num) (ap (λ x. not (is_open x)) at.stage)
@@ -202,7 +205,8 @@ module _ (s : HandlerState) where
   row_gives m n (stale x b k here asks found is) = asked m b n here asks (λ heard. past_gives b k heard found is)
   row_gives m n (lock_granted h b k here at newer free clear) =
       lock_is h b k n here at
-      (cond-true (is_new b k && (is_none s.holder && not (is_unfinished s k))) _ _ (and_from _ _ (is_newer b k newer) (and_from _ _ (ap is_none free) (ap not clear))))
+      (cond-true (is_new b k && (is_none s.holder && not (is_unfinished s k))) _ _
+      (and_from _ _ (is_newer b k newer) (and_from _ _ (ap is_none free) (ap not clear))))
   row_gives m n (lock_refused h b k here at newer taken) =
       lock_is h b k n here at
       (cond-false (is_new b k && (is_none s.holder && not (is_unfinished s k))) _ _ (and_right _ _ taken) ∙ cond-true (is_new b k) _ _ (is_newer b k newer))
@@ -261,10 +265,12 @@ module _ (s : HandlerState) where
       log_is h b i es k n here at.heard (next_is b i es k n at next (cond-true (is_closed k (last_number i es) es) _ _ shut))
   row_gives m n (pending_full h b i es k here at next goes_on full) =
       log_is h b i es k n here at.heard
-      (next_is b i es k n at next (cond-false (is_closed k (last_number i es) es) _ _ goes_on ∙ cond-true (has_no_room s b (length (new_entries i es k))) _ _ full))
+      (next_is b i es k n at next
+      (cond-false (is_closed k (last_number i es) es) _ _ goes_on ∙ cond-true (has_no_room s b (length (new_entries i es k))) _ _ full))
   row_gives m n (is_taken h b i es k here at next goes_on room) =
       log_is h b i es k n here at.heard
-      (next_is b i es k n at next (cond-false (is_closed k (last_number i es) es) _ _ goes_on ∙ cond-false (has_no_room s b (length (new_entries i es k))) _ _ room))
+      (next_is b i es k n at next
+      (cond-false (is_closed k (last_number i es) es) _ _ goes_on ∙ cond-false (has_no_room s b (length (new_entries i es k))) _ _ room))
 
 -- the table gives a message one outcome
 pub heard_exactly : (s : HandlerState) (m : Message) (n : Hearing) → (hear s m ≡ n) ↔ Row s m n

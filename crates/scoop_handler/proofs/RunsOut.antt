@@ -1,5 +1,6 @@
 -- A handler that runs until nothing can run: it comes to one end, since the pending entries get fewer.
-use Rattle.std.proofs.Common.{◌≡◌, ◌<◌, ◌+◌, append_assoc, is_some, if◌then◌else◌, ℕ, Bool, true, false, List, [], ◌∷◌, ◌++◌, length, Option, Some, None, IsTrue, IsFalse, refl, sym, subst, arith}
+use Rattle.std.proofs.Common.{◌≡◌, ◌<◌, ◌+◌, append_assoc, is_some, if◌then◌else◌, ℕ, Bool, true, false, List, [], ◌∷◌, ◌++◌, length, Option, Some, None}
+use Rattle.std.proofs.Common.{IsTrue, IsFalse, refl, sym, subst, arith}
 use Rattle.std.specs.Option.{option_map, option_map_or}
 use Rattle.scoop_message.specs.declared.name.Block.{Block}
 use Rattle.scoop_message.specs.declared.request.Entry.{Entry}

@@ -18,7 +18,8 @@ use Rattle.scoop_handler.specs.declared.note.Heard.{Heard}
 use Rattle.scoop_handler.specs.declared.note.Note.{Note}
 use Rattle.scoop_handler.specs.declared.note.Note.TheVariants.{Greeted, Granted, Held, Opened, Freed, Took, Known, Dropped}
 use Rattle.scoop_handler.specs.declared.note.Reason.{Reason}
-use Rattle.scoop_handler.specs.declared.note.Reason.TheVariants.{NotForHandlers, WrongHandler, TooManyClients, Stale, Ungreeted, NotHolder, QueueFull, NotOpen, Gap, PendingFull}
+use Rattle.scoop_handler.specs.declared.note.Reason.TheVariants.{NotForHandlers, WrongHandler, TooManyClients, Stale, Ungreeted, NotHolder, QueueFull, NotOpen}
+use Rattle.scoop_handler.specs.declared.note.Reason.TheVariants.{Gap, PendingFull}
 use Rattle.scoop_handler.specs.declared.ran.Ran.{Ran}
 use Rattle.scoop_handler.specs.contracts.mark.StagePartialEq.TheImpl as on_stage
 use Rattle.scoop_handler.specs.contracts.mark.MarkPartialEq.TheImpl as on_mark

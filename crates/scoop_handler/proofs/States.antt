@@ -1,11 +1,12 @@
 -- Which changes of a handler's state keep what is true of every state. All but a first greeting put one client's mark in the
 -- place of its old one: `IsChange` says what such a mark asks of the holder and of the private queues beside it, and a newer
 -- incarnation, a granted lock, a block that is passed over, a lock given back, an opened queue and new entries each meet it.
-use Rattle.std.proofs.Common.{◌≡◌, ℕ, zero, suc, ◌+◌, ◌-◌, ◌^◌, ◌<◌, ◌≤◌, Bool, true, false, cond, ◌&&◌, ◌||◌, ◌==◌, nat_lt, nat_le, not, IsTrue, List, [], ◌∷◌, ◌++◌, Option, Some, None, length, take, drop, refl, sym, ap, subst, ◌∙◌, inl, inr, arith, length-append}
+use Rattle.std.proofs.Common.{◌≡◌, ℕ, zero, suc, ◌+◌, ◌-◌, ◌^◌, ◌<◌, ◌≤◌, Bool, true, false, cond, ◌&&◌, ◌||◌, ◌==◌, nat_lt, nat_le, not, IsTrue, List, [], ◌∷◌}
+use Rattle.std.proofs.Common.{◌++◌, Option, Some, None, length, take, drop, refl, sym, ap, subst, ◌∙◌, inl, inr, arith, length-append}
 use Rattle.std.proofs.lemmas.List.{length-drop, take-append-drop}
 use Rattle.std.specs.Prelude.{IsFalse}
 use Rattle.std.specs.List.{AllByRecursion}
-use Rattle.std.proofs.lemmas.Bool.{cases_Bool, false≢true, true≢false}
+use Rattle.std.proofs.lemmas.Bool.{cases_Bool, false≢true, leb-false, or_parts, true≢false}
 use Rattle.std.proofs.lemmas.Bool.Decides.{nat_tests}
 use Rattle.std.proofs.lemmas.Option.{none-some}
 use Rattle.scoop_message.specs.declared.limits.TheConstants.{MAX_MARKS, MAX_QUEUES, MAX_PENDING}
@@ -15,7 +16,8 @@ use Rattle.scoop_message.specs.declared.request.Entry.{Entry}
 use Rattle.scoop_message.specs.Entries.{EndOnlyLast, ends, last_number}
 use Rattle.scoop_message.specs.Message.{same_client, same_block}
 use Rattle.scoop_queue.specs.declared.state.QueueState.TheVariants.{Ended}
-use Rattle.scoop_queue.specs.Queue.{PrivateQueue, is_open as takes_more, is_cut, is_queue_of, has_queue, has_open, queue_of, pending, left_by_cut, cut_open, cut, new_queue, opened, put_all, with_entries as queue_with_entries}
+use Rattle.scoop_queue.specs.Queue.{PrivateQueue, is_open as takes_more, is_cut, is_queue_of, has_queue, has_open, queue_of, pending, left_by_cut, cut_open}
+use Rattle.scoop_queue.specs.Queue.{cut, new_queue, opened, put_all, with_entries as queue_with_entries}
 use Rattle.scoop_queue.specs.Refusal.{HasNumbersFor, open_refusal, put_refusal}
 use Rattle.scoop_queue.specs.Sound.{IsQueue, IsQueues, number_limit}
 use Rattle.scoop_queue.proofs.Ends.{ends-append, EndOnlyLast-tail}
@@ -26,13 +28,19 @@ use Rattle.scoop_handler.specs.declared.mark.Mark.{Mark}
 use Rattle.scoop_handler.specs.declared.mark.Stage.{Stage}
 use Rattle.scoop_handler.specs.declared.mark.Stage.TheVariants.{Held, Open, Shut}
 use Rattle.scoop_handler.specs.contracts.mark.StagePartialEq.TheImpl as on_stage
-use Rattle.scoop_handler.specs.Marks.{is_held, is_open, is_shut, block_of, fresh_mark, opened_mark, with_stage, with_received, without_hold, mark_of, set_mark, add_mark}
-use Rattle.scoop_handler.specs.State.{HandlerState, IsState, IsUnderWay, HolderIsUnderWay, HoldsIfHeld, HasQueueIfOpen, IsUnused, IsUnusedUnlessOpen, FitsMark, HasMark, state_of, is_holder, is_unfinished}
-use Rattle.scoop_handler.specs.Hearing.{IsHeardAt, moved, with_mark, with_incarnation, with_queue, with_entries, new_entries, is_closed, has_no_room, holder_without, greeting_mark}
+use Rattle.scoop_handler.specs.Marks.{is_held, is_open, is_shut, block_of, fresh_mark, opened_mark, with_stage, with_received, without_hold, mark_of, set_mark}
+use Rattle.scoop_handler.specs.Marks.{add_mark}
+use Rattle.scoop_handler.specs.State.{HandlerState, IsState, IsUnderWay, HolderIsUnderWay, HoldsIfHeld, HasQueueIfOpen, IsUnused, IsUnusedUnlessOpen, FitsMark}
+use Rattle.scoop_handler.specs.State.{HasMark, state_of, is_holder, is_unfinished}
+use Rattle.scoop_handler.specs.Hearing.{IsHeardAt, moved, with_mark, with_incarnation, with_queue, with_entries, new_entries, is_closed, has_no_room}
+use Rattle.scoop_handler.specs.Hearing.{holder_without, greeting_mark}
 use Rattle.scoop_handler.specs.Rows.{IsLogAt, IsNext}
 use Rattle.scoop_handler.proofs.Basics.{all_append, all_both}
-use Rattle.scoop_handler.proofs.MarkLists.{mark_of-client, mark_of-set_mark_own, mark_of-set_mark_other, mark_of-add_mark_other, length-set_mark, length-add_mark, IsAscending-set_mark, IsAscending-add_mark, All-mark_of, All-set_mark, All-add_mark, client_from_same}
-use Rattle.scoop_handler.proofs.Beside.{block_is, apart_blocks, takes_none, FitsMark-inc, FitsMark-incarnation, FitsMark-block, FitsMark-other, no_queue_yet, HasMark-fits, HasMark-set, HasMark-add, All-at_block, none_of, All-found, open_queue}
+use Rattle.scoop_handler.proofs.MarkLists.{mark_of-client, mark_of-set_mark_own, mark_of-set_mark_other, mark_of-add_mark_other, length-set_mark}
+use Rattle.scoop_handler.proofs.MarkLists.{length-add_mark, IsAscending-set_mark, IsAscending-add_mark, All-mark_of, All-set_mark, All-add_mark}
+use Rattle.scoop_handler.proofs.MarkLists.{client_from_same}
+use Rattle.scoop_handler.proofs.Beside.{block_is, apart_blocks, takes_none, FitsMark-inc, FitsMark-incarnation, FitsMark-block, FitsMark-other, no_queue_yet}
+use Rattle.scoop_handler.proofs.Beside.{HasMark-fits, HasMark-set, HasMark-add, All-at_block, none_of, All-found, open_queue}
 
 -- ---- a change of one client's mark
 
@@ -172,10 +180,7 @@ module _ (s : HandlerState) (c : ClientId) (inc : ℕ) (k : Mark) (is : IsState 
 newer_block-fits : (s : HandlerState) (b : Block) (k : Mark) (stage : Stage) → IsHeardAt s b k → k.num < b.num → is_unfinished s k ≡ false → (q : PrivateQueue)
     → IsQueue q → FitsMark q k → FitsMark q (fresh_mark b stage)
 newer_block-fits s b k stage at new clear q sound fits = FitsMark-block q k (fresh_mark b stage) at.inc new fits
-    (takes_none q k fits (right (is_holder s.holder (block_of k)) _ clear)) where
-      right : (t u : Bool) → (t || u) ≡ false → u ≡ false
-      right true u e = cc
-      right false u e = e
+    (takes_none q k fits (or_parts (is_holder s.holder (block_of k)) _ clear).1)
 
 -- a lock is granted
 pub IsState-granted : (s : HandlerState) (b : Block) (k : Mark) → IsState s → IsHeardAt s b k → k.num < b.num → s.holder ≡ None → is_unfinished s k ≡ false
@@ -418,27 +423,17 @@ pub record IsRoomy (k : Mark) (last : ℕ) (es : List Entry) : Type 0 where
   pub end : ends es ≡ false → last < 2 ^ 32 - 1
 
 pub roomy : (k : Mark) (last : ℕ) (es : List Entry) → is_closed k last es ≡ false → IsRoomy k last es
-roomy k last es e = record {
-  ended = left k.ended _ e;
-  low = below (left (nat_le (2 ^ 32) last) _ (right k.ended _ e));
-  end = λ more. highest (right (nat_le (2 ^ 32) last) _ (right k.ended _ e)) more (below (left (nat_le (2 ^ 32) last) _ (right k.ended _ e)));
-} where
-  left : (t u : Bool) → (t || u) ≡ false → t ≡ false
-  left true u e = cc
-  left false u e = refl
+roomy k last es e =
+    let rest = (or_parts k.ended _ e).1 in
+    let tests = or_parts (nat_le (2 ^ 32) last) _ rest in
+    let low : last < 2 ^ 32 = leb-false (2 ^ 32) last tests.0 in
+    record { ended = (or_parts k.ended _ e).0; low = low; end = λ more. highest tests.1 more low } where
 
-  right : (t u : Bool) → (t || u) ≡ false → u ≡ false
-  right true u e = cc
-  right false u e = e
-
-  below : nat_le (2 ^ 32) last ≡ false → last < 2 ^ 32
-  below e = grind (arith, nat_tests)
-
-  highest : (last == 2 ^ 32 - 1 && not (ends es)) ≡ false → ends es ≡ false → last < 2 ^ 32 → last < 2 ^ 32 - 1
-  highest e more lt = by_test (last == 2 ^ 32 - 1) refl (ap (λ t. last == 2 ^ 32 - 1 && not t) (sym more) ∙ e) where
-    by_test : (t : Bool) → (last == 2 ^ 32 - 1) ≡ t → (t && true) ≡ false → last < 2 ^ 32 - 1
-    by_test true is f = absurd (true≢false f)
-    by_test false apart f = grind (arith, nat_tests)
+      highest : (last == 2 ^ 32 - 1 && not (ends es)) ≡ false → ends es ≡ false → last < 2 ^ 32 → last < 2 ^ 32 - 1
+      highest e more lt = by_test (last == 2 ^ 32 - 1) refl (ap (λ t. last == 2 ^ 32 - 1 && not t) (sym more) ∙ e) where
+        by_test : (t : Bool) → (last == 2 ^ 32 - 1) ≡ t → (t && true) ≡ false → last < 2 ^ 32 - 1
+        by_test true is f = absurd (true≢false f)
+        by_test false apart f = grind (arith, nat_tests)
 
 module _ (s : HandlerState) (b : Block) (n : ℕ) (es : List Entry) (k : Mark) (is : IsState s) (at : IsLogAt s b k) (next : IsNext k n es)
     (some : 0 < length es) (end : EndOnlyLast es) (goes_on : IsRoomy k (last_number n es) es)

@@ -1,11 +1,11 @@
 -- What is true of each row of the table, and so of `hear`. Each law is shown of the relation, row by row; `hear`'s outcome has
 -- a row, so the law is true of it; and a call gives that outcome, or has changed nothing.
-use Rattle.std.proofs.Common.{◌≡◌, ℕ, ◌<◌, ◌≤◌, ◌⊎◌, Bool, true, false, ◌||◌, IsTrue, cond, List, length, Option, Some, None, refl, sym, ap, subst, ◌∙◌, inl, inr, arith}
+use Rattle.std.proofs.Common.{◌≡◌, ℕ, ◌<◌, ◌≤◌, ◌⊎◌, Bool, true, false, ◌||◌, IsTrue, cond, List, length, Option, Some, None, refl, sym, ap, subst, ◌∙◌, inl}
+use Rattle.std.proofs.Common.{inr, arith}
 use Rattle.std.proofs.lemmas.Bool.Decides.{nat_tests}
 use Rattle.std.proofs.lemmas.Option.{none-some}
 use Rattle.std.specs.Prelude.{IsFalse, Result, Ok, Err, IfOk, OnErr}
 use Rattle.scoop_message.specs.declared.name.Block.{Block}
-use Rattle.scoop_message.specs.declared.name.ClientId.{ClientId}
 use Rattle.scoop_message.specs.declared.message.Message.{Message}
 use Rattle.scoop_message.specs.declared.message.Message.TheVariants.{Hello, Welcome, Lock, Locked, Busy, Open, Opened, Unlock, Unlocked, Log, Logged, Answer}
 use Rattle.scoop_message.specs.declared.request.Entry.{Entry}
@@ -23,12 +23,16 @@ use Rattle.scoop_handler.specs.Growing.{MarksGrow}
 use Rattle.scoop_handler.specs.Marks.{mark_of, block_of, is_held, fresh_mark, opened_mark, with_received, without_hold}
 use Rattle.scoop_handler.specs.State.{HandlerState, IsState, HoldsIfHeld, is_holder}
 use Rattle.scoop_handler.specs.Hearing.{Hearing, IsHeardAt, hear, holder_without, greeting_mark, new_entries}
-use Rattle.scoop_handler.specs.Rows.{Row, first_greeting, newer_greeting, repeated_greeting, lock_granted, lock_refused, repeated_lock, is_opened, repeated_open, unlock_of_a_block_never_held, is_freed, repeated_unlock, is_answered, already_received, is_taken}
+use Rattle.scoop_handler.specs.Rows.{Row, first_greeting, newer_greeting, repeated_greeting, lock_granted, lock_refused, repeated_lock, is_opened}
+use Rattle.scoop_handler.specs.Rows.{repeated_open, unlock_of_a_block_never_held, is_freed, repeated_unlock, is_answered, already_received, is_taken}
 use Rattle.scoop_handler.specs.Locking.{ConfirmsOnlyHolder, HolderMoves, DroppedChangesNothing}
 use Rattle.scoop_handler.specs.Replies.{IsReplyTo, RepliesTo, HasEntries, named_block}
 use Rattle.scoop_handler.proofs.MarkLists.{mark_of-client, client_from_same, All-mark_of}
-use Rattle.scoop_handler.proofs.Fronts.{FrontStays, FrontStays-is_some, FrontStays-opened, FrontStays-cut, FrontStays-put_all, MarksGrow-refl, MarksGrow-set, MarksGrow-add}
-use Rattle.scoop_handler.proofs.States.{IsState-first, IsState-newer, IsState-granted, IsState-opened, IsState-skipped, IsState-freed, may_take, holder_is_newest}
+use Rattle.scoop_handler.proofs.Beside.{block_is}
+use Rattle.scoop_handler.proofs.Fronts.{FrontStays, FrontStays-is_some, FrontStays-opened, FrontStays-cut, FrontStays-put_all, MarksGrow-refl, MarksGrow-set}
+use Rattle.scoop_handler.proofs.Fronts.{MarksGrow-add}
+use Rattle.scoop_handler.proofs.States.{IsState-first, IsState-newer, IsState-granted, IsState-opened, IsState-skipped, IsState-freed, may_take}
+use Rattle.scoop_handler.proofs.States.{holder_is_newest}
 use Rattle.scoop_handler.proofs.TableRows.{row}
 
 -- every message that a program holds
@@ -119,9 +123,7 @@ grows-row s m h r = MarksGrow-refl s.marks
 -- ---- a lock is confirmed to its holder alone
 
 pub block_of-same : (s : HandlerState) (b : Block) (k : Mark) → IsHeardAt s b k → k.num ≡ b.num → block_of k ≡ b
-block_of-same s b k at same =
-    let make : ClientId → ℕ → ℕ → Block = λ c i n. record { client = c; inc = i; num = n } in
-    ap (λ c. make c k.inc k.num) (mark_of-client b.client s.marks k at.found) ∙ (ap (λ i. make b.client i k.num) at.inc ∙ ap (make b.client b.inc) same)
+block_of-same s b k at same = block_is k b (mark_of-client b.client s.marks k at.found) at.inc same
 
 -- a held mark's block is the holder
 pub held_holds : (s : HandlerState) (b : Block) (k : Mark) → IsState s → IsHeardAt s b k → k.num ≡ b.num → k.stage ≡ AtHeld → s.holder ≡ Some b

@@ -1,8 +1,9 @@
 -- Every message has its row. `hear` is a nest of tests in the table's order: `split` goes both ways at each of them, and what
 -- the tests on a way say, as facts of the handler and of the client's mark, is what the row at its end asks.
-use Rattle.std.proofs.Common.{◌≡◌, ◌≢◌, ℕ, ◌+◌, ◌<◌, ◌≤◌, Bool, true, false, cond, ◌==◌, nat_lt, nat_le, ◌&&◌, ◌||◌, not, IsTrue, List, ◌⊎◌, Option, Some, None, length, refl, sym, ap, subst, ◌∙◌, inl, inr, arith}
+use Rattle.std.proofs.Common.{◌≡◌, ◌≢◌, ℕ, ◌+◌, ◌<◌, ◌≤◌, Bool, true, false, cond, ◌==◌, nat_lt, nat_le, ◌&&◌, ◌||◌, not, IsTrue, List, ◌⊎◌, Option, Some, None}
+use Rattle.std.proofs.Common.{length, refl, sym, ap, subst, ◌∙◌, inl, inr, arith}
 use Rattle.std.specs.Prelude.{is_none}
-use Rattle.std.proofs.lemmas.Bool.{eqb-true}
+use Rattle.std.proofs.lemmas.Bool.{and_parts, both_ways, eqb-false, eqb-true, leb-false, leb-true, ltb-false, ltb-true, not-false, not-true, or_cases, or_parts}
 use Rattle.std.proofs.lemmas.Bool.Decides.{nat_tests}
 use Rattle.scoop_message.specs.declared.limits.TheConstants.{MAX_MARKS, MAX_QUEUES}
 use Rattle.scoop_message.specs.declared.name.Block.{Block}
@@ -14,14 +15,19 @@ use Rattle.scoop_message.specs.declared.request.Entry.{Entry}
 use Rattle.scoop_message.specs.declared.request.Answer.{Answer as QueryAnswer}
 use Rattle.scoop_message.specs.Entries.{last_number}
 use Rattle.scoop_message.specs.Message.{same_handler, handler_of, is_for_handler}
-use Rattle.scoop_message.proofs.Same.{block_decides}
+use Rattle.scoop_message.proofs.Same.{block_decides, handler_decides}
 use Rattle.scoop_handler.specs.declared.mark.Mark.{Mark}
 use Rattle.scoop_handler.specs.declared.mark.Stage.{Stage}
 use Rattle.scoop_handler.specs.declared.mark.Stage.TheVariants.{Held as AtHeld, Open as AtOpen, Shut as AtShut}
 use Rattle.scoop_handler.specs.Marks.{mark_of, is_held, is_open}
 use Rattle.scoop_handler.specs.State.{HandlerState, is_holder, is_unfinished}
-use Rattle.scoop_handler.specs.Hearing.{Hearing, IsHeardAt, hear, hear_hello, hear_lock, hear_open, hear_unlock, hear_log, hear_of, hear_at, mark_for, if_here, is_new, granted, received_before, kept_answer, new_entries, is_closed, has_no_room}
-use Rattle.scoop_handler.specs.Rows.{Row, asking_block, IsUngreeted, IsPast, kind_for_clients, another_handler, too_many_clients, first_greeting, newer_greeting, repeated_greeting, stale_greeting, ungreeted, stale, lock_granted, lock_refused, repeated_lock, late_lock, open_without_lock, no_room_for_a_queue, is_opened, repeated_open, unlock_while_unfinished, unlock_of_a_block_never_held, is_freed, repeated_unlock, IsLogAt, IsNext, log_of_a_block_not_open, is_answered, already_received, has_gap, after_the_end, pending_full, is_taken}
+use Rattle.scoop_handler.specs.Hearing.{Hearing, IsHeardAt, hear, hear_hello, hear_lock, hear_open, hear_unlock, hear_log, hear_of, hear_at, mark_for, if_here}
+use Rattle.scoop_handler.specs.Hearing.{is_new, granted, received_before, kept_answer, new_entries, is_closed, has_no_room}
+use Rattle.scoop_handler.specs.Rows.{Row, asking_block, IsUngreeted, IsPast, kind_for_clients, another_handler, too_many_clients, first_greeting}
+use Rattle.scoop_handler.specs.Rows.{newer_greeting, repeated_greeting, stale_greeting, ungreeted, stale, lock_granted, lock_refused, repeated_lock, late_lock}
+use Rattle.scoop_handler.specs.Rows.{open_without_lock, no_room_for_a_queue, is_opened, repeated_open, unlock_while_unfinished, unlock_of_a_block_never_held}
+use Rattle.scoop_handler.specs.Rows.{is_freed, repeated_unlock, IsLogAt, IsNext, log_of_a_block_not_open, is_answered, already_received, has_gap, after_the_end}
+use Rattle.scoop_handler.specs.Rows.{pending_full, is_taken}
 
 -- ---- tests, and what they say
 
@@ -30,25 +36,13 @@ pub split : {A : Type 0} (P : A → Type 0) (t : Bool) (x y : A) → (t ≡ true
 split P true x y then else = then refl
 split P false x y then else = else refl
 
-lt_of : (a b : ℕ) → nat_lt a b ≡ true → a < b
-lt_of a b e = grind (arith, nat_tests)
-
-le_of : (a b : ℕ) → nat_lt a b ≡ false → b ≤ a
-le_of a b e = grind (arith, nat_tests)
-
-pub handler_from_same : (h k : HandlerId) → same_handler h k ≡ true → h ≡ k
-handler_from_same h k e = let make : ℕ → HandlerId = λ n. record { 0 = n } in ap make (eqb-true h.0 k.0 e)
-
-handlers_apart : (h k : HandlerId) → same_handler h k ≡ false → h ≢ k
-handlers_apart h k e same = let one : h.0 ≡ k.0 = ap (λ (x : HandlerId). x.0) same in grind (arith, nat_tests)
-
 held_from_test : (stage : Stage) → is_held stage ≡ true → stage ≡ AtHeld
 held_from_test AtHeld e = refl
 held_from_test AtOpen e = cc
 held_from_test AtShut e = cc
 
 not_held_from_test : (stage : Stage) → is_held stage ≡ false → stage ≢ AtHeld
-not_held_from_test stage e same = let yes_held : true ≡ false = sym (ap is_held same) ∙ e in cc
+not_held_from_test stage e same = both_ways (is_held stage) e (ap is_held same)
 
 open_from_test : (stage : Stage) → is_open stage ≡ true → stage ≡ AtOpen
 open_from_test AtHeld e = cc
@@ -64,28 +58,16 @@ none_from_test : {X : Type 0} (o : Option X) → is_none o ≡ true → o ≡ No
 none_from_test None e = refl
 none_from_test (Some x) e = cc
 
-and_true : (t u : Bool) → (t && u) ≡ true → (t ≡ true) × (u ≡ true)
-and_true true u e = (refl, e)
-and_true false u e = cc
-
-not_true : (t : Bool) → not t ≡ true → t ≡ false
-not_true true e = cc
-not_true false e = refl
-
-not_false : (t : Bool) → not t ≡ false → t ≡ true
-not_false true e = refl
-not_false false e = cc
-
 not_open_from_test : (stage : Stage) → not (is_open stage) ≡ true → stage ≢ AtOpen
-not_open_from_test stage e same = let closed : false ≡ true = sym (ap (λ x. not (is_open x)) same) ∙ e in cc
+not_open_from_test stage e same = both_ways (is_open stage) (not-true (is_open stage) e) (ap is_open same)
 
-or_false : (t u : Bool) → (t || u) ≡ false → (t ≡ false) × (u ≡ false)
-or_false true u e = cc
-or_false false u e = (refl, e)
+-- a test that fails beside one that passes
+fails_beside : (t u : Bool) → t ≡ true → (t && u) ≡ false → u ≡ false
+fails_beside t u is e = sym (ap (λ x. x && u) is) ∙ e
 
-or_true : (t u : Bool) → (t || u) ≡ true → (t ≡ true) ⊎ (u ≡ true)
-or_true true u e = inl refl
-or_true false u e = inr e
+-- a block that isn't new is its mark's
+newest_num : (s : HandlerState) (b : Block) (k : Mark) → IsHeardAt s b k → is_new b k ≡ false → k.num ≡ b.num
+newest_num s b k at e = let le = ltb-false k.num b.num e in omega (arith, at.num)
 
 -- ---- the holder
 
@@ -93,11 +75,12 @@ pub holder_from_test : (holder : Option Block) (b : Block) → is_holder holder 
 holder_from_test None b e = cc
 holder_from_test (Some x) b e = ap Some ((block_decides x b).0 e)
 
+pub holds : (holder : Option Block) (b : Block) → holder ≡ Some b → is_holder holder b ≡ true
+holds None b e = cc
+holds (Some x) b e = let same : x ≡ b = cc in (block_decides x b).1 same
+
 not_holder_from_test : (holder : Option Block) (b : Block) → is_holder holder b ≡ false → holder ≢ Some b
-not_holder_from_test None b e same = cc
-not_holder_from_test (Some x) b e same = let one : x ≡ b = cc in
-    let holds : true ≡ false = sym ((block_decides x b).1 one) ∙ e in
-    cc
+not_holder_from_test holder b e same = both_ways (is_holder holder b) e (holds holder b same)
 
 -- ---- rows of each kind
 
@@ -106,12 +89,10 @@ hello_row : (s : HandlerState) (h : HandlerId) (c : ClientId) (inc : ℕ) (k : O
 hello_row s h c inc None here is =
     split (Row s (Hello h c inc)) (length s.marks == MAX_MARKS) _ _
     (λ e. too_many_clients h c inc here is (eqb-true (length s.marks) MAX_MARKS e))
-    (λ e. first_greeting h c inc here is (λ same. no_room same e)) where
-      no_room : length s.marks ≡ MAX_MARKS → (length s.marks == MAX_MARKS) ≡ false → ⊥
-      no_room same e = grind (arith, nat_tests)
+    (λ e. first_greeting h c inc here is (eqb-false (length s.marks) MAX_MARKS e))
 hello_row s h c inc (Some k) here is =
     split (Row s (Hello h c inc)) (nat_lt k.inc inc) _ _
-    (λ below. newer_greeting h c inc k here is (lt_of k.inc inc below))
+    (λ below. newer_greeting h c inc k here is (ltb-true k.inc inc below))
     (λ at_least. split (Row s (Hello h c inc)) (k.inc == inc) _ _
     (λ same. repeated_greeting h c inc k here is (eqb-true k.inc inc same))
     (λ apart. stale_greeting h c inc k here is (above at_least apart))) where
@@ -123,56 +104,41 @@ lock_row s h b k here at =
     let P = Row s (Lock h b) in
     split P (is_new b k && (is_none s.holder && not (is_unfinished s k))) _ _ grants
     (λ busy. split P (is_new b k) _ _
-    (λ new. lock_refused h b k here at (lt_of k.num b.num new) (rest new busy))
+    (λ new. lock_refused h b k here at (ltb-true k.num b.num new) (fails_beside (is_new b k) _ new busy))
     (λ old. split P (is_held k.stage) _ _
-    (λ held. repeated_lock h b k here at (same_num old) (held_from_test k.stage held))
-    (λ over. late_lock h b k here at (same_num old) (not_held_from_test k.stage over)))) where
+    (λ held. repeated_lock h b k here at (newest_num s b k at old) (held_from_test k.stage held))
+    (λ over. late_lock h b k here at (newest_num s b k at old) (not_held_from_test k.stage over)))) where
       grants : (is_new b k && (is_none s.holder && not (is_unfinished s k))) ≡ true → Row s (Lock h b) (granted s b)
       grants e =
-          let t = and_true _ _ e in
-          let u = and_true _ _ t.1 in
-          lock_granted h b k here at (lt_of k.num b.num t.0) (none_from_test s.holder u.0) (not_true (is_unfinished s k) u.1)
-
-      rest : is_new b k ≡ true → (is_new b k && (is_none s.holder && not (is_unfinished s k))) ≡ false → (is_none s.holder && not (is_unfinished s k)) ≡ false
-      rest new e = sym (ap (λ t. t && (is_none s.holder && not (is_unfinished s k))) new) ∙ e
-
-      same_num : is_new b k ≡ false → k.num ≡ b.num
-      same_num e = let le = le_of k.num b.num e in omega (arith, at.num)
+          let t = and_parts _ _ e in
+          let u = and_parts _ _ t.1 in
+          lock_granted h b k here at (ltb-true k.num b.num t.0) (none_from_test s.holder u.0) (not-true (is_unfinished s k) u.1)
 
 open_row : (s : HandlerState) (h : HandlerId) (b : Block) (k : Mark) → h ≡ s.number → IsHeardAt s b k → Row s (Open h b) (hear_open s b k)
 open_row s h b k here at =
     let P = Row s (Open h b) in
     split P (is_new b k) _ _
-    (λ new. open_without_lock h b k here at (inl (lt_of k.num b.num new)))
+    (λ new. open_without_lock h b k here at (inl (ltb-true k.num b.num new)))
     (λ old. split P (is_open k.stage) _ _
-    (λ again. repeated_open h b k here at (same_num old) (open_from_test k.stage again))
+    (λ again. repeated_open h b k here at (newest_num s b k at old) (open_from_test k.stage again))
     (λ closed. split P (not (is_held k.stage)) _ _
-    (λ over. open_without_lock h b k here at (inr (shut_from_tests k.stage closed (not_true (is_held k.stage) over))))
-    (λ holds. split P (length s.queues == MAX_QUEUES) _ _
-    (λ many. no_room_for_a_queue h b k here at (same_num old) (held_from_test k.stage (not_false (is_held k.stage) holds))
+    (λ over. open_without_lock h b k here at (inr (shut_from_tests k.stage closed (not-true (is_held k.stage) over))))
+    (λ held. split P (length s.queues == MAX_QUEUES) _ _
+    (λ many. no_room_for_a_queue h b k here at (newest_num s b k at old) (held_from_test k.stage (not-false (is_held k.stage) held))
     (eqb-true (length s.queues) MAX_QUEUES many))
-    (λ room. is_opened h b k here at (same_num old) (held_from_test k.stage (not_false (is_held k.stage) holds)) (λ same. has_room same room))))) where
-      has_room : length s.queues ≡ MAX_QUEUES → (length s.queues == MAX_QUEUES) ≡ false → ⊥
-      has_room same e = grind (arith, nat_tests)
-
-      same_num : is_new b k ≡ false → k.num ≡ b.num
-      same_num e = let le = le_of k.num b.num e in omega (arith, at.num)
+    (λ room. is_opened h b k here at (newest_num s b k at old) (held_from_test k.stage (not-false (is_held k.stage) held))
+    (eqb-false (length s.queues) MAX_QUEUES room)))))
 
 unlock_row : (s : HandlerState) (h : HandlerId) (b : Block) (k : Mark) → h ≡ s.number → IsHeardAt s b k → Row s (Unlock h b) (hear_unlock s b k)
 unlock_row s h b k here at =
     let P = Row s (Unlock h b) in
     split P (is_new b k && is_unfinished s k) _ _
-    (λ busy. let t = and_true _ _ busy in unlock_while_unfinished h b k here at (lt_of k.num b.num t.0) t.1)
+    (λ busy. let t = and_parts _ _ busy in unlock_while_unfinished h b k here at (ltb-true k.num b.num t.0) t.1)
     (λ clear. split P (is_new b k) _ _
-    (λ new. unlock_of_a_block_never_held h b k here at (lt_of k.num b.num new) (rest new clear))
+    (λ new. unlock_of_a_block_never_held h b k here at (ltb-true k.num b.num new) (fails_beside (is_new b k) _ new clear))
     (λ old. split P (is_holder s.holder b) _ _
-    (λ holds. is_freed h b k here at (same_num old) (holder_from_test s.holder b holds))
-    (λ free. repeated_unlock h b k here at (same_num old) (not_holder_from_test s.holder b free)))) where
-      rest : is_new b k ≡ true → (is_new b k && is_unfinished s k) ≡ false → is_unfinished s k ≡ false
-      rest new e = sym (ap (λ t. t && is_unfinished s k) new) ∙ e
-
-      same_num : is_new b k ≡ false → k.num ≡ b.num
-      same_num e = let le = le_of k.num b.num e in omega (arith, at.num)
+    (λ held. is_freed h b k here at (newest_num s b k at old) (holder_from_test s.holder b held))
+    (λ free. repeated_unlock h b k here at (newest_num s b k at old) (not_holder_from_test s.holder b free))))
 
 -- entries that were all received
 received_row : (s : HandlerState) (h : HandlerId) (b : Block) (n : ℕ) (es : List Entry) (k : Mark) → h ≡ s.number → IsLogAt s b k
@@ -193,36 +159,27 @@ log_row : (s : HandlerState) (h : HandlerId) (b : Block) (n : ℕ) (es : List En
 log_row s h b n es k here at =
     let P = Row s (Log h b n es) in
     split P (is_new b k || not (is_open k.stage)) _ _
-    (λ shut. log_of_a_block_not_open h b n es k here at (not_taking (or_true _ _ shut)))
+    (λ shut. log_of_a_block_not_open h b n es k here at (not_taking (or_cases _ _ shut)))
     (λ takes. split P (nat_le (last_number n es) k.received) _ _
-    (λ before. received_row s h b n es k here (is_at takes) (at_most before))
+    (λ before. received_row s h b n es k here (is_at takes) (leb-true (last_number n es) k.received before))
     (λ beyond. split P (nat_lt (k.received + 1) n) _ _
-    (λ gap. has_gap h b n es k here (is_at takes) (above beyond) (lt_of (k.received + 1) n gap))
+    (λ gap. has_gap h b n es k here (is_at takes) (leb-false (last_number n es) k.received beyond) (ltb-true (k.received + 1) n gap))
     (λ follows. split P (is_closed k (last_number n es) es) _ _
     (λ closed. after_the_end h b n es k here (is_at takes) (is_next beyond follows) closed)
     (λ goes_on. split P (has_no_room s b (length (new_entries n es k))) _ _
     (λ crowded. pending_full h b n es k here (is_at takes) (is_next beyond follows) goes_on crowded)
     (λ room. is_taken h b n es k here (is_at takes) (is_next beyond follows) goes_on room))))) where
       not_taking : (is_new b k ≡ true) ⊎ (not (is_open k.stage) ≡ true) → (k.num < b.num) ⊎ (k.stage ≢ AtOpen)
-      not_taking (inl new) = inl (lt_of k.num b.num new)
+      not_taking (inl new) = inl (ltb-true k.num b.num new)
       not_taking (inr shut) = inr (not_open_from_test k.stage shut)
 
       is_at : (is_new b k || not (is_open k.stage)) ≡ false → IsLogAt s b k
       is_at e =
-          let t = or_false _ _ e in
-          let le = le_of k.num b.num t.0 in
-          record { heard = at; num = omega (arith, at.num); stage = open_from_test k.stage (not_false_open t.1) } where
-            not_false_open : not (is_open k.stage) ≡ false → is_open k.stage ≡ true
-            not_false_open f = not_false (is_open k.stage) f
-
-      at_most : nat_le (last_number n es) k.received ≡ true → last_number n es ≤ k.received
-      at_most e = grind (arith, nat_tests)
-
-      above : nat_le (last_number n es) k.received ≡ false → k.received < last_number n es
-      above e = grind (arith, nat_tests)
+          let t = or_parts _ _ e in
+          record { heard = at; num = newest_num s b k at t.0; stage = open_from_test k.stage (not-false (is_open k.stage) t.1) }
 
       is_next : nat_le (last_number n es) k.received ≡ false → nat_lt (k.received + 1) n ≡ false → IsNext k n es
-      is_next e f = record { new = above e; no_gap = le_of (k.received + 1) n f }
+      is_next e f = record { new = leb-false (last_number n es) k.received e; no_gap = ltb-false (k.received + 1) n f }
 
 -- ---- which row a message comes to
 
@@ -233,7 +190,7 @@ block_row s m b heard here asks row = by_mark (mark_of b.client s.marks) refl wh
   by_mark None is = ungreeted m b here asks (subst (IsUngreeted b) (sym is) tt)
   by_mark (Some k) is =
       split (λ r. Row s m (hear_at s r heard)) (nat_lt k.inc b.inc) _ _
-      (λ below. ungreeted m b here asks (subst (IsUngreeted b) (sym is) (lt_of k.inc b.inc below)))
+      (λ below. ungreeted m b here asks (subst (IsUngreeted b) (sym is) (ltb-true k.inc b.inc below)))
       (λ greeted. split (λ r. Row s m (hear_at s r heard)) (nat_lt b.inc k.inc || nat_lt b.num k.num) _ _
       (λ late. stale m b k here asks is (is_past greeted late))
       (λ new. row k (record { found = is; inc = same_inc greeted new; num = reached greeted new }))) where
@@ -250,8 +207,8 @@ here_row : (s : HandlerState) (m : Message) (h : HandlerId) (heard : Hearing) �
     → Row s m (if_here s h heard)
 here_row s m h heard to_handler names row =
     split (Row s m) (same_handler h s.number) _ _
-    (λ same. row (handler_from_same h s.number same))
-    (λ apart. another_handler m to_handler (λ e. handlers_apart h s.number apart (sym names ∙ e)))
+    (λ same. row ((handler_decides h s.number).0 same))
+    (λ apart. another_handler m to_handler (λ e. both_ways _ apart ((handler_decides h s.number).1 (sym names ∙ e))))
 
 pub row : (s : HandlerState) (m : Message) → Row s m (hear s m)
 row s (Hello h c inc) = here_row s (Hello h c inc) h _ refl refl (λ here. hello_row s h c inc (mark_of c s.marks) here refl)
