@@ -14,6 +14,7 @@ use Rattle.scoop_handler.specs.declared.ran.Ran.{Ran}
 use Rattle.scoop_handler.specs.State.{HandlerState}
 use Rattle.scoop_handler.specs.Running.{Task, after, job_out, ran_of}
 use Rattle.scoop_handler.specs.Hearing.{hear}
+use Rattle.scoop_handler.proofs.Basics.{all_at, key_found}
 use Rattle.scoop_handler.proofs.TableRows.{row}
 use Rattle.scoop_handler.proofs.TableLaws.{number-row}
 use Rattle.scoop_keeper.specs.declared.keeper.KeeperError.{KeeperError}
@@ -34,7 +35,7 @@ use Rattle.scoop_book.specs.declared.error.FinishRefusal.{FinishRefusal}
 use Rattle.scoop_book.specs.declared.error.FinishRefusal.TheVariants as unfinished
 use Rattle.scoop_book.specs.Books.{BookValue, IsBook, HasStored, KeepsNew, Gains, MayHappen, IsRefused, IsStranger, MayFinish, IsUnfinished, HasNoPlace, fails_to_finish, no_place_to_finish, refusal_of}
 use Rattle.scoop_book.specs.Kept.{IsHeld, HandlersValue, handlers_kept, book_kept}
-use Rattle.scoop_book.proofs.Places.{key_found, own_found, all_at}
+use Rattle.scoop_book.proofs.Places.{own_found}
 
 -- a replay goes on by a move
 pub replays_more : (hs : List LocalHandler) (es : List Entry) (e : Entry) (ks ls : List LocalHandler) → Replays hs es ks → Moves e.1 e.2 ks ls

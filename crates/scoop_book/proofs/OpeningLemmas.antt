@@ -8,6 +8,7 @@ use Rattle.scoop_object.specs.Class.{ClassTable}
 use Rattle.scoop_handler.specs.State.{HandlerState}
 use Rattle.scoop_keeper.specs.Keeper.{Stored, Holds, Damaged, stored_of, IsTheOne, IsSame, Stays}
 use Rattle.scoop_keeper.specs.declared.keeper.KeeperError.TheVariants as keeper
+use Rattle.scoop_keeper.proofs.KeeperLemmas.{stays_same, stays_stays}
 use Rattle.scoop_book.specs.declared.error.OpenError.{OpenError}
 use Rattle.scoop_book.specs.declared.error.OpenError.TheVariants.{NoPasses, WrongClass, Repeated, Keeper, OutOfMemory}
 use Rattle.scoop_message.specs.Lists.{NoRepeats}
@@ -123,7 +124,7 @@ unloaded class has honest later back ps e may why =
     inr (record {
       may = may;
       refused = ⊎_elim inl (λ (a : Any (λ p. IsLoadRefusal has honest p.0 p.1 e) ps). inr
-          (a.0, a.1, a.2, a.3, refused_back has has honest later back (λ _. record { each = λ h v. (λ x. x, λ x. x) }) a.1.0 a.1.1 e a.4)) why;
+          (a.0, a.1, a.2, a.3, refused_back has has honest later back (λ _. stays_same has) a.1.0 a.1.1 e a.4)) why;
     })
 
 -- ---- the loop over them
@@ -135,9 +136,6 @@ pub record Opened {B K : Type 0} (words : B → List ℕ) (has : K → ℕ → S
   pub kept : os ≡ hs
   pub honest : is_honest l → is_honest k
   pub handlers : is_honest l → Stays (has k) (has l)
-
-stays_more : (a b c : ℕ → Stored → Type 0) → Stays a b → Stays b c → Stays a c
-stays_more a b c f s = record { each = λ h v. (λ x. (s.each h v).0 ((f.each h v).0 x), λ x. (f.each h v).1 ((s.each h v).1 x)) }
 
 module _ {B K : Type 0} (words : B → List ℕ) (has : K → ℕ → Stored → Type 0) (is_honest : K → Type 0) (k l m : K) (ps : List (Handed B))
     (hs os : List LocalHandler) (so : Opened words has is_honest k l ps hs os) where
@@ -151,7 +149,7 @@ module _ {B K : Type 0} (words : B → List ℕ) (has : K → ℕ → Stored →
         (opens_back (has k) (has l) (is_honest m) (is_honest m) (λ h. h) (λ h. so.handlers (honest h)) words p s is));
     kept = most ∙ ap (λ xs. xs ++ o ∷ []) so.kept ∙ ap (λ x. hs ++ x ∷ []) same ∙ sym more;
     honest = λ h. so.honest (honest h);
-    handlers = λ h. stays_more (has k) (has l) (has m) (so.handlers (honest h)) (stays h);
+    handlers = λ h. stays_stays (has k) (has l) (has m) (so.handlers (honest h)) (stays h);
   }
 
   pub not_opened : (p : Handed B) (left all : List (Handed B)) (e : OpenError) → all ≡ ps ++ p ∷ left → IsLoadRefusal (has l) (is_honest m) p.0 p.1 e
@@ -163,7 +161,7 @@ module _ {B K : Type 0} (words : B → List ℕ) (has : K → ℕ → Stored →
       (refused_back (has k) (has l) (is_honest m) (is_honest m) (λ h. h) (λ h. so.handlers (honest h)) p.0 p.1 e refused)))
 
   pub stays_on : (is_honest m → is_honest l) → (is_honest m → Stays (has l) (has m)) → is_honest m → Stays (has k) (has m)
-  stays_on honest stays h = stays_more (has k) (has l) (has m) (so.handlers (honest h)) (stays h)
+  stays_on honest stays h = stays_stays (has k) (has l) (has m) (so.handlers (honest h)) (stays h)
 
 pub same_on : {K : Type 0} (incs : K → ℕ → Option ℕ) (is_honest : K → Type 0) (k l m : K) → (is_honest l → IsSame (incs k) (incs l))
     → (is_honest m → is_honest l) → (is_honest m → IsSame (incs l) (incs m)) → is_honest m → IsSame (incs k) (incs m)

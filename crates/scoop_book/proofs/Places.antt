@@ -2,13 +2,7 @@
 use Rattle.std.proofs.Common.{◌≡◌, ℕ, zero, suc, ◌+◌, ◌<◌, Bool, true, List, [], ◌∷◌, ◌++◌, map, find, length, slice_get, Some, refl, sym, ap, ◌∙◌, subst, arith, below_more}
 use Rattle.std.specs.Prelude.{if◌then◌else◌}
 use Rattle.std.specs.Bool.{Decides}
-use Rattle.std.specs.List.{AllByRecursion}
 use Rattle.scoop_keeper.proofs.Keyed.{by_test, newer}
-
-pub all_at : {A : Type 0} (P : A → Type 0) (xs : List A) (k : ℕ) (a : A) → slice_get xs k ≡ Some a → AllByRecursion P xs → P a
-all_at P [] k a e all = absurd (cc)
-all_at P (x ∷ xs) zero a e all = let p : x ≡ a = cc in subst P p all.0
-all_at P (x ∷ xs) (suc k) a e all = all_at P xs k a e all.1
 
 -- ---- what is found by its key
 
@@ -18,14 +12,6 @@ module _ {A K : Type 0} (key : A → K) (same : K → K → Bool) (decides : (a 
 
   same_itself : (k : K) → same k k ≡ true
   same_itself k = (decides k k).1 refl
-
-  -- the item that is found has the key
-  pub key_found : (k : K) (xs : List A) (a : A) → find (has_key k) xs ≡ Some a → key a ≡ k
-  key_found k [] a e = absurd (cc)
-  key_found k (x ∷ xs) a e =
-      by_test (λ t. (if t then Some x else find (has_key k) xs) ≡ Some a → has_key k x ≡ t → key a ≡ k) (has_key k x)
-      (λ here f is. let p : x ≡ a = cc in subst (λ y. key y ≡ k) p ((decides (key x) k).0 is))
-      (λ there f is. key_found k xs a f) e refl
 
   pub own_found : (a old : A) (xs : List A) → find (has_key (key a)) xs ≡ Some old → find (has_key (key a)) (map (newer key same decides a) xs) ≡ Some a
   own_found a old [] e = absurd (cc)

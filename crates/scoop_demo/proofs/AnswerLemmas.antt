@@ -24,7 +24,7 @@ use Rattle.scoop_book.specs.declared.event.Reply.{Reply}
 use Rattle.scoop_book.specs.declared.event.Reply.TheVariants.{Heard}
 use Rattle.scoop_book.specs.Moves.{LocalHandler, Moves, handler_in, number_in, with_handler}
 use Rattle.scoop_book.specs.Books.{BookValue, Gains, KeepsNew}
-use Rattle.scoop_book.proofs.Places.{key_found}
+use Rattle.scoop_handler.proofs.Basics.{key_found}
 use Rattle.scoop_netloop.specs.declared.answer.Answered.{Answered}
 use Rattle.scoop_netloop.specs.declared.answer.Answered.TheVariants as answered
 use Rattle.scoop_netloop.specs.Answering.{AnswersDatagram, KeepsAnswered, answered_of, frame_of, runs_after}

@@ -10,6 +10,7 @@ use Rattle.scoop_message.proofs.Same.{handler_decides}
 use Rattle.scoop_queue.specs.Queue.{PrivateQueue, advance, front}
 use Rattle.scoop_handler.specs.Core.{Core}
 use Rattle.scoop_handler.specs.Running.{Task, begun, finished, first_task, job_out, ran_of, ready, run, task_of}
+use Rattle.scoop_handler.proofs.Basics.{key_found}
 use Rattle.scoop_handler.proofs.RunsOut.{all_pending, fewer_pending}
 use Rattle.scoop_book.specs.declared.event.Event.{Event}
 use Rattle.scoop_book.specs.declared.event.Event.TheVariants.{Begin, Finish}
@@ -20,7 +21,7 @@ use Rattle.scoop_book.specs.declared.error.FinishRefusal.TheVariants.{Stranger}
 use Rattle.scoop_book.specs.Moves.{LocalHandler, Moves, after_begin, handler_at, handler_in, leaves, number_in, with_handler}
 use Rattle.scoop_book.specs.Books.{BookValue, Gains, IsUnfinished}
 use Rattle.scoop_book.proofs.BookLemmas.{moved_number}
-use Rattle.scoop_book.proofs.Places.{key_found, own_found}
+use Rattle.scoop_book.proofs.Places.{own_found}
 use Rattle.scoop_netloop.specs.RunningOut.{RunsEntry}
 
 -- how many entries of the handler are pending

@@ -18,7 +18,7 @@ use Rattle.scoop_book.specs.declared.error.FinishRefusal.TheVariants as unfinish
 use Rattle.scoop_book.specs.Moves.{Entry, LocalHandler, handler_in, leaves, number_in}
 use Rattle.scoop_book.specs.Books.{BookValue, Gains, IsRefused, IsUnfinished, KeepsNew, MayHappen, Stays as BookStays, fails_to_finish}
 use Rattle.scoop_book.proofs.BookLemmas.{moved_number}
-use Rattle.scoop_book.proofs.Places.{key_found}
+use Rattle.scoop_handler.proofs.Basics.{key_found}
 use Rattle.scoop_netloop.specs.RunningOut.{BreaksOff, KeepsOthers, RunsEntry, RunsEntries, none_ran, then_ran, Tells}
 use Rattle.scoop_netloop.proofs.Dry.{if_here, moved_there}
 
