@@ -5,6 +5,7 @@ use Rattle.std.proofs.lemmas.Option.{same_Some}
 pub use Rattle.scoop_handler.proofs.Basics.{by_test}
 use Rattle.scoop_client.specs.State.{ClientState}
 use Rattle.scoop_client.specs.Commands as client
+use Rattle.scoop_reserve.specs.declared.stage.Stage.TheVariants.{Locking, Opening, GivingUp}
 use Rattle.scoop_reserve.specs.State.{ReservationState}
 use Rattle.scoop_model.specs.World.{Party}
 
@@ -22,3 +23,10 @@ ok_is a b e = cc
 -- what the reservation is of a party that was found
 pub of_party : (q y : Party) (s : ReservationState) → Some q ≡ Some y → y.client.reservation ≡ Some s → q.client.reservation ≡ Some s
 of_party q y s e has = ap (λ (z : Party). z.client.reservation) (same_Some q y e) ∙ has
+
+-- a reservation that locks or opens isn't given up
+pub locking_giving : Locking ≡ GivingUp → ⊥
+locking_giving e = cc
+
+pub opening_giving : Opening ≡ GivingUp → ⊥
+opening_giving e = cc

@@ -6,6 +6,7 @@ use Rattle.scoop_message.specs.declared.name.ClientId.{ClientId}
 use Rattle.scoop_message.specs.declared.name.HandlerId.{HandlerId}
 use Rattle.scoop_message.specs.Message.{same_client, same_handler}
 use Rattle.scoop_message.proofs.Same.{handler_decides, client_decides}
+pub use Rattle.scoop_handler.proofs.Basics.{key_found}
 use Rattle.scoop_model.specs.World.{World, Site, Party, number_of, id_of, is_site, is_party, site_of, party_of, set_site, set_party}
 use Rattle.scoop_model.proofs.Basics.{by_test}
 
@@ -18,14 +19,6 @@ module _ {A K : Type 0} (key : A → K) (same : K → K → Bool) (decides : (a 
 
   same_itself : (k : K) → same k k ≡ true
   same_itself k = (decides k k).1 refl
-
-  -- the item that is found has the key
-  pub key_found : (k : K) (xs : List A) (a : A) → find (has_key k) xs ≡ Some a → key a ≡ k
-  key_found k [] a e = absurd (cc)
-  key_found k (x ∷ xs) a e =
-      by_test (λ t. (if t then Some x else find (has_key k) xs) ≡ Some a → has_key k x ≡ t → key a ≡ k) (has_key k x)
-      (λ here f is. let p : x ≡ a = cc in subst (λ y. key y ≡ k) p ((decides (key x) k).0 is))
-      (λ there f is. key_found k xs a f) e refl
 
   own_found : (a old : A) (xs : List A) → find (has_key (key a)) xs ≡ Some old → find (has_key (key a)) (map (newer a) xs) ≡ Some a
   own_found a old [] e = absurd (cc)

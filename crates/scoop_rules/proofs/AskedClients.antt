@@ -13,13 +13,10 @@ use Rattle.scoop_message.specs.declared.request.Request.{Request}
 use Rattle.scoop_message.specs.declared.message.Message.{Message}
 use Rattle.scoop_message.specs.Message.{same_handler}
 use Rattle.scoop_message.proofs.Same.{handler_decides, client_decides}
-use Rattle.scoop_reserve.specs.declared.stage.Stage.{Stage}
-use Rattle.scoop_reserve.specs.declared.stage.Stage.TheVariants.{Locking, Opening, Unlocking, GivingUp as GivingBack}
 use Rattle.scoop_reserve.specs.declared.stage.Step.{Step}
 use Rattle.scoop_reserve.specs.declared.stage.Step.TheVariants as step
-use Rattle.scoop_reserve.specs.Handlers.{asked}
-use Rattle.scoop_reserve.specs.State.{ReservationState, at_stage}
-use Rattle.scoop_reserve.specs.Hearing.{given_up_in, is_gone}
+use Rattle.scoop_reserve.specs.State.{ReservationState}
+use Rattle.scoop_reserve.specs.Hearing.{is_gone}
 use Rattle.scoop_reserve.specs.Hearing as reservation
 use Rattle.scoop_reserve.proofs.Rows.{HeardRow as StepRow, passed_over as steps_over, one_is_locked, all_are_locked, is_busy, one_is_opened, all_are_opened, is_unlocked, is_given_back, heard_row as step_row}
 use Rattle.scoop_client.specs.declared.phase.ClientNote.{ClientNote}
@@ -36,6 +33,7 @@ use Rattle.scoop_model.specs.World.{World, Party, id_of, is_party, log_of, handl
 use Rattle.scoop_model.specs.Step.{newest_block, commanded_world, with_party, heard_party, restarted_party}
 use Rattle.scoop_rules.specs.Paper.{count_of}
 use Rattle.scoop_model.proofs.Basics.{ok_is, by_test}
+use Rattle.scoop_model.proofs.Knowing.Clients.{given_up_block}
 use Rattle.scoop_model.proofs.Order.Facts.{PartyFits, all_set_party}
 use Rattle.scoop_model.proofs.Order.Commands.{next_is_new, started_fresh}
 use Rattle.scoop_model.proofs.Logging.Facts.{WindowsFit, PartyLogs}
@@ -221,18 +219,12 @@ module _ (w : World) (p : Party) (d : ClientState) (fits : PartyFits w p) (logs 
       (λ r held h. quiet_none w p End after r.block h ((subst (AskedFor w r.block) free (f.asked r held)) h) refl)
   end_asked o row e = absurd (cc)
 
-  given_block : (r s : ReservationState) (stage : Stage) → given_up_in r stage ≡ Ok s → r.block ≡ s.block
-  given_block r s Locking e = let given : at_stage r GivingBack (asked r.handlers r.left) ≡ s = cc in ap (λ (y : ReservationState). y.block) given
-  given_block r s Opening e = absurd (cc)
-  given_block r s Unlocking e = absurd (cc)
-  given_block r s GivingBack e = absurd (cc)
-
   give_up_asked : (o : client.Outcome) → GiveUpRow c o → o ≡ Ok d → ClientAsked (commanded_world w p GiveUp d) d
   give_up_asked o (gives_up r s locking held given) e =
       subst (λ y. ClientAsked (commanded_world w p GiveUp y) y) (ok_is (with_reservation c s) d e)
       (λ q is.
       let same : s ≡ q = same_Some s q is in
-      let block = given_block r s r.stage given ∙ ap (λ (y : ReservationState). y.block) same in
+      let block = given_up_block r s r.stage given ∙ ap (λ (y : ReservationState). y.block) same in
       subst (λ b. AskedFor (commanded_world w p GiveUp (with_reservation c s)) b c.waits) block
       (asked_more w (commanded_world w p GiveUp (with_reservation c s)) r.block (λ h. refl) (λ h. omega arith) c.waits (f.asked r held)))
   give_up_asked o row e = absurd (cc)

@@ -7,6 +7,7 @@ use Rattle.std.specs.Bool.{Decides}
 use Rattle.std.proofs.lemmas.Grind.{flat_map-append}
 use Rattle.scoop_message.specs.Lists.{NoRepeats}
 use Rattle.scoop_model.proofs.Basics.{by_test}
+use Rattle.scoop_model.proofs.Keys.{key_found}
 
 -- what one more adds
 pub flat_map_snoc : {A B : Type 0} (f : A → List B) (xs : List A) (x : A) → flat_map f (xs ++ x ∷ []) ≡ flat_map f xs ++ f x
@@ -98,15 +99,8 @@ module _ {A K : Type 0} (key : A → K) (same : K → K → Bool) (decides : (a 
       ∙ ap (λ ys. x ∷ ys) (untouched x xs (none_later x xs once))))
       (λ _ there is.
       let later = put_itself k xs s (rest_once x xs once) is in
-      let found_key : key s ≡ k = key_found k xs s is in
+      let found_key : key s ≡ k = key_found key same decides k xs s is in
       let not_here : same (key x) (key s) ≡ false = subst (λ j. same (key x) j ≡ false) (sym found_key) there in
       ap (λ t. (if t then s else x) ∷ map (λ x. if same (key x) (key s) then s else x) xs) not_here
       ∙ ap (λ ys. x ∷ ys) later)
       refl found
-    where
-      key_found : (k : K) (xs : List A) (a : A) → find (λ a. same (key a) k) xs ≡ Some a → key a ≡ k
-      key_found k [] a e = absurd (cc)
-      key_found k (x ∷ xs) a e =
-          by_test (λ t. (if t then Some x else find (λ a. same (key a) k) xs) ≡ Some a → same (key x) k ≡ t → key a ≡ k) (same (key x) k)
-          (λ here f is. let p : x ≡ a = cc in subst (λ y. key y ≡ k) p ((decides (key x) k).0 is))
-          (λ there f is. key_found k xs a f) e refl

@@ -47,7 +47,8 @@ step_block r m s st (all_are_opened h at is all) = refl
 step_block r m s st (is_unlocked h at is) = refl
 step_block r m s st (is_given_back h at is) = refl
 
-given_up_block : (r s : ReservationState) (stage : Stage) → given_up_in r stage ≡ Ok s → r.block ≡ s.block
+-- what is given up is the same block's
+pub given_up_block : (r s : ReservationState) (stage : Stage) → given_up_in r stage ≡ Ok s → r.block ≡ s.block
 given_up_block r s Locking e =
     let given : at_stage r GivingBack (asked r.handlers r.left) ≡ s = cc in
     ap (λ (x : ReservationState). x.block) given

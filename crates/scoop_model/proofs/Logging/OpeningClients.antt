@@ -37,7 +37,7 @@ use Rattle.scoop_client.specs.declared.command.Command.TheVariants.{Reserve, Cal
 use Rattle.std.specs.Option.{option_map}
 use Rattle.scoop_model.specs.World.{World, Party, BlockLog, HandlerLog, handlers_in, lines_of, log_of, handlers_of, id_of, is_log_of, is_party, party_of, set_party}
 use Rattle.scoop_model.specs.Step.{logs_after, newest_block, with_sent}
-use Rattle.scoop_model.proofs.Basics.{by_test, of_party, some_same}
+use Rattle.scoop_model.proofs.Basics.{by_test, locking_giving, of_party, opening_giving, some_same}
 use Rattle.scoop_model.proofs.Keys.{by_party, id_found}
 use Rattle.scoop_model.proofs.Order.Facts.{IsNamed, PartyFits, Ordered, Tells, all_found, all_more_of, all_pushed}
 use Rattle.scoop_model.proofs.Order.Clients.{has_without, is_gone_one, none_in_empty}
@@ -65,9 +65,6 @@ one_owner w l c d p q at there r s held has same =
     some_same p.client.reservation s r (ap (λ (y : Party). y.client.reservation) (sym one) ∙ has) held
 
 -- ---- what a client sends
-
-opening_giving : Opening ≡ GivingBack → ⊥
-opening_giving e = cc
 
 opening_locking : Opening ≡ Locking → ⊥
 opening_locking e = cc
@@ -251,9 +248,6 @@ module _ (w : World) (c : ClientState) (fits : (r : ReservationState) → c.rese
       (r : ReservationState) (stage : Stage) → c.reservation ≡ Some r → r.stage ≡ stage → (stage ≡ GivingBack → ⊥)
       → (now : Stage) (b : Block) → r.block ≡ b → ((q : ReservationState) → c.reservation ≡ Some q → q.block ≡ b → q.stage ≡ GivingBack) → now ≡ GivingBack
   not_given r stage held at off now b same left = absurd (off (sym at ∙ left r held same))
-
-  locking_giving : Locking ≡ GivingBack → ⊥
-  locking_giving e = cc
 
   unlocking_giving : Unlocking ≡ GivingBack → ⊥
   unlocking_giving e = cc

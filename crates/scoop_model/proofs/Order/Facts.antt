@@ -1,13 +1,14 @@
 -- What every event keeps of joint reservations: what messages tell for good, and how the handlers, the clients and
 -- the common list stand to each other.
-use Rattle.std.proofs.Common.{◌≡◌, ℕ, Bool, true, false, List, [], ◌∷◌, ◌++◌, find, slice_get, Option, Some, None, refl, sym, subst}
-use Rattle.std.specs.Prelude.{if◌then◌else◌, ⊤, option_to_list, zero, suc}
+use Rattle.std.proofs.Common.{◌≡◌, Bool, true, false, List, [], ◌∷◌, ◌++◌, find, Option, Some, None, refl, sym, subst}
+use Rattle.std.specs.Prelude.{if◌then◌else◌, ⊤, option_to_list}
 use Rattle.std.specs.List.{AllByRecursion}
 use Rattle.std.specs.Option.{option_map}
 use Rattle.scoop_message.specs.declared.name.Block.{Block}
 use Rattle.scoop_message.specs.declared.name.HandlerId.{HandlerId}
 use Rattle.scoop_message.specs.declared.message.Message.{Message}
 use Rattle.scoop_message.specs.declared.message.Message.TheVariants.{Lock, Locked, Open}
+pub use Rattle.scoop_handler.proofs.Basics.{all_at}
 use Rattle.scoop_reserve.specs.declared.stage.Stage.{Stage}
 use Rattle.scoop_reserve.specs.declared.stage.Stage.TheVariants.{Locking, Opening, Unlocking, GivingUp}
 use Rattle.scoop_reserve.specs.Handlers.{has}
@@ -126,11 +127,6 @@ pub all_pushed :
 all_pushed P [] None all one = tt
 all_pushed P [] (Some a) all one = (one a refl, tt)
 all_pushed P (x ∷ xs) o all one = (all.0, all_pushed P xs o all.1 one)
-
-pub all_at : {A : Type 0} (P : A → Type 0) (xs : List A) (k : ℕ) (a : A) → slice_get xs k ≡ Some a → AllByRecursion P xs → P a
-all_at P [] k a e all = absurd (cc)
-all_at P (x ∷ xs) zero a e all = let p : x ≡ a = cc in subst P p all.0
-all_at P (x ∷ xs) (suc k) a e all = all_at P xs k a e all.1
 
 pub all_found : {A : Type 0} (P : A → Type 0) (test : A → Bool) (xs : List A) (a : A) → AllByRecursion P xs → find test xs ≡ Some a → P a
 all_found P test [] a all e = absurd (cc)

@@ -10,7 +10,7 @@ use Rattle.scoop_message.specs.declared.name.HandlerId.{HandlerId}
 use Rattle.scoop_message.specs.declared.message.Message.{Message}
 use Rattle.scoop_message.specs.declared.message.Message.TheVariants.{Hello, Locked, Log}
 use Rattle.scoop_message.proofs.Same.{block_decides}
-use Rattle.scoop_reserve.specs.declared.stage.Stage.TheVariants.{Locking, Opening, GivingUp as GivingBack}
+use Rattle.scoop_reserve.specs.declared.stage.Stage.TheVariants.{Locking, Opening}
 use Rattle.scoop_reserve.specs.State.{ReservationState}
 use Rattle.scoop_client.specs.declared.phase.ClientNote.{ClientNote}
 use Rattle.scoop_client.specs.Window.{first_entries}
@@ -22,7 +22,7 @@ use Rattle.scoop_client.specs.Rows.{DueRow, owes_nothing, greets, reserves, logs
 use Rattle.scoop_client.proofs.DueRows.{due_row}
 use Rattle.scoop_model.specs.World.{World, Party, BlockLog, handlers_in, handlers_of, id_of, is_log_of, is_party, log_of, party_of, set_party}
 use Rattle.scoop_model.specs.Step.{with_sent}
-use Rattle.scoop_model.proofs.Basics.{of_party}
+use Rattle.scoop_model.proofs.Basics.{locking_giving, of_party}
 use Rattle.scoop_model.proofs.Keys.{by_party, id_found}
 use Rattle.scoop_model.proofs.Order.Facts.{IsNamed, PartyFits, Ordered, all_found}
 use Rattle.scoop_model.proofs.Locking.{heard_locks, command_locks}
@@ -121,9 +121,6 @@ module _
 module _
     (w : World) (c : ClientId) (p : Party) (at : party_of c w ≡ Some p)
     (i : (r : ReservationState) → p.client.reservation ≡ Some r → ReservationStands w r) where
-  locking_giving : Locking ≡ GivingBack → ⊥
-  locking_giving e = cc
-
   -- the block of a reservation that locks was not given up
   told_stands :
       (r : ReservationState) → p.client.reservation ≡ Some r → r.stage ≡ Locking → (h : HandlerId) → LockedStands w (Locked h r.block) → StandsAt w h r.block

@@ -16,7 +16,7 @@ use Rattle.scoop_handler.specs.declared.mark.Mark.{Mark}
 use Rattle.scoop_handler.specs.Growing.{MarksGrow}
 use Rattle.scoop_handler.specs.Marks.{mark_of}
 use Rattle.scoop_model.specs.World.{World, Site, Party, has_block, handlers_of, party_of, sent_at, site_of}
-use Rattle.scoop_model.proofs.Basics.{by_test}
+use Rattle.scoop_model.proofs.Basics.{by_test, locking_giving, opening_giving}
 use Rattle.scoop_model.proofs.Locking.{Locks, HasLocks, locks_more}
 use Rattle.scoop_model.proofs.Order.Holding.{IsHeldIn, reached_more}
 use Rattle.scoop_model.proofs.Order.Facts.{all_more_of, all_pushed}
@@ -157,12 +157,6 @@ module _ (v w : World) (x : StandsOn v w) (i : Standing v) where
   -- nor is that of a reservation that locks or opens
   not_given : (r : ReservationState) → (IsGivenUp v r.block → ⊥) → (h : HandlerId) → StandsAt v h r.block → StandsAt w h r.block
   not_given r off h there = ⊎_elim (λ (on : StandsAt w h r.block). on) (λ (g : IsGivenUp v r.block). absurd (off g)) (x.stands h r.block there)
-
-  locking_giving : Locking ≡ GivingUp → ⊥
-  locking_giving e = cc
-
-  opening_giving : Opening ≡ GivingUp → ⊥
-  opening_giving e = cc
 
   pub stage_more :
       (c : ClientId) (p : Party) → party_of c v ≡ Some p → (r : ReservationState) → p.client.reservation ≡ Some r → (stage : Stage) → r.stage ≡ stage
