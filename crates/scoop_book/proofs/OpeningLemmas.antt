@@ -1,4 +1,8 @@
--- How handlers open, one by one, and what is so of a book that has opened.
+-- How handlers open, one by one, and what is so of a book that has opened. Each is loaded from a keeper that the loads before
+-- may have changed; an honest keeper has what it had (`Stays`), so what a later keeper shows of a handler was so of the first
+-- one, and so is why it refuses. That is how the loop's invariant goes on: the handlers so far are open as the first keeper has
+-- them (`Opened`). When all are open, they have the numbers that were handed over, each has its stored state with the keeper,
+-- and the book is sound (`opened_book`).
 use Rattle.std.proofs.Common.{◌≡◌, ◌⊎◌, ⊎_elim, inl, inr, ℕ, Bool, zero, suc, List, [], ◌∷◌, ◌++◌, map, Option, Some, None, refl, sym, ap, ◌∙◌, subst, arith}
 use Rattle.std.specs.Prelude.{IfSome}
 use Rattle.std.specs.List.{AllByRecursion, Any}

@@ -1,4 +1,7 @@
--- The lines of an input, met piece by piece.
+-- The lines of an input, met piece by piece. A reader gives the input in pieces of any size, and `next_line` puts the pieces of
+-- one line together. Its loop's invariant: what it has so far has no newline, and is what the input has lost. A piece with a
+-- newline ends the line, and then the first line of the input was taken, and no other byte; the end of the input ends the last
+-- line, unless that is empty; and a line that has grown too long is so in the input too.
 use Rattle.std.proofs.Common.{◌≡◌, ℕ, zero, suc, ◌+◌, ◌<◌, ◌≤◌, List, [], ◌∷◌, ◌++◌, length, take, slice_index, refl, sym, ◌∙◌, ap, arith, Option, Some, None, Result, Ok, Err, nat_eq, Bool, true, false, not, ◌==◌, append_assoc, append-nil, length-append, take_all}
 use Rattle.std.proofs.lemmas.Bool.{eqb-true}
 use Rattle.std.proofs.lemmas.Bool.Decides.{nat_tests}

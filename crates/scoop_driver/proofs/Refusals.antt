@@ -1,4 +1,7 @@
--- Which refusals a command may get.
+-- Which refusals a command may get. A client refuses a command by its table, or at last for want of memory. Each row of the
+-- table that refuses names its refusal, so, row by row, a reserve or a give up is refused by the table and never for a full
+-- window; no row names want of memory. A reserve that is taken has at most as many handlers as a block may have, and a query
+-- that is taken waits. The driver's calls take their errors from these.
 use Rattle.std.proofs.Common.{◌≡◌, ℕ, ◌+◌, ◌==◌, ◌≤◌, Bool, true, false, List, length, Option, Some, None, Result, Ok, Err, refl, ap, sym, ◌∙◌, subst, arith}
 use Rattle.std.specs.Prelude.{if◌then◌else◌, nat_lt, IsOk}
 use Rattle.std.proofs.lemmas.Bool.Decides.{nat_tests}

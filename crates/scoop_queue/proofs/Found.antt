@@ -1,4 +1,7 @@
--- What is found of a block after a change of the private queues.
+-- What is found of a block after a change of the private queues. A change at a block leaves at most one queue in the place of
+-- that block's, and of the same block (`Leaves`). So, by induction on the list, another block finds what it found before, and
+-- the block itself finds what the change made of its queue, or nothing where it made nothing and no block has two queues. From
+-- these come the laws of each change that the handler makes: entries put, a cut, a queue more, the first entry run.
 use Rattle.std.proofs.Common.{◌≡◌, ◌+◌, Bool, true, false, cond, List, [], ◌∷◌, ◌++◌, length, Option, Some, refl, sym, ap, ◌∙◌, subst, length-append}
 use Rattle.std.proofs.lemmas.Option.{same_Some}
 use Rattle.scoop_message.specs.declared.name.Block.{Block}

@@ -1,4 +1,8 @@
--- What is read of an image beside the states that have it.
+-- What is read of an image beside the states that have it. From the front, each part of an image tells where it ends, so two
+-- states with the same bytes have the same words, the same holder and the same marks (`parts_same`), and the same private
+-- queues by `Queues`. So a read that finds a state has found the only one that has the image, and a read that fails was given
+-- no image. It is shown for an image with its pending entries in a row beside it, and for one of the first version, which
+-- has its entries in it; both are `HasParts`, and differ in what follows the count of the queues.
 use Rattle.std.proofs.Common.{◌≡◌, ℕ, ◌^◌, ◌<◌, List, [], ◌∷◌, ◌++◌, Option, None, length, take, drop, get_or, refl, sym, ap, subst, ◌∙◌}
 use Rattle.std.specs.List.{flat_map, AllByRecursion}
 use Rattle.scoop_message.specs.declared.name.Block.{Block}

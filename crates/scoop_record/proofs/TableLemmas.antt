@@ -1,4 +1,7 @@
--- What a look up by key shows of a table with an integer key, in whatever order its rows stand.
+-- What a look up by key shows of a table with an integer key, in whatever order its rows stand. The answer of a query is what
+-- its filter leaves of the table, projected, in some order. A filter that compares the key leaves the rows with that key, so
+-- one row that is shown is that of the key, and no row is shown where there is none. A query without a filter shows each row.
+-- The look ups of the record are these queries, by `Texts`.
 use Rattle.std.proofs.Common.{◌≡◌, ◌≤◌, ℕ, nat_le, ◌^◌, pos, negsuc, List, [], ◌∷◌, map, length, Bool, true, false, ◌&&◌, cond, filter, find, slice_get, Some, None, refl, sym, ap, ◌∙◌, subst, inl, inr, arith, ℤ, IsPermutation}
 use Rattle.std.specs.List.{flat_map}
 use Rattle.std.specs.Option.{option_to_list}

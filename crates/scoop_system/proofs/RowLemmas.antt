@@ -1,4 +1,7 @@
--- The operations that are read make a class.
+-- The terms, tests and writes that are read make the row of a class. What is read without a fault names words that the class
+-- has and arguments that a request may have (`IsTerm`, `IsTest`, `IsWrite`), since each reader tests them before it gives a
+-- term. Writes are read one by one, and each is tested against those before it: by induction on what is left to read, all are
+-- such writes, and no word is written twice (`AreWrites`). `ClassRowLemmas` makes the operations and the class of them.
 use Rattle.std.proofs.Common.{◌≡◌, ℕ, ◌==◌, ◌||◌, nat_lt, Bool, true, false, if◌then◌else◌, List, [], ◌∷◌, ◌++◌, Option, Some, None, Ok, Err, refl, ap, arith}
 use Rattle.std.specs.List.{list_all, list_any}
 use Rattle.std.proofs.lemmas.Bool.Decides.{nat_tests}

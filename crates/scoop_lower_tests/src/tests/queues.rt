@@ -128,7 +128,7 @@ fn refusal(queues: &mut QueueOfQueues, head: Head) -> Option<AppendError> {
     queues.append(head, &[]).err()
 }
 
-// The last of 64 queues is this block's, and no queue of it can be appended.
+// The last of `MAX_QUEUES` queues is this block's, and no queue of it can be appended.
 fn is_full_with(rt: &impl Abort, queues: &mut QueueOfQueues, last: Block) {
     let fresh = Head {
         block: last,

@@ -43,7 +43,7 @@ run 1 > refused NothingToRun
 > handler 1 opened 7.1.1 8.1.1
 > handler 1 ran 7.1.1:1:end";
 
-// Client 8 logs 64 calls, each of which is acknowledged.
+// Client 8 logs `MAX_PENDING` calls, each of which is acknowledged.
 fn push_logged(text: &mut String) -> Result<(), AllocError> {
     for n in 1..65_u32 {
         let sent = 2 * n + 15;
@@ -134,7 +134,7 @@ run 1 > ran 7.1.1 1 end
 trip 7 1 > sent 518 Open; Opened sent 519; Opened 1
 ";
 
-// 64 private queues have ended and not run.
+// `MAX_QUEUES` private queues have ended and not run.
 fn full_of_queues(text: &mut String) -> Result<(), AllocError> {
     text.push_str(ONE_CLIENT)?;
     for n in 0..64 {
@@ -220,7 +220,7 @@ fn push_parties(text: &mut String, handlers: u32, clients: u32) -> Result<(), Al
     Ok(())
 }
 
-// 64 handlers, and 64 clients that greet one of them.
+// `MAX_HANDLERS` handlers, and `MAX_CLIENTS` clients that greet one of them.
 fn full_world(text: &mut String) -> Result<(), AllocError> {
     push_parties(text, 64, 64)?;
     for n in 0..64_u32 {
