@@ -18,8 +18,12 @@ use Rattle.scoop_reserve.specs.declared.stage.Stage.TheVariants as stage
 use Rattle.scoop_client.specs.Window.{WindowState, is_ended, is_full, logged, with_entry, at_window, window_of, lowest_full}
 use Rattle.scoop_reserve.specs.Handlers.{is_empty}
 use Rattle.scoop_client.specs.State.{ClientState, phase_of, phase_at, phase_of_block, with_windows}
-use Rattle.scoop_client.specs.Commands.{Command, Outcome, Reserve, DoCall, DoQuery, DoEnd, GiveUp, command, reserve, reserved, next_block, log, log_unless, log_window, waits_for, end_block, end_unless_waiting, end_unless_full, give_up, give_up_block, without_block}
-use Rattle.scoop_client.specs.Rows.{ReserveRow, reserve_not_greeted, reserve_not_idle, reserve_spent, reserve_refused, begins_block, LogRow, log_not_greeted, log_no_block, log_waiting, log_not_reserved, log_window_full, log_spent, is_logged, EndRow, end_not_greeted, end_no_block, end_waiting, end_window_full, ends_block, GiveUpRow, give_up_not_greeted, give_up_no_block, give_up_too_late, gives_up, CommandRow}
+use Rattle.scoop_client.specs.Commands.{Command, Outcome, Reserve, DoCall, DoQuery, DoEnd, GiveUp, command, reserve, reserved, next_block, log, log_unless}
+use Rattle.scoop_client.specs.Commands.{log_window, waits_for, end_block, end_unless_waiting, end_unless_full, give_up, give_up_block, without_block}
+use Rattle.scoop_client.specs.Rows.{ReserveRow, reserve_not_greeted, reserve_not_idle, reserve_spent, reserve_refused, begins_block, LogRow, log_not_greeted}
+use Rattle.scoop_client.specs.Rows.{log_no_block, log_waiting, log_not_reserved, log_window_full, log_spent, is_logged, EndRow, end_not_greeted, end_no_block}
+use Rattle.scoop_client.specs.Rows.{end_waiting, end_window_full, ends_block, GiveUpRow, give_up_not_greeted, give_up_no_block, give_up_too_late, gives_up}
+use Rattle.scoop_client.specs.Rows.{CommandRow}
 
 by_test : (P : Outcome → Type 0) (b : Bool) (s t : Outcome) → (b ≡ true → P s) → (b ≡ false → P t) → P (if b then s else t)
 by_test P true s t p q = p refl

@@ -11,7 +11,8 @@ use Rattle.scoop_reserve.specs.Due as owed
 use Rattle.scoop_client.specs.Window.{WindowState, first_entries, window_of}
 use Rattle.scoop_client.specs.State.{ClientState}
 use Rattle.scoop_client.specs.Due.{due, due_in_block, due_after, due_window}
-use Rattle.scoop_client.specs.Rows.{OwesNothing, has_no_block, waits_for_others, is_elsewhere, all_acknowledged, DueRow, owes_nothing, greets, reserves, logs, IsDue}
+use Rattle.scoop_client.specs.Rows.{OwesNothing, has_no_block, waits_for_others, is_elsewhere, all_acknowledged, DueRow, owes_nothing, greets, reserves, logs}
+use Rattle.scoop_client.specs.Rows.{IsDue}
 
 module _ (c : ClientState) (h : HandlerId) where
   by_test : (b : Bool) (s t : Option Message) → (b ≡ true → IsDue c h s) → (b ≡ false → IsDue c h t) → IsDue c h (if b then s else t)

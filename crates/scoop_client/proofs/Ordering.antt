@@ -23,7 +23,8 @@ use Rattle.scoop_client.specs.declared.phase.ClientNote.TheVariants.{Welcomed, A
 use Rattle.scoop_client.specs.Window.{WindowState, window_of, logged, acknowledged, at_window}
 use Rattle.scoop_client.specs.State.{ClientState, with_windows, with_unwelcomed}
 use Rattle.scoop_client.specs.Due.{due, due_in_block, due_after, due_window}
-use Rattle.scoop_client.specs.Hearing.{Notice, heard, ignored, is_own, hear_welcome, after_step, hear_step, hear_logged, hear_count, hear_answer, hear_answer_to, is_open_block, settled, up_to}
+use Rattle.scoop_client.specs.Hearing.{Notice, heard, ignored, is_own, hear_welcome, after_step, hear_step, hear_logged, hear_count, hear_answer}
+use Rattle.scoop_client.specs.Hearing.{hear_answer_to, is_open_block, settled, up_to}
 use Rattle.scoop_client.specs.Laws.{DueInOrder, AcceptsOnce}
 
 -- ---- accepting

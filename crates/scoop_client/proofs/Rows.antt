@@ -24,8 +24,10 @@ use Rattle.scoop_reserve.specs.declared.stage.Step.{Step}
 use Rattle.scoop_reserve.specs.declared.stage.Step.TheVariants as step
 use Rattle.scoop_reserve.proofs.Rows as reserved
 use Rattle.scoop_client.specs.declared.phase.ClientNote.{ClientNote}
-use Rattle.scoop_client.specs.Rows.{Awaits, awaits_welcome, awaits_step, awaits_count, awaits_answer, HeardRow, passed_over, is_welcomed, takes_step, is_acknowledged, is_accepted, IsHeard}
-use Rattle.scoop_client.specs.Hearing.{Notice, heard, ignored, is_own, hear_step, after_step, settled, up_to, hear_count, hear_logged, hear_answer, hear_answer_to, is_open_block}
+use Rattle.scoop_client.specs.Rows.{Awaits, awaits_welcome, awaits_step, awaits_count, awaits_answer, HeardRow, passed_over, is_welcomed, takes_step}
+use Rattle.scoop_client.specs.Rows.{is_acknowledged, is_accepted, IsHeard}
+use Rattle.scoop_client.specs.Hearing.{Notice, heard, ignored, is_own, hear_step, after_step, settled, up_to, hear_count, hear_logged, hear_answer}
+use Rattle.scoop_client.specs.Hearing.{hear_answer_to, is_open_block}
 
 both_true : (a b : Bool) → (a && b) ≡ true → (a ≡ true) × (b ≡ true)
 both_true true b e = (refl, e)

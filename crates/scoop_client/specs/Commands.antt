@@ -15,7 +15,8 @@ pub use Rattle.scoop_client.specs.declared.command.Command.TheVariants.{Reserve,
 use Rattle.scoop_client.specs.declared.phase.Phase.{Phase}
 use Rattle.scoop_client.specs.declared.phase.Phase.TheVariants.{Greeting, Idle, Locking, Opening, Running, Ending, GivingUp}
 use Rattle.scoop_client.specs.declared.error.ClientError.{ClientError}
-use Rattle.scoop_client.specs.declared.error.ClientError.TheVariants.{NotGreeted, NotIdle, NoBlock, Waiting, NotReserved, WindowFull, TooLate, Spent, Reserve as NotReservable, OutOfMemory}
+use Rattle.scoop_client.specs.declared.error.ClientError.TheVariants.{NotGreeted, NotIdle, NoBlock, Waiting, NotReserved, WindowFull, TooLate, Spent}
+use Rattle.scoop_client.specs.declared.error.ClientError.TheVariants.{Reserve as NotReservable, OutOfMemory}
 use Rattle.scoop_client.specs.Window.{WindowState, fresh_window, logged, is_full, with_entry, with_end, window_of, at_window, lowest_full}
 use Rattle.scoop_client.specs.State.{ClientState, phase_of, block_named, with_reservation, with_windows}
 

@@ -14,7 +14,8 @@ use Rattle.scoop_reserve.specs.State.{ReservationState}
 use Rattle.scoop_reserve.specs.Hearing.{is_open, is_gone}
 use Rattle.scoop_reserve.specs.Hearing as reservation
 use Rattle.scoop_client.specs.declared.phase.ClientNote.{ClientNote}
-use Rattle.scoop_client.specs.declared.phase.ClientNote.TheVariants.{Welcomed, Locked as LockedNote, Busy as BusyNote, Opened as OpenedNote, Unlocked as UnlockedNote, Acknowledged, Accepted, Ignored}
+use Rattle.scoop_client.specs.declared.phase.ClientNote.TheVariants.{Welcomed, Locked as LockedNote, Busy as BusyNote, Opened as OpenedNote}
+use Rattle.scoop_client.specs.declared.phase.ClientNote.TheVariants.{Unlocked as UnlockedNote, Acknowledged, Accepted, Ignored}
 use Rattle.scoop_client.specs.Window.{WindowState, logged, acknowledged, window_of, at_window, all_over}
 use Rattle.scoop_client.specs.State.{ClientState, with_unwelcomed, with_reservation, with_windows, idle}
 

@@ -18,7 +18,8 @@ use Rattle.scoop_reserve.specs.Rows as reservation_rows
 use Rattle.scoop_client.specs.declared.phase.Phase.TheVariants.{Greeting, Idle, Locking, Running}
 use Rattle.scoop_client.specs.declared.phase.ClientNote.{ClientNote}
 use Rattle.scoop_client.specs.declared.phase.ClientNote.TheVariants.{Welcomed, Acknowledged, Accepted, Ignored}
-use Rattle.scoop_client.specs.declared.error.ClientError.TheVariants.{NotGreeted, NotIdle, NoBlock, Waiting, NotReserved, WindowFull, TooLate, Spent, Reserve as NotReservable}
+use Rattle.scoop_client.specs.declared.error.ClientError.TheVariants.{NotGreeted, NotIdle, NoBlock, Waiting, NotReserved, WindowFull, TooLate, Spent}
+use Rattle.scoop_client.specs.declared.error.ClientError.TheVariants.{Reserve as NotReservable}
 use Rattle.scoop_client.specs.Window.{WindowState, first_entries, is_full, logged, with_entry, with_end, acknowledged, window_of, at_window, lowest_full}
 use Rattle.scoop_client.specs.State.{ClientState, phase_of, with_unwelcomed, with_windows, with_reservation}
 use Rattle.scoop_client.specs.Hearing.{after_step, settled, up_to}

@@ -40,7 +40,17 @@ impl<A: Allocator> Model for Client<A> {
 
     ghost Value = { ClientState };
 
-    ghost view = { λ c. record { id = c.id; inc = c.inc; batch = c.batch; handlers = c.handlers.items; unwelcomed = c.unwelcomed.items; last = c.last; reservation = c.reservation; windows = c.windows.items; waits = c.waits } };
+    ghost view = { λ c. record {
+      id = c.id;
+      inc = c.inc;
+      batch = c.batch;
+      handlers = c.handlers.items;
+      unwelcomed = c.unwelcomed.items;
+      last = c.last;
+      reservation = c.reservation;
+      windows = c.windows.items;
+      waits = c.waits;
+    } };
 
     ghost invariant = { λ c. IsClient c.id c.inc c.batch c.last c.reservation };
 }

@@ -84,7 +84,8 @@ impl<A: Allocator> Client<A> {
 
     // The number of the last entry that was logged at a handler, or why none may be logged there.
     fn last_logged(&self, handler: HandlerId) -> Result<u32, ClientError>
-        ensures logs { (entry : LoggedEntry) → IfOk result (λ last. log self.now handler entry (phase_of self.now) ≡ Ok (with_logged self.now handler entry (last + 1))) }
+        ensures logs { (entry : LoggedEntry) → IfOk result (λ last.
+            log self.now handler entry (phase_of self.now) ≡ Ok (with_logged self.now handler entry (last + 1))) }
         ensures number { IfOk result (λ last. last + 1 < 2 ^ 32) }
         ensures room { OnOk result (IfSome (window_of handler self.now.windows) HasRoom) }
         ensures refused { (entry : LoggedEntry) → IfErr result (λ e. log self.now handler entry (phase_of self.now) ≡ Err e) }

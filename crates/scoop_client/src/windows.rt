@@ -2,7 +2,8 @@
 
 ghost use Rattle.std.specs.Prelude.{◌≡◌, ◌||◌, nat_le, not, MatchOption, IfOk, IfSome, Some, None, map, false};
 ghost use Rattle.std.specs.List.{list_all};
-ghost use Rattle.scoop_client.specs.Window.{IsPlaceOf, IsNowhere, HasRoom, window_of, at_window, fresh_window, with_entry, with_end, acknowledged, is_ended, is_full, all_over, is_lowest_full, lowest_full};
+ghost use Rattle.scoop_client.specs.Window.{IsPlaceOf, IsNowhere, HasRoom, window_of, at_window, fresh_window, with_entry, with_end, acknowledged, is_ended};
+ghost use Rattle.scoop_client.specs.Window.{is_full, all_over, is_lowest_full, lowest_full};
 
 use crate::window::Window;
 use scoop_message::{Entry, HandlerId};

@@ -1,7 +1,8 @@
 -- A client keeps its block, and what it waits for, while it hears: what a message leaves of either is the same or nothing. So
 -- in turns without a command a block that runs is the one that was reserved, and an answer that is accepted is that of the
 -- query that waited before them.
-use Rattle.std.proofs.Common.{◌≡◌, ℕ, ◌==◌, ◌⊎◌, List, [], ◌∷◌, length, Option, Some, None, Result, Ok, Err, Bool, true, false, arith, refl, ap, sym, ◌∙◌, subst, inl, inr}
+use Rattle.std.proofs.Common.{◌≡◌, ℕ, ◌==◌, ◌⊎◌, List, [], ◌∷◌, length, Option, Some, None, Result, Ok, Err, Bool, true, false, arith, refl, ap, sym, ◌∙◌}
+use Rattle.std.proofs.Common.{subst, inl, inr}
 use Rattle.std.proofs.lemmas.List.Elements.{Contains-push_cases, Contains-append_cases}
 use Rattle.std.specs.Prelude.{if◌then◌else◌, nat_lt, Contains}
 use Rattle.scoop_message.specs.declared.limits.TheConstants.{MAX_BLOCK_HANDLERS}
@@ -27,7 +28,8 @@ use Rattle.scoop_client.specs.State.{ClientState, phase_of, phase_of_block, bloc
 use Rattle.scoop_client.specs.Hearing.{heard, after_step, stepped, up_to}
 use Rattle.scoop_client.specs.declared.command.Command.TheVariants.{Reserve}
 use Rattle.scoop_client.specs.Commands.{Outcome, command, next_block}
-use Rattle.scoop_client.specs.Rows.{HeardRow, passed_over, is_welcomed, takes_step, is_acknowledged, is_accepted, ReserveRow, reserve_not_greeted, reserve_not_idle, reserve_spent, reserve_refused, begins_block}
+use Rattle.scoop_client.specs.Rows.{HeardRow, passed_over, is_welcomed, takes_step, is_acknowledged, is_accepted, ReserveRow, reserve_not_greeted}
+use Rattle.scoop_client.specs.Rows.{reserve_not_idle, reserve_spent, reserve_refused, begins_block}
 use Rattle.scoop_client.proofs.Rows.{heard_row}
 use Rattle.scoop_client.proofs.CommandRows.{command_row}
 use Rattle.scoop_driver.specs.declared.step.Step.{Step}

@@ -16,13 +16,17 @@ use Rattle.scoop_reserve.specs.State.{ReservationState}
 use Rattle.scoop_reserve.specs.Handlers.{first_repeated, first_unknown}
 use Rattle.scoop_reserve.specs.Starting.{started, unless_repeated, fresh}
 use Rattle.scoop_client.specs.declared.error.ClientError.{ClientError}
-use Rattle.scoop_client.specs.declared.error.ClientError.TheVariants.{NotGreeted, NotIdle, NoBlock, Waiting, NotReserved, WindowFull, TooLate, Spent, Reserve as NotReservable, OutOfMemory}
+use Rattle.scoop_client.specs.declared.error.ClientError.TheVariants.{NotGreeted, NotIdle, NoBlock, Waiting, NotReserved, WindowFull, TooLate, Spent}
+use Rattle.scoop_client.specs.declared.error.ClientError.TheVariants.{Reserve as NotReservable, OutOfMemory}
 use Rattle.scoop_client.specs.Window.{logged}
 use Rattle.scoop_client.specs.State.{ClientState}
 use Rattle.scoop_client.specs.declared.command.Command.{Command}
 use Rattle.scoop_client.specs.declared.command.Command.TheVariants.{Reserve, Call as DoCall, Query as DoQuery, End as DoEnd, GiveUp}
 use Rattle.scoop_client.specs.Commands.{Outcome, command, next_block, IsRefused, CommandedAlways}
-use Rattle.scoop_client.specs.Rows.{CommandRow, ReserveRow, LogRow, EndRow, GiveUpRow, reserve_not_greeted, reserve_not_idle, reserve_spent, reserve_refused, begins_block, log_not_greeted, log_no_block, log_waiting, log_not_reserved, log_window_full, log_spent, is_logged, end_not_greeted, end_no_block, end_waiting, end_window_full, ends_block, give_up_not_greeted, give_up_no_block, give_up_too_late, gives_up}
+use Rattle.scoop_client.specs.Rows.{CommandRow, ReserveRow, LogRow, EndRow, GiveUpRow, reserve_not_greeted, reserve_not_idle, reserve_spent, reserve_refused}
+use Rattle.scoop_client.specs.Rows.{begins_block, log_not_greeted, log_no_block, log_waiting, log_not_reserved, log_window_full, log_spent, is_logged}
+use Rattle.scoop_client.specs.Rows.{end_not_greeted, end_no_block, end_waiting, end_window_full, ends_block, give_up_not_greeted, give_up_no_block}
+use Rattle.scoop_client.specs.Rows.{give_up_too_late, gives_up}
 use Rattle.scoop_client.proofs.CommandRows.{command_row}
 use Rattle.scoop_driver.specs.Calls.{IsRefusal, IsTakeable}
 

@@ -8,7 +8,8 @@ use Rattle.scoop_client.specs.Commands as client
 use Rattle.scoop_client.specs.declared.command.Command.{Command}
 use Rattle.scoop_driver.specs.declared.step.Step.{Step}
 use Rattle.scoop_driver.specs.declared.step.Step.TheVariants.{Gave}
-use Rattle.scoop_driver.specs.Steps.{AllCan, walk, after, after_command, sent_at, sent_by, taken_at, taken_by, faults_at, faults_in, turns_at, turns_in, command_at, commands_by, note_at, notes_by, noted}
+use Rattle.scoop_driver.specs.Steps.{AllCan, walk, after, after_command, sent_at, sent_by, taken_at, taken_by, faults_at, faults_in, turns_at, turns_in}
+use Rattle.scoop_driver.specs.Steps.{command_at, commands_by, note_at, notes_by, noted}
 use Rattle.scoop_driver.specs.State.{Seen, Goes}
 
 pub walk-append : (xs ys : List Step) (c : ClientState) → walk c (xs ++ ys) ≡ walk (walk c xs) ys

@@ -1,7 +1,8 @@
 -- What a wait does, from what its blocks do. A block reserves, asks, logs its body where the condition held, and ends; each
 -- part takes no more turns than its calls may (`IsPart`), and in their sum the block doesn't. Blocks in which the condition
 -- failed stand one behind the other (`Failing`), until one is done or breaks off, or the tries are over.
-use Rattle.std.proofs.Common.{◌≡◌, ℕ, suc, ◌+◌, ◌-◌, ◌*◌, ◌<◌, ◌≤◌, Bool, true, false, List, [], ◌∷◌, ◌++◌, length, drop, get_or, Result, Ok, Err, refl, ap, sym, ◌∙◌, subst, inl, inr, arith, append_assoc, add-one, zero-add}
+use Rattle.std.proofs.Common.{◌≡◌, ℕ, suc, ◌+◌, ◌-◌, ◌*◌, ◌<◌, ◌≤◌, Bool, true, false, List, [], ◌∷◌, ◌++◌, length, drop, get_or, Result, Ok, Err, refl, ap}
+use Rattle.std.proofs.Common.{sym, ◌∙◌, subst, inl, inr, arith, append_assoc, add-one, zero-add}
 use Rattle.std.proofs.Math.Nat.{mul-le-mul_right}
 use Rattle.std.proofs.lemmas.List.{append-nil, drop_more}
 use Rattle.scoop_message.specs.declared.name.HandlerId.{HandlerId}
@@ -17,7 +18,8 @@ use Rattle.scoop_driver.specs.declared.step.Step.{Step}
 use Rattle.scoop_driver.specs.Steps.{walk, commands_by, faults_in, turns_in}
 use Rattle.scoop_driver.specs.State.{Seen, Goes}
 use Rattle.scoop_driver.specs.Calls.{TakesTurns, TellsFault, Does, Called, Queried, IsAnswered, RunsNext}
-use Rattle.scoop_driver.specs.Waiting.{Wish, Tested, Done, StoppedIn, BrokeOff, BreaksOff, Tried, LoggedBody, Failures, Waits, WaitGives, calls, calls_in_block, remainder, holds}
+use Rattle.scoop_driver.specs.Waiting.{Wish, Tested, Done, StoppedIn, BrokeOff, BreaksOff, Tried, LoggedBody, Failures, Waits, WaitGives, calls, calls_in_block}
+use Rattle.scoop_driver.specs.Waiting.{remainder, holds}
 use Rattle.scoop_driver.proofs.StepLists.{goes_nothing, goes_on, commands_by-append, faults_in-append, turns_in-append}
 use Rattle.scoop_driver.proofs.Calling.{faults_as, faults_on}
 

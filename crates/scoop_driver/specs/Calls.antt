@@ -6,7 +6,8 @@ use Rattle.scoop_message.specs.declared.request.Request.{Request}
 use Rattle.scoop_client.specs.declared.phase.ClientNote.TheVariants.{Accepted}
 use Rattle.scoop_client.specs.declared.phase.Phase.TheVariants.{Running}
 use Rattle.scoop_client.specs.declared.error.ClientError.{ClientError}
-use Rattle.scoop_client.specs.declared.error.ClientError.TheVariants.{NotGreeted, NotIdle, NoBlock, Waiting, NotReserved, WindowFull, TooLate, Spent, Reserve as NotReservable, OutOfMemory}
+use Rattle.scoop_client.specs.declared.error.ClientError.TheVariants.{NotGreeted, NotIdle, NoBlock, Waiting, NotReserved, WindowFull, TooLate, Spent}
+use Rattle.scoop_client.specs.declared.error.ClientError.TheVariants.{Reserve as NotReservable, OutOfMemory}
 use Rattle.scoop_client.specs.State.{ClientState, phase_of, block_of}
 use Rattle.scoop_client.specs.declared.command.Command.{Command}
 use Rattle.scoop_client.specs.declared.command.Command.TheVariants.{Query as DoQuery}

@@ -10,7 +10,8 @@ use Rattle.scoop_frame.specs.declared.header.Header.{Header}
 use Rattle.scoop_frame.specs.declared.kind.Kind.{Kind}
 use Rattle.scoop_frame.specs.declared.kind.Kind.TheVariants as k
 use Rattle.scoop_frame.specs.Version.{version_byte}
-use Rattle.scoop_frame.specs.Fault.{kind_at, version_at, inc_at, num_at, number_at, body_len_at, HasUnused, LacksNumber, IsFault, PassesBelow, IsFirstFault, rank}
+use Rattle.scoop_frame.specs.Fault.{kind_at, version_at, inc_at, num_at, number_at, body_len_at, HasUnused, LacksNumber, IsFault, PassesBelow, IsFirstFault}
+use Rattle.scoop_frame.specs.Fault.{rank}
 use Rattle.scoop_frame.specs.Frame.{header}
 use Rattle.scoop_frame.specs.Header.{IsHeader, IsSound, HasItsBody}
 use Rattle.scoop_frame.specs.Kind.{code}

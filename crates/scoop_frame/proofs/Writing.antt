@@ -1,6 +1,7 @@
 -- Writes to a buffer, one behind the other.
 use Rattle.std.proofs.Common.{◌≡◌, ℕ, ◌+◌, ◌-◌, ◌<◌, ◌≤◌, List, [], ◌∷◌, ◌++◌, length, take, drop, set, sym, ap, ◌∙◌, append_assoc, arith, add-one}
-use Rattle.std.proofs.lemmas.List.{length-take-le, length-append, length-drop, take_at, drop_at, drop-drop, take_rest, drop_all, append-nil, set_split, take-append-drop}
+use Rattle.std.proofs.lemmas.List.{length-take-le, length-append, length-drop, take_at, drop_at, drop-drop, take_rest, drop_all, append-nil, set_split}
+use Rattle.std.proofs.lemmas.List.{take-append-drop}
 use borrow.Rule.Slice.PartMut.{put_mid}
 use Rattle.scoop_frame.specs.Buffer.{written, overwritten}
 

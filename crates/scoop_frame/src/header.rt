@@ -88,7 +88,8 @@ pub fn header_of(version: Version, message: &Message) -> Header
 /// Writes a header to the front of a buffer.
 pub fn put_header(out: &mut [u8], fields: &Header, body_len: u16)
     requires { MIN_FRAME ≤ length out.old }
-    ensures { out.new ≡ overwritten 0 (header fields.now.version (code fields.now.kind) fields.now.handler fields.now.block fields.now.number body_len) out.old }
+    ensures { out.new ≡ overwritten 0
+        (header fields.now.version (code fields.now.kind) fields.now.handler fields.now.block fields.now.number body_len) out.old }
 {
     let start = [
         MAGIC[0],

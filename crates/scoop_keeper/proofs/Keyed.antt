@@ -1,6 +1,7 @@
 -- Lists whose items are found by a key. Code finds a place and writes there; the definitions look up by a key. As keys
 -- don't repeat, the first item that passes a test is the one with the key, and a write at its place is a replacement by key.
-use Rattle.std.proofs.Common.{◌≡◌, ℕ, zero, suc, ◌+◌, ◌<◌, Bool, true, false, ◌||◌, true≢false, List, [], ◌∷◌, map, find, length, drop, take, get_or, set, slice_get, Option, Some, None, Contains, refl, sym, ap, ◌∙◌, subst, arith}
+use Rattle.std.proofs.Common.{◌≡◌, ℕ, zero, suc, ◌+◌, ◌<◌, Bool, true, false, ◌||◌, true≢false, List, [], ◌∷◌, map, find, length, drop, take, get_or, set}
+use Rattle.std.proofs.Common.{slice_get, Option, Some, None, Contains, refl, sym, ap, ◌∙◌, subst, arith}
 use Rattle.std.specs.Prelude.{if◌then◌else◌}
 use Rattle.std.specs.Bool.{Decides}
 use Rattle.std.specs.List.{AllByRecursion, list_any}

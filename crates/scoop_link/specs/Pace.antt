@@ -1,5 +1,6 @@
 -- What a paced link passes on, and what it keeps of what it passed on and received.
-use Rattle.std.specs.Prelude.{ℕ, ◌+◌, ◌-◌, ◌^◌, min, nat_lt, nat_le, not, ◌&&◌, ◌||◌, Bool, true, false, List, [], ◌∷◌, ◌++◌, length, map, find, position, slice_set, bytes_eq, Option, Some, None, Result, Ok, Err, if◌then◌else◌}
+use Rattle.std.specs.Prelude.{ℕ, ◌+◌, ◌-◌, ◌^◌, min, nat_lt, nat_le, not, ◌&&◌, ◌||◌, Bool, true, false, List, [], ◌∷◌, ◌++◌, length, map, find, position}
+use Rattle.std.specs.Prelude.{slice_set, bytes_eq, Option, Some, None, Result, Ok, Err, if◌then◌else◌}
 use Rattle.scoop_link.specs.declared.party.Party.{Party}
 use Rattle.scoop_link.specs.declared.link.LinkFault.{LinkFault}
 use Rattle.scoop_link.specs.declared.pace.Last.{Last}

@@ -74,7 +74,8 @@ impl<L: Link, A: Allocator> Link for PacedLink<L, A> {
         ensures faults { CountsFault result (L.fault_count self.old.inner) (L.fault_count self.new.inner) }
 
         ensures held { IsFalse (passes self.old.pace to (kept bytes.now)) → (result ≡ Ok tt) × (self.new ≡ self.old) }
-        ensures asked { IsTrue (passes self.old.pace to (kept bytes.now)) → Exchanges (L.told self.old.inner) (L.told self.new.inner) [] (sent_by result to bytes.now) }
+        ensures asked { IsTrue (passes self.old.pace to (kept bytes.now))
+            → Exchanges (L.told self.old.inner) (L.told self.new.inner) [] (sent_by result to bytes.now) }
         ensures paced { IsTrue (passes self.old.pace to (kept bytes.now)) → self.new.pace ≡ after_send self.old.pace to (kept bytes.now) result }
     {
         let datagram = Datagram::of(bytes);

@@ -1,6 +1,7 @@
 //! A link that tells its datagrams.
 
-ghost use Rattle.std.specs.Prelude.{◌≡◌, ◌≤◌, ◌<◌, ◌-◌, ◌^◌, ◌↔◌, [], ◌∷◌, ◌++◌, length, Some, None, IfOk, OnOk, OnErr, IsErr, IsOkAnd, IfSome, MatchOption, slice_get};
+ghost use Rattle.std.specs.Prelude.{◌≡◌, ◌≤◌, ◌<◌, ◌-◌, ◌^◌, ◌↔◌, [], ◌∷◌, ◌++◌, length, Some, None, IfOk, OnOk, OnErr, IsErr, IsOkAnd, IfSome, MatchOption};
+ghost use Rattle.std.specs.Prelude.{slice_get};
 ghost use Rattle.scoop_link.specs.Datagram.{kept, TakesFirst};
 ghost use Rattle.scoop_link.specs.Link.{CountsFault, Exchanges, sent_by, taken_by};
 ghost use Rattle.scoop_link.specs.Tape.{empty_tape, told, after_send};

@@ -7,7 +7,8 @@ use Rattle.std.proofs.lemmas.Option.{same_Some}
 use Rattle.scoop_message.specs.declared.name.Block.{Block}
 use Rattle.scoop_message.specs.declared.request.Entry.{Entry}
 use Rattle.scoop_message.specs.Message.{same_block}
-use Rattle.scoop_queue.specs.Queue.{PrivateQueue, advance, at_block, cut, has_queue, is_queue_of, left_by_cut, left_by_first, new_queue, opened, pending, put_all, queue_of, with_entries}
+use Rattle.scoop_queue.specs.Queue.{PrivateQueue, advance, at_block, cut, has_queue, is_queue_of, left_by_cut, left_by_first, new_queue, opened, pending}
+use Rattle.scoop_queue.specs.Queue.{put_all, queue_of, with_entries}
 use Rattle.std.specs.List.{AllByRecursion}
 use Rattle.scoop_queue.specs.Sound.{AreApart, IsQueue}
 use Rattle.scoop_queue.proofs.Lookup.{absent-first, absent-rest, same_block-refl, same_block-true}

@@ -1,7 +1,8 @@
 -- What is true of the private queues at any time is kept by each change of them. A change of one queue leaves at most one in
 -- its place, of the same block (`Leaves`), so all stay apart and are no more, and only that one is to be looked at. A new
 -- queue goes last, where its block has none and there is room.
-use Rattle.std.proofs.Common.{◌≡◌, ℕ, ◌+◌, ◌-◌, ◌^◌, ◌<◌, ◌≤◌, Bool, true, false, ◌&&◌, ◌||◌, ◌==◌, nat_le, nat_lt, if◌then◌else◌, IsTrue, List, [], ◌∷◌, ◌++◌, length, Option, None, Some, refl, sym, ◌∙◌, subst, arith, true≢false, length-append}
+use Rattle.std.proofs.Common.{◌≡◌, ℕ, ◌+◌, ◌-◌, ◌^◌, ◌<◌, ◌≤◌, Bool, true, false, ◌&&◌, ◌||◌, ◌==◌, nat_le, nat_lt, if◌then◌else◌, IsTrue, List, [], ◌∷◌, ◌++◌}
+use Rattle.std.proofs.Common.{length, Option, None, Some, refl, sym, ◌∙◌, subst, arith, true≢false, length-append}
 use Rattle.std.specs.Bool.{⊤}
 use Rattle.std.specs.List.{AllByRecursion}
 use Rattle.std.proofs.lemmas.Bool.{leb-false, lt-leb, ltb-false}
@@ -16,7 +17,8 @@ use Rattle.scoop_queue.specs.declared.error.AppendError.TheVariants.{QueueFull, 
 use Rattle.scoop_queue.specs.declared.state.Head.{Head}
 use Rattle.scoop_queue.specs.declared.state.QueueState.{QueueState}
 use Rattle.scoop_queue.specs.declared.state.QueueState.TheVariants.{Open, Ended, Cut}
-use Rattle.scoop_queue.specs.Queue.{PrivateQueue, advance, at_block, cut, cut_open, goes_with, has_queue, head_of, is_cut, is_ended, is_open, is_queue_of, left_by_cut, left_by_first, new_queue, opened, put_all, queue_of, queue_with, with_entries}
+use Rattle.scoop_queue.specs.Queue.{PrivateQueue, advance, at_block, cut, cut_open, goes_with, has_queue, head_of, is_cut, is_ended, is_open, is_queue_of}
+use Rattle.scoop_queue.specs.Queue.{left_by_cut, left_by_first, new_queue, opened, put_all, queue_of, queue_with, with_entries}
 use Rattle.scoop_queue.specs.Refusal.{AppendRefused, HasNumbersFor, MayAppend, open_refusal, put_refusal, refusal_at}
 use Rattle.scoop_queue.specs.Sound.{AreApart, FitsNumbers, IsQueue, IsQueues, number_limit}
 use Rattle.scoop_queue.proofs.Ends.{EndOnlyLast-append, EndOnlyLast-tail, ends-append}

@@ -1,6 +1,7 @@
 -- What the map's calls do to the private queues that it keeps. Its keys are the blocks, in the order of the queues: the place
 -- of a block's key is that of its queue, and a write, an insertion or a removal there is that change of the list.
-use Rattle.std.proofs.Common.{◌≡◌, ℕ, zero, suc, ◌+◌, ◌<◌, ◌≤◌, Bool, true, false, cond, List, [], ◌∷◌, ◌++◌, length, remove, slice_get, get_or, Option, None, Some, position, MatchOption, is_some, nat_lt, refl, sym, ap, ◌∙◌, subst, arith, append_assoc}
+use Rattle.std.proofs.Common.{◌≡◌, ℕ, zero, suc, ◌+◌, ◌<◌, ◌≤◌, Bool, true, false, cond, List, [], ◌∷◌, ◌++◌, length, remove, slice_get, get_or, Option, None}
+use Rattle.std.proofs.Common.{Some, position, MatchOption, is_some, nat_lt, refl, sym, ap, ◌∙◌, subst, arith, append_assoc}
 use Rattle.std.specs.List.{position_or_len}
 use Rattle.std.specs.Option.{option_map_or}
 use Rattle.std.specs.Map.{keys_of, values_of}
@@ -13,7 +14,8 @@ use Rattle.scoop_message.specs.declared.request.Entry.{Entry}
 use Rattle.scoop_queue.specs.contracts.key.KeyPartialEq.TheImpl as on_key
 use Rattle.scoop_queue.specs.declared.key.Key.{Key}
 use Rattle.scoop_queue.specs.declared.pending.Pending.{Pending}
-use Rattle.scoop_queue.specs.Queue.{PrivateQueue, advance, at_block, first_of, front, has_open, has_queue, is_open, is_queue_of, left_by_first, pending, queue_of}
+use Rattle.scoop_queue.specs.Queue.{PrivateQueue, advance, at_block, first_of, front, has_open, has_queue, is_open, is_queue_of, left_by_first, pending}
+use Rattle.scoop_queue.specs.Queue.{queue_of}
 use Rattle.scoop_queue.specs.Refusal.{put_refusal, refusal_at}
 use Rattle.scoop_queue.specs.Kept.{block_of, queue_at, queue_kept, queues_kept, IsPlaceOf}
 use Rattle.scoop_queue.specs.Sound.{IsQueue, IsQueues}

@@ -62,7 +62,8 @@ fn is_only_change<A: Allocator>(left: &Table<A>, right: &Table<A>, place: usize)
 // Whether two tables keep a private queue of one block at this place.
 fn same_block_at<A: Allocator>(left: &Table<A>, right: &Table<A>, place: usize) -> bool
     ensures there { IsTrue result → place < length (queues_kept left.now.entries) }
-    ensures same { (q r : PrivateQueue) → IsTrue result → slice_get (queues_kept left.now.entries) place ≡ Some q → slice_get (queues_kept right.now.entries) place ≡ Some r → q.block ≡ r.block }
+    ensures same { (q r : PrivateQueue) → IsTrue result → slice_get (queues_kept left.now.entries) place ≡ Some q
+        → slice_get (queues_kept right.now.entries) place ≡ Some r → q.block ≡ r.block }
 {
     match (left.get_index(place), right.get_index(place)) {
         (Some((key, _)), Some((other, _))) => *key == *other,
@@ -72,7 +73,8 @@ fn same_block_at<A: Allocator>(left: &Table<A>, right: &Table<A>, place: usize) 
 
 // Whether two tables keep the same at each place of the first one but this.
 fn same_elsewhere<A: Allocator>(left: &Table<A>, right: &Table<A>, place: usize) -> bool
-    ensures { (j : ℕ) → IsTrue result → j < length (queues_kept left.now.entries) → (j ≡ place → ⊥) → slice_get (queues_kept left.now.entries) j ≡ slice_get (queues_kept right.now.entries) j }
+    ensures { (j : ℕ) → IsTrue result → j < length (queues_kept left.now.entries) → (j ≡ place → ⊥)
+        → slice_get (queues_kept left.now.entries) j ≡ slice_get (queues_kept right.now.entries) j }
 {
     for i in 0..len(left) {
         if i != place && !same_at(left, right, i) {

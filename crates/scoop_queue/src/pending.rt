@@ -96,7 +96,8 @@ impl<A: Allocator> Pending<A> {
 
     /// Whether first number, entries and state are the same.
     pub(crate) fn same(&self, other: &Pending<A>) -> bool
-        ensures { IsTrue result ↔ ((self.now.first ≡ other.now.first) × (self.now.entries.items ≡ other.now.entries.items) × (self.now.state ≡ other.now.state)) }
+        ensures { IsTrue result ↔ ((self.now.first ≡ other.now.first) × (self.now.entries.items ≡ other.now.entries.items)
+            × (self.now.state ≡ other.now.state)) }
     {
         if self.first != other.first {
             return false;

@@ -1,6 +1,7 @@
 //! The private queues as they are kept: a map from their blocks, in their order.
 
-ghost use Rattle.std.specs.Prelude.{◌≡◌, ◌<◌, ◌↔◌, ◌++◌, [], ◌∷◌, None, IsTrue, slice_get, false, length, remove, unwrap_or, MatchOption, IfErr, IfOk, IfSome, OnOk, OnErr};
+ghost use Rattle.std.specs.Prelude.{◌≡◌, ◌<◌, ◌↔◌, ◌++◌, [], ◌∷◌, None, IsTrue, slice_get, false, length, remove, unwrap_or, MatchOption, IfErr, IfOk, IfSome};
+ghost use Rattle.std.specs.Prelude.{OnOk, OnErr};
 ghost use Rattle.indexmap.specs.IndexMap.{index_map_len};
 ghost use Rattle.scoop_queue.specs.Kept.{queue_at, queues_kept, IsPlaceOf};
 ghost use Rattle.scoop_queue.specs.Queue.{advance, cut, entry_at, front, has_open, has_queue, head_at, opened, pending, put_all, queue_with};

@@ -116,7 +116,8 @@ fn a_long_datagram_is_cut(rt: HostRuntime) {
 // number of calls that a test can make leads: where that last put is dropped, so is each one behind it.
 fn puts_three(lane: &mut Lane)
     ensures count { lane.old.puts ≡ 2 ^ 64 - 3 → lane.new.puts ≡ 2 ^ 64 - 1 }
-    ensures dropped { lane.old.puts ≡ 2 ^ 64 - 3 → lane.old.script.drop_every ≡ 2 ^ 64 - 1 → lane.old.script.double_every ≡ 0 → lane.new.datagrams ≡ take lane.old.room (lane.old.datagrams ++ (1 ∷ []) ∷ []) }
+    ensures dropped { lane.old.puts ≡ 2 ^ 64 - 3 → lane.old.script.drop_every ≡ 2 ^ 64 - 1 → lane.old.script.double_every ≡ 0
+        → lane.new.datagrams ≡ take lane.old.room (lane.old.datagrams ++ (1 ∷ []) ∷ []) }
 {
     lane.put(&[1]);
     lane.put(&[2]);

@@ -1,6 +1,7 @@
 use Rattle.std.proofs.Common.{◌∙◌, sym, true, false, []}
 use Rattle.scoop_driver.specs.Waiting.{wish}
-use Rattle.scoop_driver.proofs.Waits.{tested, rest_none, rest_of_body, block_done, block_broke_ending, block_broke_body, block_broke_reserving, block_broke_asking}
+use Rattle.scoop_driver.proofs.Waits.{tested, rest_none, rest_of_body, block_done, block_broke_ending, block_broke_body, block_broke_reserving}
+use Rattle.scoop_driver.proofs.Waits.{block_broke_asking}
 use Rattle.scoop_driver.proofs.driver.Driver.attempt.Goals as goal
 
 pub returns-in-Err-clause-does : goal.returns-in-Err-clause-does

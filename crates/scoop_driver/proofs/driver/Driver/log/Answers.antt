@@ -1,6 +1,7 @@
 use Rattle.std.proofs.Common.{◌≡◌, ◌-◌, ◌∙◌, ap, subst, arith, [], ◌∷◌}
 use Rattle.scoop_driver.specs.State.{DriverState}
-use Rattle.scoop_driver.proofs.Calling.{Turning, turning_more, turning_same, turning_stops, turning_over, logged_after, refused_same, offered_true, offered_false}
+use Rattle.scoop_driver.proofs.Calling.{Turning, turning_more, turning_same, turning_stops, turning_over, logged_after, refused_same, offered_true}
+use Rattle.scoop_driver.proofs.Calling.{offered_false}
 use Rattle.scoop_driver.proofs.driver.Driver.log.Goals as goal
 
 pub loop-taken-preserved : goal.loop-taken-preserved
