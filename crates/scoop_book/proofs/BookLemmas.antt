@@ -1,7 +1,8 @@
 -- What is so of the handlers of a book after a move, and of a book after one more entry. The code writes the handler that it
 -- found at its place, and puts its state with the keeper: that is the move of the event's handler, after which the keeper has
 -- the new state, and of all others what it had. A refusal leaves the handlers as they were, and tells what stood in the way.
-use Rattle.std.proofs.Common.{◌≡◌, ◌⊎◌, ⊎_elim, ◌||◌, ℕ, zero, suc, ◌+◌, ◌<◌, ◌≤◌, Bool, true, false, true≢false, List, [], ◌∷◌, ◌++◌, map, length, set, get_or, slice_get, Option, Some, None, Result, Ok, Err, refl, sym, ap, ◌∙◌, subst, arith, length-append}
+use Rattle.std.proofs.Common.{◌≡◌, ◌⊎◌, ⊎_elim, ◌||◌, ℕ, zero, suc, ◌+◌, ◌<◌, ◌≤◌, Bool, true, false, true≢false, List, [], ◌∷◌, ◌++◌, map, length, set, get_or}
+use Rattle.std.proofs.Common.{slice_get, Option, Some, None, Result, Ok, Err, refl, sym, ap, ◌∙◌, subst, arith, length-append}
 use Rattle.std.specs.Prelude.{◌≢◌, ◌↔◌, ⊤, IfSome, IfOk, IfErr, OnOk, OnErr}
 use Rattle.std.specs.List.{AllByRecursion}
 use Rattle.scoop_message.specs.declared.name.HandlerId.{HandlerId}
@@ -26,14 +27,16 @@ use Rattle.scoop_book.specs.declared.event.Reply.TheVariants.{Heard, Began, Fini
 use Rattle.scoop_message.specs.Lists.{NoRepeats}
 use Rattle.scoop_keeper.specs.Keyed.{IsFirst}
 use Rattle.scoop_keeper.proofs.Keyed.{all_newer, all_set_at, item_at, key_at, put_again, set_newer, some_at}
-use Rattle.scoop_book.specs.Moves.{LocalHandler, Entry, number_in, is_handler, handler_in, with_handler, handler_at, after_hearing, after_finish, HandlerMoves, Moves, Replays}
+use Rattle.scoop_book.specs.Moves.{LocalHandler, Entry, number_in, is_handler, handler_in, with_handler, handler_at, after_hearing, after_finish, HandlerMoves}
+use Rattle.scoop_book.specs.Moves.{Moves, Replays}
 use Rattle.scoop_keeper.specs.declared.running.JobRefusal.{JobRefusal}
 use Rattle.scoop_keeper.specs.declared.running.JobRefusal.TheVariants as jobs
 use Rattle.scoop_book.specs.declared.error.BookError.{BookError}
 use Rattle.scoop_book.specs.declared.error.BookError.TheVariants.{NodeFailed, HistoryFull, UnknownHandler, StoreRefused, OutOfMemory}
 use Rattle.scoop_book.specs.declared.error.FinishRefusal.{FinishRefusal}
 use Rattle.scoop_book.specs.declared.error.FinishRefusal.TheVariants as unfinished
-use Rattle.scoop_book.specs.Books.{BookValue, IsBook, HasStored, KeepsNew, Gains, MayHappen, IsRefused, IsStranger, MayFinish, IsUnfinished, HasNoPlace, fails_to_finish, no_place_to_finish, refusal_of}
+use Rattle.scoop_book.specs.Books.{BookValue, IsBook, HasStored, KeepsNew, Gains, MayHappen, IsRefused, IsStranger, MayFinish, IsUnfinished, HasNoPlace}
+use Rattle.scoop_book.specs.Books.{fails_to_finish, no_place_to_finish, refusal_of}
 use Rattle.scoop_book.specs.Kept.{IsHeld, HandlersValue, handlers_kept, book_kept}
 use Rattle.scoop_book.proofs.Places.{own_found}
 

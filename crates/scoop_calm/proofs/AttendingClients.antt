@@ -1,7 +1,8 @@
 -- What a client hears, and what it commands, keeps that it attends to its block: where it had asked it is at work still, or
 -- the handler is done with the block (`Follows`). It leaves a block only once it was given up and its locks are back, or once
 -- its windows are all over, and `Around` has that handlers are done with such a block.
-use Rattle.std.proofs.Common.{◌≡◌, ◌⊎◌, inl, inr, ℕ, ◌-◌, ◌<◌, ◌≤◌, ◌&&◌, true, false, true≢false, nat_le, List, map, Option, Some, None, refl, sym, ap, ◌∙◌, subst, ⊎_elim, arith}
+use Rattle.std.proofs.Common.{◌≡◌, ◌⊎◌, inl, inr, ℕ, ◌-◌, ◌<◌, ◌≤◌, ◌&&◌, true, false, true≢false, nat_le, List, map, Option, Some, None, refl, sym, ap, ◌∙◌}
+use Rattle.std.proofs.Common.{subst, ⊎_elim, arith}
 use Rattle.std.proofs.lemmas.Option.{same_Some}
 use Rattle.std.specs.Prelude.{if◌then◌else◌}
 use Rattle.std.proofs.lemmas.Bool.Decides.{nat_tests}
@@ -20,7 +21,8 @@ use Rattle.scoop_reserve.specs.Handlers.{has, without, is_empty, is_lowest}
 use Rattle.scoop_reserve.specs.State.{ReservationState, at_stage}
 use Rattle.scoop_reserve.specs.Hearing.{is_gone}
 use Rattle.scoop_reserve.specs.Hearing as reservation
-use Rattle.scoop_reserve.proofs.Rows.{HeardRow as StepRow, passed_over as steps_over, one_is_locked, all_are_locked, is_busy, one_is_opened, all_are_opened, is_unlocked, is_given_back, heard_row as step_row}
+use Rattle.scoop_reserve.proofs.Rows.{HeardRow as StepRow, passed_over as steps_over, one_is_locked, all_are_locked, is_busy, one_is_opened, all_are_opened}
+use Rattle.scoop_reserve.proofs.Rows.{is_unlocked, is_given_back, heard_row as step_row}
 use Rattle.scoop_client.specs.declared.phase.ClientNote.{ClientNote}
 use Rattle.scoop_client.specs.Window.{WindowState, with_entry, with_end, acknowledged, window_of, at_window, all_over}
 use Rattle.scoop_client.specs.State.{ClientState, with_windows, with_reservation, idle}

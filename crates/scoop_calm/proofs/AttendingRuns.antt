@@ -1,7 +1,8 @@
 -- Whatever happens, clients attend to their blocks. A client that hears or takes a command keeps it (`AttendingClients`), by
 -- what the other layers tell of the world around it; a Lock that it sends is of a block that it is at; and where a handler
 -- goes on, what it is done with it stays done with.
-use Rattle.std.proofs.Common.{◌≡◌, ◌⊎◌, inl, inr, ℕ, ◌+◌, ◌<◌, ◌≤◌, Bool, true, false, List, [], ◌∷◌, length, map, find, Option, Some, None, refl, sym, ap, ◌∙◌, subst, ⊎_elim, arith}
+use Rattle.std.proofs.Common.{◌≡◌, ◌⊎◌, inl, inr, ℕ, ◌+◌, ◌<◌, ◌≤◌, Bool, true, false, List, [], ◌∷◌, length, map, find, Option, Some, None, refl, sym, ap, ◌∙◌}
+use Rattle.std.proofs.Common.{subst, ⊎_elim, arith}
 use Rattle.std.specs.Prelude.{if◌then◌else◌, option_to_list}
 use Rattle.std.specs.List.{AllByRecursion}
 use Rattle.std.specs.Option.{option_map_or}
@@ -28,8 +29,10 @@ use Rattle.scoop_client.specs.Hearing.{heard}
 use Rattle.scoop_client.specs.Rows.{DueRow, owes_nothing, greets, reserves, logs}
 use Rattle.scoop_client.proofs.DueRows.{due_row}
 use Rattle.scoop_client.proofs.Rows.{heard_row}
-use Rattle.scoop_model.specs.World.{World, Site, Party, BlockLog, number_of, id_of, is_site, is_party, site_of, party_of, set_site, set_party, sent_at, greatest_count, ran_at}
-use Rattle.scoop_model.specs.Step.{Placement, Newcomer, opening, newest_block, commanded_world, with_sent, heard_site, heard_world, heard_party, with_site, begun_site, finished_site, restarted_party, reopened_world}
+use Rattle.scoop_model.specs.World.{World, Site, Party, BlockLog, number_of, id_of, is_site, is_party, site_of, party_of, set_site, set_party, sent_at}
+use Rattle.scoop_model.specs.World.{greatest_count, ran_at}
+use Rattle.scoop_model.specs.Step.{Placement, Newcomer, opening, newest_block, commanded_world, with_sent, heard_site, heard_world, heard_party, with_site}
+use Rattle.scoop_model.specs.Step.{begun_site, finished_site, restarted_party, reopened_world}
 use Rattle.scoop_model.specs.Safe.{HasRun, numbered, untold}
 use Rattle.scoop_model.specs.World.{inc_of}
 use Rattle.scoop_model.proofs.Events.{Changes}
@@ -60,7 +63,8 @@ use Rattle.scoop_calm.proofs.Reserving.{Reserves}
 use Rattle.scoop_calm.proofs.Clients.{ClientFits, PartyFitsWell, AllFit}
 use Rattle.scoop_calm.proofs.MarkedRuns.{Marked}
 use Rattle.scoop_calm.proofs.Leaving.{IsReleasedIn, IsOverIn, over-row, released-row, over-after, released-after}
-use Rattle.scoop_calm.proofs.Attending.{at_set, at_anew, IsOver, IsReleased, AskedAt, Goes, Attended, Attends, PartyAttends, Attending, Onto, attends_more, messages_more, client_more, counts_more, told_count, work_set, parties_set}
+use Rattle.scoop_calm.proofs.Attending.{at_set, at_anew, IsOver, IsReleased, AskedAt, Goes, Attended, Attends, PartyAttends, Attending, Onto, attends_more}
+use Rattle.scoop_calm.proofs.Attending.{messages_more, client_more, counts_more, told_count, work_set, parties_set}
 use Rattle.scoop_calm.proofs.AttendingClients.{Around, heard_follows}
 use Rattle.scoop_calm.proofs.AttendingCommands.{command_follows}
 use Rattle.scoop_calm.proofs.AttendingFacts.{over_given, over_ended, TellsReleased, IsLogTo, released-reply}

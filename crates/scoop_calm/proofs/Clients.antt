@@ -1,7 +1,8 @@
 -- What is so of every client: whom it greets, how its reservation stands, and what its windows have left. It has a block only
 -- once all have welcomed it, and waits for an answer only in a block. Each row of what it hears keeps that, and each command
 -- that it takes; nothing else changes a client but its restart, which begins it anew.
-use Rattle.std.proofs.Common.{◌≡◌, ℕ, ◌+◌, ◌<◌, ◌≤◌, ◌==◌, true, false, true≢false, List, [], ◌∷◌, length, map, Option, Some, None, refl, sym, ◌∙◌, subst, arith}
+use Rattle.std.proofs.Common.{◌≡◌, ℕ, ◌+◌, ◌<◌, ◌≤◌, ◌==◌, true, false, true≢false, List, [], ◌∷◌, length, map, Option, Some, None, refl, sym, ◌∙◌, subst}
+use Rattle.std.proofs.Common.{arith}
 use Rattle.std.proofs.lemmas.Option.{same_Some}
 use Rattle.std.specs.Prelude.{if◌then◌else◌, Ok}
 use Rattle.std.specs.List.{AllByRecursion}
@@ -27,7 +28,8 @@ use Rattle.scoop_client.specs.Hearing.{heard, stepped, after_step, up_to}
 use Rattle.scoop_client.specs.declared.command.Command.{Command}
 use Rattle.scoop_client.specs.declared.command.Command.TheVariants.{Reserve, Call as DoCall, Query as DoQuery, End as DoEnd, GiveUp}
 use Rattle.scoop_client.specs.Commands.{Outcome, command, next_block, with_block, waits_for}
-use Rattle.scoop_client.specs.Rows.{HeardRow, passed_over, is_welcomed, takes_step, is_acknowledged, is_accepted, ReserveRow, begins_block, LogRow, is_logged, EndRow, ends_block, GiveUpRow, gives_up}
+use Rattle.scoop_client.specs.Rows.{HeardRow, passed_over, is_welcomed, takes_step, is_acknowledged, is_accepted, ReserveRow, begins_block, LogRow, is_logged}
+use Rattle.scoop_client.specs.Rows.{EndRow, ends_block, GiveUpRow, gives_up}
 use Rattle.scoop_client.proofs.Rows.{heard_row}
 use Rattle.scoop_client.proofs.CommandRows.{command_row}
 use Rattle.scoop_model.specs.World.{World, Party, is_party, set_party}

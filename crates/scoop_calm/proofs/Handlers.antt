@@ -1,7 +1,8 @@
 -- Lists of handlers: which is the lowest, and what goes out of a list. A client asks for its locks one after another, the lowest
 -- handler that is left first. So a list with an item has a lowest one, and is shorter without it; what was asked is among the
 -- block's handlers; and where a block could be reserved, its handlers are known and named once each.
-use Rattle.std.proofs.Common.{◌≡◌, ◌<◌, ◌≤◌, ◌&&◌, ◌||◌, not, Bool, true, false, true≢false, nat_le, List, [], ◌∷◌, ◌++◌, length, filter, Some, None, refl, sym, ap, ◌∙◌, subst, arith}
+use Rattle.std.proofs.Common.{◌≡◌, ◌<◌, ◌≤◌, ◌&&◌, ◌||◌, not, Bool, true, false, true≢false, nat_le, List, [], ◌∷◌, ◌++◌, length, filter, Some, None, refl, sym}
+use Rattle.std.proofs.Common.{ap, ◌∙◌, subst, arith}
 use Rattle.std.proofs.lemmas.Bool.{and_from, and_parts, or_right}
 use Rattle.std.specs.Prelude.{⊤, if◌then◌else◌}
 use Rattle.std.specs.List.{list_all}

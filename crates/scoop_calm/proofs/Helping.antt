@@ -1,7 +1,8 @@
 -- What may be next in a world that is reached leaves less to do there. By the kind of the choice: a job that is out or can go
 -- out, a client that asks, a client that ends its block. A client that asks sends what is due (a greeting, its reservation's
 -- message, a Log), and the test of the choice is what the useful move of that message needs.
-use Rattle.std.proofs.Common.{◌≡◌, ◌<◌, ◌==◌, ◌&&◌, ◌||◌, Bool, true, false, true≢false, List, [], ◌∷◌, length, map, Option, Some, None, refl, sym, ap, ◌∙◌, subst, ⊎_elim, arith, not}
+use Rattle.std.proofs.Common.{◌≡◌, ◌<◌, ◌==◌, ◌&&◌, ◌||◌, Bool, true, false, true≢false, List, [], ◌∷◌, length, map, Option, Some, None, refl, sym, ap, ◌∙◌}
+use Rattle.std.proofs.Common.{subst, ⊎_elim, arith, not}
 use Rattle.std.proofs.lemmas.Option.{same_Some}
 use Rattle.std.specs.Prelude.{if◌then◌else◌, is_none, is_some}
 use Rattle.std.specs.Option.{option_map, option_map_or}

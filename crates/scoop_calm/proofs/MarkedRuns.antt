@@ -1,7 +1,8 @@
 -- Whatever happens, handlers' marks are as they should be. Blocks that were reserved, logs, and what was sent only grow
 -- (`Further`), and what is so of a mark stays so beside more of them. A mark that a handler makes of a message is borne out
 -- by what that message tells; and incarnations begin at 1, as their greetings do.
-use Rattle.std.proofs.Common.{◌≡◌, ℕ, ◌≤◌, ◌==◌, false, true≢false, IsFalse, List, [], ◌∷◌, ◌++◌, map, Option, Some, None, refl, sym, ◌∙◌, subst, ⊎_elim, arith, append-nil}
+use Rattle.std.proofs.Common.{◌≡◌, ℕ, ◌≤◌, ◌==◌, false, true≢false, IsFalse, List, [], ◌∷◌, ◌++◌, map, Option, Some, None, refl, sym, ◌∙◌, subst, ⊎_elim, arith}
+use Rattle.std.proofs.Common.{append-nil}
 use Rattle.std.specs.Prelude.{if◌then◌else◌, option_to_list}
 use Rattle.std.specs.List.{AllByRecursion}
 use Rattle.scoop_message.specs.declared.name.Block.{Block}
@@ -25,7 +26,8 @@ use Rattle.scoop_client.specs.Rows.{DueRow, owes_nothing, greets, reserves, logs
 use Rattle.scoop_client.proofs.DueRows.{due_row}
 use Rattle.scoop_client.proofs.Rows.{heard_row}
 use Rattle.scoop_model.specs.World.{World, Site, Party, number_of, is_site, is_party, site_of, set_site, set_party, sent_at, handlers_of}
-use Rattle.scoop_model.specs.Step.{Placement, Newcomer, new_site, new_party, opening, newest_block, commanded_world, with_sent, heard_site, heard_world, heard_party, with_site, with_party, begun_site, finished_site, restarted_party, reopened, reopened_world}
+use Rattle.scoop_model.specs.Step.{Placement, Newcomer, new_site, new_party, opening, newest_block, commanded_world, with_sent, heard_site, heard_world}
+use Rattle.scoop_model.specs.Step.{heard_party, with_site, with_party, begun_site, finished_site, restarted_party, reopened, reopened_world}
 use Rattle.scoop_model.proofs.Basics.{by_test}
 use Rattle.scoop_model.proofs.Events.{Changes}
 use Rattle.scoop_model.proofs.Sound.Owed.{OwedRow, asks, opens, unlocks, gives_back, owed_row}

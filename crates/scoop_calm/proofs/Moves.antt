@@ -22,7 +22,9 @@ use Rattle.scoop_client.specs.declared.command.Command.TheVariants.{End}
 use Rattle.scoop_model.specs.declared.event.Event.TheVariants.{Do, Tick, Take, Begin, Finish}
 use Rattle.scoop_model.specs.declared.note.WorldNote.TheVariants as note
 use Rattle.scoop_model.specs.World.{World, Site, Party, number_of, id_of, site_of, party_of, sent_at}
-use Rattle.scoop_model.specs.Step.{step, do_at, commanded, commanded_world, with_sent, sends, tick_at, heard_world, at_handler, taken, taken_by_handler, taken_by_client, heard_party, at_client, with_site, with_party, begun_site, begins, begin_at, finished_site, finishes, finish_at}
+use Rattle.scoop_model.specs.Step.{step, do_at, commanded, commanded_world, with_sent, sends, tick_at, heard_world, at_handler, taken, taken_by_handler}
+use Rattle.scoop_model.specs.Step.{taken_by_client, heard_party, at_client, with_site, with_party, begun_site, begins, begin_at, finished_site, finishes}
+use Rattle.scoop_model.specs.Step.{finish_at}
 use Rattle.scoop_model.specs.Reach.{IsReached}
 use Rattle.scoop_model.proofs.Reaching.{reached_more}
 use Rattle.scoop_calm.specs.Settling as settling

@@ -1,6 +1,7 @@
 -- The events that are next, again and again, lead from every reached world to a calm one. What is next leaves less to do, and
 -- that ends. Where nothing is next no useful move is left, so the world is calm; and in a calm world nothing is next.
-use Rattle.std.proofs.Common.{◌≡◌, inl, inr, ℕ, zero, suc, ◌<◌, ◌≤◌, Bool, true, false, ◌&&◌, ◌||◌, nat_lt, List, [], ◌∷◌, ◌++◌, length, Option, Some, None, refl, sym, ap, ◌∙◌, subst, ⊎_elim, arith}
+use Rattle.std.proofs.Common.{◌≡◌, inl, inr, ℕ, zero, suc, ◌<◌, ◌≤◌, Bool, true, false, ◌&&◌, ◌||◌, nat_lt, List, [], ◌∷◌, ◌++◌, length, Option, Some, None}
+use Rattle.std.proofs.Common.{refl, sym, ap, ◌∙◌, subst, ⊎_elim, arith}
 use Rattle.std.proofs.lemmas.Bool.{and_from, or_right}
 use Rattle.std.specs.Prelude.{◌↔◌, if◌then◌else◌, is_some, nat_le, Ok}
 use Rattle.std.specs.Option.{option_map, option_map_or, option_or}
@@ -27,7 +28,8 @@ use Rattle.scoop_model.proofs.Order.Clients.{none_in_empty}
 use Rattle.scoop_calm.specs.declared.next.Next.{Next}
 use Rattle.scoop_calm.specs.declared.next.Next.TheVariants as next
 use Rattle.scoop_calm.specs.Left.{clients_left, room_left, work_left, has_less}
-use Rattle.scoop_calm.specs.Next.{events_of, can_do, asks_well, is_out, can_begin, can_end, next_finish, next_begin, ask_of, next_ask, next_end, next_of, next_events, settling}
+use Rattle.scoop_calm.specs.Next.{events_of, can_do, asks_well, is_out, can_begin, can_end, next_finish, next_begin, ask_of, next_ask, next_end, next_of}
+use Rattle.scoop_calm.specs.Next.{next_events, settling}
 use Rattle.scoop_calm.specs.Settling.{Settles, stays, IsIdle, IsFree, Calm}
 use Rattle.scoop_calm.proofs.Totals.{Member, all_member}
 use Rattle.scoop_calm.proofs.Measures.{Less, for_clients, for_room, for_work}

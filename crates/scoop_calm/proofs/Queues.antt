@@ -2,7 +2,8 @@
 -- of the common list. As nothing can run, its queue is empty and takes more wherever it stands, since no other stands before it;
 -- nor does another fill the room where it still has to open. So its client is at this block, and has a move that helps at every
 -- stage. Where there are no queues at all, the same is so of each block that is past locking.
-use Rattle.std.proofs.Common.{◌≡◌, ◌⊎◌, inl, inr, ◌==◌, ◌&&◌, not, Bool, true, false, true≢false, List, [], ◌∷◌, length, map, Option, Some, None, refl, sym, ap, ◌∙◌, subst, ⊎_elim}
+use Rattle.std.proofs.Common.{◌≡◌, ◌⊎◌, inl, inr, ◌==◌, ◌&&◌, not, Bool, true, false, true≢false, List, [], ◌∷◌, length, map, Option, Some, None, refl, sym, ap}
+use Rattle.std.proofs.Common.{◌∙◌, subst, ⊎_elim}
 use Rattle.std.specs.List.{list_any, AllByRecursion}
 use Rattle.std.proofs.lemmas.Bool.{or_right}
 use Rattle.scoop_message.specs.declared.limits.TheConstants.{MAX_QUEUES}

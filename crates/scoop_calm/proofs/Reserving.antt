@@ -1,6 +1,7 @@
 -- What is so of a reservation at all times: its locks were got in ascending order, and it has something left to do
 -- until it is opened at all.
-use Rattle.std.proofs.Common.{◌≡◌, ◌<◌, ◌≤◌, ◌==◌, ◌||◌, not, true, false, true≢false, nat_lt, List, ◌∷◌, length, Option, Some, None, refl, sym, ◌∙◌, subst, arith}
+use Rattle.std.proofs.Common.{◌≡◌, ◌<◌, ◌≤◌, ◌==◌, ◌||◌, not, true, false, true≢false, nat_lt, List, ◌∷◌, length, Option, Some, None, refl, sym, ◌∙◌, subst}
+use Rattle.std.proofs.Common.{arith}
 use Rattle.std.specs.Prelude.{if◌then◌else◌, Ok, Err}
 use Rattle.std.proofs.lemmas.Bool.Decides.{nat_tests}
 use Rattle.scoop_message.specs.declared.limits.TheConstants.{MAX_BLOCK_HANDLERS}
@@ -20,7 +21,8 @@ use Rattle.scoop_reserve.proofs.Rows.{HeardRow, passed_over, one_is_locked, all_
 use Rattle.scoop_model.proofs.Basics.{by_test}
 use Rattle.scoop_model.proofs.Order.Clients.{has_without, is_gone_one}
 use Rattle.scoop_model.proofs.Logging.OpeningClients.{has_filtered}
-use Rattle.scoop_calm.proofs.Handlers.{Filled, none, some, filled, some_in, gone_without, lowest_has, lowest_below, lowest_of, in_asked, all_known, NoTwice, none_repeated}
+use Rattle.scoop_calm.proofs.Handlers.{Filled, none, some, filled, some_in, gone_without, lowest_has, lowest_below, lowest_of, in_asked, all_known, NoTwice}
+use Rattle.scoop_calm.proofs.Handlers.{none_repeated}
 
 -- locks are got, or blocks opened
 pub data IsSettingOut : Stage → Type 0 where

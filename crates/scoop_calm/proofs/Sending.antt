@@ -1,5 +1,6 @@
 -- A client sends entries of a block that is opened at all, to a handler where nothing of it is pending.
-use Rattle.std.proofs.Common.{◌≡◌, ℕ, ◌+◌, ◌-◌, ◌^◌, ◌<◌, ◌≤◌, ◌==◌, ◌&&◌, ◌||◌, not, Bool, true, false, nat_le, nat_lt, List, [], ◌∷◌, length, Option, Some, None, refl, ap, ◌∙◌, arith, length-drop}
+use Rattle.std.proofs.Common.{◌≡◌, ℕ, ◌+◌, ◌-◌, ◌^◌, ◌<◌, ◌≤◌, ◌==◌, ◌&&◌, ◌||◌, not, Bool, true, false, nat_le, nat_lt, List, [], ◌∷◌, length, Option, Some}
+use Rattle.std.proofs.Common.{None, refl, ap, ◌∙◌, arith, length-drop}
 use Rattle.std.specs.Prelude.{if◌then◌else◌}
 use Rattle.std.proofs.lemmas.Bool.Decides.{nat_tests}
 use Rattle.std.proofs.Math.Bool.{and-false}
@@ -17,7 +18,8 @@ use Rattle.scoop_handler.specs.declared.note.Note.TheVariants.{Took, Known}
 use Rattle.scoop_handler.specs.declared.note.Reason.TheVariants.{NotOpen, Gap, PendingFull}
 use Rattle.scoop_handler.specs.Marks.{is_open, mark_of, set_mark}
 use Rattle.scoop_handler.specs.State.{HandlerState, IsAscending}
-use Rattle.scoop_handler.specs.Hearing.{is_new, hear_of, if_here, hear_log, dropped, took, with_entries, received_before, kept_answer, new_entries, is_closed, has_no_room}
+use Rattle.scoop_handler.specs.Hearing.{is_new, hear_of, if_here, hear_log, dropped, took, with_entries, received_before, kept_answer, new_entries, is_closed}
+use Rattle.scoop_handler.specs.Hearing.{has_no_room}
 use Rattle.scoop_calm.specs.Left.{mark_room, total}
 use Rattle.scoop_handler.proofs.MarkPlaces.{tail-ascending}
 use Rattle.scoop_calm.proofs.Totals.{Distinct, total_newer}

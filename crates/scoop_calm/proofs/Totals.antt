@@ -1,5 +1,6 @@
 -- Sums over lists, and what one item in the place of that with its key makes of them.
-use Rattle.std.proofs.Common.{length, ◌≡◌, ◌⊎◌, inl, inr, ℕ, zero, suc, ◌+◌, ◌≤◌, Bool, List, [], ◌∷◌, map, find, slice_get, Option, Some, None, refl, sym, ap, ◌∙◌, subst, ⊎_elim, arith}
+use Rattle.std.proofs.Common.{length, ◌≡◌, ◌⊎◌, inl, inr, ℕ, zero, suc, ◌+◌, ◌≤◌, Bool, List, [], ◌∷◌, map, find, slice_get, Option, Some, None, refl, sym, ap}
+use Rattle.std.proofs.Common.{◌∙◌, subst, ⊎_elim, arith}
 use Rattle.std.specs.Prelude.{⊤, if◌then◌else◌}
 use Rattle.std.specs.Bool.{Decides}
 use Rattle.std.specs.List.{AllByRecursion}

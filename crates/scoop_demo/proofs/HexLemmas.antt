@@ -1,5 +1,6 @@
 -- The bytes of hex digits.
-use Rattle.std.proofs.Common.{◌≡◌, ℕ, ◌+◌, ◌*◌, ◌%◌, ◌<◌, ◌≤◌, ◌==◌, inl, inr, not, bit_or, Bool, true, false, List, [], ◌∷◌, length, filter, Option, Some, None, unwrap_or, Ok, Err, IsErr, is_err, ◌∙◌, sym, ap, arith, refl}
+use Rattle.std.proofs.Common.{◌≡◌, ℕ, ◌+◌, ◌*◌, ◌%◌, ◌<◌, ◌≤◌, ◌==◌, inl, inr, not, bit_or, Bool, true, false, List, [], ◌∷◌, length, filter, Option, Some}
+use Rattle.std.proofs.Common.{None, unwrap_or, Ok, Err, IsErr, is_err, ◌∙◌, sym, ap, arith, refl}
 use Rattle.std.specs.List.Retain.{RetainsInTurn}
 use Rattle.std.specs.List.{list_all}
 use Rattle.std.proofs.lemmas.Bool.{and_parts, cases_eq, cases_lt}

@@ -2,7 +2,8 @@
 -- one line together. Its loop's invariant: what it has so far has no newline, and is what the input has lost. A piece with a
 -- newline ends the line, and then the first line of the input was taken, and no other byte; the end of the input ends the last
 -- line, unless that is empty; and a line that has grown too long is so in the input too.
-use Rattle.std.proofs.Common.{◌≡◌, ℕ, zero, suc, ◌+◌, ◌<◌, ◌≤◌, List, [], ◌∷◌, ◌++◌, length, take, slice_index, refl, sym, ◌∙◌, ap, arith, Option, Some, None, Result, Ok, Err, nat_eq, Bool, true, false, not, ◌==◌, append_assoc, append-nil, length-append, take_all}
+use Rattle.std.proofs.Common.{◌≡◌, ℕ, zero, suc, ◌+◌, ◌<◌, ◌≤◌, List, [], ◌∷◌, ◌++◌, length, take, slice_index, refl, sym, ◌∙◌, ap, arith, Option, Some, None}
+use Rattle.std.proofs.Common.{Result, Ok, Err, nat_eq, Bool, true, false, not, ◌==◌, append_assoc, append-nil, length-append, take_all}
 use Rattle.std.proofs.lemmas.Bool.{eqb-true}
 use Rattle.std.proofs.lemmas.Bool.Decides.{nat_tests}
 use Rattle.std.proofs.lemmas.List.{take_more}

@@ -1,7 +1,8 @@
 -- A run over lines, one line at a time. The lines that were taken, and what is left, make the input; each line that was taken
 -- has its answer, written behind those before it (`Progress`). At the input's end these are all lines; a line that can't be
 -- taken or answered stops the run behind them.
-use Rattle.std.proofs.Common.{◌≡◌, ◌≤◌, ℕ, ◌+◌, List, [], ◌∷◌, ◌++◌, length, Option, Some, None, IfSome, Result, Ok, Err, IfErr, OnOk, refl, sym, ◌∙◌, ap, subst, arith, append_assoc, append-nil}
+use Rattle.std.proofs.Common.{◌≡◌, ◌≤◌, ℕ, ◌+◌, List, [], ◌∷◌, ◌++◌, length, Option, Some, None, IfSome, Result, Ok, Err, IfErr, OnOk, refl, sym, ◌∙◌, ap}
+use Rattle.std.proofs.Common.{subst, arith, append_assoc, append-nil}
 use Rattle.std.specs.Prelude.{⊤}
 use Rattle.std.proofs.lemmas.List.{length_push}
 use Rattle.std.specs.Io.KnownBytes.{Appends, Keeps, IsAtEnd}
@@ -18,7 +19,8 @@ use Rattle.scoop_demo.specs.Hex.{hex_fault, StandsFor}
 use Rattle.scoop_demo.specs.Answer.{Prints, StopsRunning}
 use Rattle.scoop_demo.specs.Input.{Input, TakesLine, StopsAtNext}
 use Rattle.scoop_demo.specs.Input.StopsAtNext.{read_fault as next_unread, past_limit, write_fault}
-use Rattle.scoop_demo.specs.Run.{HearsLine, IsDatagram, AnswersFirst, AnswersLine, AnswersLines, AnswersAll, BeginsWithLines, WritesAnswer, StopsInLine, StopsBehind, StopsEarly, fault_of, first_fault}
+use Rattle.scoop_demo.specs.Run.{HearsLine, IsDatagram, AnswersFirst, AnswersLine, AnswersLines, AnswersAll, BeginsWithLines, WritesAnswer, StopsInLine}
+use Rattle.scoop_demo.specs.Run.{StopsBehind, StopsEarly, fault_of, first_fault}
 use Rattle.scoop_demo.specs.Run.StopsInLine.{in_digits, in_book, in_output, in_run}
 use Rattle.scoop_demo.specs.Run.StopsBehind.{read_fault, line_fault}
 use Rattle.scoop_demo.specs.Run.StopsEarly.{at_line, at_output, at_answer, at_book, at_run}

@@ -1,6 +1,7 @@
 -- A script, one line at a time. The lines that were taken have no fault, and the cast stands for the parties that they name
 -- (`Taken`). A line more goes on so, or has the fault that is told; at the end of the input the world opens if it hasn't.
-use Rattle.std.proofs.Common.{◌≡◌, ◌≤◌, if◌then◌else◌, ℕ, ◌+◌, max, Bool, true, false, ◌||◌, ◌&&◌, not, List, [], ◌∷◌, ◌++◌, length, Option, Some, None, Result, Ok, Err, IfErr, OnOk, refl, sym, ◌∙◌, ap, subst, arith}
+use Rattle.std.proofs.Common.{◌≡◌, ◌≤◌, if◌then◌else◌, ℕ, ◌+◌, max, Bool, true, false, ◌||◌, ◌&&◌, not, List, [], ◌∷◌, ◌++◌, length, Option, Some, None, Result}
+use Rattle.std.proofs.Common.{Ok, Err, IfErr, OnOk, refl, sym, ◌∙◌, ap, subst, arith}
 use Rattle.std.proofs.lemmas.Bool.{and_parts}
 use Rattle.std.proofs.lemmas.List.{length_push}
 use Rattle.std.proofs.lemmas.List.Folds.{list_any-append}
@@ -20,7 +21,8 @@ use Rattle.scoop_demo.specs.ScriptKind.{kind_of}
 use Rattle.scoop_message.specs.declared.name.ClientId.{ClientId}
 use Rattle.scoop_object.specs.Class.{ClassTable}
 use Rattle.scoop_world.specs.declared.placing.Placement.{Placement}
-use Rattle.scoop_demo.specs.Script.{Parties, Opens, PlaysAll, PlaysFirst, kind_fault, Faultless, StopsAtLine, StopsOpening, StopsClosed, StopsPlaying, script_fault, words_fault, party_fault, is_event, is_event_kind, opens_at, parties_of}
+use Rattle.scoop_demo.specs.Script.{Parties, Opens, PlaysAll, PlaysFirst, kind_fault, Faultless, StopsAtLine, StopsOpening, StopsClosed, StopsPlaying}
+use Rattle.scoop_demo.specs.Script.{script_fault, words_fault, party_fault, is_event, is_event_kind, opens_at, parties_of}
 use Rattle.scoop_demo.specs.Staging.{IsStaged, IsWaiting, with_line}
 use Rattle.scoop_demo.proofs.StagingLemmas.{parties_more, staged_opens, staged_if_waits}
 use Rattle.scoop_demo.specs.Script.StopsAtLine.{in_words, in_opening, in_output, in_memory}

@@ -1,7 +1,8 @@
 -- The parties of a script are those that its lines name. Only as many are kept as there may be, and one more: that one tells
 -- as well as all would that there are too many, and where it isn't there, all are kept. So the world of what is kept opens,
 -- or why not, as that of all the named parties does.
-use Rattle.std.proofs.Common.{◌≡◌, ◌≢◌, ℕ, ◌+◌, ◌≤◌, ◌<◌, Bool, true, false, List, [], ◌∷◌, ◌++◌, length, map, take, Option, Some, None, Result, Ok, Err, IfErr, OnOk, refl, sym, ◌∙◌, ap, subst, arith, append-nil}
+use Rattle.std.proofs.Common.{◌≡◌, ◌≢◌, ℕ, ◌+◌, ◌≤◌, ◌<◌, Bool, true, false, List, [], ◌∷◌, ◌++◌, length, map, take, Option, Some, None, Result, Ok, Err, IfErr}
+use Rattle.std.proofs.Common.{OnOk, refl, sym, ◌∙◌, ap, subst, arith, append-nil}
 use Rattle.std.specs.Prelude.{slice_get, option_map}
 use Rattle.std.specs.List.{AllByRecursion, cons_option, filter_map, take-map}
 use Rattle.std.proofs.lemmas.List.{length-take, length-map, map-append, length_push, take_all, take-append-le}
@@ -13,7 +14,8 @@ use Rattle.scoop_message.specs.declared.name.ClientId.{ClientId}
 use Rattle.scoop_message.specs.declared.name.HandlerId.{HandlerId}
 use Rattle.scoop_object.specs.Class.{ClassTable}
 use Rattle.scoop_world.specs.declared.error.WorldOpenError.{WorldOpenError}
-use Rattle.scoop_world.specs.declared.error.WorldOpenError.TheVariants.{NoHandlers, TooManyHandlers, Repeated, WrongClass, TooManyClients, RepeatedClient, IncarnationsSpent, OutOfMemory}
+use Rattle.scoop_world.specs.declared.error.WorldOpenError.TheVariants.{NoHandlers, TooManyHandlers, Repeated, WrongClass, TooManyClients, RepeatedClient}
+use Rattle.scoop_world.specs.declared.error.WorldOpenError.TheVariants.{IncarnationsSpent, OutOfMemory}
 use Rattle.scoop_world.specs.declared.placing.Placement.{Placement}
 use Rattle.scoop_model.specs.Opening.{IsJoining}
 use Rattle.scoop_world.specs.Placing.{newcomers_of}
@@ -28,7 +30,8 @@ use Rattle.scoop_demo.specs.declared.script.kind.LineKind.TheVariants.{Handler, 
 use Rattle.scoop_words.specs.Words.{words_of, is_blank}
 use Rattle.scoop_demo.specs.ScriptKind.{kind_of}
 use Rattle.scoop_demo.specs.ScriptLine.{Placed, handler_line, client_line}
-use Rattle.scoop_demo.specs.Script.{Parties, Opens, IsClosed, StopsOpening, StopsClosed, own_class, placement_of, parties_of, party_fault, placed_by, placed_by_kind, joined_by, joined_by_kind}
+use Rattle.scoop_demo.specs.Script.{Parties, Opens, IsClosed, StopsOpening, StopsClosed, own_class, placement_of, parties_of, party_fault, placed_by}
+use Rattle.scoop_demo.specs.Script.{placed_by_kind, joined_by, joined_by_kind}
 use Rattle.scoop_demo.specs.Staging.{seen_by, AreFirst, AreFirstClients, IsWaiting, IsStaged, with_line}
 
 -- ---- a handler's object is seen as its class

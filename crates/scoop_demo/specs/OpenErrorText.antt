@@ -1,7 +1,8 @@
 -- The name of the reason why a world doesn't open.
 use Rattle.std.specs.Prelude.{ℕ, List, codes}
 use Rattle.scoop_world.specs.declared.error.WorldOpenError.{WorldOpenError}
-use Rattle.scoop_world.specs.declared.error.WorldOpenError.TheVariants.{NoHandlers, TooManyHandlers, Repeated, WrongClass, TooManyClients, RepeatedClient, IncarnationsSpent, OutOfMemory}
+use Rattle.scoop_world.specs.declared.error.WorldOpenError.TheVariants.{NoHandlers, TooManyHandlers, Repeated, WrongClass, TooManyClients, RepeatedClient}
+use Rattle.scoop_world.specs.declared.error.WorldOpenError.TheVariants.{IncarnationsSpent, OutOfMemory}
 
 abbrev pub open_error_name : WorldOpenError → List ℕ
 open_error_name NoHandlers = codes "NoHandlers"

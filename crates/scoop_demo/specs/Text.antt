@@ -4,7 +4,8 @@ use Rattle.std.specs.Fmt.{decimal}
 use Rattle.scoop_keeper.specs.Text.{error_text as keeper_text}
 use Rattle.scoop_demo.specs.declared.fault.InputFault.{InputFault}
 use Rattle.scoop_demo.specs.declared.fault.InputFault.TheVariants.{LineTooLong, TooManyLines, ReadFault, NotHex, OddDigits}
-use Rattle.scoop_demo.specs.declared.fault.InputFault.TheVariants.{UnknownLine, WrongNumberOfWords, NotANumber, NoSuchClass, TooLateForParty, CannotOpen, TooManyArguments, TooManyHandlers, NoSuchKind, Refused}
+use Rattle.scoop_demo.specs.declared.fault.InputFault.TheVariants.{UnknownLine, WrongNumberOfWords, NotANumber, NoSuchClass, TooLateForParty, CannotOpen}
+use Rattle.scoop_demo.specs.declared.fault.InputFault.TheVariants.{TooManyArguments, TooManyHandlers, NoSuchKind, Refused}
 use Rattle.scoop_demo.specs.OpenErrorText.{open_error_name}
 use Rattle.scoop_demo.specs.declared.fault.RunError.{RunError}
 use Rattle.scoop_demo.specs.declared.fault.RunError.TheVariants.{Input, Write, OutOfMemory, Store, WrongClass, NodeFailed, HistoryFull}

@@ -7,7 +7,8 @@ ghost use Rattle.scoop_frame.specs.Frame.{frame};
 ghost use Rattle.scoop_frame.specs.Version.{Carries};
 ghost use Rattle.hex.specs.Hex.{encode_lower};
 ghost use Rattle.scoop_demo.specs.FrameLine.{TellsFrame};
-ghost use Rattle.scoop_demo.specs.FrameWords.{answer_words, arguments_text, request_text, entry_text, entries_text, greeting_text, block_words, fields_text, version_text, frame_words};
+ghost use Rattle.scoop_demo.specs.FrameWords.{answer_words, arguments_text, request_text, entry_text, entries_text, greeting_text, block_words, fields_text};
+ghost use Rattle.scoop_demo.specs.FrameWords.{version_text, frame_words};
 
 mod reading;
 

@@ -20,7 +20,9 @@ use Rattle.scoop_model.specs.declared.note.WorldNote.{WorldNote}
 use Rattle.scoop_model.specs.declared.note.WorldNote.TheVariants as note
 use Rattle.scoop_model.specs.declared.error.WorldError.TheVariants.{NoSuchParty, IncarnationsSpent}
 use Rattle.scoop_model.specs.World.{World, Site, Party, site_of, party_of, sent_at}
-use Rattle.scoop_model.specs.Step.{Stepped, step, commanded, commanded_world, do_at, with_sent, place_of, sent_or_silent, tick_at, heard_world, taken_by_handler, heard_party, taken_by_client, taken, with_site, with_party, begun_site, begins, begin_at, finished_site, finishes, finish_at, restarted_party, restart_client, reopened_world, restart_node}
+use Rattle.scoop_model.specs.Step.{Stepped, step, commanded, commanded_world, do_at, with_sent, place_of, sent_or_silent, tick_at, heard_world}
+use Rattle.scoop_model.specs.Step.{taken_by_handler, heard_party, taken_by_client, taken, with_site, with_party, begun_site, begins, begin_at, finished_site}
+use Rattle.scoop_model.specs.Step.{finishes, finish_at, restarted_party, restart_client, reopened_world, restart_node}
 use Rattle.scoop_model.specs.Reach.{Run, next, run_after, steps}
 use Rattle.scoop_model.proofs.Basics.{by_test}
 

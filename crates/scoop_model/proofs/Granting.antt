@@ -22,7 +22,8 @@ use Rattle.scoop_client.specs.Rows.{DueRow, owes_nothing, greets, reserves, logs
 use Rattle.scoop_client.proofs.DueRows.{due_row}
 use Rattle.scoop_client.proofs.Rows.{heard_row}
 use Rattle.scoop_model.specs.World.{World, Party, BlockLog, id_of, is_party, party_of, set_party, handlers_of, sent_at}
-use Rattle.scoop_model.specs.Step.{Placement, Newcomer, opening, newest_block, logs_after, with_sent, with_site, heard_world, heard_party, begun_site, finished_site, restarted_party, reopened_world}
+use Rattle.scoop_model.specs.Step.{Placement, Newcomer, opening, newest_block, logs_after, with_sent, with_site, heard_world, heard_party, begun_site}
+use Rattle.scoop_model.specs.Step.{finished_site, restarted_party, reopened_world}
 use Rattle.scoop_model.specs.Told.{WasGranted, WasGrantedAtAll, TellsGranted}
 use Rattle.scoop_model.proofs.Basics.{by_test, of_party}
 use Rattle.scoop_model.proofs.Events.{Changes}

@@ -1,7 +1,8 @@
 -- The lock over a whole list of events: a handler grants it to a block at most once, and a block that opens was the
 -- holder from its grant on. One event is looked at first: a block that is held behind it was held before, or was
 -- granted by it; and a client's mark that has reached a block stays at it or past it. Then by induction over the events.
-use Rattle.std.proofs.Common.{◌≡◌, ◌⊎◌, inl, inr, ℕ, zero, suc, ◌+◌, ◌==◌, ◌<◌, ◌≤◌, true, nat_lt, List, [], ◌∷◌, map, find, length, take, get_or, slice_get, Option, Some, None, refl, sym, ap, ◌∙◌, subst, ⊎_elim, arith}
+use Rattle.std.proofs.Common.{◌≡◌, ◌⊎◌, inl, inr, ℕ, zero, suc, ◌+◌, ◌==◌, ◌<◌, ◌≤◌, true, nat_lt, List, [], ◌∷◌, map, find, length, take, get_or, slice_get}
+use Rattle.std.proofs.Common.{Option, Some, None, refl, sym, ap, ◌∙◌, subst, ⊎_elim, arith}
 use Rattle.std.specs.Prelude.{if◌then◌else◌, Ok, Err}
 use Rattle.std.specs.List.{AllByRecursion}
 use Rattle.std.specs.Option.{option_map_or}
@@ -32,7 +33,8 @@ use Rattle.scoop_model.specs.declared.event.Event.TheVariants.{Take, Begin, Fini
 use Rattle.scoop_model.specs.declared.note.WorldNote.{WorldNote}
 use Rattle.scoop_model.specs.declared.note.WorldNote.TheVariants.{Handler}
 use Rattle.scoop_model.specs.World.{World, Site, number_of, is_site, site_of, party_of, set_site, sent_at}
-use Rattle.scoop_model.specs.Step.{Stepped, Placement, Newcomer, new_site, opening, step, taken, taken_by_handler, taken_by_client, heard_site, heard_world, begun_site, finished_site, reopened, with_site, place_of}
+use Rattle.scoop_model.specs.Step.{Stepped, Placement, Newcomer, new_site, opening, step, taken, taken_by_handler, taken_by_client, heard_site, heard_world}
+use Rattle.scoop_model.specs.Step.{begun_site, finished_site, reopened, with_site, place_of}
 use Rattle.scoop_model.specs.Reach.{Run, next, run_after, Leads}
 use Rattle.scoop_model.specs.Grants.{world_after, holder_at, IsGrant, IsOpening, GrantsAt, OpensAt, HoldsSinceGrant}
 use Rattle.scoop_model.proofs.Basics.{by_test}

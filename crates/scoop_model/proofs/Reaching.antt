@@ -14,7 +14,8 @@ use Rattle.scoop_client.specs.Hearing.{heard}
 use Rattle.scoop_model.specs.declared.event.Event.{Event}
 use Rattle.scoop_model.specs.declared.note.WorldNote.{WorldNote}
 use Rattle.scoop_model.specs.World.{World, Site, Party, number_of, id_of, is_site, is_party, set_site, set_party}
-use Rattle.scoop_model.specs.Step.{Stepped, Placement, Newcomer, step, opening, new_site, new_party, begun_site, finished_site, heard_site, heard_party, restarted_party, reopened}
+use Rattle.scoop_model.specs.Step.{Stepped, Placement, Newcomer, step, opening, new_site, new_party, begun_site, finished_site, heard_site, heard_party}
+use Rattle.scoop_model.specs.Step.{restarted_party, reopened}
 use Rattle.scoop_model.specs.Opening.{MayOpen}
 use Rattle.scoop_model.specs.Reach.{Run, next, run_after, run, steps, Leads, IsReached}
 use Rattle.scoop_message.specs.Lists.{NoRepeats}

@@ -1,6 +1,7 @@
 -- What each message that was ever sent tells for good, by what every event keeps. The layers have these facts in the form
 -- in which they are kept; here each is said as the theorem says it, for every message of a world that is reached.
-use Rattle.std.proofs.Common.{◌≡◌, inl, inr, ℕ, zero, suc, ◌+◌, ◌-◌, ◌<◌, ◌||◌, true, false, true≢false, nat_lt, List, [], ◌∷◌, ◌++◌, length, slice_get, Option, Some, None, refl, sym, ap, ◌∙◌, subst, ⊎_elim, arith, append_assoc}
+use Rattle.std.proofs.Common.{◌≡◌, inl, inr, ℕ, zero, suc, ◌+◌, ◌-◌, ◌<◌, ◌||◌, true, false, true≢false, nat_lt, List, [], ◌∷◌, ◌++◌, length, slice_get, Option}
+use Rattle.std.proofs.Common.{Some, None, refl, sym, ap, ◌∙◌, subst, ⊎_elim, arith, append_assoc}
 use Rattle.std.specs.Prelude.{Contains}
 use Rattle.std.specs.List.{AllByRecursion, list_any}
 use Rattle.std.specs.Option.{option_map_or}
@@ -20,7 +21,8 @@ use Rattle.scoop_handler.proofs.Basics.{all_both}
 use Rattle.scoop_handler.proofs.MarkLists.{mark_of-client, All-mark_of}
 use Rattle.scoop_model.specs.World.{World, Site, Party, is_site, is_party, party_of, inc_of, has_block, log_of}
 use Rattle.scoop_model.specs.Reach.{IsReached}
-use Rattle.scoop_model.specs.Told.{stored_of, TellsStored, TellsGreeted, HoldsOpenedOrOver, TellsHeld, TellsGranted, TellsOpened, HasOpenedAtAll, IsLeft, TellsUnlocked, AreOfLog, TellsLogged, TellsRan}
+use Rattle.scoop_model.specs.Told.{stored_of, TellsStored, TellsGreeted, HoldsOpenedOrOver, TellsHeld, TellsGranted, TellsOpened, HasOpenedAtAll, IsLeft}
+use Rattle.scoop_model.specs.Told.{TellsUnlocked, AreOfLog, TellsLogged, TellsRan}
 use Rattle.scoop_model.proofs.Basics.{by_test}
 use Rattle.scoop_model.proofs.Stands.{Stands}
 use Rattle.scoop_model.proofs.Order.Facts.{IsGranted, Tells, SiteFits, PartyFits, all_at, all_found, all_more_of}

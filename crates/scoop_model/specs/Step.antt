@@ -1,5 +1,6 @@
 -- One event in a world, and the world as it opens.
-use Rattle.std.specs.Prelude.{ℕ, ◌+◌, ◌-◌, ◌^◌, ◌==◌, false, if◌then◌else◌, List, [], ◌∷◌, ◌++◌, length, map, Option, Some, None, option_to_list, Result, Ok, Err}
+use Rattle.std.specs.Prelude.{ℕ, ◌+◌, ◌-◌, ◌^◌, ◌==◌, false, if◌then◌else◌, List, [], ◌∷◌, ◌++◌, length, map, Option, Some, None, option_to_list, Result, Ok}
+use Rattle.std.specs.Prelude.{Err}
 use Rattle.std.specs.List.{list_any}
 use Rattle.std.specs.Option.{option_map}
 use Rattle.scoop_message.specs.declared.name.Block.{Block}
@@ -17,7 +18,8 @@ use Rattle.scoop_handler.specs.Core.{core_of, with_state}
 use Rattle.scoop_handler.specs.Hearing.{Hearing, hear}
 use Rattle.scoop_handler.specs.Running.{Task, ready, job_out, ran_of, begun, finished}
 use Rattle.scoop_client.specs.declared.phase.ClientNote.{ClientNote}
-use Rattle.scoop_client.specs.declared.phase.ClientNote.TheVariants.{Welcomed, Locked, Busy, Opened as OpenedNote, Unlocked, Acknowledged, Accepted as AcceptedNote, Ignored}
+use Rattle.scoop_client.specs.declared.phase.ClientNote.TheVariants.{Welcomed, Locked, Busy, Opened as OpenedNote, Unlocked, Acknowledged}
+use Rattle.scoop_client.specs.declared.phase.ClientNote.TheVariants.{Accepted as AcceptedNote, Ignored}
 use Rattle.scoop_client.specs.State.{ClientState, block_named}
 use Rattle.scoop_client.specs.Beginning.{greeting}
 use Rattle.scoop_client.specs.Due.{due}
@@ -31,7 +33,8 @@ use Rattle.scoop_model.specs.declared.note.WorldNote.{WorldNote}
 use Rattle.scoop_model.specs.declared.note.WorldNote.TheVariants as note
 use Rattle.scoop_model.specs.declared.error.WorldError.{WorldError}
 use Rattle.scoop_model.specs.declared.error.WorldError.TheVariants.{NoSuchMessage, NoSuchParty, NothingToRun, ClientRefused, IncarnationsSpent}
-use Rattle.scoop_model.specs.World.{World, Site, Party, Accepted, HandlerLog, BlockLog, set_site, set_party, site_of, party_of, has_block, is_log_of, is_line_of, sent_at}
+use Rattle.scoop_model.specs.World.{World, Site, Party, Accepted, HandlerLog, BlockLog, set_site, set_party, site_of, party_of, has_block, is_log_of}
+use Rattle.scoop_model.specs.World.{is_line_of, sent_at}
 
 -- the world after an event and what it tells, or why it doesn't happen, want of memory apart
 abbrev pub Stepped : Type 0

@@ -1,6 +1,7 @@
 -- The rows of a record of version 1, by their numbers. They were listed with their numbers rising, so no two rows have one
 -- number, the states read from them rise too, and the first row whose image is no state's has the lowest such number.
-use Rattle.std.proofs.Common.{◌≡◌, ◌≢◌, inl, inr, ◌<◌, ◌≤◌, ◌+◌, ◌^◌, ℕ, pos, List, [], ◌∷◌, ◌++◌, take, drop, map, find, Option, Some, None, option_map, refl, sym, ap, ◌∙◌, subst, arith, IsPermutation, append_assoc, take-append-drop}
+use Rattle.std.proofs.Common.{◌≡◌, ◌≢◌, inl, inr, ◌<◌, ◌≤◌, ◌+◌, ◌^◌, ℕ, pos, List, [], ◌∷◌, ◌++◌, take, drop, map, find, Option, Some, None, option_map, refl}
+use Rattle.std.proofs.Common.{sym, ap, ◌∙◌, subst, arith, IsPermutation, append_assoc, take-append-drop}
 use Rattle.std.specs.List.{AllByRecursion, AllZip}
 use Rattle.std.proofs.lemmas.List.Sorted.{IsPermutation-sym}
 use Rattle.sqlite_value.specs.declared.value.Value.{Value}
@@ -13,7 +14,8 @@ use Rattle.sqlite.specs.Effect.{Database}
 use Rattle.scoop_handler.specs.State.{HandlerState}
 use Rattle.scoop_keeper.specs.Keeper.{Stored, Missing, Holds, Damaged, stored_of, IsTheOne}
 use Rattle.scoop_record.specs.Tables.{first_schema, record_schema, value_at, Makes}
-use Rattle.scoop_record.specs.Migrate.{FirstHas, first_handlers_in, IsFirstRowOf, IsFirstRow, IsRising, keyed_value, IsKeyBelow, IsNumber, AreNumbers, AreNumbered, AreHandlers, HasOtherNumber, IsBadRow, IsFirstBad, IsLowestBad}
+use Rattle.scoop_record.specs.Migrate.{FirstHas, first_handlers_in, IsFirstRowOf, IsFirstRow, IsRising, keyed_value, IsKeyBelow, IsNumber, AreNumbers}
+use Rattle.scoop_record.specs.Migrate.{AreNumbered, AreHandlers, HasOtherNumber, IsBadRow, IsFirstBad, IsLowestBad}
 use Rattle.scoop_keeper.proofs.Lists.{all_last, all_more, all_take}
 use Rattle.scoop_record.proofs.RowLemmas.{find_own}
 use Rattle.scoop_record.proofs.TableLemmas.{int_key}

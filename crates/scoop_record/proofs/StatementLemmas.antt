@@ -2,7 +2,8 @@
 -- (`UpsertLemmas`), and a plain query nothing; one that failed has committed nothing, nor has one inside a transaction.
 use Rattle.std.proofs.lemmas.Bool.{cases_Bool}
 use Rattle.scoop_record.specs.Store.{IsSound}
-use Rattle.std.proofs.Common.{IsPermutation, codes, cond, IsErr, IsTrue, IfOk, IfErr, arith, ◌≡◌, ◌≤◌, length, ◌⊎◌, inl, inr, ℕ, nat_le, ◌^◌, pos, List, [], ◌∷◌, map, true, false, find, slice_get, Option, option_map, Some, None, Ok, Err, Result, OnOk, refl, sym, ap, ◌∙◌, subst}
+use Rattle.std.proofs.Common.{IsPermutation, codes, cond, IsErr, IsTrue, IfOk, IfErr, arith, ◌≡◌, ◌≤◌, length, ◌⊎◌, inl, inr, ℕ, nat_le, ◌^◌, pos, List, []}
+use Rattle.std.proofs.Common.{◌∷◌, map, true, false, find, slice_get, Option, option_map, Some, None, Ok, Err, Result, OnOk, refl, sym, ap, ◌∙◌, subst}
 use Rattle.std.specs.Option.{option_to_list}
 use Rattle.sqlite_value.specs.declared.value.Value.{Value}
 use Rattle.sqlite_value.specs.declared.value.Value.TheVariants.{Null, Int}
@@ -24,7 +25,8 @@ use Rattle.sqlite.specs.Clock.{timed}
 use Rattle.sqlite_trees.specs.Tree.{Trees}
 use Rattle.sqlite_schema.specs.declared.command.Returning.{Returning}
 use Rattle.sqlite_resolve.specs.declared.compiled.Compiled.{Compiled}
-use Rattle.sqlite.specs.State.{State, HasCleanDisk, Survives, IsRolledBack, Shows, ExecutesInside, ShowsRows, Writes, FailsToShow, RunsCommand, mode_of, Executes, Shown, FailsToQuery, IsTooLate, IsNotRun, IsUnchanged, KeepsCommit}
+use Rattle.sqlite.specs.State.{State, HasCleanDisk, Survives, IsRolledBack, Shows, ExecutesInside, ShowsRows, Writes, FailsToShow, RunsCommand, mode_of}
+use Rattle.sqlite.specs.State.{Executes, Shown, FailsToQuery, IsTooLate, IsNotRun, IsUnchanged, KeepsCommit}
 use Rattle.sqlite.proofs.Callers.{IsPlain, command_of, statement_of, runs_as, reads_as}
 use Rattle.scoop_record.specs.Tables.{keyed_table, record_schema, row_of, value_at, Puts, Makes}
 use Rattle.scoop_record.proofs.TableLemmas.{query_of, key_is, first_key_is, all_images, tests_key, looked_up, all_answered}

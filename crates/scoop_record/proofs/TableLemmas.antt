@@ -2,7 +2,8 @@
 -- its filter leaves of the table, projected, in some order. A filter that compares the key leaves the rows with that key, so
 -- one row that is shown is that of the key, and no row is shown where there is none. A query without a filter shows each row.
 -- The look ups of the record are these queries, by `Texts`.
-use Rattle.std.proofs.Common.{◌≡◌, ◌≤◌, ℕ, nat_le, ◌^◌, pos, negsuc, List, [], ◌∷◌, map, length, Bool, true, false, ◌&&◌, cond, filter, find, slice_get, Some, None, refl, sym, ap, ◌∙◌, subst, inl, inr, arith, ℤ, IsPermutation}
+use Rattle.std.proofs.Common.{◌≡◌, ◌≤◌, ℕ, nat_le, ◌^◌, pos, negsuc, List, [], ◌∷◌, map, length, Bool, true, false, ◌&&◌, cond, filter, find, slice_get, Some}
+use Rattle.std.proofs.Common.{None, refl, sym, ap, ◌∙◌, subst, inl, inr, arith, ℤ, IsPermutation}
 use Rattle.std.specs.List.{flat_map}
 use Rattle.std.specs.Option.{option_to_list}
 use Rattle.std.specs.Ordering.{is_eq, is_lt}

@@ -1,7 +1,8 @@
 -- What INSERT .. ON CONFLICT DO UPDATE does to a table with an integer key. Where no row has the key the new row is inserted;
 -- where one has, the row that the update makes of it takes its place; two can't have it. Each way the table has the value at
 -- the key, what it had at every other key, and the other tables stay. The statements of the version are shown so too.
-use Rattle.std.proofs.Common.{codes, ◌≡◌, ◌≢◌, ◌⊎◌, ℕ, nat_le, ◌^◌, pos, List, [], ◌∷◌, ◌++◌, map, Bool, true, false, ◌&&◌, ◌||◌, cond, filter, find, slice_get, Option, Some, None, Result, Ok, Err, refl, sym, ap, ◌∙◌, subst, subst₂, not, length, inl, inr, arith, int_cmp, ℤ, IsPermutation}
+use Rattle.std.proofs.Common.{codes, ◌≡◌, ◌≢◌, ◌⊎◌, ℕ, nat_le, ◌^◌, pos, List, [], ◌∷◌, ◌++◌, map, Bool, true, false, ◌&&◌, ◌||◌, cond, filter, find, slice_get}
+use Rattle.std.proofs.Common.{Option, Some, None, Result, Ok, Err, refl, sym, ap, ◌∙◌, subst, subst₂, not, length, inl, inr, arith, int_cmp, ℤ, IsPermutation}
 use Rattle.std.specs.List.{AllByRecursion}
 use Rattle.std.proofs.lemmas.Bool.{cases_Bool, and_parts}
 use Rattle.sqlite_value.specs.declared.value.Value.{Value}
@@ -36,7 +37,8 @@ use Rattle.sqlite_rules.specs.Keys.{AreConflicts, conflicts}
 use Rattle.sqlite_rules.proofs.ListLemmas.{has_found, has_kept, has_filtered, some_from}
 use Rattle.sqlite.specs.declared.run.Mode.{Mode}
 use Rattle.sqlite.specs.Effect.{Database}
-use Rattle.sqlite.specs.Rows.{Then, TriesEach, Counts, Gives, nothing, count_of, Clears, Meets, Judged, Written, Task, Puts as PutsRow, Upserts, Updates, Tries, InsertsOr}
+use Rattle.sqlite.specs.Rows.{Then, TriesEach, Counts, Gives, nothing, count_of, Clears, Meets, Judged, Written, Task, Puts as PutsRow, Upserts, Updates, Tries}
+use Rattle.sqlite.specs.Rows.{InsertsOr}
 use Rattle.sqlite.specs.Does.{Tally, Does, OnRows, AtPlace}
 use Rattle.sqlite.proofs.Callers.{one_step}
 use Rattle.scoop_record.specs.Tables.{keyed_table, meta, record_schema, value_at, row_of, Puts}

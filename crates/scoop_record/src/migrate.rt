@@ -12,7 +12,8 @@ ghost use Rattle.scoop_record.specs.Range.{InRange};
 ghost use Rattle.scoop_record.specs.Store.{IsSound, IsOpenOnOk, IsRecord, IsFirstRecord, Saves};
 ghost use Rattle.scoop_record.specs.Tables.{value_at, Puts};
 ghost use Rattle.scoop_keeper.specs.Keeper.{IsPutError, IsAdoptError};
-ghost use Rattle.scoop_record.specs.Migrate.{keyed_value, SavesAll, Migrates, IsFirstRow, IsRising, IsNumber, AreNumbers, AreNumbered, IsBadRow, IsFirstBad, IsLowestBad, HasOtherNumber};
+ghost use Rattle.scoop_record.specs.Migrate.{keyed_value, SavesAll, Migrates, IsFirstRow, IsRising, IsNumber, AreNumbers, AreNumbered, IsBadRow, IsFirstBad};
+ghost use Rattle.scoop_record.specs.Migrate.{IsLowestBad, HasOtherNumber};
 
 use crate::create::create_pending;
 use crate::handlers::{images_of, put_both};

@@ -1,6 +1,7 @@
 -- Whatever happens, a block in which no query waits has none among the entries that have not run, and so no query in
 -- the private queues of the rules.
-use Rattle.std.proofs.Common.{◌≡◌, ℕ, ◌+◌, ◌≤◌, false, ◌&&◌, ◌||◌, List, [], ◌∷◌, ◌++◌, length, map, filter, flat_map, take, drop, find, Option, Some, None, refl, sym, ap, ◌∙◌, subst, arith, length-append}
+use Rattle.std.proofs.Common.{◌≡◌, ℕ, ◌+◌, ◌≤◌, false, ◌&&◌, ◌||◌, List, [], ◌∷◌, ◌++◌, length, map, filter, flat_map, take, drop, find, Option, Some, None}
+use Rattle.std.proofs.Common.{refl, sym, ap, ◌∙◌, subst, arith, length-append}
 use Rattle.std.specs.Prelude.{if◌then◌else◌}
 use Rattle.std.specs.List.{AllByRecursion, list_any}
 use Rattle.std.specs.Option.{option_map_or}
@@ -21,7 +22,8 @@ use Rattle.scoop_reserve.specs.State.{ReservationState}
 use Rattle.scoop_model.specs.declared.event.Event.{Event}
 use Rattle.scoop_model.specs.World.{World, Site, Party, is_party, is_site, log_of, number_of, party_of, ran_at, set_of, set_site, site_of}
 use Rattle.scoop_client.specs.Due.{due}
-use Rattle.scoop_model.specs.Step.{Placement, Newcomer, begun_site, finished_site, heard_site, heard_world, new_party, opening, reopened_world, with_sent, with_site}
+use Rattle.scoop_model.specs.Step.{Placement, Newcomer, begun_site, finished_site, heard_site, heard_world, new_party, opening, reopened_world, with_sent}
+use Rattle.scoop_model.specs.Step.{with_site}
 use Rattle.scoop_model.specs.Opening.{MayOpen}
 use Rattle.scoop_model.specs.Reach.{steps}
 use Rattle.scoop_rules.specs.Paper.{Waiting, configuration_of, count_of, is_cut_off, is_gone, is_of, kept, queue_at, queue_of, seen, Seen, state_of, waits}

@@ -1,7 +1,8 @@
 -- Where the block of the first private queue stands in the common list. What opened at a handler is the common list with
 -- some blocks left out, and the first slot with an entry splits it: all blocks before it are over there, or are no blocks of
 -- this handler, or can't open here any more.
-use Rattle.std.proofs.Common.{◌≡◌, ◌⊎◌, inl, inr, ℕ, ◌+◌, true, ◌||◌, true≢false, List, [], ◌∷◌, ◌++◌, length, flat_map, Option, Some, None, refl, sym, ap, ◌∙◌, subst, ⊎_elim}
+use Rattle.std.proofs.Common.{◌≡◌, ◌⊎◌, inl, inr, ℕ, ◌+◌, true, ◌||◌, true≢false, List, [], ◌∷◌, ◌++◌, length, flat_map, Option, Some, None, refl, sym, ap, ◌∙◌}
+use Rattle.std.proofs.Common.{subst, ⊎_elim}
 use Rattle.std.specs.List.{AllByRecursion}
 use Rattle.scoop_message.specs.declared.name.Block.{Block}
 use Rattle.scoop_message.specs.declared.request.Entry.{Entry}

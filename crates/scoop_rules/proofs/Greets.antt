@@ -1,7 +1,8 @@
 -- A greeting by a newer incarnation cuts the queues of blocks whose End was not received. It cuts at this handler alone, and
 -- only blocks of an older incarnation of that client that are in the common list and name the handler: each keeps what was
 -- told to be received, as its slot does. All other queues, seen before and after the greeting, are the same.
-use Rattle.std.proofs.Common.{◌≡◌, ℕ, zero, suc, ◌-◌, ◌≤◌, ◌<◌, ◌==◌, Bool, true, false, not, ◌&&◌, ◌||◌, nat_le, true≢false, List, [], ◌∷◌, ◌++◌, length, map, filter, flat_map, take, drop, refl, sym, ap, ◌∙◌, subst, arith, length-append, append-nil}
+use Rattle.std.proofs.Common.{◌≡◌, ℕ, zero, suc, ◌-◌, ◌≤◌, ◌<◌, ◌==◌, Bool, true, false, not, ◌&&◌, ◌||◌, nat_le, true≢false, List, [], ◌∷◌, ◌++◌, length, map}
+use Rattle.std.proofs.Common.{filter, flat_map, take, drop, refl, sym, ap, ◌∙◌, subst, arith, length-append, append-nil}
 use Rattle.std.specs.Prelude.{if◌then◌else◌}
 use Rattle.std.proofs.lemmas.Bool.{and_parts}
 use Rattle.std.proofs.lemmas.Bool.Decides.{nat_tests}
@@ -19,7 +20,8 @@ use Rattle.scoop_queue.specs.declared.state.QueueState.TheVariants.{Open, Ended,
 use Rattle.scoop_queue.proofs.Lookup.{same_block-sym}
 use Rattle.scoop_reserve.specs.Handlers.{has}
 use Rattle.scoop_model.specs.World.{World, Site, has_block, set_of, log_of, ran_at, is_newer_welcome, is_succeeded, received, greatest_count, has_end, inc_of}
-use Rattle.scoop_rules.specs.Paper.{Waiting, Configuration, Objects, CutTo, MovesLead, put_at_handler, cut_to, cut_queue, cut_waiting, count_of, has_ended, Seen, seen, is_cut_off, queue_of, queue_at, configuration_of, is_cut_by, greeting_cuts}
+use Rattle.scoop_rules.specs.Paper.{Waiting, Configuration, Objects, CutTo, MovesLead, put_at_handler, cut_to, cut_queue, cut_waiting, count_of, has_ended}
+use Rattle.scoop_rules.specs.Paper.{Seen, seen, is_cut_off, queue_of, queue_at, configuration_of, is_cut_by, greeting_cuts}
 use Rattle.scoop_model.proofs.Basics.{by_test}
 use Rattle.scoop_model.proofs.Order.Lists.{AreApart, same_block_is, same_block_itself}
 use Rattle.scoop_model.proofs.Tape.Slots.{blocks_of}

@@ -1,7 +1,8 @@
 -- At its first opening anywhere a block is reserved in one step, and cut wherever it can't open any more. Nothing is logged
 -- for it yet, so each new queue is empty and open; where a newer incarnation of its client has greeted it is cut at once and
 -- gone. A later opening is no move: the block is in the common list already.
-use Rattle.std.proofs.Common.{◌≡◌, ◌⊎◌, inl, inr, ℕ, ◌-◌, ◌<◌, Bool, true, false, ◌&&◌, ◌||◌, true≢false, List, [], ◌∷◌, ◌++◌, map, filter, flat_map, take, Option, refl, sym, ap, ◌∙◌, subst, ⊎_elim, arith, append-nil}
+use Rattle.std.proofs.Common.{◌≡◌, ◌⊎◌, inl, inr, ℕ, ◌-◌, ◌<◌, Bool, true, false, ◌&&◌, ◌||◌, true≢false, List, [], ◌∷◌, ◌++◌, map, filter, flat_map, take}
+use Rattle.std.proofs.Common.{Option, refl, sym, ap, ◌∙◌, subst, ⊎_elim, arith, append-nil}
 use Rattle.std.specs.Prelude.{if◌then◌else◌}
 use Rattle.std.proofs.lemmas.Grind.{flat_map-append}
 use Rattle.std.proofs.Math.Seq.{take-nil}
@@ -13,7 +14,8 @@ use Rattle.scoop_message.proofs.Same.{handler_decides}
 use Rattle.scoop_reserve.specs.Handlers.{has}
 use Rattle.scoop_model.specs.World.{World, Site, has_block, set_of, ran_at, opened_at, is_succeeded, inc_of}
 use Rattle.scoop_model.specs.Step.{joined}
-use Rattle.scoop_rules.specs.Paper.{Waiting, Configuration, Objects, Separate, CutTo, MovesLead, put_at_handler, separate, cut_to, cut_queue, cut_waiting, new_queue, count_of, Seen, seen, queue_of, queue_at, configuration_of, late_cuts}
+use Rattle.scoop_rules.specs.Paper.{Waiting, Configuration, Objects, Separate, CutTo, MovesLead, put_at_handler, separate, cut_to, cut_queue, cut_waiting}
+use Rattle.scoop_rules.specs.Paper.{new_queue, count_of, Seen, seen, queue_of, queue_at, configuration_of, late_cuts}
 use Rattle.scoop_model.proofs.Basics.{by_test}
 use Rattle.scoop_model.proofs.Whole.Sent.{same_handler_itself}
 use Rattle.scoop_model.proofs.Order.Lists.{same_block_is, same_block_itself}

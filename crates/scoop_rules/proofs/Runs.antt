@@ -1,7 +1,8 @@
 -- An entry that runs is a run of the first entry of the first private queue. The handler's own first queue with an entry is
 -- its first slot that isn't over; the queues of the rules before it are gone, since their blocks are over there; and its
 -- block's queue begins with the same entry. Then one more has run of that block, and all other queues stay.
-use Rattle.std.proofs.Common.{◌≡◌, ◌⊎◌, inl, inr, ℕ, ◌+◌, Bool, true, false, ◌&&◌, ◌||◌, nat_le, true≢false, List, [], ◌∷◌, ◌++◌, length, filter, flat_map, Option, Some, None, refl, sym, ap, ◌∙◌, subst, ⊎_elim, arith, length-append, append_assoc}
+use Rattle.std.proofs.Common.{◌≡◌, ◌⊎◌, inl, inr, ℕ, ◌+◌, Bool, true, false, ◌&&◌, ◌||◌, nat_le, true≢false, List, [], ◌∷◌, ◌++◌, length, filter, flat_map}
+use Rattle.std.proofs.Common.{Option, Some, None, refl, sym, ap, ◌∙◌, subst, ⊎_elim, arith, length-append, append_assoc}
 use Rattle.std.specs.Prelude.{if◌then◌else◌}
 use Rattle.std.specs.List.{AllByRecursion}
 use Rattle.std.specs.Option.{option_map, option_map_or}
@@ -29,7 +30,8 @@ use Rattle.scoop_reserve.specs.Handlers.{has}
 use Rattle.scoop_model.specs.World.{World, Site, number_of, site_of, ran_at, opened_at, has_block, set_of, log_of, is_succeeded, received, has_end}
 use Rattle.scoop_model.specs.Step.{with_site, finished_site}
 use Rattle.scoop_model.specs.Safe.{entries_of, IsSubsequence}
-use Rattle.scoop_rules.specs.Paper.{Waiting, Configuration, Objects, RunOne, MovesLead, put_at_handler, count_of, has_ended, next_ran, rest_of, run_entries, run_first, has_entry, Seen, seen, no_class, state_of, queue_of, queue_at, configuration_of, objects_of}
+use Rattle.scoop_rules.specs.Paper.{Waiting, Configuration, Objects, RunOne, MovesLead, put_at_handler, count_of, has_ended, next_ran, rest_of, run_entries}
+use Rattle.scoop_rules.specs.Paper.{run_first, has_entry, Seen, seen, no_class, state_of, queue_of, queue_at, configuration_of, objects_of}
 use Rattle.scoop_model.proofs.Basics.{by_test}
 use Rattle.scoop_model.proofs.Keys.{number_found, by_site}
 use Rattle.scoop_model.proofs.Order.Lists.{AreApart, same_block_is, same_block_itself}

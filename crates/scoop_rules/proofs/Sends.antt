@@ -12,7 +12,8 @@ use Rattle.scoop_handler.specs.declared.note.Note.TheVariants.{Greeted}
 use Rattle.scoop_handler.specs.declared.ran.Ran.{Ran}
 use Rattle.scoop_handler.specs.Marks.{mark_of}
 use Rattle.scoop_handler.specs.Hearing.{Hearing}
-use Rattle.scoop_handler.specs.Rows.{Row, first_greeting, newer_greeting, repeated_greeting, lock_granted, lock_refused, repeated_lock, is_opened, repeated_open, unlock_of_a_block_never_held, is_freed, repeated_unlock, is_answered, already_received, is_taken}
+use Rattle.scoop_handler.specs.Rows.{Row, first_greeting, newer_greeting, repeated_greeting, lock_granted, lock_refused, repeated_lock, is_opened}
+use Rattle.scoop_handler.specs.Rows.{repeated_open, unlock_of_a_block_never_held, is_freed, repeated_unlock, is_answered, already_received, is_taken}
 use Rattle.std.proofs.lemmas.Option.{none-some}
 use Rattle.scoop_reserve.specs.Handlers.{has}
 use Rattle.scoop_model.specs.World.{World, Site, number_of, is_site, site_of, ran_at, set_of, log_of}

@@ -1,7 +1,8 @@
 -- Running nodes and clients, in one order of what they did, are a world. What a place of the order has is one party's own
 -- list. Each handler is of one node, so of all moves those that concern a node's handlers are just that node's, and those of
 -- a client its own. They lead each party on from where it opened, which makes the moves a weave, and so a world.
-use Rattle.std.proofs.Common.{◌≡◌, ℕ, zero, suc, ◌+◌, ◌≤◌, ◌==◌, ◌||◌, Bool, true, false, true≢false, List, [], ◌∷◌, ◌++◌, map, find, flat_map, filter, length, slice_get, Some, refl, sym, ap, ◌∙◌, subst, arith}
+use Rattle.std.proofs.Common.{◌≡◌, ℕ, zero, suc, ◌+◌, ◌≤◌, ◌==◌, ◌||◌, Bool, true, false, true≢false, List, [], ◌∷◌, ◌++◌, map, find, flat_map, filter, length}
+use Rattle.std.proofs.Common.{slice_get, Some, refl, sym, ap, ◌∙◌, subst, arith}
 use Rattle.std.specs.Prelude.{if◌then◌else◌, unwrap_or}
 use Rattle.std.specs.List.{AllByRecursion, list_any}
 use Rattle.std.specs.Option.{option_map}
@@ -34,10 +35,12 @@ use Rattle.scoop_weave.proofs.Woven.{stored_open, woven_is_weave}
 use Rattle.scoop_weave.proofs.Headline.{weave_is_a_world}
 use Rattle.scoop_running.specs.Nodes.{first_opened, local_of}
 use Rattle.scoop_running.specs.Order.{own, party_at}
-use Rattle.scoop_running.specs.System.{NodeLife, ClientLife, Runs, IsNodeLife, IsClientLife, placements_of, newcomers_of, words_in, newly, moves_of_node, moves_of_client, handlers_of, system_of}
+use Rattle.scoop_running.specs.System.{NodeLife, ClientLife, Runs, IsNodeLife, IsClientLife, placements_of, newcomers_of, words_in, newly, moves_of_node}
+use Rattle.scoop_running.specs.System.{moves_of_client, handlers_of, system_of}
 use Rattle.scoop_running.proofs.Clients.{IsClients, lives_run, not_of, is_its}
 use Rattle.scoop_running.proofs.Nodes.{NodeGoes, lives_go}
-use Rattle.scoop_running.proofs.Orders.{filtered, all_through, all_items, at_place, by_place, in_front, behind, there, nobody_there, within, past, place_of, Place}
+use Rattle.scoop_running.proofs.Orders.{filtered, all_through, all_items, at_place, by_place, in_front, behind, there, nobody_there, within, past, place_of}
+use Rattle.scoop_running.proofs.Orders.{Place}
 
 -- ---- lists
 

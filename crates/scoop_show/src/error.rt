@@ -1,7 +1,8 @@
 //! Why a demo ends early.
 
 ghost use Rattle.std.specs.Prelude.{◌≡◌};
-ghost use Rattle.scoop_show.specs.ErrorText.{client_name, client_number, close_name, close_number, driver_name, driver_number, loop_name, reserve_name, reserve_number};
+ghost use Rattle.scoop_show.specs.ErrorText.{client_name, client_number, close_name, close_number, driver_name, driver_number, loop_name, reserve_name};
+ghost use Rattle.scoop_show.specs.ErrorText.{reserve_number};
 
 use scoop_book::CloseRefusal;
 use scoop_client::ClientError;

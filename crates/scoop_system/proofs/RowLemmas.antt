@@ -22,7 +22,8 @@ use Rattle.scoop_system.specs.declared.error.Place.{Place}
 use Rattle.scoop_system.specs.Name.{told}
 use Rattle.scoop_system.specs.Value.{list_of}
 use Rattle.scoop_system.specs.Place.{at}
-use Rattle.scoop_system.specs.Terms.{word_term, argument_term, constant_term, term_of, or_no_term, term_in, two_terms, listed_test, test_in, written_word, four_terms, listed_write, write_in, written_before, next_write, writes_from}
+use Rattle.scoop_system.specs.Terms.{word_term, argument_term, constant_term, term_of, or_no_term, term_in, two_terms, listed_test, test_in, written_word}
+use Rattle.scoop_system.specs.Terms.{four_terms, listed_write, write_in, written_before, next_write, writes_from}
 
 -- what is read at a place
 pub at_ok : {A P : Type 0} (place : Place) (r : Read Wrong A) (y : A) → at place r ≡ Ok y → (r ≡ Ok y → P) → P

@@ -1,5 +1,6 @@
 -- The values of a TOML text, as they are held and as the definitions see them.
-use Rattle.std.proofs.Common.{◌≡◌, ℕ, ◌+◌, ◌<◌, ◌≤◌, nat_lt, Bool, true, false, not, arith, Ok, Err, if◌then◌else◌, List, [], ◌∷◌, length, drop, get_or, map, Option, Some, None, String, Global, string_bytes, refl, ap, option_map}
+use Rattle.std.proofs.Common.{◌≡◌, ℕ, ◌+◌, ◌<◌, ◌≤◌, nat_lt, Bool, true, false, not, arith, Ok, Err, if◌then◌else◌, List, [], ◌∷◌, length, drop, get_or, map}
+use Rattle.std.proofs.Common.{Option, Some, None, String, Global, string_bytes, refl, ap, option_map}
 use Rattle.std.specs.Prelude.{find}
 use Rattle.std.specs.Map.{keys_of}
 use Rattle.std.proofs.lemmas.List.{drop_more, length-map}

@@ -1,7 +1,8 @@
 -- The keys of a system's file.
 use Rattle.std.specs.Prelude.{ℕ, List, [], codes}
 use Rattle.scoop_system.specs.declared.error.Key.{Key}
-use Rattle.scoop_system.specs.declared.error.Key.TheVariants.{Class, Node, Handler, Client, Operation, Number, Name, Address, Words, Batch, Test, Writes, Answer}
+use Rattle.scoop_system.specs.declared.error.Key.TheVariants.{Class, Node, Handler, Client, Operation, Number, Name, Address, Words, Batch, Test, Writes}
+use Rattle.scoop_system.specs.declared.error.Key.TheVariants.{Answer}
 
 abbrev pub key_text : Key → List ℕ
 key_text Class = codes "class"

@@ -10,7 +10,8 @@ use Rattle.scoop_message.specs.declared.request.Request.{Request}
 use Rattle.scoop_classes.specs.Classes.{same_text}
 use Rattle.scoop_system.specs.declared.named_handlers.TheConstants.{MAX_NAMED}
 use Rattle.scoop_system.specs.declared.line.fault.LineFault.{LineFault}
-use Rattle.scoop_system.specs.declared.line.fault.LineFault.TheVariants.{UnknownLine, WrongNumberOfWords, NotANumber, TooFewArguments, TooManyArguments, TooManyHandlers, NoSuchOperation, NoSuchHandler}
+use Rattle.scoop_system.specs.declared.line.fault.LineFault.TheVariants.{UnknownLine, WrongNumberOfWords, NotANumber, TooFewArguments, TooManyArguments}
+use Rattle.scoop_system.specs.declared.line.fault.LineFault.TheVariants.{TooManyHandlers, NoSuchOperation, NoSuchHandler}
 use Rattle.scoop_system.specs.declared.place.HandlerPlace.{HandlerPlace}
 use Rattle.scoop_system.specs.declared.line.ClientLine.{ClientLine}
 use Rattle.scoop_system.specs.declared.line.ClientLine.TheVariants.{Blank, Reserve, Call, Query, End, ReserveWhen}

@@ -1,7 +1,8 @@
 -- What is told of a line's fault.
 use Rattle.std.specs.Prelude.{ℕ, List, codes}
 use Rattle.scoop_system.specs.declared.line.fault.LineFault.{LineFault}
-use Rattle.scoop_system.specs.declared.line.fault.LineFault.TheVariants.{UnknownLine, WrongNumberOfWords, NotANumber, TooFewArguments, TooManyArguments, TooManyHandlers, NoSuchOperation, NoSuchHandler}
+use Rattle.scoop_system.specs.declared.line.fault.LineFault.TheVariants.{UnknownLine, WrongNumberOfWords, NotANumber, TooFewArguments, TooManyArguments}
+use Rattle.scoop_system.specs.declared.line.fault.LineFault.TheVariants.{TooManyHandlers, NoSuchOperation, NoSuchHandler}
 
 abbrev pub line_fault_text : LineFault → List ℕ
 line_fault_text UnknownLine = codes "unknown line"

@@ -14,7 +14,8 @@ use Rattle.scoop_system.specs.declared.class.OwnOperation.{OwnOperation}
 use Rattle.scoop_system.specs.declared.error.Key.{Key}
 use Rattle.scoop_system.specs.declared.error.Key.TheVariants as key
 use Rattle.scoop_system.specs.declared.error.Wrong.{Wrong}
-use Rattle.scoop_system.specs.declared.error.Wrong.TheVariants.{Missing, NotATerm, NotAText, NoSuchWord, NoSuchArgument, NotATest, NotAWrite, WrittenTwice, Twice, NameTwice}
+use Rattle.scoop_system.specs.declared.error.Wrong.TheVariants.{Missing, NotATerm, NotAText, NoSuchWord, NoSuchArgument, NotATest, NotAWrite, WrittenTwice}
+use Rattle.scoop_system.specs.declared.error.Wrong.TheVariants.{Twice, NameTwice}
 use Rattle.scoop_system.specs.Name.{told}
 use Rattle.scoop_system.specs.KeyText.{key_text}
 use Rattle.scoop_system.specs.Value.{list_of, number_at, name_at, list_at, key_fault}

@@ -4,7 +4,8 @@ ghost use Rattle.std.specs.Prelude.{◌≡◌, ◌==◌, ℕ, find, nat_le};
 ghost use Rattle.std.specs.Option.{option_copied};
 ghost use Rattle.scoop_object.specs.Class.{has_args_below};
 ghost use Rattle.scoop_classes.specs.Classes.{table_of};
-ghost use Rattle.scoop_system.specs.Arguments.{term_arguments, test_arguments, write_arguments, writes_arguments, row_arguments, rows_arguments, class_arguments};
+ghost use Rattle.scoop_system.specs.Arguments.{term_arguments, test_arguments, write_arguments, writes_arguments, row_arguments, rows_arguments};
+ghost use Rattle.scoop_system.specs.Arguments.{class_arguments};
 
 use crate::class::{OwnClass, class_named};
 use crate::place::HandlerClass;

@@ -22,7 +22,8 @@ use Rattle.scoop_client.specs.declared.command.Command.{Command}
 use Rattle.scoop_client.specs.declared.command.Command.TheVariants.{Reserve, Call, Query, End, GiveUp}
 use Rattle.scoop_model.specs.declared.event.Event.{Event}
 use Rattle.scoop_model.specs.World.{World, Site, Party, number_of, is_party, sent_at, site_of, party_of}
-use Rattle.scoop_model.specs.Step.{Placement, Newcomer, opening, newest_block, commanded_world, with_sent, heard_world, heard_party, with_party, with_site, begun_site, finished_site, restarted_party, reopened, reopened_world}
+use Rattle.scoop_model.specs.Step.{Placement, Newcomer, opening, newest_block, commanded_world, with_sent, heard_world, heard_party, with_party, with_site}
+use Rattle.scoop_model.specs.Step.{begun_site, finished_site, restarted_party, reopened, reopened_world}
 use Rattle.scoop_model.specs.Opening.{MayOpen}
 use Rattle.scoop_model.specs.Reach.{steps, IsReached}
 use Rattle.scoop_model.proofs.Granting.{sent_in}
@@ -32,8 +33,10 @@ use Rattle.scoop_model.proofs.Keys.{key_found}
 use Rattle.scoop_model.proofs.Order.Facts.{all_found}
 use Rattle.scoop_model.proofs.Knowing.Runs.{clients_know}
 use Rattle.scoop_model.proofs.Reaching.{reached_ordered}
-use Rattle.scoop_weave.specs.System.{System, number_in, id_in, handler_in, client_in, with_handler, with_client, after_hearing, after_begin, after_finish, after_reopening, after_step, after_restart, new_system}
-use Rattle.scoop_weave.specs.Moves.{LocalMove, Heard, Began, Finished, NodeReopened, Commanded, Sent, ClientHeard, ClientRestarted, leaves, HeardIn, Moves, IsWeave, sent_by}
+use Rattle.scoop_weave.specs.System.{System, number_in, id_in, handler_in, client_in, with_handler, with_client, after_hearing, after_begin, after_finish}
+use Rattle.scoop_weave.specs.System.{after_reopening, after_step, after_restart, new_system}
+use Rattle.scoop_weave.specs.Moves.{LocalMove, Heard, Began, Finished, NodeReopened, Commanded, Sent, ClientHeard, ClientRestarted, leaves, HeardIn, Moves}
+use Rattle.scoop_weave.specs.Moves.{IsWeave, sent_by}
 use Rattle.scoop_weave.specs.Histories.{site_by, party_by, world_by}
 use Rattle.scoop_weave.specs.Weave.{Weave, IsOfWeave}
 use Rattle.scoop_weave.proofs.Lists.{find_through, found_has}

@@ -13,7 +13,8 @@ use Rattle.scoop_model.specs.declared.event.Event.TheVariants.{Do, Tick, ClientR
 use Rattle.scoop_model.specs.declared.note.WorldNote.TheVariants as note
 use Rattle.scoop_model.specs.declared.error.WorldError.TheVariants.{IncarnationsSpent}
 use Rattle.scoop_model.specs.World.{World, Party, party_of, site_of}
-use Rattle.scoop_model.specs.Step.{newest_block, commanded, commanded_world, do_at, with_sent, sends, sent_or_silent, place_of, tick_at, with_party, restarted_party, restart_client}
+use Rattle.scoop_model.specs.Step.{newest_block, commanded, commanded_world, do_at, with_sent, sends, sent_or_silent, place_of, tick_at, with_party}
+use Rattle.scoop_model.specs.Step.{restarted_party, restart_client}
 use Rattle.scoop_model.specs.Reach.{IsReached}
 use Rattle.scoop_model.proofs.Answering.Onward.{onward_commanded}
 use Rattle.scoop_weave.specs.System.{LocalClient, System, id_in, client_in, handler_in, with_client, after_step, after_restart}
@@ -21,7 +22,8 @@ use Rattle.scoop_weave.specs.Moves.{LocalMove, Commanded, Sent, ClientRestarted,
 use Rattle.scoop_weave.specs.Histories.{accepted_by, party_with, party_by, world_by, tick_event, event_in}
 use Rattle.scoop_weave.proofs.Brings.{Brings, brings_none, brings_one}
 use Rattle.scoop_weave.proofs.Telling.{sent_more, logged_more, party_stays}
-use Rattle.scoop_weave.proofs.Worlds.{same_world, site_there, party_there, sites_same, parties_changed, parties_same, nothing_sent, nothing_opened, nothing_logged, receiver_there, client_itself, IsSilent, told_nothing}
+use Rattle.scoop_weave.proofs.Worlds.{same_world, site_there, party_there, sites_same, parties_changed, parties_same, nothing_sent, nothing_opened}
+use Rattle.scoop_weave.proofs.Worlds.{nothing_logged, receiver_there, client_itself, IsSilent, told_nothing}
 
 -- ---- a command
 

@@ -10,7 +10,8 @@ use Rattle.scoop_rules.specs.Paper.{RunsByRules}
 use Rattle.scoop_model.proofs.Headline.{reached_safe}
 use Rattle.scoop_rules.proofs.Follows.Runs.{runs_by_rules, follows_rules}
 use Rattle.scoop_weave.specs.System.{System, new_handler, new_client, new_system}
-use Rattle.scoop_weave.specs.Moves.{LocalMove, Heard, Began, Finished, NodeReopened, Commanded, Sent, ClientHeard, ClientRestarted, HeardIn, Moves, IsWeave, sent_by}
+use Rattle.scoop_weave.specs.Moves.{LocalMove, Heard, Began, Finished, NodeReopened, Commanded, Sent, ClientHeard, ClientRestarted, HeardIn, Moves, IsWeave}
+use Rattle.scoop_weave.specs.Moves.{sent_by}
 use Rattle.scoop_weave.specs.Histories.{site_by, party_by, world_by, event_in, events_behind, events_of}
 use Rattle.scoop_weave.specs.Weave.{Weave, IsWorld}
 use Rattle.scoop_weave.proofs.Brings.{Brings, brings_none, brings_both, brings_leads}

@@ -19,7 +19,8 @@ use Rattle.scoop_client.specs.declared.phase.ClientNote.{ClientNote}
 use Rattle.scoop_client.specs.declared.phase.ClientNote.TheVariants.{Ignored}
 use Rattle.scoop_client.specs.State.{ClientState}
 use Rattle.scoop_client.specs.Window.{window_of}
-use Rattle.scoop_client.specs.Hearing.{Notice, heard, ignored, hear_welcome, after_step as after_reserving, hear_step, hear_logged, hear_answer, hear_count, hear_answer_to, up_to}
+use Rattle.scoop_client.specs.Hearing.{Notice, heard, ignored, hear_welcome, after_step as after_reserving, hear_step, hear_logged, hear_answer, hear_count}
+use Rattle.scoop_client.specs.Hearing.{hear_answer_to, up_to}
 use Rattle.scoop_client.specs.Rows.{HeardRow, passed_over, is_welcomed, takes_step, is_acknowledged, is_accepted}
 use Rattle.scoop_client.proofs.Rows.{heard_row}
 use Rattle.scoop_model.specs.declared.event.Event.TheVariants.{Take}
@@ -40,7 +41,8 @@ use Rattle.scoop_weave.proofs.Lists.{itself, apart, from_false}
 use Rattle.scoop_weave.proofs.Brings.{Brings, brings_none, brings_one}
 use Rattle.scoop_weave.proofs.Telling.{party_goes_on}
 use Rattle.scoop_weave.proofs.Places.{sent_there}
-use Rattle.scoop_weave.proofs.Worlds.{same_world, party_there, client_itself, sites_same, parties_changed, nothing_sent, nothing_opened, nothing_logged, IsSilent, told_nothing}
+use Rattle.scoop_weave.proofs.Worlds.{same_world, party_there, client_itself, sites_same, parties_changed, nothing_sent, nothing_opened, nothing_logged}
+use Rattle.scoop_weave.proofs.Worlds.{IsSilent, told_nothing}
 
 -- the block that the client has is the newest that it began
 abbrev HasNewest : ClientState → Type 0

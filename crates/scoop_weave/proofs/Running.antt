@@ -1,7 +1,8 @@
 -- A handler whose job goes out or has run, and a node that restarts, are the events of that name. A job that could not go out is no
 -- event, and the handler stays. A restart gives each handler of the node its stored state; in a reached world that is the
 -- handler's own, so its number stays, and with it what opened and ran there.
-use Rattle.std.proofs.Common.{◌≡◌, ℕ, ◌==◌, Bool, true, false, ◌||◌, List, [], ◌∷◌, ◌++◌, map, Option, Some, None, is_some, refl, sym, ap, ◌∙◌, subst, append-nil}
+use Rattle.std.proofs.Common.{◌≡◌, ℕ, ◌==◌, Bool, true, false, ◌||◌, List, [], ◌∷◌, ◌++◌, map, Option, Some, None, is_some, refl, sym, ap, ◌∙◌, subst}
+use Rattle.std.proofs.Common.{append-nil}
 use Rattle.std.specs.Prelude.{if◌then◌else◌, Ok, Err}
 use Rattle.std.specs.List.{list_any, AllByRecursion}
 use Rattle.std.specs.Option.{option_map}
@@ -29,7 +30,8 @@ use Rattle.scoop_weave.specs.Histories.{ran_here, opened_by, ran_by, site_with, 
 use Rattle.scoop_weave.proofs.Lists.{itself, apart, from_false}
 use Rattle.scoop_weave.proofs.Brings.{Brings, brings_none, brings_one}
 use Rattle.scoop_weave.proofs.Telling.{site_stays, site_goes_on}
-use Rattle.scoop_weave.proofs.Worlds.{same_world, site_there, handler_itself, sites_changed, parties_same, nothing_sent, nothing_opened, nothing_logged, IsElsewhere, IsSilent, told_nothing}
+use Rattle.scoop_weave.proofs.Worlds.{same_world, site_there, handler_itself, sites_changed, parties_same, nothing_sent, nothing_opened, nothing_logged}
+use Rattle.scoop_weave.proofs.Worlds.{IsElsewhere, IsSilent, told_nothing}
 
 -- ---- a job goes out
 

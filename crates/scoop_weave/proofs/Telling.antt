@@ -6,7 +6,8 @@ use Rattle.scoop_model.specs.World.{Accepted, BlockLog}
 use Rattle.scoop_model.specs.Step.{joined}
 use Rattle.scoop_weave.specs.System.{LocalHandler, LocalClient, number_in, id_in}
 use Rattle.scoop_weave.specs.Moves.{LocalMove, sent_in, sent_by}
-use Rattle.scoop_weave.specs.Histories.{opened_in, opened_here, ran_here, opened_by, ran_by, accepted_here, accepted_by, logs_more, logs_behind, logs_by, joint_behind, joint_by, site_with, site_by, party_with, party_by}
+use Rattle.scoop_weave.specs.Histories.{opened_in, opened_here, ran_here, opened_by, ran_by, accepted_here, accepted_by, logs_more, logs_behind, logs_by}
+use Rattle.scoop_weave.specs.Histories.{joint_behind, joint_by, site_with, site_by, party_with, party_by}
 use Rattle.scoop_weave.proofs.Lists.{flat_map_snoc, nothing_more}
 
 logs_both : (logs : List BlockLog) (xs : List LocalMove) (m : LocalMove) → logs_behind logs (xs ++ m ∷ []) ≡ logs_more (logs_behind logs xs) m

@@ -16,7 +16,8 @@ use Rattle.scoop_message.specs.Lists.{NoRepeats}
 use Rattle.scoop_model.proofs.Order.Facts.{SiteFits, all_found}
 use Rattle.scoop_model.proofs.Knowing.Runs.{clients_know}
 use Rattle.scoop_model.proofs.Reaching.{reached_ordered, sites_apart, parties_apart}
-use Rattle.scoop_weave.specs.System.{LocalHandler, LocalClient, System, number_in, id_in, handler_in, client_in, newer_handler, newer_client, with_handler, with_client}
+use Rattle.scoop_weave.specs.System.{LocalHandler, LocalClient, System, number_in, id_in, handler_in, client_in, newer_handler, newer_client, with_handler}
+use Rattle.scoop_weave.specs.System.{with_client}
 use Rattle.scoop_weave.specs.Moves.{LocalMove, sent_in, sent_by}
 use Rattle.scoop_weave.specs.Histories.{opened_in, opened_here, ran_here, accepted_here, logs_more, logs_by, joint_by, site_by, party_by, world_by}
 use Rattle.scoop_weave.proofs.Lists.{find_through, set_through, map_through, put_itself, has_found}

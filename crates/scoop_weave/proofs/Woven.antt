@@ -24,8 +24,10 @@ use Rattle.scoop_model.proofs.Basics.{by_test}
 use Rattle.scoop_model.proofs.Keys.{key_found}
 use Rattle.scoop_model.proofs.Answering.Onward.{onward_heard, onward_commanded}
 use Rattle.scoop_weave.specs.System.{LocalHandler, LocalClient, System, number_in, id_in, on_node, after_reopening, new_handler, new_client, new_system}
-use Rattle.scoop_weave.specs.Moves.{LocalMove, Heard, Began, Finished, NodeReopened, Commanded, Sent, ClientHeard, ClientRestarted, HandlerMoves, ClientMoves, AtHandler, AtNode, AtClient, Moves, IsWeave}
-use Rattle.scoop_weave.specs.Parties.{is_at, is_by, moves_at, moves_by, HandlerRuns, ClientRuns, EachHandler, EachClient, HeardAfterSent, has_handler, has_node, has_client, IsMember, IsWoven}
+use Rattle.scoop_weave.specs.Moves.{LocalMove, Heard, Began, Finished, NodeReopened, Commanded, Sent, ClientHeard, ClientRestarted, HandlerMoves, ClientMoves}
+use Rattle.scoop_weave.specs.Moves.{AtHandler, AtNode, AtClient, Moves, IsWeave}
+use Rattle.scoop_weave.specs.Parties.{is_at, is_by, moves_at, moves_by, HandlerRuns, ClientRuns, EachHandler, EachClient, HeardAfterSent, has_handler, has_node}
+use Rattle.scoop_weave.specs.Parties.{has_client, IsMember, IsWoven}
 use Rattle.scoop_weave.specs.Weave.{Weave}
 use Rattle.scoop_weave.proofs.Lists.{has_found}
 use Rattle.scoop_weave.proofs.Steps.{StepAt, goes, stays, EachStep, keys_stay, all_stay, all_go, one_goes}

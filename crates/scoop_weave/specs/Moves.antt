@@ -18,7 +18,8 @@ use Rattle.scoop_client.specs.Hearing.{heard}
 use Rattle.scoop_client.specs.declared.command.Command.{Command}
 use Rattle.scoop_client.specs.Commands.{command}
 use Rattle.scoop_model.specs.Step.{newest_block}
-use Rattle.scoop_weave.specs.System.{LocalHandler, LocalClient, System, handler_in, client_in, on_node, with_handler, with_client, after_hearing, after_begin, after_finish, after_reopening, after_step, after_restart}
+use Rattle.scoop_weave.specs.System.{LocalHandler, LocalClient, System, handler_in, client_in, on_node, with_handler, with_client, after_hearing, after_begin}
+use Rattle.scoop_weave.specs.System.{after_finish, after_reopening, after_step, after_restart}
 
 pub data LocalMove : Type 0 where
   -- the handler heard the message, replied and noted

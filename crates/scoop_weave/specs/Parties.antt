@@ -6,7 +6,8 @@ use Rattle.scoop_message.specs.declared.name.HandlerId.{HandlerId}
 use Rattle.scoop_message.specs.Message.{same_handler, same_client}
 use Rattle.scoop_model.specs.Step.{Placement, Newcomer}
 use Rattle.scoop_weave.specs.System.{LocalHandler, LocalClient, System, number_in, id_in, new_system}
-use Rattle.scoop_weave.specs.Moves.{LocalMove, Heard, Began, Finished, NodeReopened, Commanded, Sent, ClientHeard, ClientRestarted, HandlerMoves, ClientMoves, HeardIn, sent_by}
+use Rattle.scoop_weave.specs.Moves.{LocalMove, Heard, Began, Finished, NodeReopened, Commanded, Sent, ClientHeard, ClientRestarted, HandlerMoves, ClientMoves}
+use Rattle.scoop_weave.specs.Moves.{HeardIn, sent_by}
 
 -- ---- the moves of one party
 

@@ -1,7 +1,8 @@
 -- Moves that are taken are a beginning of every order, and where none can be taken no order goes on. Every other beginning
 -- has of each party no more than was taken (`Covers`): the first move that it has beyond that hears only what was sent by
 -- moves that were taken too, so it could be taken. A party that stands there, with a move left, is unexplained by any order.
-use Rattle.std.proofs.Common.{◌≡◌, ◌⊎◌, inl, inr, ℕ, zero, suc, ◌+◌, ◌-◌, ◌<◌, ◌≤◌, ◌==◌, true≢false, List, [], ◌∷◌, ◌++◌, map, length, get_or, set, slice_get, Option, Some, None, refl, sym, ap, ◌∙◌, subst, append_assoc, append-nil, arith, get_or-set_same, get_or-set_other, length-append}
+use Rattle.std.proofs.Common.{◌≡◌, ◌⊎◌, inl, inr, ℕ, zero, suc, ◌+◌, ◌-◌, ◌<◌, ◌≤◌, ◌==◌, true≢false, List, [], ◌∷◌, ◌++◌, map, length, get_or, set, slice_get}
+use Rattle.std.proofs.Common.{Option, Some, None, refl, sym, ap, ◌∙◌, subst, append_assoc, append-nil, arith, get_or-set_same, get_or-set_other, length-append}
 use Rattle.std.specs.Prelude.{◌↔◌, Contains, IfSome, option_to_list, slice_index, unwrap_or}
 use Rattle.std.specs.List.{AllByRecursion}
 use Rattle.std.proofs.lemmas.Bool.Decides.{Decides-eqb}

@@ -1,5 +1,6 @@
 -- Orders of what parties did, and how one is found.
-use Rattle.std.specs.Prelude.{◌≡◌, ◌↔◌, ℕ, ◌+◌, ◌-◌, ◌<◌, ◌≤◌, ⊤, List, [], ◌∷◌, ◌++◌, length, map, flat_map, slice_get, slice_index, Contains, Option, Some, None, IfSome, option_to_list}
+use Rattle.std.specs.Prelude.{◌≡◌, ◌↔◌, ℕ, ◌+◌, ◌-◌, ◌<◌, ◌≤◌, ⊤, List, [], ◌∷◌, ◌++◌, length, map, flat_map, slice_get, slice_index, Contains, Option, Some}
+use Rattle.std.specs.Prelude.{None, IfSome, option_to_list}
 use Rattle.scoop_message.specs.declared.message.Message.{Message}
 use Rattle.scoop_weaver.specs.declared.traffic.Traffic.{Traffic}
 use Rattle.scoop_weaver.specs.declared.error.NoWeave.{NoWeave}

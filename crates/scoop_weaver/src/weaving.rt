@@ -1,6 +1,7 @@
 //! How an order is found.
 
-ghost use Rattle.std.specs.Prelude.{◌≡◌, ◌≢◌, ◌↔◌, ◌<◌, ◌≤◌, ◌⊎◌, ℕ, List, Some, length, slice_get, slice_index, Contains, IsTrue, IfOk, IfErr, IfSome, IfNone, OnOk, map};
+ghost use Rattle.std.specs.Prelude.{◌≡◌, ◌≢◌, ◌↔◌, ◌<◌, ◌≤◌, ◌⊎◌, ℕ, List, Some, length, slice_get, slice_index, Contains, IsTrue, IfOk, IfErr, IfSome, IfNone};
+ghost use Rattle.std.specs.Prelude.{OnOk, map};
 ghost use Rattle.scoop_message.specs.declared.message.Message.{Message as Told};
 ghost use Rattle.scoop_weaver.specs.declared.traffic.Traffic.{Traffic as Move};
 ghost use Rattle.scoop_weaver.specs.Weaving.{IsNoWeave, IsReady, IsRun, IsWoven, left, next_at, party_len};

@@ -1,5 +1,6 @@
 -- What decimal digits write.
-use Rattle.std.proofs.Common.{◌≡◌, ℕ, zero, suc, ◌+◌, ◌-◌, ◌*◌, ◌^◌, ◌<◌, ◌≤◌, nat_lt, lit≤, le_trans, lt_of_lt_of_le, Bool, true, false, ◌&&◌, List, [], ◌∷◌, length, get_or, take, None, Err, refl, arith, rules}
+use Rattle.std.proofs.Common.{◌≡◌, ℕ, zero, suc, ◌+◌, ◌-◌, ◌*◌, ◌^◌, ◌<◌, ◌≤◌, nat_lt, lit≤, le_trans, lt_of_lt_of_le, Bool, true, false, ◌&&◌, List, [], ◌∷◌}
+use Rattle.std.proofs.Common.{length, get_or, take, None, Err, refl, arith, rules}
 use native.Mathlib.Nat.{pow-le-pow_right}
 use Rattle.std.specs.List.{list_all}
 use Rattle.std.specs.Str.{IsUtf8}

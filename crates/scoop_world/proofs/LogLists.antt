@@ -1,7 +1,8 @@
 -- What the calls on the map of blocks do to the logs that it keeps. The map has each block once, in the order of the
 -- reserves, which is the order of the logs: an insert of a new block puts its log at the end, a write at a block's place
 -- changes its log alone, and a look-up finds the place of the first log of the block, which is its only one.
-use Rattle.std.proofs.Common.{◌≡◌, ℕ, zero, suc, ◌+◌, ◌<◌, ◌≤◌, Bool, true, false, ◌||◌, cond, List, [], ◌∷◌, ◌++◌, length, map, slice_get, Option, None, Some, position, MatchOption, nat_lt, refl, sym, ap, ◌∙◌, subst, arith}
+use Rattle.std.proofs.Common.{◌≡◌, ℕ, zero, suc, ◌+◌, ◌<◌, ◌≤◌, Bool, true, false, ◌||◌, cond, List, [], ◌∷◌, ◌++◌, length, map, slice_get, Option, None, Some}
+use Rattle.std.proofs.Common.{position, MatchOption, nat_lt, refl, sym, ap, ◌∙◌, subst, arith}
 use Rattle.std.specs.List.{AllByRecursion, IsDistinct, list_any, position_or_len}
 use Rattle.std.specs.Map.{keys_of, values_of}
 use Rattle.std.specs.Prelude.{Vec, if◌then◌else◌}

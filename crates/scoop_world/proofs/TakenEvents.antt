@@ -1,7 +1,8 @@
 -- What a world is once an event has happened to one of its parts. The code changes one item of a list in its place, and
 -- stores it; the definitions put the item in place of the one with its key. As keys don't repeat, both make the same world,
 -- and the keeper has all of it again. One lemma for each kind of event.
-use Rattle.std.proofs.Common.{◌≡◌, ℕ, ◌+◌, ◌<◌, ◌==◌, ◌-◌, ◌^◌, true, false, List, [], ◌∷◌, ◌++◌, map, length, set, get_or, slice_get, Option, Some, None, refl, sym, ap, ◌∙◌, subst}
+use Rattle.std.proofs.Common.{◌≡◌, ℕ, ◌+◌, ◌<◌, ◌==◌, ◌-◌, ◌^◌, true, false, List, [], ◌∷◌, ◌++◌, map, length, set, get_or, slice_get, Option, Some, None, refl}
+use Rattle.std.proofs.Common.{sym, ap, ◌∙◌, subst}
 use Rattle.std.specs.Prelude.{Ok, Err, IsOk, option_to_list, if◌then◌else◌}
 use Rattle.std.specs.Result.{is_ok}
 use Rattle.scoop_message.specs.declared.name.Block.{Block}
@@ -22,7 +23,9 @@ use Rattle.scoop_model.specs.declared.note.WorldNote.TheVariants as note
 use Rattle.scoop_model.specs.declared.error.WorldError.{WorldError}
 use Rattle.scoop_model.specs.declared.error.WorldError.TheVariants.{NoSuchMessage, NoSuchParty, NothingToRun, ClientRefused, IncarnationsSpent, OutOfMemory}
 use Rattle.scoop_model.specs.World.{World, Site, Party, BlockLog, number_of, id_of, is_site, is_party, site_of, party_of, set_site, set_party}
-use Rattle.scoop_model.specs.Step.{Stepped, sent_or_silent, tick_at, newest_block, logs_after, do_at, newly_opened, joined, heard_site, taken_by_handler, heard_party, taken_by_client, with_party, begun_site, begins, begin_at, finished_site, finishes, finish_at, restarted_party, restart_client, reopened, restart_node}
+use Rattle.scoop_model.specs.Step.{Stepped, sent_or_silent, tick_at, newest_block, logs_after, do_at, newly_opened, joined, heard_site, taken_by_handler}
+use Rattle.scoop_model.specs.Step.{heard_party, taken_by_client, with_party, begun_site, begins, begin_at, finished_site, finishes, finish_at, restarted_party}
+use Rattle.scoop_model.specs.Step.{restart_client, reopened, restart_node}
 use Rattle.scoop_model.specs.Reach.{IsReached}
 use Rattle.scoop_message.specs.Lists.{NoRepeats}
 use Rattle.scoop_keeper.specs.Keyed.{IsFirst}

@@ -8,7 +8,8 @@ use Rattle.scoop_object.specs.Class.{ClassTable}
 use Rattle.scoop_keeper.specs.Keeper.{last_incarnation}
 use Rattle.scoop_keeper.specs.Keyed.{IsFirstRepeat}
 use Rattle.scoop_world.specs.declared.error.WorldOpenError.{WorldOpenError}
-use Rattle.scoop_world.specs.declared.error.WorldOpenError.TheVariants.{NoHandlers, TooManyHandlers, Repeated, WrongClass, TooManyClients, RepeatedClient, IncarnationsSpent, OutOfMemory}
+use Rattle.scoop_world.specs.declared.error.WorldOpenError.TheVariants.{NoHandlers, TooManyHandlers, Repeated, WrongClass, TooManyClients, RepeatedClient}
+use Rattle.scoop_world.specs.declared.error.WorldOpenError.TheVariants.{IncarnationsSpent, OutOfMemory}
 use Rattle.scoop_world.specs.declared.placing.Placement.{Placement}
 use Rattle.scoop_message.specs.Lists.{NoRepeats}
 

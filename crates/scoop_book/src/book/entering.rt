@@ -6,7 +6,8 @@ ghost use Rattle.scoop_handler.specs.Running.{job_out, ran_of, ready};
 ghost use Rattle.scoop_keeper.specs.Keeper.{IsPutError, IsSame, Stays as KeeperStays};
 ghost use Rattle.scoop_book.specs.Moves.{handler_at, handler_in, is_handler, leaves};
 ghost use Rattle.scoop_keeper.specs.Keyed.{IsFirst};
-ghost use Rattle.scoop_book.specs.Books.{Gains, IsBook, IsRefused, IsUnfinished, KeepsNew, MayHappen, Stays, IsHear, HasNoPlace, HasReply, fails, fails_to_finish, no_place_to_finish, refusal_of};
+ghost use Rattle.scoop_book.specs.Books.{Gains, IsBook, IsRefused, IsUnfinished, KeepsNew, MayHappen, Stays, IsHear, HasNoPlace, HasReply, fails};
+ghost use Rattle.scoop_book.specs.Books.{fails_to_finish, no_place_to_finish, refusal_of};
 
 use crate::book::{Book, enter};
 use crate::error::{BookError, FinishError, FinishRefusal};

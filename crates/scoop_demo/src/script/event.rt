@@ -5,7 +5,8 @@ ghost use Rattle.scoop_message.specs.declared.limits.TheConstants.{MAX_ARGS};
 ghost use Rattle.scoop_client.specs.declared.handlers.TheConstants.{MAX_NAMED_HANDLERS};
 ghost use Rattle.scoop_words.specs.Words.{words_of};
 ghost use Rattle.scoop_words.specs.Reading.{each_of};
-ghost use Rattle.scoop_demo.specs.ScriptLine.{event_line, reserve_line, request_line, place_line, node_line, client_alone, handler_alone, pair_of, handler_of, number_of};
+ghost use Rattle.scoop_demo.specs.ScriptLine.{event_line, reserve_line, request_line, place_line, node_line, client_alone, handler_alone, pair_of, handler_of};
+ghost use Rattle.scoop_demo.specs.ScriptLine.{number_of};
 
 use super::kind::EventKind;
 use super::number::{read_numbers, read_u16, read_u32, read_u64};

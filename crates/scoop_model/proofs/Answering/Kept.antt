@@ -21,7 +21,8 @@ use Rattle.scoop_handler.specs.Marks.{block_of, fresh_mark, opened_mark, with_re
 use Rattle.scoop_handler.specs.State.{HandlerState}
 use Rattle.scoop_handler.specs.Hearing.{Hearing, IsHeardAt, greeting_mark}
 use Rattle.scoop_handler.specs.Running.{mark_after}
-use Rattle.scoop_handler.specs.Rows.{Row, first_greeting, newer_greeting, lock_granted, is_opened, unlock_of_a_block_never_held, is_freed, is_answered, is_taken}
+use Rattle.scoop_handler.specs.Rows.{Row, first_greeting, newer_greeting, lock_granted, is_opened, unlock_of_a_block_never_held, is_freed, is_answered}
+use Rattle.scoop_handler.specs.Rows.{is_taken}
 use Rattle.scoop_handler.proofs.MarkLists.{All-mark_of, All-set_mark, All-add_mark}
 use Rattle.scoop_handler.proofs.TableLaws.{block_of-same}
 use Rattle.scoop_model.specs.Safe.{HasRun}

@@ -14,7 +14,8 @@ use Rattle.scoop_client.specs.Window.{WindowState, with_entry, with_end, acknowl
 use Rattle.scoop_client.specs.State.{ClientState, with_windows, with_reservation, idle}
 use Rattle.scoop_client.specs.Hearing.{stepped, after_step, settled, up_to}
 use Rattle.scoop_client.specs.Commands as client
-use Rattle.scoop_client.specs.Rows.{HeardRow, passed_over, is_welcomed, takes_step, is_acknowledged, is_accepted, ReserveRow, begins_block, LogRow, is_logged, EndRow, ends_block, GiveUpRow, gives_up}
+use Rattle.scoop_client.specs.Rows.{HeardRow, passed_over, is_welcomed, takes_step, is_acknowledged, is_accepted, ReserveRow, begins_block, LogRow, is_logged}
+use Rattle.scoop_client.specs.Rows.{EndRow, ends_block, GiveUpRow, gives_up}
 use Rattle.scoop_client.proofs.CommandRows.{command_row}
 use Rattle.scoop_client.specs.declared.command.Command.{Command}
 use Rattle.scoop_client.specs.declared.command.Command.TheVariants.{Reserve, Call, Query, End, GiveUp}

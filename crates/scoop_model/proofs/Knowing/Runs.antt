@@ -22,7 +22,8 @@ use Rattle.scoop_client.specs.Hearing.{heard}
 use Rattle.scoop_client.proofs.DueRows.{due_row}
 use Rattle.scoop_client.proofs.Rows.{heard_row}
 use Rattle.scoop_model.specs.World.{World, Site, Party, number_of, is_party, is_site, sent_at, set_party, set_site, site_of}
-use Rattle.scoop_model.specs.Step.{Placement, Newcomer, new_party, opening, begun_site, finished_site, heard_party, heard_site, heard_world, reopened, restarted_party}
+use Rattle.scoop_model.specs.Step.{Placement, Newcomer, new_party, opening, begun_site, finished_site, heard_party, heard_site, heard_world, reopened}
+use Rattle.scoop_model.specs.Step.{restarted_party}
 use Rattle.scoop_model.specs.Reach.{Run, IsReached}
 use Rattle.scoop_model.specs.Named.{IsMarked, NamesKnown}
 use Rattle.scoop_model.proofs.Events.{Changes, steps_kept}

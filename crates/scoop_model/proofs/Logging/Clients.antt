@@ -1,7 +1,8 @@
 -- What a client sends and hears, and its restart, leave its windows at the end of the logs. A Log carries the first entries
 -- of a window, from the number behind the acknowledged ones, so they stand in the log with these numbers; an acknowledgement
 -- takes entries off a window's front alone. Hearing and restarting log nothing.
-use Rattle.std.proofs.Common.{◌≡◌, ℕ, ◌+◌, ◌||◌, Bool, true, false, true≢false, nat_lt, nat_le, List, [], ◌++◌, Option, Some, refl, sym, ap, ◌∙◌, subst, append_assoc, append-nil}
+use Rattle.std.proofs.Common.{◌≡◌, ℕ, ◌+◌, ◌||◌, Bool, true, false, true≢false, nat_lt, nat_le, List, [], ◌++◌, Option, Some, refl, sym, ap, ◌∙◌, subst}
+use Rattle.std.proofs.Common.{append_assoc, append-nil}
 use Rattle.std.proofs.lemmas.Option.{same_Some}
 use Rattle.std.specs.Prelude.{if◌then◌else◌}
 use Rattle.std.specs.List.{AllByRecursion}
@@ -19,7 +20,8 @@ use Rattle.scoop_reserve.specs.declared.stage.Step.TheVariants as step
 use Rattle.scoop_reserve.specs.State.{ReservationState}
 use Rattle.scoop_reserve.specs.Hearing.{is_open, is_open_in, is_gone}
 use Rattle.scoop_reserve.specs.Hearing as reservation
-use Rattle.scoop_reserve.proofs.Rows.{HeardRow as StepRow, passed_over as steps_over, one_is_locked, all_are_locked, is_busy, one_is_opened, all_are_opened, is_unlocked, is_given_back, heard_row as step_row}
+use Rattle.scoop_reserve.proofs.Rows.{HeardRow as StepRow, passed_over as steps_over, one_is_locked, all_are_locked, is_busy, one_is_opened, all_are_opened}
+use Rattle.scoop_reserve.proofs.Rows.{is_unlocked, is_given_back, heard_row as step_row}
 use Rattle.scoop_client.specs.declared.phase.ClientNote.{ClientNote}
 use Rattle.scoop_client.specs.Window.{WindowState, logged, acknowledged, window_of, at_window, all_over, first_entries}
 use Rattle.scoop_client.specs.State.{ClientState, idle, with_windows, with_reservation}
@@ -35,7 +37,8 @@ use Rattle.scoop_model.proofs.Stands.{Stands}
 use Rattle.scoop_model.proofs.Order.Facts.{all_more_of, all_pushed, all_set_party}
 use Rattle.scoop_model.proofs.Sound.Owed.{OwedRow, asks, opens, unlocks, gives_back, owed_row}
 use Rattle.scoop_model.proofs.Logging.Facts.{Carries, WindowFits, IsLastQuery, WaitsAt, WindowsFit, PartyLogs, Logging, Grown, stands_more}
-use Rattle.scoop_model.proofs.Logging.Windows.{by_window, handlers_at, handlers_at_window, window_handler, window_own, window_other, fits_acknowledged, query_acknowledged, first_of_all}
+use Rattle.scoop_model.proofs.Logging.Windows.{by_window, handlers_at, handlers_at_window, window_handler, window_own, window_other, fits_acknowledged}
+use Rattle.scoop_model.proofs.Logging.Windows.{query_acknowledged, first_of_all}
 
 -- ---- what goes on
 

@@ -1,7 +1,8 @@
 -- What a command to a client does leaves its windows at the end of the logs. The log and the client's own window at a handler
 -- grow by the same entry, so that the window stays the log's end; other blocks' logs stay; and nothing is logged before the
 -- block has opened at all of its handlers. Command by command, by the rows of the client's table.
-use Rattle.std.proofs.Common.{◌≡◌, ℕ, ◌+◌, ◌-◌, ◌^◌, Bool, true, false, true≢false, nat_le, List, [], ◌∷◌, ◌++◌, map, Option, Some, None, refl, sym, ap, ◌∙◌, subst, append-nil, ⊎_elim}
+use Rattle.std.proofs.Common.{◌≡◌, ℕ, ◌+◌, ◌-◌, ◌^◌, Bool, true, false, true≢false, nat_le, List, [], ◌∷◌, ◌++◌, map, Option, Some, None, refl, sym, ap, ◌∙◌}
+use Rattle.std.proofs.Common.{subst, append-nil, ⊎_elim}
 use Rattle.std.proofs.lemmas.Option.{same_Some}
 use Rattle.std.specs.Prelude.{if◌then◌else◌, Ok}
 use Rattle.std.specs.Option.{option_map}
@@ -35,7 +36,8 @@ use Rattle.scoop_model.proofs.Order.Facts.{PartyFits, all_more_of, all_set_party
 use Rattle.scoop_model.proofs.Order.Commands.{next_is_new, started_fresh}
 use Rattle.scoop_model.proofs.Logging.Facts.{Carries, WindowFits, IsLastQuery, WaitsAt, WindowsFit, PartyLogs, Logging, Grown}
 use Rattle.scoop_model.proofs.Logging.Logs.{HasLine, IsAdded, added, added_last, log_after, log_here, log_other, named_lines, reserved_same, unreserved_empty}
-use Rattle.scoop_model.proofs.Logging.Windows.{by_all, by_window, fits_ended, fits_fresh, fits_logged, fresh_found, handlers_at, handlers_at_window, handlers_fresh_windows, handlers_in_all, window_own, not_ended, query_logged, same_found}
+use Rattle.scoop_model.proofs.Logging.Windows.{by_all, by_window, fits_ended, fits_fresh, fits_logged, fresh_found, handlers_at, handlers_at_window}
+use Rattle.scoop_model.proofs.Logging.Windows.{handlers_fresh_windows, handlers_in_all, window_own, not_ended, query_logged, same_found}
 use Rattle.scoop_model.proofs.Logging.Clients.{StaysLogged, carries_more, fit_again, windows_more, party_more}
 
 -- ---- a command, once it is known what it does to the client's own windows

@@ -1,6 +1,7 @@
 -- Who greets whom: a client greets in no incarnation above its own, no handler's mark is above its client's incarnation,
 -- and a handler that has welcomed an incarnation has a mark that isn't below it.
-use Rattle.std.proofs.Common.{◌≡◌, ℕ, ◌+◌, ◌<◌, ◌≤◌, ◌||◌, true, true≢false, nat_lt, List, [], ◌∷◌, map, find, Option, Some, None, refl, sym, ap, ◌∙◌, subst, arith}
+use Rattle.std.proofs.Common.{◌≡◌, ℕ, ◌+◌, ◌<◌, ◌≤◌, ◌||◌, true, true≢false, nat_lt, List, [], ◌∷◌, map, find, Option, Some, None, refl, sym, ap, ◌∙◌, subst}
+use Rattle.std.proofs.Common.{arith}
 use Rattle.std.specs.Prelude.{⊤}
 use Rattle.std.specs.List.{AllByRecursion, list_any}
 use Rattle.std.specs.Option.{option_map_or}
@@ -22,7 +23,8 @@ use Rattle.scoop_handler.specs.State.{HandlerState}
 use Rattle.scoop_handler.specs.Growing.{MarksGrow}
 use Rattle.scoop_handler.specs.Hearing.{Hearing, IsHeardAt, greeting_mark, hear}
 use Rattle.scoop_handler.specs.Running.{mark_after, ran_of}
-use Rattle.scoop_handler.specs.Rows.{Row, first_greeting, newer_greeting, repeated_greeting, lock_granted, is_opened, unlock_of_a_block_never_held, is_freed, is_taken}
+use Rattle.scoop_handler.specs.Rows.{Row, first_greeting, newer_greeting, repeated_greeting, lock_granted, is_opened, unlock_of_a_block_never_held, is_freed}
+use Rattle.scoop_handler.specs.Rows.{is_taken}
 use Rattle.scoop_handler.proofs.MarkLists.{mark_of-client, mark_of-add_mark_own, mark_of-set_mark_own, All-mark_of, All-set_mark, All-add_mark}
 use Rattle.scoop_handler.proofs.TableRows.{row}
 use Rattle.scoop_handler.proofs.TableLaws.{grows-row, number-row}
@@ -35,8 +37,10 @@ use Rattle.scoop_client.specs.Hearing.{heard}
 use Rattle.scoop_client.specs.Rows.{DueRow, owes_nothing, greets, reserves, logs}
 use Rattle.scoop_client.proofs.DueRows.{due_row}
 use Rattle.scoop_client.proofs.Rows.{heard_row}
-use Rattle.scoop_model.specs.World.{World, Site, Party, number_of, id_of, is_party, is_site, is_succeeded, is_newer_welcome, party_of, sent_at, set_party, set_site, site_of, inc_of}
-use Rattle.scoop_model.specs.Step.{Placement, Newcomer, new_site, opening, commanded_world, with_sent, heard_site, heard_world, heard_party, begun_site, finished_site, restarted_party, reopened, reopened_world, with_party, with_site}
+use Rattle.scoop_model.specs.World.{World, Site, Party, number_of, id_of, is_party, is_site, is_succeeded, is_newer_welcome, party_of, sent_at, set_party}
+use Rattle.scoop_model.specs.World.{set_site, site_of, inc_of}
+use Rattle.scoop_model.specs.Step.{Placement, Newcomer, new_site, opening, commanded_world, with_sent, heard_site, heard_world, heard_party, begun_site}
+use Rattle.scoop_model.specs.Step.{finished_site, restarted_party, reopened, reopened_world, with_party, with_site}
 use Rattle.scoop_model.proofs.Events.{Changes}
 use Rattle.scoop_model.proofs.Basics.{by_test}
 use Rattle.scoop_model.proofs.Keys.{by_party, by_site, id_found}

@@ -1,7 +1,8 @@
 -- What a client does keeps what is told of openings. A block has one reservation at most (its client's), so what is told
 -- of the block can be read off that reservation's stage: no Open is sent while it locks or is given up, an Unlock only once
 -- all handlers have told Opened. Each row of the client's table either leaves the stage or goes on to the next one.
-use Rattle.std.proofs.Common.{◌≡◌, ◌⊎◌, inl, inr, ◌+◌, ◌||◌, not, Bool, true, false, true≢false, List, [], ◌∷◌, filter, find, Option, Some, None, refl, sym, ap, ◌∙◌, subst, ⊎_elim, append-nil}
+use Rattle.std.proofs.Common.{◌≡◌, ◌⊎◌, inl, inr, ◌+◌, ◌||◌, not, Bool, true, false, true≢false, List, [], ◌∷◌, filter, find, Option, Some, None, refl, sym, ap}
+use Rattle.std.proofs.Common.{◌∙◌, subst, ⊎_elim, append-nil}
 use Rattle.std.proofs.lemmas.Option.{none-some, same_Some}
 use Rattle.std.specs.Prelude.{if◌then◌else◌, Ok}
 use Rattle.std.specs.List.{AllByRecursion, list_any}
@@ -22,20 +23,23 @@ use Rattle.scoop_reserve.specs.State.{ReservationState, at_stage}
 use Rattle.scoop_reserve.specs.Starting.{fresh}
 use Rattle.scoop_reserve.specs.Hearing.{given_up_in, is_gone, is_open, is_open_in}
 use Rattle.scoop_reserve.specs.Hearing as reservation
-use Rattle.scoop_reserve.proofs.Rows.{HeardRow as StepRow, passed_over as steps_over, one_is_locked, all_are_locked, is_busy, one_is_opened, all_are_opened, is_unlocked, is_given_back, heard_row as step_row}
+use Rattle.scoop_reserve.proofs.Rows.{HeardRow as StepRow, passed_over as steps_over, one_is_locked, all_are_locked, is_busy, one_is_opened, all_are_opened}
+use Rattle.scoop_reserve.proofs.Rows.{is_unlocked, is_given_back, heard_row as step_row}
 use Rattle.scoop_client.specs.declared.phase.ClientNote.{ClientNote}
 use Rattle.scoop_client.specs.Window.{WindowState, acknowledged, all_over, at_window, first_entries}
 use Rattle.scoop_client.specs.State.{ClientState, idle, with_windows, with_reservation}
 use Rattle.scoop_client.specs.Due.{due}
 use Rattle.scoop_client.specs.Hearing.{stepped, settled, after_step, up_to}
 use Rattle.scoop_client.specs.Commands as client
-use Rattle.scoop_client.specs.Rows.{DueRow, owes_nothing, greets, reserves, logs, HeardRow, passed_over, is_welcomed, takes_step, is_acknowledged, is_accepted, ReserveRow, begins_block, LogRow, is_logged, EndRow, ends_block, GiveUpRow, gives_up}
+use Rattle.scoop_client.specs.Rows.{DueRow, owes_nothing, greets, reserves, logs, HeardRow, passed_over, is_welcomed, takes_step, is_acknowledged, is_accepted}
+use Rattle.scoop_client.specs.Rows.{ReserveRow, begins_block, LogRow, is_logged, EndRow, ends_block, GiveUpRow, gives_up}
 use Rattle.scoop_client.proofs.DueRows.{due_row}
 use Rattle.scoop_client.proofs.CommandRows.{command_row}
 use Rattle.scoop_client.specs.declared.command.Command.{Command}
 use Rattle.scoop_client.specs.declared.command.Command.TheVariants.{Reserve, Call, Query, End, GiveUp}
 use Rattle.std.specs.Option.{option_map}
-use Rattle.scoop_model.specs.World.{World, Party, BlockLog, HandlerLog, handlers_in, lines_of, log_of, handlers_of, id_of, is_log_of, is_party, party_of, set_party}
+use Rattle.scoop_model.specs.World.{World, Party, BlockLog, HandlerLog, handlers_in, lines_of, log_of, handlers_of, id_of, is_log_of, is_party, party_of}
+use Rattle.scoop_model.specs.World.{set_party}
 use Rattle.scoop_model.specs.Step.{logs_after, newest_block, with_sent}
 use Rattle.scoop_model.proofs.Basics.{by_test, locking_giving, of_party, opening_giving, some_same}
 use Rattle.scoop_model.proofs.Keys.{by_party, id_found}
@@ -47,7 +51,8 @@ use Rattle.scoop_model.proofs.Logging.Facts.{PartyLogs, Logging}
 use Rattle.scoop_model.proofs.Logging.Windows.{found_has, window_handler}
 use Rattle.scoop_model.proofs.Logging.Logs.{IsAdded, log_after, log_in, named_lines}
 use Rattle.scoop_model.proofs.Logging.Commands.{IsRunning, running_is}
-use Rattle.scoop_model.proofs.Logging.Openings.{IsOpenedAt, IsOpenedAtAll, IsGivenUp, NoOpen, Shows, SiteOpened, StageOpened, ReservationOpened, Onto, Openings, is_open_of, logs_more, none_pushed, reservation_more, shows_more, site_more}
+use Rattle.scoop_model.proofs.Logging.Openings.{IsOpenedAt, IsOpenedAtAll, IsGivenUp, NoOpen, Shows, SiteOpened, StageOpened, ReservationOpened, Onto, Openings}
+use Rattle.scoop_model.proofs.Logging.Openings.{is_open_of, logs_more, none_pushed, reservation_more, shows_more, site_more}
 
 -- ---- two reservations of one block are one
 

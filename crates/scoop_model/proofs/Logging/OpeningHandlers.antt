@@ -1,7 +1,8 @@
 -- What a handler does keeps what is told of openings. The one row that opens a block makes its mark open and puts it down
 -- as opened in the same event, so an open mark's block has opened; what opened stays; and an Opened is replied only of such
 -- a block. Running and restarting change no stage.
-use Rattle.std.proofs.Common.{◌≡◌, inl, ℕ, ◌==◌, ◌||◌, true, false, true≢false, IsFalse, List, [], ◌∷◌, ◌++◌, map, find, Option, Some, None, refl, sym, ap, ◌∙◌, subst, ⊎_elim, append-nil}
+use Rattle.std.proofs.Common.{◌≡◌, inl, ℕ, ◌==◌, ◌||◌, true, false, true≢false, IsFalse, List, [], ◌∷◌, ◌++◌, map, find, Option, Some, None, refl, sym, ap, ◌∙◌}
+use Rattle.std.proofs.Common.{subst, ⊎_elim, append-nil}
 use Rattle.std.specs.Prelude.{if◌then◌else◌, ⊤, option_to_list}
 use Rattle.std.specs.List.{AllByRecursion}
 use Rattle.std.specs.Option.{option_map_or}
@@ -22,7 +23,8 @@ use Rattle.scoop_handler.specs.Core.{core_of}
 use Rattle.scoop_handler.specs.Hearing.{Hearing, greeting_mark, hear}
 use Rattle.scoop_handler.specs.Running.{Task, mark_after, ran_of}
 use Rattle.scoop_handler.specs.Replies.{HasEntries}
-use Rattle.scoop_handler.specs.Rows.{Row, first_greeting, newer_greeting, lock_granted, is_opened, repeated_open, unlock_of_a_block_never_held, is_freed, is_taken}
+use Rattle.scoop_handler.specs.Rows.{Row, first_greeting, newer_greeting, lock_granted, is_opened, repeated_open, unlock_of_a_block_never_held, is_freed}
+use Rattle.scoop_handler.specs.Rows.{is_taken}
 use Rattle.scoop_handler.proofs.MarkLists.{All-mark_of, All-set_mark, All-add_mark}
 use Rattle.scoop_handler.proofs.TableRows.{row}
 use Rattle.scoop_handler.proofs.TableLaws.{block_of-same, number-row, replies-row}
@@ -37,7 +39,8 @@ use Rattle.scoop_model.proofs.Order.Handlers.{state_anew}
 use Rattle.scoop_model.proofs.Sound.Facts.{Sound}
 use Rattle.scoop_model.proofs.Sound.Steps.{sent_all}
 use Rattle.scoop_model.proofs.Sites.{own_site}
-use Rattle.scoop_model.proofs.Logging.Openings.{IsOpenedAt, IsMarkOpened, SiteOpened, Shows, Onto, Openings, is_open_of, logs_more, named_more, none_pushed, reservation_more, shows_more, site_more}
+use Rattle.scoop_model.proofs.Logging.Openings.{IsOpenedAt, IsMarkOpened, SiteOpened, Shows, Onto, Openings, is_open_of, logs_more, named_more, none_pushed}
+use Rattle.scoop_model.proofs.Logging.Openings.{reservation_more, shows_more, site_more}
 
 -- ---- the marks
 

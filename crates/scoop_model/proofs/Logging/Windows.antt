@@ -1,7 +1,8 @@
 -- How a client's windows change beside the log: an entry more, an End more, and a count that is acknowledged. A window fits its
 -- log where the acknowledged entries and the window's own, one after the other, are the log. Each change of a window is looked
 -- at alone, and then among the windows of a block, of which one changes.
-use Rattle.std.proofs.Common.{◌≡◌, ℕ, ◌+◌, ◌-◌, ◌^◌, ◌<◌, ◌≤◌, ◌&&◌, ◌||◌, true, false, true≢false, nat_le, List, [], ◌∷◌, ◌++◌, length, take, drop, map, find, Option, Some, None, refl, sym, ap, ◌∙◌, subst, arith, length-append, length-drop, append_assoc}
+use Rattle.std.proofs.Common.{◌≡◌, ℕ, ◌+◌, ◌-◌, ◌^◌, ◌<◌, ◌≤◌, ◌&&◌, ◌||◌, true, false, true≢false, nat_le, List, [], ◌∷◌, ◌++◌, length, take, drop, map, find}
+use Rattle.std.proofs.Common.{Option, Some, None, refl, sym, ap, ◌∙◌, subst, arith, length-append, length-drop, append_assoc}
 use Rattle.std.specs.Prelude.{if◌then◌else◌}
 use Rattle.std.specs.Option.{option_map}
 use Rattle.std.proofs.lemmas.List.{take-append-drop, length-take-le}
@@ -14,7 +15,8 @@ use Rattle.scoop_message.specs.Message.{same_handler}
 use Rattle.scoop_message.proofs.Same.{handler_decides}
 use Rattle.scoop_queue.proofs.Ends.{ends-append}
 use Rattle.scoop_reserve.specs.Handlers.{has}
-use Rattle.scoop_client.specs.Window.{WindowState, fresh_window, logged, with_entry, with_end, newly, acknowledged, up_to_end, first_entries, window_of, at_window, is_ended}
+use Rattle.scoop_client.specs.Window.{WindowState, fresh_window, logged, with_entry, with_end, newly, acknowledged, up_to_end, first_entries, window_of}
+use Rattle.scoop_client.specs.Window.{at_window, is_ended}
 use Rattle.scoop_client.specs.Hearing.{up_to}
 use Rattle.scoop_model.proofs.Basics.{by_test}
 use Rattle.scoop_model.proofs.Keys.{key_found}

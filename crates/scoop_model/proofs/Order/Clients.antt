@@ -19,7 +19,8 @@ use Rattle.scoop_reserve.specs.State.{ReservationState}
 use Rattle.scoop_reserve.specs.Due.{due_in}
 use Rattle.scoop_reserve.specs.Hearing.{given_up, given_up_in, is_gone}
 use Rattle.scoop_reserve.specs.Hearing as reservation
-use Rattle.scoop_reserve.proofs.Rows.{HeardRow as StepRow, passed_over as steps_over, one_is_locked, all_are_locked, is_busy, one_is_opened, all_are_opened, is_unlocked, is_given_back, heard_row as step_row}
+use Rattle.scoop_reserve.proofs.Rows.{HeardRow as StepRow, passed_over as steps_over, one_is_locked, all_are_locked, is_busy, one_is_opened, all_are_opened}
+use Rattle.scoop_reserve.proofs.Rows.{is_unlocked, is_given_back, heard_row as step_row}
 use Rattle.scoop_client.specs.declared.phase.ClientNote.{ClientNote}
 use Rattle.scoop_client.specs.State.{ClientState, with_reservation, with_windows, idle}
 use Rattle.scoop_client.specs.Window.{all_over, first_entries, at_window, acknowledged}
@@ -32,7 +33,8 @@ use Rattle.scoop_model.specs.World.{World, Party, handlers_of}
 use Rattle.scoop_model.specs.Step.{with_sent, with_party, heard_party, restarted_party}
 use Rattle.scoop_model.proofs.Basics.{by_test}
 use Rattle.scoop_model.proofs.Order.Holding.{Upto}
-use Rattle.scoop_model.proofs.Order.Facts.{IsGranted, Tells, LocksAt, ReservationFits, PartyFits, Ordered, Extends, all_more, tells_more, party_more, all_more_of, all_pushed, all_set_party}
+use Rattle.scoop_model.proofs.Order.Facts.{IsGranted, Tells, LocksAt, ReservationFits, PartyFits, Ordered, Extends, all_more, tells_more, party_more}
+use Rattle.scoop_model.proofs.Order.Facts.{all_more_of, all_pushed, all_set_party}
 
 -- ---- lists of handlers
 

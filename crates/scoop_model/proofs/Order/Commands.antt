@@ -25,7 +25,8 @@ use Rattle.scoop_model.specs.Step.{newest_block, commanded_world}
 use Rattle.scoop_model.proofs.Basics.{ok_is, by_test}
 use Rattle.scoop_model.proofs.Order.Sets.{handlers_after, handlers_before, handlers_fresh}
 use Rattle.scoop_model.proofs.Order.Holding.{Upto, upto_itself, upto_more}
-use Rattle.scoop_model.proofs.Order.Facts.{Tells, ReservationFits, PartyFits, Ordered, Extends, all_more, tells_more, reservation_more, all_more_of, all_set_party}
+use Rattle.scoop_model.proofs.Order.Facts.{Tells, ReservationFits, PartyFits, Ordered, Extends, all_more, tells_more, reservation_more, all_more_of}
+use Rattle.scoop_model.proofs.Order.Facts.{all_set_party}
 
 -- ---- a reservation begins, or is given up
 

@@ -13,7 +13,8 @@ use Rattle.scoop_reserve.specs.declared.stage.Stage.{Stage}
 use Rattle.scoop_reserve.specs.declared.stage.Stage.TheVariants.{Locking, Opening, Unlocking, GivingUp}
 use Rattle.scoop_reserve.specs.Handlers.{has}
 use Rattle.scoop_reserve.specs.State.{ReservationState}
-use Rattle.scoop_model.specs.World.{World, Site, Party, number_of, id_of, is_site, is_party, site_of, set_site, set_party, has_block, is_log_of, handlers_in, handlers_of}
+use Rattle.scoop_model.specs.World.{World, Site, Party, number_of, id_of, is_site, is_party, site_of, set_site, set_party, has_block, is_log_of, handlers_in}
+use Rattle.scoop_model.specs.World.{handlers_of}
 use Rattle.scoop_model.specs.Safe.{IsSubsequence}
 use Rattle.scoop_model.proofs.Basics.{by_test}
 use Rattle.scoop_model.proofs.Order.Holding.{Upto, IsReachedIn, IsHeldIn, HeldHolds}

@@ -1,7 +1,8 @@
 -- What a handler does keeps the order. Where a block opens, it was held; if it is in the common list already, what has
 -- opened here stands before it there; if not, it is put at that list's end, behind all of them. A lock is granted only where
 -- the mark hasn't reached the block, so never for a block of the common list, which was granted at each of its handlers.
-use Rattle.std.proofs.Common.{◌≡◌, ℕ, ◌-◌, ◌==◌, true, List, [], ◌∷◌, ◌++◌, map, find, slice_get, Option, Some, None, refl, sym, ap, ◌∙◌, subst, ⊎_elim, arith, append-nil}
+use Rattle.std.proofs.Common.{◌≡◌, ℕ, ◌-◌, ◌==◌, true, List, [], ◌∷◌, ◌++◌, map, find, slice_get, Option, Some, None, refl, sym, ap, ◌∙◌, subst, ⊎_elim, arith}
+use Rattle.std.proofs.Common.{append-nil}
 use Rattle.std.proofs.lemmas.Option.{same_Some}
 use Rattle.std.specs.Prelude.{if◌then◌else◌, ◌<◌, ◌≤◌, option_to_list}
 use Rattle.std.specs.List.{AllByRecursion}
@@ -30,7 +31,8 @@ use Rattle.scoop_model.proofs.Basics.{by_test}
 use Rattle.scoop_model.proofs.Keys.{number_found, by_site, site_put}
 use Rattle.scoop_model.proofs.Order.Lists.{with_block, joined_has, joined_more, joined_last, joined_next}
 use Rattle.scoop_model.proofs.Order.Holding.{IsReachedIn, IsHeldIn, HeldHolds, IsNewlyLocked, TellsBack, Hears, hears_row, held_ran, reached_more}
-use Rattle.scoop_model.proofs.Order.Facts.{IsGrantedIn, IsGranted, IsNamed, IsGrantedAtAll, Tells, SiteFits, PartyFits, Ordered, Extends, all_more, tells_more, party_more, all_more_of, all_pushed, all_at, all_found, all_set_site}
+use Rattle.scoop_model.proofs.Order.Facts.{IsGrantedIn, IsGranted, IsNamed, IsGrantedAtAll, Tells, SiteFits, PartyFits, Ordered, Extends, all_more, tells_more}
+use Rattle.scoop_model.proofs.Order.Facts.{party_more, all_more_of, all_pushed, all_at, all_found, all_set_site}
 
 -- a message that was sent tells the truth
 pub sent_tells : (w : World) (i : ℕ) (m : Message) → sent_at i w ≡ Some m → AllByRecursion (Tells w) w.sent → Tells w m

@@ -19,8 +19,10 @@ use Rattle.scoop_handler.specs.State.{HandlerState}
 use Rattle.scoop_handler.specs.Growing.{MarksGrow, IsNewer, IsFurther}
 use Rattle.scoop_handler.specs.Hearing.{Hearing, greeting_mark, holder_without}
 use Rattle.scoop_handler.specs.Running.{mark_after}
-use Rattle.scoop_handler.specs.Rows.{Row, first_greeting, newer_greeting, lock_granted, repeated_lock, is_opened, unlock_of_a_block_never_held, is_freed, is_taken}
-use Rattle.scoop_handler.proofs.MarkLists.{client_from_same, same_client-refl, mark_of-client, mark_of-set_mark_own, mark_of-set_mark_other, mark_of-add_mark_own, mark_of-add_mark_other}
+use Rattle.scoop_handler.specs.Rows.{Row, first_greeting, newer_greeting, lock_granted, repeated_lock, is_opened, unlock_of_a_block_never_held, is_freed}
+use Rattle.scoop_handler.specs.Rows.{is_taken}
+use Rattle.scoop_handler.proofs.MarkLists.{client_from_same, same_client-refl, mark_of-client, mark_of-set_mark_own, mark_of-set_mark_other}
+use Rattle.scoop_handler.proofs.MarkLists.{mark_of-add_mark_own, mark_of-add_mark_other}
 use Rattle.scoop_handler.proofs.After.{mark_of-after}
 use Rattle.scoop_model.proofs.Basics.{by_test, some_same}
 

@@ -21,7 +21,8 @@ use Rattle.scoop_client.specs.Hearing.{heard, stepped, after_step, up_to}
 use Rattle.scoop_client.specs.declared.command.Command.{Command}
 use Rattle.scoop_client.specs.declared.command.Command.TheVariants.{Reserve, Call as DoCall, Query as DoQuery, End as DoEnd, GiveUp}
 use Rattle.scoop_client.specs.Commands.{Outcome, command}
-use Rattle.scoop_client.specs.Rows.{DueRow, owes_nothing, greets, reserves, logs, HeardRow, passed_over, is_welcomed, takes_step, is_acknowledged, is_accepted, ReserveRow, begins_block, LogRow, is_logged, EndRow, ends_block, GiveUpRow, gives_up}
+use Rattle.scoop_client.specs.Rows.{DueRow, owes_nothing, greets, reserves, logs, HeardRow, passed_over, is_welcomed, takes_step, is_acknowledged, is_accepted}
+use Rattle.scoop_client.specs.Rows.{ReserveRow, begins_block, LogRow, is_logged, EndRow, ends_block, GiveUpRow, gives_up}
 use Rattle.scoop_client.proofs.Batches.{is_batch}
 use Rattle.scoop_client.proofs.DueRows.{due_row}
 use Rattle.scoop_client.proofs.Rows.{heard_row}

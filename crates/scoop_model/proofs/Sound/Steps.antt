@@ -1,7 +1,8 @@
 -- Every event keeps what is true of handlers, messages and clients, and it is true of a world that opens. Hearing, beginning and
 -- finishing keep a handler sound, and a restart gives it its stored state, which is its own. A client's batch stays what it was, so
 -- the Log that it owes carries entries, and a reply carries none.
-use Rattle.std.proofs.Common.{◌≡◌, ℕ, ◌-◌, ◌==◌, false, true≢false, IsFalse, List, [], ◌∷◌, length, map, slice_get, Some, None, refl, sym, ap, ◌∙◌, subst, arith}
+use Rattle.std.proofs.Common.{◌≡◌, ℕ, ◌-◌, ◌==◌, false, true≢false, IsFalse, List, [], ◌∷◌, length, map, slice_get, Some, None, refl, sym, ap, ◌∙◌, subst}
+use Rattle.std.proofs.Common.{arith}
 use Rattle.std.specs.Prelude.{if◌then◌else◌}
 use Rattle.std.specs.List.{AllByRecursion}
 use Rattle.scoop_message.specs.declared.name.HandlerId.{HandlerId}
@@ -18,7 +19,8 @@ use Rattle.scoop_handler.proofs.After.{IsCore-begun, IsCore-finished, job-first}
 use Rattle.scoop_client.specs.Due.{due}
 use Rattle.scoop_client.specs.Hearing.{heard}
 use Rattle.scoop_model.specs.World.{World, Site, Party, is_site, is_party, sent_at, set_party, set_site}
-use Rattle.scoop_model.specs.Step.{Placement, Newcomer, new_site, new_party, opening, heard_site, heard_party, begun_site, finished_site, restarted_party, reopened}
+use Rattle.scoop_model.specs.Step.{Placement, Newcomer, new_site, new_party, opening, heard_site, heard_party, begun_site, finished_site, restarted_party}
+use Rattle.scoop_model.specs.Step.{reopened}
 use Rattle.scoop_model.specs.Opening.{IsPlaced, IsJoining, MayOpen}
 use Rattle.scoop_model.proofs.Events.{Changes}
 use Rattle.scoop_model.proofs.Basics.{by_test}

@@ -31,7 +31,8 @@ use Rattle.scoop_model.proofs.Logging.Facts.{Logging}
 use Rattle.scoop_model.proofs.Logging.Openings.{IsGivenUp, IsOpenedAtAll, Openings, is_open_of}
 use Rattle.scoop_model.proofs.Logging.Logs.{log_in}
 use Rattle.scoop_model.proofs.Logging.OpeningClients.{IsFrom, party_onto, sent_onto}
-use Rattle.scoop_model.proofs.Standing.Facts.{LockedStands, ReservationStands, StageStands, Standing, StandsAt, StandsAtAll, StandsOn, reservation_more, reservation_on, standing_more}
+use Rattle.scoop_model.proofs.Standing.Facts.{LockedStands, ReservationStands, StageStands, Standing, StandsAt, StandsAtAll, StandsOn, reservation_more}
+use Rattle.scoop_model.proofs.Standing.Facts.{reservation_on, standing_more}
 
 -- ---- what a client sends
 

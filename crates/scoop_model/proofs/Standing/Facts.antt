@@ -1,6 +1,7 @@
 -- A block that opened somewhere stands at each of its handlers: it has opened there, holds the lock there, or is past
 -- there for good. What every event keeps of that, over what messages tell.
-use Rattle.std.proofs.Common.{◌≡◌, ◌⊎◌, inl, inr, ℕ, zero, suc, ◌-◌, ◌==◌, ◌<◌, ◌||◌, true, false, true≢false, List, [], ◌∷◌, ◌++◌, slice_get, Option, Some, None, refl, sym, ap, ◌∙◌, subst, ⊎_elim, arith}
+use Rattle.std.proofs.Common.{◌≡◌, ◌⊎◌, inl, inr, ℕ, zero, suc, ◌-◌, ◌==◌, ◌<◌, ◌||◌, true, false, true≢false, List, [], ◌∷◌, ◌++◌, slice_get, Option, Some}
+use Rattle.std.proofs.Common.{None, refl, sym, ap, ◌∙◌, subst, ⊎_elim, arith}
 use Rattle.std.specs.Prelude.{if◌then◌else◌, option_to_list}
 use Rattle.std.specs.List.{AllByRecursion, list_any}
 use Rattle.scoop_message.specs.declared.name.Block.{Block}

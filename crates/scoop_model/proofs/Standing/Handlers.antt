@@ -1,7 +1,8 @@
 -- What a handler does leaves each block standing where it stood, but for one that was given up. A held block stops being
 -- held only by opening, by a newer greeting of its client (then it is past there), or by its own Unlock, which is sent only
 -- of a block that has opened at all of its handlers or was given up.
-use Rattle.std.proofs.Common.{◌≡◌, ◌⊎◌, inl, inr, ℕ, ◌||◌, true, true≢false, List, [], ◌∷◌, ◌++◌, map, find, Some, None, refl, sym, ap, ◌∙◌, subst, ⊎_elim, append-nil}
+use Rattle.std.proofs.Common.{◌≡◌, ◌⊎◌, inl, inr, ℕ, ◌||◌, true, true≢false, List, [], ◌∷◌, ◌++◌, map, find, Some, None, refl, sym, ap, ◌∙◌, subst, ⊎_elim}
+use Rattle.std.proofs.Common.{append-nil}
 use Rattle.std.proofs.lemmas.Option.{same_Some}
 use Rattle.std.specs.Prelude.{if◌then◌else◌}
 use Rattle.std.specs.List.{AllByRecursion}
@@ -36,7 +37,8 @@ use Rattle.scoop_model.proofs.Sound.Facts.{Sound}
 use Rattle.scoop_model.proofs.Sound.Steps.{sent_all}
 use Rattle.scoop_model.proofs.Logging.Openings.{IsGivenUp, IsOpenedAtAll, Onto, Openings, Shows, is_open_of}
 use Rattle.scoop_model.proofs.Logging.OpeningHandlers.{anew_onto, now_onto, reply_quiet, same_list}
-use Rattle.scoop_model.proofs.Standing.Facts.{HasOpen, IsPastIn, LockedStands, Standing, StandsAt, StandsFor, StandsIn, StandsOn, open_sent, past_more, reservation_more, standing_more}
+use Rattle.scoop_model.proofs.Standing.Facts.{HasOpen, IsPastIn, LockedStands, Standing, StandsAt, StandsFor, StandsIn, StandsOn, open_sent, past_more}
+use Rattle.scoop_model.proofs.Standing.Facts.{reservation_more, standing_more}
 use Rattle.scoop_model.proofs.Standing.Rows.{HeldGoes, held_after, held_row, locked_row}
 
 -- ---- the sites of a world, once one of them goes on

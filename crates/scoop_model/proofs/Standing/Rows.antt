@@ -15,7 +15,8 @@ use Rattle.scoop_handler.specs.Marks.{block_of, fresh_mark, mark_of, set_mark, w
 use Rattle.scoop_handler.specs.State.{HandlerState, is_holder}
 use Rattle.scoop_handler.specs.Hearing.{Hearing, greeting_mark}
 use Rattle.scoop_handler.specs.Running.{mark_after}
-use Rattle.scoop_handler.specs.Rows.{Row, first_greeting, newer_greeting, lock_granted, repeated_lock, is_opened, unlock_of_a_block_never_held, is_freed, is_taken}
+use Rattle.scoop_handler.specs.Rows.{Row, first_greeting, newer_greeting, lock_granted, repeated_lock, is_opened, unlock_of_a_block_never_held, is_freed}
+use Rattle.scoop_handler.specs.Rows.{is_taken}
 use Rattle.scoop_handler.proofs.After.{found-after}
 use Rattle.scoop_handler.proofs.MarkLists.{client_from_same, mark_of-client, mark_of-set_mark_own, mark_of-set_mark_other, mark_of-add_mark_other}
 use Rattle.scoop_model.proofs.Basics.{by_test, some_same}

@@ -6,7 +6,8 @@
 -- after an entry has run. The slots stay the same where a job goes out (`begun_tape`), where the node restarts with the
 -- stored state (`reopened_tape`), and where logs grow at their end (`grown_tape`). Then `site_tape_shown` gives what
 -- Safe calls the tape. What an open slot tells of its client's mark follows by `live_slots` (in Taking).
-use Rattle.std.proofs.Common.{◌≡◌, ℕ, ◌+◌, ◌-◌, ◌≤◌, List, [], ◌∷◌, ◌++◌, length, take, drop, Some, refl, sym, ap, ◌∙◌, subst, arith, length-append, append_assoc}
+use Rattle.std.proofs.Common.{◌≡◌, ℕ, ◌+◌, ◌-◌, ◌≤◌, List, [], ◌∷◌, ◌++◌, length, take, drop, Some, refl, sym, ap, ◌∙◌, subst, arith, length-append}
+use Rattle.std.proofs.Common.{append_assoc}
 use Rattle.std.specs.List.{AllByRecursion}
 use Rattle.std.proofs.lemmas.List.{take-append-drop, length-take-le}
 use Rattle.scoop_message.specs.declared.name.Block.{Block}
@@ -16,7 +17,9 @@ use Rattle.scoop_queue.specs.Queue.{PrivateQueue, opened, put_all, cut, front, a
 use Rattle.scoop_queue.specs.Sound.{AreApart}
 use Rattle.scoop_model.proofs.Stands.{Stands}
 use Rattle.scoop_model.proofs.Order.Facts.{all_more_of}
-use Rattle.scoop_model.proofs.Tape.Slots.{Slot, new_slot, slots_new, slots_put, put_in, slots_cut, slots_run, run_rest, queues_of, ran_of, blocks_of, InTurn, queues-new, ran-new, blocks-new, turn-new, queues-put, ran-put, blocks-put, turn-put, cut_in, cut_keeps, cut_rest, queues-cut, ran-cut, blocks-cut, turn-cut, Runs, slots-run, each_kept, each_run}
+use Rattle.scoop_model.proofs.Tape.Slots.{Slot, new_slot, slots_new, slots_put, put_in, slots_cut, slots_run, run_rest, queues_of, ran_of, blocks_of, InTurn}
+use Rattle.scoop_model.proofs.Tape.Slots.{queues-new, ran-new, blocks-new, turn-new, queues-put, ran-put, blocks-put, turn-put, cut_in, cut_keeps, cut_rest}
+use Rattle.scoop_model.proofs.Tape.Slots.{queues-cut, ran-cut, blocks-cut, turn-cut, Runs, slots-run, each_kept, each_run}
 
 -- the first list is a beginning of the second
 pub record IsBeginningOf (es log : List Entry) : Type 0 where

@@ -1,6 +1,7 @@
 -- What has run at a handler and what waits there, as a list of slots: one for each block that opened there, in the
 -- order of their opening. What the changes of the private queues do to the slots, and what the slots tell.
-use Rattle.std.proofs.Common.{◌≡◌, ℕ, ◌+◌, Bool, true, false, List, [], ◌∷◌, ◌++◌, length, map, flat_map, Option, Some, None, refl, sym, ap, ◌∙◌, subst, arith, length-append, append_assoc, append-nil}
+use Rattle.std.proofs.Common.{◌≡◌, ℕ, ◌+◌, Bool, true, false, List, [], ◌∷◌, ◌++◌, length, map, flat_map, Option, Some, None, refl, sym, ap, ◌∙◌, subst, arith}
+use Rattle.std.proofs.Common.{length-append, append_assoc, append-nil}
 use Rattle.std.specs.Prelude.{⊤, if◌then◌else◌}
 use Rattle.std.specs.List.{AllByRecursion}
 use Rattle.std.proofs.lemmas.Grind.{flat_map-append}
@@ -12,7 +13,8 @@ use Rattle.scoop_message.specs.Entries.{ends}
 use Rattle.scoop_message.specs.Message.{same_block}
 use Rattle.scoop_queue.specs.declared.state.QueueState.{QueueState}
 use Rattle.scoop_queue.specs.declared.state.QueueState.TheVariants.{Open, Ended, Cut}
-use Rattle.scoop_queue.specs.Queue.{PrivateQueue, is_open, at_block, has_queue, with_entries, opened, put_all, left_by_cut, cut, first_of, front, goes_with, advance}
+use Rattle.scoop_queue.specs.Queue.{PrivateQueue, is_open, at_block, has_queue, with_entries, opened, put_all, left_by_cut, cut, first_of, front, goes_with}
+use Rattle.scoop_queue.specs.Queue.{advance}
 use Rattle.scoop_queue.specs.Sound.{AreApart}
 use Rattle.scoop_queue.proofs.Lookup.{same_block-true, at_block-absent}
 use Rattle.scoop_model.specs.Safe.{numbered}

@@ -21,7 +21,8 @@ use Rattle.scoop_handler.specs.Marks.{block_of, fresh_mark, opened_mark, with_re
 use Rattle.scoop_handler.specs.State.{HandlerState}
 use Rattle.scoop_handler.specs.Hearing.{Hearing, greeting_mark}
 use Rattle.scoop_handler.specs.Running.{mark_after}
-use Rattle.scoop_handler.specs.Rows.{Row, first_greeting, newer_greeting, lock_granted, is_opened, unlock_of_a_block_never_held, is_freed, already_received, is_taken}
+use Rattle.scoop_handler.specs.Rows.{Row, first_greeting, newer_greeting, lock_granted, is_opened, unlock_of_a_block_never_held, is_freed, already_received}
+use Rattle.scoop_handler.specs.Rows.{is_taken}
 use Rattle.scoop_handler.proofs.After.{MarksGrow-after}
 use Rattle.scoop_handler.proofs.MarkLists.{same_client-refl, mark_of-client, All-mark_of, All-set_mark, All-add_mark}
 use Rattle.scoop_handler.proofs.TableLaws.{grows-row, block_of-same}
@@ -30,7 +31,8 @@ use Rattle.scoop_model.proofs.Basics.{by_test}
 use Rattle.scoop_model.proofs.Order.Holding.{IsReachedIn, Upto, upto_itself, reached_more}
 use Rattle.scoop_model.proofs.Order.Facts.{all_more_of}
 use Rattle.scoop_model.proofs.Order.Lists.{same_block_is, same_block_itself}
-use Rattle.scoop_model.proofs.Whole.Sent.{IsGreeted, TellsAlike, alike_more, count_itself, count_other, greatest_new, greatest_stays, greeted_last, greeted_more}
+use Rattle.scoop_model.proofs.Whole.Sent.{IsGreeted, TellsAlike, alike_more, count_itself, count_other, greatest_new, greatest_stays, greeted_last}
+use Rattle.scoop_model.proofs.Whole.Sent.{greeted_more}
 
 -- ---- one mark
 

@@ -1,6 +1,7 @@
 -- A block whose private queue is gone has run to its End, or a newer incarnation of its client has greeted; and of each
 -- block as many entries were received as the greatest count tells. Every change of the slots keeps it.
-use Rattle.std.proofs.Common.{◌≡◌, ◌⊎◌, inl, inr, ◌+◌, ◌<◌, ◌≤◌, Bool, true, false, ◌&&◌, ◌==◌, not, IsTrue, true≢false, List, [], ◌∷◌, ◌++◌, length, map, Option, Some, None, refl, sym, ap, ◌∙◌, subst, ⊎_elim, arith, length-append}
+use Rattle.std.proofs.Common.{◌≡◌, ◌⊎◌, inl, inr, ◌+◌, ◌<◌, ◌≤◌, Bool, true, false, ◌&&◌, ◌==◌, not, IsTrue, true≢false, List, [], ◌∷◌, ◌++◌, length, map}
+use Rattle.std.proofs.Common.{Option, Some, None, refl, sym, ap, ◌∙◌, subst, ⊎_elim, arith, length-append}
 use Rattle.std.specs.Prelude.{if◌then◌else◌}
 use Rattle.std.specs.List.{AllByRecursion}
 use Rattle.std.proofs.lemmas.Bool.{eqb-true, or_cases}
@@ -30,7 +31,8 @@ use Rattle.scoop_model.proofs.Order.Holding.{IsReachedIn, Upto, reached_more}
 use Rattle.scoop_model.proofs.Order.Lists.{same_block_is}
 use Rattle.scoop_handler.proofs.Basics.{all_both}
 use Rattle.scoop_model.proofs.Tape.Taking.{InQueue, each_queue}
-use Rattle.scoop_model.proofs.Tape.Slots.{Slot, slot_of, new_slot, put_slot, put_in, slots_put, state_cut, cut_slot, cut_in, slots_cut, run_rest, slots_run, slot_queue, queues_of, each_kept, each_run}
+use Rattle.scoop_model.proofs.Tape.Slots.{Slot, slot_of, new_slot, put_slot, put_in, slots_put, state_cut, cut_slot, cut_in, slots_cut, run_rest, slots_run}
+use Rattle.scoop_model.proofs.Tape.Slots.{slot_queue, queues_of, each_kept, each_run}
 
 -- ---- what the marks tell of a block
 

@@ -30,7 +30,8 @@ use Rattle.scoop_client.specs.Hearing.{heard}
 use Rattle.scoop_client.specs.Rows.{DueRow, owes_nothing, greets, reserves, logs}
 use Rattle.scoop_client.proofs.DueRows.{due_row}
 use Rattle.scoop_model.specs.World.{World, Site, number_of, is_site, site_of, set_site, sent_at, log_of, greatest_count}
-use Rattle.scoop_model.specs.Step.{Placement, Newcomer, new_site, opening, commanded_world, with_sent, with_party, heard_party, restarted_party, heard_site, heard_world, with_site, begun_site, finished_site, reopened, reopened_world}
+use Rattle.scoop_model.specs.Step.{Placement, Newcomer, new_site, opening, commanded_world, with_sent, with_party, heard_party, restarted_party, heard_site}
+use Rattle.scoop_model.specs.Step.{heard_world, with_site, begun_site, finished_site, reopened, reopened_world}
 use Rattle.scoop_model.proofs.Events.{Changes}
 use Rattle.scoop_model.proofs.Basics.{by_test}
 use Rattle.scoop_model.proofs.Keys.{number_found}

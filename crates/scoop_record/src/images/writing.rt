@@ -5,9 +5,11 @@ ghost use Rattle.std.specs.Int.{w32, to_be_bytes};
 ghost use Rattle.std.specs.List.{flat_map, AllByRecursion};
 ghost use Rattle.scoop_message.specs.Range.{IsEntry};
 ghost use Rattle.scoop_frame.specs.Body.{entry_bytes};
-ghost use Rattle.scoop_record.specs.Image.{bare_bytes, block_bytes, entries_bytes, head_bytes, holder_bytes, image, kept_bytes, mark_bytes, marks_bytes, pending_row, words_bytes};
+ghost use Rattle.scoop_record.specs.Image.{bare_bytes, block_bytes, entries_bytes, head_bytes, holder_bytes, image, kept_bytes, mark_bytes, marks_bytes};
+ghost use Rattle.scoop_record.specs.Image.{pending_row, words_bytes};
 ghost use Rattle.scoop_record.specs.Places.{entries_at};
-ghost use Rattle.scoop_record.specs.Range.{BareInRange, BlockInRange, EntriesInRange, HeadInRange, HolderInRange, KeptInRange, MarkInRange, PartsInRange, WordsInRange};
+ghost use Rattle.scoop_record.specs.Range.{BareInRange, BlockInRange, EntriesInRange, HeadInRange, HolderInRange, KeptInRange, MarkInRange, PartsInRange};
+ghost use Rattle.scoop_record.specs.Range.{WordsInRange};
 
 use scoop_frame::{MAX_ANSWER, MAX_ENTRY, answer_to, entry_to};
 use scoop_handler::{HandlerState, Mark, Stage};

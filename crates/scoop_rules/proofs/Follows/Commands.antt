@@ -1,7 +1,8 @@
 -- What a client's command does follows the rules: each entry that it logs is logged in the queues of the rules. The block
 -- has opened at all of its handlers, so each has a queue for it, which is open since no End is logged and its client has
 -- greeted in no newer incarnation; and no query of it waits. An End is one move at each handler, one after another.
-use Rattle.std.proofs.Common.{◌≡◌, ◌⊎◌, inl, inr, ◌<◌, true, false, ◌&&◌, ◌||◌, true≢false, List, [], ◌∷◌, ◌++◌, length, map, flat_map, find, Option, Some, None, refl, sym, ap, ◌∙◌, subst, ⊎_elim, arith, length-append, append-nil}
+use Rattle.std.proofs.Common.{◌≡◌, ◌⊎◌, inl, inr, ◌<◌, true, false, ◌&&◌, ◌||◌, true≢false, List, [], ◌∷◌, ◌++◌, length, map, flat_map, find, Option, Some}
+use Rattle.std.proofs.Common.{None, refl, sym, ap, ◌∙◌, subst, ⊎_elim, arith, length-append, append-nil}
 use Rattle.std.specs.Prelude.{if◌then◌else◌, unwrap_or, Ok}
 use Rattle.std.specs.Option.{option_map_or}
 use Rattle.scoop_message.specs.declared.name.Block.{Block}
@@ -21,7 +22,8 @@ use Rattle.scoop_client.specs.Rows.{LogRow, is_logged, EndRow, ends_block}
 use Rattle.scoop_client.proofs.CommandRows.{command_row}
 use Rattle.scoop_client.specs.declared.command.Command.{Command}
 use Rattle.scoop_client.specs.declared.command.Command.TheVariants.{Reserve, Call, Query, End, GiveUp}
-use Rattle.scoop_model.specs.World.{World, Party, HandlerLog, is_line_of, is_party, party_of, has_block, lines_of, handlers_of, set_of, log_of, opened_at, is_succeeded, has_end, inc_of}
+use Rattle.scoop_model.specs.World.{World, Party, HandlerLog, is_line_of, is_party, party_of, has_block, lines_of, handlers_of, set_of, log_of, opened_at}
+use Rattle.scoop_model.specs.World.{is_succeeded, has_end, inc_of}
 use Rattle.scoop_model.specs.Step.{newest_block, logs_after, commanded_world}
 use Rattle.scoop_rules.specs.Paper.{LogOne, MovesLead, logged_to, has_open, waits, Seen, seen, queue_of, queue_at, configuration_of, objects_of, command_moves}
 use Rattle.scoop_model.proofs.Basics.{ok_is, by_test}

@@ -16,7 +16,8 @@ use Rattle.scoop_model.specs.declared.event.Event.TheVariants.{Do, Tick, Take, B
 use Rattle.scoop_model.specs.declared.note.WorldNote.TheVariants as note
 use Rattle.scoop_model.specs.declared.error.WorldError.TheVariants.{NoSuchParty, IncarnationsSpent}
 use Rattle.scoop_model.specs.World.{World, Site, Party, site_of, party_of, sent_at}
-use Rattle.scoop_model.specs.Step.{Stepped, commanded, commanded_world, do_at, tick_at, taken_by_handler, heard_party, taken_by_client, taken, with_party, begins, begin_at, finishes, finish_at, restarted_party, restart_client, reopened_world, restart_node}
+use Rattle.scoop_model.specs.Step.{Stepped, commanded, commanded_world, do_at, tick_at, taken_by_handler, heard_party, taken_by_client, taken, with_party}
+use Rattle.scoop_model.specs.Step.{begins, begin_at, finishes, finish_at, restarted_party, restart_client, reopened_world, restart_node}
 use Rattle.scoop_rules.specs.Paper.{MovesLead, Follows, FollowsRules, configuration_of, objects_of, client_moves, message_moves}
 use Rattle.scoop_model.proofs.Basics.{by_test}
 use Rattle.scoop_model.proofs.Whole.Steps.{due_goes}

@@ -14,7 +14,8 @@ use Rattle.scoop_model.specs.Step.{Stepped, Placement, Newcomer, step, new_site,
 use Rattle.scoop_model.specs.Opening.{MayOpen}
 use Rattle.scoop_model.specs.Reach.{Run, next, run_after, steps, IsReached}
 use Rattle.scoop_model.specs.Reach as reach
-use Rattle.scoop_rules.specs.Paper.{Configuration, Objects, Move, MovesLead, moved, configuration_of, objects_of, no_class, empty_configuration, FollowsRules, moves_of, moves_in, replayed, RunsByRules, LeadsByRules}
+use Rattle.scoop_rules.specs.Paper.{Configuration, Objects, Move, MovesLead, moved, configuration_of, objects_of, no_class, empty_configuration, FollowsRules}
+use Rattle.scoop_rules.specs.Paper.{moves_of, moves_in, replayed, RunsByRules, LeadsByRules}
 use Rattle.scoop_model.proofs.Events.{Changes}
 use Rattle.scoop_model.proofs.Basics.{by_test}
 use Rattle.scoop_model.proofs.Events as events

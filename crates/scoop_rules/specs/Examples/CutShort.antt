@@ -15,7 +15,8 @@ use Rattle.scoop_model.specs.declared.note.WorldNote.TheVariants.{Sent, Handler,
 use Rattle.scoop_model.specs.World.{World, opened_at, ran_at}
 use Rattle.scoop_model.specs.Step.{step}
 use Rattle.scoop_model.specs.Reach.{run, steps}
-use Rattle.scoop_rules.specs.Paper.{Configuration, Separate, LogOne, RunOne, Restart, CutTo, Waiting, RunsByRules, configuration_of, objects_of, moves_in, replayed}
+use Rattle.scoop_rules.specs.Paper.{Configuration, Separate, LogOne, RunOne, Restart, CutTo, Waiting, RunsByRules, configuration_of, objects_of, moves_in}
+use Rattle.scoop_rules.specs.Paper.{replayed}
 use Rattle.scoop_model.specs.Examples.Parties.{CellsMayOpen, handler, client, block, cells, trip, trips, reserve, set_to, runs, told}
 
 -- ---- between the openings at two handlers

@@ -2,7 +2,8 @@
 
 ghost use Rattle.std.specs.Prelude.{◌++◌, codes, OnOk};
 ghost use Rattle.std.specs.Io.KnownBytes.{Appends};
-ghost use Rattle.scoop_system.specs.SystemText.{classes_text, class_text, words_text, rows_text, row_text, effect_text, test_text, writes_text, more_writes_text, write_text, term_text};
+ghost use Rattle.scoop_system.specs.SystemText.{classes_text, class_text, words_text, rows_text, row_text, effect_text, test_text, writes_text};
+ghost use Rattle.scoop_system.specs.SystemText.{more_writes_text, write_text, term_text};
 
 use crate::class::{OwnClass, OwnOperation};
 use crate::name::Name;

@@ -5,7 +5,8 @@ ghost use Rattle.std.specs.List.{list_any};
 ghost use Rattle.std.specs.Option.{option_copied};
 ghost use Rattle.toml.specs.View.{view};
 ghost use Rattle.scoop_classes.specs.Classes.{table_of};
-ghost use Rattle.scoop_system.specs.Meaning.{node_of, nodes_of, handler_of, handlers_of, handler_class, client_of, clients_of, batch_at, number_of, first_address, first_client, other_family, is_v4, node_at, client_at, address_taken, address_fault};
+ghost use Rattle.scoop_system.specs.Meaning.{node_of, nodes_of, handler_of, handlers_of, handler_class, client_of, clients_of, batch_at, number_of};
+ghost use Rattle.scoop_system.specs.Meaning.{first_address, first_client, other_family, is_v4, node_at, client_at, address_taken, address_fault};
 ghost use Rattle.scoop_system.specs.Stop.{IfFault};
 
 use super::place::{at, place_at};

@@ -5,7 +5,8 @@ ghost use Rattle.std.specs.List.{list_any};
 ghost use Rattle.toml.specs.View.{view};
 ghost use Rattle.scoop_message.specs.declared.limits.TheConstants.{MAX_WORDS, MAX_WRITES};
 ghost use Rattle.scoop_words.specs.Number.{decimal_of};
-ghost use Rattle.scoop_system.specs.Terms.{term_of, word_term, argument_term, constant_term, term_in, test_in, test_at, two_terms, write_in, four_terms, written_word, next_write, writes_at, writes_from, answer_at};
+ghost use Rattle.scoop_system.specs.Terms.{term_of, word_term, argument_term, constant_term, term_in, test_in, test_at, two_terms, write_in, four_terms};
+ghost use Rattle.scoop_system.specs.Terms.{written_word, next_write, writes_at, writes_from, answer_at};
 
 use super::value::{entry, list_at};
 use crate::error::{Key, Wrong};

@@ -8,7 +8,8 @@ ghost use Rattle.std.specs.BTreeMap.{keys};
 ghost use Rattle.toml.specs.View.{view};
 ghost use Rattle.scoop_message.specs.declared.limits.TheConstants.{MAX_WORDS};
 ghost use Rattle.scoop_system.specs.KeyText.{key_text};
-ghost use Rattle.scoop_system.specs.Value.{whole_of, word_of, in_range, number_at, text_at, name_at, address_at, with_port, list_at, is_known, key_fault, words_at, some_words};
+ghost use Rattle.scoop_system.specs.Value.{whole_of, word_of, in_range, number_at, text_at, name_at, address_at, with_port, list_at, is_known, key_fault};
+ghost use Rattle.scoop_system.specs.Value.{words_at, some_words};
 ghost use Rattle.scoop_system.specs.Address.{address_of};
 
 use crate::error::{Key, Wrong};

@@ -31,7 +31,8 @@ loop-i-preserved c =
     record {
       decoded = decode_step c.args.digits.now c.loop-i.bytes c.loop-i.i (16 * c.digit_value-high.result + c.digit_value-low.result) (omega arith) (omega arith)
           (pair_reads (slice_index c.args.digits.now (2 * c.loop-i.i)) (slice_index c.args.digits.now (2 * c.loop-i.i + 1))
-          (2 * c.loop-i.i) c.digit_value-high.result c.digit_value-low.result c.digit_value-high.ensures c.digit_value-low.ensures below.0 below.1) c.loop-i.invariant.decoded;
+          (2 * c.loop-i.i) c.digit_value-high.result c.digit_value-low.result c.digit_value-high.ensures c.digit_value-low.ensures below.0 below.1)
+          c.loop-i.invariant.decoded;
       room = omega (arith, length-set c.loop-i.bytes c.loop-i.i (16 * c.digit_value-high.result + c.digit_value-low.result));
     }
 

@@ -5,7 +5,8 @@ use Rattle.scoop_keeper.proofs.KeeperLemmas.{is_same_same, stays_same}
 use Rattle.scoop_book.specs.declared.event.Event.TheVariants.{Finish}
 use Rattle.scoop_book.specs.declared.event.Reply.TheVariants.{Finished}
 use Rattle.scoop_book.specs.Books.{BookValue, IsRefused, IsUnfinished, KeepsNew, MayHappen}
-use Rattle.scoop_book.proofs.BookLemmas.{book_more, book_same, entered, gains, job_refusal, keeper_is, failed_is, first_at, no_place_unfinished, no_place_unfinishes, room_left, room_refusal, still_works}
+use Rattle.scoop_book.proofs.BookLemmas.{book_more, book_same, entered, gains, job_refusal, keeper_is, failed_is, first_at, no_place_unfinished}
+use Rattle.scoop_book.proofs.BookLemmas.{no_place_unfinishes, room_left, room_refusal, still_works}
 use Rattle.scoop_book.proofs.book.Book.finish.Goals as goal
 
 pub returns-in_default-clause-incarnations : goal.returns-in_default-clause-incarnations
