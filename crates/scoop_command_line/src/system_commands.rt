@@ -199,7 +199,8 @@ fn client_turns_option<'a>(alloc: Global) -> Arg<'a> {
         .long("turns")
         .value_name("T")
         .help(
-            "How many turns each command takes at most, 1 or more, and a reserve as many again to give its locks back; each takes a datagram or ten milliseconds",
+            "How many turns each command takes at most, 1 or more, and a reserve as many again to give its locks back; each takes a \
+            datagram or ten milliseconds",
         )
         .action(ArgAction::Set)
         .value_parser(value_parser!(u64))

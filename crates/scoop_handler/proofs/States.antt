@@ -428,7 +428,6 @@ roomy k last es e =
     let tests = or_parts (nat_le (2 ^ 32) last) _ rest in
     let low : last < 2 ^ 32 = leb-false (2 ^ 32) last tests.0 in
     record { ended = (or_parts k.ended _ e).0; low = low; end = λ more. highest tests.1 more low } where
-
       highest : (last == 2 ^ 32 - 1 && not (ends es)) ≡ false → ends es ≡ false → last < 2 ^ 32 → last < 2 ^ 32 - 1
       highest e more lt = by_test (last == 2 ^ 32 - 1) refl (ap (λ t. last == 2 ^ 32 - 1 && not t) (sym more) ∙ e) where
         by_test : (t : Bool) → (last == 2 ^ 32 - 1) ≡ t → (t && true) ≡ false → last < 2 ^ 32 - 1

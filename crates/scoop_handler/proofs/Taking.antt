@@ -68,7 +68,8 @@ IsCore-recalled class s number words given fits same_number same_words = rw (sam
 
 -- ---- a handler whose state changes and whose words stay
 
-pub IsCore-changed : (c : Core) (s : HandlerState) → IsCore c → IsState s → s.words ≡ c.state.words → FrontStays c.state.queues s.queues → IsCore (with_state s c)
+pub IsCore-changed : (c : Core) (s : HandlerState) → IsCore c → IsState s → s.words ≡ c.state.words → FrontStays c.state.queues s.queues
+    → IsCore (with_state s c)
 IsCore-changed c s sound state same stays = record {
   state = state;
   words = ap length same ∙ sound.words;

@@ -1,6 +1,7 @@
 -- What a handler does with a message: its new state, the reply and the note. Of several cases the first
 -- that fits decides.
-use Rattle.std.specs.Prelude.{◌≡◌, ◌≤◌, ◌+◌, ◌-◌, ◌^◌, ℕ, Bool, ◌&&◌, ◌||◌, not, ◌==◌, nat_lt, nat_le, if◌then◌else◌, List, length, drop, Option, Some, None, is_none, Result, Ok, Err}
+use Rattle.std.specs.Prelude.{◌≡◌, ◌≤◌, ◌+◌, ◌-◌, ◌^◌, ℕ, Bool, ◌&&◌, ◌||◌, not, ◌==◌, nat_lt, nat_le, if◌then◌else◌, List, length, drop, Option, Some}
+use Rattle.std.specs.Prelude.{None, is_none, Result, Ok, Err}
 use Rattle.scoop_message.specs.declared.limits.TheConstants.{MAX_MARKS, MAX_QUEUES, MAX_PENDING}
 use Rattle.scoop_message.specs.declared.name.Block.{Block}
 use Rattle.scoop_message.specs.declared.name.ClientId.{ClientId}
@@ -18,7 +19,8 @@ use Rattle.scoop_handler.specs.declared.note.Heard.{Heard}
 use Rattle.scoop_handler.specs.declared.note.Note.{Note}
 use Rattle.scoop_handler.specs.declared.note.Note.TheVariants.{Greeted, Granted, Held, Opened as OpenedNote, Freed, Took, Known, Dropped}
 use Rattle.scoop_handler.specs.declared.note.Reason.{Reason}
-use Rattle.scoop_handler.specs.declared.note.Reason.TheVariants.{NotForHandlers, WrongHandler, TooManyClients, Ungreeted, Stale, NotHolder, QueueFull, NotOpen, Gap, PendingFull}
+use Rattle.scoop_handler.specs.declared.note.Reason.TheVariants.{NotForHandlers, WrongHandler, TooManyClients, Ungreeted, Stale, NotHolder, QueueFull}
+use Rattle.scoop_handler.specs.declared.note.Reason.TheVariants.{NotOpen, Gap, PendingFull}
 use Rattle.scoop_handler.specs.Marks.{is_held, is_open, block_of, fresh_mark, opened_mark, with_received, without_hold, mark_of, set_mark, add_mark}
 use Rattle.scoop_handler.specs.State.{HandlerState, is_holder, is_unfinished}
 

@@ -14,10 +14,12 @@ use Rattle.scoop_message.specs.Message.{handler_of, is_for_handler, named_block}
 use Rattle.scoop_handler.specs.declared.mark.Mark.{Mark}
 use Rattle.scoop_handler.specs.declared.mark.Stage.TheVariants.{Held as AtHeld, Open as AtOpen, Shut as AtShut}
 use Rattle.scoop_handler.specs.declared.note.Note.TheVariants.{Held}
-use Rattle.scoop_handler.specs.declared.note.Reason.TheVariants.{NotForHandlers, WrongHandler, TooManyClients, Ungreeted, Stale, NotHolder, QueueFull, NotOpen, Gap, PendingFull}
+use Rattle.scoop_handler.specs.declared.note.Reason.TheVariants.{NotForHandlers, WrongHandler, TooManyClients, Ungreeted, Stale, NotHolder, QueueFull}
+use Rattle.scoop_handler.specs.declared.note.Reason.TheVariants.{NotOpen, Gap, PendingFull}
 use Rattle.scoop_handler.specs.Marks.{mark_of}
 use Rattle.scoop_handler.specs.State.{HandlerState, is_unfinished}
-use Rattle.scoop_handler.specs.Hearing.{Hearing, IsHeardAt, dropped, replied, known, greeted_first, greeted_newer, granted, opened_here, skipped, freed, took, kept_answer, new_entries, is_closed, has_no_room}
+use Rattle.scoop_handler.specs.Hearing.{Hearing, IsHeardAt, dropped, replied, known, greeted_first, greeted_newer, granted, opened_here, skipped, freed}
+use Rattle.scoop_handler.specs.Hearing.{took, kept_answer, new_entries, is_closed, has_no_room}
 
 -- the block that asks the handler for something
 abbrev pub asking_block : Message → Option Block

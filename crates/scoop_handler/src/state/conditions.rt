@@ -6,7 +6,8 @@ ghost use Rattle.std.specs.List.{AllByRecursion};
 ghost use Rattle.scoop_message.specs.declared.name.HandlerId.{HandlerId};
 ghost use Rattle.scoop_message.specs.declared.request.Entry.{Entry};
 ghost use Rattle.scoop_queue.specs.Queue.{has_open, is_open, queue_with};
-ghost use Rattle.scoop_handler.specs.State.{state_of, FitsMark, HasMark, HasQueueIfOpen, HolderIsUnderWay, HoldsIfHeld, IsAscending, IsState, IsUnusedUnlessOpen};
+ghost use Rattle.scoop_handler.specs.State.{state_of, FitsMark, HasMark, HasQueueIfOpen, HolderIsUnderWay, HoldsIfHeld, IsAscending, IsState};
+ghost use Rattle.scoop_handler.specs.State.{IsUnusedUnlessOpen};
 
 use crate::mark::{Mark, Stage};
 use crate::marks::find_mark;
@@ -90,7 +91,9 @@ fn has_queue_if_open<A: Allocator>(queues: &QueueOfQueues<A>, mark: &Mark) -> bo
 
 // Whether each mark fits the holder and the private queues.
 fn fit<A: Allocator>(marks: &[Mark], holder: Option<Block>, queues: &QueueOfQueues<A>) -> bool
-    ensures { IsTrue result ↔ (AllByRecursion (HoldsIfHeld holder) marks.now × AllByRecursion IsUnusedUnlessOpen marks.now × AllByRecursion (HasQueueIfOpen queues.now) marks.now) }
+    ensures { IsTrue result
+        ↔ (AllByRecursion (HoldsIfHeld holder) marks.now × AllByRecursion IsUnusedUnlessOpen marks.now
+        × AllByRecursion (HasQueueIfOpen queues.now) marks.now) }
 {
     match marks {
         [] => true,
