@@ -21,8 +21,6 @@ pub enum Failure {
     NoSuchClass,
     /// The words are no message with a frame. The kind is the one that they name.
     Words(WordsError, Option<Kind>),
-    /// The run has more events than a chart shows, and its file is empty.
-    LongChart,
     /// The work on the input ended early.
     Run(RunError),
     /// The demo ended early.
@@ -44,7 +42,6 @@ impl Failure {
             Failure::Arguments => report_arguments(rt),
             Failure::NoSuchClass => report_no_class(rt),
             Failure::Words(error, kind) => report_words(rt, error, kind),
-            Failure::LongChart => report_long_chart(rt),
             Failure::Run(error) => report_run(rt, error),
             Failure::Show(error) => report_show(rt, error),
             Failure::Range(range) => report_range(rt, range),
@@ -89,12 +86,6 @@ fn words_advice(error: WordsError) -> &'static str {
         }
         WordsError::OutOfMemory => RunError::OutOfMemory.advice(),
     }
-}
-
-fn report_long_chart<R: Eprint>(rt: &R) -> u8 {
-    let _ = eprintln!(rt; "scoop: chart: a chart shows at most 2000 events, and the run has more");
-    let _ = eprintln!(rt; "scoop: draw a shorter script, or a part of this one");
-    1
 }
 
 fn report_range<R: Eprint>(rt: &R, range: OutOfRange) -> u8 {

@@ -13,6 +13,9 @@ use std::io::{BufWriter, Write};
 // The status where the chart's file can't be written.
 const STATUS: u8 = 3;
 
+// The status where the run has more events than a chart shows.
+const LONG_STATUS: u8 = 1;
+
 /// Plays the script of standard input, in a world that nothing is stored for.
 pub fn play(rt: &HostRuntime, given: &ArgMatches<'_>) -> Result<(), Failure> {
     let options = PlayOptions {
@@ -63,12 +66,21 @@ fn play_charted<W: Write>(
     let drawn = picture.draw(&mut chart).and_then(|()| chart.flush());
     played?;
     if picture.is_too_long() {
-        return Err(Failure::LongChart);
+        return Err(tell_long(rt, path));
     }
     match drawn {
         Ok(()) => Ok(()),
         Err(_) => Err(tell_unwritten(rt, path)),
     }
+}
+
+// Tells that the run has more events than a chart shows, and which file is left empty.
+fn tell_long(rt: &HostRuntime, path: &str) -> Failure {
+    let _ = eprintln!(rt; "scoop: chart: a chart shows at most 2000 events, and the run has more");
+    let _ = eprintln!(rt;
+        "scoop: {path}: it is empty: draw a shorter script, or a part of this one"
+    );
+    Failure::Told(LONG_STATUS)
 }
 
 // Tells that the chart's file could not be written, and which file it is.

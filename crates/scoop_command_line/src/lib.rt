@@ -27,7 +27,9 @@ pub fn command<'a>(alloc: Global, class_names: &'a [&'a str]) -> Result<Command<
     let command = Command::new(alloc, "scoop")
         .bin_name("scoop")?
         .version("0.1.0")
-        .about("Runs SCOOP handlers, which answer the messages that clients send them")
+        .about(
+            "Runs SCOOP systems: nodes whose handlers run objects, and clients that reserve these for blocks",
+        )
         .propagate_version(true)
         .subcommand_required(true)
         .arg_required_else_help(true);
@@ -91,13 +93,16 @@ fn world_command<'a>(alloc: Global) -> Result<Command<'a>, AllocError> {
             \x20 trip C H                   tick, take it, and take the reply\n\
             \x20 begin H, finish H          handler H begins its next entry, and finishes it\n\
             \x20 run H                      both\n\
-            \x20 restart client C, restart node N\n\
-            Words are parted by spaces. Empty lines and lines that begin with `#` are skipped.\n\n\
+            \x20 restart client C           it begins anew with its next incarnation\n\
+            \x20 restart node N             its handlers go on with what is stored\n\
+            OP is an operation's number. Words are parted by spaces. Empty lines and lines that begin with `#` are skipped.\n\n\
             Each event prints what it did: `done`, `silent`, `sent I KIND`, a handler's or a client's note, `began`, \
             `ran`, `restarted`, `reopened`, or `refused` and why. The end prints what happened: the common list of \
-            blocks, what opened and what ran at each handler, and what each client accepted.\n\n",
-            "Statuses: 0; 1 for a fault of the script, told as `scoop: line N: TEXT`; 2 for the command line; 3 for \
-            memory or output.\n\n\
+            blocks, what opened and what ran at each handler, and what each client accepted: a block is \
+            C.INC.N, the client's N-th block; an entry that ran is BLOCK:N:ANSWER, with `end` for an End; an answer that a \
+            client accepted has H: before it.\n\n",
+            "Statuses: 0; 1 for a fault of the script, told as `scoop: line N: TEXT`, and for a run that is too long for its \
+            chart; 2 for the command line; 3 for memory, output or the chart's file.\n\n\
             Example: printf 'handler 1 1 cell 0\\nclient 7\\ntrip 7 1\\n' | scoop world --echo",
         ))
         .arg(echo_flag(alloc))?
@@ -153,10 +158,11 @@ fn frame_command<'a>(alloc: Global) -> Result<Command<'a>, AllocError> {
             \x20 Log H BLOCK N ENTRY..      the entries from number N on: call:OP:A.., query:OP:A.. or end\n\
             \x20 Logged H BLOCK N\n\
             \x20 Answer H BLOCK N ANSWER    a number or `refused`\n\
-            A block is written C.INC.N. `v2` before all says a frame of version 2, whose Log may have up to 4 entries; \
+            H is a handler's number, C a client's, and INC its incarnation; BLOCK is C.INC.N, the client's N-th block. \
+            `v2` before all says a frame of version 2, whose Log may have up to 4 entries; \
             else the version is 1.\n\n\
-            Statuses: 0; 1 for a fault of a line, told as `scoop: line N: TEXT`; 2 for words that are no message or \
-            one that no frame says; 3 for memory or output.\n\n\
+            Statuses: 0; 1 for a fault of a line, told as `scoop: line N: TEXT`; 2 for words that are no message, or a \
+            message that no frame says; 3 for memory or output.\n\n\
             Example: scoop frame Lock 1 7.1.1",
         )
         .arg(words_argument(alloc))

@@ -155,7 +155,8 @@ fn key_option<'a>(alloc: Global) -> Arg<'a> {
         .long("key")
         .value_name("FILE")
         .help(
-            "Seals datagrams with the key in this file, of 64 hex digits; all programs of a system have one key. Without it nothing is sealed",
+            "Seals datagrams with the key in this file, of 64 hex digits (openssl rand -hex 32 writes one); all programs of a system \
+            have one key. Without it nothing is sealed",
         )
         .action(ArgAction::Set)
 }

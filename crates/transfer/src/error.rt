@@ -1,6 +1,7 @@
 //! Why a transfer isn't made.
 
 use scoop_chart::ChartError;
+use scoop_client::TooManyHandlers;
 use scoop_message::OutOfMemory;
 use scoop_world::{WorldError, WorldOpenError};
 use thiserror::Error;
@@ -11,6 +12,9 @@ pub enum TransferError {
     /// The world doesn't open.
     #[error("the world doesn't open: {0}")]
     Open(#[from] WorldOpenError),
+    /// A command names more handlers than one may.
+    #[error("{0}")]
+    Handlers(#[from] TooManyHandlers),
     /// An event is refused.
     #[error("an event is refused: {0}")]
     Event(#[from] WorldError),

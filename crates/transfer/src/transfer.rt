@@ -102,9 +102,7 @@ impl Transfer {
 
     // Reserves both accounts: locks, opens and unlocks each.
     fn begin(&mut self) -> Result<(), TransferError> {
-        let Ok(both) = HandlerList::of(&BOTH) else {
-            return Ok(());
-        };
+        let both = HandlerList::of(&BOTH)?;
         self.tell(Command::Reserve(both))?;
         for _ in 0..3 {
             for handler in BOTH {

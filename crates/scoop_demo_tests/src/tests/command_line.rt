@@ -72,7 +72,7 @@ const HELP: [Case; 8] = [
     (
         &["scoop", "--help"],
         &[
-            "Runs SCOOP handlers",
+            "Runs SCOOP systems",
             "answer",
             "world",
             "frame",
@@ -88,6 +88,7 @@ const HELP: [Case; 8] = [
             "Runs one handler",
             "datagrams of standard input",
             "answered with one line",
+            "account    1 word    1 deposit A, 2 withdraw A (refused where there is less), 3 balance",
             "Statuses: 0; 1 ",
             "Example: scoop frame Hello 1 7 1 | scoop answer",
             "Usage: scoop answer",
