@@ -13,6 +13,11 @@
 //! };
 //! assert_eq!(rt; stock.apply(&order), Answer::Value(6));
 //! assert_eq!(rt; stock.words(), Words::of(&[6, 4])?);
+//! // a table that interprets the rows does the same
+//! let class = Class::build(rt.alloc(), 2, &stock_rows())?;
+//! let mut table = Table::new(class, Words::of(&[10, 0])?)?;
+//! assert_eq!(rt; table.apply(&order), Answer::Value(6));
+//! assert_eq!(rt; table.words(), stock.words());
 //! ```
 #![tactic(auto)]
 

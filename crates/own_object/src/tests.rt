@@ -8,6 +8,7 @@ fn request(op: u16, args: &[u64]) -> Result<Request, Fail> {
     Ok(Request { op, args })
 }
 
+/// The example of the crate.
 #[test]
 fn a_stock_is_ordered_from(rt: HostRuntime) -> Result<(), Fail> {
     let mut stock = StockObject::new(10, 0);
@@ -16,6 +17,18 @@ fn a_stock_is_ordered_from(rt: HostRuntime) -> Result<(), Fail> {
         args: Args::of(&[4])?,
     };
     assert_eq!(rt; stock.apply(&order), Answer::Value(6));
+    assert_eq!(rt; stock.words(), Words::of(&[6, 4])?);
+    // a table that interprets the rows does the same
+    let class = Class::build(rt.alloc(), 2, &stock_rows())?;
+    let mut table = Table::new(class, Words::of(&[10, 0])?)?;
+    assert_eq!(rt; table.apply(&order), Answer::Value(6));
+    assert_eq!(rt; table.words(), stock.words());
+    Ok(())
+}
+
+#[test]
+fn a_stock_refuses_what_it_has_not(rt: HostRuntime) -> Result<(), Fail> {
+    let mut stock = StockObject::new(6, 4);
     let more = request(ORDER, &[7])?;
     assert_eq!(rt; stock.apply(&more), Answer::Refused);
     let left = request(LEFT, &[])?;

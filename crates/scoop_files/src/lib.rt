@@ -2,12 +2,19 @@
 //!
 //! [`create`] makes a store in a file, [`adopt`] takes up the one that is there, [`adopt_for`] where it has a client's
 //! incarnation, and [`close`] leaves the file whole. A [`FileError`] says which of what may be wrong it is, and what to do.
+//! The example is of the program `scoop`, which refuses a file that is no database before a log is made beside it.
 //!
 //! ```
-//! // a client's store: a new one, or the one with which it ran, in lines of `scoop client`
-//! match given.get_str("new") {
-//!     Some(path) => create(rt, path),
-//!     None => adopt_for(rt, given.get_str("store").unwrap_or(""), client),
+//! /// A new store in the file.
+//! pub fn create_in(rt: &HostRuntime, path: &str) -> Result<FiledStore, FileError> {
+//!     refuse_foreign(rt, path)?;
+//!     create(rt, path)
+//! }
+//!
+//! /// The store that is in the file.
+//! pub fn adopt_in(rt: &HostRuntime, path: &str) -> Result<FiledStore, FileError> {
+//!     refuse_foreign(rt, path)?;
+//!     adopt(rt, path)
 //! }
 //! ```
 #![tactic(auto)]

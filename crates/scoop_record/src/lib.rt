@@ -2,31 +2,19 @@
 //! clients.
 //!
 //! A [`Store`] is a [`Keeper`], as the one in memory is. What it writes for a handler are the bytes of [`image`] and
-//! [`pending_row`].
+//! [`pending_row`]. In the example `conn` is a connection, and `is_loaded` tells whether it was this state that came.
 //!
 //! ```
-//! // a store makes the tables of a database that has none, and takes those that are there
-//! match Store::create(alloc, conn) {
-//!     Ok(store) => Some(store),
-//!     Err(_) => None,
-//! }
-//! match Store::adopt(alloc, conn) {
-//!     Ok(store) => Some(store),
-//!     Err(_) => None,
-//! }
-//! // what it is asked: to put a state, to load it, and for a client's next incarnation
-//! keeper.put_handler(state).is_ok()
-//! match keeper.load_handler(HandlerId(1)) {
-//!     Ok(Some(state)) => state.same(wanted),
-//!     _ => false,
-//! }
-//! Act::Next(client, next) => keeper.next_incarnation(ClientId(client)) == next,
-//! // between the two stores is a restart: all that stays is the database
-//! const IN_DOC: [Step; 2] = [
-//!     Step::Create(&[Act::PutWaiting(5), Act::Next(7, Ok(1))]),
-//!     Step::Adopt(&[Act::LoadWaiting(5), Act::Next(7, Ok(2))]),
-//! ];
-//! store.into_connection()
+//! // a store makes its tables in a database that has none
+//! let mut store = Store::create(alloc, conn)?;
+//! assert!(rt; store.put_handler(state).is_ok());
+//! assert_eq!(rt; store.next_incarnation(ClientId(7)), Ok(1));
+//! // a restart: all that stays is the database, and a store takes the tables that are there
+//! let conn = store.into_connection();
+//! let mut store = Store::adopt(alloc, conn)?;
+//! let loaded = store.load_handler(HandlerId(1));
+//! assert!(rt; is_loaded(loaded, state));
+//! assert_eq!(rt; store.next_incarnation(ClientId(7)), Ok(2));
 //! ```
 #![tactic(auto)]
 

@@ -20,8 +20,6 @@ pub enum Act {
     PutWaiting(u8),
     /// Loads a state with this word, or none.
     Load(Result<Option<u64>, KeeperError>),
-    /// Loads the state with this word and two entries pending.
-    LoadWaiting(u8),
 }
 
 /// What is done with a database, with what it answers.
@@ -81,13 +79,6 @@ pub fn word<K: Keeper<Global>>(
     }
 }
 
-fn is_loaded<K: Keeper<Global>>(keeper: &mut K, wanted: &HandlerState) -> bool {
-    match keeper.load_handler(HandlerId(1)) {
-        Ok(Some(state)) => state.same(wanted),
-        _ => false,
-    }
-}
-
 fn puts<K: Keeper<Global>>(keeper: &mut K, state: &HandlerState) -> bool {
     keeper.put_handler(state).is_ok()
 }
@@ -99,7 +90,6 @@ pub fn acts<K: Keeper<Global>>(rt: &impl Abort, alloc: Global, keeper: &mut K, a
         Act::Put(word) => puts(keeper, &bare(rt, alloc, word)),
         Act::PutWaiting(word) => puts(keeper, &waiting(rt, alloc, word)),
         Act::Load(found) => word(rt, keeper) == found,
-        Act::LoadWaiting(word) => is_loaded(keeper, &waiting(rt, alloc, word)),
     }
 }
 
