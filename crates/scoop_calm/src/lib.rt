@@ -16,6 +16,8 @@
 //! scoop_calm::next_leaves_less();
 //! // and nothing is next exactly where the world is calm
 //! scoop_calm::calm_has_no_next();
+//! // the calm world was reached, so it is safe as every such world is
+//! scoop_model::theorems::reached_safe();
 //! ```
 #![tactic(auto)]
 

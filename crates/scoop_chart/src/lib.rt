@@ -6,30 +6,18 @@
 //! runs there, and a bar at a restart. Each row's label stands in a column of its own, so that nothing overlaps.
 //!
 //! ```
-//! // client 7 and handler 1 of node 1
-//! match Chart::new(alloc, &[SEVEN], handlers) {
-//!     Ok(chart) => chart,
-//!     Err(_) => panic!(rt; "no chart"),
-//! }
-//! // each event, what came of it, and the text of its row
-//! const GREETING: [Row; 2] = [
-//!     (
-//!         Event::Tick(SEVEN, ONE),
-//!         Ok(WorldNote::Sent(1)),
-//!         b"sent 1 Hello",
-//!     ),
-//!     (
-//!         Event::Take(1),
-//!         Ok(WorldNote::Handler(Note::Greeted, Some(2))),
-//!         b"Greeted sent 2",
-//!     ),
-//! ];
-//! // is noted as it happens
-//! let (event, outcome, label) = row;
-//! chart.note(event, outcome, label)
-//! // and once the run is over the chart is drawn
+//! // client 7, and handler 1 of node 1
+//! let mut chart = Chart::new(alloc, &[SEVEN], &[(1, ONE)])?;
+//! // each event is noted as it happens, with what came of it and the text of its row
+//! let sent = Ok(WorldNote::Sent(1));
+//! chart.note(&Event::Tick(SEVEN, ONE), &sent, b"sent 1 Hello")?;
+//! let greeted = Ok(WorldNote::Handler(Note::Greeted, Some(2)));
+//! chart.note(&Event::Take(1), &greeted, b"Greeted sent 2")?;
+//! assert_eq!(rt; chart.rows(), 2);
+//! // once the run is over the chart is drawn
 //! let mut picture = Vec::new(alloc);
-//! let drawn = chart.draw(&mut picture);
+//! assert!(rt; chart.draw(&mut picture).is_ok());
+//! assert!(rt; picture.starts_with(b"<svg "));
 //! ```
 #![tactic(auto)]
 

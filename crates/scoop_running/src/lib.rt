@@ -16,7 +16,11 @@
 //! scoop_running::histories_move();
 //! // a driver's steps lead its client
 //! scoop_running::drivers_move();
-//! // so what running nodes and clients tell of themselves is what happens in a world
+//! // where each party's own moves lead it, all moves in one order lead the whole system
+//! scoop_weave::woven_is_a_weave();
+//! // and what such a system does is what happens in a world
+//! scoop_weave::system_is_a_world();
+//! // so that is what happens where nodes and clients run and tell of themselves
 //! scoop_running::running_is_a_world();
 //! ```
 #![tactic(auto)]

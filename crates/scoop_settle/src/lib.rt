@@ -3,11 +3,15 @@
 //!
 //! ```
 //! // a client that joins is to greet the handler (`next` is `next_of` where memory isn't refused)
-//! let greets = Next::Ask(ClientId(7), HandlerId(1));
-//! assert_eq!(rt; next(world), Ok(Some(greets)));
+//! let asks = Next::Ask(ClientId(7), HandlerId(1));
+//! assert_eq!(rt; next(world), Ok(Some(asks)));
 //! // it does, and hears the reply: then the world is calm
 //! assert_eq!(rt; world.run(&GREETING), Ok(3));
 //! assert_eq!(rt; next(world), Ok(None));
+//! // a client that is to reserve the handler asks it for the lock
+//! let reserve = Command::Reserve(HandlerList::of(&[HandlerId(1)])?);
+//! assert_eq!(rt; world.step(Event::Do(ClientId(7), reserve)), Ok(WorldNote::Done));
+//! assert_eq!(rt; next(world), Ok(Some(asks)));
 //! ```
 #![tactic(auto)]
 

@@ -5,27 +5,16 @@
 //! what has happened is a run of the written rules: that is the theorem, on `World::run`.
 //!
 //! ```
-//! // a handler whose object has one word, and a client
-//! let mut placements = Vec::new(alloc);
-//! let placement = Placement {
-//!     node: 1,
-//!     handler: HandlerId(1),
-//!     class: class_of(rt, alloc, &[]),
-//!     object: object(rt, class_of(rt, alloc, &[])),
-//! };
-//! place(rt, &mut placements, placement);
+//! // a world of the handler that is placed, number 1, and of client 7
 //! let keeper = MemoryKeeper::new(alloc);
-//! match World::open(alloc, placements, &[(ClientId(7), 1)], keeper) {
-//!     Ok(world) => world,
-//!     Err(_) => panic!(rt; "no world"),
-//! }
+//! let mut world = World::open(alloc, placements, &[(ClientId(7), 1)], keeper)?;
 //! // the client greets the handler, which hears that, and the client hears the reply
-//! const GREETING: [Event; 3] = [
+//! let greeting = [
 //!     Event::Tick(ClientId(7), HandlerId(1)),
 //!     Event::Take(1),
 //!     Event::Take(2),
 //! ];
-//! assert_eq!(rt; world.run(&GREETING), Ok(3));
+//! assert_eq!(rt; world.run(&greeting), Ok(3));
 //! let welcome = Message::Welcome(HandlerId(1), ClientId(7), 1);
 //! assert_eq!(rt; world.sent(2).copied(), Some(welcome));
 //! ```

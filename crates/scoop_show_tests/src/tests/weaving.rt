@@ -154,14 +154,32 @@ fn a_message_may_be_heard_twice_and_late(rt: HostRuntime) -> Result<(), Fail> {
     Ok(())
 }
 
+/// The example of `scoop_weave`.
 #[test]
-fn theorems_are_called() {
+fn theorems_of_a_weave_are_called() {
+    // what a node's own list has of each handler leads that handler
     scoop_weave::nodes_are_woven();
+    // where each party's own moves lead it, all moves in one order lead the whole system
     scoop_weave::woven_is_a_weave();
+    // so what parties do, each by itself, is what happens in a world
     scoop_weave::weave_is_a_world();
+    // nothing that can happen in a world is left out
     scoop_weave::world_is_of_a_weave();
+    // and all of it is promised of nodes and clients with their restarts
     scoop_weave::system_is_a_world();
+}
+
+/// The example of `scoop_running`.
+#[test]
+fn theorems_of_what_runs_are_called() {
+    // a history that replays, as a closed node's does, leads the node's handlers
     scoop_running::histories_move();
+    // a driver's steps lead its client
     scoop_running::drivers_move();
+    // where each party's own moves lead it, all moves in one order lead the whole system
+    scoop_weave::woven_is_a_weave();
+    // and what such a system does is what happens in a world
+    scoop_weave::system_is_a_world();
+    // so that is what happens where nodes and clients run and tell of themselves
     scoop_running::running_is_a_world();
 }

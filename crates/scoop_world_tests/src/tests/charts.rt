@@ -86,6 +86,28 @@ fn a_run_is_drawn(rt: HostRuntime) {
     is_drawn(&rt, rt.alloc(), &GREETING, &GREETING_DRAWN);
 }
 
+/// The example of `scoop_chart`.
+fn draws_greeting(rt: &impl Abort, alloc: Global) -> Result<(), ChartError> {
+    // client 7, and handler 1 of node 1
+    let mut chart = Chart::new(alloc, &[SEVEN], &[(1, ONE)])?;
+    // each event is noted as it happens, with what came of it and the text of its row
+    let sent = Ok(WorldNote::Sent(1));
+    chart.note(&Event::Tick(SEVEN, ONE), &sent, b"sent 1 Hello")?;
+    let greeted = Ok(WorldNote::Handler(Note::Greeted, Some(2)));
+    chart.note(&Event::Take(1), &greeted, b"Greeted sent 2")?;
+    assert_eq!(rt; chart.rows(), 2);
+    // once the run is over the chart is drawn
+    let mut picture = Vec::new(alloc);
+    assert!(rt; chart.draw(&mut picture).is_ok());
+    assert!(rt; picture.starts_with(b"<svg "));
+    Ok(())
+}
+
+#[test]
+fn a_chart_is_told_and_drawn(rt: HostRuntime) {
+    assert_eq!(rt; draws_greeting(&rt, rt.alloc()), Ok(()));
+}
+
 const BLOCK: Block = Block {
     client: SEVEN,
     inc: 1,

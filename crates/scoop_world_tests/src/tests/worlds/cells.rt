@@ -57,7 +57,7 @@ fn class(rt: &impl Abort, alloc: Global) -> Class {
 }
 
 /// An object of this class, which holds 0.
-pub fn object(rt: &impl Abort, class: Class) -> Table {
+fn object(rt: &impl Abort, class: Class) -> Table {
     let Ok(words) = Words::of(&[0]) else {
         panic!(rt; "no words");
     };
@@ -83,11 +83,12 @@ fn placement(rt: &impl Abort, alloc: Global, number: u32) -> Placement<Table> {
 }
 
 /// Places one more handler.
-pub fn place(rt: &impl Abort, placements: &mut Vec<Placement<Table>>, placement: Placement<Table>) {
+fn place(rt: &impl Abort, placements: &mut Vec<Placement<Table>>, placement: Placement<Table>) {
     assert!(rt; placements.push(placement).is_ok());
 }
 
-fn placements(rt: &impl Abort, alloc: Global, handlers: &[u32]) -> Vec<Placement<Table>> {
+/// Cells as these handlers.
+pub fn placements(rt: &impl Abort, alloc: Global, handlers: &[u32]) -> Vec<Placement<Table>> {
     let mut placements = Vec::new(alloc);
     for number in handlers {
         place(rt, &mut placements, placement(rt, alloc, *number));
