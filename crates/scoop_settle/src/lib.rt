@@ -9,8 +9,9 @@
 //! assert_eq!(rt; world.run(&GREETING), Ok(3));
 //! assert_eq!(rt; next(world), Ok(None));
 //! // a client that is to reserve the handler asks it for the lock
-//! let reserve = Command::Reserve(HandlerList::of(&[HandlerId(1)])?);
-//! assert_eq!(rt; world.step(Event::Do(ClientId(7), reserve)), Ok(WorldNote::Done));
+//! let one = HandlerList::of(&[HandlerId(1)])?;
+//! let reserve = Event::Do(ClientId(7), Command::Reserve(one));
+//! assert_eq!(rt; world.step(reserve), Ok(WorldNote::Done));
 //! assert_eq!(rt; next(world), Ok(Some(asks)));
 //! ```
 #![tactic(auto)]

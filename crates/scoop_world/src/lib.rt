@@ -5,7 +5,7 @@
 //! what has happened is a run of the written rules: that is the theorem, on `World::run`.
 //!
 //! ```
-//! // a world of the handler that is placed, number 1, and of client 7
+//! // a world of handler 1, which is placed on a node with its object, and of client 7
 //! let keeper = MemoryKeeper::new(alloc);
 //! let mut world = World::open(alloc, placements, &[(ClientId(7), 1)], keeper)?;
 //! // the client greets the handler, which hears that, and the client hears the reply

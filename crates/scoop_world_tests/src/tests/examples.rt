@@ -68,7 +68,7 @@ fn runs_placed(
     alloc: Global,
     placements: Vec<Placement<Table>>,
 ) -> Result<(), WorldOpenError> {
-    // a world of the handler that is placed, number 1, and of client 7
+    // a world of handler 1, which is placed on a node with its object, and of client 7
     let keeper = MemoryKeeper::new(alloc);
     let mut world = World::open(alloc, placements, &[(ClientId(7), 1)], keeper)?;
     // the client greets the handler, which hears that, and the client hears the reply
@@ -105,11 +105,9 @@ fn settles(rt: &impl Abort, world: &mut World<Table>) -> Result<(), TooManyHandl
     assert_eq!(rt; world.run(&GREETING), Ok(3));
     assert_eq!(rt; next(world), Ok(None));
     // a client that is to reserve the handler asks it for the lock
-    let reserve = Command::Reserve(HandlerList::of(&[HandlerId(1)])?);
-    assert_eq!(rt;
-        world.step(Event::Do(ClientId(7), reserve)),
-        Ok(WorldNote::Done)
-    );
+    let one = HandlerList::of(&[HandlerId(1)])?;
+    let reserve = Event::Do(ClientId(7), Command::Reserve(one));
+    assert_eq!(rt; world.step(reserve), Ok(WorldNote::Done));
     assert_eq!(rt; next(world), Ok(Some(asks)));
     Ok(())
 }

@@ -57,7 +57,7 @@ fn class(rt: &impl Abort, alloc: Global) -> Class {
 }
 
 /// An object of this class, which holds 0.
-fn object(rt: &impl Abort, class: Class) -> Table {
+pub fn object(rt: &impl Abort, class: Class) -> Table {
     let Ok(words) = Words::of(&[0]) else {
         panic!(rt; "no words");
     };
@@ -83,7 +83,7 @@ fn placement(rt: &impl Abort, alloc: Global, number: u32) -> Placement<Table> {
 }
 
 /// Places one more handler.
-fn place(rt: &impl Abort, placements: &mut Vec<Placement<Table>>, placement: Placement<Table>) {
+pub fn place(rt: &impl Abort, placements: &mut Vec<Placement<Table>>, placement: Placement<Table>) {
     assert!(rt; placements.push(placement).is_ok());
 }
 
