@@ -19,7 +19,7 @@ fresh_pass opening n = record { number = n; opening = if n == 0 then Some openin
 
 -- the pass with one more event and its reply
 abbrev pub with_event : Event → Reply → PassValue → PassValue
-with_event event reply p = record { number = p.number; opening = p.opening; events = p.events ++ (event, reply) ∷ [] }
+with_event event reply p = record p { events = p.events ++ (event, reply) ∷ [] }
 
 -- how many passes a node has
 pub record NodeValue : Type 0 where

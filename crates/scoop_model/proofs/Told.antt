@@ -21,7 +21,7 @@ use Rattle.scoop_handler.proofs.Basics.{all_both}
 use Rattle.scoop_handler.proofs.MarkLists.{mark_of-client, All-mark_of}
 use Rattle.scoop_model.specs.World.{World, Site, Party, is_site, is_party, party_of, inc_of, has_block, log_of}
 use Rattle.scoop_model.specs.Reach.{IsReached}
-use Rattle.scoop_model.specs.Told.{stored_of, TellsStored, TellsGreeted, HoldsOpenedOrOver, TellsHeld, TellsGranted, TellsOpened, HasOpenedAtAll, IsLeft}
+use Rattle.scoop_model.specs.Told.{stored_of, TellsStored, TellsGreeted, HoldsOpenedOrOver, TellsHeld, TellsGranted, TellsOpened, HasOpenedAtAll, IsAbandoned}
 use Rattle.scoop_model.specs.Told.{TellsUnlocked, AreOfLog, TellsLogged, TellsRan}
 use Rattle.scoop_model.proofs.Basics.{by_test}
 use Rattle.scoop_model.proofs.Stands.{Stands}
@@ -141,8 +141,8 @@ module _ (w : World) (f : Facts w) where
   opened_all : (b : Block) → IsOpenedAtAll w b → HasOpenedAtAll w b
   opened_all b o = record { handlers = o.handlers; set = o.set; opened = o.opened }
 
-  is_left : (b : Block) → IsGivenUp w b → IsLeft w b
-  is_left b g = record {
+  is_abandoned : (b : Block) → IsGivenUp w b → IsAbandoned w b
+  is_abandoned b g = record {
     unopened = λ h was. true≢false (sym (same_block_itself b)
         ∙ contained (λ m. is_open_of b m ≡ false) w.sent (Open h b) (none_any (is_open_of b) w.sent g.none) was);
     given_up = λ p at r held own. g.left b.client p at r held own;
@@ -153,7 +153,7 @@ module _ (w : World) (f : Facts w) where
 
   tells_unlocked : (m : Message) → Shows w m → TellsUnlocked w m
   tells_unlocked m s = record {
-    unlocked = λ h b is. ⊎_elim (λ (o : IsOpenedAtAll w b). inl (opened_all b o)) (λ (g : IsGivenUp w b). inr (is_left b g)) (subst (Shows w) is s).1;
+    unlocked = λ h b is. ⊎_elim (λ (o : IsOpenedAtAll w b). inl (opened_all b o)) (λ (g : IsGivenUp w b). inr (is_abandoned b g)) (subst (Shows w) is s).1;
   }
 
   -- ---- logs and answers

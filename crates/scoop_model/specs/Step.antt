@@ -34,7 +34,7 @@ use Rattle.scoop_model.specs.declared.note.WorldNote.TheVariants as note
 use Rattle.scoop_model.specs.declared.error.WorldError.{WorldError}
 use Rattle.scoop_model.specs.declared.error.WorldError.TheVariants.{NoSuchMessage, NoSuchParty, NothingToRun, ClientRefused, IncarnationsSpent}
 use Rattle.scoop_model.specs.World.{World, Site, Party, Accepted, HandlerLog, BlockLog, set_site, set_party, site_of, party_of, has_block, is_log_of}
-use Rattle.scoop_model.specs.World.{is_line_of, sent_at}
+use Rattle.scoop_model.specs.World.{is_share_of, sent_at}
 
 -- the world after an event and what it tells, or why it doesn't happen, want of memory apart
 abbrev pub Stepped : Type 0
@@ -57,19 +57,19 @@ abbrev pub fresh_log : HandlerId → HandlerLog
 fresh_log h = record { handler = h; entries = [] }
 
 abbrev pub with_entry : Entry → HandlerLog → HandlerLog
-with_entry e l = record { handler = l.handler; entries = l.entries ++ e ∷ [] }
+with_entry e l = record l { entries = l.entries ++ e ∷ [] }
 
 -- one more entry at one of the block's handlers
 abbrev pub with_entry_at : HandlerId → Entry → HandlerLog → HandlerLog
-with_entry_at h e l = if is_line_of h l then with_entry e l else l
+with_entry_at h e l = if is_share_of h l then with_entry e l else l
 
--- the lines of one block change
+-- the shares of one block change
 abbrev pub changed_log : Block → (HandlerLog → HandlerLog) → BlockLog → BlockLog
-changed_log b f l = if is_log_of b l then record { block = l.block; lines = map f l.lines } else l
+changed_log b f l = if is_log_of b l then record l { shares = map f l.shares } else l
 
 -- what was logged, once the client whose block this now is has taken the command
 abbrev pub logs_after : Command → Block → List BlockLog → List BlockLog
-logs_after (Reserve hs) b logs = logs ++ record { block = b; lines = map fresh_log hs } ∷ []
+logs_after (Reserve hs) b logs = logs ++ record { block = b; shares = map fresh_log hs } ∷ []
 logs_after (Call h r) b logs = map (changed_log b (with_entry_at h (CallEntry r))) logs
 logs_after (Query h r) b logs = map (changed_log b (with_entry_at h (QueryEntry r))) logs
 logs_after End b logs = map (changed_log b (with_entry EndEntry)) logs

@@ -88,13 +88,13 @@ pub record TellsOpened (w : World) (m : Message) : Type 0 where
   pub opened : (h : HandlerId) (b : Block) → m ≡ Opened h b → HasOpened w h b
 
 -- no Open of the block was ever sent, and its client has left it or is giving it up
-pub record IsLeft (w : World) (b : Block) : Type 0 where
+pub record IsAbandoned (w : World) (b : Block) : Type 0 where
   pub unopened : (h : HandlerId) → Contains w.sent (Open h b) → ⊥
   pub given_up : (p : Party) → party_of b.client w ≡ Some p → (r : ReservationState) → p.client.reservation ≡ Some r → r.block ≡ b → r.stage ≡ GivingUp
 
 -- a block is unlocked only once it has opened at all of its handlers, or where it was left
 pub record TellsUnlocked (w : World) (m : Message) : Type 0 where
-  pub unlocked : (h : HandlerId) (b : Block) → m ≡ Unlock h b → HasOpenedAtAll w b ⊎ IsLeft w b
+  pub unlocked : (h : HandlerId) (b : Block) → m ≡ Unlock h b → HasOpenedAtAll w b ⊎ IsAbandoned w b
 
 -- ---- logs and answers
 

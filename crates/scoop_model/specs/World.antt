@@ -44,7 +44,7 @@ pub record HandlerLog : Type 0 where
 -- a block that was reserved: its handlers as they were named, with what its client logged for each
 pub record BlockLog : Type 0 where
   pub block : Block
-  pub lines : List HandlerLog
+  pub shares : List HandlerLog
 
 pub record World : Type 0 where
   pub sites : List Site
@@ -105,15 +105,15 @@ has_block bs b = list_any (λ x. same_block x b) bs
 abbrev pub is_log_of : Block → BlockLog → Bool
 is_log_of b l = same_block l.block b
 
-abbrev pub is_line_of : HandlerId → HandlerLog → Bool
-is_line_of h l = same_handler l.handler h
+abbrev pub is_share_of : HandlerId → HandlerLog → Bool
+is_share_of h l = same_handler l.handler h
 
--- the lines of a block, none where it was never reserved
-abbrev pub lines_of : Block → List BlockLog → List HandlerLog
-lines_of b logs = option_map_or (λ l. l.lines) (find (is_log_of b) logs) []
+-- the shares of a block, none where it was never reserved
+abbrev pub shares_of : Block → List BlockLog → List HandlerLog
+shares_of b logs = option_map_or (λ l. l.shares) (find (is_log_of b) logs) []
 
 abbrev pub handlers_in : BlockLog → List HandlerId
-handlers_in l = map (λ x. x.handler) l.lines
+handlers_in l = map (λ x. x.handler) l.shares
 
 -- the handlers that the block's reserve named, if it was ever reserved
 abbrev pub handlers_of : Block → World → Option (List HandlerId)
@@ -124,7 +124,7 @@ set_of b w = unwrap_or (handlers_of b w) []
 
 -- what the block's client logged for the handler, where the block has reserved it
 abbrev pub logged_at : Block → HandlerId → World → Option (List Entry)
-logged_at b h w = option_map (λ l. l.entries) (find (is_line_of h) (lines_of b w.logs))
+logged_at b h w = option_map (λ l. l.entries) (find (is_share_of h) (shares_of b w.logs))
 
 abbrev pub log_of : Block → HandlerId → World → List Entry
 log_of b h w = unwrap_or (logged_at b h w) []

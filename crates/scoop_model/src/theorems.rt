@@ -13,5 +13,5 @@ pub use safety::reached_safe;
 pub use telling::{
     answer_has_run, hello_is_stored, locked_is_held_opened_or_over, log_was_logged,
     logged_is_received, named_incarnations_known, open_was_granted, opened_has_opened,
-    unlock_is_opened_or_left, welcome_has_greeted,
+    unlock_is_opened_or_abandoned, welcome_has_greeted,
 };

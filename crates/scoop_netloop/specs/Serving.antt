@@ -37,7 +37,7 @@ pub record Sends (complete : Bool) (all gone : Datagrams) : Type 0 where
 
 -- the pass with these events behind its own
 abbrev pub with_events : List (Event × Reply) → PassValue → PassValue
-with_events es p = record { number = p.number; opening = p.opening; events = p.events ++ es }
+with_events es p = record p { events = p.events ++ es }
 
 -- The pass gained messages heard alone. They are what the link gave, some passed over; and what the link sent answers
 -- them, in order, of which the last may be missing unless complete. A link that tells its datagrams tells these.

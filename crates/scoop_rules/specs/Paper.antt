@@ -84,7 +84,7 @@ separate b hs g =
 -- one more entry in the block's queue, which an End closes
 abbrev pub logged_to : Block → Entry → Waiting → Waiting
 logged_to b e q =
-    if is_of b q then record { block = q.block; entries = q.entries ++ e ∷ []; state = if is_end e then Ended else q.state }
+    if is_of b q then record q { entries = q.entries ++ e ∷ []; state = if is_end e then Ended else q.state }
     else q
 
 abbrev pub log_one : Block → HandlerId → Entry → Configuration → Configuration
@@ -101,7 +101,7 @@ next_ran class words rs b e =
 
 -- the queue without its first entry: it goes with its End, and a cut one with its last entry
 abbrev pub rest_of : Waiting → Entry → List Entry → List Waiting
-rest_of q e es = if goes_with q.state e es then [] else record { block = q.block; entries = es; state = q.state } ∷ []
+rest_of q e es = if goes_with q.state e es then [] else record q { entries = es } ∷ []
 
 abbrev pub run_entries : Objects → HandlerId → Waiting → List Entry → List Waiting → Configuration → Configuration
 run_entries o h q [] qs g = g

@@ -10,7 +10,7 @@ use Rattle.scoop_message.specs.Entries.{ends}
 use Rattle.scoop_message.specs.Message.{same_block}
 use Rattle.scoop_object.specs.Play.{entry_effect, play}
 use Rattle.scoop_handler.specs.declared.ran.Ran.{Ran}
-use Rattle.scoop_model.specs.World.{Accepted, is_line_of, lines_of, is_newer_welcome, greatest_count}
+use Rattle.scoop_model.specs.World.{Accepted, is_share_of, shares_of, is_newer_welcome, greatest_count}
 use Rattle.scoop_message.specs.Lists.{NoRepeats}
 use Rattle.scoop_model.specs.Safe.{IsSubsequence, HasRun, entries_of, untold, numbered, query_of}
 use Rattle.scoop_weave.specs.System.{LocalHandler, LocalClient, System, handler_in, client_in}
@@ -21,7 +21,7 @@ use Rattle.scoop_weave.specs.Histories.{opened_by, ran_by, accepted_by, joint_by
 
 -- what the block's client logged for the handler
 abbrev pub logged_by : Block → HandlerId → List LocalMove → List Entry
-logged_by b h ms = unwrap_or (option_map (λ l. l.entries) (find (is_line_of h) (lines_of b (logs_by ms)))) []
+logged_by b h ms = unwrap_or (option_map (λ l. l.entries) (find (is_share_of h) (shares_of b (logs_by ms)))) []
 
 -- what ran of the block there
 abbrev pub part_by : Block → HandlerId → List LocalMove → List Ran

@@ -16,7 +16,7 @@ use Rattle.scoop_message.specs.declared.name.Block.{Block}
 use Rattle.scoop_message.specs.Message.{same_block}
 use Rattle.scoop_message.proofs.Same.{block_decides}
 use Rattle.scoop_world.specs.declared.logs.LoggedAt.{LoggedAt}
-use Rattle.scoop_model.specs.World.{HandlerLog, BlockLog, has_block, is_log_of, lines_of}
+use Rattle.scoop_model.specs.World.{HandlerLog, BlockLog, has_block, is_log_of, shares_of}
 use Rattle.scoop_model.specs.Step.{changed_log, joined}
 use Rattle.scoop_world.specs.Kept.{has_log, logged_kept, block_log, log_kept, logs_kept, IsPlaceOf}
 
@@ -101,11 +101,11 @@ both_false : (t u : Bool) → (t || u) ≡ false → (t ≡ false) × (u ≡ fal
 both_false true u e = absurd (cc)
 both_false false u e = (refl, e)
 
-pub no_lines : (b : Block) (logs : List BlockLog) → has_log b logs ≡ false → lines_of b logs ≡ []
-no_lines b [] none = refl
-no_lines b (l ∷ ls) none =
+pub no_shares : (b : Block) (logs : List BlockLog) → has_log b logs ≡ false → shares_of b logs ≡ []
+no_shares b [] none = refl
+no_shares b (l ∷ ls) none =
     let p = both_false (is_log_of b l) (has_log b ls) none in
-    rw (p.0) (no_lines b ls p.1)
+    rw (p.0) (no_shares b ls p.1)
 
 pub none_changed : (b : Block) (f : HandlerLog → HandlerLog) (logs : List BlockLog) → has_log b logs ≡ false → map (changed_log b f) logs ≡ logs
 none_changed b f [] none = refl
@@ -124,14 +124,14 @@ kept-insert b v (e ∷ es) none =
 
 -- ---- the log of a block
 
-pub lines-place :
+pub shares-place :
     {A : Type 0} → (b : Block) (p : Vec (LoggedAt A) A) (es : Entries A) (i : ℕ) → IsPlaceOf b (logs_kept es) i → slice_get (values_of es) i ≡ Some p
-    → lines_of b (logs_kept es) ≡ map logged_kept p.items
-lines-place b p [] i place is = absurd place
-lines-place b p (e ∷ es) zero place is =
+    → shares_of b (logs_kept es) ≡ map logged_kept p.items
+shares-place b p [] i place is = absurd place
+shares-place b p (e ∷ es) zero place is =
     let here : e.1 ≡ p = cc in
     rw (place, here) refl
-lines-place b p (e ∷ es) (suc i) place is = rw (place.0) (lines-place b p es i place.1 is)
+shares-place b p (e ∷ es) (suc i) place is = rw (place.0) (shares-place b p es i place.1 is)
 
 -- no other entry is of this block
 others-stay :
@@ -163,7 +163,7 @@ kept-set b f p v (e ∷ es) zero apart place is becomes =
 kept-set b f p v (e ∷ es) (suc i) apart place is becomes =
     rw (place.0) (ap (λ ls. log_kept e ∷ ls) (kept-set b f p v es i (rest_apart e.0 (keys_of es) apart) place.1 is becomes))
 
--- a write of lines that are seen as they were
+-- a write of shares that are seen as they were
 pub kept-same :
     {A : Type 0} → (p v : Vec (LoggedAt A) A) (es : Entries A) (i : ℕ) → slice_get (values_of es) i ≡ Some p → map logged_kept v.items ≡ map logged_kept p.items
     → logs_kept (set_value_at es i v) ≡ logs_kept es

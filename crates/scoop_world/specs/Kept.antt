@@ -18,7 +18,7 @@ use Rattle.scoop_keeper.specs.Memory.{MemoryRecord, Has, state_at, incarnation_a
 use Rattle.scoop_client.specs.declared.command.Command.{Command}
 use Rattle.scoop_client.specs.declared.command.Command.TheVariants.{Reserve, Call, Query, End, GiveUp}
 use Rattle.scoop_world.specs.declared.logs.LoggedAt.{LoggedAt}
-use Rattle.scoop_model.specs.World.{World, Site, Party, Accepted, HandlerLog, BlockLog, number_of, id_of, is_log_of, is_line_of}
+use Rattle.scoop_model.specs.World.{World, Site, Party, Accepted, HandlerLog, BlockLog, number_of, id_of, is_log_of, is_share_of}
 use Rattle.scoop_model.specs.Step.{with_entry, finished_site}
 
 -- all parts of a world
@@ -58,7 +58,7 @@ abbrev pub logged_kept : {A : Type 0} → LoggedAt A → HandlerLog
 logged_kept l = record { handler = l.handler; entries = l.entries.items }
 
 abbrev pub block_log : {A : Type 0} → Block → List (LoggedAt A) → BlockLog
-block_log b ls = record { block = b; lines = map logged_kept ls }
+block_log b ls = record { block = b; shares = map logged_kept ls }
 
 abbrev pub log_kept : {A : Type 0} → Block × Vec (LoggedAt A) A → BlockLog
 log_kept e = block_log e.0 e.1.items
@@ -78,16 +78,16 @@ IsPlaceOf b (l ∷ ls) (suc i) = (is_log_of b l ≡ false) × IsPlaceOf b ls i
 
 -- what was logged for a handler
 abbrev pub entries_in : HandlerId → List HandlerLog → Option (List Entry)
-entries_in h ls = option_map (λ l. l.entries) (find (is_line_of h) ls)
+entries_in h ls = option_map (λ l. l.entries) (find (is_share_of h) ls)
 
--- the line has room for an entry
+-- the share has room for an entry
 pub record HasRoom {A : Type 0} (l : LoggedAt A) : Type 0 where
   pub room : vec_len l.entries < vec_capacity l.entries
 
 -- an entry is meant for one handler, or for all
 abbrev pub is_meant : Option HandlerId → HandlerLog → Bool
 is_meant None l = true
-is_meant (Some h) l = is_line_of h l
+is_meant (Some h) l = is_share_of h l
 
 abbrev pub with_entry_for : Option HandlerId → Entry → HandlerLog → HandlerLog
 with_entry_for only e l = if is_meant only l then with_entry e l else l

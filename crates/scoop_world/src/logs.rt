@@ -6,7 +6,7 @@ ghost use Rattle.std.specs.List.{All};
 ghost use Rattle.std.specs.Option.{option_map};
 ghost use Rattle.indexmap.specs.IndexMap.{IsUnique, index_map_len, spare};
 ghost use Rattle.scoop_message.specs.contracts.name.BlockPartialEq.TheImpl as on_block;
-ghost use Rattle.scoop_model.specs.World.{lines_of};
+ghost use Rattle.scoop_model.specs.World.{shares_of};
 ghost use Rattle.scoop_model.specs.Step.{fresh_log};
 ghost use Rattle.scoop_world.specs.Kept.{HasRoom, IsPlaceOf, entries_in, has_log, logged_kept, block_log, logs_kept, with_entry_for};
 
@@ -22,11 +22,11 @@ pub(crate) struct LoggedAt<A: Allocator> {
     entries: Vec<Entry, A>,
 }
 
-/// The lines of each block, in the order in which the blocks were reserved.
+/// The shares of each block, in the order in which the blocks were reserved.
 pub(crate) type Logs<A> = IndexMap<Block, Vec<LoggedAt<A>, A>, BuildHasherDefault<FoldHasher>, A>;
 
-// A line with nothing logged.
-fn fresh_line<A: Allocator + Copy>(alloc: A, handler: HandlerId) -> LoggedAt<A>
+// A share with nothing logged.
+fn fresh_share<A: Allocator + Copy>(alloc: A, handler: HandlerId) -> LoggedAt<A>
     ensures { logged_kept result ≡ fresh_log handler }
 {
     LoggedAt {
@@ -36,17 +36,17 @@ fn fresh_line<A: Allocator + Copy>(alloc: A, handler: HandlerId) -> LoggedAt<A>
 }
 
 /// Lines with nothing logged for these handlers.
-pub(crate) fn fresh_lines<A: Allocator + Copy>(
+pub(crate) fn fresh_shares<A: Allocator + Copy>(
     alloc: A,
     handlers: &[HandlerId],
 ) -> Result<Vec<LoggedAt<A>, A>, OutOfMemory>
     ensures { IfOk result (λ ls. map logged_kept ls.items ≡ map fresh_log handlers.now) }
 {
-    let mut lines = Vec::new(alloc);
+    let mut shares = Vec::new(alloc);
     for handler in handlers {
-        lines.push(fresh_line(alloc, *handler))?;
+        shares.push(fresh_share(alloc, *handler))?;
     }
-    Ok(lines)
+    Ok(shares)
 }
 
 /// The place of a block that was ever reserved.
@@ -59,71 +59,75 @@ pub(crate) fn place_of<A: Allocator + Copy>(logs: &Logs<A>, block: Block) -> Opt
 }
 
 /// Adds a block that was never reserved, as the last one. There is room for it.
-pub(crate) fn add<A: Allocator + Copy>(logs: &mut Logs<A>, block: Block, lines: Vec<LoggedAt<A>, A>)
+pub(crate) fn add<A: Allocator + Copy>(
+    logs: &mut Logs<A>,
+    block: Block,
+    shares: Vec<LoggedAt<A>, A>,
+)
     requires new { has_log block (logs_kept logs.old.entries) ≡ false }
     requires room { 0 < spare logs.old }
-    ensures { logs_kept logs.new.entries ≡ logs_kept logs.old.entries ++ block_log block lines.items ∷ [] }
+    ensures { logs_kept logs.new.entries ≡ logs_kept logs.old.entries ++ block_log block shares.items ∷ [] }
 {
-    let Ok(_) = logs.insert(block, lines) else {
+    let Ok(_) = logs.insert(block, shares) else {
         unreachable!()
     };
 }
 
-// Makes room for one entry more on a line.
-fn make_room_at<A: Allocator + Copy>(line: &mut LoggedAt<A>) -> Result<(), OutOfMemory>
-    ensures ok { OnOk result (HasRoom line.new) }
-    ensures same { logged_kept line.new ≡ logged_kept line.old }
+// Makes room for one entry more on a share.
+fn make_room_at<A: Allocator + Copy>(share: &mut LoggedAt<A>) -> Result<(), OutOfMemory>
+    ensures ok { OnOk result (HasRoom share.new) }
+    ensures same { logged_kept share.new ≡ logged_kept share.old }
 {
-    line.entries.reserve(1)?;
+    share.entries.reserve(1)?;
     Ok(())
 }
 
-/// Makes room for one entry more on each line.
-pub(crate) fn make_room<A: Allocator + Copy>(lines: &mut [LoggedAt<A>]) -> Result<(), OutOfMemory>
-    ensures ok { OnOk result (All HasRoom lines.new) }
-    ensures same { map logged_kept lines.new ≡ map logged_kept lines.old }
+/// Makes room for one entry more on each share.
+pub(crate) fn make_room<A: Allocator + Copy>(shares: &mut [LoggedAt<A>]) -> Result<(), OutOfMemory>
+    ensures ok { OnOk result (All HasRoom shares.new) }
+    ensures same { map logged_kept shares.new ≡ map logged_kept shares.old }
 {
-    for line in lines.iter_mut() {
-        make_room_at(line)?;
+    for share in shares.iter_mut() {
+        make_room_at(share)?;
     }
     Ok(())
 }
 
-// Logs an entry, if this is a line for which it is meant. There is room for it.
-fn log_at<A: Allocator + Copy>(line: &mut LoggedAt<A>, only: Option<HandlerId>, entry: &Entry)
-    requires { HasRoom line.old }
-    ensures { logged_kept line.new ≡ with_entry_for only entry.now (logged_kept line.old) }
+// Logs an entry, if this is a share for which it is meant. There is room for it.
+fn log_at<A: Allocator + Copy>(share: &mut LoggedAt<A>, only: Option<HandlerId>, entry: &Entry)
+    requires { HasRoom share.old }
+    ensures { logged_kept share.new ≡ with_entry_for only entry.now (logged_kept share.old) }
 {
     let meant = match only {
-        Some(handler) => line.handler == handler,
+        Some(handler) => share.handler == handler,
         None => true,
     };
     if meant {
-        line.entries.push_reserved(*entry);
+        share.entries.push_reserved(*entry);
     }
 }
 
-/// Logs an entry, for one of the handlers or for all. There is room for it on each line.
+/// Logs an entry, for one of the handlers or for all. There is room for it on each share.
 pub(crate) fn log<A: Allocator + Copy>(
-    lines: &mut [LoggedAt<A>],
+    shares: &mut [LoggedAt<A>],
     only: Option<HandlerId>,
     entry: &Entry,
 )
-    requires { All HasRoom lines.old }
-    ensures { map logged_kept lines.new ≡ map (with_entry_for only entry.now) (map logged_kept lines.old) }
+    requires { All HasRoom shares.old }
+    ensures { map logged_kept shares.new ≡ map (with_entry_for only entry.now) (map logged_kept shares.old) }
 {
-    for line in lines.iter_mut() {
-        log_at(line, only, entry);
+    for share in shares.iter_mut() {
+        log_at(share, only, entry);
     }
 }
 
 // What was logged for a handler.
-fn logged_in<A: Allocator + Copy>(lines: &[LoggedAt<A>], handler: HandlerId) -> Option<&[Entry]>
-    ensures { option_map (λ es. es.now) result ≡ entries_in handler (map logged_kept lines.now) }
+fn logged_in<A: Allocator + Copy>(shares: &[LoggedAt<A>], handler: HandlerId) -> Option<&[Entry]>
+    ensures { option_map (λ es. es.now) result ≡ entries_in handler (map logged_kept shares.now) }
 {
-    for line in lines {
-        if line.handler == handler {
-            return Some(&line.entries);
+    for share in shares {
+        if share.handler == handler {
+            return Some(&share.entries);
         }
     }
     None
@@ -135,7 +139,7 @@ pub(crate) fn logged<A: Allocator + Copy>(
     block: Block,
     handler: HandlerId,
 ) -> Option<&[Entry]>
-    ensures { option_map (λ es. es.now) result ≡ entries_in handler (lines_of block (logs_kept logs.now.entries)) }
+    ensures { option_map (λ es. es.now) result ≡ entries_in handler (shares_of block (logs_kept logs.now.entries)) }
 {
     match place_of(logs, block) {
         Some(place) => logged_in(&logs[place], handler),

@@ -29,13 +29,13 @@ use Rattle.scoop_client.specs.Rows.{ReserveRow, begins_block, LogRow, is_logged,
 use Rattle.scoop_client.proofs.CommandRows.{command_row}
 use Rattle.scoop_client.specs.declared.command.Command.{Command}
 use Rattle.scoop_client.specs.declared.command.Command.TheVariants.{Reserve, Call, Query, End, GiveUp}
-use Rattle.scoop_model.specs.World.{World, Party, HandlerLog, id_of, is_party, log_of, lines_of, handlers_of}
+use Rattle.scoop_model.specs.World.{World, Party, HandlerLog, id_of, is_party, log_of, shares_of, handlers_of}
 use Rattle.scoop_model.specs.Step.{newest_block, logs_after, commanded_world}
 use Rattle.scoop_model.proofs.Basics.{ok_is, by_test}
 use Rattle.scoop_model.proofs.Order.Facts.{PartyFits, all_more_of, all_set_party}
 use Rattle.scoop_model.proofs.Order.Commands.{next_is_new, started_fresh}
 use Rattle.scoop_model.proofs.Logging.Facts.{Carries, WindowFits, IsLastQuery, WaitsAt, WindowsFit, PartyLogs, Logging, Grown}
-use Rattle.scoop_model.proofs.Logging.Logs.{HasLine, IsAdded, added, added_last, log_after, log_here, log_other, named_lines, reserved_same, unreserved_empty}
+use Rattle.scoop_model.proofs.Logging.Logs.{HasLine, IsAdded, added, added_last, log_after, log_here, log_other, named_shares, reserved_same, unreserved_empty}
 use Rattle.scoop_model.proofs.Logging.Windows.{by_all, by_window, fits_ended, fits_fresh, fits_logged, fresh_found, handlers_at, handlers_at_window}
 use Rattle.scoop_model.proofs.Logging.Windows.{handlers_fresh_windows, handlers_in_all, window_own, not_ended, query_logged, same_found}
 use Rattle.scoop_model.proofs.Logging.Clients.{StaysLogged, carries_more, fit_again, windows_more, party_more}
@@ -113,15 +113,15 @@ module _ (w : World) (p : Party) (fits : PartyFits w p) (f : PartyLogs w p) wher
   abbrev c : ClientState
   c = p.client
 
-  windows_named : (r : ReservationState) → c.reservation ≡ Some r → handlers_at c.windows ≡ map (λ (y : HandlerLog). y.handler) (lines_of r.block w.logs)
-  windows_named r held = (f.block r held).handlers ∙ sym (named_lines r.block w.logs r.handlers (fits.reservation r held).named)
+  windows_named : (r : ReservationState) → c.reservation ≡ Some r → handlers_at c.windows ≡ map (λ (y : HandlerLog). y.handler) (shares_of r.block w.logs)
+  windows_named r held = (f.block r held).handlers ∙ sym (named_shares r.block w.logs r.handlers (fits.reservation r held).named)
 
   -- the handler of a window has a log
-  has_line : (r : ReservationState) → c.reservation ≡ Some r → (h : HandlerId) (l : WindowState) → window_of h c.windows ≡ Some l → HasLine r.block h w.logs
-  has_line r held h l found =
-      let x = same_found (λ (y : WindowState). y.handler) (λ (y : HandlerLog). y.handler) h c.windows (lines_of r.block w.logs) l
+  has_share : (r : ReservationState) → c.reservation ≡ Some r → (h : HandlerId) (l : WindowState) → window_of h c.windows ≡ Some l → HasLine r.block h w.logs
+  has_share r held h l found =
+      let x = same_found (λ (y : WindowState). y.handler) (λ (y : HandlerLog). y.handler) h c.windows (shares_of r.block w.logs) l
       (windows_named r held) found in
-      record { line = x.0; found = x.1 }
+      record { share = x.0; found = x.1 }
 
   -- no log of a running block has ended
   going_on : (run : IsRunning c) (h : HandlerId) → HasLine run.reservation.block h w.logs → ends (log_of run.reservation.block h w) ≡ false
@@ -129,13 +129,13 @@ module _ (w : World) (p : Party) (fits : PartyFits w p) (f : PartyLogs w p) wher
       let r = run.reservation in
       let x =
       same_found (λ (y : HandlerLog). y.handler)
-      (λ (y : WindowState). y.handler) h (lines_of r.block w.logs) c.windows has.line (sym (windows_named r run.held)) has.found in
+      (λ (y : WindowState). y.handler) h (shares_of r.block w.logs) c.windows has.share (sym (windows_named r run.held)) has.found in
       sym ((f.block r run.held).windows h x.0 x.1).ended ∙ not_ended h c.windows x.0 run.going x.1
 
   going_now : (run : IsRunning c) (x : Command) (b : Block) (h : HandlerId) → IsAdded x (newest_block c) b h w.logs → ends (log_of b h w) ≡ false
   going_now run x b h more =
       let same : run.reservation.block ≡ b = (f.block run.reservation run.held).block ∙ more.block in
-      subst (λ y. ends (log_of y h w) ≡ false) same (going_on run h (subst (λ y. HasLine y h w.logs) (sym same) more.line))
+      subst (λ y. ends (log_of y h w) ≡ false) same (going_on run h (subst (λ y. HasLine y h w.logs) (sym same) more.share))
 
   is_the_one : (run : IsRunning c) (r : ReservationState) → c.reservation ≡ Some r → run.reservation ≡ r
   is_the_one run r held = let both : Some run.reservation ≡ Some r = sym run.held ∙ held in cc
@@ -147,7 +147,7 @@ module _ (w : World) (p : Party) (fits : PartyFits w p) (f : PartyLogs w p) wher
       → log_of r.block h w ++ added x h ≡ log_of r.block h (commanded_world w p x d)
   log_grows x r held h l found d same =
       let block : r.block ≡ newest_block d = (f.block r held).block ∙ sym same in
-      sym (log_here x r.block h w.logs (has_line r held h l found)) ∙ ap (λ b. log_of r.block h (record w { logs = logs_after x b w.logs })) block
+      sym (log_here x r.block h w.logs (has_share r held h l found)) ∙ ap (λ b. log_of r.block h (record w { logs = logs_after x b w.logs })) block
 
 -- ---- a call or a query
 

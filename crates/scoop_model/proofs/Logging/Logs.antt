@@ -1,6 +1,6 @@
 -- What a command adds to the logs: entries behind those of its client's block, and nothing to the other blocks. Logs are
--- looked up by block and by handler; a command changes the lines of one block by a function of each line, so a look-up finds
--- either the changed line or what it found before.
+-- looked up by block and by handler; a command changes the shares of one block by a function of each share, so a look-up finds
+-- either the changed share or what it found before.
 use Rattle.std.proofs.Common.{◌≡◌, ◌⊎◌, inl, inr, true≢false, List, [], ◌∷◌, ◌++◌, map, find, Option, Some, None, refl, sym, ap, ◌∙◌, subst, append-nil}
 use Rattle.std.specs.Prelude.{if◌then◌else◌, unwrap_or}
 use Rattle.std.specs.Option.{option_map, option_map_or}
@@ -13,7 +13,7 @@ use Rattle.scoop_message.specs.Message.{same_handler, same_block}
 use Rattle.scoop_message.proofs.Same.{handler_decides, block_decides}
 use Rattle.scoop_client.specs.declared.command.Command.{Command}
 use Rattle.scoop_client.specs.declared.command.Command.TheVariants.{Reserve, Call, Query, End, GiveUp}
-use Rattle.scoop_model.specs.World.{HandlerLog, BlockLog, is_log_of, is_line_of, handlers_in, lines_of}
+use Rattle.scoop_model.specs.World.{HandlerLog, BlockLog, is_log_of, is_share_of, handlers_in, shares_of}
 use Rattle.scoop_model.specs.Step.{fresh_log, with_entry, with_entry_at, changed_log, logs_after}
 use Rattle.scoop_model.proofs.Basics.{by_test}
 use Rattle.scoop_model.proofs.Keys.{key_found}
@@ -21,7 +21,7 @@ use Rattle.scoop_model.proofs.Order.Sets.{LeavesHandler, leaves_at}
 
 -- what the block's client logged for the handler, among these logs
 abbrev pub log_in : Block → HandlerId → List BlockLog → List Entry
-log_in b h logs = unwrap_or (option_map (λ l. l.entries) (find (is_line_of h) (lines_of b logs))) []
+log_in b h logs = unwrap_or (option_map (λ l. l.entries) (find (is_share_of h) (shares_of b logs))) []
 
 -- the entries that a command logs at a handler of its client's block
 abbrev pub added : Command → HandlerId → List Entry
@@ -31,7 +31,7 @@ added (Query k r) h = if same_handler h k then QueryEntry r ∷ [] else []
 added End h = EndEntry ∷ []
 added GiveUp h = []
 
--- ---- a change of one block's lines
+-- ---- a change of one block's shares
 
 -- the change puts these entries behind those of the handler
 abbrev Adds : (HandlerLog → HandlerLog) → HandlerId → List Entry → Type 0
@@ -44,60 +44,60 @@ adds_at k e h l own =
     (λ here. refl)
     (λ there. sym (append-nil l.entries)))
 
-line_changed :
+share_changed :
     (h : HandlerId) (f : HandlerLog → HandlerLog) → LeavesHandler f → (ls : List HandlerLog)
-    → find (is_line_of h) (map f ls) ≡ option_map f (find (is_line_of h) ls)
-line_changed h f keeps [] = refl
-line_changed h f keeps (l ∷ ls) =
-    let rest = find (is_line_of h) (map f ls) in
-    subst (λ j. (if same_handler j h then Some (f l) else rest) ≡ option_map f (if is_line_of h l then Some l else find (is_line_of h) ls)) (sym (keeps l))
-    (by_test (λ t. (if t then Some (f l) else rest) ≡ option_map f (if t then Some l else find (is_line_of h) ls)) (is_line_of h l)
+    → find (is_share_of h) (map f ls) ≡ option_map f (find (is_share_of h) ls)
+share_changed h f keeps [] = refl
+share_changed h f keeps (l ∷ ls) =
+    let rest = find (is_share_of h) (map f ls) in
+    subst (λ j. (if same_handler j h then Some (f l) else rest) ≡ option_map f (if is_share_of h l then Some l else find (is_share_of h) ls)) (sym (keeps l))
+    (by_test (λ t. (if t then Some (f l) else rest) ≡ option_map f (if t then Some l else find (is_share_of h) ls)) (is_share_of h l)
     (λ here. refl)
-    (λ there. line_changed h f keeps ls))
+    (λ there. share_changed h f keeps ls))
 
-abbrev lines_in : Option BlockLog → List HandlerLog
-lines_in o = option_map_or (λ l. l.lines) o []
+abbrev shares_in : Option BlockLog → List HandlerLog
+shares_in o = option_map_or (λ l. l.shares) o []
 
-lines_here : (b : Block) (f : HandlerLog → HandlerLog) (logs : List BlockLog) → lines_of b (map (changed_log b f) logs) ≡ map f (lines_of b logs)
-lines_here b f [] = refl
-lines_here b f (l ∷ ls) =
+shares_here : (b : Block) (f : HandlerLog → HandlerLog) (logs : List BlockLog) → shares_of b (map (changed_log b f) logs) ≡ map f (shares_of b logs)
+shares_here b f [] = refl
+shares_here b f (l ∷ ls) =
     let rest = find (is_log_of b) (map (changed_log b f) ls) in
-    let m : BlockLog = record { block = l.block; lines = map f l.lines } in
+    let m : BlockLog = record { block = l.block; shares = map f l.shares } in
     by_test
     (λ t. is_log_of b l ≡ t
-    → lines_in (if is_log_of b (if t then m else l) then Some (if t then m else l) else rest) ≡ map f (lines_in (if t then Some l else find (is_log_of b) ls)))
+    → shares_in (if is_log_of b (if t then m else l) then Some (if t then m else l) else rest) ≡ map f (shares_in (if t then Some l else find (is_log_of b) ls)))
     (is_log_of b l)
-    (λ here is. ap (λ u. lines_in (if u then Some m else rest)) is)
-    (λ there is. ap (λ u. lines_in (if u then Some l else rest)) is ∙ lines_here b f ls) refl
+    (λ here is. ap (λ u. shares_in (if u then Some m else rest)) is)
+    (λ there is. ap (λ u. shares_in (if u then Some l else rest)) is ∙ shares_here b f ls) refl
 
-lines_other : (c b : Block) (f : HandlerLog → HandlerLog) (logs : List BlockLog) → (c ≡ b → ⊥) → lines_of b (map (changed_log c f) logs) ≡ lines_of b logs
-lines_other c b f [] apart = refl
-lines_other c b f (l ∷ ls) apart =
+shares_other : (c b : Block) (f : HandlerLog → HandlerLog) (logs : List BlockLog) → (c ≡ b → ⊥) → shares_of b (map (changed_log c f) logs) ≡ shares_of b logs
+shares_other c b f [] apart = refl
+shares_other c b f (l ∷ ls) apart =
     let rest = find (is_log_of b) (map (changed_log c f) ls) in
-    let m : BlockLog = record { block = l.block; lines = map f l.lines } in
+    let m : BlockLog = record { block = l.block; shares = map f l.shares } in
     by_test
     (λ t. is_log_of c l ≡ t
-    → lines_in (if is_log_of b (if t then m else l) then Some (if t then m else l) else rest)
-    ≡ lines_in (if is_log_of b l then Some l else find (is_log_of b) ls))
+    → shares_in (if is_log_of b (if t then m else l) then Some (if t then m else l) else rest)
+    ≡ shares_in (if is_log_of b l then Some l else find (is_log_of b) ls))
     (is_log_of c l)
     (λ here is.
-    by_test (λ u. is_log_of b l ≡ u → lines_in (if u then Some m else rest) ≡ lines_in (if u then Some l else find (is_log_of b) ls)) (is_log_of b l)
+    by_test (λ u. is_log_of b l ≡ u → shares_in (if u then Some m else rest) ≡ shares_in (if u then Some l else find (is_log_of b) ls)) (is_log_of b l)
     (λ both so. absurd (apart (sym ((block_decides l.block c).0 is) ∙ (block_decides l.block b).0 so)))
-    (λ one so. lines_other c b f ls apart) refl)
+    (λ one so. shares_other c b f ls apart) refl)
     (λ there is.
-    by_test (λ u. lines_in (if u then Some l else rest) ≡ lines_in (if u then Some l else find (is_log_of b) ls)) (is_log_of b l)
+    by_test (λ u. shares_in (if u then Some l else rest) ≡ shares_in (if u then Some l else find (is_log_of b) ls)) (is_log_of b l)
     (λ both. refl)
-    (λ one. lines_other c b f ls apart)) refl
+    (λ one. shares_other c b f ls apart)) refl
 
 -- ---- what a change makes of a log
 
 abbrev entries_in : Option HandlerLog → List Entry
 entries_in o = unwrap_or (option_map (λ l. l.entries) o) []
 
--- the block has a line for the handler
+-- the block has a share for the handler
 pub record HasLine (b : Block) (h : HandlerId) (logs : List BlockLog) : Type 0 where
-  pub line : HandlerLog
-  pub found : find (is_line_of h) (lines_of b logs) ≡ Some line
+  pub share : HandlerLog
+  pub found : find (is_share_of h) (shares_of b logs) ≡ Some share
 
 -- the entries come behind those that were there
 abbrev pub GrowsBy : Block → HandlerId → List BlockLog → List BlockLog → List Entry → Type 0
@@ -107,43 +107,43 @@ changed_here :
     (b : Block) (h : HandlerId) (f : HandlerLog → HandlerLog) (es : List Entry) (logs : List BlockLog) → LeavesHandler f → Adds f h es → HasLine b h logs
     → GrowsBy b h logs (map (changed_log b f) logs) es
 changed_here b h f es logs keeps adds has =
-    let l = has.line in
-    let own = key_found (λ (x : HandlerLog). x.handler) same_handler handler_decides h (lines_of b logs) l has.found in
-    ap (λ ls. entries_in (find (is_line_of h) ls)) (lines_here b f logs)
-    ∙ ap entries_in (line_changed h f keeps (lines_of b logs) ∙ ap (option_map f) has.found)
+    let l = has.share in
+    let own = key_found (λ (x : HandlerLog). x.handler) same_handler handler_decides h (shares_of b logs) l has.found in
+    ap (λ ls. entries_in (find (is_share_of h) ls)) (shares_here b f logs)
+    ∙ ap entries_in (share_changed h f keeps (shares_of b logs) ∙ ap (option_map f) has.found)
     ∙ adds l own
     ∙ ap (λ o. entries_in o ++ es) (sym has.found)
 
 changed_nowhere :
-    (b : Block) (h : HandlerId) (f : HandlerLog → HandlerLog) (logs : List BlockLog) → LeavesHandler f → find (is_line_of h) (lines_of b logs) ≡ None
+    (b : Block) (h : HandlerId) (f : HandlerLog → HandlerLog) (logs : List BlockLog) → LeavesHandler f → find (is_share_of h) (shares_of b logs) ≡ None
     → log_in b h (map (changed_log b f) logs) ≡ log_in b h logs
 changed_nowhere b h f logs keeps none =
-    ap (λ ls. entries_in (find (is_line_of h) ls)) (lines_here b f logs)
-    ∙ ap entries_in (line_changed h f keeps (lines_of b logs) ∙ ap (option_map f) none)
+    ap (λ ls. entries_in (find (is_share_of h) ls)) (shares_here b f logs)
+    ∙ ap entries_in (share_changed h f keeps (shares_of b logs) ∙ ap (option_map f) none)
     ∙ ap entries_in (sym none)
 
 changed_other :
     (c b : Block) (h : HandlerId) (f : HandlerLog → HandlerLog) (logs : List BlockLog) → (c ≡ b → ⊥)
     → log_in b h (map (changed_log c f) logs) ≡ log_in b h logs
-changed_other c b h f logs apart = ap (λ ls. entries_in (find (is_line_of h) ls)) (lines_other c b f logs apart)
+changed_other c b h f logs apart = ap (λ ls. entries_in (find (is_share_of h) ls)) (shares_other c b f logs apart)
 
 -- ---- a reserve
 
-fresh_empty : (h : HandlerId) (hs : List HandlerId) → entries_in (find (is_line_of h) (map fresh_log hs)) ≡ []
+fresh_empty : (h : HandlerId) (hs : List HandlerId) → entries_in (find (is_share_of h) (map fresh_log hs)) ≡ []
 fresh_empty h [] = refl
 fresh_empty h (k ∷ ks) =
-    by_test (λ t. entries_in (if t then Some (fresh_log k) else find (is_line_of h) (map fresh_log ks)) ≡ []) (same_handler k h) (λ here. refl)
+    by_test (λ t. entries_in (if t then Some (fresh_log k) else find (is_share_of h) (map fresh_log ks)) ≡ []) (same_handler k h) (λ here. refl)
     (λ there. fresh_empty h ks)
 
 -- a new block has logged nothing
 pub reserved_same : (hs : List HandlerId) (c b : Block) (h : HandlerId) (logs : List BlockLog) → log_in b h (logs_after (Reserve hs) c logs) ≡ log_in b h logs
 reserved_same hs c b h [] =
-    by_test (λ t. entries_in (find (is_line_of h) (lines_in (if t then Some (record { block = c; lines = map fresh_log hs }) else None))) ≡ []) (same_block c b)
+    by_test (λ t. entries_in (find (is_share_of h) (shares_in (if t then Some (record { block = c; shares = map fresh_log hs }) else None))) ≡ []) (same_block c b)
     (λ here. fresh_empty h hs)
     (λ there. refl)
 reserved_same hs c b h (l ∷ ls) =
-    by_test (λ t. entries_in (find (is_line_of h) (lines_in (if t then Some l else find (is_log_of b) (logs_after (Reserve hs) c ls))))
-    ≡ entries_in (find (is_line_of h) (lines_in (if t then Some l else find (is_log_of b) ls)))) (is_log_of b l)
+    by_test (λ t. entries_in (find (is_share_of h) (shares_in (if t then Some l else find (is_log_of b) (logs_after (Reserve hs) c ls))))
+    ≡ entries_in (find (is_share_of h) (shares_in (if t then Some l else find (is_log_of b) ls)))) (is_log_of b l)
     (λ here. refl)
     (λ there. reserved_same hs c b h ls)
 
@@ -151,17 +151,17 @@ reserved_same hs c b h (l ∷ ls) =
 pub unreserved_empty : (b : Block) (h : HandlerId) (logs : List BlockLog) → option_map handlers_in (find (is_log_of b) logs) ≡ None → log_in b h logs ≡ []
 unreserved_empty b h logs none = from (find (is_log_of b) logs) none
   where
-    from : (o : Option BlockLog) → option_map handlers_in o ≡ None → entries_in (find (is_line_of h) (lines_in o)) ≡ []
+    from : (o : Option BlockLog) → option_map handlers_in o ≡ None → entries_in (find (is_share_of h) (shares_in o)) ≡ []
     from None e = refl
     from (Some l) e = absurd (cc)
 
--- a block's lines are of the handlers that its reserve named
-pub named_lines :
+-- a block's shares are of the handlers that its reserve named
+pub named_shares :
     (b : Block) (logs : List BlockLog) (hs : List HandlerId) → option_map handlers_in (find (is_log_of b) logs) ≡ Some hs
-    → map (λ (x : HandlerLog). x.handler) (lines_of b logs) ≡ hs
-named_lines b logs hs named = from (find (is_log_of b) logs) named
+    → map (λ (x : HandlerLog). x.handler) (shares_of b logs) ≡ hs
+named_shares b logs hs named = from (find (is_log_of b) logs) named
   where
-    from : (o : Option BlockLog) → option_map handlers_in o ≡ Some hs → map (λ (x : HandlerLog). x.handler) (lines_in o) ≡ hs
+    from : (o : Option BlockLog) → option_map handlers_in o ≡ Some hs → map (λ (x : HandlerLog). x.handler) (shares_in o) ≡ hs
     from None e = absurd (cc)
     from (Some l) e = cc
 
@@ -185,9 +185,9 @@ log_here (Query k r) b h logs has =
 log_here End b h logs has = changed_here b h (with_entry EndEntry) (EndEntry ∷ []) logs (λ l. refl) (λ l own. refl) has
 log_here GiveUp b h logs has = sym (append-nil (log_in b h logs))
 
--- a handler without a line has no log
+-- a handler without a share has no log
 log_nowhere :
-    (x : Command) (b : Block) (h : HandlerId) (logs : List BlockLog) → find (is_line_of h) (lines_of b logs) ≡ None
+    (x : Command) (b : Block) (h : HandlerId) (logs : List BlockLog) → find (is_share_of h) (shares_of b logs) ≡ None
     → log_in b h (logs_after x b logs) ≡ log_in b h logs
 log_nowhere (Reserve hs) b h logs none = reserved_same hs b b h logs
 log_nowhere (Call k r) b h logs none = changed_nowhere b h (with_entry_at k (CallEntry r)) logs (leaves_at k (CallEntry r)) none
@@ -195,10 +195,10 @@ log_nowhere (Query k r) b h logs none = changed_nowhere b h (with_entry_at k (Qu
 log_nowhere End b h logs none = changed_nowhere b h (with_entry EndEntry) logs (λ l. refl) none
 log_nowhere GiveUp b h logs none = refl
 
--- the block's line at the handler has the command's entries behind its own
+-- the block's share at the handler has the command's entries behind its own
 pub record IsAdded (x : Command) (c b : Block) (h : HandlerId) (logs : List BlockLog) : Type 0 where
   pub block : c ≡ b
-  pub line : HasLine b h logs
+  pub share : HasLine b h logs
   pub grows : GrowsBy b h logs (logs_after x c logs) (added x h)
 
 -- none of a command's entries but the last is an End
@@ -215,11 +215,11 @@ log_after x c b h logs =
     by_test (λ t. same_block c b ≡ t → (log_in b h (logs_after x c logs) ≡ log_in b h logs) ⊎ IsAdded x c b h logs) (same_block c b)
     (λ _ is.
     let same : c ≡ b = (block_decides c b).0 is in
-    subst (λ d. (log_in b h (logs_after x d logs) ≡ log_in b h logs) ⊎ IsAdded x d b h logs) (sym same) (at_line (find (is_line_of h) (lines_of b logs)) refl))
+    subst (λ d. (log_in b h (logs_after x d logs) ≡ log_in b h logs) ⊎ IsAdded x d b h logs) (sym same) (at_share (find (is_share_of h) (shares_of b logs)) refl))
     (λ _ is. inl (log_other x c b h logs (λ same. true≢false (sym ((block_decides c b).1 same) ∙ is))))
     refl
   where
-    at_line : (o : Option HandlerLog) → find (is_line_of h) (lines_of b logs) ≡ o → (log_in b h (logs_after x b logs) ≡ log_in b h logs) ⊎ IsAdded x b b h logs
-    at_line None none = inl (log_nowhere x b h logs none)
-    at_line (Some l) is =
-        let has : HasLine b h logs = record { line = l; found = is } in inr (record { block = refl; line = has; grows = log_here x b h logs has })
+    at_share : (o : Option HandlerLog) → find (is_share_of h) (shares_of b logs) ≡ o → (log_in b h (logs_after x b logs) ≡ log_in b h logs) ⊎ IsAdded x b b h logs
+    at_share None none = inl (log_nowhere x b h logs none)
+    at_share (Some l) is =
+        let has : HasLine b h logs = record { share = l; found = is } in inr (record { block = refl; share = has; grows = log_here x b h logs has })

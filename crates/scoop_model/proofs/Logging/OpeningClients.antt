@@ -38,7 +38,7 @@ use Rattle.scoop_client.proofs.CommandRows.{command_row}
 use Rattle.scoop_client.specs.declared.command.Command.{Command}
 use Rattle.scoop_client.specs.declared.command.Command.TheVariants.{Reserve, Call, Query, End, GiveUp}
 use Rattle.std.specs.Option.{option_map}
-use Rattle.scoop_model.specs.World.{World, Party, BlockLog, HandlerLog, handlers_in, lines_of, log_of, handlers_of, id_of, is_log_of, is_party, party_of}
+use Rattle.scoop_model.specs.World.{World, Party, BlockLog, HandlerLog, handlers_in, shares_of, log_of, handlers_of, id_of, is_log_of, is_party, party_of}
 use Rattle.scoop_model.specs.World.{set_party}
 use Rattle.scoop_model.specs.Step.{logs_after, newest_block, with_sent}
 use Rattle.scoop_model.proofs.Basics.{by_test, locking_giving, of_party, opening_giving, some_same}
@@ -49,7 +49,7 @@ use Rattle.scoop_model.proofs.Order.Commands.{next_is_new, started_fresh}
 use Rattle.scoop_model.proofs.Sound.Owed.{OwedRow, asks, opens, unlocks, gives_back, owed_row}
 use Rattle.scoop_model.proofs.Logging.Facts.{PartyLogs, Logging}
 use Rattle.scoop_model.proofs.Logging.Windows.{found_has, window_handler}
-use Rattle.scoop_model.proofs.Logging.Logs.{IsAdded, log_after, log_in, named_lines}
+use Rattle.scoop_model.proofs.Logging.Logs.{IsAdded, log_after, log_in, named_shares}
 use Rattle.scoop_model.proofs.Logging.Commands.{IsRunning, running_is}
 use Rattle.scoop_model.proofs.Logging.Openings.{IsOpenedAt, IsOpenedAtAll, IsGivenUp, NoOpen, Shows, SiteOpened, StageOpened, ReservationOpened, Onto, Openings}
 use Rattle.scoop_model.proofs.Logging.Openings.{is_open_of, logs_more, none_pushed, reservation_more, shows_more, site_more}
@@ -455,8 +455,8 @@ module _
         record { handlers = r.handlers; set = named; opened = subst (StageOpened w r) (unlocking_is r.stage run.opened) (opened r run.held).stage } in
         let set : handlers_of b w ≡ Some r.handlers = ap (λ y. handlers_of y w) (sym same) ∙ named in
         let member : has r.handlers h ≡ true =
-        ap (λ hs. has hs h) (sym (named_lines b w.logs r.handlers set))
-        ∙ found_has (λ (y : HandlerLog). y.handler) h (lines_of b w.logs) more.line.line more.line.found in
+        ap (λ hs. has hs h) (sym (named_shares b w.logs r.handlers set))
+        ∙ found_has (λ (y : HandlerLog). y.handler) h (shares_of b w.logs) more.share.share more.share.found in
         inr (record { handlers = r.handlers; set = set; member = member }, subst (IsOpenedAtAll w) same at_all)
 
     log_logs : (x : Command) (h : HandlerId) (n : Entry) (q : client.Outcome) → LogRow p.client h n q → q ≡ Ok d → LogsOpened x d

@@ -11,7 +11,7 @@ use Rattle.scoop_message.proofs.Same.{block_decides}
 use Rattle.scoop_client.specs.declared.command.Command.{Command}
 use Rattle.scoop_client.specs.declared.command.Command.TheVariants.{Reserve, Call, Query, End, GiveUp}
 use Rattle.scoop_model.specs.declared.event.Event.{Event}
-use Rattle.scoop_model.specs.World.{World, HandlerLog, BlockLog, is_log_of, is_line_of, handlers_in, handlers_of}
+use Rattle.scoop_model.specs.World.{World, HandlerLog, BlockLog, is_log_of, is_share_of, handlers_in, handlers_of}
 use Rattle.scoop_model.specs.Step.{fresh_log, with_entry, with_entry_at, changed_log, logs_after, newest_block}
 use Rattle.scoop_model.specs.Reach.{steps}
 use Rattle.scoop_model.proofs.Basics.{by_test}
@@ -21,12 +21,12 @@ use Rattle.scoop_model.proofs.Events.{steps_kept}
 abbrev found : Block → List BlockLog → Option (List HandlerId)
 found b logs = option_map handlers_in (find (is_log_of b) logs)
 
--- a change of a line that leaves its handler
+-- a change of a share that leaves its handler
 abbrev pub LeavesHandler : (HandlerLog → HandlerLog) → Type 0
 LeavesHandler f = (l : HandlerLog) → (f l).handler ≡ l.handler
 
 pub leaves_at : (h : HandlerId) (e : Entry) → LeavesHandler (with_entry_at h e)
-leaves_at h e l = by_test (λ t. (if t then with_entry e l else l).handler ≡ l.handler) (is_line_of h l) (λ here. refl) (λ there. refl)
+leaves_at h e l = by_test (λ t. (if t then with_entry e l else l).handler ≡ l.handler) (is_share_of h l) (λ here. refl) (λ there. refl)
 
 leaves_all : (f : HandlerLog → HandlerLog) → LeavesHandler f → (ls : List HandlerLog) → map (λ x. x.handler) (map f ls) ≡ map (λ x. x.handler) ls
 leaves_all f keeps [] = refl
@@ -36,9 +36,9 @@ changed_same :
     (c : Block) (f : HandlerLog → HandlerLog) → LeavesHandler f → (l : BlockLog)
     → (handlers_in (changed_log c f l) ≡ handlers_in l) × ((changed_log c f l).block ≡ l.block)
 changed_same c f keeps l =
-    by_test (λ t. let m = (if t then record { block = l.block; lines = map f l.lines } else l) in (handlers_in m ≡ handlers_in l) × (m.block ≡ l.block))
+    by_test (λ t. let m = (if t then record { block = l.block; shares = map f l.shares } else l) in (handlers_in m ≡ handlers_in l) × (m.block ≡ l.block))
     (is_log_of c l)
-    (λ here. (leaves_all f keeps l.lines, refl))
+    (λ here. (leaves_all f keeps l.shares, refl))
     (λ there. (refl, refl))
 
 pub found_changed : (b c : Block) (f : HandlerLog → HandlerLog) → LeavesHandler f → (logs : List BlockLog) → found b (map (changed_log c f) logs) ≡ found b logs
@@ -108,7 +108,7 @@ pub handlers_fresh :
     (c : Block) (hs : List HandlerId) (logs : List BlockLog) → option_map handlers_in (find (is_log_of c) logs) ≡ None
     → option_map handlers_in (find (is_log_of c) (logs_after (Reserve hs) c logs)) ≡ Some hs
 handlers_fresh c hs [] none =
-    let new : BlockLog = record { block = c; lines = map fresh_log hs } in
+    let new : BlockLog = record { block = c; shares = map fresh_log hs } in
     ap (λ t. option_map handlers_in (if t then Some new else None)) ((block_decides c c).1 refl) ∙ ap Some (same_names hs)
 handlers_fresh c hs (l ∷ ls) none =
     by_test (λ t. option_map handlers_in (if t then Some l else find (is_log_of c) ls) ≡ None

@@ -41,7 +41,7 @@ pub fn opened_has_opened()
 
 /// Wherever an Unlock was sent, the block has opened at each handler that its reserve named; or no Open of the block
 /// was ever sent, and its client has left it or is giving it up.
-pub fn unlock_is_opened_or_left()
+pub fn unlock_is_opened_or_abandoned()
     ensures { (w : World) → IsReached w → AllByRecursion (TellsUnlocked w) w.sent }
 {}
 

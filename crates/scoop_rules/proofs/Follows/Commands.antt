@@ -22,7 +22,7 @@ use Rattle.scoop_client.specs.Rows.{LogRow, is_logged, EndRow, ends_block}
 use Rattle.scoop_client.proofs.CommandRows.{command_row}
 use Rattle.scoop_client.specs.declared.command.Command.{Command}
 use Rattle.scoop_client.specs.declared.command.Command.TheVariants.{Reserve, Call, Query, End, GiveUp}
-use Rattle.scoop_model.specs.World.{World, Party, HandlerLog, is_line_of, is_party, party_of, has_block, lines_of, handlers_of, set_of, log_of, opened_at}
+use Rattle.scoop_model.specs.World.{World, Party, HandlerLog, is_share_of, is_party, party_of, has_block, shares_of, handlers_of, set_of, log_of, opened_at}
 use Rattle.scoop_model.specs.World.{is_succeeded, has_end, inc_of}
 use Rattle.scoop_model.specs.Step.{newest_block, logs_after, commanded_world}
 use Rattle.scoop_rules.specs.Paper.{LogOne, MovesLead, logged_to, has_open, waits, Seen, seen, queue_of, queue_at, configuration_of, objects_of, command_moves}
@@ -33,7 +33,7 @@ use Rattle.scoop_model.proofs.Order.Facts.{PartyFits, all_found}
 use Rattle.scoop_model.proofs.Order.Commands.{goes_on}
 use Rattle.scoop_model.proofs.Order.Lists.{same_block_is, same_block_itself}
 use Rattle.scoop_model.proofs.Logging.Facts.{PartyLogs}
-use Rattle.scoop_model.proofs.Logging.Logs.{HasLine, IsAdded, added, log_in, log_after, log_here, log_other, named_lines}
+use Rattle.scoop_model.proofs.Logging.Logs.{HasLine, IsAdded, added, log_in, log_after, log_here, log_other, named_shares}
 use Rattle.scoop_model.proofs.Logging.Windows.{handlers_at}
 use Rattle.scoop_model.proofs.Logging.Commands.{IsRunning, running_is, commands_logging}
 use Rattle.scoop_rules.proofs.Lists.{same_configuration, queues_same, logged_over, logged_other, own_queue_at}
@@ -45,17 +45,17 @@ use Rattle.scoop_rules.proofs.Follows.Facts.{AreDistinct, Following}
 use Rattle.scoop_rules.proofs.Follows.Logging.{IsOpen, logged_at_all, one_at_all, logs_lead, open_among, open_queue, logged_queue}
 use Rattle.scoop_rules.proofs.Follows.Clients.{same_set, inc_same, reserve_same, give_up_same}
 
--- ---- lines of handlers
+-- ---- shares of handlers
 
--- a handler of some lines has one of them
-line_there :
-    (h : HandlerId) (ls : List HandlerLog) → has (map (λ (y : HandlerLog). y.handler) ls) h ≡ true → (m : HandlerLog) × (find (is_line_of h) ls ≡ Some m)
-line_there h [] e = absurd (true≢false (sym e))
-line_there h (l ∷ ls) e =
-    by_test (λ t. (t || has (map (λ (y : HandlerLog). y.handler) ls) h) ≡ true → (m : HandlerLog) × ((if t then Some l else find (is_line_of h) ls) ≡ Some m))
-    (is_line_of h l)
+-- a handler of some shares has one of them
+share_there :
+    (h : HandlerId) (ls : List HandlerLog) → has (map (λ (y : HandlerLog). y.handler) ls) h ≡ true → (m : HandlerLog) × (find (is_share_of h) ls ≡ Some m)
+share_there h [] e = absurd (true≢false (sym e))
+share_there h (l ∷ ls) e =
+    by_test (λ t. (t || has (map (λ (y : HandlerLog). y.handler) ls) h) ≡ true → (m : HandlerLog) × ((if t then Some l else find (is_share_of h) ls) ≡ Some m))
+    (is_share_of h l)
     (λ here f. (l, refl))
-    (λ there f. line_there h ls f) e
+    (λ there f. share_there h ls f) e
 
 handler_there : (h : HandlerId) (ls : List WindowState) (l : WindowState) → window_of h ls ≡ Some l → has (handlers_at ls) h ≡ true
 handler_there h [] l e = absurd (cc)
@@ -112,13 +112,13 @@ module _
     in_joint : (h : HandlerId) → has (set_of b w) h ≡ true → has_block w.joint b ≡ true
     in_joint h m = left_has (f.ready.handlers h).left b (opened h m)
 
-    has_line : (h : HandlerId) → has (set_of b w) h ≡ true → HasLine b h w.logs
-    has_line h m =
-        let q = line_there h (lines_of b w.logs) (subst (λ hs. has hs h ≡ true) (set_is ∙ sym (named_lines b w.logs r.handlers named)) m) in
-        record { line = q.0; found = q.1 }
+    has_share : (h : HandlerId) → has (set_of b w) h ≡ true → HasLine b h w.logs
+    has_share h m =
+        let q = share_there h (shares_of b w.logs) (subst (λ hs. has hs h ≡ true) (set_is ∙ sym (named_shares b w.logs r.handlers named)) m) in
+        record { share = q.0; found = q.1 }
 
     grows : (h : HandlerId) → has (set_of b w) h ≡ true → log_of b h after ≡ log_of b h w ++ added x h
-    grows h m = ap (λ y. log_in b h (logs_after x y w.logs)) same ∙ log_here x b h w.logs (has_line h m)
+    grows h m = ap (λ y. log_in b h (logs_after x y w.logs)) same ∙ log_here x b h w.logs (has_share h m)
 
     -- a log stays that the command doesn't reach
     log_stays : (y : Block) (h : HandlerId) → (b ≡ y → ⊥) ⊎ (added x h ≡ []) → log_of y h after ≡ log_of y h w

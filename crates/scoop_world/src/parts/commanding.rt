@@ -8,7 +8,7 @@ ghost use Rattle.scoop_model.specs.Reach.{IsReached};
 ghost use Rattle.scoop_world.specs.Kept.{logged_kept, logged_by, with_entry_for};
 ghost use Rattle.scoop_world.specs.Answers.{Commands, Takes, outcome_of};
 
-use crate::logs::{LoggedAt, Logs, add, fresh_lines, log, make_room, place_of};
+use crate::logs::{LoggedAt, Logs, add, fresh_shares, log, make_room, place_of};
 use crate::parts::{Parts, party_at};
 use crate::party::Party;
 use scoop_message::{ClientId, Entry, HandlerId, OutOfMemory};
@@ -19,7 +19,7 @@ use std::alloc::Allocator;
 // The client takes a command by which an entry is logged, for one handler or for all.
 fn log_by<A: Allocator + Copy>(
     party: &mut Party<A>,
-    lines: &mut Vec<LoggedAt<A>, A>,
+    shares: &mut Vec<LoggedAt<A>, A>,
     command: &Command,
     only: Option<HandlerId>,
     entry: &Entry,
@@ -28,29 +28,29 @@ fn log_by<A: Allocator + Copy>(
     ensures taken { Commands (outcome_of party.old.client command.now) result party.old party.new }
     ensures id { id_of party.new ≡ id_of party.old }
     ensures stored { party.new.stored ≡ party.old.stored }
-    ensures logged { OnOk result (map logged_kept lines.new.items ≡ map (with_entry_for only entry.now) (map logged_kept lines.old.items)) }
-    ensures kept { OnErr result (map logged_kept lines.new.items ≡ map logged_kept lines.old.items) }
+    ensures logged { OnOk result (map logged_kept shares.new.items ≡ map (with_entry_for only entry.now) (map logged_kept shares.old.items)) }
+    ensures kept { OnErr result (map logged_kept shares.new.items ≡ map logged_kept shares.old.items) }
 {
-    if make_room(lines).is_err() {
+    if make_room(shares).is_err() {
         return Err(party.no_room_to_log(only));
     }
     party.command(command)?;
-    log(lines, only, entry);
+    log(shares, only, entry);
     Ok(())
 }
 
-// Room for a new block and its lines.
+// Room for a new block and its shares.
 fn room_for<A: Allocator + Copy>(
     alloc: A,
     logs: &mut Logs<A>,
     handlers: &HandlerList,
 ) -> Result<Vec<LoggedAt<A>, A>, OutOfMemory>
-    ensures lines { IfOk result (λ ls. map logged_kept ls.items ≡ map fresh_log handlers.now) }
+    ensures shares { IfOk result (λ ls. map logged_kept ls.items ≡ map fresh_log handlers.now) }
     ensures room { OnOk result (0 < spare logs.new) }
     ensures logs { logs.new.entries ≡ logs.old.entries }
 {
     logs.reserve(1)?;
-    fresh_lines(alloc, handlers.as_slice())
+    fresh_shares(alloc, handlers.as_slice())
 }
 
 impl<B: Behaviour, A: Allocator + Copy> Parts<B, A> {
@@ -87,14 +87,14 @@ impl<B: Behaviour, A: Allocator + Copy> Parts<B, A> {
     {
         let alloc = *self.sent.allocator();
         let party = &mut self.parties[at];
-        let Ok(lines) = room_for(alloc, &mut self.logs, handlers) else {
+        let Ok(shares) = room_for(alloc, &mut self.logs, handlers) else {
             return Err(party.no_room_to_reserve(handlers));
         };
         match party.command(&Command::Reserve(*handlers)) {
             Ok(()) => {}
             Err(error) => return Err(error),
         }
-        add(&mut self.logs, party.newest(), lines);
+        add(&mut self.logs, party.newest(), shares);
         Ok(WorldNote::Done)
     }
 
@@ -131,8 +131,8 @@ impl<B: Behaviour, A: Allocator + Copy> Parts<B, A> {
                 Err(error) => Err(error),
             };
         };
-        let lines = &mut self.logs[place];
-        match log_by(party, lines, command, only, &entry) {
+        let shares = &mut self.logs[place];
+        match log_by(party, shares, command, only, &entry) {
             Ok(()) => Ok(WorldNote::Done),
             Err(error) => Err(error),
         }

@@ -5,15 +5,15 @@ use Rattle.scoop_world.proofs.logs.log.Goals as goal
 
 pub log_at-requires : goal.log_at-requires
 log_at-requires g c =
-    let i = c.loop-line.line-index in
-    let x = c.line-item.result in
-    subst HasRoom (sym (next_same c.args.lines.now c.loop-line.lines i x c.loop-line.invariant.rest)) (c.requires i x (omega arith))
+    let i = c.loop-share.share-index in
+    let x = c.share-item.result in
+    subst HasRoom (sym (next_same c.args.shares.now c.loop-share.shares i x c.loop-share.invariant.rest)) (c.requires i x (omega arith))
 
-pub loop-line-preserved : goal.loop-line-preserved
-loop-line-preserved g c =
-    let i = c.loop-line.line-index in
+pub loop-share-preserved : goal.loop-share-preserved
+loop-share-preserved g c =
+    let i = c.loop-share.share-index in
     record {
-      done = seen_changed logged_kept (with_entry_for c.args.only c.args.entry.now) c.args.lines.now c.loop-line.lines i c.line-item.result c.log_at.new.line
-          (omega arith) (c.loop-line.auto.lines) c.loop-line.invariant.done c.log_at.ensures;
-      rest = left_same c.args.lines.now c.loop-line.lines i c.log_at.new.line c.loop-line.invariant.rest;
+      done = seen_changed logged_kept (with_entry_for c.args.only c.args.entry.now) c.args.shares.now c.loop-share.shares i c.share-item.result c.log_at.new.share
+          (omega arith) (c.loop-share.auto.shares) c.loop-share.invariant.done c.log_at.ensures;
+      rest = left_same c.args.shares.now c.loop-share.shares i c.log_at.new.share c.loop-share.invariant.rest;
     }

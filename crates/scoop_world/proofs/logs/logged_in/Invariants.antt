@@ -1,7 +1,7 @@
--- The line is among those that are left.
+-- The share is among those that are left.
 use Rattle.std.proofs.Common.{◌≡◌, map, drop}
 use Rattle.scoop_world.specs.Kept.{entries_in, logged_kept}
 use Rattle.scoop_world.proofs.logs.logged_in.Given as goal
 
-abbrev pub invariant-loop-line : goal.invariant-loop-line
-invariant-loop-line g l = entries_in l.handler (map logged_kept (drop l.line-index l.lines)) ≡ entries_in l.handler (map logged_kept l.lines)
+abbrev pub invariant-loop-share : goal.invariant-loop-share
+invariant-loop-share g l = entries_in l.handler (map logged_kept (drop l.share-index l.shares)) ≡ entries_in l.handler (map logged_kept l.shares)

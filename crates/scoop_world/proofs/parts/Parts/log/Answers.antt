@@ -50,13 +50,13 @@ returns g c =
           c.requires.reached c.requires.within c.index_mut-party.ensures.value w.in-Ok-log_by.ensures.taken.0 w.in-Ok-log_by.ensures.taken.1 c.log_by.ensures.id
           (logged p.client c.log_by.new.party.client x (c.args.only, c.args.entry) logs _ c.requires.logs w.in-Ok-log_by.ensures.taken.0
           (kept-set b (with_entry_for c.args.only c.args.entry)
-          c.index_mut-lines.result.now c.log_by.new.lines es c.in-Some.place c.place_of.ensures.unique place c.index_mut-lines.ensures.value
+          c.index_mut-shares.result.now c.log_by.new.shares es c.in-Some.place c.place_of.ensures.unique place c.index_mut-shares.ensures.value
           w.in-Ok-log_by.ensures.logged)))
       | in-Err-log_by w ↦ rw w.result-is
           (command_refused c.self.inside.sites.items c.self.inside.parties.items c.self.inside.sent.items c.self.inside.joint.keys
           (logs_kept c.self.inside.logs.entries) c.args.self.now c.self.view_is c.args.at p c.log_by.new.party x w.in-Err-log_by.error _
           c.requires.within c.index_mut-party.ensures.value w.in-Err-log_by.ensures.taken.0 w.in-Err-log_by.ensures.taken.1
-          (kept-same c.index_mut-lines.result.now c.log_by.new.lines es c.in-Some.place c.index_mut-lines.ensures.value w.in-Err-log_by.ensures.kept))
+          (kept-same c.index_mut-shares.result.now c.log_by.new.shares es c.in-Some.place c.index_mut-shares.ensures.value w.in-Err-log_by.ensures.kept))
     ]
 
 pub invariant_of-self : goal.invariant_of-self

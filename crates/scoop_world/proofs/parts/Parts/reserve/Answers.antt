@@ -41,11 +41,11 @@ add-requires-clause-new g c =
 pub returns : goal.returns
 returns g c =
     let logs = logs_kept c.self.inside.logs.entries in
-    let new : Block → List HandlerLog → BlockLog = λ b ls. record { block = b; lines = ls } in
+    let new : Block → List HandlerLog → BlockLog = λ b ls. record { block = b; shares = ls } in
     let made : logs_kept c.add.new.logs.entries ≡ logs ++ new (newest_block c.command.new.self.client) (map fresh_log c.args.handlers.now) ∷ [] =
     c.add.ensures
-    ∙ ap (λ (ls : List BlockLog). ls ++ block_log c.newest.result c.in-Ok.lines.items ∷ []) (ap logs_kept c.room_for.ensures.logs)
-    ∙ ap (λ (ls : List HandlerLog). logs ++ new c.newest.result ls ∷ []) c.in-Ok.ensures.lines
+    ∙ ap (λ (ls : List BlockLog). ls ++ block_log c.newest.result c.in-Ok.shares.items ∷ []) (ap logs_kept c.room_for.ensures.logs)
+    ∙ ap (λ (ls : List HandlerLog). logs ++ new c.newest.result ls ∷ []) c.in-Ok.ensures.shares
     ∙ ap (λ (b : Block). logs ++ new b (map fresh_log c.args.handlers.now) ∷ []) c.newest.ensures in
     command_taken c.self.inside.sites.items c.self.inside.parties.items c.self.inside.sent.items c.self.inside.joint.keys
     (logs_kept c.self.inside.logs.entries) c.args.self.now c.self.view_is c.args.at c.index_mut-party.result.now c.command.new.self
