@@ -30,8 +30,9 @@ use Rattle.scoop_demo.specs.declared.script.kind.LineKind.TheVariants.{Handler, 
 use Rattle.scoop_words.specs.Words.{words_of, is_blank}
 use Rattle.scoop_demo.specs.ScriptKind.{kind_of}
 use Rattle.scoop_demo.specs.ScriptLine.{Placed, handler_line, client_line}
-use Rattle.scoop_demo.specs.Script.{Parties, Opens, IsClosed, StopsOpening, StopsClosed, own_class, placement_of, parties_of, party_fault, placed_by}
-use Rattle.scoop_demo.specs.Script.{placed_by_kind, joined_by, joined_by_kind}
+use Rattle.scoop_demo.specs.Script.StopsOpening.{of_parties, of_memory}
+use Rattle.scoop_demo.specs.Script.{Parties, Opens, StopsOpening, StopsClosed, own_class, placement_of, parties_of, party_fault, placed_by}
+use Rattle.scoop_demo.specs.Script.{placed_by_kind, joined_by, joined_by_kind, unopened}
 use Rattle.scoop_demo.specs.Staging.{seen_by, AreFirst, AreFirstClients, IsWaiting, IsStaged, with_line}
 
 -- ---- a handler's object is seen as its class
@@ -141,8 +142,8 @@ joining_first cs stored few all = all_clients cs (λ ds. AllByRecursion IsJoinin
 module _ {B : Type 0} (class : B → ClassTable) (ps : List (Placement B)) (cs : List (ClientId × ℕ)) (own : ℕ → Option ℕ) (parties : Parties)
     (stored : ℕ → Option ℕ) (w : IsWaiting class ps cs own parties stored) where
   -- why it doesn't open
-  pub closed_to : (e : WorldOpenError) → IsUnopened class ps cs own e → IsClosed parties stored e
-  closed_to e u =
+  unopened_to : (e : WorldOpenError) → IsUnopened class ps cs own e → IsUnopened own_class (map placement_of parties.placed) parties.clients stored e
+  unopened_to e u =
       let seen : IsUnopened own_class (FirstHandlers (map placement_of parties.placed)) cs own e =
       subst (λ qs. IsUnopened own_class qs cs own e) w.placed (unopened_seen class ps cs own e u) in
       let named : IsUnopened own_class (FirstHandlers (map placement_of parties.placed)) (FirstClients parties.clients) own e =
@@ -150,6 +151,16 @@ module _ {B : Type 0} (class : B → ClassTable) (ps : List (Placement B)) (cs :
       unopened_first (map placement_of parties.placed) parties.clients stored e
       (subst (λ (s : ℕ → Option ℕ). IsUnopened own_class (FirstHandlers (map placement_of parties.placed)) (FirstClients parties.clients) s e)
       w.stored_is named)
+
+  pub stops_unopened : (number : ℕ) (e : WorldOpenError) → IsUnopened class ps cs own e → StopsOpening number parties stored (unopened number e)
+  stops_unopened number NoHandlers u = of_parties ((λ same. cc), unopened_to NoHandlers u)
+  stops_unopened number TooManyHandlers u = of_parties ((λ same. cc), unopened_to TooManyHandlers u)
+  stops_unopened number (Repeated h) u = of_parties ((λ same. cc), unopened_to (Repeated h) u)
+  stops_unopened number (WrongClass h) u = of_parties ((λ same. cc), unopened_to (WrongClass h) u)
+  stops_unopened number TooManyClients u = of_parties ((λ same. cc), unopened_to TooManyClients u)
+  stops_unopened number (RepeatedClient c) u = of_parties ((λ same. cc), unopened_to (RepeatedClient c) u)
+  stops_unopened number IncarnationsSpent u = of_parties ((λ same. cc), unopened_to IncarnationsSpent u)
+  stops_unopened number OutOfMemory u = of_memory
 
   -- with what it opens
   pub opens_with : MayPlace class ps cs → AllByRecursion IsJoining (newcomers_of own cs) → Opens parties stored

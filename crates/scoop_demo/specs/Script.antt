@@ -1,5 +1,6 @@
 -- A script: which of its lines have a fault, and where a run over it stops.
-use Rattle.std.specs.Prelude.{◌≡◌, ℕ, ◌+◌, ◌||◌, ◌&&◌, not, max, map, Bool, true, false, if◌then◌else◌, List, [], ◌∷◌, ◌++◌, length, Option, Some, None, IfSome}
+use Rattle.std.specs.Prelude.{◌≡◌, ◌≢◌, ℕ, ◌+◌, ◌||◌, ◌&&◌, not, max, map, Bool, true, false, if◌then◌else◌, List, [], ◌∷◌, ◌++◌, length, Option, Some}
+use Rattle.std.specs.Prelude.{None, IfSome}
 use Rattle.std.specs.Prelude.{⊤}
 use Rattle.std.specs.List.{list_any, filter_map, AllByRecursion}
 use Rattle.std.specs.Result.{result_ok, result_err}
@@ -10,6 +11,7 @@ use Rattle.scoop_model.specs.Opening.{IsJoining}
 use Rattle.scoop_world.specs.Placing.{newcomers_of}
 use Rattle.scoop_world.specs.declared.placing.Placement.{Placement}
 use Rattle.scoop_world.specs.declared.error.WorldOpenError.{WorldOpenError}
+use Rattle.scoop_world.specs.declared.error.WorldOpenError.TheVariants as world
 use Rattle.scoop_demo.specs.declared.fault.InputFault.{InputFault}
 use Rattle.scoop_demo.specs.declared.fault.InputFault.TheVariants.{UnknownLine, TooLateForParty, CannotOpen, ReadFault, Refused}
 use Rattle.scoop_demo.specs.declared.fault.RunError.{RunError}
@@ -101,9 +103,9 @@ pub record Opens (parties : Parties) (stored : ℕ → Option ℕ) : Type 0 wher
   pub placed : MayPlace own_class (map placement_of parties.placed) parties.clients
   pub joining : AllByRecursion IsJoining (newcomers_of stored parties.clients)
 
--- no world opens with them, for this reason
+-- no world opens with them, for this reason, which isn't want of memory
 abbrev pub IsClosed : Parties → (ℕ → Option ℕ) → WorldOpenError → Type 0
-IsClosed parties stored error = IsUnopened own_class (map placement_of parties.placed) parties.clients stored error
+IsClosed parties stored error = (error ≢ world.OutOfMemory) × IsUnopened own_class (map placement_of parties.placed) parties.clients stored error
 
 -- ---- where a run stops at a line
 
@@ -116,6 +118,11 @@ pub data StopsAtLine (number : ℕ) (opens : Bool) (found : Option InputFault) (
       → StopsAtLine number opens found parties stored (Input number (CannotOpen error))
   in_output : StopsAtLine number opens found parties stored Write
   in_memory : StopsAtLine number opens found parties stored OutOfMemory
+
+-- how it is told that a world doesn't open, at the line of this number
+abbrev pub unopened : ℕ → WorldOpenError → RunError
+unopened number world.OutOfMemory = OutOfMemory
+unopened number error = Input number (CannotOpen error)
 
 -- why the world doesn't open at the line of this number
 pub data StopsOpening (number : ℕ) (parties : Parties) (stored : ℕ → Option ℕ) : RunError → Type 0 where

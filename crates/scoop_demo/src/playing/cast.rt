@@ -9,6 +9,7 @@ ghost use Rattle.scoop_keeper.specs.Memory.{incarnation_at};
 ghost use Rattle.scoop_words.specs.Words.{words_of};
 ghost use Rattle.scoop_demo.specs.ScriptLine.{Placed, joining, handler_line, client_line, event_line};
 ghost use Rattle.scoop_demo.specs.Script.{Parties, Opens, StopsAtLine, StopsOpening, StopsClosed, parties_of, party_fault, words_fault, is_event, opens_at};
+ghost use Rattle.scoop_demo.specs.Script.{unopened};
 ghost use Rattle.scoop_demo.specs.Staging.{AreFirst, AreFirstClients, IsStaged, IsWaiting, with_line};
 
 use super::echo::Echo;
@@ -51,6 +52,16 @@ fn fault_at(line: u32, fault: InputFault) -> RunError
     ensures { result ≡ RunError.Input line fault }
 {
     RunError::Input { line, fault }
+}
+
+// How it is told at the line of this number that the world doesn't open.
+fn unopened(line: u32, error: WorldOpenError) -> RunError
+    ensures { result ≡ unopened line error }
+{
+    match error {
+        WorldOpenError::OutOfMemory => RunError::OutOfMemory,
+        error => fault_at(line, InputFault::CannotOpen(error)),
+    }
 }
 
 impl Cast {
@@ -311,8 +322,7 @@ impl Cast {
                 self.world = Some(world);
                 Ok(())
             }
-            Err(WorldOpenError::OutOfMemory) => Err(RunError::OutOfMemory),
-            Err(error) => Err(fault_at(number, InputFault::CannotOpen(error))),
+            Err(error) => Err(unopened(number, error)),
         }
     }
 
