@@ -2,19 +2,23 @@
 //!
 //! A [`Keeper`] takes and gives them. A [`MemoryKeeper`] has them in memory, a [`FailingKeeper`] stands over another
 //! one, for tests; the store in the tables of a database is `scoop_record`'s. A handler runs over any keeper by
-//! [`hear_and_store`] and [`finish_and_store`]: a new state is stored before it is kept.
+//! [`hear_and_store`] and [`finish_and_store`]: a new state is stored before it is kept. In the example `is_loaded` tells
+//! whether it was this state that came.
 //!
 //! ```
-//! // client 7 has one incarnation left, and client 8 all
-//! let keeper = MemoryKeeper::new(rt.alloc()).with_incarnation(ClientId(7), 4294967294);
-//! // what the keeper is asked, and whether it answers so
-//! Act::Next(client, next) => keeper.next_incarnation(ClientId(client)) == next,
-//! const SPENT: Result<u32, KeeperError> = Err(KeeperError::IncarnationsSpent);
-//! const IN_TURN: [Act; 3] = [
-//!     Act::Next(7, Ok(4294967295)),
-//!     Act::Next(7, SPENT),
-//!     Act::Next(8, Ok(1)),
-//! ];
+//! // what is put for a handler is what is loaded
+//! let mut keeper = MemoryKeeper::new(alloc);
+//! keeper.put_handler(state)?;
+//! let loaded = keeper.load_handler(HandlerId(1));
+//! assert!(rt; is_loaded(loaded, state));
+//! // a client's next incarnation is one more than the last one
+//! assert_eq!(rt; keeper.next_incarnation(ClientId(7)), Ok(1));
+//! assert_eq!(rt; keeper.next_incarnation(ClientId(7)), Ok(2));
+//! // one for tests makes a call of the keeper behind it, and refuses all further ones
+//! let mut failing = FailingKeeper::new(keeper, 1);
+//! assert_eq!(rt; failing.next_incarnation(ClientId(7)), Ok(3));
+//! let again = failing.next_incarnation(ClientId(7));
+//! assert_eq!(rt; again, Err(KeeperError::Refused));
 //! ```
 #![tactic(auto)]
 

@@ -16,8 +16,8 @@
 //! assert_eq!(rt; cut, Answered::RefusedFrame(FrameError::Short));
 //! // a client's driver reaches the same book without a network
 //! let link = LoopLink::new(alloc, book, 0);
-//! Driver::new(client(rt, alloc, SEVEN, handler), link, turns)
-//! // it is welcomed, and reserves
+//! let mut driver = Driver::new(client(&rt, alloc, SEVEN, ONE), link, 10);
+//! // its first turn greets the handler, and then it reserves
 //! assert_eq!(rt; driver.turn()?, Some(ClientNote::Welcomed(ONE)));
 //! driver.reserve(&[ONE])?;
 //! ```

@@ -1,15 +1,15 @@
 //! The example that opens the document of the crate.
 
-use super::ONE;
 use super::accounts::book;
-use super::loops::{Looped, looped};
+use super::loops::Looped;
+use super::{ONE, SEVEN, client};
 use scoop_book::Book;
 use scoop_client::ClientNote;
 use scoop_frame::FrameError;
 use scoop_handler::Note;
 use scoop_keeper::MemoryKeeper;
 use scoop_message::limits::BUFFER_LEN;
-use scoop_netloop::{Answered, answer_datagram};
+use scoop_netloop::{Answered, Driver, LoopLink, answer_datagram};
 use scoop_object::Table;
 use std::process::Abort;
 use std::test::Fail;
@@ -40,6 +40,7 @@ fn a_book_answers_datagrams(rt: HostRuntime) -> Result<(), Fail> {
     let mut book = book(&rt, alloc, alloc);
     answers(&rt, &mut book)?;
     // a client's driver reaches the same book without a network
-    let mut driver = looped(&rt, alloc, book, ONE, 10);
+    let link = LoopLink::new(alloc, book, 0);
+    let mut driver = Driver::new(client(&rt, alloc, SEVEN, ONE), link, 10);
     reaches(&rt, &mut driver)
 }

@@ -48,6 +48,30 @@ fn a_keeper_fails_after_its_calls(rt: HostRuntime) {
     fails(&rt, rt.alloc(), MemoryKeeper::new(rt.alloc()));
 }
 
+/// The example of `scoop_keeper`.
+fn keeps(rt: &impl Abort, alloc: Global, state: &HandlerState) -> Result<(), KeeperError> {
+    // what is put for a handler is what is loaded
+    let mut keeper = MemoryKeeper::new(alloc);
+    keeper.put_handler(state)?;
+    let loaded = keeper.load_handler(HandlerId(1));
+    assert!(rt; is_loaded(loaded, state));
+    // a client's next incarnation is one more than the last one
+    assert_eq!(rt; keeper.next_incarnation(ClientId(7)), Ok(1));
+    assert_eq!(rt; keeper.next_incarnation(ClientId(7)), Ok(2));
+    // one for tests makes a call of the keeper behind it, and refuses all further ones
+    let mut failing = FailingKeeper::new(keeper, 1);
+    assert_eq!(rt; failing.next_incarnation(ClientId(7)), Ok(3));
+    let again = failing.next_incarnation(ClientId(7));
+    assert_eq!(rt; again, Err(KeeperError::Refused));
+    Ok(())
+}
+
+#[test]
+fn a_keeper_keeps_as_in_the_doc(rt: HostRuntime) {
+    let state = waiting(&rt, rt.alloc(), 5);
+    assert_eq!(rt; keeps(&rt, rt.alloc(), &state), Ok(()));
+}
+
 const LAST: [Act; 6] = [
     Act::Next(7, Ok(1)),
     Act::Next(7, Ok(2)),
