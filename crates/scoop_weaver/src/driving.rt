@@ -120,8 +120,7 @@ fn give<A: Allocator + Clone>(client: &mut Client<A>, command: &Command) -> Resu
 {
     match client.carry_out(command) {
         Err(ClientError::OutOfMemory) => Err(OutOfMemory),
-        Ok(()) => Ok(()),
-        Err(_) => Ok(()),
+        Ok(()) | Err(_) => Ok(()),
     }
 }
 

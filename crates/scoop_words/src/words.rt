@@ -35,12 +35,11 @@ pub fn next_word(line: &[u8]) -> Option<(&[u8], &[u8])>
 }
 
 // The line from its first word on.
-fn skip_spaces(line: &[u8]) -> &[u8]
+fn skip_spaces(mut line: &[u8]) -> &[u8]
     ensures same { words_of result.now ≡ words_of line.now }
     ensures shorter { length result.now ≤ length line.now }
     ensures begins { IsFalse (begins_with_space result.now) }
 {
-    let mut line = line;
     while let [b' ', rest @ ..] = line {
         line = rest;
     }
