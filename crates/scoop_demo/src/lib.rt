@@ -6,12 +6,8 @@
 //! clients.
 //!
 //! ```
-//! const DOC_SCRIPT: &str = "\
-//! handler 1 1 cell 0
-//! client 7
-//! trip 7 1";
-//! // `played` over a keeper, with what is written behind what was written
-//! world_run(alloc, keeper, script.as_bytes(), written)
+//! const DOC_SCRIPT: &str = "handler 1 1 cell 0\nclient 7\ntrip 7 1";
+//! // a trip: the client says what it owes, and hears the reply; the histories come behind the last line
 //! const DOC_OUTPUT: &str = "\
 //! sent 1 Hello
 //! Greeted sent 2
@@ -21,7 +17,9 @@
 //! handler 1 ran none
 //! client 7 accepted none
 //! ";
-//! assert!(rt; played(alloc, MemoryKeeper::new(alloc), DOC_SCRIPT, &mut written).is_ok());
+//! let keeper = MemoryKeeper::new(alloc);
+//! let mut written = Vec::new(alloc);
+//! world_run(alloc, keeper, DOC_SCRIPT.as_bytes(), &mut written)?;
 //! assert!(rt; written.as_slice() == DOC_OUTPUT.as_bytes());
 //! ```
 #![tactic(auto)]
