@@ -5,20 +5,21 @@
 //! takes its next incarnation, greets every handler and answers line by line, or tells how far it came.
 //! [`open_node_link`] and [`open_client_link`] take their ports. [`print_reply`] writes what a client is answered.
 //!
+//! In the example a node is served by two threads beside the one that receives, and then a client is run; `place` is
+//! that of the node in its system, and then that of the client.
+//!
 //! ```
-//! // a node of the system, by two threads beside the one that receives
 //! let plan = NodePlan::of(alloc, system, place).ok()?;
 //! let serving = Serving::new(2, history, turns).ok()?;
 //! let ended = node_run(rt, alloc, &plan, &serving, keeper, link, notes, &mut output);
 //! // a client of it, whose commands are these lines
-//! let place = *system.client(ClientId(number))?;
 //! let plan = ClientPlan::new(system, place, TURNS, is_typed).ok()?;
 //! let ended = client_run(
 //!     alloc,
 //!     &plan,
 //!     keeper,
 //!     link,
-//!     &mut TextLines::new(lines),
+//!     lines,
 //!     waits,
 //!     &mut output,
 //!     &mut notes,

@@ -100,6 +100,7 @@ fn ask_lines<L: Link, I: LineSource>(
     is_typed: bool,
 ) -> Option<Told> {
     let place = *system.client(ClientId(number))?;
+    // a client of it, whose commands are these lines
     let plan = ClientPlan::new(system, place, TURNS, is_typed).ok()?;
     let mut output = Vec::new(alloc);
     let mut notes = Vec::new(alloc);
