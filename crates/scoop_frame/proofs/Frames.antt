@@ -24,31 +24,13 @@ pub no_body : (v : Version) (x : Message) → ((h : HandlerId) (b : Block) (n : 
     → ((h : HandlerId) (b : Block) (n : ℕ) (a : Answer) → x ≢ m.Answer h b n a) → body_of v x ≡ []
 no_body v (m.Log h b n es) p q = absurd (p h b n es refl)
 no_body v (m.Answer h b n a) p q = absurd (q h b n a refl)
-no_body v (m.Hello h c i) p q = refl
-no_body v (m.Welcome h c i) p q = refl
-no_body v (m.Lock h b) p q = refl
-no_body v (m.Locked h b) p q = refl
-no_body v (m.Busy h b) p q = refl
-no_body v (m.Open h b) p q = refl
-no_body v (m.Opened h b) p q = refl
-no_body v (m.Unlock h b) p q = refl
-no_body v (m.Unlocked h b) p q = refl
-no_body v (m.Logged h b n) p q = refl
+no_body v x p q = refl
 
 pub body_in_range : (x : Message) → ((h : HandlerId) (b : Block) (n : ℕ) (es : List Entry) → x ≢ m.Log h b n es)
     → ((h : HandlerId) (b : Block) (n : ℕ) (a : Answer) → x ≢ m.Answer h b n a) → IsBodyOf x
 body_in_range (m.Log h b n es) p q = absurd (p h b n es refl)
 body_in_range (m.Answer h b n a) p q = absurd (q h b n a refl)
-body_in_range (m.Hello h c i) p q = tt
-body_in_range (m.Welcome h c i) p q = tt
-body_in_range (m.Lock h b) p q = tt
-body_in_range (m.Locked h b) p q = tt
-body_in_range (m.Busy h b) p q = tt
-body_in_range (m.Open h b) p q = tt
-body_in_range (m.Opened h b) p q = tt
-body_in_range (m.Unlock h b) p q = tt
-body_in_range (m.Unlocked h b) p q = tt
-body_in_range (m.Logged h b n) p q = tt
+body_in_range x p q = tt
 
 zero_from_not : (x : ℕ) → (x ≢ 0 → ⊥) → x ≡ 0
 zero_from_not zero p = refl

@@ -2,6 +2,7 @@
 
 ghost use Rattle.std.specs.Prelude.{◌≡◌, ◌≢◌, [], ◌≤◌, ◌↔◌, IsTrue, IfOk, IfErr, MatchOption, length};
 ghost use Rattle.scoop_message.specs.Range.{IsMessage, IsNumberOf};
+ghost use Rattle.scoop_frame.specs.declared.kind.Kind.TheVariants as of_kind;
 ghost use Rattle.scoop_frame.specs.Buffer.{overwritten};
 ghost use Rattle.scoop_frame.specs.Fault.{HasUnused, LacksNumber, IsFirstFault};
 ghost use Rattle.scoop_frame.specs.Frame.{header, frame, body_of, no_block};
@@ -181,7 +182,7 @@ impl Header {
     // The Log of this header with a body, if that is the body of one.
     fn log(&self, body: &[u8]) -> Option<Message>
         requires sound { IsSound self.now }
-        requires kind { code self.now.kind ≡ 10 }
+        requires kind { code self.now.kind ≡ code of_kind.Log }
         ensures { MatchOption result (¬ HasItsBody self.now body.now) (IsMessageOf self.now body.now) }
     {
         let entries = whole_log(self.version, body)?;
@@ -192,8 +193,8 @@ impl Header {
     // The message of this header, of a kind whose body is empty.
     fn message_without_body(&self) -> Message
         requires sound { IsSound self.now }
-        requires not_log { code self.now.kind ≢ 10 }
-        requires not_answer { code self.now.kind ≢ 12 }
+        requires not_log { code self.now.kind ≢ code of_kind.Log }
+        requires not_answer { code self.now.kind ≢ code of_kind.Answer }
         ensures { IsMessageOf self.now [] result }
     {
         match self.kind {
