@@ -3,7 +3,9 @@ use Rattle.std.proofs.Common.{◌≡◌, ◌⊎◌, ⊎_elim, ℕ, zero, suc, �
 use Rattle.std.proofs.Common.{drop, map, find, Option, Some, None, refl, sym, ap, subst, ◌∙◌, inl, inr, arith}
 use Rattle.std.specs.List.{list_all}
 use Rattle.std.specs.Option.{option_map}
+use Rattle.std.proofs.lemmas.Bool.{le-leb}
 use Rattle.std.proofs.lemmas.Bool.Decides.{nat_tests}
+use Rattle.std.proofs.Math.Nat.{le_refl}
 use Rattle.std.specs.Prelude.{nat_le}
 use Rattle.scoop_client.specs.Window.{WindowState, is_full, is_lowest_full, lowest_full}
 
@@ -58,9 +60,6 @@ below_lower : (m n : ℕ) (ls : List WindowState) → m ≤ n → list_all (λ x
 below_lower m n [] le all = refl
 below_lower m n (x ∷ xs) le all = let p = halves _ _ all in whole _ _ (one_below m n x.handler.0 (is_full x) le p.0) (below_lower m n xs le p.1)
 
-le_itself : (n : ℕ) → nat_le n n ≡ true
-le_itself n = grind (arith, nat_tests)
-
 le_other : (m n : ℕ) → nat_le m n ≡ false → n ≤ m
 le_other m n e = grind (arith, nat_tests)
 
@@ -72,7 +71,7 @@ first_least x xs is rest = record {
   within = omega arith;
   stands = λ d. refl;
   full = is;
-  least = whole _ _ (or_second _ _ (le_itself x.handler.0)) rest;
+  least = whole _ _ (or_second _ _ (le-leb x.handler.0 x.handler.0 (le_refl x.handler.0))) rest;
 }
 
 later_least : (x : WindowState) (xs : List WindowState) (l : Least xs) → (not (is_full x) || nat_le l.window.handler.0 x.handler.0) ≡ true → Least (x ∷ xs)

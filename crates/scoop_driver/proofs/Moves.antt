@@ -8,7 +8,8 @@ use Rattle.scoop_driver.specs.declared.step.Step.TheVariants.{Gave, Turned, Brok
 use Rattle.scoop_driver.specs.Steps.{AllCan, Can, after, after_command}
 use Rattle.scoop_driver.specs.Driving.{CanStep, AreMoves, move_of}
 
-taken : (c d : ClientState) (o : client.Outcome) → o ≡ Ok d → o ≡ Ok (after_command c o)
+-- a command that is taken is what its outcome says
+pub taken : (c d : ClientState) (o : client.Outcome) → o ≡ Ok d → o ≡ Ok (after_command c o)
 taken c d (Ok x) is = refl
 taken c d (Err e) is = cc
 

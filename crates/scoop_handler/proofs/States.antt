@@ -408,7 +408,8 @@ opening_fits b qs sound =
 pub has_room : (s : HandlerState) (b : Block) (more : ℕ) → has_no_room s b more ≡ false → pending b s.queues + more ≤ MAX_PENDING
 has_room s b more e = grind (arith, nat_tests)
 
-ends-drop : (i : ℕ) (es : List Entry) → 0 < length (drop i es) → ends (drop i es) ≡ ends es
+-- what is behind a place of entries ends as they do
+pub ends-drop : (i : ℕ) (es : List Entry) → 0 < length (drop i es) → ends (drop i es) ≡ ends es
 ends-drop i es some = sym (ends-append (take i es) (drop i es) some) ∙ ap ends (take-append-drop i es)
 
 EndOnlyLast-drop : (i : ℕ) (es : List Entry) → EndOnlyLast es → EndOnlyLast (drop i es)

@@ -6,7 +6,9 @@ use Rattle.std.proofs.Common.{drop, refl, sym, ap, ◌∙◌, ⊎_elim, arith, l
 use Rattle.std.specs.Prelude.{if◌then◌else◌}
 use Rattle.std.specs.List.{AllByRecursion, list_any}
 use Rattle.std.proofs.Math.Bool.{and-false}
+use Rattle.std.proofs.Math.Nat.{le_refl}
 use Rattle.std.proofs.Math.Seq.{take-append_seam}
+use Rattle.std.proofs.lemmas.Bool.{le-leb}
 use Rattle.std.proofs.lemmas.Bool.Decides.{nat_tests}
 use Rattle.scoop_message.specs.declared.name.Block.{Block}
 use Rattle.scoop_message.specs.declared.name.HandlerId.{HandlerId}
@@ -133,9 +135,6 @@ slot_at P (s ∷ ss) b e all =
 pub none_queue : (b : Block) (log : List Entry) → queue_of b (record { logged = log; count = 0; over = false; newer = true; received = 0 }) ≡ []
 none_queue b log = refl
 
-reflexive : (n : ℕ) → nat_le n n ≡ true
-reflexive n = grind (arith, nat_tests)
-
 -- the private queue is gone
 pub gone_queue :
     (b : Block) (ran rest more : List Entry) (newer : Bool) → rest ≡ [] → (has_end ran ≡ true) ⊎ (newer ≡ true)
@@ -159,7 +158,7 @@ gone_queue b ran rest more newer none why =
     cut e =
         let no_end : has_end (take (length (ran ++ [])) ((ran ++ []) ++ more)) ≡ false = ap has_end took ∙ e in
         let all : nat_le (length (take (length (ran ++ [])) ((ran ++ []) ++ more))) (length ran) ≡ true =
-        ap (λ es. nat_le (length es) (length ran)) took ∙ reflexive (length ran) in
+        ap (λ es. nat_le (length es) (length ran)) took ∙ le-leb (length ran) (length ran) (le_refl (length ran)) in
         ap (λ t. if t then [] else record {
           block = b;
           entries = drop (length ran) (kept (slot_seen ran [] more true));

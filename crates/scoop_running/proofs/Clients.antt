@@ -1,7 +1,7 @@
 -- A driver's steps lead its client as moves of its own. A command is one move; a turn is a send to each handler and, where a message
 -- came, that it is heard; a turn that broke off is its sends up to there. Between two drivers the client restarts. All these moves
 -- are the client's: they name it, its number stays, and they are no node's.
-use Rattle.std.proofs.Common.{◌≡◌, ℕ, ◌+◌, true, false, ◌||◌, List, [], ◌∷◌, ◌++◌, take, drop, Option, Some, None, Ok, Err, refl, sym, ap, ◌∙◌, subst}
+use Rattle.std.proofs.Common.{◌≡◌, ℕ, ◌+◌, true, false, ◌||◌, List, [], ◌∷◌, ◌++◌, take, drop, Option, Some, None, refl, sym, ap, ◌∙◌, subst}
 use Rattle.std.proofs.Common.{append-nil, append_assoc}
 use Rattle.std.specs.List.{AllByRecursion}
 use Rattle.std.proofs.lemmas.List.{take-append-drop}
@@ -14,10 +14,10 @@ use Rattle.scoop_message.proofs.Same.{handler_decides}
 use Rattle.scoop_handler.proofs.Basics.{all_append}
 use Rattle.scoop_reserve.specs.Handlers.{has}
 use Rattle.scoop_client.specs.State.{ClientState}
-use Rattle.scoop_client.specs.Commands as client
 use Rattle.scoop_driver.specs.declared.step.Step.{Step}
 use Rattle.scoop_driver.specs.declared.step.Step.TheVariants.{Gave, Turned, Broke}
-use Rattle.scoop_driver.specs.Steps.{AllCan, Can, after, after_command, after_message, message_in}
+use Rattle.scoop_driver.specs.Steps.{AllCan, Can, after, after_message, message_in}
+use Rattle.scoop_driver.proofs.Moves.{taken}
 use Rattle.scoop_weave.specs.System.{LocalClient, id_in, after_step, after_restart}
 use Rattle.scoop_weave.specs.Moves.{LocalMove, Heard, Began, Finished, NodeReopened, Commanded, Sent, ClientHeard, ClientRestarted}
 use Rattle.scoop_weave.specs.Parties.{ClientRuns, is_by}
@@ -54,10 +54,6 @@ sends_run c (h ∷ hs) named = (c, record { named = named.0; tells = refl; after
 hears_run : (c : LocalClient) (got : Option Message) → ClientRuns c (hears c.client got) (after_step (after_message c.client got) c)
 hears_run c None = refl
 hears_run c (Some m) = (after_step (after_message c.client (Some m)) c, record { tells = refl; after = refl }, refl)
-
-taken : (c d : ClientState) (o : client.Outcome) → o ≡ Ok d → o ≡ Ok (after_command c o)
-taken c d (Ok x) is = refl
-taken c d (Err e) is = cc
 
 step_runs : (c : LocalClient) (s : Step) → Can c.client s → ClientRuns c (moves_at c.client s) (after_step (after c.client s) c)
 step_runs c (Gave x) can =

@@ -1,6 +1,5 @@
 mod NameLemmas
 mod LineLemmas
-mod Start
 mod AddressLemmas
 mod ArgumentLemmas
 mod RowLemmas

@@ -56,7 +56,8 @@ has_same_site k sites parties i old s all at same stored =
       incarnations = all.incarnations;
     }
 
-holds_is : (o : Option HandlerState) (s : HandlerState) → stored_of o ≡ Holds s → o ≡ Some s
+-- what is stored is there
+pub holds_is : (o : Option HandlerState) (s : HandlerState) → stored_of o ≡ Holds s → o ≡ Some s
 holds_is None s e = absurd (cc)
 holds_is (Some t) s e = let same : t ≡ s = cc in ap Some same
 

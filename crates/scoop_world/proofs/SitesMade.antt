@@ -5,13 +5,13 @@ use Rattle.std.specs.List.{AllByRecursion}
 use Rattle.std.proofs.lemmas.Option.{slice_get-map}
 use Rattle.std.proofs.lemmas.List.{take_more}
 use Rattle.scoop_message.specs.declared.name.HandlerId.{HandlerId}
-use Rattle.scoop_handler.specs.State.{HandlerState}
 use Rattle.scoop_keeper.specs.Keeper.{stored_of, Holds, Keeps}
 use Rattle.scoop_keeper.specs.Memory.{Has, MemoryRecord, state_at}
 use Rattle.scoop_model.specs.World.{Site, number_of}
 use Rattle.scoop_model.specs.Step.{Placement, new_site}
 use Rattle.scoop_message.specs.Lists.{NoRepeats}
 use Rattle.scoop_world.specs.Kept.{HasState}
+use Rattle.scoop_world.proofs.KeptPlaces.{holds_is}
 use Rattle.scoop_keeper.proofs.Keyed.{item_at}
 use Rattle.scoop_model.proofs.Order.Facts.{all_at}
 
@@ -22,16 +22,11 @@ pub new_own : (ps : List Placement) → AllByRecursion (λ s. s.stored.number �
 new_own [] = tt
 new_own (p ∷ ps) = (refl, new_own ps)
 
--- what is stored is there
-there_is : (o : Option HandlerState) (s : HandlerState) → stored_of o ≡ Holds s → o ≡ Some s
-there_is None s e = absurd (cc)
-there_is (Some t) s e = let same : t ≡ s = cc in ap Some same
-
 -- another handler's state stays
 other_stays : (k l : MemoryRecord) (x s : Site) → ((number_of x).0 ≡ s.stored.number.0 → ⊥) → Keeps (Has k) (Has l) s.stored → HasState k x → HasState l x
 other_stays k l x s off stores has =
     let n : ℕ = (number_of x).0 in
-    record { state = there_is (state_at l n) x.stored ((stores.others n off (Holds x.stored)).0 (ap stored_of has.state)) }
+    record { state = holds_is (state_at l n) x.stored ((stores.others n off (Holds x.stored)).0 (ap stored_of has.state)) }
 
 -- the states of the handlers before it stay, and its own is there
 more_states :
@@ -40,7 +35,7 @@ more_states :
     → AllByRecursion (HasState l) (take i sites ++ s ∷ [])
 more_states k l [] i s at apart own stores all = absurd (cc)
 more_states k l (x ∷ xs) zero s at apart own stores all =
-    (record { state = ap (λ (h : HandlerId). state_at l h.0) (sym own) ∙ there_is (state_at l s.stored.number.0) s.stored stores.there }, tt)
+    (record { state = ap (λ (h : HandlerId). state_at l h.0) (sym own) ∙ holds_is (state_at l s.stored.number.0) s.stored stores.there }, tt)
 more_states k l (x ∷ xs) (suc i) s at apart own stores all =
     let named : slice_get (map number_of xs) i ≡ Some (number_of s) =
     slice_get-map number_of xs i ∙ ap (λ o. elim o as (λ _. Option HandlerId) [ None ↦ None | Some y ↦ Some (number_of y) ]) at in

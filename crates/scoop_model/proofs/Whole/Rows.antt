@@ -1,15 +1,14 @@
 -- Every row of the table by which a handler hears keeps what is so of the slots.
-use Rattle.std.proofs.Common.{◌≡◌, ℕ, ◌+◌, ◌-◌, ◌<◌, false, List, [], ◌∷◌, ◌++◌, length, take, drop, Some, sym, ap, ◌∙◌, subst, arith}
+use Rattle.std.proofs.Common.{◌≡◌, ℕ, ◌+◌, ◌-◌, ◌<◌, false, List, [], ◌∷◌, ◌++◌, length, Some, sym, ap, ◌∙◌, subst, arith}
 use Rattle.std.specs.Prelude.{option_to_list}
 use Rattle.std.specs.List.{AllByRecursion}
-use Rattle.std.proofs.lemmas.List.{length-drop, take-append-drop}
+use Rattle.std.proofs.lemmas.List.{length-drop}
 use Rattle.scoop_message.specs.declared.name.Block.{Block}
 use Rattle.scoop_message.specs.declared.name.HandlerId.{HandlerId}
 use Rattle.scoop_message.specs.declared.request.Entry.{Entry}
 use Rattle.scoop_message.specs.declared.message.Message.{Message}
 use Rattle.scoop_message.specs.declared.message.Message.TheVariants.{Logged}
 use Rattle.scoop_message.specs.Entries.{ends, last_number}
-use Rattle.scoop_queue.proofs.Ends.{ends-append}
 use Rattle.scoop_handler.specs.declared.mark.Mark.{Mark}
 use Rattle.scoop_handler.specs.Growing.{MarksGrow}
 use Rattle.scoop_handler.specs.Marks.{block_of, is_open, mark_of, opened_mark, set_mark, with_received}
@@ -17,6 +16,7 @@ use Rattle.scoop_handler.specs.State.{HandlerState, IsState, IsUnusedUnlessOpen}
 use Rattle.scoop_handler.specs.Hearing.{Hearing, greeting_mark, is_closed, new_entries}
 use Rattle.scoop_handler.specs.Rows.{Row, IsLogAt, IsNext, newer_greeting, is_opened, is_taken}
 use Rattle.scoop_handler.proofs.MarkLists.{mark_of-client, mark_of-set_mark_own, All-mark_of}
+use Rattle.scoop_handler.proofs.States.{ends-drop}
 use Rattle.scoop_handler.proofs.TableLaws.{grows-row, block_of-same}
 use Rattle.scoop_model.specs.World.{greatest_count}
 use Rattle.scoop_model.proofs.Basics.{first_false}
@@ -39,9 +39,6 @@ slots_moved ms ns h old new ss alike grows all =
     all_more_of (SlotWhole ms h old) (SlotWhole ns h new) (λ t w. slot_more ms ns h old new t grows (alike.counted t.block) w) ss all
 
 -- ---- a Log is taken
-
-ends-drop : (i : ℕ) (es : List Entry) → 0 < length (drop i es) → ends (drop i es) ≡ ends es
-ends-drop i es some = sym (ends-append (take i es) (drop i es) some) ∙ ap ends (take-append-drop i es)
 
 module _
     (ms : List Message) (s : HandlerState) (b : Block) (n : ℕ) (es : List Entry) (k : Mark) (at : IsLogAt s b k) (next : IsNext k n es)

@@ -1,5 +1,5 @@
 use Rattle.scoop_system.specs.NamedHandlers.{nobody}
-use Rattle.scoop_system.proofs.Start.{padded_start}
+use Rattle.scoop_object.proofs.Start.{padded_start}
 use Rattle.scoop_system.proofs.named_handlers.NamedHandlers.of.Goals as goal
 
 pub invariant_of-result : goal.invariant_of-result
