@@ -11,7 +11,7 @@ use Rattle.std.proofs.lemmas.Option.{slice_get-get_or}
 use Rattle.scoop_message.specs.declared.limits.TheConstants.{MAX_FRAME, BUFFER_LEN}
 use Rattle.scoop_message.specs.declared.name.HandlerId.{HandlerId}
 use Rattle.scoop_message.specs.declared.message.Message.{Message}
-use Rattle.scoop_message.specs.declared.message.Message.TheVariants.{Hello, Welcome, Lock, Locked, Busy, Open, Opened, Unlock, Unlocked, Log, Logged, Answer}
+use Rattle.scoop_message.specs.declared.message.Message.TheVariants.{Lock, Open, Unlock, Log}
 use Rattle.scoop_frame.specs.declared.version.Version.{Version}
 use Rattle.scoop_frame.specs.declared.version.Version.TheVariants.{One, Two}
 use Rattle.scoop_frame.specs.Version.{Carries}
@@ -41,18 +41,8 @@ CarriesAny v None = ⊤
 CarriesAny v (Some m) = Carries v m
 
 two_carries : (m : Message) → Carries Two m
-two_carries (Hello h c inc) = tt
-two_carries (Welcome h c inc) = tt
-two_carries (Lock h b) = tt
-two_carries (Locked h b) = tt
-two_carries (Busy h b) = tt
-two_carries (Open h b) = tt
-two_carries (Opened h b) = tt
-two_carries (Unlock h b) = tt
-two_carries (Unlocked h b) = tt
 two_carries (Log h b n es) = tt
-two_carries (Logged h b n) = tt
-two_carries (Answer h b n a) = tt
+two_carries m = tt
 
 any_carried : (o : Option Message) → CarriesAny Two o
 any_carried None = tt

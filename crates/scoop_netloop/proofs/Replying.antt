@@ -1,7 +1,7 @@
 -- What is true of the replies to messages that came as frames.
 use Rattle.std.proofs.Common.{◌≡◌, ℕ, List, Some, sym, subst}
 use Rattle.scoop_message.specs.declared.message.Message.{Message}
-use Rattle.scoop_message.specs.declared.message.Message.TheVariants.{Hello, Welcome, Lock, Locked, Busy, Open, Opened, Unlock, Unlocked, Log, Logged, Answer}
+use Rattle.scoop_message.specs.declared.message.Message.TheVariants.{Log}
 use Rattle.scoop_message.specs.Message.{Fits}
 use Rattle.scoop_message.specs.Range.{IsMessage}
 use Rattle.scoop_frame.specs.declared.version.Version.{Version}
@@ -17,18 +17,8 @@ use Rattle.scoop_book.specs.declared.event.Reply.TheVariants.{Heard}
 use Rattle.scoop_book.specs.Moves.{LocalHandler, Moves}
 
 has_entries : (m : Message) → IsMessage m → HasEntries m
-has_entries (Hello h c inc) is = tt
-has_entries (Welcome h c inc) is = tt
-has_entries (Lock h b) is = tt
-has_entries (Locked h b) is = tt
-has_entries (Busy h b) is = tt
-has_entries (Open h b) is = tt
-has_entries (Opened h b) is = tt
-has_entries (Unlock h b) is = tt
-has_entries (Unlocked h b) is = tt
 has_entries (Log h b n es) is = (is.1.some, is.1.end)
-has_entries (Logged h b n) is = tt
-has_entries (Answer h b n a) is = tt
+has_entries m is = tt
 
 -- a message that a handler heard is replied to as the table says
 replies_moved : (v : Version) (m : Message) (bytes : List ℕ) (told : HeardMessage) (hs ks : List LocalHandler)
@@ -43,18 +33,8 @@ pub reply_fits : (v : Version) (m : Message) (bytes : List ℕ) (told : HeardMes
 reply_fits v m bytes told hs ks reply is moved e = (replies_moved v m bytes told hs ks is moved reply e).fits is.fits
 
 carried : (v : Version) (m reply : Message) → IsReplyTo m reply → Carries v reply
-carried v m (Hello h c inc) is = tt
-carried v m (Welcome h c inc) is = tt
-carried v m (Lock h b) is = tt
-carried v m (Locked h b) is = tt
-carried v m (Busy h b) is = tt
-carried v m (Open h b) is = tt
-carried v m (Opened h b) is = tt
-carried v m (Unlock h b) is = tt
-carried v m (Unlocked h b) is = tt
 carried v m (Log h b n es) is = absurd (let f = is.to_client in cc)
-carried v m (Logged h b n) is = tt
-carried v m (Answer h b n a) is = tt
+carried v m reply is = tt
 
 -- it is no Log, so that each version carries it
 pub reply_carried : (v : Version) (m : Message) (bytes : List ℕ) (told : HeardMessage) (hs ks : List LocalHandler) (reply : Message)

@@ -11,7 +11,7 @@ use Rattle.scoop_message.specs.declared.name.Block.{Block}
 use Rattle.scoop_message.specs.declared.name.ClientId.{ClientId}
 use Rattle.scoop_message.specs.declared.name.HandlerId.{HandlerId}
 use Rattle.scoop_message.specs.declared.message.Message.{Message}
-use Rattle.scoop_message.specs.declared.message.Message.TheVariants.{Hello, Welcome, Lock, Locked, Busy, Open, Opened, Unlock, Unlocked, Log, Logged, Answer}
+use Rattle.scoop_message.specs.declared.message.Message.TheVariants.{Hello, Welcome, Log}
 use Rattle.scoop_message.specs.Message.{client_of, handler_of, same_client, same_handler}
 use Rattle.scoop_message.proofs.Same.{client_decides, handler_decides}
 use Rattle.scoop_handler.specs.declared.mark.Mark.{Mark}
@@ -300,17 +300,7 @@ welcome_passes w h b (Welcome x c inc) g e =
       marked = ap (λ d. mark_of d g.site.core.state.marks) (sym own) ∙ r.found;
       newer = omega (arith, up, lt);
     }
-welcome_passes w h b (Hello x c inc) g e = absurd (true≢false (sym e))
-welcome_passes w h b (Lock x y) g e = absurd (true≢false (sym e))
-welcome_passes w h b (Locked x y) g e = absurd (true≢false (sym e))
-welcome_passes w h b (Busy x y) g e = absurd (true≢false (sym e))
-welcome_passes w h b (Open x y) g e = absurd (true≢false (sym e))
-welcome_passes w h b (Opened x y) g e = absurd (true≢false (sym e))
-welcome_passes w h b (Unlock x y) g e = absurd (true≢false (sym e))
-welcome_passes w h b (Unlocked x y) g e = absurd (true≢false (sym e))
-welcome_passes w h b (Log x y n es) g e = absurd (true≢false (sym e))
-welcome_passes w h b (Logged x y n) g e = absurd (true≢false (sym e))
-welcome_passes w h b (Answer x y n a) g e = absurd (true≢false (sym e))
+welcome_passes w h b m g e = absurd (true≢false (sym e))
 
 any_passes :
     (w : World) (h : HandlerId) (b : Block) (ms : List Message) → AllByRecursion (Greets w) ms → list_any (is_newer_welcome h b) ms ≡ true → IsPassed w h b

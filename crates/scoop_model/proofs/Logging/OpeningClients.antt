@@ -11,7 +11,7 @@ use Rattle.scoop_message.specs.declared.name.ClientId.{ClientId}
 use Rattle.scoop_message.specs.declared.name.HandlerId.{HandlerId}
 use Rattle.scoop_message.specs.declared.request.Entry.{Entry}
 use Rattle.scoop_message.specs.declared.message.Message.{Message}
-use Rattle.scoop_message.specs.declared.message.Message.TheVariants.{Hello, Welcome, Lock, Locked, Busy, Open, Opened, Unlock, Unlocked, Log, Logged, Answer}
+use Rattle.scoop_message.specs.declared.message.Message.TheVariants.{Hello, Open, Log}
 use Rattle.scoop_message.specs.Message.{same_block, same_handler}
 use Rattle.scoop_message.proofs.Same.{block_decides}
 use Rattle.scoop_reserve.specs.declared.stage.Stage.{Stage}
@@ -350,17 +350,7 @@ none_before w b none (m ∷ ms) all = ap (λ t. t || list_any (is_open_of b) ms)
         let there : handlers_of b w ≡ Some t.handlers = ap (λ z. handlers_of z w) (sym ((block_decides y b).0 e)) ∙ t.set in
         absurd (cc))
         (λ _ e. refl) refl
-    no_open (Hello h k inc) t = refl
-    no_open (Welcome h k inc) t = refl
-    no_open (Lock h y) t = refl
-    no_open (Locked h y) t = refl
-    no_open (Busy h y) t = refl
-    no_open (Opened h y) t = refl
-    no_open (Unlock h y) t = refl
-    no_open (Unlocked h y) t = refl
-    no_open (Log h y n es) t = refl
-    no_open (Logged h y n) t = refl
-    no_open (Answer h y n a) t = refl
+    no_open x t = refl
 
 pub has_filtered : (test : HandlerId → Bool) (hs : List HandlerId) (x : HandlerId) → has (filter test hs) x ≡ true → has hs x ≡ true
 has_filtered test [] x e = e

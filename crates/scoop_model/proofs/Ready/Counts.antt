@@ -7,7 +7,7 @@ use Rattle.std.proofs.lemmas.List.Folds.{list_any-append}
 use Rattle.scoop_message.specs.declared.name.Block.{Block}
 use Rattle.scoop_message.specs.declared.name.HandlerId.{HandlerId}
 use Rattle.scoop_message.specs.declared.message.Message.{Message}
-use Rattle.scoop_message.specs.declared.message.Message.TheVariants.{Hello, Welcome, Lock, Locked, Busy, Open, Opened, Unlock, Unlocked, Log, Logged, Answer}
+use Rattle.scoop_message.specs.declared.message.Message.TheVariants.{Logged}
 use Rattle.scoop_message.specs.Message.{handler_of, same_block, same_handler}
 use Rattle.scoop_message.proofs.Same.{handler_decides}
 use Rattle.scoop_handler.specs.State.{HandlerState}
@@ -77,17 +77,7 @@ reply_silent w s here (Some (Logged x y n)) t h b off =
     absurd (true≢false (sym there ∙ off)))
     (λ _ other. refl) refl)
     (λ _ elsewhere. refl) refl
-reply_silent w s here (Some (Hello x c inc)) t h b off = refl
-reply_silent w s here (Some (Welcome x c inc)) t h b off = refl
-reply_silent w s here (Some (Lock x y)) t h b off = refl
-reply_silent w s here (Some (Locked x y)) t h b off = refl
-reply_silent w s here (Some (Busy x y)) t h b off = refl
-reply_silent w s here (Some (Open x y)) t h b off = refl
-reply_silent w s here (Some (Opened x y)) t h b off = refl
-reply_silent w s here (Some (Unlock x y)) t h b off = refl
-reply_silent w s here (Some (Unlocked x y)) t h b off = refl
-reply_silent w s here (Some (Log x y n es)) t h b off = refl
-reply_silent w s here (Some (Answer x y n a)) t h b off = refl
+reply_silent w s here (Some m) t h b off = refl
 
 module _ (w : World) (i : Openings w) (counts : Counts w) (m : Message) (s : Site) (found : site_of (handler_of m) w ≡ Some s) where
   abbrev now : Hearing

@@ -8,7 +8,7 @@ use Rattle.scoop_message.specs.declared.name.Block.{Block}
 use Rattle.scoop_message.specs.declared.name.ClientId.{ClientId}
 use Rattle.scoop_message.specs.declared.name.HandlerId.{HandlerId}
 use Rattle.scoop_message.specs.declared.message.Message.{Message}
-use Rattle.scoop_message.specs.declared.message.Message.TheVariants.{Hello, Welcome, Lock, Locked, Busy, Open, Opened, Unlock, Unlocked, Log, Logged, Answer}
+use Rattle.scoop_message.specs.declared.message.Message.TheVariants.{Welcome, Logged}
 use Rattle.scoop_message.specs.Message.{handler_of, is_for_handler, same_block, same_client, same_handler}
 use Rattle.scoop_message.proofs.Same.{block_decides, client_decides, handler_decides}
 use Rattle.scoop_model.specs.World.{is_newer_welcome, count_in, greatest_count}
@@ -36,32 +36,12 @@ count_other x h y b n apart =
 -- nor is one told by a message of another handler
 count_elsewhere : (h : HandlerId) (b : Block) (m : Message) → (handler_of m ≡ h → ⊥) → count_in h b m ≡ 0
 count_elsewhere h b (Logged x y n) apart = count_other x h y b n (λ e f. apart e)
-count_elsewhere h b (Hello x c inc) apart = refl
-count_elsewhere h b (Welcome x c inc) apart = refl
-count_elsewhere h b (Lock x y) apart = refl
-count_elsewhere h b (Locked x y) apart = refl
-count_elsewhere h b (Busy x y) apart = refl
-count_elsewhere h b (Open x y) apart = refl
-count_elsewhere h b (Opened x y) apart = refl
-count_elsewhere h b (Unlock x y) apart = refl
-count_elsewhere h b (Unlocked x y) apart = refl
-count_elsewhere h b (Log x y n es) apart = refl
-count_elsewhere h b (Answer x y n a) apart = refl
+count_elsewhere h b m apart = refl
 
 -- or by one that goes to a handler
 count_of_client : (h : HandlerId) (b : Block) (m : Message) → is_for_handler m ≡ true → count_in h b m ≡ 0
-count_of_client h b (Hello x c inc) goes = refl
-count_of_client h b (Welcome x c inc) goes = refl
-count_of_client h b (Lock x y) goes = refl
-count_of_client h b (Locked x y) goes = refl
-count_of_client h b (Busy x y) goes = refl
-count_of_client h b (Open x y) goes = refl
-count_of_client h b (Opened x y) goes = refl
-count_of_client h b (Unlock x y) goes = refl
-count_of_client h b (Unlocked x y) goes = refl
-count_of_client h b (Log x y n es) goes = refl
 count_of_client h b (Logged x y n) goes = absurd (true≢false (sym goes))
-count_of_client h b (Answer x y n a) goes = refl
+count_of_client h b m goes = refl
 
 -- a welcome to a newer incarnation
 newer_welcome : (h : HandlerId) (b : Block) (c : ClientId) (inc : ℕ) → b.client ≡ c → b.inc < inc → is_newer_welcome h b (Welcome h c inc) ≡ true
