@@ -28,9 +28,9 @@ pub struct Serving {
 }
 
 impl Serving {
-    /// By so many threads beside the one that receives, 1 to 64; with a history of so many entries at most, 2 to
-    /// 1,000,000, behind which the node is opened again; and for so many turns of its loop, at least one. Its record may
-    /// be new: it doesn't go on. Refused is the first number that is out of its range.
+    /// By so many threads beside the one that receives, 1 to `MAX_EXECUTORS`; with a history of so many entries at most,
+    /// `MIN_HISTORY` to `MAX_HISTORY`, behind which the node is opened again; and for so many turns of its loop, at least
+    /// one. Its record may be new: it doesn't go on. Refused is the first number that is out of its range.
     pub fn new(executors: u32, history: usize, turns: u64) -> Result<Serving, OutOfRange>
         ensures ranges { MatchResult result (λ s. serving_fault executors history turns ≡ None)
             (λ range. serving_fault executors history turns ≡ Some range) }

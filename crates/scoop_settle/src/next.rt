@@ -131,6 +131,7 @@ pub fn next_of<B: Behaviour, A: Allocator + Copy>(
     ensures next { IfOk result (λ next. next ≡ next_of world.now) }
     ensures calm { IfOk result (λ next. (next ≡ None) ↔ Calm world.now) }
 {
+    // For the prover: where it is calm nothing is next, and the other way round.
     calm_has_no_next();
     let states = world.states()?;
     Ok(first_of(world, &states))
