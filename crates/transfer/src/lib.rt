@@ -4,14 +4,16 @@
 //! way a message is lost and another comes twice. The chart of the run is drawn as it goes.
 //!
 //! ```
-//! let Ok(mut transfer) = Transfer::open(rt.alloc(), 100, 0) else {
-//!     panic!(&rt; "no accounts");
-//! };
-//! // 30 are paid, and the second account has 30 then
-//! assert_eq!(rt; transfer.pay(amount), Ok(Some(Answer::Value(balance))));
+//! // one account holds 100, the other nothing, and the client has greeted both
+//! let mut transfer = Transfer::open(alloc, 100, 0)?;
+//! // what is paid is answered by what the second account holds then
+//! assert_eq!(rt; transfer.pay(30), Ok(Some(Answer::Value(30))));
+//! assert_eq!(rt; transfer.pay(20), Ok(Some(Answer::Value(50))));
+//! // the chart of all that has happened, from the first greeting on
 //! let mut picture = Vec::new(alloc);
 //! assert!(rt; transfer.draw(&mut picture).is_ok());
 //! assert!(rt; picture.starts_with(b"<svg "));
+//! assert!(rt; has_line(&picture, b"<text x=\"16\" y=\"76\">tick</text>"));
 //! ```
 #![tactic(auto)]
 
