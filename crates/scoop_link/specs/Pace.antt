@@ -3,6 +3,7 @@ use Rattle.std.specs.Prelude.{ℕ, ◌+◌, ◌-◌, ◌^◌, min, nat_lt, nat_l
 use Rattle.std.specs.Prelude.{slice_set, bytes_eq, Option, Some, None, Result, Ok, Err, if◌then◌else◌}
 use Rattle.scoop_link.specs.declared.party.Party.{Party}
 use Rattle.scoop_link.specs.declared.link.LinkFault.{LinkFault}
+use Rattle.scoop_link.specs.declared.pace.TheConstants.{MAX_IN_A_ROW}
 use Rattle.scoop_link.specs.declared.pace.Last.{Last}
 use Rattle.scoop_link.specs.Party.{same_party}
 
@@ -68,9 +69,9 @@ silenced l = record l { silent = true }
 abbrev pub after_silence : PaceValue → PaceValue
 after_silence p = record p { lasts = map silenced p.lasts; passed = 0; received = 0 }
 
--- the 64th datagram in a row without a silence counts as one
+-- the last of so many datagrams in a row without a silence counts as one
 abbrev pub after_datagram : PaceValue → PaceValue
-after_datagram p = if nat_lt p.received 63 then record p { received = p.received + 1 } else after_silence p
+after_datagram p = if nat_lt p.received (MAX_IN_A_ROW - 1) then record p { received = p.received + 1 } else after_silence p
 
 -- a call that fails changes nothing
 

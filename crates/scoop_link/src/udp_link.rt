@@ -130,12 +130,10 @@ impl<A: Allocator> UdpLink<A> {
         if lacks_port(peers.table) {
             return Err(OpenLinkError::Fault);
         }
-        let Ok(socket) = socket_at(rt, local(peers.own)) else {
-            return Err(OpenLinkError::Fault);
-        };
-        let Ok(addresses) = local_addresses(alloc, peers.table) else {
-            return Err(OpenLinkError::OutOfMemory);
-        };
+        let socket = socket_at(rt, local(peers.own)).map_err(|_| OpenLinkError::Fault)?;
+        let addresses = local_addresses(alloc, peers.table).map_err(
+            |_| OpenLinkError::OutOfMemory,
+        )?;
         Ok(UdpLink {
             socket,
             addresses,
@@ -156,12 +154,10 @@ impl<A: Allocator> UdpLink<A> {
         if lacks_port_at(addresses.table) {
             return Err(OpenLinkError::Fault);
         }
-        let Ok(socket) = socket_at(rt, addresses.own) else {
-            return Err(OpenLinkError::Fault);
-        };
-        let Ok(addresses) = Vec::from_slice(alloc, addresses.table) else {
-            return Err(OpenLinkError::OutOfMemory);
-        };
+        let socket = socket_at(rt, addresses.own).map_err(|_| OpenLinkError::Fault)?;
+        let addresses = Vec::from_slice(alloc, addresses.table).map_err(
+            |_| OpenLinkError::OutOfMemory,
+        )?;
         Ok(UdpLink {
             socket,
             addresses,
