@@ -124,9 +124,7 @@ fn hear_over<B: Behaviour, A: Allocator + Copy, K: Keeper<A>>(
 {
     // For the prover: the handler is sound.
     let _number = handler.number();
-    let Ok(heard) = handler.hear(message) else {
-        return Err(KeeperError::OutOfMemory);
-    };
+    let heard = handler.hear(message)?;
     if is_stored && leaves_state(heard.note) {
         return Ok(heard);
     }
@@ -161,9 +159,7 @@ pub fn hear_beside<B: Behaviour, A: Allocator + Copy, K: Keeper<A>>(
     ensures job { job_out handler.new ≡ job_out handler.old }
     ensures beside { IfSome beside.new (λ s. s ≡ handler.new.state) }
 {
-    let Ok(()) = fill_beside(handler, beside) else {
-        return Err(KeeperError::OutOfMemory);
-    };
+    fill_beside(handler, beside)?;
     let Some(before) = beside else { unreachable!() };
     match hear_over(handler, before, keeper, is_stored, message) {
         Ok(heard) => {
@@ -199,9 +195,7 @@ pub fn hear_and_store<B: Behaviour, A: Allocator + Copy, K: Keeper<A>>(
     ensures honest { K.is_honest keeper.new → K.is_honest keeper.old }
     ensures job { job_out handler.new ≡ job_out handler.old }
 {
-    let Ok(mut before) = handler.copy() else {
-        return Err(KeeperError::OutOfMemory);
-    };
+    let mut before = handler.copy()?;
     hear_over(handler, &mut before, keeper, is_stored, message)
 }
 
