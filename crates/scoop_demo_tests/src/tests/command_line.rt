@@ -173,6 +173,7 @@ const HELP: [Case; 8] = [
 
 // The error with which a command line ends that isn't taken.
 fn ended(rt: &impl Abort, alloc: Global, line: &[&str]) -> Error {
+    // what is wrong with a command line, and its help, is an error with a text and the program's status
     let names = DemoClass::names();
     let command = match command(alloc, &names) {
         Ok(command) => command,

@@ -28,6 +28,7 @@ fn answers(rt: &impl Abort, book: &mut Book<Table, MemoryKeeper>) -> Result<(), 
 }
 
 fn reaches(rt: &impl Abort, driver: &mut Looped) -> Result<(), Fail> {
+    // its first turn greets the handler, and then it reserves
     assert_eq!(rt; driver.turn()?, Some(ClientNote::Welcomed(ONE)));
     driver.reserve(&[ONE])?;
     Ok(())
