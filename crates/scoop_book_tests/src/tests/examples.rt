@@ -9,9 +9,11 @@ use std::process::Abort;
 use std::test::Fail;
 
 fn sends(book: &mut MemoryBook) -> Result<(), Fail> {
+    // Names types that are held here, of which the prover has to be told.
     let _parts: Option<(Message, Heard, Ran)> = None;
     let block = block(7);
     let args = Args::of(&[5])?;
+    // handler 1 of the book has a cell, and block 1 of client 7 makes its word 5
     book.step(0, Event::Hear(Message::Hello(ONE, ClientId(7), 1)))?;
     book.step(0, Event::Hear(Message::Lock(ONE, block)))?;
     book.step(0, Event::Hear(Message::Open(ONE, block)))?;
@@ -29,8 +31,8 @@ fn runs(rt: &impl Abort, book: &mut MemoryBook) -> Result<(), Fail> {
     Ok(())
 }
 
-// What the handler has come to is stored.
 fn stored(book: MemoryBook) -> Option<u64> {
+    // what the handler has come to is stored
     let state = book.into_keeper().load_handler(ONE).ok()??;
     state.words().get(0)
 }

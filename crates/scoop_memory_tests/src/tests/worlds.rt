@@ -209,6 +209,7 @@ fn told_in<A: Allocator + Copy>(
     alloc: Global,
     world: &mut World<Table, A>,
 ) -> Result<Vec<Event>, Fail> {
+    // Names types that are held here, of which the prover has to be told.
     let _parts: Parts = None;
     let mut events = Vec::new(alloc);
     for act in STORY {
@@ -243,6 +244,7 @@ struct Happening<'w, 'a> {
 
 impl Calling for Happening<'_, '_> {
     fn call(&mut self, text: &mut String) -> Result<bool, Fail> {
+        // Names types that are held here, of which the prover has to be told.
         let _parts: Parts = None;
         let stepped = stepped(self.world, self.event);
         answered(text, stepped, &WorldError::OutOfMemory)

@@ -68,6 +68,7 @@ fn happens(
     pass: u32,
     event: &Event,
 ) -> Option<Reply> {
+    // Names types that are held here, of which the prover has to be told.
     let _parts: Option<(Message, Heard, Ran)> = None;
     match *event {
         Event::Hear(message) => book.step(pass, Event::Hear(message)).ok(),

@@ -71,6 +71,7 @@ fn altered_at(party: &Party, at: usize, place: usize) -> Option<Traffic> {
 
 // The party, but the move at this place hears the greeting of a stranger.
 fn altered(alloc: Global, party: &Party, place: usize) -> Result<Party, Fail> {
+    // Names types that are held here, of which the prover has to be told.
     let _parts: Option<Message> = None;
     let mut moves = Vec::new(alloc);
     for at in 0..party.len() {

@@ -73,6 +73,7 @@ fn is_logged<A: Allocator + Copy>(world: &World<Table, A>, handler: HandlerId, r
 }
 
 fn put_down(list: &mut Vec<Ran>, ran: &Ran) -> Result<(), Fault> {
+    // Names types that are held here, of which the prover has to be told.
     let _nested: Option<(Entry, Request)> = None;
     match list.push(*ran) {
         Ok(()) => Ok(()),
@@ -91,6 +92,7 @@ fn ran_at<A: Allocator + Copy>(
     world: &World<Table, A>,
     handler: HandlerId,
 ) -> Result<&[Ran], Fault> {
+    // Names types that are held here, of which the prover has to be told.
     let _nested: Option<(Entry, Request)> = None;
     world.ran(handler).ok_or("a handler has gone")
 }
@@ -201,6 +203,7 @@ impl Site {
         &mut self,
         world: &World<Table, A>,
     ) -> Result<usize, Fault> {
+        // Names types that are held here, of which the prover has to be told.
         let _nested: Option<(Entry, Request)> = None;
         let Some(ran) = newest(&self.ran, ran_at(world, self.handler)?)? else {
             return Ok(0);
@@ -245,6 +248,7 @@ impl Site {
 
     /// Whether the same has happened.
     pub fn same(&self, other: &Site) -> bool {
+        // Names types that are held here, of which the prover has to be told.
         let _nested: Option<(Entry, Request)> = None;
         self.opened.as_slice() == other.opened.as_slice()
             && self.ran.as_slice() == other.ran.as_slice()
