@@ -38,3 +38,11 @@ find_passes p (y ∷ ys) x e =
 pub key_found : {A K : Type 0} (key : A → K) (same : K → K → Bool) (decides : (a b : K) → Decides (same a b) (a ≡ b)) (k : K) (xs : List A) (a : A)
     → find (λ x. same (key x) k) xs ≡ Some a → key a ≡ k
 key_found key same decides k xs a e = (decides (key a) k).0 (find_passes (λ x. same (key x) k) xs a e)
+
+-- what is so of all is so of the one that is found
+pub all_found : {A : Type 0} (P : A → Type 0) (test : A → Bool) (xs : List A) (a : A) → AllByRecursion P xs → find test xs ≡ Some a → P a
+all_found P test [] a all e = absurd (none-some _ e)
+all_found P test (x ∷ xs) a all e =
+    by_test (λ t. cond t (Some x) (find test xs) ≡ Some a → P a) (test x)
+    (λ here f. let p : x ≡ a = cc in subst P p all.0)
+    (λ there f. all_found P test xs a all.1 f) e

@@ -19,7 +19,7 @@ use Rattle.scoop_queue.proofs.Lookup.{same_block-true, same_block-refl, absent-f
 use Rattle.scoop_handler.specs.declared.mark.Mark.{Mark}
 use Rattle.scoop_handler.specs.Marks.{is_open, block_of, mark_of, set_mark, add_mark}
 use Rattle.scoop_handler.specs.State.{IsUnused, IsNotAbove, FitsMark, HasMark}
-use Rattle.scoop_handler.proofs.Basics.{all_append}
+use Rattle.scoop_handler.proofs.Basics.{all_append, all_found}
 use Rattle.scoop_handler.proofs.MarkLists.{client_from_same, mark_of-set_mark_own, mark_of-set_mark_other, mark_of-add_mark_other}
 
 -- ---- blocks
@@ -183,17 +183,9 @@ pub none_of : (P : PrivateQueue → Type 0) (b : Block) (qs : List PrivateQueue)
 none_of P b [] apart all = refl
 none_of P b (q ∷ qs) apart all = rw (apart q all.0) (none_of P b qs apart all.1)
 
-found-first : (P : PrivateQueue → Type 0) (b : Block) (q x : PrivateQueue) (qs : List PrivateQueue) → P x → queue_of b (x ∷ qs) ≡ Some q
-    → (queue_of b qs ≡ Some q → P q) → P q
-found-first P b q x qs first found rest = by_test (is_queue_of b x) refl found where
-  by_test : (t : Bool) → is_queue_of b x ≡ t → cond t (Some x) (queue_of b qs) ≡ Some q → P q
-  by_test true is here = let same : x ≡ q = cc in subst P same first
-  by_test false is later = rest later
-
 -- the block's private queue is one of them
 pub All-found : (P : PrivateQueue → Type 0) (b : Block) (q : PrivateQueue) (qs : List PrivateQueue) → AllByRecursion P qs → queue_of b qs ≡ Some q → P q
-All-found P b q [] all found = absurd (let never : ⊥ = cc in never)
-All-found P b q (x ∷ xs) all found = found-first P b q x xs all.0 found (λ later. All-found P b q xs all.1 later)
+All-found P b q qs all found = all_found P (is_queue_of b) qs q all found
 
 -- a private queue that takes more
 pub open_queue : (b : Block) (qs : List PrivateQueue) → has_open b qs ≡ true → (q : PrivateQueue) × (queue_of b qs ≡ Some q) × (takes_more q.state ≡ true)

@@ -14,7 +14,7 @@ use Rattle.scoop_message.proofs.Same.{client_decides}
 use Rattle.scoop_handler.specs.declared.mark.Mark.{Mark}
 use Rattle.scoop_handler.specs.Marks.{mark_of, newer_mark, set_mark, add_mark, place_of}
 use Rattle.scoop_handler.specs.State.{IsAscending}
-use Rattle.scoop_handler.proofs.Basics.{find_passes}
+use Rattle.scoop_handler.proofs.Basics.{all_found, find_passes}
 
 -- ---- clients
 
@@ -166,12 +166,7 @@ IsAscending-add_mark k (x ∷ xs) none up =
 -- ---- facts of each mark
 
 pub All-mark_of : (P : Mark → Type 0) (c : ClientId) (marks : List Mark) (k : Mark) → AllByRecursion P marks → mark_of c marks ≡ Some k → P k
-All-mark_of P c [] k all found = absurd (none-some _ found)
-All-mark_of P c (x ∷ xs) k all found =
-    elim (same_client x.client c) as (λ b. cond b (Some x) (mark_of c xs) ≡ Some k → P k) [
-      | true ↦ λ here. let same : x ≡ k = cc in subst P same all.0
-      | false ↦ λ later. All-mark_of P c xs k all.1 later
-    ] found
+All-mark_of P c marks k all found = all_found P (λ x. same_client x.client c) marks k all found
 
 pub All-set_mark : (P Q : Mark → Type 0) (k : Mark) (marks : List Mark) → Q k → ((x : Mark) → same_client x.client k.client ≡ false → P x → Q x)
     → AllByRecursion P marks → AllByRecursion Q (set_mark k marks)

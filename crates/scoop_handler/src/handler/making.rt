@@ -64,7 +64,7 @@ impl<B: Behaviour, A: Allocator> Handler<B, A> {
     /// as the class has. It hands the object back as it was.
     pub fn restart(
         class: Class,
-        object: B,
+        mut object: B,
         state: HandlerState<A>,
     ) -> Result<Handler<B, A>, WrongClass<B>>
         ensures accepted { IsOk result ↔ ((B.class object ≡ class) × FitsClass class state) }
@@ -74,7 +74,6 @@ impl<B: Behaviour, A: Allocator> Handler<B, A> {
         if !object.has_class(&class) || state.words.len() != class.words() {
             return Err(WrongClass(object));
         }
-        let mut object = object;
         set_words(&mut object, state.words);
         Ok(Handler {
             class,

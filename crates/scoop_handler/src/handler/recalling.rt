@@ -40,7 +40,11 @@ impl<B: Behaviour, A: Allocator> Handler<B, A> {
     /// Refused exactly where no job is out, where the handler's number or the object's class differs,
     /// or where the words are not as many as the class has. Object and state are handed back, and
     /// nothing changes.
-    pub fn recall(&mut self, object: B, state: HandlerState<A>) -> Result<(), (B, HandlerState<A>)>
+    pub fn recall(
+        &mut self,
+        mut object: B,
+        state: HandlerState<A>,
+    ) -> Result<(), (B, HandlerState<A>)>
         ensures accepted { IsOk result ↔ MayRecall (B.class object) state self.old }
         ensures state { OnOk result (self.new ≡ core_of self.old.class state false) }
         ensures refused { IfErr result (λ e. (self.new ≡ self.old) × ((e.0 ≡ object) × (e.1 ≡ state))) }
@@ -49,7 +53,6 @@ impl<B: Behaviour, A: Allocator> Handler<B, A> {
         if !self.may_recall(&object, &state) {
             return Err((object, state));
         }
-        let mut object = object;
         set_words(&mut object, state.words);
         self.presence = Presence::Here(object);
         self.holder = state.holder;
