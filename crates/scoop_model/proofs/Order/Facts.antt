@@ -8,7 +8,7 @@ use Rattle.scoop_message.specs.declared.name.Block.{Block}
 use Rattle.scoop_message.specs.declared.name.HandlerId.{HandlerId}
 use Rattle.scoop_message.specs.declared.message.Message.{Message}
 use Rattle.scoop_message.specs.declared.message.Message.TheVariants.{Lock, Locked, Open}
-pub use Rattle.scoop_handler.proofs.Basics.{all_at}
+pub use Rattle.scoop_handler.proofs.Basics.{all_at, all_found}
 use Rattle.scoop_reserve.specs.declared.stage.Stage.{Stage}
 use Rattle.scoop_reserve.specs.declared.stage.Stage.TheVariants.{Locking, Opening, Unlocking, GivingUp}
 use Rattle.scoop_reserve.specs.Handlers.{has}
@@ -128,13 +128,6 @@ pub all_pushed :
 all_pushed P [] None all one = tt
 all_pushed P [] (Some a) all one = (one a refl, tt)
 all_pushed P (x ∷ xs) o all one = (all.0, all_pushed P xs o all.1 one)
-
-pub all_found : {A : Type 0} (P : A → Type 0) (test : A → Bool) (xs : List A) (a : A) → AllByRecursion P xs → find test xs ≡ Some a → P a
-all_found P test [] a all e = absurd (cc)
-all_found P test (x ∷ xs) a all e =
-    by_test (λ t. (if t then Some x else find test xs) ≡ Some a → P a) (test x)
-    (λ here f. let p : x ≡ a = cc in subst P p all.0)
-    (λ there f. all_found P test xs a all.1 f) e
 
 pub all_set_site :
     (P Q : Site → Type 0) (s : Site) (sites : List Site) → Q s → ((x : Site) → P x → Q x) → AllByRecursion P sites → AllByRecursion Q (set_site s sites)
