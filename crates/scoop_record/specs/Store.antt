@@ -56,6 +56,10 @@ IsRecord db = db.schema ≡ record_schema
 abbrev pub IsFirstRecord : Database → Type 0
 IsFirstRecord db = db.schema ≡ first_schema
 
+-- a record of version 1, with whatever other rows
+abbrev pub IsOfVersionOne : Database → Type 0
+IsOfVersionOne db = IsFirstRecord db × (value_at (db.trees 0) 1 ≡ Some (Int (pos 1)))
+
 abbrev pub IsLaidOut : Database → Type 0
 IsLaidOut db = IsFirstRecord db ⊎ IsRecord db
 

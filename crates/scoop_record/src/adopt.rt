@@ -6,7 +6,7 @@ ghost use Rattle.sqlite.specs.Held.{state};
 ghost use Rattle.sqlite.specs.State.{Survives};
 ghost use Rattle.scoop_keeper.specs.Keeper.{IsAdoptError};
 ghost use Rattle.scoop_record.specs.Migrate.{Migrates, Adopts, IsLowestBad, IsWrongSchema};
-ghost use Rattle.scoop_record.specs.Store.{IsSound, IsReady, IsIdle, IsOpenOnOk, IsLaidOut};
+ghost use Rattle.scoop_record.specs.Store.{IsSound, IsReady, IsIdle, IsOpenOnOk, IsOfVersionOne, IsLaidOut};
 
 use crate::migrate::migrate;
 use crate::schema::{is_first_schema, is_record_schema};
@@ -24,6 +24,7 @@ fn take_tables<S: Alter>(alloc: Global, conn: &mut Connection<S>) -> Result<(), 
     ensures sound { IsSound (state S.Store conn.new) → IsSound (state S.Store conn.old) }
     ensures ready { OnOk result (IsReady (state S.Store conn.new)) }
     ensures is_open { IsOpenOnOk result (state S.Store conn.old) (state S.Store conn.new) }
+    ensures open_behind { IsOfVersionOne (state S.Store conn.old).now → IsOpenOnOk result (state S.Store conn.new) (state S.Store conn.new) }
     ensures adopted { IsSound (state S.Store conn.new) → OnOk result (Adopts (state S.Store conn.old).now (state S.Store conn.new).now) }
     ensures refused { IsSound (state S.Store conn.new) → OnErr result ((state S.Store conn.new).now ≡ (state S.Store conn.old).now) }
     ensures bad { IsSound (state S.Store conn.new) → (handler : HandlerId) → result ≡ Err (KeeperError.BadImage handler)
@@ -60,6 +61,7 @@ pub fn adopt_tables<S: Alter>(alloc: Global, conn: &mut Connection<S>) -> Result
     ensures mode { conn.new.in_transaction ≡ conn.old.in_transaction }
     ensures idle { OnOk result (IsIdle S.Store conn.new) }
     ensures is_open { IsOpenOnOk result (state S.Store conn.old) (state S.Store conn.new) }
+    ensures open_behind { IsOfVersionOne (state S.Store conn.old).now → IsOpenOnOk result (state S.Store conn.new) (state S.Store conn.new) }
     ensures adopted { IsSound (state S.Store conn.new) → OnOk result (Adopts (state S.Store conn.old).now (state S.Store conn.new).now) }
     ensures inside { IsTrue conn.old.in_transaction → (result ≡ Err KeeperError.Refused) × (conn.new ≡ conn.old) }
     ensures refused { IsSound (state S.Store conn.new) → OnErr result ((state S.Store conn.new).now ≡ (state S.Store conn.old).now) }

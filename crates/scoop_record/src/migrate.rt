@@ -9,7 +9,7 @@ ghost use Rattle.sqlite.specs.declared.types.Value.TheVariants.{Int};
 ghost use Rattle.sqlite_value.specs.Order.{column};
 ghost use Rattle.scoop_handler.specs.State.{IsState};
 ghost use Rattle.scoop_record.specs.Range.{InRange};
-ghost use Rattle.scoop_record.specs.Store.{IsSound, IsOpenOnOk, IsRecord, IsFirstRecord, Saves};
+ghost use Rattle.scoop_record.specs.Store.{IsSound, IsOpenOnOk, IsRecord, IsOfVersionOne, Saves};
 ghost use Rattle.scoop_record.specs.Tables.{value_at, Puts};
 ghost use Rattle.scoop_keeper.specs.Keeper.{IsPutError, IsAdoptError};
 ghost use Rattle.scoop_record.specs.Migrate.{keyed_value, SavesAll, Migrates, IsFirstRow, IsRising, IsNumber, AreNumbers, AreNumbered, IsBadRow, IsFirstBad};
@@ -101,8 +101,7 @@ fn put_states<S: Alter>(
 
 /// The tables of version 1 become those of version 2, in the transaction.
 fn migrate_in<S: Alter>(alloc: Global, tx: &mut Transaction<'_, S>) -> Result<(), KeeperError>
-    requires { IsSound (state S.Store tx.old.conn.now) → IsFirstRecord (state S.Store tx.old.conn.now).now
-        × (value_at ((state S.Store tx.old.conn.now).now.trees 0) 1 ≡ Some (Int (pos 1))) }
+    requires { IsSound (state S.Store tx.old.conn.now) → IsOfVersionOne (state S.Store tx.old.conn.now).now }
     ensures same_reference { tx.new.conn.ghost_name ≡ tx.old.conn.ghost_name }
     ensures migrated { HasCleanDisk (state S.Store tx.new.conn.now)
         → OnOk result (Migrates (state S.Store tx.old.conn.now).now (state S.Store tx.new.conn.now).now) }
@@ -133,8 +132,7 @@ fn migrate_in<S: Alter>(alloc: Global, tx: &mut Transaction<'_, S>) -> Result<()
 /// The tables of version 1 become those of version 2, in one transaction.
 pub(crate) fn migrate<S: Alter>(alloc: Global, conn: &mut Connection<S>) -> Result<(), KeeperError>
     requires mode { conn.old.in_transaction ≡ false }
-    requires first { IsSound (state S.Store conn.old) → IsFirstRecord (state S.Store conn.old).now
-        × (value_at ((state S.Store conn.old).now.trees 0) 1 ≡ Some (Int (pos 1))) }
+    requires first { IsSound (state S.Store conn.old) → IsOfVersionOne (state S.Store conn.old).now }
     requires settled { IsSound (state S.Store conn.old) → (state S.Store conn.old).now ≡ (state S.Store conn.old).committed }
     ensures mode { conn.new.in_transaction ≡ false }
     ensures sound { IsSound (state S.Store conn.new) → IsSound (state S.Store conn.old) }

@@ -40,7 +40,7 @@ impl<S: Alter + Drop> Store<S> {
     ghost use Rattle.sqlite.specs.State.{HasCleanDisk, Survives};
     ghost use Rattle.scoop_keeper.specs.Keeper.{IsPutError, IsAdoptError};
     ghost use Rattle.scoop_record.specs.Migrate.{Migrates, Adopts, IsLowestBad, IsWrongSchema};
-    ghost use Rattle.scoop_record.specs.Store.{IsSound, IsOpenOnOk, IsLaidOut, IsNewRecord};
+    ghost use Rattle.scoop_record.specs.Store.{IsSound, IsOpenOnOk, IsOfVersionOne, IsLaidOut, IsNewRecord};
 
     /// Makes the tables in a database that has none, in one transaction.
     ///
@@ -72,6 +72,8 @@ impl<S: Alter + Drop> Store<S> {
     /// refusal: what it leaves is said by [`adopt_tables`], which this calls.
     pub fn adopt(alloc: Global, mut conn: Connection<S>) -> Result<Store<S>, KeeperError>
         ensures is_open { IfOk result (λ store. HasCleanDisk (state S.Store store) → IsTrue (state S.Store conn).is_open) }
+        ensures open_behind { IfOk result (λ store. HasCleanDisk (state S.Store store) → IsOfVersionOne (state S.Store conn).now
+            → IsTrue (state S.Store store).is_open) }
         ensures adopted { IfOk result (λ store. IsSound (state S.Store store) → Adopts (state S.Store conn).now (state S.Store store).now) }
         ensures sound { IfOk result (λ store. IsSound (state S.Store store) → IsSound (state S.Store conn)) }
         ensures inside { IsTrue conn.in_transaction → result ≡ Err KeeperError.Refused }

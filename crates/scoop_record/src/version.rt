@@ -70,7 +70,7 @@ pub(crate) fn version<S: Alter>(conn: &mut Connection<S>) -> Result<Option<i64>,
     ensures same { IsSound (state S.Store conn.new) → ((state S.Store conn.new).now ≡ (state S.Store conn.old).committed)
         × ((state S.Store conn.new).committed ≡ (state S.Store conn.old).committed) }
     ensures is_open { IsOpenOnOk result (state S.Store conn.old) (state S.Store conn.new) }
-    ensures version { IsSound (state S.Store conn.new) → IfOk result (TellsVersion (state S.Store conn.old).now) }
+    ensures version { HasCleanDisk (state S.Store conn.new) → IfOk result (TellsVersion (state S.Store conn.old).now) }
     ensures named { IfErr result IsPutError }
     ensures survives { Survives (state S.Store conn.old) (state S.Store conn.new) (λ _. ⊥) }
 {

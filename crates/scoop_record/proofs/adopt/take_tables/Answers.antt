@@ -29,7 +29,7 @@ migrate-requires-clause-first g c sound =
     let read = state g.S.Store c.version.new.conn in
     let has : read.now.schema ≡ first_schema = sym c.schema-then-found-eq1.ensures.value ∙ c.is_first_schema.ensures c.if-is_first_schema.true in
     let same : read.now ≡ before.now = (c.version.ensures.same sound).0 ∙ sym (c.requires.settled (c.version.ensures.sound sound)) in
-    let told = c.in_ok-found.ensures.version sound (inl (ap (λ (d : Database). d.schema) (sym same) ∙ has)) in
+    let told = c.in_ok-found.ensures.version sound.0 (inl (ap (λ (d : Database). d.schema) (sym same) ∙ has)) in
     let one : c.in-Some.found ≡ pos 1 = grind (arith, ints) in (
       has,
       ap (λ (d : Database). value_at (d.trees 0) 1) same
@@ -43,7 +43,7 @@ returns-then-is_record_schema-clause-adopted g c sound =
     let read = state g.S.Store c.version.new.conn in
     let has : read.now.schema ≡ record_schema = sym c.schema.ensures.value ∙ c.is_record_schema.ensures c.if-is_record_schema.true in
     let same : read.now ≡ before.now = (c.version.ensures.same sound).0 ∙ sym (c.requires.settled (c.version.ensures.sound sound)) in
-    let told = c.in_ok-found.ensures.version sound (inr (ap (λ (d : Database). d.schema) (sym same) ∙ has)) in
+    let told = c.in_ok-found.ensures.version sound.0 (inr (ap (λ (d : Database). d.schema) (sym same) ∙ has)) in
     let two : c.in-Some.found ≡ pos 2 = grind (arith, ints) in
     record {
       schema = has;
@@ -51,6 +51,14 @@ returns-then-is_record_schema-clause-adopted g c sound =
           ∙ version_stands _ (pos 2) (subst (λ n. Some n ≡ number_of (value_at (before.now.trees 0) 1)) two (rw c.in-Some.is at told));
       kept = inl same;
     }
+
+-- the version is 1, and no record of version 2 is taken
+pub returns-then-is_record_schema-clause-open_behind : goal.returns-then-is_record_schema-clause-open_behind
+unfolding TellsVersion
+returns-then-is_record_schema-clause-open_behind g c first clean =
+    let told = rw first.1 at (rw c.in-Some.is at (c.in_ok-found.ensures.version clean (inl first.0))) in
+    let two : c.in-Some.found ≡ pos 2 = grind (arith, ints) in
+    absurd (grind (arith, ints))
 
 pub returns-then-is_first_schema-clause-bad : goal.returns-then-is_first_schema-clause-bad
 returns-then-is_first_schema-clause-bad g c sound handler is =
@@ -67,13 +75,13 @@ returns-then-is_first_schema-clause-wrong g c sound is laid =
 pub returns-in_default-clause-wrong : goal.returns-in_default-clause-wrong
 unfolding TellsVersion
 returns-in_default-clause-wrong g c sound is laid =
-    let told = rw c.in_default.is at (c.in_ok-found.ensures.version sound laid) in
+    let told = rw c.in_default.is at (c.in_ok-found.ensures.version sound.0 laid) in
     inl (λ e. absurd (let f = told ∙ e in cc), λ e. absurd (let f = told ∙ e in cc))
 
 pub returns-then-found-ne2-clause-wrong : goal.returns-then-found-ne2-clause-wrong
 unfolding TellsVersion
 returns-then-found-ne2-clause-wrong g c sound is laid =
-    let told = rw c.in-Some.is at (c.in_ok-found.ensures.version sound laid) in
+    let told = rw c.in-Some.is at (c.in_ok-found.ensures.version sound.0 laid) in
     inl (
       λ e. let f = told ∙ e in let one : c.in-Some.found ≡ pos 1 = cc in absurd (grind (arith, ints)),
       λ e. let f = told ∙ e in let two : c.in-Some.found ≡ pos 2 = cc in absurd (grind (arith, ints)),
