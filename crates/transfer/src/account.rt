@@ -32,9 +32,7 @@ pub(crate) fn class(alloc: Global) -> Result<Class, OutOfMemory> {
 
 /// An account that holds a balance.
 pub(crate) fn account(alloc: Global, balance: u64) -> Result<Table, OutOfMemory> {
-    let Ok(words) = Words::of(&[balance]) else {
-        return Err(OutOfMemory);
-    };
+    let words = Words::of(&[balance]).map_err(|_| OutOfMemory)?;
     Table::new(class(alloc)?, words).map_err(|_| OutOfMemory)
 }
 

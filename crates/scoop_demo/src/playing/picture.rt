@@ -61,9 +61,7 @@ impl Picture {
         if !self.is_wanted {
             return Ok(());
         }
-        let Ok(chart) = Chart::new(self.alloc, clients, handlers) else {
-            return Err(OutOfMemory);
-        };
+        let chart = Chart::new(self.alloc, clients, handlers).map_err(|_| OutOfMemory)?;
         self.chart = Some(chart);
         Ok(())
     }

@@ -21,15 +21,11 @@ pub fn settle<W: Write>(
     writer: &mut W,
 ) -> Result<(), Stop> {
     for _ in 0..u64::MAX {
-        let Ok(found) = next_of(world) else {
-            return Err(Stop::OutOfMemory);
-        };
+        let found = next_of(world).map_err(|_| Stop::OutOfMemory)?;
         let Some(next) = found else {
             return Ok(());
         };
-        let Ok(line) = said(alloc, next) else {
-            return Err(Stop::OutOfMemory);
-        };
+        let line = said(alloc, next).map_err(|_| Stop::OutOfMemory)?;
         let echo = Echo::unnumbered(echoes, &line);
         play(world, &line_of(next), echo, picture, writer)?;
     }
