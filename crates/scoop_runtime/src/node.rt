@@ -93,9 +93,8 @@ fn run_all<K: Keeper<Global>, R: Wait>(
     rt: &R,
     alloc: Global,
     plan: &NodePlan,
-    keeper: K,
+    mut keeper: K,
 ) -> Result<K, RuntimeError> {
-    let mut keeper = keeper;
     let mut left = plan.numbers.as_slice();
     for _ in rt.forever() {
         let (kept, rest) = run_once(alloc, plan, keeper, left)?;
@@ -114,9 +113,8 @@ fn run_first<K: Keeper<Global>, R: Wait>(
     alloc: Global,
     plan: &NodePlan,
     serving: &Serving,
-    keeper: K,
+    mut keeper: K,
 ) -> Result<K, RuntimeError> {
-    let mut keeper = keeper;
     if serving.goes_on() {
         require_handlers(plan, &mut keeper)?;
     } else {
@@ -194,7 +192,7 @@ fn serve_on<K, L, E, W, R>(
     alloc: Global,
     plan: &NodePlan,
     serving: &Serving,
-    keeper: K,
+    mut keeper: K,
     link: &mut PatientLink<L, E>,
     writer: &mut W,
 ) -> Result<K, RuntimeError>
@@ -205,7 +203,6 @@ where
     W: Write,
     R: Threads + Wait + Clock + Sync,
 {
-    let mut keeper = keeper;
     for _ in rt.forever() {
         let turns = serving.turns().saturating_sub(link.receives());
         let (end, kept) = serve_once(rt, alloc, plan, serving, keeper, link, turns)?;

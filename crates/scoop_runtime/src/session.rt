@@ -111,8 +111,7 @@ impl<L: Link> Session<L> {
     }
 
     // Does what a line asks inside a block that waits for its condition.
-    fn obey_inside(&mut self, wish: Wish, line: &ClientLine) -> Result<Reply, DriverError> {
-        let mut wish = wish;
+    fn obey_inside(&mut self, mut wish: Wish, line: &ClientLine) -> Result<Reply, DriverError> {
         let reply = match line {
             ClientLine::End => return self.try_out(&wish),
             ClientLine::Call(handler, request) => match wish.note(*handler, *request) {

@@ -300,9 +300,8 @@ fn request(word: &[u8]) -> Result<Request, InputFault> {
     })
 }
 
-fn arguments(rest: Option<&[u8]>) -> Result<Args, InputFault> {
+fn arguments(mut rest: Option<&[u8]>) -> Result<Args, InputFault> {
     let mut numbers = ArrayVec::<u64, MAX_ARGS>::new();
-    let mut rest = rest;
     for _ in 0..=MAX_ARGS {
         let Some(text) = rest else {
             break;
