@@ -34,9 +34,9 @@ impl<A: Allocator + Clone> Client<A> {
         ensures { Commanded (Reserve handlers.now) result self.old self.new }
     {
         let reservation = self.next_reservation(handlers)?;
-        let Ok(windows) = fresh_windows(self.handlers.allocator(), handlers) else {
-            return Err(ClientError::OutOfMemory);
-        };
+        let windows = fresh_windows(self.handlers.allocator(), handlers).map_err(
+            |_| ClientError::OutOfMemory,
+        )?;
         self.last += 1;
         self.reservation = Some(reservation);
         self.windows = windows;
