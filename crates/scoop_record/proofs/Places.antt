@@ -1,31 +1,14 @@
 -- What stands at a place of the private queues.
-use Rattle.std.proofs.Common.{◌≡◌, ℕ, zero, suc, ◌<◌, ◌≤◌, Bool, true, false, List, [], ◌∷◌, length, slice_get, Option, None, Some, refl, sym, ap, subst, arith}
-use Rattle.std.proofs.Common.{true≢false}
+use Rattle.std.proofs.Common.{◌≡◌, ℕ, zero, suc, ◌<◌, ◌≤◌, List, [], ◌∷◌, length, slice_get, Option, None, Some, refl, ap, subst, arith}
 use Rattle.std.proofs.lemmas.Option.{same_Some}
 use Rattle.std.specs.List.{AllByRecursion}
 use Rattle.scoop_message.specs.declared.limits.TheConstants.{MAX_PENDING}
 use Rattle.scoop_message.specs.declared.name.Block.{Block}
 use Rattle.scoop_queue.specs.declared.state.Head.{Head}
-use Rattle.scoop_queue.specs.Queue.{PrivateQueue, entry_at, has_queue, head_at, head_of, is_queue_of, pending, queue_of}
-use Rattle.scoop_queue.specs.Sound.{AreApart, IsQueue, IsQueues}
-use Rattle.scoop_queue.proofs.Lookup.{same_block-refl, same_block-true}
+use Rattle.scoop_queue.specs.Queue.{PrivateQueue, entry_at, head_at, head_of, pending, queue_of}
+use Rattle.scoop_queue.specs.Sound.{IsQueue, IsQueues}
+use Rattle.scoop_handler.proofs.QueuePlaces.{own-queue}
 use Rattle.scoop_record.specs.Places.{entries_at}
-
--- the private queue at a place is the one of its block
-pub queue_there : (qs : List PrivateQueue) (i : ℕ) (q : PrivateQueue) → AreApart qs → slice_get qs i ≡ Some q → queue_of q.block qs ≡ Some q
-queue_there [] i q apart at = absurd cc
-queue_there (x ∷ qs) zero q apart at =
-    let is : x ≡ q = same_Some x q at in
-    let same : is_queue_of q.block x ≡ true = subst (λ (y : PrivateQueue). is_queue_of q.block y ≡ true) (sym is) (same_block-refl q.block) in
-    rw same at
-queue_there (x ∷ qs) (suc i) q apart at = by (is_queue_of q.block x) refl (queue_there qs i q apart.1 at)
-  where
-    by : (t : Bool) → is_queue_of q.block x ≡ t → queue_of q.block qs ≡ Some q → queue_of q.block (x ∷ qs) ≡ Some q
-    by true is later =
-        let block : q.block ≡ x.block = same_block-true q.block x.block is in
-        let none : has_queue q.block qs ≡ false = subst (λ (b : Block). has_queue b qs ≡ false) (sym block) apart.0 in
-        absurd (true≢false (rw later at none))
-    by false is later = rw is later
 
 -- a head comes from the private queue at its place
 pub record IsThere (qs : List PrivateQueue) (i : ℕ) (h : Head) : Type 0 where
@@ -48,7 +31,7 @@ head_there qs i h sound at = by (slice_get qs i) refl
     by (Some q) found =
         let is : head_of q ≡ h = same_Some (head_of q) h (rw found at at) in
         let block : q.block ≡ h.block = ap (λ (x : Head). x.block) is in
-        let queue : queue_of h.block qs ≡ Some q = subst (λ (b : Block). queue_of b qs ≡ Some q) block (queue_there qs i q sound.apart found) in
+        let queue : queue_of h.block qs ≡ Some q = subst (λ (b : Block). queue_of b qs ≡ Some q) block (own-queue qs i q sound.apart found) in
         record { queue = q; at = found; head = is; pending = rw queue refl; few = (each_at qs i q sound.each found).limit }
 
 pub no_head : (qs : List PrivateQueue) (i : ℕ) → i < length qs → head_at i qs ≡ None → ⊥
