@@ -1,16 +1,21 @@
 //! The program `scoop`: SCOOP handlers, by the messages that are sent to them.
 //!
-//! `scoop answer`, as the gate runs it: client 7 asks for a lock before it has greeted, greets, and asks again. Above are
-//! the lines that it reads, below those that it writes (`stdin` and `stdout` of this crate).
+//! `scoop answer`, as the gate runs it: client 7 asks for a lock before it has greeted, greets, and asks again; then it
+//! opens its private queue and gives the lock back. Above are the lines that it reads, below those that it writes (`stdin`
+//! and `stdout` of this crate).
 //!
 //! ```
 //! 53510103 00000001 00000007 00000001 00000001 00000000 0000
 //! 53510101 00000001 00000007 00000001 00000000 00000000 0000
 //! 53510103 00000001 00000007 00000001 00000001 00000000 0000
+//! 53510106 00000001 00000007 00000001 00000001 00000000 0000
+//! 53510108 00000001 00000007 00000001 00000001 00000000 0000
 //!
 //! none Dropped Ungreeted
 //! 5351010200000001000000070000000100000000000000000000
 //! 5351010400000001000000070000000100000001000000000000
+//! 5351010700000001000000070000000100000001000000000000
+//! 5351010900000001000000070000000100000001000000000000
 //! ```
 #![tactic(auto)]
 
