@@ -33,8 +33,9 @@ goes_on_text When = codes ", and nothing is done of the block that waits for its
 
 -- the last line that was answered, what is told of the next one, and how to go on
 abbrev pub lines_text : Option ℕ → List ℕ → List ℕ → List ℕ
-lines_text None begun goes_on = codes "no line was answered" ++ begun ++ goes_on
-lines_text (Some line) begun goes_on = codes "the lines up to line " ++ decimal line ++ codes " were answered" ++ begun ++ goes_on
+lines_text None begun goes_on = codes "no line was answered" ++ (begun ++ goes_on)
+lines_text (Some line) begun goes_on =
+    codes "the lines up to line " ++ (decimal line ++ (codes " were answered" ++ (begun ++ goes_on)))
 
 abbrev pub progress_text : Progress → List ℕ
 progress_text p = lines_text p.answered (begun_text p.has_begun) (goes_on_text p.unended)
