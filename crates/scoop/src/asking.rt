@@ -64,13 +64,14 @@ fn run_in<T: Net>(
     };
     let turns = given.get_one::<u64>("turns").unwrap_or(100_000);
     let plan = match ClientPlan::new(system, *place, turns, rt.stdin().is_terminal()) {
+        Ok(plan) if given.get_flag("strict") => plan.strict(),
         Ok(plan) => plan,
         Err(range) => return Err(Failure::Range(range)),
     };
     let key = read_key(rt, given)?;
     match run_at(rt, net, given, &plan, key) {
         Ok(()) => Ok(()),
-        Err(end) => Err(tell_end(rt, given, place.address, end)),
+        Err(end) => Err(tell_end(rt, given, system, place.address, end)),
     }
 }
 

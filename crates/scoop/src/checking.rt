@@ -17,6 +17,9 @@ pub fn check(rt: &HostRuntime, given: &ArgMatches<'_>) -> Result<(), Failure> {
     let system = read_system(rt, path)?;
     if is_empty(&system) {
         let _ = eprintln!(rt; "scoop: {path}: it says no nodes, no handlers and no clients");
+        let _ = eprintln!(rt;
+            "scoop: {path}: write a [[node]], a [[handler]] and a [[client]] into it, as in examples/bank.toml"
+        );
     }
     match print_understood(rt, &system) {
         Ok(()) => Ok(()),

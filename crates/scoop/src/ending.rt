@@ -4,9 +4,10 @@ use crate::failure::Failure;
 use clap::ArgMatches;
 use scoop_demo::RunError;
 use scoop_files::FileError;
-use scoop_message::OutOfMemory;
+use scoop_message::{HandlerId, OutOfMemory};
 use scoop_runtime::{About, ClientStop, RuntimeError};
 use scoop_show::ShowError;
+use scoop_system::System;
 use std::fs;
 use std::net::SocketAddr;
 
@@ -59,18 +60,19 @@ pub fn store_path<'a>(given: &'a ArgMatches<'_>) -> Option<&'a str> {
     }
 }
 
-/// Tells why a node or a client with this address ends, and behind it where to look and what to do.
+/// Tells why a node or a client of the system with this address ends, and behind it where to look and what to do.
 pub fn tell_end(
     rt: &HostRuntime,
     given: &ArgMatches<'_>,
+    system: &System,
     address: SocketAddr,
     end: End,
 ) -> Failure {
     match end {
         End::File(error) => tell_file(rt, given, error),
-        End::Runtime(error) => tell_runtime(rt, given, address, error),
+        End::Runtime(error) => tell_runtime(rt, given, system, address, error),
         End::Lines(stop) => {
-            let told = tell_runtime(rt, given, address, stop.error);
+            let told = tell_runtime(rt, given, system, address, stop.error);
             if had_begun(stop.error) {
                 let _ = eprintln!(rt; "scoop: {}", stop.progress);
             }
@@ -127,6 +129,7 @@ pub fn tell_run(rt: &HostRuntime, given: &ArgMatches<'_>, error: RunError) -> Fa
 fn tell_runtime(
     rt: &HostRuntime,
     given: &ArgMatches<'_>,
+    system: &System,
     address: SocketAddr,
     error: RuntimeError,
 ) -> Failure {
@@ -141,14 +144,33 @@ fn tell_runtime(
         About::Address => {
             let _ = eprintln!(rt; "scoop: {address}: {advice}");
         }
-        About::Neither => {
+        About::Handler(handler) => tell_of_handler(rt, system, handler, advice),
+        About::Nothing => {
             let _ = eprintln!(rt; "scoop: {advice}");
         }
     }
     Failure::Told(error.status())
 }
 
-/// Tells why a command ends that is about neither a store nor an address, and behind it what to do.
+// Tells what to do with a handler, and where it stands.
+fn tell_of_handler(rt: &HostRuntime, system: &System, handler: HandlerId, advice: &str) {
+    match system
+        .handler(handler)
+        .and_then(|place| system.node(place.node))
+    {
+        Some(node) => {
+            let _ = eprintln!(rt;
+                "scoop: handler {handler} on node {} at {}: {advice}",
+                node.number, node.address
+            );
+        }
+        None => {
+            let _ = eprintln!(rt; "scoop: handler {handler}: {advice}");
+        }
+    }
+}
+
+/// Tells why a command ends, and behind it what to do, which names nothing.
 pub fn tell_plainly(rt: &HostRuntime, error: RuntimeError) -> Failure {
     let _ = eprintln!(rt; "scoop: {error}");
     let _ = eprintln!(rt; "scoop: {}", error.advice());

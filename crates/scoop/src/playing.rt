@@ -11,7 +11,7 @@ use std::io;
 use std::io::{BufWriter, Write};
 
 // The status where the chart's file can't be written.
-const STATUS: u8 = 3;
+const UNWRITTEN_STATUS: u8 = 3;
 
 // The status where the run has more events than a chart shows.
 const LONG_STATUS: u8 = 1;
@@ -92,5 +92,5 @@ fn tell_unwritten(rt: &HostRuntime, path: &str) -> Failure {
         "see whether its folder is there, whether it may be written, and whether the disk is full"
     };
     let _ = eprintln!(rt; "scoop: {path}: {advice}");
-    Failure::Told(STATUS)
+    Failure::Told(UNWRITTEN_STATUS)
 }

@@ -60,7 +60,7 @@ fn serve_in<T: Threads + Wait + Clock + Net + Sync>(
     let key = read_key(rt, given)?;
     match serve_at(rt, threads, given, serving, system, place, key) {
         Ok(()) => Ok(()),
-        Err(end) => Err(tell_end(rt, given, place.address, end)),
+        Err(end) => Err(tell_end(rt, given, system, place.address, end)),
     }
 }
 

@@ -95,7 +95,8 @@ fn world_command<'a>(alloc: Global) -> Result<Command<'a>, AllocError> {
             \x20 run H                      both\n\
             \x20 restart client C           it begins anew with its next incarnation\n\
             \x20 restart node N             its handlers go on with what is stored\n\
-            OP is an operation's number. Words are parted by spaces. Empty lines and lines that begin with `#` are skipped.\n\n\
+            OP is an operation's number. Behind `reserve` a `trip C H` for each handler locks it, and then one more for each \
+            opens it; until then `call` and `query` are `refused NoBlock`. Words are parted by spaces. Empty lines and lines that begin with `#` are skipped.\n\n\
             Each event prints what it did: `done`, `silent`, `sent I KIND`, a handler's or a client's note, `began`, \
             `ran`, `restarted`, `reopened`, or `refused` and why. The end prints what happened: the common list of \
             blocks, what opened and what ran at each handler, and what each client accepted: a block is \

@@ -77,17 +77,21 @@ pub fn client_command<'a>(alloc: Global) -> Result<Command<'a>, AllocError> {
             \x20 end                 `ended`: the block is ended, and all of it acknowledged\n\
             \x20 reserve H.. when H OP A.. least V tries T\n\
             \x20                     `noted`: then only `call` (`noted`) and `end` are taken, and the block is tried until \
-            the answer is at least V: `ended K` at the K-th try, or `condition failed T`\n\
-            OP is a number or a name of an operation of the handler's class, with the arguments that it reads: set A or get of \
+            the answer is at least V, which an `answer refused` isn't: `ended K` at the K-th try, or `condition failed T`. Each try asks \
+            anew, so let OP be one that changes no words\n\
+            Spaces part the words. OP is a number or a name of an operation of the handler's class, with the arguments that it reads: set A or get of \
             a cell, add A or get of a counter, deposit A, withdraw A or balance of an account, put A of an exchange; \
             `scoop check` shows those of the file's classes. \
-            What the client refuses is `refused` and why, and it goes on. Empty lines and lines that begin with `#` are \
+            What the client refuses is `refused` and why (`NotIdle`, `NoBlock`, `NotReserved H`, `Empty`, `TooMany`, \
+            `Repeated H`, `Unknown H`, `NotInWhen`, `Spent`), and it goes on. Empty lines and lines that begin with `#` are \
             skipped; a line may end in a carriage return and a newline. Where somebody types the lines, standard error says \
-            when the client is ready, which lines there are, and what a refusal means. Where nothing new comes for a second, \
+            when the client is ready, which lines there are, what a refusal means, and how often a block was tried that waits \
+            for its condition. Where nothing new comes for a second, \
             standard error says for which handlers it waits, and why that may be.\n\n\
-            Statuses: 0; 1 for the file or the key, told as `scoop: FILE: TEXT`, for a line that can't be read, told as \
-            `scoop: line N: TEXT` (at a terminal the client goes on), and for an input that ends inside a block; 2 for the \
-            command line; 3 for links, told as `scoop: link: NAME` (`TurnsOver` where a command has spent its --turns), for \
+            Statuses: 0, also where lines were `refused` or a `condition failed`, unless --strict is given; 1 for the file or \
+            the key, told as `scoop: FILE: TEXT`, for a line that can't be read, told as `scoop: line N: TEXT` (at a terminal \
+            the client goes on), for one that a strict client is refused, and for an input that ends inside a block; 2 for the \
+            command line; 3 for links, told as `scoop: link: NAME` (`TurnsOver` where the greeting or a command has spent its --turns), for \
             the store, told as `scoop: store: NAME`, for memory or output. Further lines of standard error say where to \
             look, what to do, and which lines were answered.\n\n\
             Example: scoop client 7 --system examples/bank.toml --new /tmp/client-7.db < examples/bank-7.lines",
@@ -104,6 +108,7 @@ pub fn client_command<'a>(alloc: Global) -> Result<Command<'a>, AllocError> {
             "Goes on with the store in this file: for a client that ran, with the store that it made",
         ))?
         .arg(key_option(alloc))?
+        .arg(client_strict_flag(alloc))?
         .arg(client_turns_option(alloc))
 }
 
@@ -193,6 +198,16 @@ fn node_turns_option<'a>(alloc: Global) -> Arg<'a> {
         )
         .action(ArgAction::Set)
         .value_parser(value_parser!(u64))
+}
+
+fn client_strict_flag<'a>(alloc: Global) -> Arg<'a> {
+    Arg::new(alloc, "strict")
+        .long("strict")
+        .help(
+            "Ends behind the first line that is answered `refused` or `condition failed`, with status 1 and its line; an `answer \
+            refused` is an answer",
+        )
+        .action(ArgAction::SetTrue)
 }
 
 fn client_turns_option<'a>(alloc: Global) -> Arg<'a> {

@@ -13,7 +13,7 @@ abbrev pub never_advice : List ℕ
 never_advice = codes "this can't come: tell the authors which command and which input led to it"
 
 abbrev pub open_advice : WorldOpenError → List ℕ
-open_advice world.NoHandlers = codes "place a handler before the first event"
+open_advice world.NoHandlers = codes "write a line as handler 1 1 cell 0 before the first event: scoop world --help has all lines"
 open_advice world.TooManyHandlers = codes "a world has at most 64 handlers: place fewer"
 open_advice (world.Repeated h) = codes "give each handler a number of its own"
 open_advice (world.WrongClass h) = never_advice
@@ -26,7 +26,8 @@ abbrev pub fault_advice : InputFault → List ℕ
 fault_advice fault.LineTooLong = codes "a line has at most 4096 bytes: write a shorter one"
 fault_advice fault.TooManyLines = codes "an input has at most 1000000 lines: give the others to another run"
 fault_advice fault.ReadFault = codes "see whether the input is a folder, and can still be read; it is read at most 10000000 times, so give it in larger pieces"
-fault_advice fault.NotHex = codes "write hex digits, two for each byte of the datagram (scoop frame makes them of words); spaces are skipped, tabs and carriage returns are not"
+fault_advice fault.NotHex =
+    codes "write hex digits, two for each byte of the datagram; spaces are skipped, tabs and carriage returns are not; scoop frame makes them of words that stand behind it, as scoop frame Lock 1 7.1.1"
 fault_advice fault.OddDigits = codes "write two hex digits for each byte of the datagram, 0a for ten"
 fault_advice fault.UnknownLine = codes "scoop world --help has the lines that there are"
 fault_advice fault.WrongNumberOfWords = codes "scoop world --help says which words each line has, and scoop frame --help which a message has"

@@ -62,8 +62,8 @@ impl InputFault {
                 "see whether the input is a folder, and can still be read; it is read at most 10000000 times, so give it in larger pieces"
             }
             InputFault::NotHex => {
-                "write hex digits, two for each byte of the datagram (scoop frame makes them of words); spaces are skipped, tabs and \
-                carriage returns are not"
+                "write hex digits, two for each byte of the datagram; spaces are skipped, tabs and carriage returns are not; scoop frame \
+                makes them of words that stand behind it, as scoop frame Lock 1 7.1.1"
             }
             InputFault::OddDigits => {
                 "write two hex digits for each byte of the datagram, 0a for ten"
@@ -98,7 +98,8 @@ fn open_advice(error: WorldOpenError) -> &'static str
     ensures { result.now ≡ open_advice error }
 {
     match error {
-        WorldOpenError::NoHandlers => "place a handler before the first event",
+        WorldOpenError::NoHandlers =>
+            "write a line as handler 1 1 cell 0 before the first event: scoop world --help has all lines",
         WorldOpenError::TooManyHandlers => "a world has at most 64 handlers: place fewer",
         WorldOpenError::Repeated(_) => "give each handler a number of its own",
         WorldOpenError::WrongClass(_) => NEVER,

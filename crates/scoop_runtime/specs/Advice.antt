@@ -16,11 +16,12 @@ use Rattle.scoop_system.specs.declared.line.fault.LineFault.TheVariants as line
 use Rattle.scoop_runtime.specs.declared.source.SourceFault.{SourceFault}
 use Rattle.scoop_runtime.specs.declared.source.SourceFault.TheVariants as source
 use Rattle.scoop_runtime.specs.declared.advice.About.{About}
-use Rattle.scoop_runtime.specs.declared.advice.About.TheVariants.{Store, Address, Neither}
+use Rattle.scoop_runtime.specs.declared.advice.About.TheVariants.{Store, Address, Handler, Nothing}
 use Rattle.scoop_runtime.specs.declared.advice.FileFault.{FileFault}
 use Rattle.scoop_runtime.specs.declared.advice.FileFault.TheVariants as file
 use Rattle.scoop_runtime.specs.declared.error.RuntimeError.{RuntimeError}
 use Rattle.scoop_runtime.specs.declared.error.RuntimeError.TheVariants.{Line, Input, InsideBlock, InsideWhen, Handlers, NoHandler, Ended}
+use Rattle.scoop_runtime.specs.declared.error.RuntimeError.TheVariants.{NotWelcomed, NotAnswered, Refused}
 
 -- of what no run leads to
 abbrev pub never_advice : List ℕ
@@ -31,8 +32,9 @@ arguments_advice =
     codes "scoop check shows which arguments, a0 to a3, the operations of the file's classes read, and scoop client --help has those of the others: give so many"
 
 abbrev pub line_advice : LineFault → List ℕ
-line_advice line.UnknownLine = codes "a line begins with reserve, call, query or end: scoop client --help has them all"
-line_advice line.WrongNumberOfWords = codes "scoop client --help says which words each line has"
+line_advice line.UnknownLine = codes "a line begins with reserve, call, query or end, and spaces part its words: scoop client --help has them all"
+line_advice line.WrongNumberOfWords =
+    codes "scoop client --help says which words each line has; those behind when are H OP A.. least V tries T"
 line_advice line.NotANumber =
     codes "write a whole number in decimal digits: an operation's is up to 65535, a handler's up to 4294967295, how often is tried 1 to 4294967295, an argument and what stands behind least 0 to 18446744073709551615"
 line_advice line.TooFewArguments = arguments_advice
@@ -64,7 +66,7 @@ loop_advice served.GateShut = never_advice
 
 abbrev pub driver_advice : DriverError → List ℕ
 driver_advice driver.TurnsOver =
-    codes "a handler didn't answer: see whether the nodes run, whether all programs have the same file and the same key, whether another client has stopped inside a block at that handler (begin that client again), and whether this client ran before with another store (go on with that one, and never with this one)"
+    codes "a handler has not answered: see whether the nodes run, or give more turns by --turns"
 driver_advice driver.LinkFault = codes "a datagram could not be sent or received: see the addresses and the network"
 driver_advice (driver.Client client.OutOfMemory) = memory_advice
 driver_advice (driver.Client (client.Reserve reserve.OutOfMemory)) = memory_advice
@@ -92,7 +94,12 @@ advice_text InsideBlock =
 advice_text InsideWhen = codes "write end behind the last line, and give all lines of this block again, since none of it is done"
 advice_text (Handlers error) = begin_advice error
 advice_text (NoHandler h) =
-    codes "it is the store of another party, or of a node that was never ready (then nothing was answered): name this node's store, or make a new file by --new"
+    codes "it is the store of another party, or of a node that was never ready, or the system's file has gained this handler since: name this node's store, or take the handler out of the file; only a node that was never ready, which has answered nothing, begins anew by --new"
+advice_text (NotWelcomed h) =
+    codes "it has not welcomed this client: see whether its node runs, whether all programs have the same file and the same key, and whether this client ran before with another store (go on with that one, and never with this one), or give more turns by --turns"
+advice_text (NotAnswered h) =
+    codes "it has not answered, or the block of another client stands before this one: see whether its node runs, and whether a client has stopped inside a block (begin it again), or give more turns by --turns"
+advice_text (Refused number) = codes "the last line of the output says why; without --strict a line that is refused is no fault"
 advice_text (Ended error) = show_advice error
 
 -- over a store, with which a node or a client goes on
@@ -105,12 +112,11 @@ stored_advice error = advice_text error
 abbrev pub loop_about : ServeEnd → About
 loop_about served.NodeFailed = Store
 loop_about served.LinkFault = Address
-loop_about end = Neither
+loop_about end = Nothing
 
 abbrev pub driver_about : DriverError → About
-driver_about driver.TurnsOver = Address
 driver_about driver.LinkFault = Address
-driver_about error = Neither
+driver_about error = Nothing
 
 abbrev pub show_about : ShowError → About
 show_about show.NoLink = Address
@@ -118,12 +124,14 @@ show_about (show.Driver e) = driver_about e
 show_about (show.Loop end) = loop_about end
 show_about (show.WrongClass h) = Store
 show_about (show.Store _) = Store
-show_about error = Neither
+show_about error = Nothing
 
 abbrev pub about : RuntimeError → About
 about (NoHandler h) = Store
+about (NotWelcomed h) = Handler h
+about (NotAnswered h) = Handler h
 about (Ended error) = show_about error
-about error = Neither
+about error = Nothing
 
 -- ---- a file that is read before a node or a client begins
 

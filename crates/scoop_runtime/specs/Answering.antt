@@ -1,11 +1,11 @@
 -- What a refusal of a driver is answered with.
-use Rattle.std.specs.Prelude.{Result, Ok, Err}
+use Rattle.std.specs.Prelude.{Bool, true, false, Result, Ok, Err}
 use Rattle.scoop_reserve.specs.declared.error.ReserveError.TheVariants as reserve
 use Rattle.scoop_client.specs.declared.error.ClientError.TheVariants as client
 use Rattle.scoop_driver.specs.declared.error.DriverError.{DriverError}
 use Rattle.scoop_driver.specs.declared.error.DriverError.TheVariants.{Client, TurnsOver, LinkFault, ConditionFailed as Failed}
 use Rattle.scoop_runtime.specs.declared.reply.Reply.{Reply}
-use Rattle.scoop_runtime.specs.declared.reply.Reply.TheVariants.{Refused, ConditionFailed}
+use Rattle.scoop_runtime.specs.declared.reply.Reply.TheVariants.{Reserved, Logged, Answered, Ended, Noted, EndedAt, ConditionFailed, Refused, NotInWhen}
 
 -- the client goes on behind its own refusal and a condition that failed; want of memory and the link's errors end it
 abbrev pub answered : DriverError → Result Reply DriverError
@@ -15,3 +15,15 @@ answered (Client error) = Ok (Refused error)
 answered (Failed tries) = Ok (ConditionFailed tries)
 answered TurnsOver = Err TurnsOver
 answered LinkFault = Err LinkFault
+
+-- The client refused the line, or the condition of a block failed. What an object refuses is its answer.
+abbrev pub is_refusal : Reply → Bool
+is_refusal (Reserved block) = false
+is_refusal (Logged h n) = false
+is_refusal (Answered answer) = false
+is_refusal Ended = false
+is_refusal Noted = false
+is_refusal (EndedAt n) = false
+is_refusal (ConditionFailed n) = true
+is_refusal (Refused error) = true
+is_refusal NotInWhen = true

@@ -8,6 +8,7 @@ use Rattle.scoop_system.specs.LineText.{line_fault_text}
 use Rattle.scoop_runtime.specs.Sources.{source_text}
 use Rattle.scoop_runtime.specs.declared.error.RuntimeError.{RuntimeError}
 use Rattle.scoop_runtime.specs.declared.error.RuntimeError.TheVariants.{Line, Input, InsideBlock, InsideWhen, Handlers, NoHandler, Ended}
+use Rattle.scoop_runtime.specs.declared.error.RuntimeError.TheVariants.{NotWelcomed, NotAnswered, Refused}
 
 abbrev pub begin_text : BeginError → List ℕ
 begin_text begin.NoHandlers = codes "handlers: NoHandlers"
@@ -22,9 +23,12 @@ error_text InsideBlock = codes "the input ended inside a block, which is left to
 error_text InsideWhen = codes "the input ended inside a block that waits for its condition, of which nothing is done"
 error_text (Handlers error) = begin_text error
 error_text (NoHandler h) = codes "store: NoHandler " ++ decimal h.0
+error_text (NotWelcomed h) = codes "link: TurnsOver"
+error_text (NotAnswered h) = codes "link: TurnsOver"
+error_text (Refused number) = codes "line " ++ (decimal number ++ codes ": refused")
 error_text (Ended error) = show_text error
 
--- 1 at a fault of the input or where it ended inside a block, else 3
+-- 1 at a fault of the input, where it ended inside a block, and where a strict client was refused a line, else 3
 abbrev pub status_of : RuntimeError → ℕ
 status_of (Line number fault) = 1
 status_of (Input error) = 1
@@ -32,4 +36,7 @@ status_of InsideBlock = 1
 status_of InsideWhen = 1
 status_of (Handlers error) = 3
 status_of (NoHandler h) = 3
+status_of (NotWelcomed h) = 3
+status_of (NotAnswered h) = 3
+status_of (Refused number) = 1
 status_of (Ended error) = 3

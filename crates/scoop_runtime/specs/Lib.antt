@@ -6,6 +6,7 @@ pub mod NodeTexts
 pub mod Progress
 pub mod Ranges
 pub mod Records
+pub mod Silence
 pub mod Sources
 pub mod Texts
 pub mod Typing

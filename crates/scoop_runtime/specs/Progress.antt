@@ -1,5 +1,5 @@
 -- What is told of how far a client came.
-use Rattle.std.specs.Prelude.{ℕ, List, [], ◌++◌, codes, Option, Some, None, Bool, true, false}
+use Rattle.std.specs.Prelude.{ℕ, List, [], ◌++◌, codes, Option, Some, None, Bool, true, false, if◌then◌else◌}
 use Rattle.std.specs.Fmt.{decimal}
 use Rattle.scoop_client.specs.declared.phase.Phase.{Phase}
 use Rattle.scoop_client.specs.declared.phase.Phase.TheVariants.{Idle}
@@ -37,5 +37,11 @@ lines_text None begun goes_on = codes "no line was answered" ++ (begun ++ goes_o
 lines_text (Some line) begun goes_on =
     codes "the lines up to line " ++ (decimal line ++ (codes " were answered" ++ (begun ++ goes_on)))
 
+-- of a client that isn't welcome everywhere: another store may be the one that its handlers know
+abbrev pub unready_text : List ℕ
+unready_text =
+    codes "the client was not ready, and no line was read: go on with --store, or with the store of an earlier run where there is one"
+
 abbrev pub progress_text : Progress → List ℕ
-progress_text p = lines_text p.answered (begun_text p.has_begun) (goes_on_text p.unended)
+progress_text p =
+    if p.is_ready then lines_text p.answered (begun_text p.has_begun) (goes_on_text p.unended) else unready_text

@@ -1,5 +1,5 @@
 -- What a node and a client print.
-use Rattle.std.specs.Prelude.{ℕ, List, [], ◌∷◌, ◌++◌, codes, Option, Some, None}
+use Rattle.std.specs.Prelude.{ℕ, List, [], ◌∷◌, ◌++◌, codes, Option, Some, None, Bool, true, false}
 use Rattle.std.specs.Fmt.{decimal}
 use Rattle.scoop_message.specs.declared.name.HandlerId.{HandlerId}
 use Rattle.scoop_message.specs.Text.{answer_text, block_text}
@@ -13,17 +13,19 @@ abbrev pub numbers_text : List HandlerId → List ℕ
 numbers_text [] = []
 numbers_text (h ∷ hs) = 32 ∷ decimal h.0 ++ numbers_text hs
 
--- why a client may wait, and what to do
-abbrev pub awaited_advice : List ℕ
-awaited_advice =
-    codes ": no answer, or the block of another client stands before this one; see whether the nodes run, and whether a client has stopped inside a block (begin it again)"
+-- why a client may wait, and what to do: while it greets, when no block can stand before it, and later
+abbrev pub awaited_advice : Bool → List ℕ
+awaited_advice true =
+    codes "no welcome yet; see whether the nodes run, whether all programs have the same file and the same key, and whether this client ran before with another store (go on with that one)"
+awaited_advice false =
+    codes "no answer, or the block of another client stands before this one; see whether the nodes run, and whether a client has stopped inside a block (begin it again)"
 
 -- handlers that a client waits for, and why that may be
-abbrev pub awaited_text : List HandlerId → List ℕ
-awaited_text hs = numbers_text hs ++ (awaited_advice ++ 10 ∷ [])
+abbrev pub awaited_text : Bool → List HandlerId → List ℕ
+awaited_text is_greeting hs = numbers_text hs ++ (codes ": " ++ (awaited_advice is_greeting ++ 10 ∷ []))
 
-abbrev pub waiting_text : List HandlerId → List ℕ
-waiting_text hs = codes "scoop: waiting for handlers" ++ awaited_text hs
+abbrev pub waiting_text : Bool → List HandlerId → List ℕ
+waiting_text is_greeting hs = codes "scoop: waiting for handlers" ++ awaited_text is_greeting hs
 
 -- a call of a node's link has failed
 abbrev pub fault_text : List ℕ

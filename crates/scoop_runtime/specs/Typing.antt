@@ -30,6 +30,15 @@ abbrev pub misread_text : ℕ → LineFault → List ℕ
 misread_text number fault =
     codes "scoop: " ++ (error_text (Line number fault) ++ (10 ∷ codes "scoop: " ++ (advice_text (Line number fault) ++ 10 ∷ [])))
 
+-- how often a block was tried that waits for its condition
+abbrev pub tried_text : ℕ → List ℕ
+tried_text tried =
+    codes "scoop: the condition held at none of " ++ (decimal tried ++ (codes " tries, and the block is tried again" ++ 10 ∷ []))
+
+-- a script is told nothing
+abbrev pub tried_note : Bool → ℕ → List ℕ
+tried_note is_typed tried = if is_typed then tried_text tried else []
+
 abbrev pub reserve_advice : ReserveError → List ℕ
 reserve_advice of_reserve.Empty = codes "a block has at least one handler: name it behind reserve"
 reserve_advice of_reserve.TooMany = codes "a block has at most 8 handlers: reserve fewer"
@@ -43,7 +52,7 @@ refusal_advice of_client.NotGreeted = codes "a handler has not welcomed the clie
 refusal_advice of_client.NotIdle = codes "the client has a block: end it before you reserve the next one"
 refusal_advice of_client.NoBlock = codes "the client has no block: reserve the handlers first"
 refusal_advice (of_client.Waiting h) = codes "a query waits for its answer there: type it again once that is there"
-refusal_advice (of_client.NotReserved h) = codes "the block doesn't have this handler: end it, and reserve all handlers of the next one at once"
+refusal_advice (of_client.NotReserved h) = codes "this handler isn't among those that were reserved: name it there too, in the next block where one is open"
 refusal_advice (of_client.WindowFull h) = codes "64 entries there are not acknowledged yet: type it again once some are"
 refusal_advice of_client.TooLate = codes "all handlers are locked already: end the block"
 refusal_advice of_client.Spent =

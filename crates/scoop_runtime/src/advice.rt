@@ -9,6 +9,7 @@ use crate::error::RuntimeError;
 use crate::source::SourceFault;
 use scoop_client::{BeginError, ClientError};
 use scoop_keeper::memory_advice;
+use scoop_message::HandlerId;
 use scoop_netloop::{DriverError, ServeEnd};
 use scoop_reserve::ReserveError;
 use scoop_show::ShowError;
@@ -24,8 +25,10 @@ pub enum About {
     Store,
     /// Its own address.
     Address,
-    /// Neither of them.
-    Neither,
+    /// This handler.
+    Handler(HandlerId),
+    /// None of these.
+    Nothing,
 }
 
 /// What is wrong with a file that is read before a node or a client begins: the system's, or the key's.
@@ -87,8 +90,20 @@ impl RuntimeError {
             }
             RuntimeError::Handlers(error) => begin_advice(error),
             RuntimeError::NoHandler(_) => {
-                "it is the store of another party, or of a node that was never ready (then nothing was answered): name this \
-                node's store, or make a new file by --new"
+                "it is the store of another party, or of a node that was never ready, or the system's file has gained this handler since: \
+                name this node's store, or take the handler out of the file; only a node that was never ready, which has answered \
+                nothing, begins anew by --new"
+            }
+            RuntimeError::NotWelcomed(_) => {
+                "it has not welcomed this client: see whether its node runs, whether all programs have the same file and the same key, and \
+                whether this client ran before with another store (go on with that one, and never with this one), or give more turns by --turns"
+            }
+            RuntimeError::NotAnswered(_) => {
+                "it has not answered, or the block of another client stands before this one: see whether its node runs, and whether a \
+                client has stopped inside a block (begin it again), or give more turns by --turns"
+            }
+            RuntimeError::Refused(_) => {
+                "the last line of the output says why; without --strict a line that is refused is no fault"
             }
             RuntimeError::Ended(error) => show_advice(error),
         }
@@ -106,14 +121,17 @@ impl RuntimeError {
         }
     }
 
-    /// What the advice is about: who tells it names the store's file or the own address before it.
+    /// What the advice is about: who tells it names that before it.
     pub fn about(self) -> About
         ensures { result ≡ about self }
     {
         match self {
             RuntimeError::NoHandler(_) => About::Store,
+            RuntimeError::NotWelcomed(handler) | RuntimeError::NotAnswered(handler) => {
+                About::Handler(handler)
+            }
             RuntimeError::Ended(error) => show_about(error),
-            _ => About::Neither,
+            _ => About::Nothing,
         }
     }
 }
@@ -126,7 +144,7 @@ fn show_about(error: ShowError) -> About
         ShowError::Driver(error) => driver_about(error),
         ShowError::Loop(end) => loop_about(end),
         ShowError::WrongClass(_) | ShowError::Store(_) => About::Store,
-        _ => About::Neither,
+        _ => About::Nothing,
     }
 }
 
@@ -134,8 +152,8 @@ fn driver_about(error: DriverError) -> About
     ensures { result ≡ driver_about error }
 {
     match error {
-        DriverError::TurnsOver | DriverError::LinkFault => About::Address,
-        _ => About::Neither,
+        DriverError::LinkFault => About::Address,
+        _ => About::Nothing,
     }
 }
 
@@ -145,7 +163,7 @@ fn loop_about(end: ServeEnd) -> About
     match end {
         ServeEnd::NodeFailed => About::Store,
         ServeEnd::LinkFault => About::Address,
-        _ => About::Neither,
+        _ => About::Nothing,
     }
 }
 
@@ -154,9 +172,11 @@ fn line_advice(fault: LineFault) -> &'static str
 {
     match fault {
         LineFault::UnknownLine => {
-            "a line begins with reserve, call, query or end: scoop client --help has them all"
+            "a line begins with reserve, call, query or end, and spaces part its words: scoop client --help has them all"
         }
-        LineFault::WrongNumberOfWords => "scoop client --help says which words each line has",
+        LineFault::WrongNumberOfWords => {
+            "scoop client --help says which words each line has; those behind when are H OP A.. least V tries T"
+        }
         LineFault::NotANumber => {
             "write a whole number in decimal digits: an operation's is up to 65535, a handler's up to 4294967295, how often is tried 1 \
             to 4294967295, an argument and what stands behind least 0 to 18446744073709551615"
@@ -228,9 +248,7 @@ fn driver_advice(error: DriverError) -> &'static str
 {
     match error {
         DriverError::TurnsOver => {
-            "a handler didn't answer: see whether the nodes run, whether all programs have the same file and the same key, whether \
-            another client has stopped inside a block at that handler (begin that client again), and whether this client ran \
-            before with another store (go on with that one, and never with this one)"
+            "a handler has not answered: see whether the nodes run, or give more turns by --turns"
         }
         DriverError::LinkFault =>
             "a datagram could not be sent or received: see the addresses and the network",

@@ -4,7 +4,7 @@ use crate::error::RuntimeError;
 use crate::news_link::NewsLink;
 use crate::plan::ClientPlan;
 use crate::progress::{ClientStop, Progress};
-use crate::reply::{Reply, print_reply};
+use crate::reply::print_reply;
 use crate::session::Session;
 use crate::source::LineSource;
 use crate::typing::{tell_misread, tell_note, tell_ready};
@@ -78,37 +78,46 @@ fn obey_lines<L: Link, I: LineSource, W: Write, N: Write>(
         let Some(number) = lines.next_line(&mut line)? else {
             return Ok(());
         };
-        match read_line(plan.system(), &line) {
+        let is_refused = match read_line(plan.system(), &line) {
             Ok(asked) => {
                 progress.has_begun = true;
-                let replied = obey_line(session, &asked, writer)?;
-                if let Some(reply) = replied {
-                    tell_note(&reply, plan.is_typed(), notes);
-                }
+                obey_line(plan, session, &asked, writer, notes)?
             }
-            Err(fault) if plan.is_typed() => tell_misread(number, fault, notes),
+            Err(fault) if plan.is_typed() => {
+                tell_misread(number, fault, notes);
+                false
+            }
             Err(fault) => return Err(RuntimeError::Line(number, fault)),
-        }
+        };
         progress.has_begun = false;
         progress.answered = Some(number);
+        if is_refused && plan.is_strict() {
+            return Err(RuntimeError::Refused(number));
+        }
     }
     Ok(())
 }
 
-// Does what a line asks, and writes what it is answered with, which is answered too.
-fn obey_line<L: Link, W: Write>(
+// Does what a line asks, writes what it is answered with, and answers whether that is a refusal.
+fn obey_line<L: Link, W: Write, N: Write>(
+    plan: &ClientPlan<'_>,
     session: &mut Session<L>,
     line: &ClientLine,
     writer: &mut W,
-) -> Result<Option<Reply>, RuntimeError> {
-    let Some(reply) = session.obey(line)? else {
-        return Ok(None);
+    notes: &mut N,
+) -> Result<bool, RuntimeError> {
+    let replied = match session.obey(line, notes) {
+        Ok(replied) => replied,
+        Err(error) => return Err(session.ended_by(error, plan.system().handlers())),
     };
-    if print_reply(&reply, writer).is_ok() && writer.flush().is_ok() {
-        Ok(Some(reply))
-    } else {
-        Err(RuntimeError::from(ShowError::Write))
+    let Some(reply) = replied else {
+        return Ok(false);
+    };
+    if print_reply(&reply, writer).is_err() || writer.flush().is_err() {
+        return Err(RuntimeError::from(ShowError::Write));
     }
+    tell_note(&reply, plan.is_typed(), notes);
+    Ok(reply.is_refusal())
 }
 
 // The link, paced, giving news alone, and telling who doesn't answer.
@@ -132,15 +141,15 @@ fn run_session<L: Link, I: LineSource, W: Write, N: Write>(
     writer: &mut W,
     notes: &mut N,
 ) -> Result<(), RuntimeError> {
-    session.greet()?;
+    match session.greet() {
+        Ok(()) => progress.is_ready = true,
+        Err(error) => return Err(session.ended_by(error, plan.system().handlers())),
+    }
     tell_ready(plan.place().client, plan.is_typed(), notes);
     let obeyed = obey_lines(plan, session, lines, progress, writer, notes);
     progress.unended = session.unended();
     obeyed?;
-    match progress.unended.error() {
-        None => Ok(()),
-        Some(error) => Err(error),
-    }
+    progress.unended.error().map_or(Ok(()), Err)
 }
 
 // Begins the client, and runs it.
@@ -166,7 +175,7 @@ where
     let known = known_handlers(alloc, plan.system())?;
     let link = waiting_link(alloc, link, waits, &known)?;
     let client = begin_client(alloc, plan, keeper, &known)?;
-    let mut session = Session::new(alloc, client, link, plan.turns());
+    let mut session = Session::new(alloc, client, link, plan.turns(), plan.is_typed());
     run_session(plan, &mut session, lines, progress, writer, notes)
 }
 
@@ -174,11 +183,13 @@ where
 /// lines of the input ask, one after another. Each line is answered with one line, which goes out at once; what the client
 /// refuses is answered as `refused` and why, and it goes on. Repeated datagrams are paced. Where nothing new comes for a
 /// second, `waits` is told for which handlers. Where somebody types the lines, `notes` is told that every handler has greeted and
-/// which lines there are, of each that can't be read with what to do, and what each refusal means; else it is told nothing.
+/// which lines there are, of each that can't be read with what to do, what each refusal means, and how often a block was tried
+/// that waits for its condition; else it is told nothing.
 ///
-/// Refused: what the keeper refuses, before anything is sent; `link: TurnsOver` and `link: LinkFault`; the first line that
-/// can't be read, unless somebody types; what ends the input early; `InsideBlock` where the input ends inside a block;
-/// `write fault`, and `out of memory`; each with how far the lines are done.
+/// Refused: what the keeper refuses, before anything is sent; `NotWelcomed` and `NotAnswered` where the turns are over, and
+/// `link: LinkFault`; the first line that can't be read, unless somebody types; of a strict client the first line that is
+/// refused; what ends the input early; `InsideBlock` and `InsideWhen` where the input ends inside a block; `write fault`, and
+/// `out of memory`; each with how far the lines are done.
 pub fn client_run<K, L, I, E, W, N>(
     alloc: Global,
     plan: &ClientPlan<'_>,

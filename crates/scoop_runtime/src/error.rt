@@ -27,6 +27,12 @@ pub enum RuntimeError {
     Handlers(BeginError),
     /// The record of a node that goes on has nothing of this handler.
     NoHandler(HandlerId),
+    /// The turns of a client were over before this handler had welcomed it.
+    NotWelcomed(HandlerId),
+    /// The turns of a line were over, and this is the first handler of the system to which the client owes something.
+    NotAnswered(HandlerId),
+    /// The line of this number was refused, and the client is strict.
+    Refused(u32),
     /// This link, loop, driver, store or want of memory.
     Ended(ShowError),
 }
@@ -34,15 +40,17 @@ pub enum RuntimeError {
 impl RuntimeError {
     ghost use Rattle.scoop_runtime.specs.Errors.{status_of};
 
-    /// The status with which the program ends: 1 at a fault of the input or where it ended inside a block, else 3.
+    /// The status with which the program ends: 1 at a fault of the input, where it ended inside a block, and where a strict
+    /// client was refused a line, else 3.
     pub fn status(self) -> u8
         ensures { result ≡ status_of self }
     {
         match self {
             RuntimeError::Line(..) | RuntimeError::Input(_) => 1,
-            RuntimeError::InsideBlock | RuntimeError::InsideWhen => 1,
+            RuntimeError::InsideBlock | RuntimeError::InsideWhen | RuntimeError::Refused(_) => 1,
             RuntimeError::Handlers(_) => 3,
             RuntimeError::NoHandler(_) => 3,
+            RuntimeError::NotWelcomed(_) | RuntimeError::NotAnswered(_) => 3,
             RuntimeError::Ended(error) => error.status(),
         }
     }
@@ -73,6 +81,10 @@ impl fmt::Display for RuntimeError {
             }
             RuntimeError::Handlers(BeginError::OutOfMemory) => f.write_str("out of memory"),
             RuntimeError::NoHandler(handler) => write!(f, "store: NoHandler {handler}"),
+            RuntimeError::NotWelcomed(_) | RuntimeError::NotAnswered(_) => {
+                f.write_str("link: TurnsOver")
+            }
+            RuntimeError::Refused(number) => write!(f, "line {number}: refused"),
             RuntimeError::Ended(error) => write!(f, "{error}"),
         }
     }

@@ -43,6 +43,7 @@ mod ranges;
 mod reply;
 mod session;
 mod source;
+mod trying;
 mod typing;
 mod waiting_link;
 mod wish;

@@ -186,14 +186,15 @@ pub struct ClientPlan<'a> {
     place: ClientPlace,
     turns: u64,
     is_typed: bool,
+    is_strict: bool,
     ghost some: { 1 ≤ place.batch },
     ghost limit: { place.batch ≤ MAX_ENTRIES },
 }
 
 impl<'a> ClientPlan<'a> {
     /// The client at this place of the system, each command of which takes so many turns at most, at least one. Where
-    /// somebody types its lines, one that can't be read is told, and the client goes on. Refused is the first number that
-    /// is out of its range: the turns, or the batch of the client's place.
+    /// somebody types its lines, one that can't be read is told, and the client goes on; so it does behind a line that is
+    /// refused. Refused is the first number that is out of its range: the turns, or the batch of the client's place.
     pub fn new(
         system: &'a System,
         place: ClientPlace,
@@ -201,7 +202,7 @@ impl<'a> ClientPlan<'a> {
         is_typed: bool,
     ) -> Result<ClientPlan<'a>, OutOfRange>
         ensures ranges { MatchResult result (λ p. client_fault turns place.batch ≡ None) (λ range. client_fault turns place.batch ≡ Some range) }
-        ensures kept { IfOk result (λ p. (p.place ≡ place) × (p.turns ≡ turns) × (p.is_typed ≡ is_typed)) }
+        ensures kept { IfOk result (λ p. (p.place ≡ place) × (p.turns ≡ turns) × (p.is_typed ≡ is_typed) × (p.is_strict ≡ false)) }
     {
         if !OutOfRange::Turns.is_within(turns) {
             return Err(OutOfRange::Turns);
@@ -214,7 +215,30 @@ impl<'a> ClientPlan<'a> {
             place,
             turns,
             is_typed,
+            is_strict: false,
         })
+    }
+
+    /// The same client, which ends behind the first line that it is refused, or whose condition failed.
+    pub fn strict(self) -> ClientPlan<'a>
+        ensures system { result.system ≡ self.entry.system }
+        ensures kept { (result.place ≡ self.entry.place) × (result.turns ≡ self.entry.turns) × (result.is_typed ≡ self.entry.is_typed) }
+        ensures strict { result.is_strict ≡ true }
+    {
+        let ClientPlan {
+            system,
+            place,
+            turns,
+            is_typed,
+            ..
+        } = self;
+        ClientPlan {
+            system,
+            place,
+            turns,
+            is_typed,
+            is_strict: true,
+        }
     }
 
     /// The system.
@@ -236,6 +260,13 @@ impl<'a> ClientPlan<'a> {
         ensures { result ≡ self.now.turns }
     {
         self.turns
+    }
+
+    /// Whether the first refusal ends the client.
+    pub(crate) fn is_strict(&self) -> bool
+        ensures { result ≡ self.now.is_strict }
+    {
+        self.is_strict
     }
 
     /// Whether somebody types the lines.

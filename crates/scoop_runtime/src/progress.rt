@@ -20,6 +20,8 @@ pub enum Unended {
 /// How far a client came with its lines. Printed as what is told of it behind the error that ended it.
 #[derive(Clone, Copy, Debug, PartialEq, Eq)]
 pub struct Progress {
+    /// Whether every handler had welcomed it. Before that no line is read.
+    pub is_ready: bool,
     /// The number of the last line that was answered, counted from 1, with all before it. `None` where none was.
     pub answered: Option<u32>,
     /// Whether the next line was begun, and may be done or not.
@@ -51,9 +53,10 @@ impl Unended {
 }
 
 impl Progress {
-    /// No line was answered.
+    /// The client isn't ready.
     pub(crate) fn new() -> Progress {
         Progress {
+            is_ready: false,
             answered: None,
             has_begun: false,
             unended: Unended::Nothing,
@@ -94,6 +97,11 @@ impl fmt::Display for Progress {
     ghost output = { λ p. Some (progress_text p) };
 
     fn fmt<W: fmt::Write>(&self, f: &mut fmt::Formatter<W>) -> fmt::Result {
+        if !self.is_ready {
+            return f.write_str(
+                "the client was not ready, and no line was read: go on with --store, or with the store of an earlier run where there is one",
+            );
+        }
         let begun = begun_text(self.has_begun);
         let goes_on = goes_on_text(self.unended);
         match self.answered {

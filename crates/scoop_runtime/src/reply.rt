@@ -2,6 +2,7 @@
 
 ghost use Rattle.std.specs.Prelude.{◌≡◌, OnOk};
 ghost use Rattle.std.specs.Io.KnownBytes.{Appends};
+ghost use Rattle.scoop_runtime.specs.Answering.{is_refusal};
 ghost use Rattle.scoop_runtime.specs.Texts.{refusal_text, reply_text};
 
 use scoop_client::ClientError;
@@ -31,6 +32,18 @@ pub enum Reply {
     Refused(ClientError),
     /// A block that waits for its condition takes calls and its end alone.
     NotInWhen,
+}
+
+impl Reply {
+    /// Whether the client refused the line, or the condition of a block failed. What an object refuses is its answer.
+    pub(crate) fn is_refusal(&self) -> bool
+        ensures { result ≡ is_refusal self.now }
+    {
+        matches!(
+            self,
+            Reply::Refused(_) | Reply::NotInWhen | Reply::ConditionFailed(_)
+        )
+    }
 }
 
 // Writes the line of a refusal.

@@ -1,23 +1,41 @@
 //! A client that is asked line by line.
 
-ghost use Rattle.std.specs.Prelude.{◌≡◌, None, OnOk, IsFalse, is_some};
+ghost use Rattle.std.specs.Prelude.{◌≡◌, None, OnOk, IsFalse, IfOk, IfSome, ◌≤◌, is_some};
 ghost use Rattle.scoop_client.specs.Due.{due};
 ghost use Rattle.scoop_client.specs.State.{phase_of};
 ghost use Rattle.scoop_runtime.specs.Answering.{answered};
 ghost use Rattle.scoop_runtime.specs.Progress.{unended_of};
+ghost use Rattle.scoop_runtime.specs.Silence.{ended_by, first_awaited, over_at};
 ghost use Rattle.scoop_runtime.specs.Unlocking.{is_unlock, owes_unlock};
 
+use crate::error::RuntimeError;
 use crate::last_block::LastBlock;
 use crate::progress::Unended;
 use crate::reply::Reply;
+use crate::trying::tell_tried;
 use crate::wish::Wish;
 use scoop_client::{Client, ClientError, Phase};
 use scoop_link::Link;
 use scoop_message::{HandlerId, Message, OutOfMemory, Request};
 use scoop_netloop::{Condition, Driver, DriverError};
 use scoop_reserve::{ReserveError, has};
-use scoop_system::{ClientLine, NamedHandlers};
+use scoop_show::ShowError;
+use scoop_system::{ClientLine, HandlerPlace, NamedHandlers};
 use std::alloc::Global;
+use std::io::Write;
+
+// Behind so many tries of a block that waits for its condition is told how often it was tried.
+const TOLD_TRIES: [u32; 9] = [
+    10,
+    100,
+    1_000,
+    10_000,
+    100_000,
+    1_000_000,
+    10_000_000,
+    100_000_000,
+    1_000_000_000,
+];
 
 /// A client over its link, and the block that waits for its condition while its lines come.
 #[derive(Drop)]
@@ -26,6 +44,7 @@ pub(crate) struct Session<L: Link> {
     driver: Driver<L, LastBlock>,
     turns: u64,
     wish: Option<Wish>,
+    is_typed: bool,
 }
 
 // The number of the last entry of a Log.
@@ -56,14 +75,33 @@ fn answered(error: DriverError) -> Result<Reply, DriverError>
     }
 }
 
+// Why a session ends whose turns are over, by what its client is at and the handler that it waits for.
+fn over_at(phase: Phase, awaited: Option<HandlerId>) -> RuntimeError
+    ensures { result ≡ over_at phase awaited }
+{
+    match (phase, awaited) {
+        (_, None) => RuntimeError::Ended(ShowError::Driver(DriverError::TurnsOver)),
+        (Phase::Greeting, Some(handler)) => RuntimeError::NotWelcomed(handler),
+        (_, Some(handler)) => RuntimeError::NotAnswered(handler),
+    }
+}
+
 impl<L: Link> Session<L> {
-    /// The client over the link, each of whose calls takes so many turns at most.
-    pub(crate) fn new(alloc: Global, client: Client, link: L, turns: u64) -> Session<L> {
+    /// The client over the link, each of whose calls takes so many turns at most. Where somebody types its lines, it is told
+    /// how often a block was tried that waits for its condition.
+    pub(crate) fn new(
+        alloc: Global,
+        client: Client,
+        link: L,
+        turns: u64,
+        is_typed: bool,
+    ) -> Session<L> {
         Session {
             alloc,
             driver: Driver::with_diary(client, link, turns, LastBlock::new()),
             turns,
             wish: None,
+            is_typed,
         }
     }
 
@@ -94,14 +132,39 @@ impl<L: Link> Session<L> {
         }
     }
 
+    /// Why the session ends at this error. Where its turns are over, that is said of the first handler of these that the
+    /// client waits for.
+    pub(crate) fn ended_by(&self, error: DriverError, places: &[HandlerPlace]) -> RuntimeError
+        ensures { result ≡ ended_by self.now.driver.seen.client error places.now }
+    {
+        match error {
+            DriverError::TurnsOver => over_at(self.driver.phase(), self.first_awaited(places)),
+            error => RuntimeError::Ended(ShowError::Driver(error)),
+        }
+    }
+
+    // The first handler to which something is due.
+    fn first_awaited(&self, places: &[HandlerPlace]) -> Option<HandlerId>
+        ensures { result ≡ first_awaited self.now.driver.seen.client places.now }
+    {
+        places
+            .iter()
+            .map(|place| place.handler)
+            .find(|handler| self.driver.due(*handler).is_some())
+    }
+
     /// Does what a line asks, and tells what it is answered with. What the client refuses is answered too; the errors are
     /// those after which it can't go on.
-    pub(crate) fn obey(&mut self, line: &ClientLine) -> Result<Option<Reply>, DriverError> {
+    pub(crate) fn obey<N: Write>(
+        &mut self,
+        line: &ClientLine,
+        notes: &mut N,
+    ) -> Result<Option<Reply>, DriverError> {
         if *line == ClientLine::Blank {
             return Ok(None);
         }
         let obeyed = match self.wish.take() {
-            Some(wish) => self.obey_inside(wish, line),
+            Some(wish) => self.obey_inside(wish, line, notes),
             None => self.obey_outside(line),
         };
         match obeyed {
@@ -111,9 +174,14 @@ impl<L: Link> Session<L> {
     }
 
     // Does what a line asks inside a block that waits for its condition.
-    fn obey_inside(&mut self, mut wish: Wish, line: &ClientLine) -> Result<Reply, DriverError> {
+    fn obey_inside<N: Write>(
+        &mut self,
+        mut wish: Wish,
+        line: &ClientLine,
+        notes: &mut N,
+    ) -> Result<Reply, DriverError> {
         let reply = match line {
-            ClientLine::End => return self.try_out(&wish),
+            ClientLine::End => return self.try_out(&wish, notes),
             ClientLine::Call(handler, request) => match wish.note(*handler, *request) {
                 Ok(true) => Reply::Noted,
                 Ok(false) => Reply::Refused(ClientError::NotReserved(*handler)),
@@ -235,15 +303,46 @@ impl<L: Link> Session<L> {
         Ok(Reply::Noted)
     }
 
-    // Tries the block until its condition holds.
-    fn try_out(&mut self, wish: &Wish) -> Result<Reply, DriverError> {
-        let tries = wish.tries();
-        if tries == 0 {
-            return Ok(Reply::ConditionFailed(0));
+    // Tries the block until its condition holds, and tells now and then how often that was.
+    fn try_out<N: Write>(&mut self, wish: &Wish, notes: &mut N) -> Result<Reply, DriverError> {
+        let mut failed = 0;
+        for told in TOLD_TRIES {
+            if wish.tries() <= told {
+                break;
+            }
+            if let Some(tried) = self.try_until(wish, failed, told)? {
+                return Ok(Reply::EndedAt(tried));
+            }
+            failed = told;
+            tell_tried(failed, self.is_typed, notes);
         }
-        let tried = self
+        match self.try_until(wish, failed, wish.tries())? {
+            Some(tried) => Ok(Reply::EndedAt(tried)),
+            None => Ok(Reply::ConditionFailed(wish.tries())),
+        }
+    }
+
+    // Tries the block, which has failed so often, until it has been tried as often as is said. Answers at which try the
+    // condition held, if it did. A block that is to be tried no further, as one with no tries at all, is left alone.
+    fn try_until(
+        &mut self,
+        wish: &Wish,
+        failed: u32,
+        tries: u32,
+    ) -> Result<Option<u32>, DriverError>
+        ensures { IfOk result (λ held. IfSome held (λ tried. failed ≤ tried)) }
+    {
+        if tries <= failed {
+            return Ok(None);
+        }
+        let more = tries - failed;
+        match self
             .driver
-            .when(wish.handlers(), wish.condition(), wish.body(), tries)?;
-        Ok(Reply::EndedAt(tried))
+            .when(wish.handlers(), wish.condition(), wish.body(), more)
+        {
+            Ok(tried) => Ok(Some(failed.saturating_add(tried))),
+            Err(DriverError::ConditionFailed(_)) => Ok(None),
+            Err(error) => Err(error),
+        }
     }
 }

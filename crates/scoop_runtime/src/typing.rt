@@ -71,7 +71,7 @@ fn refusal_advice(error: ClientError) -> &'static str
             "a query waits for its answer there: type it again once that is there"
         }
         ClientError::NotReserved(_) => {
-            "the block doesn't have this handler: end it, and reserve all handlers of the next one at once"
+            "this handler isn't among those that were reserved: name it there too, in the next block where one is open"
         }
         ClientError::WindowFull(_) => {
             "64 entries there are not acknowledged yet: type it again once some are"
@@ -112,8 +112,8 @@ fn print_note<N: Write>(reply: &Reply, is_typed: bool, notes: &mut N) -> io::Res
     print_reply_note(reply, notes)
 }
 
-// What was written goes out at once. What can't be written is lost.
-fn send_out<N: Write>(written: io::Result<()>, notes: &mut N) {
+/// What was written goes out at once. What can't be written is lost.
+pub(crate) fn send_out<N: Write>(written: io::Result<()>, notes: &mut N) {
     if written.is_ok() {
         let _flushed = notes.flush();
     }

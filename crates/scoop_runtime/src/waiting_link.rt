@@ -2,11 +2,13 @@
 
 ghost use Rattle.std.specs.Prelude.{◌≡◌, ◌++◌, ◌∷◌, [], None, OnOk};
 ghost use Rattle.std.specs.Io.KnownBytes.{Appends};
-ghost use Rattle.scoop_runtime.specs.Texts.{awaited_text, numbers_text, waiting_text};
+ghost use Rattle.scoop_runtime.specs.Silence.{Greets, greets};
+ghost use Rattle.scoop_runtime.specs.Texts.{awaited_advice, awaited_text, numbers_text, waiting_text};
 
+use scoop_frame::decode;
 use scoop_link::{Datagram, Link, LinkFault, Party};
 use scoop_message::limits::BUFFER_LEN;
-use scoop_message::{HandlerId, OutOfMemory};
+use scoop_message::{HandlerId, Message, OutOfMemory};
 use std::alloc::Global;
 use std::io;
 use std::io::Write;
@@ -25,6 +27,7 @@ pub(crate) struct WaitingLink<L: Link, E: Write + Drop> {
     inner: L,
     notes: E,
     asked: Vec<HandlerId>,
+    is_greeting: bool,
     heard: Datagram,
     silences: u32,
 }
@@ -42,16 +45,20 @@ impl<L: Link, E: Write + Drop> WaitingLink<L, E> {
             inner,
             notes,
             asked,
+            is_greeting: false,
             heard: Datagram::of(&[]),
             silences: 0,
         })
     }
 
-    // Notes that this party was sent something.
-    fn note(&mut self, to: Party)
+    // Notes that this party was sent this. Whether that is a greeting matters only where it may be told next.
+    fn note(&mut self, to: Party, bytes: &[u8])
         ensures { self.new.inner ≡ self.old.inner }
     {
         if let Party::Handler(handler) = to {
+            if self.silences == PATIENCE - 1 {
+                self.is_greeting = is_greeting(bytes);
+            }
             if self.asked.len() < self.asked.capacity() && !self.asked.contains(&handler) {
                 self.asked.push_reserved(handler);
             }
@@ -77,9 +84,25 @@ impl<L: Link, E: Write + Drop> WaitingLink<L, E> {
         }
         self.silences += 1;
         if self.silences == PATIENCE && !self.asked.is_empty() {
-            tell_waiting(&self.asked, &mut self.notes);
+            tell_waiting(self.is_greeting, &self.asked, &mut self.notes);
         }
     }
+}
+
+// Whether the bytes are the frame of a greeting.
+fn is_greeting(bytes: &[u8]) -> bool
+    ensures { Greets result bytes.now }
+{
+    match decode(bytes) {
+        Ok((_, message)) => greets(&message),
+        Err(_) => false,
+    }
+}
+
+fn greets(message: &Message) -> bool
+    ensures { result ≡ greets message.now }
+{
+    matches!(message, Message::Hello(..))
 }
 
 // Writes numbers in decimal, with a space before each.
@@ -95,28 +118,47 @@ pub(crate) fn print_numbers<W: Write>(numbers: &[HandlerId], writer: &mut W) -> 
     }
 }
 
+// Why a client may wait, and what to do: while it greets, and later.
+fn awaited_advice(is_greeting: bool) -> &'static str
+    ensures { result.now ≡ awaited_advice is_greeting }
+{
+    if is_greeting {
+        "no welcome yet; see whether the nodes run, whether all programs have the same file and the same key, and whether this client ran \
+        before with another store (go on with that one)"
+    } else {
+        "no answer, or the block of another client stands before this one; see whether the nodes run, and whether a client has \
+        stopped inside a block (begin it again)"
+    }
+}
+
 // Writes handlers that the client waits for, and why that may be.
-fn print_awaited<W: Write>(handlers: &[HandlerId], writer: &mut W) -> io::Result<()>
-    ensures { OnOk result (Appends (W.contents writer.old) (W.contents writer.new) (awaited_text handlers.now)) }
+fn print_awaited<W: Write>(
+    is_greeting: bool,
+    handlers: &[HandlerId],
+    writer: &mut W,
+) -> io::Result<()>
+    ensures { OnOk result (Appends (W.contents writer.old) (W.contents writer.new) (awaited_text is_greeting handlers.now)) }
 {
     print_numbers(handlers, writer)?;
-    writer.write_all(
-        b": no answer, or the block of another client stands before this one; see whether the nodes run, and whether a client has \
-        stopped inside a block (begin it again)\n",
-    )
+    let advice = awaited_advice(is_greeting);
+    writeln!(writer, ": {advice}")
 }
 
 // Tells for whom the client waits, and why that may be.
-fn print_waiting<W: Write>(handlers: &[HandlerId], writer: &mut W) -> io::Result<()>
-    ensures { OnOk result (Appends (W.contents writer.old) (W.contents writer.new) (waiting_text handlers.now)) }
+fn print_waiting<W: Write>(
+    is_greeting: bool,
+    handlers: &[HandlerId],
+    writer: &mut W,
+) -> io::Result<()>
+    ensures { OnOk result (Appends (W.contents writer.old) (W.contents writer.new) (waiting_text is_greeting handlers.now)) }
 {
     writer.write_all(b"scoop: waiting for handlers")?;
-    print_awaited(handlers, writer)
+    print_awaited(is_greeting, handlers, writer)
 }
 
 // The same at once. What can't be written is lost.
-fn tell_waiting<W: Write>(handlers: &[HandlerId], writer: &mut W) {
-    if print_waiting(handlers, writer).is_ok() {
+fn tell_waiting<W: Write>(is_greeting: bool, handlers: &[HandlerId], writer: &mut W) {
+    if print_waiting(is_greeting, handlers, writer).is_ok() {
         let _flushed = writer.flush();
     }
 }
@@ -127,7 +169,7 @@ impl<L: Link, E: Write + Drop> Link for WaitingLink<L, E> {
     ghost fault_count = { λ w. L.fault_count w.inner };
 
     fn send(&mut self, to: Party, bytes: &[u8]) -> Result<(), LinkFault> {
-        self.note(to);
+        self.note(to, bytes);
         self.inner.send(to, bytes)
     }
 

@@ -1,6 +1,7 @@
 //! Nodes and clients of systems in texts, over UDP of this machine.
 
 mod deals;
+mod ends;
 mod going_on;
 mod lossy_link;
 mod moments;

@@ -52,7 +52,7 @@ const ADVICES: [(RunError, &str); 3] = [
             line: 3,
             fault: InputFault::NotHex,
         },
-        "write hex digits, two for each byte of the datagram (scoop frame makes them of words); spaces are skipped, tabs and carriage returns are not",
+        "write hex digits, two for each byte of the datagram; spaces are skipped, tabs and carriage returns are not; scoop frame makes them of words that stand behind it, as scoop frame Lock 1 7.1.1",
     ),
     (
         RunError::WrongClass(ONE),

@@ -124,7 +124,12 @@ fn errors_are_told(rt: HostRuntime) -> Result<(), Fail> {
     let twice = RuntimeError::Handlers(BeginError::Repeated(HandlerId(3)));
     reads(&rt, alloc, twice, "handlers: Repeated 3", 3)?;
     let missing = RuntimeError::NoHandler(HandlerId(2));
-    reads(&rt, alloc, missing, "store: NoHandler 2", 3)
+    reads(&rt, alloc, missing, "store: NoHandler 2", 3)?;
+    let unwelcome = RuntimeError::NotWelcomed(HandlerId(2));
+    reads(&rt, alloc, unwelcome, "link: TurnsOver", 3)?;
+    let unanswered = RuntimeError::NotAnswered(HandlerId(2));
+    reads(&rt, alloc, unanswered, "link: TurnsOver", 3)?;
+    reads(&rt, alloc, RuntimeError::Refused(4), "line 4: refused", 1)
 }
 
 // What is told behind the error is about this, and has these words.
@@ -170,15 +175,28 @@ fn errors_are_told_with_what_to_do(rt: HostRuntime) {
     advises(
         &rt,
         ended(ShowError::Driver(DriverError::TurnsOver)),
-        About::Address,
-        "the same key",
+        About::Nothing,
+        "by --turns",
     );
     let inside = RuntimeError::InsideBlock;
-    advises(&rt, inside, About::Neither, "write end behind");
+    advises(&rt, inside, About::Nothing, "write end behind");
     let line = RuntimeError::Line(4, LineFault::NoSuchHandler);
-    advises(&rt, line, About::Neither, "scoop check shows the handlers");
+    advises(&rt, line, About::Nothing, "scoop check shows the handlers");
     let full = ended(ShowError::Write);
-    advises(&rt, full, About::Neither, "room for the output");
+    advises(&rt, full, About::Nothing, "room for the output");
+}
+
+#[test]
+fn a_clients_errors_name_what_they_are_about(rt: HostRuntime) {
+    let at = About::Handler(HandlerId(2));
+    let unwelcome = RuntimeError::NotWelcomed(HandlerId(2));
+    advises(&rt, unwelcome, at, "before with another store");
+    let unanswered = RuntimeError::NotAnswered(HandlerId(2));
+    advises(&rt, unanswered, at, "stopped inside a block");
+    let line = RuntimeError::Line(4, LineFault::NotANumber);
+    advises(&rt, line, About::Nothing, "decimal digits");
+    let refused = RuntimeError::Refused(4);
+    advises(&rt, refused, About::Nothing, "without --strict");
 }
 
 // The range is told in these words.
@@ -219,13 +237,24 @@ fn says(rt: &impl Abort, alloc: Global, progress: Progress, text: &str) -> Resul
 #[test]
 fn progress_is_told(rt: HostRuntime) -> Result<(), Fail> {
     let alloc = rt.alloc();
+    let unready =
+        "the client was not ready, and no line was read: go on with --store, or with the store of an earlier run where there is one";
+    let greeting = Progress {
+        is_ready: false,
+        answered: None,
+        has_begun: false,
+        unended: Unended::Nothing,
+    };
+    says(&rt, alloc, greeting, unready)?;
     let none = Progress {
+        is_ready: true,
         answered: None,
         has_begun: false,
         unended: Unended::Nothing,
     };
     says(&rt, alloc, none, "no line was answered: go on with --store")?;
     let inside = Progress {
+        is_ready: true,
         answered: Some(3),
         has_begun: true,
         unended: Unended::Block,
@@ -235,6 +264,7 @@ fn progress_is_told(rt: HostRuntime) -> Result<(), Fail> {
         it: go on with --store, and begin with reserve";
     says(&rt, alloc, inside, text)?;
     let waiting = Progress {
+        is_ready: true,
         answered: Some(2),
         has_begun: false,
         unended: Unended::When,

@@ -276,6 +276,7 @@ fn a_line_that_cannot_be_read_is_told_to_who_types(rt: HostRuntime) -> Result<()
 // The lines up to this one were answered, and this isn't ended.
 fn answered_to(line: u32, unended: Unended) -> Progress {
     Progress {
+        is_ready: true,
         answered: Some(line),
         has_begun: false,
         unended,
@@ -303,6 +304,36 @@ fn nothing_is_done_of_a_block_that_waits_before_its_end(rt: HostRuntime) -> Resu
     assert!(rt; is(&told.output, "noted\nnoted\n"));
     assert_eq!(rt; told.ended, Err(RuntimeError::InsideWhen));
     assert_eq!(rt; told.progress, Some(answered_to(2, Unended::When)));
+    Ok(())
+}
+
+// A condition that never holds, and one that holds once its own queries have paid eleven times.
+const TRIES: &[u8] = b"\
+reserve 1 when 1 balance least 101 tries 11
+end
+reserve 1 when 1 deposit 1 least 112 tries 20
+end
+";
+
+const TRIED: &str = "\
+noted
+condition failed 11
+noted
+ended 12
+";
+
+#[test]
+fn who_types_is_told_how_often_a_block_was_tried(rt: HostRuntime) -> Result<(), Fail> {
+    let alloc = rt.alloc();
+    let system = accounts_at(alloc, "4777").ok_or("no system")?;
+    let told = ended(&rt, alloc, &system, TRIES, true).ok_or("no client")?;
+    assert!(rt; is(&told.output, TRIED));
+    let tried = b"scoop: the condition held at none of 10 tries, and the block is tried again\n";
+    assert!(rt; told.notes.ends_with(tried));
+    assert_eq!(rt; told.ended, Ok(()));
+    let told = ended(&rt, alloc, &system, TRIES, false).ok_or("no client")?;
+    assert!(rt; is(&told.output, TRIED));
+    assert!(rt; told.notes.is_empty());
     Ok(())
 }
 

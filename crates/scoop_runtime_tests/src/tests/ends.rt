@@ -1,0 +1,124 @@
+//! How a client ends whose link gives nothing, or a welcome alone.
+
+use super::text_lines::TextLines;
+use scoop_keeper::MemoryKeeper;
+use scoop_link::TapeLink;
+use scoop_message::{ClientId, HandlerId};
+use scoop_runtime::{ClientPlan, ClientStop, Progress, RuntimeError, Unended, client_run};
+use scoop_system::System;
+use std::alloc::Global;
+use std::test::Fail;
+
+const CELL: &str = "\
+[[node]]
+number = 1
+address = \"127.0.0.1:47101\"
+[[handler]]
+number = 1
+node = 1
+class = \"cell\"
+words = [4]
+[[client]]
+number = 7
+address = \"127.0.0.1:47107\"
+batch = 4
+";
+
+// Handler 1 welcomes client 7 in its first incarnation.
+const WELCOME: [u8; 26] = [
+    0x53, 0x51, 1, 2, 0, 0, 0, 1, 0, 0, 0, 7, 0, 0, 0, 1, 0, 0, 0, 0, 0, 0, 0, 0, 0, 0,
+];
+
+// How many turns a line takes at most.
+const TURNS: u64 = 3;
+
+// Runs the client over a link that gives these datagrams. Answers how it ends, and what it wrote.
+fn ask_planned(
+    alloc: Global,
+    plan: &ClientPlan<'_>,
+    datagrams: &[[u8; 26]],
+    lines: &[u8],
+) -> Option<(Result<(), ClientStop>, Vec<u8>)> {
+    let mut link = TapeLink::new(alloc, 64).ok()?;
+    for datagram in datagrams {
+        link.feed(datagram).ok()?;
+    }
+    let mut keeper = MemoryKeeper::new(alloc);
+    let mut output = Vec::new(alloc);
+    let mut notes = Vec::new(alloc);
+    let ended = client_run(
+        alloc,
+        plan,
+        &mut keeper,
+        link,
+        &mut TextLines::new(lines),
+        Vec::new(alloc),
+        &mut output,
+        &mut notes,
+    );
+    Some((ended, output))
+}
+
+// The plan of client 7.
+fn plan_in(system: &System) -> Option<ClientPlan<'_>> {
+    let place = *system.client(ClientId(7))?;
+    ClientPlan::new(system, place, TURNS, false).ok()
+}
+
+#[test]
+fn a_client_that_nobody_welcomes_names_the_handler(rt: HostRuntime) -> Result<(), Fail> {
+    let alloc = rt.alloc();
+    let system = System::read(alloc, CELL)?;
+    let plan = plan_in(&system).ok_or("no plan")?;
+    let (ended, output) = ask_planned(alloc, &plan, &[], b"reserve 1\n").ok_or("no client")?;
+    let progress = Progress {
+        is_ready: false,
+        answered: None,
+        has_begun: false,
+        unended: Unended::Nothing,
+    };
+    let error = RuntimeError::NotWelcomed(HandlerId(1));
+    assert_eq!(rt; ended, Err(ClientStop { error, progress }));
+    assert!(rt; output.is_empty());
+    Ok(())
+}
+
+#[test]
+fn a_client_that_nobody_answers_names_the_handler(rt: HostRuntime) -> Result<(), Fail> {
+    let alloc = rt.alloc();
+    let system = System::read(alloc, CELL)?;
+    let plan = plan_in(&system).ok_or("no plan")?;
+    let (ended, output) = ask_planned(alloc, &plan, &[WELCOME], b"reserve 1\n").ok_or("no client")?;
+    let progress = Progress {
+        is_ready: true,
+        answered: None,
+        has_begun: true,
+        unended: Unended::Block,
+    };
+    let error = RuntimeError::NotAnswered(HandlerId(1));
+    assert_eq!(rt; ended, Err(ClientStop { error, progress }));
+    assert!(rt; output.is_empty());
+    Ok(())
+}
+
+#[test]
+fn a_strict_client_ends_behind_its_first_refusal(rt: HostRuntime) -> Result<(), Fail> {
+    let alloc = rt.alloc();
+    let system = System::read(alloc, CELL)?;
+    let plan = plan_in(&system).ok_or("no plan")?;
+    let lines = b"# two ends\nend\nend\n";
+    let (ended, output) = ask_planned(alloc, &plan, &[WELCOME], lines).ok_or("no client")?;
+    assert_eq!(rt; ended, Ok(()));
+    assert!(rt; output.as_slice() == "refused NoBlock\nrefused NoBlock\n".as_bytes());
+    let (ended, output) = ask_planned(alloc, &plan.strict(), &[WELCOME], lines).ok_or("no client")?;
+    let progress = Progress {
+        is_ready: true,
+        answered: Some(2),
+        has_begun: false,
+        unended: Unended::Nothing,
+    };
+    let error = RuntimeError::Refused(2);
+    assert_eq!(rt; ended, Err(ClientStop { error, progress }));
+    assert!(rt; output.as_slice() == "refused NoBlock\n".as_bytes());
+    Ok(())
+}
