@@ -1,10 +1,10 @@
 #!/usr/bin/env python3
 """Refuses each allocation of a store's calls in turn: python3 bench/refused.py [--work FOLDER] [--coarse N] [CALL ..]
 
-The program is the one of docs/CHECKS.md, "Memory that is refused to a store". `rt try` builds it, and runs it once for
-each allocation that is refused. Where a call's allocations stand in a run is found by refusing each N-th one; then each
-one is refused from before the first that the call answered to behind the last. A row for each call tells how many runs
-there were and how they came out. A run that came out badly is printed, and then the status is 1.
+`rt try` builds the program bench/refused.rt.txt, and runs it once for each refused allocation. To find a call's
+allocations in a run, each N-th one is refused first. Then each one is refused, from before the first that the call
+answered to past the last. A row for each call tells how its runs came out. A run that came out badly is printed, and
+then the status is 1.
 
 CALL is create, adopt, migrate, put, load or next; without one, all six are made. --work FOLDER leaves all that was printed
 there. It takes half an hour of processor time for all six.
@@ -19,7 +19,6 @@ import tempfile
 
 TOP = os.path.dirname(os.path.dirname(os.path.abspath(__file__)))
 CALLS = ['create', 'adopt', 'migrate', 'put', 'load', 'next']
-HEADING = '## Memory that is refused to a store'
 USES = '\nrefused: scoop_message scoop_handler scoop_record sqlite anyhow\n'
 # The allocation that is refused, counted from the program's start. The program first makes so many that it is the wanted
 # one of the call.
@@ -32,10 +31,9 @@ UNREAD, ABSORBED, WANTED, BAD = 'not begun', 'answered all the same', 'answered 
 
 
 def program():
-    """The program as docs/CHECKS.md has it."""
-    with open(os.path.join(TOP, 'docs', 'CHECKS.md')) as text:
-        section = text.read().split(HEADING, 1)[1]
-    return section.split('```rust\n', 1)[1].split('```', 1)[0]
+    """The text of the program."""
+    with open(os.path.join(TOP, 'bench', 'refused.rt.txt')) as text:
+        return text.read()
 
 
 def build_tree(folder):

@@ -1,9 +1,9 @@
--- A stock of goods: how many are left, and how many were ordered.
+-- A stock of goods: the number left, and the number ordered.
 use Rattle.std.specs.Prelude.{[], ◌∷◌, Some, None}
 use Rattle.scoop_object.specs.declared.term.Term.TheVariants.{Const, Word, Arg}
 use Rattle.scoop_object.specs.Class.{ClassTable}
 
--- 1 orders as many as the argument says, where so many are left; 2 tells how many are left
+-- 1 orders the argument's number, if that many are left; 2 gets the number left
 abbrev pub stock_class : ClassTable
 stock_class =
     record {

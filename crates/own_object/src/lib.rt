@@ -1,9 +1,9 @@
-//! An example: an object of one's own, and the table of its class, proved to be each other.
+//! An example: an object of one's own, and the table of its class, proved to agree.
 //!
-//! Handlers run an object of any type, as long as it does what the table of a class says: then a client's answers,
-//! a node's record and the replay of a history mean the same, whether the object is this type or a `Table` that
-//! interprets the rows. The table is `stock_class` in `specs/Stock.antt`; that the type does what it says is the
-//! contract of the trait `Object`.
+//! Handlers run an object of any type, as long as it follows the table of a class. Then a client's answers, a
+//! node's record and the replay of a history mean the same for this type and for a `Table` that interprets the
+//! rows. The table is `stock_class` in `specs/Stock.antt`. The contract of the trait `Object` says that the type
+//! follows it.
 //!
 //! ```
 //! let mut stock = StockObject::new(10, 0);

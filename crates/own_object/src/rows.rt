@@ -7,10 +7,10 @@ ghost use Rattle.own_object.specs.Stock.{stock_class};
 use scoop_message::limits::MAX_WRITES;
 use scoop_object::{OpRow, Term, Write, Writes};
 
-/// The operation that orders as many as its argument says, and answers how many are left.
+/// The operation that orders the argument's number, and returns the number left.
 pub const ORDER: u16 = 1;
 
-/// The operation that answers how many are left.
+/// The operation that returns the number left.
 pub const LEFT: u16 = 2;
 
 const NONE: Term = Term::Const(0);
@@ -21,7 +21,7 @@ const ORDERED_WORD: Term = Term::Word(1);
 
 const WANTED: Term = Term::Arg(0);
 
-/// An order is refused where fewer are left; the second operation tells how many are.
+/// An order is refused if fewer are left; the second operation gets the number left.
 pub fn stock_rows() -> [OpRow; 2]
     ensures { result ≡ stock_class.rows }
 {

@@ -7,7 +7,7 @@ use crate::rows::stock_rows;
 use scoop_message::{Answer, Request, Words};
 use scoop_object::{Class, Object, WrongWords};
 
-/// A stock of goods: how many are left, and how many were ordered, which stops at the greatest number.
+/// A stock of goods: the number left, and the number ordered, which stops at the greatest number.
 #[derive(Drop, Debug)]
 pub struct StockObject {
     left: u64,
@@ -15,7 +15,7 @@ pub struct StockObject {
 }
 
 impl StockObject {
-    /// A stock with so many left, and so many ordered before.
+    /// Makes a stock with `left` goods left, and `ordered` ordered before.
     pub fn new(left: u64, ordered: u64) -> StockObject
         ensures class { ⟦<StockObject as Object>⟧.class result ≡ stock_class }
         ensures words { ⟦<StockObject as Object>⟧.words result ≡ left ∷ ordered ∷ [] }

@@ -1,51 +1,32 @@
 //! The program `scoop`: SCOOP handlers, by the messages that are sent to them.
 //!
-//! `scoop answer`, as the gate runs it: client 7 asks for a lock before it has greeted, greets, and asks again; then it
-//! opens its private queue and gives the lock back. Above are the lines that it reads, below those that it writes (`stdin`
-//! and `stdout` of this crate).
+//! Its commands stand in libraries. This crate has the entry, and makes the objects in boxes.
+//!
+//! The example is `scoop answer`, as the gate runs it. Client 7 asks for a lock before it has greeted, greets, and asks
+//! again. The first lines are its input, the last ones its output (`stdin` and `stdout` of this crate).
 //!
 //! ```
 //! 53510103 00000001 00000007 00000001 00000001 00000000 0000
 //! 53510101 00000001 00000007 00000001 00000000 00000000 0000
 //! 53510103 00000001 00000007 00000001 00000001 00000000 0000
-//! 53510106 00000001 00000007 00000001 00000001 00000000 0000
-//! 53510108 00000001 00000007 00000001 00000001 00000000 0000
 //!
 //! none Dropped Ungreeted
 //! 5351010200000001000000070000000100000000000000000000
 //! 5351010400000001000000070000000100000001000000000000
-//! 5351010700000001000000070000000100000001000000000000
-//! 5351010900000001000000070000000100000001000000000000
 //! ```
 #![tactic(auto)]
 
-mod answering;
 mod arguments;
-mod asking;
-mod checking;
-mod ending;
-mod failure;
-mod framing;
-mod kind;
-mod playing;
-mod serving;
-mod showing;
-mod stores;
-mod system_file;
-mod typed_lines;
+mod objects;
 
-use answering::answer;
-use arguments::words;
-use asking::run_client;
-use checking::check;
+use arguments::{report_command_line, words};
 use clap::ArgMatches;
-use failure::Failure;
-use framing::frame;
-use playing::play;
+use objects::{answer_with_object, show_with_objects};
 use scoop_classes::DemoClass;
-use scoop_command_line::command;
-use serving::serve_node;
-use showing::demonstrate;
+use scoop_command_line::{Asked, asked_in, parse};
+use scoop_local_commands::{frame, play};
+use scoop_report::Status;
+use scoop_system_commands::{check, run_client, serve_node};
 use std::net::Net;
 use std::process::ExitCode;
 use std::sync::Wait;
@@ -54,39 +35,40 @@ use std::time::Clock;
 
 fn main(rt: HostRuntime) -> ExitCode {
     match scoop(&rt, &rt) {
-        Ok(status) => ExitCode::from(status),
-        Err(failure) => ExitCode::from(failure.report(&rt)),
+        Ok(status) | Err(Status(status)) => ExitCode::from(status),
     }
 }
 
-// Reads the command line and runs what it asks for. Answers the program's status. The second handle, which is the first
+// Reads the command line and runs what it asks for. Returns the program's status. The second handle, which is the first
 // one too, starts threads and opens sockets.
 fn scoop<T: Threads + Wait + Clock + Net + Sync>(
     rt: &HostRuntime,
     threads: &T,
-) -> Result<u8, Failure> {
+) -> Result<u8, Status> {
     let words = words(rt)?;
     let class_names = DemoClass::names();
-    let matches = command(rt.alloc(), &class_names)?.try_get_matches_from(words.as_slice())?;
-    run(rt, threads, &matches)
+    match parse(rt.alloc(), &class_names, words.as_slice()) {
+        Ok(matches) => run(rt, threads, &matches),
+        Err(error) => Err(report_command_line(rt, &error)),
+    }
 }
 
-// Runs the subcommand that was given. What it was found in is lent, so that no way out of here has it to drop: the proof
-// of each would follow all that the command line holds.
+// Runs the subcommand that was given. The matches are borrowed, so that no early return has to drop them: the proof of
+// each would follow all that the command line holds.
 fn run<T: Threads + Wait + Clock + Net + Sync>(
     rt: &HostRuntime,
     threads: &T,
     matches: &ArgMatches<'_>,
-) -> Result<u8, Failure> {
-    match matches.subcommand() {
-        Some(("answer", given)) => answer(rt, given)?,
-        Some(("world", given)) => play(rt, given)?,
-        Some(("frame", given)) => frame(rt, given)?,
-        Some(("demo", given)) => return demonstrate(rt, threads, given),
-        Some(("check", given)) => check(rt, given)?,
-        Some(("node", given)) => serve_node(rt, threads, given)?,
-        Some(("client", given)) => run_client(rt, threads, given)?,
-        _ => {}
+) -> Result<u8, Status> {
+    match asked_in(matches) {
+        Asked::Answer(options) => answer_with_object(rt, &options)?,
+        Asked::World(options) => play(rt, &options)?,
+        Asked::Frame(words) => frame(rt, words)?,
+        Asked::Demo(options) => return show_with_objects(rt, threads, &options),
+        Asked::Check(path) => check(rt, path)?,
+        Asked::Node(options) => serve_node(rt, threads, &options)?,
+        Asked::Client(options) => run_client(rt, threads, &options)?,
+        Asked::Nothing => {}
     }
     Ok(0)
 }

@@ -1,6 +1,6 @@
--- What is so of the handlers of a book after a move, and of a book after one more entry. The code writes the handler that it
--- found at its place, and puts its state with the keeper: that is the move of the event's handler, after which the keeper has
--- the new state, and of all others what it had. A refusal leaves the handlers as they were, and tells what stood in the way.
+-- The handlers of a book after a move, and a book after one more entry. The code writes the handler at the place where it was
+-- found, and puts its state with the keeper. That is the move of the event's handler. Afterwards the keeper has the new state, and
+-- of all others what it had. A refusal leaves the handlers as they were, and names the reason.
 use Rattle.std.proofs.Common.{◌≡◌, ◌⊎◌, ⊎_elim, ◌||◌, ℕ, zero, suc, ◌+◌, ◌<◌, ◌≤◌, Bool, true, false, true≢false, List, [], ◌∷◌, ◌++◌, map, length, set, get_or}
 use Rattle.std.proofs.Common.{slice_get, Option, Some, None, Result, Ok, Err, refl, sym, ap, ◌∙◌, subst, arith, length-append}
 use Rattle.std.specs.Prelude.{◌≢◌, ◌↔◌, ⊤, IfSome, IfOk, IfErr, OnOk, OnErr}
@@ -29,13 +29,13 @@ use Rattle.scoop_keeper.specs.Keyed.{IsFirst}
 use Rattle.scoop_keeper.proofs.Keyed.{all_newer, all_set_at, item_at, key_at, put_again, set_newer, some_at}
 use Rattle.scoop_book.specs.Moves.{LocalHandler, Entry, number_in, is_handler, handler_in, with_handler, handler_at, after_hearing, after_finish, HandlerMoves}
 use Rattle.scoop_book.specs.Moves.{Moves, Replays}
-use Rattle.scoop_keeper.specs.declared.running.JobRefusal.{JobRefusal}
-use Rattle.scoop_keeper.specs.declared.running.JobRefusal.TheVariants as jobs
+use Rattle.scoop_keeper.specs.declared.storing.JobRefusal.{JobRefusal}
+use Rattle.scoop_keeper.specs.declared.storing.JobRefusal.TheVariants as jobs
 use Rattle.scoop_book.specs.declared.error.BookError.{BookError}
 use Rattle.scoop_book.specs.declared.error.BookError.TheVariants.{NodeFailed, HistoryFull, UnknownHandler, StoreRefused, OutOfMemory}
 use Rattle.scoop_book.specs.declared.error.FinishRefusal.{FinishRefusal}
 use Rattle.scoop_book.specs.declared.error.FinishRefusal.TheVariants as unfinished
-use Rattle.scoop_book.specs.Books.{BookValue, IsBook, HasStored, KeepsNew, Gains, MayHappen, IsRefused, IsStranger, MayFinish, IsUnfinished, HasNoPlace}
+use Rattle.scoop_book.specs.Books.{BookValue, IsBook, IsSince, HasStored, KeepsNew, Gains, MayHappen, IsRefused, IsStranger, MayFinish, IsUnfinished, HasNoPlace}
 use Rattle.scoop_book.specs.Books.{fails_to_finish, no_place_to_finish, refusal_of}
 use Rattle.scoop_book.specs.Kept.{IsHeld, HandlersValue, handlers_kept, book_kept}
 use Rattle.scoop_book.proofs.Places.{own_found}
@@ -83,7 +83,7 @@ module _ (hs : List LocalHandler) (i : ℕ) (old new : LocalHandler) (event : Ev
   apart_still : NoRepeats (map number_in (set hs i new))
   apart_still = subst NoRepeats (sym (numbers_stay hs i old new at same_number)) apart
 
-  -- what the keeper has, once the new state is put
+  -- the keeper has all states, after the new one is put
   kept_put : (has now : ℕ → Stored → Type 0) (t : HandlerState) → new.stored ≡ Some t → t.number ≡ number_in new → Keeps has now t
       → AllByRecursion (HasStored has) hs → AllByRecursion (HasStored now) (set hs i new)
   kept_put has now t stored own keeps all =
@@ -103,7 +103,7 @@ module _ (hs : List LocalHandler) (i : ℕ) (old new : LocalHandler) (event : Ev
           let id : ℕ → HandlerId = λ n. record { 0 = n } in
           true≢false (sym ((handler_decides (number_in x) (number_in new)).1 (ap id e)) ∙ other)
 
-  -- and where nothing is put
+  -- and if nothing is put
   kept_same : (has : ℕ → Stored → Type 0) → new.stored ≡ old.stored → AllByRecursion (HasStored has) hs → AllByRecursion (HasStored has) (set hs i new)
   kept_same has stored all =
       all_set_at (HasStored has) hs i new all
@@ -153,7 +153,7 @@ held_refused has is_honest hs ks k l held same honest stays =
     subst (λ (xs : List LocalHandler). IsHeld has is_honest (handlers_kept xs l)) (sym same)
     (record { apart = held.apart; kept = λ h. kept_stays (has k) (has l) hs (stays h) (held.kept (honest h)) })
 
--- what was read at a place, of what is found there
+-- a fact of an item read at a place is one of the item found there
 pub if_read : {A : Type 0} (P : A → Type 0) (xs : List A) (i : ℕ) (x : A) → i < length xs → x ≡ get_or xs i x → P x → IfSome (slice_get xs i) P
 if_read P xs i x within is p = subst (λ o. IfSome o P) (sym (item_at xs i x within is)) p
 
@@ -201,7 +201,7 @@ module _ {K : Type 0} (has : K → ℕ → Stored → Type 0) (is_honest : K →
         → IsHeld has is_honest (handlers_kept (set hs i new) l)
     call_refused l new same honest stays = held_refused has is_honest hs (set hs i new) k l held_here (put_back new same) honest stays
 
-    -- what the handler had stored
+    -- the keeper had the handler's stored state
     pub had_stored : is_honest k → has k (number_in old).0 (stored_of old.stored)
     had_stored honest = (all_at (HasStored (has k)) hs i old (item_at hs i old first_here.within is) (held_here.kept honest)).has_stored
 
@@ -291,6 +291,12 @@ pub entered : (es xs fs : List Entry) (pass : ℕ) (event : Event) (reply told :
 entered es xs fs pass event reply told put items same =
     put ∙ ap (λ (ys : List Entry). ys ++ (pass, event, told) ∷ []) items ∙ ap (λ (r : Reply). es ++ (pass, event, r) ∷ []) same
 
+-- a keeper that follows one follows what that one follows
+since_on : {K : Type 0} (has : K → ℕ → Stored → Type 0) (is_honest : K → Type 0) (opening : List LocalHandler) (k l : K) → IsSince has is_honest opening k
+    → (is_honest l → is_honest k) → IsSince has is_honest opening l
+since_on has is_honest opening k l since honest =
+    record { first = since.first; honest = λ h. since.honest (honest h); had = λ h. since.had (honest h) }
+
 module _ {K : Type 0} (opening : List LocalHandler) (v : HandlersValue K) (es : List Entry) (limit : ℕ) (failed : Bool) (b : BookValue K)
     (view : book_kept opening v.handlers es limit failed v.keeper ≡ b) where
   pub keeper_is : v.keeper ≡ b.keeper
@@ -319,28 +325,31 @@ module _ {K : Type 0} (opening : List LocalHandler) (v : HandlersValue K) (es : 
         subst (λ (x : BookValue K). Gains pass event reply x (book_kept opening w.handlers fs limit failed w.keeper)) view
         (record { moves = moves; history = entered; opening = refl; limit = refl; failed = refl })
 
-    pub book_more : (has : K → ℕ → Stored → Type 0) (is_honest : K → Type 0) → Replays opening es v.handlers → length es < limit → IsHeld has is_honest w
-        → IsBook has is_honest (book_kept opening w.handlers fs limit failed w.keeper)
-    book_more has is_honest replays room held =
+    pub book_more : (has : K → ℕ → Stored → Type 0) (is_honest : K → Type 0)
+        → IsBook has is_honest (book_kept opening v.handlers es limit failed v.keeper) → length es < limit → IsHeld has is_honest w
+        → (is_honest w.keeper → is_honest v.keeper) → IsBook has is_honest (book_kept opening w.handlers fs limit failed w.keeper)
+    book_more has is_honest book room held honest =
         let longer : length fs ≡ length es + 1 = ap length entered ∙ length-append es ((pass, event, reply) ∷ []) in
         record {
           replays = subst (λ (xs : List Entry). Replays opening xs w.handlers) (sym entered)
-              (replays_more opening es (pass, event, reply) v.handlers w.handlers replays moves);
+              (replays_more opening es (pass, event, reply) v.handlers w.handlers book.replays moves);
           apart = held.apart;
           room = omega (arith, longer, room);
           kept = held.kept;
+          since = since_on has is_honest opening v.keeper w.keeper book.since honest;
         }
 
   -- none
   pub book_same : (has : K → ℕ → Stored → Type 0) (is_honest : K → Type 0) (w : HandlersValue K) (fs : List Entry) (fails : Bool)
       → IsBook has is_honest (book_kept opening v.handlers es limit failed v.keeper) → w.handlers ≡ v.handlers → fs ≡ es → IsHeld has is_honest w
-      → IsBook has is_honest (book_kept opening w.handlers fs limit fails w.keeper)
-  book_same has is_honest w fs fails book same entries held = record {
+      → (is_honest w.keeper → is_honest v.keeper) → IsBook has is_honest (book_kept opening w.handlers fs limit fails w.keeper)
+  book_same has is_honest w fs fails book same entries held honest = record {
     replays = subst (λ (xs : List Entry). Replays opening xs w.handlers) (sym entries)
         (subst (λ (ks : List LocalHandler). Replays opening es ks) (sym same) book.replays);
     apart = held.apart;
     room = subst (λ (xs : List Entry). length xs ≤ limit) (sym entries) book.room;
     kept = held.kept;
+    since = since_on has is_honest opening v.keeper w.keeper book.since honest;
   }
 
 -- a refusal that comes only where the event may happen

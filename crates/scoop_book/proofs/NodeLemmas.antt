@@ -1,13 +1,15 @@
--- What a pass has gained, and what a node's book has entered.
-use Rattle.std.proofs.Common.{◌≡◌, ◌<◌, ℕ, List, [], ◌∷◌, ◌++◌, Option, Result, Ok, Err, ap, sym, ◌∙◌, subst}
-use Rattle.std.specs.Prelude.{IfOk}
+-- One more event of a pass, one more entry of a node's book, and a node's last clauses.
+use Rattle.std.proofs.Common.{◌≡◌, ◌<◌, ℕ, List, [], ◌∷◌, ◌++◌, Option, Some, Result, Ok, Err, ap, sym, ◌∙◌, subst}
+use Rattle.std.specs.Prelude.{◌↔◌, Bool, IsTrue, IfOk, IfErr}
 use Rattle.std.specs.List.{All}
+use Rattle.scoop_handler.specs.Running.{Task}
 use Rattle.scoop_keeper.specs.Keeper.{Stored}
 use Rattle.scoop_book.specs.declared.event.Event.{Event}
 use Rattle.scoop_book.specs.declared.event.Reply.{Reply}
+use Rattle.scoop_book.specs.declared.error.FinishRefusal.{FinishRefusal}
 use Rattle.scoop_book.specs.Moves.{LocalHandler, Entry, Replays}
-use Rattle.scoop_book.specs.Books.{BookValue, IsBook, Gains}
-use Rattle.scoop_book.specs.Closing.{Agrees, IsClosed, IsComplete, IsEntered}
+use Rattle.scoop_book.specs.Books.{BookValue, IsBook, IsSince, Gains, IsUnfinished}
+use Rattle.scoop_book.specs.Closing.{Agrees, Differs, FollowsOpening, IsClosed, IsComplete, IsEntered, WasSo}
 use Rattle.scoop_book.specs.Passes.{PassValue, pass_value, with_event}
 
 pub if_entered : {T E K : Type 0} (has : K → ℕ → Stored → Type 0) (is_honest : K → Type 0) (pass : ℕ) (event : Event) (reply : T → Reply)
@@ -16,6 +18,17 @@ pub if_entered : {T E K : Type 0} (has : K → ℕ → Stored → Type 0) (is_ho
     → IfOk r (λ x. IsEntered has is_honest pass event (reply x))
 if_entered has is_honest pass event reply old new (Ok x) gains before after = record { old = old; new = new; before = before; gains = gains; after = after }
 if_entered has is_honest pass event reply old new (Err e) gains before after = tt
+
+pub if_refused : {T E K : Type 0} (has : K → ℕ → Stored → Type 0) (is_honest : K → Type 0) (P : BookValue K → E → Type 0) (old : BookValue K) (r : Result T E)
+    → IfErr r (P old) → IsBook has is_honest old → IfErr r (WasSo has is_honest P)
+if_refused has is_honest P old (Ok x) so sound = tt
+if_refused has is_honest P old (Err e) so sound = record { book = old; sound = sound; so = so }
+
+pub if_unfinished : {T E K : Type 0} (has : K → ℕ → Stored → Type 0) (is_honest : K → Type 0) (t : Task) (cause : E → FinishRefusal) (old : BookValue K)
+    (r : Result T E) → IfErr r (λ e. IsUnfinished old t (cause e)) → IsBook has is_honest old
+    → IfErr r (λ e. WasSo has is_honest (λ (b : BookValue K). IsUnfinished b t) (cause e))
+if_unfinished has is_honest t cause old (Ok x) so sound = tt
+if_unfinished has is_honest t cause old (Err e) so sound = record { book = old; sound = sound; so = so }
 
 pub pass_gains : (number : ℕ) (opening : Option (List LocalHandler)) (xs ys zs : List (Event × Reply)) (event was : Event) (reply told : Reply) (p : PassValue)
     → pass_value number opening xs ≡ p → zs ≡ ys ++ (was, told) ∷ [] → ys ≡ xs → was ≡ event → told ≡ reply
@@ -47,3 +60,37 @@ closed_of has is_honest b count n ps qs opening es hs k number given opens entri
     (subst (λ (xs : List Entry). IsClosed count ps xs (has b.keeper) (is_honest b.keeper)) (entries ∙ sym left)
     (subst (λ (rs : List PassValue). IsClosed count rs es (has b.keeper) (is_honest b.keeper)) given
     (subst (λ (m : ℕ). IsClosed m qs es (has b.keeper) (is_honest b.keeper)) number right)))
+
+-- a list that is kept, compared with another
+pub keeps_is : {b : Bool} (o : Option (List LocalHandler)) (kept read given : List LocalHandler) → o ≡ Some kept → read ≡ kept → IsTrue b ↔ (read ≡ given)
+    → IsTrue b ↔ (o ≡ Some given)
+keeps_is o kept read given is same decides = (
+  (λ t. is ∙ ap Some (sym same ∙ decides.0 t)),
+  (λ e. let both : Some kept ≡ Some given = sym is ∙ e in let one : kept ≡ given = cc in decides.1 (same ∙ one)),
+)
+
+-- a first pass that agrees keeps the handlers as they opened
+pub follows_of : {K : Type 0} (has : K → ℕ → Stored → Type 0) (is_honest : K → Type 0) (b : BookValue K) (ps qs : List PassValue) (opening : List LocalHandler)
+    (es : List Entry) (k : K) → qs ≡ ps → opening ≡ b.opening → k ≡ b.keeper → IsBook has is_honest b → All (Agrees opening es) qs
+    → FollowsOpening has is_honest ps k
+follows_of has is_honest b ps qs opening es k given opens keeper book agree =
+    subst (λ (x : _). FollowsOpening has is_honest ps x) (sym keeper)
+    (subst (λ (rs : List PassValue). FollowsOpening has is_honest rs b.keeper) given
+    (λ i d within first kept is.
+    let same : Some opening ≡ Some kept = sym ((agree i d within).starts first) ∙ is in
+    let one : opening ≡ kept = cc in
+    subst (λ (os : List LocalHandler). IsSince has is_honest os b.keeper) (sym opens ∙ one) book.since))
+
+-- why a pass differs, said of the book
+pub differs_of : {K : Type 0} (has : K → ℕ → Stored → Type 0) (is_honest : K → Type 0) (b : BookValue K) (count n : ℕ) (ps qs : List PassValue)
+    (opening : List LocalHandler) (es : List Entry) (i : ℕ) → n ≡ count → qs ≡ ps → opening ≡ b.opening → es ≡ b.history → IsBook has is_honest b
+    → Differs opening es n qs i → WasSo has is_honest (λ (x : BookValue K). Differs x.opening x.history count ps) i
+differs_of has is_honest b count n ps qs opening es i number given opens entries sound differs = record {
+  book = b;
+  sound = sound;
+  so =
+      subst (λ (x : ℕ). Differs b.opening b.history x ps i) number
+      (subst (λ (xs : List PassValue). Differs b.opening b.history n xs i) given
+      (subst (λ (xs : List Entry). Differs b.opening xs n qs i) entries
+      (subst (λ (os : List LocalHandler). Differs os es n qs i) opens differs)));
+}

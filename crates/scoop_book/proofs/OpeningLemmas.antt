@@ -1,8 +1,7 @@
--- How handlers open, one by one, and what is so of a book that has opened. Each is loaded from a keeper that the loads before
--- may have changed; an honest keeper has what it had (`Stays`), so what a later keeper shows of a handler was so of the first
--- one, and so is why it refuses. That is how the loop's invariant goes on: the handlers so far are open as the first keeper has
--- them (`Opened`). When all are open, they have the numbers that were handed over, each has its stored state with the keeper,
--- and the book is sound (`opened_book`).
+-- Handlers that open one by one, and a book that has opened. Each handler is loaded from a keeper that the earlier loads may have
+-- changed. An honest keeper has what it had (`Stays`), so what a later keeper shows of a handler, or why it refuses, was so of the
+-- first one. That carries the loop's invariant on: the handlers so far are open as the first keeper has them (`Opened`). At the
+-- end they have the caller's numbers, the keeper has each one's stored state, and the book is sound (`opened_book`).
 use Rattle.std.proofs.Common.{◌≡◌, ◌⊎◌, ⊎_elim, inl, inr, ℕ, Bool, zero, suc, List, [], ◌∷◌, ◌++◌, map, Option, Some, None, refl, sym, ap, ◌∙◌, subst, arith}
 use Rattle.std.specs.Prelude.{IfSome}
 use Rattle.std.specs.List.{AllByRecursion, Any}
@@ -17,7 +16,7 @@ use Rattle.scoop_book.specs.declared.error.OpenError.{OpenError}
 use Rattle.scoop_book.specs.declared.error.OpenError.TheVariants.{NoPasses, WrongClass, Repeated, Keeper, OutOfMemory}
 use Rattle.scoop_message.specs.Lists.{NoRepeats}
 use Rattle.scoop_book.specs.Moves.{LocalHandler, Entry, number_in}
-use Rattle.scoop_book.specs.Books.{HasStored, IsBook}
+use Rattle.scoop_book.specs.Books.{HasStored, IsAllStored, IsBook}
 use Rattle.scoop_book.specs.Kept.{HandlersValue, handlers_kept, book_kept}
 use Rattle.scoop_book.specs.Opening.{Handed, IsLoadRefusal, IsUnopened, MayOpen, OpensAs, AllOpen, opening_state, numbers_of}
 
@@ -100,25 +99,39 @@ module _ {B : Type 0} (words : B → List ℕ) (has now : ℕ → Stored → Typ
             stays h,
       )
 
+  all_had : (ps : List (Handed B)) (hs : List LocalHandler) → AllOpen words has honest ps hs → honest → AllByRecursion (IsAllStored has) hs
+  all_had [] [] all h = tt
+  all_had [] (k ∷ ks) all h = absurd all
+  all_had (p ∷ ps) [] all h = absurd all
+  all_had (p ∷ ps) (k ∷ ks) all h =
+      let named : (number_in k).0 ≡ p.0.0 = ap (λ (n : HandlerId). n.0) (opened_number words has honest p k all.0) in
+      (record { is = subst (λ n. IsTheOne (has n) (stored_of k.stored)) (sym named) (all.0.loaded h) }, all_had ps ks all.1 h)
+
 pub opened_book : {B K : Type 0} (words : B → List ℕ) (has : K → ℕ → Stored → Type 0) (is_honest : K → Type 0) (k l : K) (ps : List (Handed B))
     (opening hs : List LocalHandler) (limit : ℕ) (failed : Bool)
     → AllOpen words (has k) (is_honest l) ps hs → opening ≡ hs → NoRepeats (numbers_of ps) → (is_honest l → Stays (has k) (has l))
-    → IsBook has is_honest (book_kept opening hs [] limit failed l)
-opened_book words has is_honest k l ps opening hs limit failed all same apart stays = record {
+    → (is_honest l → is_honest k) → IsBook has is_honest (book_kept opening hs [] limit failed l)
+opened_book words has is_honest k l ps opening hs limit failed all same apart stays honest = record {
   replays = same;
   apart = subst NoRepeats (sym (numbers_are words (has k) (has l) (is_honest l) ps hs all)) apart;
   room = omega arith;
   kept = λ h. are_stored words (has k) (has l) (is_honest l) ps hs all (stays h) h;
+  since = record {
+    first = k;
+    honest = honest;
+    had = λ h. subst (AllByRecursion (IsAllStored (has k))) (sym same) (all_had words (has k) (has l) (is_honest l) ps hs all h);
+  };
 }
 
 pub opened_book_of : {B K : Type 0} (words : B → List ℕ) (has : K → ℕ → Stored → Type 0) (is_honest : K → Type 0) (k l : K) (ps : List (Handed B))
     (opening hs : List LocalHandler) (limit : ℕ) (failed : Bool) (v : HandlersValue K) (es : List Entry)
     → v ≡ handlers_kept hs l → es ≡ [] → AllOpen words (has k) (is_honest l) ps hs → opening ≡ hs → NoRepeats (numbers_of ps)
-    → (is_honest l → Stays (has k) (has l)) → IsBook has is_honest (book_kept opening v.handlers es limit failed v.keeper)
-opened_book_of words has is_honest k l ps opening hs limit failed v es is none all same apart stays =
+    → (is_honest l → Stays (has k) (has l)) → (is_honest l → is_honest k)
+    → IsBook has is_honest (book_kept opening v.handlers es limit failed v.keeper)
+opened_book_of words has is_honest k l ps opening hs limit failed v es is none all same apart stays honest =
     subst (λ (w : HandlersValue _). IsBook has is_honest (book_kept opening w.handlers es limit failed w.keeper)) (sym is)
     (subst (λ (xs : List Entry). IsBook has is_honest (book_kept opening hs xs limit failed l)) (sym none)
-    (opened_book words has is_honest k l ps opening hs limit failed all same apart stays))
+    (opened_book words has is_honest k l ps opening hs limit failed all same apart stays honest))
 
 -- why they don't open, where fewer keepers are honest
 pub unloaded : {B : Type 0} (class : B → ClassTable) (has : ℕ → Stored → Type 0) (honest later : Type 0) → (later → honest)

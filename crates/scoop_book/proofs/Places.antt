@@ -1,4 +1,4 @@
--- What is found by its key, and lists whose items are told by their places.
+-- Items found by their key, and lists whose items are seen through their places.
 use Rattle.std.proofs.Common.{◌≡◌, ℕ, zero, suc, ◌+◌, ◌<◌, Bool, true, List, [], ◌∷◌, ◌++◌, map, find, length, slice_get, Some, refl, sym, ap, ◌∙◌, subst}
 use Rattle.std.proofs.Common.{arith, below_more}
 use Rattle.std.specs.Prelude.{if◌then◌else◌}
@@ -26,7 +26,7 @@ module _ {A K : Type 0} (key : A → K) (same : K → K → Bool) (decides : (a 
       (λ here f is. ap (λ u. if u then Some a else rest) (same_itself k))
       (λ there f is. ap (λ u. if u then Some x else rest) is ∙ own_found a old xs f) e refl
 
--- ---- a list whose items are told by their places
+-- ---- a list whose items are seen through their places
 
 get_front : {A : Type 0} (xs : List A) (x : A) (n : ℕ) → n < length xs → slice_get (xs ++ x ∷ []) n ≡ slice_get xs n
 get_front [] x n lt = absurd (omega arith)

@@ -1,4 +1,4 @@
--- What `==` says of events and replies: it decides whether two are the same.
+-- `==` on events and replies decides whether two are the same.
 use Rattle.std.proofs.Common.{◌≡◌, ◌&&◌, ◌==◌, ℕ, ap}
 use Rattle.std.proofs.lemmas.Bool.Decides.{Decides-like, Decides-eqb}
 use Rattle.std.specs.Bool.{Decides}

@@ -3,10 +3,10 @@ use Rattle.std.specs.Prelude.{◌≡◌, ◌≢◌, ◌≤◌, ◌<◌, ⊤, ℕ
 use Rattle.std.specs.List.{AllByRecursion}
 use Rattle.scoop_message.specs.declared.name.HandlerId.{HandlerId}
 use Rattle.scoop_handler.specs.Running.{Task, job_out}
-use Rattle.scoop_keeper.specs.Keeper.{Stored, stored_of, Keeps}
-use Rattle.scoop_keeper.specs.declared.running.JobRefusal.{JobRefusal}
-use Rattle.scoop_keeper.specs.declared.running.JobRefusal.TheVariants as jobs
-use Rattle.scoop_keeper.specs.declared.running.JobRefusal.TheVariants.{Stranger, Refused}
+use Rattle.scoop_keeper.specs.Keeper.{Stored, IsTheOne, stored_of, Keeps}
+use Rattle.scoop_keeper.specs.declared.storing.JobRefusal.{JobRefusal}
+use Rattle.scoop_keeper.specs.declared.storing.JobRefusal.TheVariants as jobs
+use Rattle.scoop_keeper.specs.declared.storing.JobRefusal.TheVariants.{Stranger, Refused}
 use Rattle.scoop_book.specs.declared.event.Event.{Event}
 use Rattle.scoop_book.specs.declared.event.Event.TheVariants.{Hear, Begin, Finish}
 use Rattle.scoop_book.specs.declared.event.Reply.{Reply}
@@ -18,8 +18,8 @@ use Rattle.scoop_book.specs.declared.error.FinishRefusal.TheVariants as unfinish
 use Rattle.scoop_message.specs.Lists.{NoRepeats}
 use Rattle.scoop_book.specs.Moves.{LocalHandler, Entry, number_in, handler_in, Moves, Replays}
 
--- the handlers as they opened and as they are now, what has happened between, how many entries that may have, whether
--- the keeper has refused a state, and the keeper
+-- the handlers as they opened and as they are now, the history between, its limit, whether the keeper has refused a state, and
+-- the keeper
 pub record BookValue (K : Type 0) : Type 0 where
   pub opening : List LocalHandler
   pub handlers : List LocalHandler
@@ -32,13 +32,25 @@ pub record BookValue (K : Type 0) : Type 0 where
 pub record HasStored (has : ℕ → Stored → Type 0) (s : LocalHandler) : Type 0 where
   pub has_stored : has (number_in s).0 (stored_of s.stored)
 
--- the history replays from the opening to the handlers as they are, which are apart, and the keeper, while it is
--- honest, has of each what is stored of it
+-- the keeper has the handler's stored state, and nothing else of it
+pub record IsAllStored (has : ℕ → Stored → Type 0) (s : LocalHandler) : Type 0 where
+  pub is : IsTheOne (has (number_in s).0) (stored_of s.stored)
+
+-- The handlers opened with what some keeper had of them. The keeper as it is now follows that one: while it is honest, so was
+-- that one.
+pub record IsSince {K : Type 0} (has : K → ℕ → Stored → Type 0) (is_honest : K → Type 0) (opening : List LocalHandler) (now : K) : Type 0 where
+  pub first : K
+  pub honest : is_honest now → is_honest first
+  pub had : is_honest now → AllByRecursion (IsAllStored (has first)) opening
+
+-- The history replays from the opening to the handlers as they are, which are apart. The keeper, while it is honest, has of
+-- each what is stored of it, and follows one that had what they opened with.
 pub record IsBook {K : Type 0} (has : K → ℕ → Stored → Type 0) (is_honest : K → Type 0) (b : BookValue K) : Type 0 where
   pub replays : Replays b.opening b.history b.handlers
   pub apart : NoRepeats (map number_in b.handlers)
   pub room : length b.history ≤ b.limit
   pub kept : is_honest b.keeper → AllByRecursion (HasStored (has b.keeper)) b.handlers
+  pub since : IsSince has is_honest b.opening b.keeper
 
 -- the history has gained this entry, which is a move of the handlers
 pub record Gains {K : Type 0} (pass : ℕ) (event : Event) (reply : Reply) (old new : BookValue K) : Type 0 where
@@ -59,7 +71,7 @@ pub record Stays {K : Type 0} (old new : BookValue K) : Type 0 where
 abbrev pub KeepsNew : HandlerId → List LocalHandler → (old new : ℕ → Stored → Type 0) → Type 0
 KeepsNew h handlers old new = IfSome (handler_in h handlers) (λ s. Keeps old new s.core.state)
 
--- ---- refusals, each of which says that those before it don't apply
+-- ---- refusals, each of which excludes those before it
 
 pub record MayEnter {K : Type 0} (b : BookValue K) : Type 0 where
   pub works : b.failed ≡ false
@@ -71,7 +83,7 @@ pub record MayHappen {K : Type 0} (b : BookValue K) (h : HandlerId) : Type 0 whe
   pub handler : LocalHandler
   pub here : handler_in h b.handlers ≡ Some handler
 
--- why an event of the handler isn't entered; want of memory is the last refusal
+-- why an event of the handler isn't entered; out of memory is the last reason
 abbrev pub IsRefused : {K : Type 0} → BookValue K → HandlerId → BookError → Type 0
 IsRefused b h NodeFailed = b.failed ≡ true
 IsRefused b h HistoryFull = (b.failed ≡ false) × (b.limit ≤ length b.history)
@@ -79,7 +91,7 @@ IsRefused b h UnknownHandler = MayEnter b × (handler_in h b.handlers ≡ None)
 IsRefused b h StoreRefused = MayHappen b h
 IsRefused b h OutOfMemory = MayHappen b h
 
--- another job, or none, is out at the job's handler
+-- the handler of the job has another job out, or none
 pub record IsStranger {K : Type 0} (b : BookValue K) (t : Task) : Type 0 where
   pub enter : MayEnter b
   pub handler : LocalHandler
@@ -91,7 +103,7 @@ pub record MayFinish {K : Type 0} (b : BookValue K) (t : Task) : Type 0 where
   pub happens : MayHappen b t.handler
   pub own : IsStranger b t → ⊥
 
--- why a job isn't finished; want of memory is the last refusal
+-- why a job isn't finished; out of memory is the last reason
 abbrev pub IsUnfinished : {K : Type 0} → BookValue K → Task → FinishRefusal → Type 0
 IsUnfinished b t unfinished.NodeFailed = b.failed ≡ true
 IsUnfinished b t unfinished.HistoryFull = (b.failed ≡ false) × (b.limit ≤ length b.history)
@@ -119,7 +131,7 @@ HasReply (Finish h) (HeardReply told) = ⊥
 HasReply (Finish h) (Began told) = ⊥
 HasReply (Finish h) (Finished ran) = ⊤
 
--- after this refusal nothing is entered any more
+-- after this refusal the book enters nothing any more
 abbrev pub fails : BookError → Bool
 fails NodeFailed = false
 fails HistoryFull = false
@@ -135,7 +147,7 @@ fails_to_finish unfinished.Stranger = false
 fails_to_finish unfinished.StoreRefused = true
 fails_to_finish unfinished.OutOfMemory = false
 
--- by what the handler and its keeper say of a job
+-- the refusal for what the handler and its keeper say of a job
 abbrev pub refusal_of : JobRefusal → FinishRefusal
 refusal_of Stranger = unfinished.Stranger
 refusal_of Refused = unfinished.StoreRefused
@@ -149,7 +161,7 @@ HasNoPlace UnknownHandler = ⊤
 HasNoPlace StoreRefused = ⊥
 HasNoPlace OutOfMemory = ⊥
 
--- by why there is no place for the job's event
+-- the refusal of a job whose event has no place
 abbrev pub no_place_to_finish : BookError → FinishRefusal
 no_place_to_finish NodeFailed = unfinished.NodeFailed
 no_place_to_finish HistoryFull = unfinished.HistoryFull

@@ -1,4 +1,4 @@
--- How the handlers of a book are kept.
+-- The handlers of a book, with what is stored of them.
 use Rattle.std.specs.Prelude.{◌≡◌, ◌<◌, ℕ, Bool, if◌then◌else◌, List, find, length, map, slice_get, Option, Some, None}
 use Rattle.std.specs.List.{AllByRecursion}
 use Rattle.scoop_handler.specs.State.{HandlerState}
@@ -8,7 +8,7 @@ use Rattle.scoop_message.specs.Lists.{NoRepeats}
 use Rattle.scoop_book.specs.Moves.{LocalHandler, Entry, local_handler, number_in}
 use Rattle.scoop_book.specs.Books.{BookValue, HasStored}
 
--- what is stored of a handler: its state as it is, or nothing
+-- the stored state of a handler: its state as it is, or none
 abbrev pub stored_state : HandlerState → Bool → Option HandlerState
 stored_state s is_stored = if is_stored then Some s else None
 

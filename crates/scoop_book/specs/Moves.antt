@@ -1,63 +1,13 @@
--- What happens at one handler, and the histories of a node's handlers.
-use Rattle.std.specs.Prelude.{◌≡◌, ℕ, ◌==◌, Bool, if◌then◌else◌, List, [], ◌∷◌, find, map, slice_get, Option, Some}
-use Rattle.std.specs.Option.{option_map}
-use Rattle.scoop_message.specs.declared.name.Block.{Block}
+-- Events at one handler, and the histories of a node's handlers.
+use Rattle.std.specs.Prelude.{◌≡◌, ℕ, ◌==◌, if◌then◌else◌, List, [], ◌∷◌, Option, Some}
 use Rattle.scoop_message.specs.declared.name.HandlerId.{HandlerId}
-use Rattle.scoop_message.specs.declared.message.Message.{Message}
-use Rattle.scoop_message.specs.Message.{handler_of, same_handler}
-use Rattle.scoop_handler.specs.declared.note.Heard.{Heard}
-use Rattle.scoop_handler.specs.declared.ran.Ran.{Ran}
-use Rattle.scoop_handler.specs.State.{HandlerState}
-use Rattle.scoop_handler.specs.Core.{Core, with_state}
-use Rattle.scoop_handler.specs.Hearing.{hear}
-use Rattle.scoop_handler.specs.Running.{Task, ready, job_out, ran_of, begun, finished}
+use Rattle.scoop_message.specs.Message.{handler_of}
 use Rattle.scoop_book.specs.declared.event.Event.{Event}
 use Rattle.scoop_book.specs.declared.event.Event.TheVariants.{Hear, Begin, Finish}
 use Rattle.scoop_book.specs.declared.event.Reply.{Reply}
 use Rattle.scoop_book.specs.declared.event.Reply.TheVariants.{Heard as HeardReply, Began, Finished}
-
--- a handler, and the state that is stored of it, if one is
-pub record LocalHandler : Type 0 where
-  pub core : Core
-  pub stored : Option HandlerState
-
-abbrev pub local_handler : Core → Option HandlerState → LocalHandler
-local_handler core stored = record { core = core; stored = stored }
-
-abbrev pub number_in : LocalHandler → HandlerId
-number_in s = s.core.state.number
-
--- ---- one move
-
--- it has heard a message, and its new state is stored
-abbrev pub after_hearing : HandlerState → LocalHandler → LocalHandler
-after_hearing t s = local_handler (with_state t s.core) (Some t)
-
--- its next entry, if it has one, has left, and what is stored stays
-abbrev pub after_begin : LocalHandler → LocalHandler
-after_begin s = local_handler (begun s.core) s.stored
-
--- the job that was out has run, and its new state is stored
-abbrev pub after_finish : Task → LocalHandler → LocalHandler
-after_finish t s = local_handler (finished t s.core) (Some (finished t s.core).state)
-
-pub record Hears (m : Message) (told : Heard) (s t : LocalHandler) : Type 0 where
-  pub tells : told ≡ (hear s.core.state m).1
-  pub after : t ≡ after_hearing (hear s.core.state m).0 s
-
--- an entry that leaves, by its block and number
-abbrev pub leaves : Task → Block × ℕ
-leaves t = (t.block, t.number)
-
-pub record Begins (told : Option (Block × ℕ)) (s t : LocalHandler) : Type 0 where
-  pub tells : told ≡ option_map leaves (ready s.core)
-  pub after : t ≡ after_begin s
-
-pub record Finishes (ran : Ran) (s t : LocalHandler) : Type 0 where
-  pub task : Task
-  pub out : job_out s.core ≡ Some task
-  pub tells : ran ≡ ran_of task
-  pub after : t ≡ after_finish task s
+pub use Rattle.scoop_handler.specs.Local.{LocalHandler, local_handler, number_in, is_handler, handler_in, newer_handler, with_handler, after_hearing}
+pub use Rattle.scoop_handler.specs.Local.{after_begin, after_finish, Hears, leaves, Begins, Finishes}
 
 -- the event, with this reply, takes a handler from the one to the other
 abbrev pub HandlerMoves : Event → Reply → LocalHandler → LocalHandler → Type 0
@@ -78,19 +28,6 @@ abbrev pub handler_at : Event → HandlerId
 handler_at (Hear m) = handler_of m
 handler_at (Begin h) = h
 handler_at (Finish h) = h
-
-abbrev pub is_handler : HandlerId → LocalHandler → Bool
-is_handler h s = same_handler (number_in s) h
-
-abbrev pub handler_in : HandlerId → List LocalHandler → Option LocalHandler
-handler_in h hs = find (is_handler h) hs
-
--- the handler in place of that with its number
-abbrev pub newer_handler : LocalHandler → LocalHandler → LocalHandler
-newer_handler s x = if is_handler (number_in s) x then s else x
-
-abbrev pub with_handler : LocalHandler → List LocalHandler → List LocalHandler
-with_handler s hs = map (newer_handler s) hs
 
 -- the event's handler moves, and all others stay
 pub record Moves (event : Event) (reply : Reply) (hs ks : List LocalHandler) : Type 0 where

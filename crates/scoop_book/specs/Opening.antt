@@ -1,10 +1,9 @@
--- With which handlers a book opens, how, and why it doesn't.
-use Rattle.std.specs.Prelude.{◌≡◌, ◌≢◌, ◌⊎◌, ⊤, ℕ, false, List, map, take, slice_get, Option, Some, None, IfSome, Contains}
+-- The handlers with which a book opens, and why it doesn't.
+use Rattle.std.specs.Prelude.{◌≡◌, ◌≢◌, ◌⊎◌, ⊤, ℕ, List, map, take, slice_get, Some, IfSome}
 use Rattle.std.specs.List.{AllByRecursion, AllZip, Any}
 use Rattle.scoop_message.specs.declared.name.HandlerId.{HandlerId}
 use Rattle.scoop_object.specs.Class.{ClassTable}
-use Rattle.scoop_handler.specs.State.{HandlerState, new_state}
-use Rattle.scoop_handler.specs.Core.{core_of}
+use Rattle.scoop_handler.specs.State.{HandlerState}
 use Rattle.scoop_handler.specs.Running.{FitsClass}
 use Rattle.scoop_keeper.specs.Keeper.{Stored, Holds, Damaged, stored_of, IsTheOne}
 use Rattle.scoop_keeper.specs.declared.keeper.KeeperError.TheVariants as keeper
@@ -12,20 +11,12 @@ use Rattle.scoop_book.specs.declared.error.OpenError.{OpenError}
 use Rattle.scoop_book.specs.declared.error.OpenError.TheVariants.{NoPasses, WrongClass, Repeated, Keeper, OutOfMemory}
 use Rattle.scoop_message.specs.Lists.{NoRepeats}
 use Rattle.scoop_keeper.specs.Keyed.{IsFirstRepeat}
-use Rattle.scoop_book.specs.Moves.{LocalHandler, local_handler}
+use Rattle.scoop_handler.specs.Local.{LocalHandler}
+pub use Rattle.scoop_handler.specs.Local.{opening_state, opening_handler}
 
--- a handler as it is handed over: its number, and its object with the object's class
+-- a handler as the caller passes it: its number, and its object with the object's class
 abbrev pub Handed : Type 0 → Type 0
 Handed B = HandlerId × ClassTable × B
-
--- the stored state, or one that nobody has greeted yet, with these words
-abbrev pub opening_state : HandlerId → List ℕ → Option HandlerState → HandlerState
-opening_state h words None = new_state h words
-opening_state h words (Some s) = s
-
--- in its opening state, with no job out
-abbrev pub opening_handler : HandlerId → ClassTable → List ℕ → Option HandlerState → LocalHandler
-opening_handler h class words stored = local_handler (core_of class (opening_state h words stored) false) stored
 
 -- the handler opens with what is stored of it, which is what an honest keeper has
 pub record OpensAs {B : Type 0} (words : B → List ℕ) (has : ℕ → Stored → Type 0) (honest : Type 0) (p : Handed B) (s : LocalHandler) : Type 0 where
@@ -38,7 +29,7 @@ pub record OpensAs {B : Type 0} (words : B → List ℕ) (has : ℕ → Stored �
 abbrev pub AllOpen : {B : Type 0} → (B → List ℕ) → (ℕ → Stored → Type 0) → Type 0 → List (Handed B) → List LocalHandler → Type 0
 AllOpen words has honest ps hs = AllZip (OpensAs words has honest) ps hs
 
--- ---- refusals, each of which says that those before it don't apply
+-- ---- refusals, each of which excludes those before it
 
 abbrev pub numbers_of : {B : Type 0} → List (Handed B) → List HandlerId
 numbers_of ps = map (λ p. p.0) ps
@@ -67,7 +58,7 @@ pub record HasMisfit (has : ℕ → Stored → Type 0) (h : HandlerId) (class : 
   pub is : IsTheOne (has h.0) (Holds state)
   pub misfits : FitsClass class state → ⊥
 
--- why a handler doesn't open: want of memory, the keeper's medium, or what an honest keeper has of it
+-- why a handler doesn't open: out of memory, the keeper's medium, or what an honest keeper has of it
 abbrev pub IsLoadRefusal : (ℕ → Stored → Type 0) → (honest : Type 0) → HandlerId → ClassTable → OpenError → Type 0
 IsLoadRefusal has honest h class NoPasses = ⊥
 IsLoadRefusal has honest h class (WrongClass k) = (k ≡ h) × (honest → HasMisfit has h class)
@@ -87,7 +78,7 @@ IsHandedWrongly class ps (Repeated h) = AllByRecursion (IsOfClass class) ps × I
 IsHandedWrongly class ps (Keeper e) = ⊥
 IsHandedWrongly class ps OutOfMemory = ⊥
 
--- why one of them doesn't open, where nothing else is wrong; want of memory is the last refusal
+-- why one of them doesn't open, if nothing else is wrong; out of memory is the last reason
 pub record IsUnloaded {B : Type 0} (class : B → ClassTable) (has : ℕ → Stored → Type 0) (honest : Type 0) (ps : List (Handed B)) (e : OpenError) : Type 0 where
   pub may : MayOpen class ps
   pub refused : (e ≡ OutOfMemory) ⊎ Any (λ p. IsLoadRefusal has honest p.0 p.1 e) ps

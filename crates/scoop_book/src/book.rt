@@ -1,4 +1,4 @@
-//! The handlers of a node over a keeper, with the history of what has happened at them.
+//! The handlers of a node over a keeper, with the history of their events.
 
 ghost use Rattle.std.specs.Prelude.{◌≡◌, ◌<◌, ◌++◌, ◌∷◌, [], vec_len, vec_capacity};
 
@@ -9,17 +9,17 @@ use crate::closing::Closed;
 use crate::event::{Event, Reply};
 use crate::handlers::Handlers;
 use crate::opening::Opening;
-pub(crate) use entering::{entry_left, finished};
+pub(crate) use entering::{entry_left, finished, heard_reply};
 use scoop_keeper::Keeper;
 use scoop_message::{Entry, HandlerId, Request, Words};
 use scoop_object::Behaviour;
 use std::alloc::{Allocator, Global};
 use std::marker::Model;
 
-/// The handlers of a node, the history of what has happened at them since they opened, and the keeper of their
-/// states. The history replays: from the handlers as they opened, its entries lead one after another to the
-/// handlers as they are. The keeper, while it is honest, has of each handler its state after the last Hear or
-/// Finish, or what it had when the book opened.
+/// The handlers of a node, the history of their events since they opened, and the keeper of their states. The
+/// history replays: from the handlers as they opened, its entries lead one after another to the handlers as they
+/// are. While the keeper is honest, it has each handler's state after the last Hear or Finish, or what it had when
+/// the book opened.
 #[derive(Drop)]
 pub struct Book<B: Behaviour, K: Keeper<A>, A: Allocator = Global> {
     opening: Vec<Opening<A>, A>,
@@ -40,7 +40,7 @@ impl<B: Behaviour, K: Keeper<A>, A: Allocator> Model for Book<B, K, A> {
     ghost invariant = { λ b. IsBook K.handlers K.is_honest (book_kept b.opening.items b.handlers.handlers b.history.items b.limit b.failed b.handlers.keeper) };
 }
 
-// Enters what has happened. There is room for it.
+// Enters an event. There is room for it.
 fn enter<A: Allocator + Copy>(
     history: &mut Vec<(u32, Event, Reply), A>,
     pass: u32,
@@ -50,7 +50,7 @@ fn enter<A: Allocator + Copy>(
     requires { vec_len history.old < vec_capacity history.old }
     ensures { history.new.items ≡ history.old.items ++ (pass, event.now, reply.now) ∷ [] }
 {
-    // Names the types that a reply holds, of which the prover has to be told here.
+    // Names the types that a reply holds, for the prover.
     let _parts: Option<(Entry, Request)> = None;
     history.push_reserved((pass, *event, *reply));
 }
@@ -60,8 +60,7 @@ impl<B: Behaviour, K: Keeper<A>, A: Allocator + Copy> Book<B, K, A> {
     ghost use Rattle.scoop_book.specs.Moves.{handler_in};
     ghost use Rattle.scoop_book.specs.Books.{IsBook};
 
-    /// What has happened since the book opened: each event with the number of the pass that made it and its
-    /// reply, in order.
+    /// The events since the book opened, in order: each with the number of the pass that made it and its reply.
     pub fn history(&self) -> &[(u32, Event, Reply)]
         ensures entries { result.now ≡ self.now.history }
         ensures sound { IsBook K.handlers K.is_honest self.now }
@@ -76,7 +75,7 @@ impl<B: Behaviour, K: Keeper<A>, A: Allocator + Copy> Book<B, K, A> {
         &self.opening
     }
 
-    /// The words of the handler's object, or those with which it left. `None` for a handler that isn't here.
+    /// The words of the handler's object, or those with which the object left. `None` for a handler that isn't here.
     pub fn words(&self, handler: HandlerId) -> Option<Words>
         ensures { result ≡ option_map (λ s. s.core.state.words) (handler_in handler self.now.handlers) }
     {
@@ -92,7 +91,7 @@ impl<B: Behaviour, K: Keeper<A>, A: Allocator + Copy> Book<B, K, A> {
         handlers.into_keeper()
     }
 
-    /// What is left of it once it is closed.
+    /// The history and the keeper.
     pub(crate) fn into_closed(self) -> Closed<K, A>
         ensures history { result.history.items ≡ self.history }
         ensures keeper { result.keeper ≡ self.keeper }

@@ -1,8 +1,8 @@
-//! How a node is closed: its history is held against its passes.
+//! The comparison of a node's history with its passes, by which it closes.
 
-ghost use Rattle.std.specs.Prelude.{◌≡◌, ◌≢◌, ◌<◌, ◌↔◌, ℕ, IsTrue, IfNone, IfSome};
+ghost use Rattle.std.specs.Prelude.{◌≡◌, ◌≢◌, ◌<◌, ◌≤◌, ◌↔◌, ℕ, IsTrue, IfNone, IfSome};
 ghost use Rattle.std.specs.List.{All, Any};
-ghost use Rattle.scoop_book.specs.Closing.{Agrees, IsComplete};
+ghost use Rattle.scoop_book.specs.Closing.{Agrees, Differs, IsComplete};
 ghost use Rattle.scoop_book.specs.Moves.{made_by};
 
 use crate::error::CloseRefusal;
@@ -16,7 +16,7 @@ use std::alloc::{Allocator, Global};
 /// The history of a closed node, each event with the number of its pass and its reply, and the keeper.
 #[derive(Drop)]
 pub struct Closed<K: Keeper<A>, A: Allocator = Global> {
-    /// What happened, in order.
+    /// The events, in order.
     pub history: Vec<(u32, Event, Reply), A>,
     /// The keeper, as it stands.
     pub keeper: K,
@@ -42,7 +42,7 @@ fn first_missing<A: Allocator + Copy>(count: u32, passes: &[Pass<A>]) -> Option<
     None
 }
 
-// Whether there are so many passes, of the numbers from 0 on.
+// Whether there are that many passes, numbered from 0.
 fn is_complete<A: Allocator + Copy>(count: u32, passes: &[Pass<A>]) -> bool
     ensures { IsTrue result ↔ IsComplete count passes.now }
 {
@@ -62,9 +62,9 @@ fn is_of(made: &(Event, Reply), entry: &(u32, Event, Reply)) -> bool
     same_event(&made.0, &entry.1) && same_reply(&made.1, &entry.2)
 }
 
-// Whether the pass has just the events that the history has of its number.
+// Whether the pass has exactly the events that the history has of its number.
 fn has_events<A: Allocator + Copy>(pass: &Pass<A>, history: &[(u32, Event, Reply)]) -> bool
-    ensures { IsTrue result → pass.now.events ≡ made_by pass.now.number history.now }
+    ensures { IsTrue result ↔ (pass.now.events ≡ made_by pass.now.number history.now) }
 {
     let mut left = pass.events();
     for entry in history {
@@ -81,24 +81,25 @@ fn has_events<A: Allocator + Copy>(pass: &Pass<A>, history: &[(u32, Event, Reply
     left.is_empty()
 }
 
-// Whether the pass says what the history says of it.
+// Whether the pass agrees with the history.
 fn agrees<A: Allocator + Copy>(
     pass: &Pass<A>,
     opening: &[Opening<A>],
     history: &[(u32, Event, Reply)],
 ) -> bool
-    ensures { IsTrue result → Agrees opening.now history.now pass.now }
+    ensures { IsTrue result ↔ Agrees opening.now history.now pass.now }
 {
     has_events(pass, history) && (pass.number() != 0 || pass.keeps(opening))
 }
 
-// The first pass that says something else.
+// The first pass that differs from the history.
 fn first_different<A: Allocator + Copy>(
     passes: &[Pass<A>],
     opening: &[Opening<A>],
     history: &[(u32, Event, Reply)],
 ) -> Option<u32>
-    ensures { IfNone result (All (Agrees opening.now history.now) passes.now) }
+    ensures none { IfNone result (All (Agrees opening.now history.now) passes.now) }
+    ensures some { IfSome result (λ n. Any (λ p. (p.number ≡ n) × (Agrees opening.now history.now p → ⊥)) passes.now) }
 {
     for pass in passes {
         if !agrees(pass, opening, history) {
@@ -108,9 +109,10 @@ fn first_different<A: Allocator + Copy>(
     None
 }
 
-// The number of an entry that no pass has.
+// The number of an entry that is no pass's.
 fn stranger(count: u32, history: &[(u32, Event, Reply)]) -> Option<u32>
-    ensures { IfNone result (All (λ e. e.0 < count) history.now) }
+    ensures none { IfNone result (All (λ e. e.0 < count) history.now) }
+    ensures some { IfSome result (λ n. Any (λ e. (e.0 ≡ n) × (count ≤ n)) history.now) }
 {
     for entry in history {
         if entry.0 >= count {
@@ -120,7 +122,7 @@ fn stranger(count: u32, history: &[(u32, Event, Reply)]) -> Option<u32>
     None
 }
 
-/// Why a node with these handlers as they opened and this history isn't closed by these passes.
+/// Why these passes don't close a node with this opening and this history.
 pub(crate) fn refusal<A: Allocator + Copy>(
     count: u32,
     passes: &[Pass<A>],
@@ -131,6 +133,7 @@ pub(crate) fn refusal<A: Allocator + Copy>(
     ensures agree { IfNone result (All (Agrees opening.now history.now) passes.now) }
     ensures no_others { IfNone result (All (λ e. e.0 < count) history.now) }
     ensures missing { IfSome result (λ e. (e ≡ CloseRefusal.MissingPass) ↔ (IsComplete count passes.now → ⊥)) }
+    ensures differs { IfSome result (λ e. (n : ℕ) → e ≡ CloseRefusal.PassDiffers n → Differs opening.now history.now count passes.now n) }
     ensures memory { IfSome result (λ e. e ≢ CloseRefusal.OutOfMemory) }
 {
     if !is_complete(count, passes) {

@@ -14,11 +14,11 @@ use thiserror::Error;
 /// Why a book or a node doesn't open, in the order in which it is tested.
 #[derive(Clone, Copy, Debug, PartialEq, Eq, Error)]
 pub enum OpenError {
-    /// There is to be no pass.
+    /// The caller asks for no pass.
     #[error("NoPasses")]
     NoPasses,
-    /// The object of this handler hasn't the class that comes with it, or what is stored for the handler has
-    /// another number of words than the class.
+    /// The object of this handler hasn't the class that comes with it, or the handler's stored state has another
+    /// number of words than the class.
     #[error("WrongClass {0}")]
     WrongClass(HandlerId),
     /// This handler stands at the first place that repeats an earlier one.
@@ -32,7 +32,7 @@ pub enum OpenError {
     OutOfMemory,
 }
 
-/// Why an event isn't entered, in the order in which it is tested. Printed as its name, want of memory in words.
+/// Why an event isn't entered, in the order in which it is tested. Printed as its name, but out of memory in words.
 #[derive(Clone, Copy, Debug, PartialEq, Eq, Error)]
 pub enum BookError {
     /// The keeper has refused a state before. Nothing is entered until the node is opened again.
@@ -52,7 +52,7 @@ pub enum BookError {
     OutOfMemory,
 }
 
-/// Why a job isn't finished, in the order in which it is tested. Printed as its name, want of memory in words.
+/// Why a job isn't finished, in the order in which it is tested. Printed as its name, but out of memory in words.
 #[derive(Clone, Copy, Debug, PartialEq, Eq, Error)]
 pub enum FinishRefusal {
     /// The keeper has refused a state before. Nothing is entered until the node is opened again.
@@ -75,7 +75,7 @@ pub enum FinishRefusal {
     OutOfMemory,
 }
 
-/// A job that isn't finished. It is handed back.
+/// A job that isn't finished, and is returned.
 #[derive(Drop)]
 pub struct FinishError<B: Behaviour> {
     /// Why it isn't finished.
@@ -84,13 +84,13 @@ pub struct FinishError<B: Behaviour> {
     pub done: Done<B>,
 }
 
-/// Why a node isn't closed, in the order in which it is tested. Printed as its name, want of memory in words.
+/// Why a node isn't closed, in the order in which it is tested. Printed as its name, but out of memory in words.
 #[derive(Clone, Copy, Debug, PartialEq, Eq, Error)]
 pub enum CloseRefusal {
     /// The passes aren't those that the node opened with, each once.
     #[error("MissingPass")]
     MissingPass,
-    /// What the pass of this number says isn't what the history says of it.
+    /// The pass of this number differs from the history.
     #[error("PassDiffers {0}")]
     PassDiffers(u32),
     /// A growth of memory was refused. Closing takes no memory, so this never comes.
@@ -98,7 +98,7 @@ pub enum CloseRefusal {
     OutOfMemory,
 }
 
-/// A node that isn't closed. It is handed back with the passes.
+/// A node that isn't closed. It is returned with the passes.
 #[derive(Drop)]
 pub struct CloseError<B: Behaviour, K: Keeper<A>, A: Allocator = Global> {
     /// Why it isn't closed.

@@ -1,12 +1,13 @@
-//! What happens at one handler, and what comes of it.
+//! Events at a handler, and their replies.
 
 ghost use Rattle.std.specs.Prelude.{◌≡◌};
 ghost use Rattle.scoop_book.specs.Moves.{handler_at};
+ghost use Rattle.scoop_book.specs.Books.{IsHear};
 
 use scoop_handler::{Heard, Ran};
 use scoop_message::{Block, HandlerId, Message};
 
-/// What happens at one handler.
+/// An event at one handler.
 #[derive(Clone, Copy, Debug, PartialEq, Eq)]
 pub enum Event {
     /// The handler that the message names hears it.
@@ -17,19 +18,19 @@ pub enum Event {
     Finish(HandlerId),
 }
 
-/// What comes of an event.
+/// The reply to an event.
 #[derive(Clone, Copy, Debug, PartialEq, Eq)]
 pub enum Reply {
-    /// What the handler answers to the message.
+    /// The handler's reply to the message.
     Heard(Heard),
     /// The block and the number of the entry that has left, if any.
     Began(Option<(Block, u32)>),
-    /// What has run.
+    /// The entry that has run.
     Finished(Ran),
 }
 
 impl Event {
-    /// The handler at which it happens.
+    /// The handler at which the event happens.
     pub fn handler(&self) -> HandlerId
         ensures { result ≡ handler_at self.now }
     {
@@ -37,5 +38,16 @@ impl Event {
             Event::Hear(message) => message.handler(),
             Event::Begin(handler) | Event::Finish(handler) => *handler,
         }
+    }
+
+    /// The message that is heard.
+    pub(crate) fn message(&self) -> &Message
+        requires { IsHear self.now }
+        ensures { self.now ≡ Event.Hear result.now }
+    {
+        let Event::Hear(message) = self else {
+            unreachable!()
+        };
+        message
     }
 }

@@ -19,7 +19,7 @@ use scoop_object::Behaviour;
 use std::alloc::Allocator;
 use std::marker::Model;
 
-/// The handlers of a node, in the order in which they were handed over, and the keeper of their states.
+/// The handlers of a node, in the order in which the caller gave them, and the keeper of their states.
 #[derive(Drop)]
 pub(crate) struct Handlers<B: Behaviour, K: Keeper<A>, A: Allocator> {
     locals: Vec<Local<B, A>, A>,
@@ -66,7 +66,7 @@ impl<B: Behaviour, K: Keeper<A>, A: Allocator + Copy> Handlers<B, K, A> {
         local_at(&self.locals, handler)
     }
 
-    /// The words of the handler's object, or those with which it left.
+    /// The words of the handler's object, or those with which the object left.
     pub(crate) fn words(&self, handler: HandlerId) -> Option<Words>
         ensures { result ≡ option_map (λ s. s.core.state.words) (find (is_handler handler) self.now.handlers) }
     {
@@ -115,7 +115,7 @@ impl<B: Behaviour, K: Keeper<A>, A: Allocator + Copy> Handlers<B, K, A> {
         local.begin()
     }
 
-    /// Why a job isn't finished where there is no room to enter it: want of memory is the last refusal.
+    /// Why a job isn't finished, if there is no room to enter it: out of memory is the last reason.
     pub(crate) fn no_room_to_finish(&self, at: usize, done: &Done<B>) -> FinishRefusal
         requires { IsFirst (is_handler done.now.handler) self.now.handlers at }
         ensures stranger { IfSome (slice_get self.now.handlers at) (λ s. (result ≡ FinishRefusal.Stranger) ↔ (job_out s.core ≢ Some done.now)) }
@@ -124,7 +124,7 @@ impl<B: Behaviour, K: Keeper<A>, A: Allocator + Copy> Handlers<B, K, A> {
         self.locals[at].no_room_to_finish(done)
     }
 
-    /// The job of the handler at this place has run. A refusal changes nothing, and hands the job back.
+    /// The job of the handler at this place has run. A refusal changes nothing, and returns the job.
     pub(crate) fn finish(&mut self, at: usize, done: Done<B>) -> Result<Ran, Unfinished<B>>
         requires first { IsFirst (is_handler done.handler) self.old.handlers at }
         requires held { IsHeld K.handlers K.is_honest self.old }

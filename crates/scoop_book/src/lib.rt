@@ -1,10 +1,9 @@
-//! A node's handlers over a keeper, with the history of what has happened at them, and the node that shares them
-//! between threads.
+//! A node's handlers over a keeper, with the history of their events, and the node that shares them between threads.
 //!
-//! Each message heard, each entry begun and each one finished is one entry of the history, which replays: each
-//! reply and each new state is that of the handler's own rules. In a [`Book`] one thread does that. Threads that
-//! share a [`Node`] do it each in a [`Pass`], which keeps what was done in it, and a node is closed only where its
-//! passes say together what its history says.
+//! Each message heard, each entry begun and each entry finished is one entry of the history. The history replays: each
+//! reply and each new state is that of the handler's own rules. One thread uses a [`Book`]. Several threads share a
+//! [`Node`], each with its own [`Pass`], which keeps that thread's events. A node closes only if its passes together
+//! agree with its history.
 //!
 //! ```
 //! // handler 1 of the book has a cell, and block 1 of client 7 makes its word 5
@@ -18,7 +17,7 @@
 //! let ran = book.finish(0, job.work()).ok().ok_or("refused")?;
 //! assert!(rt; (ran.block, ran.number) == (block(7), 1));
 //! assert!(rt; book.history().len() == 6);
-//! // what the handler has come to is stored
+//! // the handler's last state is stored
 //! let state = book.into_keeper().load_handler(ONE).ok()??;
 //! state.words().get(0)
 //! ```

@@ -15,12 +15,12 @@ use scoop_object::Behaviour;
 use std::alloc::Allocator;
 use std::marker::Model;
 
-/// A handler, and whether the keeper is known to have its state: loaded, or put since. Where it isn't, nothing
-/// is stored of the handler.
+/// A handler, and whether the keeper is known to have its state, since a load or a put. If not, nothing is stored of
+/// the handler.
 #[derive(Drop)]
 pub(crate) struct Local<B: Behaviour, A: Allocator> {
     handler: Handler<B, A>,
-    // The handler's state, or none: the room in which the next one is made.
+    // A copy of the handler's state, or none: the room in which the next state is made.
     beside: Option<HandlerState<A>>,
     is_stored: bool,
 }
@@ -59,14 +59,14 @@ impl<B: Behaviour, A: Allocator + Copy> Local<B, A> {
         self.handler.number()
     }
 
-    /// Its object's words, or those with which it left.
+    /// Its object's words, or those with which the object left.
     pub(crate) fn words(&self) -> Words
         ensures { result ≡ self.now.core.state.words }
     {
         self.handler.words()
     }
 
-    /// Why a job isn't finished where there is no room to enter it: want of memory is the last refusal.
+    /// Why a job isn't finished, if there is no room to enter it: out of memory is the last reason.
     pub(crate) fn no_room_to_finish(&self, done: &Done<B>) -> FinishRefusal
         ensures stranger { (result ≡ FinishRefusal.Stranger) ↔ (job_out self.now.core ≢ Some done.now) }
         ensures named { (result ≡ FinishRefusal.Stranger) ⊎ (result ≡ FinishRefusal.OutOfMemory) }
@@ -115,7 +115,7 @@ impl<B: Behaviour, A: Allocator + Copy> Local<B, A> {
         self.handler.begin()
     }
 
-    /// The entry that left has run. A refusal changes nothing, and hands the job back.
+    /// The entry that left has run. A refusal changes nothing, and returns the job.
     pub(crate) fn finish<K: Keeper<A>>(
         &mut self,
         keeper: &mut K,

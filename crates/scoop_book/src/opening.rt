@@ -1,6 +1,6 @@
-//! How handlers open with what a keeper has of them.
+//! Handlers as they open with their stored states.
 
-ghost use Rattle.std.specs.Prelude.{◌≡◌, ◌⊎◌, false, None, Some, IfNone, IfSome, IfOk, IfErr, OnOk};
+ghost use Rattle.std.specs.Prelude.{◌≡◌, ◌≢◌, ◌⊎◌, ◌↔◌, IsTrue, false, None, Some, IfNone, IfSome, IfOk, IfErr, OnOk};
 ghost use Rattle.std.specs.List.{AllByRecursion, Any, list_any};
 ghost use Rattle.scoop_message.specs.Message.{same_handler};
 ghost use Rattle.scoop_object.specs.Class.{ClassTable};
@@ -70,7 +70,7 @@ impl<A: Allocator + Copy> Opening<A> {
 
     /// Whether the other one is the same.
     fn same(&self, other: &Opening<A>) -> bool
-        ensures { IsTrue result → self.now ≡ other.now }
+        ensures { IsTrue result ↔ (self.now ≡ other.now) }
     {
         self.is_stored == other.is_stored
             && self.state.same(&other.state)
@@ -93,12 +93,10 @@ pub(crate) fn copy_all<A: Allocator + Copy>(
     Ok(copies)
 }
 
-/// Where two lists of handlers as they opened differ first, if they do.
-pub(crate) fn first_difference<A: Allocator + Copy>(
-    left: &[Opening<A>],
-    right: &[Opening<A>],
-) -> Option<usize>
-    ensures { IfNone result (left.now ≡ right.now) }
+// Where two lists of handlers as they opened differ first, if they do.
+fn first_difference<A: Allocator + Copy>(left: &[Opening<A>], right: &[Opening<A>]) -> Option<usize>
+    ensures none { IfNone result (left.now ≡ right.now) }
+    ensures some { IfSome result (λ i. left.now ≢ right.now) }
 {
     let count = left.len();
     if count != right.len() {
@@ -110,6 +108,16 @@ pub(crate) fn first_difference<A: Allocator + Copy>(
         }
     }
     None
+}
+
+/// Whether two lists of handlers as they opened are the same.
+pub(crate) fn are_same<A: Allocator + Copy>(left: &[Opening<A>], right: &[Opening<A>]) -> bool
+    ensures { IsTrue result ↔ (left.now ≡ right.now) }
+{
+    match first_difference(left, right) {
+        None => true,
+        Some(_) => false,
+    }
 }
 
 // Whether one of the handlers has this number.
@@ -157,7 +165,7 @@ pub(crate) fn refusal<B: Behaviour>(handlers: &[(HandlerId, Class, B)]) -> Optio
     Some(OpenError::Repeated(handler))
 }
 
-// What the keeper has of the handler.
+// Loads the handler's state.
 fn load<A: Allocator + Copy, K: Keeper<A>>(
     keeper: &mut K,
     number: HandlerId,
@@ -196,7 +204,7 @@ fn open_stored<B: Behaviour, A: Allocator + Copy>(
     }
 }
 
-// A handler that nobody has greeted yet, and of which nothing is stored.
+// A new handler, of which nothing is stored.
 fn open_new<B: Behaviour, A: Allocator + Copy>(
     alloc: A,
     handed: (HandlerId, Class, B),

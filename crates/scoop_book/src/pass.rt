@@ -1,10 +1,10 @@
-//! What one thread keeps of what it did at a node.
+//! A pass: the events that one thread made at a node.
 
-ghost use Rattle.std.specs.Prelude.{◌≡◌, ◌<◌, ◌++◌, ◌∷◌, [], ℕ, Some, IfOk, IsTrue, length, slice_get, vec_len, vec_capacity};
+ghost use Rattle.std.specs.Prelude.{◌≡◌, ◌<◌, ◌↔◌, ◌++◌, ◌∷◌, [], ℕ, Some, IfOk, IsTrue, length, slice_get, vec_len, vec_capacity};
 ghost use Rattle.scoop_book.specs.Passes.{fresh_pass};
 
 use crate::event::{Event, Reply};
-use crate::opening::{Opening, copy_all, first_difference};
+use crate::opening::{Opening, are_same, copy_all};
 use scoop_message::{Entry, OutOfMemory, Request};
 use std::alloc::{Allocator, Global};
 use std::marker::Model;
@@ -27,7 +27,7 @@ impl<A: Allocator> Model for Pass<A> {
     ghost view = { λ p. pass_value p.number (option_map (λ o. o.items) p.opening) p.events.items };
 }
 
-/// Puts down an event with its reply. There is room for it.
+/// Adds an event with its reply. There is room for it.
 pub(crate) fn put_down<A: Allocator + Copy>(
     events: &mut Vec<(Event, Reply), A>,
     event: &Event,
@@ -36,7 +36,7 @@ pub(crate) fn put_down<A: Allocator + Copy>(
     requires { vec_len events.old < vec_capacity events.old }
     ensures { events.new.items ≡ events.old.items ++ (event.now, reply.now) ∷ [] }
 {
-    // Names the types that a reply holds, of which the prover has to be told here.
+    // Names the types that a reply holds, for the prover.
     let _parts: Option<(Entry, Request)> = None;
     events.push_reserved((*event, *reply));
 }
@@ -95,10 +95,10 @@ impl<A: Allocator + Copy> Pass<A> {
 
     /// Whether it keeps these handlers as they opened.
     pub(crate) fn keeps(&self, opening: &[Opening<A>]) -> bool
-        ensures { IsTrue result → self.now.opening ≡ Some opening.now }
+        ensures { IsTrue result ↔ (self.now.opening ≡ Some opening.now) }
     {
         match &self.opening {
-            Some(kept) => first_difference(kept, opening).is_none(),
+            Some(kept) => are_same(kept, opening),
             None => false,
         }
     }

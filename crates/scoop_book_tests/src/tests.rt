@@ -1,8 +1,9 @@
-//! Books and nodes of cells, and what is done at them.
+//! Books and nodes of cells, and events at them.
 
 ghost use Rattle.std.specs.Prelude.{◌≤◌, IfSome, vec_len};
 ghost use Rattle.scoop_book.specs.Books.{IsHear};
 
+mod book_growths;
 mod examples;
 mod growths;
 mod limits;

@@ -1,33 +1,25 @@
--- A client attends to its block until nothing of it is left unfinished anywhere: where a Lock was sent, its client is
--- still at the block, or the handler is done with it.
-use Rattle.std.proofs.Common.{◌≡◌, ◌⊎◌, inl, inr, ℕ, ◌<◌, ◌≤◌, true, false, List, [], ◌∷◌, ◌++◌, map, find, Option, Some, refl, sym, ap, ◌∙◌, subst, ⊎_elim}
-use Rattle.std.proofs.Common.{arith}
-use Rattle.std.proofs.lemmas.Option.{same_Some}
-use Rattle.std.specs.Prelude.{if◌then◌else◌, ⊤}
-use Rattle.std.specs.List.{AllByRecursion}
-use Rattle.scoop_message.specs.declared.name.Block.{Block}
-use Rattle.scoop_message.specs.declared.name.ClientId.{ClientId}
-use Rattle.scoop_message.specs.declared.name.HandlerId.{HandlerId}
-use Rattle.scoop_message.specs.declared.message.Message.{Message}
-use Rattle.scoop_message.specs.declared.message.Message.TheVariants.{Hello, Welcome, Lock, Locked, Busy, Open, Opened, Unlock, Unlocked, Log, Logged, Answer}
-use Rattle.scoop_message.specs.Message.{same_handler}
-use Rattle.scoop_handler.specs.State.{HandlerState}
-use Rattle.scoop_reserve.specs.declared.stage.Stage.{Stage}
-use Rattle.scoop_reserve.specs.declared.stage.Stage.TheVariants.{Locking, Opening, Unlocking, GivingUp}
-use Rattle.scoop_reserve.specs.Handlers.{has, is_lowest}
-use Rattle.scoop_reserve.specs.State.{ReservationState}
-use Rattle.scoop_client.specs.Window.{WindowState, window_of}
-use Rattle.scoop_client.specs.State.{ClientState}
-use Rattle.scoop_model.specs.World.{World, Site, Party, number_of, id_of, is_site, is_party, site_of, party_of, set_site, set_party, count_in, greatest_count}
-use Rattle.scoop_model.specs.Step.{reopened}
-use Rattle.scoop_model.specs.World.{inc_of}
-use Rattle.scoop_model.proofs.Basics.{by_test}
-use Rattle.scoop_model.proofs.Keys.{by_site, by_party, id_found}
-use Rattle.scoop_model.proofs.Order.Facts.{SiteFits, all_more_of}
-use Rattle.scoop_model.proofs.Order.Handlers.{state_anew}
-use Rattle.scoop_model.proofs.Whole.Sent.{count_itself}
-use Rattle.scoop_calm.proofs.Totals.{Member}
-use Rattle.scoop_calm.proofs.Leaving.{IsReleasedIn, IsOverIn}
+-- Clients attend to their blocks until nothing of them is unfinished. After a Lock was sent, its client is still at the
+-- block, or the handler is done with it. Hearing and commands keep this.
+use Rattle.scoop_calm.proofs.Names.{◌≡◌, ◌⊎◌, inl, inr, ℕ, ◌<◌, ◌≤◌, true, false, List, [], ◌∷◌, ◌++◌, map, find, Option, Some, refl, sym, ap, ◌∙◌, subst}
+use Rattle.scoop_calm.proofs.Names.{⊎_elim, arith, same_Some, if◌then◌else◌, ⊤, AllByRecursion, Block, ClientId, HandlerId, Message, Hello, Welcome, Lock}
+use Rattle.scoop_calm.proofs.Names.{Locked, Busy, Open, Opened, Unlock, Unlocked, Log, Logged, Answer, same_handler, HandlerState, Stage, Locking, Opening}
+use Rattle.scoop_calm.proofs.Names.{Unlocking, GivingUp, has, is_lowest, ReservationState, WindowState, window_of, ClientState, World, Site, Party, number_of}
+use Rattle.scoop_calm.proofs.Names.{id_of, is_site, is_party, site_of, party_of, set_site, set_party, count_in, greatest_count, reopened, inc_of, by_test}
+use Rattle.scoop_calm.proofs.Names.{by_site, by_party, id_found, SiteFits, all_more_of, state_anew, count_itself, Member, ◌&&◌, true≢false, None, nat_tests}
+use Rattle.scoop_calm.proofs.Names.{Entry, ObjectAnswer, handler_decides, Step, without, is_empty, at_stage, is_gone, StepRow, steps_over, one_is_locked}
+use Rattle.scoop_calm.proofs.Names.{all_are_locked, is_busy, one_is_opened, all_are_opened, is_unlocked, is_given_back, step_row, ClientNote, with_entry}
+use Rattle.scoop_calm.proofs.Names.{with_end, acknowledged, at_window, all_over, with_windows, with_reservation, idle, heard, stepped, after_step, up_to}
+use Rattle.scoop_calm.proofs.Names.{HeardRow, passed_over, is_welcomed, takes_step, is_acknowledged, is_accepted, heard_row, has_without, is_gone_one}
+use Rattle.scoop_calm.proofs.Names.{none_in_empty, WindowFits, WindowsFit, handlers_at, by_window, by_all, handlers_at_window, fits_acknowledged, unlocking_is}
+use Rattle.scoop_calm.proofs.Names.{log_of, ◌||◌, not, Bool, Ok, Call, Query, asked, fresh, given_up_in, Greeting, Idle, is_ended, phase_of, phase_of_block}
+use Rattle.scoop_calm.proofs.Names.{phase_at, Command, Reserve, DoCall, DoQuery, DoEnd, GiveUp, Outcome, command, next_block, with_block, ReserveRow}
+use Rattle.scoop_calm.proofs.Names.{begins_block, LogRow, is_logged, EndRow, ends_block, GiveUpRow, gives_up, command_row, ok_is, started_fresh, fresh_found}
+use Rattle.scoop_calm.proofs.Marks.{IsReleasedIn, IsOverIn}
+use Rattle.scoop_reserve.specs.Hearing as reservation
+use Rattle.scoop_calm.proofs.Lists.{gone_without, lowest_has, lowest_below, in_asked}
+
+-- -------- Clients attend to their blocks until nothing of them is unfinished. After a Lock was sent, its client is still at the
+-- block, or the handler is done with it.
 
 -- ---- at a handler of the world
 
@@ -47,9 +39,8 @@ at_set P w s old here more h a =
     record { site = s; found = refl; so = more (subst (λ (x : Site). P x.core.state) one a.so) })
     (λ apart. a)
 
-at_first : (P : HandlerState → Type 0) (h : HandlerId) (x y : Site) (xs ys : List Site) → y.core.state ≡ x.core.state
-    → (AtSite P (find (is_site h) xs) → AtSite P (find (is_site h) ys))
-    → AtSite P (find (is_site h) (x ∷ xs)) → AtSite P (find (is_site h) (y ∷ ys))
+at_first : (P : HandlerState → Type 0) (h : HandlerId) (x y : Site) (xs ys : List Site) → y.core.state ≡ x.core.state →
+    (AtSite P (find (is_site h) xs) → AtSite P (find (is_site h) ys)) → AtSite P (find (is_site h) (x ∷ xs)) → AtSite P (find (is_site h) (y ∷ ys))
 at_first P h x y xs ys same later a =
     let k : number_of y ≡ number_of x = ap (λ (st : HandlerState). st.number) same in
     subst (λ n. AtSite P (if same_handler n h then Some y else find (is_site h) ys)) (sym k)
@@ -95,7 +86,7 @@ pub record AtWork (w : World) (h : HandlerId) (b : Block) : Type 0 where
 abbrev pub Attended : World → HandlerId → Block → Type 0
 Attended w h b = (b.inc < inc_of w b.client) ⊎ (IsOver w h b ⊎ AtWork w h b)
 
--- what messages tell
+-- facts about messages
 abbrev pub Attends : World → Message → Type 0
 Attends w (Lock h b) = Attended w h b
 Attends w (Unlocked h b) = IsReleased w h b
@@ -104,7 +95,7 @@ Attends w (Logged h b n) = IsReleased w h b
 Attends w (Answer h b n a) = IsReleased w h b
 Attends w other = ⊤
 
--- what is acknowledged was told to be received, by a handler that had given back the lock
+-- a handler that had given back the lock has acknowledged the entries, and so has received them
 pub record ClientAttends (w : World) (c : ClientState) (r : ReservationState) : Type 0 where
   pub unlocked : r.stage ≡ Unlocking → (h : HandlerId) → has r.handlers h ≡ true → has r.left h ≡ false → IsReleased w h r.block
   pub acked : (h : HandlerId) (l : WindowState) → window_of h c.windows ≡ Some l → 0 < l.acked → IsReleased w h r.block
@@ -128,11 +119,9 @@ pub record Onto (v w : World) : Type 0 where
 
 module _ (v w : World) (x : Onto v w) where
   attended_more : (h : HandlerId) (b : Block) → Attended v h b → Attended w h b
-  attended_more h b a =
-      ⊎_elim
-      (λ (older : b.inc < inc_of v b.client). let more = x.incs b.client in inl (omega (arith, older, more)))
-      (λ (rest : IsOver v h b ⊎ AtWork v h b). ⊎_elim (λ (o : IsOver v h b). inr (inl (x.over h b o))) (λ (a : AtWork v h b). x.work h b a) rest)
-      a
+  attended_more h b (inl older) = inl (omega (arith, older, x.incs b.client))
+  attended_more h b (inr (inl o)) = inr (inl (x.over h b o))
+  attended_more h b (inr (inr a)) = x.work h b a
 
   pub attends_more : (m : Message) → Attends v m → Attends w m
   attends_more (Lock h b) a = attended_more h b a
@@ -160,7 +149,7 @@ module _ (v w : World) (x : Onto v w) where
         counts = λ h l found. let le = g.counts h l found in let more = x.counts h r.block in omega (arith, le, more);
       }
 
--- ---- counts that were told
+-- ---- counts in messages
 
 pub counts_more : (h : HandlerId) (b : Block) (ms ns : List Message) → greatest_count h b ms ≤ greatest_count h b (ms ++ ns)
 counts_more h b [] ns = omega arith
@@ -168,18 +157,14 @@ counts_more h b (m ∷ ms) ns = let rest = counts_more h b ms ns in omega (arith
 
 pub told_count : (h : HandlerId) (b : Block) (n : ℕ) (ms : List Message) → Member (Logged h b n) ms → n ≤ greatest_count h b ms
 told_count h b n [] m = absurd m
-told_count h b n (x ∷ xs) m =
-    ⊎_elim
-    (λ (e : x ≡ Logged h b n). let own : count_in h b x ≡ n = ap (count_in h b) e ∙ count_itself h b n in omega (arith, own))
-    (λ (k : Member (Logged h b n) xs). let rest = told_count h b n xs k in omega (arith, rest))
-    m
+told_count h b n (x ∷ xs) (inl e) = omega (arith, ap (count_in h b) e ∙ count_itself h b n)
+told_count h b n (x ∷ xs) (inr k) = omega (arith, told_count h b n xs k)
 
 -- ---- one client changes
 
 -- a client that is at work has changed, or is as it was
-pub work_set :
-    (w v : World) (c : ClientId) (p q : Party) → party_of c w ≡ Some p → id_of q ≡ id_of p → v.parties ≡ set_party q w.parties
-    → ((h : HandlerId) (b : Block) → Goes p.client h b → Attended v h b) → (h : HandlerId) (b : Block) → AtWork w h b → Attended v h b
+pub work_set : (w v : World) (c : ClientId) (p q : Party) → party_of c w ≡ Some p → id_of q ≡ id_of p → v.parties ≡ set_party q w.parties →
+    ((h : HandlerId) (b : Block) → Goes p.client h b → Attended v h b) → (h : HandlerId) (b : Block) → AtWork w h b → Attended v h b
 work_set w v c p q at same parties own h b a =
     ⊎_elim
     (λ (there : find (is_party b.client) (set_party q w.parties) ≡ Some a.party).
@@ -194,14 +179,312 @@ work_set w v c p q at same parties own h b a =
     (λ is. inr is) (λ apart. inl a.at))
 
 -- the clients of the world, where one changes
-pub parties_set :
-    (w v : World) (c : ClientId) (p q : Party) → party_of c w ≡ Some p → id_of q ≡ id_of p → v.parties ≡ set_party q w.parties
-    → PartyAttends v q.client → ((x : ClientState) → PartyAttends w x → PartyAttends v x)
-    → ((d : ClientId) (x : Party) → party_of d w ≡ Some x → PartyAttends w x.client)
-    → (d : ClientId) (x : Party) → party_of d v ≡ Some x → PartyAttends v x.client
+pub parties_set : (w v : World) (c : ClientId) (p q : Party) → party_of c w ≡ Some p → id_of q ≡ id_of p → v.parties ≡ set_party q w.parties
+    → PartyAttends v q.client → ((x : ClientState) → PartyAttends w x → PartyAttends v x) →
+    ((d : ClientId) (x : Party) → party_of d w ≡ Some x → PartyAttends w x.client) → (d : ClientId) (x : Party) → party_of d v ≡ Some x
+    → PartyAttends v x.client
 parties_set w v c p q at same parties own more all d x found =
     by_party (λ o. o ≡ Some x → PartyAttends v x.client) w q p d
     (ap (λ e. party_of e w) (same ∙ id_found c w p at) ∙ at)
     (λ is e. let one : q ≡ x = cc in subst (λ (y : Party). PartyAttends v y.client) one own)
     (λ apart e. more x.client (all d x e))
     (sym (ap (find (is_party d)) parties) ∙ found)
+
+-- -------- Hearing and commands keep that a client attends to its block. Where the client had asked, it is still at work, or the
+-- handler is done with the block (`Follows`). A client leaves its block only after giving it up and getting its locks
+-- back, or after all its windows are over. Handlers are done with such a block (`Around`).
+
+-- the client goes on to another state: where it had asked, it is at work still, or the handler is done with its block
+pub record Follows (w : World) (c d : ClientState) : Type 0 where
+  pub goes : (h : HandlerId) (b : Block) → Goes c h b → IsOver w h b ⊎ Goes d h b
+  pub attends : PartyAttends w d
+
+-- the windows of a block: what each holds, and what messages say of it
+pub record WindowsTold (w : World) (r : ReservationState) (ls : List WindowState) : Type 0 where
+  pub handlers : handlers_at ls ≡ r.handlers
+  pub fits : (h : HandlerId) (l : WindowState) → window_of h ls ≡ Some l → WindowFits (log_of r.block h w) l
+  pub released : (h : HandlerId) (l : WindowState) → window_of h ls ≡ Some l → 0 < l.acked → IsReleased w h r.block
+  pub counts : (h : HandlerId) (l : WindowState) → window_of h ls ≡ Some l → l.acked ≤ greatest_count h r.block w.sent
+
+-- the world's facts about a client and a message
+pub record Around (w : World) (c : ClientState) (m : Message) : Type 0 where
+  pub windows : (r : ReservationState) → c.reservation ≡ Some r → WindowsFit w c r
+  pub counted : (h : HandlerId) (b : Block) (n : ℕ) → m ≡ Logged h b n → n ≤ greatest_count h b w.sent
+  pub answered : (h : HandlerId) (b : Block) (n : ℕ) (a : ObjectAnswer) → m ≡ Answer h b n a → n ≤ greatest_count h b w.sent
+  pub given_over : (r : ReservationState) → c.reservation ≡ Some r → r.stage ≡ GivingUp → (h : HandlerId) → IsReleased w h r.block → IsOver w h r.block
+  pub ends_over : (r : ReservationState) (ls : List WindowState) → WindowsTold w r ls → all_over ls ≡ true → (h : HandlerId) → has r.handlers h ≡ true
+      → IsOver w h r.block
+
+pub up_to_le : (h : HandlerId) (n : ℕ) (o : Option (HandlerId × ℕ)) → up_to h n o ≤ n
+up_to_le h n None = omega arith
+up_to_le h n (Some q) = grind (arith, nat_tests)
+
+-- ---- the reservation stays, and windows too
+
+module _ (w : World) (c : ClientState) (f : PartyAttends w c) where
+  pub same_reservation : (d : ClientState) → d.reservation ≡ c.reservation → PartyAttends w d → Follows w c d
+  same_reservation d same g = record {
+    goes = λ h b a. inr (record { reservation = a.reservation; held = same ∙ a.held; block = a.block; asked = a.asked });
+    attends = g;
+  }
+
+  stays : (d : ClientState) → d.reservation ≡ c.reservation → d.windows ≡ c.windows → Follows w c d
+  stays d same windows = same_reservation d same (λ r held.
+      let g = f r (sym same ∙ held) in
+      record {
+        unlocked = g.unlocked;
+        acked = λ h l found. g.acked h l (ap (window_of h) (sym windows) ∙ found);
+        counts = λ h l found. g.counts h l (ap (window_of h) (sym windows) ∙ found);
+      })
+
+  -- ---- a step of the reservation
+
+  module _ (r s : ReservationState) (held : c.reservation ≡ Some r) (block : s.block ≡ r.block)
+      (asks : (h : HandlerId) → AskedAt r h r.stage → IsOver w h r.block ⊎ AskedAt s h s.stage)
+      (frees : s.stage ≡ Unlocking → (h : HandlerId) → has s.handlers h ≡ true → has s.left h ≡ false → IsReleased w h r.block)
+      (leaves : is_gone s ≡ true → (h : HandlerId) → AskedAt r h r.stage → IsOver w h r.block) where
+    own_asked : (h : HandlerId) (b : Block) (a : Goes c h b) → AskedAt r h r.stage × (r.block ≡ b)
+    own_asked h b a =
+        let one : a.reservation ≡ r = same_Some a.reservation r (sym a.held ∙ held) in
+        (subst (λ (q : ReservationState). AskedAt q h q.stage) one a.asked, ap (λ (q : ReservationState). q.block) (sym one) ∙ a.block)
+
+    stepped_follows : Follows w c (stepped c s)
+    stepped_follows =
+        by_test (λ t. is_gone s ≡ t → Follows w c (if t then idle c else with_reservation c s)) (is_gone s)
+        (λ _ gone. record { goes = λ h b a. let own = own_asked h b a in inl (subst (IsOver w h) own.1 (leaves gone h own.0)); attends = λ q e. absurd (cc) })
+        (λ _ on. record {
+          goes = λ h b a.
+              let own = own_asked h b a in
+              ⊎_elim (λ (o : IsOver w h r.block). inl (subst (IsOver w h) own.1 o))
+              (λ (n : AskedAt s h s.stage). inr (record { reservation = s; held = refl; block = block ∙ own.1; asked = n })) (asks h own.0);
+          attends = λ q e.
+              let g = f r held in
+              subst (ClientAttends w (with_reservation c s)) (same_Some s q e) (record {
+                unlocked = λ at h named free. subst (IsReleased w h) (sym block) (frees at h named free);
+                acked = λ h l found some. subst (IsReleased w h) (sym block) (g.acked h l found some);
+                counts = λ h l found. subst (λ b. l.acked ≤ greatest_count h b w.sent) (sym block) (g.counts h l found);
+              });
+        }) refl
+
+  lowest_one : (h x : HandlerId) (hs : List HandlerId) → is_lowest h hs ≡ true → is_lowest x hs ≡ true → h ≡ x
+  lowest_one h x hs p q =
+      let same : h.0 ≡ x.0 = omega (arith, lowest_below h hs x p (lowest_has x hs q), lowest_below x hs h q (lowest_has h hs p)) in
+      (handler_decides h x).0 (grind (arith, nat_tests))
+
+  not_without : (h x : HandlerId) (hs : List HandlerId) → has hs x ≡ false → has (without h hs) x ≡ false
+  not_without h x hs e = let before = has_without h x hs in grind (arith, before)
+
+  step_follows : (m : Message) → Around w c m → (r s : ReservationState) (st : Step) → c.reservation ≡ Some r → StepRow r m s st → Attends w m
+      → Follows w c (after_step c s st).0
+  step_follows m round r s st held (steps_over n) t = stays c refl refl
+  step_follows m round r s st held (one_is_locked h at low more) t =
+      stepped_follows r (at_stage r Locking (without h r.left)) held refl
+      (λ x a.
+      let old : AskedAt r x Locking = subst (AskedAt r x) at a in
+      inr (
+        old.0,
+        inl (⊎_elim (λ (gone : has r.left x ≡ false). not_without h x r.left gone)
+            (λ (lowest : is_lowest x r.left ≡ true). subst (λ y. has (without h r.left) y ≡ false) (lowest_one h x r.left low lowest) (gone_without h r.left))
+            old.1),
+      ))
+      (λ e. absurd (cc)) (λ gone x a. absurd (true≢false (sym gone)))
+  step_follows m round r s st held (all_are_locked h at low none_left) t =
+      stepped_follows r (at_stage r Opening r.handlers) held refl
+      (λ x a. let old : AskedAt r x Locking = subst (AskedAt r x) at a in inr old.0)
+      (λ e. absurd (cc)) (λ gone x a. absurd (true≢false (sym gone)))
+  step_follows m round r s st held (is_busy h at low) t =
+      stepped_follows r r held refl (λ x a. inr a) (λ e. absurd (let f : Locking ≡ Unlocking = sym at ∙ e in cc))
+      (λ gone x a. absurd (true≢false (sym gone ∙ ap (λ y. reservation.is_given_up_in y && is_empty r.left) at)))
+  step_follows m round r s st held (one_is_opened h at is more) t =
+      stepped_follows r (at_stage r Opening (without h r.left)) held refl
+      (λ x a. let old : AskedAt r x Opening = subst (AskedAt r x) at a in inr old)
+      (λ e. absurd (cc)) (λ gone x a. absurd (true≢false (sym gone)))
+  step_follows m round r s st held (all_are_opened h at is none_left) t =
+      stepped_follows r (at_stage r Unlocking r.handlers) held refl
+      (λ x a. let old : AskedAt r x Opening = subst (AskedAt r x) at a in inr old)
+      (λ e x named free. absurd (true≢false (sym named ∙ free))) (λ gone x a. absurd (true≢false (sym gone)))
+  step_follows m round r s st held (is_unlocked h at is) t =
+      stepped_follows r (at_stage r Unlocking (without h r.left)) held refl
+      (λ x a. let old : AskedAt r x Unlocking = subst (AskedAt r x) at a in inr old)
+      (λ e x named free.
+      by_test (λ y. has r.left x ≡ y → IsReleased w x r.block) (has r.left x)
+      (λ _ in_left. subst (λ z. IsReleased w z r.block) (is_gone_one h x r.left in_left free) t)
+      (λ _ gone. (f r held).unlocked at x named gone) refl)
+      (λ gone x a. absurd (true≢false (sym gone)))
+  step_follows m round r s st held (is_given_back h at is) t =
+      let over : IsOver w h r.block = round.given_over r held at h t in
+      stepped_follows r (at_stage r GivingUp (without h r.left)) held refl
+      (λ x a.
+      let old : AskedAt r x GivingUp = subst (AskedAt r x) at a in
+      by_test (λ y. has (without h r.left) x ≡ y → IsOver w x r.block ⊎ (has (without h r.left) x ≡ true)) (has (without h r.left) x)
+      (λ _ still. inr still)
+      (λ _ gone. inl (subst (λ z. IsOver w z r.block) (is_gone_one h x r.left old gone) over)) refl)
+      (λ e. absurd (cc))
+      (λ gone x a.
+      let old : AskedAt r x GivingUp = subst (AskedAt r x) at a in
+      subst (λ z. IsOver w z r.block) (is_gone_one h x r.left old (none_in_empty (without h r.left) x gone)) over)
+
+  module _ (m : Message) (round : Around w c m) where
+    -- ---- windows
+
+    module _ (r : ReservationState) (held : c.reservation ≡ Some r) (h : HandlerId) (k : ℕ) (told : IsReleased w h r.block)
+        (le : k ≤ greatest_count h r.block w.sent) where
+      abbrev news : List WindowState
+      news = at_window h (acknowledged k) c.windows
+
+      raised : (l : WindowState) → l.acked ≤ greatest_count h r.block w.sent → (acknowledged k l).acked ≤ greatest_count h r.block w.sent
+      raised l was = omega (arith, was, le)
+
+      news_told : WindowsTold w r news
+      news_told =
+          let g = f r held in
+          let windows = round.windows r held in
+          record {
+            handlers = handlers_at_window h (acknowledged k) (λ l. refl) c.windows ∙ windows.handlers;
+            fits = by_window (λ x l. WindowFits (log_of r.block x w) l) h (acknowledged k) (λ l. refl) c.windows
+                (λ l found. fits_acknowledged (log_of r.block h w) k l (windows.windows h l found)) (λ x l apart found. windows.windows x l found);
+            released = by_window (λ x l. 0 < l.acked → IsReleased w x r.block) h (acknowledged k) (λ l. refl) c.windows (λ l found some. told)
+                (λ x l apart found. g.acked x l found);
+            counts = by_window (λ x l. l.acked ≤ greatest_count x r.block w.sent) h (acknowledged k) (λ l. refl) c.windows
+                (λ l found. raised l (g.counts h l found)) (λ x l apart found. g.counts x l found);
+          }
+
+      news_attend : (waits : Option (HandlerId × ℕ)) → PartyAttends w (with_windows c news waits)
+      news_attend waits q e =
+          let one : r ≡ q = same_Some r q (sym held ∙ e) in
+          let t = news_told in
+          subst (ClientAttends w (with_windows c news waits)) one (record { unlocked = (f r held).unlocked; acked = t.released; counts = t.counts })
+
+      news_follow : (waits : Option (HandlerId × ℕ)) → Follows w c (with_windows c news waits)
+      news_follow waits = same_reservation (with_windows c news waits) refl (news_attend waits)
+
+      settled_follows : r.stage ≡ Unlocking → (waits : Option (HandlerId × ℕ))
+          → Follows w c (if all_over news then idle (with_windows c news waits) else with_windows c news waits)
+      settled_follows at waits =
+          by_test (λ t. all_over news ≡ t → Follows w c (if t then idle (with_windows c news waits) else with_windows c news waits)) (all_over news)
+          (λ _ over. record {
+            goes = λ x b a.
+                let one : a.reservation ≡ r = same_Some a.reservation r (sym a.held ∙ held) in
+                let asked_now : AskedAt r x Unlocking = subst (AskedAt r x) at (subst (λ (q : ReservationState). AskedAt q x q.stage) one a.asked) in
+                inl (subst (IsOver w x) (ap (λ (q : ReservationState). q.block) (sym one) ∙ a.block) (round.ends_over r news news_told over x asked_now));
+            attends = λ q e. absurd (cc);
+          })
+          (λ _ on. news_follow waits) refl
+
+  row_follows : (m : Message) → Around w c m → (d : ClientState) (note : ClientNote) → HeardRow c m d note → Attends w m → Follows w c d
+  row_follows m round d note (passed_over n) t = stays c refl refl
+  row_follows m round d note (is_welcomed h left) t = stays d refl refl
+  row_follows m round d note (takes_step n r held) t = step_follows n round r (reservation.heard r n).0 (reservation.heard r n).1 held (step_row r n) t
+  row_follows m round d note (is_acknowledged h n r l held opened window new_count) t =
+      settled_follows m round r held h (up_to h n c.waits) t
+      (omega (arith, up_to_le h n c.waits, round.counted h r.block n refl)) (unlocking_is r.stage opened) c.waits
+  row_follows m round d note (is_accepted h n a r held opened waits) t = news_follow m round r held h n t (round.answered h r.block n a refl) None
+
+pub heard_follows : (w : World) (c : ClientState) (m : Message) → PartyAttends w c → Around w c m → Attends w m → Follows w c (heard c m).0
+heard_follows w c m f round t = row_follows w c f m round (heard c m).0 (heard c m).1 (heard_row c m) t
+
+-- ---- it takes a command
+
+module _ (w : World) (c : ClientState) (f : PartyAttends w c) where
+  pub log_attends : (h : HandlerId) (e : Entry) (waits : Option (HandlerId × ℕ)) → PartyAttends w (with_windows c (at_window h (with_entry e) c.windows) waits)
+  log_attends h e waits r held =
+      let g = f r held in
+      record {
+        unlocked = g.unlocked;
+        acked = by_window (λ x l. 0 < l.acked → IsReleased w x r.block) h (with_entry e) (λ l. refl) c.windows (λ l found. g.acked h l found)
+            (λ x l apart found. g.acked x l found);
+        counts = by_window (λ x l. l.acked ≤ greatest_count x r.block w.sent) h (with_entry e) (λ l. refl) c.windows (λ l found. g.counts h l found)
+            (λ x l apart found. g.counts x l found);
+      }
+
+  pub end_attends : PartyAttends w (with_windows c (map with_end c.windows) None)
+  end_attends r held =
+      let g = f r held in
+      record {
+        unlocked = g.unlocked;
+        acked = by_all (λ x l. 0 < l.acked → IsReleased w x r.block) with_end (λ l. refl) c.windows (λ h l found. g.acked h l found);
+        counts = by_all (λ x l. l.acked ≤ greatest_count x r.block w.sent) with_end (λ l. refl) c.windows (λ h l found. g.counts h l found);
+      }
+
+-- -------- Commands keep that a client attends to its block.
+
+-- an idle client has no block
+phase_busy : (stage : Stage) (t : Bool) → phase_at stage t ≡ Idle → ⊥
+phase_busy Locking t e = cc
+phase_busy Opening t e = cc
+phase_busy Unlocking true e = cc
+phase_busy Unlocking false e = cc
+phase_busy GivingUp t e = cc
+
+pub idle_none : (c : ClientState) (r : ReservationState) → phase_of c ≡ Idle → c.reservation ≡ Some r → ⊥
+idle_none c r e held =
+    by_test (λ t. (if t then phase_of_block c.windows c.reservation else Greeting) ≡ Idle → ⊥) (is_empty c.unwelcomed)
+    (λ greeted f. phase_busy r.stage (is_ended c.windows) (ap (phase_of_block c.windows) (sym held) ∙ f))
+    (λ greeting f. cc) e
+
+module _ (w : World) (c : ClientState) (f : PartyAttends w c) where
+  reserve_follows : (d : ClientState) (hs : List HandlerId) (o : Outcome) → ReserveRow c hs o → o ≡ Ok d → Follows w c d
+  reserve_follows d hs o (begins_block r at_idle room begins) e =
+      subst (Follows w c) (ok_is (with_block c hs r) d e) (record {
+        goes = λ h b a. absurd (idle_none c a.reservation at_idle a.held);
+        attends = λ q held.
+            let one : fresh (next_block c) hs ≡ q = started_fresh (next_block c) hs c.handlers r begins ∙ same_Some r q held in
+            record {
+              unlocked = λ at. absurd (let g : Locking ≡ Unlocking = ap (λ (y : ReservationState). y.stage) one ∙ at in cc);
+              acked = λ h l found some. absurd (let z : 0 ≡ l.acked = ap (λ (y : WindowState). y.acked) (fresh_found hs h l found) in omega (arith, z, some));
+              counts = λ h l found. let z : 0 ≡ l.acked = ap (λ (y : WindowState). y.acked) (fresh_found hs h l found) in omega (arith, z);
+            };
+      })
+  reserve_follows d hs o row e = absurd (cc)
+
+  log_follows : (d : ClientState) (h : HandlerId) (n : Entry) (o : Outcome) → LogRow c h n o → o ≡ Ok d → Follows w c d
+  log_follows d h n o (is_logged l running free window room more) e =
+      subst (Follows w c) (ok_is _ d e) (same_reservation w c f (with_windows c (at_window h (with_entry n) c.windows) _) refl (log_attends w c f h n _))
+  log_follows d h n o row e = absurd (cc)
+
+  end_follows : (d : ClientState) (o : Outcome) → EndRow c o → o ≡ Ok d → Follows w c d
+  end_follows d o (ends_block running free room) e = subst (Follows w c) (ok_is (with_windows c (map with_end c.windows) None) d e)
+      (same_reservation w c f (with_windows c (map with_end c.windows) None) refl (end_attends w c f))
+  end_follows d o row e = absurd (cc)
+
+  or_true : (t u : Bool) → (t ≡ false) ⊎ (u ≡ true) → (not t || u) ≡ true
+  or_true true true e = refl
+  or_true true false e = ⊎_elim (λ (p : true ≡ false). absurd (true≢false p)) (λ (q : false ≡ true). absurd (true≢false (sym q))) e
+  or_true false u e = refl
+
+  given : (r s : ReservationState) (stage : Stage) → r.stage ≡ stage → c.reservation ≡ Some r → given_up_in r stage ≡ Ok s → Follows w c (with_reservation c s)
+  given r s Locking at held e =
+      let is : at_stage r GivingUp (asked r.handlers r.left) ≡ s = cc in
+      subst (λ x. Follows w c (with_reservation c x)) is (record {
+        goes = λ h b a.
+            let one : a.reservation ≡ r = same_Some a.reservation r (sym a.held ∙ held) in
+            let old : AskedAt r h Locking = subst (AskedAt r h) at (subst (λ (q : ReservationState). AskedAt q h q.stage) one a.asked) in
+            inr (record {
+              reservation = at_stage r GivingUp (asked r.handlers r.left);
+              held = refl;
+              block = ap (λ (q : ReservationState). q.block) (sym one) ∙ a.block;
+              asked = in_asked r.handlers r.left h old.0 (or_true (has r.left h) (is_lowest h r.left) old.1);
+            });
+        attends = λ q own.
+            let g = f r held in
+            let one : at_stage r GivingUp (asked r.handlers r.left) ≡ q = same_Some (at_stage r GivingUp (asked r.handlers r.left)) q own in
+            subst (ClientAttends w (with_reservation c (at_stage r GivingUp (asked r.handlers r.left)))) one (record {
+              unlocked = λ e. absurd (cc);
+              acked = g.acked;
+              counts = g.counts;
+            });
+      })
+  given r s Opening at held e = absurd (cc)
+  given r s Unlocking at held e = absurd (cc)
+  given r s GivingUp at held e = absurd (cc)
+
+  give_up_follows : (d : ClientState) (o : Outcome) → GiveUpRow c o → o ≡ Ok d → Follows w c d
+  give_up_follows d o (gives_up r s locking held is) e = subst (Follows w c) (ok_is (with_reservation c s) d e) (given r s r.stage refl held is)
+  give_up_follows d o row e = absurd (cc)
+
+  pub command_follows : (d : ClientState) (x : Command) → command c x ≡ Ok d → Follows w c d
+  command_follows d (Reserve hs) e = reserve_follows d hs _ (command_row c (Reserve hs)) e
+  command_follows d (DoCall h r) e = log_follows d h (Call r) _ (command_row c (DoCall h r)) e
+  command_follows d (DoQuery h r) e = log_follows d h (Query r) _ (command_row c (DoQuery h r)) e
+  command_follows d DoEnd e = end_follows d _ (command_row c DoEnd) e
+  command_follows d GiveUp e = give_up_follows d _ (command_row c GiveUp) e

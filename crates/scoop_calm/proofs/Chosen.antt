@@ -1,14 +1,8 @@
--- What may be next, and that the one that is next is of these, and is there where one is.
-use Rattle.std.proofs.Common.{◌≡◌, inl, inr, Bool, true, false, true≢false, List, [], ◌∷◌, find, Option, Some, None, refl, sym, ap, ◌∙◌, subst, ⊎_elim}
-use Rattle.std.proofs.lemmas.Option.{same_Some}
-use Rattle.std.specs.Prelude.{if◌then◌else◌}
-use Rattle.std.specs.Option.{option_map, option_or}
-use Rattle.scoop_model.specs.World.{World, Site, Party, number_of, id_of}
-use Rattle.scoop_model.proofs.Basics.{by_test}
-use Rattle.scoop_calm.specs.declared.next.Next.{Next}
+-- The events that may be next: the one that is next is among them, and there is one if any may be next.
+use Rattle.scoop_calm.proofs.Names.{arith, ◌≡◌, inl, inr, Bool, true, false, List, [], ◌∷◌, find, Option, Some, None, refl, sym, ap, ◌∙◌, subst, same_Some}
+use Rattle.scoop_calm.proofs.Names.{if◌then◌else◌, option_map, option_or, World, Site, Party, number_of, id_of, by_test, Next, asks_well, is_out, can_begin}
+use Rattle.scoop_calm.proofs.Names.{can_end, next_finish, next_begin, ask_of, next_ask, next_end, next_of, Member}
 use Rattle.scoop_calm.specs.declared.next.Next.TheVariants as next
-use Rattle.scoop_calm.specs.Next.{asks_well, is_out, can_begin, can_end, next_finish, next_begin, ask_of, next_ask, next_end, next_of}
-use Rattle.scoop_calm.proofs.Totals.{Member}
 
 pub data IsChoice (w : World) : Next → Type 0 where
   finishes : (s : Site) → Member s w.sites → is_out s ≡ true → IsChoice w (next.Finish (number_of s))
@@ -23,7 +17,7 @@ pub record Found {A : Type 0} (test : A → Bool) (xs : List A) : Type 0 where
   pub in_list : Member item xs
   pub passes : test item ≡ true
 
--- what was made of one that was found
+-- a choice made of a found item
 pub record MadeOf {A : Type 0} (test : A → Bool) (make : A → Next) (xs : List A) (x : Next) : Type 0 where
   pub found : Found test xs
   pub makes : make found.item ≡ x
@@ -40,10 +34,8 @@ made_of test make (y ∷ ys) x e =
 
 pub finds : {A : Type 0} (test : A → Bool) (make : A → Next) (xs : List A) (x : A) → Member x xs → test x ≡ true → option_map make (find test xs) ≡ None → ⊥
 finds test make [] x m is e = m
-finds test make (y ∷ ys) x m is e =
-    by_test (λ t. test y ≡ t → option_map make (if t then Some y else find test ys) ≡ None → ⊥) (test y)
-    (λ _ here f. absurd (cc))
-    (λ _ here f. ⊎_elim (λ (same : y ≡ x). true≢false (sym is ∙ ap test (sym same) ∙ here)) (λ (n : Member x ys). finds test make ys x n is f) m) refl e
+finds test make (y ∷ ys) x (inl same) is e = let one = ap test same in grind (arith, one)
+finds test make (y ∷ ys) x (inr n) is e = let rest = finds test make ys x n is in grind (arith, rest)
 
 pub none_found : {A : Type 0} (test : A → Bool) (make : A → Next) (xs : List A) → ((x : A) → Member x xs → test x ≡ false)
     → option_map make (find test xs) ≡ None
@@ -98,11 +90,9 @@ module _ (w : World) where
 
   no_ask : (ps : List Party) (p : Party) (s : Site) → Member p ps → Member s w.sites → asks_well p s ≡ true → next_ask w.sites ps ≡ None → ⊥
   no_ask [] p s m n is e = m
-  no_ask (q ∷ qs) p s m n is e =
-      let both = neither (ask_of w.sites q) (next_ask w.sites qs) e in
-      ⊎_elim
-      (λ (same : q ≡ p). finds (asks_well p) (λ (y : Site). next.Ask (id_of p) (number_of y)) w.sites s n is (ap (ask_of w.sites) (sym same) ∙ both.0))
-      (λ (k : Member p qs). no_ask qs p s k n is both.1) m
+  no_ask (q ∷ qs) p s (inl same) n is e = finds (asks_well p) (λ (y : Site). next.Ask (id_of p) (number_of y)) w.sites s n is
+      (ap (ask_of w.sites) (sym same) ∙ (neither (ask_of w.sites q) (next_ask w.sites qs) e).0)
+  no_ask (q ∷ qs) p s (inr k) n is e = no_ask qs p s k n is (neither (ask_of w.sites q) (next_ask w.sites qs) e).1
 
   -- where none is, nothing may be
   pub none_chosen : next_of w ≡ None → (x : Next) → IsChoice w x → ⊥

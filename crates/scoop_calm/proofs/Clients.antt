@@ -1,48 +1,389 @@
--- What is so of every client: whom it greets, how its reservation stands, and what its windows have left. It has a block only
--- once all have welcomed it, and waits for an answer only in a block. Each row of what it hears keeps that, and each command
--- that it takes; nothing else changes a client but its restart, which begins it anew.
-use Rattle.std.proofs.Common.{◌≡◌, ℕ, ◌+◌, ◌<◌, ◌≤◌, ◌==◌, true, false, true≢false, List, [], ◌∷◌, length, map, Option, Some, None, refl, sym, ◌∙◌, subst}
-use Rattle.std.proofs.Common.{arith}
-use Rattle.std.proofs.lemmas.Option.{same_Some}
-use Rattle.std.specs.Prelude.{if◌then◌else◌, Ok}
-use Rattle.std.specs.List.{AllByRecursion}
-use Rattle.std.proofs.lemmas.Bool.Decides.{nat_tests}
-use Rattle.scoop_message.specs.declared.name.HandlerId.{HandlerId}
-use Rattle.scoop_message.specs.declared.request.Entry.{Entry}
-use Rattle.scoop_message.specs.declared.request.Entry.TheVariants.{Call, Query}
-use Rattle.scoop_message.specs.declared.message.Message.{Message}
-use Rattle.scoop_message.specs.Entry.{is_query}
-use Rattle.scoop_message.specs.Message.{client_of}
-use Rattle.scoop_reserve.specs.Handlers.{has, is_empty}
-use Rattle.scoop_reserve.specs.State.{ReservationState}
-use Rattle.scoop_reserve.specs.Hearing.{is_gone}
+-- Facts about every client. A reservation gets its locks in ascending order and has something left to do until it is
+-- opened everywhere. Something of a block is still to be acknowledged, and each unacknowledged query is the one that
+-- waits. A client has a block only after all handlers have welcomed it, and waits for an answer only in a block.
+use Rattle.scoop_calm.proofs.Names.{or_right, ◌≡◌, ◌<◌, ◌≤◌, ◌==◌, not, true, false, true≢false, nat_lt, List, ◌∷◌, length, Option, Some, None, refl, sym, ◌∙◌}
+use Rattle.scoop_calm.proofs.Names.{subst, arith, if◌then◌else◌, Ok, Err, nat_tests, MAX_BLOCK_HANDLERS, Block, HandlerId, Message, handler_decides, Stage}
+use Rattle.scoop_calm.proofs.Names.{Locking, Opening, Unlocking, GivingUp, Step, has, without, is_empty, is_lowest, asked, first_unknown, first_repeated}
+use Rattle.scoop_calm.proofs.Names.{ReservationState, at_stage, fresh, started, unless_repeated, unless_unknown, is_gone, given_up, given_up_in, one_is_locked}
+use Rattle.scoop_calm.proofs.Names.{all_are_locked, is_busy, one_is_opened, all_are_opened, is_unlocked, is_given_back, by_test, has_without, is_gone_one}
+use Rattle.scoop_calm.proofs.Names.{has_filtered, StepRow, steps_over, ◌⊎◌, inl, inr, ℕ, zero, suc, ◌+◌, ◌&&◌, Bool, [], ◌++◌, drop, map, slice_get, ap, ⊎_elim}
+use Rattle.scoop_calm.proofs.Names.{length-append, AllByRecursion, Entry, is_query, WindowState, fresh_window, with_entry, with_end, newly, acknowledged}
+use Rattle.scoop_calm.proofs.Names.{window_of, at_window, is_ended, all_over, StaysAt, by_window, by_all, fresh_found, EndEntry as End, same_Some, Call, Query}
+use Rattle.scoop_calm.proofs.Names.{client_of, step_row, ClientNote, logged, ClientState, with_windows, with_reservation, idle, heard, stepped, after_step}
+use Rattle.scoop_calm.proofs.Names.{up_to, Command, Reserve, DoCall, DoQuery, DoEnd, GiveUp, Outcome, command, next_block, with_block, waits_for, HeardRow}
+use Rattle.scoop_calm.proofs.Names.{passed_over, is_welcomed, takes_step, is_acknowledged, is_accepted, ReserveRow, begins_block, LogRow, is_logged, EndRow}
+use Rattle.scoop_calm.proofs.Names.{ends_block, GiveUpRow, gives_up, heard_row, command_row, World, Party, is_party, set_party, Placement, Newcomer, new_party}
+use Rattle.scoop_calm.proofs.Names.{opening, heard_party, restarted_party, Changes, started_fresh, all_found, all_set_party, running_is, idle_left}
+use Rattle.scoop_reserve.specs.declared.error.ReserveError.TheVariants as error
+use Rattle.scoop_calm.proofs.Lists.{Filled, nothing_in, first_in, filled, some_in, gone_without, lowest_has, lowest_below, lowest_of, in_asked, all_known}
+use Rattle.scoop_calm.proofs.Lists.{NoTwice, none_repeated}
 use Rattle.scoop_reserve.specs.Hearing as reservation
-use Rattle.scoop_reserve.specs.Starting.{fresh}
-use Rattle.scoop_reserve.specs.declared.stage.Step.{Step}
 use Rattle.scoop_reserve.specs.declared.stage.Step.TheVariants as step
-use Rattle.scoop_reserve.proofs.Rows.{heard_row as step_row}
-use Rattle.scoop_client.specs.declared.phase.ClientNote.{ClientNote}
-use Rattle.scoop_client.specs.Window.{WindowState, logged, with_entry, with_end, acknowledged, at_window, all_over}
-use Rattle.scoop_client.specs.State.{ClientState, with_windows, with_reservation, idle}
-use Rattle.scoop_client.specs.Hearing.{heard, stepped, after_step, up_to}
-use Rattle.scoop_client.specs.declared.command.Command.{Command}
-use Rattle.scoop_client.specs.declared.command.Command.TheVariants.{Reserve, Call as DoCall, Query as DoQuery, End as DoEnd, GiveUp}
-use Rattle.scoop_client.specs.Commands.{Outcome, command, next_block, with_block, waits_for}
-use Rattle.scoop_client.specs.Rows.{HeardRow, passed_over, is_welcomed, takes_step, is_acknowledged, is_accepted, ReserveRow, begins_block, LogRow, is_logged}
-use Rattle.scoop_client.specs.Rows.{EndRow, ends_block, GiveUpRow, gives_up}
-use Rattle.scoop_client.proofs.Rows.{heard_row}
-use Rattle.scoop_client.proofs.CommandRows.{command_row}
-use Rattle.scoop_model.specs.World.{World, Party, is_party, set_party}
-use Rattle.scoop_model.specs.Step.{Placement, Newcomer, new_party, opening, heard_party, restarted_party}
-use Rattle.scoop_model.proofs.Basics.{by_test}
-use Rattle.scoop_model.proofs.Events.{Changes}
-use Rattle.scoop_model.proofs.Order.Clients.{has_without}
-use Rattle.scoop_model.proofs.Order.Commands.{started_fresh}
-use Rattle.scoop_model.proofs.Order.Facts.{all_found, all_set_party}
-use Rattle.scoop_model.proofs.Logging.Commands.{running_is}
-use Rattle.scoop_model.proofs.Knowing.Clients.{none_left as idle_left}
-use Rattle.scoop_calm.proofs.Reserving.{Reserves, fresh_reserves, heard_reserves, give_up_reserves}
-use Rattle.scoop_calm.proofs.WindowsGo.{WindowsGo, fresh_go, logged_go, ended_go, counted_go, answered_go}
+
+-- -------- Facts about every reservation: it got its locks in ascending order, and it has something left to do until it is
+-- opened everywhere.
+
+-- locks are got, or blocks opened
+pub data IsSettingOut : Stage → Type 0 where
+  locks : IsSettingOut Locking
+  opens : IsSettingOut Opening
+
+pub record Reserves (known : List HandlerId) (r : ReservationState) : Type 0 where
+  pub known_all : (h : HandlerId) → has r.handlers h ≡ true → has known h ≡ true
+  pub some : is_empty r.handlers ≡ false
+  pub apart : NoTwice r.handlers
+  pub within : (h : HandlerId) → has r.left h ≡ true → has r.handlers h ≡ true
+  pub stays : IsSettingOut r.stage → is_empty r.left ≡ false
+  pub order : r.stage ≡ Locking → (x y : HandlerId) → has r.handlers x ≡ true → has r.left x ≡ false → has r.left y ≡ true → x.0 < y.0
+
+pub off_giving : IsSettingOut GivingUp → ⊥
+off_giving s = elim s [ ]
+
+pub off_unlocking : IsSettingOut Unlocking → ⊥
+off_unlocking s = elim s [ ]
+
+-- ---- it begins
+
+unknown_none : (r s : ReservationState) (o : Option HandlerId) → unless_unknown r o ≡ Ok s → o ≡ None
+unknown_none r s None e = refl
+unknown_none r s (Some h) e = absurd (cc)
+
+repeated_none : (r s : ReservationState) (o u : Option HandlerId) → unless_repeated r o u ≡ Ok s → (o ≡ None) × (u ≡ None)
+repeated_none r s None u e = (refl, unknown_none r s u e)
+repeated_none r s (Some h) u e = absurd (cc)
+
+record Starts (hs known : List HandlerId) : Type 0 where
+  none_unknown : first_unknown known hs ≡ None
+  none_again : first_repeated hs ≡ None
+  one : is_empty hs ≡ false
+
+starts : (b : Block) (hs known : List HandlerId) (s : ReservationState) → started b hs known ≡ Ok s → Starts hs known
+starts b hs known s e =
+    by_test (λ t. (length hs == 0) ≡ t → (if t then Err error.Empty else if nat_lt MAX_BLOCK_HANDLERS (length hs) then Err error.TooMany
+    else unless_repeated (fresh b hs) (first_repeated hs) (first_unknown known hs)) ≡ Ok s → Starts hs known) (length hs == 0)
+    (λ _ is f. absurd (cc))
+    (λ _ is f.
+    by_test (λ t. (if t then Err error.TooMany else unless_repeated (fresh b hs) (first_repeated hs) (first_unknown known hs)) ≡ Ok s → Starts hs known)
+    (nat_lt MAX_BLOCK_HANDLERS (length hs))
+    (λ many g. absurd (cc))
+    (λ few g. let n = repeated_none (fresh b hs) s (first_repeated hs) (first_unknown known hs) g in record { none_unknown = n.1; none_again = n.0; one = is })
+    f) refl e
+
+pub fresh_reserves : (b : Block) (hs known : List HandlerId) (s : ReservationState) → started b hs known ≡ Ok s → Reserves known (fresh b hs)
+    × (is_gone (fresh b hs) ≡ false)
+fresh_reserves b hs known s e =
+    let f = starts b hs known s e in (
+      record {
+        known_all = all_known known hs f.none_unknown;
+        some = f.one;
+        apart = none_repeated hs f.none_again;
+        within = λ h m. m;
+        stays = λ _. f.one;
+        order = λ _ x y in_set gone there. absurd (true≢false (sym in_set ∙ gone));
+      },
+      refl,
+    )
+
+-- ---- it hears
+
+-- the two handlers of a list are apart
+lower_or_same : (h y : HandlerId) → h.0 ≤ y.0 → (h ≡ y → ⊥) → h.0 < y.0
+lower_or_same h y le apart = let same = (handler_decides h y).0 in grind (arith, nat_tests, same, apart)
+
+-- one handler less is left, or all are left again
+module _ (known : List HandlerId) (r : ReservationState) (stage : Stage) where
+  without_reserves : (h : HandlerId) → (stage ≡ Locking → ⊥) → (IsSettingOut stage → is_empty (without h r.left) ≡ false) → Reserves known r
+      → Reserves known (at_stage r stage (without h r.left))
+  without_reserves h off stays f = record {
+    known_all = f.known_all;
+    some = f.some;
+    apart = f.apart;
+    within = λ x e. f.within x (has_without h x r.left e);
+    stays = stays;
+    order = λ is x y in_set gone there. absurd (off is);
+  }
+
+  all_reserves : (stage ≡ Locking → ⊥) → Reserves known r → Reserves known (at_stage r stage r.handlers)
+  all_reserves off f = record {
+    known_all = f.known_all;
+    some = f.some;
+    apart = f.apart;
+    within = λ x e. e;
+    stays = λ _. f.some;
+    order = λ is x y in_set gone there. absurd (off is);
+  }
+
+pub heard_reserves : (known : List HandlerId) (r s : ReservationState) (m : Message) (st : Step) → StepRow r m s st → Reserves known r → Reserves known s
+heard_reserves known r s m st (steps_over n) f = f
+heard_reserves known r s m st (one_is_locked h at low more) f = record {
+  known_all = f.known_all;
+  some = f.some;
+  apart = f.apart;
+  within = λ x e. f.within x (has_without h x r.left e);
+  stays = λ _. more;
+  order = λ _ x y in_set gone there.
+      let y_left : has r.left y ≡ true = has_without h y r.left there in
+      by_test (λ t. has r.left x ≡ t → x.0 < y.0) (has r.left x)
+      (λ _ is.
+      let one : h ≡ x = is_gone_one h x r.left is gone in
+      subst (λ (z : HandlerId). z.0 < y.0) one
+      (lower_or_same h y (lowest_below h r.left y low y_left)
+      (λ e. true≢false (sym (subst (λ z. has (without h r.left) z ≡ true) (sym e) there) ∙ gone_without h r.left))))
+      (λ _ is. f.order at x y in_set is y_left) refl;
+}
+heard_reserves known r s m st (all_are_locked h at low none_left) f = all_reserves known r Opening (λ e. cc) f
+heard_reserves known r s m st (is_busy h at low) f = f
+heard_reserves known r s m st (one_is_opened h at is more) f = without_reserves known r Opening h (λ e. cc) (λ _. more) f
+heard_reserves known r s m st (all_are_opened h at is none_left) f = all_reserves known r Unlocking (λ e. cc) f
+heard_reserves known r s m st (is_unlocked h at is) f = without_reserves known r Unlocking h (λ e. cc) (λ out. absurd (off_unlocking out)) f
+heard_reserves known r s m st (is_given_back h at is) f = without_reserves known r GivingUp h (λ e. cc) (λ out. absurd (off_giving out)) f
+
+-- ---- it is given up
+
+lowest_asked : (hs left : List HandlerId) (h : HandlerId) → has hs h ≡ true → is_lowest h left ≡ true → has (asked hs left) h ≡ true
+lowest_asked hs left h e low = in_asked hs left h e (or_right (not (has left h)) (is_lowest h left) low)
+
+asked_some : (hs left : List HandlerId) → ((h : HandlerId) → has left h ≡ true → has hs h ≡ true) → is_empty left ≡ false → Filled left
+    → is_empty (asked hs left) ≡ false
+asked_some hs _ inside empty nothing_in = absurd (true≢false empty)
+asked_some hs _ inside empty (first_in h rest) =
+    let l = lowest_of h rest in
+    some_in (asked hs (h ∷ rest)) l.handler (lowest_asked hs (h ∷ rest) l.handler (inside l.handler (lowest_has l.handler (h ∷ rest) l.is)) l.is)
+
+given_reserves : (known : List HandlerId) (r s : ReservationState) (stage : Stage) → r.stage ≡ stage → given_up_in r stage ≡ Ok s → Reserves known r
+    → Reserves known s × (is_gone s ≡ false)
+given_reserves known r s Locking at e f =
+    let given : at_stage r GivingUp (asked r.handlers r.left) ≡ s = cc in
+    let left = asked_some r.handlers r.left f.within (f.stays (subst IsSettingOut (sym at) locks)) (filled r.left) in
+    subst (λ x. Reserves known x × (is_gone x ≡ false)) given (
+      record {
+        known_all = f.known_all;
+        some = f.some;
+        apart = f.apart;
+        within = λ x m. has_filtered _ r.handlers x m;
+        stays = λ out. absurd (off_giving out);
+        order = λ is x y in_set gone there. absurd (cc);
+      },
+      left,
+    )
+given_reserves known r s Opening at e f = absurd (cc)
+given_reserves known r s Unlocking at e f = absurd (cc)
+given_reserves known r s GivingUp at e f = absurd (cc)
+
+pub give_up_reserves : (known : List HandlerId) (r s : ReservationState) → given_up r ≡ Ok s → Reserves known r → Reserves known s × (is_gone s ≡ false)
+give_up_reserves known r s e f = given_reserves known r s r.stage refl e f
+
+-- -------- Facts about a client's windows while it has a block: something of the block is still to be acknowledged, and each
+-- unacknowledged query is the one that waits.
+
+-- each query of the window that isn't acknowledged is the one that waits
+abbrev pub IsAwaited : Option (HandlerId × ℕ) → HandlerId → WindowState → Type 0
+IsAwaited waits h l = (i : ℕ) (e : Entry) → slice_get l.unacked i ≡ Some e → is_query e ≡ true → waits ≡ Some (h, l.acked + i + 1)
+
+pub record WindowsGo (ls : List WindowState) (waits : Option (HandlerId × ℕ)) : Type 0 where
+  pub some : 0 < length ls
+  pub going : all_over ls ≡ false
+  pub waiting : (q : HandlerId × ℕ) → waits ≡ Some q → is_ended ls ≡ false
+  pub awaited : (h : HandlerId) (l : WindowState) → window_of h ls ≡ Some l → IsAwaited waits h l
+  pub alike : AllByRecursion (λ (l : WindowState). l.ended ≡ is_ended ls) ls
+
+-- ---- lists of windows
+
+pub not_ended_goes : (ls : List WindowState) → 0 < length ls → is_ended ls ≡ false → all_over ls ≡ false
+not_ended_goes [] some e = absurd (omega (arith, some))
+not_ended_goes (l ∷ ls) some e = grind (arith, nat_tests)
+
+length_at_window : (k : HandlerId) (f : WindowState → WindowState) (ls : List WindowState) → length (at_window k f ls) ≡ length ls
+length_at_window k f [] = refl
+length_at_window k f (l ∷ ls) = let rest = length_at_window k f ls in grind (arith, rest)
+
+length_all : (f : WindowState → WindowState) (ls : List WindowState) → length (map f ls) ≡ length ls
+length_all f [] = refl
+length_all f (l ∷ ls) = ap suc (length_all f ls)
+
+ended_at_window : (k : HandlerId) (f : WindowState → WindowState) → ((l : WindowState) → (f l).ended ≡ l.ended) → (ls : List WindowState)
+    → is_ended (at_window k f ls) ≡ is_ended ls
+ended_at_window k f same [] = refl
+ended_at_window k f same (l ∷ ls) = let rest = ended_at_window k f same ls in let own = same l in grind (arith, rest, own)
+
+all_at_window : (P Q : WindowState → Type 0) (k : HandlerId) (f : WindowState → WindowState) → ((l : WindowState) → P l → Q (f l))
+    → ((l : WindowState) → P l → Q l) → (ls : List WindowState) → AllByRecursion P ls → AllByRecursion Q (at_window k f ls)
+all_at_window P Q k f own other [] all = tt
+all_at_window P Q k f own other (l ∷ ls) all =
+    let one = own l all.0 in let two = other l all.0 in let rest = all_at_window P Q k f own other ls all.1 in grind (arith, one, two, rest, others ls all.1)
+  where
+    others : (ls : List WindowState) → AllByRecursion P ls → AllByRecursion Q ls
+    others [] all = tt
+    others (x ∷ xs) all = (other x all.0, others xs all.1)
+
+-- ---- a block begins
+
+none_at : (i : ℕ) (e : Entry) → slice_get [] i ≡ Some e → ⊥
+none_at i e f = cc
+
+all_fresh : (hs : List HandlerId) (t : Bool) → t ≡ false → AllByRecursion (λ (l : WindowState). l.ended ≡ t) (map fresh_window hs)
+all_fresh [] t e = tt
+all_fresh (x ∷ xs) t e = (sym e, all_fresh xs t e)
+
+fresh_ended : (hs : List HandlerId) → is_ended (map fresh_window hs) ≡ false
+fresh_ended [] = refl
+fresh_ended (x ∷ xs) = fresh_ended xs
+
+pub fresh_go : (hs : List HandlerId) → 0 < length hs → WindowsGo (map fresh_window hs) None
+fresh_go [] some = absurd (omega (arith, some))
+fresh_go (x ∷ xs) some = record {
+  some = omega arith;
+  going = refl;
+  waiting = λ q e. absurd (cc);
+  awaited = λ h l found i e at. absurd (none_at i e (ap (λ (y : WindowState). slice_get y.unacked i) (fresh_found (x ∷ xs) h l found) ∙ at));
+  alike = all_fresh (x ∷ xs) (is_ended (map fresh_window (x ∷ xs))) (fresh_ended (x ∷ xs));
+}
+
+-- ---- an entry is logged
+
+get_before : (es : List Entry) (x e : Entry) (i : ℕ) → slice_get (es ++ x ∷ []) i ≡ Some e → (slice_get es i ≡ Some e) ⊎ ((i ≡ length es) × (x ≡ e))
+get_before [] x e zero at = inr (refl, let same : x ≡ e = cc in same)
+get_before [] x e (suc i) at = absurd (cc)
+get_before (y ∷ ys) x e zero at = inl at
+get_before (y ∷ ys) x e (suc i) at = ⊎_elim (λ (f : slice_get ys i ≡ Some e). inl f) (λ (g : (i ≡ length ys) × (x ≡ e)). inr (ap suc g.0, g.1))
+    (get_before ys x e i at)
+
+entry_stays : (e : Entry) → StaysAt (with_entry e)
+entry_stays e l = refl
+
+none_waits : (waits : Option (HandlerId × ℕ)) (q : HandlerId × ℕ) → waits ≡ None → waits ≡ Some q → ⊥
+none_waits waits q e f = cc
+
+module _ (ls : List WindowState) (k : HandlerId) (e : Entry) (going : is_ended ls ≡ false) (f : WindowsGo ls None) where
+  logged_ended : is_ended (at_window k (with_entry e) ls) ≡ false
+  logged_ended = ended_at_window k (with_entry e) (λ l. refl) ls ∙ going
+
+  logged_some : 0 < length (at_window k (with_entry e) ls)
+  logged_some = let same = length_at_window k (with_entry e) ls in let some = f.some in omega (arith, same, some)
+
+  pub logged_go : (now : Option (HandlerId × ℕ)) → ((l : WindowState) → window_of k ls ≡ Some l → is_query e ≡ true
+      → now ≡ Some (k, l.acked + length l.unacked + 1)) → WindowsGo (at_window k (with_entry e) ls) now
+  logged_go now own = record {
+    some = logged_some;
+    going = not_ended_goes (at_window k (with_entry e) ls) logged_some logged_ended;
+    waiting = λ q _. logged_ended;
+    awaited = by_window (IsAwaited now) k (with_entry e) (entry_stays e) ls
+        (λ l found i x at query.
+        ⊎_elim
+        (λ (old : slice_get l.unacked i ≡ Some x). absurd (none_waits None (k, l.acked + i + 1) refl (f.awaited k l found i x old query)))
+        (λ (new : (i ≡ length l.unacked) × (e ≡ x)).
+        subst (λ (j : ℕ). now ≡ Some (k, l.acked + j + 1)) (sym new.0) (own l found (ap is_query new.1 ∙ query)))
+        (get_before l.unacked e x i at))
+        (λ h l apart found i x at query. absurd (none_waits None (h, l.acked + i + 1) refl (f.awaited h l found i x at query)));
+    alike =
+        let same = ended_at_window k (with_entry e) (λ l. refl) ls in
+        all_at_window (λ (l : WindowState). l.ended ≡ is_ended ls) (λ (l : WindowState). l.ended ≡ is_ended (at_window k (with_entry e) ls)) k (with_entry e)
+        (λ l g. g ∙ sym same) (λ l g. g ∙ sym same) ls f.alike;
+  }
+
+-- ---- an End more
+
+with_end_some : (es : List Entry) → (length (es ++ End ∷ []) == 0) ≡ false
+with_end_some es = let l = length-append es (End ∷ []) in grind (arith, nat_tests)
+
+pub ended_go : (ls : List WindowState) → WindowsGo ls None → WindowsGo (map with_end ls) None
+ended_go ls f = record {
+  some = let same = length_all with_end ls in let some = f.some in omega (arith, same, some);
+  going = goes ls f.some;
+  waiting = λ q e. absurd (cc);
+  awaited = by_all (IsAwaited None) with_end (λ l. refl) ls
+      (λ h l found i x at query.
+      ⊎_elim
+      (λ (old : slice_get l.unacked i ≡ Some x). absurd (none_waits None (h, l.acked + i + 1) refl (f.awaited h l found i x old query)))
+      (λ (new : (i ≡ length l.unacked) × (End ≡ x)). absurd (true≢false (sym query ∙ sym (ap is_query new.1))))
+      (get_before l.unacked End x i at));
+  alike = all_over_now ls (is_ended (map with_end ls)) (some_ended ls f.some);
+}
+  where
+    all_over_now : (ls : List WindowState) (t : Bool) → t ≡ true → AllByRecursion (λ (l : WindowState). l.ended ≡ t) (map with_end ls)
+    all_over_now [] t e = tt
+    all_over_now (l ∷ ls) t e = (sym e, all_over_now ls t e)
+
+    some_ended : (ls : List WindowState) → 0 < length ls → is_ended (map with_end ls) ≡ true
+    some_ended [] some = absurd (omega (arith, some))
+    some_ended (l ∷ ls) some = refl
+
+    goes : (ls : List WindowState) → 0 < length ls → all_over (map with_end ls) ≡ false
+    goes [] some = absurd (omega (arith, some))
+    goes (l ∷ ls) some = ap (λ t. t && all_over (map with_end ls)) (with_end_some l.unacked)
+
+-- ---- entries are acknowledged
+
+get_drop : (n i : ℕ) (es : List Entry) → slice_get (drop n es) i ≡ slice_get es (n + i)
+get_drop zero i es = let e : i ≡ 0 + i = omega arith in ap (slice_get es) e
+get_drop (suc n) i [] = refl
+get_drop (suc n) i (x ∷ xs) = let e : suc n + i ≡ suc (n + i) = omega arith in get_drop n i xs ∙ sym (ap (slice_get (x ∷ xs)) e)
+
+awaited_later : (waits : Option (HandlerId × ℕ)) (h : HandlerId) (k : ℕ) (l : WindowState) → IsAwaited waits h l → IsAwaited waits h (acknowledged k l)
+awaited_later waits h k l f i e at query =
+    let j = newly k l in
+    let place : l.acked + (j + i) + 1 ≡ l.acked + j + i + 1 = omega arith in
+    subst (λ (n : ℕ). waits ≡ Some (h, n)) place (f (j + i) e (sym (get_drop j i l.unacked) ∙ at) query)
+
+acknowledged_stays : (k : ℕ) → StaysAt (acknowledged k)
+acknowledged_stays k l = refl
+
+module _ (ls : List WindowState) (h : HandlerId) (k : ℕ) (waits : Option (HandlerId × ℕ)) (f : WindowsGo ls waits) where
+  abbrev news : List WindowState
+  news = at_window h (acknowledged k) ls
+
+  some_left : 0 < length news
+  some_left = let same = length_at_window h (acknowledged k) ls in let some = f.some in omega (arith, same, some)
+
+  same_ended : is_ended news ≡ is_ended ls
+  same_ended = ended_at_window h (acknowledged k) (λ l. refl) ls
+
+  news_alike : AllByRecursion (λ (l : WindowState). l.ended ≡ is_ended news) news
+  news_alike = all_at_window (λ (l : WindowState). l.ended ≡ is_ended ls) (λ (l : WindowState). l.ended ≡ is_ended news) h (acknowledged k)
+      (λ l g. g ∙ sym same_ended) (λ l g. g ∙ sym same_ended) ls f.alike
+
+  -- unless all is over now
+  pub counted_go : all_over news ≡ false → WindowsGo news waits
+  counted_go going = record {
+    some = some_left;
+    going = going;
+    waiting = λ q e. same_ended ∙ f.waiting q e;
+    awaited = by_window (IsAwaited waits) h (acknowledged k) (acknowledged_stays k) ls
+        (λ l found. awaited_later waits h k l (f.awaited h l found))
+        (λ x l apart found. f.awaited x l found);
+    alike = news_alike;
+  }
+
+  same_query : (x y : HandlerId) (m n : ℕ) → waits ≡ Some (x, m) → waits ≡ Some (y, n) → (x ≡ y) × (m ≡ n)
+  same_query x y m n p q =
+      let both : Some (x, m) ≡ Some (y, n) = sym p ∙ q in
+      let one : (x, m) ≡ (y, n) = cc in
+      (ap (λ (z : HandlerId × ℕ). z.0) one, ap (λ (z : HandlerId × ℕ). z.1) one)
+
+  past_end : (es : List Entry) (n i : ℕ) (e : Entry) → length es ≤ n → slice_get (drop n es) i ≡ Some e → ⊥
+  past_end [] zero i e le at = cc
+  past_end [] (suc n) i e le at = cc
+  past_end (x ∷ xs) zero i e le at = omega (arith, le)
+  past_end (x ∷ xs) (suc n) i e le at = past_end xs n i e (omega (arith, le)) at
+
+  -- the query that waits is answered
+  pub answered_go : waits ≡ Some (h, k) → WindowsGo news None
+  answered_go own = record {
+    some = some_left;
+    going = not_ended_goes news some_left (same_ended ∙ f.waiting (h, k) own);
+    waiting = λ q e. absurd (cc);
+    awaited = by_window (IsAwaited None) h (acknowledged k) (acknowledged_stays k) ls
+        (λ l found i e at query.
+        let j = newly k l in
+        let number = (same_query h h (l.acked + (j + i) + 1) k (f.awaited h l found (j + i) e (sym (get_drop j i l.unacked) ∙ at) query) own).1 in
+        absurd (past_end l.unacked j i e (omega (arith, number)) at))
+        (λ x l apart found i e at query. absurd (apart (sym (same_query x h (l.acked + i + 1) k (f.awaited x l found i e at query) own).0)));
+    alike = news_alike;
+  }
+
+-- -------- Facts about every client: whom it greets, how its reservation stands, and what its windows have left. A client has a
+-- block only after all handlers have welcomed it, and waits for an answer only in a block. Each row of hearing and each
+-- command keeps the facts. Only a restart changes a client otherwise, and it begins the client anew.
 
 -- of a client that has a block
 pub record BlockFits (c : ClientState) (r : ReservationState) : Type 0 where
@@ -155,10 +496,9 @@ log_fits : (c d : ClientState) (h : HandlerId) (n : Entry) (o : Outcome) → Log
 log_fits c d h n o (is_logged l running free window room more) e own g =
     let run = running_is c running in
     let now = waits_for h (logged l + 1) n in
-    let b = g.block run.reservation run.held in
     ok_fits (with_windows c (at_window h (with_entry n) c.windows) now) d e
     (with_windows_fits c (at_window h (with_entry n) c.windows) now run.reservation run.held g
-    (logged_go c.windows h n run.going (subst (WindowsGo c.windows) free b.windows) now
+    (logged_go c.windows h n run.going (subst (WindowsGo c.windows) free (g.block run.reservation run.held).windows) now
     (λ x found query. let both : Some x ≡ Some l = sym found ∙ window in
     subst (λ (y : WindowState). now ≡ Some (h, y.acked + length y.unacked + 1)) (sym (same_Some x l both)) (own l query))))
 log_fits c d h n o row e own g = absurd (cc)
@@ -181,8 +521,7 @@ give_up_fits c d o (gives_up r s locking held given) e g =
       block = λ q is. record {
         welcome = b.welcome;
         reserves = subst (Reserves c.handlers) (same_Some s q is) f.0;
-        on =
-            subst (λ y. is_gone y ≡ false) (same_Some s q is) f.1;
+        on = subst (λ y. is_gone y ≡ false) (same_Some s q is) f.1;
         windows = b.windows;
         begun = b.begun;
       };
@@ -200,8 +539,7 @@ greeting_fits : (c : ClientState) → c.unwelcomed ≡ c.handlers → c.reservat
 greeting_fits c left none free = record {
   within = λ h e. subst (λ hs. has hs h ≡ true) left e;
   quiet = λ e. free;
-  block =
-      λ r e. absurd (let f : None ≡ Some r = sym none ∙ e in cc);
+  block = λ r e. absurd (let f : None ≡ Some r = sym none ∙ e in cc);
 }
 
 -- ---- whatever happens

@@ -1,54 +1,102 @@
--- A client that opens its block can open it wherever there is room for a private queue. Its mark at each handler of the block
--- is at that block, held or open already, since the lock was granted everywhere before. So the handler tells it Opened, and
--- the client has one handler less to open.
-use Rattle.std.proofs.Common.{◌≡◌, ◌⊎◌, inl, inr, ◌+◌, ◌<◌, ◌≤◌, ◌==◌, ◌&&◌, ◌||◌, not, true, false, length, map, Some, None, refl, sym, ap, ◌∙◌, subst, ⊎_elim}
-use Rattle.std.proofs.Common.{arith}
-use Rattle.std.specs.Prelude.{if◌then◌else◌}
-use Rattle.std.proofs.lemmas.Bool.{eq-eqb}
-use Rattle.std.proofs.lemmas.Bool.Decides.{nat_tests}
-use Rattle.std.proofs.Math.Bool.{or-true}
-use Rattle.scoop_message.specs.declared.limits.TheConstants.{MAX_QUEUES}
-use Rattle.scoop_message.specs.declared.name.Block.{Block}
-use Rattle.scoop_message.specs.declared.name.HandlerId.{HandlerId}
-use Rattle.scoop_message.specs.declared.message.Message.TheVariants.{Open, Opened}
-use Rattle.scoop_handler.specs.declared.mark.Mark.{Mark}
-use Rattle.scoop_handler.specs.declared.mark.Stage.TheVariants.{Held as AtHeld}
-use Rattle.scoop_handler.specs.declared.note.Note.TheVariants.{Opened as OpenedHere, Known}
-use Rattle.scoop_handler.specs.declared.note.Reason.TheVariants.{NotHolder, QueueFull}
-use Rattle.scoop_handler.specs.Core.{IsCore}
-use Rattle.scoop_handler.specs.Marks.{is_held, is_open, block_of, mark_of}
-use Rattle.scoop_handler.specs.State.{HandlerState}
-use Rattle.scoop_handler.specs.Hearing.{is_new, hear_open, dropped, known, opened_here, with_queue}
-use Rattle.scoop_reserve.specs.declared.stage.Stage.TheVariants.{Opening, Unlocking}
-use Rattle.scoop_reserve.specs.declared.stage.Step.{Step}
-use Rattle.scoop_reserve.specs.declared.stage.Step.TheVariants.{Opened as OpenedStep}
-use Rattle.scoop_reserve.specs.Handlers.{has, without, is_empty}
-use Rattle.scoop_reserve.specs.State.{ReservationState, at_stage}
+-- A client that opens its block can open it wherever there is room for a private queue.
+use Rattle.scoop_calm.proofs.Names.{◌≡◌, inl, inr, ◌+◌, ◌<◌, ◌≤◌, ◌||◌, true, false, true≢false, IsTrue, List, [], ◌∷◌, ◌++◌, length, Option, Some, None, refl}
+use Rattle.scoop_calm.proofs.Names.{sym, ap, ◌∙◌, subst, ⊎_elim, arith, same_Some, Block, ends, same_block, QueueState, IsQueue, Mark, is_open, block_of}
+use Rattle.scoop_calm.proofs.Names.{mark_of, IsState, IsUnused, IsUnusedUnlessOpen, HasMark, no_queue_yet, HasMark-fits, All-mark_of, World, Site, number_of}
+use Rattle.scoop_calm.proofs.Names.{has_block, greatest_count, by_test, same_block_is, Upto, IsReachedIn, Slot, slot_queue, queue_at, queues_of, blocks_of}
+use Rattle.scoop_calm.proofs.Names.{MarkTold, IsPassed, IsDone, SlotWhole, SiteTaped, Member, ◌⊎◌, ◌==◌, not, if◌then◌else◌, nat_tests, MAX_QUEUES, HandlerId}
+use Rattle.scoop_calm.proofs.Names.{Open, Opened, AtHeld, OpenedHere, Known, IsCore, is_held, HandlerState, hear_open, with_queue, Opening, has, without}
+use Rattle.scoop_calm.proofs.Names.{ReservationState, OpenedNote, ClientState, heard, hear_step, stepped, Party, id_of, is_site, site_of, party_of}
+use Rattle.scoop_calm.proofs.Names.{newest_block, IsReached, same_block_itself, IsHeldIn, all_found, own_site, IsPastIn, StandsIn, StandsAt, StageStands}
+use Rattle.scoop_calm.proofs.Names.{stage_work, is_open_at}
+use Rattle.scoop_calm.proofs.Lists.{all_member, member_more, some_if_ends, less_without}
 use Rattle.scoop_reserve.specs.Due as owed
 use Rattle.scoop_reserve.specs.Hearing as reservation
-use Rattle.scoop_client.specs.declared.phase.ClientNote.TheVariants.{Opened as OpenedNote}
-use Rattle.scoop_client.specs.State.{ClientState}
-use Rattle.scoop_client.specs.Hearing.{heard, hear_step, after_step, stepped}
-use Rattle.scoop_model.specs.World.{World, Site, Party, number_of, id_of, is_site, site_of, party_of, has_block}
-use Rattle.scoop_model.specs.Step.{Placement, newest_block}
-use Rattle.scoop_model.specs.Reach.{IsReached}
-use Rattle.scoop_model.proofs.Basics.{by_test}
-use Rattle.scoop_model.proofs.Order.Lists.{same_block_itself}
-use Rattle.scoop_model.proofs.Order.Holding.{IsHeldIn}
-use Rattle.scoop_model.proofs.Order.Facts.{all_found}
-use Rattle.scoop_model.proofs.Sites.{own_site}
-use Rattle.scoop_model.proofs.Standing.Facts.{IsPastIn, StandsIn, StandsAt, StageStands}
-use Rattle.scoop_model.proofs.Whole.Facts.{SiteTaped}
-use Rattle.scoop_calm.specs.Left.{stage_work}
-use Rattle.scoop_calm.proofs.Handlers.{less_without}
 use Rattle.scoop_calm.specs.declared.next.Next.TheVariants as next
-use Rattle.scoop_calm.specs.Next.{is_open_at}
-use Rattle.scoop_calm.proofs.Engine.{Helps}
-use Rattle.scoop_calm.proofs.AtMark.{MarkAt}
-use Rattle.scoop_calm.proofs.OpenedAt.{opened_reached, opened_open}
-use Rattle.scoop_calm.proofs.Talk.{Replies, asks_useful, heard_of, stepped_id, stepped_less}
-use Rattle.scoop_calm.proofs.Unlocking.{due_reserved, block_fits, welcome, own_windows, own_mark}
-use Rattle.scoop_calm.proofs.Everything.{Everything}
+use Rattle.scoop_calm.proofs.Moves.{Helps}
+use Rattle.scoop_calm.proofs.Talk.{MarkAt, Replies, asks_useful, heard_of, stepped_id, stepped_less, due_reserved, block_fits, welcome, own_windows, own_mark}
+use Rattle.scoop_calm.proofs.Everything.{AllFacts}
+
+-- -------- A block that has opened at a handler, while its client is in the same incarnation, is open there.
+
+-- ---- slots
+
+-- the slot of a block that has opened
+pub record SlotOf (ss : List Slot) (b : Block) : Type 0 where
+  pub slot : Slot
+  pub in_list : Member slot ss
+  pub block : slot.block ≡ b
+
+pub slot_of : (ss : List Slot) (b : Block) → has_block (blocks_of ss) b ≡ true → SlotOf ss b
+slot_of [] b e = absurd (true≢false (sym e))
+slot_of (t ∷ ts) b e =
+    by_test (λ y. same_block t.block b ≡ y → (y || has_block (blocks_of ts) b) ≡ true → SlotOf (t ∷ ts) b) (same_block t.block b)
+    (λ _ is f. record { slot = t; in_list = inl refl; block = same_block_is t.block b is })
+    (λ _ is f. let s = slot_of ts b f in record { slot = s.slot; in_list = inr s.in_list; block = s.block }) refl e
+
+member_behind : {A : Type 0} (x : A) (xs ys : List A) → Member x ys → Member x (xs ++ ys)
+member_behind x [] ys m = m
+member_behind x (z ∷ zs) ys m = inr (member_behind x zs ys m)
+
+-- its private queue, while it has one
+pub queue_member : (ss : List Slot) (t : Slot) (q : QueueState) → Member t ss → t.state ≡ Some q → Member (slot_queue t q) (queues_of ss)
+queue_member [] t q m e = absurd m
+queue_member (x ∷ xs) t q (inl same) e = subst (λ y. Member (slot_queue t q) (queue_at y y.state ++ queues_of xs)) (sym same)
+    (member_more (slot_queue t q) (queue_at t t.state) (queues_of xs) (subst (λ o. Member (slot_queue t q) (queue_at t o)) (sym e) (inl refl)))
+queue_member (x ∷ xs) t q (inr n) e = member_behind (slot_queue t q) (queue_at x x.state) (queues_of xs) (queue_member xs t q n e)
+
+-- ---- the mark
+
+module _ (w : World) (s : Site) (is : IsState s.core.state) (tape : SiteTaped w s) (b : Block) (k : Mark) (found : mark_of b.client s.core.state.marks ≡ Some k)
+    (opened : has_block s.opened b ≡ true) where
+  own_slot : SlotOf tape.slots b
+  own_slot = slot_of tape.slots b (ap (λ bs. has_block bs b) (sym tape.tape.opened) ∙ opened)
+
+  own_whole : SlotWhole w.sent (number_of s) s.core.state.marks own_slot.slot
+  own_whole = all_member (SlotWhole w.sent (number_of s) s.core.state.marks) tape.slots own_slot.slot tape.whole own_slot.in_list
+
+  -- the mark has reached the block
+  pub opened_reached : Upto b.inc b.num k.inc k.num
+  opened_reached =
+      let r : IsReachedIn s.core.state.marks b = subst (IsReachedIn s.core.state.marks) own_slot.block own_whole.reached in
+      subst (λ (x : Mark). Upto b.inc b.num x.inc x.num) (same_Some r.mark k (sym r.found ∙ found)) r.upto
+
+  module _ (own : block_of k ≡ b) where
+    -- a mark that isn't open has received nothing, so its block has no queue, and has not run
+    not_closed : IsUnused k → is_open k.stage ≡ false → (o : Option QueueState) → own_slot.slot.state ≡ o → ⊥
+    not_closed unused closed (Some q) at =
+        let t = own_slot.slot in
+        let m : Member (slot_queue t q) s.core.state.queues =
+        subst (Member (slot_queue t q)) (sym tape.tape.queues) (queue_member tape.slots t q own_slot.in_list at) in
+        let sound = all_member IsQueue s.core.state.queues (slot_queue t q) is.queues.each m in
+        let marked = all_member (HasMark s.core.state.marks) s.core.state.queues (slot_queue t q) is.marked m in
+        let there : mark_of t.block.client s.core.state.marks ≡ Some k = ap (λ (y : Block). mark_of y.client s.core.state.marks) own_slot.block ∙ found in
+        no_queue_yet (slot_queue t q) k sound (HasMark-fits s.core.state.marks (slot_queue t q) k there marked) unused closed (own ∙ sym own_slot.block)
+    not_closed unused closed None at =
+        let t = own_slot.slot in
+        let d : IsDone s.core.state.marks t = own_whole.gone at in
+        ⊎_elim
+        (λ (e : IsTrue (ends t.ran)).
+        let told = (All-mark_of (MarkTold w.sent (number_of s)) b.client s.core.state.marks k tape.told.each found).received in
+        let alike : greatest_count (number_of s) (block_of k) w.sent ≡ greatest_count (number_of s) t.block w.sent =
+        ap (λ y. greatest_count (number_of s) y w.sent) (own ∙ sym own_slot.block) in
+        omega (arith, told, own_whole.received, alike, some_if_ends t.ran e, unused.received))
+        (λ (p : IsPassed s.core.state.marks t.block).
+        let there : mark_of t.block.client s.core.state.marks ≡ Some k = ap (λ (y : Block). mark_of y.client s.core.state.marks) own_slot.block ∙ found in
+        let one : p.mark ≡ k = same_Some p.mark k (sym p.found ∙ there) in
+        let later : t.block.inc + 1 ≤ k.inc = subst (λ (x : Mark). t.block.inc + 1 ≤ x.inc) one p.upto.inc in
+        omega (arith, later, ap (λ (y : Block). y.inc) (own ∙ sym own_slot.block)))
+        d.whole
+
+    pub opened_open : is_open k.stage ≡ true
+    opened_open =
+        by_test (λ t. is_open k.stage ≡ t → t ≡ true) (is_open k.stage)
+        (λ _ _. refl)
+        (λ _ closed. absurd (not_closed ((All-mark_of IsUnusedUnlessOpen b.client s.core.state.marks k is.unused found).unused closed)
+        closed own_slot.slot.state refl)) refl
+
+-- -------- A client that opens its block can open it wherever there is room for a private queue. Its mark at each handler of the
+-- block is at that block, held or already open, since every handler granted the lock before. So the handler replies
+-- Opened, and the client has one handler less to open.
 
 -- ---- the handler
 
@@ -58,37 +106,22 @@ CanOpen s k = (is_open k.stage ≡ true) ⊎ ((k.stage ≡ AtHeld) × ((length s
 
 open_heard : (s : HandlerState) (b : Block) (k : Mark) → mark_of b.client s.marks ≡ Some k → k.inc ≡ b.inc → k.num ≡ b.num → CanOpen s k
     → Replies s (Open s.number b) (Opened s.number b)
-open_heard s b k found inc num can =
-    let start = heard_of s b k (hear_open s b) found inc (omega (arith, num)) in
-    let old : is_new b k ≡ false = grind (arith, nat_tests) in
-    ⊎_elim
-    (λ (open_here : is_open k.stage ≡ true). record {
-      state = s;
-      told = Known;
-      is =
-          start
-          ∙ (λ i. if old i then dropped s NotHolder else (if open_here i then known s (Opened s.number b)
-          else (if not (is_held k.stage) then dropped s NotHolder else (if length s.queues == MAX_QUEUES then dropped s QueueFull else opened_here s b k))));
-    })
-    (λ (held : (k.stage ≡ AtHeld) × ((length s.queues == MAX_QUEUES) ≡ false)). record {
-      state = with_queue s b k;
-      told = OpenedHere b;
-      is =
-          start
-          ∙ (λ i. if old i then dropped s NotHolder else (if is_open (held.0 i) then known s (Opened s.number b)
-          else (if not (is_held (held.0 i)) then dropped s NotHolder else (if held.1 i then dropped s QueueFull else opened_here s b k))));
-    }) can
+open_heard s b k found inc num (inl open_here) = record {
+  state = s;
+  told = Known;
+  is = heard_of s b k (hear_open s b) found inc (omega (arith, num)) ∙ grind (arith, nat_tests, num, open_here);
+}
+open_heard s b k found inc num (inr held) = record {
+  state = with_queue s b k;
+  told = OpenedHere b;
+  is = heard_of s b k (hear_open s b) found inc (omega (arith, num)) ∙ grind (arith, nat_tests, num, held.1, ap is_open held.0, ap is_held held.0);
+}
 
 -- the test says so
 can_open_test : (s : HandlerState) (b : Block) (k : Mark) → mark_of b.client s.marks ≡ Some k → k.num ≡ b.num → CanOpen s k
     → (is_open_at b (mark_of b.client s.marks) || not (length s.queues == MAX_QUEUES)) ≡ true
-can_open_test s b k found num can =
-    ⊎_elim
-    (λ (open_here : is_open k.stage ≡ true).
-    ap (λ o. is_open_at b o || not (length s.queues == MAX_QUEUES)) found
-    ∙ (λ i. eq-eqb k.num b.num num i && open_here i || not (length s.queues == MAX_QUEUES)))
-    (λ (held : (k.stage ≡ AtHeld) × ((length s.queues == MAX_QUEUES) ≡ false)).
-    ap (λ t. is_open_at b (mark_of b.client s.marks) || not t) held.1 ∙ or-true (is_open_at b (mark_of b.client s.marks))) can
+can_open_test s b k found num (inl open_here) = let test = ap (is_open_at b) found in grind (arith, nat_tests, test, num, open_here)
+can_open_test s b k found num (inr held) = grind (arith, held.1)
 
 -- ---- the client
 
@@ -100,27 +133,15 @@ opening_owes r h at is = ap (owed.due_in r h) at ∙ ap (λ t. if t then Some (O
 
 opened_heard : (c : ClientState) (r : ReservationState) (h : HandlerId) → c.reservation ≡ Some r → r.stage ≡ Opening → has r.left h ≡ true
     → heard c (Opened h r.block) ≡ (stepped c (after_opened r h), OpenedNote h)
-opened_heard c r h held at is =
-    let hears : reservation.hear_opened r h r.stage ≡ (after_opened r h, OpenedStep h) = ap (reservation.hear_opened r h) at
-    ∙ ap (λ t. if t then (after_opened r h, OpenedStep h) else reservation.ignored r) is in
-    ap (hear_step c (Opened h r.block)) held
-    ∙ ap (λ t. after_step c (if t then reservation.hear_opened r h r.stage else reservation.ignored r).0
-    (if t then reservation.hear_opened r h r.stage else reservation.ignored r).1) (same_block_itself r.block)
-    ∙ ap (λ (n : ReservationState × Step). after_step c n.0 n.1) hears
+opened_heard c r h held at is = ap (hear_step c (Opened h r.block)) held ∙ grind (arith, ap (reservation.hear_opened r h) at, is, same_block_itself r.block)
 
 opened_less : (r : ReservationState) (h : HandlerId) → r.stage ≡ Opening → has r.left h ≡ true
     → stage_work (after_opened r h) (after_opened r h).stage < stage_work r r.stage
-opened_less r h at is =
-    let less = less_without h r.left is in
-    let was : stage_work r r.stage ≡ length r.left + length r.handlers = ap (stage_work r) at in
-    by_test (λ t. stage_work (if t then at_stage r Unlocking r.handlers else at_stage r Opening (without h r.left))
-    (if t then at_stage r Unlocking r.handlers else at_stage r Opening (without h r.left)).stage < stage_work r r.stage) (is_empty (without h r.left))
-    (λ all. omega (arith, less, was))
-    (λ more. omega (arith, less, was))
+opened_less r h at is = grind (arith, less_without h r.left is, ap (stage_work r) at)
 
 -- ---- both
 
-module _ (w : World) (r : IsReached w) (e : Everything (map (λ (p : Placement). p.handler) r.placements) w) (p : Party) (at : party_of (id_of p) w ≡ Some p)
+module _ (w : World) (r : IsReached w) (e : AllFacts w r) (p : Party) (at : party_of (id_of p) w ≡ Some p)
     (q : ReservationState) (held : p.client.reservation ≡ Some q) where
   -- the client's mark at a handler of its block, beside the block
   pub record OwnMark (h : HandlerId) : Type 0 where
@@ -133,13 +154,11 @@ module _ (w : World) (r : IsReached w) (e : Everything (map (λ (p : Placement).
   beside h named =
       let m = own_mark w r e p at q held h named in
       let is : q.block ≡ newest_block p.client = (own_windows w r e p at q held).block in
-      let last : q.block.num ≡ p.client.last = ap (λ (y : Block). y.num) is in
-      let low = m.num in
       record {
         mark = m;
         found = ap (λ (y : Block). mark_of y.client m.site.core.state.marks) is ∙ m.there;
         inc = m.inc ∙ sym (ap (λ (y : Block). y.inc) is);
-        num = omega (arith, low, last);
+        num = omega (arith, m.num, ap (λ (y : Block). y.num) is);
       }
 
   pub client_is : q.block.client ≡ id_of p
@@ -154,8 +173,7 @@ module _ (w : World) (r : IsReached w) (e : Everything (map (λ (p : Placement).
       let core = all_found (λ (x : Site). IsCore x.core) (is_site h) w.sites s e.background.sound.sites o.mark.found in
       let tape = all_found (SiteTaped w) (is_site h) w.sites s e.background.taped o.mark.found in
       let up = (opened_reached w s core.state tape q.block k o.found opened).num o.inc in
-      let low = o.num in
-      let num : k.num ≡ q.block.num = omega (arith, up, low) in
+      let num : k.num ≡ q.block.num = omega (arith, up, o.num) in
       let client : k.client ≡ q.block.client = o.mark.client ∙ sym client_is in
       let own : block_of k ≡ q.block = λ i. record { client = client i; inc = o.inc i; num = num i } in
       (num, opened_open w s core.state tape q.block k o.found opened own)
@@ -177,8 +195,7 @@ module _ (w : World) (r : IsReached w) (e : Everything (map (λ (p : Placement).
       let both : Some x.mark ≡ Some k = sym x.found ∙ o.found in
       let one : x.mark ≡ k = cc in
       let newer : q.block.inc < k.inc = subst (λ (y : Mark). q.block.inc < y.inc) one x.newer in
-      let inc = o.inc in
-      absurd (omega (arith, newer, inc)))
+      absurd (omega (arith, newer, o.inc)))
       rest) stands
 
   pub open_useful : q.stage ≡ Opening → (h : HandlerId) → has q.left h ≡ true

@@ -1,3 +1,7 @@
+pub mod Bound
+pub mod Examples
 pub mod Left
 pub mod Next
+pub mod Rounds
 pub mod Settling
+pub mod Standing

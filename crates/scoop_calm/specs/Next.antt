@@ -39,9 +39,9 @@ abbrev pub is_open_at : Block → Option Mark → Bool
 is_open_at b None = false
 is_open_at b (Some k) = k.num == b.num && is_open k.stage
 
--- the handler can do what it is asked for: it always greets and takes locks back; the lock that is asked for is free, or
--- the block's; there is room for one more private queue, or the block has opened; and entries come once nothing that the
--- block has sent is pending
+-- the handler can do what it is asked for. It always greets and takes locks back. It grants a lock that is free or the
+-- block's own. It opens a block if there is room for a private queue, or if the block has opened. It takes entries if
+-- none of the block's entries is pending
 abbrev pub can_do : HandlerState → Message → Bool
 can_do s (Hello h c inc) = true
 can_do s (Welcome h c inc) = false

@@ -18,9 +18,9 @@ use Rattle.scoop_model.specs.Step.{step}
 
 -- ---- events
 
--- Events that lead from one world to another, none of which is refused: jobs go out and are finished, clients end
--- their blocks, and where a client sends a message it is taken at once, and so is the reply. No message is lost or
--- taken twice, nothing old is taken, and nobody restarts.
+-- Events that lead from one world to another, none of which is refused. Jobs go out and are finished, and clients end
+-- their blocks. A message that a client sends is taken at once, and so is the reply. The network loses and repeats no
+-- message, no old message is taken, and no party restarts.
 pub data Settles : World → List Event → World → Type 0 where
   stays : (w : World) → Settles w [] w
   begins : (w v u : World) (es : List Event) (h : HandlerId) (b : Block) (n : ℕ) → step w (Begin h) ≡ Ok (v, note.Began b n) → Settles v es u
@@ -37,7 +37,7 @@ pub data Settles : World → List Event → World → Type 0 where
 pub record IsIdle (p : Party) : Type 0 where
   pub idle : phase_of p.client ≡ Idle
 
--- nobody holds the handler's lock, it has no private queue, and no job is out
+-- the handler's lock is free, it has no private queue, and no job is out
 pub record IsFree (s : Site) : Type 0 where
   pub holder : s.core.state.holder ≡ None
   pub queues : s.core.state.queues ≡ []

@@ -1,28 +1,52 @@
-//! A world is never stuck: from every world that can be reached, events lead on to a calm one.
+//! A world is never stuck: events lead from every reached world to a calm one.
 //!
-//! In a *calm* world every client is idle, and at each handler nobody holds the lock, no private queue is left and no
-//! job is out. Look first at [`never_stuck`], and at what it is about in `specs/Settling.antt`. The events are no
-//! guess: which is next is a function of the world (`specs/Next.antt`), and [`Next`] names what it can be.
-//! `scoop_settle` has that function for a world that runs.
-//!
-//! The crate has nothing to run: its functions are theorems, which a proof has once it calls them.
+//! In a *calm*, that is, quiescent world every client is idle, and each handler has a free lock, no private queue and no
+//! job out. Read [`never_stuck`] first, with its words in `specs/Settling.antt`. The next event is a function of the
+//! world (`specs/Next.antt`), and [`Next`] names the choices. [`next_of`] computes it for a running world.
+//! [`rounds_calm`] says how long every fair way takes, in rounds (`specs/Rounds.antt`, `specs/Bound.antt`). The other
+//! functions have nothing to run: they are theorems, which a proof gets by a call.
 //!
 //! ```
-//! // some events, no restart among them, lead from every world that can be reached to a calm one
+//! // some events without a restart lead from every reached world to a calm one
 //! scoop_calm::never_stuck();
 //! // they are the next events, taken again and again
 //! scoop_calm::settles_by_next_events();
-//! // for what is next leaves less to do
+//! // each of them leaves less to do
 //! scoop_calm::next_leaves_less();
-//! // and nothing is next exactly where the world is calm
+//! // nothing is next exactly if the world is calm
 //! scoop_calm::calm_has_no_next();
+//! // every fair way leads to a calm world too, in as many rounds as there is left to do
+//! scoop_calm::rounds_calm();
+//! // what is left is counted along a block, and two clients keep a third one from a lock
+//! scoop_calm::examples::counted();
+//! scoop_calm::examples::taken_in_turns();
 //! // the calm world was reached, so it is safe as every such world is
 //! scoop_model::theorems::reached_safe();
 //! ```
+//!
+//! ```
+//! // a client that joins is to greet the handler (`next` is `next_of` where memory isn't refused)
+//! let asks = Next::Ask(ClientId(7), HandlerId(1));
+//! assert_eq!(rt; next(world), Ok(Some(asks)));
+//! // it does, and hears the reply: then the world is calm
+//! assert_eq!(rt; world.run(&GREETING), Ok(3));
+//! assert_eq!(rt; next(world), Ok(None));
+//! // a client that is to reserve the handler asks it for the lock
+//! let one = HandlerList::of(&[HandlerId(1)])?;
+//! let reserve = Event::Do(ClientId(7), Command::Reserve(one));
+//! assert_eq!(rt; world.step(reserve), Ok(WorldNote::Done));
+//! assert_eq!(rt; next(world), Ok(Some(asks)));
+//! ```
 #![tactic(auto)]
 
+mod asking;
+mod choosing;
+pub mod examples;
 mod next;
+mod rounds;
 mod settling;
 
+pub use choosing::next_of;
 pub use next::Next;
+pub use rounds::rounds_calm;
 pub use settling::{calm_has_no_next, never_stuck, next_leaves_less, settles_by_next_events};

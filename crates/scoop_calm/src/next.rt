@@ -1,8 +1,8 @@
-//! What may be next in a world that settles.
+//! The choices for the next event in a world that settles.
 
 use scoop_message::{ClientId, HandlerId};
 
-/// What is next in a world that isn't calm: one event, or three where a client asks.
+/// The next event in a world that isn't calm, or the next three if a client asks.
 #[derive(Clone, Copy, Debug, PartialEq, Eq)]
 pub enum Next {
     /// The job that is out at this handler is finished.

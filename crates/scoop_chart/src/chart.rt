@@ -1,4 +1,4 @@
-//! What a chart is told of a run.
+//! The record of a run that a chart draws.
 
 use crate::error::ChartError;
 use crate::lifeline::{Party, client_place, handler_place, lifelines};
@@ -6,10 +6,10 @@ use scoop_message::{Block, ClientId, HandlerId, OutOfMemory};
 use scoop_model::{Event, WorldError, WorldNote};
 use std::alloc::{Allocator, Global};
 
-/// How many events a chart can show.
+/// The most events that a chart can show.
 pub const MAX_ROWS: usize = 2000;
 
-/// What an event draws on the lifeline that it is about.
+/// The mark of an event on its lifeline.
 #[derive(Clone, Copy, Debug, PartialEq, Eq)]
 pub(crate) enum Mark {
     Nothing,
@@ -19,7 +19,7 @@ pub(crate) enum Mark {
     Reopened(u32),
 }
 
-/// An event: whose lifeline it is about, if it is about one, and its label, which ends at this place of all labels.
+/// An event: its lifeline, if it has one, and its label, which ends at this place of all labels.
 #[derive(Clone, Copy, Debug)]
 pub(crate) struct Row {
     pub(crate) place: Option<usize>,
@@ -44,8 +44,8 @@ pub(crate) struct Taken {
     pub(crate) is_repeated: bool,
 }
 
-/// A piece of a handler's lifeline on which one block runs, from row to row. Its colour is the place of the block among
-/// those that have run anywhere.
+/// A piece of a handler's lifeline on which one block runs, from row to row. Its colour is the place of the block
+/// among those that have run at any handler.
 #[derive(Clone, Copy, Debug)]
 pub(crate) struct Piece {
     pub(crate) place: usize,
@@ -67,7 +67,7 @@ pub struct Chart<A: Allocator = Global> {
 }
 
 impl<A: Allocator + Copy> Chart<A> {
-    /// A chart with a lifeline for each of these clients and of these handlers, which come with their nodes, and no
+    /// Makes a chart with a lifeline for each of these clients and handlers, which come with their nodes, and no
     /// event yet. The only refusal is `OutOfMemory`.
     pub fn new(
         alloc: A,
@@ -85,14 +85,15 @@ impl<A: Allocator + Copy> Chart<A> {
         })
     }
 
-    /// How many events it was told.
+    /// The number of its events.
     pub fn rows(&self) -> usize {
         self.rows.len()
     }
 
-    /// Takes the next event of the run, with what came of it and the text of its row.
+    /// Takes the next event of the run, with its outcome and the text of its row.
     ///
-    /// Refused with `TooLong` where it has `MAX_ROWS` events already, and with `OutOfMemory`; it is of no use then.
+    /// Refused with `TooLong` if it has `MAX_ROWS` events already, and with `OutOfMemory`. A refused chart is of
+    /// no further use.
     pub fn note(
         &mut self,
         event: &Event,
@@ -126,7 +127,7 @@ impl<A: Allocator + Copy> Chart<A> {
         Ok(())
     }
 
-    // The lifeline that an event is about.
+    // The lifeline of an event.
     fn place_of(&self, event: &Event) -> Option<usize> {
         match event {
             Event::Do(client, _) | Event::Tick(client, _) | Event::ClientRestart(client) => {
@@ -206,7 +207,7 @@ impl<A: Allocator + Copy> Chart<A> {
         Ok(())
     }
 
-    // The block ran in this row: a handler's last piece goes on where it is the same block's.
+    // The block ran in this row. A handler's last piece goes on if it is the same block's.
     fn run(&mut self, row: usize, place: usize, block: Block) -> Result<(), OutOfMemory> {
         let colour = self.colour_of(block)?;
         let last = self.pieces.iter_mut().rfind(|piece| piece.place == place);
@@ -224,7 +225,7 @@ impl<A: Allocator + Copy> Chart<A> {
         Ok(())
     }
 
-    // The place of a block among those that have run, where a new one is added.
+    // The place of a block among those that have run. A new block is added.
     fn colour_of(&mut self, block: Block) -> Result<usize, OutOfMemory> {
         if let Some(place) = self.blocks.iter().position(|other| *other == block) {
             return Ok(place);
@@ -253,7 +254,7 @@ fn block_that_ran(note: &WorldNote) -> Option<Block> {
     }
 }
 
-// What an event draws.
+// The mark of an event.
 fn mark_of(event: &Event) -> Mark {
     match event {
         Event::ClientRestart(_) => Mark::Restarted,

@@ -11,21 +11,21 @@ const LETTER: usize = 8;
 
 const MARGIN: usize = 16;
 
-// Where the first row stands.
+// The height of the first row.
 const TOP: usize = 72;
 
 const ROW_HEIGHT: usize = 24;
 
-// How far lifelines are apart at least.
+// The least distance of lifelines.
 const COLUMN_WIDTH: usize = 96;
 
-// How far the arrow of a message goes to the side that is never taken, and how far down: what came in its row comes from
-// above, and so it lies on no other.
+// The length and the drop of an arrow for a message that is never taken. Arrows of taken messages come to a row
+// from above, so it lies on no other.
 const LOST: usize = 36;
 
 const LOST_DOWN: usize = 12;
 
-// The colours of blocks. The block after the last has the first one again.
+// The colours of blocks. After the last one the first comes again.
 const COLOURS: [&str; 8] = [
     "#1f77b4", "#d62728", "#2ca02c", "#9467bd", "#ff7f0e", "#17becf", "#8c564b", "#e377c2",
 ];
@@ -39,12 +39,12 @@ const HEAD: &str =
     "<defs><marker id=\"head\" viewBox=\"0 0 8 8\" refX=\"8\" refY=\"4\" markerWidth=\"8\" markerHeight=\"8\" \
 orient=\"auto\"><path d=\"M0 0L8 4L0 8z\"/></marker></defs>";
 
-/// Where things stand in a picture.
+/// The positions in a picture.
 #[derive(Clone, Copy)]
 struct Room {
-    // of the first lifeline
+    // the position of the first lifeline
     first: usize,
-    // how far the lifelines are apart
+    // the distance of lifelines
     column: usize,
     width: usize,
     height: usize,
@@ -66,13 +66,13 @@ impl Room {
         }
     }
 
-    // Where a lifeline stands.
+    // The position of a lifeline.
     fn line_at(self, place: usize) -> usize {
         self.first.saturating_add(place.saturating_mul(self.column))
     }
 }
 
-// How far lifelines are apart, so that no name reaches its neighbour's.
+// The distance of lifelines at which no name reaches its neighbour's.
 fn column_width(parties: &[Party]) -> usize {
     let mut width = COLUMN_WIDTH;
     for party in parties {
@@ -81,7 +81,7 @@ fn column_width(parties: &[Party]) -> usize {
     width
 }
 
-// Where a row stands.
+// The position of a row.
 fn row_at(row: usize) -> usize {
     TOP.saturating_add(row.saturating_mul(ROW_HEIGHT))
 }
@@ -98,7 +98,7 @@ fn longest(rows: &[Row]) -> usize {
 }
 
 impl<A: Allocator + Copy> Chart<A> {
-    /// Writes the picture, an SVG document with an element in a line. The errors are the writer's.
+    /// Writes the picture, an SVG document with one element a line. The errors are the writer's.
     pub fn draw<W: Write>(&self, writer: &mut W) -> io::Result<()> {
         let room = Room::of(self);
         let Room { width, height, .. } = room;
@@ -124,7 +124,7 @@ impl<A: Allocator + Copy> Chart<A> {
         writeln!(writer, "</svg>")
     }
 
-    // A line from top to bottom for each party, with its name, and its node where it has one.
+    // A line from top to bottom for each party, with its name, and its node if it has one.
     fn draw_lifelines<W: Write>(&self, room: Room, writer: &mut W) -> io::Result<()> {
         let top = TOP - ROW_HEIGHT;
         let bottom = room.height;
@@ -147,7 +147,7 @@ impl<A: Allocator + Copy> Chart<A> {
         Ok(())
     }
 
-    // Each row's label, with a faint line to the lifeline that it is about.
+    // Each row's label, with a faint line to the row's lifeline.
     fn draw_rows<W: Write>(&self, room: Room, writer: &mut W) -> io::Result<()> {
         let mut begin = 0;
         for (number, row) in self.rows.iter().enumerate() {
@@ -170,7 +170,7 @@ impl<A: Allocator + Copy> Chart<A> {
         Ok(())
     }
 
-    // A dot for each row on the lifeline that it is about, over the pieces of blocks.
+    // A dot for each row on its lifeline, over the pieces of blocks.
     fn draw_dots<W: Write>(&self, room: Room, writer: &mut W) -> io::Result<()> {
         for (number, row) in self.rows.iter().enumerate() {
             if let Some(place) = row.place {
@@ -181,7 +181,7 @@ impl<A: Allocator + Copy> Chart<A> {
         Ok(())
     }
 
-    // An arrow for each delivery, and a short one with a cross for what was never taken.
+    // An arrow for each delivery, and a short one with a cross for each message that was never taken.
     fn draw_messages<W: Write>(&self, room: Room, writer: &mut W) -> io::Result<()> {
         for taken in &self.taken {
             if let Some(sent) = self.sent.get(taken.message) {
@@ -196,7 +196,7 @@ impl<A: Allocator + Copy> Chart<A> {
         Ok(())
     }
 
-    // A bar across each lifeline that a restart is about.
+    // A bar across each lifeline of a restarted party.
     fn draw_restarts<W: Write>(&self, room: Room, writer: &mut W) -> io::Result<()> {
         for (number, row) in self.rows.iter().enumerate() {
             match (row.mark, row.place) {

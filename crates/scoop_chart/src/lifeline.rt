@@ -1,4 +1,4 @@
-//! Who has a lifeline, and in which order they stand.
+//! The lifelines and their order.
 
 use scoop_message::{ClientId, HandlerId, OutOfMemory};
 use std::alloc::Allocator;
@@ -21,7 +21,7 @@ impl Party {
         }
     }
 
-    /// How many letters its name has, or that of its node, whichever has more.
+    /// The length of its name or of its node's, whichever is longer.
     pub(crate) fn name_length(self) -> usize {
         match self {
             Party::Client(client) => "client ".len().saturating_add(digits(client.0)),
@@ -46,7 +46,7 @@ impl Party {
     }
 }
 
-// How many decimal digits a number has.
+// The number of decimal digits of a number.
 fn digits(number: u32) -> usize {
     1 + number.max(1).ilog10() as usize
 }

@@ -12,7 +12,7 @@ differs word name true is text bad = absurd (bad (subst IsUtf8 (sym ((bytes_eq-D
 other : (word name : List ℕ) → IsUtf8 name → ¬ (IsUtf8 word) → same_text word name ≡ false
 other word name text bad = differs word name (same_text word name) refl text bad
 
--- what is not text names no class
+-- a name that is no text names no class
 pub no_class : (word : List ℕ) → ¬ (IsUtf8 word) → class_named word ≡ None
 unfolding encode
 no_class word bad =

@@ -36,7 +36,7 @@ counter_class =
           ∷ [];
     }
 
--- 1 deposits, 2 withdraws what is there, 3 tells the balance
+-- 1 deposits, 2 withdraws if there is enough, 3 gets the balance
 abbrev pub account_class : ClassTable
 account_class =
     record {
@@ -47,7 +47,7 @@ account_class =
           ∷ [];
     }
 
--- 1 puts a number, and answers the one before it
+-- 1 puts a number, and returns the one before it
 abbrev pub exchange_class : ClassTable
 exchange_class =
     record {
@@ -72,7 +72,7 @@ table_of Counter = counter_class
 table_of Account = account_class
 table_of Exchange = exchange_class
 
--- which class has the name
+-- the class that has the name
 abbrev pub class_of_name : List ℕ → Option DemoClass
 class_of_name name =
     if same_text name (class_name Cell) then Some Cell

@@ -19,14 +19,14 @@ pub enum DemoClass {
     Cell,
     /// Holds a sum: 1 adds to it, 2 gets it.
     Counter,
-    /// Holds a balance: 1 deposits, 2 withdraws what is there, 3 tells the balance.
+    /// Holds a balance: 1 deposits, 2 withdraws if there is enough, 3 gets the balance.
     Account,
-    /// Holds two words: 1 puts one, and answers the one before it.
+    /// Holds two words: 1 puts one, and returns the one before it.
     Exchange,
 }
 
 impl DemoClass {
-    /// The class of that name, `None` where no class has it.
+    /// The class of that name, or `None` if no class has it.
     pub fn from_name(name: &str) -> Option<DemoClass>
         ensures value { result ≡ class_of_name name.now }
         // No class is left out.
@@ -65,7 +65,7 @@ impl DemoClass {
         ]
     }
 
-    /// The class itself. `OutOfMemory` is the one refusal.
+    /// Makes the class itself. `OutOfMemory` is the one refusal.
     pub fn class<A: Allocator>(self, alloc: A) -> Result<Class<A>, OutOfMemory>
         ensures { IfOk result (λ class. class ≡ table_of self) }
     {
@@ -78,7 +78,7 @@ impl DemoClass {
     }
 }
 
-/// The class of that name: `cell`, `counter`, `account` or `exchange`. `None` where there is none.
+/// Makes the class of that name: `cell`, `counter`, `account` or `exchange`. Returns `None` if there is none.
 pub fn demo_class<A: Allocator>(alloc: A, name: &str) -> Result<Option<Class<A>>, OutOfMemory>
     ensures { IfOk result (λ class. class ≡ class_named name.now) }
 {
@@ -88,7 +88,7 @@ pub fn demo_class<A: Allocator>(alloc: A, name: &str) -> Result<Option<Class<A>>
     }
 }
 
-// The class of rows that are known to make one.
+// Builds the class of rows that are known to make one.
 fn class_of<A: Allocator>(alloc: A, words: u8, rows: &[OpRow]) -> Result<Class<A>, OutOfMemory>
     requires { IsClass words rows.now }
     ensures { IfOk result (λ class. class ≡ record { words = words; rows = rows.now }) }

@@ -1,8 +1,8 @@
-//! The demo classes, and for each of them an object of a type of its own.
+//! The demo classes, each with an object of a type of its own.
 //!
-//! [`DemoClass`] names them: a cell, a counter, an account and an exchange. [`demo_class`] makes the class of a name,
-//! and a [`CellObject`], a [`CounterObject`], an [`AccountObject`] or an [`ExchangeObject`] computes by its own code,
-//! and is proved to do what the rows of its class say.
+//! [`DemoClass`] names them: a cell, a counter, an account and an exchange. [`demo_class`] makes the class of a
+//! name. A [`CellObject`], [`CounterObject`], [`AccountObject`] or [`ExchangeObject`] computes by its own code,
+//! and is proved to follow the rows of its class.
 //!
 //! ```
 //! let class = DemoClass::Account.class(rt.alloc())?;

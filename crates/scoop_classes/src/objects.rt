@@ -1,4 +1,4 @@
-//! For each of the demo classes, an object of a type of its own.
+//! An object of a type of its own for each demo class.
 
 mod account;
 mod cell;

@@ -1,5 +1,6 @@
--- Each command is answered by one of the cases, and what fits a case is the answer. The command's tests go both ways, and what
--- they say on a way is what its case asks; back, what a case asks makes the tests come out its way.
+-- Each command's outcome is one of the cases, and a case that fits is the outcome. The command's tests go both ways,
+-- and their results on a way are the conditions of its case. Conversely, the conditions of a case decide the tests its
+-- way.
 use Rattle.std.proofs.Common.{◌≡◌, ◌≢◌, ◌↔◌, ℕ, ◌+◌, ◌-◌, ◌^◌, ◌==◌, Bool, true, false, List, Option, Some, None, refl, sym, ap, subst, ◌∙◌}
 use Rattle.std.specs.Prelude.{if◌then◌else◌, nat_le, Result, Ok, Err}
 use Rattle.scoop_message.specs.declared.name.HandlerId.{HandlerId}
@@ -29,11 +30,11 @@ by_test : (P : Outcome → Type 0) (b : Bool) (s t : Outcome) → (b ≡ true �
 by_test P true s t p q = p refl
 by_test P false s t p q = q refl
 
--- one phase isn't another
+-- phases differ
 other : {p q r : Phase} → p ≡ q → (q ≡ r → ⊥) → p ≢ r
 other is apart e = apart (sym is ∙ e)
 
--- ---- while it locks, the reservation does
+-- ---- the reservation while it locks
 
 locking_stage : (now : Stage) (ended : Bool) → phase_at now ended ≡ Locking → now ≡ stage.Locking
 locking_stage stage.Locking ended e = refl
@@ -58,7 +59,7 @@ no_refusal : (r : ReservationState) (e : AfterLocking) → r.stage ≡ stage.Loc
 no_refusal r e at gone = let one : given_up_in r stage.Locking ≡ Err e = rw at at gone in cc
 
 module _ (c : ClientState) where
-  -- ---- each answer has its case
+  -- ---- each outcome has its case
 
   begin_row : (hs : List HandlerId) (r : Result ReservationState ReserveError) → phase_of c ≡ Idle → (c.last == 2 ^ 32 - 1) ≡ false
       → started (next_block c) hs c.handlers ≡ r → ReserveRow c hs (reserved c hs r)
@@ -132,7 +133,7 @@ module _ (c : ClientState) where
   give_up_is Ending is = give_up_too_late (other is (λ e. cc)) (other is (λ e. cc)) (other is (λ e. cc))
   give_up_is GivingUp is = give_up_too_late (other is (λ e. cc)) (other is (λ e. cc)) (other is (λ e. cc))
 
-  -- each command is answered by one of these cases
+  -- each command's outcome is one of these cases
   pub command_row : (x : Command) → CommandRow c x (command c x)
   command_row (Reserve hs) = reserve_is hs (phase_of c) refl
   command_row (DoCall h r) = log_is h (Call r) (phase_of c) refl
@@ -140,7 +141,7 @@ module _ (c : ClientState) where
   command_row DoEnd = end_is (phase_of c) refl
   command_row GiveUp = give_up_is (phase_of c) refl
 
-  -- ---- each case gives its answer
+  -- ---- each case gives its outcome
 
   at_phase : (f : Phase → Outcome) (p : Phase) (o : Outcome) → phase_of c ≡ p → f p ≡ o → f (phase_of c) ≡ o
   at_phase f p o is e = ap f is ∙ e
@@ -220,6 +221,6 @@ module _ (c : ClientState) where
   row_gives DoEnd o row = end_gives o row
   row_gives GiveUp o row = give_up_gives o row
 
-  -- the table gives each command one answer
+  -- the table gives each command one outcome
   pub command_exactly : (x : Command) (o : Outcome) → (command c x ≡ o) ↔ CommandRow c x o
   command_exactly x o = (λ e. subst (CommandRow c x) e (command_row x), row_gives x o)

@@ -1,4 +1,4 @@
--- What is due is what fits the table, and that alone.
+-- The message that is due fits the table, and nothing else fits.
 use Rattle.std.proofs.Common.{◌≡◌, ◌↔◌, ◌+◌, ◌==◌, Bool, true, false, length, Option, Some, None, refl, subst}
 use Rattle.std.specs.Prelude.{if◌then◌else◌}
 use Rattle.scoop_message.specs.declared.name.HandlerId.{HandlerId}
@@ -19,7 +19,7 @@ module _ (c : ClientState) (h : HandlerId) where
   by_test true s t p q = p refl
   by_test false s t p q = q refl
 
-  -- ---- each answer has its case
+  -- ---- each outcome has its case
 
   none : OwesNothing c h → IsDue c h None
   none why = record { row = owes_nothing; nothing = λ e. why }
@@ -50,11 +50,11 @@ module _ (c : ClientState) (h : HandlerId) where
   is_due = by_test (has c.unwelcomed h) (Some (Hello h c.id c.inc)) (due_in_block c h c.reservation) (λ left. some (Hello h c.id c.inc) (greets left))
       (λ greeted. block_row c.reservation greeted refl)
 
-  -- the message that is due, or none, is so by one of these cases
+  -- one of these cases gives the message that is due, or none
   pub due_row : DueRow c h (due c h)
   due_row = is_due.row
 
-  -- ---- each case gives its answer
+  -- ---- each case gives its outcome
 
   nothing_owed : OwesNothing c h → due c h ≡ None
   nothing_owed (has_no_block greeted held) = rw (greeted, held) refl
@@ -68,6 +68,6 @@ module _ (c : ClientState) (h : HandlerId) where
   row_gives message (reserves r m greeted held owes) why = rw (greeted, held, owes) refl
   row_gives message (logs r l greeted held free opened window rest) why = rw (greeted, held, free, opened, window, rest) refl
 
-  -- the table says of one message, or of none, that it is due
+  -- for one message, or for none, the table says that it is due
   pub due_exactly : (message : Option Message) → (due c h ≡ message) ↔ IsDue c h message
   due_exactly message = (λ e. subst (IsDue c h) e is_due, λ d. row_gives message d.row d.nothing)

@@ -1,4 +1,4 @@
--- Which windows are full.
+-- Full windows.
 use Rattle.std.proofs.Common.{◌≡◌, ◌⊎◌, ⊎_elim, ℕ, zero, suc, ◌<◌, ◌≤◌, ◌++◌, Bool, true, false, cond, not, ◌&&◌, ◌||◌, List, [], ◌∷◌, length, get_or, take}
 use Rattle.std.proofs.Common.{drop, map, find, Option, Some, None, refl, sym, ap, subst, ◌∙◌, inl, inr, arith}
 use Rattle.std.specs.List.{list_all}
@@ -16,7 +16,7 @@ here_or_later p x xs i d true is e within later = cc
 here_or_later p x xs zero d false is e within later = is
 here_or_later p x xs (suc i) d false is e within later = later i e (omega arith)
 
--- a test that no element passes, each element fails
+-- if no element passes a test, each fails it
 find_none : {X : Type 0} (p : X → Bool) (xs : List X) (i : ℕ) (d : X) → find p xs ≡ None → i < length xs → p (get_or xs i d) ≡ false
 find_none p [] i d e within = absurd (omega arith)
 find_none p (x ∷ xs) i d e within = here_or_later p x xs i d (p x) refl e within (λ k f w. find_none p xs k d f w)
@@ -126,6 +126,6 @@ left_of f [] i d within = absurd (omega arith)
 left_of f (x ∷ xs) zero d within = refl
 left_of f (x ∷ xs) (suc i) d within = left_of f xs i d (omega arith)
 
--- an element that a loop over all of them hasn't come to yet
+-- an element that a loop over all hasn't reached yet
 pub left_at : {X : Type 0} (f : X → X) (xs ys : List X) (i : ℕ) (d : X) → i < length xs → ys ≡ map f (take i xs) ++ drop i xs → get_or ys i d ≡ get_or xs i d
 left_at f xs ys i d within so_far = rw so_far (left_of f xs i d within)

@@ -1,4 +1,4 @@
--- The laws of what is due and of what is accepted.
+-- Laws of the messages that are due and of accepted answers.
 use Rattle.std.proofs.Common.{◌≡◌, ℕ, ◌==◌, ◌&&◌, ◌||◌, Bool, true, false, length, Option, Some, None, refl, ap, ◌∙◌}
 use Rattle.std.specs.Prelude.{if◌then◌else◌, nat_lt, nat_le, IfSome}
 use Rattle.std.proofs.lemmas.Bool.{false≢true}
@@ -88,7 +88,7 @@ accepts_once c (Log h b n es) = tt
 accepts_once c (Logged h b n) = logged_once c h b n c.reservation
 accepts_once c (Answer h b n a) = block_answer_once c h b n a c.reservation
 
--- ---- what is due
+-- ---- due messages
 
 some_of : (P : Message → Type 0) (b : Bool) (x y : Option Message) → IfSome x P → IfSome y P → IfSome (if b then x else y) P
 some_of P true x y s t = s

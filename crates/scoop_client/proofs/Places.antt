@@ -1,4 +1,4 @@
--- The place of a handler's window, found by looking at the windows in turn.
+-- The place of a handler's window, searched from the front.
 use Rattle.std.proofs.Common.{◌≡◌, ℕ, zero, suc, ◌<◌, ◌≤◌, true, false, List, [], ◌∷◌, length, get_or, set, Some, None, refl, ap, arith}
 use Rattle.std.proofs.lemmas.List.{get_or_default}
 use Rattle.scoop_message.specs.declared.name.HandlerId.{HandlerId}

@@ -1,4 +1,4 @@
--- What `retain` leaves, where the closure answers a test and stays as it is.
+-- The result of `retain` with a closure that computes a test and doesn't change.
 use Rattle.std.proofs.Common.{◌≡◌, Bool, true, false, List, [], ◌∷◌, length, refl, ap, ◌∙◌, subst, arith}
 use Rattle.std.specs.List.{filter, items_where_true}
 use Rattle.std.specs.List.Retain.{ReturnsInTurn, IsFiltered}

@@ -1,5 +1,6 @@
--- Each message is heard by one of the cases. Where a message isn't awaited each case changes nothing and tells nothing, and
--- `heard` is silent only there. So what fits a case is what `heard` gives, with a silent case kept for what isn't awaited.
+-- Each message fits one of the cases. A case for a message that isn't awaited changes nothing and reports nothing, and
+-- `heard` is silent only there. So the case that fits gives the outcome of `heard`; a silent case is kept for messages
+-- that aren't awaited.
 use Rattle.std.proofs.Common.{◌≡◌, ◌↔◌, ℕ, ◌==◌, ◌&&◌, ◌||◌, Bool, true, false, Option, Some, None, refl, sym, ap, ◌∙◌, subst}
 use Rattle.std.specs.Prelude.{if◌then◌else◌, nat_lt, nat_le}
 use Rattle.std.proofs.lemmas.Bool.Decides.{Decides-eqb}
@@ -95,7 +96,7 @@ module _ (c : ClientState) where
   block_answer_row h b n a (Some r) held =
       in_block (λ d. Answer h d n a) b r (hear_answer_to c h n a c.waits) (λ opened. answer_row h n a r c.waits held opened refl)
 
-  -- each message is heard by one of these cases
+  -- each message fits one of these cases
   pub heard_row : (m : Message) → HeardRow c m (heard c m).0 (heard c m).1
   heard_row (Hello h x inc) = over _
   heard_row (Welcome h x inc) = welcome_row h x inc
@@ -110,7 +111,7 @@ module _ (c : ClientState) where
   heard_row (Logged h b n) = logged_row h b n c.reservation refl
   heard_row (Answer h b n a) = block_answer_row h b n a c.reservation refl
 
-  -- ---- what is awaited
+  -- ---- awaited messages
 
   own_block : (b : Block) → same_block b b ≡ true
   own_block b = (block_decides b b).1 refl
@@ -121,11 +122,11 @@ module _ (c : ClientState) where
   own_name : is_own c c.id c.inc ≡ true
   own_name = (pair_decides c.id c.id c.inc c.inc (client_decides c.id c.id) (Decides-eqb c.inc c.inc)).1 refl
 
-  -- what the reservation ignores the client does
+  -- the client ignores a message that the reservation ignores
   passed : (r s : ReservationState) (st : Step) → (s ≡ r) × (st ≡ step.Ignored) → after_step c s st ≡ ignored c
   passed r s st is = ap (after_step c s) is.1
 
-  -- where a message isn't awaited nothing happens
+  -- a message that isn't awaited does nothing
   quiet : (m : Message) (d : ClientState) (note : ClientNote) → HeardRow c m d note → (Awaits c m → ⊥) → (d ≡ c) × (note ≡ Ignored)
   quiet m d note (passed_over n) out = (refl, refl)
   quiet m d note (is_welcomed h left) out = absurd (out (awaits_welcome h left))
@@ -170,7 +171,7 @@ module _ (c : ClientState) where
       ap (hear_answer c h r.block n a) held ∙ rw (own_block r.block, opened)
       (ap (hear_answer_to c h n a) waits ∙ rw ((pair_decides h h n n (handler_decides h h) (Decides-eqb n n)).1 refl) refl)
 
-  -- what is awaited isn't ignored
+  -- an awaited message isn't ignored
   told : (m : Message) → Awaits c m → (heard c m).1 ≡ Ignored → ⊥
   told m (awaits_welcome h left) e = let no : Welcomed h ≡ Ignored = sym (ap (λ (n : Notice). n.1) (welcome_gives h left)) ∙ e in cc
   told m (awaits_step n r held awaited) e =
@@ -186,7 +187,7 @@ module _ (c : ClientState) where
   over_gives : (m : Message) → (Awaits c m → ⊥) → heard c m ≡ ignored c
   over_gives m out = let is = quiet m (heard c m).0 (heard c m).1 (heard_row m) out in λ i. (is.0 i, is.1 i)
 
-  -- of other kinds than the reservation's nothing is awaited by it, and no step is taken
+  -- the reservation awaits no message of another kind, and takes no step
   step_gives : (m : Message) (r : ReservationState) → c.reservation ≡ Some r
       → ((after_step c (reservation.heard r m).0 (reservation.heard r m).1).1 ≡ Ignored → Awaits c m → ⊥)
       → heard c m ≡ after_step c (reservation.heard r m).0 (reservation.heard r m).1

@@ -1,4 +1,4 @@
--- How a client begins.
+-- The beginning of a client.
 use Rattle.std.specs.Prelude.{◌≡◌, ℕ, ◌==◌, nat_lt, if◌then◌else◌, List, [], length, Option, Some, None, Result, Ok, Err, IsOk}
 use Rattle.scoop_message.specs.declared.limits.TheConstants.{MAX_HANDLERS}
 use Rattle.scoop_message.specs.declared.name.HandlerId.{HandlerId}
@@ -23,7 +23,7 @@ begun id inc hs last batch =
     else if nat_lt MAX_HANDLERS (length hs) then Err TooManyHandlers
     else unless_repeated (greeting id inc hs last batch) (first_repeated hs)
 
--- what beginning answers; want of memory is the last refusal
+-- the outcome of beginning; out of memory is the last refusal
 abbrev pub Begins : Result ClientState BeginError → Result ClientState BeginError → Type 0
 Begins outcome (Ok c) = outcome ≡ Ok c
 Begins outcome (Err NoHandlers) = outcome ≡ Err NoHandlers

@@ -1,4 +1,4 @@
--- A client's commands: `DoCall`, `DoQuery` and `DoEnd` are those by which a call, a query and an end are logged.
+-- A client's commands. `DoCall`, `DoQuery` and `DoEnd` log a call, a query and an end.
 use Rattle.std.specs.Prelude.{◌≡◌, ℕ, ◌+◌, ◌-◌, ◌^◌, ◌==◌, ⊤, nat_le, if◌then◌else◌, List, map, Option, Some, None, Result, Ok, Err, IsOk}
 use Rattle.scoop_message.specs.declared.name.HandlerId.{HandlerId}
 use Rattle.scoop_message.specs.declared.name.Block.{Block}
@@ -20,7 +20,7 @@ use Rattle.scoop_client.specs.declared.error.ClientError.TheVariants.{Reserve as
 use Rattle.scoop_client.specs.Window.{WindowState, fresh_window, logged, is_full, with_entry, with_end, window_of, at_window, lowest_full}
 use Rattle.scoop_client.specs.State.{ClientState, phase_of, block_named, with_reservation, with_windows}
 
--- the client after a command, or why it is refused
+-- the client after a command, or the reason to refuse it
 abbrev pub Outcome : Type 0
 Outcome = Result ClientState ClientError
 
@@ -129,7 +129,7 @@ command c (DoQuery h r) = log c h (Query r) (phase_of c)
 command c DoEnd = end_block c (phase_of c)
 command c GiveUp = give_up c (phase_of c)
 
--- the command that takes memory
+-- the commands that take memory
 abbrev pub IsReserve : Command → Type 0
 IsReserve (Reserve hs) = ⊤
 IsReserve (DoCall h r) = ⊥
@@ -137,9 +137,9 @@ IsReserve (DoQuery h r) = ⊥
 IsReserve DoEnd = ⊥
 IsReserve GiveUp = ⊥
 
--- ---- what a call answers
+-- ---- the outcome of a call
 
--- want of memory is the last refusal: all others would have come first
+-- out of memory is the last refusal: all others come first
 abbrev pub IsRefused : Outcome → ClientError → Type 0
 IsRefused outcome NotGreeted = outcome ≡ Err NotGreeted
 IsRefused outcome NotIdle = outcome ≡ Err NotIdle
@@ -152,7 +152,7 @@ IsRefused outcome Spent = outcome ≡ Err Spent
 IsRefused outcome (NotReservable e) = outcome ≡ Err (NotReservable e)
 IsRefused outcome OutOfMemory = IsOk outcome
 
--- the client that answers takes the outcome or, refused, stays as it was
+-- the client takes the outcome or, if refused, stays as it was
 abbrev pub Answers : Outcome → Result Unit ClientError → ClientState → ClientState → Type 0
 Answers outcome (Ok u) c d = outcome ≡ Ok d
 Answers outcome (Err e) c d = IsRefused outcome e × (d ≡ c)
@@ -160,7 +160,7 @@ Answers outcome (Err e) c d = IsRefused outcome e × (d ≡ c)
 abbrev pub Commanded : Command → Result Unit ClientError → ClientState → ClientState → Type 0
 Commanded x result c d = Answers (command c x) result c d
 
--- the same of a call that takes no memory
+-- the same for a call that takes no memory
 abbrev pub AnswersAlways : Outcome → Result Unit ClientError → ClientState → ClientState → Type 0
 AnswersAlways outcome (Ok u) c d = outcome ≡ Ok d
 AnswersAlways outcome (Err e) c d = (outcome ≡ Err e) × (d ≡ c)
@@ -168,7 +168,7 @@ AnswersAlways outcome (Err e) c d = (outcome ≡ Err e) × (d ≡ c)
 abbrev pub CommandedAlways : Command → Result Unit ClientError → ClientState → ClientState → Type 0
 CommandedAlways x result c d = AnswersAlways (command c x) result c d
 
--- what a test of a command tells: that it would be taken, want of memory apart, or why it would be refused
+-- the outcome of testing a command: it would be taken, memory apart, or the reason to refuse it
 abbrev pub Foretells : Outcome → Result Unit ClientError → Type 0
 Foretells outcome (Ok u) = IsOk outcome
 Foretells outcome (Err e) = outcome ≡ Err e

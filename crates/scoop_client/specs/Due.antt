@@ -1,4 +1,4 @@
--- What a client owes a handler.
+-- The messages that a client owes its handlers.
 use Rattle.std.specs.Prelude.{ℕ, ◌+◌, ◌==◌, if◌then◌else◌, length, Option, Some, None}
 use Rattle.scoop_message.specs.declared.name.HandlerId.{HandlerId}
 use Rattle.scoop_message.specs.declared.name.Block.{Block}
@@ -20,7 +20,7 @@ abbrev pub due_window : ℕ → Block → Option WindowState → Option Message
 due_window batch b None = None
 due_window batch b (Some l) = due_log batch b l
 
--- what the reservation owes comes first, and entries are due once all handlers are opened
+-- the reservation's message comes first, and entries are due once all handlers are opened
 abbrev pub due_after : ClientState → HandlerId → ReservationState → Option Message → Option Message
 due_after c h r (Some m) = Some m
 due_after c h r None = if is_open r then due_window c.batch r.block (window_of h c.windows) else None
@@ -29,6 +29,6 @@ abbrev pub due_in_block : ClientState → HandlerId → Option ReservationState 
 due_in_block c h None = None
 due_in_block c h (Some r) = due_after c h r (reservation.due r h)
 
--- the one message owed to this handler now: a Hello until it has welcomed the client
+-- the one message owed to this handler now: a Hello until the handler has welcomed the client
 abbrev pub due : ClientState → HandlerId → Option Message
 due c h = if has c.unwelcomed h then Some (Hello h c.id c.inc) else due_in_block c h c.reservation

@@ -1,4 +1,4 @@
--- What a client does with a message.
+-- The effect of a message on a client.
 use Rattle.std.specs.Prelude.{ℕ, ◌-◌, Bool, ◌&&◌, ◌||◌, ◌==◌, nat_lt, nat_le, if◌then◌else◌, Option, Some, None}
 use Rattle.scoop_message.specs.declared.name.HandlerId.{HandlerId}
 use Rattle.scoop_message.specs.declared.name.ClientId.{ClientId}
@@ -22,7 +22,7 @@ use Rattle.scoop_client.specs.State.{ClientState, with_unwelcomed, with_reservat
 abbrev pub Notice : Type 0
 Notice = ClientState × ClientNote
 
--- what the table doesn't name changes nothing
+-- a message that the table doesn't name changes nothing
 abbrev pub ignored : ClientState → Notice
 ignored c = (c, Ignored)
 
@@ -30,11 +30,11 @@ ignored c = (c, Ignored)
 abbrev pub hear_welcome : ClientState → HandlerId → Notice
 hear_welcome c h = if has c.unwelcomed h then (with_unwelcomed c (without h c.unwelcomed), Welcomed h) else ignored c
 
--- a block that was given up is over once it is unlocked wherever it was asked
+-- a block that was given up is over once it is unlocked at each handler that was asked
 abbrev pub stepped : ClientState → ReservationState → ClientState
 stepped c r = if is_gone r then idle c else with_reservation c r
 
--- locking, opening and unlocking are the reservation's, and what it doesn't await changes nothing
+-- locking, opening and unlocking are the reservation's; a message that it doesn't await changes nothing
 abbrev pub after_step : ClientState → ReservationState → Step → Notice
 after_step c r (step.Locked h) = (stepped c r, LockedNote h)
 after_step c r (step.Busy h) = (stepped c r, BusyNote h)
@@ -50,7 +50,7 @@ hear_step c m (Some r) = after_step c (reservation.heard r m).0 (reservation.hea
 abbrev pub settled : ClientState → ClientState
 settled c = if all_over c.windows then idle c else c
 
--- a count acknowledges no query that waits
+-- a count never acknowledges a waiting query
 abbrev pub up_to : HandlerId → ℕ → Option (HandlerId × ℕ) → ℕ
 up_to h n None = n
 up_to h n (Some w) = if same_handler w.0 h && nat_le w.1 n then w.1 - 1 else n
@@ -70,7 +70,7 @@ hear_logged c h b n None = ignored c
 hear_logged c h b n (Some r) =
     if is_open_block b r then hear_count c h n (up_to h n c.waits) (window_of h c.windows) else ignored c
 
--- the answer to the query that waits
+-- the answer to the waiting query
 abbrev pub hear_answer_to : ClientState → HandlerId → ℕ → ObjectAnswer → Option (HandlerId × ℕ) → Notice
 hear_answer_to c h n a None = ignored c
 hear_answer_to c h n a (Some w) =

@@ -1,5 +1,5 @@
--- The client's tables as relations, with a case for each of their lines. What fits them is exactly what `due`,
--- `heard` and `command` give.
+-- The client's tables as relations, with a case for each line. The outcomes that fit them are exactly those of `due`,
+-- `heard` and `command`.
 use Rattle.std.specs.Prelude.{◌≡◌, ◌≢◌, ℕ, ◌+◌, ◌-◌, ◌^◌, ◌==◌, ◌||◌, true, false, nat_lt, nat_le, length, map, List, Option, Some, None, Ok, Err}
 use Rattle.scoop_message.specs.declared.name.HandlerId.{HandlerId}
 use Rattle.scoop_message.specs.declared.request.Entry.{Entry}
@@ -36,7 +36,7 @@ pub data OwesNothing (c : ClientState) (h : HandlerId) : Type 0 where
   all_acknowledged : (r : ReservationState) (l : WindowState) → has c.unwelcomed h ≡ false → c.reservation ≡ Some r → owed.due r h ≡ None →
       is_open r ≡ true → window_of h c.windows ≡ Some l → (length l.unacked == 0) ≡ true → OwesNothing c h
 
--- the cases, of which `owes_nothing` is that of one of these
+-- the cases; `owes_nothing` is for one of these
 pub data DueRow (c : ClientState) (h : HandlerId) : Option Message → Type 0 where
   owes_nothing : DueRow c h None
   greets : has c.unwelcomed h ≡ true → DueRow c h (Some (Hello h c.id c.inc))
@@ -45,7 +45,7 @@ pub data DueRow (c : ClientState) (h : HandlerId) : Option Message → Type 0 wh
       is_open r ≡ true → window_of h c.windows ≡ Some l → (length l.unacked == 0) ≡ false →
       DueRow c h (Some (Log l.handler r.block (l.acked + 1) (first_entries c.batch l.unacked)))
 
--- the table: one of the cases, and nothing is due only where nothing is owed
+-- the table: one of the cases, and nothing is due only if nothing is owed
 pub record IsDue (c : ClientState) (h : HandlerId) (message : Option Message) : Type 0 where
   pub row : DueRow c h message
   pub nothing : message ≡ None → OwesNothing c h
@@ -62,8 +62,7 @@ pub data Awaits (c : ClientState) : Message → Type 0 where
   awaits_answer : (h : HandlerId) (n : ℕ) (a : ObjectAnswer) (r : ReservationState) → c.reservation ≡ Some r → is_open r ≡ true → c.waits ≡ Some (h, n) →
       Awaits c (Answer h r.block n a)
 
--- the cases, of which `passed_over` is that of a message that isn't awaited; a step of the reservation that it
--- doesn't await is one too
+-- the cases; `passed_over` is for a message that isn't awaited, or a step of the reservation that it doesn't await
 pub data HeardRow (c : ClientState) : Message → ClientState → ClientNote → Type 0 where
   passed_over : (m : Message) → HeardRow c m c Ignored
   is_welcomed : (h : HandlerId) → has c.unwelcomed h ≡ true → HeardRow c (Welcome h c.id c.inc) (with_unwelcomed c (without h c.unwelcomed)) (Welcomed h)
@@ -76,7 +75,7 @@ pub data HeardRow (c : ClientState) : Message → ClientState → ClientNote →
   is_accepted : (h : HandlerId) (n : ℕ) (a : ObjectAnswer) (r : ReservationState) → c.reservation ≡ Some r → is_open r ≡ true → c.waits ≡ Some (h, n) →
       HeardRow c (Answer h r.block n a) (with_windows c (at_window h (acknowledged n) c.windows) None) (Accepted h n a)
 
--- the table: one of the cases, and only what isn't awaited is ignored
+-- the table: one of the cases, and only a message that isn't awaited is ignored
 pub record IsHeard (c : ClientState) (m : Message) (d : ClientState) (note : ClientNote) : Type 0 where
   pub row : HeardRow c m d note
   pub ignored : note ≡ Ignored → ¬ Awaits c m

@@ -1,4 +1,4 @@
--- Where a client stands.
+-- The state of a client.
 use Rattle.std.specs.Prelude.{◌≡◌, ℕ, ◌≤◌, Bool, if◌then◌else◌, List, [], Option, Some, None, IfSome}
 use Rattle.scoop_message.specs.declared.limits.TheConstants.{MAX_ENTRIES}
 use Rattle.scoop_message.specs.declared.name.HandlerId.{HandlerId}
@@ -12,9 +12,8 @@ use Rattle.scoop_client.specs.declared.phase.Phase.{Phase}
 use Rattle.scoop_client.specs.declared.phase.Phase.TheVariants.{Greeting, Idle, Locking, Opening, Running, Ending, GivingUp}
 use Rattle.scoop_client.specs.Window.{WindowState, is_ended}
 
--- its handlers and those of them that haven't welcomed it, the last block number used, and of the block
--- that it has the reservation, a window for each reserved handler, and the query that waits, by handler
--- and number
+-- The handlers, and those that haven't welcomed the client; the last block number used. Of the client's block: the
+-- reservation, a window for each reserved handler, and the waiting query, by handler and number.
 pub record ClientState : Type 0 where
   pub id : ClientId
   pub inc : ℕ
@@ -39,7 +38,7 @@ phase_of_block windows (Some r) = phase_at r.stage (is_ended windows)
 abbrev pub phase_of : ClientState → Phase
 phase_of c = if is_empty c.unwelcomed then phase_of_block c.windows c.reservation else Greeting
 
--- the block that it has
+-- the client's block
 abbrev pub block_of : Option ReservationState → Option Block
 block_of None = None
 block_of (Some r) = Some r.block
@@ -61,7 +60,7 @@ idle c = record c { reservation = None; windows = []; waits = None }
 abbrev pub block_named : ClientId → ℕ → ℕ → Block
 block_named id inc num = record { client = id; inc = inc; num = num }
 
--- the block that it has is the last that it began
+-- the client's block is the last that it began
 pub record IsBegun (id : ClientId) (inc last : ℕ) (r : ReservationState) : Type 0 where
   pub block : r.block ≡ block_named id inc last
   pub some : 1 ≤ last

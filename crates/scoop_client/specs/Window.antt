@@ -1,4 +1,4 @@
--- What a client has logged at one handler.
+-- The entries that a client has logged at one handler.
 use Rattle.std.specs.Prelude.{◌≡◌, ℕ, ◌+◌, ◌-◌, ◌^◌, ◌<◌, min, Bool, true, false, not, ◌&&◌, ◌||◌, ◌==◌, nat_le, if◌then◌else◌, List, [], ◌∷◌, ◌++◌, length}
 use Rattle.std.specs.Prelude.{take, drop, find, slice_index_or, slice_set, Option, Some, None}
 use Rattle.std.specs.List.{list_any, list_all}
@@ -10,8 +10,7 @@ use Rattle.scoop_message.specs.declared.request.Entry.TheVariants.{End}
 use Rattle.scoop_message.specs.Entry.{is_end}
 use Rattle.scoop_message.specs.Message.{same_handler}
 
--- how many of its entries are acknowledged, whether its End is logged, and the entries that aren't
--- acknowledged, oldest first
+-- the number of acknowledged entries, whether the End is logged, and the other entries, oldest first
 pub record WindowState : Type 0 where
   pub handler : HandlerId
   pub acked : ℕ
@@ -22,7 +21,7 @@ pub record WindowState : Type 0 where
 abbrev pub fresh_window : HandlerId → WindowState
 fresh_window h = record { handler = h; acked = 0; ended = false; unacked = [] }
 
--- how many entries were logged, which is the number of the last one
+-- the number of logged entries, which is that of the last one
 abbrev pub logged : WindowState → ℕ
 logged l = l.acked + length l.unacked
 
@@ -35,7 +34,7 @@ with_entry e l = record l { unacked = l.unacked ++ e ∷ [] }
 abbrev pub with_end : WindowState → WindowState
 with_end l = record l { ended = true; unacked = l.unacked ++ End ∷ [] }
 
--- how many more are acknowledged by a count
+-- the number of entries that a count newly acknowledges
 abbrev pub newly : ℕ → WindowState → ℕ
 newly n l = min (n - l.acked) (length l.unacked)
 
@@ -43,7 +42,7 @@ newly n l = min (n - l.acked) (length l.unacked)
 abbrev pub acknowledged : ℕ → WindowState → WindowState
 acknowledged n l = record l { acked = l.acked + newly n l; unacked = drop (newly n l) l.unacked }
 
--- the End is logged and acknowledged, and so is all before it
+-- the End is logged and acknowledged, and so are all entries before it
 abbrev pub is_over : WindowState → Bool
 is_over l = l.ended && length l.unacked == 0
 
@@ -52,7 +51,7 @@ abbrev pub up_to_end : List Entry → List Entry
 up_to_end [] = []
 up_to_end (e ∷ es) = if is_end e then e ∷ [] else e ∷ up_to_end es
 
--- the entries that one Log carries: the first ones, as many as there are up to the batch
+-- the entries of one Log: the first ones, at most `batch`
 abbrev pub first_entries : ℕ → List Entry → List Entry
 first_entries batch es = up_to_end (take batch es)
 
@@ -61,7 +60,7 @@ pub record IsNumberable (acked : ℕ) (ended : Bool) (unacked : List Entry) : Ty
   pub last : acked + length unacked < 2 ^ 32
   pub end : ended ≡ false → acked + length unacked + 1 < 2 ^ 32
 
--- one more call or query has room in the window, and a number that leaves one for the End
+-- one more call or query has room in the window, and its number leaves one for the End
 pub record HasRoom (l : WindowState) : Type 0 where
   pub room : is_full l ≡ false
   pub number : logged l + 2 < 2 ^ 32
@@ -90,7 +89,7 @@ is_lowest_full ls l = is_full l && list_all (λ x. not (is_full x) || nat_le l.h
 abbrev pub lowest_full : List WindowState → Option HandlerId
 lowest_full ls = option_map (λ l. l.handler) (find (is_lowest_full ls) ls)
 
--- where the first window of a handler stands: it is its window, and it is the one that changes
+-- the place of a handler's first window: lookups find it there, and it is the one that changes
 pub record IsPlaceOf (h : HandlerId) (ls : List WindowState) (i : ℕ) : Type 0 where
   pub within : i < length ls
   pub window : (d : WindowState) → window_of h ls ≡ Some (slice_index_or ls i d)

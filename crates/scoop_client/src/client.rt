@@ -19,9 +19,8 @@ use std::marker::Model;
 
 /// A client, which has one block at a time.
 ///
-/// Contracts see it as its identity and limits, its handlers and those of them that haven't welcomed
-/// it, the last block number used, and of its block the reservation, the windows and the query that
-/// waits.
+/// Contracts see its identity and limits, its handlers and those that haven't welcomed it, and the last block
+/// number used. Of its block they see the reservation, the windows and the waiting query.
 #[derive(Drop)]
 pub struct Client<A: Allocator = Global> {
     pub(crate) id: ClientId,
@@ -56,7 +55,7 @@ impl<A: Allocator> Model for Client<A> {
 }
 
 impl<A: Allocator> Client<A> {
-    /// How many entries one Log carries at most: 1 to 4.
+    /// The most entries that one Log carries: 1 to 4.
     pub fn batch(&self) -> u8
         ensures value { result ≡ self.now.batch }
         ensures some { 1 ≤ self.now.batch }
@@ -65,14 +64,14 @@ impl<A: Allocator> Client<A> {
         self.batch
     }
 
-    /// The handlers with which it began, in their order.
+    /// The handlers with which the client began, in their order.
     pub fn handlers(&self) -> &[HandlerId]
         ensures { result.now ≡ self.now.handlers }
     {
         &self.handlers
     }
 
-    /// What it is at.
+    /// The client's phase.
     pub fn phase(&self) -> Phase
         ensures { result ≡ phase_of self.now }
     {
@@ -96,7 +95,7 @@ impl<A: Allocator> Client<A> {
         }
     }
 
-    /// The block that it has.
+    /// The client's block.
     pub fn block(&self) -> Option<Block>
         ensures { result ≡ block_of self.now.reservation }
     {
@@ -121,7 +120,7 @@ impl<A: Allocator> Client<A> {
         }
     }
 
-    // What is due to a handler that has welcomed the client.
+    // The message that is due to a handler that has welcomed the client.
     fn due_in_block(&self, handler: HandlerId) -> Option<Message>
         ensures value { result ≡ due_in_block self.now handler self.now.reservation }
         ensures fits { IfSome result Fits }
@@ -189,9 +188,9 @@ impl<A: Allocator + Clone> Client<A> {
         })
     }
 
-    /// A client that has to greet these handlers, with no block number used. The incarnation is at
-    /// least 1. It is refused, in this order, with `NoHandlers`, `TooManyHandlers` above `MAX_HANDLERS`,
-    /// `Repeated` and `OutOfMemory`. One Log carries one entry.
+    /// Makes a client that has to greet these handlers, with no block number used. One Log carries one entry. The
+    /// incarnation is at least 1. Refused, in this order, with `NoHandlers`, `TooManyHandlers` above
+    /// `MAX_HANDLERS`, `Repeated` and `OutOfMemory`.
     pub fn begin(
         alloc: A,
         id: ClientId,
@@ -204,7 +203,7 @@ impl<A: Allocator + Clone> Client<A> {
         Client::begin_with(alloc, id, inc, handlers, 0, 1)
     }
 
-    /// The same with the block number that was used last.
+    /// The same, with the last block number used.
     pub fn begin_at(
         alloc: A,
         id: ClientId,
@@ -218,7 +217,7 @@ impl<A: Allocator + Clone> Client<A> {
         Client::begin_with(alloc, id, inc, handlers, last, 1)
     }
 
-    /// The same as `begin`, where one Log carries up to this many entries, 1 to 4.
+    /// The same as `begin`, with Logs of up to `batch` entries, 1 to 4.
     pub fn begin_batched(
         alloc: A,
         id: ClientId,

@@ -1,9 +1,9 @@
-//! What a client is told to do.
+//! The commands of a client.
 
 use crate::handlers::HandlerList;
 use scoop_message::{HandlerId, Request};
 
-/// What a client is told to do.
+/// A command to a client.
 #[derive(Clone, Copy, Debug, PartialEq, Eq)]
 pub enum Command {
     /// Begin a block over these handlers.

@@ -16,7 +16,7 @@ use scoop_message::{Block, Entry, HandlerId, Request};
 use scoop_reserve::Reservation;
 use std::alloc::Allocator;
 
-// What waits once this entry is logged: a query, by its handler and number.
+// The query that waits once this entry is logged, by handler and number.
 fn waits_for(handler: HandlerId, number: u32, entry: &Entry) -> Option<(HandlerId, u32)>
     ensures { result ≡ waits_for handler number entry.now }
 {
@@ -27,9 +27,9 @@ fn waits_for(handler: HandlerId, number: u32, entry: &Entry) -> Option<(HandlerI
 }
 
 impl<A: Allocator + Clone> Client<A> {
-    /// Begins a block over these handlers: locks them, then opens them, then runs. It takes the
-    /// memory of a whole window for each handler. Refused, in this order, with `NotGreeted`,
-    /// `NotIdle`, `Spent` where the last block number is used, `Reserve` and `OutOfMemory`.
+    /// Begins a block over these handlers: locks them, then opens them, then runs. It takes the memory of a whole
+    /// window for each handler. Refused, in this order, with `NotGreeted`, `NotIdle`, `Spent` if the last block
+    /// number is used, `Reserve` and `OutOfMemory`.
     pub fn reserve(&mut self, handlers: &[HandlerId]) -> Result<(), ClientError>
         ensures { Commanded (Reserve handlers.now) result self.old self.new }
     {
@@ -46,7 +46,7 @@ impl<A: Allocator + Clone> Client<A> {
 }
 
 impl<A: Allocator> Client<A> {
-    // The reservation of the next block, or why none may begin over these handlers.
+    // The reservation of the next block, or the reason why none may begin over these handlers.
     fn next_reservation(&self, handlers: &[HandlerId]) -> Result<Reservation, ClientError>
         ensures begins { IfOk result (λ r. command self.now (Reserve handlers.now) ≡ Ok (with_block self.now handlers.now r)) }
         ensures number { IfOk result (λ _. self.now.last + 1 < 2 ^ 32) }
@@ -71,8 +71,7 @@ impl<A: Allocator> Client<A> {
         }
     }
 
-    /// Whether a block over these handlers may begin now: what `reserve` would say, want of memory
-    /// apart. Takes no memory.
+    /// Whether `reserve` would begin a block over these handlers now, memory apart. Takes no memory.
     pub fn may_reserve(&self, handlers: &[HandlerId]) -> Result<(), ClientError>
         ensures { Foretells (command self.now (Reserve handlers.now)) result }
     {
@@ -82,7 +81,7 @@ impl<A: Allocator> Client<A> {
         }
     }
 
-    // The number of the last entry that was logged at a handler, or why none may be logged there.
+    // The number of the last entry logged at a handler, or the reason why none may be logged there.
     fn last_logged(&self, handler: HandlerId) -> Result<u32, ClientError>
         ensures logs { (entry : LoggedEntry) → IfOk result (λ last.
             log self.now handler entry (phase_of self.now) ≡ Ok (with_logged self.now handler entry (last + 1))) }
@@ -111,7 +110,7 @@ impl<A: Allocator> Client<A> {
         Ok(last)
     }
 
-    /// Whether a call or a query may be logged at a handler now: what `call` and `query` would say.
+    /// Whether `call` and `query` would log an entry at a handler now.
     pub fn may_log(&self, handler: HandlerId) -> Result<(), ClientError>
         ensures { (entry : LoggedEntry) → Foretells (log self.now handler entry (phase_of self.now)) result }
     {
@@ -121,16 +120,15 @@ impl<A: Allocator> Client<A> {
         }
     }
 
-    /// Logs a call at a handler. Refused, in this order, with `NotGreeted`, `NoBlock` unless the
-    /// client is running, `Waiting`, `NotReserved`, `WindowFull` and `Spent`. Its memory was taken
-    /// by `reserve`.
+    /// Logs a call at a handler. Refused, in this order, with `NotGreeted`, `NoBlock` unless the client is
+    /// running, `Waiting`, `NotReserved`, `WindowFull` and `Spent`. `reserve` took its memory.
     pub fn call(&mut self, handler: HandlerId, request: Request) -> Result<(), ClientError>
         ensures { CommandedAlways (DoCall handler request) result self.old self.new }
     {
         self.log(handler, Entry::Call(request))
     }
 
-    /// Logs a query at a handler, whose answer the client then waits for. Refused as `call` is.
+    /// Logs a query at a handler; the client then waits for the answer. Refused as `call` is.
     pub fn query(&mut self, handler: HandlerId, request: Request) -> Result<(), ClientError>
         ensures { CommandedAlways (DoQuery handler request) result self.old self.new }
     {
@@ -146,9 +144,9 @@ impl<A: Allocator> Client<A> {
         Ok(())
     }
 
-    /// Ends the block: an End is logged at each of its handlers. Refused, in this order, with
-    /// `NotGreeted`, `NoBlock` unless the client is running, `Waiting`, and `WindowFull` for the
-    /// lowest such handler. Its memory was taken by `reserve`.
+    /// Ends the block: logs an End at each of its handlers. Refused, in this order, with `NotGreeted`, `NoBlock`
+    /// unless the client is running, `Waiting`, and `WindowFull` for the lowest such handler. `reserve` took its
+    /// memory.
     pub fn end(&mut self) -> Result<(), ClientError>
         ensures { CommandedAlways DoEnd result self.old self.new }
     {
@@ -157,7 +155,7 @@ impl<A: Allocator> Client<A> {
         Ok(())
     }
 
-    /// Whether the block may end now: what `end` would say.
+    /// Whether `end` would end the block now.
     pub fn may_end(&self) -> Result<(), ClientError>
         ensures told { Foretells (command self.now DoEnd) result }
         ensures ends { OnOk result (command self.now DoEnd ≡ Ok (with_ends self.now)) }
@@ -178,8 +176,8 @@ impl<A: Allocator> Client<A> {
         Ok(())
     }
 
-    /// Gives up a block whose handlers aren't all locked yet. Refused, in this order, with
-    /// `NotGreeted`, `NoBlock` where the client is idle, and `TooLate`.
+    /// Gives up a block whose handlers aren't all locked yet. Refused, in this order, with `NotGreeted`, `NoBlock`
+    /// if the client is idle, and `TooLate`.
     pub fn give_up(&mut self) -> Result<(), ClientError>
         ensures { CommandedAlways GiveUp result self.old self.new }
     {
@@ -198,7 +196,7 @@ impl<A: Allocator> Client<A> {
         Ok(())
     }
 
-    /// Whether the block may be given up now: what `give_up` would say.
+    /// Whether `give_up` would give up the block now.
     pub fn may_give_up(&self) -> Result<(), ClientError>
         ensures { Foretells (command self.now GiveUp) result }
     {
@@ -212,7 +210,7 @@ impl<A: Allocator> Client<A> {
         }
     }
 
-    /// Whether the command would be taken now: what `carry_out` would say, want of memory apart. Takes no memory.
+    /// Whether `carry_out` would take the command now, memory apart. Takes no memory.
     pub fn may_carry_out(&self, command: &Command) -> Result<(), ClientError>
         ensures { Foretells (outcome_of self.now command.now) result }
     {
@@ -227,7 +225,7 @@ impl<A: Allocator> Client<A> {
 }
 
 impl<A: Allocator + Clone> Client<A> {
-    /// Takes a command: `reserve`, `call`, `query`, `end` or `give_up`, refused as that is.
+    /// Takes a command: `reserve`, `call`, `query`, `end` or `give_up`, refused as that call is.
     pub fn carry_out(&mut self, command: &Command) -> Result<(), ClientError>
         ensures takes { Commanded command.now result self.old self.new }
         ensures memory { result ≡ Err ClientError.OutOfMemory → IsReserve command.now }

@@ -1,4 +1,4 @@
-//! Why a client or one of its commands is refused.
+//! The reasons to refuse a client or one of its commands.
 
 ghost use Rattle.std.specs.Prelude.{◌≡◌};
 ghost use Rattle.scoop_client.specs.declared.error.BeginError.TheVariants.{OutOfMemory};

@@ -11,11 +11,11 @@ use scoop_message::HandlerId;
 use std::marker::Model;
 use thiserror::Error;
 
-/// Handlers that one command may name: one more than a block may have, so that a list of one too many
-/// reaches the client, which refuses it.
+/// The most handlers that one command may name. That is one more than a block may have, so that a list of one too
+/// many reaches the client, which refuses it.
 pub const MAX_NAMED_HANDLERS: usize = 9;
 
-// What stands in an unused cell.
+// The filler of unused cells.
 const NOBODY: HandlerId = HandlerId(0);
 
 /// There are more than nine handlers.
@@ -66,7 +66,7 @@ impl Eq for HandlerList {
 }
 
 impl HandlerList {
-    /// The list of these handlers. `TooManyHandlers` comes exactly where there are more than nine.
+    /// Makes the list of these handlers. Returns `TooManyHandlers` exactly if there are more than nine.
     pub fn of(handlers: &[HandlerId]) -> Result<HandlerList, TooManyHandlers>
         ensures { OkIff result (length handlers.now ≤ MAX_NAMED_HANDLERS) handlers.now }
     {

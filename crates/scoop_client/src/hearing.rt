@@ -1,4 +1,4 @@
-//! What a client does with messages.
+//! The effect of messages on a client.
 
 ghost use Rattle.std.specs.Prelude.{◌≡◌, List};
 ghost use Rattle.scoop_reserve.specs.Handlers.{without};
@@ -12,7 +12,7 @@ use scoop_message::{Answer, Block, HandlerId, Message};
 use scoop_reserve::{Step, has};
 use std::alloc::Allocator;
 
-// How far a count acknowledges: up to a query that waits, and not that query.
+// The number up to which a count acknowledges: it stops before a waiting query.
 fn up_to(handler: HandlerId, number: u32, waits: Option<(HandlerId, u32)>) -> u32
     ensures { result ≡ up_to handler number waits }
 {
@@ -34,7 +34,7 @@ fn remove<A: Allocator>(handlers: &mut Vec<HandlerId, A>, handler: HandlerId)
 }
 
 impl<A: Allocator> Client<A> {
-    /// Hears a message. One that isn't awaited is `Ignored`; it and `Busy` change nothing.
+    /// Hears a message. A message that isn't awaited is `Ignored`; it and `Busy` change nothing.
     pub fn hear(&mut self, message: &Message) -> ClientNote
         ensures value { heard self.old message.now ≡ (self.new, result) }
         ensures once { AcceptsOnce self.old self.new result }
@@ -75,7 +75,7 @@ impl<A: Allocator> Client<A> {
         ClientNote::Welcomed(handler)
     }
 
-    // A reply to what the reservation sent.
+    // A reply to a message of the reservation.
     fn hear_step(&mut self, message: &Message) -> ClientNote
         ensures { hear_step self.old message.now self.old.reservation ≡ (self.new, result) }
     {
@@ -89,7 +89,7 @@ impl<A: Allocator> Client<A> {
             Step::Unlocked(handler) => ClientNote::Unlocked(handler),
             Step::Ignored => return ClientNote::Ignored,
         };
-        // A block that was given up is over once it is unlocked wherever it was asked.
+        // A block that was given up is over once it is unlocked at each handler that was asked.
         if reservation.is_gone() {
             self.leave();
         } else {

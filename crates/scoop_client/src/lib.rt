@@ -1,7 +1,7 @@
-//! A client: it greets its handlers, and then runs blocks, one at a time, each over several handlers
-//! that it reserves, logs calls and queries at, and ends.
+//! A client. It greets its handlers, and then runs blocks, one at a time. A block reserves several handlers, logs
+//! calls and queries at them, and ends.
 //!
-//! [`Client::due`] says which message is due to which handler, which stays due until its reply has come, and
+//! [`Client::due`] gives the message that is due to a handler; it stays due until its reply has come.
 //! [`Client::hear`] takes the handlers' replies.
 //!
 //! ```

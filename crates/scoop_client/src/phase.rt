@@ -1,8 +1,8 @@
-//! What a client tells of itself.
+//! The phases and the notes of a client.
 
 use scoop_message::{Answer, HandlerId};
 
-/// What a client is at.
+/// The phase of a client.
 #[derive(Clone, Copy, Debug, PartialEq, Eq)]
 pub enum Phase {
     /// It greets its handlers.
@@ -21,18 +21,18 @@ pub enum Phase {
     GivingUp,
 }
 
-/// What a message did at a client.
+/// The effect of a message on a client.
 #[derive(Clone, Copy, Debug, PartialEq, Eq)]
 pub enum ClientNote {
     /// The handler has welcomed the client.
     Welcomed(HandlerId),
     /// The handler is locked.
     Locked(HandlerId),
-    /// The handler's lock is held by another block. Nothing has changed.
+    /// Another block holds the handler's lock. Nothing has changed.
     Busy(HandlerId),
     /// The handler has a private queue for the block.
     Opened(HandlerId),
-    /// The handler's lock is given back.
+    /// The block has given the handler's lock back.
     Unlocked(HandlerId),
     /// The handler has received the entries up to this number.
     Acknowledged(HandlerId, u32),

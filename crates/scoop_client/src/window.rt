@@ -1,4 +1,4 @@
-//! What a client has logged at one handler.
+//! The entries that a client has logged at one handler.
 
 ghost use Rattle.std.specs.Prelude.{◌≡◌, ◌+◌, ◌≤◌, ◌<◌, ◌^◌, ◌∷◌, length, IfOk, IfSome, IsTrue, false};
 ghost use Rattle.scoop_message.specs.Message.{Fits, IsNumbered};
@@ -11,8 +11,8 @@ use scoop_message::{Block, Entries, Entry, HandlerId, Message};
 use std::alloc::{AllocError, Allocator};
 use std::marker::Model;
 
-/// The window of one handler of a block: the entries logged there that aren't acknowledged yet, oldest
-/// first, with room for a whole window, so that logging takes no memory.
+/// The window of one handler of a block: the logged entries that aren't acknowledged yet, oldest first. It has
+/// room for a whole window, so logging takes no memory.
 #[derive(Drop)]
 pub(crate) struct Window<A: Allocator> {
     handler: HandlerId,
@@ -45,7 +45,7 @@ fn up_to_end(entries: &[Entry]) -> &[Entry]
     entries
 }
 
-// The first entries, as many as there are up to the batch.
+// The first entries, at most `batch`.
 fn first_entries(entries: &[Entry], batch: usize) -> &[Entry]
     ensures { result.now ≡ first_entries batch entries.now }
 {
@@ -53,7 +53,7 @@ fn first_entries(entries: &[Entry], batch: usize) -> &[Entry]
 }
 
 impl<A: Allocator> Window<A> {
-    /// The window of a handler at which nothing is logged.
+    /// A window without entries.
     pub(crate) fn new(alloc: A, handler: HandlerId) -> Result<Window<A>, AllocError>
         ensures { IfOk result (λ l. l ≡ fresh_window handler) }
     {
@@ -78,7 +78,7 @@ impl<A: Allocator> Window<A> {
         self.acked
     }
 
-    /// How many entries were logged, which is the number of the last one.
+    /// The number of logged entries, which is that of the last one.
     pub(crate) fn logged(&self) -> u32
         ensures { result ≡ logged self.now }
     {

@@ -9,7 +9,7 @@ use crate::window::Window;
 use scoop_message::{Entry, HandlerId};
 use std::alloc::{AllocError, Allocator};
 
-/// A window for each handler, at which nothing is logged.
+/// A window without entries for each handler.
 pub(crate) fn fresh_windows<A: Allocator + Clone>(
     alloc: &A,
     handlers: &[HandlerId],
@@ -23,7 +23,7 @@ pub(crate) fn fresh_windows<A: Allocator + Clone>(
     Ok(windows)
 }
 
-// Where the handler's window stands.
+// The place of the handler's window.
 fn place_of<A: Allocator>(windows: &[Window<A>], handler: HandlerId) -> Option<usize>
     ensures { MatchOption result (IsNowhere handler windows.now) (IsPlaceOf handler windows.now) }
 {
@@ -87,7 +87,7 @@ pub(crate) fn all_over<A: Allocator>(windows: &[Window<A>]) -> bool
     windows.iter().all(|window| window.is_over())
 }
 
-// Whether the window of this window is full, and none at a lower handler is.
+// Whether this window is full, and none at a lower handler is.
 fn is_lowest_full<A: Allocator>(windows: &[Window<A>], window: &Window<A>) -> bool
     ensures { result ≡ is_lowest_full windows.now window.now }
 {

@@ -1,6 +1,6 @@
--- What is printed for a datagram, and what the keeper has behind it. The answer is a refusal, a note or a reply, and only
--- behind some notes, of a handler that is here, may something run. Which handlers are here stays the same, so what the
--- keeper has of every other handler does too.
+-- The printed answer to a datagram, and the keeper after it. The answer is a refusal, a note or a reply. Only after some notes
+-- of a handler that is here may something run. The set of handlers stays the same, and so does the keeper's state of every
+-- other handler.
 use Rattle.std.proofs.Common.{◌≡◌, ◌≢◌, if◌then◌else◌, ℕ, Bool, true, false, List, [], ◌∷◌, length, drop, Option, Some, None, refl, sym, ap, ◌∙◌, subst}
 use Rattle.std.proofs.lemmas.List.{take_at}
 use Rattle.hex.specs.Hex.{encode_lower}
@@ -38,14 +38,14 @@ use Rattle.scoop_demo.specs.Run.{AnswersLine, RunsBehind}
 use Rattle.scoop_demo.specs.Storing.{KeepsElsewhere}
 use Rattle.scoop_demo.proofs.OnlyLemmas.{rests_same}
 
--- ---- what is printed
+-- ---- the printed answer
 
 heard_line : (v : Version) (reply : Option Message) (note : Note) (buffer : List ℕ)
     → line_of (answered_of v reply note) (written (frame_of v reply) buffer) ≡ text_of v reply note
 heard_line v None note buffer = refl
 heard_line v (Some reply) note buffer = ap encode_lower (take_at (frame v reply) (drop (length (frame v reply)) buffer) (length (frame v reply)) refl)
 
--- the handler that may have something to run behind an answer
+-- the handler that may have something to run after an answer
 pub record Follows (d : List ℕ) (a : Answered) (next : Option HandlerId) : Type 0 where
   pub refused : (e : FrameError) → a ≡ answered.RefusedFrame e → next ≡ None
   pub silent : (note : Note) (v : Version) (m : Message) → a ≡ answered.Silent note → IsFrame v m d → next ≡ runs_by note (handler_of m)
@@ -155,7 +155,7 @@ number_apart h k apart same = let id : ℕ → HandlerId = λ n. record { 0 = n 
 absent_apart : (hs : List LocalHandler) (h k : HandlerId) (s : LocalHandler) → handler_in h hs ≡ None → handler_in k hs ≡ Some s → h ≡ k → ⊥
 absent_apart hs h k s none some same = some_none s (sym some ∙ subst (λ (x : HandlerId). handler_in x hs ≡ None) same none)
 
--- what a keeper has of the handlers elsewhere
+-- the keeper's states of the handlers elsewhere
 others_heard : {K : Type 0} (pass : ℕ) (m : Message) (reply : Reply) (old new : BookValue K) (was now : ℕ → Stored → Type 0) → Gains pass (Hear m) reply old new
     → KeepsNew (handler_of m) new.handlers was now
     → (h : HandlerId) → handler_in h old.handlers ≡ None → StaysAt was now h.0
@@ -186,7 +186,7 @@ module _ {K : Type 0} (has : K → ℕ → Stored → Type 0) (incs : K → ℕ 
   pub elsewhere_same : (hs : List LocalHandler) (a : K) → KeepsElsewhere has incs is_honest hs a a
   elsewhere_same hs a = record { honest = λ is. is; handlers = λ is h none. stays_at (has a) h.0; clients = λ is. is_same_same (incs a) }
 
-  -- one behind the other, where no handler comes
+  -- one after the other, while no handler comes
   pub elsewhere_more : (hs ks : List LocalHandler) (a b c : K) → ((h : HandlerId) → handler_in h hs ≡ None → handler_in h ks ≡ None)
       → KeepsElsewhere has incs is_honest hs a b
       → KeepsElsewhere has incs is_honest ks b c → KeepsElsewhere has incs is_honest hs a c
@@ -208,7 +208,7 @@ module _ {K : Type 0} (has : K → ℕ → Stored → Type 0) (incs : K → ℕ 
     clients = others.clients;
   }
 
--- a handler that is here isn't told of as unknown
+-- a handler that is here isn't unknown
 pub not_away : {K : Type 0} (h : HandlerId) (old new : BookValue K) (e : BookError) → IsHere old.handlers h → BreaksOff h old new e → e ≢ UnknownHandler
 not_away h old new e here breaks is =
     let away = subst (BreaksOff h old new) is breaks in

@@ -59,7 +59,7 @@ second_fails a b i high low is_high below is_low above =
     let second : value_at b (i + 1) ≡ Err (InvalidHexCharacter b (i + 1)) = ap (digit_or_error b (i + 1)) (digit_missed b low is_low above) in
     rw (first, second) refl
 
--- one of two is no digit, where the bits of both values together are above 15
+-- one of two is no digit if the bits of both values together are above 15
 pub pair_fails : (a b i high low : ℕ) → high ≡ value_of a → low ≡ value_of b → 15 < bit_or high low
     → (e : FromHexError) × (pair_value a b i ≡ Err e)
 pair_fails a b i high low is_high is_low above =
@@ -72,11 +72,11 @@ pair_fails a b i high low is_high is_low above =
           ]
     ]
 
--- both are digits, where the bits of both values together are at most 15
+-- both are digits if the bits of both values together are at most 15
 pub both_below : (high low : ℕ) → bit_or high low ≤ 15 → (high < 16) × (low < 16)
 both_below high low below = (omega (arith, le_or_l high low), omega (arith, le_or_r high low))
 
--- what stops at a pair decodes to nothing
+-- digits that stop at a pair decode to nothing
 pub pairs_fail : (digits : List ℕ) (e : FromHexError) → length digits % 2 ≡ 0 → decode_pairs 0 digits ≡ Err e → IsErr (decode_of digits)
 pairs_fail digits e even h = ap is_err (decode_of-even digits even ∙ h)
 
@@ -96,7 +96,7 @@ unspaced (x ∷ xs) h =
 all_digits : (digits bytes : List ℕ) → decode_of digits ≡ Ok bytes → list_all is_hex_digit digits ≡ true
 all_digits digits bytes h = list_all-from_AllPass is_hex_digit digits (decode_of-ok digits bytes h).1
 
--- what decodes as it stands has no spaces
+-- a line that decodes as it is has no spaces
 pub stands : (line bytes : List ℕ) → decode_of line ≡ Ok bytes → decode_of (digits_of line) ≡ Ok bytes
 stands line bytes h = ap decode_of (unspaced line (all_digits line bytes h)) ∙ h
 
@@ -120,7 +120,7 @@ fault_odd digits fails are =
           cc (sym fails ∙ evenly digits are even)
     ]
 
--- what `retain` leaves, where the closure is a test that changes nothing
+-- `retain` filters, if the closure is a test that changes nothing
 pub retains_filter : {S : Type 0} (R : S → ℕ → Bool → S → ℕ → Type 0) (test : ℕ → Bool)
     → ((s : S) (x : ℕ) (b : Bool) (t : S) (y : ℕ) → R s x b t y → (b ≡ test x) × (y ≡ x))
     → (s : S) (xs ys : List ℕ) → RetainsInTurn R s xs ys → ys ≡ filter test xs

@@ -1,6 +1,3 @@
-mod LineLemmas
-mod ChunkLemmas
-mod InputLemmas
 mod HexLemmas
 mod OpenLemmas
 mod OnlyLemmas

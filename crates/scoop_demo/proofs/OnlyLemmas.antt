@@ -1,6 +1,6 @@
--- A line has one answer, and what a book does is told by its handlers and its history. Bytes are read in one way, a move of
--- known handlers has one reply and one outcome, and what runs is what is in front, until nothing is. So books that differ in
--- their keepers alone print the same for the same lines, and differ in nothing else behind them.
+-- A line has one answer, which the book's handlers and history determine. Bytes have one reading. A move of known handlers
+-- has one reply and one outcome. The entry that runs is always the one in front. So books that differ in their keepers alone
+-- print the same for the same lines, and still differ in their keepers alone after them.
 use Rattle.std.proofs.Common.{◌≡◌, ℕ, ◌+◌, List, [], ◌∷◌, ◌++◌, codes, Option, Some, None, Result, Ok, Err, refl, sym, ap, ◌∙◌, subst}
 use Rattle.std.proofs.lemmas.Option.{same_Some}
 use Rattle.hex.proofs.HexLemmas.{decode_of-same}

@@ -3,10 +3,10 @@ use Rattle.std.proofs.Common.{◌≡◌, ℕ, ◌^◌, ap, sym, Bool, true, fals
 use Rattle.std.proofs.lemmas.Bool.Decides.{nat_tests}
 use Rattle.scoop_object.specs.Class.{ClassTable}
 use Rattle.scoop_demo.specs.declared.fault.InputFault.TheVariants.{WrongNumberOfWords}
-use Rattle.scoop_words.specs.Words.{Word}
-use Rattle.scoop_words.specs.Reading.{◌>>=◌, each_of}
+use Rattle.scoop_lines.specs.Words.{Word}
+use Rattle.scoop_lines.specs.Reading.{◌>>=◌, each_of}
 use Rattle.scoop_demo.specs.ScriptLine.{words_for, handler_of, number_of, number_below}
-use Rattle.scoop_words.proofs.ReadingLemmas.{length-each_of}
+use Rattle.scoop_lines.proofs.ReadingLemmas.{length-each_of}
 
 pub handler_read : (word : Word) (n : ℕ) → Ok n ≡ number_below (2 ^ 32) word → handler_of word ≡ Ok (record { 0 = n })
 handler_read word n is = ap (λ r. r >>= λ n. Ok (record { 0 = n })) (sym is)

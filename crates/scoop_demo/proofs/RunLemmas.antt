@@ -1,35 +1,38 @@
--- A run over lines, one line at a time. The lines that were taken, and what is left, make the input; each line that was taken
--- has its answer, written behind those before it (`Progress`). At the input's end these are all lines; a line that can't be
--- taken or answered stops the run behind them.
+-- A run over lines, one line at a time. The lines that were taken and the rest make the input. Each line that was taken has its
+-- answer, written after those before it (`Progress`). At the input's end these are all lines. A line that can't be taken or
+-- answered stops the run after them.
 use Rattle.std.proofs.Common.{◌≡◌, ◌≤◌, ℕ, ◌+◌, List, [], ◌∷◌, ◌++◌, length, Option, Some, None, IfSome, Result, Ok, Err, IfErr, OnOk, refl, sym, ◌∙◌, ap}
 use Rattle.std.proofs.Common.{subst, arith, append_assoc, append-nil}
 use Rattle.std.specs.Prelude.{⊤}
 use Rattle.std.proofs.lemmas.List.{length_push}
+use Rattle.std.specs.Option.{option_map}
 use Rattle.std.specs.Io.KnownBytes.{Appends, Keeps, IsAtEnd}
 use Rattle.std.proofs.lemmas.Bool.Decides.{nat_tests}
 use Rattle.scoop_message.specs.declared.name.HandlerId.{HandlerId}
 use Rattle.scoop_book.specs.Books.{BookValue}
 use Rattle.scoop_netloop.specs.RunningOut.{RunsDry}
 use Rattle.scoop_demo.specs.declared.fault.InputFault.{InputFault}
-use Rattle.scoop_demo.specs.declared.fault.InputFault.TheVariants.{ReadFault}
+use Rattle.scoop_demo.specs.declared.fault.InputFault.TheVariants.{Source}
+use Rattle.scoop_lines.specs.declared.error.LinesError.{LinesError}
+use Rattle.scoop_lines.specs.declared.error.SourceFault.TheVariants.{ReadFault}
 use Rattle.scoop_demo.specs.declared.fault.RunError.{RunError}
 use Rattle.scoop_demo.specs.declared.fault.RunError.TheVariants.{Input as InputError, Write}
-use Rattle.scoop_demo.specs.Line.{count_limit, lines_of, limit_fault, BeginsWith, TakesFirst}
+use Rattle.scoop_lines.specs.Line.{count_limit, lines_of, limit_fault, BeginsWith, TakesFirst}
 use Rattle.scoop_demo.specs.Hex.{hex_fault, StandsFor}
 use Rattle.scoop_demo.specs.Answer.{Prints, StopsRunning}
-use Rattle.scoop_demo.specs.Input.{Input, TakesLine, StopsAtNext}
-use Rattle.scoop_demo.specs.Input.StopsAtNext.{read_fault as next_unread, past_limit, write_fault}
+use Rattle.scoop_lines.specs.Input.{Input, TakesLine, StopsAtNext}
+use Rattle.scoop_lines.specs.Input.StopsAtNext.{read_fault as next_unread, past_limit, flush_fault}
 use Rattle.scoop_demo.specs.Run.{HearsLine, IsDatagram, AnswersFirst, AnswersLine, AnswersLines, AnswersAll, BeginsWithLines, WritesAnswer, StopsInLine}
-use Rattle.scoop_demo.specs.Run.{StopsBehind, StopsEarly, fault_of, first_fault}
+use Rattle.scoop_demo.specs.Run.{StopsBehind, StopsEarly, fault_of, first_fault, run_error}
 use Rattle.scoop_demo.specs.Run.StopsInLine.{in_digits, in_book, in_output, in_run}
 use Rattle.scoop_demo.specs.Run.StopsBehind.{read_fault, line_fault}
 use Rattle.scoop_demo.specs.Run.StopsEarly.{at_line, at_output, at_answer, at_book, at_run}
-use Rattle.scoop_demo.proofs.InputLemmas.{begins_with}
+use Rattle.scoop_lines.proofs.InputLemmas.{begins_with}
 use Rattle.scoop_demo.proofs.OnlyLemmas.{answers_first, prints_only, rests_same}
 
 -- ---- known bytes
 
--- the lines of an input are those that were taken and those of what is left
+-- the lines of an input are those that were taken and those that are left
 abbrev pub Splits : Option (List ℕ) → List (List ℕ) → Option (List ℕ) → Type 0
 Splits None taken left = ⊤
 Splits (Some xs) taken None = ⊥
@@ -92,7 +95,7 @@ appends_keeps (Some ws) (Some bs) (Some cs) xs f s = s ∙ f
 -- within the limits, a line's fault is that of its digits
 pub digits_fault : (number : ℕ) (line : List ℕ) (fault : Option InputFault) → limit_fault number line ≡ None → hex_fault line ≡ fault
     → fault_of number line ≡ fault
-digits_fault number line fault none found = ap (λ f. first_fault f (hex_fault line)) none ∙ found
+digits_fault number line fault none found = ap (λ f. first_fault (option_map Source f) (hex_fault line)) none ∙ found
 
 pub is_datagram : (number : ℕ) (line datagram : List ℕ) → limit_fault number line ≡ None → hex_fault line ≡ None → StandsFor line datagram
     → IsDatagram number line datagram
@@ -115,7 +118,7 @@ module _ {K : Type 0} (number : ℕ) (line : List ℕ) (old heard : BookValue K)
     hears_as : (other : Option HandlerId) → next ≡ other → HearsLine number old line heard other text
     hears_as other is = subst (λ (n : Option HandlerId). HearsLine number old line heard n text) is hears
 
-    -- the handler runs behind the answer
+    -- the handler runs after the answer
     pub ran_behind : (r : Result Unit RunError) (h : HandlerId) (new : BookValue K) → next ≡ Some h → OnOk r (RunsDry 0 h heard new)
         → OnOk r (WritesAnswer number old line new before after)
     ran_behind (Ok u) h new is dry = record {
@@ -131,7 +134,7 @@ module _ {K : Type 0} (number : ℕ) (line : List ℕ) (old heard : BookValue K)
     stopped_behind (Ok u) h new is stops = tt
     stopped_behind (Err e) h new is stops = in_run heard h text (hears_as (Some h) is) stops writes
 
-    -- nothing runs behind it
+    -- nothing runs after it
     pub rested_behind : next ≡ None → WritesAnswer number old line heard before after
     rested_behind is = record { text = text; answers = record { heard = heard; next = None; hears = hears_as None is; runs = refl }; writes = writes }
 
@@ -244,22 +247,22 @@ module _ {K : Type 0} {input : Option (List ℕ)} {lines : Input} {first mid : B
   }
 
   -- the next line could not be taken
-  pub progress_stops : {kept : Option (List ℕ)} (e : RunError) → StopsAtNext lines e → Keeps after kept → StopsEarly input first mid before kept e
+  pub progress_stops : {kept : Option (List ℕ)} (e : LinesError) → StopsAtNext lines e → Keeps after kept → StopsEarly input first mid before kept (run_error e)
   progress_stops e next_unread k =
-      let P : ℕ → Type 0 = λ n. StopsBehind input p.taken (InputError (n + 1) ReadFault) in
+      let P : ℕ → Type 0 = λ n. StopsBehind input p.taken (InputError (n + 1) (Source ReadFault)) in
       at_line p.taken p.text (answers_first p.taken first mid p.text p.answers) (appends_keeps _ _ _ _ p.writes k)
       (subst P p.count (read_fault (splits_first _ _ p.taken p.splits)))
   progress_stops e (past_limit {fault} b) k =
-      let P : ℕ → Type 0 = λ n. limit_fault (n + 1) b.line ≡ Some fault → StopsBehind input p.taken (InputError (n + 1) fault) in
-      let stops : P (length p.taken) = λ found. line_fault b.line (ap (λ f. first_fault f (hex_fault b.line)) found)
+      let P : ℕ → Type 0 = λ n. limit_fault (n + 1) b.line ≡ Some fault → StopsBehind input p.taken (InputError (n + 1) (Source fault)) in
+      let stops : P (length p.taken) = λ found. line_fault b.line (ap (λ f. first_fault (option_map Source f) (hex_fault b.line)) found)
       (splits_next _ _ p.taken b.line p.splits b.next) in
       at_line p.taken p.text (answers_first p.taken first mid p.text p.answers) (appends_keeps _ _ _ _ p.writes k) (subst P p.count stops b.found)
-  progress_stops e write_fault k = at_output p.taken p.text (answers_first p.taken first mid p.text p.answers) (splits_first _ _ p.taken p.splits)
+  progress_stops e flush_fault k = at_output p.taken p.text (answers_first p.taken first mid p.text p.answers) (splits_first _ _ p.taken p.splits)
 
--- ---- behind the lines
+-- ---- after the lines
 
 module _ {K : Type 0} (input : Option (List ℕ)) (first last : BookValue K) where
-  -- the writer is flushed behind a run that stopped early
+  -- the writer is flushed after a run that stopped early
   flushed : (before after kept : Option (List ℕ)) (e : RunError) → StopsEarly input first last before after e → Keeps after kept
       → StopsEarly input first last before kept e
   flushed before after kept e (at_line lines text a w s) k = at_line lines text a (appends_keeps _ _ _ _ w k) s
@@ -274,7 +277,7 @@ module _ {K : Type 0} (input : Option (List ℕ)) (first last : BookValue K) whe
   stops_flushed (Ok u) before after kept s k = tt
   stops_flushed (Err e) before after kept s k = flushed before after kept e s k
 
-  -- the writer is flushed behind a whole run
+  -- the writer is flushed after a whole run
   pub all_flushed : (r : Result Unit RunError) (shown : List ℕ) (before after kept : Option (List ℕ)) → OnOk r (AnswersAll input first last shown before after)
       → Keeps after kept
       → OnOk r (AnswersAll input first last shown before kept)
@@ -287,7 +290,7 @@ module _ {K : Type 0} (input : Option (List ℕ)) (first last : BookValue K) whe
   }
   all_flushed (Err e) shown before after kept a k = tt
 
-  -- what is shown is written behind the answers
+  -- the words are written after the answers
   pub all_shown : (shown : List ℕ) (before after more : Option (List ℕ)) → AnswersAll input first last [] before after → Appends after more shown
       → AnswersAll input first last shown before more
   all_shown shown before after more a w =

@@ -1,22 +1,25 @@
 -- A script, one line at a time. The lines that were taken have no fault, and the cast stands for the parties that they name
--- (`Taken`). A line more goes on so, or has the fault that is told; at the end of the input the world opens if it hasn't.
+-- (`Taken`). One line more keeps this, or has the fault of the run. At the end of the input the world opens if it hasn't.
 use Rattle.std.proofs.Common.{◌≡◌, ◌≤◌, if◌then◌else◌, ℕ, ◌+◌, max, Bool, true, false, ◌||◌, ◌&&◌, not, List, [], ◌∷◌, ◌++◌, length, Option, Some, None, Result}
 use Rattle.std.proofs.Common.{Ok, Err, IfErr, OnOk, refl, sym, ◌∙◌, ap, subst, arith}
 use Rattle.std.proofs.lemmas.Bool.{and_parts}
 use Rattle.std.proofs.lemmas.List.{length_push}
 use Rattle.std.proofs.lemmas.List.Folds.{list_any-append}
 use Rattle.std.specs.List.{list_any}
+use Rattle.std.specs.Option.{option_map}
 use Rattle.std.specs.Io.KnownBytes.{IsAtEnd}
 use Rattle.scoop_demo.specs.declared.fault.InputFault.{InputFault}
-use Rattle.scoop_demo.specs.declared.fault.InputFault.TheVariants.{ReadFault, UnknownLine, TooLateForParty, CannotOpen, Refused}
+use Rattle.scoop_demo.specs.declared.fault.InputFault.TheVariants.{Source, UnknownLine, TooLateForParty, CannotOpen, Refused}
 use Rattle.scoop_demo.specs.declared.script.kind.LineKind.{LineKind}
 use Rattle.scoop_demo.specs.declared.fault.RunError.{RunError}
 use Rattle.scoop_demo.specs.declared.fault.RunError.TheVariants.{Input as InputError, Write, OutOfMemory}
-use Rattle.scoop_demo.specs.Line.{count_limit, limit_fault}
-use Rattle.scoop_demo.specs.Input.{Input, TakesLine, StopsAtNext}
-use Rattle.scoop_demo.specs.Input.StopsAtNext.{read_fault as next_unread, past_limit, write_fault}
-use Rattle.scoop_demo.specs.Run.{first_fault}
-use Rattle.scoop_words.specs.Words.{words_of, is_blank}
+use Rattle.scoop_lines.specs.declared.error.LinesError.{LinesError}
+use Rattle.scoop_lines.specs.declared.error.SourceFault.TheVariants.{ReadFault}
+use Rattle.scoop_lines.specs.Line.{count_limit, limit_fault}
+use Rattle.scoop_lines.specs.Input.{Input, TakesLine, StopsAtNext}
+use Rattle.scoop_lines.specs.Input.StopsAtNext.{read_fault as next_unread, past_limit, flush_fault}
+use Rattle.scoop_demo.specs.Run.{first_fault, run_error}
+use Rattle.scoop_lines.specs.Words.{words_of, is_blank}
 use Rattle.scoop_demo.specs.ScriptKind.{kind_of}
 use Rattle.scoop_message.specs.declared.name.ClientId.{ClientId}
 use Rattle.scoop_object.specs.Class.{ClassTable}
@@ -28,13 +31,13 @@ use Rattle.scoop_demo.proofs.StagingLemmas.{parties_more, staged_opens, staged_i
 use Rattle.scoop_demo.specs.Script.StopsAtLine.{in_words, in_opening, in_output, in_memory}
 use Rattle.scoop_demo.specs.Script.StopsOpening.{of_parties, of_memory}
 use Rattle.scoop_demo.specs.Script.StopsPlaying.{event_refused, read_fault, limit_broken, line_fault, first_event, no_event, output, memory}
-use Rattle.scoop_demo.proofs.InputLemmas.{begins_with}
+use Rattle.scoop_lines.proofs.InputLemmas.{begins_with}
 use Rattle.scoop_demo.proofs.RunLemmas.{Splits, splits_none, splits_more, splits_all, splits_first, splits_next, all_begin, few_lines}
 
 -- ---- one line
 
 module _ (parties : Parties) (stored : ℕ → Option ℕ) where
-  -- a line of a party behind an event
+  -- a line of a party after an event
   pub too_late : (number : ℕ) (opened : Bool) (found : Option InputFault) (e : RunError) → opened ≡ true → e ≡ InputError number TooLateForParty
       → StopsAtLine number false (party_fault opened found) parties stored e
   too_late number true found e is told = rw told (in_words refl (λ opens. cc))
@@ -62,13 +65,13 @@ module _ (parties : Parties) (stored : ℕ → Option ℕ) where
   inside_stops number opens found e in_output = in_output
   inside_stops number opens found e in_memory = in_memory
 
-  -- whatever came of it
+  -- the same for any result
   pub inside_if : (number : ℕ) (opens : Bool) (found : Option InputFault) (r : Result Unit RunError) → IfErr r (StopsAtLine number false None parties stored)
       → IfErr r (StopsAtLine number opens found parties stored)
   inside_if number opens found (Ok u) s = tt
   inside_if number opens found (Err e) s = inside_stops number opens found e s
 
--- the first words say nothing that is known
+-- the first words are unknown
 unknown_found : (opened blank : Bool) (kind : Option (LineKind × List (List ℕ))) → blank ≡ false → kind ≡ None
     → (if blank then None else kind_fault opened kind) ≡ Some UnknownLine
 unknown_found opened true kind is unknown = cc
@@ -94,8 +97,8 @@ unknown_stops number opened line parties stored e blank unknown told =
 
 -- ---- several lines
 
--- the lines that were taken have no fault, an event stands among them where the world has opened, and the cast stands
--- for the parties that they name
+-- the lines that were taken have no fault, an event is among them exactly if the world has opened, and the cast stands for
+-- the parties that they name
 pub record Taken {B : Type 0} (class : B → ClassTable) (input : Option (List ℕ)) (stored : ℕ → Option ℕ) (lines : Input) (opened : Bool)
     (kept : List (Placement B)) (clients : List (ClientId × ℕ))
     (own : ℕ → Option ℕ) : Type 0 where
@@ -149,7 +152,7 @@ faultless_more number opened (x ∷ xs) line f none =
 -- within the limits, a line's fault is that of its words
 words_found : (number : ℕ) (opened : Bool) (line : List ℕ) (found : Option InputFault) → limit_fault number line ≡ None → words_fault opened line ≡ found
     → script_fault number opened line ≡ found
-words_found number opened line found none is = ap (λ f. first_fault f (words_fault opened line)) none ∙ is
+words_found number opened line found none is = ap (λ f. first_fault (option_map Source f) (words_fault opened line)) none ∙ is
 
 not_true : (a : Bool) → not a ≡ true → a ≡ false
 not_true true is = cc
@@ -161,7 +164,7 @@ module _ {B : Type 0} {class : B → ClassTable} {input : Option (List ℕ)} {st
   next_number : {next : Input} {line : List ℕ} → TakesLine lines line next → next.taken ≡ length p.taken + 1
   next_number t = omega (arith, t.count, p.count)
 
-  -- where an event stands among them, the world has opened
+  -- if an event is among them, the world has opened
   first_lines : PlaysFirst stored p.taken
   first_lines = record {
     faultless = p.faultless;
@@ -217,17 +220,17 @@ module _ {B : Type 0} {class : B → ClassTable} {input : Option (List ℕ)} {st
   end_plays (Err e) end o = tt
 
   -- the next line could not be taken
-  pub taken_stops : (e : RunError) → StopsAtNext lines e → StopsPlaying strict input stored e
+  pub taken_stops : (e : LinesError) → StopsAtNext lines e → StopsPlaying strict input stored (run_error e)
   taken_stops e next_unread =
-      let P : ℕ → Type 0 = λ n. StopsPlaying strict input stored (InputError (n + 1) ReadFault) in
+      let P : ℕ → Type 0 = λ n. StopsPlaying strict input stored (InputError (n + 1) (Source ReadFault)) in
       subst P p.count (read_fault p.taken first_lines (splits_first _ _ p.taken p.splits))
   taken_stops e (past_limit {fault} b) =
-      let P : ℕ → Type 0 = λ n. limit_fault (n + 1) b.line ≡ Some fault → StopsPlaying strict input stored (InputError (n + 1) fault) in
+      let P : ℕ → Type 0 = λ n. limit_fault (n + 1) b.line ≡ Some fault → StopsPlaying strict input stored (InputError (n + 1) (Source fault)) in
       let stops : P (length p.taken) = λ found. limit_broken p.taken b.line first_lines found (splits_next _ _ p.taken b.line p.splits b.next) in
       subst P p.count stops b.found
-  taken_stops e write_fault = output p.taken first_lines (splits_first _ _ p.taken p.splits)
+  taken_stops e flush_fault = output p.taken first_lines (splits_first _ _ p.taken p.splits)
 
-  -- where the line is that of an event, the world has opened before, or opens by it
+  -- if the line is that of an event, the world has opened before, or opens by it
   opens_by : (line : List ℕ) → (opens_at opened line ≡ true → Opens (parties_of p.taken) stored) → is_event line ≡ true → Opens (parties_of p.taken) stored
   opens_by line here is = by_then opened p.staged here where
     by_then : (before : Bool) → IsStaged class before kept clients own (parties_of p.taken) stored
@@ -264,6 +267,6 @@ module _ {B : Type 0} {class : B → ClassTable} {input : Option (List ℕ)} {st
 pub output_stops : (strict : Bool) (input : Option (List ℕ)) (stored : ℕ → Option ℕ) → PlaysAll input stored → StopsPlaying strict input stored Write
 output_stops strict input stored a = output a.lines (record { faultless = a.plays.faultless; opens = λ is. a.plays.opens }) (all_begin input a.lines a.all)
 
--- the same where memory was wanted behind them
+-- the same if memory ran out after them
 pub memory_stops : (strict : Bool) (input : Option (List ℕ)) (stored : ℕ → Option ℕ) → PlaysAll input stored → StopsPlaying strict input stored OutOfMemory
 memory_stops strict input stored a = memory a.lines (record { faultless = a.plays.faultless; opens = λ is. a.plays.opens }) (all_begin input a.lines a.all)

@@ -1,6 +1,6 @@
--- The parties of a script are those that its lines name. Only as many are kept as there may be, and one more: that one tells
--- as well as all would that there are too many, and where it isn't there, all are kept. So the world of what is kept opens,
--- or why not, as that of all the named parties does.
+-- The parties of a script are those that its lines name. The cast stores at most one party above the limit: that one is enough
+-- to show that there are too many, and without it all are stored. So the world of the stored parties opens, or fails to open,
+-- exactly as the world of all named parties does.
 use Rattle.std.proofs.Common.{◌≡◌, ◌≢◌, ℕ, ◌+◌, ◌≤◌, ◌<◌, Bool, true, false, List, [], ◌∷◌, ◌++◌, length, map, take, Option, Some, None, Result, Ok, Err, IfErr}
 use Rattle.std.proofs.Common.{OnOk, refl, sym, ◌∙◌, ap, subst, arith, append-nil}
 use Rattle.std.specs.Prelude.{slice_get, option_map}
@@ -27,7 +27,7 @@ use Rattle.scoop_demo.specs.declared.fault.RunError.{RunError}
 use Rattle.scoop_demo.specs.declared.script.kind.EventKind.{EventKind}
 use Rattle.scoop_demo.specs.declared.script.kind.LineKind.{LineKind}
 use Rattle.scoop_demo.specs.declared.script.kind.LineKind.TheVariants.{Handler, Client, Event}
-use Rattle.scoop_words.specs.Words.{words_of, is_blank}
+use Rattle.scoop_lines.specs.Words.{words_of, is_blank}
 use Rattle.scoop_demo.specs.ScriptKind.{kind_of}
 use Rattle.scoop_demo.specs.ScriptLine.{Placed, handler_line, client_line}
 use Rattle.scoop_demo.specs.Script.StopsOpening.{of_parties, of_memory}
@@ -59,7 +59,7 @@ may_place_seen class ps cs m = record {
 counted_seen : {B : Type 0} (class : B → ClassTable) (ps : List (Placement B)) → IsCounted ps → IsCounted (map (seen_by class) ps)
 counted_seen class ps c = record { some = omega (arith, c.some, length-map ps (seen_by class)); few = omega (arith, c.few, length-map ps (seen_by class)) }
 
--- ---- those that are kept tell as much as all
+-- ---- those that are kept decide as much as all
 
 same_first : {A : Type 0} (n : ℕ) (xs : List A) → length (take (n + 1) xs) ≤ n → take (n + 1) xs ≡ xs
 same_first n xs few = take_all (n + 1) xs (omega (arith, length-take (n + 1) xs, few))
@@ -137,7 +137,7 @@ joining_first : (cs : List (ClientId × ℕ)) (stored : ℕ → Option ℕ) → 
     → AllByRecursion IsJoining (newcomers_of stored cs)
 joining_first cs stored few all = all_clients cs (λ ds. AllByRecursion IsJoining (newcomers_of stored ds)) few all
 
--- ---- the world of what is kept
+-- ---- the world of those that are kept
 
 module _ {B : Type 0} (class : B → ClassTable) (ps : List (Placement B)) (cs : List (ClientId × ℕ)) (own : ℕ → Option ℕ) (parties : Parties)
     (stored : ℕ → Option ℕ) (w : IsWaiting class ps cs own parties stored) where
@@ -162,7 +162,7 @@ module _ {B : Type 0} (class : B → ClassTable) (ps : List (Placement B)) (cs :
   stops_unopened number IncarnationsSpent u = of_parties ((λ same. cc), unopened_to IncarnationsSpent u)
   stops_unopened number OutOfMemory u = of_memory
 
-  -- with what it opens
+  -- the parties with which it opens
   pub opens_with : MayPlace class ps cs → AllByRecursion IsJoining (newcomers_of own cs) → Opens parties stored
   opens_with m j =
       let seen : MayPlace own_class (FirstHandlers (map placement_of parties.placed)) cs =
@@ -255,7 +255,7 @@ blank_joins line blank = rw blank refl
 module _ {B : Type 0} (class : B → ClassTable) (before after : Bool) (ps ps' : List (Placement B)) (cs cs' : List (ClientId × ℕ)) (own own' : ℕ → Option ℕ)
     (parties : Parties) (stored : ℕ → Option ℕ)
     (line : List ℕ) (words : List (List ℕ)) (staged : IsStaged class before ps cs own parties stored) where
-  -- a line that says nothing
+  -- a blank line
   pub blank_staged : is_blank line ≡ true → IsStaged class before ps cs own (with_line parties line) stored
   blank_staged blank = subst (λ (p : Parties). IsStaged class before ps cs own p stored)
       (same_parties parties line (blank_places line blank) (blank_joins line blank)) staged

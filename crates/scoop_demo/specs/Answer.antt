@@ -1,4 +1,4 @@
--- What a book answers to the datagram of a line.
+-- Answers of a book to datagrams.
 use Rattle.std.specs.Prelude.{◌≡◌, ◌||◌, ℕ, if◌then◌else◌, List, ◌++◌, take, codes, Option, Some, None}
 use Rattle.hex.specs.Hex.{encode_lower}
 use Rattle.scoop_message.specs.declared.name.HandlerId.{HandlerId}
@@ -38,13 +38,13 @@ abbrev pub text_of : Version → Option Message → Note → List ℕ
 text_of v None note = codes "none " ++ note_text note
 text_of v (Some answer) note = encode_lower (frame v answer)
 
--- what every handler but its own does with a message
+-- the note of every other handler on a message
 abbrev pub note_elsewhere : Message → Note
 note_elsewhere m = Dropped (if is_for_handler m then WrongHandler else NotForHandlers)
 
 -- ---- a datagram
 
--- all stays but what the keeper has
+-- only the keeper changes
 pub record Rests {K : Type 0} (old new : BookValue K) : Type 0 where
   pub stays : Stays old new
   pub failed : new.failed ≡ old.failed
@@ -81,7 +81,7 @@ pub record PrintsElsewhere {K : Type 0} (datagram : List ℕ) (old new : BookVal
   pub nothing : next ≡ None
   pub is : text ≡ codes "none " ++ note_text (note_elsewhere message)
 
--- the book behind a datagram, the handler that may have something to run then, and the text of the answer
+-- the book after a datagram, the handler that may have something to run then, and the text of the answer
 pub data Prints {K : Type 0} (datagram : List ℕ) (old new : BookValue K) (next : Option HandlerId) (text : List ℕ) : Type 0 where
   refused : PrintsRefused datagram old new next text → Prints datagram old new next text
   heard : PrintsHeard datagram old new next text → Prints datagram old new next text

@@ -1,4 +1,4 @@
--- What is told of a datagram.
+-- The printed line of a datagram.
 use Rattle.std.specs.Prelude.{ℕ, List, [], ◌∷◌, ◌++◌, ◌⊎◌, codes, Option}
 use Rattle.std.specs.Io.KnownBytes.{Appends}
 use Rattle.scoop_message.specs.declared.message.Message.{Message}
@@ -9,7 +9,7 @@ use Rattle.scoop_frame.specs.Frame.{IsFrame}
 use Rattle.scoop_frame.specs.Text.{error_text}
 use Rattle.scoop_demo.specs.FrameWords.{frame_words}
 
--- the message whose frame it is
+-- its message
 pub record TellsMessage (datagram : List ℕ) (old new : Option (List ℕ)) : Type 0 where
   pub version : Version
   pub message : Message

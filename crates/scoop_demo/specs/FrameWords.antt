@@ -43,7 +43,7 @@ block_words h b = codes " " ++ decimal h.0 ++ codes " " ++ block_text b
 abbrev pub answer_words : ℕ → Answer → List ℕ
 answer_words n a = codes " " ++ decimal n ++ codes " " ++ answer_text a
 
--- what stands behind the name of the message's kind
+-- the words after the name of the message's kind
 abbrev pub fields_text : Message → List ℕ
 fields_text (message.Hello h c inc) = greeting_text h c inc
 fields_text (message.Welcome h c inc) = greeting_text h c inc
@@ -58,7 +58,7 @@ fields_text (message.Log h b n es) = block_words h b ++ codes " " ++ decimal n +
 fields_text (message.Logged h b n) = block_words h b ++ codes " " ++ decimal n
 fields_text (message.Answer h b n a) = block_words h b ++ answer_words n a
 
--- version 1 goes without saying
+-- version 1 has no word
 abbrev pub version_text : Version → List ℕ
 version_text One = []
 version_text Two = codes "v2 "

@@ -1,4 +1,4 @@
--- The datagrams that lines of hex digits stand for.
+-- Datagrams from lines of hex digits.
 use Rattle.std.specs.Prelude.{◌≡◌, ℕ, ◌==◌, ◌%◌, not, Bool, true, false, List, length, filter, if◌then◌else◌, Option, Some, None, unwrap_or, Ok, IsErr}
 use Rattle.std.specs.List.{list_all}
 use Rattle.hex.specs.Hex.{decode_of, hex_digit_value, is_hex_digit}
@@ -9,7 +9,7 @@ use Rattle.scoop_demo.specs.declared.fault.InputFault.TheVariants.{NotHex, OddDi
 abbrev pub digits_of : List ℕ → List ℕ
 digits_of line = filter (λ byte. not (byte == 32)) line
 
--- why a line stands for no datagram: a byte that is no digit comes before an odd number of digits
+-- why a line stands for no datagram: a byte that is no digit counts before an odd number of digits
 abbrev pub hex_fault : List ℕ → Option InputFault
 hex_fault line =
     if not (list_all is_hex_digit (digits_of line)) then Some NotHex
@@ -20,16 +20,16 @@ hex_fault line =
 abbrev pub StandsFor : List ℕ → List ℕ → Type 0
 StandsFor line datagram = decode_of (digits_of line) ≡ Ok datagram
 
--- the value of the hex digit that a byte is, and 255 of another byte
+-- the value of a byte as a hex digit, or 255 for another byte
 abbrev pub value_of : ℕ → ℕ
 value_of byte = unwrap_or (hex_digit_value byte) 255
 
--- whether bytes are an even number of hex digits, which were turned into these
+-- whether bytes are an even number of hex digits with these values
 abbrev pub IsDecoded : Bool → List ℕ → List ℕ → Type 0
 IsDecoded true digits bytes = decode_of digits ≡ Ok bytes
 IsDecoded false digits bytes = IsErr (decode_of digits)
 
--- what `hex_fault` says of a line without spaces
+-- `hex_fault` of a line without spaces
 abbrev pub fault_among : List ℕ → Option InputFault
 fault_among digits =
     if not (list_all is_hex_digit digits) then Some NotHex

@@ -1,9 +1,6 @@
 pub mod Advice
 pub mod OpenErrorText
 pub mod Text
-pub mod Line
-pub mod Piece
-pub mod Input
 pub mod Hex
 pub mod Storing
 pub mod Answer

@@ -1,4 +1,4 @@
--- What is printed of the events of a world.
+-- Printed notes of the events of a world.
 use Rattle.std.specs.Prelude.{ℕ, List, ◌++◌, codes, Option, Some, None}
 use Rattle.std.specs.Fmt.{decimal}
 use Rattle.scoop_message.specs.Text.{block_text, answer_text}

@@ -1,4 +1,4 @@
--- What a run over the lines of an input writes.
+-- The output of a run over the lines of an input.
 use Rattle.std.specs.Prelude.{◌≡◌, ℕ, ◌+◌, List, [], ◌∷◌, ◌++◌, length, codes, Option, Some, None, IfSome}
 use Rattle.std.specs.Option.{option_map}
 use Rattle.std.specs.Fmt.{decimal}
@@ -7,11 +7,14 @@ use Rattle.scoop_message.specs.declared.name.HandlerId.{HandlerId}
 use Rattle.scoop_book.specs.Moves.{LocalHandler, handler_in}
 use Rattle.scoop_book.specs.Books.{BookValue}
 use Rattle.scoop_netloop.specs.RunningOut.{RunsDry}
+use Rattle.scoop_lines.specs.declared.error.LinesError.{LinesError}
+use Rattle.scoop_lines.specs.declared.error.LinesError.TheVariants as of_lines
+use Rattle.scoop_lines.specs.declared.error.SourceFault.TheVariants.{ReadFault}
+use Rattle.scoop_lines.specs.Line.{lines_of, limit_fault}
 use Rattle.scoop_demo.specs.declared.fault.InputFault.{InputFault}
-use Rattle.scoop_demo.specs.declared.fault.InputFault.TheVariants.{ReadFault}
+use Rattle.scoop_demo.specs.declared.fault.InputFault.TheVariants.{Source}
 use Rattle.scoop_demo.specs.declared.fault.RunError.{RunError}
 use Rattle.scoop_demo.specs.declared.fault.RunError.TheVariants.{Input, Write}
-use Rattle.scoop_demo.specs.Line.{lines_of, limit_fault}
 use Rattle.scoop_demo.specs.Hex.{hex_fault, StandsFor}
 use Rattle.scoop_demo.specs.Answer.{Prints, Rests, StopsRunning, Unheard}
 
@@ -21,16 +24,25 @@ abbrev pub first_fault : Option InputFault → Option InputFault → Option Inpu
 first_fault None other = other
 first_fault (Some fault) other = Some fault
 
+-- the error of a run that can't take the next line
+abbrev pub run_error : LinesError → RunError
+run_error (of_lines.Source error) = Input error.line (Source error.fault)
+run_error of_lines.Flush = Write
+
+-- the limit that the line of this number breaks, if any
+abbrev pub broken_limit : ℕ → List ℕ → Option InputFault
+broken_limit number line = option_map Source (limit_fault number line)
+
 -- the fault of the line of this number, if any: that of its limits comes first
 abbrev pub fault_of : ℕ → List ℕ → Option InputFault
-fault_of number line = first_fault (limit_fault number line) (hex_fault line)
+fault_of number line = first_fault (broken_limit number line) (hex_fault line)
 
 -- the line of this number has no fault and stands for this datagram
 pub record IsDatagram (number : ℕ) (line datagram : List ℕ) : Type 0 where
   pub faultless : fault_of number line ≡ None
   pub stands : StandsFor line datagram
 
--- the book behind the line's datagram, the handler that may have something to run then, and the text of the answer.
+-- the book after the line's datagram, the handler that may have something to run then, and the text of the answer.
 -- Nothing else answers the datagram: no other handlers or history, no other handler to run, no other text
 pub record HearsLine {K : Type 0} (number : ℕ) (old : BookValue K) (line : List ℕ) (new : BookValue K) (next : Option HandlerId) (text : List ℕ) : Type 0 where
   pub datagram : List ℕ
@@ -39,12 +51,12 @@ pub record HearsLine {K : Type 0} (number : ℕ) (old : BookValue K) (line : Lis
   pub only : (other : BookValue K) (after : Option HandlerId) (again : List ℕ) → Prints datagram old other after again → Rests new other × (next ≡ after)
       × (text ≡ again)
 
--- the handler runs until nothing can run, where there is one
+-- the handler, if there is one, runs until nothing can run
 abbrev pub RunsBehind : {K : Type 0} → Option HandlerId → (heard new : BookValue K) → Type 0
 RunsBehind None heard new = new ≡ heard
 RunsBehind (Some h) heard new = RunsDry 0 h heard new
 
--- the line's datagram is answered by this, and then its handler runs
+-- the line's datagram has this answer, and then its handler runs
 pub record AnswersLine {K : Type 0} (number : ℕ) (old : BookValue K) (line : List ℕ) (new : BookValue K) (text : List ℕ) : Type 0 where
   pub heard : BookValue K
   pub next : Option HandlerId
@@ -86,7 +98,7 @@ pub record AnswersFirst {K : Type 0} (old : BookValue K) (lines : List (List ℕ
   pub answers : AnswersLines 1 old lines new text
   pub only : (other : BookValue K) (other_text : List ℕ) → AnswersLines 1 old lines other other_text → Rests new other × (other_text ≡ text)
 
--- ---- the words behind the last line
+-- ---- the words after the last line
 
 -- numbers in decimal, with a space before each
 abbrev pub numbers_text : List ℕ → List ℕ
@@ -96,12 +108,12 @@ numbers_text (n ∷ ns) = 32 ∷ decimal n ++ numbers_text ns
 abbrev pub words_text : List ℕ → List ℕ
 words_text words = codes "words" ++ numbers_text words
 
--- the line of an object's words, where there are any to show
+-- the line of an object's words, if there are any to show
 abbrev pub shown_line : Option (List ℕ) → List ℕ
 shown_line None = []
 shown_line (Some words) = words_text words ++ 10 ∷ []
 
--- the words of the handler's object, where it is asked for and here
+-- the words of the handler's object, if it is asked for and here
 abbrev pub shown_words : Option HandlerId → List LocalHandler → Option (List ℕ)
 shown_words None hs = None
 shown_words (Some h) hs = option_map (λ s. s.core.state.words) (handler_in h hs)
@@ -115,7 +127,7 @@ words_line shown hs = shown_line (shown_words shown hs)
 abbrev pub BeginsWithLines : Option (List ℕ) → List (List ℕ) → Type 0
 BeginsWithLines input lines = IfSome input (λ bytes. (rest : List (List ℕ)) × (lines_of bytes ≡ lines ++ rest))
 
--- the book has answered all lines of the input, and the writer has gained the answers and what is shown behind them
+-- the book has answered all lines of the input, and the writer has gained the answers and the words after them
 pub record AnswersAll {K : Type 0} (input : Option (List ℕ)) (old new : BookValue K) (shown : List ℕ) (before after : Option (List ℕ)) : Type 0 where
   pub lines : List (List ℕ)
   pub text : List ℕ
@@ -123,9 +135,9 @@ pub record AnswersAll {K : Type 0} (input : Option (List ℕ)) (old new : BookVa
   pub writes : Appends before after (text ++ shown)
   pub all : IfSome input (λ bytes. lines_of bytes ≡ lines)
 
--- why a run stops at the line behind these: the input can't be read, or the line has a fault
+-- why a run stops at the line after these: the input can't be read, or the line has a fault
 pub data StopsBehind (input : Option (List ℕ)) (lines : List (List ℕ)) : RunError → Type 0 where
-  read_fault : BeginsWithLines input lines → StopsBehind input lines (Input (length lines + 1) ReadFault)
+  read_fault : BeginsWithLines input lines → StopsBehind input lines (Input (length lines + 1) (Source ReadFault))
   line_fault : {fault : InputFault} (line : List ℕ) → fault_of (length lines + 1) line ≡ Some fault → BeginsWithLines input (lines ++ line ∷ [])
       → StopsBehind input lines (Input (length lines + 1) fault)
 

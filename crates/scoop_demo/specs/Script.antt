@@ -1,4 +1,4 @@
--- A script: which of its lines have a fault, and where a run over it stops.
+-- A script: the faults of its lines, and the ends of a run over it.
 use Rattle.std.specs.Prelude.{◌≡◌, ◌≢◌, ℕ, ◌+◌, ◌||◌, ◌&&◌, not, max, map, Bool, true, false, if◌then◌else◌, List, [], ◌∷◌, ◌++◌, length, Option, Some}
 use Rattle.std.specs.Prelude.{None, IfSome}
 use Rattle.std.specs.Prelude.{⊤}
@@ -13,20 +13,22 @@ use Rattle.scoop_world.specs.declared.placing.Placement.{Placement}
 use Rattle.scoop_world.specs.declared.error.WorldOpenError.{WorldOpenError}
 use Rattle.scoop_world.specs.declared.error.WorldOpenError.TheVariants as world
 use Rattle.scoop_demo.specs.declared.fault.InputFault.{InputFault}
-use Rattle.scoop_demo.specs.declared.fault.InputFault.TheVariants.{UnknownLine, TooLateForParty, CannotOpen, ReadFault, Refused}
+use Rattle.scoop_demo.specs.declared.fault.InputFault.TheVariants.{UnknownLine, TooLateForParty, CannotOpen, Source, Refused}
 use Rattle.scoop_demo.specs.declared.fault.RunError.{RunError}
 use Rattle.scoop_demo.specs.declared.fault.RunError.TheVariants.{Input, Write, OutOfMemory}
 use Rattle.scoop_demo.specs.declared.script.kind.LineKind.{LineKind}
 use Rattle.scoop_demo.specs.declared.script.kind.LineKind.TheVariants.{Handler, Client, Event}
-use Rattle.scoop_demo.specs.Line.{lines_of, limit_fault}
-use Rattle.scoop_demo.specs.Run.{first_fault, BeginsWithLines}
-use Rattle.scoop_words.specs.Words.{words_of, is_blank}
+use Rattle.scoop_lines.specs.declared.error.SourceFault.{SourceFault}
+use Rattle.scoop_lines.specs.declared.error.SourceFault.TheVariants.{ReadFault}
+use Rattle.scoop_lines.specs.Line.{lines_of, limit_fault}
+use Rattle.scoop_lines.specs.Words.{words_of, is_blank}
+use Rattle.scoop_demo.specs.Run.{broken_limit, first_fault, BeginsWithLines}
 use Rattle.scoop_demo.specs.ScriptKind.{kind_of}
 use Rattle.scoop_demo.specs.ScriptLine.{Placed, handler_line, client_line, event_line}
 
 -- ---- one line
 
--- a line of a party may not stand behind an event
+-- a line of a party may not come after an event
 abbrev pub party_fault : Bool → Option InputFault → Option InputFault
 party_fault true found = Some TooLateForParty
 party_fault false found = found
@@ -37,13 +39,13 @@ kind_fault opened (Some (Handler, words)) = party_fault opened (result_err (hand
 kind_fault opened (Some (Client, words)) = party_fault opened (result_err (client_line words))
 kind_fault opened (Some (Event kind, words)) = result_err (event_line kind words)
 
--- the fault of a line's words, if any, where events stand before it or don't
+-- the fault of a line's words, if any, after events or without any
 abbrev pub words_fault : Bool → List ℕ → Option InputFault
 words_fault opened line = if is_blank line then None else kind_fault opened (kind_of (words_of line))
 
 -- the fault of the line of this number, if any: that of its limits comes first
 abbrev pub script_fault : ℕ → Bool → List ℕ → Option InputFault
-script_fault number opened line = first_fault (limit_fault number line) (words_fault opened line)
+script_fault number opened line = first_fault (broken_limit number line) (words_fault opened line)
 
 abbrev pub is_event_kind : Option (LineKind × List (List ℕ)) → Bool
 is_event_kind None = false
@@ -103,14 +105,16 @@ pub record Opens (parties : Parties) (stored : ℕ → Option ℕ) : Type 0 wher
   pub placed : MayPlace own_class (map placement_of parties.placed) parties.clients
   pub joining : AllByRecursion IsJoining (newcomers_of stored parties.clients)
 
--- no world opens with them, for this reason, which isn't want of memory
+-- no world opens with them, for this reason, which isn't out of memory
 abbrev pub IsClosed : Parties → (ℕ → Option ℕ) → WorldOpenError → Type 0
 IsClosed parties stored error = (error ≢ world.OutOfMemory) × IsUnopened own_class (map placement_of parties.placed) parties.clients stored error
 
--- ---- where a run stops at a line
+-- ---- the stop of a run at a line
 
--- why the line of this number stops a run: its words have this fault, and the world opens where it is the first event's;
--- or it is, and the world doesn't open; or the output failed, or memory was wanted
+-- why the line of this number stops a run:
+-- - its words have this fault, and the world opens if it is the first event's line;
+-- - it is the first event's line, and the world doesn't open;
+-- - the output failed, or memory ran out
 pub data StopsAtLine (number : ℕ) (opens : Bool) (found : Option InputFault) (parties : Parties) (stored : ℕ → Option ℕ) : RunError → Type 0 where
   in_words : {fault : InputFault} → found ≡ Some fault → (opens ≡ true → Opens parties stored)
       → StopsAtLine number opens found parties stored (Input number fault)
@@ -119,7 +123,7 @@ pub data StopsAtLine (number : ℕ) (opens : Bool) (found : Option InputFault) (
   in_output : StopsAtLine number opens found parties stored Write
   in_memory : StopsAtLine number opens found parties stored OutOfMemory
 
--- how it is told that a world doesn't open, at the line of this number
+-- the error at the line of this number if the world doesn't open
 abbrev pub unopened : ℕ → WorldOpenError → RunError
 unopened number world.OutOfMemory = OutOfMemory
 unopened number error = Input number (CannotOpen error)
@@ -136,17 +140,17 @@ pub record StopsClosed (opened : Bool) (number : ℕ) (parties : Parties) (store
 
 -- ---- several lines
 
--- no line has a fault, where the first of them has this number, and events stand before it or don't
+-- no line has a fault. The first of them has this number, and comes after events or without any
 abbrev pub Faultless : ℕ → Bool → List (List ℕ) → Type 0
 Faultless number opened [] = ⊤
 Faultless number opened (line ∷ lines) = (script_fault number opened line ≡ None) × Faultless (number + 1) (opened || is_event line) lines
 
--- no line has a fault, and the world of the parties that they name opens, at the latest where they end
+-- no line has a fault, and the world of their parties opens, at the latest at their end
 pub record PlaysLines (stored : ℕ → Option ℕ) (lines : List (List ℕ)) : Type 0 where
   pub faultless : Faultless 1 false lines
   pub opens : Opens (parties_of lines) stored
 
--- the same of the first lines of a script, whose world needn't have opened before an event
+-- the same of the first lines of a script. Their world needn't have opened before an event
 pub record PlaysFirst (stored : ℕ → Option ℕ) (lines : List (List ℕ)) : Type 0 where
   pub faultless : Faultless 1 false lines
   pub opens : list_any is_event lines ≡ true → Opens (parties_of lines) stored
@@ -157,15 +161,15 @@ pub record PlaysAll (input : Option (List ℕ)) (stored : ℕ → Option ℕ) : 
   pub plays : PlaysLines stored lines
   pub all : IfSome input (λ bytes. lines_of bytes ≡ lines)
 
--- where a run over these stored incarnations stops, for which reason: the lines before are played. A line's limits come
--- first, then its first words; a world that doesn't open is told at the first line of an event, before that line's other
--- words are looked at, or at the last line where there is none
+-- the stop of a run over these stored incarnations, and its reason. The lines before it are played. A line's limits come
+-- first, then its first words. A world that doesn't open stops the run at the first line of an event, before that line's
+-- other words; without such a line, at the last line
 pub data StopsPlaying (strict : Bool) (input : Option (List ℕ)) (stored : ℕ → Option ℕ) : RunError → Type 0 where
   read_fault : (lines : List (List ℕ)) → PlaysFirst stored lines → BeginsWithLines input lines
-      → StopsPlaying strict input stored (Input (length lines + 1) ReadFault)
-  limit_broken : {fault : InputFault} (lines : List (List ℕ)) (line : List ℕ) → PlaysFirst stored lines
+      → StopsPlaying strict input stored (Input (length lines + 1) (Source ReadFault))
+  limit_broken : {fault : SourceFault} (lines : List (List ℕ)) (line : List ℕ) → PlaysFirst stored lines
       → limit_fault (length lines + 1) line ≡ Some fault → BeginsWithLines input (lines ++ line ∷ [])
-      → StopsPlaying strict input stored (Input (length lines + 1) fault)
+      → StopsPlaying strict input stored (Input (length lines + 1) (Source fault))
   line_fault : {fault : InputFault} (lines : List (List ℕ)) (line : List ℕ) → PlaysFirst stored lines
       → limit_fault (length lines + 1) line ≡ None → words_fault (list_any is_event lines) line ≡ Some fault
       → (is_event line ≡ true → Opens (parties_of lines) stored) → BeginsWithLines input (lines ++ line ∷ [])

@@ -1,4 +1,4 @@
--- What the first words of a line say that it is.
+-- Kinds of lines, by their first words.
 use Rattle.std.specs.Prelude.{ℕ, if◌then◌else◌, List, [], ◌∷◌, Option, Some, None, codes}
 use Rattle.std.specs.Option.{option_map}
 use Rattle.scoop_demo.specs.declared.script.kind.LineKind.{LineKind}
@@ -7,7 +7,7 @@ use Rattle.scoop_demo.specs.declared.script.kind.EventKind.{EventKind}
 use Rattle.scoop_demo.specs.declared.script.kind.EventKind.TheVariants as event
 use Rattle.scoop_classes.specs.Classes.{same_text}
 
--- what happens, by one word
+-- the kind of an event, by one word
 abbrev pub event_kind : List ℕ → Option EventKind
 event_kind word =
     if same_text word (codes "reserve") then Some event.Reserve
@@ -23,14 +23,14 @@ event_kind word =
     else (if same_text word (codes "trip") then Some event.Trip
     else None))))))))))
 
--- what a line is, by one word
+-- the kind of a line, by one word
 abbrev pub word_kind : List ℕ → Option LineKind
 word_kind word =
     if same_text word (codes "handler") then Some Handler
     else (if same_text word (codes "client") then Some Client
     else option_map Event (event_kind word))
 
--- what restarts, by the word behind `restart`
+-- the kind of a restart, by the word after `restart`
 abbrev pub restart_kind : List (List ℕ) → Option (LineKind × List (List ℕ))
 restart_kind [] = None
 restart_kind (word ∷ words) =
@@ -38,7 +38,7 @@ restart_kind (word ∷ words) =
     else (if same_text word (codes "node") then Some (Event event.RestartNode, words)
     else None)
 
--- what a line is, and the words behind those that say so
+-- the kind of a line, and the words after those that name the kind
 abbrev pub kind_of : List (List ℕ) → Option (LineKind × List (List ℕ))
 kind_of [] = None
 kind_of (word ∷ words) =

@@ -1,9 +1,9 @@
--- What the lines of a script ask for, or what is wrong with them.
+-- Events and parties of a script's lines, or their faults.
 use Rattle.std.specs.Prelude.{ℕ, ◌==◌, ◌&&◌, ◌^◌, nat_lt, nat_le, if◌then◌else◌, List, [], ◌∷◌, length, Option, Some, None, Ok, Err}
 use Rattle.std.specs.Option.{ok_or}
-use Rattle.scoop_words.specs.Words.{Word, one_of, two_of}
-use Rattle.scoop_words.specs.Number.{decimal_below}
-use Rattle.scoop_words.specs.Reading.{Read, ◌>>=◌, each_of}
+use Rattle.scoop_lines.specs.Words.{Word, one_of, two_of}
+use Rattle.scoop_lines.specs.Number.{decimal_below}
+use Rattle.scoop_lines.specs.Reading.{Read, ◌>>=◌, each_of}
 use Rattle.scoop_message.specs.declared.limits.TheConstants.{MAX_ARGS, MAX_ENTRIES}
 use Rattle.scoop_message.specs.declared.name.ClientId.{ClientId}
 use Rattle.scoop_message.specs.declared.name.HandlerId.{HandlerId}
@@ -20,14 +20,14 @@ use Rattle.scoop_demo.specs.declared.script.kind.EventKind.{EventKind}
 use Rattle.scoop_demo.specs.declared.script.kind.EventKind.TheVariants as kind
 use Rattle.scoop_classes.specs.Classes.{class_named}
 
--- the number that the digits write, where it is below the limit
+-- the number that the digits write, if it is below the limit
 abbrev pub number_below : ℕ → Word → Read InputFault ℕ
 number_below limit word = ok_or (decimal_below limit word) NotANumber
 
 abbrev pub number_of : Word → Read InputFault ℕ
 number_of = number_below (2 ^ 64)
 
--- what just so many words ask for
+-- the reading of exactly this many words
 abbrev pub counted : {A B : Type 0} → Option A → (A → Read InputFault B) → Read InputFault B
 counted None read = Err WrongNumberOfWords
 counted (Some words) read = read words
@@ -81,7 +81,7 @@ request_line (c ∷ h ∷ o ∷ ws) =
     else (client_of c >>= λ client. handler_of h >>= λ handler. number_below (2 ^ 16) o >>= λ op. each_of number_of ws >>= λ args. Ok
     (asked client handler op args))
 
--- what a line of an event asks for, by the words behind those that say its kind
+-- the events of a line, by the words after its kind
 abbrev pub event_line : EventKind → List Word → Read InputFault EventLine
 event_line kind.Reserve words = reserve_line words
 event_line kind.Call words = request_line words >>= λ a. Ok (One (event.Do a.0 (command.Call a.1 a.2)))
@@ -99,14 +99,14 @@ event_line kind.RestartNode words = node_line words >>= λ n. Ok (One (event.Nod
 
 -- ---- the words of parties
 
--- how many entries the client puts into one Log, which is one to four
+-- the number of entries that the client puts into one Log: one to four
 abbrev pub batch_of : Word → Read InputFault ℕ
 batch_of word = number_of word >>= λ n. if nat_le 1 n && nat_le n MAX_ENTRIES then Ok n else Err NotANumber
 
 abbrev pub joining : ClientId → ℕ → ClientId × ℕ
 joining c batch = (c, batch)
 
--- a client, and its batch, which is 1 where it isn't said
+-- a client, and its batch: 1 by default
 abbrev pub client_line : List Word → Read InputFault (ClientId × ℕ)
 client_line [] = Err WrongNumberOfWords
 client_line (c ∷ []) = client_of c >>= λ client. Ok (joining client 1)
@@ -127,7 +127,7 @@ or_no_class (Some class) = Ok class
 abbrev pub class_of : Word → Read InputFault ClassTable
 class_of word = or_no_class (class_named word)
 
--- the words of an object, as many as its class says
+-- the words of an object, as many as its class has
 abbrev pub words_for : ClassTable → List Word → Read InputFault (List ℕ)
 words_for class words = if length words == class.words then each_of number_of words else Err WrongNumberOfWords
 

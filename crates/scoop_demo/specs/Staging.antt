@@ -20,14 +20,14 @@ AreFirst class kept placed = map (seen_by class) kept ≡ take (MAX_HANDLERS + 1
 abbrev pub AreFirstClients : List (ClientId × ℕ) → List (ClientId × ℕ) → Type 0
 AreFirstClients kept clients = kept ≡ take (MAX_CLIENTS + 1) clients
 
--- what a cast holds before its world opens stands for these parties over these stored incarnations
+-- a cast before its world opens stands for these parties over these stored incarnations
 pub record IsWaiting {B : Type 0} (class : B → ClassTable) (kept : List (Placement B)) (clients : List (ClientId × ℕ)) (own : ℕ → Option ℕ) (parties : Parties)
     (stored : ℕ → Option ℕ) : Type 0 where
   pub placed : AreFirst class kept parties.placed
   pub joined : AreFirstClients clients parties.clients
   pub stored_is : own ≡ stored
 
--- the same of any cast: where the world has opened, it opens with these parties
+-- the same of any cast: a world that has opened opens with these parties
 abbrev pub IsStaged : {B : Type 0} → (B → ClassTable) → (opened : Bool) → List (Placement B) → List (ClientId × ℕ) → (ℕ → Option ℕ) → Parties → (ℕ → Option ℕ)
     → Type 0
 IsStaged class false kept clients own parties stored = IsWaiting class kept clients own parties stored

@@ -1,9 +1,10 @@
--- What is printed of an error, and the status with which the program ends.
+-- The printed text of an error, and the exit status of the program.
 use Rattle.std.specs.Prelude.{ℕ, List, ◌++◌, codes}
 use Rattle.std.specs.Fmt.{decimal}
 use Rattle.scoop_keeper.specs.Text.{error_text as keeper_text}
+use Rattle.scoop_lines.specs.SourceText.{source_text}
 use Rattle.scoop_demo.specs.declared.fault.InputFault.{InputFault}
-use Rattle.scoop_demo.specs.declared.fault.InputFault.TheVariants.{LineTooLong, TooManyLines, ReadFault, NotHex, OddDigits}
+use Rattle.scoop_demo.specs.declared.fault.InputFault.TheVariants.{Source, NotHex, OddDigits}
 use Rattle.scoop_demo.specs.declared.fault.InputFault.TheVariants.{UnknownLine, WrongNumberOfWords, NotANumber, NoSuchClass, TooLateForParty, CannotOpen}
 use Rattle.scoop_demo.specs.declared.fault.InputFault.TheVariants.{TooManyArguments, TooManyHandlers, NoSuchKind, Refused}
 use Rattle.scoop_demo.specs.OpenErrorText.{open_error_name}
@@ -11,9 +12,7 @@ use Rattle.scoop_demo.specs.declared.fault.RunError.{RunError}
 use Rattle.scoop_demo.specs.declared.fault.RunError.TheVariants.{Input, Write, OutOfMemory, Store, WrongClass, NodeFailed, HistoryFull}
 
 abbrev pub fault_text : InputFault → List ℕ
-fault_text LineTooLong = codes "line too long"
-fault_text TooManyLines = codes "too many lines"
-fault_text ReadFault = codes "read fault"
+fault_text (Source fault) = source_text fault
 fault_text NotHex = codes "not hex"
 fault_text OddDigits = codes "odd digits"
 fault_text UnknownLine = codes "unknown line"
@@ -36,7 +35,7 @@ error_text (WrongClass handler) = codes "store: WrongClass " ++ decimal handler.
 error_text NodeFailed = codes "store: NodeFailed"
 error_text HistoryFull = codes "store: HistoryFull"
 
--- 1 at a fault of the input, 3 where output, memory or the store failed
+-- 1 for a fault of the input, 3 if output, memory or the store failed
 abbrev pub status_of : RunError → ℕ
 status_of (Input _ _) = 1
 status_of Write = 3

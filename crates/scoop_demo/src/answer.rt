@@ -1,4 +1,4 @@
-//! What a book answers to the datagram of a line.
+//! Answers of a book to datagrams.
 
 ghost use Rattle.std.specs.Prelude.{◌≡◌, ◌≢◌, ℕ, None, IfOk, IfErr, OnOk};
 ghost use Rattle.scoop_message.specs.declared.message.Message.{Message};
@@ -27,7 +27,7 @@ use std::alloc::Global;
 // The one pass of a run's book.
 const PASS: u32 = 0;
 
-// What a run says of a refusal of its book. A handler that isn't here is no refusal of a run.
+// The error of a run whose book refuses. An unknown handler is no error of a run.
 fn refusal_of(error: BookError) -> RunError
     requires { error ≢ BookError.UnknownHandler }
     ensures { TellsRefusal error result }
@@ -41,7 +41,7 @@ fn refusal_of(error: BookError) -> RunError
     }
 }
 
-// What every handler but its own does with a datagram's message.
+// The note of every other handler on a datagram's message.
 fn elsewhere(datagram: &[u8]) -> Note
     ensures { (v : Version) (m : Message) → IsFrame v m datagram.now → result ≡ note_elsewhere m }
 {
@@ -51,7 +51,7 @@ fn elsewhere(datagram: &[u8]) -> Note
     }
 }
 
-// The handler of a datagram's message, where it may have something to run after this note.
+// The handler of a datagram's message, if it may have something to run after this note.
 fn runs_by(note: Note, datagram: &[u8]) -> Option<HandlerId>
     ensures { (v : Version) (m : Message) → IsFrame v m datagram.now → result ≡ runs_by note (handler_of m) }
 {
@@ -78,11 +78,11 @@ fn runs_next(answered: Answered, datagram: &[u8]) -> Option<HandlerId>
     }
 }
 
-/// Gives a datagram to the book, for its one pass. Answers what is to be told of it, and the handler that may have
-/// something to run now. The frame of a reply is at the front of the buffer.
+/// Gives a datagram to the book, for its one pass. Returns the answer, and the handler that may have something to run
+/// now. The frame of a reply is at the front of the buffer.
 ///
-/// Refused as the book refuses the message, with handlers, history and record as they were; but a message to a
-/// handler that isn't here is answered as every other handler would answer it.
+/// The error is the book's; then handlers, history and record are unchanged. A message to a handler that isn't here gets
+/// the answer that every other handler would give.
 pub fn answer<B: Behaviour, K: Keeper<Global>>(
     book: &mut Book<B, K>,
     datagram: &[u8],
@@ -103,7 +103,7 @@ pub fn answer<B: Behaviour, K: Keeper<Global>>(
 
 /// Runs a handler that is here until nothing can run, for the book's one pass.
 ///
-/// Refused as the book refuses. What has run stands.
+/// The error is the book's. The entries that ran before it stay.
 pub fn run_dry<B: Behaviour, K: Keeper<Global>>(
     book: &mut Book<B, K>,
     handler: HandlerId,

@@ -1,4 +1,4 @@
-//! The datagrams that lines of hex digits stand for.
+//! Datagrams from lines of hex digits.
 
 ghost use Rattle.std.specs.Prelude.{◌≡◌, ◌≤◌, ◌*◌, Ok, None, Some, IfOk, IsErr, MatchOption, MatchResult, length, take};
 ghost use Rattle.std.specs.List.{list_all};
@@ -6,16 +6,17 @@ ghost use Rattle.hex.specs.Hex.{is_hex_digit, decode_of};
 ghost use Rattle.scoop_demo.specs.Hex.{IsDecoded, StandsFor, digits_of, fault_among, hex_fault, value_of};
 
 use crate::fault::InputFault;
-use crate::source::LineBytes;
+use scoop_lines::LineBytes;
 
 /// Bytes of the datagram of one line, at most.
 pub const MAX_DATAGRAM_LEN: usize = 2048;
 
-/// The datagram that a line of hex digits of either case stands for, at the front of the buffer. Spaces are
-/// skipped: where there are some, the line loses them.
+/// The datagram of a line of hex digits of either case, at the front of the buffer. Spaces are skipped; the line loses
+/// them.
 ///
-/// The error is `NotHex` where another byte is no hex digit, else `OddDigits` where the number of digits
-/// is odd.
+/// # Errors
+/// - `NotHex`: another byte is no hex digit.
+/// - `OddDigits`: the number of digits is odd.
 pub fn read_datagram<'a>(
     line: &mut LineBytes,
     buffer: &'a mut [u8; MAX_DATAGRAM_LEN],
@@ -35,8 +36,8 @@ pub fn read_datagram<'a>(
     }
 }
 
-// Writes the bytes of an even number of hex digits to the front of the buffer, and says how many they are. None
-// where the line is something else.
+// Writes the bytes of an even number of hex digits to the front of the buffer, and returns their number. `None` for any
+// other line.
 fn read_digits(line: &[u8], buffer: &mut [u8; MAX_DATAGRAM_LEN]) -> Option<usize>
     requires { length line.now ≤ 4096 }
     ensures { MatchOption result (IsErr (decode_of line.now)) (λ len. (len ≤ 2048) × (decode_of line.now ≡ Ok (take len buffer.new))) }
@@ -52,7 +53,7 @@ fn read_digits(line: &[u8], buffer: &mut [u8; MAX_DATAGRAM_LEN]) -> Option<usize
     }
 }
 
-// Writes the bytes of hex digits, two for each byte. False where another byte is among them.
+// Writes the bytes of hex digits, two for each byte. `false` if another byte is among them.
 fn decode_digits(digits: &[u8], bytes: &mut [u8]) -> bool
     requires { length digits.now ≡ 2 * length bytes.old }
     ensures bytes { IsDecoded result digits.now bytes.new }
@@ -70,7 +71,7 @@ fn decode_digits(digits: &[u8], bytes: &mut [u8]) -> bool
     true
 }
 
-// The value of each byte as a hex digit, and 255 where it is none: sixteen bytes a line.
+// The value of each byte as a hex digit, or 255: sixteen bytes a line.
 #[rattlefmt::skip]
 static DIGIT_VALUES: [u8; 256] = [
     255, 255, 255, 255, 255, 255, 255, 255, 255, 255, 255, 255, 255, 255, 255, 255,
@@ -91,7 +92,7 @@ static DIGIT_VALUES: [u8; 256] = [
     255, 255, 255, 255, 255, 255, 255, 255, 255, 255, 255, 255, 255, 255, 255, 255,
 ];
 
-// The value of a hex digit, and 255 of another byte.
+// The value of a hex digit, or 255 for another byte.
 #[inline]
 fn digit_value(byte: u8) -> u8
     ensures { result ≡ value_of byte }
@@ -105,7 +106,7 @@ fn remove_spaces(line: &mut LineBytes)
     line.retain(|byte| *byte != b' ');
 }
 
-// What is wrong with bytes that are not an even number of hex digits.
+// The fault of bytes that are not an even number of hex digits.
 fn fault_of(digits: &[u8]) -> InputFault
     requires { IsErr (decode_of digits.now) }
     ensures { fault_among digits.now ≡ Some result }

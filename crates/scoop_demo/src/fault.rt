@@ -1,38 +1,35 @@
-//! What ends a run over the lines of an input.
+//! Faults of an input, and errors of a run over its lines.
 
 ghost use Rattle.std.specs.Prelude.{◌≡◌};
 ghost use Rattle.scoop_demo.specs.OpenErrorText.{open_error_name};
 
 use scoop_keeper::KeeperError;
+use scoop_lines::{LinesError, SourceFault};
 use scoop_message::{HandlerId, OutOfMemory};
 use scoop_world::WorldOpenError;
 use std::error::Error;
 use std::fmt;
 
-/// What is wrong with a line of the input.
+/// The fault of a line of the input.
 #[derive(Clone, Copy, Debug, PartialEq, Eq)]
 pub enum InputFault {
-    /// The line has more bytes than a line may have.
-    LineTooLong,
-    /// The input has more lines than an input may have.
-    TooManyLines,
-    /// The input could not be read, or it was read too often.
-    ReadFault,
+    /// The line can't be read.
+    Source(SourceFault),
     /// The line has a byte that is neither a hex digit nor a space.
     NotHex,
     /// The line has an odd number of hex digits.
     OddDigits,
-    /// The line's first words say nothing that is known.
+    /// The line's first words are unknown.
     UnknownLine,
     /// The line has fewer or more words than its kind has.
     WrongNumberOfWords,
-    /// A word that is to be a number isn't one, or is out of its range.
+    /// The word in place of a number isn't one, or is out of its range.
     NotANumber,
     /// A word names no class.
     NoSuchClass,
-    /// The line places a handler or lets a client join behind an event.
+    /// The line places a handler or lets a client join after an event.
     TooLateForParty,
-    /// The handlers and clients of the lines before open no world.
+    /// No world opens with the handlers and clients of the lines before.
     CannotOpen(WorldOpenError),
     /// A request has more than `MAX_ARGS` arguments.
     TooManyArguments,
@@ -40,7 +37,7 @@ pub enum InputFault {
     TooManyHandlers,
     /// A word names no kind of message or of entry.
     NoSuchKind,
-    /// The line's event was refused, where no event may be.
+    /// The line's event was refused in a strict run.
     Refused,
 }
 
@@ -52,9 +49,7 @@ impl fmt::Display for InputFault {
 
     fn fmt<W: fmt::Write>(&self, f: &mut fmt::Formatter<W>) -> fmt::Result {
         f.write_str(match self {
-            InputFault::LineTooLong => "line too long",
-            InputFault::TooManyLines => "too many lines",
-            InputFault::ReadFault => "read fault",
+            InputFault::Source(fault) => return write!(f, "{fault}"),
             InputFault::NotHex => "not hex",
             InputFault::OddDigits => "odd digits",
             InputFault::UnknownLine => "unknown line",
@@ -75,7 +70,7 @@ impl fmt::Display for InputFault {
 
 impl Error for InputFault {}
 
-// The name of an error, which its derived text has too, but without a contract.
+// The name of an error: its derived text, with a contract.
 fn open_error_name(error: WorldOpenError) -> &'static str
     ensures { result.now ≡ open_error_name error }
 {
@@ -104,7 +99,7 @@ pub enum RunError {
     Store(KeeperError),
     /// The object hasn't the handler's class, or the stored words are not as many as the class has.
     WrongClass(HandlerId),
-    /// The keeper had refused a state before, so that the book enters nothing any more.
+    /// The keeper refused a state before, so the book records nothing any more.
     NodeFailed,
     /// The book's history has as many entries as it may have.
     HistoryFull,
@@ -113,7 +108,7 @@ pub enum RunError {
 impl RunError {
     ghost use Rattle.scoop_demo.specs.Text.{status_of};
 
-    /// The status with which the program ends: 1 at a fault of the input, else 3.
+    /// The exit status of the program: 1 for a fault of the input, else 3.
     pub fn status(self) -> u8
         ensures { result ≡ status_of self }
     {
@@ -158,6 +153,23 @@ impl From<OutOfMemory> for RunError {
 
     fn from(_: OutOfMemory) -> RunError {
         RunError::OutOfMemory
+    }
+}
+
+impl From<LinesError> for RunError {
+    ghost use Rattle.std.specs.Prelude.{◌≡◌};
+    ghost use Rattle.scoop_demo.specs.Run.{run_error};
+
+    ghost from_gives = { λ error e. e ≡ run_error error };
+
+    fn from(error: LinesError) -> RunError {
+        match error {
+            LinesError::Source(error) => RunError::Input {
+                line: error.line,
+                fault: InputFault::Source(error.fault),
+            },
+            LinesError::Flush => RunError::Write,
+        }
     }
 }
 

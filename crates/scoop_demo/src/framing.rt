@@ -14,20 +14,19 @@ mod reading;
 
 use crate::datagram::{MAX_DATAGRAM_LEN, read_datagram};
 use crate::fault::RunError;
-use crate::lines::Lines;
 use crate::printing::kind_name;
 use crate::run::print_frame;
 use arrayvec::ArrayVec;
 pub use reading::{WordsError, read_message};
 use scoop_frame::{Version, decode, encode};
+use scoop_lines::Lines;
 use scoop_message::limits::BUFFER_LEN;
 use scoop_message::{Answer, Block, ClientId, Entry, HandlerId, Message, Request};
 use std::io;
 use std::io::{Read, Write};
 
-/// Writes a message in words: `v2` of a frame of version 2, the name of its kind, its handler, its client and
-/// incarnation or its block, the number of an entry, and the answer, or each entry as one word: `call:1:5`, `query:2` or
-/// `end`.
+/// Writes a message in words: `v2` for version 2, the name of its kind, its handler, its client and incarnation or its
+/// block, and the number of an entry. Then comes the answer, or one word for each entry: `call:1:5`, `query:2` or `end`.
 pub fn print_message<W: Write>(
     version: Version,
     message: &Message,
@@ -50,7 +49,7 @@ fn print_version<W: Write>(version: Version, writer: &mut W) -> io::Result<()>
     }
 }
 
-// What stands behind the name of the message's kind.
+// The words after the name of the message's kind.
 fn print_fields<W: Write>(message: &Message, writer: &mut W) -> io::Result<()>
     ensures { OnOk result (Appends (W.contents writer.old) (W.contents writer.new) (fields_text message.now)) }
 {
@@ -168,7 +167,7 @@ pub fn print_frame_of<W: Write>(
     print_frame(&out[..len], writer)
 }
 
-/// Writes the line of a datagram: the message whose frame it is, in words, or `refused` and why it is no frame.
+/// Writes the line of a datagram: its message in words, or `refused` and why it is no frame.
 pub fn tell_frame<W: Write>(datagram: &[u8], writer: &mut W) -> io::Result<()>
     ensures { OnOk result (TellsFrame datagram.now (W.contents writer.old) (W.contents writer.new)) }
 {
@@ -181,10 +180,12 @@ pub fn tell_frame<W: Write>(datagram: &[u8], writer: &mut W) -> io::Result<()>
     }
 }
 
-/// Tells the frames of an input, one in hex digits on each line, with one line for each.
+/// Writes the messages of an input's frames, one frame in hex digits on each line, with one line for each.
 ///
-/// The error names the first line that has a fault, or says that the output failed. The answers to earlier lines
-/// stand. The writer is flushed before each read of the input, which may wait for the user, and at the end.
+/// The writer is flushed before each read of the input, which may wait for the user, and at the end.
+///
+/// # Errors
+/// The first line with a fault, or a failed output. The output of earlier lines stays.
 pub fn tell_frames<R: Read + Drop, W: Write>(reader: R, writer: &mut W) -> Result<(), RunError> {
     let told = tell_lines(reader, writer);
     let flushed = writer.flush();

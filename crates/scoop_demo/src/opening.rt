@@ -1,4 +1,4 @@
-//! How the book of one handler opens.
+//! The opening of a book of one handler.
 
 ghost use Rattle.std.specs.Prelude.{◌≡◌, ◌≢◌, ◌∷◌, [], false, IfOk, IfErr, OnOk};
 ghost use Rattle.scoop_message.specs.declared.limits.TheConstants.{MAX_HISTORY};
@@ -15,7 +15,7 @@ use scoop_message::HandlerId;
 use scoop_object::{Behaviour, Class};
 use std::alloc::Global;
 
-// What a run says of a refusal to open a book of one handler.
+// The error of a run whose book of one handler doesn't open.
 fn refusal_of(error: OpenError) -> RunError
     requires { OpensOne error }
     ensures { TellsUnopened error result }
@@ -28,13 +28,14 @@ fn refusal_of(error: OpenError) -> RunError
     }
 }
 
-/// The book of one handler over what the keeper has for it: the stored state with no job out, and the object
-/// set to the stored words; or, where none is stored, a handler that nobody has greeted, with the object as
-/// it is. Stores nothing. The history is empty.
+/// Opens the book of one handler over its stored state: with no job out, and the object set to the stored words. Without
+/// a stored state, no client has greeted the handler, and the object stays as it is. Stores nothing. The history is empty.
 ///
-/// Refused, with the keeper gone: `WrongClass` where the object hasn't the class; `Store` where the keeper
-/// refuses to load, with `BadImage` where what is stored is no state of the handler; `WrongClass` where the
-/// stored words are not as many as the class has; `OutOfMemory`.
+/// # Errors
+/// They drop the keeper.
+/// - `WrongClass`: the object hasn't the class, or the stored words are not as many as the class has.
+/// - `Store`: the keeper refuses to load; with `BadImage` if the stored bytes are no state of the handler.
+/// - `OutOfMemory`.
 pub fn open_book<B: Behaviour, K: Keeper<Global>>(
     alloc: Global,
     keeper: K,
@@ -49,7 +50,7 @@ pub fn open_book<B: Behaviour, K: Keeper<Global>>(
     ensures kept { IfOk result (λ b. K.is_honest b.keeper → Stays (K.handlers keeper) (K.handlers b.keeper)) }
     ensures incarnations { IfOk result (λ b. K.is_honest b.keeper → IsSame (K.incarnations keeper) (K.incarnations b.keeper)) }
     ensures honest { IfOk result (λ b. K.is_honest b.keeper → K.is_honest keeper) }
-    // The keeper goes with a refusal, so this speaks of what is stored where every such keeper is honest.
+    // A refusal drops the keeper, so this clause is about the stored state if every such keeper is honest.
     ensures refused { IfErr result (FailsToOpen (K.handlers keeper) ((k : K) → K.is_honest k) number class (B.class object)) }
 {
     let mut handlers = Vec::new(alloc);

@@ -1,4 +1,4 @@
-//! A script that is played.
+//! Runs of scripts.
 
 mod cast;
 mod echo;
@@ -6,7 +6,6 @@ mod events;
 mod histories;
 mod picture;
 mod settling;
-mod telling;
 
 ghost use Rattle.std.specs.Prelude.{◌≡◌, IfErr, OnOk, false, [], is_some};
 ghost use Rattle.scoop_demo.specs.Script.{PlaysAll, StopsPlaying, parties_of};
@@ -14,37 +13,39 @@ ghost use Rattle.scoop_demo.specs.Staging.{IsWaiting};
 ghost use Rattle.scoop_keeper.specs.Memory.{incarnation_at};
 
 use crate::fault::{InputFault, RunError};
-use crate::lines::Lines;
 use arrayvec::ArrayVec;
 use cast::Cast;
 use events::Stop;
 pub use picture::Picture;
 use scoop_keeper::MemoryKeeper;
+use scoop_lines::Lines;
 use scoop_object::{Behaviour, Table};
 use std::alloc::Global;
 use std::io::{Read, Write};
 
-/// What a run of a script tells and refuses, beside what every run does.
-#[derive(Clone, Copy, Debug, Default, PartialEq, Eq)]
+/// Options of a run of a script.
+#[derive(Clone, Copy)]
 pub struct PlayOptions {
-    /// Before what a line's event did, the line is told, with its number: `18: take 19 = Unlock 7.1.1 to 1`. The message
-    /// stands there for `take` and `trip`, and the entry that ran for `run` and `finish`.
+    /// Writes each line with its number before the line of its event: `18: take 19 = Unlock 7.1.1 to 1`. `take` and
+    /// `trip` show the message, `run` and `finish` the entry that ran.
     pub echoes: bool,
-    /// An event that is refused ends the run, as a fault of its line.
+    /// A refused event ends the run, as a fault of its line.
     pub is_strict: bool,
-    /// After the last line, what is next in the world is played until the world is calm: jobs go out and are finished,
-    /// clients ask handlers for what these can do, and end their blocks. Each event is told as any other; where lines are
-    /// told, as `settle: trip 7 1 = Unlock 7.1.1 to 1`.
+    /// After the last line, plays the next useful event until the world is calm, that is, quiescent: jobs begin and
+    /// finish, clients ask handlers, and clients end their blocks. Each event writes its line, with `echoes` after a line
+    /// as `settle: trip 7 1 = Unlock 7.1.1 to 1`.
     pub settles: bool,
 }
 
-/// Plays a script: its first lines place handlers and let clients join, and open a world over the keeper at
-/// the first line of an event; each event writes a line. After the last line, the histories are written: the
-/// common list of blocks, what opened and what ran at each handler, and what each client accepted.
+/// Plays a script. Its first lines place handlers and let clients join; the first line of an event opens their world over
+/// the keeper. Each event writes a line. After the last line come the histories: the common list of blocks, what opened
+/// and what ran at each handler, and what each client accepted.
 ///
-/// The error names the first line that has a fault, or says that the output failed or that memory was
-/// wanted. What earlier lines have written stands, and no histories are written. The writer is flushed before
-/// each read of the input, which may wait for the user, and at the end.
+/// The writer is flushed before each read of the input, which may wait for the user, and at the end.
+///
+/// # Errors
+/// The first line with a fault, a failed output, or out of memory. The output of earlier lines stays, and no histories are
+/// written.
 pub fn world_run<R: Read + Drop, W: Write>(
     alloc: Global,
     keeper: MemoryKeeper,
@@ -62,7 +63,7 @@ pub fn world_run<R: Read + Drop, W: Write>(
     world_run_with(alloc, keeper, options, reader, writer)
 }
 
-/// The same with options. The line whose event is refused, where that ends the run, has written its own line.
+/// Plays a script with options. A refused event that ends the run has written its line.
 pub fn world_run_with<R: Read + Drop, W: Write>(
     alloc: Global,
     keeper: MemoryKeeper,
@@ -83,7 +84,7 @@ pub fn world_run_with<R: Read + Drop, W: Write>(
     )
 }
 
-/// The same, where a picture that is wanted is told each event. It can be drawn whatever ended the run.
+/// Plays a script with options, and notes each event in a picture that is wanted. The picture can be drawn after any end.
 pub fn world_run_charted<R: Read + Drop, W: Write>(
     alloc: Global,
     keeper: MemoryKeeper,
@@ -127,7 +128,7 @@ fn play_all<R: Read + Drop, W: Write>(
     }
 }
 
-// Plays the lines of a script until one stops the run. Where none is that of an event, the world opens at the end.
+// Plays the lines of a script until one stops the run. Without a line of an event, the world opens at the end.
 fn play_lines<R: Read + Drop, W: Write>(
     cast: &mut Cast,
     options: PlayOptions,
@@ -148,7 +149,7 @@ fn play_lines<R: Read + Drop, W: Write>(
         match lines.next_line(&mut line, writer) {
             Ok(true) => {}
             Ok(false) => return cast.open_by(taken.max(1), picture),
-            Err(error) => return Err(error),
+            Err(error) => return Err(RunError::from(error)),
         }
         let number = lines.number();
         match cast.play_line(number, line.as_slice(), options.echoes, picture, writer) {

@@ -1,18 +1,29 @@
-//! What is printed of the events of a world.
+//! The printed line of an event of a world.
 
-ghost use Rattle.std.specs.Prelude.{◌≡◌, ◌∷◌, ◌++◌, [], OnOk};
+ghost use Rattle.std.specs.Prelude.{◌≡◌, ◌∷◌, ◌++◌, [], codes, OnOk};
+ghost use Rattle.std.specs.Fmt.{decimal};
 ghost use Rattle.std.specs.Option.{option_copied};
 ghost use Rattle.std.specs.Io.KnownBytes.{Appends};
-ghost use Rattle.scoop_demo.specs.NoteText.{note_text, client_note_text, sent_text, ran_text, kind_text};
+ghost use Rattle.scoop_message.specs.Text.{block_text, answer_text};
+ghost use Rattle.scoop_handler.specs.Text.{reason_text, note_text as handler_note_text};
+ghost use Rattle.scoop_demo.specs.NoteText.{note_text, client_note_text, sent_text, ran_text, ran_answer_text, kind_text};
 
+use arrayvec::{ArrayVec, CapacityError};
+use itoa::Buffer;
 use scoop_client::ClientNote;
-use scoop_handler::Ran;
-use scoop_message::Message;
+use scoop_handler::{Note, Ran, Reason};
+use scoop_message::{Answer, Block, HandlerId, Message};
 use scoop_world::WorldNote;
 use std::io;
-use std::io::Write;
+use std::io::{ErrorKind, Write};
 
-/// Writes the line of what an event did. A message that was sent is named by its kind.
+/// Bytes of a line's buffer: more than the line of any note has.
+const LINE_ROOM: usize = 96;
+
+/// A line, or a piece of one, before it is written.
+pub type LineText = ArrayVec<u8, LINE_ROOM>;
+
+/// Writes the line of an event's note, in one write. A sent message is named by its kind.
 pub fn print_note<W: Write>(
     note: &WorldNote,
     sent: Option<&Message>,
@@ -20,30 +31,102 @@ pub fn print_note<W: Write>(
 ) -> io::Result<()>
     ensures { OnOk result (Appends (W.contents writer.old) (W.contents writer.new) (note_text note.now (option_copied sent.entry) ++ 10 ∷ [])) }
 {
-    match note {
-        WorldNote::Done => writeln!(writer, "done"),
-        WorldNote::Silent => writeln!(writer, "silent"),
-        WorldNote::Sent(place) => print_sent(*place, sent, writer),
-        WorldNote::Handler(note, None) => writeln!(writer, "{note}"),
-        WorldNote::Handler(note, Some(place)) => writeln!(writer, "{note} sent {place}"),
-        WorldNote::Client(note) => print_client_note(note, writer),
-        WorldNote::Began(block, number) => writeln!(writer, "began {block} {number}"),
-        WorldNote::Ran(ran) => print_ran(ran, writer),
-        WorldNote::Restarted(inc) => writeln!(writer, "restarted {inc}"),
-        WorldNote::Reopened => writeln!(writer, "reopened"),
+    let mut line = ArrayVec::new();
+    match put_line(&mut line, note, sent) {
+        Ok(()) => writer.write_all(line.as_slice()),
+        // No line is this long.
+        Err(_) => Err(io::Error::from(ErrorKind::WriteZero)),
     }
 }
 
-// Writes the line of a message that was sent.
-fn print_sent<W: Write>(place: usize, sent: Option<&Message>, writer: &mut W) -> io::Result<()>
-    ensures { OnOk result (Appends (W.contents writer.old) (W.contents writer.new) (sent_text place (option_copied sent.entry) ++ 10 ∷ [])) }
+// Appends the line of a note.
+fn put_line(
+    line: &mut LineText,
+    note: &WorldNote,
+    sent: Option<&Message>,
+) -> Result<(), CapacityError>
+    ensures { OnOk result (line.new.items ≡ line.old.items ++ note_text note.now (option_copied sent.entry) ++ 10 ∷ []) }
 {
+    put_note(line, note, sent)?;
+    put(line, "\n")
+}
+
+// Appends a note.
+fn put_note(
+    line: &mut LineText,
+    note: &WorldNote,
+    sent: Option<&Message>,
+) -> Result<(), CapacityError>
+    ensures { OnOk result (line.new.items ≡ line.old.items ++ note_text note.now (option_copied sent.entry)) }
+{
+    match note {
+        WorldNote::Done => put(line, "done"),
+        WorldNote::Silent => put(line, "silent"),
+        WorldNote::Sent(place) => put_sent(line, *place, sent),
+        WorldNote::Handler(note, None) => put_handler_note(line, *note),
+        WorldNote::Handler(note, Some(place)) => put_answered(line, *note, *place),
+        WorldNote::Client(note) => put_client_note(line, note),
+        WorldNote::Began(block, number) => put_began(line, *block, *number),
+        WorldNote::Ran(ran) => put_ran(line, ran),
+        WorldNote::Restarted(inc) => put_named(line, "restarted ", *inc),
+        WorldNote::Reopened => put(line, "reopened"),
+    }
+}
+
+/// Appends a text. The error is `CapacityError` if there is no room.
+pub fn put(line: &mut LineText, text: &str) -> Result<(), CapacityError>
+    ensures { OnOk result (line.new.items ≡ line.old.items ++ text.now) }
+{
+    line.try_extend_from_slice(text.as_bytes())
+}
+
+// Appends a number in decimal digits.
+fn put_number(line: &mut LineText, number: u64) -> Result<(), CapacityError>
+    ensures { OnOk result (line.new.items ≡ line.old.items ++ decimal number) }
+{
+    let mut digits = Buffer::new();
+    put(line, digits.format(number))
+}
+
+// Appends a text and a number.
+fn put_named(line: &mut LineText, name: &str, number: u32) -> Result<(), CapacityError>
+    ensures { OnOk result (line.new.items ≡ line.old.items ++ name.now ++ decimal number) }
+{
+    put(line, name)?;
+    put_number(line, u64::from(number))
+}
+
+// Appends a block.
+fn put_block(line: &mut LineText, block: Block) -> Result<(), CapacityError>
+    ensures { OnOk result (line.new.items ≡ line.old.items ++ block_text block) }
+{
+    put_number(line, u64::from(block.client.0))?;
+    put_named(line, ".", block.inc)?;
+    put_named(line, ".", block.num)
+}
+
+// Appends an object's answer.
+fn put_answer(line: &mut LineText, answer: Answer) -> Result<(), CapacityError>
+    ensures { OnOk result (line.new.items ≡ line.old.items ++ answer_text answer) }
+{
+    match answer {
+        Answer::Refused => put(line, "refused"),
+        Answer::Value(value) => put_number(line, value),
+    }
+}
+
+// Appends the place and the kind of a sent message.
+fn put_sent(line: &mut LineText, place: usize, sent: Option<&Message>) -> Result<(), CapacityError>
+    ensures { OnOk result (line.new.items ≡ line.old.items ++ sent_text place (option_copied sent.entry)) }
+{
+    put(line, "sent ")?;
+    put_number(line, place as u64)?;
     match sent {
         Some(message) => {
-            let kind = kind_name(message);
-            writeln!(writer, "sent {place} {kind}")
+            put(line, " ")?;
+            put(line, kind_name(message))
         }
-        None => writeln!(writer, "sent {place}"),
+        None => Ok(()),
     }
 }
 
@@ -67,34 +150,114 @@ pub(crate) fn kind_name(message: &Message) -> &'static str
     }
 }
 
-// Writes the line of what a client did with a message.
-fn print_client_note<W: Write>(note: &ClientNote, writer: &mut W) -> io::Result<()>
-    ensures { OnOk result (Appends (W.contents writer.old) (W.contents writer.new) (client_note_text note.now ++ 10 ∷ [])) }
+// Appends a handler's note on a message.
+fn put_handler_note(line: &mut LineText, note: Note) -> Result<(), CapacityError>
+    ensures { OnOk result (line.new.items ≡ line.old.items ++ handler_note_text note) }
 {
     match note {
-        ClientNote::Welcomed(handler) => writeln!(writer, "Welcomed {handler}"),
-        ClientNote::Locked(handler) => writeln!(writer, "Locked {handler}"),
-        ClientNote::Busy(handler) => writeln!(writer, "Busy {handler}"),
-        ClientNote::Opened(handler) => writeln!(writer, "Opened {handler}"),
-        ClientNote::Unlocked(handler) => writeln!(writer, "Unlocked {handler}"),
-        ClientNote::Acknowledged(handler, count) => {
-            writeln!(writer, "Acknowledged {handler} {count}")
+        Note::Greeted => put(line, "Greeted"),
+        Note::Granted => put(line, "Granted"),
+        Note::Held => put(line, "Held"),
+        Note::Opened(_) => put(line, "Opened"),
+        Note::Freed => put(line, "Freed"),
+        Note::Took(number) => put_named(line, "Took ", number),
+        Note::Known => put(line, "Known"),
+        Note::Dropped(why) => {
+            put(line, "Dropped ")?;
+            put(line, reason_name(why))
         }
-        ClientNote::Accepted(handler, number, answer) => {
-            writeln!(writer, "Accepted {handler} {number} {answer}")
-        }
-        ClientNote::Ignored => writeln!(writer, "Ignored"),
     }
 }
 
-// Writes the line of an entry that has run.
-fn print_ran<W: Write>(ran: &Ran, writer: &mut W) -> io::Result<()>
-    ensures { OnOk result (Appends (W.contents writer.old) (W.contents writer.new) (ran_text ran.now ++ 10 ∷ [])) }
+// The name of a reason.
+fn reason_name(why: Reason) -> &'static str
+    ensures { result.now ≡ reason_text why }
 {
-    let block = ran.block;
-    let number = ran.number;
-    match ran.answer {
-        Some(answer) => writeln!(writer, "ran {block} {number} {answer}"),
-        None => writeln!(writer, "ran {block} {number} end"),
+    match why {
+        Reason::NotForHandlers => "NotForHandlers",
+        Reason::WrongHandler => "WrongHandler",
+        Reason::TooManyClients => "TooManyClients",
+        Reason::Stale => "Stale",
+        Reason::Ungreeted => "Ungreeted",
+        Reason::NotHolder => "NotHolder",
+        Reason::QueueFull => "QueueFull",
+        Reason::NotOpen => "NotOpen",
+        Reason::Gap => "Gap",
+        Reason::PendingFull => "PendingFull",
+    }
+}
+
+// Appends a handler's note on a message, and the place of its reply.
+fn put_answered(line: &mut LineText, note: Note, place: usize) -> Result<(), CapacityError>
+    ensures { OnOk result (line.new.items ≡ line.old.items ++ handler_note_text note ++ codes " sent " ++ decimal place) }
+{
+    put_handler_note(line, note)?;
+    put(line, " sent ")?;
+    put_number(line, place as u64)
+}
+
+// Appends a client's note on a message.
+fn put_client_note(line: &mut LineText, note: &ClientNote) -> Result<(), CapacityError>
+    ensures { OnOk result (line.new.items ≡ line.old.items ++ client_note_text note.now) }
+{
+    match note {
+        ClientNote::Welcomed(handler) => put_named(line, "Welcomed ", handler.0),
+        ClientNote::Locked(handler) => put_named(line, "Locked ", handler.0),
+        ClientNote::Busy(handler) => put_named(line, "Busy ", handler.0),
+        ClientNote::Opened(handler) => put_named(line, "Opened ", handler.0),
+        ClientNote::Unlocked(handler) => put_named(line, "Unlocked ", handler.0),
+        ClientNote::Acknowledged(handler, count) => {
+            put_named(line, "Acknowledged ", handler.0)?;
+            put_named(line, " ", *count)
+        }
+        ClientNote::Accepted(handler, number, answer) => {
+            put_accepted(line, *handler, *number, *answer)
+        }
+        ClientNote::Ignored => put(line, "Ignored"),
+    }
+}
+
+// Appends an answer that a client accepts.
+fn put_accepted(
+    line: &mut LineText,
+    handler: HandlerId,
+    number: u32,
+    answer: Answer,
+) -> Result<(), CapacityError>
+    ensures { OnOk result (line.new.items ≡ line.old.items ++ client_note_text (ClientNote.Accepted handler number answer)) }
+{
+    put_named(line, "Accepted ", handler.0)?;
+    put_named(line, " ", number)?;
+    put(line, " ")?;
+    put_answer(line, answer)
+}
+
+// Appends the entry that began.
+fn put_began(line: &mut LineText, block: Block, number: u32) -> Result<(), CapacityError>
+    ensures { OnOk result (line.new.items ≡ line.old.items ++ codes "began " ++ block_text block ++ codes " " ++ decimal number) }
+{
+    put(line, "began ")?;
+    put_block(line, block)?;
+    put_named(line, " ", number)
+}
+
+// Appends an entry that has run.
+fn put_ran(line: &mut LineText, ran: &Ran) -> Result<(), CapacityError>
+    ensures { OnOk result (line.new.items ≡ line.old.items ++ ran_text ran.now) }
+{
+    put(line, "ran ")?;
+    put_block(line, ran.block)?;
+    put_named(line, " ", ran.number)?;
+    put(line, " ")?;
+    put_ran_answer(line, ran.answer)
+}
+
+// Appends the answer of an entry. An End has none.
+fn put_ran_answer(line: &mut LineText, answer: Option<Answer>) -> Result<(), CapacityError>
+    ensures { OnOk result (line.new.items ≡ line.old.items ++ ran_answer_text answer) }
+{
+    match answer {
+        Some(answer) => put_answer(line, answer),
+        None => put(line, "end"),
     }
 }

@@ -6,7 +6,7 @@ ghost use Rattle.scoop_message.specs.declared.limits.TheConstants.{BUFFER_LEN};
 ghost use Rattle.hex.specs.Hex.{encode_lower};
 ghost use Rattle.scoop_book.specs.Books.{IsBook};
 ghost use Rattle.scoop_netloop.specs.Answering.{IsWithinBuffer};
-ghost use Rattle.scoop_demo.specs.Line.{limit_fault};
+ghost use Rattle.scoop_lines.specs.Line.{limit_fault};
 ghost use Rattle.scoop_demo.specs.Answer.{line_of};
 ghost use Rattle.scoop_demo.specs.Storing.{KeepsElsewhere};
 ghost use Rattle.scoop_demo.specs.Run.{AnswersAll, StopsEarly, WritesAnswer, StopsInLine, words_text, words_line, shown_line, numbers_text};
@@ -14,11 +14,10 @@ ghost use Rattle.scoop_demo.specs.Run.{AnswersAll, StopsEarly, WritesAnswer, Sto
 use crate::answer::{answer, run_dry};
 use crate::datagram::{MAX_DATAGRAM_LEN, read_datagram};
 use crate::fault::RunError;
-use crate::lines::Lines;
-use crate::source::LineBytes;
 use arrayvec::ArrayVec;
 use scoop_book::Book;
 use scoop_keeper::Keeper;
+use scoop_lines::{LineBytes, Lines};
 use scoop_message::limits::BUFFER_LEN;
 use scoop_message::{HandlerId, Words};
 use scoop_netloop::Answered;
@@ -27,20 +26,20 @@ use std::alloc::Global;
 use std::io;
 use std::io::{Read, Write};
 
-/// Answers the datagrams of an input, one in hex digits on each line, with one line for each: the reply
-/// in lower-case hex digits; or `none` and what the handler did; or `refused` and why the datagram is no
-/// frame. Once a line is answered, the handler that heard it runs until nothing can run, where the datagram may
-/// have made something ready. After the last line the words of the object of `shown` are shown, where it names a
-/// handler of the book: `words` and the words in decimal.
+/// Answers the datagrams of an input, one in hex digits on each line. Each gets a line: the reply in lower-case hex digits;
+/// or `none` and what the handler did; or `refused` and why the datagram is not a frame. After its answer, the handler that
+/// heard it runs until nothing can run. After the last line comes the line of the object of `shown`, if that is a handler
+/// of the book: `words` and the words in decimal.
 ///
-/// Each message to a handler of the book and each entry that runs is in the history, for pass 0, and the keeper
-/// gets the handler's state before the answer is written. What is no frame, or is to a handler that isn't here,
-/// is in neither; the second is answered as any other handler would.
+/// The history gets each message to a handler of the book and each entry that runs, for pass 0. The keeper gets the
+/// handler's state before the answer is written. Neither gets a datagram that is no frame, or a message to a handler that
+/// isn't here; the latter has the answer that any other handler would give.
 ///
-/// The error names the first line that has a fault, or says that the output failed, that the keeper refused, that
-/// the history is full or that memory was wanted. Unless the output failed, the answers to earlier lines stand; no
-/// words are shown. The writer is flushed before each read of the input, which may wait for the user, and at the
-/// end.
+/// The writer is flushed before each read of the input, which may wait for the user, and at the end.
+///
+/// # Errors
+/// The first line with a fault, a failed output, a refusing keeper, a full history, or out of memory. Unless the output
+/// failed, the answers to earlier lines stay. No words are shown.
 pub fn answer_run<B: Behaviour, K: Keeper<Global>, R: Read + Drop, W: Write>(
     book: &mut Book<B, K>,
     shown: Option<HandlerId>,
@@ -51,7 +50,7 @@ pub fn answer_run<B: Behaviour, K: Keeper<Global>, R: Read + Drop, W: Write>(
         (AnswersAll (R.remaining reader) book.old book.new (words_line shown book.new.handlers) (W.contents writer.old) (W.contents writer.new)) }
     ensures err { IfErr result (StopsEarly (R.remaining reader) book.old book.new (W.contents writer.old) (W.contents writer.new)) }
 
-    // What the keeper has.
+    // The keeper.
     ensures sound { IsBook K.handlers K.is_honest book.old → IsBook K.handlers K.is_honest book.new }
     ensures others { KeepsElsewhere K.handlers K.incarnations K.is_honest book.old.handlers book.old.keeper book.new.keeper }
 {
@@ -102,7 +101,7 @@ fn answer_lines<B: Behaviour, K: Keeper<Global>, R: Read + Drop, W: Write>(
     ensures others { KeepsElsewhere K.handlers K.incarnations K.is_honest book.old.handlers book.old.keeper book.new.keeper }
 {
     let mut lines = Lines::new(reader);
-    // Made once, since what is made is cleared.
+    // Made once, since making them clears them.
     let mut line = ArrayVec::new();
     let mut room = [0; MAX_DATAGRAM_LEN];
     let mut out = [0; BUFFER_LEN];
@@ -110,7 +109,7 @@ fn answer_lines<B: Behaviour, K: Keeper<Global>, R: Read + Drop, W: Write>(
         match lines.next_line(&mut line, writer) {
             Ok(true) => {}
             Ok(false) => return Ok(()),
-            Err(error) => return Err(error),
+            Err(error) => return Err(RunError::from(error)),
         }
         match answer_line(book, lines.number(), &mut line, &mut room, &mut out, writer) {
             Ok(()) => {}
@@ -119,8 +118,8 @@ fn answer_lines<B: Behaviour, K: Keeper<Global>, R: Read + Drop, W: Write>(
     }
 }
 
-// Answers the datagram of the line of this number, which is within the limits, and runs the handler. The datagram
-// and the reply's frame are left in the buffers.
+// Answers the datagram of the line of this number, which is within the limits, and runs the handler. Leaves the
+// datagram and the reply's frame in the buffers.
 fn answer_line<B: Behaviour, K: Keeper<Global>, W: Write>(
     book: &mut Book<B, K>,
     number: u32,

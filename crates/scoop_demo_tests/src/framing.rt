@@ -81,7 +81,7 @@ fn is_line(bytes: &[u8], text: &str) -> bool {
     }
 }
 
-// The words say the frame.
+// The words make the frame.
 fn frames(rt: &impl Abort, alloc: Global, words: &str, digits: &str) {
     let (version, message) = match read_message(alloc, words.as_bytes()) {
         Ok(read) => read,
@@ -92,7 +92,7 @@ fn frames(rt: &impl Abort, alloc: Global, words: &str, digits: &str) {
     assert!(rt; is_line(&printed, digits), "{words}");
 }
 
-// The frame is told in the words.
+// The frame is printed as the words.
 fn tells(rt: &impl Abort, alloc: Global, words: &str, digits: &str) {
     let mut told = Vec::new(alloc);
     assert_eq!(rt; tell_frames(digits.as_bytes(), &mut told), Ok(()));
@@ -161,7 +161,7 @@ const FRAMELESS: [(&str, WordsError); 19] = [
 ];
 
 #[test]
-fn tells_why_words_have_no_frame(rt: HostRuntime) {
+fn prints_why_words_have_no_frame(rt: HostRuntime) {
     for (words, error) in FRAMELESS {
         let read = read_message(rt.alloc(), words.as_bytes());
         assert_eq!(rt; read, Err(error), "{words}");
@@ -174,7 +174,7 @@ const UNEVEN: Result<(), RunError> = Err(RunError::Input {
 });
 
 #[test]
-fn tells_what_is_no_frame(rt: HostRuntime) {
+fn refuses_what_is_no_frame(rt: HostRuntime) {
     let mut told = Vec::new(rt.alloc());
     let input = "5351\n5351010300000000000000070000000000000001000000000000\n";
     assert_eq!(rt; tell_frames(input.as_bytes(), &mut told), Ok(()));

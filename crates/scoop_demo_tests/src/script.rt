@@ -1,4 +1,4 @@
-//! The lines of scripts.
+//! Lines of scripts.
 
 use scoop_demo::*;
 use scoop_message::{Args, ClientId, HandlerId, Request};
@@ -6,7 +6,7 @@ use scoop_world::{Command, Event, HandlerList};
 use std::alloc::Global;
 use std::process::Abort;
 
-// What a line of an event asks for.
+// The events of a line.
 fn event(rt: &impl Abort, line: &str) -> Result<EventLine, InputFault> {
     match line_kind(line.as_bytes()) {
         Some((LineKind::Event(kind), words)) => read_event(kind, words),
@@ -26,10 +26,10 @@ fn request(rt: &impl Abort) -> Request {
     }
 }
 
-// Client 7 is asked for this command.
+// The line gives client 7 this command.
 fn commands(rt: &impl Abort, line: &str, command: Command) {
     let wanted = EventLine::One(Event::Do(SEVEN, command));
-    assert_eq!(rt; event(rt, line), Ok(wanted), "{line}");
+    assert!(rt; event(rt, line) == Ok(wanted), "{line}");
 }
 
 #[test]
@@ -69,7 +69,7 @@ const EVENTS: [(&str, EventLine); 10] = [
 #[test]
 fn reads_the_lines_of_events(rt: HostRuntime) {
     for (line, wanted) in EVENTS {
-        assert_eq!(rt; event(&rt, line), Ok(wanted), "{line}");
+        assert!(rt; event(&rt, line) == Ok(wanted), "{line}");
     }
 }
 
@@ -87,9 +87,9 @@ const EVENT_FAULTS: [(&str, InputFault); 7] = [
 ];
 
 #[test]
-fn tells_the_first_fault_of_an_event(rt: HostRuntime) {
+fn finds_the_first_fault_of_an_event(rt: HostRuntime) {
     for (line, fault) in EVENT_FAULTS {
-        assert_eq!(rt; event(&rt, line), Err(fault), "{line}");
+        assert!(rt; event(&rt, line) == Err(fault), "{line}");
     }
 }
 
@@ -121,7 +121,7 @@ const CLIENTS: [(&str, Result<(ClientId, u8), InputFault>); 4] = [
     (" 7 1 1", Err(InputFault::WrongNumberOfWords)),
 ];
 
-// What is read of a handler that is placed.
+// A placed handler has these fields.
 fn places(rt: &impl Abort, placed: &PlacedLine) {
     assert_eq!(rt; placed.node, 2);
     assert_eq!(rt; placed.handler, ONE);
@@ -135,7 +135,7 @@ fn reads_the_lines_of_parties(rt: HostRuntime) {
     }
     match read_placement(rt.alloc(), b" 2 1 exchange 3 4") {
         Ok(placed) => places(&rt, &placed),
-        Err(error) => panic!(rt; "{error:?}"),
+        Err(_) => panic!(rt; "no placement"),
     }
 }
 
@@ -157,9 +157,9 @@ fn refusal(alloc: Global, line: &str) -> Option<LineError> {
 }
 
 #[test]
-fn tells_the_first_fault_of_a_handler(rt: HostRuntime) {
+fn finds_the_first_fault_of_a_handler(rt: HostRuntime) {
     for (line, fault) in PLACEMENT_FAULTS {
         let wanted = Some(LineError::Fault(fault));
-        assert_eq!(rt; refusal(rt.alloc(), line), wanted, "{line}");
+        assert!(rt; refusal(rt.alloc(), line) == wanted, "{line}");
     }
 }

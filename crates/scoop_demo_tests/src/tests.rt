@@ -1,5 +1,5 @@
-//! Runs that answer, and what they have in common: a book of handler 1, and rows of what it is given and what it says.
-//! What isn't as it should be ends a test, and who owns a book lends it, so that no way out of a test has one to drop.
+//! Runs that answer, and their common parts: a book of handler 1, and rows of inputs with their outputs. A failed
+//! expectation ends a test. A book's owner lends it, so that no early return of a test has to drop it.
 
 use scoop_book::Book;
 use scoop_classes::{CellObject, demo_class};
@@ -23,7 +23,7 @@ macro_rules! opening {
     };
 }
 
-// What is answered to that.
+// The answers to that.
 macro_rules! opened {
     ($behind:literal) => {
         concat!(
@@ -36,12 +36,22 @@ macro_rules! opened {
     };
 }
 
-// How a run ends at a fault of its input.
+// The end of a run at a fault of its input.
 macro_rules! fault {
     ($line:expr, $fault:ident) => {
         Err(RunError::Input {
             line: $line,
             fault: InputFault::$fault,
+        })
+    };
+}
+
+// The end of a run at a line that can't be read.
+macro_rules! unread {
+    ($line:expr, $fault:ident) => {
+        Err(RunError::Input {
+            line: $line,
+            fault: InputFault::Source(SourceFault::$fault),
         })
     };
 }
@@ -52,7 +62,6 @@ mod inputs;
 mod kept;
 mod played;
 mod readers;
-mod reads;
 
 const ONE: HandlerId = HandlerId(1);
 
@@ -60,10 +69,10 @@ const LOCK: &str = "53510103 00000001 00000007 00000001 00000001 00000000 0000\n
 
 const HELLO: &str = "53510101 00000001 00000007 00000001 00000000 00000000 0000\n";
 
-/// An input, how the run over it ends, and what it writes.
+/// An input, and the end and the output of the run over it.
 type Case<'a> = (&'a str, Result<(), RunError>, &'a str);
 
-/// A book of handler 1 with an object of this class, over what a keeper has; or why it doesn't open.
+/// A book of handler 1 with an object of this class, over a keeper; or why it doesn't open.
 fn opened<B: Behaviour, K: Keeper<Global>>(
     rt: &impl Abort,
     alloc: Global,
@@ -95,7 +104,7 @@ fn table(rt: &impl Abort, alloc: Global) -> Table {
     }
 }
 
-/// The book answers an input so.
+/// The book gives these answers to an input.
 fn answers<B: Behaviour, K: Keeper<Global>>(
     rt: &impl Abort,
     alloc: Global,
@@ -109,8 +118,7 @@ fn answers<B: Behaviour, K: Keeper<Global>>(
     assert_eq!(rt; written.as_slice(), output.as_bytes(), "{input}");
 }
 
-/// An object of this class answers an input so, over what a keeper has, and its words are shown. The keeper is handed
-/// back.
+/// An object of this class gives these answers to an input, over a keeper, and its words are shown. Returns the keeper.
 fn runs_over<B: Behaviour, K: Keeper<Global>>(
     rt: &impl Abort,
     alloc: Global,

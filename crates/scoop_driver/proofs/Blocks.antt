@@ -1,6 +1,6 @@
--- A client keeps its block, and what it waits for, while it hears: what a message leaves of either is the same or nothing. So
--- in turns without a command a block that runs is the one that was reserved, and an answer that is accepted is that of the
--- query that waited before them.
+-- A client keeps its block and its waiting query while it hears: a message leaves either the same, or ends it. So in
+-- turns without a command a running block is the one that was reserved, and an accepted answer is that of the query
+-- that waited before them.
 use Rattle.std.proofs.Common.{◌≡◌, ℕ, ◌==◌, ◌⊎◌, List, [], ◌∷◌, length, Option, Some, None, Result, Ok, Err, Bool, true, false, arith, refl, ap, sym, ◌∙◌}
 use Rattle.std.proofs.Common.{subst, inl, inr}
 use Rattle.std.proofs.lemmas.List.Elements.{Contains-push_cases, Contains-append_cases}
@@ -37,12 +37,12 @@ use Rattle.scoop_driver.specs.declared.step.Step.TheVariants.{Gave, Turned, Brok
 use Rattle.scoop_driver.specs.Steps.{after_message, commands_by, message_in, note_of, notes_by, walk}
 use Rattle.scoop_driver.specs.Calls.{RunsNext}
 
--- ---- what a message leaves
+-- ---- the effect of a message
 
 abbrev SameOrNone : {X : Type 0} → Option X → Option X → Type 0
 SameOrNone x y = (y ≡ x) ⊎ (y ≡ None)
 
--- the block is the same or over, and what is waited for is the same or nothing
+-- the block is the same or over, and the waiting query is the same or none
 record Keeps (c d : ClientState) : Type 0 where
   block : SameOrNone (block_of c.reservation) (block_of d.reservation)
   waits : SameOrNone c.waits d.waits
@@ -153,7 +153,7 @@ reserves_next c d hs o (reserve_spent i s) is = cc
 reserves_next c d hs o (reserve_refused x i f s) is = cc
 reserves_next c d hs o (begins_block r i f s) is = sym (ap block_after is) ∙ ap Some (started_block (next_block c) hs c.handlers r s)
 
--- once it runs, the block that was reserved is the next one
+-- once it runs, the reserved block is the next one
 pub runs_next : (hs : List HandlerId) (ss : List Step) (c d e : ClientState) → command c (Reserve hs) ≡ Ok d → commands_by ss ≡ [] → e ≡ walk d ss
     → phase_of e ≡ Running → RunsNext c e
 runs_next hs ss c d e reserved silent is running =
@@ -161,7 +161,7 @@ runs_next hs ss c d e reserved silent is running =
     let kept : Keeps d e = subst (Keeps d) (sym is) (walk_keeps ss d silent) in
     record { running = running; block = elim kept.block [ inl stays ↦ stays ∙ first | inr none ↦ absurd (has_block e running none) ] }
 
--- ---- an answer is that of the query that waits
+-- ---- an answer is that of the waiting query
 
 abbrev asked_by : ClientNote → Option (HandlerId × ℕ)
 asked_by (Accepted h n a) = Some (h, n)

@@ -1,6 +1,6 @@
--- What the calls do, from what their turns and commands do. A call is a command and turns that met no fault (`Turning`), up
--- to what ends it: the phase or the answer that it waits for, a turn's error, a refusal, or its last turn. Each of these ends
--- is put behind the turns before it, which gives what is said of the whole call.
+-- The calls, composed of their turns and commands. A call is a command and turns without a fault (`Turning`), up to its
+-- end: the phase or the answer that it waits for, a turn's error, a refusal, or its last turn. Each of these ends
+-- follows the turns before it, which gives the facts of the whole call.
 use Rattle.std.proofs.Common.{◌≡◌, ℕ, ◌+◌, ◌<◌, ◌≤◌, Bool, true, false, List, [], ◌∷◌, ◌++◌, Option, Some, None, Result, Ok, Err, refl, ap, sym, ◌∙◌, subst}
 use Rattle.std.proofs.Common.{arith, append_assoc, add-zero, zero-add}
 use Rattle.std.proofs.lemmas.List.{append-nil}
@@ -38,7 +38,7 @@ use Rattle.scoop_driver.proofs.Blocks.{runs_next, accepted_waits}
 
 -- ---- turns alone
 
--- so many turns, none of which met a fault, and no command
+-- this number of turns, without a fault and without a command
 pub record IsTurning (n : ℕ) (steps : List Step) (s t : Seen) : Type 0 where
   pub goes : Goes steps s t
   pub silent : commands_by steps ≡ []
@@ -56,7 +56,7 @@ both_silent xs ys first second = commands_by-append xs ys ∙ (ap (λ zs. zs ++ 
 
 -- ---- one more turn
 
--- a turn that was taken and met no fault
+-- a turn that was taken, without a fault
 record OneTurn (s : Step) : Type 0 where
   silent : commands_by (s ∷ []) ≡ []
   count : turns_in (s ∷ []) ≡ 1
@@ -95,14 +95,14 @@ turning_more n told s t u (xs, so_far) (ys, goes, answers) =
 
 -- ---- a turn that ends a call
 
--- what an error of a turn leaves of a call with these commands to give
+-- the effect of a turn's error on a call with these commands to give
 record Stopped (left : List Command) (e : DriverError) (ys : List Step) (t u : Seen) : Type 0 where
   silent : commands_by ys ≡ []
   stops : StopsBefore u.client left e
   faults : (xs : List Step) → faults_in xs ≡ 0 → TellsFault {T = Unit {0}} (Err e) (xs ++ ys)
   turns : (n bound : ℕ) (xs : List Step) → n < bound → turns_in xs ≡ n → TakesTurns {T = Unit {0}} (Err e) bound (xs ++ ys)
 
--- memory may be wanting before these
+-- memory may run out before these
 abbrev pub MayWant : List Command → ClientState → Type 0
 MayWant [] c = Unit {0}
 MayWant (x ∷ xs) c = IsTakeable (client.command c x)
@@ -180,7 +180,7 @@ turning_over left n s t (xs, so_far) = (
   },
 )
 
--- turns that led where they should
+-- turns that reached their goal
 pub turning_done : {T : Type 0} (v : T) (n bound : ℕ) (s t : Seen) → n ≤ bound → Turning n s t → (steps : List Step) × Does [] bound (Ok v) steps s t
 turning_done v n bound s t within (xs, so_far) = (
   xs,
@@ -215,7 +215,7 @@ does_err T U xs bound e steps s t does = record {
   bound = bound_as T U e bound steps does.bound;
 }
 
--- ---- a command and the turns behind it
+-- ---- a command and the turns after it
 
 nothing_left : {X : Type 0} (xs ys : List X) → [] ≡ xs ++ ys → (xs ≡ []) × (ys ≡ [])
 nothing_left [] ys is = (refl, sym is)
@@ -253,7 +253,7 @@ commands_on (Err e) xs ss ts u first second =
       subst (λ zs. StopsBefore u.client zs e) none.1 second.2,
     )
 
--- a call that gives its commands and then takes turns, as many as are left
+-- a call that gives its commands and then takes all the turns that are left
 pub does_on : {T U : Type 0} (v : T) (r : Result U DriverError) (xs : List Command) (a left bound : ℕ) (ss ts : List Step) (s t u : Seen)
     → Does xs a (Ok v) ss s t → turns_in ss + left ≡ bound → Does [] left r ts t u → Does xs bound r (ss ++ ts) s u
 does_on v r xs a left bound ss ts s t u first sum second = record {
@@ -263,7 +263,7 @@ does_on v r xs a left bound ss ts s t u first sum second = record {
   bound = bound_on r (turns_in ss) left bound ss ts refl sum second.bound;
 }
 
--- ---- a command behind turns
+-- ---- a command after turns
 
 taken_is : (c u : ClientState) (o : client.Outcome) → (d : ClientState) × (o ≡ Ok d) → u ≡ after_command c o → o ≡ Ok u
 taken_is c u (Ok x) (d, is) same = ap Ok (sym same)
@@ -293,7 +293,7 @@ logged_after x n left bound s t u (xs, so_far) sum goes =
       },
     )
 
--- a refusal behind turns
+-- a refusal after turns
 pub refused_after : (x : Command) (n bound : ℕ) (e : DriverError) (s t : Seen) → n ≤ bound → Turning n s t → RefusesWith (client.command t.client x) e
     → (steps : List Step) × Does {T = Unit {0}} (x ∷ []) bound (Err e) steps s t
 refused_after x n bound (Client y) s t within (xs, so_far) refuses = (
@@ -320,7 +320,7 @@ refused_same x n bound e s t u within so_far (refuses, same) =
     let P : Seen → Type 0 = λ v. (steps : List Step) × Does {T = Unit {0}} (x ∷ []) bound (Err e) steps s v in
     subst P (sym same) (refused_after x n bound e s t within so_far refuses)
 
--- what an offer that was taken, or that found the window full, says
+-- the facts of an offer that was taken, or that found the window full
 pub offered_true : (x : Command) (b : Bool) (t u : Seen) → b ≡ true → Offered x (Ok b) t u → Goes (Gave x ∷ []) t u
 offered_true x true t u is h = h
 offered_true x false t u is h = cc
@@ -382,7 +382,7 @@ answered_not h n bound e s t u below so_far turn =
 pub given_does : (x : Command) (s t : Seen) → Goes (Gave x ∷ []) s t → Does {T = Unit {0}} (x ∷ []) 0 (Ok (tt {0})) (Gave x ∷ []) s t
 given_does x s t goes = record { goes = goes; commands = refl; faults = refl; bound = omega arith }
 
--- a refusal that comes before any turn
+-- a refusal before any turn
 pub refused_now : (x : Command) (bound : ℕ) (e : ClientError) (s t : Seen) → IsRefusal (client.command s.client x) e → t ≡ s
     → (steps : List Step) × Does {T = Unit {0}} (x ∷ []) bound (Err (Client e)) steps s t
 refused_now x bound e s t refuses same = refused_same x 0 bound (Client e) s s t (omega arith) (turning_none s) (refuses, same)
@@ -408,7 +408,7 @@ runs_where : (hs : List HandlerId) (turns : ℕ) (r : Result (Unit {0}) DriverEr
 runs_where hs turns (Ok u) c ys s t taken does there = runs_next hs ys c s.client t.client taken does.commands does.goes.client there
 runs_where hs turns (Err e) c ys s t taken does there = there
 
--- a reserve that answers Ok leaves the next block running
+-- a reserve that returns Ok leaves the next block running
 pub reserve_runs : (x : Command) (hs : List HandlerId) (turns : ℕ) (r : Result (Unit {0}) DriverError) (s t u : Seen) → x ≡ Reserve hs
     → Goes (Gave x ∷ []) s t → Reached Running turns r t u → OnOk r (RunsNext s.client u.client)
 reserve_runs x hs turns r s t u is goes (ys, does, there) =
@@ -448,7 +448,7 @@ pub called_logged : (x : Command) (left turns : ℕ) (s t : Seen) → Logged x t
 called_logged x left turns s t (xs, logs) =
     (xs, record { goes = logs.does.goes; commands = logs.does.commands; faults = logs.does.faults; bound = logs.does.bound })
 
--- a reserve of handlers that are handed over as a list
+-- a reserve of handlers given as a list
 pub reserve_reached : (x : Command) (hs : List HandlerId) (n turns : ℕ) (r : Result (Unit {0}) DriverError) (s t u : Seen) → x ≡ Reserve hs
     → n ≡ turns
     → Goes (Gave x ∷ []) s t → Reached Running n r t u → Called (Reserve hs) turns r s u

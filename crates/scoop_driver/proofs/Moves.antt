@@ -1,4 +1,4 @@
--- A driver's steps are moves of its client.
+-- A driver's steps as moves of its client.
 use Rattle.std.proofs.Common.{◌≡◌, ◌+◌, List, [], ◌∷◌, drop, Ok, Err, refl}
 use Rattle.std.proofs.lemmas.List.{take-append-drop}
 use Rattle.scoop_client.specs.State.{ClientState}
@@ -8,7 +8,7 @@ use Rattle.scoop_driver.specs.declared.step.Step.TheVariants.{Gave, Turned, Brok
 use Rattle.scoop_driver.specs.Steps.{AllCan, Can, after, after_command}
 use Rattle.scoop_driver.specs.Driving.{CanStep, AreMoves, move_of}
 
--- a command that is taken is what its outcome says
+-- a command that is taken is its outcome
 pub taken : (c d : ClientState) (o : client.Outcome) → o ≡ Ok d → o ≡ Ok (after_command c o)
 taken c d (Ok x) is = refl
 taken c d (Err e) is = cc

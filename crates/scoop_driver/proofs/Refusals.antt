@@ -1,7 +1,7 @@
--- Which refusals a command may get. A client refuses a command by its table, or at last for want of memory. Each row of the
--- table that refuses names its refusal, so, row by row, a reserve or a give up is refused by the table and never for a full
--- window; no row names want of memory. A reserve that is taken has at most as many handlers as a block may have, and a query
--- that is taken waits. The driver's calls take their errors from these.
+-- The refusals that a command may get. A client refuses a command by its table, or at last because memory ran out. Each
+-- row of the table that refuses names its refusal. So, row by row, a reserve or a give up is refused by the table and
+-- never for a full window, and no row names memory. A reserve that is taken has at most as many handlers as a block may
+-- have, and a query that is taken waits. The driver's calls take their errors from these.
 use Rattle.std.proofs.Common.{◌≡◌, ℕ, ◌+◌, ◌==◌, ◌≤◌, Bool, true, false, List, length, Option, Some, None, Result, Ok, Err, refl, ap, sym, ◌∙◌, subst, arith}
 use Rattle.std.specs.Prelude.{if◌then◌else◌, nat_lt, IsOk}
 use Rattle.std.proofs.lemmas.Bool.Decides.{nat_tests}
@@ -39,7 +39,7 @@ reserve_refusal c hs o e (reserve_spent i s) is = (let same : e ≡ Spent = cc i
 reserve_refusal c hs o e (reserve_refused x i f s) is = (let same : e ≡ NotReservable x = cc in rw same refl)
 reserve_refusal c hs o e (begins_block r i f s) is = cc
 
--- a reserve that is refused is so by the client's table, and never for a full window
+-- a reserve is refused by the client's table, and never for a full window
 pub reserve_is_refused : (c : ClientState) (hs : List HandlerId) (e : ClientError) → command c (Reserve hs) ≡ Err e → IsRefusal (command c (Reserve hs)) e
 reserve_is_refused c hs e is = reserve_refusal c hs (command c (Reserve hs)) e (command_row c (Reserve hs)) is
 
@@ -56,7 +56,7 @@ takeable : (o : Outcome) → IsOk o → IsTakeable o
 takeable (Ok d) h = tt
 takeable (Err e) h = not_ok h
 
--- what refuses by the table and as the last of all is a refusal, where a full window is none
+-- a refusal by the table, or the last one, is a refusal for which a full window doesn't count
 refusal_of : (o : Outcome) → ((e : ClientError) → o ≡ Err e → IsRefusal o e) → (e : ClientError) → IsRefused o e → IsRefusal o e
 refusal_of o table NotGreeted h = h
 refusal_of o table NotIdle h = h
@@ -75,7 +75,7 @@ reserve_refuses c hs e h = refusal_of (command c (Reserve hs)) (reserve_is_refus
 pub give_up_refuses : (c : ClientState) (e : ClientError) → IsRefused (command c GiveUp) e → IsRefusal (command c GiveUp) e
 give_up_refuses c e h = refusal_of (command c GiveUp) (λ x is. give_up_refusal c (command c GiveUp) x (command_row c GiveUp) is) e h
 
--- ---- what a reserve that is taken says
+-- ---- facts of a reserve that is taken
 
 few : (b : Bool) (n : ℕ) (rest : Result ReservationState ReserveError) → nat_lt MAX_BLOCK_HANDLERS n ≡ b → IsOk (if b then Err TooMany else rest)
     → n ≤ MAX_BLOCK_HANDLERS
@@ -102,7 +102,7 @@ few_taken c hs o (begins_block r i f s) h = few_started c hs r s
 pub few_reserved : (c : ClientState) (hs : List HandlerId) → IsOk (command c (Reserve hs)) → length hs ≤ MAX_BLOCK_HANDLERS
 few_reserved c hs h = few_taken c hs (command c (Reserve hs)) (command_row c (Reserve hs)) h
 
--- ---- what a query that is taken says
+-- ---- facts of a query that is taken
 
 abbrev waits_of : Outcome → Option (HandlerId × ℕ)
 waits_of (Ok d) = d.waits
@@ -159,7 +159,7 @@ wants c (DoQuery h r) o row is = log_wants c h (Asked r) o row is
 wants c DoEnd o row is = end_wants c o row is
 wants c GiveUp o row is = give_up_wants c o row is
 
--- the table names no want of memory
+-- the table never names memory
 pub never_wants : (c : ClientState) (x : Command) → command c x ≡ Err OutOfMemory → ⊥
 never_wants c x is = wants c x (command c x) (command_row c x) is
 

@@ -1,7 +1,8 @@
--- What a turn sends and receives. The loop that sends goes over the client's handlers: its invariant is that what was due to
--- those so far went out, in their order, and that no send failed (`Sending`). A handler to which nothing is due is passed over,
--- a send carries the invariant on, and one that fails ends the turn at that handler. What is due fits the version of frames
--- that the client sends in, since a client whose batch is 1 owes no Log of more than one entry.
+-- The datagrams that a turn sends and receives. The loop that sends goes over the client's handlers. Its invariant says
+-- that the messages due to those so far went out, in their order, and that no send failed (`Sending`). A handler with
+-- nothing due is passed over, a send carries the invariant on, and one that fails ends the turn at that handler. A due
+-- message fits the version of frames that the client sends in, since a client of batch 1 owes no Log of more than one
+-- entry.
 use Rattle.std.proofs.Common.{◌≡◌, ℕ, ◌+◌, ◌<◌, ◌≤◌, ◌==◌, Bool, true, false, List, [], ◌∷◌, ◌++◌, length, take, get_or, Option, Some, None, Err, refl, ap, sym}
 use Rattle.std.proofs.Common.{◌∙◌, subst, arith}
 use Rattle.std.specs.Prelude.{if◌then◌else◌, ⊤}
@@ -34,7 +35,7 @@ use Rattle.scoop_driver.specs.Steps.{version_for, with_due, dues, all_due, IsNoF
 use Rattle.scoop_driver.specs.declared.step.Received.TheVariants.{NoFrame}
 use Rattle.scoop_driver.specs.Turning.{SentDue, Receives}
 
--- ---- which version carries what is due
+-- ---- the version that carries a due message
 
 abbrev CarriesAny : Version → Option Message → Type 0
 CarriesAny v None = ⊤
@@ -72,13 +73,13 @@ one_carries c h o one (logs r l greeted held free opened window some) =
     let batch = is_batch c.batch l.unacked (omega arith) full in
     omega (arith, batch.some, batch.limit)
 
--- what is due is carried by the version in which the client sends
+-- the version in which the client sends carries every due message
 pub due_carried : (c : ClientState) (h : HandlerId) (m : Message) → due c h ≡ Some m → Carries (version_for c.batch) m
 due_carried c h m owes =
     let row = due_row c h in
     subst (CarriesAny (version_for c.batch)) owes (by_version (c.batch == 1) (due c h) (λ b. one_carries c h (due c h) ((Decides-eqb c.batch 1).0 b) row))
 
--- ---- what is due, handler after handler
+-- ---- due messages, handler after handler
 
 due_then : (batch : ℕ) (h : HandlerId) (o : Option Message) (xs ys : Datagrams) → with_due batch h o (xs ++ ys) ≡ with_due batch h o xs ++ ys
 due_then batch h None xs ys = refl
@@ -94,7 +95,7 @@ dues_more c i d within = ap (dues c) (take_more c.handlers i d within) ∙ dues-
 
 -- ---- the loop that sends
 
--- what is due to the first handlers was sent, and no send failed
+-- the messages due to the first handlers were sent, and no send failed
 pub record Sending (c : ClientState) (i : ℕ) (before after : Option Told) (was now : ℕ) : Type 0 where
   pub sent : Exchanges before after [] (dues c (take i c.handlers))
   pub faults : now ≡ was
@@ -160,7 +161,7 @@ frame_kept v w m buffer rest n same is len short =
     ap (λ b. kept (take n b)) is
     ∙ (ap kept (take_at (frame w m) rest n (sym len)) ∙ (take_all BUFFER_LEN (frame w m) (omega (arith, len, short)) ∙ ap (λ u. frame u m) same))
 
--- what came is no frame, and is kept whole
+-- the datagram is no frame, and was kept whole
 pub no_frame : (d bytes : List ℕ) (a b : Option Told) → length bytes ≤ BUFFER_LEN → d ≡ kept bytes → IsNoFrame bytes → Exchanges a b (bytes ∷ []) []
     → Receives (NoFrame d) a b
 no_frame d bytes a b short is none took =

@@ -1,4 +1,4 @@
--- Lists of steps, one after the other.
+-- Lists of steps, one after another.
 use Rattle.std.proofs.Common.{◌≡◌, ℕ, ◌+◌, List, [], ◌∷◌, ◌++◌, Option, Some, None, Ok, Err, refl, ap, sym, ◌∙◌, append_assoc, add_assoc, add-zero, zero-add}
 use Rattle.std.proofs.lemmas.List.{append-nil}
 use Rattle.scoop_link.specs.Link.{Told, Exchanges}

@@ -1,4 +1,4 @@
--- What one turn does, from what it sends and receives.
+-- One turn, composed of its sends and its receive.
 use Rattle.std.proofs.Common.{◌≡◌, ℕ, ◌+◌, List, [], ◌∷◌, ◌++◌, Option, Some, None, Result, Ok, Err, refl, ap, sym, ◌∙◌, subst, take, add-zero}
 use Rattle.std.proofs.lemmas.List.{append-nil}
 use Rattle.scoop_message.specs.declared.message.Message.{Message}
@@ -19,7 +19,7 @@ use Rattle.scoop_driver.specs.State.{Seen, Goes}
 use Rattle.scoop_driver.specs.Turning.{SentDue, Receives, TellsMessage, NoteAnswers, TakesTurn, receive_faults}
 use Rattle.scoop_driver.proofs.StepLists.{goes_nothing}
 
--- a client, what its link tells, how many of the link's calls failed, and what its diary keeps
+-- a client, its link's records, the number of the link's calls that failed, and its diary's records
 abbrev pub seen : ClientState → Option Told → ℕ → Option (List Step) → Seen
 seen c told faults diary = record { client = c; told = told; faults = faults; diary = diary }
 
@@ -59,7 +59,7 @@ turned_whole r got c d a b e n k l o m p sent first took second same kept hears 
   answers,
 )
 
--- what was heard, and what that answers
+-- the message heard, and its effect
 pub record Hears (got : Received) (c d : ClientState) (r : Result (Option ClientNote) DriverError) : Type 0 where
   pub after : d ≡ after_message c (message_in got)
   pub answers : NoteAnswers c got r

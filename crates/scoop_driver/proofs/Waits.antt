@@ -1,6 +1,6 @@
--- What a wait does, from what its blocks do. A block reserves, asks, logs its body where the condition held, and ends; each
--- part takes no more turns than its calls may (`IsPart`), and in their sum the block doesn't. Blocks in which the condition
--- failed stand one behind the other (`Failing`), until one is done or breaks off, or the tries are over.
+-- A wait, composed of its blocks. A block reserves, asks, logs its body if the condition held, and ends. Each part
+-- takes no more turns than its calls may (`IsPart`), and neither does the block in all. Blocks in which the condition
+-- failed follow one another (`Failing`), until one is done or breaks off, or the tries are over.
 use Rattle.std.proofs.Common.{◌≡◌, ℕ, suc, ◌+◌, ◌-◌, ◌*◌, ◌<◌, ◌≤◌, Bool, true, false, List, [], ◌∷◌, ◌++◌, length, drop, get_or, Result, Ok, Err, refl, ap}
 use Rattle.std.proofs.Common.{sym, ◌∙◌, subst, inl, inr, arith, append_assoc, add-one, zero-add}
 use Rattle.std.proofs.Math.Nat.{mul-le-mul_right}
@@ -33,7 +33,7 @@ within (Err (ConditionFailed t)) n steps h = h
 both_sound : (xs ys : List Step) → faults_in xs ≡ 0 → faults_in ys ≡ 0 → faults_in (xs ++ ys) ≡ 0
 both_sound xs ys first second = faults_in-append xs ys ∙ (ap (λ k. k + faults_in ys) first ∙ (zero-add (faults_in ys) ∙ second))
 
--- ---- steps without a fault, in so many turns at most
+-- ---- steps without a fault, in at most this number of turns
 
 pub record IsPart (turns : ℕ) (steps : List Step) (s t : Seen) : Type 0 where
   pub goes : Goes steps s t
@@ -90,7 +90,7 @@ logging_more i turns all left x s t u (xs, part, so_far) (ys, does) = (
   one_more all left x xs ys so_far does.commands,
 )
 
--- fewer times at most as much
+-- fewer calls of at most as many turns each
 times_at_most : (i n turns k : ℕ) → i < n → k ≤ i * turns + turns → k ≤ n * turns
 times_at_most i n turns k below most =
     let more : (i + 1) * turns ≤ n * turns = mul-le-mul_right turns (omega (arith, below)) in omega (arith, most, more, times_more i turns)
@@ -129,7 +129,7 @@ logged_all body i turns s t below (xs, part, so_far) =
 
 -- ---- one block
 
--- a block that was tested
+-- a tested block
 pub record IsTesting (w : Wish) (held : Bool) (turns : ℕ) (steps : List Step) (s t : Seen) : Type 0 where
   pub part : IsPart (turns + turns) steps s t
   pub tested : Tested w held s.client steps
@@ -164,7 +164,7 @@ tested w held x turns s t u (xs, does) runs (ys, asks, answered) decides =
 block_bound : (n turns k : ℕ) → k ≤ (turns + turns) + (n * turns + turns) → k ≤ (n + 3) * turns
 block_bound n turns k h = grind (arith, h)
 
--- what a block does behind its test, up to its end
+-- a block after its test, up to its end
 pub record IsRest (w : Wish) (held : Bool) (turns : ℕ) (ys : List Step) (t u : Seen) : Type 0 where
   pub part : IsPart (length w.body * turns) ys t u
   pub gives : remainder w held ≡ commands_by ys ++ DoEnd ∷ []

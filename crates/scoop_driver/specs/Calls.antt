@@ -1,4 +1,4 @@
--- What a driver's calls do and answer.
+-- The effects and results of a driver's calls.
 use Rattle.std.specs.Prelude.{◌≡◌, ℕ, ◌≤◌, ⊤, List, [], ◌∷◌, ◌++◌, Contains, Some, Result, Ok, Err}
 use Rattle.scoop_message.specs.declared.name.HandlerId.{HandlerId}
 use Rattle.scoop_message.specs.declared.request.Answer.{Answer}
@@ -20,7 +20,7 @@ use Rattle.scoop_driver.specs.State.{Seen, Goes}
 
 -- ---- refusals
 
--- the client takes the command, want of memory apart, or would once its window isn't full
+-- the client takes the command, memory apart, or would once its window isn't full
 abbrev pub IsTakeable : Outcome → Type 0
 IsTakeable (Ok d) = ⊤
 IsTakeable (Err NotGreeted) = ⊥
@@ -34,7 +34,7 @@ IsTakeable (Err Spent) = ⊥
 IsTakeable (Err (NotReservable e)) = ⊥
 IsTakeable (Err OutOfMemory) = ⊥
 
--- a refusal is the client's own, a full window is none, and want of memory is the last of all
+-- a refusal is the client's own; a full window doesn't count, and out of memory is the last of all
 abbrev pub IsRefusal : Outcome → ClientError → Type 0
 IsRefusal outcome NotGreeted = outcome ≡ Err NotGreeted
 IsRefusal outcome NotIdle = outcome ≡ Err NotIdle
@@ -47,19 +47,19 @@ IsRefusal outcome Spent = outcome ≡ Err Spent
 IsRefusal outcome (NotReservable e) = outcome ≡ Err (NotReservable e)
 IsRefusal outcome OutOfMemory = IsTakeable outcome
 
--- the next of these commands is refused; once all were given only memory is wanting
+-- the next of these commands is refused; once all were given only memory can run out
 abbrev pub RefusesNext : ClientState → List Command → ClientError → Type 0
 RefusesNext c [] e = e ≡ OutOfMemory
 RefusesNext c (x ∷ xs) e = IsRefusal (command c x) e
 
--- why it stops before the commands that are left
+-- the reason why it stops before the remaining commands
 abbrev pub StopsBefore : ClientState → List Command → DriverError → Type 0
 StopsBefore c left (Client e) = RefusesNext c left e
 StopsBefore c left TurnsOver = ⊤
 StopsBefore c left LinkFault = ⊤
 StopsBefore c left (ConditionFailed t) = ⊥
 
--- ---- what a call does
+-- ---- the effect of a call
 
 -- exactly these commands were given or, at an error, the first of them
 abbrev pub GivesCommands : {T : Type 0} → List Command → Result T DriverError → List Step → Seen → Type 0
@@ -74,7 +74,7 @@ pub record EndsAtFault (steps : List Step) : Type 0 where
   pub none : faults_in earlier ≡ 0
   pub fault : faults_at last ≡ 1
 
--- a fault of the link ends the call at once, and is told
+-- a fault of the link ends the call at once, and is reported
 abbrev pub TellsFault : {T : Type 0} → Result T DriverError → List Step → Type 0
 TellsFault (Ok v) steps = faults_in steps ≡ 0
 TellsFault (Err (Client e)) steps = faults_in steps ≡ 0
@@ -82,7 +82,7 @@ TellsFault (Err TurnsOver) steps = faults_in steps ≡ 0
 TellsFault (Err LinkFault) steps = EndsAtFault steps
 TellsFault (Err (ConditionFailed t)) steps = faults_in steps ≡ 0
 
--- no more turns than this, and all of them before they are said to be over
+-- no more turns than this, and all of them if `TurnsOver` is reported
 abbrev pub TakesTurns : {T : Type 0} → Result T DriverError → ℕ → List Step → Type 0
 TakesTurns (Ok v) turns steps = turns_in steps ≤ turns
 TakesTurns (Err (Client e)) turns steps = turns_in steps ≤ turns
@@ -100,9 +100,9 @@ pub record Does {T : Type 0} (xs : List Command) (turns : ℕ) (r : Result T Dri
 abbrev pub Called : {T : Type 0} → Command → ℕ → Result T DriverError → Seen → Seen → Type 0
 Called x turns r old new = (steps : List Step) × Does (x ∷ []) turns r steps old new
 
--- ---- what some calls answer
+-- ---- the results of some calls
 
--- the answer was accepted for the query, behind it
+-- the answer was accepted for the query, after it
 pub record IsAnswered (c : ClientState) (steps : List Step) (h : HandlerId) (r : Request) (a : Answer) : Type 0 where
   pub asking : List Step
   pub waiting : List Step
@@ -121,7 +121,7 @@ abbrev pub Queried : HandlerId → Request → ℕ → Result Answer DriverError
 Queried h r turns result old new =
     (steps : List Step) × Does (DoQuery h r ∷ []) turns result steps old new × QueryAnswers old.client steps h r result
 
--- the client runs the block that comes next
+-- the client runs its next block
 pub record RunsNext (c d : ClientState) : Type 0 where
   pub running : phase_of d ≡ Running
   pub block : block_of d.reservation ≡ Some (next_block c)

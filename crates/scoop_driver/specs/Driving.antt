@@ -1,5 +1,5 @@
--- A driver's steps as moves of its client: what it was told, whom it sent what was due, and what it heard. A driver's
--- own steps tell more: the versions and bytes that were sent and received.
+-- A driver's steps as moves of its client: the commands, the due messages with their receivers, and the messages heard.
+-- A driver's own steps also have the versions and bytes that were sent and received.
 use Rattle.std.specs.Prelude.{◌≡◌, ◌+◌, ⊤, List, [], ◌∷◌, ◌++◌, take, Option, Ok}
 use Rattle.scoop_message.specs.declared.name.HandlerId.{HandlerId}
 use Rattle.scoop_message.specs.declared.message.Message.{Message}
@@ -10,8 +10,8 @@ use Rattle.scoop_driver.specs.declared.step.Step.{Step}
 use Rattle.scoop_driver.specs.declared.step.Step.TheVariants.{Gave, Turned, Broke}
 use Rattle.scoop_driver.specs.Steps as driver
 
--- a command that the client takes, and what it is then; a turn, in which all that is due is sent and a message is
--- heard, if one came; or a turn that broke off behind the sends to these handlers, the last of which failed
+-- A command that the client takes, with its outcome; a turn, in which every due message is sent and one is heard, if
+-- one came; or a turn that broke off after the sends to these handlers, the last of which failed.
 pub data DriverStep : Type 0 where
   Gives : Command → ClientState → DriverStep
   Turns : Option Message → DriverStep

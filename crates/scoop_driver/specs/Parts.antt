@@ -18,7 +18,7 @@ use Rattle.scoop_driver.specs.Steps.{noted, notes_by, turns_in}
 use Rattle.scoop_driver.specs.State.{Seen, Goes}
 use Rattle.scoop_driver.specs.Calls.{Does, Called, IsRefusal, IsTakeable}
 
--- a client and its diary: the command is taken and kept, or refused with nothing changed
+-- a client and its diary: the command is taken and recorded, or refused with nothing changed
 abbrev pub Gives : Command → Result (Unit {0}) ClientError → ClientState → ClientState → Option (List Step) → Option (List Step) → Type 0
 Gives x (Ok u) c d old new = (client.command c x ≡ Ok d) × (new ≡ noted old (Gave x ∷ []))
 Gives x (Err e) c d old new = client.IsRefused (client.command c x) e × (d ≡ c) × (new ≡ old)
@@ -45,7 +45,7 @@ Offered x (Err e) old new = RefusesWith (client.command old.client x) e × (new 
 abbrev pub Reached : Phase → ℕ → Result (Unit {0}) DriverError → Seen → Seen → Type 0
 Reached phase turns r old new = (steps : List Step) × Does [] turns r steps old new × OnOk r (phase_of new.client ≡ phase)
 
--- the command was the last step, and so many turns are left
+-- the command was the last step, and this number of turns is left
 pub record LogsWith (x : Command) (turns left : ℕ) (steps : List Step) (old new : Seen) : Type 0 where
   pub does : Does {T = ℕ} (x ∷ []) turns (Ok left) steps old new
   pub rest : turns_in steps + left ≡ turns
@@ -60,7 +60,7 @@ abbrev pub AnswerComes : ClientState → List Step → HandlerId → Result Answ
 AnswerComes c steps h (Ok a) = (n : ℕ) × Contains (notes_by c steps) (Accepted h n a)
 AnswerComes c steps h (Err e) = ⊤
 
--- the note tells of this answer from the handler
+-- the note reports this answer from the handler
 abbrev pub IsAcceptedFrom : HandlerId → Option ClientNote → Option Answer → Type 0
 IsAcceptedFrom h told None = ⊤
 IsAcceptedFrom h told (Some a) = (n : ℕ) × (told ≡ Some (Accepted h n a))

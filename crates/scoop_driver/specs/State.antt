@@ -1,19 +1,19 @@
--- What a driver is, and what leads it from one state to another.
+-- A driver's state, and the steps from one state to another.
 use Rattle.std.specs.Prelude.{◌≡◌, ℕ, ◌+◌, List, Option}
 use Rattle.scoop_link.specs.Link.{Told, Exchanges}
 use Rattle.scoop_client.specs.State.{ClientState}
 use Rattle.scoop_driver.specs.declared.step.Step.{Step}
 use Rattle.scoop_driver.specs.Steps.{walk, AllCan, sent_by, taken_by, faults_in, noted}
 
--- what can be seen of a driver: its client, its link's datagrams where the link tells them, how many calls of the
--- link failed, and the steps in its diary where it keeps them
+-- The visible state of a driver: its client, its link's datagrams if the link records them, the number of the link's
+-- calls that failed, and the steps in its diary if it keeps them.
 pub record Seen : Type 0 where
   pub client : ClientState
   pub told : Option Told
   pub faults : ℕ
   pub diary : Option (List Step)
 
--- that, its link and its diary, and how many turns one call may take
+-- that, its link and its diary, and the most turns that one call may take
 pub record DriverState (L D : Type 0) : Type 0 where
   pub seen : Seen
   pub link : L
@@ -27,8 +27,8 @@ abbrev pub state_of : {L D : Type 0} → (L → Option Told) → (L → ℕ) →
 state_of told faults steps client link diary turns =
     record { seen = seen_of told faults steps client link diary; link = link; diary = diary; turns = turns }
 
--- the steps lead from the one to the other: they can be made, one after another, they lead the client there, the link
--- gave and took their datagrams in order, where it tells them, as many of its calls failed, and the diary gained them
+-- The steps lead from one state to the other. They can be made, one after another, and lead the client there. The link
+-- gave and took their datagrams in order, if it records them, and as many of its calls failed. The diary gained them.
 pub record Goes (steps : List Step) (old new : Seen) : Type 0 where
   pub client : new.client ≡ walk old.client steps
   pub can : AllCan old.client steps

@@ -1,4 +1,4 @@
--- What a driver does: commands of its client, and turns.
+-- A driver's steps: commands of its client, and turns.
 use Rattle.std.specs.Prelude.{◌≡◌, ℕ, ◌+◌, ◌==◌, ⊤, if◌then◌else◌, List, [], ◌∷◌, ◌++◌, take, slice_get, Option, Some, None, Ok, Err}
 use Rattle.scoop_message.specs.declared.name.HandlerId.{HandlerId}
 use Rattle.scoop_message.specs.declared.message.Message.{Message}
@@ -19,9 +19,9 @@ use Rattle.scoop_driver.specs.declared.step.Received.TheVariants.{Nothing, Frame
 use Rattle.scoop_driver.specs.declared.step.Step.{Step}
 use Rattle.scoop_driver.specs.declared.step.Step.TheVariants.{Gave, Turned, Broke}
 
--- ---- what is due, as datagrams
+-- ---- due messages, as datagrams
 
--- version 1 where a Log carries one entry at most, else version 2
+-- version 1 if a Log carries at most one entry, else version 2
 abbrev pub version_for : ℕ → Version
 version_for batch = if batch == 1 then One else Two
 
@@ -29,7 +29,7 @@ abbrev pub with_due : ℕ → HandlerId → Option Message → Datagrams → Dat
 with_due batch h None ds = ds
 with_due batch h (Some m) ds = (Handler h, frame (version_for batch) m) ∷ ds
 
--- the frame of what is due to each of these handlers, in order
+-- the frame of the message due to each of these handlers, in order
 abbrev pub dues : ClientState → List HandlerId → Datagrams
 dues c [] = []
 dues c (h ∷ hs) = with_due c.batch h (due c h) (dues c hs)
@@ -40,7 +40,7 @@ all_due c = dues c c.handlers
 
 -- ---- the client after a step
 
--- what a command makes of the client; a refused one makes nothing
+-- the client after a command; a refused one leaves it as it was
 abbrev pub after_command : ClientState → client.Outcome → ClientState
 after_command c (Ok d) = d
 after_command c (Err e) = c
@@ -51,7 +51,7 @@ message_in (Frame v m) = Some m
 message_in (NoFrame d) = None
 message_in Fault = None
 
--- a message is heard, and nothing else is
+-- a message is heard, and nothing else happens
 abbrev pub after_message : ClientState → Option Message → ClientState
 after_message c None = c
 after_message c (Some m) = (heard c m).0
@@ -61,7 +61,7 @@ after c (Gave x) = after_command c (client.command c x)
 after c (Turned got) = after_message c (message_in got)
 after c (Broke place) = c
 
--- ---- what a step sends and takes
+-- ---- the datagrams that a step sends and takes
 
 -- a send that failed may have been sent; the link hasn't gained it
 abbrev pub sent_at : ClientState → Step → Datagrams
@@ -80,7 +80,7 @@ taken_at (Gave x) = []
 taken_at (Turned got) = bytes_in got
 taken_at (Broke place) = []
 
--- how many calls of the link failed
+-- the number of the link's calls that failed
 abbrev pub faults_at : Step → ℕ
 faults_at (Gave x) = 0
 faults_at (Turned Nothing) = 0
@@ -94,7 +94,7 @@ turns_at (Gave x) = 0
 turns_at (Turned got) = 1
 turns_at (Broke place) = 1
 
--- ---- which steps there are
+-- ---- the steps that can be made
 
 -- the bytes are no message's frame, in no version
 abbrev pub IsNoFrame : List ℕ → Type 0
@@ -113,7 +113,7 @@ pub record IsDueAt (c : ClientState) (place : ℕ) : Type 0 where
   pub message : Message
   pub owed : due c handler ≡ Some message
 
--- a command that the client takes; a turn; or one that broke off where something was due
+-- a command that the client takes; a turn; or one that broke off at a handler with a due message
 abbrev pub Can : ClientState → Step → Type 0
 Can c (Gave x) = (d : ClientState) × (client.command c x ≡ Ok d)
 Can c (Turned got) = CanReceive got
@@ -164,7 +164,7 @@ note_at c (Gave x) = []
 note_at c (Turned got) = note_of c (message_in got)
 note_at c (Broke place) = []
 
--- what the messages that were heard did at the client, in order
+-- the outcomes of the heard messages at the client, in order
 abbrev pub notes_by : ClientState → List Step → List ClientNote
 notes_by c [] = []
 notes_by c (s ∷ ss) = note_at c s ++ notes_by (after c s) ss
@@ -176,7 +176,7 @@ abbrev pub noted : Option (List Step) → List Step → Option (List Step)
 noted None more = None
 noted (Some steps) more = Some (steps ++ more)
 
--- the steps that a diary keeps, and for how many more there is room
+-- the steps that a diary keeps, and its room for more
 pub record KeptSteps : Type 0 where
   pub steps : List Step
   pub room : ℕ

@@ -1,4 +1,4 @@
--- What one turn does.
+-- One turn.
 use Rattle.std.specs.Prelude.{◌≡◌, ℕ, List, [], ◌∷◌, take, Option, Some, None, Result, Ok, Err}
 use Rattle.scoop_message.specs.declared.message.Message.{Message}
 use Rattle.scoop_link.specs.Link.{Told, Exchanges}
@@ -17,12 +17,12 @@ use Rattle.scoop_driver.specs.State.{Seen, Goes}
 
 -- ---- the parts of a turn
 
--- all that was due was sent, or what was due to the handlers before the one whose send failed
+-- every due message was sent, or those due to the handlers before the one whose send failed
 abbrev pub SentDue : Result (Unit {0}) ℕ → ClientState → Option Told → Option Told → Type 0
 SentDue (Ok u) c before after = Exchanges before after [] (all_due c)
 SentDue (Err place) c before after = IsDueAt c place × Exchanges before after [] (dues c (take place c.handlers))
 
--- how many of the link's calls failed
+-- the number of the link's calls that failed
 abbrev pub send_faults : Result (Unit {0}) ℕ → ℕ
 send_faults (Ok u) = 0
 send_faults (Err place) = 1
@@ -30,7 +30,7 @@ send_faults (Err place) = 1
 abbrev pub receive_faults : Received → ℕ
 receive_faults got = faults_at (Turned got)
 
--- what a receive took
+-- the datagram that a receive took
 pub record Receives (got : Received) (before after : Option Told) : Type 0 where
   pub can : CanReceive got
   pub took : Exchanges before after (bytes_in got) []
@@ -44,7 +44,7 @@ TellsMessage Fault r = r ≡ Err LinkFault
 
 -- ---- the turn
 
--- what the message did, if one came
+-- the outcome of the message, if one came
 abbrev pub NoteAnswers : ClientState → Received → Result (Option ClientNote) DriverError → Type 0
 NoteAnswers c Nothing r = r ≡ Ok None
 NoteAnswers c (Frame v m) r = r ≡ Ok (Some (heard c m).1)
@@ -56,7 +56,7 @@ StepAnswers c (Gave x) r = ⊥
 StepAnswers c (Turned got) r = NoteAnswers c got r
 StepAnswers c (Broke place) r = r ≡ Err LinkFault
 
--- one turn, or none, where there is no room for it in the diary
+-- one turn, or none, if the diary has no room for it
 abbrev pub TurnAnswers : ClientState → List Step → Result (Option ClientNote) DriverError → Type 0
 TurnAnswers c [] r = r ≡ Err (Client OutOfMemory)
 TurnAnswers c (s ∷ []) r = StepAnswers c s r

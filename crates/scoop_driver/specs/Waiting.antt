@@ -1,4 +1,4 @@
--- What a wait for a condition does.
+-- A wait for a condition.
 use Rattle.std.specs.Prelude.{◌≡◌, ℕ, zero, suc, ◌+◌, ◌-◌, ◌*◌, ◌<◌, ◌≤◌, ◌⊎◌, Bool, true, false, not, nat_le, if◌then◌else◌, List, [], ◌∷◌, ◌++◌, length, map}
 use Rattle.std.specs.Prelude.{find, Option, Result, Ok, Err}
 use Rattle.scoop_message.specs.declared.name.HandlerId.{HandlerId}
@@ -34,20 +34,20 @@ holds least (Value v) = nat_le least v
 
 -- ---- the commands of a block
 
--- what finds out whether the condition holds
+-- the query that tests the condition
 abbrev pub test_of : Wish → List Command
 test_of w = Reserve w.handlers ∷ DoQuery w.condition.handler w.condition.request ∷ []
 
 abbrev pub calls : List (HandlerId × Request) → List Command
 calls body = map (λ x. DoCall x.0 x.1) body
 
--- the block's end, behind the whole body where the condition held
+-- the block's end, after the whole body if the condition held
 abbrev pub remainder : Wish → Bool → List Command
 remainder w held = (if held then calls w.body else []) ++ DoEnd ∷ []
 
 -- ---- one block
 
--- a block was reserved and runs, and in it the condition's query was answered, so that it holds or not
+-- a block was reserved and runs; its query was answered, so the condition holds or not
 pub record Tested (w : Wish) (held : Bool) (c : ClientState) (steps : List Step) : Type 0 where
   pub reserving : List Step
   pub asking : List Step
@@ -58,7 +58,7 @@ pub record Tested (w : Wish) (held : Bool) (c : ClientState) (steps : List Step)
   pub answered : IsAnswered (walk c reserving) asking w.condition.handler w.condition.request answer
   pub decides : holds w.condition.least answer ≡ held
 
--- a tested block, all that remains of it, and its end
+-- a tested block, all of its rest, and its end
 pub record Done (w : Wish) (held : Bool) (c : ClientState) (steps : List Step) : Type 0 where
   pub testing : List Step
   pub finishing : List Step
@@ -93,7 +93,7 @@ pub record LogsBody (body : List (HandlerId × Request)) (turns : ℕ) (r : Resu
 abbrev pub LoggedBody : List (HandlerId × Request) → ℕ → Result (Unit {0}) DriverError → Seen → Seen → Type 0
 LoggedBody body turns r old new = (steps : List Step) × LogsBody body turns r steps old new
 
--- a tested block that broke off in what remained
+-- a tested block that broke off in its rest
 pub record StoppedBehind (w : Wish) (held : Bool) (e : DriverError) (c : ClientState) (steps : List Step) (new : Seen) : Type 0 where
   pub testing : List Step
   pub finishing : List Step
@@ -101,7 +101,7 @@ pub record StoppedBehind (w : Wish) (held : Bool) (e : DriverError) (c : ClientS
   pub tested : Tested w held c testing
   pub stops : StoppedIn (remainder w held) e finishing new
 
--- a block that broke off; before the test's answer nothing of the body is logged
+-- a block that broke off; before the test's answer no call of the body is logged
 abbrev pub BrokeOff : Wish → DriverError → ClientState → List Step → Seen → Type 0
 BrokeOff w e c steps new = StoppedIn (test_of w) e steps new ⊎ ((held : Bool) × StoppedBehind w held e c steps new)
 
@@ -164,7 +164,7 @@ pub record IsWait (w : Wish) (turns tries : ℕ) (r : Result ℕ DriverError) (s
 abbrev pub Waits : Wish → ℕ → ℕ → Result ℕ DriverError → Seen → Seen → Type 0
 Waits w turns tries r old new = (steps : List Step) × IsWait w turns tries r steps old new
 
--- ---- what is refused before
+-- ---- the refusal before any block
 
 abbrev pub named : Wish → List HandlerId
 named w = w.condition.handler ∷ map (λ x. x.0) w.body

@@ -1,4 +1,4 @@
-//! Diaries, which are handed each step of a driver.
+//! Diaries, which get each step of a driver.
 
 ghost use Rattle.std.specs.Prelude.{◌≡◌, ◌<◌, ⊤, [], ◌∷◌, ◌++◌, Option, Some, None, List, IsErr, OnOk};
 ghost use Rattle.scoop_driver.specs.declared.step.Step.{Step as Made};
@@ -10,10 +10,10 @@ use scoop_message::OutOfMemory;
 use std::alloc::{Allocator, Global};
 use std::marker::Model;
 
-/// What a driver hands its steps to. Before each step the driver has room made for it, and makes no step
-/// where that is refused. So a diary that keeps its steps keeps all that were made, and no other.
+/// The receiver of a driver's steps. Before each step the driver makes room for it, and makes no step if that is
+/// refused. So a diary that keeps its steps keeps exactly those that were made.
 pub trait Diary<A: Allocator>: Drop {
-    /// The steps so far, oldest first, where the diary keeps them.
+    /// The steps so far, oldest first, if the diary keeps them.
     ghost steps: { Self → Option (List Made) };
 
     /// There is room for one more step.
@@ -22,24 +22,23 @@ pub trait Diary<A: Allocator>: Drop {
     /// Room may be refused.
     ghost wants_memory: { Type 0 };
 
-    /// Makes room for one more step, or is refused with no step less.
+    /// Makes room for one more step, or is refused and keeps all its steps.
     fn make_room(&mut self) -> Result<(), OutOfMemory>
         ensures room { OnOk result (has_room self.new) }
         ensures steps { steps self.new ≡ steps self.old }
         ensures refused { IsErr result → wants_memory };
 
-    /// The client took this command, and stands behind it now.
+    /// The client has just taken this command.
     fn gave(&mut self, client: &Client<A>, command: Command)
         requires { has_room self.old }
         ensures { steps self.new ≡ noted (steps self.old) (Made.Gave command ∷ []) };
 
-    /// This client has sent all that is due to its handlers, and this was received, which it hasn't heard
-    /// yet.
+    /// This client has sent every due message to its handlers, and received this, which it hasn't heard yet.
     fn turned(&mut self, client: &Client<A>, received: Received)
         requires { has_room self.old }
         ensures { steps self.new ≡ noted (steps self.old) (Made.Turned received ∷ []) };
 
-    /// This client has sent what is due to its handlers before the one at this place, and the send to that
+    /// This client has sent the messages due to its handlers before the one at this place, and the send to that
     /// one failed.
     fn broke(&mut self, client: &Client<A>, place: usize)
         requires { has_room self.old }
@@ -68,7 +67,7 @@ impl<A: Allocator> Diary<A> for NoDiary {
     fn broke(&mut self, _client: &Client<A>, _place: usize) {}
 }
 
-/// A diary that keeps every step. Contracts see the steps, and for how many more there is room.
+/// A diary that keeps every step. Contracts see the steps, and the room for more.
 #[derive(Drop)]
 pub struct StepList<A: Allocator = Global> {
     steps: Vec<Step, A>,
@@ -84,7 +83,7 @@ impl<A: Allocator> Model for StepList<A> {
 }
 
 impl<A: Allocator> StepList<A> {
-    /// A diary with no step yet.
+    /// Makes a diary with no step yet.
     pub fn new(alloc: A) -> StepList<A>
         ensures { result.steps ≡ [] }
     {

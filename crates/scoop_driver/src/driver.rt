@@ -30,12 +30,13 @@ fn list_of(handlers: &[HandlerId]) -> HandlerList
     list
 }
 
-/// A client over its link. Each of its calls takes at most so many turns, in which the client sends all
-/// that is due and receives once. After `TurnsOver`, `LinkFault` or a refusal that follows turns the client
-/// stands where the messages that it has heard put it.
+/// A client over its link. In a turn the client sends every due message and receives once. A call takes at most a
+/// fixed number of turns. After `TurnsOver`, `LinkFault` or a refusal that follows turns, the client's state is
+/// that after the messages it has heard.
 ///
-/// Contracts see its client, its link's datagrams where the link tells them, how many calls of the link
-/// failed, the steps that its diary keeps, the link and the diary, and how many turns a call takes at most.
+/// Contracts see its client, its link's datagrams if the link records them, the number of the link's calls that
+/// failed, and the steps that its diary keeps. They also see the link, the diary, and the most turns that a call
+/// takes.
 #[derive(Drop)]
 pub struct Driver<L: Link, D: Diary<A> = NoDiary, A: Allocator = Global> {
     pub(crate) client: Client<A>,
@@ -53,7 +54,7 @@ impl<L: Link, D: Diary<A>, A: Allocator> Model for Driver<L, D, A> {
 }
 
 impl<L: Link, A: Allocator> Driver<L, NoDiary, A> {
-    /// A driver of this client over this link. `turns` bounds the turns of each call.
+    /// Makes a driver of this client over this link. A call takes at most `turns` turns.
     pub fn new(client: Client<A>, link: L, turns: u64) -> Driver<L, NoDiary, A>
         ensures { result ≡ state_of L.told L.fault_count ⟦<NoDiary as Diary<A>>⟧.steps client link (record {}) turns }
     {
@@ -62,7 +63,7 @@ impl<L: Link, A: Allocator> Driver<L, NoDiary, A> {
 }
 
 impl<L: Link, D: Diary<A>, A: Allocator> Driver<L, D, A> {
-    /// A driver that hands its steps to this diary.
+    /// Makes a driver that reports its steps to this diary.
     pub fn with_diary(client: Client<A>, link: L, turns: u64, diary: D) -> Driver<L, D, A>
         ensures { result ≡ state_of L.told L.fault_count D.steps client link diary turns }
     {
@@ -74,7 +75,7 @@ impl<L: Link, D: Diary<A>, A: Allocator> Driver<L, D, A> {
         }
     }
 
-    /// What its client is at.
+    /// The phase of its client.
     pub fn phase(&self) -> Phase
         ensures { result ≡ phase_of self.now.seen.client }
     {
@@ -105,9 +106,9 @@ impl<L: Link, D: Diary<A>, A: Allocator> Driver<L, D, A> {
         &self.diary
     }
 
-    /// One turn: sends all that is due to the client's handlers, in their order, and receives once. Answers
-    /// what the client made of the message, and `None` where no frame came. `LinkFault` breaks the turn off.
-    /// Where a diary has no room, no turn is taken, and `OutOfMemory` is answered.
+    /// One turn: sends every due message to the client's handlers, in their order, and receives once. Returns the
+    /// effect of the message at the client, or `None` if no frame came. `LinkFault` breaks the turn off. If a
+    /// diary has no room, it takes no turn and returns `OutOfMemory`.
     pub fn turn(&mut self) -> Result<Option<ClientNote>, DriverError>
         ensures does { TakesTurn result self.old.seen self.new.seen }
         ensures turns { self.new.turns ≡ self.old.turns }
@@ -118,9 +119,9 @@ impl<L: Link, D: Diary<A>, A: Allocator> Driver<L, D, A> {
 }
 
 impl<L: Link, D: Diary<A>, A: Allocator + Clone> Driver<L, D, A> {
-    /// Begins a block over these handlers, and takes turns until it runs. Refused, in this order, as the
-    /// client refuses it, before any turn; then with `TurnsOver` or `LinkFault`, where the block may go on
-    /// by further turns, or be given up.
+    /// Begins a block over these handlers, and takes turns until it runs. Refused, in this order, as the client
+    /// refuses it, before any turn; then with `TurnsOver` or `LinkFault`. After these two the block may go on by
+    /// further turns, or be given up.
     pub fn reserve(&mut self, handlers: &[HandlerId]) -> Result<(), DriverError>
         ensures does { Called (Reserve handlers.now) self.old.turns result self.old.seen self.new.seen }
         ensures runs { OnOk result (RunsNext self.old.seen.client self.new.seen.client) }
@@ -137,9 +138,8 @@ impl<L: Link, D: Diary<A>, A: Allocator + Clone> Driver<L, D, A> {
         }
     }
 
-    /// Logs a call. Where the window at the handler is full it first takes turns until there is room.
-    /// Refused, in this order, as the client refuses it, with `TurnsOver` where there is still no room, and
-    /// with `LinkFault`.
+    /// Logs a call. If the window at the handler is full, it first takes turns until there is room. Refused, in
+    /// this order, as the client refuses it, with `TurnsOver` if there is still no room, and with `LinkFault`.
     pub fn call(&mut self, handler: HandlerId, request: Request) -> Result<(), DriverError>
         ensures does { Called (DoCall handler request) self.old.turns result self.old.seen self.new.seen }
         ensures turns { self.new.turns ≡ self.old.turns }
@@ -151,9 +151,9 @@ impl<L: Link, D: Diary<A>, A: Allocator + Clone> Driver<L, D, A> {
         }
     }
 
-    /// Logs a query, and takes turns until its answer is accepted. Where the window at the handler is full
-    /// it first takes turns until there is room. Refused as `call`; after `TurnsOver` and `LinkFault` the
-    /// query may be logged, and further turns go on to its answer.
+    /// Logs a query, and takes turns until its answer is accepted. If the window at the handler is full, it first
+    /// takes turns until there is room. Refused as `call`. After `TurnsOver` and `LinkFault` the query may be
+    /// logged, and further turns go on to its answer.
     pub fn query(&mut self, handler: HandlerId, request: Request) -> Result<Answer, DriverError>
         ensures does { Queried handler request self.old.turns result self.old.seen self.new.seen }
         ensures turns { self.new.turns ≡ self.old.turns }
@@ -165,9 +165,9 @@ impl<L: Link, D: Diary<A>, A: Allocator + Clone> Driver<L, D, A> {
         }
     }
 
-    /// Ends the block, and takes turns until all of it is acknowledged. Where a window is full it first
-    /// takes turns until there is room. Refused as `call`; after `TurnsOver` and `LinkFault` the block may be
-    /// ended, and further turns go on until the client is idle.
+    /// Ends the block, and takes turns until all of it is acknowledged. If a window is full, it first takes turns
+    /// until there is room. Refused as `call`. After `TurnsOver` and `LinkFault` the block may have ended, and
+    /// further turns go on until the client is idle.
     pub fn end(&mut self) -> Result<(), DriverError>
         ensures does { Called DoEnd self.old.turns result self.old.seen self.new.seen }
         ensures ends { OnOk result (phase_of self.new.seen.client ≡ AtIdle) }
@@ -180,8 +180,8 @@ impl<L: Link, D: Diary<A>, A: Allocator + Clone> Driver<L, D, A> {
         }
     }
 
-    /// Gives the block up, which isn't locked at all its handlers yet. Takes no turn, and is refused as the
-    /// client refuses it.
+    /// Gives up a block whose handlers aren't all locked yet. Takes no turn, and is refused as the client refuses
+    /// it.
     pub fn give_up(&mut self) -> Result<(), DriverError>
         ensures does { Called DoGiveUp 0 result self.old.seen self.new.seen }
         ensures link { self.new.link ≡ self.old.link }

@@ -1,10 +1,10 @@
-//! Why a driver's call doesn't do what it was asked.
+//! The errors of a driver's calls.
 
 use scoop_client::ClientError;
 use thiserror::Error;
 
-/// Why a driver's call ends without what it was asked for. The client then stands where the messages
-/// that it has heard put it, and `turn` and `give_up` go on.
+/// Why a driver's call didn't reach its goal. The client's state is then that after the messages it has heard, and
+/// `turn` and `give_up` go on.
 #[derive(Clone, Copy, Debug, PartialEq, Eq, Error)]
 pub enum DriverError {
     /// The client refuses the command, or a growth of memory was refused.
@@ -16,7 +16,7 @@ pub enum DriverError {
     /// A send or a receive of the link failed.
     #[error("LinkFault")]
     LinkFault,
-    /// The condition didn't hold in any of so many tries.
+    /// The condition didn't hold in any of this number of tries.
     #[error("ConditionFailed {0}")]
     ConditionFailed(u32),
 }

@@ -1,11 +1,11 @@
-//! The driver of a client over a link: it takes turns, in each of which the client sends all that is due
-//! and receives once, until what the client was told to do is done.
+//! The driver of a client over a link. In each turn the client sends every due message and receives once; a call
+//! takes turns until it has reached its goal.
 //!
 //! [`Driver`] reserves, calls, queries and ends, and `when` waits for a condition by trying blocks. A [`Diary`]
-//! is handed each step that a driver makes: [`NoDiary`] keeps none, a [`StepList`] keeps all.
+//! gets each step that a driver makes: [`NoDiary`] keeps none, a [`StepList`] keeps all.
 //!
 //! ```
-//! // the link leads to handler 1, whose object is an account, and each call takes ten turns at most
+//! // the link leads to handler 1, whose object is an account, and each call takes at most ten turns
 //! let mut driver = Driver::new(client, link, 10);
 //! assert_eq!(rt; driver.turn()?, Some(ClientNote::Welcomed(ONE)));
 //! driver.reserve(&[ONE])?;

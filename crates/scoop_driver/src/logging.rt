@@ -12,7 +12,7 @@ use scoop_link::Link;
 use scoop_message::{Answer, HandlerId};
 use std::alloc::Allocator;
 
-// Gives the client a command that it takes, and hands it to the diary.
+// Gives the client a command that it takes, and reports it to the diary.
 fn give<D: Diary<A>, A: Allocator + Clone>(
     client: &mut Client<A>,
     diary: &mut D,
@@ -36,7 +36,7 @@ fn give<D: Diary<A>, A: Allocator + Clone>(
     Ok(())
 }
 
-// The answer that was accepted from this handler, if the note tells of one.
+// The answer that was accepted from this handler, if the note reports one.
 fn accepted_from(handler: HandlerId, note: Option<ClientNote>) -> Option<Answer>
     ensures { IsAcceptedFrom handler note result }
 {
@@ -57,7 +57,7 @@ impl<L: Link, D: Diary<A>, A: Allocator + Clone> Driver<L, D, A> {
         give(&mut self.client, &mut self.diary, command)
     }
 
-    // The same, and answers whether the window had room.
+    // The same; returns whether the window had room.
     fn offer(&mut self, command: &Command) -> Result<bool, DriverError>
         ensures does { Offered command.now result self.old.seen self.new.seen }
         ensures turns { self.new.turns ≡ self.old.turns }
@@ -70,7 +70,7 @@ impl<L: Link, D: Diary<A>, A: Allocator + Clone> Driver<L, D, A> {
         }
     }
 
-    // Takes turns until the window has room, and gives the command. Answers how many turns are left.
+    // Takes turns until the window has room, and gives the command. Returns the number of turns left.
     pub(crate) fn log(&mut self, command: &Command) -> Result<u64, DriverError>
         ensures does { Logged command.now self.old.turns result self.old.seen self.new.seen }
         ensures turns { self.new.turns ≡ self.old.turns }

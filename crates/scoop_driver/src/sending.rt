@@ -1,4 +1,4 @@
-//! The parts of a turn: what it sends, and what it receives.
+//! The parts of a turn: its sends, and its receive.
 
 ghost use Rattle.std.specs.Prelude.{◌≡◌, ◌+◌};
 ghost use Rattle.scoop_driver.specs.State.{seen_of};
@@ -26,8 +26,8 @@ fn version_for(batch: u8) -> Version
     }
 }
 
-// Sends what is due to each of the client's handlers, in order, or tells the place of the handler the send
-// to which failed.
+// Sends the message due to each of the client's handlers, in order. If a send fails, returns the place of its
+// handler.
 fn send_due<L: Link, A: Allocator>(client: &Client<A>, link: &mut L) -> Result<(), usize>
     ensures sends { SentDue result client.now (L.told link.old) (L.told link.new) }
     ensures faults { L.fault_count link.new ≡ L.fault_count link.old + send_faults result }
@@ -76,8 +76,8 @@ fn message_in(received: &Received) -> Result<Option<Message>, DriverError>
     }
 }
 
-// One turn of a client over its link: it sends all that is due, receives once, and hears what came. The
-// diary is handed the turn.
+// One turn of a client over its link: it sends every due message, receives once, hears the message that came, and
+// reports the turn to the diary.
 pub(crate) fn take_turn<L: Link, D: Diary<A>, A: Allocator>(
     client: &mut Client<A>,
     link: &mut L,

@@ -1,11 +1,11 @@
-//! What a driver does, step by step.
+//! A driver's steps.
 
 use scoop_client::Command;
 use scoop_frame::Version;
 use scoop_link::Datagram;
 use scoop_message::Message;
 
-/// What the receive of a turn gave.
+/// The outcome of a turn's receive.
 #[derive(Drop)]
 pub enum Received {
     /// Nothing came.
@@ -18,14 +18,14 @@ pub enum Received {
     Fault,
 }
 
-/// One step of a driver. What a turn sends is all that is due at that moment, so a step doesn't repeat it.
+/// One step of a driver. A turn sends every message due at that moment, so a step doesn't repeat them.
 #[derive(Drop)]
 pub enum Step {
     /// The client took this command.
     Gave(Command),
-    /// All that was due was sent to the client's handlers, in their order, and then this was received.
+    /// Every due message was sent to the client's handlers, in their order, and then this was received.
     Turned(Received),
-    /// The turn broke off at the send to the client's handler at this place, counted from 0: all that was
-    /// due to the handlers before it was sent. What failed may have been sent.
+    /// The turn broke off at the send to the client's handler at this place, counted from 0. The messages due to
+    /// the handlers before it were sent. The one whose send failed may have been sent.
     Broke(usize),
 }

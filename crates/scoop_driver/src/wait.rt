@@ -16,9 +16,9 @@ use std::alloc::Allocator;
 /// A condition: the handler's answer to the request is a value of at least `least`.
 #[derive(Clone, Copy, Debug, PartialEq, Eq)]
 pub struct Condition {
-    /// The handler that is asked.
+    /// The handler of the query.
     pub handler: HandlerId,
-    /// What it is asked.
+    /// The query.
     pub request: Request,
     /// The least value of the answer.
     pub least: u64,
@@ -58,13 +58,12 @@ fn first_outside(
 }
 
 impl<L: Link, D: Diary<A>, A: Allocator + Clone> Driver<L, D, A> {
-    /// Waits for a condition: tries blocks over these handlers until one finds that it holds, logs the calls
-    /// of the body in that block, in order, and ends it. Answers its number, from 1. A block that finds that
-    /// the condition doesn't hold is ended at once. Each reserve, query, call and end takes as many turns as it may
-    /// take alone.
+    /// Waits for a condition: tries blocks over these handlers until it holds in one, logs the calls of the body
+    /// in that block, in order, and ends it. Returns the block's number, from 1. A block in which the condition
+    /// doesn't hold is ended at once. Each reserve, query, call and end takes as many turns as it may take alone.
     ///
-    /// The first handler of the condition and the body that isn't among the handlers is refused with
-    /// `NotReserved`, before anything else. `ConditionFailed` comes after so many tries.
+    /// Refuses the first handler of the condition and the body that isn't among the handlers with `NotReserved`,
+    /// before anything else. Returns `ConditionFailed` after `tries` tries.
     pub fn when(
         &mut self,
         handlers: &[HandlerId],
@@ -92,7 +91,7 @@ impl<L: Link, D: Diary<A>, A: Allocator + Clone> Driver<L, D, A> {
         Err(DriverError::ConditionFailed(tries))
     }
 
-    // One block. Answers whether the condition held.
+    // One block. Returns whether the condition held.
     fn attempt(
         &mut self,
         handlers: &[HandlerId],

@@ -1,4 +1,4 @@
--- What is told of a store in a file that isn't had: the error, and behind it what is wrong and what to do.
+-- The texts of a store in a file that isn't opened or closed: the error, and advice.
 use Rattle.std.specs.Prelude.{ℕ, List, [], ◌++◌, codes}
 use Rattle.std.specs.Fmt.{decimal}
 use Rattle.scoop_keeper.specs.Text.{error_text as keeper_text}
@@ -26,12 +26,12 @@ error_text (NoIncarnation c) = codes "store: NoIncarnation " ++ decimal c.0
 error_text (Store refusal) = refusal_text refusal
 
 abbrev pub advice_text : FileError → List ℕ
-advice_text NoFile = codes "there is no such file: --new makes one, for who never ran"
-advice_text Taken = codes "there is something in this file: go on with --store where it is the right store, else name a new file"
+advice_text NoFile = codes "there is no such file: name the right one, or make one by --new if this is the first run"
+advice_text Taken = codes "the file has content: resume with --store if it is the right store, else name a new file"
 advice_text InUse = codes "another program has it open: end that one"
-advice_text Unopened = codes "it can't be opened or made: see whether its folder is there, and who may read and write it and its -wal"
-advice_text Foreign = codes "it is no store: name another file"
-advice_text NoStore = codes "it has no tables of a store: name another file, or, where a kill came as it was made, make it by --new"
-advice_text (NoIncarnation c) = codes "this client never ran with it: name the client's own store, or make one by --new where the client never ran"
-advice_text Unclosed = codes "its -wal could not be copied into it: keep both, which have all that was answered, and go on with --store"
+advice_text Unopened = codes "it can't be opened or made: check that its folder exists, and that you may read and write the file and its -wal"
+advice_text Foreign = codes "it is not a store: name another file"
+advice_text NoStore = codes "it has no tables of a store: name another file, or use --new if a kill came while the store was made"
+advice_text (NoIncarnation c) = codes "this client never ran with it: name the client's own store, or make one by --new if the client never ran"
+advice_text Unclosed = codes "its -wal could not be copied into it: keep both files, which have all that was answered, and resume with --store"
 advice_text (Store _) = []

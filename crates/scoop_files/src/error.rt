@@ -1,4 +1,4 @@
-//! Why a store in a file isn't had.
+//! Errors of a store in a file.
 
 ghost use Rattle.std.specs.Prelude.{◌≡◌};
 ghost use Rattle.scoop_files.specs.Errors.{advice_text};
@@ -8,13 +8,14 @@ use scoop_message::ClientId;
 use std::error::Error;
 use std::fmt;
 
-// The status with which a program ends whose store isn't had.
+// The status with which a program ends if its store isn't opened or closed.
 const STATUS: u8 = 3;
 
-/// Why a store in a file isn't had. Printed as what the program tells behind `scoop: `.
-#[derive(Clone, Copy, Debug, PartialEq, Eq)]
+/// Why a store in a file isn't opened or closed. Printed as the program prints it after `scoop: `; the text is written
+/// by hand, since clauses cite it.
+#[derive(Clone, Copy, Debug)]
 pub enum FileError {
-    /// There is no such file to go on with.
+    /// There is no such file.
     NoFile,
     /// The file of a new store has something already.
     Taken,
@@ -35,35 +36,36 @@ pub enum FileError {
 }
 
 impl FileError {
-    /// The status with which the program ends: 3, whatever it is.
+    /// The status with which the program ends: 3 for every error.
     pub fn status(self) -> u8
         ensures { result ≡ 3 }
     {
         STATUS
     }
 
-    /// What is wrong with the file, and what to do. Empty for a refusal of the store, which has its own words.
+    /// Advice: what is wrong with the file, and what to do. Empty for a refusal of the store, which has its own.
     pub fn advice(self) -> &'static str
         ensures { result.now ≡ advice_text self }
     {
         match self {
-            FileError::NoFile => "there is no such file: --new makes one, for who never ran",
+            FileError::NoFile =>
+                "there is no such file: name the right one, or make one by --new if this is the first run",
             FileError::Taken => {
-                "there is something in this file: go on with --store where it is the right store, else name a new file"
+                "the file has content: resume with --store if it is the right store, else name a new file"
             }
             FileError::InUse => "another program has it open: end that one",
             FileError::Unopened => {
-                "it can't be opened or made: see whether its folder is there, and who may read and write it and its -wal"
+                "it can't be opened or made: check that its folder exists, and that you may read and write the file and its -wal"
             }
-            FileError::Foreign => "it is no store: name another file",
+            FileError::Foreign => "it is not a store: name another file",
             FileError::NoStore => {
-                "it has no tables of a store: name another file, or, where a kill came as it was made, make it by --new"
+                "it has no tables of a store: name another file, or use --new if a kill came while the store was made"
             }
             FileError::NoIncarnation(_) => {
-                "this client never ran with it: name the client's own store, or make one by --new where the client never ran"
+                "this client never ran with it: name the client's own store, or make one by --new if the client never ran"
             }
             FileError::Unclosed => {
-                "its -wal could not be copied into it: keep both, which have all that was answered, and go on with --store"
+                "its -wal could not be copied into it: keep both files, which have all that was answered, and resume with --store"
             }
             FileError::Store(_) => "",
         }

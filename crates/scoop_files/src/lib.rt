@@ -1,26 +1,32 @@
-//! Stores in files: made, taken up again, and closed.
+//! Stores in files: made, adopted, and closed.
 //!
-//! [`create`] makes a store in a file, [`adopt`] takes up the one that is there, [`adopt_for`] where it has a client's
-//! incarnation, and [`close`] leaves the file whole. A [`FileError`] says which of what may be wrong it is, and what to do.
-//! The example is of the program `scoop`, which refuses a file that is no database before a log is made beside it.
+//! [`create`] makes a store in a file, [`adopt`] takes the one that is there, [`adopt_for`] does so if it has a client's
+//! incarnation, and [`close`] leaves the file whole. A [`FileError`] says what is wrong and what to do, and
+//! [`report_file`] prints it.
 //!
 //! ```
-//! /// A new store in the file.
-//! pub fn create_in(rt: &HostRuntime, path: &str) -> Result<FiledStore, FileError> {
-//!     refuse_foreign(rt, path)?;
-//!     create(rt, path)
+//! match open_store(rt, choice) {
+//!     Ok(Some(store)) => serve_stored(rt, threads, plan, serving, store, link),
+//!     Ok(None) => serve_unstored(rt, threads, plan, serving, link),
+//!     Err(error) => Err(End::from(error)),
 //! }
 //!
-//! /// The store that is in the file.
-//! pub fn adopt_in(rt: &HostRuntime, path: &str) -> Result<FiledStore, FileError> {
-//!     refuse_foreign(rt, path)?;
-//!     adopt(rt, path)
+//! // The store of this choice, if there is one.
+//! fn open_store(rt: &HostRuntime, choice: StoreChoice<'_>) -> Result<Option<FiledStore>, FileError> {
+//!     match choice {
+//!         StoreChoice::New(path) => Ok(Some(create(rt, path)?)),
+//!         StoreChoice::Old(path) => Ok(Some(adopt(rt, path)?)),
+//!         StoreChoice::None => Ok(None),
+//!     }
 //! }
 //! ```
 #![tactic(auto)]
 
 mod error;
+mod foreign;
+mod report;
 mod store;
 
 pub use error::FileError;
+pub use report::report_file;
 pub use store::{FiledStore, adopt, adopt_for, close, create};

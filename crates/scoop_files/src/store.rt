@@ -1,6 +1,7 @@
 //! Stores that are in files.
 
 use crate::error::FileError;
+use crate::foreign::refuse_foreign;
 use scoop_keeper::KeeperError;
 use scoop_message::ClientId;
 use scoop_record::{Store, adopt_tables};
@@ -11,7 +12,7 @@ use std::fs;
 /// A store in a file, with its log beside it.
 pub type FiledStore = Store<FileStore<File>>;
 
-/// A new store in the file, which is made where there is none. `Taken` where the file has anything.
+/// A new store in the file, which is made if there is none. `Taken` if the file has anything.
 pub fn create(rt: &HostRuntime, path: &str) -> Result<FiledStore, FileError> {
     let connection = open(rt, path)?;
     match Store::create(rt.alloc(), connection) {
@@ -20,7 +21,7 @@ pub fn create(rt: &HostRuntime, path: &str) -> Result<FiledStore, FileError> {
     }
 }
 
-/// The store that is in the file. Where there is no file, none is made. `NoStore` where it has other tables.
+/// The store that is in the file. Makes no file. `NoStore` if the file has other tables.
 pub fn adopt(rt: &HostRuntime, path: &str) -> Result<FiledStore, FileError> {
     let connection = open_old(rt, path)?;
     match Store::adopt(rt.alloc(), connection) {
@@ -29,7 +30,7 @@ pub fn adopt(rt: &HostRuntime, path: &str) -> Result<FiledStore, FileError> {
     }
 }
 
-/// The store that is in the file, where it has an incarnation of this client; else `NoIncarnation`.
+/// The store that is in the file, if it has an incarnation of this client; else `NoIncarnation`.
 pub fn adopt_for(rt: &HostRuntime, path: &str, client: ClientId) -> Result<FiledStore, FileError> {
     let mut connection = open_old(rt, path)?;
     match require_client(rt.alloc(), &mut connection, client) {
@@ -70,7 +71,7 @@ fn has_incarnation<S: Alter>(
     }
 }
 
-/// Copies the log into the file, so that the file is whole without it. `Unclosed` where that is refused: then both
+/// Copies the log into the file, so that the file is whole without it. `Unclosed` if that is refused: then both
 /// together are the store.
 pub fn close(store: FiledStore) -> Result<(), FileError> {
     match store.into_connection().close() {
@@ -79,7 +80,7 @@ pub fn close(store: FiledStore) -> Result<(), FileError> {
     }
 }
 
-// Opens the file as a database, where it is there.
+// Opens the file as a database, if there is one.
 fn open_old(rt: &HostRuntime, path: &str) -> Result<Connection<FileStore<File>>, FileError> {
     match fs::exists(rt, path) {
         Ok(true) => open(rt, path),
@@ -88,15 +89,19 @@ fn open_old(rt: &HostRuntime, path: &str) -> Result<Connection<FileStore<File>>,
     }
 }
 
-// Opens the file as a database.
+// Opens the file as a database, unless it has something else.
 fn open(rt: &HostRuntime, path: &str) -> Result<Connection<FileStore<File>>, FileError> {
+    match refuse_foreign(rt, path) {
+        Ok(()) => {}
+        Err(error) => return Err(error),
+    }
     match Connection::open(rt, path) {
         Ok(connection) => Ok(connection),
         Err(error) => Err(unread(error, FileError::Unopened)),
     }
 }
 
-// Why a store isn't taken, where a refusal without a name means this.
+// The error for a refusal of the store. A refusal without a name has this meaning.
 fn refused(refusal: KeeperError, meaning: FileError) -> FileError {
     match refusal {
         KeeperError::Refused => meaning,
@@ -104,7 +109,7 @@ fn refused(refusal: KeeperError, meaning: FileError) -> FileError {
     }
 }
 
-// What an error of the database is, where one of the medium means this.
+// The error for one of the database. One of the medium has this meaning.
 fn unread(error: Error, meaning: FileError) -> FileError {
     match error {
         Error::SqliteFailure(ErrorCode::OutOfMemory) => FileError::Store(KeeperError::OutOfMemory),

@@ -62,7 +62,7 @@ header_is b v k h c i n e l bytes long m0 m1 version kind h-is c-is i-is n-is e-
     let l2 = front_2 24 l b bytes l-is in
     sym (front-drop 0 26 b long) ∙ (λ j. (m0 j ∷ m1 j ∷ version j ∷ kind j ∷ h4 j ++ c4 j ++ i4 j ++ n4 j ++ e4 j ++ l2 j) ++ drop 26 b)
 
--- a value behind its tag
+-- a value after its tag
 pub value_is : (b : List ℕ) (x : ℕ) → IsBytes b → 9 ≤ length b → get_or b 0 0 ≡ 1 → x ≡ big_from 1 8 b → b ≡ 1 ∷ to_be_bytes w64 x ++ drop 9 b
 value_is b x bytes long tag x-is =
     let x8 = front_8 1 x b bytes x-is in
@@ -94,7 +94,7 @@ request_is b op n words bytes long op-is count words-is =
     ap (λ (k : ℕ). front 0 (3 + 8 * n) b ++ drop k b) (let e : 3 + 8 * n ≡ 0 + (3 + 8 * n) = omega arith in e) ∙ front-drop 0 (3 + 8 * n) b (omega arith) in
     sym all ∙ ap (λ (xs : List ℕ). xs ++ drop (3 + 8 * n) b) (front-append 0 3 (8 * n) b) ∙ (λ j. (op2 j ++ count j ∷ sym words-is j) ++ drop (3 + 8 * n) b)
 
--- what an array of words holds
+-- the contents of an array of words
 pub words_fit : (n : ℕ) (xs : List ℕ) → ((i : ℕ) → get_or xs i 0 < 2 ^ 64) → AllByRecursion (λ x. x < 2 ^ 64) (take n xs)
 words_fit zero xs h = tt
 words_fit (suc n) [] h = tt

@@ -1,6 +1,6 @@
 -- Every frame of a message that fits is read, as that message. It has a sound header and its kind's body, so no refusal
--- applies to it; and its version, kind, fields and body can be had back from its bytes, so two frames are the same only where
--- version and message are. A refusal is one as well, since each has a rank of its own.
+-- applies to it. Its bytes determine its version, kind, fields and body, so two frames are the same only if version and
+-- message are. Bytes have one refusal at most, since each has a rank of its own.
 use Rattle.std.proofs.Common.{◌≡◌, ◌↔◌, ℕ, ◌^◌, ◌<◌, ◌≤◌, List, [], length, take, drop, get_or, Result, Ok, Err, refl, sym, ap, subst, ◌∙◌, arith, inl, inr}
 use Rattle.std.proofs.Common.{lit<, lit≤}
 use Rattle.std.specs.Prelude.{MatchResult}

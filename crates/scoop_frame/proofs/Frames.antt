@@ -40,7 +40,7 @@ one_from_not : (x : ℕ) → x ≢ 0 → 1 ≤ x
 one_from_not zero p = absurd (p refl)
 one_from_not (suc x) p = omega arith
 
--- what a sound header says of a message of each group of kinds
+-- a sound header of a message, for each group of kinds
 module _ (h : Header) (x : Kind) (kind-is : h.kind ≡ x) (sound : IsSound h) where
   code-is : code h.kind ≡ code x
   code-is = ap code kind-is

@@ -1,11 +1,11 @@
--- Writes to a buffer, one behind the other.
+-- Writes to a buffer, one after the other.
 use Rattle.std.proofs.Common.{◌≡◌, ℕ, ◌+◌, ◌-◌, ◌<◌, ◌≤◌, List, [], ◌∷◌, ◌++◌, length, take, drop, set, sym, ap, ◌∙◌, append_assoc, arith, add-one}
 use Rattle.std.proofs.lemmas.List.{length-take-le, length-append, length-drop, take_at, drop_at, drop-drop, take_rest, drop_all, append-nil, set_split}
 use Rattle.std.proofs.lemmas.List.{take-append-drop}
 use borrow.Rule.Slice.PartMut.{put_mid}
 use Rattle.scoop_frame.specs.Buffer.{written, overwritten}
 
--- a write to all that stands behind a place
+-- a write to all that follows a place
 pub part_written : (at : ℕ) (bytes old part : List ℕ) → at ≤ length old → part ≡ bytes ++ drop (length bytes) (take (length old - at) (drop at old))
     → put_mid at (length old - at) old part ≡ overwritten at bytes old
 part_written at bytes old part le e =
@@ -18,7 +18,7 @@ part_written at bytes old part le e =
 pub byte_written : (at byte : ℕ) (old : List ℕ) → at < length old → set old at byte ≡ overwritten at (byte ∷ []) old
 byte_written at byte old lt = set_split old at byte lt ∙ ap (λ (n : ℕ). take at old ++ byte ∷ drop n old) (sym (add-one at))
 
--- a write behind a write
+-- a write after a write
 pub overwritten_twice : (at place : ℕ) (done bytes old new : List ℕ) → at ≤ length old → place ≡ at + length done
     → new ≡ overwritten place bytes (overwritten at done old) → new ≡ overwritten at (done ++ bytes) old
 overwritten_twice at place done bytes old new le here e =

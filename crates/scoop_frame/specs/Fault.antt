@@ -61,7 +61,7 @@ HasBody version kind number body =
     MatchBool (kind == code of_kind.Log) (MatchBool (version == 1) (HasLog One number body) (HasLog Two number body))
     (MatchBool (kind == code of_kind.Answer) (HasAnswer body) (body ≡ []))
 
--- what each refusal says of the bytes
+-- the meaning of each refusal
 abbrev pub IsFault : FrameError → List ℕ → Type 0
 IsFault Short b = length b < 26
 IsFault BadMagic b = take 2 b ≢ 0x53 ∷ 0x51 ∷ []

@@ -1,4 +1,4 @@
--- Headers: what bytes begin with, and which message a header and a body are.
+-- Headers: the beginnings of bytes, and the message that a header and a body are.
 use Rattle.std.specs.Prelude.{◌≡◌, ◌<◌, ◌≤◌, ◌^◌, ℕ, List, length, drop, ⊤}
 use Rattle.scoop_message.specs.declared.message.Message.{Message}
 use Rattle.scoop_message.specs.declared.message.Message.TheVariants as m

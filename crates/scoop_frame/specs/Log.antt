@@ -7,7 +7,7 @@ use Rattle.scoop_frame.specs.declared.version.Version.{Version}
 use Rattle.scoop_frame.specs.Version.{CarriesCount}
 use Rattle.scoop_frame.specs.Body.{entry_bytes, log_bytes}
 
--- so many entries that the bytes are, one behind the other, or nothing where there are none
+-- that many entries, which the bytes are, one after the other, or nothing if they are none
 abbrev pub IsEntriesOrNone : ℕ → List ℕ → Option (List Entry) → Type 0
 IsEntriesOrNone count bytes (Some es) = IsEntries es × (length es ≡ count) × (bytes ≡ flat_map entry_bytes es)
 IsEntriesOrNone count bytes None = (es : List Entry) → IsEntries es → length es ≡ count → bytes ≢ flat_map entry_bytes es

@@ -5,7 +5,7 @@ use Rattle.scoop_message.specs.declared.message.Message.TheVariants.{Log}
 use Rattle.scoop_frame.specs.declared.version.Version.{Version}
 use Rattle.scoop_frame.specs.declared.version.Version.TheVariants.{One, Two}
 
--- the byte that tells the version
+-- the byte of the version
 abbrev pub version_byte : Version → ℕ
 version_byte One = 1
 version_byte Two = 2

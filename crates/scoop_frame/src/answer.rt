@@ -15,7 +15,7 @@ const REFUSED: u8 = 0;
 
 const VALUE: u8 = 1;
 
-/// Writes an answer from a place on, and says where it ends.
+/// Writes an answer from a place on, and returns where it ends.
 pub fn put_answer(out: &mut [u8], at: usize, answer: &Answer) -> usize
     requires { at + MAX_ANSWER ≤ length out.old }
     ensures bytes { out.new ≡ overwritten at (answer_bytes answer.now) out.old }
@@ -36,7 +36,7 @@ pub fn put_answer(out: &mut [u8], at: usize, answer: &Answer) -> usize
     }
 }
 
-/// Writes an answer to the front of a buffer, leaves the rest, and says how many bytes it takes.
+/// Writes an answer to the front of a buffer, leaves the rest, and returns how many bytes it takes.
 pub fn answer_to(answer: &Answer, out: &mut [u8; MAX_ANSWER]) -> usize
     ensures bytes { out.new ≡ written (answer_bytes answer.now) out.old }
     ensures len { result ≡ length (answer_bytes answer.now) }
@@ -46,7 +46,7 @@ pub fn answer_to(answer: &Answer, out: &mut [u8; MAX_ANSWER]) -> usize
     put_answer(out, 0, answer)
 }
 
-/// The answer that begins the bytes, and how many bytes it takes. None where no answer begins them.
+/// The answer that begins the bytes, and how many bytes it takes. `None` if no answer begins them.
 pub fn answer_from(bytes: &[u8]) -> Option<(Answer, usize)>
     ensures { ReadsFirst answer_bytes IsAnswer bytes.now result }
 {

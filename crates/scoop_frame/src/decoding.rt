@@ -27,8 +27,8 @@ fn read(bytes: &[u8]) -> Result<(Version, Message), FrameError>
     }
 }
 
-/// The message whose frame the bytes are, and the frame's version. Both versions are read. A refusal tells
-/// the first fault of the bytes.
+/// The message whose frame the bytes are, and the frame's version. Both versions are read. A refusal is the first fault
+/// of the bytes.
 pub fn decode(bytes: &[u8]) -> Result<(Version, Message), FrameError>
     ensures reads { MatchResult result (λ x. IsFrame x.0 x.1 bytes.now) (λ e. IsFirstFault e bytes.now) }
     ensures ok { (v : Version) (m : Message) → (result ≡ Ok (both v m)) ↔ IsFrame v m bytes.now }

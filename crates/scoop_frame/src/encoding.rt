@@ -14,7 +14,7 @@ use crate::version::Version;
 use scoop_message::Message;
 use scoop_message::limits::{BUFFER_LEN, MAX_FRAME, MIN_FRAME};
 
-// Writes the body of a message's frame behind the place of its header, and says where it ends.
+// Writes the body of a message's frame after the place of its header, and returns where it ends.
 fn put_body(out: &mut [u8], version: Version, message: &Message) -> usize
     requires { MAX_FRAME ≤ length out.old }
     ensures bytes { out.new ≡ overwritten MIN_FRAME (body_of version message.now) out.old }
@@ -29,9 +29,9 @@ fn put_body(out: &mut [u8], version: Version, message: &Message) -> usize
     }
 }
 
-/// Writes the frame of a message in a version that carries it to the front of a buffer, leaves the rest
-/// of the buffer, and says how many bytes the frame takes. The message fits, and a Log of version 1 has
-/// one entry. What is written is the frame that `decode` reads as this message.
+/// Writes the frame of a message, in a version that carries it, to the front of a buffer, and leaves the rest of the
+/// buffer. Returns how many bytes the frame takes. The message fits, and a Log of version 1 has one entry. `decode` reads
+/// the frame as this message.
 pub fn encode(version: Version, message: &Message, out: &mut [u8; BUFFER_LEN]) -> usize
     requires fits { Fits message.now }
     requires carried { Carries version message.now }

@@ -18,7 +18,7 @@ const QUERY: u8 = 2;
 
 const END: u8 = 3;
 
-// Writes a request from a place on, and says where it ends.
+// Writes a request from a place on, and returns where it ends.
 fn put_request(out: &mut [u8], at: usize, request: &Request) -> usize
     requires { at + 35 ≤ length out.old }
     ensures bytes { out.new ≡ overwritten at (request_bytes request.now) out.old }
@@ -35,7 +35,7 @@ fn put_request(out: &mut [u8], at: usize, request: &Request) -> usize
     at + 3 + 8 * count
 }
 
-/// Writes an entry from a place on, and says where it ends.
+/// Writes an entry from a place on, and returns where it ends.
 pub fn put_entry(out: &mut [u8], at: usize, entry: &Entry) -> usize
     requires { at + MAX_ENTRY ≤ length out.old }
     ensures bytes { out.new ≡ overwritten at (entry_bytes entry.now) out.old }
@@ -59,7 +59,7 @@ pub fn put_entry(out: &mut [u8], at: usize, entry: &Entry) -> usize
     }
 }
 
-/// Writes an entry to the front of a buffer, leaves the rest, and says how many bytes it takes.
+/// Writes an entry to the front of a buffer, leaves the rest, and returns how many bytes it takes.
 pub fn entry_to(entry: &Entry, out: &mut [u8; MAX_ENTRY]) -> usize
     ensures bytes { out.new ≡ written (entry_bytes entry.now) out.old }
     ensures len { result ≡ length (entry_bytes entry.now) }
@@ -92,7 +92,7 @@ fn request_from(bytes: &[u8]) -> Option<(Request, usize)>
     Some((Request { op, args }, 3 + 8 * count))
 }
 
-/// The entry that begins the bytes, and how many bytes it takes. None where no entry begins them.
+/// The entry that begins the bytes, and how many bytes it takes. `None` if no entry begins them.
 pub fn entry_from(bytes: &[u8]) -> Option<(Entry, usize)>
     ensures { ReadsFirst entry_bytes IsEntry bytes.now result }
 {

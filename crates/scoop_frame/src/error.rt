@@ -1,8 +1,8 @@
 use std::fmt;
 use thiserror::Error;
 
-/// Why bytes are no frame of a message that fits. Where several reasons apply, the first in the order
-/// of the variants is told. Printed as its name, with the version or kind that was met in decimal.
+/// Why bytes are no frame of a message that fits: the first reason that applies, in the order of the variants. Printed as
+/// its name, with the version or kind that was met in decimal. The text is written by hand, since clauses cite it.
 #[derive(Clone, Copy, Debug, PartialEq, Eq, Error)]
 pub enum FrameError {
     /// There are fewer than 26 bytes.

@@ -1,4 +1,4 @@
-//! What every frame begins with.
+//! The header that every frame begins with.
 
 ghost use Rattle.std.specs.Prelude.{◌≡◌, ◌≢◌, [], ◌≤◌, ◌↔◌, IsTrue, IfOk, IfErr, MatchOption, length};
 ghost use Rattle.scoop_message.specs.Range.{IsMessage, IsNumberOf};
@@ -20,7 +20,7 @@ use scoop_message::{Block, ClientId, HandlerId, Message};
 
 const MAGIC: [u8; 2] = *b"SQ";
 
-/// The version, kind, names and numbers of a frame. What the kind doesn't use is 0.
+/// The version, kind, names and numbers of a frame. A field that the kind doesn't use is 0.
 #[derive(Clone, Copy, Debug, PartialEq, Eq)]
 pub struct Header {
     pub version: Version,

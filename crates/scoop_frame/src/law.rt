@@ -1,4 +1,4 @@
-//! What encoding and decoding are to one another.
+//! Laws between encoding and decoding.
 
 ghost use Rattle.std.specs.Prelude.{◌≡◌, ◌↔◌, IsTrue, Ok};
 ghost use Rattle.scoop_message.specs.declared.message.Message.{Message as Sent};
@@ -13,8 +13,8 @@ use crate::version::Version;
 use scoop_message::Message;
 use scoop_message::limits::BUFFER_LEN;
 
-/// What `encode` writes, `decode` reads as the message that was written, in its version: these bytes are the
-/// frame of that message, and of no other.
+/// `decode` reads the bytes of `encode` as the message that was written, in its version. These bytes are the frame of
+/// that message, and of no other.
 pub fn reframed(version: Version, message: &Message) -> Result<(Version, Message), FrameError>
     requires fits { Fits message.now }
     requires carried { Carries version message.now }
@@ -26,7 +26,7 @@ pub fn reframed(version: Version, message: &Message) -> Result<(Version, Message
     decode(&out[..len])
 }
 
-/// Whether two frames are the same bytes, which is so exactly where the versions and the messages are the same.
+/// Whether two frames are the same bytes, which is so exactly if the versions and the messages are the same.
 pub fn same_frame(version: Version, message: &Message, other: Version, second: &Message) -> bool
     requires fits { Fits message.now }
     requires carried { Carries version message.now }

@@ -15,7 +15,7 @@ use scoop_message::{Entries, Entry};
 /// Bytes of the longest body of a Log: a count and four entries.
 pub const MAX_LOG: usize = 145;
 
-// Writes entries one behind the other from a place on, and says where they end.
+// Writes entries one after the other from a place on, and returns where they end.
 fn put_entries(out: &mut [u8], at: usize, entries: &[Entry]) -> usize
     requires { at + MAX_ENTRY * length entries.now ≤ length out.old }
     ensures bytes { out.new ≡ overwritten at (flat_map entry_bytes entries.now) out.old }
@@ -30,7 +30,7 @@ fn put_entries(out: &mut [u8], at: usize, entries: &[Entry]) -> usize
     end
 }
 
-/// Writes the body of a Log from a place on, and says where it ends.
+/// Writes the body of a Log from a place on, and returns where it ends.
 pub fn put_log(out: &mut [u8], at: usize, version: Version, entries: &Entries) -> usize
     requires { at + MAX_LOG ≤ length out.old }
     ensures bytes { out.new ≡ overwritten at (log_bytes version entries.now) out.old }
@@ -48,7 +48,7 @@ pub fn put_log(out: &mut [u8], at: usize, version: Version, entries: &Entries) -
     }
 }
 
-// The entries that the bytes are, all of them, one behind the other, where there are so many.
+// The entries that the bytes are, all of them, one after the other, if there are that many.
 fn entries_of(bytes: &[u8], count: usize) -> Option<Entries>
     requires { count ≤ MAX_ENTRIES }
     ensures { IsEntriesOrNone count bytes.now result }

@@ -7,11 +7,12 @@ ghost use Rattle.scoop_frame.specs.Buffer.{overwritten};
 
 use byteorder::{BigEndian, ByteOrder};
 
+/// The number in the two bytes from this place on.
 pub fn u16_at(bytes: &[u8], at: usize) -> u16
     requires { at + 2 ≤ length bytes.now }
     ensures { result ≡ big_from at 2 bytes.now }
 {
-    u16::from_be_bytes([bytes[at], bytes[at + 1]])
+    BigEndian::read_u16(&bytes[at..])
 }
 
 /// The number in the four bytes from this place on.
@@ -19,7 +20,7 @@ pub fn u32_at(bytes: &[u8], at: usize) -> u32
     requires { at + 4 ≤ length bytes.now }
     ensures { result ≡ big_from at 4 bytes.now }
 {
-    u32::from_be_bytes([bytes[at], bytes[at + 1], bytes[at + 2], bytes[at + 3]])
+    BigEndian::read_u32(&bytes[at..])
 }
 
 /// The number in the eight bytes from this place on.
@@ -27,18 +28,10 @@ pub fn u64_at(bytes: &[u8], at: usize) -> u64
     requires { at + 8 ≤ length bytes.now }
     ensures { result ≡ big_from at 8 bytes.now }
 {
-    u64::from_be_bytes([
-        bytes[at],
-        bytes[at + 1],
-        bytes[at + 2],
-        bytes[at + 3],
-        bytes[at + 4],
-        bytes[at + 5],
-        bytes[at + 6],
-        bytes[at + 7],
-    ])
+    BigEndian::read_u64(&bytes[at..])
 }
 
+/// Writes the number into the two bytes from this place on.
 pub fn put_u16(out: &mut [u8], at: usize, number: u16)
     requires { at + 2 ≤ length out.old }
     ensures { out.new ≡ overwritten at (to_be_bytes w16 number) out.old }
@@ -46,6 +39,7 @@ pub fn put_u16(out: &mut [u8], at: usize, number: u16)
     BigEndian::write_u16(&mut out[at..], number);
 }
 
+/// Writes the number into the four bytes from this place on.
 pub fn put_u32(out: &mut [u8], at: usize, number: u32)
     requires { at + 4 ≤ length out.old }
     ensures { out.new ≡ overwritten at (to_be_bytes w32 number) out.old }
@@ -53,6 +47,7 @@ pub fn put_u32(out: &mut [u8], at: usize, number: u32)
     BigEndian::write_u32(&mut out[at..], number);
 }
 
+/// Writes the number into the eight bytes from this place on.
 pub fn put_u64(out: &mut [u8], at: usize, number: u64)
     requires { at + 8 ≤ length out.old }
     ensures { out.new ≡ overwritten at (to_be_bytes w64 number) out.old }

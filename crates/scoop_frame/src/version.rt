@@ -5,7 +5,7 @@ use scoop_message::Message;
 pub enum Version {
     /// A Log has one entry.
     One,
-    /// A Log has one to four entries, behind their count.
+    /// A Log has one to four entries, after their count.
     Two,
 }
 
@@ -24,7 +24,7 @@ impl Version {
         }
     }
 
-    // The version that a byte tells.
+    // The version of a byte.
     pub(crate) fn from_byte(byte: u8) -> Option<Version>
         ensures { MatchOption result ((byte ≢ 1) × (byte ≢ 2)) (λ version. version_byte version ≡ byte) }
     {
@@ -35,7 +35,7 @@ impl Version {
         }
     }
 
-    // The byte that tells the version.
+    // The byte of the version.
     pub(crate) fn byte(self) -> u8
         ensures { result ≡ version_byte self }
     {

@@ -1,6 +1,6 @@
--- What is true of every handler is kept when the first entry of its first private queue has run. That queue begins one entry
--- further or is gone, and of the marks only the one at the entry's own block may keep another answer. Such a mark is of an
--- open block, so one whose block hasn't opened stays as it was.
+-- Facts of every handler survive a run of the first entry of its first private queue. That queue then begins one entry
+-- further or is gone. Only the mark at the entry's own block may keep another answer. Such a mark is of an open block,
+-- so a mark whose block hasn't opened stays as it was.
 use Rattle.std.proofs.Common.{◌≡◌, ℕ, ◌+◌, ◌<◌, ◌≤◌, Bool, true, false, cond, not, ◌&&◌, IsTrue, IsFalse, List, [], ◌∷◌, ◌++◌, length, map, Option, Some, None}
 use Rattle.std.proofs.Common.{is_some, refl, sym, ap, ◌∙◌, subst, inl, inr, arith, true≢false}
 use Rattle.std.specs.List.{AllByRecursion}
@@ -48,7 +48,7 @@ mark_of-after r c (x ∷ xs) =
       | false ↦ mark_of-after r c xs
     ]
 
--- a client's mark stays but for the answer that is kept
+-- a client's mark stays, except for the kept answer
 pub found-after : (r : Ran) (c : ClientId) (marks : List Mark) (k : Mark) → mark_of c marks ≡ Some k
     → mark_of c (map (mark_after r) marks) ≡ Some (mark_after r k)
 found-after r c marks k found = mark_of-after r c marks ∙ ap (option_map (mark_after r)) found
@@ -123,7 +123,7 @@ not-true : (t : Bool) → IsTrue (not t) → t ≡ false
 not-true true h = absurd (true≢false (sym h))
 not-true false h = refl
 
--- a queue of another block than the first one's is found among the others
+-- a block other than the first queue's finds its queue among the others
 other-first : (b : Block) (q : PrivateQueue) (qs : List PrivateQueue) → is_queue_of b q ≡ false → IsTrue (has_open b (q ∷ qs)) → IsTrue (has_open b qs)
 other-first b q qs other has = rw other at has
 
@@ -138,7 +138,7 @@ open-goes q e es sound are more goes =
     let end : is_end e ≡ false = no-end e es (rw are at sound.end) (ended ∙ open-not-ended q.state more) in
     true≢false (sym goes ∙ rw (end, open-not-cut q.state more) refl)
 
--- what the first queue's first entry leaves of it takes more where the queue did
+-- if the first queue takes more entries, the rest of it does too
 left-open : (b : Block) (q : PrivateQueue) (es : List Entry) (qs : List PrivateQueue) → IsQueue q → q.entries ≡ es → IsTrue (has_open b (q ∷ qs))
     → IsTrue (has_open b (left_by_first q es ++ qs))
 left-open b q [] qs sound are has = has
@@ -163,7 +163,7 @@ newest-used q k e es sound are fits none =
     let first : 1 ≤ q.first = sound.first in
     omega (arith, next, first, none)
 
--- where the first entry's block is a mark's, that mark is of an open block
+-- if the first entry's block is a mark's, that mark is of an open block
 same-block-open : (marks : List Mark) (q : PrivateQueue) (e : Entry) (es : List Entry) (k : Mark) → IsQueue q → q.entries ≡ e ∷ es → HasMark marks q
     → IsFound marks k → IsUnusedUnlessOpen k → IsFalse (is_open k.stage) → same_block (block_of k) q.block ≡ true → ⊥
 same-block-open marks q e es k sound are has found unless shut same =
@@ -330,7 +330,7 @@ IsCore-finished c t first sound = record {
   job = λ out. absurd (true≢false (sym out));
 }
 
--- the handler whose parts have changed as a run changes them
+-- the handler whose parts changed as a run changes them
 pub IsCore-ran : (c : Core) (r : Ran) (words : List ℕ) (marks : List Mark) (queues : List PrivateQueue) → IsCore c → IsFirst r c.state.queues
     → marks ≡ map (mark_after r) c.state.marks → queues ≡ advance c.state.queues
     → words ≡ (entry_effect c.class c.state.words r.entry).0 → IsCore (core_of c.class (state_of c.state.number c.state.holder marks queues words) false)
@@ -365,7 +365,7 @@ job-class c t is = by (front c.state.queues) refl
         let same : task_of c f ≡ t = same_Some (task_of c f) t (sym (ap (option_map (task_of c)) some) ∙ job-first c t is) in
         sym (ap (λ (x : Task). x.class) same)
 
--- the handler whose parts have changed as the job that was out says
+-- the handler whose parts changed as the job says
 pub IsCore-done : (c : Core) (t : Task) (words : List ℕ) (marks : List Mark) (queues : List PrivateQueue) → IsCore c → job_out c ≡ Some t
     → marks ≡ map (mark_after (ran_of t)) c.state.marks → queues ≡ advance c.state.queues
     → words ≡ (task_effect t).0 → IsCore (core_of c.class (state_of c.state.number c.state.holder marks queues words) false)
@@ -392,7 +392,7 @@ IsCore-run c sound = by (ready c) refl
     by None none = rw none sound
     by (Some t) some = rw some (IsCore-finished c t (ready-first c t some) sound)
 
--- what a handler runs stands at the front, and is taken
+-- the entry that runs stands at the front, and is taken
 pub run-front : (c : Core) (t : Task) → ready c ≡ Some t → front c.state.queues ≡ Some (t.block, t.number, t.entry)
 run-front c t is = first-entry c t (ready-first c t is)
 

@@ -1,5 +1,5 @@
--- What the crates above use too: a case split over a test, lists of which something is true throughout, and what is found in
--- a list by a test or by a key.
+-- Basics that the crates above use too: a case split over a test, facts of every item of a list, and lookups in a list
+-- by a test or by a key.
 use Rattle.std.proofs.Common.{◌≡◌, ℕ, zero, suc, Bool, true, false, cond, List, [], ◌∷◌, ◌++◌, find, slice_get, Some, refl, subst}
 use Rattle.std.specs.Bool.{Decides}
 use Rattle.std.specs.List.{AllByRecursion}
@@ -24,7 +24,7 @@ all_at P [] k a e all = absurd (cc)
 all_at P (x ∷ xs) zero a e all = let p : x ≡ a = cc in subst P p all.0
 all_at P (x ∷ xs) (suc k) a e all = all_at P xs k a e all.1
 
--- ---- what is found
+-- ---- lookups
 
 pub find_passes : {A : Type 0} (p : A → Bool) (xs : List A) (x : A) → find p xs ≡ Some x → p x ≡ true
 find_passes p [] x e = absurd (none-some _ e)
@@ -34,12 +34,12 @@ find_passes p (y ∷ ys) x e =
       | false ↦ λ is found. find_passes p ys x found
     ] refl e
 
--- the item that is found by a key has it
+-- the item that a lookup by a key finds has that key
 pub key_found : {A K : Type 0} (key : A → K) (same : K → K → Bool) (decides : (a b : K) → Decides (same a b) (a ≡ b)) (k : K) (xs : List A) (a : A)
     → find (λ x. same (key x) k) xs ≡ Some a → key a ≡ k
 key_found key same decides k xs a e = (decides (key a) k).0 (find_passes (λ x. same (key x) k) xs a e)
 
--- what is so of all is so of the one that is found
+-- a fact of all items holds of the one that is found
 pub all_found : {A : Type 0} (P : A → Type 0) (test : A → Bool) (xs : List A) (a : A) → AllByRecursion P xs → find test xs ≡ Some a → P a
 all_found P test [] a all e = absurd (none-some _ e)
 all_found P test (x ∷ xs) a all e =

@@ -1,6 +1,6 @@
--- Private queues beside the marks of their clients: which changes they bear. No queue's block is above its client's mark, and
--- only the mark's own block may have a queue that takes more. So beside a newer incarnation or a newer block there may stand
--- what takes no more, and what else changes in a mark touches the queue of its block alone.
+-- The changes that private queues bear beside the marks of their clients. No queue's block is above its client's mark,
+-- and only the mark's own block may have a queue that takes more. So beside a newer incarnation or block stand only
+-- queues that take no more. Any other change of a mark concerns the queue of its block alone.
 use Rattle.std.proofs.Common.{◌≡◌, ℕ, ◌+◌, ◌<◌, ◌≤◌, Bool, true, false, cond, ◌&&◌, not, IsTrue, List, [], ◌∷◌, ◌++◌, Option, Some, None, length, refl, sym, ap}
 use Rattle.std.proofs.Common.{subst, ◌∙◌, inl, inr, arith}
 use Rattle.std.specs.List.{AllByRecursion}
@@ -35,8 +35,8 @@ apart_blocks b d apart = rw apart refl
 
 -- ---- one private queue beside its client's newest mark
 
--- a block that is no more than its client's newest, and not that one, takes no more; nor does that one where it
--- isn't open or has ended
+-- a block that isn't above its client's newest, and isn't that one, takes no more; nor does the newest if it isn't open
+-- or has ended
 pub takes_none : (q : PrivateQueue) (k : Mark) → FitsMark q k → (is_open k.stage && not k.ended) ≡ false → takes_more q.state ≡ false
 takes_none q k fits done = elim (cases_Bool (same_block (block_of k) q.block)) [
   | inl same ↦ by_test (takes_more q.state) refl (same_block-true (block_of k) q.block same)
@@ -78,7 +78,7 @@ FitsMark-block q k x inc num fits done = record {
   above (inl below) is = let one : x.inc ≡ q.block.inc = ap (λ (b : Block). b.inc) is in omega (arith, below)
   above (inr same) is = let one : x.num ≡ q.block.num = ap (λ (b : Block). b.num) is in omega (arith, same.1)
 
--- beside the same block with more or less of it known, where the queue isn't that block's
+-- beside the same block with more or less of it known, for a queue of another block
 pub FitsMark-other : (q : PrivateQueue) (k x : Mark) → block_of k ≡ block_of x → (block_of k ≡ q.block → ⊥) → FitsMark q k → FitsMark q x
 FitsMark-other q k x same apart fits =
     let inc : k.inc ≡ x.inc = ap (λ (b : Block). b.inc) same in
@@ -93,7 +93,7 @@ FitsMark-other q k x same apart fits =
       by_order inc num (inl below) = inl (omega (arith, below))
       by_order inc num (inr same_inc) = inr (same_inc.0 ∙ inc, omega (arith, same_inc.1))
 
--- a block of which nothing was received, and that isn't open, has no private queue
+-- a block that isn't open, with no entry received, has no private queue
 pub no_queue_yet : (q : PrivateQueue) (k : Mark) → IsQueue q → FitsMark q k → IsUnused k → is_open k.stage ≡ false → block_of k ≡ q.block → ⊥
 no_queue_yet q k sound fits unused closed same = by_state q.state q.entries refl sound.ended sound.some where
   next : q.first + length q.entries ≡ k.received + 1
@@ -115,7 +115,7 @@ no_queue_yet q k sound fits unused closed same = by_state q.state q.entries refl
 
 -- ---- the marks around it
 
--- what is true beside the client's mark
+-- facts beside the client's mark
 pub HasMark-fits : (marks : List Mark) (q : PrivateQueue) (k : Mark) → mark_of q.block.client marks ≡ Some k → HasMark marks q → FitsMark q k
 HasMark-fits marks q k found has =
     let one : Some has.mark ≡ Some k = sym has.found ∙ found in
@@ -140,7 +140,7 @@ HasMark-set k old marks q found fits has = elim (cases_Bool (same_client q.block
       record { mark = has.mark; found = mark_of-set_mark_other q.block.client k marks apart ∙ has.found; fits = has.fits }
 ]
 
--- a client more
+-- one more client
 pub HasMark-add : (k : Mark) (marks : List Mark) (q : PrivateQueue) → mark_of k.client marks ≡ None → HasMark marks q → HasMark (add_mark k marks) q
 HasMark-add k marks q none has = elim (cases_Bool (same_client k.client q.block.client)) [
   | inl same ↦

@@ -1,4 +1,4 @@
--- Hearing leaves the entry that runs next, and the marks only go on.
+-- Hearing keeps the entry that runs next, and the marks only go on.
 use Rattle.std.proofs.Common.{◌≡◌, ℕ, Bool, true, false, cond, List, [], ◌∷◌, ◌++◌, Option, Some, None, refl, sym, ap, subst, ◌∙◌, inl, inr, arith}
 use Rattle.std.specs.Prelude.{is_some}
 use Rattle.std.proofs.lemmas.Bool.{cases_Bool}
@@ -14,7 +14,7 @@ use Rattle.scoop_handler.proofs.MarkLists.{client_from_same, mark_of-set_mark_ow
 
 -- ---- the entry that runs next
 
--- where there is a first entry, it is still the first
+-- if there is a first entry, it is still the first
 abbrev pub FrontStays : List PrivateQueue → List PrivateQueue → Type 0
 FrontStays old new = (f : Block × ℕ × Entry) → front old ≡ Some f → front new ≡ Some f
 

@@ -1,5 +1,5 @@
--- Look-up, change and addition in a list of marks, which stand in the order of their clients, one for each. A mark that is
--- changed or added is found for its own client, and for every other client what was found before.
+-- Lookup, change and addition in a list of marks, which stand in the order of their clients, one for each. A lookup
+-- finds a changed or added mark for its own client, and the same as before for every other client.
 use Rattle.std.proofs.Common.{◌≡◌, ℕ, suc, ◌+◌, ◌<◌, Bool, true, false, cond, nat_lt, List, [], ◌∷◌, ◌++◌, Some, None, map, insert, length, take, drop, set}
 use Rattle.std.proofs.Common.{get_or, refl, sym, ap, subst, inl, inr, arith}
 use Rattle.std.specs.List.{AllByRecursion, prefix_len}
@@ -37,7 +37,7 @@ pub map_in_place : {X : Type 0} (f : X → X) (xs ys : List X) (i : ℕ) (d : X)
     → set ys i (f (get_or ys i d)) ≡ map f (take (i + 1) xs) ++ drop (i + 1) xs
 map_in_place f xs ys i d in_xs in_ys so_far = map_over_more f xs ys i (get_or ys i d) in_xs so_far (get_or_default ys i d _ in_ys)
 
--- where the function leaves the element, it may be written back
+-- if the function leaves the element, it may be written back
 pub map_left_in_place : {X : Type 0} (f : X → X) (xs ys : List X) (i : ℕ) (d : X) → i < length xs → i < length ys → f (get_or ys i d) ≡ get_or ys i d
     → ys ≡ map f (take i xs) ++ drop i xs
     → set ys i (get_or ys i d) ≡ map f (take (i + 1) xs) ++ drop (i + 1) xs

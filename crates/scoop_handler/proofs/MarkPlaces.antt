@@ -1,4 +1,4 @@
--- Marks ascend, so a client's mark stands at one place, which is found by halves.
+-- Marks ascend, so binary search finds the one place of a client's mark.
 use Rattle.std.proofs.Common.{◌≡◌, ℕ, zero, suc, ◌+◌, ◌<◌, ◌≤◌, Bool, true, false, cond, nat_lt, List, [], ◌∷◌, Option, Some, None, length, set, get_or, refl}
 use Rattle.std.proofs.Common.{sym, ap, subst, inl, inr, arith}
 use Rattle.std.specs.List.{prefix_len}
@@ -42,7 +42,7 @@ place_at c (x ∷ xs) (suc i) within below from =
     let more : 1 + n ≡ suc n = omega arith in
     rw (below zero x (omega arith), more) (ap suc (place_at c xs i (omega arith) (λ k d lt. below (suc k) d (omega arith)) (λ d lt. from d (omega arith))))
 
--- behind a mark that isn't below there is none of a client
+-- after a mark that isn't below, none is the client's
 none_above : (c : ClientId) (x : Mark) (xs : List Mark) → IsAscending (x ∷ xs) → nat_lt x.client.0 c.0 ≡ false → mark_of c xs ≡ None
 none_above c x [] up past = refl
 none_above c x (y ∷ ys) up past =
@@ -82,7 +82,7 @@ none c (x ∷ xs) d up apart =
 
 -- ---- one mark is written
 
--- where a client has no mark there is none to set
+-- without a mark of the client there is none to set
 kept : (k : Mark) (xs : List Mark) → mark_of k.client xs ≡ None → set_mark k xs ≡ xs
 kept k [] gone = refl
 kept k (x ∷ xs) gone =

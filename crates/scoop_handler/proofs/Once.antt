@@ -1,4 +1,4 @@
--- A list in which nothing stands twice, once another element joins it.
+-- Lists without repetition, once another element joins.
 use Rattle.std.proofs.Common.{◌≡◌, ◌⊎◌, inl, inr, ℕ, zero, suc, List, [], ◌∷◌, ◌++◌, length, map, slice_get, Some, refl, sym, ap, ◌∙◌, subst, ⊎_elim}
 use Rattle.std.proofs.lemmas.List.{map-append}
 use Rattle.std.specs.List.{AllByRecursion}
@@ -36,6 +36,6 @@ module _ {A B : Type 0} (key : A → B) where
   absent (x ∷ xs) b apart zero e = let same : key x ≡ b = cc in apart.0 same
   absent (x ∷ xs) b apart (suc i) e = absent xs b apart.1 i e
 
-  -- no key stands twice, where the new one's is none of the others'
+  -- no key stands twice if the new one's is none of the others'
   pub once_more : (xs : List A) (y : A) → NoRepeats (map key xs) → AllByRecursion (λ x. key x ≡ key y → ⊥) xs → NoRepeats (map key (xs ++ y ∷ []))
   once_more xs y once apart = subst NoRepeats (sym (map-append key xs (y ∷ []))) (once_pushed (map key xs) (key y) once (absent xs (key y) apart))

@@ -1,6 +1,6 @@
--- What fits a row is what `hear` gives, so a message has one outcome. What a row asks of the handler and of the client's mark
--- makes the tests of the table before its outcome true or false, so `hear` comes to that outcome; and what `hear` gives has
--- its row by `TableRows`.
+-- A message that fits a row has the outcome that `hear` gives, so it has one outcome. The row's conditions on the
+-- handler and on the client's mark decide the table's tests before its outcome. So `hear` comes to that outcome, and
+-- `hear`'s outcome has its row by `TableRows`.
 use Rattle.std.proofs.Common.{◌≡◌, ◌≢◌, ◌↔◌, ℕ, ◌+◌, ◌<◌, ◌≤◌, Bool, true, false, cond, ◌==◌, nat_lt, nat_le, ◌&&◌, ◌||◌, not, IsTrue, IsFalse, List, ◌⊎◌}
 use Rattle.std.proofs.Common.{Option, Some, None, length, refl, sym, ap, subst, ◌∙◌, inl, inr, arith}
 use Rattle.std.specs.Prelude.{is_none, Ok}
@@ -32,7 +32,7 @@ use Rattle.scoop_handler.specs.Rows.{is_freed, repeated_unlock, IsLogAt, IsNext,
 use Rattle.scoop_handler.specs.Rows.{pending_full, is_taken}
 use Rattle.scoop_handler.proofs.TableRows.{holder_from_test, holds, row}
 
--- ---- tests, from what they say
+-- ---- tests, from their conditions
 
 apart_handlers : (h k : HandlerId) → h ≢ k → same_handler h k ≡ false
 apart_handlers h k apart = false_from_ne_true (same_handler h k) (λ e. apart ((handler_decides h k).0 e))
@@ -51,7 +51,7 @@ holds_not : (holder : Option Block) (b : Block) → holder ≢ Some b → is_hol
 holds_not holder b apart = false_from_ne_true (is_holder holder b) (λ e. apart (holder_from_test holder b e))
 
 module _ (s : HandlerState) where
-  -- ---- which row a message comes to
+  -- ---- the row of a message
 
   here_gives : (h : HandlerId) (x y : Hearing) → h ≡ s.number → x ≡ y → if_here s h x ≡ y
   here_gives h x y here is = cond-true (same_handler h s.number) x (dropped s WrongHandler) ((handler_decides h s.number).1 here) ∙ is
@@ -124,7 +124,7 @@ module _ (s : HandlerState) where
   to_another (Logged h b n) is apart = cc
   to_another (Answer h b n a) is apart = cc
 
-  -- what is answered to the block that asks, whatever it asks
+  -- the reply to the block that asks, whatever it asks
   asked : (m : Message) (b : Block) (n : Hearing) → handler_of m ≡ s.number → asking_block m ≡ Some b → ((heard : Mark → Hearing) → hear_of s b heard ≡ n)
       → hear s m ≡ n
   asked (Hello h c inc) b n here asks gives = cc
@@ -163,7 +163,7 @@ module _ (s : HandlerState) where
   takes : (b : Block) (k : Mark) → IsLogAt s b k → (is_new b k || not (is_open k.stage)) ≡ false
   takes b k at = or_from _ _ (is_newest b k at.num) (ap (λ x. not (is_open x)) at.stage)
 
-  -- entries some of which are new come to the tests behind these
+  -- entries of which some are new come to the tests after these
   next_is : (b : Block) (i : ℕ) (es : List Entry) (k : Mark) (n : Hearing) → IsLogAt s b k → IsNext k i es
       → cond (is_closed k (last_number i es) es) (dropped s NotOpen)
       (cond (has_no_room s b (length (new_entries i es k))) (dropped s PendingFull) (took s b i es k)) ≡ n → hear_log s b i es k ≡ n

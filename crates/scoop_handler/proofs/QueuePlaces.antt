@@ -58,6 +58,13 @@ All-at P [] i all = tt
 All-at P (x ∷ xs) zero all = all.0
 All-at P (x ∷ xs) (suc i) all = All-at P xs i all.1
 
+-- a fact of the queues so far, and of the next one
+pub all-next : (P : PrivateQueue → Type 0) (qs : List PrivateQueue) (i : ℕ) → AllByRecursion P (take i qs) → IfSome (slice_get qs i) P
+    → AllByRecursion P (take (suc i) qs)
+all-next P [] i all next = tt
+all-next P (q ∷ qs) zero all next = (next, tt)
+all-next P (q ∷ qs) (suc i) all next = (all.0, all-next P qs i all.1 next)
+
 -- ---- the queue at a place
 
 own-apart : (q x : PrivateQueue) (qs : List PrivateQueue) → AreApart (x ∷ qs) → queue_of q.block qs ≡ Some q → is_queue_of q.block x ≡ false
@@ -99,7 +106,7 @@ at-mark marks qs q k next r own found is fits =
           by_mark.1 (subst (FitsMark q) same m.fits)),
     )
 
--- the queue at a place fits its client's mark, where the test by its head says so
+-- the queue at a place fits its client's mark, if the test by its head says so
 pub mark-at : (marks : List Mark) (qs : List PrivateQueue) (i : ℕ) (h : Head) (k : Mark) (next : ℕ) (r : Bool) → IsQueues qs → head_at i qs ≡ Some h
     → mark_of h.block.client marks ≡ Some k
     → next ≡ h.first + pending h.block qs → ((es : List Entry) → next ≡ h.first + length es → IsTrue r ↔ FitsMark (queue_with h es) k)

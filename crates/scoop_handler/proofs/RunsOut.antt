@@ -1,4 +1,4 @@
--- A handler that runs until nothing can run: it comes to one end, since the pending entries get fewer.
+-- A handler that runs until nothing can run. It comes to one end, since the pending entries get fewer.
 use Rattle.std.proofs.Common.{◌≡◌, ◌<◌, ◌+◌, append_assoc, is_some, if◌then◌else◌, ℕ, Bool, true, false, List, [], ◌∷◌, ◌++◌, length, Option, Some, None}
 use Rattle.std.proofs.Common.{IsTrue, IsFalse, refl, sym, subst, arith}
 use Rattle.std.specs.Option.{option_map, option_map_or}
@@ -24,7 +24,7 @@ runs_out_same c d e rs ss (then_more x f t us some more) (then_more y g u vs aga
 
 -- ---- one entry after another
 
--- what has run so far
+-- the entries that have run so far
 pub record RunsSoFar (first now : Core) : Type 0 where
   pub ran : List Ran
   pub goes_on : (rs : List Ran) (last : Core) → RunsOut now rs last → RunsOut first (ran ++ rs) last

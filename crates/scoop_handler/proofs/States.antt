@@ -1,6 +1,6 @@
--- Which changes of a handler's state keep what is true of every state. All but a first greeting put one client's mark in the
--- place of its old one: `IsChange` says what such a mark asks of the holder and of the private queues beside it, and a newer
--- incarnation, a granted lock, a block that is passed over, a lock given back, an opened queue and new entries each meet it.
+-- The changes of a handler's state that keep the facts of every state. All except a first greeting replace one client's
+-- mark: `IsChange` states the conditions on such a mark, beside the holder and the private queues. A newer incarnation,
+-- a granted lock, a block that is passed over, a lock given back, an opened queue and new entries each meet them.
 use Rattle.std.proofs.Common.{◌≡◌, ℕ, zero, suc, ◌+◌, ◌-◌, ◌^◌, ◌<◌, ◌≤◌, Bool, true, false, cond, ◌&&◌, ◌||◌, ◌==◌, nat_lt, nat_le, not, IsTrue, List, [], ◌∷◌}
 use Rattle.std.proofs.Common.{◌++◌, Option, Some, None, length, take, drop, refl, sym, ap, subst, ◌∙◌, inl, inr, arith, length-append}
 use Rattle.std.proofs.lemmas.List.{length-drop, take-append-drop}
@@ -176,7 +176,7 @@ module _ (s : HandlerState) (c : ClientId) (inc : ℕ) (k : Mark) (is : IsState 
 
 -- ---- a newer block
 
--- the client's newest block is done with, and the private queues bear a newer one
+-- the client's newest block is over, and the private queues bear a newer one
 newer_block-fits : (s : HandlerState) (b : Block) (k : Mark) (stage : Stage) → IsHeardAt s b k → k.num < b.num → is_unfinished s k ≡ false → (q : PrivateQueue)
     → IsQueue q → FitsMark q k → FitsMark q (fresh_mark b stage)
 newer_block-fits s b k stage at new clear q sound fits = FitsMark-block q k (fresh_mark b stage) at.inc new fits
@@ -394,7 +394,7 @@ module _ (s : HandlerState) (b : Block) (k : Mark) (is : IsState s) (at : IsHear
     fits : open_refusal b s.queues ≡ None
     fits = let below : nat_le MAX_QUEUES (length s.queues) ≡ false = grind (arith, nat_tests) in rw (below, absent) refl
 
--- where a private queue may be opened, that is refused for want of memory alone
+-- memory is the only reason to refuse a private queue that may be opened
 pub opening_fits : (b : Block) (qs : List PrivateQueue) → IsQueues (opened b qs) → open_refusal b qs ≡ None
 opening_fits b qs sound =
     let more = length-append qs (new_queue b ∷ []) in
@@ -408,7 +408,7 @@ opening_fits b qs sound =
 pub has_room : (s : HandlerState) (b : Block) (more : ℕ) → has_no_room s b more ≡ false → pending b s.queues + more ≤ MAX_PENDING
 has_room s b more e = grind (arith, nat_tests)
 
--- what is behind a place of entries ends as they do
+-- entries from some place on end as all of them do
 pub ends-drop : (i : ℕ) (es : List Entry) → 0 < length (drop i es) → ends (drop i es) ≡ ends es
 ends-drop i es some = sym (ends-append (take i es) (drop i es) some) ∙ ap ends (take-append-drop i es)
 
@@ -417,7 +417,7 @@ EndOnlyLast-drop zero es end = end
 EndOnlyLast-drop (suc i) [] end = refl
 EndOnlyLast-drop (suc i) (e ∷ es) end = EndOnlyLast-drop i es (EndOnlyLast-tail e es end)
 
--- what the test leaves for a block that takes more
+-- the conditions on a block that takes more
 pub record IsRoomy (k : Mark) (last : ℕ) (es : List Entry) : Type 0 where
   pub ended : k.ended ≡ false
   pub low : last < 2 ^ 32
@@ -447,7 +447,7 @@ module _ (s : HandlerState) (b : Block) (n : ℕ) (es : List Entry) (k : Mark) (
   length_new : length new ≡ length es - (k.received + 1 - n)
   length_new = length-drop (k.received + 1 - n) es
 
-  -- the new entries are those behind the received ones
+  -- the new entries are those after the received ones
   pub count_new : k.received + length (new_entries n es k) ≡ last_number n es
   count_new = let counted = length_new in omega (arith, next.new, next.no_gap)
 

@@ -1,5 +1,5 @@
--- What is true of each row of the table, and so of `hear`. Each law is shown of the relation, row by row; `hear`'s outcome has
--- a row, so the law is true of it; and a call gives that outcome, or has changed nothing.
+-- Laws of each row of the table, and so of `hear`. Each law is proved of the relation, row by row. `hear`'s outcome has
+-- a row, so the law holds of it. A call returns that outcome, or has changed nothing.
 use Rattle.std.proofs.Common.{◌≡◌, ℕ, ◌<◌, ◌≤◌, ◌⊎◌, Bool, true, false, ◌||◌, IsTrue, cond, List, length, Option, Some, None, refl, sym, ap, subst, ◌∙◌, inl}
 use Rattle.std.proofs.Common.{inr, arith}
 use Rattle.std.proofs.lemmas.Bool.Decides.{nat_tests}
@@ -186,7 +186,7 @@ given m r handler client inc block to_client fits reply e =
     let same : r ≡ reply = cc in
     subst (IsReplyTo m) same (record { handler = handler; client = client; incarnation = inc; block = block; to_client = to_client; fits = fits })
 
--- a number at or behind the last of a Log's entries
+-- a number at or after the last of a Log's entries
 numbered : (b : Block) (n : ℕ) (es : List Entry) → IsLogOf b n (length es) → 0 < length es → (i : ℕ) → last_number n es ≤ i → IsEntryOf b i
 numbered b n es fits some i behind = let first = fits.entry.number in record { block = fits.entry.block; number = omega arith }
 
@@ -210,9 +210,9 @@ replies-row s m h (is_taken x b n es k here at next goes_on room) has =
     given (Log x b n es) (Logged s.number b (last_number n es)) (sym here) refl refl refl refl (λ f. numbered b n es f has.0 (last_number n es) (omega arith))
 replies-row s m h r has = λ reply e. absurd (none-some _ e)
 
--- ---- where a call has heard
+-- ---- a call that has heard
 
--- the call's outcome is the table's, and a want of memory has changed nothing
+-- the call's outcome is the table's, and a call that ran out of memory changed nothing
 pub record HasHeard (old : Core) (m : Message) (new : Core) (result : Result Heard OutOfMemory) : Type 0 where
   pub ok : IfOk result (λ heard. hear old.state m ≡ (new.state, heard))
   pub stays : new ≡ with_state new.state old

@@ -1,5 +1,5 @@
--- Every message has its row. `hear` is a nest of tests in the table's order: `split` goes both ways at each of them, and what
--- the tests on a way say, as facts of the handler and of the client's mark, is what the row at its end asks.
+-- Every message has its row. `hear` is a nest of tests in the table's order, and `split` goes both ways at each of
+-- them. The tests on a way, as facts of the handler and of the client's mark, are the conditions of the row at its end.
 use Rattle.std.proofs.Common.{◌≡◌, ◌≢◌, ℕ, ◌+◌, ◌<◌, ◌≤◌, Bool, true, false, cond, ◌==◌, nat_lt, nat_le, ◌&&◌, ◌||◌, not, IsTrue, List, ◌⊎◌, Option, Some, None}
 use Rattle.std.proofs.Common.{length, refl, sym, ap, subst, ◌∙◌, inl, inr, arith}
 use Rattle.std.specs.Prelude.{is_none}
@@ -29,7 +29,7 @@ use Rattle.scoop_handler.specs.Rows.{open_without_lock, no_room_for_a_queue, is_
 use Rattle.scoop_handler.specs.Rows.{is_freed, repeated_unlock, IsLogAt, IsNext, log_of_a_block_not_open, is_answered, already_received, has_gap, after_the_end}
 use Rattle.scoop_handler.specs.Rows.{pending_full, is_taken}
 
--- ---- tests, and what they say
+-- ---- tests, and their meaning
 
 -- a choice, by its test
 pub split : {A : Type 0} (P : A → Type 0) (t : Bool) (x y : A) → (t ≡ true → P x) → (t ≡ false → P y) → P (cond t x y)
@@ -181,7 +181,7 @@ log_row s h b n es k here at =
       is_next : nat_le (last_number n es) k.received ≡ false → nat_lt (k.received + 1) n ≡ false → IsNext k n es
       is_next e f = record { new = leb-false (last_number n es) k.received e; no_gap = ltb-false (k.received + 1) n f }
 
--- ---- which row a message comes to
+-- ---- the row of a message
 
 block_row : (s : HandlerState) (m : Message) (b : Block) (heard : Mark → Hearing) → handler_of m ≡ s.number → asking_block m ≡ Some b
     → ((k : Mark) → IsHeardAt s b k → Row s m (heard k)) → Row s m (hear_of s b heard)

@@ -24,7 +24,7 @@ out-first c out = rw out refl
 same-first : (c : Core) (s : HandlerState) → MayReset s c → c.out ≡ true → first_task (with_state s c) ≡ first_task c
 same-first c s may out = sym (out-first (with_state s c) out) ∙ may.job ∙ out-first c out
 
--- two handlers with the same first task, where there is one
+-- two handlers with the same first task, if there is one
 abbrev AreAlike : Core → Core → Type 0
 AreAlike d c = (d.state.words ≡ c.state.words) × IsTrue (is_some (front d.state.queues))
 
@@ -53,7 +53,7 @@ IsCore-reset c s sound given may = record {
   job = λ out. (reset-alike c s sound may out).1;
 }
 
--- the handler with the parts of the state that it takes
+-- the handler with the parts of the new state
 pub given-parts : (c : Core) (s : HandlerState) (number : HandlerId) (words : List ℕ) (out : Bool) → number ≡ s.number → words ≡ s.words → out ≡ c.out
     → core_of c.class (state_of number s.holder s.marks s.queues words) out ≡ with_state s c
 given-parts c s number words out same_number same_words same_out = rw (same_number, same_words, same_out) refl

@@ -15,11 +15,11 @@ pub record Core : Type 0 where
 abbrev pub core_of : ClassTable → HandlerState → Bool → Core
 core_of class state out = record { class = class; state = state; out = out }
 
--- the same with another state
+-- the same handler with another state
 abbrev pub with_state : HandlerState → Core → Core
 with_state s c = core_of c.class s c.out
 
--- what is true of every handler
+-- facts of every handler
 pub record IsCore (c : Core) : Type 0 where
   pub state : IsState c.state
   pub words : length c.state.words ≡ c.class.words
@@ -36,7 +36,7 @@ abbrev pub is_out : {B : Type 0} → Presence B → Bool
 is_out (Here object) = false
 is_out (Out old) = true
 
--- the object, where it is here, has a property
+-- the object, if it is here, has a property
 abbrev pub IfHere : {B : Type 0} → Presence B → (B → Type 0) → Type 0
 IfHere (Here object) P = P object
 IfHere (Out old) P = ⊤

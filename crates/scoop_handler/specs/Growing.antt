@@ -1,4 +1,4 @@
--- How what a handler keeps of its clients may change: it only goes on.
+-- The growth of a handler's marks: what a handler keeps of a client only goes on.
 use Rattle.std.specs.Prelude.{◌≡◌, ◌<◌, ◌≤◌, ◌⊎◌, IsTrue, List, Some}
 use Rattle.scoop_message.specs.declared.name.ClientId.{ClientId}
 use Rattle.scoop_handler.specs.declared.mark.Mark.{Mark}
@@ -9,7 +9,7 @@ use Rattle.scoop_handler.specs.Marks.{mark_of}
 abbrev pub IsNewer : Mark → Mark → Type 0
 IsNewer k x = (k.inc < x.inc) ⊎ ((k.inc ≡ x.inc) × (k.num < x.num))
 
--- the same block, which has at most left the lock behind, has no fewer entries received, and stays ended
+-- the same block: it may have left the lock, has no fewer entries received, and stays ended
 pub record IsFurther (k x : Mark) : Type 0 where
   pub inc : k.inc ≡ x.inc
   pub num : k.num ≡ x.num

@@ -1,5 +1,4 @@
--- What a handler does with a message: its new state, the reply and the note. Of several cases the first
--- that fits decides.
+-- The effect of a message on a handler: its new state, the reply and the note. The first case that fits decides.
 use Rattle.std.specs.Prelude.{◌≡◌, ◌≤◌, ◌+◌, ◌-◌, ◌^◌, ℕ, Bool, ◌&&◌, ◌||◌, not, ◌==◌, nat_lt, nat_le, if◌then◌else◌, List, length, drop, Option, Some}
 use Rattle.std.specs.Prelude.{None, is_none, Result, Ok, Err}
 use Rattle.scoop_message.specs.declared.limits.TheConstants.{MAX_MARKS, MAX_QUEUES, MAX_PENDING}
@@ -35,7 +34,7 @@ dropped s why = (s, record { reply = None; note = Dropped why })
 abbrev pub replied : HandlerState → Message → Note → Hearing
 replied s reply note = (s, record { reply = Some reply; note = note })
 
--- the state stays: what the message asks for stands already
+-- the state stays, since the message asks for what holds already
 abbrev pub known : HandlerState → Message → Hearing
 known s reply = replied s reply Known
 
@@ -140,7 +139,7 @@ new_entries n es k = drop (k.received + 1 - n) es
 abbrev pub is_closed : Mark → ℕ → List Entry → Bool
 is_closed k last es = k.ended || (nat_le (2 ^ 32) last || (last == 2 ^ 32 - 1 && not (ends es)))
 
--- entries are put behind those of the block's private queue, and one mark changes
+-- entries go after those of the block's private queue, and one mark changes
 abbrev pub with_put : HandlerState → Block → List Entry → Mark → HandlerState
 with_put s b es k = record s { marks = set_mark k s.marks; queues = put_all b es s.queues }
 
@@ -150,7 +149,7 @@ with_entries s b n es k = with_put s b (new_entries n es k) (with_received (last
 abbrev pub took : HandlerState → Block → ℕ → List Entry → Mark → Hearing
 took s b n es k = replied (with_entries s b n es k) (Logged s.number b (last_number n es)) (Took (last_number n es))
 
--- the private queue has no room for so many more
+-- the private queue has no room for this many more
 abbrev pub has_no_room : HandlerState → Block → ℕ → Bool
 has_no_room s b more = nat_lt MAX_PENDING (pending b s.queues + more)
 
@@ -163,9 +162,9 @@ hear_log s b n es k =
     else if has_no_room s b (length (new_entries n es k)) then dropped s PendingFull
     else took s b n es k
 
--- ---- which row a message comes to
+-- ---- the row of a message
 
--- the mark that a message of this block is heard at, or why it is not heard
+-- the mark for a message of this block, or why the message is dropped
 abbrev pub mark_for : Block → Option Mark → Result Mark Reason
 mark_for b None = Err Ungreeted
 mark_for b (Some k) =

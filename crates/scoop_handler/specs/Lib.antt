@@ -3,6 +3,7 @@ pub mod State
 pub mod Core
 pub mod Hearing
 pub mod Running
+pub mod Local
 pub mod Growing
 pub mod Memory
 pub mod Rows

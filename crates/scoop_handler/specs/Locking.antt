@@ -1,4 +1,4 @@
--- What the lock's users rely on.
+-- Laws of the lock that its users rely on.
 use Rattle.std.specs.Prelude.{◌≡◌, ◌<◌, ⊤, Option, Some, None}
 use Rattle.scoop_message.specs.declared.name.Block.{Block}
 use Rattle.scoop_message.specs.declared.name.HandlerId.{HandlerId}
@@ -24,7 +24,7 @@ EndsHold b (Hello h c inc) = (c ≡ b.client) × (b.inc < inc)
 EndsHold b (Unlock h x) = x ≡ b
 EndsHold b m = ⊥
 
--- how the holder may change: from none to a block that asks, and to none by a message that ends its hold
+-- the holder's changes: from none to a block that asks, and to none by a message that ends its hold
 abbrev pub HolderMoves : Option Block → Message → Option Block → Type 0
 HolderMoves None m None = ⊤
 HolderMoves None m (Some b) = AsksFor b m

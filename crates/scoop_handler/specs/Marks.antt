@@ -1,4 +1,4 @@
--- What a handler keeps of its clients: one mark for each that has greeted it.
+-- A handler's marks: one for each client that has greeted it.
 use Rattle.std.specs.Prelude.{◌≡◌, ◌<◌, ℕ, Bool, true, false, nat_lt, if◌then◌else◌, List, [], ◌∷◌, Option, Some, None, find, map, length, take_while}
 use Rattle.std.specs.Prelude.{slice_index_or, slice_set}
 use Rattle.scoop_message.specs.declared.name.Block.{Block}
@@ -23,7 +23,7 @@ is_shut Held = false
 is_shut Open = false
 is_shut Shut = true
 
--- the block that the mark is of
+-- the mark's block
 abbrev pub block_of : Mark → Block
 block_of k = record { client = k.client; inc = k.inc; num = k.num }
 
@@ -65,7 +65,7 @@ add_mark k (x ∷ xs) = if nat_lt x.client.0 k.client.0 then x ∷ add_mark k xs
 abbrev pub place_of : ClientId → List Mark → ℕ
 place_of c marks = length (take_while (λ k. nat_lt k.client.0 c.0) marks)
 
--- where the client's mark stands: it is the one that is found, and the one that is set
+-- the place of the client's mark: lookups find the mark there, and it is set there
 pub record IsPlaceOf (c : ClientId) (marks : List Mark) (i : ℕ) : Type 0 where
   pub within : i < length marks
   pub found : (d : Mark) → mark_of c marks ≡ Some (slice_index_or marks i d)

@@ -9,7 +9,7 @@ use Rattle.scoop_handler.specs.Marks.{mark_of}
 use Rattle.scoop_handler.specs.State.{HandlerState}
 use Rattle.scoop_handler.specs.Hearing.{hear}
 
--- a message with this note has taken memory, where its client's mark was this
+-- a message with this note has taken memory, if its client's mark was this
 abbrev pub adds : Option Mark → Note → Bool
 adds k Greeted = is_none k
 adds k Granted = false

@@ -1,5 +1,5 @@
--- The table by which a handler hears, a row for each case: which message, in which state, and what comes
--- of it. Every message has a row, so what is true of each row is true of `hear`.
+-- The table by which a handler hears, one row for each case: the message, the state, and the outcome. Every message has
+-- a row, so a law of each row holds of `hear`.
 use Rattle.std.specs.Prelude.{⊤, ◌≡◌, ◌≢◌, ◌⊎◌, ◌<◌, ◌≤◌, ◌+◌, ℕ, ◌&&◌, not, if◌then◌else◌, List, length, Option, Some, None, is_none, IsTrue, IsFalse}
 use Rattle.scoop_message.specs.declared.limits.TheConstants.{MAX_MARKS, MAX_QUEUES}
 use Rattle.scoop_message.specs.declared.name.Block.{Block}
@@ -30,7 +30,7 @@ abbrev pub IsUngreeted : Block → Option Mark → Type 0
 IsUngreeted b None = ⊤
 IsUngreeted b (Some k) = k.inc < b.inc
 
--- a newer incarnation, or a newer block of the same one, was there before
+-- a newer incarnation, or a newer block of the same one, came before
 abbrev pub IsPast : Block → Mark → Type 0
 IsPast b k = (b.inc < k.inc) ⊎ ((k.inc ≡ b.inc) × (b.num < k.num))
 

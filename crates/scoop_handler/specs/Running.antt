@@ -16,7 +16,7 @@ use Rattle.scoop_handler.specs.Marks.{block_of}
 use Rattle.scoop_handler.specs.State.{HandlerState}
 use Rattle.scoop_handler.specs.Core.{Core, core_of, with_state}
 
--- an entry that is to run, and the object that it is to run on
+-- an entry that is to run, and its object
 pub record Task : Type 0 where
   pub handler : HandlerId
   pub block : Block
@@ -50,7 +50,7 @@ task_effect t = entry_effect t.class t.words t.entry
 abbrev pub ran_of : Task → Ran
 ran_of t = record { block = t.block; number = t.number; entry = t.entry; answer = (task_effect t).1 }
 
--- a query's answer is kept where its block is still its client's newest
+-- a query's answer is kept if its block is still its client's newest
 abbrev pub kept_after : Ran → Mark → Option (ℕ × Answer)
 kept_after r k =
     if is_query r.entry && same_block (block_of k) r.block then option_map (λ a. (r.number, a)) r.answer else k.kept
@@ -73,23 +73,23 @@ begun c = core_of c.class c.state (c.out || is_some (ready c))
 abbrev pub finished : Task → Core → Core
 finished t c = core_of c.class (after t c.state) false
 
--- running at once is both
+-- a run at once is both
 abbrev pub run : Core → Core
 run c = option_map_or (λ t. finished t c) (ready c) c
 
--- ---- when a state may be taken
+-- ---- states that a handler takes
 
 -- the words of the state have the number that the class says
 abbrev pub FitsClass : ClassTable → HandlerState → Type 0
 FitsClass class s = length s.words ≡ class.words
 
--- the state may take the place of the handler's: a job that is out is also in it the job that is out
+-- the state may replace the handler's: if a job is out, it is the job of the new state too
 pub record MayReset (s : HandlerState) (c : Core) : Type 0 where
   pub number : s.number ≡ c.state.number
   pub words : FitsClass c.class s
   pub job : job_out (with_state s c) ≡ job_out c
 
--- an object of this class may take the place of the one that is out, with this state
+-- an object of this class may replace the one that is out, with this state
 pub record MayRecall (class : ClassTable) (s : HandlerState) (c : Core) : Type 0 where
   pub out : c.out ≡ true
   pub number : s.number ≡ c.state.number
@@ -98,7 +98,7 @@ pub record MayRecall (class : ClassTable) (s : HandlerState) (c : Core) : Type 0
 
 -- ---- runs
 
--- what runs, one entry after another, until nothing can run
+-- the entries that run, one after another, until nothing can run
 pub data RunsOut : Core → List Ran → Core → Type 0 where
   idle : (c : Core) → ready c ≡ None → RunsOut c [] c
   then_more : (c d : Core) (t : Task) (rs : List Ran) → ready c ≡ Some t → RunsOut (finished t c) rs d → RunsOut c (ran_of t ∷ rs) d

@@ -1,4 +1,4 @@
--- What a handler keeps, and what is true of it at all times.
+-- A handler's state, and the facts of it at all times.
 use Rattle.std.specs.Prelude.{◌≡◌, ◌<◌, ◌≤◌, ◌⊎◌, ◌+◌, ℕ, Bool, false, IsTrue, IsFalse, ◌&&◌, ◌||◌, not, ⊤, List, [], ◌∷◌, length, Option, Some, None}
 use Rattle.std.specs.List.{AllByRecursion}
 use Rattle.scoop_message.specs.declared.name.Block.{Block}
@@ -20,7 +20,7 @@ pub record HandlerState : Type 0 where
 abbrev pub state_of : HandlerId → Option Block → List Mark → List PrivateQueue → List ℕ → HandlerState
 state_of number holder marks queues words = record { number = number; holder = holder; marks = marks; queues = queues; words = words }
 
--- nobody has greeted the handler yet
+-- no client has greeted the handler yet
 abbrev pub new_state : HandlerId → List ℕ → HandlerState
 new_state number words = state_of number None [] [] words
 
@@ -32,7 +32,7 @@ is_holder (Some x) b = same_block x b
 abbrev pub is_unfinished : HandlerState → Mark → Bool
 is_unfinished s k = is_holder s.holder (block_of k) || is_open k.stage && not k.ended
 
--- ---- what is true of every state: the marks and the holder
+-- ---- facts of every state: the marks and the holder
 
 abbrev pub IsAscending : List Mark → Type 0
 IsAscending [] = ⊤
@@ -64,7 +64,7 @@ pub record IsUnused (k : Mark) : Type 0 where
 pub record IsUnusedUnlessOpen (k : Mark) : Type 0 where
   pub unused : IsFalse (is_open k.stage) → IsUnused k
 
--- ---- what is true of every state: the private queues beside the marks
+-- ---- facts of every state: the private queues beside the marks
 
 -- a block that takes more entries has a private queue that does
 pub record HasQueueIfOpen (queues : List PrivateQueue) (k : Mark) : Type 0 where
@@ -74,14 +74,14 @@ pub record HasQueueIfOpen (queues : List PrivateQueue) (k : Mark) : Type 0 where
 abbrev pub IsNotAbove : Block → Mark → Type 0
 IsNotAbove b k = (b.inc < k.inc) ⊎ ((b.inc ≡ k.inc) × (b.num ≤ k.num))
 
--- the private queue of the client's newest block holds what was received and has not run, and takes more
--- only while the block is open and has not ended
+-- the private queue of the client's newest block holds the received entries that have not run; it takes more only while
+-- the block is open and has not ended
 pub record FitsNewest (q : PrivateQueue) (k : Mark) : Type 0 where
   pub received : next_number q ≡ k.received + 1
   pub unfinished : IsTrue (takes_more q.state) → IsTrue (is_open k.stage && not k.ended)
 
--- a private queue beside the mark of its client: an older block's takes no more, and a newer incarnation has
--- greeted where it is cut
+-- a private queue beside its client's mark: an older block's takes no more, and a queue is cut only by the greeting of
+-- a newer incarnation
 pub record FitsMark (q : PrivateQueue) (k : Mark) : Type 0 where
   pub not_above : IsNotAbove q.block k
   pub newest : block_of k ≡ q.block → FitsNewest q k
@@ -93,7 +93,7 @@ pub record HasMark (marks : List Mark) (q : PrivateQueue) : Type 0 where
   pub found : mark_of q.block.client marks ≡ Some mark
   pub fits : FitsMark q mark
 
--- ---- all of it
+-- ---- all facts
 
 pub record AreWords (words : List ℕ) : Type 0 where
   pub some : 1 ≤ length words

@@ -19,7 +19,7 @@ reason_text NotOpen = codes "NotOpen"
 reason_text Gap = codes "Gap"
 reason_text PendingFull = codes "PendingFull"
 
--- the number that was taken, and the reason of a drop, stand behind the name
+-- the number of entries, or the reason of a drop, follows the name
 abbrev pub note_text : Note → List ℕ
 note_text Greeted = codes "Greeted"
 note_text Granted = codes "Granted"

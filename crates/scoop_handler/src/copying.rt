@@ -1,4 +1,4 @@
-//! A state that takes the place of another one, in the room that this has.
+//! A state that replaces another one in the same room.
 
 ghost use Rattle.std.specs.Prelude.{◌≡◌, ◌≤◌, length, vec_capacity, OnOk, OnErr};
 

@@ -1,4 +1,4 @@
-//! Why a call on a handler is refused.
+//! The reasons to refuse a call on a handler.
 
 ghost use Rattle.std.specs.Prelude.{◌≡◌};
 
@@ -8,7 +8,7 @@ use scoop_object::Behaviour;
 use std::fmt;
 use thiserror::Error;
 
-/// The object hasn't the class, or the stored words don't fit it. The object is handed back.
+/// The object hasn't the class, or the stored words don't fit it. The error holds the object.
 #[derive(Drop, Error)]
 #[error("WrongClass")]
 pub struct WrongClass<B>(pub B);
@@ -19,7 +19,7 @@ impl<B> fmt::Debug for WrongClass<B> {
     }
 }
 
-/// The job isn't the one that is out. It is handed back.
+/// The job isn't the one that is out. The error holds the job.
 #[derive(Drop, Error)]
 #[error("StrangerJob")]
 pub struct StrangerJob<B: Behaviour>(pub Done<B>);

@@ -22,8 +22,7 @@ use scoop_queue::QueueOfQueues;
 use std::alloc::{Allocator, Global};
 use std::marker::Model;
 
-/// One handler with its object. Contracts see it as its state, the class of its object, and whether a job
-/// is out.
+/// One handler with its object. Contracts see its state, the class of its object, and whether a job is out.
 #[derive(Drop)]
 pub struct Handler<B: Behaviour, A: Allocator = Global> {
     class: Class,

@@ -9,7 +9,7 @@ use scoop_message::{Answer, Block, Entry, HandlerId, Words};
 use scoop_object::{Behaviour, Class};
 use std::marker::Model;
 
-/// An object that has left its handler to run an entry. Contracts see it as that task.
+/// An object that has left its handler to run an entry. Contracts see that task.
 #[derive(Drop)]
 pub struct Job<B: Behaviour> {
     handler: HandlerId,
@@ -31,7 +31,7 @@ impl<B: Behaviour> Model for Job<B> {
     ghost invariant = { λ j. (B.words j.object ≡ j.words) × (length j.words ≡ (B.class j.object).words) };
 }
 
-/// A job that is done. Contracts see it as its task: its words and its answer are the task's effect.
+/// A job that is done. Contracts see its task: its words and its answer are the task's effect.
 #[derive(Drop)]
 pub struct Done<B: Behaviour> {
     handler: HandlerId,
@@ -55,7 +55,7 @@ impl<B: Behaviour> Model for Done<B> {
         × (length d.left ≡ (B.class d.object).words) };
 }
 
-/// Runs an entry on an object: its answer, where it has one.
+/// Runs an entry on an object, and returns its answer, if it has one.
 pub(crate) fn run_entry<B: Behaviour>(object: &mut B, entry: &Entry) -> Option<Answer>
     ensures class { B.class object.new ≡ B.class object.old }
     ensures words { B.words object.new ≡ (entry_effect (B.class object.old) (B.words object.old) entry.now).0 }
@@ -69,8 +69,7 @@ pub(crate) fn run_entry<B: Behaviour>(object: &mut B, entry: &Entry) -> Option<A
 }
 
 impl<B: Behaviour> Job<B> {
-    /// An object that leaves its handler to run the entry that is first there, with its block and its
-    /// number.
+    /// An object that leaves its handler to run the first entry there, with the entry's block and number.
     pub(crate) fn new(
         handler: HandlerId,
         first: (Block, u32, Entry),
@@ -174,7 +173,7 @@ impl<B: Behaviour> Done<B> {
         self.ran.number
     }
 
-    /// What has run, and the object's answer.
+    /// The entry that has run, and the object's answer.
     pub(crate) fn ran(&self) -> Ran
         ensures { result ≡ ran_of self.now }
     {

@@ -1,8 +1,9 @@
-//! One handler of the SCOOP protocol: whom it has greeted, which block holds its lock, its private queues,
-//! how it runs what they hold on its object, and what it answers to each message.
+//! One handler of the SCOOP protocol: the clients that it has greeted, the holder of its lock, its private queues,
+//! the runs of their entries on its object, and its replies.
 //!
-//! [`Handler::hear`] takes a message and gives the reply; [`Handler::run`] runs the first entry of the first private
-//! queue. To run it elsewhere, [`Handler::begin`] gives it out as a job and [`Handler::finish`] takes it back.
+//! [`Handler::hear`] takes a message and returns the reply. [`Handler::run`] runs the first entry of the first
+//! private queue. To run it elsewhere, [`Handler::begin`] returns it as a job and [`Handler::finish`] takes it
+//! back.
 //!
 //! ```
 //! // the object has one word, which is 0, and the operation ADD of its class adds to it

@@ -1,4 +1,4 @@
-//! What a handler keeps of one client.
+//! A handler's record of one client.
 
 ghost use Rattle.std.specs.Prelude.{◌≡◌};
 ghost use Rattle.scoop_handler.specs.Marks.{block_of, fresh_mark, opened_mark, with_received, without_hold};
@@ -7,18 +7,18 @@ ghost use Rattle.scoop_handler.specs.Running.{mark_after};
 use crate::ran::Ran;
 use scoop_message::{Answer, Block, ClientId};
 
-/// How far a client's newest block has come at a handler.
+/// The progress of a client's newest block at a handler.
 #[derive(Clone, Copy, Debug, PartialEq, Eq)]
 pub enum Stage {
     /// It holds the lock, and has no private queue yet.
     Held,
-    /// It has been given a private queue.
+    /// It has a private queue.
     Open,
     /// It was freed before it opened, or there was no block yet.
     Shut,
 }
 
-/// What a handler keeps of a client that has greeted it.
+/// A handler's record of a client that has greeted it.
 #[derive(Clone, Copy, Debug, PartialEq, Eq)]
 pub struct Mark {
     pub client: ClientId,

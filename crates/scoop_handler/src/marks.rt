@@ -1,4 +1,4 @@
-//! The marks of a handler's clients, by ascending client, so that a client's is found by halves.
+//! The marks of a handler's clients, by ascending client, for binary search.
 
 ghost use Rattle.std.specs.Prelude.{◌≡◌, ◌≤◌, length, map, MatchOption, OnOk, OnErr};
 ghost use Rattle.scoop_handler.specs.Marks.{IsPlaceOf, IsNowhere, mark_of, set_mark, add_mark, place_of};
@@ -19,7 +19,7 @@ fn place_of_client(marks: &[Mark], client: ClientId) -> usize
     marks.partition_point(|k| k.client.0 < client.0)
 }
 
-// Where the client's mark stands.
+// The place of the client's mark.
 fn find_place(marks: &[Mark], client: ClientId) -> Option<usize>
     requires { IsAscending marks.now }
     ensures { MatchOption result (IsNowhere client marks.now) (IsPlaceOf client marks.now) }
@@ -67,7 +67,7 @@ pub(crate) fn add_mark_in<A: Allocator>(
     Ok(())
 }
 
-/// Keeps the answer of an entry that has run, where it is a query of its client's newest block.
+/// Keeps the answer of an entry that has run, if it is a query of its client's newest block.
 pub(crate) fn keep_answer_in<A: Allocator>(marks: &mut Vec<Mark, A>, ran: &Ran)
     ensures { marks.new.items ≡ map (mark_after ran.now) marks.old.items }
 {

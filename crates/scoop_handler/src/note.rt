@@ -1,4 +1,4 @@
-//! What a handler answers to a message, and what it tells of it.
+//! A handler's reply to a message, with a note.
 
 ghost use Rattle.std.specs.Prelude.{◌≡◌, Some, None};
 
@@ -52,24 +52,24 @@ impl fmt::Display for Reason {
     }
 }
 
-/// What a handler did with a message. Printed as its name; a number of entries and a reason follow.
+/// The effect of a message on a handler. Printed as its name; a number of entries or a reason follows.
 #[derive(Clone, Copy, Debug, PartialEq, Eq)]
 pub enum Note {
     /// The client, or a newer incarnation of it, has been greeted.
     Greeted,
     /// The block was granted the lock.
     Granted,
-    /// The lock was refused to the block.
+    /// The block didn't get the lock.
     Held,
-    /// The block was given a private queue.
+    /// The block has got a private queue.
     Opened(Block),
     /// The block doesn't hold the lock any more.
     Freed,
     /// The block's entries up to this number are received.
     Took(u32),
-    /// What the message asks for stands already. Nothing changes, and it is answered.
+    /// The message asks for what holds already. Nothing changes, and the handler replies.
     Known,
-    /// The message changed nothing and has no answer.
+    /// The message changed nothing and gets no reply.
     Dropped(Reason),
 }
 
@@ -92,7 +92,7 @@ impl fmt::Display for Note {
     }
 }
 
-/// The answer to a message.
+/// The reply to a message, with a note.
 #[derive(Clone, Copy, Debug, PartialEq, Eq)]
 pub struct Heard {
     /// The message to send back to the client, if any.

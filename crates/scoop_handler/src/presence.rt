@@ -1,4 +1,4 @@
-//! Where a handler's object is.
+//! The place of a handler's object.
 
 ghost use Rattle.std.specs.Prelude.{◌≡◌, length};
 

@@ -5,7 +5,7 @@ ghost use Rattle.scoop_message.specs.Entry.{is_query};
 
 use scoop_message::{Answer, Block, Entry};
 
-/// An entry that a handler has run, and the object's answer: an End has none.
+/// An entry that a handler has run, and the object's answer. An End has none.
 #[derive(Clone, Copy, Debug, PartialEq, Eq)]
 pub struct Ran {
     pub block: Block,

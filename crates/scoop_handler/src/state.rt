@@ -1,4 +1,4 @@
-//! What a handler keeps, as a value of its own.
+//! A handler's state, as a value of its own.
 
 ghost use Rattle.std.specs.Prelude.{◌≡◌, ◌↔◌, length, slice_get, IsTrue, IfErr, IfOk, OnOk, OnErr};
 ghost use Rattle.scoop_handler.specs.State.{state_of, IsState};
@@ -14,7 +14,7 @@ use std::alloc::{Allocator, Global};
 use std::marker::Model;
 use thiserror::Error;
 
-/// Why parts were not made a handler's state, in the order in which it is tested.
+/// Why parts make no handler's state, in the order in which it is tested.
 #[derive(Clone, Copy, Debug, PartialEq, Eq, Error)]
 pub enum StateError {
     /// No handler can have this state.
@@ -25,9 +25,9 @@ pub enum StateError {
     OutOfMemory,
 }
 
-/// The state of a handler: its number, the block that holds its lock, the marks of its clients, its
-/// private queues, and its object's words. Whether a job is out isn't in it: the entry of a job that is
-/// out is pending there, and the words are those with which it left.
+/// The state of a handler: its number, the block that holds its lock, the marks of its clients, its private
+/// queues, and its object's words. It doesn't say whether a job is out: then the job's entry is still pending, and
+/// the words are those with which it left.
 #[derive(Drop)]
 pub struct HandlerState<A: Allocator = Global> {
     pub(crate) number: HandlerId,
@@ -48,14 +48,17 @@ impl<A: Allocator> Model for HandlerState<A> {
 }
 
 impl<A: Allocator> HandlerState<A> {
-    /// The state of these parts; the marks are kept with this allocator.
+    /// Makes the state of these parts. The marks are kept with this allocator.
     ///
-    /// Refused: `BadState` where there are more than `MAX_MARKS` marks or they don't stand by ascending
-    /// client; where the holder isn't the block of a mark that is held or open, or a held mark's block isn't the
-    /// holder; where something was received of a block that isn't open; where the block of a mark that is
-    /// open and not ended has no open private queue; where a private queue's client has no mark, its block
-    /// is above that mark's, or what it holds differs from what the mark says was received; where a queue
-    /// is open whose block isn't that of such a mark, or cut and of the mark's incarnation; `OutOfMemory`.
+    /// Refused: `BadState` if a condition below isn't met, then `OutOfMemory`.
+    /// - There are at most `MAX_MARKS` marks, by ascending client.
+    /// - The holder is the block of a mark that is held or open, and a held mark's block is the holder.
+    /// - Only an open block has received entries.
+    /// - The block of a mark that is open and not ended has an open private queue.
+    /// - Each private queue's client has a mark, whose block isn't below the queue's.
+    /// - The queue of a mark's block agrees with the entries that the mark has received.
+    /// - An open queue's block is that of an open mark that has not ended.
+    /// - A cut queue isn't of its mark's incarnation.
     pub fn of(
         alloc: A,
         number: HandlerId,
@@ -183,8 +186,9 @@ impl<A: Allocator + Copy> HandlerState<A> {
             self.words,
         )
     }
-    /// Takes the other state, in the room that it has where that is enough. An `Err` changes nothing; `OutOfMemory`
-    /// is the one refusal.
+
+    /// Takes over the other state, in its own room if that is enough. An `Err` changes nothing; `OutOfMemory` is
+    /// the one refusal.
     pub fn copy_from(&mut self, other: &HandlerState<A>) -> Result<(), OutOfMemory>
         ensures ok { OnOk result (self.new ≡ other.now) }
         ensures err { OnErr result (self.new ≡ self.old) }

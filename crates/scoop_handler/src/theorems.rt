@@ -1,4 +1,4 @@
-//! What holds of the definitions: functions with nothing in them but a clause.
+//! Laws of the definitions: functions with an empty body and one clause.
 
 ghost use Rattle.std.specs.Prelude.{◌≡◌, ◌↔◌};
 ghost use Rattle.scoop_message.specs.declared.message.Message.{Message};
@@ -6,7 +6,7 @@ ghost use Rattle.scoop_handler.specs.State.{HandlerState};
 ghost use Rattle.scoop_handler.specs.Hearing.{Hearing, hear};
 ghost use Rattle.scoop_handler.specs.Rows.{Row};
 
-/// What a handler does with a message is what fits a row of its table, and nothing else fits one.
+/// The effect of a message on a handler fits a row of its table, and nothing else fits one.
 pub fn heard_by_the_table()
     ensures { (s : HandlerState) (m : Message) (hearing : Hearing) → (hear s m ≡ hearing) ↔ Row s m hearing }
 {}

@@ -1,4 +1,4 @@
--- What is loaded after a put, and what a keeper has after several calls.
+-- Loads after a put, and the contents of a keeper after several calls.
 use Rattle.std.proofs.Common.{◌≡◌, ℕ, Option, Some, None, refl, sym, ap, ◌∙◌}
 use Rattle.scoop_message.specs.declared.name.HandlerId.{HandlerId}
 use Rattle.scoop_handler.specs.State.{HandlerState}

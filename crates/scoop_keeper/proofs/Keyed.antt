@@ -37,7 +37,7 @@ module _ {A : Type 0} (test : A → Bool) where
           step_on : (k : ℕ) → suc k + 1 ≡ suc (k + 1)
           step_on k = omega arith
 
--- what was read at a place
+-- the item that was read at a place
 pub item_at : {A : Type 0} (xs : List A) (i : ℕ) (x : A) → i < length xs → x ≡ get_or xs i x → slice_get xs i ≡ Some x
 item_at xs i x within is = slice_get-get_or xs i x within ∙ ap Some (sym is)
 
@@ -75,7 +75,7 @@ module _ {A K : Type 0} (key : A → K) (same : K → K → Bool) (decides : (a 
       (λ _ is. absurd (let zs = apart zero (suc i) (key a) (ap Some ((decides (key x) (key a)).0 is)) e in omega (arith, zs)))
       (λ _ is. ap (λ ys. x ∷ ys) (set_newer a xs i (λ j k y p q. let ss = apart (suc j) (suc k) y p q in omega (arith, ss)) e)) refl
 
-  -- what is so of the new one, and of those with other keys
+  -- the new one has the property, and so have those with other keys
   pub all_newer : (P Q : A → Type 0) (a : A) (xs : List A) → Q a → ((x : A) → same (key x) (key a) ≡ false → P x → Q x) → AllByRecursion P xs
       → AllByRecursion Q (map (newer a) xs)
   all_newer P Q a [] own others all = tt

@@ -3,4 +3,4 @@ pub mod Keyed
 pub mod UsedUp
 pub mod KeeperLemmas
 pub mod MemoryLemmas
-pub mod RunningLemmas
+pub mod StoringLemmas

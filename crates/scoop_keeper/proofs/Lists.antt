@@ -36,7 +36,7 @@ module _ {X : Type 0} where
       → AllByRecursion P (take (i + 1) xs)
   all_taken P xs i x at all p = subst (AllByRecursion P) (sym (taken xs i x at)) (all_more P (take i xs) x all p)
 
-  -- the bytes of one element more, behind others
+  -- the bytes of one element more, after others
   pub bytes_taken : (f : X → List ℕ) (xs : List X) (i : ℕ) (x : X) (old now new : List ℕ) → slice_get xs i ≡ Some x → now ≡ old ++ flat_map f (take i xs)
       → new ≡ now ++ f x
       → new ≡ old ++ flat_map f (take (i + 1) xs)

@@ -1,4 +1,4 @@
--- What a keeper in memory has once a state was put.
+-- The contents of a keeper in memory after a put.
 use Rattle.std.proofs.Common.{◌≡◌, ℕ, List, cond, subst, Some, Result, Ok, Err, IfSome, OnOk, OnErr, sym, ap, arith}
 use Rattle.std.specs.Map.{lookup}
 use Rattle.std.specs.BTreeMap.{is_at}
@@ -38,7 +38,7 @@ own_put (Ok _) old new number kept s copied is own up done same = own_updated ol
 own_put (Err _) old new number kept s copied is own up done same = λ handler. let e : state_at new handler ≡ state_at old handler =
     ap (lookup (is_at (nat_cmp handler))) same in rw e (own handler)
 
--- what was put under the state's number, as a copy of it
+-- a copy of the state was put under its number
 pub puts_copy : (old new : List (ℕ × HandlerState)) (number : HandlerId) (kept s : HandlerState) → kept ≡ s → number ≡ s.number
     → ((q : ℕ) → lookup (is_at (nat_cmp q)) new ≡ cond (is_at (nat_cmp number.0) q) (Some kept) (lookup (is_at (nat_cmp q)) old)) → Puts old new s
 puts_copy old new number kept s copied is up = λ q.

@@ -1,7 +1,7 @@
--- What a keeper that fails after some calls has.
+-- A keeper that fails after some calls.
 use Rattle.std.specs.Prelude.{ℕ}
 
--- the keeper behind it, and how many calls it still passes on
+-- the keeper under it, and how many calls it still passes on
 pub record FailingRecord (K : Type 0) : Type 0 where
   pub keeper : K
   pub left : ℕ

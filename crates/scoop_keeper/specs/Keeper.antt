@@ -1,4 +1,4 @@
--- What a keeper has, and how a call changes it.
+-- The contents of a keeper, and how a call changes them.
 use Rattle.std.specs.Prelude.{◌≡◌, ◌≢◌, ◌↔◌, ◌⊎◌, ℕ, ◌+◌, Option, Some, None, unwrap_or}
 use Rattle.scoop_message.specs.declared.name.HandlerId.{HandlerId}
 use Rattle.scoop_handler.specs.State.{HandlerState}
@@ -20,7 +20,7 @@ pub record IsTheOne (has : Stored → Type 0) (v : Stored) : Type 0 where
   pub there : has v
   pub only : (other : Stored) → has other → other ≡ v
 
--- what a keeper has for each handler, by its number, stays
+-- the keeper's contents for each handler, by its number, stay
 abbrev pub StaysAt : (old new : ℕ → Stored → Type 0) → ℕ → Type 0
 StaysAt old new handler = (v : Stored) → old handler v ↔ new handler v
 

@@ -1,4 +1,4 @@
--- What a keeper in memory has.
+-- The contents of a keeper in memory.
 use Rattle.std.specs.Prelude.{◌≡◌, ℕ, List, Option, Some, if◌then◌else◌}
 use Rattle.std.specs.Map.{lookup}
 use Rattle.std.specs.BTreeMap.{is_at}

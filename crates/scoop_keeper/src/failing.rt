@@ -25,7 +25,7 @@ impl<K> Model for FailingKeeper<K> {
 }
 
 impl<K: Drop> FailingKeeper<K> {
-    /// A keeper that passes on `calls` calls, and answers `Refused` to every later one.
+    /// A keeper that passes on `calls` calls, and returns `Refused` from every later one.
     pub fn new(keeper: K, calls: u64) -> FailingKeeper<K>
         ensures { result ≡ failing keeper calls }
     {
@@ -35,14 +35,14 @@ impl<K: Drop> FailingKeeper<K> {
         }
     }
 
-    /// The keeper behind this one.
+    /// The keeper under this one.
     pub fn into_inner(self) -> K
         ensures { result ≡ self.keeper }
     {
         self.keeper
     }
 
-    // Counts a call, and tells whether it is passed on.
+    // Counts a call, and returns whether it is passed on.
     fn passes(&mut self) -> bool
         ensures passes { IsTrue result → self.old.left ≡ self.new.left + 1 }
         ensures refuses { IsFalse result → (self.old.left ≡ 0) × (self.new ≡ self.old) }

@@ -1,4 +1,4 @@
-//! What keeps the states of handlers and the incarnations of clients.
+//! Keepers of the states of handlers and the incarnations of clients.
 
 ghost use Rattle.std.specs.Prelude.{◌≡◌, ◌⊎◌, ⊤, ℕ, Option, Result, Some, IfSome, IfOk, IfErr, OnOk, OnErr};
 
@@ -8,15 +8,15 @@ use std::alloc::Allocator;
 use std::fmt;
 use thiserror::Error;
 
-/// Why a keeper refuses. A call that is refused has changed nothing. Printed as its name, with the number
-/// of the handler whose image is bad.
+/// Why a keeper refuses. A refused call has changed nothing. Printed as its name, with the number of the handler whose
+/// image is bad. The text is written by hand, since clauses cite it.
 #[derive(Clone, Copy, Debug, Drop, PartialEq, Eq, Error)]
 pub enum KeeperError {
     /// A growth of memory was refused.
     OutOfMemory,
     /// The keeper's medium refused.
     Refused,
-    /// What is stored for this handler is no state of it.
+    /// The bytes stored for this handler are no state of it.
     BadImage(HandlerId),
     /// The client's stored incarnation is the last one.
     IncarnationsSpent,
@@ -51,8 +51,8 @@ impl From<OutOfMemory> for KeeperError {
     }
 }
 
-/// Keeps the states of handlers, whose memory this allocator gives, and the incarnations of clients.
-/// Contracts see it as what it has for each handler and for each client.
+/// Keeps the states of handlers, in memory of this allocator, and the incarnations of clients.
+/// Contracts see what it has for each handler and for each client.
 pub trait Keeper<A: Allocator>: Drop {
     ghost use Rattle.scoop_handler.specs.State.{HandlerState};
     ghost use Rattle.scoop_message.specs.declared.name.HandlerId.{HandlerId};
@@ -60,17 +60,17 @@ pub trait Keeper<A: Allocator>: Drop {
     ghost use Rattle.scoop_keeper.specs.declared.keeper.KeeperError.{KeeperError};
     ghost use Rattle.scoop_keeper.specs.Keeper.{Stored, Damaged, stored_of, IsTheOne, Stays, Keeps, IsSame, Sets, next_of, last_incarnation, IsPutError};
 
-    // What there is for each handler, by its number.
+    // The stored state of each handler, by its number.
     ghost handlers: { Self → ℕ → Stored → Type 0 };
 
     // The stored incarnation of each client, by its number.
     ghost incarnations: { Self → ℕ → Option ℕ };
 
-    // Nobody else has written the medium, and what was written is what is read.
+    // Nobody else has written the medium, and it reads back what was written.
     ghost is_honest: { Self → Type 0 };
 
-    // What a call tells beside the clauses below, of the keeper before it, what was asked, the answer and the keeper
-    // after it: nothing, where a keeper doesn't say. A keeper over any other shows these only by making the call.
+    // More facts of a call than the clauses below state: of the keeper before it, the argument, the result and the keeper
+    // after it. By default there are none. A keeper over another one shows them only by making the call.
     ghost put_gives: { Self → HandlerState → Result (Unit {0}) KeeperError → Self → Type 0 } = { λ _ _ _ _. ⊤ };
 
     ghost load_gives: { Self → HandlerId → Result (Option HandlerState) KeeperError → Self → Type 0 } = { λ _ _ _ _. ⊤ };
@@ -88,9 +88,9 @@ pub trait Keeper<A: Allocator>: Drop {
         ensures honest { is_honest self.new → is_honest self.old }
         ensures gives { put_gives self.old state.now result self.new };
 
-    /// The state that is stored for the handler, `None` where there is none.
+    /// The handler's stored state, `None` if there is none.
     ///
-    /// Refused: `OutOfMemory`, `Refused`, `BadImage` where what is stored is no state of the handler.
+    /// Refused: `OutOfMemory`, `Refused`, `BadImage` if the stored bytes are no state of the handler.
     fn load_handler(&mut self, handler: HandlerId) -> Result<Option<HandlerState<A>>, KeeperError>
         ensures loaded { is_honest self.new → IfOk result (λ found. IsTheOne (handlers self.old handler.0) (stored_of found)) }
         ensures own { IfOk result (λ found. IfSome found (λ s. s.number ≡ handler)) }
@@ -101,10 +101,9 @@ pub trait Keeper<A: Allocator>: Drop {
         ensures honest { is_honest self.new → is_honest self.old }
         ensures gives { load_gives self.old handler result self.new };
 
-    /// One more than the client's stored incarnation, 1 where there is none: stored before it is answered.
+    /// One more than the client's stored incarnation, 1 if there is none. It is stored before the call returns.
     ///
-    /// Refused with nothing changed: `OutOfMemory`, `Refused`, `IncarnationsSpent` where the stored one
-    /// is the last.
+    /// Refused with nothing changed: `OutOfMemory`, `Refused`, `IncarnationsSpent` if the stored one is the last.
     fn next_incarnation(&mut self, client: ClientId) -> Result<u32, KeeperError>
         ensures next { is_honest self.new → IfOk result (λ inc. inc ≡ next_of (incarnations self.old client.0)) }
         ensures stored { is_honest self.new → IfOk result (Sets (incarnations self.old) (incarnations self.new) client.0) }

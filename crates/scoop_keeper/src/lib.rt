@@ -1,9 +1,9 @@
-//! Keepers: what has to outlive a restart is with them, the states of handlers and the incarnations of clients.
+//! Keepers of what has to outlive a restart: the states of handlers and the incarnations of clients.
 //!
-//! A [`Keeper`] takes and gives them. A [`MemoryKeeper`] has them in memory, a [`FailingKeeper`] stands over another
-//! one, for tests; the store in the tables of a database is `scoop_record`'s. A handler runs over any keeper by
-//! [`hear_and_store`] and [`finish_and_store`]: a new state is stored before it is kept. In the example `is_loaded` tells
-//! whether it was this state that came.
+//! A [`Keeper`] stores and loads them. A [`MemoryKeeper`] has them in memory. A [`FailingKeeper`] stands over another
+//! keeper, for tests. The store in the tables of a database is `scoop_record`'s. A handler runs over any keeper by
+//! [`hear_and_store`] and [`finish_and_store`], which store a new state before the handler keeps it. In the example
+//! `is_loaded` returns whether it was this state that came.
 //!
 //! ```
 //! // what is put for a handler is what is loaded
@@ -26,12 +26,12 @@ mod advice;
 mod failing;
 mod keeper;
 mod memory;
-mod running;
+mod storing;
 
 pub use advice::memory_advice;
 pub use failing::FailingKeeper;
 pub use keeper::{Keeper, KeeperError};
 pub use memory::MemoryKeeper;
-pub use running::{
+pub use storing::{
     JobRefusal, Unfinished, finish_and_store, finish_beside, hear_and_store, hear_beside,
 };

@@ -56,8 +56,7 @@ impl<A: Allocator + Copy> MemoryKeeper<A> {
     }
 }
 
-// Keeps a copy of the state for its handler, in the room of the earlier one where there is one. An `Err` changes
-// nothing.
+// Keeps a copy of the state for its handler, in the room of the earlier one if there is one. An `Err` changes nothing.
 fn keep<A: Allocator + Copy>(
     states: &mut BTreeMap<u32, HandlerState<A>, A>,
     state: &HandlerState<A>,
@@ -87,8 +86,8 @@ impl<A: Allocator + Copy> Keeper<A> for MemoryKeeper<A> {
 
     ghost is_honest = { λ _. Unit {0} };
 
-    // Memory refuses for want of memory alone, and an incarnation exactly where the last one is stored: told here
-    // too, so that it is known behind a keeper that passes calls on.
+    // This keeper refuses only when it is out of memory, and an incarnation exactly when the last one is stored. Stated
+    // here too, so that it is known of a keeper that passes calls on to this one.
     ghost put_gives = { λ _ _ result _. IfErr result (λ e. e ≡ KeeperError.OutOfMemory) };
 
     ghost load_gives = { λ _ _ result _. IfErr result (λ e. e ≡ KeeperError.OutOfMemory) };
@@ -102,7 +101,7 @@ impl<A: Allocator + Copy> Keeper<A> for MemoryKeeper<A> {
         ensures refused { OnErr result (self.new ≡ self.old) }
         ensures named { IfErr result (λ e. e ≡ KeeperError.OutOfMemory) }
     {
-        // For the prover: its number.
+        // Shows the prover the state's number.
         let _handler = state.handler();
         keep(&mut self.states, state)?;
         Ok(())

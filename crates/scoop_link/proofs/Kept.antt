@@ -1,4 +1,4 @@
--- What a link keeps of a datagram.
+-- The part of a datagram that a link keeps.
 use Rattle.std.proofs.Common.{◌≡◌, ℕ, List, ◌++◌, length, take, min, ◌≤◌, ap, ◌∙◌, arith}
 use Rattle.std.proofs.lemmas.List.{take_at, take_min, take_all, length-take}
 use Rattle.scoop_message.specs.declared.limits.TheConstants.{BUFFER_LEN}

@@ -1,4 +1,4 @@
--- What is passed on after a silence.
+-- Sends after a receive timeout.
 use Rattle.std.proofs.Common.{◌≡◌, ℕ, ◌+◌, ◌<◌, Bool, true, false, ◌||◌, not, List, [], ◌∷◌, ◌++◌, map, set, get_or, take, drop, length, refl, inl, inr}
 use Rattle.std.proofs.lemmas.Bool.{cases_Bool}
 use Rattle.std.proofs.lemmas.List.{get_or_default}
@@ -10,7 +10,7 @@ use Rattle.scoop_link.specs.declared.pace.Last.{Last}
 use Rattle.scoop_link.specs.Party.{same_party}
 use Rattle.scoop_link.specs.Pace.{PaceValue, silenced, last_to, passes_after, passes, after_silence}
 
--- a loop that notes a silence behind each
+-- a loop that marks a receive timeout after each
 pub silenced_in_place : (xs ys : List Last) (i : ℕ) (d : Last) → i < length xs → i < length ys → ys ≡ map silenced (take i xs) ++ drop i xs
     → set ys i (silenced (get_or ys i d)) ≡ map silenced (take (i + 1) xs) ++ drop (i + 1) xs
 silenced_in_place xs ys i d in_xs in_ys so_far = map_over_more silenced xs ys i (get_or ys i d) in_xs so_far (get_or_default ys i d _ in_ys)
@@ -23,6 +23,6 @@ silenced-passes p (l ∷ ls) to datagram =
       | inr other ↦ rw other (silenced-passes p ls to datagram)
     ]
 
--- after a silence whatever is sent is passed on
+-- after a receive timeout every datagram is passed on
 pub silence-passes : (p : PaceValue) (to : Party) (datagram : List ℕ) → passes (after_silence p) to datagram ≡ true
 silence-passes p to datagram = silenced-passes (after_silence p) p.lasts to datagram

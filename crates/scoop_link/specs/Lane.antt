@@ -1,10 +1,10 @@
--- What a lane is, and what it drops, doubles and keeps.
+-- A lane, and the datagrams that it drops, doubles and keeps.
 use Rattle.std.specs.Prelude.{ℕ, ◌+◌, ◌-◌, ◌^◌, min, List, [], ◌++◌, take, replicate}
 use Rattle.scoop_link.specs.declared.script.Script.{Script}
 use Rattle.scoop_link.specs.Datagram.{kept}
 use Rattle.scoop_link.specs.Script.{copies}
 
--- the script, how many datagrams find room, how many were put, and those that are under way
+-- the script, the room for datagrams, the number of puts, and the datagrams under way
 pub record LaneValue : Type 0 where
   pub script : Script
   pub room : ℕ
@@ -14,7 +14,7 @@ pub record LaneValue : Type 0 where
 abbrev pub empty_lane : Script → ℕ → LaneValue
 empty_lane script room = record { script = script; room = room; puts = 0; datagrams = [] }
 
--- the copies of the put go last, and those that find room are kept
+-- the copies of the put go last; a copy that finds no room is lost
 abbrev pub after_put : LaneValue → List ℕ → LaneValue
 after_put l bytes =
     let k = min (l.puts + 1) (2 ^ 64 - 1) in

@@ -1,8 +1,8 @@
--- What a paced link is.
+-- A rate-limited link.
 use Rattle.std.specs.Prelude.{ℕ}
 use Rattle.scoop_link.specs.Pace.{PaceValue, fresh_pace}
 
--- the link behind it, and its pace
+-- the inner link, and the retransmission limit
 pub record PacedValue (L : Type 0) : Type 0 where
   pub inner : L
   pub pace : PaceValue

@@ -1,8 +1,8 @@
--- What one end of a scripted pair is, and when it fails.
+-- One end of a scripted pair, and the call that fails.
 use Rattle.std.specs.Prelude.{ℕ, ◌+◌, ◌-◌, ◌^◌, min, ◌==◌, ◌&&◌, not, nat_le, if◌then◌else◌}
 use Rattle.scoop_link.specs.declared.script.Script.{Script}
 
--- its script, and how many calls it has counted
+-- its script, and the number of calls so far
 pub record ScriptEnd : Type 0 where
   pub script : Script
   pub calls : ℕ

@@ -1,4 +1,4 @@
--- What a link over UDP is, and where a party is reached.
+-- A link over UDP, and the address of a party.
 use Rattle.std.specs.Prelude.{ℕ, List, [], ◌∷◌, find, Option}
 use Rattle.std.specs.Option.{option_map}
 use Rattle.std.specs.declared.net.ip_addr.IpAddr.{IpAddr}
@@ -44,7 +44,7 @@ pub record UdpValue : Type 0 where
 abbrev pub open_udp : List (Party × Address) → UdpValue
 open_udp addresses = record { addresses = addresses; faults = 0 }
 
--- the first that stands beside the party
+-- the first address listed for the party
 
 abbrev pub socket_addr_to : List (Party × SocketAddr) → Party → Option SocketAddr
 socket_addr_to addresses to = option_map (λ p. p.1) (find (λ p. same_party p.0 to) addresses)

@@ -1,4 +1,4 @@
-//! What a link keeps of a datagram.
+//! The part of a datagram that a link keeps.
 
 ghost use Rattle.std.specs.Prelude.{◌≡◌, ◌≤◌, length, take, drop};
 ghost use Rattle.std.specs.VecDeque.{deque_len, deque_capacity};
@@ -9,7 +9,7 @@ use std::alloc::Allocator;
 use std::collections::VecDeque;
 use std::marker::Model;
 
-/// A datagram as links keep it: its first `BUFFER_LEN` bytes. Contracts see it as these bytes.
+/// A datagram as links keep it: its first `BUFFER_LEN` bytes. Contracts see these bytes.
 #[derive(Drop)]
 pub struct Datagram {
     bytes: [u8; BUFFER_LEN],
@@ -27,7 +27,7 @@ impl Model for Datagram {
     ghost invariant = { λ d. d.len ≤ BUFFER_LEN };
 }
 
-// Copies what a link keeps of some bytes to the start of a buffer, and answers how much that is.
+// Copies the part of some bytes that a link keeps to the start of a buffer, and returns its length.
 fn copy_kept(bytes: &[u8], buffer: &mut [u8; BUFFER_LEN]) -> usize
     ensures in_bounds { result ≤ BUFFER_LEN }
     ensures copied { take result buffer.new ≡ kept bytes.now }
@@ -39,7 +39,7 @@ fn copy_kept(bytes: &[u8], buffer: &mut [u8; BUFFER_LEN]) -> usize
 }
 
 impl Datagram {
-    /// What a link keeps of some bytes.
+    /// Makes the datagram that a link keeps of some bytes.
     pub fn of(bytes: &[u8]) -> Datagram
         ensures { result ≡ kept bytes.now }
     {
@@ -56,8 +56,7 @@ impl Datagram {
         &self.bytes[..self.len]
     }
 
-    /// Copies the bytes to the start of a buffer, and answers how many there are. What is behind them
-    /// in the buffer stays.
+    /// Copies the bytes to the start of a buffer, and returns their number. The rest of the buffer stays.
     pub fn write_to(&self, buffer: &mut [u8; BUFFER_LEN]) -> usize
         ensures in_bounds { result ≤ BUFFER_LEN }
         ensures written { take result buffer.new ≡ self.now }

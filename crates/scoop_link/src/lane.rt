@@ -1,4 +1,4 @@
-//! A lane of datagrams, which drops and doubles by a script.
+//! A lane of datagrams that drops and doubles by a script.
 
 ghost use Rattle.std.specs.Prelude.{◌≡◌, [], IfOk};
 ghost use Rattle.scoop_link.specs.Datagram.{TakesFirst};
@@ -35,7 +35,7 @@ impl<A: Allocator> Model for Lane<A> {
 }
 
 impl<A: Allocator> Lane<A> {
-    /// An empty lane, with memory for `room` datagrams. `OutOfMemory` comes where that is refused.
+    /// Makes an empty lane, with memory for `room` datagrams. `OutOfMemory` means that the memory was refused.
     pub fn new(alloc: A, script: Script, room: usize) -> Result<Lane<A>, OutOfMemory>
         ensures { IfOk result (λ l. l ≡ empty_lane script room) }
     {
@@ -48,9 +48,9 @@ impl<A: Allocator> Lane<A> {
         })
     }
 
-    /// Puts a datagram in last, of which the lane keeps the first `BUFFER_LEN` bytes. The k-th put, counted from
-    /// 1, is dropped where `drop_every` divides k, and else appended twice where `double_every` divides
-    /// k. A copy that finds no room is lost. The count of puts stops at 2^64-1.
+    /// Puts a datagram in last; the lane keeps its first `BUFFER_LEN` bytes. The k-th put, counted from 1, is
+    /// dropped if `drop_every` divides k, and otherwise appended twice if `double_every` divides k. A copy that
+    /// finds no room is lost. The count of puts stops at 2^64-1.
     pub fn put(&mut self, bytes: &[u8])
         ensures { self.new ≡ after_put self.old bytes.now }
     {
@@ -63,7 +63,7 @@ impl<A: Allocator> Lane<A> {
     }
 
     /// Takes the first datagram out: its length, at most `BUFFER_LEN`, and its bytes at the start of the buffer.
-    /// `None` comes where the lane is empty.
+    /// `None` means that the lane is empty.
     pub fn take(&mut self, buffer: &mut [u8; BUFFER_LEN]) -> Option<usize>
         ensures first { TakesFirst result self.old.datagrams self.new.datagrams buffer.old buffer.new }
         ensures others { self.new ≡ record self.old { datagrams = self.new.datagrams } }

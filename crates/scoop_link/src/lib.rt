@@ -1,12 +1,12 @@
 //! Links: ways to send and receive datagrams, none of which is sure to arrive.
 //!
-//! [`Link`] is what every link keeps. [`UdpLink`] carries datagrams over UDP, and [`PacedLink`] holds repeated
-//! ones back while an earlier one may be on its way. The others are for tests: the two ends of a
-//! [`ScriptLink`] share lanes that drop and double by a script, and a [`TapeLink`] gives what it was fed and
-//! keeps what it was sent. No send and no receive takes memory.
+//! [`Link`] is the contract of every link. [`UdpLink`] carries datagrams over UDP, and [`PacedLink`] holds
+//! repeated ones back while an earlier one may be on its way. The others are for tests. The two ends of a
+//! [`ScriptLink`] share lanes that drop and double by a script, and a [`TapeLink`] plays datagrams to its user and
+//! records those sent. No send and no receive takes memory.
 //!
 //! ```
-//! // of what the client sends each third datagram is lost, and each second one comes twice
+//! // every third datagram of the client is lost, and every second one comes twice
 //! let lossy = Script {
 //!     drop_every: 3,
 //!     double_every: 2,
@@ -38,7 +38,7 @@ mod udp_link;
 pub use datagram::Datagram;
 pub use lane::Lane;
 pub use link::{Link, LinkFault};
-pub use paced_link::PacedLink;
+pub use paced_link::{PacedLink, REPEATS};
 pub use party::Party;
 pub use script::Script;
 pub use script_link::ScriptLink;

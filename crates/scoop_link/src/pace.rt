@@ -1,4 +1,4 @@
-//! What a paced link passes on, and what it counts.
+//! The retransmission limit of a rate-limited link.
 
 ghost use Rattle.std.specs.Prelude.{◌≡◌, ◌≤◌, map, position, bytes_eq, IfOk, vec_len, vec_capacity};
 ghost use Rattle.std.specs.Option.{option_copied};
@@ -11,19 +11,19 @@ use scoop_message::OutOfMemory;
 use std::alloc::Allocator;
 use std::marker::Model;
 
-// The last of so many datagrams in a row without a silence counts as one.
+// The last of this number of datagrams in a row counts as a receive timeout.
 const MAX_IN_A_ROW: u64 = 64;
 
-/// The datagram that was passed on to a party last.
+/// The last datagram passed on to a party.
 #[derive(Drop)]
 pub struct Last {
     /// The party.
     pub party: Party,
     /// The datagram.
     pub datagram: Datagram,
-    /// How often it was repeated in a row. The count stops at 2^64-1.
+    /// The number of repetitions in a row. It stops at 2^64-1.
     pub repeated: u64,
-    /// Whether a silence came since.
+    /// Whether a receive timeout came since.
     pub silent: bool,
 }
 
@@ -36,7 +36,7 @@ impl Last {
     }
 }
 
-/// The last datagrams of parties, and the counts by which a paced link decides.
+/// The last datagrams of parties, and the counts by which a rate-limited link decides.
 #[derive(Drop)]
 pub(crate) struct Pace<A: Allocator> {
     lasts: Vec<Last, A>,
@@ -57,14 +57,14 @@ impl<A: Allocator> Model for Pace<A> {
     ghost invariant = { λ p. (vec_len p.lasts ≤ p.room) × (p.room ≤ vec_capacity p.lasts) };
 }
 
-// What was passed on to a party last.
+// The last datagram passed on to a party.
 fn last_of(lasts: &[Last], to: Party) -> Option<&Last>
     ensures { option_copied result ≡ last_to lasts.now to }
 {
     lasts.iter().find(|last| last.party == to)
 }
 
-// The place of what was passed on to a party last.
+// The place of a party's last datagram.
 fn place_of(lasts: &[Last], to: Party) -> Option<usize>
     ensures { result ≡ position (λ l. same_party l.party to) lasts.now }
 {
@@ -87,7 +87,7 @@ fn next(lasts: &[Last], to: Party, datagram: Datagram) -> Last
     }
 }
 
-// Puts a last datagram in the place of its party's, or behind the others where there is room.
+// Puts a last datagram in place of its party's, or after the others if there is room.
 fn put<A: Allocator>(lasts: &mut Vec<Last, A>, room: usize, last: Last)
     requires { room ≤ vec_capacity lasts.old }
     ensures items { lasts.new.items ≡ put_last room lasts.old.items last }
@@ -101,7 +101,7 @@ fn put<A: Allocator>(lasts: &mut Vec<Last, A>, room: usize, last: Last)
     }
 }
 
-// Notes a silence behind each.
+// Marks a receive timeout after each.
 fn silence_all(lasts: &mut [Last])
     ensures { lasts.new ≡ map silenced lasts.old }
 {
@@ -111,7 +111,7 @@ fn silence_all(lasts: &mut [Last])
 }
 
 impl<A: Allocator> Pace<A> {
-    /// A pace before anything was sent, with memory for the last datagrams of `room` parties.
+    /// Makes a limit before the first send, with memory for the last datagrams of `room` parties.
     pub(crate) fn new(alloc: A, room: usize, repeats: u64) -> Result<Pace<A>, OutOfMemory>
         ensures { IfOk result (λ p. p ≡ fresh_pace room repeats) }
     {
@@ -146,7 +146,7 @@ impl<A: Allocator> Pace<A> {
         self.passed = self.passed.saturating_add(1);
     }
 
-    /// Notes a silence.
+    /// Counts a receive timeout.
     pub(crate) fn silence(&mut self)
         ensures { self.new ≡ after_silence self.old }
     {

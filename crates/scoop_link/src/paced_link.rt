@@ -16,17 +16,21 @@ use scoop_message::limits::BUFFER_LEN;
 use std::alloc::{Allocator, Global};
 use std::marker::Model;
 
-/// A link that passes sends on to the link behind it, and holds a repeated datagram back while an earlier
-/// one may be on its way.
+/// The `repeats` of the programs' clients: a client sends a datagram again at once at most this often. Then it waits for
+/// an empty poll.
+pub const REPEATS: u64 = 8;
+
+/// A link that passes sends on to an inner link, and holds a repeated datagram back while an earlier one may be on
+/// its way.
 ///
-/// It counts the datagrams that it passed on and those that it received since the last silence, which is a
-/// receive that gave nothing; the last of `MAX_IN_A_ROW` datagrams in a row without one counts as a silence. A
-/// datagram other than the last one that was passed on to its party is passed on. The same one again is passed on
-/// where a silence came since, or where at least as many were received as passed on and it was repeated
-/// fewer than `repeats` times in a row; else it is lost, and the send answers `Ok`. Another datagram to that
-/// party begins the row anew. A call that fails in the link behind it counts as nothing.
+/// It counts the datagrams passed on and received since the last receive timeout, that is, a receive without a
+/// datagram. The last of `MAX_IN_A_ROW` datagrams in a row counts as a timeout too. A datagram that isn't the last
+/// one passed on to its party is passed on, and begins a new row of repetitions. The last one is passed on again
+/// if a timeout came since, or if at least as many were received as passed on and it was repeated fewer than
+/// `repeats` times in a row. Otherwise it is lost, and the send returns `Ok`. A call that fails in the inner link
+/// counts as nothing.
 ///
-/// Contracts see the link behind it, and its pace. It doesn't tell its datagrams.
+/// Contracts see the inner link, and the retransmission limit. It doesn't record its datagrams.
 #[derive(Drop)]
 pub struct PacedLink<L, A: Allocator = Global> {
     inner: L,
@@ -42,9 +46,9 @@ impl<L, A: Allocator> Model for PacedLink<L, A> {
 }
 
 impl<L: Link, A: Allocator> PacedLink<L, A> {
-    /// A pace for the link, with memory for the last datagrams of `parties` parties: those to others are
-    /// always passed on. A datagram is repeated at once at most `repeats` times in a row. `OutOfMemory`
-    /// comes where the memory is refused.
+    /// Limits the link's retransmissions, with memory for the last datagrams of `parties` parties; datagrams to
+    /// others are always passed on. A datagram is repeated at most `repeats` times in a row without a timeout.
+    /// `OutOfMemory` means that the memory was refused.
     pub fn new(
         alloc: A,
         inner: L,
@@ -57,7 +61,7 @@ impl<L: Link, A: Allocator> PacedLink<L, A> {
         Ok(PacedLink { inner, pace })
     }
 
-    /// The link behind this one.
+    /// The inner link.
     pub fn inner(&self) -> &L
         ensures { result.now ≡ self.now.inner }
     {

@@ -1,4 +1,4 @@
-//! Whom datagrams go to.
+//! The receivers of datagrams.
 
 use scoop_message::{ClientId, HandlerId};
 

@@ -1,9 +1,9 @@
-//! What goes wrong on a scripted link.
+//! The faults of a scripted link.
 
 ghost use Rattle.std.specs.Prelude.{◌≡◌};
 ghost use Rattle.scoop_link.specs.Script.{is_every, copies};
 
-/// What goes wrong on a lane or at an end. 0 means never.
+/// The faults of a lane or of an end. 0 means never.
 #[derive(Clone, Copy, Debug, Default, PartialEq, Eq)]
 pub struct Script {
     /// Each put whose number this divides is dropped.
@@ -22,7 +22,7 @@ fn is_every(every: u64, k: u64) -> bool
 }
 
 impl Script {
-    // How many copies the `k`-th put appends.
+    // The number of copies that the `k`-th put appends.
     pub(crate) fn copies(&self, k: u64) -> usize
         ensures { result ≡ copies self.now k }
     {

@@ -1,4 +1,4 @@
-//! Two ends in one thread, between which datagrams are dropped and doubled.
+//! Two ends in one thread, with lanes between them that drop and double datagrams.
 
 ghost use Rattle.std.specs.Prelude.{◌≡◌, ◌≤◌, ◌+◌, ◌↔◌, [], None, IfOk, IfSome, IsErr, IsTrue, if◌then◌else◌};
 ghost use Rattle.scoop_link.specs.Link.{CountsFault};
@@ -15,13 +15,13 @@ use std::cell::RefCell;
 use std::marker::Model;
 use std::rc::Rc;
 
-// A lane that both ends hold. No borrow of it outlasts a call, so it is always free.
+// A lane that both ends share. No borrow of it outlasts a call, so it is always free.
 type SharedLane<A> = Rc<RefCell<Lane<A>>, A>;
 
-/// One end of a pair, for tests. What it sends goes into the lane of its own script, whoever the
-/// receiver is, and it receives from the other end's lane. Its call of number `fail_at`, sends and
-/// receives counted together from 1, fails and does nothing else, and no other call fails. Contracts
-/// see its script and its count of calls, and so which call fails; what the lanes hold they don't see.
+/// One end of a pair, for tests. It sends into the lane of its own script, whoever the receiver is, and receives
+/// from the other end's lane. Its call of number `fail_at`, with sends and receives counted together from 1, fails
+/// and has no other effect; no other call fails. Contracts see its script and its number of calls, and so the call
+/// that fails. They don't see the lanes.
 #[derive(Drop)]
 pub struct ScriptLink<A: Allocator = Global> {
     script: Script,
@@ -39,8 +39,8 @@ impl<A: Allocator> Model for ScriptLink<A> {
 }
 
 impl<A: Allocator + Clone> ScriptLink<A> {
-    /// Two ends that share two lanes, each with memory for `room` datagrams. `OutOfMemory` comes where
-    /// memory is refused.
+    /// Makes two ends that share two lanes, each with memory for `room` datagrams. `OutOfMemory` means that memory
+    /// was refused.
     pub fn pair(
         alloc: A,
         first: Script,
@@ -77,7 +77,7 @@ fn shared_lane<A: Allocator + Clone>(
 }
 
 impl<A: Allocator> ScriptLink<A> {
-    // Counts a call, and answers whether it fails.
+    // Counts a call, and returns whether it fails.
     fn fails(&mut self) -> bool
         ensures fails { IsTrue result ↔ (self.old.calls + 1 ≡ self.old.script.fail_at) }
         ensures counts { self.new ≡ after_call self.old }

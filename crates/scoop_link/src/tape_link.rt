@@ -1,4 +1,4 @@
-//! A link that tells its datagrams.
+//! A link that records its datagrams.
 
 ghost use Rattle.std.specs.Prelude.{◌≡◌, ◌≤◌, ◌<◌, ◌-◌, ◌^◌, ◌↔◌, [], ◌∷◌, ◌++◌, length, Some, None, IfOk, OnOk, OnErr, IsErr, IsOkAnd, IfSome, MatchOption};
 ghost use Rattle.std.specs.Prelude.{slice_get};
@@ -15,10 +15,10 @@ use std::alloc::{Allocator, Global};
 use std::collections::VecDeque;
 use std::marker::Model;
 
-/// A link for tests, which gives the datagrams that it was fed and keeps those that it was sent.
+/// A link for tests, which plays the datagrams that a test fed it and records those sent.
 ///
-/// A send past its room is a fault, and a receive never fails. It tells its datagrams while its count of
-/// faults is below 2^64-1.
+/// A send past its room is a fault, and a receive never fails. It records its datagrams for contracts while its
+/// count of faults is below 2^64-1.
 #[derive(Drop)]
 pub struct TapeLink<A: Allocator = Global> {
     to_come: VecDeque<Datagram, A>,
@@ -39,8 +39,8 @@ impl<A: Allocator> Model for TapeLink<A> {
 }
 
 impl<A: Allocator + Clone> TapeLink<A> {
-    /// A link with nothing to come, and memory for `room` sent datagrams. `OutOfMemory` comes where that
-    /// is refused.
+    /// Makes a link with nothing to come, and memory for `room` sent datagrams. `OutOfMemory` means that the
+    /// memory was refused.
     pub fn new(alloc: A, room: usize) -> Result<TapeLink<A>, OutOfMemory>
         ensures { IfOk result (λ t. t ≡ empty_tape room) }
     {
@@ -56,8 +56,8 @@ impl<A: Allocator + Clone> TapeLink<A> {
 }
 
 impl<A: Allocator> TapeLink<A> {
-    /// Appends a datagram to those to come, of which the link keeps the first `BUFFER_LEN` bytes. `OutOfMemory`
-    /// comes where there is no memory for it, and nothing has changed then.
+    /// Appends a datagram to those to come; the link keeps its first `BUFFER_LEN` bytes. `OutOfMemory` means that
+    /// there was no memory for it, and nothing has changed.
     pub fn feed(&mut self, bytes: &[u8]) -> Result<(), OutOfMemory>
         ensures ok { OnOk result (self.new ≡ record self.old { to_come = self.old.to_come ++ kept bytes.now ∷ [] }) }
         ensures err { OnErr result (self.new ≡ self.old) }
@@ -66,7 +66,7 @@ impl<A: Allocator> TapeLink<A> {
         Ok(())
     }
 
-    /// The i-th datagram that was sent, counted from 0, with its receiver.
+    /// The i-th sent datagram, counted from 0, with its receiver.
     pub fn sent(&self, i: usize) -> Option<(Party, &[u8])>
         ensures { MatchOption result (slice_get self.now.sent i ≡ None) (λ d. slice_get self.now.sent i ≡ Some (d.0, d.1.now)) }
     {
@@ -74,7 +74,7 @@ impl<A: Allocator> TapeLink<A> {
         Some((*to, datagram.as_slice()))
     }
 
-    /// How many datagrams are to come.
+    /// The number of datagrams to come.
     pub fn to_come(&self) -> usize
         ensures { result ≡ length self.now.to_come }
     {

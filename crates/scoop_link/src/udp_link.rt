@@ -21,29 +21,29 @@ use thiserror::Error;
 // How long a receive waits for a datagram.
 const RECEIVE_MILLIS: u64 = 10;
 
-/// Which port of 127.0.0.1 is one's own, and which ports are those of other parties.
+/// One's own port of 127.0.0.1, and the ports of other parties.
 #[derive(Clone, Copy, Debug)]
 pub struct Peers<'a> {
     /// The port that receives.
     pub own: u16,
-    /// The ports of parties, none of them 0. Of two for one party the first counts.
+    /// The ports of parties, none of them 0. If a party is listed twice, its first port counts.
     pub table: &'a [(Party, u16)],
 }
 
-/// Which address is one's own, and where other parties are reached: by IPv4 or IPv6. What one's own address
-/// can't reach, as one of the other family, is a fault of each send to it.
+/// One's own address, and the addresses of other parties, by IPv4 or IPv6. A send to an address that one's own
+/// can't reach, as one of the other family, is a fault.
 #[derive(Clone, Copy, Debug)]
 pub struct Addresses<'a> {
     /// The address that receives.
     pub own: SocketAddr,
-    /// The addresses of parties, none of them with port 0. Of two for one party the first counts.
+    /// The addresses of parties, none of them with port 0. If a party is listed twice, its first address counts.
     pub table: &'a [(Party, SocketAddr)],
 }
 
-/// Why a link isn't opened.
+/// The reasons not to open a link.
 #[derive(Clone, Copy, Debug, PartialEq, Eq, Error)]
 pub enum OpenLinkError {
-    /// The system doesn't give the address, or a party's port is 0.
+    /// The system refuses the address, or a party's port is 0.
     #[error("Fault")]
     Fault,
     /// A growth of memory was refused.
@@ -121,8 +121,8 @@ fn socket_addr_to(addresses: &[(Party, SocketAddr)], to: Party) -> Option<Socket
 }
 
 impl<A: Allocator> UdpLink<A> {
-    /// Takes one's own port. `Fault` comes where a party's port is 0 or the system doesn't give one's
-    /// own, and then `OutOfMemory` where there is no memory for the parties' ports.
+    /// Binds one's own port. `Fault` means that a party's port is 0 or the system refuses one's own; then
+    /// `OutOfMemory`, that there is no memory for the parties' ports.
     pub fn open<R: Net>(rt: &R, alloc: A, peers: Peers<'_>) -> Result<UdpLink<A>, OpenLinkError>
         ensures opened { IfOk result (λ l. l ≡ open_udp (map reached_here peers.entry.table.now)) }
         ensures no_port { OnTrue (list_any (λ p. p.1 == 0) peers.entry.table.now) (result ≡ Err OpenLinkError.Fault) }
@@ -141,8 +141,8 @@ impl<A: Allocator> UdpLink<A> {
         })
     }
 
-    /// Takes one's own address. `Fault` comes where a party's port is 0 or the system doesn't give one's
-    /// own address, and then `OutOfMemory` where there is no memory for the parties' addresses.
+    /// Binds one's own address. `Fault` means that a party's port is 0 or the system refuses one's own address;
+    /// then `OutOfMemory`, that there is no memory for the parties' addresses.
     pub fn open_at<R: Net>(
         rt: &R,
         alloc: A,

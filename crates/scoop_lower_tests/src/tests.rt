@@ -2,6 +2,7 @@
 
 mod classes;
 mod frames;
+mod lines;
 mod links;
 mod messages;
 mod objects;

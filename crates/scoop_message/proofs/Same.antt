@@ -1,4 +1,4 @@
--- What `==` says of this crate's data: it decides whether two values are the same.
+-- `==` on this crate's data: it decides whether two values are the same.
 use Rattle.std.proofs.Common.{◌≡◌, ◌&&◌, Bool, ℕ, List, ap, ◌∙◌, refl}
 use Rattle.std.proofs.lemmas.Bool.Decides.{Decides-like, Decides-eqb, Decides-and}
 use Rattle.std.proofs.lemmas.Slice.Eq.{slice_eq-Decides}

@@ -11,7 +11,7 @@ before_last [] = []
 before_last (e ∷ []) = []
 before_last (e ∷ f ∷ es) = e ∷ before_last (f ∷ es)
 
--- an End stands only last: none of the others is one
+-- only the last entry may be an End
 abbrev pub end_only_last : List Entry → Bool
 end_only_last es = list_all (λ e. not (is_end e)) (before_last es)
 

@@ -1,4 +1,4 @@
--- What a message names, whom it goes to, and which messages may be sent.
+-- The parties that a message names, its direction, and the messages that may be sent.
 use Rattle.std.specs.Prelude.{ℕ, ◌+◌, ◌^◌, ◌≤◌, ◌==◌, ◌&&◌, Bool, true, false, length, Option, Some, None}
 use Rattle.scoop_message.specs.declared.name.HandlerId.{HandlerId}
 use Rattle.scoop_message.specs.declared.name.ClientId.{ClientId}

@@ -1,4 +1,4 @@
--- A short list kept in an array: the items first, and blanks behind them.
+-- A short list kept in an array: the items first, then blanks.
 use Rattle.std.specs.Prelude.{◌≡◌, ℕ, ◌-◌, ◌≤◌, List, ◌++◌, length, take, drop, replicate}
 use Rattle.std.proofs.Common.{arith}
 use Rattle.std.proofs.lemmas.List.{length-take, take-append-drop}

@@ -33,7 +33,7 @@ impl Model for Args {
 
     ghost invariant = { λ a. IsPadded 0 MAX_ARGS a.count a.cells };
 
-    // What is behind the list is known, so the list gives the array back.
+    // The cells after the list are known, so the list determines the array.
     ghost inverse = { λ xs. record { cells = padded 0 MAX_ARGS xs; count = length xs } };
 
     ghost inverse_ok = { λ a h i. record {
@@ -57,7 +57,7 @@ impl Eq for Args {
 }
 
 impl Args {
-    /// The list as arguments. `TooManyArgs` comes exactly where there are more than four.
+    /// Makes arguments of the list. Returns `TooManyArgs` exactly if there are more than four.
     pub fn of(args: &[u64]) -> Result<Args, TooManyArgs>
         ensures { OkIff result (length args.now ≤ MAX_ARGS) args.now }
     {

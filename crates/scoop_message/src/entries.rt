@@ -13,12 +13,12 @@ use crate::request::Entry;
 use std::marker::Model;
 use thiserror::Error;
 
-/// There are no entries, more than four, or one behind an End.
+/// There are no entries, more than four, or one after an End.
 #[derive(Clone, Copy, Debug, PartialEq, Eq, Error)]
 #[error("BadEntries")]
 pub struct BadEntries;
 
-/// The entries of a Log: one to four, an End only last. Contracts see them as a list.
+/// The entries of a Log: one to four, and only the last may be an End. Contracts see them as a list.
 #[derive(Clone, Copy, Debug)]
 pub struct Entries {
     cells: [Entry; MAX_ENTRIES],
@@ -61,7 +61,7 @@ impl Eq for Entries {
     ghost laws = { lists_equiv entry_laws.laws-law };
 }
 
-// Whether an End stands only last.
+// Whether only the last entry is an End.
 fn end_only_last(entries: &[Entry]) -> bool
     ensures { result ≡ end_only_last entries.now }
 {
@@ -83,8 +83,8 @@ pub fn ends(entries: &[Entry]) -> bool
 }
 
 impl Entries {
-    /// The list as the entries of one Log. `BadEntries` comes exactly where there are none, more than
-    /// four, or an End before the last.
+    /// Makes the entries of one Log of the list. Returns `BadEntries` exactly if there are none, more than four,
+    /// or an End before the last.
     pub fn of(entries: &[Entry]) -> Result<Entries, BadEntries>
         ensures { OkIff result ((0 < length entries.now) × (length entries.now ≤ MAX_ENTRIES) × EndOnlyLast entries.now) entries.now }
     {

@@ -1,8 +1,7 @@
-//! What the parties of the SCOOP protocol say to each other: names, requests, entries and messages, and the
-//! limits of each.
+//! The messages of the SCOOP protocol and their parts: names, requests and entries, with the limits of each.
 //!
-//! All of it is plain data of fixed size: nothing here takes memory. Contracts see `Words`, `Args`
-//! and `Entries` as lists, and everything else as it is written.
+//! Everything here is plain data of fixed size, so nothing takes memory. Contracts see `Words`, `Args` and
+//! `Entries` as lists, and everything else as it is written.
 //!
 //! ```
 //! let block = Block {

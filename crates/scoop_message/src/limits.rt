@@ -1,4 +1,4 @@
-//! How much of everything there may be.
+//! The limits of a system.
 
 /// Nodes of one world, at most.
 pub const MAX_NODES: usize = 64;
@@ -6,7 +6,7 @@ pub const MAX_NODES: usize = 64;
 /// Handlers of one world or of one node, at most.
 pub const MAX_HANDLERS: usize = 64;
 
-/// Marks of one handler, which are the clients that it has greeted, at most.
+/// Marks of one handler, at most. A handler keeps one for each client that it has greeted.
 pub const MAX_MARKS: usize = 64;
 
 /// Clients of one world, at most.
@@ -15,7 +15,7 @@ pub const MAX_CLIENTS: usize = 64;
 /// Private queues of one handler, at most.
 pub const MAX_QUEUES: usize = 64;
 
-/// Pending entries of one private queue, that of a job included, at most.
+/// Pending entries of one private queue, at most. The entry of a job counts.
 pub const MAX_PENDING: usize = 64;
 
 /// Unacknowledged entries of one client at one handler, at most.

@@ -1,4 +1,4 @@
-//! What clients and handlers send to one another.
+//! The messages between clients and handlers.
 
 ghost use Rattle.std.specs.Prelude.{◌≡◌, ◌↔◌, ◌<◌, ◌≤◌, ◌+◌, ◌^◌, IsTrue};
 
@@ -18,7 +18,7 @@ pub enum Message {
     Lock(HandlerId, Block),
     /// The block holds the lock.
     Locked(HandlerId, Block),
-    /// The block doesn't get the lock now: another block holds it, or the client's last one is unfinished.
+    /// The block doesn't get the lock now: another block holds it, or the client's last block is unfinished.
     Busy(HandlerId, Block),
     /// The block asks for a private queue.
     Open(HandlerId, Block),
@@ -36,7 +36,7 @@ pub enum Message {
     Answer(HandlerId, Block, u32, Answer),
 }
 
-// Whether a number and `count - 1` more are numbers of 32 bits.
+// Whether a number and the `count - 1` numbers after it have 32 bits.
 fn fit_behind(number: u32, count: usize) -> bool
     requires { count ≤ MAX_ENTRIES }
     ensures { IsTrue result ↔ (number + count ≤ 2 ^ 32) }
@@ -67,7 +67,7 @@ impl Message {
         }
     }
 
-    /// The client that the message goes to or comes from, which is its block's where it names one.
+    /// The client that the message goes to or comes from. If the message names a block, it is the block's client.
     pub fn client(&self) -> ClientId
         ensures { result ≡ client_of self.now }
     {

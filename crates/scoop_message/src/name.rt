@@ -1,8 +1,8 @@
-//! Who takes part: handlers, clients and the clients' blocks.
+//! The names of the parties: handlers, clients and the clients' blocks.
 
 use std::fmt;
 
-/// The number of a handler, by which blocks lock their handlers in ascending order.
+/// The number of a handler. Blocks lock their handlers in ascending order of these.
 #[derive(Clone, Copy, Debug, PartialEq, Eq, PartialOrd, Ord, Hash)]
 pub struct HandlerId(pub u32);
 
@@ -10,7 +10,7 @@ pub struct HandlerId(pub u32);
 #[derive(Clone, Copy, Debug, PartialEq, Eq, PartialOrd, Ord, Hash)]
 pub struct ClientId(pub u32);
 
-/// The name of a block: the `num`-th one, counted from 1, of its client's incarnation `inc`.
+/// The name of a block: number `num`, counted from 1, of its client's incarnation `inc`.
 ///
 /// Printed as `client.incarnation.number`.
 #[derive(Clone, Copy, Debug, PartialEq, Eq, PartialOrd, Ord, Hash)]

@@ -1,4 +1,4 @@
-//! What clients log at handlers, and what objects answer.
+//! Entries that clients log at handlers, and the answers of objects.
 
 ghost use Rattle.std.specs.Prelude.{◌≡◌};
 
@@ -12,7 +12,7 @@ pub struct Request {
     pub args: Args,
 }
 
-/// What a client logs in a private queue.
+/// An entry that a client logs in a private queue.
 #[derive(Clone, Copy, Debug, PartialEq, Eq)]
 pub enum Entry {
     /// A command: the client logs it and goes on.
@@ -41,12 +41,12 @@ impl Entry {
     }
 }
 
-/// What an object answers to a request. Printed as `refused` or as the value.
+/// The answer of an object to a request. Printed as `refused` or as the value.
 #[derive(Clone, Copy, Debug, PartialEq, Eq)]
 pub enum Answer {
-    /// The request was refused and has changed nothing.
+    /// The object refused the request and hasn't changed.
     Refused,
-    /// The request was carried out, with this answer.
+    /// The object carried out the request, with this answer.
     Value(u64),
 }
 

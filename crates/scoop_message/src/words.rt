@@ -56,7 +56,7 @@ impl Eq for Words {
 }
 
 impl Words {
-    /// The list as words. `WordCount` comes exactly where there are none or more than sixteen.
+    /// Makes words of the list. Returns `WordCount` exactly if there are none or more than sixteen.
     pub fn of(words: &[u64]) -> Result<Words, WordCount>
         ensures { OkIff result ((0 < length words.now) × (length words.now ≤ MAX_WORDS)) words.now }
     {

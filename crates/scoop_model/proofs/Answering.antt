@@ -6,3 +6,11 @@ pub mod Windows
 pub mod Onward
 pub mod Clients
 pub mod Runs
+pub use Objects.*
+pub use Kept.*
+pub use Facts.*
+pub use Handlers.*
+pub use Windows.*
+pub use Onward.*
+pub use Clients.*
+pub use Runs.*

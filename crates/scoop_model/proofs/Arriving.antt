@@ -1,41 +1,20 @@
--- What a handler told to have received of a block has run there, or is pending there. A handler has a slot for each block that
--- opened at it, with what ran of the block and what waits in its private queue. Together these are a beginning of the block's
--- log, as long as the greatest count that was told; so as many entries as any message tells have arrived, and they are the first.
-use Rattle.std.proofs.Common.{◌≡◌, ℕ, ◌≤◌, true, false, ◌||◌, true≢false, List, [], ◌∷◌, ◌++◌, length, take, Option, Some, None, refl, sym, ap, ◌∙◌, subst}
-use Rattle.std.proofs.Common.{arith}
-use Rattle.std.specs.Prelude.{if◌then◌else◌}
-use Rattle.std.specs.List.{AllByRecursion}
-use Rattle.std.specs.Option.{option_map_or}
-use Rattle.std.proofs.lemmas.List.{take-append-le}
-use Rattle.scoop_message.specs.declared.name.Block.{Block}
-use Rattle.scoop_message.specs.declared.name.HandlerId.{HandlerId}
-use Rattle.scoop_message.specs.declared.request.Entry.{Entry}
-use Rattle.scoop_message.specs.declared.message.Message.{Message}
-use Rattle.scoop_message.specs.Message.{same_block}
-use Rattle.scoop_queue.specs.declared.state.QueueState.{QueueState}
-use Rattle.scoop_queue.specs.Queue.{PrivateQueue, queue_of}
-use Rattle.scoop_queue.proofs.Lookup.{same_block-sym}
-use Rattle.scoop_model.specs.World.{World, Site, site_of, has_block, opened_at, ran_at, log_of, received, count_in, greatest_count}
-use Rattle.scoop_model.specs.Reach.{IsReached}
-use Rattle.scoop_model.specs.Safe.{IsSubsequence, entries_of}
+-- The entries that a handler reported as received have run there or are pending there. A handler has a slot for each block that opened
+-- at it, with the block's entries that ran and those that wait. Together these are a beginning of the block's log, as long as the
+-- greatest count that was sent. So all entries that any message reports have arrived, and they are the first.
+use Rattle.scoop_model.proofs.Names.{◌≡◌, ℕ, List, [], ◌∷◌, ◌++◌, Some, None, refl, sym, ap, ◌∙◌, subst, arith, ◌≤◌, Option, true, if◌then◌else◌, take, false}
+use Rattle.scoop_model.proofs.Names.{true≢false, ◌||◌, length, take-append-le, AllByRecursion, option_map_or, same_block, Message, Block, HandlerId, Entry}
+use Rattle.scoop_model.proofs.Names.{same_block-sym, PrivateQueue, queue_of, QueueState, by_test, all_both, IsReached, entries_of, IsSubsequence, World, ran_at}
+use Rattle.scoop_model.proofs.Names.{Site, site_of, has_block, opened_at, log_of, received, count_in, greatest_count}
 use Rattle.scoop_model.specs.Received.{entries_in, queues_at, arrived_at, HasReceived, TellsReceived}
-use Rattle.scoop_model.proofs.Basics.{by_test}
-use Rattle.scoop_model.proofs.Order.Facts.{all_more_of}
-use Rattle.scoop_model.proofs.Order.Lists.{AreApart, same_block_is, same_block_itself}
-use Rattle.scoop_model.proofs.Tape.Slots.{Slot, slot_queue, queue_at, queues_of, blocks_of}
-use Rattle.scoop_model.proofs.Tape.Fits.{IsBegun}
-use Rattle.scoop_handler.proofs.Basics.{all_both}
-use Rattle.scoop_model.proofs.Tape.Shown.{IsPart, left_apart, part_of, slot_parts}
-use Rattle.scoop_model.proofs.Whole.Sent.{count_itself}
-use Rattle.scoop_model.proofs.Whole.Shown.{told_entries}
-use Rattle.scoop_model.proofs.Ready.Facts.{IsToldAs, IsOverIfGone, HandlerReady, Ready}
-use Rattle.scoop_model.proofs.Ready.Runs.{reached_ready}
+use Rattle.scoop_model.proofs.Order.{all_more_of, AreApart, same_block_is, same_block_itself}
+use Rattle.scoop_model.proofs.Tape.{Slot, slot_queue, queue_at, queues_of, blocks_of, IsBegun, IsPart, left_apart, part_of, slot_parts}
+use Rattle.scoop_model.proofs.Whole.{count_itself, told_entries}
+use Rattle.scoop_model.proofs.Ready.{IsToldAs, IsOverIfGone, HandlerReady, Ready, reached_ready}
 
 -- ---- what is pending of a block, by the slots
 
 -- another block's queue holds nothing of it
-other_queue :
-    (s : Slot) (qs : List PrivateQueue) (b : Block) → same_block s.block b ≡ false → (o : Option QueueState)
+other_queue : (s : Slot) (qs : List PrivateQueue) (b : Block) → same_block s.block b ≡ false → (o : Option QueueState)
     → entries_in b (queue_at s o ++ qs) ≡ entries_in b qs
 other_queue s qs b other None = refl
 other_queue s qs b other (Some u) =
@@ -43,19 +22,13 @@ other_queue s qs b other (Some u) =
 
 none_pending : (ss : List Slot) (b : Block) → has_block (blocks_of ss) b ≡ false → entries_in b (queues_of ss) ≡ []
 none_pending [] b none = refl
-none_pending (s ∷ ss) b none =
-    by_test (λ t. (t || has_block (blocks_of ss) b) ≡ false → same_block s.block b ≡ t → entries_in b (queues_of (s ∷ ss)) ≡ []) (same_block s.block b)
-    (λ _ e _. absurd (true≢false e))
-    (λ _ e is. other_queue s (queues_of ss) b is s.state ∙ none_pending ss b e) none refl
+none_pending (s ∷ ss) b none = grind (arith, other_queue, none_pending ss b)
 
 -- the slot's own queue holds what waits in it
-own_queue :
-    (s : Slot) (ss : List Slot) → has_block (blocks_of ss) s.block ≡ false → (o : Option QueueState) → (o ≡ None → s.rest ≡ [])
+own_queue : (s : Slot) (ss : List Slot) → has_block (blocks_of ss) s.block ≡ false → (o : Option QueueState) → (o ≡ None → s.rest ≡ [])
     → entries_in s.block (queue_at s o ++ queues_of ss) ≡ s.rest
 own_queue s ss apart None gone = none_pending ss s.block apart ∙ sym (gone refl)
-own_queue s ss apart (Some u) gone =
-    ap (λ t. option_map_or (λ (q : PrivateQueue). q.entries) (if t then Some (slot_queue s u) else queue_of s.block (queues_of ss)) [])
-    (same_block_itself s.block)
+own_queue s ss apart (Some u) gone = grind (arith, option_map_or, same_block_itself)
 
 -- ---- what has arrived of a block
 
@@ -73,8 +46,7 @@ record PendingIn (w : World) (h : HandlerId) (b : Block) (qs : List PrivateQueue
   pending : entries_in b qs ≡ slot.rest
 
 module _ (w : World) (h : HandlerId) where
-  pending_slot :
-      (ss : List Slot) (b : Block) → AreApart (blocks_of ss) → AllByRecursion (IsArrived w h) ss → has_block (blocks_of ss) b ≡ true
+  pending_slot : (ss : List Slot) (b : Block) → AreApart (blocks_of ss) → AllByRecursion (IsArrived w h) ss → has_block (blocks_of ss) b ≡ true
       → PendingIn w h b (queues_of ss)
   pending_slot [] b apart all e = absurd (true≢false (sym e))
   pending_slot (s ∷ ss) b apart all e =
@@ -85,8 +57,7 @@ module _ (w : World) (h : HandlerId) where
         slot = s;
         block = own;
         has = all.0;
-        pending =
-            subst (λ d. entries_in d (queues_of (s ∷ ss)) ≡ s.rest) own (own_queue s ss apart.0 s.state all.0.gone.rest);
+        pending = subst (λ d. entries_in d (queues_of (s ∷ ss)) ≡ s.rest) own (own_queue s ss apart.0 s.state all.0.gone.rest);
       })
       (λ _ f is.
       let later = pending_slot ss b apart.1 all.1 f in
@@ -146,7 +117,7 @@ module _ (w : World) (h : HandlerId) where
         let zero_count : 0 ≡ n = omega (arith, none, le) in
         subst (HasReceived w h b) zero_count (record { enough = omega arith; first = refl })) refl
 
--- ---- what was told
+-- ---- the counts that were sent
 
 -- no message tells a greater count than the greatest
 record IsCounted (ms : List Message) (m : Message) : Type 0 where
@@ -154,10 +125,7 @@ record IsCounted (ms : List Message) (m : Message) : Type 0 where
 
 all_counted : (ms : List Message) → AllByRecursion (IsCounted ms) ms
 all_counted [] = tt
-all_counted (m ∷ ms) = (
-  record { counted = λ h b. omega arith },
-  all_more_of (IsCounted ms) (IsCounted (m ∷ ms)) (λ x c. record { counted = λ h b. let le = c.counted h b in omega (arith, le) }) ms (all_counted ms),
-)
+all_counted (m ∷ ms) = grind (arith, all_more_of, all_counted ms)
 
 tells_received : (w : World) → Ready w → (m : Message) → IsCounted w.sent m → TellsReceived w m
 tells_received w ready m c = record {

@@ -1,15 +1,6 @@
 -- A world that opens is safe.
-use Rattle.std.proofs.Common.{◌≡◌, List, [], ◌∷◌, ◌++◌, map, refl}
-use Rattle.std.specs.List.{AllByRecursion}
-use Rattle.scoop_message.specs.declared.name.Block.{Block}
-use Rattle.scoop_model.specs.World.{World}
-use Rattle.scoop_model.specs.Step.{Placement, Newcomer, new_site, new_party, opening}
-use Rattle.scoop_message.specs.Lists.{NoRepeats}
-use Rattle.scoop_model.specs.Safe.{Safe, nothing, IsSubsequence, Tape, WholeBeforeNext, RightAnswers, AcceptsRight}
-
-all_made : {A B : Type 0} (f : A → B) (P : B → Type 0) → ((a : A) → P (f a)) → (xs : List A) → AllByRecursion P (map f xs)
-all_made f P p [] = tt
-all_made f P p (x ∷ xs) = (p x, all_made f P p xs)
+use Rattle.scoop_model.proofs.Names.{◌≡◌, List, [], ◌∷◌, ◌++◌, map, refl, NoRepeats, Block, all_made, RightAnswers, AcceptsRight, IsSubsequence, Safe, nothing}
+use Rattle.scoop_model.proofs.Names.{Tape, WholeBeforeNext, Placement, Newcomer, new_site, new_party, opening, World}
 
 pub no_repeats : {A : Type 0} → NoRepeats {A = A} []
 no_repeats i j x e f = absurd (cc)

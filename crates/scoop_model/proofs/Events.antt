@@ -1,68 +1,43 @@
--- What is to be shown of a world for each kind of event. `Happens` speaks of the event, the new world and what is told;
--- `Changes` of the new world alone, so that a list of events keeps it (`steps_kept`). Every layer is shown by one of them.
-use Rattle.std.proofs.Common.{◌≡◌, ℕ, ◌+◌, ◌-◌, ◌^◌, ◌==◌, Bool, true, false, List, [], ◌∷◌, Option, Some, None, refl}
-use Rattle.std.specs.Prelude.{⊤, if◌then◌else◌, Ok, Err}
-use Rattle.std.specs.List.{list_any}
-use Rattle.scoop_message.specs.declared.name.ClientId.{ClientId}
-use Rattle.scoop_message.specs.declared.name.HandlerId.{HandlerId}
-use Rattle.scoop_message.specs.declared.message.Message.{Message}
-use Rattle.scoop_message.specs.Message.{handler_of, client_of, is_for_handler}
-use Rattle.scoop_handler.specs.Hearing.{Hearing, hear}
-use Rattle.scoop_handler.specs.Running.{Task, ready, job_out, ran_of}
-use Rattle.scoop_client.specs.State.{ClientState}
-use Rattle.scoop_client.specs.Due.{due}
-use Rattle.scoop_client.specs.Hearing.{heard}
-use Rattle.scoop_client.specs.Commands.{Outcome, command}
-use Rattle.scoop_client.specs.declared.command.Command.{Command}
-use Rattle.scoop_model.specs.declared.event.Event.{Event}
-use Rattle.scoop_model.specs.declared.event.Event.TheVariants.{Do, Tick, Take, Begin, Finish, ClientRestart, NodeRestart}
-use Rattle.scoop_model.specs.declared.note.WorldNote.{WorldNote}
+-- The obligations for each kind of event. `Happens` states a property of the event, the new world and the event's note.
+-- `Changes` states one of the new world alone, so that a list of events keeps it (`steps_kept`). Every layer proves one of them.
+use Rattle.scoop_model.proofs.Names.{◌≡◌, ℕ, ◌+◌, List, [], ◌∷◌, Some, None, refl, arith, Ok, Option, true, if◌then◌else◌, false, Bool, ◌==◌, ◌-◌, ◌^◌, Err}
+use Rattle.scoop_model.proofs.Names.{list_any, ⊤, client_of, handler_of, is_for_handler, Message, ClientId, HandlerId, Hearing, hear, Task, ran_of, job_out}
+use Rattle.scoop_model.proofs.Names.{ready, Outcome, command, due, heard, ClientState, Command, steps, Run, next, run_after, commanded_world, with_sent}
+use Rattle.scoop_model.proofs.Names.{with_party, heard_party, restarted_party, heard_world, with_site, begun_site, finished_site, reopened_world, Stepped, step}
+use Rattle.scoop_model.proofs.Names.{commanded, do_at, place_of, sent_or_silent, tick_at, taken_by_handler, taken_by_client, taken, begins, begin_at, finishes}
+use Rattle.scoop_model.proofs.Names.{finish_at, restart_client, restart_node, World, Party, Site, site_of, sent_at, party_of, Event, Do, Tick, Take, Begin}
+use Rattle.scoop_model.proofs.Names.{Finish, ClientRestart, NodeRestart, WorldNote}
 use Rattle.scoop_model.specs.declared.note.WorldNote.TheVariants as note
-use Rattle.scoop_model.specs.declared.error.WorldError.TheVariants.{NoSuchParty, IncarnationsSpent}
-use Rattle.scoop_model.specs.World.{World, Site, Party, site_of, party_of, sent_at}
-use Rattle.scoop_model.specs.Step.{Stepped, step, commanded, commanded_world, do_at, with_sent, place_of, sent_or_silent, tick_at, heard_world}
-use Rattle.scoop_model.specs.Step.{taken_by_handler, heard_party, taken_by_client, taken, with_site, with_party, begun_site, begins, begin_at, finished_site}
-use Rattle.scoop_model.specs.Step.{finishes, finish_at, restarted_party, restart_client, reopened_world, restart_node}
-use Rattle.scoop_model.specs.Reach.{Run, next, run_after, steps}
-use Rattle.scoop_model.proofs.Basics.{by_test}
 
 -- the world after an event and what it tells, if it isn't refused, have the property
 abbrev pub Gives : (World → WorldNote → Type 0) → Stepped → Type 0
 Gives Q (Ok r) = Q r.0 r.1
 Gives Q (Err e) = ⊤
 
--- what a handler makes of a message, and tells
+-- a handler's result for a message
 abbrev pub heard_by : Site → Message → Hearing
 heard_by s m = hear s.core.state m
 
 -- each way in which an event changes a world gives the property
 pub record Happens (Q : Event → World → WorldNote → Type 0) (w : World) : Type 0 where
-  pub commands :
-      (c : ClientId) (p : Party) (x : Command) (d : ClientState) → party_of c w ≡ Some p → command p.client x ≡ Ok d
+  pub commands : (c : ClientId) (p : Party) (x : Command) (d : ClientState) → party_of c w ≡ Some p → command p.client x ≡ Ok d
       → Q (Do c x) (commanded_world w p x d) note.Done
-  pub sends :
-      (c : ClientId) (p : Party) (h : HandlerId) (s : Site) → party_of c w ≡ Some p → site_of h w ≡ Some s
+  pub sends : (c : ClientId) (p : Party) (h : HandlerId) (s : Site) → party_of c w ≡ Some p → site_of h w ≡ Some s
       → Q (Tick c h) (with_sent w (due p.client h)) (sent_or_silent (place_of w (due p.client h)))
-  pub hears :
-      (i : ℕ) (m : Message) (s : Site) → sent_at i w ≡ Some m → is_for_handler m ≡ true → site_of (handler_of m) w ≡ Some s
+  pub hears : (i : ℕ) (m : Message) (s : Site) → sent_at i w ≡ Some m → is_for_handler m ≡ true → site_of (handler_of m) w ≡ Some s
       → Q (Take i) (heard_world w s (heard_by s m)) (note.Handler (heard_by s m).1.note (place_of w (heard_by s m).1.reply))
-  pub notices :
-      (i : ℕ) (m : Message) (p : Party) → sent_at i w ≡ Some m → is_for_handler m ≡ false → party_of (client_of m) w ≡ Some p
+  pub notices : (i : ℕ) (m : Message) (p : Party) → sent_at i w ≡ Some m → is_for_handler m ≡ false → party_of (client_of m) w ≡ Some p
       → Q (Take i) (with_party w (heard_party p (heard p.client m))) (note.Client (heard p.client m).1)
-  pub begins :
-      (h : HandlerId) (s : Site) (t : Task) → site_of h w ≡ Some s → ready s.core ≡ Some t
+  pub begins : (h : HandlerId) (s : Site) (t : Task) → site_of h w ≡ Some s → ready s.core ≡ Some t
       → Q (Begin h) (with_site w (begun_site s)) (note.Began t.block t.number)
-  pub finishes :
-      (h : HandlerId) (s : Site) (t : Task) → site_of h w ≡ Some s → job_out s.core ≡ Some t
+  pub finishes : (h : HandlerId) (s : Site) (t : Task) → site_of h w ≡ Some s → job_out s.core ≡ Some t
       → Q (Finish h) (with_site w (finished_site s t)) (note.Ran (ran_of t))
-  pub restarts :
-      (c : ClientId) (p : Party) → party_of c w ≡ Some p → (p.stored == 2 ^ 32 - 1) ≡ false
+  pub restarts : (c : ClientId) (p : Party) → party_of c w ≡ Some p → (p.stored == 2 ^ 32 - 1) ≡ false
       → Q (ClientRestart c) (with_party w (restarted_party p)) (note.Restarted (p.stored + 1))
   pub reopens : (n : ℕ) → Q (NodeRestart n) (reopened_world w n) note.Reopened
 
 module _ (Q : Event → World → WorldNote → Type 0) (w : World) (all : Happens Q w) where
-  command_happens :
-      (c : ClientId) (p : Party) (x : Command) (o : Outcome) → party_of c w ≡ Some p → command p.client x ≡ o
+  command_happens : (c : ClientId) (p : Party) (x : Command) (o : Outcome) → party_of c w ≡ Some p → command p.client x ≡ o
       → Gives (Q (Do c x)) (commanded w p x o)
   command_happens c p x (Err e) at is = tt
   command_happens c p x (Ok d) at is = all.commands c p x d at is
@@ -77,20 +52,17 @@ module _ (Q : Event → World → WorldNote → Type 0) (w : World) (all : Happe
   tick_happens c h (Some p) None at here = tt
   tick_happens c h (Some p) (Some s) at here = all.sends c p h s at here
 
-  hear_happens :
-      (i : ℕ) (m : Message) (o : Option Site) → sent_at i w ≡ Some m → is_for_handler m ≡ true → site_of (handler_of m) w ≡ o
+  hear_happens : (i : ℕ) (m : Message) (o : Option Site) → sent_at i w ≡ Some m → is_for_handler m ≡ true → site_of (handler_of m) w ≡ o
       → Gives (Q (Take i)) (taken_by_handler w m o)
   hear_happens i m None was goes here = tt
   hear_happens i m (Some s) was goes here = all.hears i m s was goes here
 
-  notice_happens :
-      (i : ℕ) (m : Message) (o : Option Party) → sent_at i w ≡ Some m → is_for_handler m ≡ false → party_of (client_of m) w ≡ o
+  notice_happens : (i : ℕ) (m : Message) (o : Option Party) → sent_at i w ≡ Some m → is_for_handler m ≡ false → party_of (client_of m) w ≡ o
       → Gives (Q (Take i)) (taken_by_client w m o)
   notice_happens i m None was goes at = tt
   notice_happens i m (Some p) was goes at = all.notices i m p was goes at
 
-  by_receiver :
-      (i : ℕ) (m : Message) (b : Bool) → sent_at i w ≡ Some m → is_for_handler m ≡ b
+  by_receiver : (i : ℕ) (m : Message) (b : Bool) → sent_at i w ≡ Some m → is_for_handler m ≡ b
       → Gives (Q (Take i)) (if b then taken_by_handler w m (site_of (handler_of m) w) else taken_by_client w m (party_of (client_of m) w))
   by_receiver i m true was goes = hear_happens i m (site_of (handler_of m) w) was goes refl
   by_receiver i m false was goes = notice_happens i m (party_of (client_of m) w) was goes refl
@@ -117,18 +89,10 @@ module _ (Q : Event → World → WorldNote → Type 0) (w : World) (all : Happe
 
   restart_happens : (c : ClientId) (o : Option Party) → party_of c w ≡ o → Gives (Q (ClientRestart c)) (restart_client w o)
   restart_happens c None at = tt
-  restart_happens c (Some p) at =
-      by_test
-      (λ t. Gives (Q (ClientRestart c)) (if t then Err IncarnationsSpent else Ok (with_party w (restarted_party p), note.Restarted (p.stored + 1))))
-      (p.stored == 2 ^ 32 - 1)
-      (λ spent. tt)
-      (λ room. all.restarts c p at room)
+  restart_happens c (Some p) at = grind arith
 
   node_happens : (n : ℕ) → Gives (Q (NodeRestart n)) (restart_node w n)
-  node_happens n =
-      by_test (λ t. Gives (Q (NodeRestart n)) (if t then Ok (reopened_world w n, note.Reopened) else Err NoSuchParty)) (list_any (λ s. s.node == n) w.sites)
-      (λ there. all.reopens n)
-      (λ nowhere. tt)
+  node_happens n = grind (arith, list_any)
 
   pub event_happens : (e : Event) → Gives (Q e) (step w e)
   event_happens (Do c x) = do_happens c x (party_of c w) refl
@@ -146,33 +110,11 @@ abbrev pub Kept : (World → Type 0) → Stepped → Type 0
 Kept P o = Gives (λ v told. P v) o
 
 -- each way in which a world changes gives the property
-pub record Changes (P : World → Type 0) (w : World) : Type 0 where
-  pub commands :
-      (c : ClientId) (p : Party) (x : Command) (d : ClientState) → party_of c w ≡ Some p → command p.client x ≡ Ok d
-      → P (commanded_world w p x d)
-  pub sends : (c : ClientId) (p : Party) (h : HandlerId) (s : Site) → party_of c w ≡ Some p → site_of h w ≡ Some s → P (with_sent w (due p.client h))
-  pub hears :
-      (i : ℕ) (m : Message) (s : Site) → sent_at i w ≡ Some m → is_for_handler m ≡ true → site_of (handler_of m) w ≡ Some s
-      → P (heard_world w s (hear s.core.state m))
-  pub notices :
-      (i : ℕ) (m : Message) (p : Party) → sent_at i w ≡ Some m → is_for_handler m ≡ false → party_of (client_of m) w ≡ Some p
-      → P (with_party w (heard_party p (heard p.client m)))
-  pub begins : (h : HandlerId) (s : Site) (t : Task) → site_of h w ≡ Some s → ready s.core ≡ Some t → P (with_site w (begun_site s))
-  pub finishes : (h : HandlerId) (s : Site) (t : Task) → site_of h w ≡ Some s → job_out s.core ≡ Some t → P (with_site w (finished_site s t))
-  pub restarts : (c : ClientId) (p : Party) → party_of c w ≡ Some p → (p.stored == 2 ^ 32 - 1) ≡ false → P (with_party w (restarted_party p))
-  pub reopens : (n : ℕ) → P (reopened_world w n)
+abbrev pub Changes : (World → Type 0) → World → Type 0
+Changes P w = Happens (λ e v told. P v) w
 
 pub event_kept : (P : World → Type 0) (w : World) → Changes P w → (e : Event) → Kept P (step w e)
-event_kept P w all e = event_happens (λ x v told. P v) w (record {
-  commands = λ c p x d at is. all.commands c p x d at is;
-  sends = λ c p h s at here. all.sends c p h s at here;
-  hears = λ i m s was goes here. all.hears i m s was goes here;
-  notices = λ i m p was goes at. all.notices i m p was goes at;
-  begins = λ h s t here is. all.begins h s t here is;
-  finishes = λ h s t here is. all.finishes h s t here is;
-  restarts = λ c p at room. all.restarts c p at room;
-  reopens = λ n. all.reopens n;
-}) e
+event_kept P w all e = event_happens (λ x v told. P v) w all e
 
 module _ (P : World → Type 0) (each : (w : World) → P w → Changes P w) where
   one_kept : (n : ℕ) (w : World) (go_on : World → Run) → ((v : World) → P v → P (go_on v).0) → (o : Stepped) → P w → Kept P o → P (next n w go_on o).0

@@ -1,42 +1,16 @@
--- A block is opened only once each of its handlers has told that it granted the lock. What every event keeps of that:
--- while a reservation locks, a Locked was sent by each of its handlers that isn't left, and then by all.
-use Rattle.std.proofs.Common.{◌≡◌, ℕ, ◌+◌, ◌-◌, ◌==◌, List, ◌++◌, map, find, slice_get, Option, Some, None, refl, sym, ap, ◌∙◌, subst, append-nil}
-use Rattle.std.specs.Prelude.{if◌then◌else◌, option_to_list, Contains}
-use Rattle.std.specs.List.{AllByRecursion}
-use Rattle.std.proofs.lemmas.List.Elements.{Contains-append_left}
-use Rattle.std.proofs.lemmas.Option.{get_or_from_slice_get, same_Some, slice_get_within}
-use Rattle.scoop_message.specs.declared.name.Block.{Block}
-use Rattle.scoop_message.specs.declared.name.ClientId.{ClientId}
-use Rattle.scoop_message.specs.declared.name.HandlerId.{HandlerId}
-use Rattle.scoop_message.specs.declared.message.Message.{Message}
-use Rattle.scoop_message.specs.declared.message.Message.TheVariants.{Hello, Locked, Open, Log}
-use Rattle.scoop_message.specs.Message.{client_of}
-use Rattle.scoop_reserve.specs.State.{ReservationState}
-use Rattle.scoop_handler.specs.State.{HandlerState}
-use Rattle.scoop_handler.specs.Hearing.{hear}
-use Rattle.scoop_handler.proofs.TableRows.{row}
-use Rattle.scoop_client.specs.Window.{first_entries}
-use Rattle.scoop_client.specs.Due.{due}
-use Rattle.scoop_client.specs.Hearing.{heard}
-use Rattle.scoop_client.specs.Rows.{DueRow, owes_nothing, greets, reserves, logs}
-use Rattle.scoop_client.proofs.DueRows.{due_row}
-use Rattle.scoop_client.proofs.Rows.{heard_row}
-use Rattle.scoop_model.specs.World.{World, Party, BlockLog, id_of, is_party, party_of, set_party, handlers_of, sent_at}
-use Rattle.scoop_model.specs.Step.{Placement, Newcomer, opening, newest_block, logs_after, with_sent, with_site, heard_world, heard_party, begun_site}
-use Rattle.scoop_model.specs.Step.{finished_site, restarted_party, reopened_world}
-use Rattle.scoop_model.specs.Told.{WasGranted, WasGrantedAtAll, TellsGranted}
-use Rattle.scoop_model.proofs.Basics.{by_test, of_party}
+-- A block is opened only after each of its handlers has granted it the lock and said so. Every event keeps this invariant: while a
+-- reservation locks, each of its handlers that isn't left has sent a Locked. After that, all of them have.
+use Rattle.scoop_model.proofs.Names.{◌≡◌, ℕ, ◌+◌, List, ◌++◌, map, Some, None, refl, sym, ap, ◌∙◌, subst, append-nil, Option, find, if◌then◌else◌, slice_get}
+use Rattle.scoop_model.proofs.Names.{◌==◌, ◌-◌, option_to_list, Contains, Contains-append_left, same_Some, get_or_from_slice_get, slice_get_within}
+use Rattle.scoop_model.proofs.Names.{AllByRecursion, client_of, Message, Open, Locked, Block, ClientId, HandlerId, all_found, by_test, row, hear, HandlerState}
+use Rattle.scoop_model.proofs.Names.{ReservationState, due, heard, logs, of_party, by_party, id_found, newest_block, with_sent, heard_party, restarted_party}
+use Rattle.scoop_model.proofs.Names.{heard_world, with_site, begun_site, finished_site, reopened_world, Placement, Newcomer, opening, logs_after, WasGranted}
+use Rattle.scoop_model.proofs.Names.{WasGrantedAtAll, TellsGranted, World, Party, BlockLog, set_party, is_party, sent_at, party_of, id_of, handlers_of}
 use Rattle.scoop_model.proofs.Events.{Changes}
-use Rattle.scoop_model.proofs.Keys.{by_party, id_found}
 use Rattle.scoop_model.proofs.Locking.{HasLocks, Locks, locks_more, heard_locks, command_locks}
-use Rattle.scoop_model.proofs.Order.Facts.{PartyFits, Ordered, all_found, all_more_of, all_pushed}
-use Rattle.scoop_model.proofs.Order.Clients.{keeps_row}
-use Rattle.scoop_model.proofs.Order.Commands.{goes_on}
-use Rattle.scoop_model.proofs.Order.Handlers.{sent_tells}
-use Rattle.scoop_model.proofs.Order.Holding.{TellsBack, hears_row}
-use Rattle.scoop_model.proofs.Order.Sets.{handlers_after}
-use Rattle.scoop_model.proofs.Sound.Owed.{OwedRow, asks, opens, unlocks, gives_back, owed_row}
-use Rattle.scoop_model.proofs.Logging.OpeningSteps.{none_reserved}
+use Rattle.scoop_model.proofs.Order.{PartyFits, Ordered, all_more_of, all_pushed, goes_on, TellsBack, hears_row, handlers_after, keeps_hearing}
+use Rattle.scoop_model.proofs.Logging.{none_reserved}
+use Rattle.scoop_model.proofs.Moves.{Sends, sends_open, sends}
 
 -- ---- what is so
 
@@ -77,32 +51,19 @@ module _ (v w : World) (x : Onward v w) where
 no_open_sent : (w : World) (m n : Message) → m ≡ n → ((h : HandlerId) (b : Block) → m ≡ Open h b → ⊥) → TellsGranted w n
 no_open_sent w m n same none = record { granted = λ h b is. absurd (none h b (same ∙ is)) }
 
-module _
-    (w : World) (c : ClientId) (p : Party) (fits : PartyFits w p) (i : (r : ReservationState) → p.client.reservation ≡ Some r → ReservationGranted w r)
+module _ (w : World) (c : ClientId) (p : Party) (fits : PartyFits w p) (i : (r : ReservationState) → p.client.reservation ≡ Some r → ReservationGranted w r)
     (h : HandlerId) where
-  owed_granted : (r : ReservationState) → p.client.reservation ≡ Some r → (m : Message) → OwedRow r h m → TellsGranted w m
-  owed_granted r held m (asks at low) = record { granted = λ x b e. absurd (cc) }
-  owed_granted r held m (opens at is) = record {
+  due_granted : (m : Message) → Sends p.client h m → TellsGranted w m
+  due_granted m (sends_open r held is left) = record {
     granted = λ x b e.
         let own : r.block ≡ b = cc in
         subst (WasGrantedAtAll w) own (record {
           handlers = r.handlers;
           set = (fits.reservation r held).named;
-          granted =
-              subst (Locks (WasGranted w) r) at (i r held).stage;
+          granted = subst (Locks (WasGranted w) r) is (i r held).stage;
         });
   }
-  owed_granted r held m (unlocks at is) = record { granted = λ x b e. absurd (cc) }
-  owed_granted r held m (gives_back at is) = record { granted = λ x b e. absurd (cc) }
-
-  due_granted : (q : Option Message) → DueRow p.client h q → (m : Message) → q ≡ Some m → TellsGranted w m
-  due_granted q owes_nothing m e = absurd (cc)
-  due_granted q (greets left) m e =
-      let same : Hello h p.client.id p.client.inc ≡ m = cc in no_open_sent w (Hello h p.client.id p.client.inc) m same (λ x b is. cc)
-  due_granted q (reserves r n greeted has_one owes) m e = owed_granted r has_one m (owed_row r h m (owes ∙ e))
-  due_granted q (logs r y greeted has_one free opened window some) m e =
-      let same : Log y.handler r.block (y.acked + 1) (first_entries p.client.batch y.unacked) ≡ m = cc in
-      no_open_sent w (Log y.handler r.block (y.acked + 1) (first_entries p.client.batch y.unacked)) m same (λ x b is. cc)
+  due_granted m s = record { granted = λ x b e. absurd (cc) }
 
 -- ---- every event
 
@@ -158,18 +119,15 @@ granting_kept w o i = record {
   sends = λ c p h s at here. (
       let fits = all_found (PartyFits w) (is_party c) w.parties p o.parties at in
       sent_granted w (with_sent w (due p.client h)) i (due p.client h) refl refl refl
-      (due_granted w c p fits (i.parties c p at) h (due p.client h) (due_row p.client h)));
+      (λ m e. due_granted w c p fits (i.parties c p at) h m (sends p.client h m e)));
   hears = λ k m s was goes here. (
       let now = hear s.core.state m in
       sent_granted w (heard_world w s now) i now.1.reply refl refl refl
       (reply_granted w now.0 now.1.reply (hears_row s.core.state m now (row s.core.state m)).tells));
   notices = λ k m p was goes at. (
       let c = client_of m in
-      let fits = all_found (PartyFits w) (is_party c) w.parties p o.parties at in
-      let now = heard p.client m in
-      let kept = keeps_row w p.client fits.reservation m now.0 now.1 (heard_row p.client m) (sent_tells w k m was o.messages) in
-      party_granted w i c p (heard_party p now) at kept.id w.logs (λ b hs e. e)
-      (heard_locks (WasGranted w) p.client (i.parties c p at) m now.0 now.1 (heard_row p.client m)
+      party_granted w i c p (heard_party p (heard p.client m)) at (keeps_hearing w o k m p was at).id w.logs (λ b hs e. e)
+      (heard_locks (WasGranted w) p.client (i.parties c p at) m
       (λ r held is h same. subst (Contains w.sent) same (sent_in w k m was))));
   begins = λ h s t here is. sent_granted w (with_site w (begun_site s)) i None (sym (append-nil w.sent)) refl refl (λ m e. absurd (cc));
   finishes = λ h s t here is. sent_granted w (with_site w (finished_site s t)) i None (sym (append-nil w.sent)) refl refl (λ m e. absurd (cc));

@@ -1,50 +1,20 @@
--- The lock over a whole list of events: a handler grants it to a block at most once, and a block that opens was the
--- holder from its grant on. One event is looked at first: a block that is held behind it was held before, or was
--- granted by it; and a client's mark that has reached a block stays at it or past it. Then by induction over the events.
-use Rattle.std.proofs.Common.{◌≡◌, ◌⊎◌, inl, inr, ℕ, zero, suc, ◌+◌, ◌==◌, ◌<◌, ◌≤◌, true, nat_lt, List, [], ◌∷◌, map, find, length, take, get_or, slice_get}
-use Rattle.std.proofs.Common.{Option, Some, None, refl, sym, ap, ◌∙◌, subst, ⊎_elim, arith}
-use Rattle.std.specs.Prelude.{if◌then◌else◌, Ok, Err}
-use Rattle.std.specs.List.{AllByRecursion}
-use Rattle.std.specs.Option.{option_map_or}
-use Rattle.std.proofs.lemmas.Bool.{eqb-true, eqb-false}
-use Rattle.std.proofs.lemmas.Bool.Decides.{nat_tests}
-use Rattle.std.proofs.lemmas.Option.{same_Some, slice_get-get_or, slice_get_within}
-use Rattle.scoop_message.specs.declared.name.Block.{Block}
-use Rattle.scoop_message.specs.declared.name.HandlerId.{HandlerId}
-use Rattle.scoop_message.specs.declared.message.Message.{Message}
-use Rattle.scoop_message.specs.declared.message.Message.TheVariants.{Lock, Open}
-use Rattle.scoop_message.specs.Message.{handler_of, client_of, is_for_handler, same_handler}
-use Rattle.scoop_handler.specs.declared.mark.Mark.{Mark}
-use Rattle.scoop_handler.specs.declared.mark.Stage.TheVariants.{Held as AtHeld}
-use Rattle.scoop_handler.specs.declared.note.Note.{Note}
-use Rattle.scoop_handler.specs.declared.note.Note.TheVariants.{Granted, Opened}
-use Rattle.scoop_handler.specs.Marks.{fresh_mark}
-use Rattle.scoop_handler.specs.State.{HandlerState}
-use Rattle.scoop_handler.specs.Hearing.{Hearing, hear}
-use Rattle.scoop_handler.specs.Running.{ran_of}
-use Rattle.scoop_handler.specs.Rows.{Row, lock_granted}
-use Rattle.scoop_handler.proofs.MarkLists.{mark_of-set_mark_own}
-use Rattle.scoop_handler.proofs.TableRows.{row}
-use Rattle.scoop_handler.proofs.TableLaws.{grows-row, number-row}
-use Rattle.scoop_handler.proofs.After.{MarksGrow-after}
-use Rattle.scoop_handler.proofs.Fronts.{MarksGrow-refl}
-use Rattle.scoop_model.specs.declared.event.Event.{Event}
-use Rattle.scoop_model.specs.declared.event.Event.TheVariants.{Take, Begin, Finish}
-use Rattle.scoop_model.specs.declared.note.WorldNote.{WorldNote}
+-- The lock over a whole list of events. A handler grants it to a block at most once. A block that opens was the holder from its
+-- grant on. First comes one event: a block that is held after it was held before, or the event granted it the lock. A client's
+-- mark that has reached a block stays at it or goes past it. Then comes the list, event by event.
+use Rattle.scoop_model.proofs.Names.{◌≡◌, ℕ, ◌+◌, ◌<◌, List, [], ◌∷◌, map, Some, None, refl, sym, ap, ◌∙◌, subst, arith, Ok, ◌≤◌, Option, find, true, zero, suc}
+use Rattle.scoop_model.proofs.Names.{take, slice_get, length, ◌==◌, Err, ◌⊎◌, inl, inr, nat_lt, get_or, ⊎_elim, eqb-true, eqb-false, nat_tests, same_Some}
+use Rattle.scoop_model.proofs.Names.{slice_get_within, slice_get-get_or, option_map_or, handler_of, is_for_handler, Message, Open, Lock, Block, HandlerId}
+use Rattle.scoop_model.proofs.Names.{MarksGrow-after, all_found, by_test, MarksGrow-refl, mark_of-set_mark_own, number-row, grows-row, row, Hearing, hear}
+use Rattle.scoop_model.proofs.Names.{fresh_mark, Row, lock_granted, ran_of, HandlerState, Mark, AtHeld, Note, Granted, OpenedNote as Opened, number_found}
+use Rattle.scoop_model.proofs.Names.{by_site, site_put, Run, next, run_after, Leads, heard_world, heard_site, with_site, begun_site, finished_site, Placement}
+use Rattle.scoop_model.proofs.Names.{Newcomer, new_site, opening, Stepped, step, place_of, taken_by_handler, taken, World, Site, number_of, is_site, site_of}
+use Rattle.scoop_model.proofs.Names.{set_site, sent_at, Event, Take, Begin, Finish, WorldNote}
 use Rattle.scoop_model.specs.declared.note.WorldNote.TheVariants.{Handler}
-use Rattle.scoop_model.specs.World.{World, Site, number_of, is_site, site_of, party_of, set_site, sent_at}
-use Rattle.scoop_model.specs.Step.{Stepped, Placement, Newcomer, new_site, opening, step, taken, taken_by_handler, taken_by_client, heard_site, heard_world}
-use Rattle.scoop_model.specs.Step.{begun_site, finished_site, reopened, with_site, place_of}
-use Rattle.scoop_model.specs.Reach.{Run, next, run_after, Leads}
 use Rattle.scoop_model.specs.Grants.{world_after, holder_at, IsGrant, IsOpening, GrantsAt, OpensAt, HoldsSinceGrant}
-use Rattle.scoop_model.proofs.Basics.{by_test}
 use Rattle.scoop_model.proofs.Events.{Gives, Happens, event_happens, Changes, event_kept, steps_kept}
-use Rattle.scoop_model.proofs.Keys.{by_site, number_found, site_put}
-use Rattle.scoop_model.proofs.Sites.{own_site, states_anew}
-use Rattle.scoop_model.proofs.Order.Holding.{IsReachedIn, IsHeldIn, IsNewlyLocked, hears_row, held_ran, upto_itself}
-use Rattle.scoop_model.proofs.Order.Facts.{IsGranted, SiteFits, Ordered, all_found}
-use Rattle.scoop_model.proofs.Order.Handlers.{granted_set, granted_anew, reached_not_new}
-use Rattle.scoop_model.proofs.Order.Runs.{ordered_kept, opens_ordered}
+use Rattle.scoop_model.proofs.Sites.{own_site}
+use Rattle.scoop_model.proofs.Order.{IsReachedIn, IsHeldIn, IsNewlyLocked, hears_row, held_ran, upto_itself, IsGranted, SiteFits, Ordered, granted_set}
+use Rattle.scoop_model.proofs.Order.{granted_anew, reached_not_new, ordered_kept, opens_ordered, found_anew, state_anew}
 
 -- ---- the worlds of a run
 
@@ -57,22 +27,19 @@ record Comes (w : World) (e : Event) (v : World) : Type 0 where
   told : WorldNote
   is : step w e ≡ Ok (v, told)
 
-first_goes :
-    (n : ℕ) (v w : World) (x : Event) (xs : List Event) (c : ℕ) (o : Stepped) → step v x ≡ o → next n v (λ u. run_after (n + 1) u xs) o ≡ (w, Ok c)
+first_goes : (n : ℕ) (v w : World) (x : Event) (xs : List Event) (c : ℕ) (o : Stepped) → step v x ≡ o → next n v (λ u. run_after (n + 1) u xs) o ≡ (w, Ok c)
     → Comes v x (next n v (λ u. run_after (n + 1) u []) o).0
 first_goes n v w x xs c (Ok q) is leads = record { told = q.1; is = is }
 first_goes n v w x xs c (Err y) is leads = absurd (let f = ap (λ (r : Run). r.1) leads in cc)
 
-later_goes :
-    (n : ℕ) (v w : World) (xs : List Event) (c k : ℕ) (e : Event)
+later_goes : (n : ℕ) (v w : World) (xs : List Event) (c k : ℕ) (e : Event)
     → ((u : World) → run_after (n + 1) u xs ≡ (w, Ok c) → Comes (after (n + 1) u xs k) e (after (n + 1) u xs (suc k)))
     → (o : Stepped) → next n v (λ u. run_after (n + 1) u xs) o ≡ (w, Ok c)
     → Comes (next n v (λ u. run_after (n + 1) u (take k xs)) o).0 e (next n v (λ u. run_after (n + 1) u (take (suc k) xs)) o).0
 later_goes n v w xs c k e later (Ok q) leads = later q.0 leads
 later_goes n v w xs c k e later (Err y) leads = absurd (let f = ap (λ (r : Run). r.1) leads in cc)
 
-goes_on :
-    (n : ℕ) (v w : World) (es : List Event) (c : ℕ) → run_after n v es ≡ (w, Ok c) → (k : ℕ) (e : Event) → slice_get es k ≡ Some e
+goes_on : (n : ℕ) (v w : World) (es : List Event) (c : ℕ) → run_after n v es ≡ (w, Ok c) → (k : ℕ) (e : Event) → slice_get es k ≡ Some e
     → Comes (after n v es k) e (after n v es (suc k))
 goes_on n v w [] c leads k e at = absurd (cc)
 goes_on n v w (x ∷ xs) c leads zero e at =
@@ -87,23 +54,11 @@ marks_in o = option_map_or (λ (s : Site). s.core.state.marks) o []
 abbrev HeldAt : World → HandlerId → Block → Type 0
 HeldAt w h b = IsHeldIn (marks_in (site_of h w)) b
 
-marks_anew :
-    (n : ℕ) (h : HandlerId) (sites : List Site) → AllByRecursion (λ s. (reopened n s).core.state ≡ s.core.state) sites
-    → marks_in (find (is_site h) (map (reopened n) sites)) ≡ marks_in (find (is_site h) sites)
-marks_anew n h [] all = refl
-marks_anew n h (s ∷ ss) all =
-    let rest = find (is_site h) (map (reopened n) ss) in
-    ap (λ j. marks_in (if same_handler j h then Some (reopened n s) else rest)) (ap (λ (x : HandlerState). x.number) all.0)
-    ∙ by_test (λ t. marks_in (if t then Some (reopened n s) else rest) ≡ marks_in (if t then Some s else find (is_site h) ss)) (is_site h s)
-    (λ here. ap (λ (x : HandlerState). x.marks) all.0)
-    (λ there. marks_anew n h ss all.1)
-
 -- the block whose mark is held holds the lock
 held_holder : (w : World) → Ordered w → (h : HandlerId) (b : Block) → HeldAt w h b → holder_at h w ≡ Some b
 held_holder w o h b = by (site_of h w) (λ s found. all_found (SiteFits w.joint) (is_site h) w.sites s o.sites found)
   where
-    by :
-        (q : Option Site) → ((s : Site) → q ≡ Some s → SiteFits w.joint s) → IsHeldIn (marks_in q) b
+    by : (q : Option Site) → ((s : Site) → q ≡ Some s → SiteFits w.joint s) → IsHeldIn (marks_in q) b
         → option_map_or (λ (s : Site). s.core.state.holder) q None ≡ Some b
     by None fits held = absurd (let f = held.found in cc)
     by (Some s) fits held = (fits s refl).holds b held
@@ -111,16 +66,12 @@ held_holder w o h b = by (site_of h w) (λ s found. all_found (SiteFits w.joint)
 -- a world that opens has no marks
 none_held : (h : HandlerId) (b : Block) (ps : List Placement) → IsHeldIn (marks_in (find (is_site h) (map new_site ps))) b → ⊥
 none_held h b [] held = let f = held.found in cc
-none_held h b (p ∷ ps) held =
-    by_test (λ t. IsHeldIn (marks_in (if t then Some (new_site p) else find (is_site h) (map new_site ps))) b → ⊥) (is_site h (new_site p))
-    (λ here first. let f = first.found in cc)
-    (λ there later. none_held h b ps later) held
+none_held h b (p ∷ ps) held = grind (arith, none_held h b ps)
 
 -- ---- one event
 
 -- the row by which the lock is granted: the client's mark was before the block, and is at it then
-granting-row :
-    (s : HandlerState) (m : Message) (h : Hearing) → Row s m h → h.1.note ≡ Granted → (x : HandlerId) (b : Block) → m ≡ Lock x b
+granting-row : (s : HandlerState) (m : Message) (h : Hearing) → Row s m h → h.1.note ≡ Granted → (x : HandlerId) (b : Block) → m ≡ Lock x b
     → IsNewlyLocked s m h b × IsReachedIn h.0.marks b
 granting-row s m h (lock_granted x b k here at new free clear) e y z same =
     let one : b ≡ z = cc in
@@ -130,31 +81,24 @@ granting-row s m h (lock_granted x b k here at new free clear) e y z same =
     )
 granting-row s m h r e y z same = absurd (let f = e in cc)
 
--- what a message to a handler did, by what its event told
+-- the effect of a message to a handler, by the note of its event
 record TookAt (w : World) (m : Message) (v : World) (told : Note) : Type 0 where
   site : Site
   found : site_of (handler_of m) w ≡ Some site
   note : (hear site.core.state m).1.note ≡ told
   world : heard_world w site (hear site.core.state m) ≡ v
 
-took_at :
-    (w v : World) (m : Message) (told : Note) (reply : Option ℕ) (o : Option Site) → site_of (handler_of m) w ≡ o
+took_at : (w v : World) (m : Message) (told : Note) (reply : Option ℕ) (o : Option Site) → site_of (handler_of m) w ≡ o
     → taken_by_handler w m o ≡ Ok (v, Handler told reply) → TookAt w m v told
 took_at w v m told reply None here is = absurd (cc)
-took_at w v m told reply (Some s) here is =
-    let now = hear s.core.state m in
-    let same : ◌≡◌ {A = World × WorldNote} (heard_world w s now, Handler now.1.note (place_of w now.1.reply)) (v, Handler told reply) = cc in
-    let notes : Handler now.1.note (place_of w now.1.reply) ≡ Handler told reply = ap (λ (r : World × WorldNote). r.1) same in
-    record { site = s; found = here; note = cc; world = ap (λ (r : World × WorldNote). r.0) same }
+took_at w v m told reply (Some s) here is = grind arith
 
 -- the events of the two definitions
 grant_took : (w : World) (e : Event) (h : HandlerId) (b : Block) (g : IsGrant w e h b) → TookAt w (Lock h b) g.next Granted
-grant_took w e h b g =
-    took_at w g.next (Lock h b) Granted g.reply (site_of h w) refl (sym (ap (taken w) g.asked) ∙ ap (step w) (sym g.takes) ∙ g.granted)
+grant_took w e h b g = took_at w g.next (Lock h b) Granted g.reply (site_of h w) refl (sym (ap (taken w) g.asked) ∙ ap (step w) (sym g.takes) ∙ g.granted)
 
 opening_took : (w : World) (e : Event) (h : HandlerId) (b : Block) (g : IsOpening w e h b) → TookAt w (Open h b) g.next (Opened b)
-opening_took w e h b g =
-    took_at w g.next (Open h b) (Opened b) g.reply (site_of h w) refl (sym (ap (taken w) g.asked) ∙ ap (step w) (sym g.takes) ∙ g.opened)
+opening_took w e h b g = took_at w g.next (Open h b) (Opened b) g.reply (site_of h w) refl (sym (ap (taken w) g.asked) ∙ ap (step w) (sym g.takes) ∙ g.opened)
 
 -- a block that is held after an event was held before, or the event granted it the lock
 abbrev FromBefore : World → Event → World → WorldNote → Type 0
@@ -175,10 +119,7 @@ module _ (w : World) (o : Ordered w) where
     place = subst (λ j. site_of j w ≡ Some s) (sym number) (own_site w (handler_of m) s here)
 
     took : step w (Take i) ≡ Ok (heard_world w s now, Handler now.1.note (place_of w now.1.reply))
-    took =
-        ap (taken w) was
-        ∙ ap (λ u. if u then taken_by_handler w m (site_of (handler_of m) w) else taken_by_client w m (party_of (client_of m) w)) goes
-        ∙ ap (taken_by_handler w m) here
+    took = grind arith
 
     hears_before : FromBefore w (Take i) (heard_world w s now) (Handler now.1.note (place_of w now.1.reply))
     hears_before h b held =
@@ -201,8 +142,7 @@ module _ (w : World) (o : Ordered w) where
         held
 
   -- a site goes on, and no block comes to be held
-  site_before :
-      (e : Event) (t s : Site) → site_of (number_of t) w ≡ Some s → ((b : Block) → IsHeldIn t.core.state.marks b → IsHeldIn s.core.state.marks b)
+  site_before : (e : Event) (t s : Site) → site_of (number_of t) w ≡ Some s → ((b : Block) → IsHeldIn t.core.state.marks b → IsHeldIn s.core.state.marks b)
       → (h : HandlerId) (b : Block) → HeldAt (with_site w t) h b → HeldAt w h b ⊎ IsGrant w e h b
   site_before e t s place back h b held =
       by_site (λ q. IsHeldIn (marks_in q) b → HeldAt w h b ⊎ IsGrant w e h b) w t s h place
@@ -219,7 +159,9 @@ module _ (w : World) (o : Ordered w) where
     begins = λ j s t here is. site_before (Begin j) (begun_site s) s (own_site w j s here) (λ b held. held);
     finishes = λ j s t here is. site_before (Finish j) (finished_site s t) s (own_site w j s here) (λ b held. held_ran (ran_of t) s.core.state.marks b held);
     restarts = λ c p at room h b held. inl held;
-    reopens = λ n h b held. inl (subst (λ ks. IsHeldIn ks b) (marks_anew n h w.sites (states_anew w o n)) held);
+    reopens = λ n h b held. inl (subst (λ ks. IsHeldIn ks b)
+        (found_anew w.joint n (λ q. marks_in q ≡ marks_in (site_of h w)) h (λ s f same. ap (λ (x : HandlerState). x.marks) (state_anew w.joint n s f) ∙ same)
+        w.sites o.sites refl) held);
   }
 
   -- a mark that has reached a block stays at it, or goes past it
@@ -239,7 +181,7 @@ module _ (w : World) (o : Ordered w) where
     reopens = λ n. granted_anew w.joint n h b w.sites o.sites g;
   }
 
--- what holds of an event's outcome, at the outcome that it has
+-- a property of an event's outcome holds of the outcome that it has
 outcome : (Q : World → WorldNote → Type 0) (o : Stepped) (v : World) (told : WorldNote) → o ≡ Ok (v, told) → Gives Q o → Q v told
 outcome Q o v told is q = subst (Gives Q) is q
 
@@ -334,8 +276,7 @@ module _ (ps : List Placement) (ns : List Newcomer) (es : List Event) (w : World
 
   pub opens_held : (j : ℕ) (h : HandlerId) (b : Block) → OpensAt v es j h b → HoldsSinceGrant v es j h b
   opens_held j h b o =
-      let lt = slice_get_within es j o.event o.there in
-      held_since j (omega (arith, lt)) h b (opening_held (world_after v es j) o.event h b o.opening)
+      let lt = slice_get_within es j o.event o.there in held_since j (omega (arith, lt)) h b (opening_held (world_after v es j) o.event h b o.opening)
 
   -- ---- a block that is granted the lock
 

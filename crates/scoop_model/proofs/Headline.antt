@@ -1,14 +1,8 @@
 -- Whatever happens, a world is safe.
-use Rattle.std.proofs.Common.{List, ap, subst}
-use Rattle.scoop_model.specs.declared.event.Event.{Event}
-use Rattle.scoop_model.specs.World.{World}
-use Rattle.scoop_model.specs.Step.{Placement, Newcomer, opening}
-use Rattle.scoop_model.specs.Opening.{MayOpen}
-use Rattle.scoop_model.specs.Reach.{Run, steps, IsReached}
-use Rattle.scoop_model.specs.Safe.{Safe}
-use Rattle.scoop_model.proofs.Order.Runs.{in_order}
-use Rattle.scoop_model.proofs.Answering.Runs.{right_answers, accepts_right, always_answered}
-use Rattle.scoop_model.proofs.Whole.Runs.{tapes, whole_before_next}
+use Rattle.scoop_model.proofs.Names.{List, ap, subst, MayOpen, steps, IsReached, Run, Safe, Placement, Newcomer, opening, World, Event}
+use Rattle.scoop_model.proofs.Order.{in_order}
+use Rattle.scoop_model.proofs.Answering.{right_answers, accepts_right, always_answered}
+use Rattle.scoop_model.proofs.Whole.{tapes, whole_before_next}
 
 pub always_safe : (ps : List Placement) (ns : List Newcomer) (es : List Event) → MayOpen ps ns → Safe (steps (opening ps ns) es)
 always_safe ps ns es may =

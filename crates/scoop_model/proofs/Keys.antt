@@ -1,14 +1,13 @@
 -- Look-ups by a key, once one item is put in the place of that with its key.
-use Rattle.std.proofs.Common.{◌≡◌, Bool, true, false, true≢false, List, [], ◌∷◌, map, find, Option, Some, refl, sym, ap, ◌∙◌, subst}
-use Rattle.std.specs.Prelude.{if◌then◌else◌}
+use Rattle.std.proofs.Common.{◌≡◌, Bool, true, false, true≢false, List, [], ◌∷◌, map, find, Option, Some, refl, sym, ap, ◌∙◌, subst, if◌then◌else◌}
 use Rattle.std.specs.Bool.{Decides}
 use Rattle.scoop_message.specs.declared.name.ClientId.{ClientId}
 use Rattle.scoop_message.specs.declared.name.HandlerId.{HandlerId}
 use Rattle.scoop_message.specs.Message.{same_client, same_handler}
 use Rattle.scoop_message.proofs.Same.{handler_decides, client_decides}
-pub use Rattle.scoop_handler.proofs.Basics.{key_found}
 use Rattle.scoop_model.specs.World.{World, Site, Party, number_of, id_of, is_site, is_party, site_of, party_of, set_site, set_party}
-use Rattle.scoop_model.proofs.Basics.{by_test}
+use Rattle.scoop_handler.proofs.Basics.{by_test}
+pub use Rattle.scoop_handler.proofs.Basics.{key_found}
 
 module _ {A K : Type 0} (key : A → K) (same : K → K → Bool) (decides : (a b : K) → Decides (same a b) (a ≡ b)) where
   abbrev has_key : K → A → Bool
@@ -48,9 +47,8 @@ module _ {A K : Type 0} (key : A → K) (same : K → K → Bool) (decides : (a 
       ap (λ u. if u then Some a else rest) not_a ∙ other_found a k xs apart ∙ sym (ap (λ u. if u then Some x else find (has_key k) xs) not_x))
       (λ there is. ap (λ r. if has_key k x then Some x else r) (other_found a k xs apart)) refl
 
-  -- what is to be shown of a look-up, at the key that is new and at the others
-  pub by_key :
-      (P : Option A → Type 0) (a old : A) (xs : List A) (k : K) → find (has_key (key a)) xs ≡ Some old
+  -- the cases of a look-up: the key that is new, and the others
+  pub by_key : (P : Option A → Type 0) (a old : A) (xs : List A) (k : K) → find (has_key (key a)) xs ≡ Some old
       → (key a ≡ k → P (Some a)) → ((key a ≡ k → ⊥) → P (find (has_key k) xs)) → P (find (has_key k) (map (newer a) xs))
   by_key P a old xs k was here there =
       by_test (λ t. same (key a) k ≡ t → P (find (has_key k) (map (newer a) xs))) (same (key a) k)
@@ -68,8 +66,7 @@ number_found h w s e = key_found number_of same_handler handler_decides h w.site
 pub id_found : (c : ClientId) (w : World) (p : Party) → party_of c w ≡ Some p → id_of p ≡ c
 id_found c w p e = key_found id_of same_client client_decides c w.parties p e
 
-pub by_site :
-    (P : Option Site → Type 0) (w : World) (s old : Site) (h : HandlerId) → site_of (number_of s) w ≡ Some old
+pub by_site : (P : Option Site → Type 0) (w : World) (s old : Site) (h : HandlerId) → site_of (number_of s) w ≡ Some old
     → (number_of s ≡ h → P (Some s)) → ((number_of s ≡ h → ⊥) → P (site_of h w)) → P (find (is_site h) (set_site s w.sites))
 by_site P w s old h = by_key number_of same_handler handler_decides P s old w.sites h
 
@@ -77,7 +74,6 @@ by_site P w s old h = by_key number_of same_handler handler_decides P s old w.si
 pub site_put : (w : World) (s old : Site) → site_of (number_of s) w ≡ Some old → find (is_site (number_of s)) (set_site s w.sites) ≡ Some s
 site_put w s old here = own_found number_of same_handler handler_decides s old w.sites here
 
-pub by_party :
-    (P : Option Party → Type 0) (w : World) (p old : Party) (c : ClientId) → party_of (id_of p) w ≡ Some old
+pub by_party : (P : Option Party → Type 0) (w : World) (p old : Party) (c : ClientId) → party_of (id_of p) w ≡ Some old
     → (id_of p ≡ c → P (Some p)) → ((id_of p ≡ c → ⊥) → P (party_of c w)) → P (find (is_party c) (set_party p w.parties))
 by_party P w p old c = by_key id_of same_client client_decides P p old w.parties c

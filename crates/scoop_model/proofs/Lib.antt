@@ -1,3 +1,4 @@
+pub mod Names
 pub mod Basics
 mod Same
 mod Beginnings
@@ -5,6 +6,7 @@ pub mod Events
 pub mod Keys
 pub mod Sites
 pub mod Stands
+pub mod Moves
 pub mod Reaching
 pub mod Order
 pub mod Sound

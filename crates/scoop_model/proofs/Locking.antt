@@ -1,36 +1,12 @@
--- A fact of handlers and blocks that each Locked brings, and that lasts: a reservation that locks has it at each of its
--- handlers that isn't left, and one that opens has it at all. What a client does keeps that.
-use Rattle.std.proofs.Common.{◌≡◌, true, false, true≢false, List, Some, refl, sym, ◌∙◌, subst}
-use Rattle.std.proofs.lemmas.Option.{same_Some}
-use Rattle.std.specs.Prelude.{⊤, if◌then◌else◌, Ok}
-use Rattle.scoop_message.specs.declared.name.Block.{Block}
-use Rattle.scoop_message.specs.declared.name.HandlerId.{HandlerId}
-use Rattle.scoop_message.specs.declared.request.Entry.{Entry}
-use Rattle.scoop_message.specs.declared.message.Message.{Message}
-use Rattle.scoop_message.specs.declared.message.Message.TheVariants.{Locked}
-use Rattle.scoop_reserve.specs.declared.stage.Stage.{Stage}
-use Rattle.scoop_reserve.specs.declared.stage.Stage.TheVariants.{Locking, Opening, Unlocking, GivingUp as GivingBack}
-use Rattle.scoop_reserve.specs.declared.stage.Step.{Step}
-use Rattle.scoop_reserve.specs.declared.stage.Step.TheVariants as step
-use Rattle.scoop_reserve.specs.Handlers.{asked, has, without}
-use Rattle.scoop_reserve.specs.State.{ReservationState, at_stage}
-use Rattle.scoop_reserve.specs.Hearing.{given_up_in, is_gone}
-use Rattle.scoop_reserve.specs.Hearing as reservation
-use Rattle.scoop_reserve.proofs.Rows.{HeardRow as StepRow, passed_over as steps_over, one_is_locked, all_are_locked, is_busy, one_is_opened, all_are_opened}
-use Rattle.scoop_reserve.proofs.Rows.{is_unlocked, is_given_back, heard_row as step_row}
-use Rattle.scoop_client.specs.declared.phase.ClientNote.{ClientNote}
-use Rattle.scoop_client.specs.Window.{acknowledged, all_over, at_window}
-use Rattle.scoop_client.specs.State.{ClientState, idle, with_windows, with_reservation}
-use Rattle.scoop_client.specs.Hearing.{after_step, stepped, up_to}
-use Rattle.scoop_client.specs.declared.command.Command.{Command}
-use Rattle.scoop_client.specs.declared.command.Command.TheVariants.{Reserve, Call as DoCall, Query as DoQuery, End as DoEnd, GiveUp}
+-- A fact about a handler and a block that each Locked brings, and that lasts. A reservation that locks has it at each of its
+-- handlers that isn't left, and one that opens has it at all of them. A client's move keeps that.
+use Rattle.scoop_model.proofs.Names.{◌≡◌, Some, refl, sym, ◌∙◌, subst, Ok, true, false, true≢false, same_Some, ⊤, Message, Locked, Block, HandlerId, by_test}
+use Rattle.scoop_model.proofs.Names.{StepRow, steps_over, one_is_locked, all_are_locked, is_busy, one_is_opened, all_are_opened, is_unlocked, is_given_back}
+use Rattle.scoop_model.proofs.Names.{asked, has, without, fresh, ReservationState, at_stage, Stage, GivingBack, Locking, Opening, Unlocking, Step, heard}
+use Rattle.scoop_model.proofs.Names.{ClientState, Command}
+use Rattle.scoop_model.proofs.Order.{is_gone_one, none_in_empty}
+use Rattle.scoop_model.proofs.Moves.{Notices, steps_on, is_over, hears, Takes, takes_reserve, takes_give_up, takes}
 use Rattle.scoop_client.specs.Commands as client
-use Rattle.scoop_client.specs.Rows.{HeardRow, passed_over, is_welcomed, takes_step, is_acknowledged, is_accepted, ReserveRow, begins_block, LogRow, is_logged}
-use Rattle.scoop_client.specs.Rows.{EndRow, ends_block, GiveUpRow, gives_up}
-use Rattle.scoop_client.proofs.CommandRows.{command_row}
-use Rattle.scoop_model.proofs.Basics.{by_test}
-use Rattle.scoop_model.proofs.Order.Clients.{is_gone_one, none_in_empty}
-use Rattle.scoop_model.proofs.Order.Commands.{started_fresh}
 
 abbrev pub Locks : (HandlerId → Block → Type 0) → ReservationState → Stage → Type 0
 Locks G r Locking = (h : HandlerId) → has r.handlers h ≡ true → has r.left h ≡ false → G h r.block
@@ -57,16 +33,12 @@ module _ (G : HandlerId → Block → Type 0) (c : ClientState) (i : (r : Reserv
 
   -- ---- a client hears
 
-  -- what a Locked tells, as long as the reservation locks
+  -- the claim of a Locked while the reservation locks
   abbrev pub Tells : Message → Type 0
   Tells m = (r : ReservationState) → c.reservation ≡ Some r → r.stage ≡ Locking → (h : HandlerId) → m ≡ Locked h r.block → G h r.block
 
-  idle_locks : (d : ClientState) → AllLock (idle d)
-  idle_locks d s e = absurd (cc)
-
   -- one more handler isn't left
-  one_more :
-      (r : ReservationState) → c.reservation ≡ Some r → r.stage ≡ Locking → (h : HandlerId) → Tells (Locked h r.block) → (x : HandlerId)
+  one_more : (r : ReservationState) → c.reservation ≡ Some r → r.stage ≡ Locking → (h : HandlerId) → Tells (Locked h r.block) → (x : HandlerId)
       → has r.handlers x ≡ true → has (without h r.left) x ≡ false → G x r.block
   one_more r held is h t x member gone =
       by_test (λ u. has r.left x ≡ u → G x r.block) (has r.left x)
@@ -84,65 +56,22 @@ module _ (G : HandlerId → Block → Type 0) (c : ClientState) (i : (r : Reserv
   step_locks r held m s st (is_unlocked h is left) t = record { stage = tt }
   step_locks r held m s st (is_given_back h is left) t = record { stage = tt }
 
-  stepped_locks : (s : ReservationState) → HasLocks G s → AllLock (stepped c s)
-  stepped_locks s f =
-      by_test (λ t. AllLock (if t then idle c else with_reservation c s)) (is_gone s)
-      (λ over. idle_locks c)
-      (λ on q e. subst (HasLocks G) (same_Some s q e) f)
+  hears_locks : (m : Message) (d : ClientState) → Notices c m d → Tells m → AllLock d
+  hears_locks m d (steps_on n r s st held row) t = λ q e. subst (HasLocks G) (same_Some s q e) (step_locks r held m s st row t)
+  hears_locks m d (is_over n) t = λ r e. absurd (cc)
+  hears_locks m d n t = i
 
-  after_locks : (s : ReservationState) (st : Step) → HasLocks G s → AllLock (after_step c s st).0
-  after_locks s (step.Locked h) f = stepped_locks s f
-  after_locks s (step.Busy h) f = stepped_locks s f
-  after_locks s (step.Opened h) f = stepped_locks s f
-  after_locks s (step.Unlocked h) f = stepped_locks s f
-  after_locks s step.Ignored f = i
-
-  pub heard_locks : (m : Message) (d : ClientState) (note : ClientNote) → HeardRow c m d note → Tells m → AllLock d
-  heard_locks m d note (passed_over n) t = i
-  heard_locks m d note (is_welcomed h left) t = i
-  heard_locks m d note (takes_step n r held) t =
-      after_locks (reservation.heard r n).0 (reservation.heard r n).1 (step_locks r held n (reservation.heard r n).0 (reservation.heard r n).1 (step_row r n) t)
-  heard_locks m d note (is_acknowledged h n r l held opened window new_count) t =
-      let e : ClientState = with_windows c (at_window h (acknowledged (up_to h n c.waits)) c.windows) c.waits in
-      by_test (λ t. AllLock (if t then idle e else e)) (all_over e.windows) (λ over. idle_locks e) (λ on. i)
-  heard_locks m d note (is_accepted h n a r held opened waits) t = i
+  pub heard_locks : (m : Message) → Tells m → AllLock (heard c m).0
+  heard_locks m t = hears_locks m (heard c m).0 (hears c m) t
 
   -- ---- a client takes a command
 
-  module _ (d : ClientState) where
-    made : (e : ClientState) → ◌≡◌ {A = client.Outcome} (Ok e) (Ok d) → AllLock e → AllLock d
-    made e is f = let same : e ≡ d = cc in subst AllLock same f
+  takes_locks : (x : Command) (d : ClientState) → Takes c x d → AllLock d
+  takes_locks x d (takes_reserve hs at_idle begins) = λ s held.
+      subst (HasLocks G) (same_Some (fresh (client.next_block c) hs) s held) (record { stage = λ h member gone. absurd (true≢false (sym member ∙ gone)) })
+  takes_locks x d (takes_give_up r held at) = λ s e.
+      subst (HasLocks G) (same_Some (at_stage r GivingBack (asked r.handlers r.left)) s e) (record { stage = tt })
+  takes_locks x d t = i
 
-    reserve_locks : (hs : List HandlerId) (q : client.Outcome) → ReserveRow c hs q → q ≡ Ok d → AllLock d
-    reserve_locks hs q (begins_block r at_idle room begins) e =
-        made (client.with_block c hs r) e
-        (λ s held.
-        subst (HasLocks G) (started_fresh (client.next_block c) hs c.handlers r begins ∙ same_Some r s held)
-        (record { stage = λ h member gone. absurd (true≢false (sym member ∙ gone)) }))
-    reserve_locks hs q r e = absurd (cc)
-
-    log_locks : (h : HandlerId) (n : Entry) (q : client.Outcome) → LogRow c h n q → q ≡ Ok d → AllLock d
-    log_locks h n q (is_logged l running free window room more) e = made _ e i
-    log_locks h n q r e = absurd (cc)
-
-    end_locks : (q : client.Outcome) → EndRow c q → q ≡ Ok d → AllLock d
-    end_locks q (ends_block running free room) e = made _ e i
-    end_locks q r e = absurd (cc)
-
-    given_locks : (r s : ReservationState) (stage : Stage) → given_up_in r stage ≡ Ok s → HasLocks G s
-    given_locks r s Locking e = let given : at_stage r GivingBack (asked r.handlers r.left) ≡ s = cc in subst (HasLocks G) given (record { stage = tt })
-    given_locks r s Opening e = absurd (cc)
-    given_locks r s Unlocking e = absurd (cc)
-    given_locks r s GivingBack e = absurd (cc)
-
-    give_up_locks : (q : client.Outcome) → GiveUpRow c q → q ≡ Ok d → AllLock d
-    give_up_locks q (gives_up r s locking held given) e =
-        made (with_reservation c s) e (λ y is. subst (HasLocks G) (same_Some s y is) (given_locks r s r.stage given))
-    give_up_locks q r e = absurd (cc)
-
-    pub command_locks : (x : Command) → client.command c x ≡ Ok d → AllLock d
-    command_locks (Reserve hs) e = reserve_locks hs _ (command_row c (Reserve hs)) e
-    command_locks (DoCall h r) e = log_locks h _ _ (command_row c (DoCall h r)) e
-    command_locks (DoQuery h r) e = log_locks h _ _ (command_row c (DoQuery h r)) e
-    command_locks DoEnd e = end_locks _ (command_row c DoEnd) e
-    command_locks GiveUp e = give_up_locks _ (command_row c GiveUp) e
+  pub command_locks : (d : ClientState) (x : Command) → client.command c x ≡ Ok d → AllLock d
+  command_locks d x e = takes_locks x d (takes c d x e)

@@ -11,3 +11,16 @@ pub mod OpeningClients
 pub mod OpeningSteps
 pub mod Runs
 pub mod OpeningRuns
+pub use Facts.*
+pub use Logs.*
+pub use Windows.*
+pub use Clients.*
+pub use Commands.*
+pub use Steps.*
+pub use Greetings.*
+pub use Openings.*
+pub use OpeningHandlers.*
+pub use OpeningClients.*
+pub use OpeningSteps.*
+pub use Runs.*
+pub use OpeningRuns.*

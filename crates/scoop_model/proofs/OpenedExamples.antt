@@ -1,13 +1,8 @@
 -- The worlds of the computed examples may open.
-use Rattle.std.proofs.Common.{◌≡◌, ℕ, List, [], ◌∷◌, map, ap, refl, arith}
-use Rattle.scoop_message.specs.declared.name.ClientId.{ClientId}
-use Rattle.scoop_message.specs.declared.name.HandlerId.{HandlerId}
-use Rattle.scoop_model.specs.Step.{Placement, Newcomer}
-use Rattle.scoop_model.specs.Opening.{IsPlaced, IsJoining}
-use Rattle.scoop_message.specs.Lists.{NoRepeats}
+use Rattle.scoop_model.proofs.Names.{◌≡◌, ℕ, List, [], ◌∷◌, map, refl, ap, arith, NoRepeats, ClientId, HandlerId, once_more, IsPlaced, IsJoining, Placement}
+use Rattle.scoop_model.proofs.Names.{Newcomer}
 use Rattle.scoop_model.specs.Examples.Parties.{CellsMayOpen, CounterMayOpen, handler, client, cell, counter, placed, joins}
 use Rattle.scoop_model.proofs.Beginnings.{no_repeats}
-use Rattle.scoop_handler.proofs.Once.{once_more}
 
 other_handler : (m n : ℕ) → (m ≡ n → ⊥) → handler m ≡ handler n → ⊥
 other_handler m n apart e = apart (ap (λ (h : HandlerId). h.0) e)
@@ -25,23 +20,16 @@ one_handler : (p : Placement) → HandlersApart (p ∷ [])
 one_handler p = once_more (λ (x : Placement). x.handler) [] p no_repeats tt
 
 two_handlers : HandlersApart (placed cell 0 1 ∷ placed cell 0 2 ∷ [])
-two_handlers =
-    once_more (λ (x : Placement). x.handler) (placed cell 0 1 ∷ []) (placed cell 0 2) (one_handler (placed cell 0 1))
-    (other_handler 1 2 (λ e. omega (arith, e)), tt)
+two_handlers = grind (arith, once_more, one_handler, other_handler)
 
 three_handlers : HandlersApart (placed cell 0 1 ∷ placed cell 0 2 ∷ placed cell 0 3 ∷ [])
-three_handlers =
-    once_more (λ (x : Placement). x.handler) (placed cell 0 1 ∷ placed cell 0 2 ∷ []) (placed cell 0 3) two_handlers
-    (other_handler 1 3 (λ e. omega (arith, e)), (other_handler 2 3 (λ e. omega (arith, e)), tt))
+three_handlers = grind (arith, once_more, other_handler, two_handlers)
 
 one_client : (n : Newcomer) → ClientsApart (n ∷ [])
 one_client n = once_more (λ (x : Newcomer). x.id) [] n no_repeats tt
 
 three_clients : ClientsApart (joins 7 ∷ joins 8 ∷ joins 9 ∷ [])
-three_clients =
-    once_more (λ (x : Newcomer). x.id) (joins 7 ∷ joins 8 ∷ []) (joins 9)
-    (once_more (λ (x : Newcomer). x.id) (joins 7 ∷ []) (joins 8) (one_client (joins 7)) (other_client 7 8 (λ e. omega (arith, e)), tt))
-    (other_client 7 9 (λ e. omega (arith, e)), (other_client 8 9 (λ e. omega (arith, e)), tt))
+three_clients = grind (arith, once_more, one_client, other_client)
 
 has_cell : (h : ℕ) → IsPlaced (placed cell 0 h)
 has_cell h = record { words = record { some = omega arith; few = omega arith }; class = refl }

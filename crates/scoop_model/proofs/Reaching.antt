@@ -1,55 +1,35 @@
 -- Which worlds are reached, and what is so of them. A world that opens is reached, and so is what an event makes of a reached
 -- world: the event stands behind those that led there. No event changes a handler's number or a client's, so in every reached
 -- world these are the ones that were placed, in their order, each once.
-use Rattle.std.proofs.Common.{◌≡◌, ℕ, ◌+◌, ◌==◌, false, List, [], ◌∷◌, ◌++◌, map, length, refl, sym, ap, ◌∙◌, subst, arith, length-append}
-use Rattle.std.specs.Prelude.{if◌then◌else◌, Ok, Err}
-use Rattle.std.specs.List.{AllByRecursion}
-use Rattle.scoop_message.specs.declared.name.HandlerId.{HandlerId}
-use Rattle.scoop_message.specs.declared.name.ClientId.{ClientId}
-use Rattle.scoop_message.proofs.Same.{handler_decides, client_decides}
-use Rattle.scoop_handler.specs.State.{HandlerState}
-use Rattle.scoop_handler.specs.Core.{core_of}
-use Rattle.scoop_handler.specs.Hearing.{hear}
-use Rattle.scoop_client.specs.Hearing.{heard}
-use Rattle.scoop_model.specs.declared.event.Event.{Event}
-use Rattle.scoop_model.specs.declared.note.WorldNote.{WorldNote}
-use Rattle.scoop_model.specs.World.{World, Site, Party, number_of, id_of, is_site, is_party, set_site, set_party}
-use Rattle.scoop_model.specs.Step.{Stepped, Placement, Newcomer, step, opening, new_site, new_party, begun_site, finished_site, heard_site, heard_party}
-use Rattle.scoop_model.specs.Step.{restarted_party, reopened}
-use Rattle.scoop_model.specs.Opening.{MayOpen}
-use Rattle.scoop_model.specs.Reach.{Run, next, run_after, run, steps, Leads, IsReached}
-use Rattle.scoop_message.specs.Lists.{NoRepeats}
-use Rattle.scoop_model.proofs.Basics.{by_test}
+use Rattle.scoop_model.proofs.Names.{◌≡◌, ℕ, ◌+◌, List, [], ◌∷◌, ◌++◌, map, refl, sym, ap, ◌∙◌, subst, arith, Ok, length, Err, length-append, AllByRecursion}
+use Rattle.scoop_model.proofs.Names.{handler_decides, client_decides, NoRepeats, ClientId, HandlerId, hear, HandlerState, heard, MayOpen, steps, IsReached, Run}
+use Rattle.scoop_model.proofs.Names.{next, run_after, Leads, run, heard_party, restarted_party, heard_site, begun_site, finished_site, reopened, Placement}
+use Rattle.scoop_model.proofs.Names.{Newcomer, new_site, new_party, opening, Stepped, step, World, Party, set_party, Site, number_of, set_site, id_of, Event}
+use Rattle.scoop_model.proofs.Names.{WorldNote}
 use Rattle.scoop_model.proofs.Events.{Changes, steps_kept}
-use Rattle.scoop_model.proofs.Order.Facts.{SiteFits, Ordered}
-use Rattle.scoop_model.proofs.Order.Runs.{ordered_kept, opens_ordered}
+use Rattle.scoop_model.proofs.Order.{SiteFits, Ordered, ordered_kept, opens_ordered, state_anew}
 
 -- ---- one event more
 
--- a run that has taken so many events
+-- a run that has taken n events
 at : World → ℕ → Run
 at w n = (w, Ok n)
 
-one_more :
-    (n : ℕ) (v w : World) (xs : List Event) (e : Event) (r : World × WorldNote) (o : Stepped)
+one_more : (n : ℕ) (v w : World) (xs : List Event) (e : Event) (r : World × WorldNote) (o : Stepped)
     → ((u : World) → run_after (n + 1) u xs ≡ (w, Ok (n + 1 + length xs)) → run_after (n + 1) u (xs ++ e ∷ []) ≡ (r.0, Ok (n + 1 + length xs + 1)))
     → (k : ℕ) → k ≡ n + 1 + length xs → next n v (λ u. run_after (n + 1) u xs) o ≡ (w, Ok k)
     → next n v (λ u. run_after (n + 1) u (xs ++ e ∷ [])) o ≡ (r.0, Ok (k + 1))
 one_more n v w xs e r (Err y) later k is leads = absurd (let f = ap (λ (x : Run). x.1) leads in cc)
-one_more n v w xs e r (Ok q) later k is leads =
-    subst (λ (j : ℕ). run_after (n + 1) q.0 (xs ++ e ∷ []) ≡ (r.0, Ok (j + 1))) (sym is)
-    (later q.0 (subst (λ (j : ℕ). run_after (n + 1) q.0 xs ≡ (w, Ok j)) is leads))
+one_more n v w xs e r (Ok q) later k is leads = grind arith
 
-leads_from :
-    (n : ℕ) (v w : World) (es : List Event) (e : Event) (r : World × WorldNote) → run_after n v es ≡ (w, Ok (n + length es)) → step w e ≡ Ok r
+leads_from : (n : ℕ) (v w : World) (es : List Event) (e : Event) (r : World × WorldNote) → run_after n v es ≡ (w, Ok (n + length es)) → step w e ≡ Ok r
     → run_after n v (es ++ e ∷ []) ≡ (r.0, Ok (n + length es + 1))
 leads_from n v w [] e r leads is =
     let same : v ≡ w = ap (λ (x : Run). x.0) leads in
     let here : step v e ≡ Ok r = ap (λ (x : World). step x e) same ∙ is in
     let none : n + 1 ≡ n + length {A = Event} [] + 1 = omega arith in
     subst (λ (j : ℕ). run_after n v (e ∷ []) ≡ (r.0, Ok j)) none (ap (next n v (λ u. run_after (n + 1) u [])) here)
-leads_from n v w (x ∷ xs) e r leads is =
-    one_more n v w xs e r (step v x) (λ u l. leads_from (n + 1) u w xs e r l is) (n + length (x ∷ xs)) (omega arith) leads
+leads_from n v w (x ∷ xs) e r leads is = one_more n v w xs e r (step v x) (λ u l. leads_from (n + 1) u w xs e r l is) (n + length (x ∷ xs)) (omega arith) leads
 
 pub leads_next : (v w : World) (es : List Event) (e : Event) (r : World × WorldNote) → Leads v es w → step w e ≡ Ok r → Leads v (es ++ e ∷ []) r.0
 leads_next v w es e r leads is =
@@ -79,28 +59,16 @@ record Known (hs : List HandlerId) (cs : List ClientId) (w : World) : Type 0 whe
 
 numbers_set : (s : Site) (sites : List Site) → map number_of (set_site s sites) ≡ map number_of sites
 numbers_set s [] = refl
-numbers_set s (x ∷ xs) =
-    by_test (λ t. is_site (number_of s) x ≡ t → number_of (if t then s else x) ∷ map number_of (set_site s xs) ≡ number_of x ∷ map number_of xs)
-    (is_site (number_of s) x)
-    (λ _ is.
-    ap (λ n. n ∷ map number_of (set_site s xs)) (sym ((handler_decides (number_of x) (number_of s)).0 is)) ∙ ap (λ ns. number_of x ∷ ns) (numbers_set s xs))
-    (λ _ is. ap (λ ns. number_of x ∷ ns) (numbers_set s xs)) refl
+numbers_set s (x ∷ xs) = grind (arith, handler_decides, numbers_set s xs)
 
 ids_set : (p : Party) (parties : List Party) → map id_of (set_party p parties) ≡ map id_of parties
 ids_set p [] = refl
-ids_set p (x ∷ xs) =
-    by_test (λ t. is_party (id_of p) x ≡ t → id_of (if t then p else x) ∷ map id_of (set_party p xs) ≡ id_of x ∷ map id_of xs) (is_party (id_of p) x)
-    (λ _ is. ap (λ n. n ∷ map id_of (set_party p xs)) (sym ((client_decides (id_of x) (id_of p)).0 is)) ∙ ap (λ ns. id_of x ∷ ns) (ids_set p xs))
-    (λ _ is. ap (λ ns. id_of x ∷ ns) (ids_set p xs)) refl
+ids_set p (x ∷ xs) = grind (arith, client_decides, ids_set p xs)
 
 numbers_reopened : (n : ℕ) (js : List _) (sites : List Site) → AllByRecursion (SiteFits js) sites → map number_of (map (reopened n) sites) ≡ map number_of sites
 numbers_reopened n js [] all = refl
 numbers_reopened n js (x ∷ xs) all =
-    by_test (λ t. number_of (if t then record x { core = core_of x.core.class x.stored false } else x) ∷ map number_of (map (reopened n) xs)
-    ≡ number_of x ∷ map number_of xs) (x.node == n)
-    (λ here.
-    ap (λ (s : HandlerState). s.number ∷ map number_of (map (reopened n) xs)) (all.0.stored) ∙ ap (λ ns. number_of x ∷ ns) (numbers_reopened n js xs all.1))
-    (λ there. ap (λ ns. number_of x ∷ ns) (numbers_reopened n js xs all.1))
+    ap (λ (st : HandlerState). st.number ∷ map number_of (map (reopened n) xs)) (state_anew js n x all.0) ∙ ap (λ ns. number_of x ∷ ns) (numbers_reopened n js xs all.1)
 
 known_kept : (hs : List HandlerId) (cs : List ClientId) (w : World) → Known hs cs w → Changes (Known hs cs) w
 known_kept hs cs w k =
@@ -110,15 +78,13 @@ known_kept hs cs w k =
       sends = λ c p h s at here. record { ordered = o.sends c p h s at here; numbers = k.numbers; ids = k.ids };
       hears = λ i m s was goes here. record {
         ordered = o.hears i m s was goes here;
-        numbers = numbers_set (heard_site s (hear s.core.state m)) w.sites
-            ∙ k.numbers;
+        numbers = numbers_set (heard_site s (hear s.core.state m)) w.sites ∙ k.numbers;
         ids = k.ids;
       };
       notices = λ i m p was goes at. record {
         ordered = o.notices i m p was goes at;
         numbers = k.numbers;
-        ids =
-            ids_set (heard_party p (heard p.client m)) w.parties ∙ k.ids;
+        ids = ids_set (heard_party p (heard p.client m)) w.parties ∙ k.ids;
       };
       begins = λ h s t here is. record { ordered = o.begins h s t here is; numbers = numbers_set (begun_site s) w.sites ∙ k.numbers; ids = k.ids };
       finishes = λ h s t here is. record { ordered = o.finishes h s t here is; numbers = numbers_set (finished_site s t) w.sites ∙ k.numbers; ids = k.ids };

@@ -1,16 +1,9 @@
--- What `==` says of commands and events: it decides whether two are the same.
-use Rattle.std.proofs.Common.{◌≡◌, List, ap, refl}
-use Rattle.std.proofs.lemmas.Bool.Decides.{Decides-like, Decides-eqb}
+-- The `==` of commands and events decides whether two of them are the same.
+use Rattle.scoop_model.proofs.Names.{◌≡◌, List, refl, ap, Decides-like, Decides-eqb, handler_decides, client_decides, pair_decides, request_decides, ClientId}
+use Rattle.scoop_model.proofs.Names.{HandlerId, Request, Command, Reserve, End, GiveUp, Call, Query, Event, Do, Tick, Take, Begin, Finish, ClientRestart}
+use Rattle.scoop_model.proofs.Names.{NodeRestart}
 use Rattle.std.proofs.lemmas.Slice.Eq.{slice_eq-Decides}
 use Rattle.std.specs.Bool.{Decides}
-use Rattle.scoop_message.specs.declared.name.HandlerId.{HandlerId}
-use Rattle.scoop_message.specs.declared.name.ClientId.{ClientId}
-use Rattle.scoop_message.specs.declared.request.Request.{Request}
-use Rattle.scoop_message.proofs.Same.{pair_decides, handler_decides, client_decides, request_decides}
-use Rattle.scoop_client.specs.declared.command.Command.{Command}
-use Rattle.scoop_client.specs.declared.command.Command.TheVariants.{Reserve, Call, Query, End, GiveUp}
-use Rattle.scoop_model.specs.declared.event.Event.{Event}
-use Rattle.scoop_model.specs.declared.event.Event.TheVariants.{Do, Tick, Take, Begin, Finish, ClientRestart, NodeRestart}
 use Rattle.scoop_client.specs.contracts.handlers.HandlerListPartialEq.TheImpl as on_list
 use Rattle.scoop_client.specs.contracts.command.CommandPartialEq.TheImpl as on_command
 use Rattle.scoop_model.specs.contracts.event.EventPartialEq.TheImpl as on_event

@@ -3,3 +3,8 @@ pub mod Rows
 pub mod Handlers
 pub mod Clients
 pub mod Runs
+pub use Facts.*
+pub use Rows.*
+pub use Handlers.*
+pub use Clients.*
+pub use Runs.*

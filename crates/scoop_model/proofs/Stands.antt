@@ -1,6 +1,5 @@
 -- Entries that stand in a log, from a number on.
-use Rattle.std.proofs.Common.{◌≡◌, ℕ, ◌+◌, List, ◌++◌, length}
-use Rattle.scoop_message.specs.declared.request.Entry.{Entry}
+use Rattle.scoop_model.proofs.Names.{◌≡◌, ℕ, ◌+◌, List, ◌++◌, length, Entry}
 
 pub record Stands (log : List Entry) (n : ℕ) (es : List Entry) : Type 0 where
   pub before : List Entry

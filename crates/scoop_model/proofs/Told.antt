@@ -1,66 +1,42 @@
--- What each message that was ever sent tells for good, by what every event keeps. The layers have these facts in the form
--- in which they are kept; here each is said as the theorem says it, for every message of a world that is reached.
-use Rattle.std.proofs.Common.{◌≡◌, inl, inr, ℕ, zero, suc, ◌+◌, ◌-◌, ◌<◌, ◌||◌, true, false, true≢false, nat_lt, List, [], ◌∷◌, ◌++◌, length, slice_get, Option}
-use Rattle.std.proofs.Common.{Some, None, refl, sym, ap, ◌∙◌, subst, ⊎_elim, arith, append_assoc}
-use Rattle.std.specs.Prelude.{Contains}
-use Rattle.std.specs.List.{AllByRecursion, list_any}
-use Rattle.std.specs.Option.{option_map_or}
-use Rattle.std.proofs.lemmas.Bool.Decides.{nat_tests}
-use Rattle.std.proofs.lemmas.Option.{slice_get-get_or}
-use Rattle.scoop_message.specs.declared.name.Block.{Block}
-use Rattle.scoop_message.specs.declared.name.ClientId.{ClientId}
-use Rattle.scoop_message.specs.declared.name.HandlerId.{HandlerId}
-use Rattle.scoop_message.specs.declared.request.Entry.{Entry}
-use Rattle.scoop_message.specs.declared.message.Message.{Message}
-use Rattle.scoop_message.specs.declared.message.Message.TheVariants.{Open}
-use Rattle.scoop_handler.specs.declared.mark.Mark.{Mark}
+-- The lasting claims of every message that was ever sent. The layers have these facts as invariants. Here each is stated as the
+-- theorem states it, for every message of a world that is reached.
+use Rattle.scoop_model.proofs.Names.{◌≡◌, ℕ, ◌+◌, ◌<◌, List, [], ◌∷◌, ◌++◌, Some, None, refl, sym, ap, ◌∙◌, subst, arith, Option, true, zero, suc, slice_get}
+use Rattle.scoop_model.proofs.Names.{false, true≢false, length, ◌-◌, Contains, inl, inr, nat_lt, ⊎_elim, append_assoc, nat_tests, slice_get-get_or}
+use Rattle.scoop_model.proofs.Names.{AllByRecursion, list_any, option_map_or, Message, Open, Block, ClientId, HandlerId, Entry, all_found, by_test, all_both}
+use Rattle.scoop_model.proofs.Names.{all_at, mark_of-client, Mark, AtHeld, AtShut, AtOpen, IsReached, TellsGranted, stored_of, TellsStored, TellsGreeted}
+use Rattle.scoop_model.proofs.Names.{HoldsOpenedOrOver, TellsHeld, TellsOpened, HasOpenedAtAll, IsAbandoned, TellsUnlocked, AreOfLog, TellsLogged, TellsRan}
+use Rattle.scoop_model.proofs.Names.{World, Party, Site, is_site, is_party, log_of, party_of, inc_of}
 use Rattle.scoop_handler.specs.declared.mark.Stage.{Stage}
-use Rattle.scoop_handler.specs.declared.mark.Stage.TheVariants.{Held as AtHeld, Open as AtOpen, Shut as AtShut}
-use Rattle.scoop_handler.specs.Marks.{block_of}
-use Rattle.scoop_handler.proofs.Basics.{all_both}
-use Rattle.scoop_handler.proofs.MarkLists.{mark_of-client, All-mark_of}
-use Rattle.scoop_model.specs.World.{World, Site, Party, is_site, is_party, party_of, inc_of, has_block, log_of}
-use Rattle.scoop_model.specs.Reach.{IsReached}
-use Rattle.scoop_model.specs.Told.{stored_of, TellsStored, TellsGreeted, HoldsOpenedOrOver, TellsHeld, TellsGranted, TellsOpened, HasOpenedAtAll, IsAbandoned}
-use Rattle.scoop_model.specs.Told.{TellsUnlocked, AreOfLog, TellsLogged, TellsRan}
-use Rattle.scoop_model.proofs.Basics.{by_test}
 use Rattle.scoop_model.proofs.Stands.{Stands}
-use Rattle.scoop_model.proofs.Order.Facts.{IsGranted, Tells, SiteFits, PartyFits, all_at, all_found, all_more_of}
-use Rattle.scoop_model.proofs.Order.Lists.{same_block_itself}
-use Rattle.scoop_model.proofs.Logging.Facts.{Carries}
-use Rattle.scoop_model.proofs.Logging.Greetings.{Greets}
-use Rattle.scoop_model.proofs.Logging.Openings.{IsOpenedAtAll, IsGivenUp, Shows, SiteOpened, is_open_of}
-use Rattle.scoop_model.proofs.Answering.Facts.{TellsAnswer}
-use Rattle.scoop_model.proofs.Ready.Runs.{Facts, reached_facts, reached_keeps}
-use Rattle.scoop_model.proofs.Granting.{Granting, granting_kept, opens_granting}
-use Rattle.scoop_model.proofs.Order.Runs.{ordered_kept, opens_ordered}
-use Rattle.scoop_model.proofs.Order.Facts.{Ordered}
-use Rattle.scoop_model.proofs.Sound.Runs.{both_kept}
+use Rattle.scoop_model.proofs.Order.{IsGranted, Tells, SiteFits, PartyFits, all_more_of, same_block_itself, ordered_kept, opens_ordered, Ordered}
+use Rattle.scoop_model.proofs.Logging.{Carries, Greets, IsOpenedAtAll, IsGivenUp, Shows, is_open_of}
+use Rattle.scoop_model.proofs.Answering.{TellsAnswer}
+use Rattle.scoop_model.proofs.Ready.{reached_facts, reached_keeps}
+use Rattle.scoop_model.proofs.Ready.Runs.{Facts}
+use Rattle.scoop_model.proofs.Granting.{granting_kept, opens_granting, Granting}
+use Rattle.scoop_model.proofs.Sound.{both_kept}
 
 -- ---- lists
 
--- what stands in the front part of a list stands there in the whole
+-- an item of a list's front part is in the list
 slice_front : {A : Type 0} (xs ys : List A) (j : ℕ) (x : A) → slice_get xs j ≡ Some x → slice_get (xs ++ ys) j ≡ Some x
 slice_front [] ys j x e = absurd (cc)
 slice_front (y ∷ xs) ys zero x e = e
 slice_front (y ∷ xs) ys (suc j) x e = slice_front xs ys j x e
 
--- and what stands behind it, so many places later
+-- an item of the back part is in the list, that many places later
 slice_behind : {A : Type 0} (xs ys : List A) (i j : ℕ) → i ≡ length xs + j → slice_get (xs ++ ys) i ≡ slice_get ys j
 slice_behind [] ys i j e = let same : i ≡ j = omega (arith, e) in ap (slice_get ys) same
 slice_behind (x ∷ xs) ys zero j e = absurd (omega (arith, e))
 slice_behind (x ∷ xs) ys (suc i) j e = slice_behind xs ys i j (omega (arith, e))
 
--- what is so of each element is so of one that the list contains
+-- a property of each element holds of one that the list contains
 contained : {A : Type 0} (P : A → Type 0) (xs : List A) (x : A) → AllByRecursion P xs → Contains xs x → P x
 contained P xs x all is = all_at P xs is.0 x (slice_get-get_or xs is.0 x is.1 ∙ ap Some is.2) all
 
 none_any : {A : Type 0} (test : A → _) (xs : List A) → list_any test xs ≡ false → AllByRecursion (λ x. test x ≡ false) xs
 none_any test [] e = tt
-none_any test (x ∷ xs) e =
-    by_test (λ t. test x ≡ t → (t || list_any test xs) ≡ false → (test x ≡ false) × AllByRecursion (λ y. test y ≡ false) xs) (test x)
-    (λ _ is f. absurd (true≢false f))
-    (λ _ is f. (is, none_any test xs f)) refl e
+none_any test (x ∷ xs) e = grind (arith, none_any test xs)
 
 module _ (w : World) (f : Facts w) where
   -- ---- greetings
@@ -99,12 +75,7 @@ module _ (w : World) (f : Facts w) where
       is = inl ((all_found (SiteFits w.joint) (is_site h) w.sites site f.ordered.sites g.found).holds b
           (record { mark = mark; found = g.reached.found; inc = inc; num = num; stage = is }));
     }
-    own_held inc num AtOpen is =
-        let client : mark.client ≡ b.client = mark_of-client b.client site.core.state.marks mark g.reached.found in
-        let own : block_of mark ≡ b = λ i. record { client = client i; inc = inc i; num = num i } in
-        let opens =
-        All-mark_of _ b.client site.core.state.marks mark (all_found (SiteOpened w) (is_site h) w.sites site f.openings.sites g.found).marks g.reached.found in
-        record { site = site; found = g.found; is = inr (inl (subst (λ y. has_block site.opened y ≡ true) own (opens.opened is))) }
+    own_held inc num AtOpen is = grind (arith, all_found, mark_of-client)
     own_held inc num AtShut is = record {
       site = site;
       found = g.found;

@@ -6,3 +6,11 @@ pub mod Shown
 pub mod Facts
 pub mod Steps
 pub mod Runs
+pub use Sent.*
+pub use Marks.*
+pub use Slots.*
+pub use Rows.*
+pub use Shown.*
+pub use Facts.*
+pub use Steps.*
+pub use Runs.*

@@ -1,4 +1,4 @@
--- Where the lock is granted and where blocks open, over a whole list of events.
+-- The events that grant a lock and those that open a block, over a whole list of events.
 use Rattle.std.specs.Prelude.{◌≡◌, ℕ, ◌<◌, ◌≤◌, List, take, slice_get, Option, Some, None, Ok}
 use Rattle.std.specs.Option.{option_map_or}
 use Rattle.scoop_message.specs.declared.name.Block.{Block}
@@ -38,13 +38,13 @@ pub record IsOpening (w : World) (e : Event) (h : HandlerId) (b : Block) : Type 
   pub reply : Option ℕ
   pub opened : step w e ≡ Ok (next, Handler (Opened b) reply)
 
--- the event behind the first i grants the block the handler's lock
+-- the event after the first i grants the block the handler's lock
 pub record GrantsAt (v : World) (es : List Event) (i : ℕ) (h : HandlerId) (b : Block) : Type 0 where
   pub event : Event
   pub there : slice_get es i ≡ Some event
   pub grant : IsGrant (world_after v es i) event h b
 
--- the event behind the first j opens the block at the handler
+-- the event after the first j opens the block at the handler
 pub record OpensAt (v : World) (es : List Event) (j : ℕ) (h : HandlerId) (b : Block) : Type 0 where
   pub event : Event
   pub there : slice_get es j ≡ Some event

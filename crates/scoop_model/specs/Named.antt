@@ -1,4 +1,4 @@
--- What it takes that a message names a block.
+-- The condition on a message that names a block.
 use Rattle.std.specs.Prelude.{◌≡◌, ◌≤◌, List, Some}
 use Rattle.scoop_message.specs.declared.name.Block.{Block}
 use Rattle.scoop_message.specs.declared.name.HandlerId.{HandlerId}

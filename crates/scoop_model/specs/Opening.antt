@@ -1,4 +1,4 @@
--- With which handlers and clients a world opens.
+-- The handlers and clients with which a world may open.
 use Rattle.std.specs.Prelude.{◌≡◌, ◌-◌, ◌^◌, ◌≤◌, ◌<◌, List, length, map}
 use Rattle.std.specs.List.{AllByRecursion}
 use Rattle.scoop_message.specs.declared.limits.TheConstants.{MAX_HANDLERS, MAX_CLIENTS, MAX_ENTRIES}

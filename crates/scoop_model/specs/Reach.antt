@@ -1,4 +1,4 @@
--- What a list of events makes of a world.
+-- The worlds that a list of events leads to.
 use Rattle.std.specs.Prelude.{◌≡◌, ℕ, ◌+◌, List, [], ◌∷◌, length, Result, Ok, Err}
 use Rattle.scoop_model.specs.declared.event.Event.{Event}
 use Rattle.scoop_model.specs.declared.error.WorldError.{WorldError}

@@ -1,4 +1,4 @@
--- What it takes that a handler told how many entries of a block it has received.
+-- The condition on a message that reports how many entries of a block were received.
 use Rattle.std.specs.Prelude.{◌≡◌, ◌≤◌, ℕ, List, [], ◌++◌, filter, length, take}
 use Rattle.std.specs.Option.{option_map_or}
 use Rattle.scoop_message.specs.declared.name.Block.{Block}
@@ -18,7 +18,7 @@ entries_in b qs = option_map_or (λ q. q.entries) (queue_of b qs) []
 abbrev pub queues_at : HandlerId → World → List PrivateQueue
 queues_at h w = option_map_or (λ s. s.core.state.queues) (site_of h w) []
 
--- the block's entries that have run at the handler, and those that are pending there behind them
+-- the block's entries that have run at the handler, and after them those that are pending there
 abbrev pub arrived_at : Block → HandlerId → World → List Entry
 arrived_at b h w = entries_of (filter (λ r. same_block r.block b) (ran_at h w)) ++ entries_in b (queues_at h w)
 

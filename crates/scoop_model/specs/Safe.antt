@@ -1,4 +1,4 @@
--- What holds of every world that can be reached.
+-- The safety of a world: the property of every world that can be reached.
 use Rattle.std.specs.Prelude.{◌≡◌, ◌≢◌, ◌⊎◌, ℕ, ◌+◌, IsTrue, List, [], ◌∷◌, ◌++◌, length, filter, flat_map, map, take, slice_get, Some, Contains}
 use Rattle.std.specs.List.{AllByRecursion}
 use Rattle.scoop_message.specs.declared.name.Block.{Block}
@@ -28,7 +28,7 @@ pub record InOrder (w : World) : Type 0 where
 
 -- ---- the tape
 
--- what ran of a block, in its order
+-- the entries that ran of a block, in their order
 abbrev pub part : Block → Site → List Ran
 part b s = filter (λ r. same_block r.block b) s.ran
 
@@ -41,11 +41,11 @@ abbrev pub numbered : Block → ℕ → List Entry → List (Block × ℕ × Ent
 numbered b n [] = []
 numbered b n (e ∷ es) = (b, n, e) ∷ numbered b (n + 1) es
 
--- what ran of the block are the first entries of what its client logged here, each once
+-- the entries that ran of the block are the first that its client logged here, each once
 abbrev pub IsBeginning : World → Site → Block → Type 0
 IsBeginning w s b = map untold (part b s) ≡ numbered b 1 (take (length (part b s)) (log_of b (number_of s) w))
 
--- what ran is, block after block in the order of their opening, a beginning of each block's log
+-- the entries that ran are, block after block in the order of their opening, a beginning of each block's log
 pub record Tape (w : World) (s : Site) : Type 0 where
   pub in_turn : s.ran ≡ flat_map (λ b. part b s) s.opened
   pub beginnings : AllByRecursion (IsBeginning w s) s.opened

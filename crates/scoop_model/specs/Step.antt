@@ -36,7 +36,7 @@ use Rattle.scoop_model.specs.declared.error.WorldError.TheVariants.{NoSuchMessag
 use Rattle.scoop_model.specs.World.{World, Site, Party, Accepted, HandlerLog, BlockLog, set_site, set_party, site_of, party_of, has_block, is_log_of}
 use Rattle.scoop_model.specs.World.{is_share_of, sent_at}
 
--- the world after an event and what it tells, or why it doesn't happen, want of memory apart
+-- the world after an event and its note, or the reason why it is refused (apart from out of memory)
 abbrev pub Stepped : Type 0
 Stepped = Result (World × WorldNote) WorldError
 
@@ -67,7 +67,7 @@ with_entry_at h e l = if is_share_of h l then with_entry e l else l
 abbrev pub changed_log : Block → (HandlerLog → HandlerLog) → BlockLog → BlockLog
 changed_log b f l = if is_log_of b l then record l { shares = map f l.shares } else l
 
--- what was logged, once the client whose block this now is has taken the command
+-- the logs after the client of this block has taken the command
 abbrev pub logs_after : Command → Block → List BlockLog → List BlockLog
 logs_after (Reserve hs) b logs = logs ++ record { block = b; shares = map fresh_log hs } ∷ []
 logs_after (Call h r) b logs = map (changed_log b (with_entry_at h (CallEntry r))) logs

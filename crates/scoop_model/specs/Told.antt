@@ -1,4 +1,4 @@
--- What each message that was ever sent tells, for good: of greetings, locks, openings, logs and answers.
+-- The lasting claims of messages about greetings, locks, openings, logs and answers.
 use Rattle.std.specs.Prelude.{◌≡◌, ◌⊎◌, ℕ, ◌+◌, ◌-◌, ◌≤◌, true, List, slice_get, Some, Contains}
 use Rattle.std.specs.Option.{option_map_or}
 use Rattle.scoop_message.specs.declared.name.Block.{Block}
@@ -36,7 +36,7 @@ pub record HasGreeted (w : World) (h : HandlerId) (c : ClientId) (inc : ℕ) : T
   pub marked : mark_of c site.core.state.marks ≡ Some mark
   pub greeted : inc ≤ mark.inc
 
--- who was welcomed has greeted
+-- a client that was welcomed has greeted
 pub record TellsGreeted (w : World) (m : Message) : Type 0 where
   pub greeted : (h : HandlerId) (c : ClientId) (inc : ℕ) → m ≡ Welcome h c inc → HasGreeted w h c inc
 

@@ -1,4 +1,4 @@
--- All parties, every message ever sent, and what has happened so far.
+-- A world: all parties, every message ever sent, and the record of past events.
 use Rattle.std.specs.Prelude.{ℕ, ◌-◌, ◌==◌, ◌&&◌, max, nat_lt, Bool, false, if◌then◌else◌, List, [], ◌∷◌, map, find, slice_get, Option, None, unwrap_or}
 use Rattle.std.specs.List.{list_any}
 use Rattle.std.specs.Option.{option_map, option_map_or}
@@ -36,7 +36,7 @@ pub record Party : Type 0 where
   pub stored : ℕ
   pub accepted : List Accepted
 
--- what a block's client logged for one handler
+-- the entries that a block's client logged for one handler
 pub record HandlerLog : Type 0 where
   pub handler : HandlerId
   pub entries : List Entry
@@ -64,7 +64,7 @@ is_site h s = same_handler (number_of s) h
 abbrev pub site_of : HandlerId → World → Option Site
 site_of h w = find (is_site h) w.sites
 
--- what has run at a handler
+-- the entries that have run at a handler
 abbrev pub ran_at : HandlerId → World → List Ran
 ran_at h w = option_map_or (λ s. s.ran) (site_of h w) []
 
@@ -122,7 +122,7 @@ handlers_of b w = option_map handlers_in (find (is_log_of b) w.logs)
 abbrev pub set_of : Block → World → List HandlerId
 set_of b w = unwrap_or (handlers_of b w) []
 
--- what the block's client logged for the handler, where the block has reserved it
+-- the entries that the block's client logged for the handler, if the block has reserved it
 abbrev pub logged_at : Block → HandlerId → World → Option (List Entry)
 logged_at b h w = option_map (λ l. l.entries) (find (is_share_of h) (shares_of b w.logs))
 

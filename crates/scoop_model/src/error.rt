@@ -1,4 +1,4 @@
-//! Why an event doesn't happen.
+//! The reasons why an event is refused.
 
 ghost use Rattle.std.specs.Prelude.{◌≡◌};
 
@@ -7,8 +7,8 @@ use scoop_message::OutOfMemory;
 use std::alloc::AllocError;
 use thiserror::Error;
 
-/// Why an event is refused, in the order in which it is tested. A refused event changes nothing. Printed as
-/// its name, which for a client's refusal is the client's.
+/// The reason why an event is refused, in the order of the tests. A refused event changes nothing. It is printed as
+/// its name; a client's refusal is printed as the client's error.
 #[derive(Clone, Copy, Debug, PartialEq, Eq, Error)]
 pub enum WorldError {
     /// No message has this place in the list of sent messages, which is counted from 1.
@@ -23,10 +23,10 @@ pub enum WorldError {
     /// The client refuses the command.
     #[error("{0}")]
     ClientRefused(ClientError),
-    /// The client's stored incarnation is the highest there is.
+    /// The client's stored incarnation is the highest one.
     #[error("IncarnationsSpent")]
     IncarnationsSpent,
-    /// A growth of memory was refused.
+    /// Out of memory.
     #[error("OutOfMemory")]
     OutOfMemory,
 }

@@ -1,4 +1,4 @@
-//! What may happen in a world.
+//! The events of a world.
 
 use scoop_client::Command;
 use scoop_message::{ClientId, HandlerId};
@@ -8,13 +8,13 @@ use scoop_message::{ClientId, HandlerId};
 pub enum Event {
     /// The client takes a command.
     Do(ClientId, Command),
-    /// The client sends the handler the message that it owes to it, if any.
+    /// The client sends the handler the message that is due to it, if any.
     Tick(ClientId, HandlerId),
-    /// The message at this place in the list of sent messages, counted from 1, comes to its receiver.
+    /// The receiver takes the message at this place in the list of sent messages, counted from 1.
     Take(usize),
-    /// The handler's next entry leaves with the object, to be run.
+    /// The handler hands out its next entry and its object, so that the entry runs.
     Begin(HandlerId),
-    /// The entry that left has run.
+    /// The entry that was handed out has run.
     Finish(HandlerId),
     /// The client restarts with its next incarnation, and greets again.
     ClientRestart(ClientId),

@@ -1,4 +1,4 @@
-//! Worlds that are computed: what the definitions make of some lists of events.
+//! Examples: worlds that the definitions compute from lists of events.
 
 ghost use Rattle.scoop_model.specs.Examples.Repeats.{RepeatedQuery};
 ghost use Rattle.scoop_model.specs.Examples.GivingUp.{GivesUp};
@@ -20,7 +20,7 @@ pub fn waits_for_the_first()
     ensures { WaitsForTheFirst }
 {}
 
-/// A client opens with the highest incarnation there is.
+/// A client opens with the highest incarnation.
 pub fn last_incarnation()
     ensures { LastIncarnation }
 {}

@@ -1,13 +1,13 @@
-//! What a world is: the handlers of every node, the clients, and every message ever sent; what one event makes
-//! of it; and the theorem that every world which a list of events leads to is safe.
+//! A model of a whole world: the handlers of every node, the clients, and every message ever sent. An event makes
+//! one world into the next. The main theorem says that every world which a list of events leads to is safe.
 //!
 //! An event moves one party. Any message may come at any later moment, any number of times, in any order,
-//! or never, and clients and nodes may restart at any moment.
+//! or never. Clients and nodes may restart at any moment.
 //!
-//! Here are the words in which events are given, and the theorems. A world that runs them is `scoop_world`'s.
+//! This crate has the types of events and notes, and the theorems. `scoop_world` has the world that runs events.
 //!
 //! ```
-//! // client 7 reserves two handlers, and sends the first one what it owes to it
+//! // client 7 reserves two handlers, and sends the first one the message that is due to it
 //! let both = HandlerList::of(&[HandlerId(1), HandlerId(2)])?;
 //! let reserve = Event::Do(ClientId(7), Command::Reserve(both));
 //! let tick = Event::Tick(ClientId(7), HandlerId(1));
@@ -15,7 +15,7 @@
 //! assert!(rt; !same_event(&reserve, &tick));
 //! // a command names nine handlers at most
 //! assert_eq!(rt; HandlerList::of(&[HandlerId(1); 10]), Err(TooManyHandlers));
-//! // a proof that calls a theorem has it: every world that is reached is safe
+//! // a proof that calls a theorem can use it: every world that is reached is safe
 //! scoop_model::theorems::reached_safe();
 //! // and over a whole list of events a block that opens was the holder from its grant on
 //! scoop_model::theorems::held_until_opened();

@@ -1,10 +1,10 @@
-//! What an event tells of itself.
+//! The notes that events return.
 
 use scoop_client::ClientNote;
 use scoop_handler::{Note, Ran};
 use scoop_message::Block;
 
-/// What an event did. A place in the list of sent messages is counted from 1.
+/// The effect of an event. A place in the list of sent messages is counted from 1.
 #[derive(Clone, Copy, Debug, PartialEq, Eq)]
 pub enum WorldNote {
     /// The client took the command.
@@ -13,9 +13,9 @@ pub enum WorldNote {
     Silent,
     /// A message was sent, with this place.
     Sent(usize),
-    /// What a handler did with a message, and the place of its reply, if it has one.
+    /// The handler's note on a message, and the place of its reply, if there is one.
     Handler(Note, Option<usize>),
-    /// What a client did with a message.
+    /// The client's note on a message.
     Client(ClientNote),
     /// The entry of this number of the block has begun.
     Began(Block, u32),

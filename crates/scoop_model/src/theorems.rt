@@ -1,14 +1,14 @@
-//! What holds of every world that can be reached: functions with nothing in them but a clause.
+//! The theorems about every world that can be reached. Each is a function with an empty body, whose clause is the theorem.
 
+mod histories;
 mod holding;
 mod opening;
-mod running;
 mod safety;
 mod telling;
 
+pub use histories::{handlers_sound, handlers_stay, in_order, opened_in_joint};
 pub use holding::{granted_once, held_until_opened};
 pub use opening::opens_safe;
-pub use running::{handlers_sound, handlers_stay, in_order, opened_in_joint};
 pub use safety::reached_safe;
 pub use telling::{
     answer_has_run, hello_is_stored, locked_is_held_opened_or_over, log_was_logged,

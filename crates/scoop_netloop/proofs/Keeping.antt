@@ -1,4 +1,4 @@
--- What a handler's run leaves of the keeper, and why it breaks off.
+-- The keeper after a handler's run, and the reasons to break off.
 use Rattle.std.proofs.Common.{◌≡◌, ◌≢◌, ◌≤◌, ◌<◌, ◌||◌, ℕ, ◌++◌, ◌∷◌, [], Bool, true, false, List, Option, Some, None, IfSome, length, refl, ap, sym, ◌∙◌}
 use Rattle.std.proofs.Common.{subst, arith}
 use Rattle.std.proofs.lemmas.List.{length-append}

@@ -1,4 +1,4 @@
--- What a send does at a book.
+-- The effect of a send at a book.
 use Rattle.std.proofs.Common.{◌≡◌, ◌⊎◌, ◌↔◌, ℕ, ◌++◌, ◌∷◌, [], List, length, take, drop, Option, Some, None, Result, Ok, refl, ap, sym, ◌∙◌, subst}
 use Rattle.std.proofs.lemmas.List.{take_at}
 use Rattle.scoop_message.specs.declared.name.HandlerId.{HandlerId}

@@ -1,4 +1,4 @@
--- What is true of the replies to messages that came as frames.
+-- The replies to messages that came as frames.
 use Rattle.std.proofs.Common.{◌≡◌, ℕ, List, Some, sym, subst}
 use Rattle.scoop_message.specs.declared.message.Message.{Message}
 use Rattle.scoop_message.specs.declared.message.Message.TheVariants.{Log}
@@ -20,7 +20,7 @@ has_entries : (m : Message) → IsMessage m → HasEntries m
 has_entries (Log h b n es) is = (is.1.some, is.1.end)
 has_entries m is = tt
 
--- a message that a handler heard is replied to as the table says
+-- the reply to a message that a handler heard is that of the table
 replies_moved : (v : Version) (m : Message) (bytes : List ℕ) (told : HeardMessage) (hs ks : List LocalHandler)
     → IsFrame v m bytes → Moves (Hear m) (Heard told) hs ks → RepliesTo m told
 replies_moved v m bytes told hs ks is moved =

@@ -1,6 +1,6 @@
--- How what a loop does is put together.
-use Rattle.std.proofs.Common.{◌≡◌, ℕ, Bool, true, false, List, [], ◌∷◌, ◌++◌, Option, refl, ap, sym, ◌∙◌, subst, append_assoc}
-use Rattle.std.proofs.lemmas.List.{append-nil}
+-- The composition of a loop's turns.
+use Rattle.std.proofs.Common.{◌≡◌, ℕ, Bool, true, false, List, [], ◌∷◌, ◌++◌, Option, refl, ap, sym, ◌∙◌, subst, append_assoc, ◌+◌, ◌≤◌, length, arith}
+use Rattle.std.proofs.lemmas.List.{append-nil, length-append}
 use Rattle.scoop_link.specs.Link.{Datagrams, Told}
 use Rattle.scoop_link.proofs.Exchanges.{exchanges-append}
 use Rattle.scoop_book.specs.declared.event.Event.{Event}
@@ -27,9 +27,10 @@ sends_more c all more gone others first second = record {
   none = second.none;
 }
 
--- what a loop does and then goes on to do
-pub serves_on : (c : Bool) (p q r : PassValue) (a b d : Option Told) → ServesPass true p q a b → ServesPass c q r b d → ServesPass c p r a d
-serves_on c p q r a b d first second = record {
+-- the turns of a loop, and then more turns
+pub serves_on : (c : Bool) (n m : ℕ) (p q r : PassValue) (a b d : Option Told) → ServesPass true n p q a b → ServesPass c m q r b d
+    → ServesPass c (n + m) p r a d
+serves_on c n m p q r a b d first second = record {
   taken = first.taken ++ second.taken;
   gained = first.gained ++ second.gained;
   all = first.all ++ second.all;
@@ -40,4 +41,19 @@ serves_on c p q r a b d first second = record {
       second.events
       ∙ (ap (with_events second.gained) first.events ∙ ap (pass_value p.number p.opening) (append_assoc p.events first.gained second.gained));
   exchanges = exchanges-append a b d first.taken second.taken first.gone second.gone first.exchanges second.exchanges;
+  most = omega (arith, length-append first.taken second.taken, first.most, second.most);
+}
+
+-- turns are at most more turns
+pub serves_within : (c : Bool) (n m : ℕ) (p q : PassValue) (a b : Option Told) → n ≤ m → ServesPass c n p q a b → ServesPass c m p q a b
+serves_within c n m p q a b more s = record {
+  taken = s.taken;
+  gained = s.gained;
+  all = s.all;
+  gone = s.gone;
+  serves = s.serves;
+  sends = s.sends;
+  events = s.events;
+  exchanges = s.exchanges;
+  most = omega (arith, s.most, more);
 }

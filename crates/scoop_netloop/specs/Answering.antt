@@ -1,4 +1,4 @@
--- How a datagram is answered.
+-- The answers to datagrams.
 use Rattle.std.specs.Prelude.{◌≡◌, ◌≤◌, ⊤, ℕ, Bool, true, false, List, [], length, Option, Some, None}
 use Rattle.scoop_message.specs.declared.limits.TheConstants.{BUFFER_LEN}
 use Rattle.scoop_message.specs.declared.name.HandlerId.{HandlerId}
@@ -21,12 +21,12 @@ use Rattle.scoop_book.specs.Books.{BookValue, Gains, IsRefused, KeepsNew}
 use Rattle.scoop_netloop.specs.declared.answer.Answered.{Answered}
 use Rattle.scoop_netloop.specs.declared.answer.Answered.TheVariants.{Reply, Silent, RefusedFrame}
 
--- the frame of a reply, and no bytes where there is none
+-- the frame of a reply, and no bytes if there is none
 abbrev pub frame_of : Version → Option Message → List ℕ
 frame_of v None = []
 frame_of v (Some reply) = frame v reply
 
--- what a handler did with a message, whose reply has the version of its datagram
+-- the handler's effect of a message, whose reply has the version of its datagram
 abbrev pub answered_of : Version → Option Message → Note → Answered
 answered_of v None note = Silent note
 answered_of v (Some reply) note = Reply (length (frame v reply)) note
@@ -39,8 +39,8 @@ pub record RefusesFrame {K : Type 0} (datagram : List ℕ) (old new : BookValue 
   pub stays : new ≡ old
   pub bytes : out ≡ buffer
 
--- the datagram is the frame of a message, which its handler has heard: that is the history's new entry, and the frame of
--- the reply is at the front of the buffer
+-- The datagram is the frame of a message, and its handler has heard it. The history has one new entry, and the frame of
+-- the reply is at the front of the buffer.
 pub record AnswersFrame {K : Type 0} (pass : ℕ) (datagram : List ℕ) (old new : BookValue K) (answered : Answered) (buffer out : List ℕ) : Type 0 where
   pub version : Version
   pub message : Message
@@ -61,7 +61,8 @@ pub record IsUnheard {K : Type 0} (datagram : List ℕ) (old : BookValue K) (e :
   pub carried : IsFrame version message datagram
   pub refused : IsRefused old (handler_of message) e
 
--- where the datagram is the frame of a message, the keeper has the new state of its handler, and of the others what it had
+-- if the datagram is the frame of a message, the keeper has the new state of its handler, and the same states of the
+-- others
 abbrev pub KeepsAnswered : List ℕ → List LocalHandler → (was now : ℕ → Stored → Type 0) → Type 0
 KeepsAnswered datagram handlers was now =
     (v : Version) (m : Message) → IsFrame v m datagram → KeepsNew (handler_of m) handlers was now

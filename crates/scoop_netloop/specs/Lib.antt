@@ -1,4 +1,5 @@
 pub mod Answering
+pub mod Ends
 pub mod Looping
 pub mod RunningOut
 pub mod Serving

@@ -1,4 +1,4 @@
--- A link with a book behind it.
+-- A link with a book inside.
 use Rattle.std.specs.Prelude.{◌≡◌, ◌⊎◌, ◌++◌, ◌∷◌, ℕ, Bool, true, false, List, [], Option, Some, None}
 use Rattle.scoop_message.specs.declared.name.HandlerId.{HandlerId}
 use Rattle.scoop_message.specs.declared.message.Message.{Message}
@@ -25,12 +25,12 @@ loop_value book pass replies = record { book = book; pass = pass; replies = repl
 
 -- ---- what a send does
 
--- the frame of the reply, if there is one, stands behind the other replies, or was lost for want of memory
+-- the frame of the reply, if there is one, goes after the other replies, or is lost for lack of memory
 abbrev pub QueuesReply : Version → Option Message → (old new : List (List ℕ)) → Type 0
 QueuesReply v None old new = new ≡ old
 QueuesReply v (Some reply) old new = (new ≡ old ++ kept (frame v reply) ∷ []) ⊎ (new ≡ old)
 
--- where something may be ready now, the handler runs until it has nothing to run or the book refuses
+-- if something may be ready now, the handler runs until it has nothing to run or the book refuses
 abbrev pub RunsThen : {K : Type 0} → (ready : Bool) → ℕ → HandlerId → (old new : BookValue K) → Type 0
 RunsThen true pass h old new = RunsDry pass h old new ⊎ RunsSome pass h old new
 RunsThen false pass h old new = new ≡ old
@@ -46,7 +46,7 @@ pub record LoopsBack {K : Type 0} (pass : ℕ) (datagram : List ℕ) (old : Book
   pub queues : QueuesReply answers.version answers.heard.reply was now
   pub runs : RunsThen (runs_after answers.heard.note) pass (handler_of answers.message) between new
 
--- what becomes of the book and of the replies as some bytes are sent
+-- the book and the replies after some bytes are sent
 pub data Loops {K : Type 0} (pass : ℕ) (datagram : List ℕ) (old : BookValue K) (was : List (List ℕ)) (new : BookValue K) (now : List (List ℕ)) : Type 0 where
   no_frame : (e : FrameError) → IsFirstFault e datagram → new ≡ old → now ≡ was → Loops pass datagram old was new now
   unheard : (e : BookError) → IsUnheard datagram old e → Stays old new → now ≡ was → Loops pass datagram old was new now

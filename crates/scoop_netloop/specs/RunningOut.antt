@@ -1,4 +1,4 @@
--- How a handler of a book runs until nothing can run.
+-- Runs of a handler of a book until nothing can run.
 use Rattle.std.specs.Prelude.{◌≡◌, ◌≢◌, ◌≤◌, ℕ, Bool, true, false, length, Option, Some, None}
 use Rattle.scoop_message.specs.declared.name.Block.{Block}
 use Rattle.scoop_message.specs.declared.name.HandlerId.{HandlerId}
@@ -59,8 +59,8 @@ Tells unfinished.Stranger e = ⊥
 Tells unfinished.StoreRefused e = e ≡ StoreRefused
 Tells unfinished.OutOfMemory e = e ≡ OutOfMemory
 
--- Why a run breaks off: the keeper had refused a state before, or refuses that of an entry that left, after which nothing
--- is entered any more; the history is full by then; the handler isn't here; or memory is wanted.
+-- The reasons to break off a run. The keeper refused a state before. The keeper refuses that of an entry that left;
+-- then no event is entered any more. The history is full by then. The handler isn't here. Or memory ran out.
 abbrev pub BreaksOff : {K : Type 0} → HandlerId → (old new : BookValue K) → BookError → Type 0
 BreaksOff h old new NodeFailed = old.failed ≡ true
 BreaksOff h old new HistoryFull = (new.failed ≡ false) × (new.limit ≤ length new.history)
@@ -68,7 +68,7 @@ BreaksOff h old new UnknownHandler = MayEnter old × (handler_in h old.handlers 
 BreaksOff h old new StoreRefused = (old.failed ≡ false) × (new.failed ≡ true)
 BreaksOff h old new OutOfMemory = MayHappen old h
 
--- While the keeper is honest it was so before, of the other handlers it has what it had, and of all clients.
+-- While the keeper is honest it was so before. For the other handlers and for all clients it has the same records.
 pub record KeepsOthers {K : Type 0} (has : K → ℕ → Stored → Type 0) (incarnations : K → ℕ → Option ℕ) (is_honest : K → Type 0) (h : HandlerId)
     (old new : K) : Type 0 where
   pub honest : is_honest new → is_honest old

@@ -5,7 +5,7 @@ ghost use Rattle.scoop_keeper.specs.Keeper.{IsSame, Stays as KeeperStays};
 ghost use Rattle.scoop_book.specs.Books.{IsBook, Stays, fails};
 ghost use Rattle.scoop_netloop.specs.Answering.{AnswersDatagram, IsUnheard, IsWithinBuffer, KeepsAnswered, runs_after};
 
-use scoop_book::{Book, BookError, Event, Reply};
+use scoop_book::{Book, BookError};
 use scoop_frame::{FrameError, decode, encode};
 use scoop_handler::{Heard, Note};
 use scoop_keeper::Keeper;
@@ -13,12 +13,12 @@ use scoop_message::limits::BUFFER_LEN;
 use scoop_object::Behaviour;
 use std::alloc::Allocator;
 
-/// What a handler did with a datagram.
+/// The effect of a datagram at a handler.
 #[derive(Clone, Copy, Debug, PartialEq, Eq)]
 pub enum Answered {
-    /// The handler replied: how many bytes the reply's frame has, and what the handler did.
+    /// The handler replied: the length of the reply's frame, and the handler's note.
     Reply(usize, Note),
-    /// The handler has no reply: what it did.
+    /// The handler has no reply: its note.
     Silent(Note),
     /// The datagram is no frame, and no handler did anything.
     RefusedFrame(FrameError),
@@ -31,9 +31,9 @@ pub fn runs_after(note: Note) -> bool
     matches!(note, Note::Greeted | Note::Took(_) | Note::Known)
 }
 
-/// Gives a datagram to the book, for the pass of this number: where it is the frame of a message, its handler
-/// hears it, the new state is stored, and the history has one more entry. The frame of the reply, in the version
-/// of the datagram, is written to the front of the buffer.
+/// Gives a datagram to the book, for the pass of this number. If it is the frame of a message, the handler hears
+/// the message, the new state is stored, and the history has one more entry. The frame of the reply, in the
+/// version of the datagram, is written to the front of the buffer.
 ///
 /// Refused as `Book::step` refuses the message, with handlers, history, record and buffer as they were.
 pub fn answer_datagram<B: Behaviour, K: Keeper<A>, A: Allocator + Copy>(
@@ -59,9 +59,8 @@ pub fn answer_datagram<B: Behaviour, K: Keeper<A>, A: Allocator + Copy>(
         Ok(read) => read,
         Err(error) => return Ok(Answered::RefusedFrame(error)),
     };
-    let heard = match book.step(pass, Event::Hear(message)) {
-        Ok(Reply::Heard(heard)) => heard,
-        Ok(_) => unreachable!(),
+    let heard = match book.hear(pass, &message) {
+        Ok(heard) => heard,
         Err(error) => return Err(error),
     };
     let Heard { reply, note } = heard;

@@ -1,9 +1,9 @@
-//! A node's loop: it answers the datagrams that come over a link, and runs handlers in threads beside that.
+//! A node's loop: it answers the datagrams that come over a link, and runs handlers in other threads.
 //!
-//! [`answer_datagram`] is bytes to bytes: it gives a datagram to a book and writes the datagram that answers it.
-//! [`serve`] does the same over a link at a node that threads share, and hands each handler that may have
-//! something to run to an executor, which works outside the node's lock. [`LoopLink`] is a node without a
-//! network, for tests.
+//! [`answer_datagram`] maps bytes to bytes: it gives a datagram to a book and writes the datagram that answers it.
+//! [`serve`] does the same over a link at a node that threads share. It passes each handler that may have
+//! something to run to an executor, which works outside the node's lock. [`LoopLink`] is a node without a network,
+//! for tests.
 //!
 //! ```
 //! // client 7 greets handler 1 of the book, and the handler's reply is a frame too
@@ -28,14 +28,14 @@ mod executor;
 mod loop_link;
 mod node_loop;
 mod receiver;
-mod running;
+mod running_out;
 mod stop;
 
 pub use answer::{Answered, answer_datagram, runs_after};
 pub use executor::{Gate, OpenGate};
 pub use loop_link::LoopLink;
 pub use node_loop::serve;
-pub use running::run_out;
+pub use running_out::run_out;
 pub use scoop_driver::{
     Command, Condition, Diary, Driver, DriverError, HandlerList, NoDiary, Received, Step, StepList,
     steps_are_moves,

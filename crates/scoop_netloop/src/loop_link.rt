@@ -7,7 +7,7 @@ ghost use Rattle.scoop_netloop.specs.Answering.{runs_after};
 ghost use Rattle.scoop_netloop.specs.Looping.{Loops, RunsThen, loop_value};
 
 use crate::answer::{Answered, answer_datagram, runs_after};
-use crate::running::run_out;
+use crate::running_out::run_out;
 use scoop_book::Book;
 use scoop_frame::decode;
 use scoop_handler::Note;
@@ -20,9 +20,9 @@ use std::alloc::{Allocator, Global};
 use std::collections::VecDeque;
 use std::marker::Model;
 
-/// A link for tests, with a book behind it: what is sent is answered at once, and the handler then runs until
-/// nothing can run. A receive gives the oldest reply. What the book refuses is lost, and so is a reply that
-/// finds no memory. No call fails. It doesn't tell its datagrams.
+/// A link for tests, with a book inside: a send is answered at once, and the handler then runs until nothing can
+/// run. A receive gives the oldest reply. A message that the book refuses is lost, and so is a reply without
+/// memory for it. No call fails. It doesn't record its datagrams.
 #[derive(Drop)]
 pub struct LoopLink<B: Behaviour, K: Keeper<A>, A: Allocator = Global> {
     book: Book<B, K, A>,
@@ -39,7 +39,7 @@ impl<B: Behaviour, K: Keeper<A>, A: Allocator> Model for LoopLink<B, K, A> {
 }
 
 impl<B: Behaviour, K: Keeper<A>, A: Allocator + Copy> LoopLink<B, K, A> {
-    /// A link to this book, which it uses for the pass of this number. Takes no memory.
+    /// Makes a link to this book, which it uses for the pass of this number. Takes no memory.
     pub fn new(alloc: A, book: Book<B, K, A>, pass: u32) -> LoopLink<B, K, A>
         ensures { result ≡ loop_value book pass [] }
     {
@@ -51,14 +51,14 @@ impl<B: Behaviour, K: Keeper<A>, A: Allocator + Copy> LoopLink<B, K, A> {
     }
 }
 
-// Keeps the frame of a reply behind the others. Without memory for it, it is lost.
+// Keeps the frame of a reply after the others. Without memory for it, the reply is lost.
 fn keep_reply<A: Allocator>(replies: &mut VecDeque<Datagram, A>, frame: &[u8])
     ensures { (replies.new.items ≡ replies.old.items ++ kept frame.now ∷ []) ⊎ (replies.new.items ≡ replies.old.items) }
 {
     let _lost_without_memory = replies.push_back(Datagram::of(frame));
 }
 
-// Runs the handler behind a message with this note. What the book refuses is left.
+// Runs the handler after a message with this note. An entry that the book refuses stays.
 fn run_behind<B: Behaviour, K: Keeper<A>, A: Allocator + Copy>(
     book: &mut Book<B, K, A>,
     pass: u32,

@@ -1,11 +1,12 @@
 //! A node's loop.
 
-ghost use Rattle.std.specs.Prelude.{◌≡◌, ◌≤◌, vec_len, false};
+ghost use Rattle.std.specs.Prelude.{◌≡◌, ◌≤◌, vec_len};
+ghost use Rattle.scoop_netloop.specs.Ends.{CountsEnd, Reports, is_over};
 ghost use Rattle.scoop_netloop.specs.Serving.{ServesPass, ServesFirst};
 
 use crate::executor::{Gate, execute};
 use crate::receiver::receive_all;
-use crate::stop::{ServeEnd, Stop};
+use crate::stop::{ExecutorEnd, ServeEnd, Stop};
 use crossbeam_channel::{Receiver, Sender};
 use scoop_book::{Node, Pass};
 use scoop_keeper::Keeper;
@@ -18,7 +19,7 @@ use std::thread;
 use std::thread::Threads;
 use std::time::Clock;
 
-// Work that is lent something, done beside the executors.
+// A task with borrowed values, done beside the executors.
 trait Task {
     type Output;
 
@@ -33,7 +34,7 @@ fn run_beside<T, B, K, A, G, R>(
     rt: &R,
     node: &Node<B, K, A>,
     executors: &mut [Pass<A>],
-    ends: &mut [ServeEnd],
+    ends: &mut [ExecutorEnd],
     jobs: &Receiver<HandlerId, A>,
     gate: &G,
     stop: &Stop,
@@ -65,7 +66,7 @@ where
     )
 }
 
-// The receiver's part.
+// The receiver's task.
 #[derive(Drop)]
 struct Receiving<'a, 'l, 'p, B: Behaviour, K: Keeper<A>, A: Allocator + Copy, L: Link, R: Wait> {
     rt: &'a R,
@@ -82,7 +83,8 @@ impl<'a, 'l, 'p, B: Behaviour, K: Keeper<A>, A: Allocator + Copy, L: Link, R: Wa
     type Output = (&'l mut L, &'p mut Pass<A>, ServeEnd);
 
     ghost run_gives = { λ t r. (r.0.ghost_name ≡ t.link.ghost_name) × (r.1.ghost_name ≡ t.pass.ghost_name)
-        × ServesPass false t.pass.now r.1.now (L.told t.link.now) (L.told r.0.now) };
+        × ServesPass (is_over r.2) t.turns t.pass.now r.1.now (L.told t.link.now) (L.told r.0.now)
+        × CountsEnd r.2 (L.fault_count t.link.now) (L.fault_count r.0.now) };
 
     fn run(self) -> (&'l mut L, &'p mut Pass<A>, ServeEnd) {
         let Receiving {
@@ -95,24 +97,29 @@ impl<'a, 'l, 'p, B: Behaviour, K: Keeper<A>, A: Allocator + Copy, L: Link, R: Wa
             turns,
         } = self;
         let end = receive_all(rt, node, link, pass, &work, stop, turns);
-        // closes the channel, so that the executors end once they have run what is in it
+        // closes the channel, so that the executors end once they have run the handlers in it
         drop(work);
         (link, pass, end)
     }
 }
 
-// This use of a reference that was handed back ties it, for the borrow checker, to what it was lent from.
+// For the borrow checker: this use of a returned reference ties it to its origin.
 fn take_back<T>(x: &mut T)
     ensures { x.new ≡ x.old }
 {}
 
-// The end of the lowest pass that ended otherwise than stopped.
-fn lowest(first: ServeEnd, others: &[ServeEnd]) -> ServeEnd {
-    if first != ServeEnd::Stopped {
+// The end of the lowest pass that ended otherwise than `Stopped`.
+fn lowest(first: ServeEnd, others: &[ExecutorEnd]) -> ServeEnd
+    ensures { Reports first result }
+{
+    let ServeEnd::Stopped = first else {
         return first;
-    }
-    let other = others.iter().copied().find(|end| *end != ServeEnd::Stopped);
-    other.unwrap_or(ServeEnd::Stopped)
+    };
+    let other = others
+        .iter()
+        .copied()
+        .find(|end| *end != ExecutorEnd::Stopped);
+    other.unwrap_or(ExecutorEnd::Stopped).serve_end()
 }
 
 // Receives in this thread, and runs handlers in a thread for each executor.
@@ -122,7 +129,7 @@ fn serve_beside<B, K, A, L, G, R>(
     link: &mut L,
     first: &mut Pass<A>,
     executors: &mut [Pass<A>],
-    ends: &mut [ServeEnd],
+    ends: &mut [ExecutorEnd],
     work: Sender<HandlerId, A>,
     jobs: Receiver<HandlerId, A>,
     gate: &G,
@@ -136,7 +143,8 @@ where
     L: Link,
     G: Gate + Sync,
     R: Threads + Wait + Clock + Sync,
-    ensures { ServesPass false first.old first.new (L.told link.old) (L.told link.new) }
+    ensures serves { ServesPass (is_over result) turns first.old first.new (L.told link.old) (L.told link.new) }
+    ensures faults { CountsEnd result (L.fault_count link.old) (L.fault_count link.new) }
 {
     let receiving = Receiving {
         rt,
@@ -153,15 +161,19 @@ where
     end
 }
 
-/// Hears what comes over the link in this thread, with the first pass, and runs handlers in a thread for each
-/// other pass, until it is asked to stop, so many turns are taken, or something fails. A datagram that is no
-/// frame, or whose handler isn't here, is passed over. After Greeted, Took or Known the handler's number goes
-/// to the executors; one of them runs the handler until nothing can run: it locks the node to begin an entry
-/// and to finish it, and asks the gate and works in between.
+/// Serves a node. This thread hears the messages that come over the link, with the first pass. A thread for each
+/// other pass runs handlers. The loop ends when it is asked to stop, after `turns` turns, or when something fails.
+/// A datagram that is no frame, or whose handler isn't here, is passed over. After Greeted, Took or Known the
+/// handler's number goes to the executors, and one of them runs the handler until nothing can run. It locks the
+/// node to begin an entry and to finish it, and asks the gate and works in between.
 ///
-/// It answers why it ended, with all passes: the end of the lowest pass that ended otherwise than `Stopped`,
-/// else `Stopped`. An executor that fails asks the stop. Once the receiver ends, the executors run what they
-/// were told of, and end. A job that an executor can't finish is dropped and stays out.
+/// Returns the reason why it ended, with all passes: the end of the lowest pass that ended otherwise than
+/// `Stopped`, else `Stopped`. An executor that fails asks the stop. Once the receiver ends, the executors run the
+/// handlers in the channel, and end. A job that an executor can't finish is dropped and stays out.
+///
+/// `LinkFault` comes exactly if the link's count of faults rose; it then rose by one. `TurnsOver` comes only from the
+/// receiver, and then no reply is missing. In any case at most `turns` datagrams are taken. The reasons for the other
+/// ends are out of a clause's sight: behind the node's lock, in the shared stop, and in what other threads did.
 pub fn serve<B, K, A, L, G, R>(
     rt: &R,
     alloc: A,
@@ -181,12 +193,13 @@ where
     R: Threads + Wait + Clock + Sync,
     requires { 2 ≤ vec_len passes }
     ensures count { vec_len result.1 ≡ vec_len passes }
-    ensures first { ServesFirst passes.items result.1.items (L.told link.old) (L.told link.new) }
+    ensures first { ServesFirst (is_over result.0) turns passes.items result.1.items (L.told link.old) (L.told link.new) }
+    ensures faults { CountsEnd result.0 (L.fault_count link.old) (L.fault_count link.new) }
 {
     let Ok((work, jobs)) = crossbeam_channel::unbounded(alloc) else {
         return (ServeEnd::OutOfMemory, passes);
     };
-    let Ok(mut ends) = vec![in alloc; ServeEnd::NoThread; passes.len() - 1] else {
+    let Ok(mut ends) = vec![in alloc; ExecutorEnd::NoThread; passes.len() - 1] else {
         return (ServeEnd::OutOfMemory, passes);
     };
     let (front, executors) = passes.as_mut_slice().split_at_mut(1);

@@ -1,20 +1,17 @@
-//! The thread that hears what comes over the link.
+//! The thread that hears messages over the link.
 
-ghost use Rattle.std.specs.Prelude.{◌≡◌, [], IfOk, OnErr, is_none, false};
+ghost use Rattle.std.specs.Prelude.{[], IfSome};
 ghost use Rattle.scoop_message.specs.Message.{Fits, client_of};
 ghost use Rattle.scoop_frame.specs.Version.{Carries};
 ghost use Rattle.scoop_frame.specs.Frame.{frame};
-ghost use Rattle.scoop_link.specs.Link.{Exchanges, sent_by};
-ghost use Rattle.scoop_book.specs.declared.event.Event.TheVariants.{Hear};
-ghost use Rattle.scoop_book.specs.declared.event.Reply.TheVariants.{Heard as HeardReply};
-ghost use Rattle.scoop_book.specs.Closing.{IsEntered};
-ghost use Rattle.scoop_book.specs.Passes.{with_event};
+ghost use Rattle.scoop_link.specs.Link.{CountsFault, Exchanges, sent_by};
+ghost use Rattle.scoop_netloop.specs.Ends.{CountsEnd, CountsTurn, IsExecutorEnd, is_complete, is_over};
 ghost use Rattle.scoop_netloop.specs.Serving.{ServesPass};
 
 use crate::answer::runs_after;
 use crate::stop::{ServeEnd, Stop, end_after};
 use crossbeam_channel::{SendError, Sender};
-use scoop_book::{BookError, Event, Node, Pass, Reply};
+use scoop_book::{BookError, Node, Pass};
 use scoop_frame::{Version, decode, encode};
 use scoop_handler::Heard;
 use scoop_keeper::Keeper;
@@ -25,30 +22,22 @@ use scoop_object::Behaviour;
 use std::alloc::Allocator;
 use std::sync::Wait;
 
-// Hears a message at its handler.
-fn hear<B: Behaviour, K: Keeper<A>, A: Allocator + Copy, R: Wait>(
-    rt: &R,
-    node: &Node<B, K, A>,
-    pass: &mut Pass<A>,
-    message: Message,
-) -> Result<Heard, BookError>
-    ensures ok { IfOk result (λ heard. pass.new ≡ with_event (Hear message) (HeardReply heard) pass.old) }
-    ensures entered { IfOk result (λ heard. IsEntered K.handlers K.is_honest pass.old.number (Hear message) (HeardReply heard)) }
-    ensures err { OnErr result (pass.new ≡ pass.old) }
+// The loop's end after an event that the node refused.
+fn end_of_node(error: BookError) -> Option<ServeEnd>
+    ensures { IfSome result IsExecutorEnd }
 {
-    match node.event(rt, pass, Event::Hear(message)) {
-        Ok(Reply::Heard(heard)) => Ok(heard),
-        Ok(_) => unreachable!(),
-        Err(error) => Err(error),
-    }
+    let end = end_after(error)?;
+    Some(end.serve_end())
 }
 
-// Tells the executors of a handler that may have something to run.
+// Sends the executors the number of a handler that may have something to run.
 fn wake<A: Allocator, R: Wait>(
     rt: &R,
     work: &Sender<HandlerId, A>,
     handler: HandlerId,
-) -> Option<ServeEnd> {
+) -> Option<ServeEnd>
+    ensures { IfSome result IsExecutorEnd }
+{
     match work.send(rt, handler) {
         Ok(()) => None,
         Err(SendError::Disconnected(_)) => Some(ServeEnd::Stopped),
@@ -60,14 +49,15 @@ fn wake<A: Allocator, R: Wait>(
 fn send_reply<L: Link>(link: &mut L, version: Version, reply: &Message) -> Result<(), LinkFault>
     requires fits { Fits reply.now }
     requires carried { Carries version reply.now }
-    ensures { Exchanges (L.told link.old) (L.told link.new) [] (sent_by result (Party.Client (client_of reply.now)) (frame version reply.now)) }
+    ensures told { Exchanges (L.told link.old) (L.told link.new) [] (sent_by result (Party.Client (client_of reply.now)) (frame version reply.now)) }
+    ensures faults { CountsFault result (L.fault_count link.old) (L.fault_count link.new) }
 {
     let mut answer = [0; BUFFER_LEN];
     let len = encode(version, reply, &mut answer);
     link.send(Party::Client(reply.client()), &answer[..len])
 }
 
-// Receives once, and answers what came. It answers the loop's end where that comes here.
+// Receives once, and answers the datagram that came. Returns the loop's end, if it comes here.
 fn turn<B: Behaviour, K: Keeper<A>, A: Allocator + Copy, L: Link, R: Wait>(
     rt: &R,
     node: &Node<B, K, A>,
@@ -75,7 +65,8 @@ fn turn<B: Behaviour, K: Keeper<A>, A: Allocator + Copy, L: Link, R: Wait>(
     pass: &mut Pass<A>,
     work: &Sender<HandlerId, A>,
 ) -> Option<ServeEnd>
-    ensures { ServesPass (is_none result) pass.old pass.new (L.told link.old) (L.told link.new) }
+    ensures serves { ServesPass (is_complete result) 1 pass.old pass.new (L.told link.old) (L.told link.new) }
+    ensures faults { CountsTurn result (L.fault_count link.old) (L.fault_count link.new) }
 {
     let mut buffer = [0; BUFFER_LEN];
     let len = match link.receive(&mut buffer) {
@@ -86,9 +77,9 @@ fn turn<B: Behaviour, K: Keeper<A>, A: Allocator + Copy, L: Link, R: Wait>(
     let Ok((version, message)) = decode(&buffer[..len]) else {
         return None;
     };
-    let Heard { reply, note } = match hear(rt, node, pass, message) {
+    let Heard { reply, note } = match node.hear(rt, pass, &message) {
         Ok(heard) => heard,
-        Err(error) => return end_after(error),
+        Err(error) => return end_of_node(error),
     };
     if runs_after(note) {
         if let Some(end) = wake(rt, work, message.handler()) {
@@ -104,7 +95,7 @@ fn turn<B: Behaviour, K: Keeper<A>, A: Allocator + Copy, L: Link, R: Wait>(
     }
 }
 
-// Hears what comes, turn by turn.
+// Hears messages, turn by turn.
 pub(crate) fn receive_all<B: Behaviour, K: Keeper<A>, A: Allocator + Copy, L: Link, R: Wait>(
     rt: &R,
     node: &Node<B, K, A>,
@@ -114,9 +105,10 @@ pub(crate) fn receive_all<B: Behaviour, K: Keeper<A>, A: Allocator + Copy, L: Li
     stop: &Stop,
     turns: u64,
 ) -> ServeEnd
-    ensures { ServesPass false pass.old pass.new (L.told link.old) (L.told link.new) }
+    ensures serves { ServesPass (is_over result) turns pass.old pass.new (L.told link.old) (L.told link.new) }
+    ensures faults { CountsEnd result (L.fault_count link.old) (L.fault_count link.new) }
 {
-    for _ in 0..turns {
+    for taken in 0..turns {
         if stop.is_asked() {
             return ServeEnd::Stopped;
         }

@@ -1,16 +1,18 @@
-//! Why a loop ends, and how it is asked to.
+//! The ends of a loop, and the stop that asks for one.
+
+ghost use Rattle.scoop_netloop.specs.Ends.{IsExecutorEnd};
 
 use scoop_book::{BookError, FinishRefusal};
 use std::sync::atomic::{AtomicBool, Ordering};
 use thiserror::Error;
 
-/// Why a loop ended. Printed as its name, but want of memory as everywhere.
+/// Why a loop ended. Printed as its name; `OutOfMemory` is printed in words.
 #[derive(Clone, Copy, Debug, PartialEq, Eq, Error)]
 pub enum ServeEnd {
     /// It was asked to stop.
     #[error("Stopped")]
     Stopped,
-    /// It took as many turns as it was given.
+    /// It took all the turns that it was given.
     #[error("TurnsOver")]
     TurnsOver,
     /// A send or a receive failed.
@@ -22,10 +24,10 @@ pub enum ServeEnd {
     /// The node's history has as many entries as it may have.
     #[error("HistoryFull")]
     HistoryFull,
-    /// The gate let a handler not pass.
+    /// The gate stopped a handler.
     #[error("GateShut")]
     GateShut,
-    /// The thread of an executor couldn't be made.
+    /// The system made no thread for an executor.
     #[error("NoThread")]
     NoThread,
     /// A growth of memory was refused.
@@ -40,7 +42,7 @@ pub struct Stop {
 }
 
 impl Stop {
-    /// A stop that nobody has asked yet.
+    /// Makes a stop that hasn't been asked yet.
     pub fn new() -> Stop {
         Stop {
             asked: AtomicBool::new(false),
@@ -57,24 +59,69 @@ impl Stop {
     }
 }
 
-// The end after an event that the node refused. None where the loop goes on: its handler isn't here.
-pub(crate) fn end_after(error: BookError) -> Option<ServeEnd> {
-    match error {
-        BookError::NodeFailed | BookError::StoreRefused => Some(ServeEnd::NodeFailed),
-        BookError::HistoryFull => Some(ServeEnd::HistoryFull),
-        BookError::UnknownHandler => None,
-        BookError::OutOfMemory => Some(ServeEnd::OutOfMemory),
+/// Why a node takes no further event.
+#[derive(Clone, Copy, Debug, PartialEq, Eq)]
+pub(crate) enum NodeEnd {
+    NodeFailed,
+    HistoryFull,
+    OutOfMemory,
+}
+
+impl NodeEnd {
+    /// The loop's end that this is.
+    pub(crate) fn serve_end(self) -> ServeEnd
+        ensures { IsExecutorEnd result }
+    {
+        match self {
+            NodeEnd::NodeFailed => ServeEnd::NodeFailed,
+            NodeEnd::HistoryFull => ServeEnd::HistoryFull,
+            NodeEnd::OutOfMemory => ServeEnd::OutOfMemory,
+        }
     }
 }
 
-// The end after a job that the node didn't finish. A job that this loop began is that of its handler.
-pub(crate) fn end_after_job(cause: FinishRefusal) -> ServeEnd {
+/// Why an executor ended. A proof knows only the type of what a thread writes, so this type lacks the ends that
+/// the receiver alone reports.
+#[derive(Clone, Copy, Debug, PartialEq, Eq)]
+pub(crate) enum ExecutorEnd {
+    Stopped,
+    GateShut,
+    NoThread,
+    Refused(NodeEnd),
+}
+
+impl ExecutorEnd {
+    /// The loop's end that this is.
+    pub(crate) fn serve_end(self) -> ServeEnd
+        ensures { IsExecutorEnd result }
+    {
+        match self {
+            ExecutorEnd::Stopped => ServeEnd::Stopped,
+            ExecutorEnd::GateShut => ServeEnd::GateShut,
+            ExecutorEnd::NoThread => ServeEnd::NoThread,
+            ExecutorEnd::Refused(end) => end.serve_end(),
+        }
+    }
+}
+
+// The end after an event that the node refused. None if the loop goes on: the handler isn't here.
+pub(crate) fn end_after(error: BookError) -> Option<NodeEnd> {
+    match error {
+        BookError::NodeFailed | BookError::StoreRefused => Some(NodeEnd::NodeFailed),
+        BookError::HistoryFull => Some(NodeEnd::HistoryFull),
+        BookError::UnknownHandler => None,
+        BookError::OutOfMemory => Some(NodeEnd::OutOfMemory),
+    }
+}
+
+// The end after a job that the node didn't finish. A job that this loop began is its handler's.
+pub(crate) fn end_after_job(cause: FinishRefusal) -> NodeEnd {
     match cause {
-        FinishRefusal::HistoryFull => ServeEnd::HistoryFull,
-        FinishRefusal::OutOfMemory => ServeEnd::OutOfMemory,
+        FinishRefusal::HistoryFull => NodeEnd::HistoryFull,
+        FinishRefusal::OutOfMemory => NodeEnd::OutOfMemory,
         FinishRefusal::NodeFailed
         | FinishRefusal::UnknownHandler
         | FinishRefusal::Stranger
-        | FinishRefusal::StoreRefused => ServeEnd::NodeFailed,
+        | FinishRefusal::StoreRefused => NodeEnd::NodeFailed,
     }
 }

@@ -1,4 +1,4 @@
--- What `==` says of operations: it decides whether they are the same.
+-- `==` on operations: it decides whether they are the same.
 use Rattle.std.proofs.Common.{◌≡◌, ◌&&◌, ℕ, List, Option, Some, None, ap, ◌∙◌, refl}
 use Rattle.std.proofs.lemmas.Bool.Decides.{Decides-like, Decides-eqb}
 use Rattle.std.proofs.lemmas.Slice.Eq.{slice_eq-Decides}

@@ -32,7 +32,7 @@ so_far_more value words new next i h so e =
       rest = λ k above. ap (λ ws. get_or ws k 0) e ∙ get_or-set_other new i k _ 0 (λ same. absurd (omega arith)) ∙ so.rest k (omega arith);
     }
 
--- where a word keeps its value, the words stay
+-- if a word keeps its value, the words stay
 pub so_far_same : (value : ℕ → ℕ → ℕ) (words new next : List ℕ) (i : ℕ) → SoFar value words new i → value i (get_or words i 0) ≡ get_or words i 0 → next ≡ new
     → next ≡ set new i (value i (get_or words i 0))
 so_far_same value words new next i so e f =

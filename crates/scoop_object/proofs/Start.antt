@@ -1,4 +1,4 @@
--- An array of blanks to whose start a list is copied.
+-- An array of blanks into whose start a list is copied.
 use Rattle.std.proofs.Common.{◌≡◌, ◌∙◌, ◌≤◌, ℕ, List, ◌++◌, length, drop, replicate, arith, length-append, length-drop}
 use Rattle.std.proofs.Math.Seq.{drop-append_seam}
 use Rattle.std.proofs.lemmas.List.{length-replicate, drop-replicate}

@@ -1,4 +1,4 @@
--- What fills the unused cells of a list of writes.
+-- Blanks for the unused cells of a list of writes.
 use Rattle.scoop_object.specs.declared.term.Write.{Write}
 use Rattle.scoop_object.specs.declared.term.Term.TheVariants.{Const}
 

@@ -1,4 +1,4 @@
--- A class: how many words its objects have, its operations, and which operations make one.
+-- A class: the number of words of its objects, its operations, and the rows that make a class.
 use Rattle.std.specs.Prelude.{◌≡◌, ◌≤◌, ◌&&◌, not, if◌then◌else◌, nat_lt, ℕ, Bool, true, List, length, Option, Some, None}
 use Rattle.std.specs.List.{list_all, list_any}
 use Rattle.scoop_message.specs.declared.limits.TheConstants.{MAX_ARGS, MAX_OPS, MAX_WORDS}
@@ -10,7 +10,7 @@ use Rattle.scoop_object.specs.declared.row.OpRow.{OpRow}
 use Rattle.scoop_object.specs.declared.fault.ClassError.{ClassError}
 use Rattle.scoop_object.specs.declared.fault.ClassError.TheVariants.{TooManyOps, WordOutOfRange, ArgOutOfRange, RepeatedOp, RepeatedWrite}
 
--- how many words an object of the class has, and its operations
+-- the number of words of an object of the class, and its operations
 pub record ClassTable : Type 0 where
   pub words : ℕ
   pub rows : List OpRow
@@ -27,12 +27,12 @@ is_arg_below n (Const c) = true
 is_arg_below n (Word i) = true
 is_arg_below n (Arg i) = nat_lt i n
 
--- both terms of a test are so, if there is a test
+-- both terms of a test, if there is a test
 abbrev pub both : (Term → Bool) → Option (Term × Term) → Bool
 both p None = true
 both p (Some t) = p t.0 && p t.1
 
--- all words that a write names, that which it writes included, are among the first n
+-- all words that a write names, its own included, are among the first n
 abbrev pub write_has_words_below : ℕ → Write → Bool
 write_has_words_below n w = nat_lt w.word n && (is_word_below n w.base && (is_word_below n w.plus && is_word_below n w.minus))
 
@@ -52,7 +52,7 @@ has_args_below n row = both (is_arg_below n) row.test && (list_all (write_has_ar
 abbrev pub writes_twice : OpRow → Bool
 writes_twice row = repeats (λ w. w.word) row.writes
 
--- the first reason why these rows make no class of so many words
+-- the first reason why these rows make no class for this number of words
 abbrev pub fault_of : ℕ → List OpRow → Option ClassError
 fault_of words rows =
     if nat_lt MAX_OPS (length rows) then Some TooManyOps
@@ -62,7 +62,7 @@ fault_of words rows =
     else (if list_any writes_twice rows then Some RepeatedWrite
     else None))))
 
--- these rows make a class of so many words
+-- these rows make a class for this number of words
 pub record IsClass (words : ℕ) (rows : List OpRow) : Type 0 where
   pub some_words : 1 ≤ words
   pub few_words : words ≤ MAX_WORDS

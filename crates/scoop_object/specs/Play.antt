@@ -1,4 +1,4 @@
--- What the entries of private queues do to an object.
+-- The effect of a private queue's entries on an object.
 use Rattle.std.specs.Prelude.{ℕ, List, [], ◌∷◌, Option, Some, None}
 use Rattle.scoop_message.specs.declared.request.Request.{Request}
 use Rattle.scoop_message.specs.declared.request.Entry.{Entry}
@@ -11,7 +11,7 @@ use Rattle.scoop_object.specs.Effect.{eff}
 abbrev pub request_effect : ClassTable → List ℕ → Request → List ℕ × Option Answer
 request_effect class words r = ((eff class words r).0, Some (eff class words r).1)
 
--- the words after an entry, and the answer: an End changes nothing and is not answered
+-- the words after an entry, and the answer: an End changes nothing and gets no answer
 abbrev pub entry_effect : ClassTable → List ℕ → Entry → List ℕ × Option Answer
 entry_effect class words (Call r) = request_effect class words r
 entry_effect class words (Query r) = request_effect class words r

@@ -11,9 +11,8 @@ use scoop_message::{Answer, Request, Words};
 /// An object that generic code runs: a `Table`, or an object of any type that is `Boxed`. Contracts
 /// see its class and its words.
 ///
-/// Equal class, words and request give equal new words and an equal answer, whatever the types of the
-/// objects are, since both are the effect of the request (`apply_both`). None of the calls takes
-/// memory.
+/// Equal class, words and request give equal new words and an equal answer, whatever the objects' types. Both are
+/// the effect of the request (`apply_both`). None of the calls takes memory.
 pub trait Behaviour: Drop {
     /// Its class.
     ghost class: { Self → ClassTable };
@@ -21,21 +20,21 @@ pub trait Behaviour: Drop {
     /// Its words.
     ghost words: { Self → List ℕ };
 
-    /// The words, of which there are as many as the class has.
+    /// The words, as many as the class has.
     fn words(&self) -> Words
         ensures words { result ≡ words self.now }
         ensures fits { length result ≡ (class self.now).words };
 
-    /// Runs a request, and answers it. `Refused` where the class has no such operation, where a term
-    /// of the operation names an argument that the request doesn't have, or where the operation's
-    /// test fails; then the words stay.
+    /// Runs a request and returns its answer. Returns `Refused`, with the words as they were, if the class has no
+    /// such operation, if a term of the operation names an argument that the request lacks, or if the operation's
+    /// test fails.
     fn apply(&mut self, request: &Request) -> Answer
         ensures class { class self.new ≡ class self.old }
         ensures words { words self.new ≡ (eff (class self.old) (words self.old) request.now).0 }
         ensures answer { result ≡ (eff (class self.old) (words self.old) request.now).1 };
 
-    /// Sets the words. `WrongWords` comes exactly where their number isn't that of the class, and then
-    /// the words stay.
+    /// Sets the words. Returns `WrongWords`, with the words as they were, exactly if their number isn't that of
+    /// the class.
     fn restore(&mut self, new: Words) -> Result<(), WrongWords>
         ensures accepted { IsOk result ↔ (length new ≡ (class self.old).words) }
         ensures class { class self.new ≡ class self.old }

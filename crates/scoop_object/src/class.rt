@@ -29,9 +29,9 @@ impl<A: Allocator> Model for Class<A> {
 }
 
 impl<A: Allocator> Class<A> {
-    /// The class of these rows, whose objects have so many words. A refusal names the first reason
-    /// that applies: `TooManyOps`, `WordOutOfRange`, `ArgOutOfRange`, `RepeatedOp`, `RepeatedWrite`,
-    /// and last `OutOfMemory`.
+    /// Builds the class of these rows, whose objects have `words` words. A refusal names the first reason that
+    /// applies: `TooManyOps`, `WordOutOfRange`, `ArgOutOfRange`, `RepeatedOp`, `RepeatedWrite`, and last
+    /// `OutOfMemory`.
     pub fn build(alloc: A, words: u8, rows: &[OpRow]) -> Result<Class<A>, ClassError>
         requires some { 1 ≤ words }
         requires few { words ≤ MAX_WORDS }
@@ -65,7 +65,7 @@ impl<A: Allocator> Class<A> {
         self.rows.as_slice()
     }
 
-    /// Whether the class has so many words and these rows, in this order.
+    /// Whether the class has this number of words and these rows, in this order.
     pub fn is(&self, words: u8, rows: &[OpRow]) -> bool
         ensures { IsTrue result ↔ (self.now ≡ record { words = words; rows = rows.now }) }
     {

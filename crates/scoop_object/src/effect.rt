@@ -1,4 +1,4 @@
-//! What a request does to words, by the rows of a class.
+//! The effect of a request on words, by the rows of a class.
 
 ghost use Rattle.std.specs.Prelude.{◌≡◌, ◌==◌, find};
 ghost use Rattle.std.specs.Option.{option_copied};
@@ -10,7 +10,7 @@ use crate::term::{Term, Write};
 use scoop_message::{Answer, Args, Request, Words};
 use std::alloc::Allocator;
 
-// What a request does to the words of an object of a class, and its answer.
+// The words of an object after a request, and the answer.
 pub(crate) fn effect<A: Allocator>(
     class: &Class<A>,
     words: &Words,
@@ -31,7 +31,7 @@ fn row_of(rows: &[OpRow], op: u16) -> Option<&OpRow>
     rows.iter().find(|row| row.op == op)
 }
 
-// What an operation does to words, and its answer.
+// The words after an operation, and the answer.
 fn row_effect(row: &OpRow, words: &Words, args: &Args) -> (Words, Answer)
     ensures { result ≡ row_effect row.now words.now args.now }
 {
@@ -43,7 +43,7 @@ fn row_effect(row: &OpRow, words: &Words, args: &Args) -> (Words, Answer)
     }
 }
 
-// Whether the test of an operation lets a request pass.
+// Whether the operation's test passes for a request.
 fn passes(words: &Words, args: &Args, test: Option<(Term, Term)>) -> bool
     ensures { result ≡ passes words.now args.now test }
 {
@@ -53,7 +53,7 @@ fn passes(words: &Words, args: &Args, test: Option<(Term, Term)>) -> bool
     }
 }
 
-// The words after the writes, all of which read the words before them.
+// The words after the writes. All writes read the old words.
 fn words_after(words: &Words, args: &Args, writes: &[Write]) -> Words
     ensures { result ≡ words_after words.now args.now writes.now }
 {
@@ -74,7 +74,7 @@ fn write_of(writes: &[Write], place: usize) -> Option<&Write>
     writes.iter().find(|w| usize::from(w.word) == place)
 }
 
-// What a write sets its word to.
+// The value that a write sets.
 fn written_value(words: &Words, args: &Args, write: &Write) -> u64
     ensures { result ≡ written_value words.now args.now write.now }
 {
@@ -85,8 +85,8 @@ fn written_value(words: &Words, args: &Args, write: &Write) -> u64
     value.min(u128::from(u64::MAX)) as u64
 }
 
-// What a term stands for. The 0 is never taken: a class names no word that its objects lack, and a
-// request that lacks an argument is refused before.
+// The value of a term. The 0 is never taken: a class names no word that its objects lack, and a request that lacks
+// an argument was refused before.
 fn value_of(words: &Words, args: &Args, term: Term) -> u64
     ensures { result ≡ value_of words.now args.now term }
 {

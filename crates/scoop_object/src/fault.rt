@@ -1,4 +1,4 @@
-//! Why rows make no class.
+//! Why rows don't make a class.
 
 ghost use Rattle.std.specs.Prelude.{◌≡◌, ◌==◌};
 ghost use Rattle.std.specs.List.{list_any, list_all};
@@ -9,7 +9,7 @@ use crate::row::OpRow;
 use scoop_message::limits::{MAX_ARGS, MAX_OPS};
 use thiserror::Error;
 
-/// Why rows make no class: the first of these reasons that applies.
+/// Why rows don't make a class: the first of these reasons that applies.
 #[derive(Clone, Copy, Debug, PartialEq, Eq, Error)]
 pub enum ClassError {
     /// There are more than 32 operations.
@@ -32,7 +32,7 @@ pub enum ClassError {
     OutOfMemory,
 }
 
-// The first reason why the rows make no class of so many words, want of memory aside.
+// The first reason why the rows make no class for this number of words, memory aside.
 pub(crate) fn fault_of(words: u8, rows: &[OpRow]) -> Option<ClassError>
     ensures { result ≡ fault_of words rows.now }
 {

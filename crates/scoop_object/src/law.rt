@@ -1,4 +1,4 @@
-//! What a request does depends on class, words and request alone.
+//! The law that a request's effect depends on class, words and request alone.
 
 ghost use Rattle.std.specs.Prelude.{◌≡◌};
 ghost use Rattle.scoop_object.specs.Effect.{eff};
@@ -6,8 +6,8 @@ ghost use Rattle.scoop_object.specs.Effect.{eff};
 use crate::behaviour::Behaviour;
 use scoop_message::{Answer, Request};
 
-/// Objects of one class with equal words, of whatever types, stay of that class, and have equal words and give
-/// equal answers after a request: those that the request's effect says.
+/// Objects of one class with equal words, whatever their types, keep their class under a request. They then have
+/// equal words and return equal answers: those of the request's effect.
 pub fn apply_both<B: Behaviour, C: Behaviour>(
     left: &mut B,
     right: &mut C,

@@ -1,9 +1,9 @@
 //! Classes, and objects that run the operations of their class.
 //!
-//! A class is a table: how many words its objects have, and for each operation which words it
-//! writes and what it answers. What a request does to an object's words is defined once, by that
-//! table. An object is a `Table`, which interprets the rows of its class, or a type of its own in a
-//! box, which is proved to do the same. Contracts see an object by its class and its words.
+//! A class is a table: the number of words of its objects, and for each operation the words that it writes and its
+//! answer. This table alone defines the effect of a request on an object's words. An object is a `Table`, which
+//! interprets the rows of its class, or a boxed type of one's own, which is proved to do the same. Contracts see
+//! an object by its class and its words.
 //!
 //! ```
 //! let add = OpRow {

@@ -12,9 +12,9 @@ use crate::writes::Writes;
 pub struct OpRow {
     /// The number of the operation, by which requests name it.
     pub op: u16,
-    /// A request is refused where the first term is greater than the second.
+    /// A request is refused if the first term is greater than the second.
     pub test: Option<(Term, Term)>,
-    /// What is written. All writes read the words as they were before the operation.
+    /// The writes. All read the words as they were before the operation.
     pub writes: Writes,
     /// The answer, which reads the words as they are after the operation.
     pub answer: Term,

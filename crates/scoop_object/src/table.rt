@@ -18,8 +18,8 @@ pub struct Table<A: Allocator = Global> {
 }
 
 impl<A: Allocator> Table<A> {
-    /// An object of a class, with its words. `WrongWords` comes exactly where their number isn't that
-    /// of the class.
+    /// Makes an object of a class, with its words. Returns `WrongWords` exactly if their number isn't that of the
+    /// class.
     pub fn new(class: Class<A>, words: Words) -> Result<Table<A>, WrongWords>
         ensures accepted { IsOk result ↔ (length words ≡ class.words) }
         ensures class { IfOk result (λ t. ⟦<Table<A> as Behaviour>⟧.class t ≡ class) }

@@ -1,4 +1,4 @@
-//! What an operation computes with, and what it writes.
+//! The terms that an operation computes with, and its writes.
 
 ghost use Rattle.std.specs.Prelude.{◌≡◌};
 

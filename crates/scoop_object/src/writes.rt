@@ -64,7 +64,7 @@ impl Writes {
     ghost use Rattle.std.specs.List.{list_all};
     ghost use Rattle.scoop_object.specs.Class.{write_has_words_below, write_has_args_below};
 
-    /// The list as writes. `TooManyWrites` comes exactly where there are more than sixteen.
+    /// Makes writes of the list. Returns `TooManyWrites` exactly if there are more than sixteen.
     pub fn of(writes: &[Write]) -> Result<Writes, TooManyWrites>
         ensures { OkIff result (length writes.now ≤ MAX_WRITES) writes.now }
     {

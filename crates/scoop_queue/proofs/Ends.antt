@@ -1,10 +1,10 @@
--- Where an End stands in a list of entries.
+-- The place of an End in a list of entries.
 use Rattle.std.proofs.Common.{◌≡◌, ◌<◌, Bool, true, false, not, ◌&&◌, IsTrue, List, [], ◌∷◌, ◌++◌, length, refl, arith, rules}
 use Rattle.scoop_message.specs.declared.request.Entry.{Entry}
 use Rattle.scoop_message.specs.Entry.{is_end}
 use Rattle.scoop_message.specs.Entries.{EndOnlyLast, end_only_last, ends}
 
--- entries that are put behind others decide
+-- entries that are put after others decide
 pub ends-append : (xs ys : List Entry) → 0 < length ys → ends (xs ++ ys) ≡ ends ys
 ends-append [] ys some = refl
 ends-append (x ∷ []) [] some = absurd (omega arith)
@@ -15,7 +15,7 @@ pub both : (s t : Bool) → IsTrue (s && t) → IsTrue s × IsTrue t
 both true t h = (search rules, h)
 both false t h = absurd (search rules)
 
--- behind entries without an End an End may stand last
+-- after entries without an End, the last may be an End
 pub EndOnlyLast-append : (xs ys : List Entry) → EndOnlyLast xs → ends xs ≡ false → EndOnlyLast ys → EndOnlyLast (xs ++ ys)
 EndOnlyLast-append [] ys h open_end k = k
 EndOnlyLast-append (x ∷ []) [] h open_end k = h

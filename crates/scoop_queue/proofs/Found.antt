@@ -1,7 +1,7 @@
--- What is found of a block after a change of the private queues. A change at a block leaves at most one queue in the place of
--- that block's, and of the same block (`Leaves`). So, by induction on the list, another block finds what it found before, and
--- the block itself finds what the change made of its queue, or nothing where it made nothing and no block has two queues. From
--- these come the laws of each change that the handler makes: entries put, a cut, a queue more, the first entry run.
+-- Lookups of a block after a change of the private queues. A change at a block leaves at most one queue in place of
+-- that block's, and of the same block (`Leaves`). So, by induction on the list, another block's lookup stays the same.
+-- The block itself finds its changed queue, or nothing if the change left nothing and no block has two queues. The laws
+-- of each change that the handler makes follow: entries put, a cut, a queue more, the first entry run.
 use Rattle.std.proofs.Common.{◌≡◌, ◌+◌, Bool, true, false, cond, List, [], ◌∷◌, ◌++◌, length, Option, Some, refl, sym, ap, ◌∙◌, subst, length-append}
 use Rattle.std.proofs.lemmas.Option.{same_Some}
 use Rattle.scoop_message.specs.declared.name.Block.{Block}
@@ -130,7 +130,7 @@ pub queue_of-advance-gone : (q : PrivateQueue) (qs : List PrivateQueue) → AreA
     → has_queue q.block (advance (q ∷ qs)) ≡ false
 queue_of-advance-gone q qs apart left = rw left (apart.0)
 
--- what is found is a private queue as all are
+-- a queue that is found is sound, as all are
 found-first : (b : Block) (x q : PrivateQueue) (qs : List PrivateQueue) → IsQueue x → queue_of b (x ∷ qs) ≡ Some q → (queue_of b qs ≡ Some q → IsQueue q)
     → IsQueue q
 found-first b x q qs sound found rest = by (is_queue_of b x) refl

@@ -1,6 +1,6 @@
--- What is true of the private queues at any time is kept by each change of them. A change of one queue leaves at most one in
--- its place, of the same block (`Leaves`), so all stay apart and are no more, and only that one is to be looked at. A new
--- queue goes last, where its block has none and there is room.
+-- Each change of the private queues keeps what is true of them at any time. A change of one queue leaves at most one in
+-- its place, of the same block (`Leaves`). So all stay apart, their number doesn't grow, and only that queue needs a
+-- proof. A new queue goes last, if its block has none and there is room.
 use Rattle.std.proofs.Common.{◌≡◌, ℕ, ◌+◌, ◌-◌, ◌^◌, ◌<◌, ◌≤◌, Bool, true, false, ◌&&◌, ◌||◌, ◌==◌, nat_le, nat_lt, if◌then◌else◌, IsTrue, List, [], ◌∷◌, ◌++◌}
 use Rattle.std.proofs.Common.{length, Option, None, Some, refl, sym, ◌∙◌, subst, arith, true≢false, length-append}
 use Rattle.std.specs.Bool.{⊤}
@@ -138,7 +138,7 @@ IsQueue-with_entries es q sound is some end room numbers =
       some = λ _. omega (arith, length-append q.entries es, some);
     }
 
--- what a refusal that doesn't come says
+-- the facts that the absence of a refusal gives
 pub put-fits : (n : ℕ) (q : PrivateQueue) → refusal_at n (Some q) ≡ None → (is_open q.state ≡ true) × (length q.entries + n ≤ MAX_PENDING)
 put-fits n q fits = by (is_open q.state) refl (nat_lt MAX_PENDING (length q.entries + n)) refl
   where
@@ -306,14 +306,14 @@ may-append q xs ys sound =
     let none : has_queue q.block xs ≡ false = apart-before q xs ys sound.apart in
     (rw (room, none) refl, each-inside q xs ys sound.each)
 
--- what may be appended is refused for want of memory alone
+-- memory is the only reason to refuse what may be appended
 pub memory-alone : (h : Head) (es : List Entry) (qs : List PrivateQueue) (e : AppendError) → MayAppend h es qs → AppendRefused h es qs e → e ≡ OutOfMemory
 memory-alone h es qs QueueFull may refused = let clash = sym may.0 ∙ refused in cc
 memory-alone h es qs AlreadyThere may refused = let clash = sym may.0 ∙ refused in cc
 memory-alone h es qs BadQueue may refused = absurd (refused.1 may.1)
 memory-alone h es qs OutOfMemory may refused = refl
 
--- the number behind the first one
+-- the number after the first one
 pub number-fits : (q : PrivateQueue) (e : Entry) (es : List Entry) → IsQueue q → q.entries ≡ e ∷ es → goes_with q.state e es ≡ false → q.first + 1 < 2 ^ 32
 number-fits q e es sound are stays = by q.state es left.ended left.some left.numbers.next
   where

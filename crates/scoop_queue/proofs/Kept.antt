@@ -1,5 +1,6 @@
--- What the map's calls do to the private queues that it keeps. Its keys are the blocks, in the order of the queues: the place
--- of a block's key is that of its queue, and a write, an insertion or a removal there is that change of the list.
+-- The map's calls, as changes of the private queues that it keeps. Its keys are the blocks, in the order of the queues.
+-- The place of a block's key is that of its queue, and a write, an insertion or a removal there is that change of the
+-- list.
 use Rattle.std.proofs.Common.{◌≡◌, ℕ, zero, suc, ◌+◌, ◌<◌, ◌≤◌, Bool, true, false, cond, List, [], ◌∷◌, ◌++◌, length, remove, slice_get, get_or, Option, None}
 use Rattle.std.proofs.Common.{Some, position, MatchOption, is_some, nat_lt, refl, sym, ap, ◌∙◌, subst, arith, append_assoc}
 use Rattle.std.specs.List.{position_or_len}
@@ -102,7 +103,7 @@ module _ {A : Type 0} where
   kept-set b change p w (e ∷ es) (suc i) place is becomes =
       rw (place.0) (ap (λ qs. queue_kept e ∷ qs) (kept-set b change p w es i place.1 is becomes))
 
-  -- a write that changes nothing that is seen
+  -- a write that changes nothing visible
   pub kept-same : (p w : Pending A) (es : List (Key × Pending A)) (i : ℕ) → slice_get (values_of es) i ≡ Some p → ((d : Block) → queue_at d w ≡ queue_at d p)
       → queues_kept (set_value_at es i w) ≡ queues_kept es
   kept-same p w [] i is same = refl
@@ -160,7 +161,7 @@ module _ {A : Type 0} where
   put_refusal-place b n p es i place is =
       ap (λ (o : Option PrivateQueue). refusal_at n o) (queue_of-place b p es i place is).1
 
-  -- what is left of the first queue once its first entry is taken
+  -- the rest of the first queue once its first entry is taken
   left-now : (b : Block) (p x : Pending A) (left : List PrivateQueue) → p ≡ x → left_by_first (queue_at b p) p.entries.items ≡ left
       → left_by_first (queue_at b x) x.entries.items ≡ left
   left-now b p x left is was = subst (λ (y : Pending A). left_by_first (queue_at b y) y.entries.items ≡ left) is was
@@ -188,7 +189,7 @@ module _ {A : Type 0} where
       let here : e ≡ pair = same_Some e pair is in
       ap (λ (x : Key × Pending A). first_of (queue_kept x) x.1.entries.items) here
 
-  -- the first queue is as all are
+  -- the first queue is sound, as all are
   pub first-sound : (p : Pending A) (es : List (Key × Pending A)) → slice_get (values_of es) 0 ≡ Some p → IsQueues (queues_kept es) → (b : Block)
       → IsQueue (queue_at b p)
   first-sound p [] is sound b = cc
@@ -197,7 +198,7 @@ module _ {A : Type 0} where
       let first : IsQueue (queue_at (block_of e.0) e.1) = sound.each.0 in
       subst (λ (x : Pending A). IsQueue (queue_at b x)) here (IsQueue-rebound b (block_of e.0) e.1.first e.1.entries.items e.1.state first)
 
-  -- a copy of the next queue goes behind those that are copied
+  -- a copy of the next queue goes after those that are copied
   pub next-copied : (done all : List PrivateQueue) (left rest : List (Key × Pending A)) (k : Key) (p : Pending A) → left ≡ (k, p) ∷ rest
       → done ++ queues_kept left ≡ all → done ++ queue_at (block_of k) p ∷ queues_kept rest ≡ all
   next-copied done all left rest k p next is =

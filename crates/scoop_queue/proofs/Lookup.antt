@@ -1,4 +1,4 @@
--- What is found of a block among the private queues, before and after a change.
+-- Lookups of a block among the private queues, before and after a change.
 use Rattle.std.proofs.Common.{◌≡◌, ℕ, zero, suc, take, slice_get, Bool, true, false, List, [], ◌∷◌, refl, sym, ap, ◌∙◌, subst, true≢false}
 use Rattle.std.proofs.lemmas.Option.{same_Some}
 use Rattle.scoop_message.specs.declared.name.Block.{Block}
@@ -34,7 +34,7 @@ absent-rest b q qs none =
     let other : is_queue_of b q ≡ false = absent-first b q qs none in
     rw other at none
 
--- where the block has no queue, nothing is changed there
+-- if the block has no queue, nothing changes there
 pub at_block-absent : (b : Block) (change : PrivateQueue → List PrivateQueue) (qs : List PrivateQueue) → has_queue b qs ≡ false → at_block b change qs ≡ qs
 at_block-absent b change [] none = refl
 at_block-absent b change (q ∷ qs) none =

@@ -1,4 +1,4 @@
--- Private queues of which one alone differs, and what is made of them by its copy.
+-- Private queues that differ in one alone, and the result of copying that one.
 use Rattle.std.proofs.Common.{◌≡◌, ◌<◌, ℕ, zero, suc, List, [], ◌∷◌, length, slice_get, Some, refl, ap, ◌∙◌, arith}
 use Rattle.std.proofs.lemmas.Option.{same_Some}
 use Rattle.std.specs.Map.{values_of}
@@ -9,7 +9,7 @@ use Rattle.scoop_queue.specs.Copying.{AgreeBut}
 use Rattle.scoop_queue.specs.Queue.{PrivateQueue}
 use Rattle.scoop_queue.specs.Kept.{block_of, queue_at, queue_kept, queues_kept}
 
--- lists of one length are the same where they are at each place
+-- lists of one length are the same if they are the same at each place
 pub same-places : (xs ys : List PrivateQueue) → length xs ≡ length ys → ((j : ℕ) → j < length xs → slice_get xs j ≡ slice_get ys j) → xs ≡ ys
 same-places [] [] as_many each = refl
 same-places [] (y ∷ ys) as_many each = absurd (omega (arith, as_many))
@@ -19,7 +19,7 @@ same-places (x ∷ xs) (y ∷ ys) as_many each =
     let rest : xs ≡ ys = same-places xs ys (omega (arith, as_many)) (λ j lt. each (suc j) (omega (arith, lt))) in
     cc
 
--- where at one place they are of one block, and at each other the same
+-- at one place they are of one block, and at each other place the same
 pub agree-but : (i : ℕ) (xs ys : List PrivateQueue) → length xs ≡ length ys → i < length xs
     → ((q r : PrivateQueue) → slice_get xs i ≡ Some q → slice_get ys i ≡ Some r → q.block ≡ r.block)
     → ((j : ℕ) → j < length xs → (j ≡ i → ⊥) → slice_get xs j ≡ slice_get ys j) → AgreeBut i xs ys

@@ -1,4 +1,4 @@
--- What a call that may be refused leaves.
+-- The state that a refused call leaves.
 use Rattle.std.proofs.Common.{◌≡◌, Bool, true, false, Result, Ok, Err, OnOk, OnErr, IfErr, true≢false, sym}
 use Rattle.std.specs.Bool.{OnTrue, OnFalse}
 

@@ -1,4 +1,4 @@
--- What `==` says of the states of private queues: it decides whether they are the same.
+-- `==` on the states of private queues: it decides whether they are the same.
 use Rattle.std.proofs.Common.{◌≡◌, refl}
 use Rattle.std.specs.Bool.{Decides}
 use Rattle.scoop_queue.specs.declared.state.QueueState.{QueueState}

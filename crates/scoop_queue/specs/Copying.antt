@@ -1,8 +1,8 @@
--- Two handlers' private queues of which one alone differs.
+-- Two handlers' private queues that differ in one alone.
 use Rattle.std.specs.Prelude.{◌≡◌, ℕ, zero, suc, List, [], ◌∷◌}
 use Rattle.scoop_queue.specs.Queue.{PrivateQueue}
 
--- they are as many, at this place of one block, and at each other place the same
+-- they are as many, of one block at this place, and the same at each other place
 abbrev pub AgreeBut : ℕ → (left right : List PrivateQueue) → Type 0
 AgreeBut i [] right = ⊥
 AgreeBut i (q ∷ qs) [] = ⊥

@@ -15,7 +15,7 @@ IsPlaceOf b (q ∷ qs) zero = is_queue_of b q ≡ true
 IsPlaceOf b (q ∷ qs) (suc i) = (is_queue_of b q ≡ false) × IsPlaceOf b qs i
 
 module _ {A : Type 0} where
-  -- the private queue of a block that has this pending
+  -- the private queue of a block with these pending entries
   abbrev pub queue_at : Block → Pending A → PrivateQueue
   queue_at b p = record { block = b; first = p.first; entries = p.entries.items; state = p.state }
 

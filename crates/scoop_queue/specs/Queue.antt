@@ -80,14 +80,14 @@ new_queue b = record { block = b; first = 1; entries = []; state = Open }
 abbrev pub opened : Block → List PrivateQueue → List PrivateQueue
 opened b qs = qs ++ new_queue b ∷ []
 
--- the queue with these entries behind its own, which an End closes
+-- the queue with these entries after its own; an End closes it
 abbrev pub with_entries : List Entry → PrivateQueue → PrivateQueue
 with_entries es q = record q { entries = q.entries ++ es; state = if ends es then Ended else q.state }
 
 abbrev pub put_all : Block → List Entry → List PrivateQueue → List PrivateQueue
 put_all b es qs = at_block b (λ q. with_entries es q ∷ []) qs
 
--- what a cut leaves of a queue: an open one is cut, and goes at once where it is empty
+-- a queue after a cut: an open one is cut, and goes at once if it is empty
 abbrev pub cut_open : PrivateQueue → List Entry → List PrivateQueue
 cut_open q [] = []
 cut_open q (e ∷ es) = record q { entries = e ∷ es; state = Cut } ∷ []
@@ -111,7 +111,7 @@ front (q ∷ qs) = first_of q q.entries
 abbrev pub goes_with : QueueState → Entry → List Entry → Bool
 goes_with s e es = is_end e || (is_cut s && length es == 0)
 
--- what is left of a queue once its first entry is taken
+-- a queue after its first entry is taken
 abbrev pub left_by_first : PrivateQueue → List Entry → List PrivateQueue
 left_by_first q [] = q ∷ []
 left_by_first q (e ∷ es) = if goes_with q.state e es then [] else record q { first = q.first + 1; entries = es } ∷ []

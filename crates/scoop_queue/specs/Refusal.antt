@@ -1,4 +1,4 @@
--- Why a call on the queue of queues is refused, want of memory apart.
+-- The reasons to refuse a call on the queue of queues, memory apart.
 use Rattle.std.specs.Prelude.{◌≡◌, ℕ, ◌+◌, not, nat_le, nat_lt, if◌then◌else◌, IsTrue, List, length, Option, Some, None}
 use Rattle.std.specs.Option.{ForSome}
 use Rattle.scoop_message.specs.declared.limits.TheConstants.{MAX_QUEUES, MAX_PENDING}
@@ -21,7 +21,7 @@ open_refusal b qs =
     else if has_queue b qs then Some of_open.AlreadyThere
     else None
 
--- so many new entries find no queue, one that takes none, or no room
+-- `n` new entries find no queue, one that takes none, or no room
 abbrev pub refusal_at : ℕ → Option PrivateQueue → Option PutError
 refusal_at n None = Some of_put.NotThere
 refusal_at n (Some q) =
@@ -32,15 +32,15 @@ refusal_at n (Some q) =
 abbrev pub put_refusal : Block → ℕ → List PrivateQueue → Option PutError
 put_refusal b n qs = refusal_at n (queue_of b qs)
 
--- the block's queue, where it is open, has numbers for these entries
+-- the block's queue, if it is open, has numbers for these entries
 abbrev pub HasNumbersFor : Block → List Entry → List PrivateQueue → Type 0
 HasNumbersFor b es qs = ForSome (queue_of b qs) (λ q. IsTrue (is_open q.state) → FitsNumbers (with_entries es q))
 
--- a queue that is handed over whole may be appended: its block might open one, and it is one
+-- a whole queue may be appended: its block might open one, and it is a private queue
 abbrev pub MayAppend : Head → List Entry → List PrivateQueue → Type 0
 MayAppend h es qs = (open_refusal h.block qs ≡ None) × IsQueue (queue_with h es)
 
--- why it isn't appended: its block might not open one, it is none, or memory is wanting
+-- why it isn't appended: its block might not open one, it is no private queue, or memory ran out
 abbrev pub AppendRefused : Head → List Entry → List PrivateQueue → AppendError → Type 0
 AppendRefused h es qs of_append.QueueFull = open_refusal h.block qs ≡ Some of_open.QueueFull
 AppendRefused h es qs of_append.AlreadyThere = open_refusal h.block qs ≡ Some of_open.AlreadyThere

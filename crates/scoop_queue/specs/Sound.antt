@@ -1,4 +1,4 @@
--- What is true of the private queues at any time.
+-- Facts about the private queues at any time.
 use Rattle.std.specs.Prelude.{◌≡◌, ℕ, ◌-◌, ◌^◌, ◌≤◌, ◌<◌, false, IsTrue, List, [], ◌∷◌, length, if◌then◌else◌, ⊤}
 use Rattle.std.specs.List.{AllByRecursion}
 use Rattle.scoop_message.specs.declared.limits.TheConstants.{MAX_QUEUES, MAX_PENDING}
@@ -6,14 +6,14 @@ use Rattle.scoop_message.specs.Entries.{EndOnlyLast, ends}
 use Rattle.scoop_queue.specs.declared.state.QueueState.{QueueState}
 use Rattle.scoop_queue.specs.Queue.{PrivateQueue, is_open, is_ended, is_cut, has_queue, next_number}
 
--- numbers have 32 bits, and that of the next entry of an open queue is not the highest one, which is kept for an End
+-- numbers have 32 bits; the next entry of an open queue never has the highest one, which is kept for an End
 abbrev pub number_limit : QueueState → ℕ
 number_limit s = if is_open s then 2 ^ 32 - 1 else 2 ^ 32
 
 pub record FitsNumbers (q : PrivateQueue) : Type 0 where
   pub next : next_number q ≤ number_limit q.state
 
--- an End stands only last, and only in an ended queue, which has one
+-- only the last entry of an ended queue is an End, and an ended queue has one
 pub record IsQueue (q : PrivateQueue) : Type 0 where
   pub first : 1 ≤ q.first
   pub limit : length q.entries ≤ MAX_PENDING

@@ -1,4 +1,4 @@
-//! Private queues that take the place of others, in the room that these have.
+//! Private queues that replace others in the same room.
 
 ghost use Rattle.std.specs.Prelude.{◌≡◌, ◌<◌, ℕ, None, IsTrue, IfSome, OnOk, OnErr, length, slice_get};
 ghost use Rattle.scoop_queue.specs.Kept.{queues_kept};
@@ -10,8 +10,8 @@ use crate::table::{Table, copied, len, same_at};
 use scoop_message::OutOfMemory;
 use std::alloc::Allocator;
 
-/// Makes a table keep the private queues of another one. Nothing is copied where it keeps them already, and one alone
-/// where no other differs: so it is after most messages. An `Err` changes nothing.
+/// Makes a table keep the private queues of another one. Copies nothing if both keep the same, and a single queue
+/// if no other differs, as after most messages. An `Err` changes nothing.
 pub(crate) fn copy_from<A: Allocator + Copy>(
     table: &mut Table<A>,
     other: &Table<A>,
@@ -46,7 +46,7 @@ fn first_change<A: Allocator>(left: &Table<A>, right: &Table<A>) -> Option<usize
     None
 }
 
-// Whether two tables keep as many private queues, at each other place the same, and at this one those of one block.
+// Whether two tables keep as many private queues: of one block at this place, and the same at each other place.
 fn is_only_change<A: Allocator>(left: &Table<A>, right: &Table<A>, place: usize) -> bool
     ensures { IsTrue result → AgreeBut place (queues_kept left.now.entries) (queues_kept right.now.entries) }
 {
@@ -71,7 +71,7 @@ fn same_block_at<A: Allocator>(left: &Table<A>, right: &Table<A>, place: usize) 
     }
 }
 
-// Whether two tables keep the same at each place of the first one but this.
+// Whether two tables keep the same at each place of the first one except this.
 fn same_elsewhere<A: Allocator>(left: &Table<A>, right: &Table<A>, place: usize) -> bool
     ensures { (j : ℕ) → IsTrue result → j < length (queues_kept left.now.entries) → (j ≡ place → ⊥)
         → slice_get (queues_kept left.now.entries) j ≡ slice_get (queues_kept right.now.entries) j }
@@ -84,7 +84,7 @@ fn same_elsewhere<A: Allocator>(left: &Table<A>, right: &Table<A>, place: usize)
     true
 }
 
-// Copies what the other table keeps at a place where alone they differ. An `Err` changes nothing.
+// Copies the other table's private queue at the only place where they differ. An `Err` changes nothing.
 fn copy_at<A: Allocator + Copy>(
     table: &mut Table<A>,
     other: &Table<A>,

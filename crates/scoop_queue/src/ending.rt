@@ -1,4 +1,4 @@
-//! Where an End stands in a list of entries, and whether a list is that of a private queue.
+//! The place of an End in a list of entries, and the test for a private queue.
 
 ghost use Rattle.std.specs.Prelude.{◌≡◌, ◌↔◌, ◌&&◌, not, if◌then◌else◌, length, IsTrue};
 ghost use Rattle.scoop_message.specs.Entries.{end_only_last, ends};
@@ -9,7 +9,7 @@ use crate::state::{Head, QueueState};
 use scoop_message::Entry;
 use scoop_message::limits::MAX_PENDING;
 
-// Whether no End stands before the last entry, and one stands there exactly where it is wanted.
+// Whether no End stands before the last entry, and the last is an End exactly if `wanted`.
 fn has_ending(wanted: bool, entries: &[Entry]) -> bool
     ensures { result ≡ end_only_last entries.now && (if wanted then ends entries.now else not (ends entries.now)) }
 {

@@ -1,4 +1,4 @@
-//! What one block has pending.
+//! The pending entries of one block.
 
 ghost use Rattle.std.specs.Prelude.{◌≡◌, ◌<◌, ◌↔◌, ◌++◌, [], ◌∷◌, Some, None, true, length, IsTrue, unwrap_or, IfErr, IfOk, OnOk, OnErr};
 ghost use Rattle.std.specs.Bool.{OnTrue, OnFalse};
@@ -19,7 +19,7 @@ pub(crate) struct Pending<A: Allocator> {
     pub(crate) state: QueueState,
 }
 
-// Puts the entries behind those that are there, all or none.
+// Puts the entries after those that are there, all or none.
 fn extend<A: Allocator>(
     pending: &mut VecDeque<Entry, A>,
     entries: &[Entry],
@@ -41,7 +41,7 @@ impl<A: Allocator> Pending<A> {
     ghost use Rattle.scoop_queue.specs.Sound.{IsQueue};
     ghost use Rattle.scoop_message.specs.Entries.{ends};
 
-    /// What a block has pending when its private queue is opened.
+    /// The pending entries of a block whose private queue has just opened.
     pub(crate) fn new(alloc: A) -> Pending<A>
         ensures { (b : Block) → queue_at b result ≡ new_queue b }
     {
@@ -52,7 +52,7 @@ impl<A: Allocator> Pending<A> {
         }
     }
 
-    /// What a private queue of this head and these entries has pending.
+    /// The pending entries of a private queue with this head and these entries.
     pub(crate) fn of(alloc: A, head: Head, entries: &[Entry]) -> Result<Pending<A>, OutOfMemory>
         ensures { IfOk result (λ p. queue_at head.block p ≡ queue_with head entries.now) }
     {
@@ -107,7 +107,7 @@ impl<A: Allocator> Pending<A> {
         state && entries
     }
 
-    /// Puts the entries behind those that are there, all or none.
+    /// Puts the entries after those that are there, all or none.
     pub(crate) fn put_all(&mut self, entries: &[Entry]) -> Result<(), PutError>
         requires { 0 < length entries.now }
         ensures ok { OnOk result ((b : Block) → refusal_at (length entries.now) (Some (queue_at b self.old)) ≡ None) }
@@ -128,15 +128,15 @@ impl<A: Allocator> Pending<A> {
         Ok(())
     }
 
-    // Whether nothing is left behind this entry, once it is taken.
+    // Whether nothing is left after this entry, once it is taken.
     fn goes_with(&self, entry: &Entry) -> bool
         ensures { result ≡ goes_with self.now.state entry.now self.now.entries.items }
     {
         entry.is_end() || matches!(self.state, QueueState::Cut) && self.len() == 0
     }
 
-    /// Takes the first entry, and tells whether nothing is left with that: a queue goes with its End,
-    /// and a cut one with its last entry.
+    /// Takes the first entry, and returns whether nothing is left: a queue goes with its End, and a cut one with
+    /// its last entry.
     pub(crate) fn take_first(&mut self) -> bool
         requires { (b : Block) → IsQueue (queue_at b self.old) }
         ensures gone { OnTrue result ((b : Block) → left_by_first (queue_at b self.old) self.old.entries.items ≡ []) }
@@ -152,8 +152,7 @@ impl<A: Allocator> Pending<A> {
         false
     }
 
-    /// Lets no more come, where it is open, and tells whether nothing is left with that: an empty queue
-    /// goes at once.
+    /// Lets no more come, if it is open, and returns whether nothing is left: an empty queue goes at once.
     pub(crate) fn cut(&mut self) -> bool
         requires { is_open self.old.state ≡ true }
         ensures gone { OnTrue result ((b : Block) → left_by_cut (queue_at b self.old) ≡ []) }

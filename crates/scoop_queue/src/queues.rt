@@ -15,8 +15,8 @@ use scoop_message::{Block, Entry, OutOfMemory};
 use std::alloc::{Allocator, Global};
 use std::marker::Model;
 
-/// The private queues of a handler, in the order in which it works on them: one for each block that
-/// has reserved it. Contracts see them as a list.
+/// The private queues of a handler, in the order in which it works on them, one for each block that has reserved
+/// it. Contracts see them as a list.
 #[derive(Drop)]
 pub struct QueueOfQueues<A: Allocator = Global> {
     table: Table<A>,
@@ -46,10 +46,10 @@ impl<A: Allocator + Copy> QueueOfQueues<A> {
         }
     }
 
-    /// Opens a private queue for the block, the last and empty, whose first entry will have number 1.
+    /// Opens an empty private queue for the block, as the last one. Its first entry will have number 1.
     ///
-    /// Refused with nothing changed: `QueueFull` at `MAX_QUEUES` private queues, `AlreadyThere` where the block
-    /// has one, `OutOfMemory`.
+    /// Refused with nothing changed: `QueueFull` at `MAX_QUEUES` private queues, `AlreadyThere` if the block has
+    /// one, `OutOfMemory`.
     pub fn open(&mut self, block: Block) -> Result<(), OpenQueueError>
         ensures fits { OnOk result (open_refusal block self.old ≡ None) }
         ensures opened { OnOk result (self.new ≡ opened block self.old) }
@@ -59,12 +59,12 @@ impl<A: Allocator + Copy> QueueOfQueues<A> {
         table::open(&mut self.table, block)
     }
 
-    /// Appends a whole private queue: that of the head's block with these entries.
+    /// Appends a whole private queue: the head's block, with these entries.
     ///
-    /// Refused with nothing changed: `QueueFull` at `MAX_QUEUES` private queues, `AlreadyThere` where the block
-    /// has one, `BadQueue` where the first number is 0, there are more than `MAX_PENDING` entries, a
-    /// number is above 2^32-1 or an open queue's next one would be, a cut queue is empty, an End isn't the
-    /// last entry of an ended queue, or an ended queue has none; `OutOfMemory`.
+    /// Refused with nothing changed: `QueueFull` at `MAX_QUEUES` private queues, `AlreadyThere` if the block has
+    /// one, `BadQueue`, `OutOfMemory`. `BadQueue` means that the first number is 0, there are more than
+    /// `MAX_PENDING` entries, a number is above 2^32-1 or an open queue's next one would be, a cut queue is empty,
+    /// an End isn't the last entry of an ended queue, or an ended queue has none.
     pub fn append(&mut self, head: Head, entries: &[Entry]) -> Result<(), AppendError>
         ensures fits { OnOk result (MayAppend head entries.now self.old) }
         ensures appended { OnOk result (self.new ≡ self.old ++ queue_with head entries.now ∷ []) }
@@ -82,7 +82,7 @@ impl<A: Allocator + Copy> QueueOfQueues<A> {
         Ok(QueueOfQueues { table })
     }
 
-    /// Takes the private queues of the other one, in the room that it has where that is enough. An `Err` changes
+    /// Takes over the private queues of the other one, in its own room if that is enough. An `Err` changes
     /// nothing; `OutOfMemory` is the one refusal.
     pub fn copy_from(&mut self, other: &QueueOfQueues<A>) -> Result<(), OutOfMemory>
         ensures ok { OnOk result (self.new ≡ other.now) }
@@ -93,10 +93,10 @@ impl<A: Allocator + Copy> QueueOfQueues<A> {
 }
 
 impl<A: Allocator> QueueOfQueues<A> {
-    /// Puts an entry at the end of the block's private queue, which an End closes.
+    /// Puts an entry at the end of the block's private queue. An End closes the queue.
     ///
-    /// Refused with nothing changed: `NotThere` where the block has no private queue, `Ended` where
-    /// that has ended or was cut, `PendingFull` where `MAX_PENDING` are pending, `OutOfMemory`.
+    /// Refused with nothing changed: `NotThere` if the block has no private queue, `Ended` if its queue has ended
+    /// or was cut, `PendingFull` if `MAX_PENDING` are pending, `OutOfMemory`.
     pub fn put(&mut self, block: Block, entry: Entry) -> Result<(), PutError>
         requires { HasNumbersFor block (entry ∷ []) self.old }
         ensures fits { OnOk result (put_refusal block 1 self.old ≡ None) }
@@ -109,7 +109,7 @@ impl<A: Allocator> QueueOfQueues<A> {
 
     /// Puts all entries at the end of the block's private queue, in order, or none.
     ///
-    /// Refused as `put` is, `PendingFull` where pending and new ones pass `MAX_PENDING`.
+    /// Refused as `put` is: `PendingFull` if pending and new entries together exceed `MAX_PENDING`.
     pub fn put_all(&mut self, block: Block, entries: &[Entry]) -> Result<(), PutError>
         requires some { 0 < length entries.now }
         requires end { EndOnlyLast entries.now }
@@ -122,15 +122,15 @@ impl<A: Allocator> QueueOfQueues<A> {
         table::put_all(&mut self.table, block, entries)
     }
 
-    /// The first entry of the first private queue, with its block and its number there. `None` where
-    /// there is no private queue, or the first one has no entry: the others wait.
+    /// The first entry of the first private queue, with its block and its number there. `None` if there is no
+    /// private queue, or the first one has no entry: then the others wait.
     pub fn front(&self) -> Option<(Block, u32, Entry)>
         ensures { result ≡ front self.now }
     {
         table::front(&self.table)
     }
 
-    /// Takes what `front` gives. The private queue goes with its End, or with the last entry of a cut
+    /// Takes the entry that `front` gives. The private queue goes with its End, or with the last entry of a cut
     /// one.
     pub fn advance(&mut self) -> Option<(Block, u32, Entry)>
         ensures taken { result ≡ front self.old }
@@ -139,8 +139,8 @@ impl<A: Allocator> QueueOfQueues<A> {
         table::advance(&mut self.table)
     }
 
-    /// Cuts the block's private queue: what was received stays, and nothing more comes. An empty one
-    /// goes at once. Answers whether it was open: where not, nothing changes.
+    /// Cuts the block's private queue: received entries stay, and no more come. An empty one goes at once. Returns
+    /// whether the queue was open; if not, nothing changes.
     pub fn cut(&mut self, block: Block) -> bool
         ensures was_open { result ≡ has_open block self.old }
         ensures cut { self.new ≡ cut block self.old }
@@ -156,7 +156,7 @@ impl<A: Allocator> QueueOfQueues<A> {
         table::len(&self.table)
     }
 
-    /// How many entries the block has pending: 0 where it has no private queue.
+    /// How many entries the block has pending: 0 if it has no private queue.
     pub fn pending_len(&self, block: Block) -> usize
         ensures { result ≡ pending block self.now }
     {

@@ -1,4 +1,4 @@
-//! What a private queue is beside its entries.
+//! The head and the state of a private queue.
 
 use scoop_message::Block;
 
@@ -9,7 +9,7 @@ pub enum QueueState {
     Open,
     /// Its last entry is the block's End.
     Ended,
-    /// Its client has started anew: what was received still runs, and nothing more comes.
+    /// Its client has started anew: received entries still run, and no more come.
     Cut,
 }
 

@@ -1,4 +1,4 @@
-//! The private queues as they are kept: a map from their blocks, in their order.
+//! The private queues as they are kept: a map from their blocks, in order.
 
 ghost use Rattle.std.specs.Prelude.{◌≡◌, ◌<◌, ◌↔◌, ◌++◌, [], ◌∷◌, None, IsTrue, slice_get, false, length, remove, unwrap_or, MatchOption, IfErr, IfOk, IfSome};
 ghost use Rattle.std.specs.Prelude.{OnOk, OnErr};
@@ -19,7 +19,7 @@ use scoop_message::{Block, Entry, OutOfMemory};
 use std::alloc::Allocator;
 use std::hash::{BuildHasherDefault, FoldHasher};
 
-/// What each block has pending, in the order of the private queues.
+/// The pending entries of each block, in the order of the private queues.
 pub(crate) type Table<A> = IndexMap<Key, Pending<A>, BuildHasherDefault<FoldHasher>, A>;
 
 /// The place of a block's private queue.
@@ -44,7 +44,7 @@ pub(crate) fn has<A: Allocator>(table: &Table<A>, block: Block) -> bool
     place_of(table, block).is_some()
 }
 
-/// Adds what a block has pending, which has no private queue yet, as the last one.
+/// Adds the pending entries of a block without a private queue, as the last queue.
 pub(crate) fn add<A: Allocator>(
     table: &mut Table<A>,
     block: Block,
@@ -104,7 +104,7 @@ pub(crate) fn append<A: Allocator + Copy>(
     Ok(())
 }
 
-// Takes out what stands at a place. The others keep their order: at most `MAX_QUEUES` places shift.
+// Takes out the queue at a place. The others keep their order: at most `MAX_QUEUES` places shift.
 fn remove_at<A: Allocator>(table: &mut Table<A>, place: usize)
     ensures { table.new.entries ≡ remove table.old.entries place }
 {

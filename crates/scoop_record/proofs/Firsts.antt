@@ -1,4 +1,4 @@
--- No part of an image begins another of its kind, so parts that follow one another are told apart.
+-- No part of an image begins another of its kind, so a sequence of parts reads in one way alone.
 use Rattle.std.proofs.Common.{◌≡◌, ℕ, ◌^◌, ◌<◌, Bool, true, false, List, [], ◌∷◌, ◌++◌, length, take, drop, get_or, None, Some, refl, sym, ap, ◌∙◌}
 use Rattle.std.proofs.Common.{append_assoc, arith}
 use Rattle.std.specs.Int.{w32, w64, to_be_bytes, from_be_bytes}
@@ -15,7 +15,7 @@ use Rattle.scoop_handler.specs.Marks.{block_of}
 use Rattle.scoop_record.specs.Image.{block_bytes, flag_byte, head_bytes, holder_bytes, kept_bytes, mark_bytes, marks_bytes, stage_byte, state_byte, words_bytes}
 use Rattle.scoop_record.specs.Range.{AreMarks, AreObjectWords, BlockInRange, HeadInRange, HolderInRange, KeptInRange, MarkInRange}
 
--- the values are told apart by what the bytes begin with
+-- the beginning of the bytes determines the values
 abbrev pub TellsApart : {X : Type 0} → (X → List ℕ) → (X → Type 0) → Type 0
 TellsApart {X} f P = (x y : X) (a b : List ℕ) → P x → P y → f x ++ a ≡ f y ++ b → (x ≡ y) × (a ≡ b)
 

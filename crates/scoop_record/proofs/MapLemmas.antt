@@ -1,4 +1,4 @@
--- What the changes of the tables are as changes of what a record has.
+-- Changes of the tables, as changes of a record's contents.
 use Rattle.std.proofs.Common.{Result, Ok, Err, OnOk, List, ◌≡◌, ◌↔◌, ℕ, ◌≤◌, Option, Some, option_map, refl, ap, ◌∙◌, arith}
 use Rattle.sqlite_value.specs.declared.value.Value.{Value}
 use Rattle.sqlite.specs.Effect.{Database}
@@ -8,7 +8,7 @@ use Rattle.scoop_keeper.specs.Keeper.{Stored, Stays, Keeps, IsSame, Sets, next_o
 use Rattle.scoop_record.specs.Tables.{value_at}
 use Rattle.scoop_record.specs.Store.{inc_in, incs_in, Has, handlers_in, PutsBoth, Advances}
 
--- what there is for a handler rests on its two rows alone
+-- a handler's contents rest on its two rows alone
 same_has : (handler : ℕ) (a b c d : Option Value) (v : Stored) → c ≡ a → d ≡ b → Has handler a b v ↔ Has handler c d v
 same_has handler a b c d v one two = rw (one, two) ((λ h. h), (λ h. h))
 

@@ -1,6 +1,6 @@
 -- A record of version 1 that was migrated holds what it held. The rows that were listed are those of the table, each of them
--- has one state, and the numbers rise. So a handler among the states has its own, which was saved once and not written over;
--- any other has nothing before and after, and the other tables stay.
+-- has one state, and the numbers rise. So a handler among the states has its own, saved once and not overwritten. Any other
+-- handler has nothing before and after, and the other tables stay.
 use Rattle.std.proofs.Common.{◌≡◌, ◌≢◌, inl, inr, ◌<◌, ℕ, pos, List, [], ◌∷◌, ◌++◌, map, Bool, true, false, find, Option, Some, None, option_map, refl, sym, ap}
 use Rattle.std.proofs.Common.{◌∙◌, subst, arith, IsPermutation}
 use Rattle.std.specs.List.{AllByRecursion, AllZip}
@@ -144,7 +144,7 @@ held_found handler rows r it some is =
     let value : value_at rows handler ≡ Some (Blob is.bytes) = ap (option_map (λ (x : Row). column x 2)) some ∙ ap Some is.there in
     (own, held_one handler (value_at rows handler) is.bytes it value own is.stored is.only)
 
--- what the migration writes is what was read
+-- the migration writes the states that were read
 module _ (db new : Database) (rows : List Row) (all : List HandlerState) (same : IsPermutation (map keyed_value (db.trees 1)) rows)
     (zip : AllZip IsFirstRow rows all) (rising : IsRising all) (saves : SavesAll db new all) where
   pub states_kept : (handler : ℕ) → IsCarried (first_handlers_in db.trees handler) (handlers_in new.trees handler)
@@ -185,7 +185,7 @@ module _ (db new : Database) (rows : List Row) (all : List HandlerState) (same :
       (has_mapped keyed_value (db.trees 1) r here)) in
       record { number = it.0.number.0; small = it.2.stored.range.parts.number; is = it.2.key })
 
--- what there is for a handler in each version rests on the rows of these tables alone
+-- a handler's contents in each version rest on the rows of these tables alone
 carried_on : (a b c d : Trees) (handler : ℕ) → a 1 ≡ b 1 → c 1 ≡ d 1 → c 3 ≡ d 3 → IsCarried (first_handlers_in b handler) (handlers_in d handler)
     → IsCarried (first_handlers_in a handler) (handlers_in c handler)
 carried_on a b c d handler one two three h = rw (one, two, three) h

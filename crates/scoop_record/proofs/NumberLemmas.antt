@@ -1,5 +1,5 @@
 -- The rows of a record of version 1, by their numbers. They were listed with their numbers rising, so no two rows have one
--- number, the states read from them rise too, and the first row whose image is no state's has the lowest such number.
+-- number, and the states read from them rise too. The first row whose image is no state's has the lowest such number.
 use Rattle.std.proofs.Common.{◌≡◌, ◌≢◌, inl, inr, ◌<◌, ◌≤◌, ◌+◌, ◌^◌, ℕ, pos, List, [], ◌∷◌, ◌++◌, take, drop, map, find, Option, Some, None, option_map, refl}
 use Rattle.std.proofs.Common.{sym, ap, ◌∙◌, subst, arith, IsPermutation, append_assoc, take-append-drop}
 use Rattle.std.specs.List.{AllByRecursion, AllZip}
@@ -35,7 +35,7 @@ pub record AreUnder (low : ℕ) (rows : List Row) : Type 0 where
 pub none_under : AreUnder 0 []
 none_under = record { numbered = record { known = tt; rising = tt }; under = tt }
 
--- the number of the row behind those that were read
+-- the number of the row after those that were read
 pub number_at : (rows : List Row) (at : ℕ) (row : Row) → take (at + 1) rows ≡ take at rows ++ row ∷ [] → AreNumbers rows → IsNumber (column row 0)
 number_at rows at row next all =
     all_last (λ (x : Row). IsNumber (column x 0)) (take at rows) row
@@ -81,7 +81,7 @@ states_rise [] (s ∷ all) zip rising = absurd zip
 states_rise (r ∷ rows) [] zip rising = absurd zip
 states_rise (r ∷ rows) (s ∷ all) zip rising = (above r s rows all zip.0 rising.0 zip.1, states_rise rows all zip.1 rising.1)
 
--- the row behind those that were read is the first whose image is no state's
+-- the row after those that were read is the first whose image is no state's
 pub first_bad : (rows : List Row) (at handler : ℕ) (row : Row) (states : List HandlerState) → take (at + 1) rows ≡ take at rows ++ row ∷ [] → AreNumbered rows
     → AllZip IsFirstRow (take at rows) states → IsBadRow handler row → IsFirstBad rows handler
 first_bad rows at handler row states next numbered read bad = record {

@@ -1,7 +1,7 @@
--- Private queues that are read one behind the other, their heads in an image and their entries in the row beside it. A head
--- has its count of entries, and an entry tells where it ends, so by induction on the list the two are those of one list of
--- queues alone (`queues_apart`). For the loop that reads them: where a queue can't be read or appended, none begins the bytes;
--- one that was read carries the loop's invariant on (`grown-`); and after the last one the bytes are all read.
+-- Private queues that are read one after the other, their heads in an image and their entries in the row beside it. A head
+-- has its count of entries, and an entry shows where it ends. So, by induction, both are those of one list of queues alone
+-- (`queues_apart`). For the loop that reads them: if a queue can't be read or appended, none begins the bytes. One that was
+-- read carries the loop's invariant on (`grown-`). After the last one the bytes are all read.
 use Rattle.std.proofs.Common.{◌≡◌, ℕ, ◌+◌, ◌<◌, ◌≤◌, Bool, true, false, not, ◌&&◌, ◌||◌, nat_le, nat_lt, IsTrue, List, [], ◌∷◌, ◌++◌, length, take, drop}
 use Rattle.std.proofs.Common.{Option, None, Some, unwrap_or, refl, sym, ap, subst, ◌∙◌, append_assoc, arith}
 use Rattle.std.proofs.Math.Path.{subst₂}
@@ -62,7 +62,7 @@ module _ (old : List PrivateQueue) (heads row : List ℕ) where
 parted : (f : PrivateQueue → List ℕ) (x : PrivateQueue) (xs : List PrivateQueue) (s : List ℕ) → flat_map f (x ∷ xs) ++ s ≡ f x ++ (flat_map f xs ++ s)
 parted f x xs s = append_assoc (f x) (flat_map f xs) s
 
--- one private queue is told apart by its head and its entries
+-- one private queue is determined by its head and its entries
 pub queue_apart : (x y : PrivateQueue) (a b c d : List ℕ) → BareInRange x → BareInRange y → EntriesInRange x → EntriesInRange y
     → bare_bytes x ++ a ≡ bare_bytes y ++ b → entries_bytes x ++ c ≡ entries_bytes y ++ d → (x ≡ y) × (a ≡ b) × (c ≡ d)
 queue_apart x y a b c d p q r s e f =

@@ -1,5 +1,6 @@
--- What the statements of the record do to a connection. One that ran has made of the database what its compiled form makes
--- (`UpsertLemmas`), and a plain query nothing; one that failed has committed nothing, nor has one inside a transaction.
+-- The effects of the record's statements on a connection. A statement that ran has changed the database as its compiled form
+-- does (`UpsertLemmas`), and a plain query has changed nothing. A statement that failed, or that runs inside a transaction, has
+-- committed nothing.
 use Rattle.std.proofs.lemmas.Bool.{cases_Bool}
 use Rattle.scoop_record.specs.Store.{IsSound}
 use Rattle.std.proofs.Common.{IsPermutation, codes, cond, IsErr, IsTrue, IfOk, IfErr, arith, ◌≡◌, ◌≤◌, length, ◌⊎◌, inl, inr, ℕ, nat_le, ◌^◌, pos, List, []}
@@ -48,7 +49,7 @@ as_rows : (params : Row) (found : Option Row) → map (λ r. eval_all (col 1 2 �
 as_rows params None = refl
 as_rows params (Some r) = refl
 
--- what a look up by key answers
+-- the result of a look up by key
 pub shows_where : (schema : Schema) (sql : List ℕ) (tree key : ℕ) (filter_is : Term) (name : List ℕ) (params : Row)
     → ((r : Row) → holds (params ∷ r ∷ []) filter_is ≡ has_rowid (pos key) r)
     → (old new : State) (rows : List Row) → nat_le (2 ^ 31) tree ≡ false → old.now.schema ≡ schema → length rows ≤ 1
@@ -70,7 +71,7 @@ shows sql tree key name old new rows low has few is plain h =
     shows_where record_schema sql tree key (key_is 0) name (Int (pos key) ∷ [])
     (λ r. tests_key key (rowid r) (Int (pos key)) (find_own key)) old new rows low has few is plain h
 
--- what the query of the version answers, where the tables are some version's
+-- the result of the query of the version, over the tables of some version
 pub shows_version : (schema : Schema) (sql : List ℕ) (old new : State) (rows : List Row) → old.now.schema ≡ schema → length rows ≤ 1
     → (command_of (understood schema sql) ≡ Select (record { lets = []; body = query_of 0 first_key_is (col 1 2 ∷ []) }) (codes "version" ∷ []))
     × (reads_listing schema sql ≡ false)
@@ -78,7 +79,7 @@ pub shows_version : (schema : Schema) (sql : List ℕ) (old new : State) (rows :
 shows_version schema sql old new rows has few is plain h =
     shows_where schema sql 0 1 first_key_is (codes "version") [] (λ r. tests_key 1 (rowid r) (Int (pos 1)) (find_own 1)) old new rows refl has few is plain h
 
--- what an upsert does
+-- the effect of an upsert
 pub puts : (sql name key_name column_name : List ℕ) (kind : Kind) (tree : ℕ) → nat_le (2 ^ 31) tree ≡ false
     → slice_get record_schema.tables tree ≡ Some (keyed_table name tree key_name column_name kind)
     → command_of (understood record_schema sql) ≡ upsert tree → IsPlain (understood record_schema sql)
@@ -143,7 +144,7 @@ fails_keep sql params old new e (inl (inr it)) = go it.0.returning it.2
     go (Some what) h = runs_keep old new sql it.0 (timed params it.0.formats it.1.now) e h
 fails_keep sql params old new e (inr it) = unchanged_keeps old new it.5
 
--- what a query did, of whatever kind, no commit
+-- a query of any kind commits nothing
 pub shown_keeps : (sql : List ℕ) (params : Row) (old new : State) (rows : List Row) → IsTrue old.in_transaction → Shown sql params old new rows
     → KeepsCommit old new
 unfolding Shown
@@ -164,7 +165,7 @@ pub query_keeps : {V : Type 0} (sql : List ℕ) (params : Row) (old new : State)
 query_keeps sql params old new (Ok v) same fails = unchanged_keeps old new same
 query_keeps sql params old new (Err e) same fails = fails_keep sql params old new e fails
 
--- what an upsert inside a transaction does, where it is not refused
+-- the effect of an upsert inside a transaction, if it is not refused
 pub puts_inside : (sql name key_name column_name : List ℕ) (kind : Kind) (tree : ℕ) → nat_le (2 ^ 31) tree ≡ false
     → slice_get record_schema.tables tree ≡ Some (keyed_table name tree key_name column_name kind)
     → command_of (understood record_schema sql) ≡ upsert tree → IsPlain (understood record_schema sql)
@@ -182,7 +183,7 @@ puts_inside sql name key_name column_name kind tree low at is plain key value ke
       | inr outside ↦ absurd (let e = ended outside in cc)
     ]
 
--- what CREATE TABLE makes
+-- the effect of CREATE TABLE
 pub makes : (sql : List ℕ) (before : Schema) (table : Table) (old new : State) (r : Result ℕ Error) → HasCleanDisk old → (IsSound old → old.now.schema ≡ before)
     → (command_of (understood before sql) ≡ CreateTable) × (statement_of sql (understood before sql) ≡ sql) × (table_defined_by sql ≡ Ok table)
     → IsPlain (understood before sql) → lacks_sequence (created before table) ≡ false
@@ -213,7 +214,7 @@ makes sql before table old new (Ok count) clean ready is plain uncounted ended r
   | inr outside ↦ absurd (let e = ended outside in cc)
 ]
 
--- what the INSERT of the version does
+-- the effect of the INSERT of the version
 pub puts_version : (sql : List ℕ) (version : ℕ) (old new : State) (r : Result ℕ Error) → command_of (understood record_schema sql) ≡ insert_version
     → IsPlain (understood record_schema sql)
     → HasCleanDisk old → (IsSound old → old.now.schema ≡ record_schema)
@@ -235,7 +236,7 @@ pub if_later : {V E : Type 0} (r : Result V E) (Given : Type 0) (P : V → Type 
 if_later (Ok v) Given P h = h
 if_later (Err e) Given P h = tt
 
--- what the query of all images answers
+-- the result of the query of all images
 pub shows_all : (sql : List ℕ) (old new : State) (rows : List Row) → old.now.schema ≡ record_schema
     → (command_of (understood record_schema sql) ≡ Select (record { lets = []; body = all_images }) (codes "h" ∷ codes "image" ∷ []))
     × (reads_listing record_schema sql ≡ false)
@@ -244,7 +245,7 @@ shows_all sql old new rows has is plain h =
     let read = reads_as sql [] old new record_schema has _ is.0 plain is.1 rows h in
     all_answered old.now.trees rows (read.answer Null)
 
--- what the UPDATE of the version does
+-- the effect of the UPDATE of the version
 pub raises_version : (sql : List ℕ) (version : ℕ) (before : Value) (old new : State) (r : Result ℕ Error) → command_of (understood record_schema sql) ≡ raise
     → IsPlain (understood record_schema sql)
     → HasCleanDisk old → (IsSound old → (old.now.schema ≡ record_schema) × (value_at (old.now.trees 0) 1 ≡ Some before))

@@ -1,8 +1,8 @@
--- What is read of an image beside the states that have it. From the front, each part of an image tells where it ends, so two
--- states with the same bytes have the same words, the same holder and the same marks (`parts_same`), and the same private
--- queues by `Queues`. So a read that finds a state has found the only one that has the image, and a read that fails was given
--- no image. It is shown for an image with its pending entries in a row beside it, and for one of the first version, which
--- has its entries in it; both are `HasParts`, and differ in what follows the count of the queues.
+-- Readings of an image, beside the states that have it. From the front, each part of an image shows where it ends. So two
+-- states with the same bytes have the same words, the same holder and the same marks (`parts_same`), and by `Queues` the same
+-- private queues. A read that finds a state has found the only one that has the image, and a read that fails was given no
+-- image. The lemmas cover an image with its pending entries in a row beside it, and one of version 1, which has its entries
+-- in it. Both are `HasParts`, and differ in the bytes after the count of the queues.
 use Rattle.std.proofs.Common.{◌≡◌, ℕ, ◌^◌, ◌<◌, List, [], ◌∷◌, ◌++◌, Option, None, length, take, drop, get_or, refl, sym, ap, subst, ◌∙◌}
 use Rattle.std.specs.List.{flat_map, AllByRecursion}
 use Rattle.scoop_message.specs.declared.name.Block.{Block}
@@ -29,7 +29,7 @@ pub record SameParts (w x : List ℕ) (o p : Option Block) (ms ns : List Mark) (
   pub queues : q ≡ r
   pub rest : a ≡ b
 
--- the beginning of an image tells its parts
+-- the beginning of an image determines its parts
 pub parts_same : (v : ℕ) (h : HandlerId) (w x : List ℕ) (o p : Option Block) (ms ns : List Mark) (q r : ℕ) (a b : List ℕ) → AreObjectWords w → AreObjectWords x
     → HolderInRange o → HolderInRange p → AreMarks ms → AreMarks ns
     → parts v h w o ms q a ≡ parts v h x p ns r b → SameParts w x o p ms ns q r a b
@@ -84,7 +84,7 @@ one_state v handler bytes a b s t p q same =
     let number : s.number ≡ t.number = p.number ∙ sym q.number in
     λ i. state_of (number i) (parts.holder i) (parts.marks i) (queues i) (parts.words i)
 
--- what was read is a state that has these parts
+-- the state that was read has these parts
 read_parts : (v : ℕ) (handler : HandlerId) (bytes rest : List ℕ) (cells : List Mark) (f : Front) (qs : List PrivateQueue) → handler.0 < 2 ^ 32
     → IsFront v handler bytes cells f
     → length qs ≡ f.queues → AllByRecursion BareInRange qs → AllByRecursion EntriesInRange qs → drop f.len bytes ≡ rest
@@ -131,7 +131,7 @@ module _ (handler : HandlerId) (image row : List ℕ) (s : HandlerState) (stored
         (ap (λ (b : List ℕ). b ++ []) (sym are.heads_are ∙ same_front.rest)) (ap (λ (b : List ℕ). b ++ []) (sym are.row_is ∙ stored.pending)) in
         not_refused 2 handler image (flat_map bare_bytes s.queues) s its_parts cells f front qs same.0 refused
 
--- what was read is a state that has the image
+-- the state that was read has the image
 pub stored_is : (handler : HandlerId) (image row : List ℕ) (cells : List Mark) (f : Front) (qs : List PrivateQueue) → handler.0 < 2 ^ 32
     → IsFront 2 handler image cells f → AreQueues f.queues (drop f.len image) row qs
     → IsState (state_of handler f.holder (take f.marks cells) qs f.words)

@@ -1,4 +1,4 @@
--- What a handler's two rows have for it, each case the only one.
+-- The contents of a handler's two rows, each case the only one.
 use Rattle.std.proofs.Common.{◌≡◌, ◌≢◌, ℕ, ℤ, List, Option, Some, None, refl, sym, ap, ◌∙◌, subst}
 use Rattle.sqlite_value.specs.declared.value.Value.{Value}
 use Rattle.sqlite_value.specs.declared.value.Value.TheVariants.{Null, Int, Real, Text, Blob}
@@ -85,7 +85,7 @@ pub lone : (handler : ℕ) (bytes : List ℕ) (first second : Option Value) → 
 lone handler bytes first second one two = damaged_one handler first second (λ e. absurd (let f = sym e ∙ one in cc))
     (λ s h. absurd (let f = sym two ∙ h.beside in cc))
 
--- the version that a database tells is the value that stands there
+-- the version of a database is the value that stands there
 pub version_stands : (v : Option Value) (n : ℤ) → Some n ≡ number_of v → v ≡ Some (Int n)
 version_stands None n e = absurd cc
 version_stands (Some Null) n e = absurd cc

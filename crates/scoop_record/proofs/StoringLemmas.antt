@@ -9,7 +9,7 @@ use Rattle.scoop_record.specs.Migrate.{SavesAll}
 use Rattle.scoop_record.proofs.MigrateLemmas.{saves_push, schema_stays}
 use Rattle.scoop_record.proofs.StatementLemmas.{clean_before, keeps_then}
 
--- what has become of a connection once these states were stored
+-- the connection after these states were stored
 pub record HasStored (old new : State) (all : List HandlerState) : Type 0 where
   pub kept : HasCleanDisk new → KeepsCommit old new
   pub survives : Survives old new (λ _. ⊥)
@@ -36,7 +36,7 @@ sound_before old new kept survives sound = (clean_before old new _ survives soun
 pub still_record : (old new : State) (all : List HandlerState) → HasStored old new all → (IsSound old → IsRecord old.now) → IsSound new → IsRecord new.now
 still_record old new all h was sound = schema_stays old.now new.now all (h.saved sound) ∙ was (sound_before old new h.kept h.survives sound)
 
--- a call behind them that commits nothing
+-- a call after them that commits nothing
 module _ (old mid new : State) (all : List HandlerState) (h : HasStored old mid all) (kept : HasCleanDisk new → KeepsCommit mid new)
     (survives : Survives mid new (λ _. ⊥)) where
   pub then_kept : HasCleanDisk new → KeepsCommit old new

@@ -1,7 +1,7 @@
--- What a look up by key shows of a table with an integer key, in whatever order its rows stand. The answer of a query is what
--- its filter leaves of the table, projected, in some order. A filter that compares the key leaves the rows with that key, so
--- one row that is shown is that of the key, and no row is shown where there is none. A query without a filter shows each row.
--- The look ups of the record are these queries, by `Texts`.
+-- Look ups by key in a table with an integer key, in any order of its rows. The result of a query is the rows that its filter
+-- leaves of the table, projected, in some order. A filter that compares the key leaves the rows with that key. So a single row
+-- that is shown is that of the key, and no row is shown if there is none. A query without a filter shows each row. The look
+-- ups of the record are these queries, by `Texts`.
 use Rattle.std.proofs.Common.{◌≡◌, ◌≤◌, ℕ, nat_le, ◌^◌, pos, negsuc, List, [], ◌∷◌, map, length, Bool, true, false, ◌&&◌, cond, filter, find, slice_get, Some}
 use Rattle.std.proofs.Common.{None, refl, sym, ap, ◌∙◌, subst, inl, inr, arith, ℤ, IsPermutation}
 use Rattle.std.specs.List.{flat_map}
@@ -98,7 +98,7 @@ tests_key key v w is = tests v w (never_null key w is) ∙ ap is_eq (alike_right
 pub int_key : (key : ℕ) (m : ℤ) → is_eq (value_cmp (Int m) (Int (pos key))) ≡ true → Int m ≡ Int (pos key)
 int_key key m is = let e = rw (value_cmp-Int m (pos key)) at is in let same : m ≡ pos key = grind (arith, ints, nat_tests) in ap Int same
 
--- what is the key is stored as the key, if as an integer
+-- a key that is stored as an integer is the key
 pub cast_key : (key : ℕ) (v : Value) → is_eq (value_cmp v (Int (pos key))) ≡ true → is_int (cast Integer v) ≡ true → cast Integer v ≡ Int (pos key)
 unfolding unary
 cast_key key Null is int = absurd (let e = rw (value_cmp-Null (Int (pos key))) at is in cc)
@@ -139,7 +139,7 @@ twice_mapped : {A B C : Type 0} (g : B → C) (f : A → B) (xs : List A) → ma
 twice_mapped g f [] = refl
 twice_mapped g f (x ∷ xs) = ap (λ ys. g (f x) ∷ ys) (twice_mapped g f xs)
 
--- what a look up by key shows
+-- the result of a look up by key
 module _ (trees : Trees) (tree key : ℕ) (filter_is : Term) (low : nat_le (2 ^ 31) tree ≡ false) (params : Row)
     (given : (r : Row) → holds (params ∷ r ∷ []) filter_is ≡ has_rowid (pos key) r) (project : List Term) where
   abbrev shown_of : Row → Row

@@ -1,7 +1,7 @@
--- What the texts mean under the schema of the record. Each text is a constant, and so is the schema at the time that it is
--- given to the connection. So what the reader of SQL makes of it is found by computing, and is the command that the lemmas on
--- look ups and upserts speak of. A text is also shown plain: it returns no rows of its own and asks for no time, so what the
--- connection says of the statement is what that command does. The functions that run a text put its command in its place.
+-- The meaning of the texts under the schema of the record. Each text is a constant, and so is the schema when the connection
+-- gets it. So its compiled form is found by computing, and is the command that the lemmas on look ups and upserts speak of. A
+-- text is also shown plain: it returns no rows of its own and asks for no time. So the connection's clauses on the statement
+-- are the effect of that command. The functions that run a text put its command in its place.
 use Rattle.std.proofs.Common.{◌≡◌, List, [], ◌∷◌, codes, false, ℕ, Ok, refl}
 use Rattle.sqlite.specs.Command.TheVariants.{Select, CreateTable}
 use Rattle.sqlite.specs.Compile.{table_defined_by}

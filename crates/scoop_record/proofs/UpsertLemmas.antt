@@ -1,6 +1,6 @@
--- What INSERT .. ON CONFLICT DO UPDATE does to a table with an integer key. Where no row has the key the new row is inserted;
--- where one has, the row that the update makes of it takes its place; two can't have it. Each way the table has the value at
--- the key, what it had at every other key, and the other tables stay. The statements of the version are shown so too.
+-- The effect of INSERT .. ON CONFLICT DO UPDATE on a table with an integer key. If no row has the key, the new row is
+-- inserted. If one has it, the updated row takes its place. Two rows can't have it. Either way the table has the value at the
+-- key and its old values at every other key, and the other tables stay. The statements of the version are shown so too.
 use Rattle.std.proofs.Common.{codes, ◌≡◌, ◌≢◌, ◌⊎◌, ℕ, nat_le, ◌^◌, pos, List, [], ◌∷◌, ◌++◌, map, Bool, true, false, ◌&&◌, ◌||◌, cond, filter, find, slice_get}
 use Rattle.std.proofs.Common.{Option, Some, None, Result, Ok, Err, refl, sym, ap, ◌∙◌, subst, subst₂, not, length, inl, inr, arith, int_cmp, ℤ, IsPermutation}
 use Rattle.std.specs.List.{AllByRecursion}
@@ -259,7 +259,7 @@ module _ (name key_name column_name : List ℕ) (kind : Kind) (tree : ℕ) (low 
       let last : one.trees ≡ each.0.0.trees = ap (λ (w : Written). w.trees) (same_value next.2) ∙ same_value next.1 in
       rw (last, mid) first
 
--- what an upsert that ran has made of the database
+-- the database after an upsert
 pub does_put : (name key_name column_name : List ℕ) (kind : Kind) (tree : ℕ) → nat_le (2 ^ 31) tree ≡ false
     → slice_get record_schema.tables tree ≡ Some (keyed_table name tree key_name column_name kind)
     → (limit : Option ℕ) (mode : Mode) (key : ℕ) (value : Value) → cast kind value ≡ value → (db after : Database) → db.schema ≡ record_schema
@@ -277,7 +277,7 @@ does_put name key_name column_name kind tree low is limit mode key value kept db
 abbrev pub insert_version : Command
 insert_version = Insert 0 (Values (lit (Int (pos 1)) ∷ lit Null ∷ col 0 0 ∷ []) 3)
 
--- what the INSERT of the version has made of the database
+-- the database after the INSERT of the version
 pub does_version : (limit : Option ℕ) (mode : Mode) (version : ℕ) (db after : Database) → db.schema ≡ record_schema
     → (text : List ℕ) (tally : Tally) → Does limit mode (Int (pos version) ∷ []) db text None insert_version (Ok (tally, after))
     → Puts db after 0 1 (Int (pos version)) × (after.trees 0 ≡ put_row (row_of 1 (Int (pos version))) (db.trees 0))
@@ -301,7 +301,7 @@ does_version limit mode version db after has text tally h =
 abbrev pub raise : Command
 raise = Update 0 (record { lets = []; body = query_of 0 first_key_is (col 1 0 ∷ col 1 0 ∷ lit Null ∷ col 0 0 ∷ []) })
 
--- what the UPDATE of the version has made of the database, where there is a version
+-- the database after the UPDATE of the version, if there is one
 pub does_raise : (limit : Option ℕ) (mode : Mode) (version : ℕ) (db after : Database) (before : Value) → db.schema ≡ record_schema
     → value_at (db.trees 0) 1 ≡ Some before
     → (text : List ℕ) (tally : Tally) → Does limit mode (Int (pos version) ∷ []) db text None raise (Ok (tally, after)) → Puts db after 0 1 (Int (pos version))

@@ -1,4 +1,4 @@
--- Private queues that are each followed by their entries, read one behind the other.
+-- Private queues that are each followed by their entries, read one after the other.
 use Rattle.std.proofs.Common.{◌≡◌, ℕ, ◌+◌, ◌<◌, ◌≤◌, List, [], ◌++◌, length, drop, refl, sym, ap, ◌∙◌, append_assoc, arith}
 use Rattle.std.specs.List.{flat_map, AllByRecursion}
 use Rattle.std.proofs.lemmas.List.{append-nil, drop-drop, length-append}
@@ -55,7 +55,7 @@ module _ (xs ys : List PrivateQueue) (xs_bare : AllByRecursion BareInRange xs) (
     pub no_more : length xs ≡ length ys → drop at bytes ≡ []
     no_more l = (wholes_apart (drop at bytes) [] l whole).1
 
--- one private queue more was read, and its entries behind its head
+-- one private queue more was read, and its entries after its head
 module _ (old new : List PrivateQueue) (bytes : List ℕ) (at len : ℕ) (got : IfHasQueue old new (drop at bytes) (drop (at + 18) bytes) len) where
   follows : drop at bytes ≡ queue_bytes got.queue ++ drop (18 + len) (drop at bytes)
   follows =

@@ -1,4 +1,4 @@
--- What refusals of an image's parts say of the image.
+-- The errors of an image, by the refusals of its parts.
 use Rattle.scoop_queue.specs.declared.error.AppendError.{AppendError}
 use Rattle.scoop_queue.specs.declared.error.AppendError.TheVariants as of_append
 use Rattle.scoop_handler.specs.declared.state.StateError.{StateError}

@@ -31,7 +31,7 @@ FirstHas handler value Missing = value ≡ None
 FirstHas handler value (Holds s) = IsFirstRowOf handler value s
 FirstHas handler value Damaged = IsNoFirstRow handler value
 
--- what a record of version 1 has for a handler
+-- the contents of a record of version 1 for a handler
 abbrev pub first_handlers_in : Trees → ℕ → Stored → Type 0
 first_handlers_in trees handler = FirstHas handler (value_at (trees 1) handler)
 
@@ -90,7 +90,7 @@ IsRising = IsAscending (λ a b. a.number.0 < b.number.0)
 abbrev pub keyed_value : Row → Row
 keyed_value row = rowid row ∷ column row 2 ∷ []
 
--- what was stored for the handler, a state or nothing, is stored for it
+-- the handler's stored state, or nothing, is the same in both
 pub record IsCarried (old new : Stored → Type 0) : Type 0 where
   pub found : Option HandlerState
   pub before : IsTheOne old (stored_of found)
@@ -124,8 +124,8 @@ IsOtherVersion found = (found ≢ Some (pos 1)) × (found ≢ Some (pos 2))
 abbrev pub IsWrongSchema : Database → Type 0
 IsWrongSchema db = IsOtherVersion (version_in db.trees) ⊎ HasOtherNumber db
 
--- a record of version 1, whose numbers are those of handlers, became one of version 2, in which each state
--- and the table of the incarnations are as they were: an open of its trees finds its tables
+-- A record of version 1, whose numbers are those of handlers, became one of version 2. Each state and the table of the
+-- incarnations are as they were, and an open of its trees finds its tables.
 pub record Migrates (old new : Database) : Type 0 where
   pub was : old.schema ≡ first_schema
   pub old_version : value_at (old.trees 0) 1 ≡ Some (Int (pos 1))

@@ -1,4 +1,4 @@
--- What stands at a place of the private queues.
+-- The entries at a place of the private queues.
 use Rattle.std.specs.Prelude.{ℕ, List, [], slice_get}
 use Rattle.std.specs.Option.{option_map_or}
 use Rattle.scoop_message.specs.declared.request.Entry.{Entry}

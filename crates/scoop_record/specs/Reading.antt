@@ -1,4 +1,4 @@
--- What is read of a stored image, and what it says.
+-- Readings of a stored image.
 use Rattle.std.specs.Prelude.{◌≡◌, ◌≢◌, ◌≤◌, ℕ, List, [], ◌∷◌, ◌++◌, length, take, drop, Option, Some, None}
 use Rattle.std.specs.List.{flat_map, AllByRecursion}
 use Rattle.scoop_message.specs.declared.limits.TheConstants.{MAX_MARKS}
@@ -29,7 +29,7 @@ ReadsMarks bytes cells (Some x) =
     (x.0 ≤ MAX_MARKS) × AreMarks (take x.0 cells) × (x.1 ≡ length (marks_bytes (take x.0 cells))) × (bytes ≡ marks_bytes (take x.0 cells) ++ drop x.1 bytes)
 ReadsMarks bytes cells None = (marks : List Mark) (rest : List ℕ) → AreMarks marks → bytes ≢ marks_bytes marks ++ rest
 
--- what the bytes of the handler's image begin with in this version, with the marks in the first cells
+-- the parts that begin the handler's image in this version, with the marks in the first cells
 pub record IsFront (version : ℕ) (handler : HandlerId) (bytes : List ℕ) (cells : List Mark) (f : Front) : Type 0 where
   pub words : AreObjectWords f.words
   pub holder : HolderInRange f.holder
@@ -45,8 +45,7 @@ ReadsFront version handler bytes cells None =
     (words : List ℕ) (holder : Option Block) (marks : List Mark) (queues : ℕ) (rest : List ℕ) → AreObjectWords words → HolderInRange holder → AreMarks marks
     → bytes ≢ parts version handler words holder marks queues rest
 
--- so many entries that begin the bytes, in the first cells: how many bytes they take, or nothing where there
--- aren't so many
+-- that many entries, which begin the bytes, in the first cells: how many bytes they take, or nothing if there are fewer
 abbrev pub ReadsEntries : (count : ℕ) → List ℕ → (cells : List Entry) → Option ℕ → Type 0
 ReadsEntries count bytes cells (Some n) =
     AllByRecursion IsEntry (take count cells) × (length (take count cells) ≡ count) × (n ≡ length (flat_map entry_bytes (take count cells)))
@@ -70,7 +69,7 @@ HasNoQueue old heads row =
     (q : PrivateQueue) (more : List PrivateQueue) (a b : List ℕ) → IsQueues (old ++ q ∷ more) → BareInRange q → EntriesInRange q → heads ≡ bare_bytes q ++ a
     → row ≡ entries_bytes q ++ b → ⊥
 
--- so many private queues that the bytes are, their heads all of `heads` and their entries all of `row`
+-- that many private queues: their heads are all of `heads` and their entries all of `row`
 pub record AreQueues (count : ℕ) (heads row : List ℕ) (queues : List PrivateQueue) : Type 0 where
   pub count_is : length queues ≡ count
   pub bare : AllByRecursion BareInRange queues
@@ -81,7 +80,7 @@ pub record AreQueues (count : ℕ) (heads row : List ℕ) (queues : List Private
 abbrev pub AreNoQueues : ℕ → (heads row : List ℕ) → Type 0
 AreNoQueues count heads row = (qs : List PrivateQueue) → IsQueues qs → AreQueues count heads row qs → ⊥
 
--- so many private queues that the bytes are, each followed by its entries
+-- that many private queues, which the bytes are, each followed by its entries
 pub record AreWithEntries (count : ℕ) (bytes : List ℕ) (queues : List PrivateQueue) : Type 0 where
   pub count_is : length queues ≡ count
   pub bare : AllByRecursion BareInRange queues

@@ -1,4 +1,4 @@
--- What a record over a database shows.
+-- The contents of a record over a database.
 use Rattle.std.specs.Prelude.{◌≡◌, ◌≢◌, ◌⊎◌, ℕ, ℤ, min, pos, negsuc, false, List, [], ◌∷◌, Option, Some, None, option_map, Result, OnOk, IsTrue}
 use Rattle.sqlite_value.specs.declared.value.Value.{Value}
 use Rattle.sqlite_value.specs.declared.value.Value.TheVariants.{Null, Int, Real, Text, Blob}
@@ -13,7 +13,7 @@ use Rattle.scoop_record.specs.Reading.{IsStored}
 use Rattle.scoop_keeper.specs.Keeper.{Stored, Missing, Holds, Damaged, last_incarnation, next_of}
 use Rattle.scoop_record.specs.Tables.{first_schema, record_schema, row_of, value_at, Puts}
 
--- what is no incarnation counts as the last one, after which none comes
+-- a value that is no incarnation counts as the last one, after which none comes
 abbrev pub inc_in : Value → ℕ
 inc_in Null = last_incarnation
 inc_in (Int (pos n)) = min n last_incarnation
@@ -39,7 +39,7 @@ pub record AreNoRows (handler : ℕ) (first second : Option Value) : Type 0 wher
   pub some : first ≢ None
   pub none : (s : HandlerState) → AreRowsOf handler first second s → ⊥
 
--- what the row of the handler's image and that of its pending entries have for it
+-- the handler's contents in the row of its image and that of its pending entries
 unfoldable pub Has : ℕ → Option Value → Option Value → Stored → Type 0
 Has handler first second Missing = first ≡ None
 Has handler first second (Holds s) = AreRowsOf handler first second s
@@ -70,7 +70,7 @@ number_of _ = None
 abbrev pub version_in : Trees → Option ℤ
 version_in trees = number_of (value_at (trees 0) 1)
 
--- what the query of the version finds, where there are the tables of a record
+-- the result of the query of the version, over the tables of a record
 unfoldable pub TellsVersion : Database → Option ℤ → Type 0
 TellsVersion db found = IsLaidOut db → found ≡ version_in db.trees
 
@@ -78,7 +78,7 @@ TellsVersion db found = IsLaidOut db → found ≡ version_in db.trees
 abbrev pub IsSound : State → Type 0
 IsSound s = HasCleanDisk s × IsTrue s.is_open
 
--- under a clean disk Ok is told only where the connection was open at this moment, of which `after` is a later one
+-- with a clean disk, Ok comes only if the connection was open at this moment, of which `after` is a later one
 abbrev pub IsOpenOnOk : {V E : Type 0} → Result V E → (moment after : State) → Type 0
 IsOpenOnOk result moment after = HasCleanDisk after → OnOk result (IsTrue moment.is_open)
 

@@ -1,4 +1,4 @@
-//! A database that has the tables of a record is taken.
+//! Adoption of a database that has the tables of a record.
 
 ghost use Rattle.std.specs.Prelude.{◌≡◌, IsTrue, false, IfErr, OnOk, OnErr};
 ghost use Rattle.sqlite.specs.Effect.{Database};
@@ -50,13 +50,14 @@ fn take_tables<S: Alter>(alloc: Global, conn: &mut Connection<S>) -> Result<(), 
     Err(KeeperError::Refused)
 }
 
-/// Takes a database that has the tables, those of version 1 becoming those of version 2 in one transaction:
-/// the same as `Store::adopt`, on a connection that stays the caller's, also where it is refused.
+/// Adopts a database that has the tables. Tables of version 1 become those of version 2, in one transaction. This does
+/// what `Store::adopt` does, on a connection that stays the caller's, even if it is refused.
 ///
-/// Refused with the database as it was: `WrongSchema` where there is no version or another one, or a number
-/// in a table of version 1 is no handler's; `BadImage` for the lowest handler whose image of version 1 is no
-/// state's; `Refused` where the connection is in a transaction, the tables are not those of their version,
-/// or a text is refused; `OutOfMemory`.
+/// Refused, with the database as it was:
+/// - `WrongSchema` if there is no version or another one, or a number in a table of version 1 is no handler's;
+/// - `BadImage` for the lowest handler whose image of version 1 is no state's;
+/// - `Refused` if the connection is in a transaction, the tables are not those of their version, or a text is refused;
+/// - `OutOfMemory`.
 pub fn adopt_tables<S: Alter>(alloc: Global, conn: &mut Connection<S>) -> Result<(), KeeperError>
     ensures mode { conn.new.in_transaction ≡ conn.old.in_transaction }
     ensures idle { OnOk result (IsIdle S.Store conn.new) }

@@ -28,7 +28,7 @@ fn rows_of_client<S: Alter>(tx: &mut Transaction<'_, S>, client: u32) -> Result<
     tx.query_all("SELECT inc FROM clients WHERE c = ?1", params![client])
 }
 
-/// The incarnation is there for the client, in the transaction.
+/// Writes the client's incarnation, in the transaction.
 fn put_inc<S: Alter>(tx: &mut Transaction<'_, S>, client: u32, inc: u32) -> Result<usize, Error>
     requires { IsSound (state S.Store tx.old.conn.now) → IsRecord (state S.Store tx.old.conn.now).now }
     ensures same_reference { tx.new.conn.ghost_name ≡ tx.old.conn.ghost_name }
@@ -87,7 +87,7 @@ fn next_after<S: Alter>(tx: &mut Transaction<'_, S>, client: u32) -> Result<u32,
     }
 }
 
-/// The next incarnation of the client, stored and committed.
+/// Stores and commits the client's next incarnation, and returns it.
 pub(crate) fn advance<S: Alter>(conn: &mut Connection<S>, client: u32) -> Result<u32, KeeperError>
     requires mode { conn.old.in_transaction ≡ false }
     requires ready { IsReady (state S.Store conn.old) }

@@ -1,4 +1,4 @@
-//! The tables of the record are made.
+//! Creation of the tables of a record.
 
 ghost use Rattle.std.specs.Prelude.{◌≡◌, ◌≢◌, ◌∷◌, [], pos, IsTrue, IfErr, OnOk, OnErr, true, false};
 ghost use Rattle.sqlite.specs.Effect.{Database, IsDatabase};
@@ -114,7 +114,7 @@ fn make_all<S: Alter>(tx: &mut Transaction<'_, S>, version: u32) -> Result<(), E
     Ok(())
 }
 
-/// The tables are made in one transaction.
+/// Makes the tables in one transaction.
 fn make_tables<S: Alter>(conn: &mut Connection<S>, version: u32) -> Result<(), KeeperError>
     requires mode { conn.old.in_transaction ≡ false }
     requires blank { IsSound (state S.Store conn.old) → ((state S.Store conn.old).now.schema ≡ no_schema)
@@ -138,11 +138,12 @@ fn make_tables<S: Alter>(conn: &mut Connection<S>, version: u32) -> Result<(), K
     }
 }
 
-/// Makes the tables in a database that has none, in one transaction: the same as `Store::create`, on a
-/// connection that stays the caller's, also where it is refused.
+/// Makes the tables in a database that has none, in one transaction. This does what `Store::create` does, on a
+/// connection that stays the caller's, even if it is refused.
 ///
-/// Refused with the database as it was: `Refused` where it has anything in its schema or the connection
-/// is in a transaction, and where a text is refused; `OutOfMemory`.
+/// Refused, with the database as it was:
+/// - `Refused` if the schema isn't empty, the connection is in a transaction, or a text is refused;
+/// - `OutOfMemory`.
 pub fn create_tables<S: Alter>(conn: &mut Connection<S>) -> Result<(), KeeperError>
     ensures mode { conn.new.in_transaction ≡ conn.old.in_transaction }
     ensures idle { OnOk result (IsIdle S.Store conn.new) }

@@ -46,7 +46,7 @@ fn rows_of_pending<S: Alter>(tx: &mut Transaction<'_, S>, handler: u32) -> Resul
     tx.query_all("SELECT entries FROM pending WHERE h = ?1", params![handler])
 }
 
-/// The image is there for the handler, in the transaction.
+/// Writes the handler's image, in the transaction.
 fn put_image<S: Alter>(
     tx: &mut Transaction<'_, S>,
     handler: u32,
@@ -67,7 +67,7 @@ fn put_image<S: Alter>(
     )
 }
 
-/// The pending entries are there for the handler, in the transaction.
+/// Writes the handler's pending entries, in the transaction.
 fn put_entries<S: Alter>(
     tx: &mut Transaction<'_, S>,
     handler: u32,
@@ -132,7 +132,7 @@ fn state_of(
     }
 }
 
-/// The image and the entries are stored, in the transaction.
+/// Stores the image and the entries, in the transaction.
 pub(crate) fn put_both<S: Alter>(
     tx: &mut Transaction<'_, S>,
     handler: u32,
@@ -158,7 +158,7 @@ pub(crate) fn put_both<S: Alter>(
     }
 }
 
-/// The image and the entries are stored and committed.
+/// Stores and commits the image and the entries.
 pub(crate) fn write_state<S: Alter>(
     conn: &mut Connection<S>,
     handler: u32,
@@ -246,7 +246,7 @@ pub(crate) fn load<S: Alter>(
 pub(crate) fn images_of(alloc: Global, it: &HandlerState) -> Result<(Vec<u8>, Vec<u8>), OutOfMemory>
     ensures { IfOk result (λ rows. IsStored it.now.number rows.0.items rows.1.items it.now) }
 {
-    // For the prover alone: any reader of the type tells it that the value is a state.
+    // Shows the prover that the value is a state, as any reader of the type does.
     let _number = it.handler();
     let bytes = image(alloc, it)?;
     let row = pending_row(alloc, it)?;

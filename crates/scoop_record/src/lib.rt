@@ -1,8 +1,7 @@
-//! Keeps what has to outlive a restart in the tables of a database: the states of handlers, and the incarnations of
-//! clients.
+//! A keeper in the tables of a database: it stores the states of handlers and the incarnations of clients.
 //!
-//! A [`Store`] is a [`Keeper`], as the one in memory is. What it writes for a handler are the bytes of [`image`] and
-//! [`pending_row`]. In the example `conn` is a connection, and `is_loaded` tells whether it was this state that came.
+//! A [`Store`] is a [`Keeper`], as the one in memory is. For a handler it writes the bytes of [`image`] and
+//! [`pending_row`]. In the example `conn` is a connection, and `is_loaded` returns whether it was this state that came.
 //!
 //! ```
 //! // a store makes its tables in a database that has none

@@ -1,4 +1,4 @@
-//! A record of version 1 becomes one of version 2.
+//! Migration of a record of version 1 to version 2.
 
 ghost use Rattle.std.specs.Prelude.{◌≡◌, ◌⊎◌, map, pos, Some, true, false, IsTrue, IfOk, IfErr, OnOk, OnErr, IsPermutation};
 ghost use Rattle.std.specs.List.{AllZip};
@@ -38,7 +38,7 @@ fn rows_of_handlers<S: Alter>(tx: &mut Transaction<'_, S>) -> Result<Vec<Row>, E
     tx.query_all("SELECT h, image FROM handlers ORDER BY h", &[])
 }
 
-/// The version becomes this one, where there is one.
+/// Writes this version, if there is one already.
 fn raise_version<S: Alter>(tx: &mut Transaction<'_, S>, version: u32) -> Result<usize, Error>
     requires { IsSound (state S.Store tx.old.conn.now) → IsRecord (state S.Store tx.old.conn.now).now
         × (value_at ((state S.Store tx.old.conn.now).now.trees 0) 1 ≡ Some (Int (pos 1))) }
@@ -57,7 +57,7 @@ fn raise_version<S: Alter>(tx: &mut Transaction<'_, S>, version: u32) -> Result<
     )
 }
 
-/// The state is stored in both tables.
+/// Stores the state in both tables.
 fn put_state<S: Alter>(
     alloc: Global,
     tx: &mut Transaction<'_, S>,
@@ -79,7 +79,7 @@ fn put_state<S: Alter>(
     put_both(tx, it.handler().0, bytes.as_slice(), row.as_slice())
 }
 
-/// The states are stored in turn.
+/// Stores the states in turn.
 fn put_states<S: Alter>(
     alloc: Global,
     tx: &mut Transaction<'_, S>,
@@ -172,7 +172,7 @@ fn handler_in(row: &Row) -> Result<HandlerId, KeeperError>
     }
 }
 
-/// Refused: `WrongSchema` where a number in the rows is no handler's, `Refused` where they don't rise.
+/// Refused: `WrongSchema` if a number in the rows is no handler's, `Refused` if they don't rise.
 fn check_numbers(rows: &[Row]) -> Result<(), KeeperError>
     ensures numbered { OnOk result (AreNumbered rows.now) }
     ensures wrong { result ≡ Err KeeperError.WrongSchema → AreNumbers rows.now → ⊥ }

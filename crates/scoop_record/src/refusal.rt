@@ -1,4 +1,4 @@
-//! What a refusal of the database is to a keeper.
+//! A keeper's words for the errors of a database.
 
 ghost use Rattle.scoop_keeper.specs.Keeper.{IsPutError};
 

@@ -1,4 +1,4 @@
-//! What is known of a keeper over a database in memory.
+//! The honesty of a keeper over a database in memory.
 
 ghost use Rattle.sqlite.specs.Held.{Held, state};
 ghost use Rattle.sqlite.specs.Steps.{over_memory};

@@ -13,7 +13,7 @@ use sqlite::{Alter, Connection};
 use std::alloc::Global;
 use std::marker::Model;
 
-/// Keeps states and incarnations in the tables of a database. Contracts see it as its connection.
+/// Stores states and incarnations in the tables of a database. Contracts see it as its connection.
 #[derive(Drop)]
 pub struct Store<S: Alter + Drop> {
     conn: Connection<S>,
@@ -44,9 +44,11 @@ impl<S: Alter + Drop> Store<S> {
 
     /// Makes the tables in a database that has none, in one transaction.
     ///
-    /// Refused: `Refused` where the database has anything in its schema or the connection is in a
-    /// transaction, and where a text is refused; `OutOfMemory`. The connection goes with the refusal: what
-    /// it leaves is said by [`create_tables`], which this calls.
+    /// Refused:
+    /// - `Refused` if the schema isn't empty, the connection is in a transaction, or a text is refused;
+    /// - `OutOfMemory`.
+    ///
+    /// A refusal drops the connection. [`create_tables`], which this calls, says what it leaves.
     pub fn create(alloc: Global, mut conn: Connection<S>) -> Result<Store<S>, KeeperError>
         ensures made { IfOk result (λ store. IsSound (state S.Store store) → IsNewRecord (state S.Store store).now 2) }
         ensures is_open { IfOk result (λ store. HasCleanDisk (state S.Store store) → IsTrue (state S.Store store).is_open) }
@@ -62,14 +64,16 @@ impl<S: Alter + Drop> Store<S> {
         Ok(Store { conn, alloc })
     }
 
-    /// Takes a database that has the tables. Tables of version 1 become those of version 2, in one
-    /// transaction.
+    /// Adopts a database that has the tables. Tables of version 1 become those of version 2, in one transaction.
     ///
-    /// Refused with the database as it was: `WrongSchema` where there is no version or another one, or
-    /// a number in a table of version 1 is no handler's; `BadImage` for the lowest handler whose image
-    /// of version 1 is no state's; `Refused` where the connection is in a transaction, the tables are
-    /// not those of their version, or a text is refused; `OutOfMemory`. The connection goes with the
-    /// refusal: what it leaves is said by [`adopt_tables`], which this calls.
+    /// Refused, with the database as it was:
+    /// - `WrongSchema` if there is no version or another one, or a number in a table of version 1 is no handler's;
+    /// - `BadImage` for the lowest handler whose image of version 1 is no state's;
+    /// - `Refused` if the connection is in a transaction, the tables are not those of their version, or a text is
+    ///   refused;
+    /// - `OutOfMemory`.
+    ///
+    /// A refusal drops the connection. [`adopt_tables`], which this calls, says what it leaves.
     pub fn adopt(alloc: Global, mut conn: Connection<S>) -> Result<Store<S>, KeeperError>
         ensures is_open { IfOk result (λ store. HasCleanDisk (state S.Store store) → IsTrue (state S.Store conn).is_open) }
         ensures open_behind { IfOk result (λ store. HasCleanDisk (state S.Store store) → IsOfVersionOne (state S.Store conn).now
@@ -77,8 +81,8 @@ impl<S: Alter + Drop> Store<S> {
         ensures adopted { IfOk result (λ store. IsSound (state S.Store store) → Adopts (state S.Store conn).now (state S.Store store).now) }
         ensures sound { IfOk result (λ store. IsSound (state S.Store store) → IsSound (state S.Store conn)) }
         ensures inside { IsTrue conn.in_transaction → result ≡ Err KeeperError.Refused }
-        // The connection goes with a refusal, so these ask for storage that is honest at every moment, as memory
-        // is. Of a file they say nothing: there `adopt_tables` tells why.
+        // A refusal drops the connection, so these ask for storage that is honest at every moment, as memory is. They
+        // say nothing of a file: for that there is `adopt_tables`.
         ensures bad { ((held : Held S) → IsSound (state S.Store held)) → (handler : HandlerId) → result ≡ Err (KeeperError.BadImage handler)
             → IsLowestBad (state S.Store conn).now handler.0 }
         ensures wrong { ((held : Held S) → IsSound (state S.Store held)) → result ≡ Err KeeperError.WrongSchema → IsLaidOut (state S.Store conn).now
@@ -91,7 +95,7 @@ impl<S: Alter + Drop> Store<S> {
         Ok(Store { conn, alloc })
     }
 
-    /// The connection behind the store.
+    /// The connection under the store.
     pub fn into_connection(self) -> Connection<S>
         ensures { result ≡ self }
     {
@@ -112,8 +116,8 @@ impl<S: Alter + Drop> Keeper<Global> for Store<S> {
 
     ghost is_honest = { λ s. IsSound (seen S.Store s) };
 
-    // Ok tells that the connection is open: it is honest behind a put where the disk is clean, and before a load, which
-    // stores nothing. A connection that a fault has shut refuses.
+    // Ok means that the connection is open: after a put and before a load, which stores nothing. A connection that a fault
+    // has shut refuses.
     ghost put_gives = { λ _ _ result after. IsOpenOnOk result (seen S.Store after) (seen S.Store after) };
 
     ghost load_gives = { λ before _ result after. IsOpenOnOk result (seen S.Store before) (seen S.Store after) };

@@ -16,7 +16,7 @@ use sqlite::{Alter, Connection, Error, ErrorCode, Row, Transaction};
 /// The version of the tables that a store makes. Contracts name the number itself, so no other may stand here.
 pub const VERSION: u32 = 2;
 
-/// The rows that stand for the version, under whatever schema.
+/// The rows with the version, under any schema.
 fn rows_of_meta<S: Alter>(tx: &mut Transaction<'_, S>) -> Result<Vec<Row>, Error>
     ensures same_reference { tx.new.conn.ghost_name ≡ tx.old.conn.ghost_name }
     ensures is_open { IsOpenOnOk result (state S.Store tx.old.conn.now) (state S.Store tx.new.conn.now) }

@@ -1,4 +1,4 @@
--- `refuses` at a call: what it is handed, and what a caller has of it. Assumes `Logic`.
+-- `refuses` at a call: its argument, and the facts for its caller. Assumes `Logic`.
 use Rattle.std.proofs.Common.{◌≡◌, Bool, ℕ, List, [], ◌∷◌, refl, ap}
 use seplogic.Ra.Ura.{Ura}
 use mir.Val.{Val, vbool, vptr}

@@ -19,15 +19,16 @@
 use std::alloc::{AllocError, Allocator};
 use std::sync::atomic::{AtomicU64, Ordering};
 
-/// An allocator that refuses one growth, and passes every other call on. It is lent to what grows by it, in any thread.
+/// An allocator that refuses one growth, and passes every other call on. Tests lend it to the collections that
+/// grow by it, in any thread.
 pub struct Refusing<B: Allocator> {
     inner: B,
-    // How many growths are left up to the one that is refused, 0 once it was.
+    // The number of growths up to the refused one; 0 once it was refused.
     left: AtomicU64,
 }
 
 impl<B: Allocator> Refusing<B> {
-    /// Refuses the growth of this number, counted from 1. None is refused under 0.
+    /// Refuses the growth of this number, counted from 1. 0 refuses none.
     pub fn new(inner: B, number: u64) -> Refusing<B> {
         Refusing {
             inner,
@@ -35,7 +36,7 @@ impl<B: Allocator> Refusing<B> {
         }
     }
 
-    /// Refuses the growth of this number from now on, and none under 0.
+    /// Refuses the growth of this number from now on; 0 refuses none.
     pub fn refuse(&self, number: u64) {
         self.left.store(number, Ordering::SeqCst);
     }
@@ -52,7 +53,7 @@ impl<B: Allocator> Drop for Refusing<B> {
     }
 }
 
-// Counts a growth, and tells whether it is the one that is refused.
+// Counts a growth, and returns whether it is the refused one.
 fn refuses(left: &AtomicU64) -> bool {
     let counted = left.fetch_update(Ordering::SeqCst, Ordering::SeqCst, |now| now.checked_sub(1));
     counted == Ok(1)

@@ -7,7 +7,7 @@ fn grants(heap: &Refusing<Global>) -> bool {
     Box::new(heap, 0u64).is_ok()
 }
 
-/// Of three growths the one of the number is refused, and under 0 none.
+/// Of three growths, `Refusing` refuses the one with the number, and none under 0.
 #[test]
 fn one_growth_is_refused(rt: HostRuntime) -> Result<(), Fail> {
     for number in 0..5 {

@@ -1,5 +1,5 @@
--- Whatever a reservation hears, it opens no handler before all are locked, and unlocks none before all
--- are opened or it is given up.
+-- Whatever messages it hears, a reservation opens no handler before all are locked, and unlocks none before all are
+-- opened or it is given up.
 use Rattle.std.proofs.Common.{◌≡◌, ◌⊎◌, ℕ, ◌==◌, Bool, true, false, not, ◌||◌, List, [], ◌∷◌, ◌++◌, length, Option, Some, None, refl, sym, ap, ◌∙◌, subst, inl}
 use Rattle.std.proofs.Common.{inr, ⊎_elim, append_assoc, append-nil, arith}
 use Rattle.std.specs.Prelude.{if◌then◌else◌, Contains}
@@ -41,7 +41,7 @@ kept y h x ys true is (inr e) rest = rest e
 kept y h x ys false is (inl e) rest = inr (ap (λ b. b || has (without h ys) x) e)
 kept y h x ys false is (inr e) rest = ⊎_elim inl (λ w. inr (or_right (same_handler y x) (has (without h ys) x) w)) (rest e)
 
--- another than h stays where h is taken out
+-- a handler other than h stays when h is taken out
 has-without : (hs : List HandlerId) (h x : HandlerId) → has hs x ≡ true → (x ≡ h) ⊎ (has (without h hs) x ≡ true)
 has-without [] h x e = absurd (false≢true e)
 has-without (y ∷ ys) h x e =
@@ -54,9 +54,9 @@ none_left : (hs : List HandlerId) → is_empty hs ≡ true → hs ≡ []
 none_left [] e = refl
 none_left (x ∷ xs) e = absurd (omega (arith, is_zero (length (x ∷ xs)) e))
 
--- ---- what stands
+-- ---- invariants
 
--- each handler has told this, but for those that are left
+-- each handler has sent this, except those that are left
 record LeftOr (told : HandlerId → Message) (hs left : List HandlerId) (past : List Event) : Type 0 where
   told_or : (x : HandlerId) → has hs x ≡ true → (has left x ≡ true) ⊎ Contains past (Hears (told x))
 
@@ -116,7 +116,7 @@ none_less told hs left past e s = let P : List HandlerId → Type 0 = λ xs. Lef
 all_left : (told : HandlerId → Message) (hs : List HandlerId) (past : List Event) → LeftOr told hs hs past
 all_left told hs past = record { told_or = λ x among. inl among }
 
--- ---- one message or giving up
+-- ---- one message, or giving up
 
 lock_one : (b : Block) (hs : List HandlerId) (past : List Event) (left : List HandlerId) (h : HandlerId) (lowest : Bool) (over : Bool)
     → (over ≡ true → without h left ≡ []) → LeftOr (locked b) hs left past →
@@ -263,7 +263,7 @@ all_told : (told : HandlerId → Message) (hs : List HandlerId) (past : List Eve
     → Contains past (Hears (told x))
 all_told told hs past s x among = ⊎_elim (λ nowhere. absurd (false≢true nowhere)) (λ k. k) (s.told_or x among)
 
--- where it stands after a run from the start
+-- the state after a run from the start
 at_last : (b : Block) (hs : List HandlerId) (es : List Event) → Sound b hs es (after (fresh b hs) es)
 at_last b hs es = all b hs [] es (fresh b hs) (sound b hs [] Locking hs (all_left (locked b) hs []))
 

@@ -1,4 +1,4 @@
--- What a reservation does with a message is what fits its table, and that alone.
+-- The outcome of a message at a reservation fits its table, and nothing else fits.
 use Rattle.std.proofs.Common.{◌≡◌, ◌↔◌, Bool, true, false, refl, sym, subst}
 use Rattle.std.specs.Prelude.{if◌then◌else◌}
 use Rattle.scoop_message.specs.declared.name.HandlerId.{HandlerId}
@@ -101,9 +101,9 @@ module _ (r : ReservationState) where
   heard_row (Logged h b n) = over _
   heard_row (Answer h b n a) = over _
 
--- ---- what is awaited
+-- ---- awaited messages
 
--- where a message isn't awaited nothing happens
+-- a message that isn't awaited does nothing
 pub quiet : (r : ReservationState) (m : Message) (s : ReservationState) (step : Step) → HeardRow r m s step → (Awaits r m → ⊥) → (s ≡ r) × (step ≡ Ignored)
 quiet r m s step (passed_over n) out = (refl, refl)
 quiet r m s step (one_is_locked h at low more) out = absurd (out (awaits_lock h at low))
@@ -117,7 +117,7 @@ quiet r m s step (is_given_back h at among) out = absurd (out (awaits_giving_bac
 own : (b : Block) → same_block b b ≡ true
 own b = (block_decides b b).1 refl
 
--- what is awaited isn't ignored
+-- an awaited message isn't ignored
 pub told : (r : ReservationState) (m : Message) → Awaits r m → (heard r m).1 ≡ Ignored → ⊥
 told r m (awaits_lock h at low) e = let no : LockedStep h ≡ Ignored = rw (own r.block, at, low) at e in cc
 told r m (awaits_refusal h at low) e = let no : BusyStep h ≡ Ignored = rw (own r.block, at, low) at e in cc

@@ -4,7 +4,7 @@ use Rattle.std.specs.List.{list_any, list_all}
 use Rattle.scoop_message.specs.declared.name.HandlerId.{HandlerId}
 use Rattle.scoop_message.specs.Message.{same_handler}
 
--- what stands in an unused cell
+-- the filler of unused cells
 abbrev pub nobody : HandlerId
 nobody = record { 0 = 0 }
 
@@ -21,11 +21,11 @@ is_empty hs = length hs == 0
 abbrev pub is_lowest : HandlerId → List HandlerId → Bool
 is_lowest h hs = has hs h && list_all (λ x. nat_le h.0 x.0) hs
 
--- the handlers that were asked for their locks: those locked, and the one that was next
+-- the handlers that were asked for their locks: those locked, and the next one
 abbrev pub asked : List HandlerId → List HandlerId → List HandlerId
 asked handlers left = filter (λ h. not (has left h) || is_lowest h left) handlers
 
--- the first of these that repeats an earlier one, where some were seen before them
+-- the first of these that repeats an earlier one or one seen before
 abbrev pub first_repeated_after : List HandlerId → List HandlerId → Option HandlerId
 first_repeated_after seen [] = None
 first_repeated_after seen (h ∷ hs) = if has seen h then Some h else first_repeated_after (seen ++ h ∷ []) hs

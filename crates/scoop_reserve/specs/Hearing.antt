@@ -1,4 +1,4 @@
--- What a reservation does with a message, and how it is given up.
+-- The effect of a message on a reservation, and of giving it up.
 use Rattle.std.specs.Prelude.{◌≡◌, Bool, true, false, not, ◌&&◌, ◌||◌, if◌then◌else◌, List, Result, Ok, Err}
 use Rattle.scoop_message.specs.declared.name.HandlerId.{HandlerId}
 use Rattle.scoop_message.specs.declared.name.Block.{Block}
@@ -16,15 +16,15 @@ use Rattle.scoop_reserve.specs.State.{ReservationState, at_stage}
 abbrev pub Notice : Type 0
 Notice = ReservationState × Step
 
--- what the tables don't name changes nothing
+-- a message that the tables don't name changes nothing
 abbrev pub ignored : ReservationState → Notice
 ignored r = (r, Ignored)
 
--- one more handler is locked, and the last one lets all be opened
+-- one more handler is locked; after the last one all may be opened
 abbrev pub one_locked : ReservationState → List HandlerId → ReservationState
 one_locked r left = if is_empty left then at_stage r Opening r.handlers else at_stage r Locking left
 
--- one more is opened, and the last one lets all be unlocked
+-- one more is opened; after the last one all may be unlocked
 abbrev pub one_opened : ReservationState → List HandlerId → ReservationState
 one_opened r left = if is_empty left then at_stage r Unlocking r.handlers else at_stage r Opening left
 
@@ -88,12 +88,12 @@ given_up_in r GivingUp = Err too_late
 abbrev pub given_up : ReservationState → Result ReservationState TooLate
 given_up r = given_up_in r r.stage
 
--- what giving up answers, and the reservation after it
+-- the answer to giving up, and the reservation after it
 abbrev pub IsGivenUp : ReservationState → ReservationState → Result Unit TooLate → Type 0
 IsGivenUp r s (Ok u) = given_up r ≡ Ok s
 IsGivenUp r s (Err e) = (given_up r ≡ Err e) × (s ≡ r)
 
--- opened at all
+-- opened everywhere
 abbrev pub is_open_in : Stage → Bool
 is_open_in Locking = false
 is_open_in Opening = false
@@ -109,10 +109,10 @@ is_given_up_in Opening = false
 is_given_up_in Unlocking = false
 is_given_up_in GivingUp = true
 
--- given up, and unlocked wherever it was asked
+-- given up, and unlocked at each handler that was asked
 abbrev pub is_gone : ReservationState → Bool
 is_gone r = is_given_up_in r.stage && is_empty r.left
 
--- no lock is to be given back there
+-- there is no lock to give back
 abbrev pub is_released : ReservationState → HandlerId → Bool
 is_released r h = has r.handlers h && (is_open r || is_given_up_in r.stage) && not (has r.left h)

@@ -1,4 +1,4 @@
--- In which order a reservation's messages are due, whatever it hears and whenever it is given up.
+-- The order in which a reservation's messages are due, whatever it hears and whenever it is given up.
 use Rattle.std.specs.Prelude.{◌≡◌, ◌⊎◌, true, List, [], ◌∷◌, Some, Result, Ok, Err, Contains}
 use Rattle.scoop_message.specs.declared.name.HandlerId.{HandlerId}
 use Rattle.scoop_message.specs.declared.name.Block.{Block}
@@ -27,11 +27,11 @@ abbrev pub after : ReservationState → List Event → ReservationState
 after r [] = r
 after r (e ∷ es) = after (after_one r e) es
 
--- each of the block's handlers has told this
+-- each of the block's handlers has sent this
 abbrev pub AllTold : (HandlerId → Block → Message) → ReservationState → List Event → Type 0
 AllTold told r es = (x : HandlerId) → has r.handlers x ≡ true → Contains es (Hears (told x r.block))
 
--- an Open is due only once all are locked, and an Unlock only once all are opened, or while it is given up
+-- an Open is due only once all are locked; an Unlock only once all are opened, or after giving up
 pub record KeepsOrder (r : ReservationState) : Type 0 where
   pub opens : (es : List Event) (h : HandlerId) → due (after r es) h ≡ Some (Open h r.block) → AllTold Locked r es
   pub unlocks : (es : List Event) (h : HandlerId) → due (after r es) h ≡ Some (Unlock h r.block) → AllTold Opened r es ⊎ ((after r es).stage ≡ GivingUp)

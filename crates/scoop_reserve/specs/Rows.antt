@@ -1,5 +1,5 @@
--- What a reservation does with a message as a relation, with a case for each line of the client's table. What
--- fits it is exactly what `heard` gives.
+-- The effect of a message on a reservation, as a relation with a case for each line of the client's table. The outcomes
+-- that fit it are exactly those of `heard`.
 use Rattle.std.specs.Prelude.{◌≡◌, true, false}
 use Rattle.scoop_message.specs.declared.name.HandlerId.{HandlerId}
 use Rattle.scoop_message.specs.declared.message.Message.{Message}
@@ -18,7 +18,7 @@ pub data Awaits (r : ReservationState) : Message → Type 0 where
   awaits_unlocking : (h : HandlerId) → r.stage ≡ Unlocking → has r.left h ≡ true → Awaits r (Unlocked h r.block)
   awaits_giving_back : (h : HandlerId) → r.stage ≡ GivingUp → has r.left h ≡ true → Awaits r (Unlocked h r.block)
 
--- the cases, of which `passed_over` is that of a message that isn't awaited
+-- the cases; `passed_over` is for a message that isn't awaited
 pub data HeardRow (r : ReservationState) : Message → ReservationState → Step → Type 0 where
   passed_over : (m : Message) → HeardRow r m r Ignored
   one_is_locked : (h : HandlerId) → r.stage ≡ Locking → is_lowest h r.left ≡ true → is_empty (without h r.left) ≡ false →
@@ -35,7 +35,7 @@ pub data HeardRow (r : ReservationState) : Message → ReservationState → Step
   is_given_back : (h : HandlerId) → r.stage ≡ GivingUp → has r.left h ≡ true →
       HeardRow r (Unlocked h r.block) (at_stage r GivingUp (without h r.left)) (UnlockedStep h)
 
--- the table: one of the cases, and only what isn't awaited is passed over
+-- the table: one of the cases, and only a message that isn't awaited is passed over
 pub record IsHeard (r : ReservationState) (m : Message) (s : ReservationState) (step : Step) : Type 0 where
   pub row : HeardRow r m s step
   pub ignored : step ≡ Ignored → ¬ Awaits r m

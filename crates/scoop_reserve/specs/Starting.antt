@@ -1,4 +1,4 @@
--- How a reservation starts.
+-- The start of a reservation.
 use Rattle.std.specs.Prelude.{◌==◌, nat_lt, if◌then◌else◌, List, length, Option, Some, None, Result, Ok, Err}
 use Rattle.scoop_message.specs.declared.limits.TheConstants.{MAX_BLOCK_HANDLERS}
 use Rattle.scoop_message.specs.declared.name.HandlerId.{HandlerId}
@@ -17,7 +17,7 @@ abbrev pub unless_unknown : ReservationState → Option HandlerId → Result Res
 unless_unknown r (Some h) = Err (Unknown h)
 unless_unknown r None = Ok r
 
--- one that is repeated is told before any unknown one
+-- a repeated handler is reported before any unknown one
 abbrev pub unless_repeated : ReservationState → Option HandlerId → Option HandlerId → Result ReservationState ReserveError
 unless_repeated r (Some h) unknown = Err (Repeated h)
 unless_repeated r None unknown = unless_unknown r unknown

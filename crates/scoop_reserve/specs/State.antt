@@ -1,10 +1,10 @@
--- Where a reservation stands.
+-- The state of a reservation.
 use Rattle.std.specs.Prelude.{List}
 use Rattle.scoop_message.specs.declared.name.HandlerId.{HandlerId}
 use Rattle.scoop_message.specs.declared.name.Block.{Block}
 use Rattle.scoop_reserve.specs.declared.stage.Stage.{Stage}
 
--- the block's handlers as they were named, and those of them that are left to do in this stage
+-- the block's handlers as they were named, and those that are left to do in this stage
 pub record ReservationState : Type 0 where
   pub block : Block
   pub handlers : List HandlerId

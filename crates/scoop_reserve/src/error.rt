@@ -1,4 +1,4 @@
-//! Why a reservation is refused.
+//! The reasons to refuse a reservation.
 
 use scoop_message::HandlerId;
 use thiserror::Error;
@@ -18,7 +18,7 @@ pub enum ReserveError {
     /// This handler is the first that isn't known.
     #[error("Unknown {0}")]
     Unknown(HandlerId),
-    /// A growth of memory was refused. A reservation of fixed size never answers it.
+    /// A growth of memory was refused. A reservation of fixed size never returns it.
     #[error("out of memory")]
     OutOfMemory,
 }

@@ -1,8 +1,8 @@
-//! A block's reservation of its handlers: it locks them one by one in ascending number, then opens a
-//! private queue at each, then unlocks each. Until all are locked it can be given up.
+//! A block's reservation of its handlers. It locks them one by one in ascending number, then opens a private queue
+//! at each, then unlocks each. Until all are locked it can be given up.
 //!
-//! `Reservation` says which message is due to which handler, and takes the handlers' replies. It is of
-//! fixed size, so nothing here takes memory.
+//! `Reservation` gives the message that is due to each handler, and hears the handlers' replies. It has a fixed
+//! size, so nothing here takes memory.
 //!
 //! ```
 //! let mut reservation = Reservation::start(BLOCK, &[TWO, ONE], &[ONE, TWO])?;

@@ -1,4 +1,4 @@
-//! The reservation itself: what it owes each handler, and what it does with their replies.
+//! The reservation itself: the messages that it owes its handlers, and the effect of their replies.
 
 ghost use Rattle.std.specs.Prelude.{◌≡◌, IfOk, IfSome};
 ghost use Rattle.scoop_message.specs.Message.{Fits, IsNumbered};
@@ -17,8 +17,8 @@ use std::marker::Model;
 
 /// A block's reservation of its handlers.
 ///
-/// Contracts see it as the block, its handlers as they were named, the stage, and those handlers
-/// that are left to do in this stage.
+/// Contracts see the block, its handlers as they were named, the stage, and the handlers that are left to do in
+/// this stage.
 #[derive(Clone, Copy, Debug)]
 pub struct Reservation {
     block: Block,
@@ -38,9 +38,9 @@ impl Model for Reservation {
 }
 
 impl Reservation {
-    /// A reservation of these handlers with none of them locked yet. It is refused, in this order,
-    /// with `Empty` where there are none, `TooMany` where there are more than eight, `Repeated`, and
-    /// `Unknown` where one isn't among the known ones.
+    /// Starts a reservation of these handlers, with none of them locked yet. Refused, in this order, with `Empty`
+    /// if there are none, `TooMany` if there are more than eight, `Repeated`, and `Unknown` if one isn't among the
+    /// known ones.
     pub fn start(
         block: Block,
         handlers: &[HandlerId],
@@ -48,7 +48,7 @@ impl Reservation {
     ) -> Result<Reservation, ReserveError>
         ensures value { result ≡ started block handlers.now known.now }
 
-        // whatever it hears, nothing is opened before all is locked
+        // whatever it hears, it opens nothing before all are locked
         ensures order { IfOk result KeepsOrder }
     {
         if handlers.is_empty() {
@@ -86,7 +86,7 @@ impl Reservation {
         self.handlers.as_slice()
     }
 
-    /// How far it has come.
+    /// The stage of the reservation.
     pub fn stage(&self) -> Stage
         ensures { result ≡ self.now.stage }
     {
@@ -111,7 +111,7 @@ impl Reservation {
         }
     }
 
-    /// Hears a message. One that isn't awaited is `Ignored`; it and `Busy` change nothing.
+    /// Hears a message. A message that isn't awaited is `Ignored`; it and `Busy` change nothing.
     pub fn hear(&mut self, message: &Message) -> Step
         ensures value { heard self.old message.now ≡ (self.new, result) }
         ensures block { self.new.block ≡ self.old.block }
@@ -176,7 +176,7 @@ impl Reservation {
         Step::Unlocked(handler)
     }
 
-    /// Gives the reservation up: from now on an Unlock is due wherever it asked for a lock. Refused
+    /// Gives the reservation up: from now on an Unlock is due to each handler that it asked for a lock. Refused
     /// with `TooLate` once all handlers are locked or it was given up.
     pub fn give_up(&mut self) -> Result<(), TooLate>
         ensures { IsGivenUp self.old self.new result }
@@ -196,7 +196,7 @@ impl Reservation {
         self.stage == Stage::Unlocking
     }
 
-    /// Whether the handler is one of the block's and needn't be unlocked any more.
+    /// Whether the handler is one of the block's and needs no Unlock any more.
     pub fn is_released(&self, handler: HandlerId) -> bool
         ensures { result ≡ is_released self.now handler }
     {
@@ -204,7 +204,7 @@ impl Reservation {
         has(self.handlers.as_slice(), handler) && unlocks && !has(self.left.as_slice(), handler)
     }
 
-    /// Whether it was given up and is unlocked wherever it asked for a lock.
+    /// Whether it was given up and is unlocked at each handler that it asked for a lock.
     pub fn is_gone(&self) -> bool
         ensures { result ≡ is_gone self.now }
     {

@@ -8,7 +8,7 @@ use scoop_message::HandlerId;
 use scoop_message::limits::MAX_BLOCK_HANDLERS;
 use std::marker::Model;
 
-// What stands in an unused cell.
+// The filler of unused cells.
 const NOBODY: HandlerId = HandlerId(0);
 
 /// A list of at most eight handlers. Contracts see it as a list.
@@ -50,7 +50,7 @@ impl HandlerSet {
         }
     }
 
-    /// The list, which has at most eight handlers.
+    /// Makes the list, which has at most eight handlers.
     pub(crate) fn of(handlers: &[HandlerId]) -> HandlerSet
         requires { length handlers.now ≤ MAX_BLOCK_HANDLERS }
         ensures { result ≡ handlers.now }
@@ -76,7 +76,7 @@ impl HandlerSet {
         self.count == 0
     }
 
-    // Puts one behind the others.
+    // Puts one after the others.
     fn push(&mut self, handler: HandlerId)
         requires { length self.old < MAX_BLOCK_HANDLERS }
         ensures { self.new ≡ self.old ++ handler ∷ [] }
@@ -85,7 +85,7 @@ impl HandlerSet {
         self.count += 1;
     }
 
-    /// The others than this one, in order.
+    /// The handlers other than this one, in order.
     pub(crate) fn without(&self, handler: HandlerId) -> HandlerSet
         ensures { result ≡ without handler self.now }
     {
@@ -98,7 +98,7 @@ impl HandlerSet {
         others
     }
 
-    /// Those of these handlers that were locked, or are next to be, where the others are left.
+    /// The handlers that were locked or are next, if `left` are left.
     pub(crate) fn asked(&self, left: &HandlerSet) -> HandlerSet
         ensures { result ≡ asked self.now left.now }
     {

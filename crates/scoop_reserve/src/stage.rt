@@ -2,7 +2,7 @@
 
 use scoop_message::HandlerId;
 
-/// How far a reservation has come.
+/// The progress of a reservation.
 #[derive(Clone, Copy, Debug, PartialEq, Eq)]
 pub enum Stage {
     /// The handlers are locked one by one, the lowest first.
@@ -11,20 +11,20 @@ pub enum Stage {
     Opening,
     /// All are opened, and each is unlocked.
     Unlocking,
-    /// It was given up, and each handler that was asked is unlocked.
+    /// It was given up, and each handler that it asked is unlocked.
     GivingUp,
 }
 
-/// What a message did at a reservation.
+/// The effect of a message on a reservation.
 #[derive(Clone, Copy, Debug, PartialEq, Eq)]
 pub enum Step {
     /// The handler is locked.
     Locked(HandlerId),
-    /// The handler's lock is held by another block. Nothing has changed.
+    /// Another block holds the handler's lock. Nothing has changed.
     Busy(HandlerId),
     /// The handler has a private queue for the block.
     Opened(HandlerId),
-    /// The handler's lock is given back.
+    /// The block has given the handler's lock back.
     Unlocked(HandlerId),
     /// The message wasn't awaited. Nothing has changed.
     Ignored,

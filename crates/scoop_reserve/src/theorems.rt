@@ -1,4 +1,4 @@
-//! What holds of the definitions: functions with nothing in them but a clause.
+//! Laws of the definitions: functions with an empty body and one clause.
 
 ghost use Rattle.std.specs.Prelude.{◌≡◌, ◌↔◌};
 ghost use Rattle.scoop_message.specs.declared.message.Message.{Message as Sent};
@@ -7,7 +7,7 @@ ghost use Rattle.scoop_reserve.specs.State.{ReservationState};
 ghost use Rattle.scoop_reserve.specs.Hearing.{Notice, heard};
 ghost use Rattle.scoop_reserve.specs.Rows.{IsHeard};
 
-/// What a reservation does with a message is what fits its table, and nothing else fits.
+/// The effect of a message on a reservation fits its table, and nothing else fits.
 pub fn heard_by_the_table()
     ensures { (r : ReservationState) (m : Sent) (s : ReservationState) (step : Taken) → (heard r m ≡ (s, step)) ↔ IsHeard r m s step }
 {}

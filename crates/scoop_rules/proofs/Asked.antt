@@ -1,18 +1,8 @@
--- A client's block in which no query waits has none among the entries that have not run; where one waits, it is the
--- only one. What entries that ran, and entries that are logged, leave of that.
-use Rattle.std.proofs.Common.{◌≡◌, ℕ, zero, suc, ◌-◌, ◌≤◌, Bool, true, false, ◌||◌, true≢false, List, [], ◌∷◌, ◌++◌, length, take, drop, Option, Some, None}
-use Rattle.std.proofs.Common.{refl, ◌∙◌, subst, arith}
-use Rattle.std.specs.List.{AllByRecursion, list_any}
-use Rattle.std.proofs.lemmas.List.Folds.{list_any-append}
-use Rattle.scoop_message.specs.declared.name.Block.{Block}
-use Rattle.scoop_message.specs.declared.name.HandlerId.{HandlerId}
-use Rattle.scoop_message.specs.declared.request.Entry.{Entry}
-use Rattle.scoop_message.specs.Entry.{is_query}
-use Rattle.scoop_reserve.specs.State.{ReservationState}
-use Rattle.scoop_client.specs.State.{ClientState}
-use Rattle.scoop_model.specs.World.{World, Party, log_of, ran_at}
-use Rattle.scoop_rules.specs.Paper.{count_of}
-use Rattle.scoop_model.proofs.Basics.{by_test}
+-- If no query of a client's block waits, there is none among the entries that have not run. If one waits, it is the only one. Entries
+-- that run and entries that are logged keep that.
+use Rattle.scoop_rules.proofs.Names.{◌≡◌, ℕ, List, [], ◌∷◌, ◌++◌, Some, None, refl, ◌∙◌, subst, arith, ◌≤◌, Option, true, zero, suc, take, false, true≢false}
+use Rattle.scoop_rules.proofs.Names.{◌||◌, length, Bool, ◌-◌, drop, list_any-append, AllByRecursion, list_any, is_query, Block, HandlerId, Entry, by_test}
+use Rattle.scoop_rules.proofs.Names.{ReservationState, ClientState, World, Party, ran_at, log_of, count_of}
 
 -- ---- what is so
 
@@ -23,7 +13,7 @@ any_query es = list_any is_query es
 abbrev pub left_of : World → Block → HandlerId → List Entry → List Entry
 left_of w b h es = drop (count_of b (ran_at h w)) es
 
--- what was logged for the handler, and has not run there
+-- the entries that were logged for the handler and have not run there
 abbrev pub unrun : World → Block → HandlerId → List Entry
 unrun w b h = left_of w b h (log_of b h w)
 

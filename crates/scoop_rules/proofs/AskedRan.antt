@@ -1,25 +1,9 @@
 -- A query that has run with its answer is among as many entries of its block that have run as its number says.
-use Rattle.std.proofs.Common.{◌≡◌, ℕ, suc, ◌+◌, ◌≤◌, Bool, List, [], ◌∷◌, ◌++◌, length, map, filter, Option, Some, None, refl, sym, ap, ◌∙◌, subst, arith}
-use Rattle.std.proofs.Common.{length-append}
-use Rattle.std.specs.Prelude.{if◌then◌else◌}
-use Rattle.std.specs.List.{AllByRecursion}
-use Rattle.std.specs.Option.{option_map_or}
-use Rattle.std.proofs.lemmas.List.Elements.{filter-append, All-contains, All-from_recursion}
-use Rattle.scoop_message.specs.declared.name.Block.{Block}
-use Rattle.scoop_message.specs.declared.name.HandlerId.{HandlerId}
-use Rattle.scoop_message.specs.declared.request.Answer.{Answer as ObjectAnswer}
-use Rattle.scoop_message.specs.declared.request.Entry.{Entry}
-use Rattle.scoop_message.specs.Message.{same_block}
-use Rattle.scoop_handler.specs.declared.ran.Ran.{Ran}
-use Rattle.scoop_model.specs.World.{World, Site, is_site, ran_at, site_of}
-use Rattle.scoop_model.specs.Safe.{HasRun, numbered, untold}
-use Rattle.scoop_rules.specs.Paper.{count_of}
-use Rattle.scoop_handler.proofs.Basics.{all_append}
-use Rattle.scoop_model.proofs.Basics.{by_test}
-use Rattle.scoop_model.proofs.Order.Facts.{all_found, all_more_of}
-use Rattle.scoop_model.proofs.Order.Lists.{same_block_itself}
-use Rattle.scoop_model.proofs.Tape.Slots.{Slot, ran_in, ran_of}
-use Rattle.scoop_model.proofs.Whole.Facts.{SiteTaped, Taped}
+use Rattle.scoop_rules.proofs.Names.{◌≡◌, ℕ, ◌+◌, List, [], ◌∷◌, ◌++◌, map, Some, None, refl, sym, ap, ◌∙◌, subst, arith, ◌≤◌, Option, if◌then◌else◌, suc}
+use Rattle.scoop_rules.proofs.Names.{length, Bool, filter, length-append, filter-append, AllByRecursion, option_map_or, same_block, Block, HandlerId, Entry}
+use Rattle.scoop_rules.proofs.Names.{all_found, by_test, Ran, HasRun, untold, numbered, World, ran_at, Site, is_site, site_of, All-contains, All-from_recursion}
+use Rattle.scoop_rules.proofs.Names.{all_append, all_more_of, same_block_itself, Slot, ran_in, ran_of, Taped, SiteTaped, count_of}
+use Rattle.scoop_model.proofs.Names.{ObjectAnswer}
 
 abbrev is_told_of : Block → Block × ℕ × Entry → Bool
 is_told_of b u = same_block u.0 b

@@ -1,45 +1,17 @@
--- Whatever happens, a block in which no query waits has none among the entries that have not run, and so no query in
--- the private queues of the rules.
-use Rattle.std.proofs.Common.{◌≡◌, ℕ, ◌+◌, ◌≤◌, false, ◌&&◌, ◌||◌, List, [], ◌∷◌, ◌++◌, length, map, filter, flat_map, take, drop, find, Option, Some, None}
-use Rattle.std.proofs.Common.{refl, sym, ap, ◌∙◌, subst, arith, length-append}
-use Rattle.std.specs.Prelude.{if◌then◌else◌}
-use Rattle.std.specs.List.{AllByRecursion, list_any}
-use Rattle.std.specs.Option.{option_map_or}
-use Rattle.std.proofs.lemmas.List.Elements.{filter-append}
-use Rattle.std.proofs.lemmas.List.Folds.{list_any-append}
-use Rattle.scoop_message.specs.declared.name.Block.{Block}
-use Rattle.scoop_message.specs.declared.name.ClientId.{ClientId}
-use Rattle.scoop_message.specs.declared.name.HandlerId.{HandlerId}
-use Rattle.scoop_message.specs.Entry.{is_query}
-use Rattle.scoop_message.specs.Message.{client_of, handler_of, same_block}
-use Rattle.scoop_handler.specs.declared.ran.Ran.{Ran}
-use Rattle.scoop_handler.specs.Hearing.{hear}
-use Rattle.scoop_handler.specs.Running.{ran_of}
-use Rattle.scoop_handler.proofs.TableRows.{row}
-use Rattle.scoop_handler.proofs.TableLaws.{number-row}
-use Rattle.scoop_reserve.specs.Handlers.{has}
-use Rattle.scoop_reserve.specs.State.{ReservationState}
-use Rattle.scoop_model.specs.declared.event.Event.{Event}
-use Rattle.scoop_model.specs.World.{World, Site, Party, is_party, is_site, log_of, number_of, party_of, ran_at, set_of, set_site, site_of}
-use Rattle.scoop_client.specs.Due.{due}
-use Rattle.scoop_model.specs.Step.{Placement, Newcomer, begun_site, finished_site, heard_site, heard_world, new_party, opening, reopened_world, with_sent}
-use Rattle.scoop_model.specs.Step.{with_site}
-use Rattle.scoop_model.specs.Opening.{MayOpen}
-use Rattle.scoop_model.specs.Reach.{steps}
-use Rattle.scoop_rules.specs.Paper.{Waiting, configuration_of, count_of, is_cut_off, is_gone, is_of, kept, queue_at, queue_of, seen, Seen, state_of, waits}
-use Rattle.scoop_model.proofs.Events.{Changes, steps_kept}
-use Rattle.scoop_model.proofs.Basics.{by_test}
-use Rattle.scoop_model.proofs.Keys.{by_site, number_found}
-use Rattle.scoop_model.proofs.Order.Facts.{PartyFits, Ordered, all_found, all_more_of}
-use Rattle.scoop_model.proofs.Order.Lists.{same_block_is}
-use Rattle.scoop_model.proofs.Sound.Runs.{both_kept}
-use Rattle.scoop_model.proofs.Logging.Facts.{PartyLogs, Logging}
-use Rattle.scoop_model.proofs.Answering.Facts.{Answering}
+-- Every event keeps this: a block in which no query waits has none among the entries that have not run. So it has no query in the
+-- private queues of the rules.
+use Rattle.scoop_rules.proofs.Names.{◌≡◌, ℕ, ◌+◌, List, [], ◌∷◌, ◌++◌, map, Some, None, refl, sym, ap, ◌∙◌, subst, arith, ◌≤◌, Option, find, if◌then◌else◌}
+use Rattle.scoop_rules.proofs.Names.{◌&&◌, take, false, ◌||◌, length, filter, drop, length-append, flat_map, filter-append, list_any-append, AllByRecursion}
+use Rattle.scoop_rules.proofs.Names.{list_any, option_map_or, is_query, same_block, client_of, handler_of, Block, ClientId, HandlerId, all_found, by_test}
+use Rattle.scoop_rules.proofs.Names.{number-row, row, hear, told_of as ran_of, Ran, has, ReservationState, due, all_made, by_site, MayOpen, steps, with_sent}
+use Rattle.scoop_rules.proofs.Names.{heard_world, heard_site, with_site, begun_site, finished_site, reopened_world, Placement, Newcomer, new_party, opening}
+use Rattle.scoop_rules.proofs.Names.{World, Party, ran_at, Site, number_of, is_site, site_of, set_site, is_party, log_of, party_of, set_of, Answering, Changes}
+use Rattle.scoop_rules.proofs.Names.{steps_kept, PartyLogs, Logging, PartyFits, all_more_of, Ordered, same_block_is, own_site, both_kept, Taped, taped_kept}
+use Rattle.scoop_rules.proofs.Names.{opens_taped, Event, count_of, Waiting, configuration_of, is_cut_off, is_gone, is_of, kept, queue_at, queue_of, seen, Seen}
+use Rattle.scoop_rules.proofs.Names.{state_of, waits}
 use Rattle.scoop_model.proofs.Answering.Handlers.{ran_anew}
 use Rattle.scoop_model.proofs.Answering.Runs.{Answered, answered_kept, opens_answering, sent_tells}
 use Rattle.scoop_model.proofs.Logging.Runs.{opens_told}
-use Rattle.scoop_model.proofs.Whole.Facts.{Taped}
-use Rattle.scoop_model.proofs.Whole.Steps.{taped_kept, opens_taped}
 use Rattle.scoop_rules.proofs.Asked.{AskedFor, PartyAsked, Asked, RanMore, any_query, asked_more, none_taken, unrun}
 use Rattle.scoop_rules.proofs.AskedClients.{commands_asked, notices_asked, restarts_asked}
 
@@ -51,15 +23,13 @@ goes_on :
 goes_on v w same more ps = all_more_of (PartyAsked v) (PartyAsked w)
     (λ p f.
     record {
-      asked = λ r held. asked_more v w r.block (λ h. ap (λ ls. log_of r.block h (record v { logs = ls })) same) (more r.block) p.client.waits
-          (f.asked r held);
+      asked = λ r held. asked_more v w r.block (λ h. ap (λ ls. log_of r.block h (record v { logs = ls })) same) (more r.block) p.client.waits (f.asked r held);
     }) ps
 
 abbrev count_in : Block → Option Site → ℕ
 count_in b o = count_of b (option_map_or (λ s. s.ran) o [])
 
-count_set :
-    (w : World) (s old : Site) → site_of (number_of s) w ≡ Some old → (b : Block) → count_of b old.ran ≤ count_of b s.ran → (h : HandlerId)
+count_set : (w : World) (s old : Site) → site_of (number_of s) w ≡ Some old → (b : Block) → count_of b old.ran ≤ count_of b s.ran → (h : HandlerId)
     → count_of b (ran_at h w) ≤ count_in b (find (is_site h) (set_site s w.sites))
 count_set w s old here b le h =
     by_site (λ o. count_of b (ran_at h w) ≤ count_in b o) w s old h here
@@ -75,10 +45,6 @@ count_more b rs r =
     ∙ length-append (filter (λ x. same_block x.block b) rs) (filter (λ x. same_block x.block b) (r ∷ [])) in
     omega (arith, parts)
 
-module _ (w : World) (h : HandlerId) (s : Site) (found : site_of h w ≡ Some s) where
-  place : site_of (number_of s) w ≡ Some s
-  place = subst (λ j. site_of j w ≡ Some s) (sym (number_found h w s found)) found
-
 -- ---- every event keeps it
 
 pub asked_kept : (w : World) → Ordered w → Logging w → Answering w → Taped w → Asked w → Changes Asked w
@@ -91,25 +57,21 @@ asked_kept w o l a tape i = record {
   hears = λ k m s was goes here.
       let now = hear s.core.state m in
       let still : site_of now.0.number w ≡ Some s =
-      subst (λ j. site_of j w ≡ Some s) (sym (number-row s.core.state m now (row s.core.state m))) (place w (handler_of m) s here) in
+      subst (λ j. site_of j w ≡ Some s) (sym (number-row s.core.state m now (row s.core.state m))) (own_site w (handler_of m) s here) in
       goes_on w (heard_world w s now) refl (λ b h. count_set w (heard_site s now) s still b (omega arith) h) w.parties i;
   notices = λ k m p was goes at.
       notices_asked w tape i m p (sent_tells w k m was a.messages) (all_found (PartyLogs w) (is_party (client_of m)) w.parties p l.parties at)
       (all_found (PartyAsked w) (is_party (client_of m)) w.parties p i at);
-  begins = λ h s t here is. goes_on w (with_site w (begun_site s)) refl (λ b x. count_set w (begun_site s) s (place w h s here) b (omega arith) x) w.parties i;
+  begins = λ h s t here is. goes_on w (with_site w (begun_site s)) refl (λ b x. count_set w (begun_site s) s (own_site w h s here) b (omega arith) x) w.parties i;
   finishes = λ h s t here is. goes_on w (with_site w (finished_site s t)) refl
-      (λ b x. count_set w (finished_site s t) s (place w h s here) b (count_more b s.ran (ran_of t)) x) w.parties i;
+      (λ b x. count_set w (finished_site s t) s (own_site w h s here) b (count_more b s.ran (ran_of t)) x) w.parties i;
   restarts = λ c p at room. restarts_asked w i p;
   reopens = λ n. goes_on w (reopened_world w n) refl (λ b h. let same = ap (count_of b) (ran_anew w.joint n h w.sites o.sites) in omega (arith, same))
       w.parties i;
 }
 
-parties_open : (w : World) (hs : List HandlerId) (ns : List Newcomer) → AllByRecursion (PartyAsked w) (map (new_party hs) ns)
-parties_open w hs [] = tt
-parties_open w hs (n ∷ ns) = (record { asked = λ r e. absurd (cc) }, parties_open w hs ns)
-
 pub opens_asked : (ps : List Placement) (ns : List Newcomer) → Asked (opening ps ns)
-opens_asked ps ns = parties_open (opening ps ns) (map (λ p. p.handler) ps) ns
+opens_asked ps ns = all_made (new_party (map (λ p. p.handler) ps)) (PartyAsked (opening ps ns)) (λ n. record { asked = λ r e. absurd (cc) }) ns
 
 -- ---- what it shows
 
@@ -149,8 +111,7 @@ pub none_waits :
     (w : World) → Asked w → (c : ClientId) (p : Party) (r : ReservationState) → party_of c w ≡ Some p → p.client.reservation ≡ Some r → p.client.waits ≡ None
     → (h : HandlerId) → waits r.block ((configuration_of w).queues h) ≡ false
 none_waits w i c p r at held free h =
-    let f = all_found (PartyAsked w) (is_party c) w.parties p i at in
-    queues_none w r.block h ((subst (AskedFor w r.block) free (f.asked r held)) h) w.joint
+    let f = all_found (PartyAsked w) (is_party c) w.parties p i at in queues_none w r.block h ((subst (AskedFor w r.block) free (f.asked r held)) h) w.joint
 
 -- ---- after any list of events
 

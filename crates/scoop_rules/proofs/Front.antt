@@ -1,29 +1,15 @@
--- Where the block of the first private queue stands in the common list. What opened at a handler is the common list with
--- some blocks left out, and the first slot with an entry splits it: all blocks before it are over there, or are no blocks of
--- this handler, or can't open here any more.
-use Rattle.std.proofs.Common.{◌≡◌, ◌⊎◌, inl, inr, ℕ, ◌+◌, true, ◌||◌, true≢false, List, [], ◌∷◌, ◌++◌, length, flat_map, Option, Some, None, refl, sym, ap, ◌∙◌}
-use Rattle.std.proofs.Common.{subst, ⊎_elim}
-use Rattle.std.specs.List.{AllByRecursion}
-use Rattle.scoop_message.specs.declared.name.Block.{Block}
-use Rattle.scoop_message.specs.declared.request.Entry.{Entry}
-use Rattle.scoop_message.specs.Message.{same_block}
-use Rattle.scoop_queue.specs.declared.state.QueueState.{QueueState}
-use Rattle.scoop_queue.specs.Queue.{front, first_of}
-use Rattle.std.proofs.lemmas.Option.{none-some}
-use Rattle.scoop_model.specs.World.{has_block}
-use Rattle.scoop_model.specs.Safe.{IsSubsequence, nothing, left_out, taken}
-use Rattle.scoop_rules.specs.Paper.{Waiting}
-use Rattle.scoop_model.proofs.Basics.{by_test}
-use Rattle.scoop_model.proofs.Order.Lists.{AreApart, same_block_is, same_block_itself, in_last}
-use Rattle.scoop_model.proofs.Tape.Slots.{Slot, slot_queue, queue_at, queues_of, blocks_of}
+-- The place of the first private queue's block in the common list. The blocks that opened at a handler are the common list with some
+-- left out, and the first slot with an entry splits it. Each block before that slot's is over there, is no block of this handler,
+-- or can't open here any more.
+use Rattle.scoop_rules.proofs.Names.{◌≡◌, ℕ, ◌+◌, List, [], ◌∷◌, ◌++◌, Some, None, refl, sym, ap, ◌∙◌, subst, Option, true, true≢false, ◌||◌, length, ◌⊎◌, inl}
+use Rattle.scoop_rules.proofs.Names.{inr, ⊎_elim, flat_map, none-some, AllByRecursion, same_block, Block, Entry, front, first_of, by_test, IsSubsequence}
+use Rattle.scoop_rules.proofs.Names.{nothing, left_out, has_block, same_block_itself, same_block_is, AreApart, in_last, Slot, slot_queue, queues_of, blocks_of}
+use Rattle.scoop_rules.proofs.Names.{taken, Waiting}
+use Rattle.scoop_model.proofs.Names.{QueueState}
+use Rattle.scoop_model.proofs.Tape.Slots.{queue_at}
+pub use Rattle.scoop_model.proofs.Order.Lists.{left_has}
 
 -- ---- blocks that are left of a list
-
-pub left_has : {xs ys : List Block} → IsSubsequence xs ys → (b : Block) → has_block xs b ≡ true → has_block ys b ≡ true
-left_has nothing b e = e
-left_has (left_out y xs ys s) b e = by_test (λ t. (t || has_block ys b) ≡ true) (same_block y b) (λ same. refl) (λ other. left_has s b e)
-left_has (taken y xs ys s) b e =
-    by_test (λ t. (t || has_block xs b) ≡ true → (t || has_block ys b) ≡ true) (same_block y b) (λ same _. refl) (λ other f. left_has s b f) e
 
 has_head : (b : Block) (bs : List Block) → has_block (b ∷ bs) b ≡ true
 has_head b bs = ap (λ t. t || has_block bs b) (same_block_itself b)
@@ -48,13 +34,12 @@ first_slot s t u (x ∷ es) is e =
     }
 
 -- the first slot is gone, or it is the one with the first entry
-first_or_later :
-    (s : Slot) (o : Option QueueState) (ss : List Slot) (u : Block × ℕ × Entry) → s.state ≡ o → front (queue_at s o ++ queues_of ss) ≡ Some u
+first_or_later : (s : Slot) (o : Option QueueState) (ss : List Slot) (u : Block × ℕ × Entry) → s.state ≡ o → front (queue_at s o ++ queues_of ss) ≡ Some u
     → (s.state ≡ None × (front (queues_of ss) ≡ Some u)) ⊎ FirstSlot u s
 first_or_later s None ss u is e = inl (is, e)
 first_or_later s (Some t) ss u is e = inr (first_slot s t u s.rest refl e)
 
--- ---- the common list before and behind the first slot's block
+-- ---- the common list before and after the first slot's block
 
 -- a block of the list has a slot, no queue, or a place behind all slots
 abbrev pub IsPlaced : (Block → List Waiting) → List Block → List Block → Block → Type 0
@@ -74,8 +59,7 @@ not_again : (y : Block) (ys : List Block) → AreApart (y ∷ ys) → has_block 
 not_again y ys d e = true≢false (sym e ∙ d.0)
 
 -- a list that is left of one with a head is left of the rest, or has that head too
-left_cases :
-    (xs : List Block) (y : Block) (ys : List Block) → IsSubsequence xs (y ∷ ys)
+left_cases : (xs : List Block) (y : Block) (ys : List Block) → IsSubsequence xs (y ∷ ys)
     → IsSubsequence xs ys ⊎ ((zs : List Block) × (xs ≡ y ∷ zs) × IsSubsequence zs ys)
 left_cases xs y ys (left_out x zs ws s) = inl s
 left_cases xs y ys (taken x zs ws s) = inr (zs, refl, s)
@@ -87,8 +71,7 @@ left_nothing c cs s = of (c ∷ cs) s refl
     of xs nothing e = cc
 
 -- past a block that has no slot
-past :
-    (f : Block → List Waiting) (c : Block) (cs : List Block) (y : Block) (ys : List Block) → AreApart (y ∷ ys) → IsSubsequence (c ∷ cs) ys → (b : Block)
+past : (f : Block → List Waiting) (c : Block) (cs : List Block) (y : Block) (ys : List Block) → AreApart (y ∷ ys) → IsSubsequence (c ∷ cs) ys → (b : Block)
     → IsPlaced f (c ∷ cs) (y ∷ ys) b → IsPlaced f (c ∷ cs) ys b
 past f c cs y ys d sub b p = ⊎_elim
     (λ (q : has_block (c ∷ cs) b ≡ true). inl q)
@@ -103,8 +86,7 @@ past f c cs y ys d sub b p = ⊎_elim
     (left_cases (c ∷ cs ++ b ∷ []) y ys r)) q) p
 
 -- a block that is past and has no slot has no queue
-no_queue_past :
-    (f : Block → List Waiting) (c : Block) (cs : List Block) (y : Block) (ys : List Block) → AreApart (y ∷ ys) → IsSubsequence (c ∷ cs) ys
+no_queue_past : (f : Block → List Waiting) (c : Block) (cs : List Block) (y : Block) (ys : List Block) → AreApart (y ∷ ys) → IsSubsequence (c ∷ cs) ys
     → IsPlaced f (c ∷ cs) (y ∷ ys) y → f y ≡ []
 no_queue_past f c cs y ys d sub p = ⊎_elim
     (λ (q : has_block (c ∷ cs) y ≡ true). absurd (not_again y ys d (left_has sub y q)))
@@ -119,8 +101,7 @@ no_queue_past f c cs y ys d sub p = ⊎_elim
     (left_cases (c ∷ cs ++ y ∷ []) y ys r)) q) p
 
 -- past a block that has the first slot
-behind_first :
-    (f : Block → List Waiting) (c : Block) (cs : List Block) (ys : List Block) → AreApart (c ∷ ys) → (b : Block) → has_block ys b ≡ true
+behind_first : (f : Block → List Waiting) (c : Block) (cs : List Block) (ys : List Block) → AreApart (c ∷ ys) → (b : Block) → has_block ys b ≡ true
     → IsPlaced f (c ∷ cs) (c ∷ ys) b → IsPlaced f cs ys b
 behind_first f c cs ys d b m p = ⊎_elim
     (λ (q : has_block (c ∷ cs) b ≡ true).
@@ -154,8 +135,7 @@ parted_more f P u y ys none r = record {
 }
 
 -- where gone slots have no queue, the first slot's block is the first in the list that has one
-pub parted :
-    (f : Block → List Waiting) (P : Slot → Type 0) (u : Block × ℕ × Entry) → ((s : Slot) → P s → s.state ≡ None → f s.block ≡ [])
+pub parted : (f : Block → List Waiting) (P : Slot → Type 0) (u : Block × ℕ × Entry) → ((s : Slot) → P s → s.state ≡ None → f s.block ≡ [])
     → (ss : List Slot) (js : List Block)
     → IsSubsequence (blocks_of ss) js → AreApart js → ((b : Block) → has_block js b ≡ true → IsPlaced f (blocks_of ss) js b) → AllByRecursion P ss
     → front (queues_of ss) ≡ Some u
@@ -178,8 +158,7 @@ parted f P u gone (s ∷ ss) (y ∷ ys) sub d placed all e = ⊎_elim
     (first_or_later s s.state ss u refl e)))
     (left_cases (blocks_of (s ∷ ss)) y ys sub)
   where
-    on :
-        AreApart (s.block ∷ ys) → ((b : Block) → has_block (s.block ∷ ys) b ≡ true → IsPlaced f (blocks_of (s ∷ ss)) (s.block ∷ ys) b)
+    on : AreApart (s.block ∷ ys) → ((b : Block) → has_block (s.block ∷ ys) b ≡ true → IsPlaced f (blocks_of (s ∷ ss)) (s.block ∷ ys) b)
         → (AreApart ys → ((b : Block) → has_block ys b ≡ true → IsPlaced f (blocks_of ss) ys b) → front (queues_of ss) ≡ Some u → Parted f P u ys)
         → (s.state ≡ None × (front (queues_of ss) ≡ Some u)) ⊎ FirstSlot u s → Parted f P u (s.block ∷ ys)
     on apart at later c = ⊎_elim

@@ -1,35 +1,18 @@
--- A greeting by a newer incarnation cuts the queues of blocks whose End was not received. It cuts at this handler alone, and
--- only blocks of an older incarnation of that client that are in the common list and name the handler: each keeps what was
--- told to be received, as its slot does. All other queues, seen before and after the greeting, are the same.
-use Rattle.std.proofs.Common.{◌≡◌, ℕ, zero, suc, ◌-◌, ◌≤◌, ◌<◌, ◌==◌, Bool, true, false, not, ◌&&◌, ◌||◌, nat_le, true≢false, List, [], ◌∷◌, ◌++◌, length, map}
-use Rattle.std.proofs.Common.{filter, flat_map, take, drop, refl, sym, ap, ◌∙◌, subst, arith, length-append, append-nil}
-use Rattle.std.specs.Prelude.{if◌then◌else◌}
-use Rattle.std.proofs.lemmas.Bool.{and_parts}
-use Rattle.std.proofs.lemmas.Bool.Decides.{nat_tests}
-use Rattle.std.proofs.lemmas.List.{length-drop}
-use Rattle.std.proofs.Math.Bool.{or-false}
-use Rattle.std.proofs.Math.Seq.{take-nil}
-use Rattle.scoop_message.specs.declared.name.Block.{Block}
-use Rattle.scoop_message.specs.declared.name.ClientId.{ClientId}
-use Rattle.scoop_message.specs.declared.name.HandlerId.{HandlerId}
-use Rattle.scoop_message.specs.declared.request.Entry.{Entry}
-use Rattle.scoop_message.specs.declared.message.Message.TheVariants.{Welcome}
-use Rattle.scoop_message.specs.Message.{same_block, same_handler}
-use Rattle.scoop_message.proofs.Same.{handler_decides}
-use Rattle.scoop_queue.specs.declared.state.QueueState.TheVariants.{Open, Ended, Cut}
-use Rattle.scoop_queue.proofs.Lookup.{same_block-sym}
-use Rattle.scoop_reserve.specs.Handlers.{has}
-use Rattle.scoop_model.specs.World.{World, Site, has_block, set_of, log_of, ran_at, is_newer_welcome, is_succeeded, received, greatest_count, has_end, inc_of}
-use Rattle.scoop_rules.specs.Paper.{Waiting, Configuration, Objects, CutTo, MovesLead, put_at_handler, cut_to, cut_queue, cut_waiting, count_of, has_ended}
-use Rattle.scoop_rules.specs.Paper.{Seen, seen, is_cut_off, queue_of, queue_at, configuration_of, is_cut_by, greeting_cuts}
-use Rattle.scoop_model.proofs.Basics.{by_test}
-use Rattle.scoop_model.proofs.Order.Lists.{AreApart, same_block_is, same_block_itself}
-use Rattle.scoop_model.proofs.Tape.Slots.{blocks_of}
+-- A greeting by a newer incarnation cuts the queues of blocks whose End was not received. It cuts at this handler alone, and only
+-- blocks of an older incarnation of that client that are in the common list and name the handler. Each keeps the entries that were
+-- reported as received, as its slot does. All other queues are the same before and after the greeting.
+use Rattle.scoop_rules.proofs.Names.{◌≡◌, ℕ, ◌<◌, List, [], ◌∷◌, ◌++◌, map, refl, sym, ap, ◌∙◌, subst, arith, append-nil, ◌≤◌, true, if◌then◌else◌, ◌&&◌, zero}
+use Rattle.scoop_rules.proofs.Names.{suc, take, false, true≢false, ◌||◌, length, Bool, ◌==◌, ◌-◌, nat_le, not, filter, drop, length-append, length-drop}
+use Rattle.scoop_rules.proofs.Names.{flat_map, and_parts, nat_tests, handler_decides, same_block, same_handler, Welcome, Block, ClientId, HandlerId, Entry}
+use Rattle.scoop_rules.proofs.Names.{Open, Ended, Cut, by_test, has, World, ran_at, Site, has_block, log_of, received, greatest_count, is_succeeded}
+use Rattle.scoop_rules.proofs.Names.{is_newer_welcome, inc_of, set_of, has_end, or-false, take-nil, same_block_itself, same_block_is, AreApart, HandlerReady}
+use Rattle.scoop_rules.proofs.Names.{Ready, blocks_of, greatest_pushed, count_of, Waiting, configuration_of, is_cut_off, queue_at, queue_of, seen, Seen}
+use Rattle.scoop_rules.proofs.Names.{Objects, MovesLead, Configuration, has_ended, CutTo, put_at_handler, cut_to, cut_queue, cut_waiting, is_cut_by}
+use Rattle.scoop_rules.proofs.Names.{greeting_cuts}
+use Rattle.scoop_model.proofs.Names.{same_block-sym}
 use Rattle.scoop_rules.proofs.Lists.{and_never, same_configuration, queues_same, cut_over, cut_other, AreOwn, own_queue_at, own_cut}
 use Rattle.scoop_rules.proofs.Seen.{seen_none, slot_at}
-use Rattle.scoop_model.proofs.Whole.Sent.{greatest_pushed}
 use Rattle.scoop_rules.proofs.Messages.{newer_more, newer_welcome_says}
-use Rattle.scoop_model.proofs.Ready.Facts.{HandlerReady, Ready}
 use Rattle.scoop_rules.proofs.Runs.{SlotReady, slots_ready}
 use Rattle.scoop_rules.proofs.Sends.{ran_in}
 
@@ -72,13 +55,11 @@ newly_cut b log c r false e =
         if not t && nat_le (length (take r log)) c then [] else record {
           block = b;
           entries = drop c (if not t then take r log else log);
-          state = if not t
-              then Cut else if has_end log then Ended else Open;
+          state = if not t then Cut else if has_end log then Ended else Open;
         } ∷ []
 
 -- its End was received
-not_cut :
-    (b : Block) (log : List Entry) (c r : ℕ) (over : Bool) → has_end (take r log) ≡ true
+not_cut : (b : Block) (log : List Entry) (c r : ℕ) (over : Bool) → has_end (take r log) ≡ true
     → queue_of b (as_seen log c over true r) ≡ queue_of b (as_seen log c over false r)
 not_cut b log c r over e = ap queue_by e
   where
@@ -114,8 +95,7 @@ greet_one b log c r over true false true more =
 
 -- ---- the cuts one after another
 
-module _
-    (o : Objects) (v w : World) (h : HandlerId)
+module _ (o : Objects) (v w : World) (h : HandlerId)
     (may : (b : Block) → is_cut_by v w h b ≡ true → (b.inc < inc_of v b.client) × (count_of b (ran_at h v) ≤ received b h v)) where
   -- the world's configuration with these queues at the handler
   abbrev with_queues : (Block → List Waiting) → Configuration
@@ -165,12 +145,11 @@ module _
       (λ _ _. refl) refl)
       (λ x. refl) refl (λ c. refl)
 
-  -- what the cuts of these blocks leave
+  -- the queues after the cuts of these blocks
   abbrev cut_all : List Block → (Block → List Waiting) → Block → List Waiting
   cut_all bs f y = if has_block bs y && is_cut_by v w h y then cut_one y (f y) else f y
 
-  cut_all_first :
-      (b : Block) (bs : List Block) (f : Block → List Waiting) → is_cut_by v w h b ≡ true → has_block bs b ≡ false → (y : Block)
+  cut_all_first : (b : Block) (bs : List Block) (f : Block → List Waiting) → is_cut_by v w h b ≡ true → has_block bs b ≡ false → (y : Block)
       → cut_all (b ∷ bs) f y ≡ cut_all bs (cut_once b f) y
   cut_all_first b bs f cuts new y =
       by_test
@@ -225,7 +204,7 @@ module _ (v : World) (sites : List Site) (same_ran : (j : HandlerId) → ran_in 
   still_succeeded : (b : Block) (x : HandlerId) → is_succeeded b x v ≡ true → is_succeeded b x greeted_world ≡ true
   still_succeeded b x e = newer_more x b v.sent (Welcome h c inc) ∙ or_true (is_succeeded b x v) (is_newer_welcome x b (Welcome h c inc)) e
 
-  -- what is succeeded now, and was not
+  -- a block that is succeeded now, and was not before
   newly : (b : Block) (x : HandlerId) → is_succeeded b x greeted_world ≡ true → is_succeeded b x v ≡ false → is_newer_welcome x b (Welcome h c inc) ≡ true
   newly b x e old = sym (ap (λ t. t || is_newer_welcome x b (Welcome h c inc)) old) ∙ sym (newer_more x b v.sent (Welcome h c inc)) ∙ e
 
@@ -244,8 +223,7 @@ module _ (v : World) (sites : List Site) (same_ran : (j : HandlerId) → ran_in 
         logged = log_of b x v;
         count = count_of b (same_ran x i);
         over = has_ended b (same_ran x i);
-        newer =
-            newer i;
+        newer = newer i;
         received = told i;
       }) else []
 
@@ -289,8 +267,7 @@ module _ (v : World) (sites : List Site) (same_ran : (j : HandlerId) → ran_in 
           logged = log_of b h v;
           count = count_of b (same_ran h i);
           over = has_ended b (same_ran h i);
-          newer =
-              is_succeeded b h greeted_world;
+          newer = is_succeeded b h greeted_world;
           received = same_received b h i;
         }) else [])
         ∙ greet_one b (log_of b h v) (count_of b (ran_at h v)) (received b h v) (has_ended b (ran_at h v)) (has (set_of b v) h) (is_succeeded b h v)

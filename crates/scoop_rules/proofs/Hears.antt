@@ -1,27 +1,15 @@
--- What a handler does with a message follows the rules.
-use Rattle.std.proofs.Common.{◌≡◌, ℕ, [], ◌∷◌, ◌++◌, Some, refl, sym, ap, ◌∙◌, subst}
-use Rattle.std.specs.Prelude.{if◌then◌else◌, option_to_list}
-use Rattle.std.specs.Option.{option_map_or}
-use Rattle.scoop_message.specs.declared.name.HandlerId.{HandlerId}
-use Rattle.scoop_message.specs.declared.message.Message.{Message}
-use Rattle.scoop_message.specs.declared.message.Message.TheVariants.{Hello, Open}
-use Rattle.scoop_message.specs.Message.{handler_of}
-use Rattle.scoop_handler.specs.declared.note.Note.TheVariants.{Greeted}
-use Rattle.scoop_handler.specs.Hearing.{Hearing, hear, greeted_first, greeted_newer, opened_here}
-use Rattle.scoop_handler.specs.Rows.{Row, first_greeting, newer_greeting, is_opened}
-use Rattle.scoop_handler.proofs.TableRows.{row}
-use Rattle.scoop_handler.proofs.TableLaws.{number-row}
+-- A handler that hears a message follows the rules.
+use Rattle.scoop_rules.proofs.Names.{◌≡◌, ℕ, [], ◌∷◌, ◌++◌, Some, refl, sym, ap, ◌∙◌, subst, if◌then◌else◌, option_to_list, option_map_or, handler_of, Message}
+use Rattle.scoop_rules.proofs.Names.{Hello, HandlerId, by_test, number-row, row, Hearing, hear, Row, first_greeting, newer_greeting, is_opened, Greeted}
+use Rattle.scoop_rules.proofs.Names.{number_found, by_site, heard_world, heard_site, place_of, World, ran_at, Site, number_of, site_of, set_site, sent_at}
+use Rattle.scoop_rules.proofs.Names.{has_block, set_of, greeted_first, greeted_newer, opened_here, Ready, configuration_of, MovesLead, objects_of, Follows}
+use Rattle.scoop_rules.proofs.Names.{message_moves, greeting_cuts, Separate, late_cuts, note_moves}
 use Rattle.scoop_model.specs.declared.event.Event.TheVariants.{Take}
-use Rattle.scoop_model.specs.declared.note.WorldNote.TheVariants as note
-use Rattle.scoop_model.specs.World.{World, Site, number_of, site_of, set_site, ran_at, has_block, set_of, sent_at}
-use Rattle.scoop_model.specs.Step.{heard_site, heard_world, place_of}
-use Rattle.scoop_rules.specs.Paper.{Separate, MovesLead, Follows, configuration_of, objects_of, late_cuts, greeting_cuts, note_moves, message_moves}
-use Rattle.scoop_model.proofs.Basics.{by_test}
-use Rattle.scoop_model.proofs.Keys.{number_found, by_site}
-use Rattle.scoop_model.proofs.Ready.Facts.{Ready}
+use Rattle.scoop_model.proofs.Names.{Open}
 use Rattle.scoop_rules.proofs.Sends.{ran_in, quiet_same, quiet-row}
 use Rattle.scoop_rules.proofs.Opens.{later_opening, first_opening}
 use Rattle.scoop_rules.proofs.Greets.{greets_follows}
+use Rattle.scoop_model.specs.declared.note.WorldNote.TheVariants as note
 
 module _ (w : World) (ready : Ready w) (s : Site) (here : site_of (number_of s) w ≡ Some s) where
   -- the same has run
@@ -33,13 +21,11 @@ module _ (w : World) (ready : Ready w) (s : Site) (here : site_of (number_of s) 
       (λ apart. refl)
 
   -- nothing but the states of handlers and quiet messages
-  quiet_row :
-      (m : Message) (h : Hearing) (r : Row s.core.state m h) → (h.1.note ≡ Greeted → ⊥)
+  quiet_row : (m : Message) (h : Hearing) (r : Row s.core.state m h) → (h.1.note ≡ Greeted → ⊥)
       → configuration_of w ≡ configuration_of (record w { sites = set_site (heard_site s h) w.sites; sent = w.sent ++ option_to_list h.1.reply })
   quiet_row m h r old = quiet_same w (set_site (heard_site s h) w.sites) h.1.reply (same_ran m h r) (quiet-row w s here ready m h r old)
 
-  row_follows :
-      (i : ℕ) (m : Message) (h : Hearing) → Row s.core.state m h → sent_at i w ≡ Some m
+  row_follows : (i : ℕ) (m : Message) (h : Hearing) → Row s.core.state m h → sent_at i w ≡ Some m
       → MovesLead (objects_of w) (configuration_of w) (note_moves w (heard_world w s h) (handler_of m) h.1.note) (configuration_of (heard_world w s h))
   row_follows i m h (first_greeting x c inc at none room) was =
       let q : Hearing = greeted_first s.core.state c inc in
@@ -61,8 +47,7 @@ module _ (w : World) (ready : Ready w) (s : Site) (here : site_of (number_of s) 
       (λ new. first_opening w (set_site (heard_site s q) w.sites) q.1.reply (same_ran (Open x b) q r) quiet b (objects_of w) ready new)
   row_follows i m h r was = quiet_row m h r (λ e. absurd (let f = e in cc))
 
-pub hears_follows :
-    (w : World) → Ready w → (i : ℕ) (m : Message) (s : Site) → sent_at i w ≡ Some m → site_of (handler_of m) w ≡ Some s
+pub hears_follows : (w : World) → Ready w → (i : ℕ) (m : Message) (s : Site) → sent_at i w ≡ Some m → site_of (handler_of m) w ≡ Some s
     → Follows w (Take i) (heard_world w s (hear s.core.state m)) (note.Handler (hear s.core.state m).1.note (place_of w (hear s.core.state m).1.reply))
 hears_follows w ready i m s was found =
     let here : site_of (number_of s) w ≡ Some s = subst (λ j. site_of j w ≡ Some s) (sym (number_found (handler_of m) w s found)) found in

@@ -1,30 +1,18 @@
--- The private queues of the rules as lists over blocks, and what one move does to the queue of one block.
-use Rattle.std.proofs.Common.{◌≡◌, ℕ, zero, suc, ◌+◌, Bool, true, false, ◌&&◌, ◌||◌, true≢false, List, [], ◌∷◌, ◌++◌, length, map, flat_map, take, drop, refl}
-use Rattle.std.proofs.Common.{sym, ap, ◌∙◌, subst, arith, append-nil}
-use Rattle.std.specs.Prelude.{if◌then◌else◌}
-use Rattle.std.specs.List.{AllByRecursion}
-use Rattle.std.proofs.lemmas.Grind.{flat_map-append}
-use Rattle.std.proofs.lemmas.List.{map-append}
-use Rattle.scoop_message.specs.declared.name.Block.{Block}
-use Rattle.scoop_message.specs.declared.name.HandlerId.{HandlerId}
-use Rattle.scoop_message.specs.declared.name.ClientId.{ClientId}
-use Rattle.scoop_message.specs.declared.request.Entry.{Entry}
-use Rattle.scoop_message.specs.Message.{same_block}
-use Rattle.scoop_reserve.specs.Handlers.{has}
-use Rattle.scoop_model.specs.World.{World, has_block, set_of}
-use Rattle.scoop_rules.specs.Paper.{Waiting, Configuration, is_of, logged_to, cut_queue, cut_waiting, Seen, seen, kept, is_gone, state_of, queue_of, queue_at}
-use Rattle.scoop_model.proofs.Basics.{by_test}
-use Rattle.scoop_model.proofs.Order.Lists.{same_block_itself}
+-- The private queues of the rules as lists over blocks, and the effect of one move on the queue of one block.
+use Rattle.scoop_rules.proofs.Names.{◌≡◌, ℕ, ◌+◌, List, [], ◌∷◌, ◌++◌, map, refl, sym, ap, ◌∙◌, subst, arith, append-nil, true, if◌then◌else◌, ◌&&◌, zero, suc}
+use Rattle.scoop_rules.proofs.Names.{take, false, true≢false, ◌||◌, length, Bool, drop, flat_map, AllByRecursion, same_block, Block, ClientId, HandlerId, Entry}
+use Rattle.scoop_rules.proofs.Names.{by_test, has, World, has_block, set_of, flat_map-append, same_block_itself, Waiting, is_gone, is_of, kept, queue_at}
+use Rattle.scoop_rules.proofs.Names.{queue_of, seen, Seen, state_of, logged_to, Configuration, cut_queue, cut_waiting}
+use Rattle.scoop_model.proofs.Names.{map-append}
 
--- what two tests choose, of which one fails
+-- a choice by two tests, of which one fails
 pub and_never : (t : Bool) (ps qs : List Waiting) → (if t && false then ps else qs) ≡ qs
 and_never true ps qs = refl
 and_never false ps qs = refl
 
 -- ---- configurations are the same where they are so at every handler and client
 
-pub same_configuration :
-    (g k : Configuration) → ((h : HandlerId) → g.queues h ≡ k.queues h) → ((h : HandlerId) → g.ran h ≡ k.ran h) → g.separated ≡ k.separated
+pub same_configuration : (g k : Configuration) → ((h : HandlerId) → g.queues h ≡ k.queues h) → ((h : HandlerId) → g.ran h ≡ k.ran h) → g.separated ≡ k.separated
     → ((c : ClientId) → g.inc c ≡ k.inc c)
     → g ≡ k
 same_configuration g k queues ran separated inc = λ i. record { queues = λ h. queues h i; ran = λ h. ran h i; separated = separated i; inc = λ c. inc c i }
@@ -46,8 +34,7 @@ pub logged_over :
 logged_over b e f [] = refl
 logged_over b e f (j ∷ js) = map-append (logged_to b e) (f j) (flat_map f js) ∙ ap (λ qs. map (logged_to b e) (f j) ++ qs) (logged_over b e f js)
 
-pub cut_over :
-    (b : Block) (k : ℕ) (f : Block → List Waiting) (js : List Block)
+pub cut_over : (b : Block) (k : ℕ) (f : Block → List Waiting) (js : List Block)
     → flat_map (cut_waiting b k) (flat_map f js) ≡ flat_map (λ x. flat_map (cut_waiting b k) (f x)) js
 cut_over b k f [] = refl
 cut_over b k f (j ∷ js) = flat_map-append (cut_waiting b k) (f j) (flat_map f js) ∙ ap (λ qs. flat_map (cut_waiting b k) (f j) ++ qs) (cut_over b k f js)
@@ -95,7 +82,7 @@ own_append : (x : Block) (ps qs : List Waiting) → AreOwn x ps → AreOwn x qs 
 own_append x [] qs p q = q
 own_append x (y ∷ ys) qs p q = (p.0, own_append x ys qs p.1 q)
 
--- what a cut leaves of a block's queues is the block's
+-- the queues that a cut leaves of a block are the block's
 pub own_cut : (b x : Block) (k : ℕ) (qs : List Waiting) → AreOwn x qs → AreOwn x (flat_map (cut_waiting b k) qs)
 own_cut b x k [] own = tt
 own_cut b x k (q ∷ qs) own =

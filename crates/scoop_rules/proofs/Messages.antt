@@ -1,33 +1,18 @@
 -- Messages that leave the configuration that a world stands for.
-use Rattle.std.proofs.Common.{◌≡◌, ℕ, ◌≤◌, ◌<◌, Bool, true, false, ◌&&◌, ◌||◌, true≢false, List, [], ◌∷◌, ◌++◌, refl, sym, ap, ◌∙◌, subst, arith}
-use Rattle.std.specs.Prelude.{max, nat_lt, if◌then◌else◌}
-use Rattle.std.specs.List.{list_any}
-use Rattle.std.proofs.lemmas.Bool.{and_parts, ltb-true}
-use Rattle.std.proofs.Math.Bool.{or-false}
-use Rattle.std.proofs.lemmas.List.Folds.{list_any-append}
-use Rattle.scoop_message.specs.declared.name.Block.{Block}
-use Rattle.scoop_message.specs.declared.name.ClientId.{ClientId}
-use Rattle.scoop_message.specs.declared.name.HandlerId.{HandlerId}
-use Rattle.scoop_message.specs.declared.request.Entry.{Entry}
-use Rattle.scoop_message.specs.declared.message.Message.{Message}
-use Rattle.scoop_message.specs.declared.message.Message.TheVariants.{Hello, Welcome, Lock, Locked, Busy, Open, Opened, Unlock, Unlocked, Log, Logged, Answer}
-use Rattle.scoop_message.specs.Message.{is_for_handler, same_block, same_client, same_handler}
-use Rattle.scoop_message.proofs.Same.{block_decides, client_decides, handler_decides}
-use Rattle.scoop_model.specs.World.{is_newer_welcome, count_in, greatest_count}
-use Rattle.scoop_rules.specs.Paper.{Seen, queue_of}
-use Rattle.scoop_model.proofs.Whole.Sent.{greatest_pushed}
-use Rattle.scoop_model.proofs.Basics.{by_test}
+use Rattle.scoop_rules.proofs.Names.{◌≡◌, ℕ, ◌<◌, List, [], ◌∷◌, ◌++◌, refl, sym, ap, ◌∙◌, subst, arith, ◌≤◌, true, if◌then◌else◌, ◌&&◌, false, true≢false}
+use Rattle.scoop_rules.proofs.Names.{◌||◌, Bool, nat_lt, max, and_parts, list_any-append, list_any, handler_decides, client_decides, block_decides, same_block}
+use Rattle.scoop_rules.proofs.Names.{is_for_handler, same_client, same_handler, Message, Lock, Log, Hello, Welcome, Unlock, Logged, Block, ClientId, HandlerId}
+use Rattle.scoop_rules.proofs.Names.{Entry, by_test, count_in, greatest_count, is_newer_welcome, or-false, ltb-true, greatest_pushed, queue_of, Seen}
+use Rattle.scoop_model.proofs.Names.{Open}
 
 -- ---- what one message more tells
 
 max_none : (n : ℕ) → max n 0 ≡ n
 max_none n = omega arith
 
-pub newer_more :
-    (h : HandlerId) (b : Block) (ms : List Message) (m : Message)
+pub newer_more : (h : HandlerId) (b : Block) (ms : List Message) (m : Message)
     → list_any (is_newer_welcome h b) (ms ++ m ∷ []) ≡ (list_any (is_newer_welcome h b) ms || is_newer_welcome h b m)
-newer_more h b ms m =
-    list_any-append (is_newer_welcome h b) ms (m ∷ []) ∙ ap (λ t. list_any (is_newer_welcome h b) ms || t) (or-false (is_newer_welcome h b m))
+newer_more h b ms m = list_any-append (is_newer_welcome h b) ms (m ∷ []) ∙ ap (λ t. list_any (is_newer_welcome h b) ms || t) (or-false (is_newer_welcome h b m))
 
 -- ---- quiet messages
 
@@ -36,8 +21,7 @@ pub record IsQuiet (ms : List Message) (m : Message) : Type 0 where
   pub greets : (h : HandlerId) (b : Block) → is_newer_welcome h b m ≡ true → list_any (is_newer_welcome h b) ms ≡ true
   pub tells : (h : HandlerId) (b : Block) → list_any (is_newer_welcome h b) ms ≡ true → count_in h b m ≤ greatest_count h b ms
 
-pub quiet_newer :
-    (h : HandlerId) (b : Block) (ms : List Message) (m : Message) → IsQuiet ms m
+pub quiet_newer : (h : HandlerId) (b : Block) (ms : List Message) (m : Message) → IsQuiet ms m
     → list_any (is_newer_welcome h b) (ms ++ m ∷ []) ≡ list_any (is_newer_welcome h b) ms
 quiet_newer h b ms m q =
     newer_more h b ms m
@@ -50,7 +34,7 @@ abbrev pub told_seen : HandlerId → Block → List Entry → ℕ → Bool → L
 told_seen h b log count over ms =
     record { logged = log; count = count; over = over; newer = list_any (is_newer_welcome h b) ms; received = greatest_count h b ms }
 
--- what was received matters only of a block that was succeeded
+-- the received count matters only for a block that was succeeded
 not_succeeded : (b : Block) (log : List Entry) (count : ℕ) (over newer : Bool) (n k : ℕ) → newer ≡ false
     → queue_of b (record { logged = log; count = count; over = over; newer = newer; received = n })
     ≡ queue_of b (record { logged = log; count = count; over = over; newer = newer; received = k })
@@ -85,22 +69,16 @@ plain_quiet ms m p = record {
   tells = λ h b e. let none = (p h b).1 in omega (arith, none);
 }
 
--- what goes to a handler is plain
+-- a message to a handler is plain
 pub request_plain : (m : Message) → is_for_handler m ≡ true → IsPlain m
 request_plain (Hello x c inc) goes = λ h b. (refl, refl)
 request_plain (Lock x y) goes = λ h b. (refl, refl)
 request_plain (Open x y) goes = λ h b. (refl, refl)
 request_plain (Unlock x y) goes = λ h b. (refl, refl)
 request_plain (Log x y n es) goes = λ h b. (refl, refl)
-request_plain (Welcome x c inc) goes = absurd (true≢false (sym goes))
-request_plain (Locked x y) goes = absurd (true≢false (sym goes))
-request_plain (Busy x y) goes = absurd (true≢false (sym goes))
-request_plain (Opened x y) goes = absurd (true≢false (sym goes))
-request_plain (Unlocked x y) goes = absurd (true≢false (sym goes))
-request_plain (Logged x y n) goes = absurd (true≢false (sym goes))
-request_plain (Answer x y n a) goes = absurd (true≢false (sym goes))
+request_plain m goes = absurd (true≢false (sym goes))
 
--- what a newer welcome says
+-- the claim of a newer Welcome
 pub newer_welcome_says :
     (h x : HandlerId) (b : Block) (c : ClientId) (inc : ℕ) → is_newer_welcome h b (Welcome x c inc) ≡ true → (x ≡ h) × (b.client ≡ c) × (b.inc < inc)
 newer_welcome_says h x b c inc e =

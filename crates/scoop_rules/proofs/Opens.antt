@@ -1,28 +1,15 @@
--- At its first opening anywhere a block is reserved in one step, and cut wherever it can't open any more. Nothing is logged
--- for it yet, so each new queue is empty and open; where a newer incarnation of its client has greeted it is cut at once and
--- gone. A later opening is no move: the block is in the common list already.
-use Rattle.std.proofs.Common.{◌≡◌, ◌⊎◌, inl, inr, ℕ, ◌-◌, ◌<◌, Bool, true, false, ◌&&◌, ◌||◌, true≢false, List, [], ◌∷◌, ◌++◌, map, filter, flat_map, take}
-use Rattle.std.proofs.Common.{Option, refl, sym, ap, ◌∙◌, subst, ⊎_elim, arith, append-nil}
-use Rattle.std.specs.Prelude.{if◌then◌else◌}
-use Rattle.std.proofs.lemmas.Grind.{flat_map-append}
-use Rattle.std.proofs.Math.Seq.{take-nil}
-use Rattle.scoop_message.specs.declared.name.Block.{Block}
-use Rattle.scoop_message.specs.declared.name.HandlerId.{HandlerId}
-use Rattle.scoop_message.specs.declared.message.Message.{Message}
-use Rattle.scoop_message.specs.Message.{same_block, same_handler}
-use Rattle.scoop_message.proofs.Same.{handler_decides}
-use Rattle.scoop_reserve.specs.Handlers.{has}
-use Rattle.scoop_model.specs.World.{World, Site, has_block, set_of, ran_at, opened_at, is_succeeded, inc_of}
-use Rattle.scoop_model.specs.Step.{joined}
-use Rattle.scoop_rules.specs.Paper.{Waiting, Configuration, Objects, Separate, CutTo, MovesLead, put_at_handler, separate, cut_to, cut_queue, cut_waiting}
-use Rattle.scoop_rules.specs.Paper.{new_queue, count_of, Seen, seen, queue_of, queue_at, configuration_of, late_cuts}
-use Rattle.scoop_model.proofs.Basics.{by_test}
-use Rattle.scoop_model.proofs.Whole.Sent.{same_handler_itself}
-use Rattle.scoop_model.proofs.Order.Lists.{same_block_is, same_block_itself}
+-- At its first opening anywhere a block is reserved in one step, and cut wherever it can't open any more. Nothing is logged for it
+-- yet, so each new queue is empty and open. If a newer incarnation of its client has greeted, the queue is cut at once and gone. A
+-- later opening is no move: the block is in the common list already.
+use Rattle.scoop_rules.proofs.Names.{◌≡◌, ℕ, ◌<◌, List, [], ◌∷◌, ◌++◌, map, refl, sym, ap, ◌∙◌, subst, arith, append-nil, Option, true, if◌then◌else◌, ◌&&◌}
+use Rattle.scoop_rules.proofs.Names.{take, false, true≢false, ◌||◌, Bool, ◌-◌, ◌⊎◌, inl, inr, ⊎_elim, filter, flat_map, handler_decides, same_block}
+use Rattle.scoop_rules.proofs.Names.{same_handler, Message, Block, HandlerId, by_test, has, joined, World, ran_at, Site, has_block, opened_at, is_succeeded}
+use Rattle.scoop_rules.proofs.Names.{inc_of, set_of, take-nil, flat_map-append, same_block_itself, same_block_is, HandlerReady, Ready, same_handler_itself}
+use Rattle.scoop_rules.proofs.Names.{count_of, Waiting, configuration_of, queue_at, queue_of, seen, Seen, Objects, MovesLead, Configuration, CutTo}
+use Rattle.scoop_rules.proofs.Names.{put_at_handler, cut_to, cut_queue, cut_waiting, Separate, late_cuts, separate, new_queue}
 use Rattle.scoop_rules.proofs.Lists.{and_never, same_configuration, queues_same, queues_last, cut_over, cut_other, own_queue_at}
 use Rattle.scoop_rules.proofs.Seen.{seen_none}
 use Rattle.scoop_rules.proofs.Front.{left_has}
-use Rattle.scoop_model.proofs.Ready.Facts.{HandlerReady, Ready}
 use Rattle.scoop_rules.proofs.Sends.{IsQuietIfSome, ran_in, with_news, same_queue, quiet_same}
 
 -- ---- tests of handlers
@@ -34,7 +21,7 @@ handlers_turned x h e =
 
 -- ---- cuts of a queue that is new
 
--- the queues as they stand, and one block's behind them
+-- the queues as they stand, and one block's after them
 abbrev with_last : World → List Block → (HandlerId → List Waiting) → Configuration
 with_last w js last = record { queues = λ x. flat_map (queue_at w x) w.joint ++ last x; ran = λ x. ran_at x w; separated = js; inc = inc_of w }
 
@@ -57,8 +44,7 @@ cut_behind w h b k qs new =
     ∙ queues_same (λ y. flat_map (cut_waiting b k) (queue_at w h y)) (queue_at w h) w.joint
     (λ y m. cut_other b y k (queue_at w h y) (other_than b y w.joint new m) (own_queue_at w h y)))
 
-module _
-    (o : Objects) (w : World) (js : List Block) (b : Block) (new : has_block w.joint b ≡ false)
+module _ (o : Objects) (w : World) (js : List Block) (b : Block) (new : has_block w.joint b ≡ false)
     (below : (h : HandlerId) → is_succeeded b h w ≡ true → b.inc < inc_of w b.client) (none : (h : HandlerId) → count_of b (ran_at h w) ≡ 0) where
   abbrev IsNewOrNone : (HandlerId → List Waiting) → Type 0
   IsNewOrNone last = (x : HandlerId) → (last x ≡ []) ⊎ (last x ≡ new_queue b ∷ [])
@@ -93,8 +79,7 @@ module _
   abbrev cut_where : List HandlerId → (HandlerId → List Waiting) → HandlerId → List Waiting
   cut_where hs last x = if has hs x && is_succeeded b x w then [] else last x
 
-  cut_where_first :
-      (h : HandlerId) (hs : List HandlerId) (last : HandlerId → List Waiting) → is_succeeded b h w ≡ true → (x : HandlerId)
+  cut_where_first : (h : HandlerId) (hs : List HandlerId) (last : HandlerId → List Waiting) → is_succeeded b h w ≡ true → (x : HandlerId)
       → cut_where (h ∷ hs) last x ≡ cut_where hs (without_at h last) x
   cut_where_first h hs last newer x =
       by_test
@@ -114,8 +99,7 @@ module _
       either true = refl
       either false = refl
 
-  cut_where_not :
-      (h : HandlerId) (hs : List HandlerId) (last : HandlerId → List Waiting) → is_succeeded b h w ≡ false → (x : HandlerId)
+  cut_where_not : (h : HandlerId) (hs : List HandlerId) (last : HandlerId → List Waiting) → is_succeeded b h w ≡ false → (x : HandlerId)
       → cut_where (h ∷ hs) last x ≡ cut_where hs last x
   cut_where_not h hs last older x =
       by_test (λ t. same_handler h x ≡ t → (if (t || has hs x) && is_succeeded b x w then [] else last x) ≡ cut_where hs last x) (same_handler h x)
@@ -144,8 +128,7 @@ module _
 
 -- ---- an opening
 
-module _
-    (w : World) (sites : List Site) (m : Option Message) (same_ran : (j : HandlerId) → ran_in j sites ≡ ran_at j w) (quiet : IsQuietIfSome w.sent m)
+module _ (w : World) (sites : List Site) (m : Option Message) (same_ran : (j : HandlerId) → ran_in j sites ≡ ran_at j w) (quiet : IsQuietIfSome w.sent m)
     (b : Block) where
   abbrev opened_world : World
   opened_world = with_news w sites m same_ran quiet (joined w.joint (b ∷ []))
@@ -185,8 +168,7 @@ module _
     both_tests true g = refl
     both_tests false g = refl
 
-    own_after :
-        (x : HandlerId)
+    own_after : (x : HandlerId)
         → cut_where o w js b new (λ h. ready.below b h) (λ h. ap (λ (s : Seen). s.count) (looks h)) (set_of b w) at_each x ≡ queue_at opened_world x b
     own_after x =
         both_tests (has (set_of b w) x) (is_succeeded b x w)

@@ -1,47 +1,20 @@
--- An entry that runs is a run of the first entry of the first private queue. The handler's own first queue with an entry is
--- its first slot that isn't over; the queues of the rules before it are gone, since their blocks are over there; and its
--- block's queue begins with the same entry. Then one more has run of that block, and all other queues stay.
-use Rattle.std.proofs.Common.{◌≡◌, ◌⊎◌, inl, inr, ℕ, ◌+◌, Bool, true, false, ◌&&◌, ◌||◌, nat_le, true≢false, List, [], ◌∷◌, ◌++◌, length, filter, flat_map}
-use Rattle.std.proofs.Common.{Option, Some, None, refl, sym, ap, ◌∙◌, subst, ⊎_elim, arith, length-append, append_assoc}
-use Rattle.std.specs.Prelude.{if◌then◌else◌}
-use Rattle.std.specs.List.{AllByRecursion}
-use Rattle.std.specs.Option.{option_map, option_map_or}
-use Rattle.std.proofs.lemmas.Bool.Decides.{nat_tests}
-use Rattle.std.proofs.lemmas.Grind.{flat_map-append}
-use Rattle.std.proofs.lemmas.List.Elements.{filter-append}
-use Rattle.std.proofs.lemmas.List.Folds.{list_any-append}
-use Rattle.std.proofs.Math.Bool.{or-false}
-use Rattle.std.proofs.lemmas.Option.{none-some, same_Some}
-use Rattle.scoop_message.specs.declared.name.Block.{Block}
-use Rattle.scoop_message.specs.declared.name.HandlerId.{HandlerId}
-use Rattle.scoop_message.specs.declared.request.Entry.{Entry}
-use Rattle.scoop_message.specs.Entry.{is_end}
-use Rattle.scoop_message.specs.Entries.{EndOnlyLast}
-use Rattle.scoop_message.specs.Message.{same_block, same_handler}
-use Rattle.scoop_message.proofs.Same.{handler_decides}
-use Rattle.scoop_object.specs.Class.{ClassTable}
-use Rattle.scoop_object.specs.Play.{entry_effect, play}
-use Rattle.scoop_queue.specs.Queue.{front}
-use Rattle.scoop_handler.specs.declared.ran.Ran.{Ran}
-use Rattle.scoop_handler.specs.Core.{Core}
-use Rattle.scoop_handler.specs.Running.{Task, job_out, task_of, ran_of as told_of}
-use Rattle.scoop_handler.proofs.After.{job-front, job-class, job-first}
-use Rattle.scoop_reserve.specs.Handlers.{has}
-use Rattle.scoop_model.specs.World.{World, Site, number_of, site_of, ran_at, opened_at, has_block, set_of, log_of, is_succeeded, received, has_end}
-use Rattle.scoop_model.specs.Step.{with_site, finished_site}
-use Rattle.scoop_model.specs.Safe.{entries_of, IsSubsequence}
-use Rattle.scoop_rules.specs.Paper.{Waiting, Configuration, Objects, RunOne, MovesLead, put_at_handler, count_of, has_ended, next_ran, rest_of, run_entries}
-use Rattle.scoop_rules.specs.Paper.{run_first, has_entry, Seen, seen, no_class, state_of, queue_of, queue_at, configuration_of, objects_of}
-use Rattle.scoop_model.proofs.Basics.{by_test}
-use Rattle.scoop_model.proofs.Keys.{number_found, by_site}
-use Rattle.scoop_model.proofs.Order.Lists.{AreApart, same_block_is, same_block_itself}
-use Rattle.scoop_model.proofs.Tape.Slots.{Slot, blocks_of}
-use Rattle.scoop_model.proofs.Tape.Fits.{IsBegun}
-use Rattle.scoop_model.proofs.Tape.Shown.{left_apart}
+-- An entry that runs is a run of the first entry of the first private queue. The handler's own first queue with an entry is its first
+-- slot that isn't over. The queues of the rules before it are gone, since their blocks are over there, and its block's queue begins
+-- with the same entry. Then one more entry has run of that block, and all other queues stay.
+use Rattle.scoop_rules.proofs.Names.{◌≡◌, ℕ, ◌+◌, List, [], ◌∷◌, ◌++◌, Some, None, refl, sym, ap, ◌∙◌, subst, arith, Option, option_map, true, if◌then◌else◌}
+use Rattle.scoop_rules.proofs.Names.{◌&&◌, false, true≢false, ◌||◌, length, Bool, ◌⊎◌, inl, inr, ⊎_elim, nat_le, append_assoc, filter, length-append, flat_map}
+use Rattle.scoop_rules.proofs.Names.{nat_tests, filter-append, list_any-append, same_Some, none-some, AllByRecursion, option_map_or, handler_decides}
+use Rattle.scoop_rules.proofs.Names.{EndOnlyLast, is_end, same_block, same_handler, Block, HandlerId, Entry, front, by_test, Core, Task, told_of, job_out}
+use Rattle.scoop_rules.proofs.Names.{task_of, Ran, has, number_found, by_site, entries_of, IsSubsequence, with_site, finished_site, World, ran_at, Site}
+use Rattle.scoop_rules.proofs.Names.{number_of, site_of, has_block, opened_at, log_of, received, is_succeeded, set_of, has_end, or-false, flat_map-append}
+use Rattle.scoop_rules.proofs.Names.{same_block_itself, same_block_is, AreApart, HandlerReady, Ready, IsOverIfGone, IsNamedAt, IsBegun, left_apart, Slot}
+use Rattle.scoop_rules.proofs.Names.{blocks_of, count_of, Waiting, configuration_of, queue_at, queue_of, seen, Seen, state_of, Objects, MovesLead, objects_of}
+use Rattle.scoop_rules.proofs.Names.{Configuration, no_class, has_ended, put_at_handler, RunOne, next_ran, rest_of, run_entries, run_first, has_entry}
+use Rattle.scoop_handler.proofs.After.{job-class}
+use Rattle.scoop_model.proofs.Names.{job-front, job-first, ClassTable, entry_effect, play}
 use Rattle.scoop_rules.proofs.Lists.{same_configuration, queues_same}
 use Rattle.scoop_rules.proofs.Seen.{IsSeen, HasFirst, slot_seen, all_seen, seen_none, none_before, none_queue, gone_queue, first_queue, ran_queue}
 use Rattle.scoop_rules.proofs.Front.{IsPlaced, Parted, parted}
-use Rattle.scoop_model.proofs.Ready.Facts.{IsOverIfGone, IsNamedAt, HandlerReady, Ready}
 
 -- ---- one more that ran
 
@@ -83,20 +56,17 @@ behind_apart b y [] ys d m = apart_from b y ys d.0 m
 behind_apart b y (x ∷ xs) ys d m = behind_apart b y xs ys d.1 m
 
 -- the queues of the list, by those before, of, and behind one block
-queues_around :
-    (f : Block → List Waiting) (js xs ys : List Block) (b : Block) (qs : List Waiting) → js ≡ xs ++ b ∷ ys → flat_map f xs ≡ [] → f b ≡ qs
+queues_around : (f : Block → List Waiting) (js xs ys : List Block) (b : Block) (qs : List Waiting) → js ≡ xs ++ b ∷ ys → flat_map f xs ≡ [] → f b ≡ qs
     → flat_map f js ≡ qs ++ flat_map f ys
 queues_around f js xs ys b qs e none at = ap (flat_map f) e ∙ flat_map-append f xs (b ∷ ys) ∙ (λ i. none i ++ (at i ++ flat_map f ys))
 
 -- ---- the run of a first queue that is known
 
-first_runs :
-    (o : Objects) (h : HandlerId) (g k : Configuration) (q : Waiting) (x : Entry) (es : List Entry) (qs : List Waiting) → q.entries ≡ x ∷ es
+first_runs : (o : Objects) (h : HandlerId) (g k : Configuration) (q : Waiting) (x : Entry) (es : List Entry) (qs : List Waiting) → q.entries ≡ x ∷ es
     → g.queues h ≡ q ∷ qs
     → record g {
       queues = put_at_handler h (rest_of q x es ++ qs) g.queues;
-      ran =
-          put_at_handler h (g.ran h ++ next_ran (o.class h) (o.words h) (g.ran h) q.block x ∷ []) g.ran;
+      ran = put_at_handler h (g.ran h ++ next_ran (o.class h) (o.words h) (g.ran h) q.block x ∷ []) g.ran;
     } ≡ k
     → MovesLead o g (RunOne h ∷ []) k
 first_runs o h g k q x es qs entries first e = (
@@ -116,8 +86,7 @@ pub record SlotReady (w : World) (h : HandlerId) (t : Slot) : Type 0 where
   pub gone : IsOverIfGone w h t
   pub named : IsNamedAt w h t
 
-all_four :
-    (P Q R S T : Slot → Type 0) → ((t : Slot) → P t → Q t → R t → S t → T t) → (ss : List Slot) → AllByRecursion P ss → AllByRecursion Q ss
+all_four : (P Q R S T : Slot → Type 0) → ((t : Slot) → P t → Q t → R t → S t → T t) → (ss : List Slot) → AllByRecursion P ss → AllByRecursion Q ss
     → AllByRecursion R ss → AllByRecursion S ss
     → AllByRecursion T ss
 all_four P Q R S T f [] p q r s = tt
@@ -216,8 +185,7 @@ module _ (w : World) (h : HandlerId) (s : Site) (t : Task) (found : site_of h w 
         count = count i;
         over = over i;
         newer = is_succeeded b h w;
-        received =
-            received b h w;
+        received = received b h w;
       }) else []
 
   other_place : (j : HandlerId) (b : Block) → (j ≡ h → ⊥) → queue_at ran_world j b ≡ queue_at w j b
@@ -227,13 +195,11 @@ module _ (w : World) (h : HandlerId) (s : Site) (t : Task) (found : site_of h w 
         logged = log_of b j w;
         count = count_of b (ran i);
         over = has_ended b (ran i);
-        newer =
-            is_succeeded b j w;
+        newer = is_succeeded b j w;
         received = received b j w;
       }) else []
 
-  own_block :
-      (f : HasFirst (seen t.block h w) t.entry) → has (set_of t.block w) h ≡ true
+  own_block : (f : HasFirst (seen t.block h w) t.entry) → has (set_of t.block w) h ≡ true
       → queue_at ran_world h t.block ≡ rest_of record { block = t.block; entries = t.entry ∷ f.later; state = state_of (seen t.block h w) } t.entry f.later
   own_block f named =
       let b = t.block in
@@ -332,8 +298,7 @@ module _ (w : World) (h : HandlerId) (s : Site) (t : Task) (found : site_of h w 
         (λ _ is. queues_here ∙ ap (λ k. flat_map (queue_at ran_world k) w.joint) (sym (is_here j is)))
         (λ _ is. sym (queues_same (queue_at ran_world j) (queue_at w j) w.joint (λ b m. other_place j b (is_not_here j is)))) refl
 
-    ran_after :
-        (j : HandlerId)
+    ran_after : (j : HandlerId)
         → put_at_handler h (ran_at h w ++ next_ran ((objects_of w).class h) ((objects_of w).words h) (ran_at h w) t.block t.entry ∷ [])
         (configuration_of w).ran j ≡ ran_at j ran_world
     ran_after j =

@@ -1,34 +1,15 @@
--- A block as a world shows it at one handler, by its slot there. The rules' queue of a block is a function of five things
--- that a world shows of it: what was logged, how many entries ran, whether its End has, whether a newer incarnation greeted,
--- and how many entries were told to be received. A slot gives all five, and so says what that queue is.
-use Rattle.std.proofs.Common.{◌≡◌, ◌⊎◌, ℕ, ◌+◌, Bool, true, false, not, ◌&&◌, ◌||◌, ◌==◌, nat_le, true≢false, IsTrue, List, [], ◌∷◌, ◌++◌, length, map, take}
-use Rattle.std.proofs.Common.{drop, refl, sym, ap, ◌∙◌, ⊎_elim, arith, length-append, append_assoc, append-nil}
-use Rattle.std.specs.Prelude.{if◌then◌else◌}
-use Rattle.std.specs.List.{AllByRecursion, list_any}
-use Rattle.std.proofs.Math.Bool.{and-false}
+-- A block as a world shows it at one handler, by its slot there. The rules' queue of a block is a function of five things that a world
+-- shows: the log, the number of entries that ran, whether its End has run, whether a newer incarnation greeted, and the number of
+-- entries reported as received. A slot gives all five, and so determines that queue.
+use Rattle.scoop_rules.proofs.Names.{◌≡◌, ℕ, ◌+◌, List, [], ◌∷◌, ◌++◌, map, refl, sym, ap, ◌∙◌, arith, append-nil, true, if◌then◌else◌, ◌&&◌, take, false}
+use Rattle.scoop_rules.proofs.Names.{true≢false, ◌||◌, length, Bool, ◌==◌, ◌⊎◌, ⊎_elim, nat_le, append_assoc, not, drop, length-append, IsTrue}
+use Rattle.scoop_rules.proofs.Names.{take-append_seam, nat_tests, AllByRecursion, list_any, EndOnlyLast, is_end, same_block, Block, HandlerId, Entry, is_cut}
+use Rattle.scoop_rules.proofs.Names.{Open, Ended, Cut, by_test, Ran, first_false, untold, numbered, World, ran_at, has_block, log_of, received, is_succeeded}
+use Rattle.scoop_rules.proofs.Names.{has_end, and-false, le-leb, end_only_last, same_block_is, AreApart, IsToldAs, IsBegun, part_of, IsPart, slot_parts}
+use Rattle.scoop_rules.proofs.Names.{length-part, none_ran, Slot, ran_of, blocks_of, count_of, Waiting, is_cut_off, is_gone, kept, queue_of, seen, Seen}
+use Rattle.scoop_rules.proofs.Names.{state_of, has_ended, rest_of}
 use Rattle.std.proofs.Math.Nat.{le_refl}
-use Rattle.std.proofs.Math.Seq.{take-append_seam}
-use Rattle.std.proofs.lemmas.Bool.{le-leb}
-use Rattle.std.proofs.lemmas.Bool.Decides.{nat_tests}
-use Rattle.scoop_message.specs.declared.name.Block.{Block}
-use Rattle.scoop_message.specs.declared.name.HandlerId.{HandlerId}
-use Rattle.scoop_message.specs.declared.request.Entry.{Entry}
-use Rattle.scoop_message.specs.Entry.{is_end}
-use Rattle.scoop_message.specs.Entries.{EndOnlyLast, end_only_last}
-use Rattle.scoop_message.specs.Message.{same_block}
-use Rattle.scoop_queue.specs.declared.state.QueueState.TheVariants.{Open, Ended, Cut}
-use Rattle.scoop_queue.specs.Queue.{is_cut}
-use Rattle.scoop_queue.proofs.Ends.{both}
-use Rattle.scoop_handler.specs.declared.ran.Ran.{Ran}
-use Rattle.scoop_model.specs.World.{World, has_block, log_of, ran_at, is_succeeded, received, has_end}
-use Rattle.scoop_model.specs.Safe.{untold, numbered}
-use Rattle.scoop_rules.specs.Paper.{Waiting, count_of, has_ended, Seen, seen, is_cut_off, kept, is_gone, state_of, queue_of, rest_of}
-use Rattle.scoop_model.proofs.Basics.{by_test, first_false}
-use Rattle.scoop_model.proofs.Order.Lists.{AreApart, same_block_is}
-use Rattle.scoop_model.proofs.Tape.Slots.{Slot, ran_of, blocks_of}
-use Rattle.scoop_model.proofs.Tape.Fits.{IsBegun}
-use Rattle.scoop_model.proofs.Tape.Shown.{part_of, IsPart, slot_parts, length-part, none_ran}
-use Rattle.scoop_model.proofs.Ready.Facts.{IsToldAs}
+use Rattle.scoop_model.proofs.Names.{both}
 use Rattle.scoop_rules.proofs.Lists.{drop_all, drop_more}
 
 -- ---- where an End stands
@@ -42,8 +23,7 @@ pub none_before : (xs : List Entry) (y : Entry) (ys : List Entry) → EndOnlyLas
 none_before [] y ys only = refl
 none_before (x ∷ []) y ys only = ap (λ t. t || false) (not_so (is_end x) (both (not (is_end x)) (end_only_last (y ∷ ys)) only).0)
 none_before (x ∷ z ∷ xs) y ys only =
-    let b = both (not (is_end x)) (end_only_last (z ∷ xs ++ y ∷ ys)) only in
-    (λ i. not_so (is_end x) b.0 i || has_end (z ∷ xs)) ∙ none_before (z ∷ xs) y ys b.1
+    let b = both (not (is_end x)) (end_only_last (z ∷ xs ++ y ∷ ys)) only in (λ i. not_so (is_end x) b.0 i || has_end (z ∷ xs)) ∙ none_before (z ∷ xs) y ys b.1
 
 pub no_end_left : (xs ys : List Entry) → has_end (xs ++ ys) ≡ false → has_end xs ≡ false
 no_end_left [] ys e = refl
@@ -95,13 +75,11 @@ seen_slot w h t part begun told =
       is = λ i. record { logged = sym begun.all i; count = count i; over = over i; newer = is_succeeded t.block h w; received = told i };
     }
 
-pub all_seen :
-    (w : World) (h : HandlerId) (ss : List Slot) → map untold (ran_at h w) ≡ ran_of ss → AreApart (blocks_of ss)
+pub all_seen : (w : World) (h : HandlerId) (ss : List Slot) → map untold (ran_at h w) ≡ ran_of ss → AreApart (blocks_of ss)
     → AllByRecursion (IsBegun (λ b. log_of b h w)) ss → AllByRecursion (IsToldAs w h) ss → AllByRecursion (IsSeen w h) ss
 all_seen w h ss ran apart begun told = all ss (slot_parts (ran_at h w) ss ran apart) begun told
   where
-    all :
-        (ts : List Slot) → AllByRecursion (IsPart (ran_at h w)) ts → AllByRecursion (IsBegun (λ b. log_of b h w)) ts → AllByRecursion (IsToldAs w h) ts
+    all : (ts : List Slot) → AllByRecursion (IsPart (ran_at h w)) ts → AllByRecursion (IsBegun (λ b. log_of b h w)) ts → AllByRecursion (IsToldAs w h) ts
         → AllByRecursion (IsSeen w h) ts
     all [] p b t = tt
     all (s ∷ ts) p b t = (seen_slot w h s p.0 b.0 t.0, all ts p.1 b.1 t.1)
@@ -136,8 +114,7 @@ pub none_queue : (b : Block) (log : List Entry) → queue_of b (record { logged 
 none_queue b log = refl
 
 -- the private queue is gone
-pub gone_queue :
-    (b : Block) (ran rest more : List Entry) (newer : Bool) → rest ≡ [] → (has_end ran ≡ true) ⊎ (newer ≡ true)
+pub gone_queue : (b : Block) (ran rest more : List Entry) (newer : Bool) → rest ≡ [] → (has_end ran ≡ true) ⊎ (newer ≡ true)
     → queue_of b (slot_seen ran rest more newer) ≡ []
 gone_queue b ran rest more newer none why =
     ap (λ es. queue_of b (slot_seen ran es more newer)) none
@@ -162,8 +139,7 @@ gone_queue b ran rest more newer none why =
         ap (λ t. if t then [] else record {
           block = b;
           entries = drop (length ran) (kept (slot_seen ran [] more true));
-          state =
-              state_of (slot_seen ran [] more true);
+          state = state_of (slot_seen ran [] more true);
         } ∷ [])
         (λ i. e i || not (no_end i) && all i)
 
@@ -196,8 +172,7 @@ first_queue ran x es more newer e =
 
 -- ---- the queue once its first entry has run
 
-pub ran_queue :
-    (b : Block) (s : Seen) (x : Entry) (f : HasFirst s x)
+pub ran_queue : (b : Block) (s : Seen) (x : Entry) (f : HasFirst s x)
     → queue_of b (record { logged = s.logged; count = s.count + 1; over = s.over || is_end x; newer = s.newer; received = s.received })
     ≡ rest_of record { block = b; entries = x ∷ f.later; state = state_of s } x f.later
 ran_queue b s x f =

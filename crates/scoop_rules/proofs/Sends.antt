@@ -1,28 +1,15 @@
--- A world with other sites and messages stands for the same configuration, where the same has run and the messages are
--- quiet.
-use Rattle.std.proofs.Common.{◌≡◌, ℕ, ◌<◌, List, [], ◌++◌, find, Option, Some, None, refl, sym, ap, ◌∙◌, subst, arith, append-nil}
-use Rattle.std.specs.Prelude.{if◌then◌else◌, option_to_list}
-use Rattle.std.specs.Option.{option_map_or}
-use Rattle.scoop_message.specs.declared.name.Block.{Block}
-use Rattle.scoop_message.specs.declared.name.HandlerId.{HandlerId}
-use Rattle.scoop_message.specs.declared.message.Message.{Message}
-use Rattle.scoop_message.specs.declared.message.Message.TheVariants.{Welcome, Locked, Busy, Opened, Unlocked, Logged, Answer}
-use Rattle.scoop_handler.specs.declared.mark.Mark.{Mark}
-use Rattle.scoop_handler.specs.declared.note.Note.TheVariants.{Greeted}
-use Rattle.scoop_handler.specs.declared.ran.Ran.{Ran}
-use Rattle.scoop_handler.specs.Marks.{mark_of}
-use Rattle.scoop_handler.specs.Hearing.{Hearing}
-use Rattle.scoop_handler.specs.Rows.{Row, first_greeting, newer_greeting, repeated_greeting, lock_granted, lock_refused, repeated_lock, is_opened}
-use Rattle.scoop_handler.specs.Rows.{repeated_open, unlock_of_a_block_never_held, is_freed, repeated_unlock, is_answered, already_received, is_taken}
-use Rattle.std.proofs.lemmas.Option.{none-some}
-use Rattle.scoop_reserve.specs.Handlers.{has}
-use Rattle.scoop_model.specs.World.{World, Site, number_of, is_site, site_of, ran_at, set_of, log_of}
-use Rattle.scoop_rules.specs.Paper.{count_of, has_ended, queue_of, queue_at, configuration_of}
+-- A world with other sites and messages stands for the same configuration, if the same entries have run and the messages are quiet.
+use Rattle.scoop_rules.proofs.Names.{◌≡◌, ℕ, ◌<◌, List, [], ◌++◌, Some, None, refl, sym, ap, ◌∙◌, subst, arith, append-nil, Option, find, if◌then◌else◌}
+use Rattle.scoop_rules.proofs.Names.{option_to_list, none-some, option_map_or, Message, Answer, Locked, Welcome, Opened, Logged, Busy, Unlocked, Block}
+use Rattle.scoop_rules.proofs.Names.{HandlerId, Hearing, Row, first_greeting, newer_greeting, lock_granted, is_opened, unlock_of_a_block_never_held, is_freed}
+use Rattle.scoop_rules.proofs.Names.{is_answered, is_taken, repeated_greeting, repeated_open, repeated_lock, already_received, Greeted, Ran, has, World, ran_at}
+use Rattle.scoop_rules.proofs.Names.{Site, number_of, is_site, site_of, log_of, set_of, lock_refused, repeated_unlock, Ready, count_of, configuration_of}
+use Rattle.scoop_rules.proofs.Names.{queue_at, queue_of, has_ended}
+use Rattle.scoop_model.proofs.Names.{Mark, mark_of}
 use Rattle.scoop_rules.proofs.Lists.{same_configuration, queues_same}
 use Rattle.scoop_rules.proofs.Messages.{IsQuiet, IsPlain, told_seen, quiet_queue, plain_quiet, welcome_quiet, count_quiet}
-use Rattle.scoop_model.proofs.Ready.Facts.{Ready}
 
--- what has run at a handler of these sites
+-- the entries that have run at a handler of these sites
 abbrev pub ran_in : HandlerId → List Site → List Ran
 ran_in j sites = option_map_or (λ s. s.ran) (find (is_site j) sites) []
 
@@ -35,14 +22,12 @@ module _ (w : World) (sites : List Site) (o : Option Message) (same_ran : (j : H
   abbrev pub with_news : List Block → World
   with_news js = record w { sites = sites; sent = w.sent ++ option_to_list o; joint = js }
 
-  same_told :
-      (h : HandlerId) (b : Block) (rs : List Ran)
+  same_told : (h : HandlerId) (b : Block) (rs : List Ran)
       → queue_of b (told_seen h b (log_of b h w) (count_of b rs) (has_ended b rs) (w.sent ++ option_to_list o))
       ≡ queue_of b (told_seen h b (log_of b h w) (count_of b rs) (has_ended b rs) w.sent)
   same_told h b rs = of o quiet
     where
-      of :
-          (p : Option Message) → IsQuietIfSome w.sent p
+      of : (p : Option Message) → IsQuietIfSome w.sent p
           → queue_of b (told_seen h b (log_of b h w) (count_of b rs) (has_ended b rs) (w.sent ++ option_to_list p))
           ≡ queue_of b (told_seen h b (log_of b h w) (count_of b rs) (has_ended b rs) w.sent)
       of None q = ap (λ ms. queue_of b (told_seen h b (log_of b h w) (count_of b rs) (has_ended b rs) ms)) (append-nil w.sent)

@@ -1,5 +1,5 @@
--- The rules of SCOOP themselves, with no messages and a joint reservation in one step, and the configuration of
--- these rules that a world stands for.
+-- The rules of SCOOP themselves, without messages and with a joint reservation in one step. A world stands for a configuration of
+-- these rules.
 use Rattle.std.specs.Prelude.{◌≡◌, ℕ, ◌+◌, ◌-◌, ◌<◌, ◌≤◌, ⊤, nat_le, Bool, true, false, not, ◌&&◌, ◌||◌, if◌then◌else◌, List, [], ◌∷◌, ◌++◌, length, map}
 use Rattle.std.specs.Prelude.{filter, flat_map, take, drop, Option, Some, None, Ok, Err, Result}
 use Rattle.std.specs.List.{list_any}
@@ -119,7 +119,7 @@ run_first o h (q ∷ qs) g = run_entries o h q q.entries qs g
 abbrev pub restart : ClientId → Configuration → Configuration
 restart c g = record g { inc = put_at_client c (g.inc c + 1) g.inc }
 
--- what a cut leaves of a queue: nothing, where no entry is kept
+-- a queue after a cut: none, if no entry is kept
 abbrev pub cut_queue : Block → List Entry → List Waiting
 cut_queue b [] = []
 cut_queue b (e ∷ es) = record { block = b; entries = e ∷ es; state = Cut } ∷ []
@@ -196,7 +196,7 @@ seen b h w =
 abbrev pub is_cut_off : Seen → Bool
 is_cut_off s = s.newer && not (has_end (take s.received s.logged))
 
--- what has run of the block, or will run
+-- the entries of the block that have run or will run
 abbrev pub kept : Seen → List Entry
 kept s = if is_cut_off s then take s.received s.logged else s.logged
 
@@ -242,7 +242,7 @@ is_cut_by v w h b = has (set_of b v) h && (is_cut_off (seen b h w) && not (is_cu
 abbrev pub greeting_cuts : World → World → HandlerId → List Move
 greeting_cuts v w h = map (λ b. CutTo b h (received b h v)) (filter (is_cut_by v w h) v.joint)
 
--- what a message to the handler did
+-- the effect of a message to the handler
 abbrev pub note_moves : World → World → HandlerId → Note → List Move
 note_moves v w h (Opened b) = if has_block v.joint b then [] else Separate b (set_of b v) ∷ late_cuts v b
 note_moves v w h Greeted = greeting_cuts v w h

@@ -1,4 +1,4 @@
-//! Worlds that are computed, with the moves of the written rules beside their events.
+//! Examples: computed worlds, with the moves of the written rules beside their events.
 
 ghost use Rattle.scoop_rules.specs.Examples.OneCell.{OneCell};
 ghost use Rattle.scoop_rules.specs.Examples.ThreeClients.{ThreeClients};

@@ -1,11 +1,12 @@
-//! The written rules of SCOOP, in which there are no messages and a joint reservation is one step, and the
-//! theorem that whatever happens in a world is a run of them.
+//! The written rules of SCOOP, and the theorem that every run of a world is a run of these rules. The rules know no
+//! messages, and a joint reservation is one step.
 //!
-//! A *configuration* has at each handler a queue of private queues and what has run. A *move* reserves a block at
-//! all of its handlers in one step, logs one entry, runs the first entry of the first queue, restarts a client, or
-//! cuts a queue. Each world stands for a configuration, and each event for a list of moves, mostly for none.
+//! A *configuration* has, at each handler, a queue of private queues and the entries that have run. A *move* is one of
+//! these: it reserves a block at all of its handlers in one step, logs one entry, runs the first entry of the first
+//! queue, restarts a client, or cuts a queue. Each world stands for a configuration. Each event stands for a list of
+//! moves, which is mostly empty.
 //!
-//! The crate has nothing to run: its functions are theorems, which a proof has once it calls them.
+//! The crate has nothing to run. Its functions are theorems: a proof that calls one can use it.
 //!
 //! ```
 //! // nothing was reserved and nothing has run where a world opens

@@ -1,4 +1,4 @@
-//! What happens in a world follows the written rules.
+//! The theorems: every event of a world follows the written rules.
 
 ghost use Rattle.std.specs.Prelude.{◌≡◌, List};
 ghost use Rattle.scoop_model.specs.declared.event.Event.{Event as WorldEvent};
@@ -15,22 +15,22 @@ pub fn opens_empty()
         → configuration_of (opening placements newcomers) ≡ empty_configuration (inc_of (opening placements newcomers)) }
 {}
 
-/// Whatever happens next in a world that can be reached is a list of moves of the written rules: a joint
-/// reservation is one move, at the block's first opening anywhere, each entry that is logged is one, at the moment
-/// when its client logs it, and so is each entry that runs, with the same answer.
+/// Each event in a world that can be reached is a list of moves of the written rules. A joint reservation is one move,
+/// at the block's first opening anywhere. Each entry is one move at the moment when its client logs it, and one more
+/// when it runs, with the same answer.
 pub fn follows_rules()
     ensures { (w : World) (event : WorldEvent) → IsReached w → FollowsRules w event }
 {}
 
-/// Any list of events from a world that opens is a run of the written rules: the moves of its events, one after
-/// another, lead from the configuration in which nothing was reserved to the one that the last world stands for.
+/// Any list of events from a world that opens is a run of the written rules. The moves of its events, one after
+/// another, lead from the configuration without reservations to the one that the last world stands for.
 pub fn runs_by_rules()
     ensures { (placements : List Placement) (newcomers : List Newcomer) (events : List WorldEvent) → MayOpen placements newcomers
         → RunsByRules (opening placements newcomers) events (steps (opening placements newcomers) events) }
 {}
 
-/// Played one after another, without a look at when each may be made, these moves make the configuration that the
-/// last world stands for.
+/// Played one after another, without a test whether each is allowed, these moves make the configuration that the last
+/// world stands for.
 pub fn replays()
     ensures { (placements : List Placement) (newcomers : List Newcomer) (events : List WorldEvent) → MayOpen placements newcomers
         → replayed (objects_of (opening placements newcomers)) (moves_in (opening placements newcomers) events)

@@ -1,2 +1,4 @@
+mod Gathered
 mod News
+mod Tries
 mod Writing

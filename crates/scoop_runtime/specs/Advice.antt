@@ -1,4 +1,4 @@
--- What is told behind an error of a node or a client: what it is about, and what to do.
+-- The advice after an error of a node or a client, and its subject.
 use Rattle.std.specs.Prelude.{ℕ, List, codes}
 use Rattle.scoop_keeper.specs.Advice.{memory_advice, keeper_advice}
 use Rattle.scoop_client.specs.declared.error.BeginError.{BeginError}
@@ -9,12 +9,11 @@ use Rattle.scoop_driver.specs.declared.error.DriverError.{DriverError}
 use Rattle.scoop_driver.specs.declared.error.DriverError.TheVariants as driver
 use Rattle.scoop_netloop.specs.declared.stop.ServeEnd.{ServeEnd}
 use Rattle.scoop_netloop.specs.declared.stop.ServeEnd.TheVariants as served
-use Rattle.scoop_show.specs.declared.error.ShowError.{ShowError}
-use Rattle.scoop_show.specs.declared.error.ShowError.TheVariants as show
+use Rattle.scoop_errors.specs.declared.party_error.PartyError.{PartyError}
+use Rattle.scoop_errors.specs.declared.party_error.PartyError.TheVariants as party
 use Rattle.scoop_system.specs.declared.line.fault.LineFault.{LineFault}
 use Rattle.scoop_system.specs.declared.line.fault.LineFault.TheVariants as line
-use Rattle.scoop_runtime.specs.declared.source.SourceFault.{SourceFault}
-use Rattle.scoop_runtime.specs.declared.source.SourceFault.TheVariants as source
+use Rattle.scoop_lines.specs.SourceText.{source_advice}
 use Rattle.scoop_runtime.specs.declared.advice.About.{About}
 use Rattle.scoop_runtime.specs.declared.advice.About.TheVariants.{Store, Address, Handler, Nothing}
 use Rattle.scoop_runtime.specs.declared.advice.FileFault.{FileFault}
@@ -23,91 +22,86 @@ use Rattle.scoop_runtime.specs.declared.error.RuntimeError.{RuntimeError}
 use Rattle.scoop_runtime.specs.declared.error.RuntimeError.TheVariants.{Line, Input, InsideBlock, InsideWhen, Handlers, NoHandler, Ended}
 use Rattle.scoop_runtime.specs.declared.error.RuntimeError.TheVariants.{NotWelcomed, NotAnswered, Refused}
 
--- of what no run leads to
+-- for an error that no run leads to
 abbrev pub never_advice : List ℕ
-never_advice = codes "this can't come: tell the authors which command and which files led to it"
+never_advice = codes "this can't happen: report the command and its files to the authors"
 
 abbrev pub arguments_advice : List ℕ
 arguments_advice =
-    codes "scoop check shows which arguments, a0 to a3, the operations of the file's classes read, and scoop client --help has those of the others: give so many"
+    codes "give as many arguments as the operation reads: scoop check shows a0 to a3 for the file's classes, scoop client --help lists the others"
 
 abbrev pub line_advice : LineFault → List ℕ
-line_advice line.UnknownLine = codes "a line begins with reserve, call, query or end, and spaces part its words: scoop client --help has them all"
+line_advice line.UnknownLine = codes "begin the line with reserve, call, query or end, and separate words by spaces: scoop client --help lists all lines"
 line_advice line.WrongNumberOfWords =
-    codes "scoop client --help says which words each line has; those behind when are H OP A.. least V tries T"
+    codes "scoop client --help lists the words of each line; after when write H OP A.. least V tries T"
 line_advice line.NotANumber =
-    codes "write a whole number in decimal digits: an operation's is up to 65535, a handler's up to 4294967295, how often is tried 1 to 4294967295, an argument and what stands behind least 0 to 18446744073709551615"
+    codes "write a whole decimal number: operation up to 65535, handler up to 4294967295, tries 1 to 4294967295, argument or least up to 18446744073709551615"
 line_advice line.TooFewArguments = arguments_advice
 line_advice line.TooManyArguments = arguments_advice
 line_advice line.TooManyHandlers = codes "a block has at most 8 handlers: reserve fewer"
-line_advice line.NoSuchOperation = codes "scoop check shows the operations of the file's classes, and scoop client --help those of the others: name one of them"
+line_advice line.NoSuchOperation = codes "name an operation of the handler's class: scoop check shows those of the file's classes, scoop client --help the others"
 line_advice line.NoSuchHandler = codes "scoop check shows the handlers of the system: name one of them"
 
-abbrev pub source_advice : SourceFault → List ℕ
-source_advice source.LineTooLong = codes "a line has at most 4096 bytes: write a shorter one"
-source_advice source.TooManyLines = codes "an input has at most 1000000 lines: give the others to another run"
-source_advice source.ReadFault = codes "see whether the input is a folder, and can still be read"
-
 abbrev pub begin_advice : BeginError → List ℕ
-begin_advice begin.NoHandlers = codes "write a handler into the system's file"
+begin_advice begin.NoHandlers = codes "add a handler to the system's file"
 begin_advice begin.TooManyHandlers = codes "leave at most 64 handlers in the system's file"
-begin_advice (begin.Repeated h) = codes "give each handler of the system's file a number of its own"
+begin_advice (begin.Repeated h) = codes "give each handler in the system's file its own number"
 begin_advice begin.OutOfMemory = memory_advice
 
 abbrev pub loop_advice : ServeEnd → List ℕ
-loop_advice served.NodeFailed = codes "a state could not be stored: see whether the disk is full, and go on with --store, since what was answered is there"
-loop_advice served.LinkFault = codes "a thousand datagrams in a row could not be sent or received: see the network"
-loop_advice served.NoThread = codes "the system gives no more threads: ask for fewer by --executors"
-loop_advice served.TurnsOver = codes "give more turns by --turns"
-loop_advice served.HistoryFull = codes "give more entries by --history"
+loop_advice served.NodeFailed = codes "a state could not be stored: check that the disk has room, and resume with --store, which has all that was answered"
+loop_advice served.LinkFault = codes "a thousand sends or receives failed in a row: check the network"
+loop_advice served.NoThread = codes "the operating system refuses more threads: lower --executors"
+loop_advice served.TurnsOver = codes "raise --turns"
+loop_advice served.HistoryFull = codes "raise --history"
 loop_advice served.OutOfMemory = memory_advice
 loop_advice served.Stopped = never_advice
 loop_advice served.GateShut = never_advice
 
 abbrev pub driver_advice : DriverError → List ℕ
 driver_advice driver.TurnsOver =
-    codes "a handler has not answered: see whether the nodes run, or give more turns by --turns"
-driver_advice driver.LinkFault = codes "a datagram could not be sent or received: see the addresses and the network"
+    codes "a handler has not answered: check that the nodes run, or raise --turns"
+driver_advice driver.LinkFault = codes "a datagram could not be sent or received: check the addresses and the network"
 driver_advice (driver.Client client.OutOfMemory) = memory_advice
 driver_advice (driver.Client (client.Reserve reserve.OutOfMemory)) = memory_advice
 driver_advice (driver.Client e) = never_advice
 driver_advice (driver.ConditionFailed tries) = never_advice
 
-abbrev pub show_advice : ShowError → List ℕ
-show_advice show.NoLink =
-    codes "another program uses this address, most often this node or client itself, which runs already, or it is none of this machine's: end that program, or mend the address in the system's file"
-show_advice show.NoThread = codes "the system gives no more threads: ask for fewer by --executors"
-show_advice (show.Driver e) = driver_advice e
-show_advice (show.Loop end) = loop_advice end
-show_advice (show.WrongClass h) =
-    codes "it has not as many words of this handler as the class has in the system's file: name this node's store, or the file that it was made with"
-show_advice (show.Store refusal) = keeper_advice refusal
-show_advice (show.NotClosed cause) = never_advice
-show_advice show.OutOfMemory = memory_advice
-show_advice show.Write = codes "see whether there is room for the output, and whether its reader still runs"
+abbrev pub party_advice : PartyError → List ℕ
+party_advice party.NoLink =
+    codes "a running program, often this same node or client, uses the address, or this machine lacks it: end that program or fix the system's file"
+party_advice party.NoThread = codes "the operating system refuses more threads: lower --executors"
+party_advice (party.Driver e) = driver_advice e
+party_advice (party.Loop end) = loop_advice end
+party_advice (party.WrongClass h) =
+    codes "it stores fewer or more words for the handler than its class has: name this node's store, or the system's file that made it"
+party_advice (party.Store refusal) = keeper_advice refusal
+party_advice (party.NotClosed cause) = never_advice
+party_advice party.OutOfMemory = memory_advice
+party_advice party.Write = codes "check that the output has room and its reader still runs"
 
 abbrev pub advice_text : RuntimeError → List ℕ
 advice_text (Line number fault) = line_advice fault
 advice_text (Input error) = source_advice error.fault
 advice_text InsideBlock =
-    codes "write end behind the last line: this block is cut once the client runs again, if only with empty input, and until then its handlers wait for it"
-advice_text InsideWhen = codes "write end behind the last line, and give all lines of this block again, since none of it is done"
+    codes "write end after the last line: this block is cut when the client runs again, even with empty input; until then its handlers wait"
+advice_text InsideWhen = codes "write end after the last line, and repeat all lines of this block: nothing of it is done"
 advice_text (Handlers error) = begin_advice error
 advice_text (NoHandler h) =
-    codes "it is the store of another party, or of a node that was never ready, or the system's file has gained this handler since: name this node's store, or take the handler out of the file; only a node that was never ready, which has answered nothing, begins anew by --new"
+    codes "it belongs to another party or to a node that was never ready, or the system's file gained the handler later. Name this node's store, or remove the handler from the file. Use --new only if the node was never ready"
 advice_text (NotWelcomed h) =
-    codes "it has not welcomed this client: see whether its node runs, whether all programs have the same file and the same key, and whether this client ran before with another store (go on with that one, and never with this one), or give more turns by --turns"
+    codes "it has not welcomed this client. Check that its node runs and that all programs have the same file and key. If this client ran before with another store, resume that one and never this one. Else raise --turns"
 advice_text (NotAnswered h) =
-    codes "it has not answered, or the block of another client stands before this one: see whether its node runs, and whether a client has stopped inside a block (begin it again), or give more turns by --turns"
-advice_text (Refused number) = codes "the last line of the output says why; without --strict a line that is refused is no fault"
-advice_text (Ended error) = show_advice error
+    codes "it has not answered, or another client's block is in front. Check that its node runs. If a client stopped inside a block, start it again. Else raise --turns"
+advice_text (Refused number) = codes "the last line of the output says why; without --strict a refused line is no fault"
+advice_text (Ended error) = party_advice error
 
--- over a store, with which a node or a client goes on
+-- for a node or a client with a store
 abbrev pub stored_advice : RuntimeError → List ℕ
-stored_advice (Ended show.Write) = codes "see whether there is room for the output, and whether its reader still runs; go on with --store"
+stored_advice (Ended party.Write) = codes "check that the output has room and its reader still runs; resume with --store"
 stored_advice error = advice_text error
 
--- ---- what the advice is about
+-- ---- the subject of an advice
 
 abbrev pub loop_about : ServeEnd → About
 loop_about served.NodeFailed = Store
@@ -118,28 +112,28 @@ abbrev pub driver_about : DriverError → About
 driver_about driver.LinkFault = Address
 driver_about error = Nothing
 
-abbrev pub show_about : ShowError → About
-show_about show.NoLink = Address
-show_about (show.Driver e) = driver_about e
-show_about (show.Loop end) = loop_about end
-show_about (show.WrongClass h) = Store
-show_about (show.Store _) = Store
-show_about error = Nothing
+abbrev pub party_about : PartyError → About
+party_about party.NoLink = Address
+party_about (party.Driver e) = driver_about e
+party_about (party.Loop end) = loop_about end
+party_about (party.WrongClass h) = Store
+party_about (party.Store _) = Store
+party_about error = Nothing
 
 abbrev pub about : RuntimeError → About
 about (NoHandler h) = Store
 about (NotWelcomed h) = Handler h
 about (NotAnswered h) = Handler h
-about (Ended error) = show_about error
+about (Ended error) = party_about error
 about error = Nothing
 
--- ---- a file that is read before a node or a client begins
+-- ---- a file that the program reads first
 
 abbrev pub file_advice : FileFault → List ℕ
-file_advice file.Missing = codes "see whether its name and its folder are right"
-file_advice file.Unread = codes "see whether it is a file, and whether it may be read"
-file_advice file.NotText = codes "write it as text, in UTF-8"
-file_advice file.NoSystem = codes "mend it there, and let scoop check read it again"
-file_advice file.NoNode = codes "name one of the nodes that scoop check shows, or write this one into the file"
-file_advice file.NoClient = codes "name one of the clients that scoop check shows, or write this one into the file"
+file_advice file.Missing = codes "check its name and its folder"
+file_advice file.Unread = codes "check that it is a file and that you may read it"
+file_advice file.NotText = codes "write it as UTF-8 text"
+file_advice file.NoSystem = codes "fix it there, and run scoop check again"
+file_advice file.NoNode = codes "name a node that scoop check shows, or add this one to the file"
+file_advice file.NoClient = codes "name a client that scoop check shows, or add this one to the file"
 file_advice file.NoKey = codes "openssl rand -hex 32 > FILE writes a key: give all programs of the system the same one"

@@ -1,4 +1,4 @@
--- What a refusal of a driver is answered with.
+-- The reply to a refusal of a driver.
 use Rattle.std.specs.Prelude.{Bool, true, false, Result, Ok, Err}
 use Rattle.scoop_reserve.specs.declared.error.ReserveError.TheVariants as reserve
 use Rattle.scoop_client.specs.declared.error.ClientError.TheVariants as client
@@ -7,7 +7,7 @@ use Rattle.scoop_driver.specs.declared.error.DriverError.TheVariants.{Client, Tu
 use Rattle.scoop_runtime.specs.declared.reply.Reply.{Reply}
 use Rattle.scoop_runtime.specs.declared.reply.Reply.TheVariants.{Reserved, Logged, Answered, Ended, Noted, EndedAt, ConditionFailed, Refused, NotInWhen}
 
--- the client goes on behind its own refusal and a condition that failed; want of memory and the link's errors end it
+-- the client goes on after its own refusal and after a condition that failed; out of memory and the link's errors end it
 abbrev pub answered : DriverError → Result Reply DriverError
 answered (Client client.OutOfMemory) = Err (Client client.OutOfMemory)
 answered (Client (client.Reserve reserve.OutOfMemory)) = Err (Client (client.Reserve reserve.OutOfMemory))
@@ -16,7 +16,7 @@ answered (Failed tries) = Ok (ConditionFailed tries)
 answered TurnsOver = Err TurnsOver
 answered LinkFault = Err LinkFault
 
--- The client refused the line, or the condition of a block failed. What an object refuses is its answer.
+-- The client refused the line, or a block's condition failed. An object's refusal is an answer.
 abbrev pub is_refusal : Reply → Bool
 is_refusal (Reserved block) = false
 is_refusal (Logged h n) = false

@@ -1,11 +1,11 @@
--- What is printed of an error of a node or a client, and the status with which the program ends.
+-- The text of an error of a node or a client, and the program's exit status.
 use Rattle.std.specs.Prelude.{ℕ, List, ◌++◌, codes}
 use Rattle.std.specs.Fmt.{decimal}
 use Rattle.scoop_client.specs.declared.error.BeginError.{BeginError}
 use Rattle.scoop_client.specs.declared.error.BeginError.TheVariants as begin
-use Rattle.scoop_show.specs.ErrorText.{error_text as show_text}
+use Rattle.scoop_errors.specs.ErrorText.{error_text as party_text}
 use Rattle.scoop_system.specs.LineText.{line_fault_text}
-use Rattle.scoop_runtime.specs.Sources.{source_text}
+use Rattle.scoop_lines.specs.SourceText.{source_text}
 use Rattle.scoop_runtime.specs.declared.error.RuntimeError.{RuntimeError}
 use Rattle.scoop_runtime.specs.declared.error.RuntimeError.TheVariants.{Line, Input, InsideBlock, InsideWhen, Handlers, NoHandler, Ended}
 use Rattle.scoop_runtime.specs.declared.error.RuntimeError.TheVariants.{NotWelcomed, NotAnswered, Refused}
@@ -20,15 +20,15 @@ abbrev pub error_text : RuntimeError → List ℕ
 error_text (Line number fault) = codes "line " ++ decimal number ++ codes ": " ++ line_fault_text fault
 error_text (Input error) = codes "line " ++ decimal error.line ++ codes ": " ++ source_text error.fault
 error_text InsideBlock = codes "the input ended inside a block, which is left to the next incarnation"
-error_text InsideWhen = codes "the input ended inside a block that waits for its condition, of which nothing is done"
+error_text InsideWhen = codes "the input ended inside a waiting block, and nothing of it is done"
 error_text (Handlers error) = begin_text error
 error_text (NoHandler h) = codes "store: NoHandler " ++ decimal h.0
 error_text (NotWelcomed h) = codes "link: TurnsOver"
 error_text (NotAnswered h) = codes "link: TurnsOver"
 error_text (Refused number) = codes "line " ++ (decimal number ++ codes ": refused")
-error_text (Ended error) = show_text error
+error_text (Ended error) = party_text error
 
--- 1 at a fault of the input, where it ended inside a block, and where a strict client was refused a line, else 3
+-- 1 after a fault of the input, an input that ends inside a block, or a refused line of a strict client, else 3
 abbrev pub status_of : RuntimeError → ℕ
 status_of (Line number fault) = 1
 status_of (Input error) = 1

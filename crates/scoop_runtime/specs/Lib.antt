@@ -1,13 +1,15 @@
 pub mod Advice
 pub mod Answering
+pub mod Beginnings
 pub mod Errors
 pub mod News
+pub mod Forwarding
 pub mod NodeTexts
+pub mod Obeying
 pub mod Progress
 pub mod Ranges
 pub mod Records
 pub mod Silence
-pub mod Sources
 pub mod Texts
 pub mod Typing
 pub mod Unlocking

@@ -1,4 +1,4 @@
--- Which replies are no news, and what a link that passes over them keeps.
+-- Stale replies, and the state of a link that drops them.
 use Rattle.std.specs.Prelude.{◌≡◌, ℕ, not, ◌&&◌, Bool, true, false, List, [], ◌∷◌, map, ◌++◌, bytes_eq, IsTrue, IsFalse, Option, Some, None, Result, Ok, Err}
 use Rattle.std.specs.Prelude.{if◌then◌else◌}
 use Rattle.std.specs.List.{list_any, list_all}
@@ -14,23 +14,23 @@ use Rattle.scoop_link.specs.Datagram.{kept}
 use Rattle.scoop_link.specs.Link.{Told, Exchanges}
 use Rattle.scoop_runtime.specs.declared.news_link.Talk.{Talk}
 
--- The reply is the handler's last one once more, though what that replied to was not sent again since.
+-- The reply repeats the handler's last one, though the datagram was not sent again since.
 abbrev pub is_old : Talk → List ℕ → Bool
 is_old t reply = not t.again && bytes_eq t.heard reply
 
 abbrev pub is_old_to : List Talk → List ℕ → Bool
 is_old_to talks reply = list_any (λ t. is_old t reply) talks
 
--- the talk with a handler that was sent nothing yet
+-- the talk with a handler before anything is sent to it
 abbrev pub fresh_talk : HandlerId → Talk
 fresh_talk h = record { handler = h; asked = []; heard = []; again = false }
 
--- a talk once its handler was sent a datagram
+-- a talk after a datagram was sent to its handler
 abbrev pub asked : HandlerId → List ℕ → Talk → Talk
 asked h datagram t =
     if same_handler t.handler h then record t { asked = datagram; again = bytes_eq t.asked datagram } else t
 
--- a talk once its handler's reply was given
+-- a talk after its handler's reply was passed on
 abbrev pub heard : HandlerId → List ℕ → Talk → Talk
 heard h reply t = if same_handler t.handler h then record t { heard = reply; again = false } else t
 
@@ -44,25 +44,25 @@ abbrev pub after_hearing : List Talk → Option HandlerId → List ℕ → List 
 after_hearing talks None reply = talks
 after_hearing talks (Some h) reply = map (heard h reply) talks
 
--- Whose reply some bytes are: that of the handler that they name, and nobody's where they are no frame.
+-- The sender of a reply: the handler that it names, and none if the bytes are no frame.
 abbrev pub Sends : Option HandlerId → List ℕ → Type 0
 Sends None reply = (v : Version) (m : Message) → IsFrame v m reply → ⊥
 Sends (Some h) reply = (v : Version) × (m : Message) × IsFrame v m reply × (h ≡ handler_of m)
 
--- What was given is news, and the talk with the handler that sent it knows of it.
+-- The reply that was passed on is news, and the talk with its sender records it.
 pub record IsNews (old new : List Talk) (reply : List ℕ) : Type 0 where
   pub is_new : IsFalse (is_old_to old reply)
   pub sender : Option HandlerId
   pub sends : Sends sender reply
   pub noted : new ≡ after_hearing old sender (kept reply)
 
--- Where a link tells its datagrams, replies that are no news were taken, and then these.
+-- A link that records its datagrams took stale replies, and then these datagrams.
 pub record TakesBehind (talks : List Talk) (before after : Option Told) (taken : List (List ℕ)) : Type 0 where
   pub over : List (List ℕ)
   pub are_old : IsTrue (list_all (is_old_to talks) over)
   pub exchanges : Exchanges before after (over ++ taken) []
 
--- the link behind, and what was said with each handler
+-- the link below, and the talk with each handler
 pub record NewsValue (L : Type 0) : Type 0 where
   pub inner : L
   pub talks : List Talk

@@ -1,4 +1,4 @@
--- The ranges of the numbers that a node or a client is run with.
+-- The ranges of a node's and a client's numbers.
 use Rattle.std.specs.Prelude.{ℕ, ◌-◌, ◌^◌, ◌&&◌, nat_le, Bool, if◌then◌else◌, List, [], ◌∷◌, ◌++◌, codes, Option, Some, None}
 use Rattle.std.specs.Fmt.{decimal}
 use Rattle.scoop_message.specs.declared.limits.TheConstants.{MAX_ENTRIES, MAX_HISTORY}
@@ -26,15 +26,15 @@ abbrev pub first_outside : List (OutOfRange × ℕ) → Option OutOfRange
 first_outside [] = None
 first_outside (x ∷ xs) = if is_within x.0 x.1 then first_outside xs else Some x.0
 
--- of the numbers with which a node is served
+-- for the numbers of a node
 abbrev pub serving_fault : ℕ → ℕ → ℕ → Option OutOfRange
 serving_fault executors history turns = first_outside ((Executors, executors) ∷ (History, history) ∷ (Turns, turns) ∷ [])
 
--- of the numbers with which a client runs
+-- for the numbers of a client
 abbrev pub client_fault : ℕ → ℕ → Option OutOfRange
 client_fault turns batch = first_outside ((Turns, turns) ∷ (Batch, batch) ∷ [])
 
--- what the program calls the number
+-- the program's name for the number
 abbrev pub name_text : OutOfRange → List ℕ
 name_text Executors = codes "--executors"
 name_text History = codes "--history"
@@ -42,11 +42,11 @@ name_text Turns = codes "--turns"
 name_text Batch = codes "batch"
 
 abbrev pub range_text : OutOfRange → List ℕ
-range_text range = name_text range ++ codes " is a whole number from " ++ decimal (least range) ++ codes " to " ++ decimal (greatest range)
+range_text range = name_text range ++ codes " must be a whole number from " ++ decimal (least range) ++ codes " to " ++ decimal (greatest range)
 
 abbrev pub range_advice : OutOfRange → List ℕ
-range_advice Executors = codes "give such a number, or leave the option out: then there are 2"
-range_advice History = codes "give such a number, or leave the option out: then it is 100000"
+range_advice Executors = codes "give such a number, or omit the option for 2"
+range_advice History = codes "give such a number, or omit the option for 100000"
 range_advice Turns =
-    codes "give such a number, or leave the option out: then a client's command takes up to 100000, and scoop node serves until it is killed"
-range_advice Batch = codes "mend the batch of the client in the system's file"
+    codes "give such a number, or omit the option: then a client's command takes at most 100000 turns, and scoop node serves until you kill it"
+range_advice Batch = codes "fix the client's batch in the system's file"

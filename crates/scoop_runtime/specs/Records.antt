@@ -1,4 +1,4 @@
--- What a record has of a node's handlers before the node opens.
+-- The record of a node's handlers before the node opens.
 use Rattle.std.specs.Prelude.{ℕ}
 use Rattle.scoop_message.specs.declared.name.HandlerId.{HandlerId}
 use Rattle.scoop_handler.specs.State.{HandlerState}

@@ -1,4 +1,4 @@
--- Whom a client waits for: whether it greets them, and which it names where its turns are over.
+-- The handlers that a client waits for: whether it greets them, and which it names when its turns are over.
 use Rattle.std.specs.Prelude.{◌≡◌, ℕ, Bool, true, false, List, find, map, is_some, Option, Some, None}
 use Rattle.scoop_message.specs.declared.name.HandlerId.{HandlerId}
 use Rattle.scoop_message.specs.declared.message.Message.{Message}
@@ -11,7 +11,7 @@ use Rattle.scoop_client.specs.State.{ClientState, phase_of}
 use Rattle.scoop_client.specs.Due.{due}
 use Rattle.scoop_driver.specs.declared.error.DriverError.{DriverError}
 use Rattle.scoop_driver.specs.declared.error.DriverError.TheVariants.{TurnsOver}
-use Rattle.scoop_show.specs.declared.error.ShowError.TheVariants.{Driver}
+use Rattle.scoop_errors.specs.declared.party_error.PartyError.TheVariants.{Driver}
 use Rattle.scoop_system.specs.declared.place.HandlerPlace.{HandlerPlace}
 use Rattle.scoop_runtime.specs.declared.error.RuntimeError.{RuntimeError}
 use Rattle.scoop_runtime.specs.declared.error.RuntimeError.TheVariants.{NotWelcomed, NotAnswered, Ended}
@@ -25,17 +25,17 @@ abbrev pub Greets : Bool → List ℕ → Type 0
 Greets true bytes = (v : Version) × (m : Message) × IsFrame v m bytes × (greets m ≡ true)
 Greets false bytes = (v : Version) (m : Message) → IsFrame v m bytes → greets m ≡ false
 
--- the first handler to which the client owes something
+-- the first handler to which a message is due
 abbrev pub first_awaited : ClientState → List HandlerPlace → Option HandlerId
 first_awaited c places = find (λ h. is_some (due c h)) (map (λ p. p.handler) places)
 
--- why a client ends whose turns are over: it was still greeting, or it waited for an answer
+-- the error of a client whose turns are over: it was greeting, or it waited for an answer
 abbrev pub over_at : Phase → Option HandlerId → RuntimeError
 over_at phase None = Ended (Driver TurnsOver)
 over_at Greeting (Some h) = NotWelcomed h
 over_at phase (Some h) = NotAnswered h
 
--- why it ends at an error
+-- the error of a session after an error of its driver
 abbrev pub ended_by : ClientState → DriverError → List HandlerPlace → RuntimeError
 ended_by c TurnsOver places = over_at (phase_of c) (first_awaited c places)
 ended_by c error places = Ended (Driver error)

@@ -1,10 +1,10 @@
--- What a node and a client print.
+-- The texts of a node and a client.
 use Rattle.std.specs.Prelude.{ℕ, List, [], ◌∷◌, ◌++◌, codes, Option, Some, None, Bool, true, false}
 use Rattle.std.specs.Fmt.{decimal}
 use Rattle.scoop_message.specs.declared.name.HandlerId.{HandlerId}
 use Rattle.scoop_message.specs.Text.{answer_text, block_text}
 use Rattle.scoop_client.specs.declared.error.ClientError.{ClientError}
-use Rattle.scoop_show.specs.ErrorText.{client_name, client_number}
+use Rattle.scoop_errors.specs.ErrorText.{client_name, client_number}
 use Rattle.scoop_runtime.specs.declared.reply.Reply.{Reply}
 use Rattle.scoop_runtime.specs.declared.reply.Reply.TheVariants.{Reserved, Logged, Answered, Ended, Noted, EndedAt, ConditionFailed, Refused, NotInWhen}
 
@@ -13,12 +13,12 @@ abbrev pub numbers_text : List HandlerId → List ℕ
 numbers_text [] = []
 numbers_text (h ∷ hs) = 32 ∷ decimal h.0 ++ numbers_text hs
 
--- why a client may wait, and what to do: while it greets, when no block can stand before it, and later
+-- why a client may wait, and advice: while it greets, when no block can stand in front of it, and later
 abbrev pub awaited_advice : Bool → List ℕ
 awaited_advice true =
-    codes "no welcome yet; see whether the nodes run, whether all programs have the same file and the same key, and whether this client ran before with another store (go on with that one)"
+    codes "no welcome yet. Check that the nodes run and that all programs have the same file and key. If this client ran before with another store, resume that one"
 awaited_advice false =
-    codes "no answer, or the block of another client stands before this one; see whether the nodes run, and whether a client has stopped inside a block (begin it again)"
+    codes "no answer yet, or another client's block is in front. Check that the nodes run. If a client stopped inside a block, start it again"
 
 -- handlers that a client waits for, and why that may be
 abbrev pub awaited_text : Bool → List HandlerId → List ℕ
@@ -31,7 +31,7 @@ waiting_text is_greeting hs = codes "scoop: waiting for handlers" ++ awaited_tex
 abbrev pub fault_text : List ℕ
 fault_text = codes "scoop: link: LinkFault, and the node goes on" ++ 10 ∷ []
 
--- a name, with a number where it has one
+-- a name, with a number if it has one
 abbrev pub named : List ℕ → Option ℕ → List ℕ
 named name None = name
 named name (Some n) = name ++ codes " " ++ decimal n
@@ -39,7 +39,7 @@ named name (Some n) = name ++ codes " " ++ decimal n
 abbrev pub refusal_text : ClientError → List ℕ
 refusal_text e = codes "refused " ++ named (client_name e) (client_number e) ++ 10 ∷ []
 
--- the line that answers a client's line
+-- the line of a reply
 abbrev pub reply_text : Reply → List ℕ
 reply_text (Reserved block) = codes "reserved " ++ block_text block ++ 10 ∷ []
 reply_text (Logged h n) = codes "logged " ++ decimal h.0 ++ codes " " ++ decimal n ++ 10 ∷ []

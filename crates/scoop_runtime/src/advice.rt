@@ -1,24 +1,24 @@
-//! What to do where a node or a client ends early, or doesn't begin.
+//! Advice to the user when a node or a client ends early or doesn't begin.
 
 ghost use Rattle.std.specs.Prelude.{◌≡◌};
-ghost use Rattle.scoop_runtime.specs.Advice.{about, driver_about, loop_about, show_about};
+ghost use Rattle.scoop_runtime.specs.Advice.{about, driver_about, loop_about, party_about};
 ghost use Rattle.scoop_runtime.specs.Advice.{advice_text, begin_advice, driver_advice, file_advice, line_advice};
-ghost use Rattle.scoop_runtime.specs.Advice.{loop_advice, show_advice, source_advice, stored_advice};
+ghost use Rattle.scoop_runtime.specs.Advice.{loop_advice, party_advice, stored_advice};
 
 use crate::error::RuntimeError;
-use crate::source::SourceFault;
 use scoop_client::{BeginError, ClientError};
+use scoop_driver::DriverError;
+use scoop_errors::PartyError;
 use scoop_keeper::memory_advice;
 use scoop_message::HandlerId;
-use scoop_netloop::{DriverError, ServeEnd};
+use scoop_netloop::ServeEnd;
 use scoop_reserve::ReserveError;
-use scoop_show::ShowError;
 use scoop_system::LineFault;
 
-// Of what no run leads to.
-const NEVER: &str = "this can't come: tell the authors which command and which files led to it";
+// For an error that no run leads to.
+const NEVER: &str = "this can't happen: report the command and its files to the authors";
 
-/// What an advice is about.
+/// The subject of an advice.
 #[derive(Clone, Copy, Debug, PartialEq, Eq)]
 pub enum About {
     /// The node's or the client's store.
@@ -31,7 +31,7 @@ pub enum About {
     Nothing,
 }
 
-/// What is wrong with a file that is read before a node or a client begins: the system's, or the key's.
+/// A fault of a file that the program reads first: the system's, or the key's.
 #[derive(Clone, Copy, Debug, PartialEq, Eq)]
 pub enum FileFault {
     /// There is no such file.
@@ -51,20 +51,20 @@ pub enum FileFault {
 }
 
 impl FileFault {
-    /// What to do.
+    /// The advice for this fault.
     pub fn advice(self) -> &'static str
         ensures { result.now ≡ file_advice self }
     {
         match self {
-            FileFault::Missing => "see whether its name and its folder are right",
-            FileFault::Unread => "see whether it is a file, and whether it may be read",
-            FileFault::NotText => "write it as text, in UTF-8",
-            FileFault::NoSystem => "mend it there, and let scoop check read it again",
+            FileFault::Missing => "check its name and its folder",
+            FileFault::Unread => "check that it is a file and that you may read it",
+            FileFault::NotText => "write it as UTF-8 text",
+            FileFault::NoSystem => "fix it there, and run scoop check again",
             FileFault::NoNode => {
-                "name one of the nodes that scoop check shows, or write this one into the file"
+                "name a node that scoop check shows, or add this one to the file"
             }
             FileFault::NoClient => {
-                "name one of the clients that scoop check shows, or write this one into the file"
+                "name a client that scoop check shows, or add this one to the file"
             }
             FileFault::NoKey => {
                 "openssl rand -hex 32 > FILE writes a key: give all programs of the system the same one"
@@ -74,54 +74,53 @@ impl FileFault {
 }
 
 impl RuntimeError {
-    /// What to do, and before it what is behind the error where its own text doesn't say that.
+    /// The advice for this error, after its cause if the error's own text doesn't say it.
     pub fn advice(self) -> &'static str
         ensures { result.now ≡ advice_text self }
     {
         match self {
             RuntimeError::Line(_, fault) => line_advice(fault),
-            RuntimeError::Input(error) => source_advice(error.fault),
+            RuntimeError::Input(error) => error.fault.advice(),
             RuntimeError::InsideBlock => {
-                "write end behind the last line: this block is cut once the client runs again, if only with empty input, and until then its \
-                handlers wait for it"
+                "write end after the last line: this block is cut when the client runs again, even with empty input; until then \
+                its handlers wait"
             }
             RuntimeError::InsideWhen => {
-                "write end behind the last line, and give all lines of this block again, since none of it is done"
+                "write end after the last line, and repeat all lines of this block: nothing of it is done"
             }
             RuntimeError::Handlers(error) => begin_advice(error),
             RuntimeError::NoHandler(_) => {
-                "it is the store of another party, or of a node that was never ready, or the system's file has gained this handler since: \
-                name this node's store, or take the handler out of the file; only a node that was never ready, which has answered \
-                nothing, begins anew by --new"
+                "it belongs to another party or to a node that was never ready, or the system's file gained the handler later. \
+                Name this node's store, or remove the handler from the file. Use --new only if the node was never ready"
             }
             RuntimeError::NotWelcomed(_) => {
-                "it has not welcomed this client: see whether its node runs, whether all programs have the same file and the same key, and \
-                whether this client ran before with another store (go on with that one, and never with this one), or give more turns by --turns"
+                "it has not welcomed this client. Check that its node runs and that all programs have the same file and key. If \
+                this client ran before with another store, resume that one and never this one. Else raise --turns"
             }
             RuntimeError::NotAnswered(_) => {
-                "it has not answered, or the block of another client stands before this one: see whether its node runs, and whether a \
-                client has stopped inside a block (begin it again), or give more turns by --turns"
+                "it has not answered, or another client's block is in front. Check that its node runs. If a client stopped \
+                inside a block, start it again. Else raise --turns"
             }
             RuntimeError::Refused(_) => {
-                "the last line of the output says why; without --strict a line that is refused is no fault"
+                "the last line of the output says why; without --strict a refused line is no fault"
             }
-            RuntimeError::Ended(error) => show_advice(error),
+            RuntimeError::Ended(error) => party_advice(error),
         }
     }
 
-    /// The same over a store, with which a node or a client goes on.
+    /// The same for a node or a client with a store, which can go on with it.
     pub fn advice_over_store(self) -> &'static str
         ensures { result.now ≡ stored_advice self }
     {
         match self {
-            RuntimeError::Ended(ShowError::Write) => {
-                "see whether there is room for the output, and whether its reader still runs; go on with --store"
+            RuntimeError::Ended(PartyError::Write) => {
+                "check that the output has room and its reader still runs; resume with --store"
             }
             error => error.advice(),
         }
     }
 
-    /// What the advice is about: who tells it names that before it.
+    /// The subject of the advice, which the program prints before it.
     pub fn about(self) -> About
         ensures { result ≡ about self }
     {
@@ -130,20 +129,20 @@ impl RuntimeError {
             RuntimeError::NotWelcomed(handler) | RuntimeError::NotAnswered(handler) => {
                 About::Handler(handler)
             }
-            RuntimeError::Ended(error) => show_about(error),
+            RuntimeError::Ended(error) => party_about(error),
             _ => About::Nothing,
         }
     }
 }
 
-fn show_about(error: ShowError) -> About
-    ensures { result ≡ show_about error }
+fn party_about(error: PartyError) -> About
+    ensures { result ≡ party_about error }
 {
     match error {
-        ShowError::NoLink => About::Address,
-        ShowError::Driver(error) => driver_about(error),
-        ShowError::Loop(end) => loop_about(end),
-        ShowError::WrongClass(_) | ShowError::Store(_) => About::Store,
+        PartyError::NoLink => About::Address,
+        PartyError::Driver(error) => driver_about(error),
+        PartyError::Loop(end) => loop_about(end),
+        PartyError::WrongClass(_) | PartyError::Store(_) => About::Store,
         _ => About::Nothing,
     }
 }
@@ -172,23 +171,23 @@ fn line_advice(fault: LineFault) -> &'static str
 {
     match fault {
         LineFault::UnknownLine => {
-            "a line begins with reserve, call, query or end, and spaces part its words: scoop client --help has them all"
+            "begin the line with reserve, call, query or end, and separate words by spaces: scoop client --help lists all lines"
         }
         LineFault::WrongNumberOfWords => {
-            "scoop client --help says which words each line has; those behind when are H OP A.. least V tries T"
+            "scoop client --help lists the words of each line; after when write H OP A.. least V tries T"
         }
         LineFault::NotANumber => {
-            "write a whole number in decimal digits: an operation's is up to 65535, a handler's up to 4294967295, how often is tried 1 \
-            to 4294967295, an argument and what stands behind least 0 to 18446744073709551615"
+            "write a whole decimal number: operation up to 65535, handler up to 4294967295, tries 1 to 4294967295, argument or \
+            least up to 18446744073709551615"
         }
         LineFault::TooFewArguments | LineFault::TooManyArguments => {
-            "scoop check shows which arguments, a0 to a3, the operations of the file's classes read, and scoop client --help has those \
-            of the others: give so many"
+            "give as many arguments as the operation reads: scoop check shows a0 to a3 for the file's classes, scoop client \
+            --help lists the others"
         }
         LineFault::TooManyHandlers => "a block has at most 8 handlers: reserve fewer",
         LineFault::NoSuchOperation => {
-            "scoop check shows the operations of the file's classes, and scoop client --help those of the others: name one of \
-            them"
+            "name an operation of the handler's class: scoop check shows those of the file's classes, scoop client --help the \
+            others"
         }
         LineFault::NoSuchHandler => {
             "scoop check shows the handlers of the system: name one of them"
@@ -196,50 +195,36 @@ fn line_advice(fault: LineFault) -> &'static str
     }
 }
 
-fn source_advice(fault: SourceFault) -> &'static str
-    ensures { result.now ≡ source_advice fault }
-{
-    match fault {
-        SourceFault::LineTooLong => "a line has at most 4096 bytes: write a shorter one",
-        SourceFault::TooManyLines => {
-            "an input has at most 1000000 lines: give the others to another run"
-        }
-        SourceFault::ReadFault => "see whether the input is a folder, and can still be read",
-    }
-}
-
 fn begin_advice(error: BeginError) -> &'static str
     ensures { result.now ≡ begin_advice error }
 {
     match error {
-        BeginError::NoHandlers => "write a handler into the system's file",
+        BeginError::NoHandlers => "add a handler to the system's file",
         BeginError::TooManyHandlers => "leave at most 64 handlers in the system's file",
-        BeginError::Repeated(_) => { "give each handler of the system's file a number of its own" }
+        BeginError::Repeated(_) => { "give each handler in the system's file its own number" }
         BeginError::OutOfMemory => memory_advice(),
     }
 }
 
-fn show_advice(error: ShowError) -> &'static str
-    ensures { result.now ≡ show_advice error }
+fn party_advice(error: PartyError) -> &'static str
+    ensures { result.now ≡ party_advice error }
 {
     match error {
-        ShowError::NoLink => {
-            "another program uses this address, most often this node or client itself, which runs already, or it is none of this \
-            machine's: end that program, or mend the address in the system's file"
+        PartyError::NoLink => {
+            "a running program, often this same node or client, uses the address, or this machine lacks it: end that program or \
+            fix the system's file"
         }
-        ShowError::NoThread => "the system gives no more threads: ask for fewer by --executors",
-        ShowError::Driver(error) => driver_advice(error),
-        ShowError::Loop(end) => loop_advice(end),
-        ShowError::WrongClass(_) => {
-            "it has not as many words of this handler as the class has in the system's file: name this node's store, or the file \
-            that it was made with"
+        PartyError::NoThread => "the operating system refuses more threads: lower --executors",
+        PartyError::Driver(error) => driver_advice(error),
+        PartyError::Loop(end) => loop_advice(end),
+        PartyError::WrongClass(_) => {
+            "it stores fewer or more words for the handler than its class has: name this node's store, or the system's file that \
+            made it"
         }
-        ShowError::Store(refusal) => refusal.advice(),
-        ShowError::NotClosed(_) => NEVER,
-        ShowError::OutOfMemory => memory_advice(),
-        ShowError::Write => {
-            "see whether there is room for the output, and whether its reader still runs"
-        }
+        PartyError::Store(refusal) => refusal.advice(),
+        PartyError::NotClosed(_) => NEVER,
+        PartyError::OutOfMemory => memory_advice(),
+        PartyError::Write => { "check that the output has room and its reader still runs" }
     }
 }
 
@@ -248,10 +233,10 @@ fn driver_advice(error: DriverError) -> &'static str
 {
     match error {
         DriverError::TurnsOver => {
-            "a handler has not answered: see whether the nodes run, or give more turns by --turns"
+            "a handler has not answered: check that the nodes run, or raise --turns"
         }
         DriverError::LinkFault =>
-            "a datagram could not be sent or received: see the addresses and the network",
+            "a datagram could not be sent or received: check the addresses and the network",
         DriverError::Client(ClientError::OutOfMemory)
         | DriverError::Client(ClientError::Reserve(ReserveError::OutOfMemory)) => memory_advice(),
         DriverError::Client(_) | DriverError::ConditionFailed(_) => NEVER,
@@ -263,13 +248,12 @@ fn loop_advice(end: ServeEnd) -> &'static str
 {
     match end {
         ServeEnd::NodeFailed => {
-            "a state could not be stored: see whether the disk is full, and go on with --store, since what was answered is there"
+            "a state could not be stored: check that the disk has room, and resume with --store, which has all that was answered"
         }
-        ServeEnd::LinkFault =>
-            "a thousand datagrams in a row could not be sent or received: see the network",
-        ServeEnd::NoThread => "the system gives no more threads: ask for fewer by --executors",
-        ServeEnd::TurnsOver => "give more turns by --turns",
-        ServeEnd::HistoryFull => "give more entries by --history",
+        ServeEnd::LinkFault => "a thousand sends or receives failed in a row: check the network",
+        ServeEnd::NoThread => "the operating system refuses more threads: lower --executors",
+        ServeEnd::TurnsOver => "raise --turns",
+        ServeEnd::HistoryFull => "raise --history",
         ServeEnd::OutOfMemory => memory_advice(),
         ServeEnd::Stopped | ServeEnd::GateShut => NEVER,
     }

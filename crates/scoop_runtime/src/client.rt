@@ -1,47 +1,90 @@
 //! A client whose commands are the lines of an input.
 
+ghost use Rattle.std.specs.Prelude.{◌≡◌, ◌++◌, IfOk, OnOk};
+ghost use Rattle.scoop_keeper.specs.Keeper.{Stays};
+ghost use Rattle.scoop_runtime.specs.Beginnings.{BeginsNext, gather, known_in, placed_on};
+
 use crate::error::RuntimeError;
 use crate::news_link::NewsLink;
 use crate::plan::ClientPlan;
 use crate::progress::{ClientStop, Progress};
 use crate::reply::print_reply;
 use crate::session::Session;
-use crate::source::LineSource;
 use crate::typing::{tell_misread, tell_note, tell_ready};
 use crate::waiting_link::WaitingLink;
 use arrayvec::ArrayVec;
 use scoop_client::{BeginError, Client};
+use scoop_errors::PartyError;
 use scoop_keeper::{Keeper, KeeperError};
-use scoop_link::{Link, PacedLink};
+use scoop_lines::LineSource;
+use scoop_link::{Link, PacedLink, REPEATS};
 use scoop_message::{HandlerId, OutOfMemory};
-use scoop_show::ShowError;
-use scoop_system::{ClientLine, ClientPlace, System, read_line};
+use scoop_system::{ClientLine, ClientPlace, HandlerPlace, NodePlace, System, read_line};
 use std::alloc::Global;
 use std::io::Write;
 
-// How often a client repeats a datagram at once before it waits for a silence.
-const REPEATS: u64 = 8;
-
-// The handlers of a system: node by node in the order of the nodes, as the promise wants every client to know them.
-fn known_handlers(alloc: Global, system: &System) -> Result<Vec<HandlerId>, OutOfMemory> {
-    let mut known = Vec::new(alloc);
-    for node in system.nodes() {
-        for place in system.handlers() {
-            if place.node == node.number {
-                known.push(place.handler)?;
-            }
-        }
+// Adds the handler of this place, if it is on this node.
+fn add_placed(
+    node: &NodePlace,
+    place: &HandlerPlace,
+    known: &mut Vec<HandlerId>,
+) -> Result<(), OutOfMemory>
+    ensures { OnOk result (known.new.items ≡ known.old.items ++ placed_on node.now place.now) }
+{
+    if place.node == node.number {
+        known.push(place.handler)?;
     }
+    Ok(())
+}
+
+// Adds the handlers of this node.
+fn add_node(
+    node: &NodePlace,
+    places: &[HandlerPlace],
+    known: &mut Vec<HandlerId>,
+) -> Result<(), OutOfMemory>
+    ensures { OnOk result (known.new.items ≡ known.old.items ++ gather (placed_on node.now) places.now) }
+{
+    for place in places {
+        add_placed(node, place, known)?;
+    }
+    Ok(())
+}
+
+// Adds the handlers of these nodes.
+fn add_nodes(
+    nodes: &[NodePlace],
+    places: &[HandlerPlace],
+    known: &mut Vec<HandlerId>,
+) -> Result<(), OutOfMemory>
+    ensures { OnOk result (known.new.items ≡ known.old.items ++ gather (λ n. gather (placed_on n) places.now) nodes.now) }
+{
+    for node in nodes {
+        add_node(node, places, known)?;
+    }
+    Ok(())
+}
+
+// The handlers of a system, node by node: the theorem wants every client to know them in this order.
+fn known_handlers(alloc: Global, system: &System) -> Result<Vec<HandlerId>, OutOfMemory>
+    ensures { IfOk result (λ known. known.items ≡ known_in system.now) }
+{
+    let mut known = Vec::new(alloc);
+    add_nodes(system.nodes(), system.handlers(), &mut known)?;
     Ok(known)
 }
 
-// The client with its next incarnation.
+// A client with its next incarnation, which hasn't greeted any handler.
 fn begin_client<K: Keeper<Global>>(
     alloc: Global,
     plan: &ClientPlan<'_>,
     keeper: &mut K,
     known: &[HandlerId],
-) -> Result<Client, RuntimeError> {
+) -> Result<Client, RuntimeError>
+    ensures begins { IfOk result (BeginsNext plan.now.place.client plan.now.place.batch known.now (K.incarnations keeper.old) (K.incarnations keeper.new) (K.is_honest keeper.new)) }
+    ensures handlers { K.is_honest keeper.new → Stays (K.handlers keeper.old) (K.handlers keeper.new) }
+    ensures honest { K.is_honest keeper.new → K.is_honest keeper.old }
+{
     let ClientPlace { client, batch, .. } = plan.place();
     let inc = match keeper.next_incarnation(client) {
         Ok(0) => return Err(RuntimeError::from(KeeperError::Refused)),
@@ -54,7 +97,7 @@ fn begin_client<K: Keeper<Global>>(
     }
 }
 
-// Why a client doesn't begin.
+// The error for a client that doesn't begin.
 fn unbegun(error: BeginError) -> RuntimeError {
     match error {
         BeginError::OutOfMemory => RuntimeError::from(OutOfMemory),
@@ -64,7 +107,7 @@ fn unbegun(error: BeginError) -> RuntimeError {
     }
 }
 
-// Does what the lines of the input ask, one after another, with one line for each, and notes how far it is.
+// Does what each line of the input asks, writes one reply for each, and records the progress.
 fn obey_lines<L: Link, I: LineSource, W: Write, N: Write>(
     plan: &ClientPlan<'_>,
     session: &mut Session<L>,
@@ -98,7 +141,7 @@ fn obey_lines<L: Link, I: LineSource, W: Write, N: Write>(
     Ok(())
 }
 
-// Does what a line asks, writes what it is answered with, and answers whether that is a refusal.
+// Does what a line asks and writes the reply. Returns whether that is a refusal.
 fn obey_line<L: Link, W: Write, N: Write>(
     plan: &ClientPlan<'_>,
     session: &mut Session<L>,
@@ -114,13 +157,13 @@ fn obey_line<L: Link, W: Write, N: Write>(
         return Ok(false);
     };
     if print_reply(&reply, writer).is_err() || writer.flush().is_err() {
-        return Err(RuntimeError::from(ShowError::Write));
+        return Err(RuntimeError::from(PartyError::Write));
     }
     tell_note(&reply, plan.is_typed(), notes);
     Ok(reply.is_refusal())
 }
 
-// The link, paced, giving news alone, and telling who doesn't answer.
+// The link of a client: it drops stale replies, is rate-limited, and reports the handlers that the client waits for.
 fn waiting_link<L: Link, E: Write + Drop>(
     alloc: Global,
     link: L,
@@ -132,7 +175,7 @@ fn waiting_link<L: Link, E: Write + Drop>(
     WaitingLink::new(alloc, link, waits, known.len())
 }
 
-// Greets, and does what the lines ask. The session is lent, so that no way out of here has it to drop.
+// Greets, and does what the lines ask. Borrows the session, so that no early return has to drop it.
 fn run_session<L: Link, I: LineSource, W: Write, N: Write>(
     plan: &ClientPlan<'_>,
     session: &mut Session<L>,
@@ -179,17 +222,23 @@ where
     run_session(plan, &mut session, lines, progress, writer, notes)
 }
 
-/// Runs a client over a link: it takes its next incarnation from the keeper, greets every handler, and then does what the
-/// lines of the input ask, one after another. Each line is answered with one line, which goes out at once; what the client
-/// refuses is answered as `refused` and why, and it goes on. Repeated datagrams are paced. Where nothing new comes for a
-/// second, `waits` is told for which handlers. Where somebody types the lines, `notes` is told that every handler has greeted and
-/// which lines there are, of each that can't be read with what to do, what each refusal means, and how often a block was tried
-/// that waits for its condition; else it is told nothing.
+/// Runs a client over a link. It takes its next incarnation from the keeper, greets every handler, and then does what each
+/// line of the input asks. It writes one line for each, at once; for a refusal it writes `refused` and why, and goes on.
+/// Repeated datagrams are rate-limited. When nothing new comes for a second, the client writes to `waits` which handlers it
+/// waits for. `notes` is for a user who types the lines. The client then writes there:
+/// - that every handler has welcomed it, and which lines there are;
+/// - each line that can't be read, with advice;
+/// - the meaning of each refusal;
+/// - how many tries of a waiting block failed.
 ///
-/// Refused: what the keeper refuses, before anything is sent; `NotWelcomed` and `NotAnswered` where the turns are over, and
-/// `link: LinkFault`; the first line that can't be read, unless somebody types; of a strict client the first line that is
-/// refused; what ends the input early; `InsideBlock` and `InsideWhen` where the input ends inside a block; `write fault`, and
-/// `out of memory`; each with how far the lines are done.
+/// Refused, each with the progress so far:
+/// - what the keeper refuses, before anything is sent;
+/// - `NotWelcomed` and `NotAnswered` when the turns are over, and `link: LinkFault`;
+/// - the first line that can't be read, unless a user types;
+/// - for a strict client the first line that is refused;
+/// - a fault of the input;
+/// - `InsideBlock` and `InsideWhen` if the input ends inside a block;
+/// - `write fault`, and `out of memory`.
 pub fn client_run<K, L, I, E, W, N>(
     alloc: Global,
     plan: &ClientPlan<'_>,

@@ -1,47 +1,48 @@
-//! Why a node or a client ends early.
+//! The error with which a node or a client of a system ends early.
 
 ghost use Rattle.std.specs.Prelude.{◌≡◌};
 
-use crate::source::SourceError;
 use scoop_client::BeginError;
+use scoop_driver::DriverError;
+use scoop_errors::PartyError;
 use scoop_keeper::KeeperError;
+use scoop_lines::SourceError;
 use scoop_message::{HandlerId, OutOfMemory};
-use scoop_netloop::{DriverError, ServeEnd};
-use scoop_show::ShowError;
+use scoop_netloop::ServeEnd;
 use scoop_system::LineFault;
 use std::error::Error;
 use std::fmt;
 
-/// Why a node or a client ends early. Printed as what the program tells behind `scoop: `.
+/// Why a node or a client ended early. The program prints the text after `scoop: `.
 #[derive(Clone, Copy, Debug, PartialEq, Eq)]
 pub enum RuntimeError {
-    /// The line of this number, counted from 1, says nothing that a client is asked.
+    /// The line of this number, counted from 1, can't be read.
     Line(u32, LineFault),
     /// The input can't be read further.
     Input(SourceError),
-    /// The input ended while the client had a block, which is left to its next incarnation.
+    /// The input ended inside a block, which the client's next incarnation cuts.
     InsideBlock,
-    /// The input ended inside a block that waits for its condition, of which nothing is done.
+    /// The input ended inside a block that waits for its condition. Nothing of it is done.
     InsideWhen,
-    /// The handlers of the system are none that a client begins with, or those of a node none that it opens with.
+    /// A client can't begin with the handlers of the system, or a node can't open with its own.
     Handlers(BeginError),
-    /// The record of a node that goes on has nothing of this handler.
+    /// A node that resumes has no record of this handler.
     NoHandler(HandlerId),
-    /// The turns of a client were over before this handler had welcomed it.
+    /// The client's turns were over before this handler welcomed it.
     NotWelcomed(HandlerId),
-    /// The turns of a line were over, and this is the first handler of the system to which the client owes something.
+    /// The turns of a line were over; this is the first handler of the system to which a message was due.
     NotAnswered(HandlerId),
-    /// The line of this number was refused, and the client is strict.
+    /// The client refused the line of this number, and is strict.
     Refused(u32),
-    /// This link, loop, driver, store or want of memory.
-    Ended(ShowError),
+    /// A fault of the link, the loop, the driver or the store, or out of memory.
+    Ended(PartyError),
 }
 
 impl RuntimeError {
     ghost use Rattle.scoop_runtime.specs.Errors.{status_of};
 
-    /// The status with which the program ends: 1 at a fault of the input, where it ended inside a block, and where a strict
-    /// client was refused a line, else 3.
+    /// The program's exit status. It is 1 after a fault of the input, an input that ends inside a block, or a refused line
+    /// of a strict client; else 3.
     pub fn status(self) -> u8
         ensures { result ≡ status_of self }
     {
@@ -70,7 +71,7 @@ impl fmt::Display for RuntimeError {
                 "the input ended inside a block, which is left to the next incarnation",
             ),
             RuntimeError::InsideWhen => f.write_str(
-                "the input ended inside a block that waits for its condition, of which nothing is done",
+                "the input ended inside a waiting block, and nothing of it is done",
             ),
             RuntimeError::Handlers(BeginError::NoHandlers) => f.write_str("handlers: NoHandlers"),
             RuntimeError::Handlers(BeginError::TooManyHandlers) => {
@@ -102,36 +103,36 @@ impl From<SourceError> for RuntimeError {
     }
 }
 
-impl From<ShowError> for RuntimeError {
+impl From<PartyError> for RuntimeError {
     ghost use Rattle.scoop_runtime.specs.declared.error.RuntimeError.TheVariants as variants;
 
     ghost from_gives = { λ error e. e ≡ variants.Ended error };
 
-    fn from(error: ShowError) -> RuntimeError {
+    fn from(error: PartyError) -> RuntimeError {
         RuntimeError::Ended(error)
     }
 }
 
 impl From<OutOfMemory> for RuntimeError {
     fn from(error: OutOfMemory) -> RuntimeError {
-        RuntimeError::Ended(ShowError::from(error))
+        RuntimeError::Ended(PartyError::from(error))
     }
 }
 
 impl From<KeeperError> for RuntimeError {
     fn from(error: KeeperError) -> RuntimeError {
-        RuntimeError::Ended(ShowError::from(error))
+        RuntimeError::Ended(PartyError::from(error))
     }
 }
 
 impl From<DriverError> for RuntimeError {
     fn from(error: DriverError) -> RuntimeError {
-        RuntimeError::Ended(ShowError::from(error))
+        RuntimeError::Ended(PartyError::from(error))
     }
 }
 
 impl From<ServeEnd> for RuntimeError {
     fn from(error: ServeEnd) -> RuntimeError {
-        RuntimeError::Ended(ShowError::from(error))
+        RuntimeError::Ended(PartyError::from(error))
     }
 }

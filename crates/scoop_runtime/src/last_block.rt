@@ -1,25 +1,25 @@
-//! The block that a client was at last.
+//! A diary that keeps the client's last block.
 
 ghost use Rattle.std.specs.Prelude.{◌≡◌, ⊤, None};
 
 use scoop_client::Client;
+use scoop_driver::{Command, Diary, Received};
 use scoop_message::{Block, OutOfMemory};
-use scoop_netloop::{Command, Diary, Received};
 use std::alloc::Allocator;
 
-/// A diary that keeps one thing alone: which block the client had once it had taken its last command.
+/// A diary that keeps only the block that the client had after its last command.
 #[derive(Clone, Copy, Debug)]
 pub(crate) struct LastBlock {
     block: Option<Block>,
 }
 
 impl LastBlock {
-    /// Of a client that has taken no command yet.
+    /// The diary of a client that has taken no command.
     pub(crate) fn new() -> LastBlock {
         LastBlock { block: None }
     }
 
-    /// The block that the client had then.
+    /// The block that the client had after its last command.
     pub(crate) fn block(&self) -> Option<Block>
         ensures { result ≡ self.now.block }
     {

@@ -1,12 +1,12 @@
-//! What `scoop node` and `scoop client` do, as calls over links, keepers, readers and writers: a node of a system that is
-//! served by threads over a record, and a client whose commands are the lines of an input.
+//! The runtime of `scoop node` and `scoop client`, as calls over links, keepers, readers and writers.
 //!
-//! [`node_run`] serves a node, and opens it again over the same record and link where its history is full; [`client_run`]
-//! takes its next incarnation, greets every handler and answers line by line, or tells how far it came.
-//! [`open_node_link`] and [`open_client_link`] take their ports. [`print_reply`] writes what a client is answered.
+//! [`node_run`] serves a node with threads over a record. When its history is full it closes the node and opens it again
+//! over the same record and link. [`client_run`] runs a client whose commands are the lines of an input: it takes its next
+//! incarnation, greets every handler and replies line by line. [`open_node_link`] and [`open_client_link`] bind their
+//! addresses. [`print_reply`] writes the reply to a line.
 //!
-//! In the example a node is served by two threads beside the one that receives, and then a client is run; `place` is
-//! that of the node in its system, and then that of the client.
+//! In the example two threads run a node's handlers beside the one that receives. Then a client runs. `place` is the
+//! node's place in its system, and then the client's.
 //!
 //! ```
 //! let plan = NodePlan::of(alloc, system, place).ok()?;
@@ -42,7 +42,6 @@ mod progress;
 mod ranges;
 mod reply;
 mod session;
-mod source;
 mod trying;
 mod typing;
 mod waiting_link;
@@ -57,4 +56,3 @@ pub use plan::{ClientPlan, NodePlan, Serving};
 pub use progress::{ClientStop, Progress, Unended};
 pub use ranges::{MAX_EXECUTORS, MIN_HISTORY, OutOfRange};
 pub use reply::{Reply, print_reply};
-pub use source::{LineBytes, LineSource, MAX_LINE_LEN, SourceError, SourceFault};

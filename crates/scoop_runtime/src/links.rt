@@ -1,14 +1,14 @@
 //! The links of nodes and clients.
 
 use crate::error::RuntimeError;
+use scoop_errors::PartyError;
 use scoop_link::{Addresses, Party, UdpLink};
 use scoop_message::OutOfMemory;
-use scoop_show::ShowError;
 use scoop_system::{ClientPlace, NodePlace, System};
 use std::alloc::Global;
 use std::net::{Net, SocketAddr};
 
-// Takes one's own address, with the addresses of others.
+// Binds the party's own address. The table has the addresses of the others.
 fn open_link<R: Net>(
     rt: &R,
     alloc: Global,
@@ -17,11 +17,11 @@ fn open_link<R: Net>(
 ) -> Result<UdpLink, RuntimeError> {
     match UdpLink::open_at(rt, alloc, Addresses { own, table }) {
         Ok(link) => Ok(link),
-        Err(error) => Err(RuntimeError::from(ShowError::from(error))),
+        Err(error) => Err(RuntimeError::from(PartyError::from(error))),
     }
 }
 
-/// The link of a node, which reaches each client of the system. `link: Fault` where the node's address isn't to be had.
+/// The link of a node, which reaches each client of the system. `link: Fault` if the node's address can't be bound.
 pub fn open_node_link<R: Net>(
     rt: &R,
     alloc: Global,
@@ -36,8 +36,8 @@ pub fn open_node_link<R: Net>(
     open_link(rt, alloc, node.address, &table)
 }
 
-/// The link of a client, which reaches each handler of the system at its node. `link: Fault` where the client's address
-/// isn't to be had.
+/// The link of a client, which reaches each handler of the system at its node. `link: Fault` if the client's address
+/// can't be bound.
 pub fn open_client_link<R: Net>(
     rt: &R,
     alloc: Global,

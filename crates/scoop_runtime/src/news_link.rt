@@ -1,4 +1,4 @@
-//! A link that passes over replies that are no news.
+//! A link that drops stale replies.
 
 ghost use Rattle.std.specs.Prelude.{◌≡◌, ◌≤◌, [], map, take, None, Ok, OnErr, IfOk, IfSome, IsFalse};
 ghost use Rattle.std.specs.List.{list_any};
@@ -13,19 +13,19 @@ use scoop_message::{HandlerId, OutOfMemory};
 use std::alloc::Global;
 use std::marker::Model;
 
-// So many replies that are no news are passed over in one receive at most.
+// One receive drops at most this many stale replies.
 const MAX_PASSED_OVER: usize = 64;
 
-/// What a handler was sent last, and what it replied last.
+/// The last datagram that a handler was sent, and its last reply.
 #[derive(Drop)]
 pub struct Talk {
     /// The handler.
     pub handler: HandlerId,
-    /// The datagram that it was sent last. At first empty.
+    /// The last datagram sent to it. At first empty.
     pub asked: Datagram,
-    /// Its reply that was given last. At first empty.
+    /// Its last reply that was passed on. At first empty.
     pub heard: Datagram,
-    /// Whether the same datagram was sent again since that reply, and no other behind it.
+    /// Whether the same datagram was sent again since that reply, and no other after it.
     pub again: bool,
 }
 
@@ -41,14 +41,14 @@ impl Talk {
         }
     }
 
-    // Whether a reply is its handler's last one once more, though what that replied to was not sent again since.
+    // Whether the reply repeats its handler's last one, though the datagram was not sent again since.
     fn is_old(&self, reply: &[u8]) -> bool
         ensures { result ≡ is_old self.now reply.now }
     {
         !self.again && self.heard.as_slice() == reply
     }
 
-    // Notes what a handler was sent.
+    // Records a datagram to a handler.
     fn ask(&mut self, handler: HandlerId, bytes: &[u8])
         ensures { self.new ≡ asked handler (kept bytes.now) self.old }
     {
@@ -60,7 +60,7 @@ impl Talk {
         self.asked = datagram;
     }
 
-    // Notes what a handler replied.
+    // Records a handler's reply.
     fn hear(&mut self, handler: HandlerId, bytes: &[u8])
         ensures { self.new ≡ heard handler (kept bytes.now) self.old }
     {
@@ -71,7 +71,7 @@ impl Talk {
     }
 }
 
-// The same of each talk.
+// The same for each talk.
 fn ask_all(talks: &mut [Talk], handler: HandlerId, bytes: &[u8])
     ensures { talks.new ≡ map (asked handler (kept bytes.now)) talks.old }
 {
@@ -88,14 +88,14 @@ fn hear_all(talks: &mut [Talk], handler: HandlerId, bytes: &[u8])
     }
 }
 
-// Whether a reply is no news.
+// Whether a reply is stale.
 fn is_old_to(talks: &[Talk], reply: &[u8]) -> bool
     ensures { result ≡ is_old_to talks.now reply.now }
 {
     talks.iter().any(|talk| talk.is_old(reply))
 }
 
-// The handler that some bytes are a reply of, if they are a frame.
+// The handler that sent the reply, if the bytes are a frame.
 fn sender_of(reply: &[u8]) -> Option<HandlerId>
     ensures { Sends result reply.now }
 {
@@ -105,12 +105,12 @@ fn sender_of(reply: &[u8]) -> Option<HandlerId>
     }
 }
 
-/// A link of a client that passes over replies that are no news: a handler's last one once more, though what that replied
-/// to was not sent again since. Such a reply comes where a datagram was sent twice because the reply to the first was late. A
-/// pace in front would take it for the reply to what the handler was sent meanwhile, and let that go twice as well, and so on.
+/// A client's link that drops stale replies. A reply is stale if it repeats the handler's last one, though the datagram was
+/// not sent again since. This happens when a datagram was sent twice because the first reply was late. Without this filter
+/// the rate-limited link would count the old reply as a new one and resend.
 ///
-/// A receive that passed over `MAX_PASSED_OVER` gives nothing. Contracts see the link behind it, and what was said with each
-/// handler. It doesn't tell its datagrams.
+/// A receive that dropped `MAX_PASSED_OVER` replies returns nothing. Contracts see the link below it, and the talk with each
+/// handler. It doesn't record its datagrams.
 #[derive(Drop)]
 pub(crate) struct NewsLink<L> {
     inner: L,
@@ -126,7 +126,7 @@ impl<L> Model for NewsLink<L> {
 }
 
 impl<L: Link> NewsLink<L> {
-    /// The link, with a talk for each of these handlers. Replies of others are all given.
+    /// The link, with a talk for each of these handlers. It passes on all replies of others.
     pub(crate) fn new(
         alloc: Global,
         inner: L,
@@ -142,7 +142,7 @@ impl<L: Link> NewsLink<L> {
     }
 }
 
-// Notes a reply that is given.
+// Records a reply that is passed on.
 fn note(talks: &mut [Talk], reply: &[u8])
     requires { IsFalse (is_old_to talks.old reply.now) }
     ensures { IsNews talks.old talks.new reply.now }
@@ -152,7 +152,7 @@ fn note(talks: &mut [Talk], reply: &[u8])
     }
 }
 
-// Receives until something comes that isn't old.
+// Receives until a reply comes that isn't stale.
 fn receive_news<L: Link>(
     inner: &mut L,
     talks: &mut [Talk],

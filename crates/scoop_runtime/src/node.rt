@@ -1,6 +1,6 @@
-//! A node that is served over a record.
+//! A node of a system, served over a record.
 
-ghost use Rattle.std.specs.Prelude.{◌≤◌, vec_len};
+ghost use Rattle.std.specs.Prelude.{◌≤◌, IfOk, vec_len};
 
 use crate::error::RuntimeError;
 use crate::openings::{require_handlers, store_openings};
@@ -9,12 +9,12 @@ use crate::plan::{NodePlan, Serving};
 use crate::printing::{print_closed, print_ready, print_reopened};
 use scoop_book::{Book, BookError, Node, OpenError, Pass};
 use scoop_client::BeginError;
+use scoop_errors::PartyError;
 use scoop_keeper::{Keeper, KeeperError};
 use scoop_link::Link;
 use scoop_message::HandlerId;
 use scoop_netloop::{OpenGate, ServeEnd, Stop, run_out, serve};
 use scoop_object::Table;
-use scoop_show::ShowError;
 use std::alloc::Global;
 use std::io;
 use std::io::Write;
@@ -22,40 +22,33 @@ use std::sync::Wait;
 use std::thread::Threads;
 use std::time::Clock;
 
-// The pass of what runs before a node is served.
+// The pass of the entries that run before the node is served.
 const FIRST_PASS: u32 = 0;
 
-// Passes enough for a loop.
-#[derive(Drop)]
-struct Passes {
-    list: Vec<Pass>,
-    ghost enough: { 2 ≤ vec_len list },
-}
-
-// Why handlers don't open.
+// The error for handlers that don't open.
 fn unopened(error: OpenError) -> RuntimeError {
     match error {
-        OpenError::WrongClass(handler) => RuntimeError::Ended(ShowError::WrongClass(handler)),
+        OpenError::WrongClass(handler) => RuntimeError::Ended(PartyError::WrongClass(handler)),
         OpenError::Keeper(refusal) => RuntimeError::from(refusal),
-        OpenError::OutOfMemory => RuntimeError::Ended(ShowError::OutOfMemory),
+        OpenError::OutOfMemory => RuntimeError::Ended(PartyError::OutOfMemory),
         OpenError::Repeated(handler) => RuntimeError::Handlers(BeginError::Repeated(handler)),
-        OpenError::NoPasses => RuntimeError::Ended(ShowError::NoThread),
+        OpenError::NoPasses => RuntimeError::Ended(PartyError::NoThread),
     }
 }
 
-// Why handlers don't run out.
+// The error for handlers that can't run what is pending.
 fn unrun(error: BookError) -> RuntimeError {
     RuntimeError::Ended(match error {
-        BookError::HistoryFull => ShowError::Loop(ServeEnd::HistoryFull),
+        BookError::HistoryFull => PartyError::Loop(ServeEnd::HistoryFull),
         BookError::NodeFailed | BookError::UnknownHandler => {
-            ShowError::Loop(ServeEnd::NodeFailed)
+            PartyError::Loop(ServeEnd::NodeFailed)
         }
-        BookError::StoreRefused => ShowError::Store(KeeperError::Refused),
-        BookError::OutOfMemory => ShowError::OutOfMemory,
+        BookError::StoreRefused => PartyError::Store(KeeperError::Refused),
+        BookError::OutOfMemory => PartyError::OutOfMemory,
     })
 }
 
-// Runs out handler after handler. Answers those that are left, at the first of which the history was full.
+// Runs what is pending, handler after handler. Returns the handlers that are left; the history was full at the first.
 fn run_some<'h, K: Keeper<Global>>(
     book: &mut Book<Table, K>,
     handlers: &'h [HandlerId],
@@ -70,7 +63,8 @@ fn run_some<'h, K: Keeper<Global>>(
     Ok(&handlers[handlers.len()..])
 }
 
-// Opens the handlers over the keeper, and runs out those that are left. Answers the keeper, and those that are left then.
+// Opens the handlers over the keeper and runs what is pending at `left`. Returns the keeper and the handlers that are
+// still left.
 fn run_once<'h, K: Keeper<Global>>(
     alloc: Global,
     plan: &NodePlan,
@@ -87,8 +81,8 @@ fn run_once<'h, K: Keeper<Global>>(
     }
 }
 
-// Runs what a node that was killed, or whose history was full, has taken and not run, in openings of their own. Nobody
-// would ask for it again: what a client logged last is acknowledged.
+// Runs the entries that a node took but didn't run before it was killed or its history was full. No client would send
+// them again, since they are acknowledged. Each pass over the handlers opens them anew, with an empty history.
 fn run_all<K: Keeper<Global>, R: Wait>(
     rt: &R,
     alloc: Global,
@@ -107,7 +101,7 @@ fn run_all<K: Keeper<Global>, R: Wait>(
     unreachable!()
 }
 
-// What a node begins with: every handler is in its record, and has run out.
+// Prepares a node's record: it has every handler, and nothing is pending.
 fn run_first<K: Keeper<Global>, R: Wait>(
     rt: &R,
     alloc: Global,
@@ -123,22 +117,24 @@ fn run_first<K: Keeper<Global>, R: Wait>(
     run_all(rt, alloc, plan, keeper)
 }
 
-// The node with its passes, over this keeper.
+// Opens the node over this keeper, with enough passes for a loop.
 fn open_node<K: Keeper<Global>>(
     alloc: Global,
     plan: &NodePlan,
     serving: &Serving,
     keeper: K,
-) -> Result<(Node<Table, K>, Passes), RuntimeError> {
+) -> Result<(Node<Table, K>, Vec<Pass>), RuntimeError>
+    ensures { IfOk result (λ opened. 2 ≤ vec_len opened.1) }
+{
     let handlers = plan.objects(alloc)?;
     match Node::open_limited(alloc, handlers, keeper, serving.passes(), serving.history()) {
-        Ok((node, list)) => Ok((node, Passes { list })),
+        Ok(opened) => Ok(opened),
         Err(error) => Err(unopened(error)),
     }
 }
 
-// Serves the node until its history is full, its turns are over or it fails, and closes it. Answers why it ended, and the
-// keeper.
+// Serves the node until its history is full, its turns are over or it fails, and closes it. Returns why it ended, and
+// the keeper.
 fn serve_once<K, L, R>(
     rt: &R,
     alloc: Global,
@@ -155,23 +151,23 @@ where
 {
     let (node, passes) = open_node(alloc, plan, serving, keeper)?;
     let stop = Stop::new();
-    let (end, list) = serve(rt, alloc, &node, link, passes.list, &OpenGate, &stop, turns);
-    match node.close(rt, list) {
+    let (end, passes) = serve(rt, alloc, &node, link, passes, &OpenGate, &stop, turns);
+    match node.close(rt, passes) {
         Ok(closed) => Ok((end, closed.keeper)),
-        Err(error) => Err(RuntimeError::from(ShowError::from(error.cause))),
+        Err(error) => Err(RuntimeError::from(PartyError::from(error.cause))),
     }
 }
 
-// What was written has to go out at once.
+// Flushes a line that was written.
 fn told<W: Write>(written: io::Result<()>, writer: &mut W) -> Result<(), RuntimeError> {
     if written.is_ok() && writer.flush().is_ok() {
         Ok(())
     } else {
-        Err(RuntimeError::from(ShowError::Write))
+        Err(RuntimeError::from(PartyError::Write))
     }
 }
 
-// Runs what is left to run once the history was full, and tells that the node is opened again.
+// Runs what is pending after the history was full, and writes that the node is opened again.
 fn reopen<K: Keeper<Global>, W: Write, R: Wait>(
     rt: &R,
     alloc: Global,
@@ -185,8 +181,8 @@ fn reopen<K: Keeper<Global>, W: Write, R: Wait>(
     Ok(keeper)
 }
 
-// Serves the node, opening by opening, until its turns are over. The link is lent, so that no way out of here has it to
-// drop.
+// Serves the node, opening by opening, until its turns are over. Borrows the link, so that no early return has to drop
+// it.
 fn serve_on<K, L, E, W, R>(
     rt: &R,
     alloc: Global,
@@ -215,16 +211,22 @@ where
     unreachable!()
 }
 
-/// Serves a node over a keeper of its handlers' states, and over a link. Before it serves it stores each handler of which
-/// nothing is stored, or refuses it where the node goes on, and runs each until nothing can run. Where its history is full
-/// it is closed, which holds each pass against the history, and opened again over the same keeper and link: a restart of
-/// the node, which loses no answer to a client that repeats. Writes a line once it is ready, one at each reopening, and one
-/// at its end. A call of the link that fails is told to `notes`, and only the thousandth in a row ends the node.
+/// Serves a node over a keeper of its handlers' states, and over a link:
+/// 1. It stores each handler that has no record; a node that resumes refuses it instead. Then it runs what is pending.
+/// 2. It serves until its turns are over. When its history is full, it closes the node, which compares each pass with the
+///    history, and opens it again over the same keeper and link. To a client this is a restart of the node: a client that
+///    repeats loses no answer.
+/// 3. It closes the node and returns the keeper.
 ///
-/// It ends once its turns are over, and hands the keeper back. Refused with the keeper gone: `store: NoHandler` where the
-/// node goes on and the keeper has nothing of a handler, `store: WrongClass` where the stored words of a handler are not as
-/// many as its class has, what the keeper refuses, a loop that ends otherwise, a node that can't be closed, `write fault`,
-/// and `out of memory`.
+/// It writes a line when it is ready, one at each reopening, and one at its end. A failed call of the link is written to
+/// `notes`; only the thousandth in a row ends the node.
+///
+/// Refused, without the keeper:
+/// - `store: NoHandler` if a node that resumes has no record of a handler;
+/// - `store: WrongClass` if a handler's stored words don't fit its class;
+/// - what the keeper refuses;
+/// - a loop that ends in another way, and a node that can't be closed;
+/// - `write fault`, and `out of memory`.
 pub fn node_run<K, L, E, W, R>(
     rt: &R,
     alloc: Global,

@@ -1,4 +1,4 @@
-//! What a record has of a node's handlers before the node opens.
+//! The record of a node's handlers before the node opens.
 
 ghost use Rattle.std.specs.Prelude.{◌≡◌, IfOk, IfSome, OnOk, Some, None, Ok};
 ghost use Rattle.std.specs.List.{AllByRecursion};
@@ -8,14 +8,14 @@ ghost use Rattle.scoop_runtime.specs.Records.{HasState, LacksState};
 
 use crate::error::RuntimeError;
 use crate::plan::{Member, NodePlan};
+use scoop_errors::PartyError;
 use scoop_handler::Handler;
 use scoop_keeper::{Keeper, KeeperError};
 use scoop_message::HandlerId;
 use scoop_object::{Class, Table};
-use scoop_show::ShowError;
 use std::alloc::Global;
 
-// The first of the handlers of which the keeper has no state. Those behind it are asked for first.
+// The first of the handlers that the keeper has no state of. It loads the last one first.
 fn missing_handler<K: Keeper<Global>>(
     handlers: &[HandlerId],
     keeper: &mut K,
@@ -37,8 +37,8 @@ fn missing_handler<K: Keeper<Global>>(
     }
 }
 
-/// Refuses a record that has nothing of a handler of the node: `NoHandler`, or what the keeper refuses. It is another
-/// party's, or was left before the node was ready.
+/// Refuses a record that lacks a handler of the node, with `NoHandler`, or as the keeper refuses. Such a record is another
+/// party's, or its node was never ready.
 pub(crate) fn require_handlers<K: Keeper<Global>>(
     plan: &NodePlan,
     keeper: &mut K,
@@ -52,7 +52,7 @@ pub(crate) fn require_handlers<K: Keeper<Global>>(
     }
 }
 
-// Stores the state of a handler that nobody has greeted yet.
+// Stores the state of a new handler.
 fn put_opening<K: Keeper<Global>>(
     alloc: Global,
     opening: (HandlerId, Class, Table),
@@ -63,7 +63,7 @@ fn put_opening<K: Keeper<Global>>(
     let (number, class, object) = opening;
     let state = match Handler::new(alloc, number, class, object) {
         Ok(handler) => handler.copy()?,
-        Err(_) => return Err(RuntimeError::from(ShowError::WrongClass(number))),
+        Err(_) => return Err(RuntimeError::from(PartyError::WrongClass(number))),
     };
     match keeper.put_handler(&state) {
         Ok(()) => Ok(()),
@@ -71,7 +71,7 @@ fn put_opening<K: Keeper<Global>>(
     }
 }
 
-// Stores what the handler opens with, where the keeper has nothing of it.
+// Stores the handler's opening state, if the keeper has none.
 fn store_opening<K: Keeper<Global>>(
     alloc: Global,
     member: &Member,
@@ -84,8 +84,8 @@ fn store_opening<K: Keeper<Global>>(
     }
 }
 
-/// Stores what each handler of the node opens with, where the keeper has nothing of it, so that a node that was ready
-/// finds all of them again.
+/// Stores the opening state of each handler of the node that the keeper lacks, so that a node that was ready finds all of
+/// them again.
 pub(crate) fn store_openings<K: Keeper<Global>>(
     alloc: Global,
     plan: &NodePlan,

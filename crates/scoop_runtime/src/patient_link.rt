@@ -1,8 +1,9 @@
-//! A link that doesn't end a node at its first fault.
+//! A node's link that tolerates faults.
 
-ghost use Rattle.std.specs.Prelude.{◌≡◌, ◌++◌, ◌∷◌, [], None, OnOk};
+ghost use Rattle.std.specs.Prelude.{◌≡◌, ◌≤◌, ◌+◌, ◌++◌, ◌∷◌, [], None, IfOk, IfSome, OnErr, OnOk};
 ghost use Rattle.std.specs.Io.KnownBytes.{Appends};
-ghost use Rattle.scoop_link.specs.Link.{CountsFault};
+ghost use Rattle.scoop_link.specs.Link.{CountsFault, Exchanges, taken_by};
+ghost use Rattle.scoop_runtime.specs.Forwarding.{Forwards};
 ghost use Rattle.scoop_runtime.specs.Texts.{fault_text};
 
 use scoop_link::{Link, LinkFault, Party};
@@ -10,12 +11,12 @@ use scoop_message::limits::BUFFER_LEN;
 use std::io;
 use std::io::Write;
 
-// So many calls in a row may fail before that is a fault of this link too.
+// At this many failed calls in a row this link fails too.
 const MAX_IN_A_ROW: u32 = 1_000;
 
-/// A link of a node. A call of the link behind it that fails, as a send to a client that can't be reached, is told, and
-/// its datagram is lost; only the thousandth in a row is a fault. A writer that fails is left alone. It counts its
-/// receives, each of which is a turn of the node's loop, and doesn't tell its datagrams.
+/// A node's link that tolerates faults. A call of the link below may fail, as a send to a client that can't be reached. It
+/// writes a note then, and the datagram is lost; only the thousandth in a row is a fault. Notes that can't be written are
+/// lost. It counts its receives, each of which is a turn of the node's loop, and doesn't record its datagrams.
 #[derive(Drop)]
 pub(crate) struct PatientLink<L: Link, E: Write + Drop> {
     inner: L,
@@ -37,14 +38,15 @@ impl<L: Link, E: Write + Drop> PatientLink<L, E> {
         }
     }
 
-    /// How often it was asked for a datagram. The count stops at 2^64-1.
+    /// The number of receives. The count stops at 2^64-1.
     pub(crate) fn receives(&self) -> u64 {
         self.receives
     }
 
-    // A call has failed.
+    // Notes a failed call.
     fn fail(&mut self) -> Result<(), LinkFault>
-        ensures { CountsFault result self.old.faults self.new.faults }
+        ensures counted { CountsFault result self.old.faults self.new.faults }
+        ensures inner { self.new.inner ≡ self.old.inner }
     {
         tell_fault(&mut self.notes);
         self.in_a_row = self.in_a_row.saturating_add(1);
@@ -56,14 +58,14 @@ impl<L: Link, E: Write + Drop> PatientLink<L, E> {
     }
 }
 
-// Tells of a call that has failed.
+// Writes that a call has failed.
 fn print_fault<W: Write>(writer: &mut W) -> io::Result<()>
     ensures { OnOk result (Appends (W.contents writer.old) (W.contents writer.new) fault_text) }
 {
     writer.write_all(b"scoop: link: LinkFault, and the node goes on\n")
 }
 
-// The same at once. What can't be written is lost.
+// Writes the same and flushes. A note that can't be written is lost.
 fn tell_fault<W: Write>(writer: &mut W) {
     if print_fault(writer).is_ok() {
         let _flushed = writer.flush();
@@ -75,7 +77,12 @@ impl<L: Link, E: Write + Drop> Link for PatientLink<L, E> {
 
     ghost fault_count = { λ p. p.faults };
 
-    fn send(&mut self, to: Party, bytes: &[u8]) -> Result<(), LinkFault> {
+    fn send(&mut self, to: Party, bytes: &[u8]) -> Result<(), LinkFault>
+        ensures faults { CountsFault result self.old.faults self.new.faults }
+
+        ensures sent { Forwards to bytes.now (L.fault_count self.old.inner) (L.fault_count self.new.inner) (L.told self.old.inner) (L.told self.new.inner) }
+        ensures failed { OnErr result (L.fault_count self.new.inner ≡ L.fault_count self.old.inner + 1) }
+    {
         match self.inner.send(to, bytes) {
             Ok(()) => {
                 self.in_a_row = 0;
@@ -85,7 +92,13 @@ impl<L: Link, E: Write + Drop> Link for PatientLink<L, E> {
         }
     }
 
-    fn receive(&mut self, buffer: &mut [u8; BUFFER_LEN]) -> Result<Option<usize>, LinkFault> {
+    fn receive(&mut self, buffer: &mut [u8; BUFFER_LEN]) -> Result<Option<usize>, LinkFault>
+        ensures in_bounds { IfOk result (λ got. IfSome got (λ n. n ≤ BUFFER_LEN)) }
+        ensures faults { CountsFault result self.old.faults self.new.faults }
+
+        ensures taken { Exchanges (L.told self.old.inner) (L.told self.new.inner) (taken_by result buffer.new) [] }
+        ensures failed { OnErr result (L.fault_count self.new.inner ≡ L.fault_count self.old.inner + 1) }
+    {
         self.receives = self.receives.saturating_add(1);
         match self.inner.receive(buffer) {
             Ok(got) => {

@@ -1,4 +1,4 @@
-//! Which node is served or which client runs, and how.
+//! The plans of a node that is served and of a client that runs.
 
 ghost use Rattle.std.specs.Prelude.{◌≡◌, ◌≤◌, ◌+◌, true, false, length, IfOk, MatchResult, Some, None};
 ghost use Rattle.scoop_message.specs.declared.limits.TheConstants.{MAX_ENTRIES, MAX_HANDLERS, MAX_HISTORY};
@@ -8,14 +8,14 @@ ghost use Rattle.scoop_runtime.specs.Ranges.{client_fault, serving_fault};
 use crate::error::RuntimeError;
 use crate::ranges::OutOfRange;
 use scoop_client::BeginError;
+use scoop_errors::PartyError;
 use scoop_message::limits::MAX_HANDLERS;
 use scoop_message::{HandlerId, OutOfMemory, Words};
 use scoop_object::{Class, Table};
-use scoop_show::ShowError;
 use scoop_system::{ClientPlace, HandlerPlace, NodePlace, System};
 use std::alloc::Global;
 
-/// How a node is served.
+/// The settings of a node that is served.
 #[derive(Clone, Copy, Debug)]
 pub struct Serving {
     executors: u32,
@@ -28,9 +28,12 @@ pub struct Serving {
 }
 
 impl Serving {
-    /// By so many threads beside the one that receives, 1 to `MAX_EXECUTORS`; with a history of so many entries at most,
-    /// `MIN_HISTORY` to `MAX_HISTORY`, behind which the node is opened again; and for so many turns of its loop, at least
-    /// one. Its record may be new: it doesn't go on. Refused is the first number that is out of its range.
+    /// Settings for a node whose record may be new:
+    /// - `executors`, the threads beside the one that receives, 1 to `MAX_EXECUTORS`;
+    /// - `history`, the limit of its history, `MIN_HISTORY` to `MAX_HISTORY`; a full history reopens the node;
+    /// - `turns`, the turns of its loop, at least 1.
+    ///
+    /// Refused: the first number that is out of its range.
     pub fn new(executors: u32, history: usize, turns: u64) -> Result<Serving, OutOfRange>
         ensures ranges { MatchResult result (λ s. serving_fault executors history turns ≡ None)
             (λ range. serving_fault executors history turns ≡ Some range) }
@@ -53,7 +56,7 @@ impl Serving {
         })
     }
 
-    /// The same over a record that isn't new: a node of which it lacks a handler is refused.
+    /// The same for a node that resumes: a record that lacks a handler is refused.
     pub fn going_on(self) -> Serving
         ensures { (result.executors ≡ self.executors) × (result.history ≡ self.history) × (result.turns ≡ self.turns) × (result.goes_on ≡ true) }
     {
@@ -71,7 +74,7 @@ impl Serving {
         }
     }
 
-    /// How many passes its node has: the receiver's, and one for each executor.
+    /// The number of its node's passes: the receiver's, and one for each executor.
     pub(crate) fn passes(&self) -> u32
         ensures value { result ≡ self.now.executors + 1 }
         ensures enough { 2 ≤ result }
@@ -79,7 +82,7 @@ impl Serving {
         self.executors + 1
     }
 
-    /// How many entries its history has at most.
+    /// The limit of its history.
     pub(crate) fn history(&self) -> usize
         ensures value { result ≡ self.now.history }
         ensures limit { result ≤ MAX_HISTORY }
@@ -87,14 +90,14 @@ impl Serving {
         self.history
     }
 
-    /// How many turns it takes at most.
+    /// The limit of its turns.
     pub(crate) fn turns(&self) -> u64
         ensures { result ≡ self.now.turns }
     {
         self.turns
     }
 
-    /// Whether the node ran before, so that its record has every handler.
+    /// Whether the node resumes: its record has every handler.
     pub(crate) fn goes_on(&self) -> bool
         ensures { result ≡ self.now.goes_on }
     {
@@ -116,7 +119,7 @@ impl Member {
         let class = self.class.copy_in(alloc)?;
         match Table::new(self.class.copy_in(alloc)?, self.words) {
             Ok(object) => Ok((self.handler, class, object)),
-            Err(_) => Err(RuntimeError::from(ShowError::WrongClass(self.handler))),
+            Err(_) => Err(RuntimeError::from(PartyError::WrongClass(self.handler))),
         }
     }
 }
@@ -129,10 +132,10 @@ pub struct NodePlan {
     pub(crate) numbers: Vec<HandlerId>,
 }
 
-// The handler as a member of its node. Its class is there, since the system has it.
+// The handler as a member of its node. The system has its class.
 fn member_of(alloc: Global, system: &System, place: &HandlerPlace) -> Result<Member, RuntimeError> {
     let Some(class) = system.class_of(alloc, place.class)? else {
-        return Err(RuntimeError::from(ShowError::WrongClass(place.handler)));
+        return Err(RuntimeError::from(PartyError::WrongClass(place.handler)));
     };
     Ok(Member {
         handler: place.handler,
@@ -160,7 +163,7 @@ impl NodePlan {
         })
     }
 
-    /// The handlers with their classes and objects, as they open where nothing is stored of them.
+    /// The handlers with their classes and new objects.
     pub(crate) fn objects(
         &self,
         alloc: Global,
@@ -179,7 +182,7 @@ impl NodePlan {
     }
 }
 
-/// Which client of which system runs, and how.
+/// A client of a system, and the settings with which it runs.
 #[derive(Clone, Copy)]
 pub struct ClientPlan<'a> {
     system: &'a System,
@@ -192,9 +195,10 @@ pub struct ClientPlan<'a> {
 }
 
 impl<'a> ClientPlan<'a> {
-    /// The client at this place of the system, each command of which takes so many turns at most, at least one. Where
-    /// somebody types its lines, one that can't be read is told, and the client goes on; so it does behind a line that is
-    /// refused. Refused is the first number that is out of its range: the turns, or the batch of the client's place.
+    /// The client at this place of the system. Each of its commands takes at most `turns`, at least 1. If a user types its
+    /// lines, it reports a line that can't be read, and goes on. It goes on after a refused line too.
+    ///
+    /// Refused: the first number that is out of its range, the turns or the batch of the client's place.
     pub fn new(
         system: &'a System,
         place: ClientPlace,
@@ -219,7 +223,7 @@ impl<'a> ClientPlan<'a> {
         })
     }
 
-    /// The same client, which ends behind the first line that it is refused, or whose condition failed.
+    /// The same client, but it ends after the first line that is refused or whose condition fails.
     pub fn strict(self) -> ClientPlan<'a>
         ensures system { result.system ≡ self.entry.system }
         ensures kept { (result.place ≡ self.entry.place) × (result.turns ≡ self.entry.turns) × (result.is_typed ≡ self.entry.is_typed) }
@@ -255,7 +259,7 @@ impl<'a> ClientPlan<'a> {
         self.place
     }
 
-    /// How many turns each command takes at most.
+    /// The turns that each command takes at most.
     pub(crate) fn turns(&self) -> u64
         ensures { result ≡ self.now.turns }
     {
@@ -269,7 +273,7 @@ impl<'a> ClientPlan<'a> {
         self.is_strict
     }
 
-    /// Whether somebody types the lines.
+    /// Whether a user types the lines.
     pub(crate) fn is_typed(&self) -> bool
         ensures { result ≡ self.now.is_typed }
     {

@@ -1,4 +1,4 @@
-//! What a node prints.
+//! The lines of a node.
 
 ghost use Rattle.std.specs.Prelude.{◌≡◌, OnOk};
 ghost use Rattle.std.specs.Io.KnownBytes.{Appends};
@@ -10,7 +10,7 @@ use scoop_system::NodePlace;
 use std::io;
 use std::io::Write;
 
-/// Writes that a node is ready, where, and with which handlers.
+/// Writes that a node is ready, with its address and its handlers.
 pub(crate) fn print_ready<W: Write>(
     place: &NodePlace,
     handlers: &[HandlerId],
@@ -25,14 +25,14 @@ pub(crate) fn print_ready<W: Write>(
     writer.write_all(b"\n")
 }
 
-/// Writes that a node's history was full, and that it was opened again.
+/// Writes that a node was opened again after its history was full.
 pub(crate) fn print_reopened<W: Write>(number: u32, writer: &mut W) -> io::Result<()>
     ensures { OnOk result (Appends (W.contents writer.old) (W.contents writer.new) (reopened_text number)) }
 {
     writeln!(writer, "node {number} reopened")
 }
 
-/// Writes that a node is closed: its history is what its threads say of it.
+/// Writes that a node is closed: its history matched its threads' records.
 pub(crate) fn print_closed<W: Write>(number: u32, writer: &mut W) -> io::Result<()>
     ensures { OnOk result (Appends (W.contents writer.old) (W.contents writer.new) (closed_text number)) }
 {

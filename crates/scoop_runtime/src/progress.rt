@@ -1,4 +1,4 @@
-//! How far a client came.
+//! The progress of a client through its lines.
 
 ghost use Rattle.std.specs.Prelude.{◌≡◌};
 ghost use Rattle.scoop_runtime.specs.Progress.{begun_text, ended_inside, goes_on_text};
@@ -6,41 +6,41 @@ ghost use Rattle.scoop_runtime.specs.Progress.{begun_text, ended_inside, goes_on
 use crate::error::RuntimeError;
 use std::fmt;
 
-/// What a client has of a block that it hasn't ended.
+/// The block that a client hasn't ended.
 #[derive(Clone, Copy, Debug, PartialEq, Eq)]
 pub enum Unended {
-    /// It has no block.
+    /// There is none.
     Nothing,
-    /// A block that is left to the next incarnation.
+    /// A block, which the next incarnation cuts.
     Block,
-    /// The lines of a block that waits for its condition, of which nothing is done.
+    /// The lines of a block that waits for its condition. Nothing of it is done.
     When,
 }
 
-/// How far a client came with its lines. Printed as what is told of it behind the error that ended it.
+/// The progress of a client through its lines. The program prints it after the error that ended the client.
 #[derive(Clone, Copy, Debug, PartialEq, Eq)]
 pub struct Progress {
-    /// Whether every handler had welcomed it. Before that no line is read.
+    /// Whether every handler had welcomed it. No line is read before.
     pub is_ready: bool,
-    /// The number of the last line that was answered, counted from 1, with all before it. `None` where none was.
+    /// The last line that has its reply, counted from 1. All lines before it have theirs. `None` if none has.
     pub answered: Option<u32>,
-    /// Whether the next line was begun, and may be done or not.
+    /// Whether the next line was begun: it may be done or not.
     pub has_begun: bool,
-    /// What is not ended.
+    /// The block that isn't ended.
     pub unended: Unended,
 }
 
-/// Why a client ended early, and how far it came.
+/// The error that ended a client, and its progress.
 #[derive(Clone, Copy, Debug, PartialEq, Eq)]
 pub struct ClientStop {
-    /// Why it ended.
+    /// The error.
     pub error: RuntimeError,
-    /// How far it came.
+    /// The progress.
     pub progress: Progress,
 }
 
 impl Unended {
-    /// The error where the input ends so. `None` where nothing is unended.
+    /// The error for an input that ends here. `None` if no block is unended.
     pub(crate) fn error(self) -> Option<RuntimeError>
         ensures { result ≡ ended_inside self }
     {
@@ -64,7 +64,7 @@ impl Progress {
     }
 }
 
-// What is told of the next line.
+// The words on the next line.
 fn begun_text(has_begun: bool) -> &'static str
     ensures { result.now ≡ begun_text has_begun }
 {
@@ -75,17 +75,17 @@ fn begun_text(has_begun: bool) -> &'static str
     }
 }
 
-// What is told of the block, and what to do.
+// The words on the block, and the advice.
 fn goes_on_text(unended: Unended) -> &'static str
     ensures { result.now ≡ goes_on_text unended }
 {
     match unended {
-        Unended::Nothing => ": go on with --store",
+        Unended::Nothing => ": resume with --store",
         Unended::Block => {
-            ", and the block is left to the next incarnation, which cuts it: go on with --store, and begin with reserve"
+            ", and the next incarnation cuts the block: resume with --store, and begin with reserve"
         }
         Unended::When => {
-            ", and nothing is done of the block that waits for its condition: go on with --store, and begin with its reserve"
+            ", and nothing of the waiting block is done: resume with --store, and begin with its reserve"
         }
     }
 }
@@ -99,7 +99,8 @@ impl fmt::Display for Progress {
     fn fmt<W: fmt::Write>(&self, f: &mut fmt::Formatter<W>) -> fmt::Result {
         if !self.is_ready {
             return f.write_str(
-                "the client was not ready, and no line was read: go on with --store, or with the store of an earlier run where there is one",
+                "the client was not ready, and no line was read: resume with --store, or with the store of an earlier run if \
+                there is one",
             );
         }
         let begun = begun_text(self.has_begun);

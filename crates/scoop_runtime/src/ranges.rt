@@ -1,4 +1,4 @@
-//! The ranges of the numbers that a node or a client is run with.
+//! The ranges of a node's and a client's numbers.
 
 ghost use Rattle.std.specs.Prelude.{◌≡◌};
 ghost use Rattle.scoop_runtime.specs.Ranges.{greatest, is_within, least, name_text, range_advice};
@@ -7,22 +7,22 @@ use scoop_message::limits::{MAX_ENTRIES, MAX_HISTORY};
 use std::error::Error;
 use std::fmt;
 
-/// Threads that run a node's handlers, at most.
+/// The most threads that run a node's handlers.
 pub const MAX_EXECUTORS: u64 = 64;
 
-/// Entries of a node's history, at least: an entry that runs is two.
+/// The least limit of a node's history: an entry that runs is recorded as two.
 pub const MIN_HISTORY: u64 = 2;
 
-/// Which number is out of its range. Printed with the range, as `--executors is a whole number from 1 to 64`.
+/// The number that is out of its range. Its text has the range: `--executors must be a whole number from 1 to 64`.
 #[derive(Clone, Copy, Debug, PartialEq, Eq)]
 pub enum OutOfRange {
-    /// How many threads run a node's handlers.
+    /// The threads that run a node's handlers.
     Executors,
-    /// How many entries a node's history has at most.
+    /// The limit of a node's history.
     History,
-    /// How many turns a node's loop or a client's command takes at most, of the demo's too.
+    /// The turns of a node's loop or of a client's command, in the demo too.
     Turns,
-    /// How many entries a client puts into one Log at most.
+    /// The most entries that a client puts into one Log.
     Batch,
 }
 
@@ -56,7 +56,7 @@ impl OutOfRange {
         self.least() <= number && number <= self.greatest()
     }
 
-    // What the program calls the number.
+    // The program's name for the number.
     fn name(self) -> &'static str
         ensures { result.now ≡ name_text self }
     {
@@ -68,22 +68,18 @@ impl OutOfRange {
         }
     }
 
-    /// What to do.
+    /// The advice for this number.
     pub fn advice(self) -> &'static str
         ensures { result.now ≡ range_advice self }
     {
         match self {
-            OutOfRange::Executors => {
-                "give such a number, or leave the option out: then there are 2"
-            }
-            OutOfRange::History => {
-                "give such a number, or leave the option out: then it is 100000"
-            }
+            OutOfRange::Executors => { "give such a number, or omit the option for 2" }
+            OutOfRange::History => { "give such a number, or omit the option for 100000" }
             OutOfRange::Turns => {
-                "give such a number, or leave the option out: then a client's command takes up to 100000, and scoop node serves until \
-                it is killed"
+                "give such a number, or omit the option: then a client's command takes at most 100000 turns, and scoop node \
+                serves until you kill it"
             }
-            OutOfRange::Batch => "mend the batch of the client in the system's file",
+            OutOfRange::Batch => "fix the client's batch in the system's file",
         }
     }
 }
@@ -98,7 +94,10 @@ impl fmt::Display for OutOfRange {
         let name = self.name();
         let least = self.least();
         let greatest = self.greatest();
-        write!(f, "{name} is a whole number from {least} to {greatest}")
+        write!(
+            f,
+            "{name} must be a whole number from {least} to {greatest}"
+        )
     }
 }
 

@@ -1,4 +1,4 @@
-//! What a client's lines are answered with.
+//! The replies to a client's lines.
 
 ghost use Rattle.std.specs.Prelude.{◌≡◌, OnOk};
 ghost use Rattle.std.specs.Io.KnownBytes.{Appends};
@@ -6,36 +6,36 @@ ghost use Rattle.scoop_runtime.specs.Answering.{is_refusal};
 ghost use Rattle.scoop_runtime.specs.Texts.{refusal_text, reply_text};
 
 use scoop_client::ClientError;
+use scoop_errors::{client_name, client_number};
 use scoop_message::{Answer, Block, HandlerId};
-use scoop_show::{client_name, client_number};
 use std::io;
 use std::io::Write;
 
-/// What a client's line is answered with.
+/// The reply to a client's line.
 #[derive(Clone, Copy, Debug, PartialEq, Eq)]
 pub enum Reply {
     /// The block is open at each of its handlers.
     Reserved(Block),
-    /// The call is acknowledged: it is the entry of this number that the block has logged at the handler.
+    /// The handler has acknowledged the call: the entry of this number in the block's log there.
     Logged(HandlerId, u32),
     /// The query has this answer.
     Answered(Answer),
-    /// The block is ended, and all of it acknowledged.
+    /// The block is ended, and its handlers have acknowledged all of it.
     Ended,
-    /// The line belongs to a block that waits for its condition, which is tried once it is ended.
+    /// The line belongs to a block that waits for its condition. Its end tries it.
     Noted,
     /// The condition held at this try, counted from 1, and the block is ended.
     EndedAt(u32),
-    /// The condition held at none of so many tries.
+    /// The condition held at none of these tries.
     ConditionFailed(u32),
     /// The client refuses the command, and goes on.
     Refused(ClientError),
-    /// A block that waits for its condition takes calls and its end alone.
+    /// A block that waits for its condition takes only calls and its end.
     NotInWhen,
 }
 
 impl Reply {
-    /// Whether the client refused the line, or the condition of a block failed. What an object refuses is its answer.
+    /// Whether the client refused the line, or a block's condition failed. An object's refusal is an answer.
     pub(crate) fn is_refusal(&self) -> bool
         ensures { result ≡ is_refusal self.now }
     {

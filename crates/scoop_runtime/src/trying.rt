@@ -1,4 +1,4 @@
-//! What is told to somebody who types, of a block that waits for its condition.
+//! Notes on a waiting block, for a user who types.
 
 ghost use Rattle.std.specs.Prelude.{◌≡◌, OnOk};
 ghost use Rattle.std.specs.Io.KnownBytes.{Appends};
@@ -8,17 +8,17 @@ use crate::typing::send_out;
 use std::io;
 use std::io::Write;
 
-// Writes how often the block was tried.
+// Writes how many tries of the block failed.
 fn print_tried<N: Write>(tried: u32, notes: &mut N) -> io::Result<()>
     ensures { OnOk result (Appends (N.contents notes.old) (N.contents notes.new) (tried_text tried)) }
 {
     writeln!(
         notes,
-        "scoop: the condition held at none of {tried} tries, and the block is tried again"
+        "scoop: the condition failed in {tried} tries, and the client tries again"
     )
 }
 
-// The same where somebody types. For a script nothing is written.
+// The same if a user types. A script gets no note.
 fn print_tried_note<N: Write>(tried: u32, is_typed: bool, notes: &mut N) -> io::Result<()>
     ensures { OnOk result (Appends (N.contents notes.old) (N.contents notes.new) (tried_note is_typed tried)) }
 {
@@ -29,7 +29,7 @@ fn print_tried_note<N: Write>(tried: u32, is_typed: bool, notes: &mut N) -> io::
     }
 }
 
-/// Tells whoever types, at once, how often the block was tried. What can't be written is lost.
+/// Writes to a user who types how many tries of the block failed, and flushes. A note that can't be written is lost.
 pub(crate) fn tell_tried<N: Write>(tried: u32, is_typed: bool, notes: &mut N) {
     let written = print_tried_note(tried, is_typed, notes);
     send_out(written, notes);

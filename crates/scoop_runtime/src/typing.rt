@@ -1,4 +1,4 @@
-//! What is told to somebody who types the lines of a client.
+//! Notes for a user who types the lines of a client.
 
 ghost use Rattle.std.specs.Prelude.{◌≡◌, OnOk};
 ghost use Rattle.std.specs.Io.KnownBytes.{Appends};
@@ -13,19 +13,19 @@ use scoop_system::LineFault;
 use std::io;
 use std::io::Write;
 
-// Writes that a client is ready, and which lines may be typed.
+// Writes that a client is ready, and which lines there are.
 fn print_lines<N: Write>(client: ClientId, notes: &mut N) -> io::Result<()>
     ensures { OnOk result (Appends (N.contents notes.old) (N.contents notes.new) (typed_text client)) }
 {
     writeln!(
         notes,
         "scoop: client {client} is ready\n\
-        scoop: type reserve H.., call H OP A.., query H OP A.., end, or reserve H.. when H OP A.. least V tries T; \
+        hint: type reserve H.., call H OP A.., query H OP A.., end, or reserve H.. when H OP A.. least V tries T; \
         control-D ends the client"
     )
 }
 
-// The same where somebody types. For a script nothing is written.
+// The same if a user types. A script gets no note.
 fn print_ready<N: Write>(client: ClientId, is_typed: bool, notes: &mut N) -> io::Result<()>
     ensures { OnOk result (Appends (N.contents notes.old) (N.contents notes.new) (ready_text is_typed client)) }
 {
@@ -36,73 +36,70 @@ fn print_ready<N: Write>(client: ClientId, is_typed: bool, notes: &mut N) -> io:
     }
 }
 
-// Writes that a line can't be read, and what to do: what a script is told that ends there.
+// Writes that a line can't be read, with advice: the same text with which a script ends there.
 fn print_misread<N: Write>(number: u32, fault: LineFault, notes: &mut N) -> io::Result<()>
     ensures { OnOk result (Appends (N.contents notes.old) (N.contents notes.new) (misread_text number fault)) }
 {
     let error = RuntimeError::Line(number, fault);
     let advice = error.advice();
-    writeln!(notes, "scoop: {error}\nscoop: {advice}")
+    writeln!(notes, "scoop: {error}\nhint: {advice}")
 }
 
 fn reserve_advice(error: ReserveError) -> &'static str
     ensures { result.now ≡ reserve_advice error }
 {
     match error {
-        ReserveError::Empty => "a block has at least one handler: name it behind reserve",
+        ReserveError::Empty => "a block needs at least one handler: name it after reserve",
         ReserveError::TooMany => "a block has at most 8 handlers: reserve fewer",
         ReserveError::Repeated(_) => "name each handler of a block once",
         ReserveError::Unknown(_) => {
-            "the system has no such handler: scoop check shows those that it has"
+            "the system has no such handler: scoop check shows its handlers"
         }
-        ReserveError::OutOfMemory => "there was no memory for it: type it again once there is",
+        ReserveError::OutOfMemory => "there was not enough memory: type the line again later",
     }
 }
 
-// What a refusal of the client means, and what to do.
+// The meaning of a client's refusal, and advice.
 fn refusal_advice(error: ClientError) -> &'static str
     ensures { result.now ≡ refusal_advice error }
 {
     match error {
-        ClientError::NotGreeted => "a handler has not welcomed the client yet: type it again",
+        ClientError::NotGreeted => "a handler has not welcomed the client yet: type the line again",
         ClientError::NotIdle => "the client has a block: end it before you reserve the next one",
         ClientError::NoBlock => "the client has no block: reserve the handlers first",
         ClientError::Waiting(_) => {
-            "a query waits for its answer there: type it again once that is there"
+            "a query at this handler waits for its answer: type the line again after that"
         }
         ClientError::NotReserved(_) => {
-            "this handler isn't among those that were reserved: name it there too, in the next block where one is open"
+            "this handler isn't reserved: if a block is open, end it; then name the handler in reserve too"
         }
         ClientError::WindowFull(_) => {
-            "64 entries there are not acknowledged yet: type it again once some are"
+            "64 entries at this handler are not acknowledged yet: type the line again when some are"
         }
         ClientError::TooLate => "all handlers are locked already: end the block",
         ClientError::Spent => {
-            "the numbers of blocks, or of the block's entries, are used up: end the block, or begin the client again with --store"
+            "block or entry numbers are used up: end the block, or start the client again with --store"
         }
         ClientError::Reserve(error) => reserve_advice(error),
-        ClientError::OutOfMemory => "there was no memory for it: type it again once there is",
+        ClientError::OutOfMemory => "there was not enough memory: type the line again later",
     }
 }
 
-// Writes what a refusal means, and what to do.
+// Writes the meaning of a refusal, and advice.
 fn print_reply_note<N: Write>(reply: &Reply, notes: &mut N) -> io::Result<()>
     ensures { OnOk result (Appends (N.contents notes.old) (N.contents notes.new) (reply_note reply.now)) }
 {
     match reply {
         Reply::Refused(error) => {
             let advice = refusal_advice(*error);
-            writeln!(notes, "scoop: {advice}")
+            writeln!(notes, "hint: {advice}")
         }
-        Reply::NotInWhen => writeln!(
-            notes,
-            "scoop: a block that waits for its condition takes calls, and end"
-        ),
+        Reply::NotInWhen => writeln!(notes, "hint: a waiting block takes only calls and end"),
         _ => Ok(()),
     }
 }
 
-// The same where somebody types.
+// The same if a user types.
 fn print_note<N: Write>(reply: &Reply, is_typed: bool, notes: &mut N) -> io::Result<()>
     ensures { OnOk result (Appends (N.contents notes.old) (N.contents notes.new) (note_text is_typed reply.now)) }
 {
@@ -112,26 +109,26 @@ fn print_note<N: Write>(reply: &Reply, is_typed: bool, notes: &mut N) -> io::Res
     print_reply_note(reply, notes)
 }
 
-/// What was written goes out at once. What can't be written is lost.
+/// Flushes a note. A note that can't be written is lost.
 pub(crate) fn send_out<N: Write>(written: io::Result<()>, notes: &mut N) {
     if written.is_ok() {
         let _flushed = notes.flush();
     }
 }
 
-/// Tells whoever types, at once, that a client is ready, and which lines may be typed. What can't be written is lost.
+/// Writes to a user who types that the client is ready, and which lines there are.
 pub(crate) fn tell_ready<N: Write>(client: ClientId, is_typed: bool, notes: &mut N) {
     let written = print_ready(client, is_typed, notes);
     send_out(written, notes);
 }
 
-/// Tells whoever types, at once, that a line can't be read, and what to do. What can't be written is lost.
+/// Writes to a user who types that a line can't be read, with advice.
 pub(crate) fn tell_misread<N: Write>(number: u32, fault: LineFault, notes: &mut N) {
     let written = print_misread(number, fault, notes);
     send_out(written, notes);
 }
 
-/// Tells whoever types, at once, what an answer means that is a refusal. What can't be written is lost.
+/// Writes to a user who types the meaning of a reply that is a refusal.
 pub(crate) fn tell_note<N: Write>(reply: &Reply, is_typed: bool, notes: &mut N) {
     let written = print_note(reply, is_typed, notes);
     send_out(written, notes);

@@ -1,7 +1,8 @@
-//! A link that tells for which handlers a client waits.
+//! A link that reports the handlers that a client waits for.
 
-ghost use Rattle.std.specs.Prelude.{◌≡◌, ◌++◌, ◌∷◌, [], None, OnOk};
+ghost use Rattle.std.specs.Prelude.{◌≡◌, ◌≤◌, ◌++◌, ◌∷◌, [], None, IfOk, IfSome, OnOk};
 ghost use Rattle.std.specs.Io.KnownBytes.{Appends};
+ghost use Rattle.scoop_link.specs.Link.{CountsFault, Exchanges, sent_by, taken_by};
 ghost use Rattle.scoop_runtime.specs.Silence.{Greets, greets};
 ghost use Rattle.scoop_runtime.specs.Texts.{awaited_advice, awaited_text, numbers_text, waiting_text};
 
@@ -13,15 +14,14 @@ use std::alloc::Global;
 use std::io;
 use std::io::Write;
 
-// After so many receives that gave nothing, with no news between, it is told for whom the client waits: over UDP after
-// a second.
+// The link reports after this many empty polls with no news between. Over UDP that is one second.
 const PATIENCE: u32 = 100;
 
-/// A link of a client that notes which handlers it was asked to send to since its last receive, and tells them once a
-/// hundred receives have given nothing, and none between them something else than the last one that gave something; over
-/// UDP that takes a second. So who waits for a handler that answers the same again and again, as where another client's
-/// block stands before its own, is told as well as who waits for one that doesn't answer. It is told once until something
-/// else comes. A writer that fails is left alone. It doesn't tell its datagrams.
+/// A client's link that reports the handlers that the client waits for: those to which it sent since its last receive. It
+/// reports them after a hundred empty polls with no news between; over UDP that takes a second. A datagram that repeats
+/// the last one is no news. So the link also reports a handler that sends the same reply again and again, as when another
+/// client's block stands in front. It reports once until news comes. A report that can't be written is lost. It doesn't
+/// record its datagrams.
 #[derive(Drop)]
 pub(crate) struct WaitingLink<L: Link, E: Write + Drop> {
     inner: L,
@@ -33,7 +33,7 @@ pub(crate) struct WaitingLink<L: Link, E: Write + Drop> {
 }
 
 impl<L: Link, E: Write + Drop> WaitingLink<L, E> {
-    /// The link, with room for so many handlers; those past that are not told.
+    /// The link, with room for this many handlers; it doesn't report further ones.
     pub(crate) fn new(
         alloc: Global,
         inner: L,
@@ -51,7 +51,7 @@ impl<L: Link, E: Write + Drop> WaitingLink<L, E> {
         })
     }
 
-    // Notes that this party was sent this. Whether that is a greeting matters only where it may be told next.
+    // Records a send. Whether it is a greeting matters only if the next poll may report it.
     fn note(&mut self, to: Party, bytes: &[u8])
         ensures { self.new.inner ≡ self.old.inner }
     {
@@ -65,7 +65,7 @@ impl<L: Link, E: Write + Drop> WaitingLink<L, E> {
         }
     }
 
-    // This came. What came last, once more, is no news.
+    // Records a receive. A datagram that repeats the last one is no news.
     fn hear(&mut self, bytes: &[u8])
         ensures { self.new.inner ≡ self.old.inner }
     {
@@ -75,7 +75,7 @@ impl<L: Link, E: Write + Drop> WaitingLink<L, E> {
         }
     }
 
-    // Nothing came once more.
+    // Records an empty poll.
     fn wait(&mut self)
         ensures { self.new.inner ≡ self.old.inner }
     {
@@ -118,20 +118,20 @@ pub(crate) fn print_numbers<W: Write>(numbers: &[HandlerId], writer: &mut W) -> 
     }
 }
 
-// Why a client may wait, and what to do: while it greets, and later.
+// Why a client may wait, and advice: while it greets, and later.
 fn awaited_advice(is_greeting: bool) -> &'static str
     ensures { result.now ≡ awaited_advice is_greeting }
 {
     if is_greeting {
-        "no welcome yet; see whether the nodes run, whether all programs have the same file and the same key, and whether this client ran \
-        before with another store (go on with that one)"
+        "no welcome yet. Check that the nodes run and that all programs have the same file and key. If this client ran before \
+        with another store, resume that one"
     } else {
-        "no answer, or the block of another client stands before this one; see whether the nodes run, and whether a client has \
-        stopped inside a block (begin it again)"
+        "no answer yet, or another client's block is in front. Check that the nodes run. If a client stopped inside a block, \
+        start it again"
     }
 }
 
-// Writes handlers that the client waits for, and why that may be.
+// Writes the handlers that the client waits for, and why that may be.
 fn print_awaited<W: Write>(
     is_greeting: bool,
     handlers: &[HandlerId],
@@ -144,7 +144,7 @@ fn print_awaited<W: Write>(
     writeln!(writer, ": {advice}")
 }
 
-// Tells for whom the client waits, and why that may be.
+// Writes the line on the handlers that the client waits for.
 fn print_waiting<W: Write>(
     is_greeting: bool,
     handlers: &[HandlerId],
@@ -156,7 +156,7 @@ fn print_waiting<W: Write>(
     print_awaited(is_greeting, handlers, writer)
 }
 
-// The same at once. What can't be written is lost.
+// Writes the same and flushes. A report that can't be written is lost.
 fn tell_waiting<W: Write>(is_greeting: bool, handlers: &[HandlerId], writer: &mut W) {
     if print_waiting(is_greeting, handlers, writer).is_ok() {
         let _flushed = writer.flush();
@@ -168,12 +168,21 @@ impl<L: Link, E: Write + Drop> Link for WaitingLink<L, E> {
 
     ghost fault_count = { λ w. L.fault_count w.inner };
 
-    fn send(&mut self, to: Party, bytes: &[u8]) -> Result<(), LinkFault> {
+    fn send(&mut self, to: Party, bytes: &[u8]) -> Result<(), LinkFault>
+        ensures faults { CountsFault result (L.fault_count self.old.inner) (L.fault_count self.new.inner) }
+
+        ensures sent { Exchanges (L.told self.old.inner) (L.told self.new.inner) [] (sent_by result to bytes.now) }
+    {
         self.note(to, bytes);
         self.inner.send(to, bytes)
     }
 
-    fn receive(&mut self, buffer: &mut [u8; BUFFER_LEN]) -> Result<Option<usize>, LinkFault> {
+    fn receive(&mut self, buffer: &mut [u8; BUFFER_LEN]) -> Result<Option<usize>, LinkFault>
+        ensures in_bounds { IfOk result (λ got. IfSome got (λ n. n ≤ BUFFER_LEN)) }
+        ensures faults { CountsFault result (L.fault_count self.old.inner) (L.fault_count self.new.inner) }
+
+        ensures taken { Exchanges (L.told self.old.inner) (L.told self.new.inner) (taken_by result buffer.new) [] }
+    {
         let got = self.inner.receive(buffer)?;
         match got {
             Some(len) => self.hear(&buffer[..len]),

@@ -5,39 +5,51 @@ mod ends;
 mod going_on;
 mod lossy_link;
 mod moments;
+mod node_and_client;
 mod pausing;
 mod printing;
 mod replay;
-mod running;
 mod storm;
 mod systems;
 mod text_lines;
 
 use scoop_keeper::{Keeper, MemoryKeeper};
+use scoop_lines::LineSource;
 use scoop_link::{Link, UdpLink};
 use scoop_message::ClientId;
 use scoop_runtime::{
-    ClientPlan, LineSource, NodePlan, Progress, RuntimeError, Serving, client_run, node_run,
-    open_client_link, open_node_link,
+    ClientPlan, NodePlan, Progress, RuntimeError, Serving, client_run, node_run, open_client_link,
+    open_node_link,
 };
 use scoop_system::System;
 use std::alloc::Global;
 use std::net::Net;
 use std::sync::Wait;
+use std::test::Fail;
 use std::thread::Threads;
 use std::time::Clock;
 use text_lines::TextLines;
 
-/// How many turns a client's command takes at most: no more than twenty seconds.
+/// The turns that a client's command takes at most: twenty seconds.
 const TURNS: u64 = 2_000;
 
-/// How a client ended, how far it came where it ended early, what it wrote, and what its user was told.
+/// A client's end, its progress if it ended early, its output, and its notes to the user.
 #[derive(Drop)]
 struct Told {
     ended: Result<(), RuntimeError>,
     progress: Option<Progress>,
     output: Vec<u8>,
     notes: Vec<u8>,
+}
+
+/// The text with a port in place of each of these words.
+fn with_ports(alloc: Global, text: &str, words: &[&str], ports: &[u16]) -> Result<String, Fail> {
+    let mut text = String::from_str(alloc, text)?;
+    for (word, port) in words.iter().zip(ports.iter()) {
+        let port = format!(in alloc; "{port}")?;
+        text = text.replace(alloc, word, &port)?;
+    }
+    Ok(text)
 }
 
 /// Opens the link of a node.
@@ -51,7 +63,7 @@ fn node_link<R: Net>(
     Some(open_node_link(rt, alloc, system, place))
 }
 
-/// Serves a node for so many turns, over this link. Answers its keeper, if it ends as it is to, and what it wrote.
+/// Serves a node for `turns` over this link. Returns its keeper or its error, and its output.
 fn serve<K, L, R>(
     rt: &R,
     alloc: Global,

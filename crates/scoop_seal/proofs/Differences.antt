@@ -1,4 +1,4 @@
--- What the differences of bytes tell.
+-- The differences of bytes.
 use Rattle.std.proofs.Common.{◌≡◌, ℕ, bit_or, bit_xor, refl, arith}
 use Rattle.std.specs.Int.Bits.{xor_self, xor_add_and}
 use Rattle.std.proofs.lemmas.Nat.{and_le_l, and_le_r, le_or_l, le_or_r}
@@ -7,7 +7,7 @@ use Rattle.std.proofs.lemmas.Nat.{and_le_l, and_le_r, le_or_l, le_or_r}
 same_from_xor : (a b : ℕ) → bit_xor a b ≡ 0 → a ≡ b
 same_from_xor a b e = omega (arith, xor_add_and a b, and_le_l a b, and_le_r a b)
 
--- what is added to differences leaves none only where there was none
+-- added differences come to none only if both were none
 pub none_before : (d a b : ℕ) → bit_or d (bit_xor a b) ≡ 0 → d ≡ 0
 none_before d a b e = omega (arith, le_or_l d (bit_xor a b))
 

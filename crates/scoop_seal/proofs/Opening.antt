@@ -1,4 +1,4 @@
--- What a receive has taken so far.
+-- The datagrams that a receive has taken so far.
 use Rattle.std.proofs.Common.{◌≡◌, ℕ, zero, suc, ◌+◌, List, [], ◌∷◌, ◌++◌, length, All, Option, refl, sym, ap, subst, ◌∙◌, length-append, arith}
 use Rattle.std.proofs.lemmas.List.Elements.{All-append}
 use Rattle.scoop_link.specs.Link.{Told, Exchanges}
@@ -6,7 +6,7 @@ use Rattle.scoop_link.proofs.Exchanges.{exchanges_nothing, exchanges-append}
 use Rattle.scoop_seal.specs.Tag.{IsForged}
 use Rattle.scoop_seal.specs.Sealed.{one_more, count_after, Refuses}
 
--- so many datagrams were taken and refused
+-- this number of datagrams was taken and refused
 pub record SoFar (key : List ℕ) (before after : Option Told) (refused now n : ℕ) : Type 0 where
   pub forged : List (List ℕ)
   pub refuses : Refuses key before after refused now forged
@@ -49,7 +49,7 @@ so_far-also key a b c refused now then n first (d, one) = record {
   count = omega (arith, length-append first.forged (d ∷ []), first.count);
 }
 
--- the same, where a loop keeps the key
+-- the same, for a loop that keeps the key
 pub so_far-more : (key same : List ℕ) (a b c : Option Told) (refused now then n : ℕ) → same ≡ key → SoFar key a b refused now n → (d : List ℕ)
     × Refuses same b c now then (d ∷ []) → SoFar key a c refused then (n + 1)
 so_far-more key same a b c refused now then n is first more =

@@ -1,4 +1,4 @@
--- What is sealed and what isn't.
+-- Sealed datagrams, and others.
 use Rattle.std.proofs.Common.{◌≡◌, ℕ, ◌+◌, ◌<◌, List, length, take, drop, sym, ap, ◌∙◌, length-append, arith}
 use Rattle.std.proofs.lemmas.List.{take_at, drop_at, length-take-le}
 use Rattle.sha2.proofs.Facts256.{length-sha256}
@@ -15,11 +15,11 @@ length-tag key bytes = length-take-le 16 (hmac key bytes) (omega (arith, length-
 pub length-sealed : (key bytes : List ℕ) → length (sealed key bytes) ≡ length bytes + 16
 length-sealed key bytes = omega (arith, length-append bytes (tag key bytes), length-tag key bytes)
 
--- what is shorter than a tag isn't sealed
+-- a datagram shorter than a tag isn't sealed
 pub short-forged : (key datagram : List ℕ) → length datagram < 16 → IsForged key datagram
 short-forged key datagram short = record { not_sealed = λ (bytes, is). omega (arith, ap length is, length-sealed key bytes) }
 
--- what has another end than its tag isn't sealed
+-- a datagram that doesn't end in its tag isn't sealed
 pub other-forged : (key datagram : List ℕ) (n : ℕ) → n + 16 ≡ length datagram → (tag key (take n datagram) ≡ drop n datagram → ⊥) → IsForged key datagram
 other-forged key datagram n len other = record {
   not_sealed = λ (bytes, is).

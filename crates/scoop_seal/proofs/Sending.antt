@@ -1,4 +1,4 @@
--- What a send of a sealed link sends.
+-- The sends of a sealed link.
 use Rattle.std.proofs.Common.{◌≡◌, ℕ, ◌≤◌, List, [], ◌∷◌, length, Option, Result, Ok, Err, ap, sym, subst, ◌∙◌, arith}
 use Rattle.std.proofs.lemmas.Bool.{eq-eqb, ne_eqb}
 use Rattle.scoop_message.specs.declared.limits.TheConstants.{BUFFER_LEN}
@@ -9,7 +9,7 @@ use Rattle.scoop_link.specs.Link.{Told, CountsFault, Exchanges, sent_by}
 use Rattle.scoop_link.proofs.Kept.{kept-short}
 use Rattle.scoop_seal.specs.Sealed.{gone}
 
--- the bytes that the link behind was given went, where it counted no fault
+-- the inner link sent the bytes that it got, if it counted no fault
 pub gone_by : (r : Result (Unit {0}) LinkFault) (before after : Option Told) (faults now : ℕ) (to : Party) (given datagram : List ℕ) → given ≡ datagram
     → length datagram ≤ BUFFER_LEN → CountsFault r faults now → Exchanges before after [] (sent_by r to given)
     → Exchanges before after [] (gone faults now to datagram)

@@ -2,11 +2,11 @@
 use Rattle.std.specs.Prelude.{ℕ, ◌-◌, nat_lt, List, ◌++◌, length, map, replicate, bit_xor, if◌then◌else◌}
 use Rattle.sha2.specs.Sha256.{sha256}
 
--- a key, or its digest where it is longer than a block
+-- a key, or its digest if it is longer than a block
 abbrev pub short_key : List ℕ → List ℕ
 short_key key = if nat_lt 64 (length key) then sha256 key else key
 
--- that as one block, with zeros behind
+-- that as one block, filled up with zeros
 abbrev pub block_key : List ℕ → List ℕ
 block_key key = short_key key ++ replicate (64 - length (short_key key)) 0
 

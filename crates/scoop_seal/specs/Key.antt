@@ -6,7 +6,7 @@ use Rattle.hex.specs.Hex.{decode_sized}
 use Rattle.scoop_seal.specs.declared.key.KeyError.{KeyError}
 use Rattle.scoop_seal.specs.declared.key.KeyError.TheVariants.{Length, Digit}
 
--- how many bytes of a text are its end of line: a line feed, with the carriage return before it if there is one
+-- the length of a text's end of line: a line feed, with the carriage return before it if there is one
 abbrev pub end_len : List ℕ → ℕ
 end_len text =
     if slice_index text (length text - 1) == 10 then (if slice_index text (length text - 2) == 13 then 2 else 1) else 0
@@ -22,6 +22,6 @@ key_from (Err OddLength) = Err Length
 key_from (Err InvalidStringLength) = Err Length
 key_from (Err OutOfMemory) = Err Length
 
--- the key that a text has, or why it has none: 64 bytes are wanted, each a hex digit
+-- the key of a text, or the reason why it has none: it must have 64 bytes, each a hex digit
 abbrev pub key_in : List ℕ → Result (List ℕ) KeyError
 key_in text = key_from (decode_sized (line_of text) 32)

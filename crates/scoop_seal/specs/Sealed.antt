@@ -1,4 +1,4 @@
--- What a sealed link is, and what it sends and takes.
+-- A sealed link, its sends and its receives.
 use Rattle.std.specs.Prelude.{◌≡◌, ℕ, ◌+◌, ◌-◌, ◌^◌, ◌≤◌, min, ◌==◌, nat_lt, List, [], ◌∷◌, ◌++◌, length, map, take, All, Option, Result, Ok, Err}
 use Rattle.std.specs.Prelude.{if◌then◌else◌}
 use Rattle.scoop_link.specs.declared.party.Party.{Party}
@@ -9,7 +9,7 @@ use Rattle.scoop_seal.specs.declared.sealed_link.Taken.{Taken}
 use Rattle.scoop_seal.specs.declared.sealed_link.Taken.TheVariants.{Nothing, Forged, Genuine}
 use Rattle.scoop_seal.specs.Tag.{sealed, IsForged}
 
--- the link behind it, the key, how many datagrams were refused, and how many sends were too long
+-- the inner link, the key, the number of refused datagrams, and the number of sends that were too long
 pub record SealedValue (L : Type 0) : Type 0 where
   pub inner : L
   pub key : List ℕ
@@ -19,23 +19,23 @@ pub record SealedValue (L : Type 0) : Type 0 where
 abbrev pub seals : {L : Type 0} → L → List ℕ → SealedValue L
 seals inner key = record { inner = inner; key = key; refused = 0; faults = 0 }
 
--- one more, where the count can rise
+-- one more, if the count can rise
 abbrev pub one_more : ℕ → ℕ
 one_more n = min (n + 1) (2 ^ 64 - 1)
 
--- the count of faults, of a link's own ones and those of the link behind it
+-- the count of faults: a link's own ones and those of the inner link
 abbrev pub fault_sum : ℕ → ℕ → ℕ
 fault_sum own inner = min (own + inner) (2 ^ 64 - 1)
 
--- a link's own faults after one more, where the count of all can rise
+-- a link's own faults after one more, if the count of all can rise
 abbrev pub own_after : ℕ → ℕ → ℕ
 own_after own inner = if nat_lt (fault_sum own inner) (2 ^ 64 - 1) then own + 1 else own
 
--- the bytes were sent sealed, unless the link behind counted a fault
+-- the bytes were sent sealed, unless the inner link counted a fault
 abbrev pub gone : ℕ → ℕ → Party → List ℕ → Datagrams
 gone before after to datagram = if before == after then (to, datagram) ∷ [] else []
 
--- the count of refused datagrams after these: one more for each, where the count can rise
+-- the number of refused datagrams after these: one more for each, if the count can rise
 abbrev pub count_after : ℕ → List (List ℕ) → ℕ
 count_after refused [] = refused
 count_after refused (d ∷ forged) = count_after (one_more refused) forged
@@ -46,8 +46,8 @@ pub record Refuses (key : List ℕ) (before after : Option Told) (refused now : 
   pub all_forged : All (IsForged key) forged
   pub counted : now ≡ count_after refused forged
 
--- What was given was taken with its tag behind it. What was taken before it was not sealed and was counted: no
--- more than MAX_TAKEN datagrams in all.
+-- The bytes given were taken with their tag after them. The datagrams taken before were not sealed, and were counted.
+-- In all no more than MAX_TAKEN were taken.
 pub record Opens (key : List ℕ) (before after : Option Told) (refused now : ℕ) (given : List (List ℕ)) : Type 0 where
   pub forged : List (List ℕ)
   pub exchanged : Exchanges before after (forged ++ map (sealed key) given) []
@@ -55,12 +55,12 @@ pub record Opens (key : List ℕ) (before after : Option Told) (refused now : �
   pub counted : now ≡ count_after refused forged
   pub at_most : length forged + length given ≤ MAX_TAKEN
 
--- so many bytes at the start of a buffer have their tag behind them
+-- the first n bytes of a buffer are followed by their tag
 pub record IsTagged (key buffer : List ℕ) (n : ℕ) : Type 0 where
   pub fits : n ≤ 176
   pub tagged : take (n + 16) buffer ≡ sealed key (take n buffer)
 
--- what one receive of the link behind gave
+-- the outcome of one receive of the inner link
 abbrev pub TakesOne : Result Taken LinkFault → List ℕ → Option Told → Option Told → ℕ → ℕ → List ℕ → Type 0
 TakesOne (Ok Nothing) key before after refused now buffer = Exchanges before after [] [] × (now ≡ refused)
 TakesOne (Ok Forged) key before after refused now buffer = (d : List ℕ) × Refuses key before after refused now (d ∷ [])

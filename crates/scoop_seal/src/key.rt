@@ -26,7 +26,7 @@ impl Model for Key {
     ghost inverse = { λ bytes. record { bytes = bytes } };
 }
 
-/// Why a text is no key, in the order in which it is tested. It says nothing of what the text has.
+/// Why a text is no key, in the order in which it is tested. It reveals nothing of the text.
 #[derive(Clone, Copy, Debug, PartialEq, Eq, Error)]
 pub enum KeyError {
     /// There aren't 64 bytes before the end of line.
@@ -37,7 +37,7 @@ pub enum KeyError {
     Digit,
 }
 
-// How many bytes of a text are its end of line.
+// The length of a text's end of line.
 fn end_len(text: &[u8]) -> usize
     ensures { result ≡ end_len text.now }
 {
@@ -49,14 +49,14 @@ fn end_len(text: &[u8]) -> usize
 }
 
 impl Key {
-    /// The key of these bytes.
+    /// Makes the key of these bytes.
     pub fn new(bytes: [u8; KEY_LEN]) -> Key
         ensures { result ≡ bytes }
     {
         Key { bytes }
     }
 
-    /// The key that a text has: 64 hex digits, of either case, with an end of line behind them or without.
+    /// Reads a key from a text: 64 hex digits, of either case, with or without an end of line after them.
     pub fn read(text: &[u8]) -> Result<Key, KeyError>
         ensures { result ≡ key_in text.now }
     {

@@ -1,8 +1,8 @@
 //! Sealed datagrams: a link whose datagrams carry a tag that only a holder of the key can make.
 //!
-//! [`hmac`] is the code of RFC 2104 over SHA-256, [`Key`] a key of 32 bytes, and [`SealedLink`] puts 16 bytes of
-//! the code behind each datagram that it sends, and gives only datagrams that have the right ones behind
-//! them. Nothing is kept secret but the key. No call takes memory.
+//! [`hmac`] is the code of RFC 2104 over SHA-256, and [`Key`] a key of 32 bytes. [`SealedLink`] puts 16 bytes of
+//! the code after each datagram that it sends, and gives only datagrams with the right ones. Nothing is secret
+//! except the key. No call takes memory.
 //!
 //! ```
 //! let key = Key::new([5; 32]);
@@ -10,7 +10,7 @@
 //! link.send(HANDLER, b"lock")?;
 //! let (_, sealed) = link.inner().sent(0).ok_or("nothing sent")?;
 //! assert_eq!(rt; sealed.len(), 4 + TAG_LEN);
-//! // who has the key gets the bytes, and what came without their tag is passed over
+//! // a holder of the key gets the bytes; a datagram without their tag is passed over
 //! let mut tape = TapeLink::new(alloc, 0)?;
 //! tape.feed(b"forged")?;
 //! tape.feed(sealed)?;

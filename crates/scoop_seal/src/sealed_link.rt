@@ -11,28 +11,29 @@ use scoop_link::{Link, LinkFault, Party};
 use scoop_message::limits::BUFFER_LEN;
 use std::marker::Model;
 
-// Datagrams that one receive takes, at most.
+// The most datagrams that one receive takes.
 const MAX_TAKEN: usize = 64;
 
-// What one receive of the link behind gave.
+// The outcome of one receive of the inner link.
 enum Taken {
     Nothing,
     // A datagram that was not sealed.
     Forged,
-    // So many bytes with their tag behind them.
+    // This number of bytes, with their tag after them.
     Genuine(usize),
 }
 
 /// A link that sends bytes sealed, and gives only those that were sealed with its key.
 ///
-/// Behind the bytes stand the first sixteen bytes of their code by RFC 2104 with SHA-256 and the key. A
-/// send of more than `MAX_BYTES` bytes is a fault of its own. A receive takes datagrams from the link behind, at
-/// most `MAX_TAKEN`, until one has the right tag, and gives the bytes before that; the others are counted. It gives
-/// nothing where nothing came or none of these had the right tag. Its count of faults is that of its own
-/// ones and those of the link behind.
+/// After the bytes stand the first sixteen bytes of their code by RFC 2104 with SHA-256 and the key. A send of
+/// more than `MAX_BYTES` bytes is a fault of its own. A receive takes datagrams from the inner link, at most
+/// `MAX_TAKEN`, until one has the right tag, and gives the bytes before that tag. It counts the others. It gives
+/// nothing if nothing came or no datagram had the right tag. Its count of faults adds its own to those of the
+/// inner link.
 ///
-/// Who has not the key can't make a datagram that is given, but can repeat one that was sent. Nothing is
-/// kept secret. Contracts see the link behind it, the key and both counts. It doesn't tell its datagrams.
+/// Without the key a sender can't make a datagram that is given, but can repeat one that was sent. Nothing is
+/// secret except the key. Contracts see the inner link, the key and both counts. The link doesn't record its
+/// datagrams.
 #[derive(Drop)]
 pub struct SealedLink<L> {
     inner: L,
@@ -50,7 +51,7 @@ impl<L> Model for SealedLink<L> {
 }
 
 impl<L: Link> SealedLink<L> {
-    /// Seals what goes by the link with the key.
+    /// Seals an inner link's datagrams with the key.
     pub fn new(inner: L, key: Key) -> SealedLink<L>
         ensures { result ≡ seals inner key }
     {
@@ -62,28 +63,28 @@ impl<L: Link> SealedLink<L> {
         }
     }
 
-    /// The link behind this one.
+    /// The inner link.
     pub fn inner(&self) -> &L
         ensures { result.now ≡ self.now.inner }
     {
         &self.inner
     }
 
-    /// How many datagrams were taken that had not the right tag. The count stops at 2^64-1.
+    /// The number of datagrams taken without the right tag. It stops at 2^64-1.
     pub fn refused(&self) -> u64
         ensures { result ≡ self.now.refused }
     {
         self.refused
     }
 
-    // How many sends and receives failed, here and in the link behind.
+    // The number of sends and receives that failed, here and in the inner link.
     fn count(&self) -> u64
         ensures { result ≡ fault_sum self.now.faults (L.fault_count self.now.inner) }
     {
         self.faults.saturating_add(self.inner.faults())
     }
 
-    // Takes one datagram from the link behind.
+    // Takes one datagram from the inner link.
     fn take(&mut self, buffer: &mut [u8; BUFFER_LEN]) -> Result<Taken, LinkFault>
         ensures faults { CountsFault result (L.fault_count self.old.inner) (L.fault_count self.new.inner) }
         ensures taken { TakesOne result self.old.key (L.told self.old.inner) (L.told self.new.inner) self.old.refused self.new.refused buffer.new }

@@ -1,4 +1,4 @@
-//! Tags behind datagrams.
+//! Tags after datagrams.
 
 ghost use Rattle.std.specs.Prelude.{◌≡◌, ◌+◌, ◌≤◌, ◌↔◌, length, take, IsTrue, IfSome, IfNone};
 ghost use Rattle.scoop_seal.specs.Tag.{tag, sealed, IsForged};
@@ -10,7 +10,7 @@ use scoop_message::limits::BUFFER_LEN;
 /// Bytes of a tag.
 pub const TAG_LEN: usize = 16;
 
-/// Bytes that find room in a datagram beside their tag, at most. The longest frame is shorter.
+/// The most bytes that a datagram can carry beside their tag. The longest frame is shorter.
 pub const MAX_BYTES: usize = 176;
 
 const _: () = prove!(MAX_BYTES + TAG_LEN == BUFFER_LEN);
@@ -24,8 +24,7 @@ fn tag(key: &Key, bytes: &[u8]) -> [u8; TAG_LEN]
     tag
 }
 
-// Whether two tags are the same. It looks at each byte, whatever the others are, so that the time it takes
-// tells nothing of them.
+// Whether two tags are the same. It looks at each byte in any case, so that its time reveals nothing of them.
 fn same_tag(left: &[u8; TAG_LEN], right: &[u8; TAG_LEN]) -> bool
     ensures { IsTrue result ↔ (left.now ≡ right.now) }
 {
@@ -36,7 +35,7 @@ fn same_tag(left: &[u8; TAG_LEN], right: &[u8; TAG_LEN]) -> bool
     difference == 0
 }
 
-/// Writes some bytes and their tag to the start of a buffer, and answers how many these are.
+/// Writes some bytes and their tag to the start of a buffer, and returns their length.
 pub(crate) fn seal(key: &Key, bytes: &[u8], buffer: &mut [u8; BUFFER_LEN]) -> usize
     requires { length bytes.now ≤ MAX_BYTES }
     ensures len { result ≡ length bytes.now + TAG_LEN }
@@ -49,7 +48,7 @@ pub(crate) fn seal(key: &Key, bytes: &[u8], buffer: &mut [u8; BUFFER_LEN]) -> us
     len + TAG_LEN
 }
 
-/// How many bytes of a datagram have their tag behind them, which is all of the rest.
+/// The number of bytes in a datagram that are followed by their tag, if the rest of it is that tag.
 pub(crate) fn opened(key: &Key, datagram: &[u8]) -> Option<usize>
     ensures forged { IfNone result (IsForged key.now datagram.now) }
     ensures len { IfSome result (λ n. n + TAG_LEN ≡ length datagram.now) }

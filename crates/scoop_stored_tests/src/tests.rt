@@ -1,5 +1,5 @@
-//! Nodes of two cells over any keeper, and what is done at them. What is over a store in particular is in the
-//! modules. What isn't as it should be ends a test here, so that nobody has a node or a keeper to drop for it.
+//! Nodes of two cells over any keeper, and acts at them. The modules have the tests over stores. A failed expectation ends a
+//! test here, so that no early return has to drop a node or a keeper.
 
 ghost use Rattle.std.specs.Prelude.{◌≡◌, length};
 
@@ -52,7 +52,7 @@ fn cells(rt: &impl Abort, alloc: Global) -> Vec<Handed>
     }
 }
 
-/// A node of the cells, each of which has what the keeper has of it, and its passes. `None` where the keeper refuses.
+/// A node of the cells with the keeper's states, and its passes. `None` if the keeper refuses.
 fn opened<K: Keeper<Global>>(
     rt: &impl Abort,
     alloc: Global,
@@ -65,8 +65,8 @@ fn opened<K: Keeper<Global>>(
     }
 }
 
-/// A store in a database that has nothing yet. The calls of a store stand here alone, and over any medium: what they
-/// say is slow to prove at the types of files.
+/// A new store in an empty database. Only this module calls a store, and over any medium, since the calls are slow to prove
+/// at the types of files.
 fn created<S: Alter + Drop>(
     rt: &impl Abort,
     alloc: Global,
@@ -82,7 +82,7 @@ fn created<S: Alter + Drop>(
     }
 }
 
-/// The store that is in a database, `None` where there is none or it is refused.
+/// The store in a database; `None` if there is none or it is refused.
 fn adopted<S: Alter + Drop>(alloc: Global, connection: Option<Connection<S>>) -> Option<Store<S>> {
     match Store::adopt(alloc, connection?) {
         Ok(store) => Some(store),
@@ -90,19 +90,19 @@ fn adopted<S: Alter + Drop>(alloc: Global, connection: Option<Connection<S>>) ->
     }
 }
 
-/// What was below a store.
+/// The medium of a store.
 fn medium_of<S: Alter + Drop>(store: Store<S>) -> S {
     store.into_connection().into_store()
 }
 
-/// A client, and the handler that its first block has to do with.
+/// A client, and the handler of its first block.
 #[derive(Clone, Copy)]
 struct Place {
     client: ClientId,
     handler: HandlerId,
 }
 
-/// What is done at a node.
+/// An act at a node.
 #[derive(Clone, Copy)]
 enum Act {
     Hello,
@@ -176,7 +176,7 @@ fn does<K: Keeper<Global>, R: Wait + Abort>(
     }
 }
 
-/// The node does all of this.
+/// The node does all of these acts.
 fn does_all<K: Keeper<Global>, R: Wait + Abort>(
     rt: &R,
     node: &Cells<K>,

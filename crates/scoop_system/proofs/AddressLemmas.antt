@@ -1,4 +1,4 @@
--- What `parse` answers for a socket address is what the definition says.
+-- `parse` returns the socket address that the definition gives.
 use Rattle.std.proofs.Common.{◌≡◌, ℕ, ◌==◌, Bool, true, false, if◌then◌else◌, List, [], ◌∷◌, ◌++◌, length, Option, Some, None, Result, Ok, Err, refl, ap, ◌∙◌}
 use Rattle.std.proofs.Common.{append-nil, arith}
 use Rattle.std.specs.Result.{result_ok}
@@ -44,7 +44,7 @@ v6_text : (text : List ℕ) (read : Option ((List ℕ × ℕ × ℕ × ℕ) × L
 v6_text text None p is whole = cc
 v6_text text (Some (q, rest)) p is whole = v6_whole text q rest p (length rest == 0) refl is whole
 
--- nothing is found where each thing that is found is impossible
+-- nothing is found if each find is impossible
 none_found : {A : Type 0} (o found : Option A) → o ≡ found → ((x : A) → o ≡ Some x → ⊥) → o ≡ None
 none_found o None is never = is
 none_found o (Some x) is never = absurd (never x is)

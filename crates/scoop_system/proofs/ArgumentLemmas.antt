@@ -1,4 +1,4 @@
--- How many arguments an operation reads, and with how many the object takes it.
+-- The number of arguments that an operation reads, and the numbers with which the object takes it.
 use Rattle.std.proofs.Common.{◌≡◌, ℕ, ◌+◌, ◌&&◌, max, nat_lt, nat_le, true, arith, List, [], ◌∷◌, Option, Some, None}
 use Rattle.std.specs.List.{list_all}
 use Rattle.std.proofs.lemmas.Bool.Decides.{nat_tests}
@@ -36,7 +36,7 @@ writes_below : (n : ℕ) (ws : List Write) → list_all (write_has_args_below n)
 writes_below n [] = none_below n
 writes_below n (w ∷ ws) = rw (write_below n w, writes_below n ws) (below_max (write_arguments w) (writes_arguments ws) n)
 
--- a request with n arguments has all that the operation names exactly where it reads so many at most
+-- a request with n arguments has all that the operation names exactly if the operation reads at most n
 pub row_below : (n : ℕ) (row : OpRow) → has_args_below n row ≡ nat_le (row_arguments row) n
 row_below n row =
     rw (test_below n row.test, writes_below n row.writes, term_below n row.answer, below_max (writes_arguments row.writes) (term_arguments row.answer) n)

@@ -1,11 +1,11 @@
--- The operations of a class that is read make one.
+-- The operations that are read make a class.
 use Rattle.std.proofs.Common.{◌≡◌, ℕ, ◌+◌, ◌≤◌, ◌==◌, ◌^◌, ◌-◌, nat_lt, true, false, List, [], ◌∷◌, ◌++◌, length, Option, Some, None, Ok, refl, ◌∙◌, arith}
 use Rattle.std.proofs.Common.{length-append}
 use Rattle.std.specs.List.{list_all, list_any}
 use Rattle.std.proofs.lemmas.Bool.Decides.{nat_tests}
 use Rattle.std.proofs.lemmas.List.Folds.{list_all-append, list_any-append}
 use Rattle.toml.specs.Data.{Data, get}
-use Rattle.scoop_words.proofs.ReadingLemmas.{bind_ok, unless_ok}
+use Rattle.scoop_lines.proofs.ReadingLemmas.{bind_ok, unless_ok}
 use Rattle.scoop_message.specs.declared.limits.TheConstants.{MAX_ARGS, MAX_OPS, MAX_WRITES}
 use Rattle.scoop_object.specs.declared.term.Term.{Term}
 use Rattle.scoop_object.specs.declared.term.Write.{Write}
@@ -22,7 +22,7 @@ use Rattle.scoop_system.specs.Classes.{operation_place, operations_from}
 use Rattle.scoop_system.proofs.RowLemmas.{at_ok, IsTerm, IsTest, AreWrites, term_in-good, test_in-good, writes_from-good, repeats-push, no_fault_no}
 use Rattle.scoop_system.specs.declared.error.Wrong.TheVariants.{Twice}
 
--- an operation that a class of so many words may have behind these
+-- an operation that a class of this many words may have after these
 record IsRow (words : ℕ) (rows : List OpRow) (row : OpRow) : Type 0 where
   word : has_words_below words row ≡ true
   argument : has_args_below MAX_ARGS row ≡ true
@@ -63,7 +63,7 @@ operation_of-good words rows operations d o is =
     (answer_in-good words (get (key_text key.Answer) d) answer answer_is)
     new)
 
--- operations that a class of so many words may have
+-- operations that a class of this many words may have
 record AreRows (words : ℕ) (rows : List OpRow) : Type 0 where
   word : list_all (has_words_below words) rows ≡ true
   argument : list_all (has_args_below MAX_ARGS) rows ≡ true

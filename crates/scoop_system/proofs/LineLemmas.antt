@@ -1,8 +1,8 @@
--- Words that are read alike, one after another, up to one of a name.
+-- Words read alike, in sequence, up to one of a name.
 use Rattle.std.proofs.Common.{◌≡◌, ℕ, true, false, List, [], ◌∷◌, ◌++◌, Ok, Err, refl, ap, append-nil}
-use Rattle.scoop_words.specs.Words.{Word}
-use Rattle.scoop_words.specs.Reading.{Read, each_of}
-use Rattle.scoop_words.proofs.ReadingLemmas.{joined, joined_more, joined_fault}
+use Rattle.scoop_lines.specs.Words.{Word}
+use Rattle.scoop_lines.specs.Reading.{Read, each_of}
+use Rattle.scoop_lines.proofs.ReadingLemmas.{joined, joined_more, joined_fault}
 use Rattle.scoop_classes.specs.Classes.{same_text}
 use Rattle.scoop_system.specs.declared.line.fault.LineFault.{LineFault}
 use Rattle.scoop_system.specs.Words.{before}
@@ -23,7 +23,7 @@ pub before_end : {A : Type 0} (read : Word → Read LineFault A) (name : List �
     → same_text word name ≡ true → joined front (each_of read (before name (word ∷ words))) ≡ Ok front
 before_end read name word words front same = rw same (ap Ok (append-nil front))
 
--- how many words stand before the name, where the first isn't it
+-- the number of words before the name, if the first isn't it
 pub before_more : (name : List ℕ) (word : Word) (words : List Word) → same_text word name ≡ false
     → before name (word ∷ words) ≡ word ∷ before name words
 before_more name word words other = rw other refl

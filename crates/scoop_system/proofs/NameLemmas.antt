@@ -1,4 +1,4 @@
--- What is told of a text is printable ASCII.
+-- Names as faults print them are printable ASCII.
 use Rattle.std.proofs.Common.{◌≡◌, ℕ, zero, suc, ◌<◌, ◌&&◌, Bool, true, false, List, [], ◌∷◌, ◌+◌, ◌-◌, length, take, drop, replicate, get_or, map, refl, sym}
 use Rattle.std.proofs.Common.{ap, ◌∙◌, arith}
 use Rattle.std.proofs.lemmas.List.{take_all, drop-drop, drop-replicate}
@@ -31,7 +31,7 @@ printable_ascii (b ∷ bs) is (suc i) = printable_ascii bs (others (is_printable
 pub printable-utf8 : (bytes : List ℕ) → list_all is_printable bytes ≡ true → IsUtf8 bytes
 printable-utf8 bytes is = IsUtf8-from_ascii bytes (printable_ascii bytes is)
 
--- what is kept of the bytes that were told, once all are
+-- all bytes are told: they are the cells of the name
 pub all_told : (bytes cells : List ℕ) (place : ℕ) → place ≡ length bytes → take place cells ≡ map told_byte (take place bytes)
     → take (length bytes) cells ≡ map told_byte bytes
 all_told bytes cells place end front =

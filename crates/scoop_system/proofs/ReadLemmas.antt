@@ -1,9 +1,9 @@
--- The words of a list that are read one after another.
+-- The words of a list, read in sequence.
 use Rattle.std.proofs.Common.{◌≡◌, ℕ, List, [], ◌∷◌, ◌++◌, Some, None, Err, ap}
 use Rattle.std.specs.Option.{ok_or}
 use Rattle.toml.specs.Data.{Data}
-use Rattle.scoop_words.specs.Reading.{each_of}
-use Rattle.scoop_words.proofs.ReadingLemmas.{joined, joined_more, joined_fault}
+use Rattle.scoop_lines.specs.Reading.{each_of}
+use Rattle.scoop_lines.proofs.ReadingLemmas.{joined, joined_more, joined_fault}
 use Rattle.scoop_system.specs.declared.error.Wrong.TheVariants.{NotWords}
 use Rattle.scoop_system.specs.Value.{word_of, some_word}
 

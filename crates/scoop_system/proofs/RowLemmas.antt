@@ -1,15 +1,15 @@
--- The terms, tests and writes that are read make the row of a class. What is read without a fault names words that the class
--- has and arguments that a request may have (`IsTerm`, `IsTest`, `IsWrite`), since each reader tests them before it gives a
--- term. Writes are read one by one, and each is tested against those before it: by induction on what is left to read, all are
--- such writes, and no word is written twice (`AreWrites`). `ClassRowLemmas` makes the operations and the class of them.
+-- The terms, tests and writes that are read make the row of a class. A term without a fault names a word of the class or an
+-- argument of a request (`IsTerm`, `IsTest`, `IsWrite`), since each reader tests it first. Each write is tested against those
+-- before it. By induction on the rest, all are such writes, and no word is written twice (`AreWrites`). `ClassRowLemmas` makes
+-- the operations and the class of them.
 use Rattle.std.proofs.Common.{◌≡◌, ℕ, ◌==◌, ◌||◌, nat_lt, Bool, true, false, if◌then◌else◌, List, [], ◌∷◌, ◌++◌, Option, Some, None, Ok, Err, refl, ap, arith}
 use Rattle.std.specs.List.{list_all, list_any}
 use Rattle.std.proofs.lemmas.Bool.Decides.{nat_tests}
 use Rattle.std.proofs.lemmas.List.Folds.{list_all-append, list_any-append}
 use Rattle.toml.specs.Data.{Data, Items, as_str, as_array}
-use Rattle.scoop_words.specs.Number.{decimal_of}
-use Rattle.scoop_words.specs.Reading.{Read}
-use Rattle.scoop_words.proofs.ReadingLemmas.{bind_ok, unless_ok}
+use Rattle.scoop_lines.specs.Number.{decimal_of}
+use Rattle.scoop_lines.specs.Reading.{Read}
+use Rattle.scoop_lines.proofs.ReadingLemmas.{bind_ok, unless_ok}
 use Rattle.scoop_message.specs.declared.limits.TheConstants.{MAX_ARGS}
 use Rattle.scoop_object.specs.declared.term.Term.{Term}
 use Rattle.scoop_object.specs.declared.term.Term.TheVariants.{Const, Word, Arg}
@@ -23,9 +23,9 @@ use Rattle.scoop_system.specs.Name.{told}
 use Rattle.scoop_system.specs.Value.{list_of}
 use Rattle.scoop_system.specs.Place.{at}
 use Rattle.scoop_system.specs.Terms.{word_term, argument_term, constant_term, term_of, or_no_term, term_in, two_terms, listed_test, test_in, written_word}
-use Rattle.scoop_system.specs.Terms.{four_terms, listed_write, write_in, written_before, next_write, writes_from}
+use Rattle.scoop_system.specs.Terms.{word_in, four_terms, listed_write, write_in, written_before, next_write, writes_from}
 
--- what is read at a place
+-- a value that is read at a place
 pub at_ok : {A P : Type 0} (place : Place) (r : Read Wrong A) (y : A) → at place r ≡ Ok y → (r ≡ Ok y → P) → P
 at_ok place (Ok x) y is go = let same : x ≡ y = cc in go (ap Ok same)
 at_ok place (Err wrong) y is go = cc
@@ -127,8 +127,8 @@ four_terms-good words (t ∷ []) w is = cc
 four_terms-good words (t ∷ a ∷ []) w is = cc
 four_terms-good words (t ∷ a ∷ b ∷ []) w is = cc
 four_terms-good words (t ∷ a ∷ b ∷ c ∷ []) w is =
-    bind_ok (term_in words t) _ w is λ term t_is one.
-    bind_ok (written_word term) _ w one λ word word_is two.
+    bind_ok (word_in words t) _ w is λ word one two.
+    bind_ok (term_in words t) _ word one λ term t_is word_is.
     bind_ok (term_in words a) _ w two λ base base_is three.
     bind_ok (term_in words b) _ w three λ plus plus_is four.
     bind_ok (term_in words c) _ w four λ minus minus_is made.
@@ -164,7 +164,7 @@ pub record AreWrites (words : ℕ) (ws : List Write) : Type 0 where
   pub argument : list_all (write_has_args_below MAX_ARGS) ws ≡ true
   pub once : repeats (λ w. w.word) ws ≡ false
 
--- where nothing is wrong the test says no
+-- without a fault the test fails
 pub no_fault_no : (b : Bool) (wrong : Wrong) → (if b then Some wrong else None) ≡ None → b ≡ false
 no_fault_no true wrong is = cc
 no_fault_no false wrong is = refl

@@ -10,7 +10,7 @@ use Rattle.scoop_system.specs.Value.{key_fault}
 use Rattle.scoop_system.specs.Stop.{IfFault}
 use Rattle.scoop_system.specs.Meaning.{file_keys, classes_of, nodes_of, handlers_of, clients_of, system_of}
 
--- the fault of the clients is told where nothing else has one
+-- the fault of the clients is the first one if nothing else has a fault
 pub clients_fault : (d : Data) (classes : List NamedClass) (nodes : List NodePlace) (handlers : List HandlerPlace) (stop : Stop) → key_fault file_keys d ≡ None
     → classes_of d ≡ Ok classes → nodes_of d ≡ Ok nodes → handlers_of classes nodes d ≡ Ok handlers → IfFault stop (λ fault. clients_of nodes d ≡ Err fault)
     → IfFault stop (λ fault. system_of d ≡ Err fault)

@@ -1,4 +1,4 @@
--- The values of a TOML text, as they are held and as the definitions see them.
+-- The values of a TOML text, in memory and in the definitions.
 use Rattle.std.proofs.Common.{◌≡◌, ℕ, ◌+◌, ◌<◌, ◌≤◌, nat_lt, Bool, true, false, not, arith, Ok, Err, if◌then◌else◌, List, [], ◌∷◌, length, drop, get_or, map}
 use Rattle.std.proofs.Common.{Option, Some, None, String, Global, string_bytes, refl, ap, option_map}
 use Rattle.std.specs.Prelude.{find}

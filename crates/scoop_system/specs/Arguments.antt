@@ -1,4 +1,4 @@
--- How many arguments an operation reads: as many as there are up to the last one that it names.
+-- The number of arguments that an operation reads: all up to the last one that it names.
 use Rattle.std.specs.Prelude.{ℕ, ◌==◌, ◌+◌, max, List, [], ◌∷◌, find, Option, Some, None}
 use Rattle.std.specs.Option.{option_map, option_and_then}
 use Rattle.scoop_message.specs.declared.name.HandlerId.{HandlerId}
@@ -28,7 +28,7 @@ writes_arguments (w ∷ ws) = max (write_arguments w) (writes_arguments ws)
 abbrev pub row_arguments : OpRow → ℕ
 row_arguments row = max (test_arguments row.test) (max (writes_arguments row.writes) (term_arguments row.answer))
 
--- of the operation of this number, where there is one
+-- of the operation of this number, if there is one
 abbrev pub rows_arguments : ℕ → List OpRow → Option ℕ
 rows_arguments op rows = option_map row_arguments (find (λ row. row.op == op) rows)
 

@@ -2,7 +2,7 @@
 use Rattle.std.specs.Prelude.{ℕ, ◌+◌, ◌^◌, ◌-◌, if◌then◌else◌, List, [], ◌∷◌, ◌++◌, length, is_some, Option, Some, None, Ok}
 use Rattle.std.specs.Result.{result_ok}
 use Rattle.toml.specs.Data.{Data}
-use Rattle.scoop_words.specs.Reading.{Read, ◌>>=◌, unless}
+use Rattle.scoop_lines.specs.Reading.{Read, ◌>>=◌, unless}
 use Rattle.scoop_message.specs.declared.limits.TheConstants.{MAX_OPS, MAX_WORDS}
 use Rattle.scoop_object.specs.declared.row.OpRow.{OpRow}
 use Rattle.scoop_classes.specs.Classes.{class_of_name}
@@ -26,7 +26,7 @@ operation_place_of class count (Some number) = Operation number class
 abbrev pub operation_place : List ℕ → ℕ → Data → Place
 operation_place class count d = operation_place_of class count (result_ok (number_at key.Number 0 (2 ^ 16 - 1) d))
 
--- the operations of a class, behind those that come before them
+-- the operations of a class, after those before them
 abbrev pub operations_from : List ℕ → ℕ → List OpRow → List OwnOperation → List Data → Told (List OpRow × List OwnOperation)
 operations_from class words rows operations [] = Ok (rows, operations)
 operations_from class words rows operations (d ∷ ds) =
@@ -51,7 +51,7 @@ class_before classes name =
     else (if is_some (class_named classes name) then Some Twice
     else None)
 
--- what a class is but for its operations, and the values that are to be these
+-- the name and the number of words of a class, and the values of its operations
 pub record ClassHead : Type 0 where
   pub name : List ℕ
   pub words : ℕ
@@ -69,7 +69,7 @@ class_head classes d =
 abbrev pub named_class : ClassHead → List OpRow × List OwnOperation → NamedClass
 named_class h rows = record { name = h.name; table = record { words = h.words; rows = rows.0 }; operations = rows.1 }
 
--- a class, behind those that come before it
+-- a class, after those before it
 abbrev pub class_of : List NamedClass → Data → Told NamedClass
 class_of classes d =
     at (class_place (length classes + 1) d) (class_head classes d) >>= λ h. operations_from h.name h.words [] [] h.operations >>= λ rows.

@@ -1,6 +1,7 @@
--- What is told of a fault.
+-- Texts of faults.
 use Rattle.std.specs.Prelude.{ℕ, List, [], ◌++◌, codes, Option, Some, None}
 use Rattle.std.specs.Fmt.{decimal}
+use Rattle.scoop_message.specs.declared.limits.TheConstants.{MAX_WORDS}
 use Rattle.scoop_system.specs.declared.error.Place.{Place}
 use Rattle.scoop_system.specs.declared.error.Place.TheVariants as place
 use Rattle.scoop_system.specs.declared.error.Wrong.{Wrong}
@@ -21,35 +22,35 @@ place_text (place.Class name) = codes "class " ++ quoted name
 place_text (place.Operation number class) = codes "operation " ++ decimal number ++ codes " of class " ++ quoted class
 place_text (place.NamelessOperation count class) = codes "[[class.operation]] " ++ decimal count ++ codes " of class " ++ quoted class
 
--- what is told of a fault that names nothing; nothing of the others
+-- the text of a fault that names nothing; empty for the others
 abbrev pub plain_text : Wrong → List ℕ
-plain_text wrong.NotAnAddress = codes "address is no IP address with a port from 1 to 65535"
-plain_text wrong.OtherFamily = codes "address is of another family, IPv4 or IPv6, than the first one"
+plain_text wrong.NotAnAddress = codes "address must be an IP address with a port from 1 to 65535"
+plain_text wrong.OtherFamily = codes "address must have the same family, IPv4 or IPv6, as the first one"
 plain_text wrong.NoTable = codes "not a table"
-plain_text wrong.Twice = codes "twice"
-plain_text wrong.KnownClass = codes "the name of a class that every system has"
-plain_text wrong.NotWords = codes "words are not 1 to 16 whole numbers below 2^64"
-plain_text wrong.NotAText = codes "a term is no text: write it in quotes"
-plain_text wrong.NotATest = codes "test is no list of two terms"
-plain_text wrong.NotAWrite = codes "a write is no list of a word and three terms"
+plain_text wrong.Twice = codes "defined twice"
+plain_text wrong.KnownClass = codes "every system already has a class of this name"
+plain_text wrong.NotWords = codes "words must be a list of 1 to " ++ (decimal MAX_WORDS ++ codes " whole numbers below 2^64")
+plain_text wrong.NotAText = codes "a term must be text: write it in quotes"
+plain_text wrong.NotATest = codes "test must be a list of two terms"
+plain_text wrong.NotAWrite = codes "a write must be a list of a word and three terms"
 plain_text other = []
 
 abbrev pub wrong_text : Wrong → List ℕ
 wrong_text (wrong.UnknownKey key) = codes "unknown key " ++ quoted key
 wrong_text (wrong.Missing key) = codes "no " ++ key_text key
-wrong_text (wrong.NotANumber key low high) = key_text key ++ codes " is no whole number from " ++ decimal low ++ codes " to " ++ decimal high
-wrong_text (wrong.NotAName key) = key_text key ++ codes " is not 1 to 32 letters, digits, _ and -, a letter first"
-wrong_text (wrong.AddressOf kind number) = codes "address is that of " ++ key_text kind ++ codes " " ++ decimal number
-wrong_text (wrong.NotAList key) = key_text key ++ codes " is no list" ++ hint_text key
+wrong_text (wrong.NotANumber key low high) = key_text key ++ codes " must be a whole number from " ++ decimal low ++ codes " to " ++ decimal high
+wrong_text (wrong.NotAName key) = key_text key ++ codes " must be 1 to 32 letters, digits, _ or -, beginning with a letter"
+wrong_text (wrong.AddressOf kind number) = codes "address is already used by " ++ key_text kind ++ codes " " ++ decimal number
+wrong_text (wrong.NotAList key) = key_text key ++ codes " must be a list" ++ hint_text key
 wrong_text (wrong.TooMany key limit) = key_text key ++ codes ": more than " ++ decimal limit
-wrong_text (wrong.NameTwice name) = codes "name " ++ quoted name ++ codes " twice"
+wrong_text (wrong.NameTwice name) = codes "name " ++ quoted name ++ codes " is used twice"
 wrong_text (wrong.NoSuchNode number) = codes "no such node " ++ decimal number
 wrong_text (wrong.NoSuchClass name) = codes "no such class " ++ quoted name
-wrong_text (wrong.WordCount given wanted) = decimal given ++ codes " words in place of " ++ decimal wanted
-wrong_text (wrong.NotATerm text) = quoted text ++ codes " is no term"
-wrong_text (wrong.NoSuchWord term) = term ++ codes " is no word"
-wrong_text (wrong.NoSuchArgument term) = term ++ codes " is no argument"
-wrong_text (wrong.WrittenTwice word) = codes "w" ++ decimal word ++ codes " written twice"
+wrong_text (wrong.WordCount given wanted) = decimal given ++ codes " words instead of " ++ decimal wanted
+wrong_text (wrong.NotATerm text) = quoted text ++ codes " is not a term"
+wrong_text (wrong.NoSuchWord term) = term ++ codes " is not a word"
+wrong_text (wrong.NoSuchArgument term) = term ++ codes " is not an argument"
+wrong_text (wrong.WrittenTwice word) = codes "w" ++ decimal word ++ codes " is written twice"
 wrong_text plain = plain_text plain
 
 abbrev pub placed : Place → List ℕ → List ℕ
@@ -60,11 +61,11 @@ placed (place.Class name) text = place_text (place.Class name) ++ codes ": " ++ 
 placed (place.Operation number class) text = place_text (place.Operation number class) ++ codes ": " ++ text
 placed (place.NamelessOperation count class) text = place_text (place.NamelessOperation count class) ++ codes ": " ++ text
 
--- the place and what is wrong there; of the whole file no place is told
+-- the place and its fault; the whole file is no place to print
 abbrev pub fault_text : TheFault → List ℕ
 fault_text f = placed f.place (wrong_text f.wrong)
 
--- what is told of an error; of TOML's own faults nothing is said
+-- the text of an error; TOML's own faults are left open
 abbrev pub system_error_text : SystemError → Option (List ℕ)
 system_error_text (Toml fault) = None
 system_error_text (Fault fault) = Some (fault_text fault)

@@ -1,4 +1,4 @@
--- What the text of a file means, and which errors tell that it means no system.
+-- The system of a file's text, and the errors of a text of no system.
 use Rattle.std.specs.Prelude.{◌≡◌, ℕ, List, Some, None, Err, ⊤}
 use Rattle.toml.specs.Data.{Members, table}
 use Rattle.toml.specs.Parse.{parse_document}
@@ -12,7 +12,7 @@ use Rattle.scoop_system.specs.Meaning.{system_of}
 abbrev pub Means : List ℕ → Told Plan → Type 0
 Means text told = (ms : Members) × (parse_document text ≡ Some ms) × (system_of (table ms) ≡ told)
 
--- the error tells that the text isn't TOML, or which fault it has, or that memory is wanted
+-- the error says that the text isn't TOML, or which fault it has, or that memory ran out
 abbrev pub SaysNoSystem : List ℕ → SystemError → Type 0
 SaysNoSystem text (Toml fault) = parse_document text ≡ None
 SaysNoSystem text (Fault fault) = Means text (Err fault)

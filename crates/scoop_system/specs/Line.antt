@@ -1,9 +1,9 @@
--- What a line asks of a client, or what is wrong with it.
+-- The command of a client's line, or its fault.
 use Rattle.std.specs.Prelude.{ℕ, ◌^◌, nat_le, nat_lt, if◌then◌else◌, List, [], ◌∷◌, length, Option, Some, None, Ok, Err, codes}
 use Rattle.std.specs.Option.{ok_or}
-use Rattle.scoop_words.specs.Words.{Word, words_of, is_blank}
-use Rattle.scoop_words.specs.Number.{is_decimal, decimal_below}
-use Rattle.scoop_words.specs.Reading.{Read, ◌>>=◌, unless, each_of}
+use Rattle.scoop_lines.specs.Words.{Word, words_of, is_blank}
+use Rattle.scoop_lines.specs.Number.{is_decimal, decimal_below}
+use Rattle.scoop_lines.specs.Reading.{Read, ◌>>=◌, unless, each_of}
 use Rattle.scoop_message.specs.declared.limits.TheConstants.{MAX_ARGS}
 use Rattle.scoop_message.specs.declared.name.HandlerId.{HandlerId}
 use Rattle.scoop_message.specs.declared.request.Request.{Request}
@@ -19,7 +19,7 @@ use Rattle.scoop_system.specs.System.{Plan, handler_named, operation_named}
 use Rattle.scoop_system.specs.Arguments.{handler_arguments}
 use Rattle.scoop_system.specs.Words.{without_return, before, behind}
 
--- the number that the digits write, where it is below the limit
+-- the number that the digits write, if it is below the limit
 abbrev pub number_below : ℕ → Word → Read LineFault ℕ
 number_below limit word = ok_or (decimal_below limit word) NotANumber
 
@@ -31,7 +31,7 @@ handler_of word = number_below (2 ^ 32) word >>= λ n. Ok (record { 0 = n })
 
 -- ---- requests
 
--- why no operation of the handler has a name: the system has no such handler, or its class no such operation
+-- the fault of an operation's name: the system has no such handler, or its class no such operation
 abbrev pub unnamed_fault : Option HandlerPlace → LineFault
 unnamed_fault None = NoSuchHandler
 unnamed_fault (Some place) = NoSuchOperation
@@ -45,7 +45,7 @@ operation_of s handler word =
 abbrev pub asked : HandlerId → ℕ → List ℕ → HandlerId × Request
 asked handler op args = (handler, record { op = op; args = args })
 
--- fewer or more arguments than the operation reads, where that is known
+-- fewer or more arguments than the operation reads, if that is known
 abbrev pub count_fault : Option ℕ → ℕ → Option LineFault
 count_fault None given = None
 count_fault (Some wanted) given = if nat_lt given wanted then Some TooFewArguments else (if nat_lt wanted given then Some TooManyArguments else None)
@@ -53,7 +53,7 @@ count_fault (Some wanted) given = if nat_lt given wanted then Some TooFewArgumen
 abbrev pub counted : Plan → HandlerId → ℕ → List ℕ → Read LineFault (HandlerId × Request)
 counted s handler op args = unless (count_fault (handler_arguments s handler op) (length args)) (Ok (asked handler op args))
 
--- a handler, an operation, and up to four arguments, which end where `least` stands: as many as the operation reads
+-- a handler, an operation, and up to four arguments before `least`: as many as the operation reads
 abbrev pub request_of : Plan → List Word → Read LineFault (HandlerId × Request)
 request_of s [] = Err WrongNumberOfWords
 request_of s (h ∷ []) = Err WrongNumberOfWords
@@ -72,11 +72,11 @@ request_line s words = alone (behind (codes "least") words) (request_of s words)
 
 -- ---- reserving
 
--- how often is tried: a number from 1 on
+-- the number of tries, from 1 on
 abbrev pub tries_of : Word → Read LineFault ℕ
 tries_of word = number_below (2 ^ 32) word >>= λ n. if nat_le 1 n then Ok n else Err NotANumber
 
--- the two numbers of `V tries T`, the words behind `least`
+-- the two numbers of `V tries T`, the words after `least`
 abbrev pub bounds_of : Option (List Word) → Read LineFault (Word × Word)
 bounds_of None = Err WrongNumberOfWords
 bounds_of (Some []) = Err WrongNumberOfWords
@@ -85,7 +85,7 @@ bounds_of (Some (v ∷ k ∷ [])) = Err WrongNumberOfWords
 bounds_of (Some (v ∷ k ∷ t ∷ [])) = if same_text k (codes "tries") then Ok (v, t) else Err WrongNumberOfWords
 bounds_of (Some (v ∷ k ∷ t ∷ w ∷ words)) = Err WrongNumberOfWords
 
--- what stands behind `when`: a request, and `least V tries T`
+-- the words after `when`: a request, and `least V tries T`
 abbrev pub when_line : Plan → List HandlerId → List Word → Read LineFault ClientLine
 when_line s handlers words =
     bounds_of (behind (codes "least") words) >>= λ b. request_of s words >>= λ a. number_of b.0 >>= λ least. tries_of b.1 >>= λ tries.
@@ -95,7 +95,7 @@ abbrev pub when_or_not : Plan → List HandlerId → Option (List Word) → Read
 when_or_not s handlers None = Ok (Reserve handlers)
 when_or_not s handlers (Some words) = when_line s handlers words
 
--- up to nine handlers, and a condition where `when` stands
+-- up to nine handlers, and a condition after `when` if that word is there
 abbrev pub reserve_line : Plan → List Word → Read LineFault ClientLine
 reserve_line s words =
     let handlers = before (codes "when") words in
@@ -108,7 +108,7 @@ abbrev pub end_line : List Word → Read LineFault ClientLine
 end_line [] = Ok End
 end_line (word ∷ words) = Err WrongNumberOfWords
 
--- what the words behind the first one ask for, by that one
+-- the command of the words after the first one, by the first one
 abbrev pub line_of : Plan → Word → List Word → Read LineFault ClientLine
 line_of s name words =
     if same_text name (codes "reserve") then reserve_line s words
@@ -121,6 +121,6 @@ abbrev pub words_line : Plan → List Word → Read LineFault ClientLine
 words_line s [] = Ok Blank
 words_line s (name ∷ words) = line_of s name words
 
--- what a line asks of a client: nothing, where it is blank
+-- the command of a line: none, if the line is blank
 abbrev pub client_line : Plan → List ℕ → Read LineFault ClientLine
 client_line s line = if is_blank (without_return line) then Ok Blank else words_line s (words_of (without_return line))

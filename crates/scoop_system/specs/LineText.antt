@@ -1,4 +1,4 @@
--- What is told of a line's fault.
+-- Texts of a line's faults.
 use Rattle.std.specs.Prelude.{ℕ, List, codes}
 use Rattle.scoop_system.specs.declared.line.fault.LineFault.{LineFault}
 use Rattle.scoop_system.specs.declared.line.fault.LineFault.TheVariants.{UnknownLine, WrongNumberOfWords, NotANumber, TooFewArguments, TooManyArguments}

@@ -1,4 +1,4 @@
--- What a TOML table means as a system, or its first fault.
+-- The system that a TOML table describes, or its first fault.
 use Rattle.std.specs.Prelude.{ℕ, ◌==◌, ◌+◌, ◌^◌, ◌-◌, not, Bool, true, false, if◌then◌else◌, List, [], ◌∷◌, ◌++◌, length, find, Option, Some, None, Ok, Err}
 use Rattle.std.specs.List.{list_any}
 use Rattle.std.specs.Option.{option_map}
@@ -6,7 +6,7 @@ use Rattle.std.specs.declared.net.socket_addr.SocketAddr.{SocketAddr}
 use Rattle.std.specs.Net.Socket.{socket_ip}
 use Rattle.std.specs.Net.Addr.{is_ipv4}
 use Rattle.toml.specs.Data.{Data, get}
-use Rattle.scoop_words.specs.Reading.{Read, ◌>>=◌, unless}
+use Rattle.scoop_lines.specs.Reading.{Read, ◌>>=◌, unless}
 use Rattle.scoop_message.specs.declared.limits.TheConstants.{MAX_NODES, MAX_HANDLERS, MAX_CLIENTS, MAX_ENTRIES}
 use Rattle.scoop_classes.specs.Classes.{class_of_name, table_of}
 use Rattle.scoop_classes.specs.declared.classes.DemoClass.{DemoClass}
@@ -29,7 +29,7 @@ use Rattle.scoop_system.specs.Address.{same_address}
 use Rattle.scoop_system.specs.Place.{Told, at, place_at}
 use Rattle.scoop_system.specs.Classes.{classes_from}
 
--- this is wrong, where the test says so
+-- this fault, if the test passes
 abbrev pub wrong_if : Bool → Wrong → Option Wrong
 wrong_if test wrong = if test then Some wrong else None
 
@@ -73,7 +73,7 @@ abbrev pub address_taken : List NodePlace → List ClientPlace → SocketAddr �
 address_taken nodes clients a =
     or_else (option_map (λ n. AddressOf key.Node n.number) (node_at nodes a)) (option_map (λ c. AddressOf key.Client c.client.0) (client_at clients a))
 
--- what is wrong with the address of a party behind these: somebody has it, or it is of the other family
+-- the fault of the address of a party after these: a party has it, or it is of the other family
 abbrev pub address_fault : List NodePlace → List ClientPlace → SocketAddr → Option Wrong
 address_fault nodes clients a = or_else (address_taken nodes clients a) (wrong_if (other_family (first_address nodes clients) a) OtherFamily)
 
@@ -83,7 +83,7 @@ node_keys = key.Number ∷ key.Address ∷ []
 abbrev pub new_node : ℕ → SocketAddr → NodePlace
 new_node number address = record { number = number; address = address }
 
--- a node, behind those that come before it
+-- a node, after those before it
 abbrev pub node_of : List NodePlace → Data → Read Wrong NodePlace
 node_of nodes d =
     unless (key_fault node_keys d)
@@ -104,7 +104,7 @@ abbrev pub class_or_own : List NamedClass → List ℕ → Option DemoClass → 
 class_or_own classes name None = own_class name (class_named classes name)
 class_or_own classes name (Some class) = Ok (Known class, (table_of class).words)
 
--- the class of this name, and how many words it has
+-- the class of this name, and its number of words
 abbrev pub handler_class : List NamedClass → List ℕ → Read Wrong (HandlerClass × ℕ)
 handler_class classes name = class_or_own classes name (class_of_name name)
 
@@ -114,7 +114,7 @@ handler_keys = key.Number ∷ key.Node ∷ key.Class ∷ key.Words ∷ []
 abbrev pub new_handler : ℕ → ℕ → HandlerClass → List ℕ → HandlerPlace
 new_handler number node class words = record { handler = record { 0 = number }; node = node; class = class; words = words }
 
--- a handler, behind those that come before it
+-- a handler, after those before it
 abbrev pub handler_of : List NamedClass → List NodePlace → List HandlerPlace → Data → Read Wrong HandlerPlace
 handler_of classes nodes handlers d =
     unless (key_fault handler_keys d)
@@ -138,14 +138,14 @@ abbrev pub batch_in : Option Data → Read Wrong ℕ
 batch_in None = Ok 1
 batch_in (Some d) = in_range key.Batch 1 MAX_ENTRIES (whole_of d)
 
--- how many entries a client puts into one Log: 1 where it isn't said
+-- the number of entries that a client puts into one Log: 1 by default
 abbrev pub batch_at : Data → Read Wrong ℕ
 batch_at d = batch_in (get (key_text key.Batch) d)
 
 abbrev pub new_client : ℕ → SocketAddr → ℕ → ClientPlace
 new_client number address batch = record { client = record { 0 = number }; address = address; batch = batch }
 
--- a client, behind those that come before it
+-- a client, after those before it
 abbrev pub client_of : List NodePlace → List ClientPlace → Data → Read Wrong ClientPlace
 client_of nodes clients d =
     unless (key_fault client_keys d)
@@ -178,7 +178,7 @@ clients_of nodes d = at File (list_at key.Client MAX_CLIENTS d) >>= clients_from
 abbrev pub plan_of : List NamedClass → List NodePlace → List HandlerPlace → List ClientPlace → Plan
 plan_of classes nodes handlers clients = record { classes = classes; nodes = nodes; handlers = handlers; clients = clients }
 
--- what a table means: the first fault is that of its keys, then of its classes, nodes, handlers and clients
+-- the system of a table. The first fault is that of its keys, then of its classes, nodes, handlers and clients
 abbrev pub system_of : Data → Told Plan
 system_of d =
     at File (unless (key_fault file_keys d) (Ok d)) >>= λ file. classes_of file >>= λ classes. nodes_of file >>= λ nodes.

@@ -1,18 +1,18 @@
--- Names, and what is told of a text.
+-- Names, and texts as faults print them.
 use Rattle.std.specs.Prelude.{ℕ, ◌==◌, ◌&&◌, ◌||◌, nat_le, Bool, false, if◌then◌else◌, List, [], ◌∷◌, length, map, take}
 use Rattle.std.specs.List.{list_all}
-use Rattle.scoop_words.specs.Number.{is_digit}
+use Rattle.scoop_lines.specs.Number.{is_digit}
 use Rattle.scoop_system.specs.declared.name.TheConstants.{MAX_NAME_LEN}
 
 -- printable ASCII
 abbrev pub is_printable : ℕ → Bool
 is_printable byte = nat_le 32 byte && nat_le byte 126
 
--- the byte, or `?` where it isn't printable
+-- the byte, or `?` if it isn't printable
 abbrev pub told_byte : ℕ → ℕ
 told_byte byte = if is_printable byte then byte else 63
 
--- what is told of a text: its beginning, with `?` for what isn't printable
+-- a text as faults print it: its beginning, with `?` for each byte that isn't printable
 unfoldable pub told : List ℕ → List ℕ
 told text = map told_byte (take MAX_NAME_LEN text)
 

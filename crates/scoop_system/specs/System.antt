@@ -1,4 +1,4 @@
--- What a system is, and what is looked up in it.
+-- A system, and look-ups in it.
 use Rattle.std.specs.Prelude.{ℕ, ◌==◌, List, find, Option, Some}
 use Rattle.std.specs.Option.{option_map, option_and_then}
 use Rattle.scoop_message.specs.declared.name.HandlerId.{HandlerId}
@@ -18,7 +18,7 @@ pub record NamedClass : Type 0 where
   pub table : ClassTable
   pub operations : List OwnOperation
 
--- a system: its own classes, and who takes part
+-- a system: its own classes, its nodes, handlers and clients
 pub record Plan : Type 0 where
   pub classes : List NamedClass
   pub nodes : List NodePlace

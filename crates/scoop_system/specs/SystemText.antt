@@ -1,4 +1,4 @@
--- What is printed of a system.
+-- The printed text of a system.
 use Rattle.std.specs.Prelude.{ℕ, ◌==◌, if◌then◌else◌, List, [], ◌∷◌, ◌++◌, codes, Option, Some, None}
 use Rattle.std.specs.Fmt.{decimal}
 use Rattle.std.specs.Net.Text.{socket_text}
@@ -62,7 +62,7 @@ test_text (Some t) = term_text t.0 ++ codes " <= " ++ term_text t.1 ++ codes "; 
 abbrev pub write_text : Write → List ℕ
 write_text w = codes "w" ++ decimal w.word ++ codes " := " ++ term_text w.base ++ codes " + " ++ term_text w.plus ++ codes " - " ++ term_text w.minus
 
--- writes behind the first one
+-- the writes after the first one
 abbrev pub more_writes_text : List Write → List ℕ
 more_writes_text [] = codes "; "
 more_writes_text (w ∷ ws) = codes ", " ++ write_text w ++ more_writes_text ws

@@ -1,9 +1,9 @@
--- What the rows of a class in a file say.
+-- The rows of a class in a file.
 use Rattle.std.specs.Prelude.{ℕ, ◌==◌, ◌^◌, ◌-◌, nat_lt, if◌then◌else◌, List, [], ◌∷◌, ◌++◌, find, is_some, Option, Some, None, Ok, Err}
 use Rattle.std.specs.List.{list_any}
 use Rattle.toml.specs.Data.{Data, Items, get, as_str, as_array}
-use Rattle.scoop_words.specs.Number.{decimal_of}
-use Rattle.scoop_words.specs.Reading.{Read, ◌>>=◌, unless}
+use Rattle.scoop_lines.specs.Number.{decimal_of}
+use Rattle.scoop_lines.specs.Reading.{Read, ◌>>=◌, unless}
 use Rattle.scoop_message.specs.declared.limits.TheConstants.{MAX_ARGS, MAX_WRITES}
 use Rattle.scoop_classes.specs.Classes.{same_text}
 use Rattle.scoop_object.specs.declared.term.Term.{Term}
@@ -20,7 +20,7 @@ use Rattle.scoop_system.specs.Name.{told}
 use Rattle.scoop_system.specs.KeyText.{key_text}
 use Rattle.scoop_system.specs.Value.{list_of, number_at, name_at, list_at, key_fault}
 
--- ---- terms, in a class of so many words
+-- ---- terms, in a class of this many words
 
 -- `w` and the place of a word
 abbrev pub word_term : ℕ → List ℕ → Option ℕ → Read Wrong Term
@@ -53,10 +53,14 @@ term_in words d = or_no_term words (as_str d)
 
 -- ---- the parts of an operation
 
+-- a test of two terms
+abbrev pub test_of : Read Wrong Term → Read Wrong Term → Read Wrong (Option (Term × Term))
+test_of left right = left >>= λ left. right >>= λ right. Ok (Some (left, right))
+
 abbrev pub two_terms : ℕ → List Data → Read Wrong (Option (Term × Term))
 two_terms words [] = Err NotATest
 two_terms words (a ∷ []) = Err NotATest
-two_terms words (a ∷ b ∷ []) = term_in words a >>= λ left. term_in words b >>= λ right. Ok (Some (left, right))
+two_terms words (a ∷ b ∷ []) = test_of (term_in words a) (term_in words b)
 two_terms words (a ∷ b ∷ c ∷ ds) = Err NotATest
 
 abbrev pub listed_test : ℕ → Option Items → Read Wrong (Option (Term × Term))
@@ -67,7 +71,7 @@ abbrev pub test_in : ℕ → Option Data → Read Wrong (Option (Term × Term))
 test_in words None = Ok None
 test_in words (Some d) = listed_test words (as_array d)
 
--- the test: two terms, of which the left one is to be at most the right one
+-- the test: two terms. It passes if the left one is at most the right one
 abbrev pub test_at : ℕ → Data → Read Wrong (Option (Term × Term))
 test_at words d = test_in words (get (key_text key.Test) d)
 
@@ -76,14 +80,22 @@ written_word (Const n) = Err NotAWrite
 written_word (Word i) = Ok i
 written_word (Arg i) = Err NotAWrite
 
+-- the word that a write names
+abbrev pub word_in : ℕ → Data → Read Wrong ℕ
+word_in words d = term_in words d >>= written_word
+
+-- a write of a word and three terms
+abbrev pub write_of : Read Wrong ℕ → Read Wrong Term → Read Wrong Term → Read Wrong Term → Read Wrong Write
+write_of word base plus minus =
+    word >>= λ word. base >>= λ base. plus >>= λ plus. minus >>= λ minus. Ok (record { word = word; base = base; plus = plus; minus = minus })
+
 abbrev pub four_terms : ℕ → List Data → Read Wrong Write
 four_terms words [] = Err NotAWrite
 four_terms words (w ∷ []) = Err NotAWrite
 four_terms words (w ∷ a ∷ []) = Err NotAWrite
 four_terms words (w ∷ a ∷ b ∷ []) = Err NotAWrite
 four_terms words (w ∷ a ∷ b ∷ c ∷ []) =
-    term_in words w >>= λ t. written_word t >>= λ word. term_in words a >>= λ base. term_in words b >>= λ plus. term_in words c >>= λ minus.
-    Ok (record { word = word; base = base; plus = plus; minus = minus })
+    write_of (word_in words w) (term_in words a) (term_in words b) (term_in words c)
 four_terms words (w ∷ a ∷ b ∷ c ∷ d ∷ ds) = Err NotAWrite
 
 abbrev pub listed_write : ℕ → Option Items → Read Wrong Write
@@ -97,7 +109,7 @@ write_in words d = listed_write words (as_array d)
 abbrev pub written_before : List Write → Write → Option Wrong
 written_before done w = if list_any (λ v. v.word == w.word) done then Some (WrittenTwice w.word) else None
 
--- a write, behind those that come before it
+-- a write, after those before it
 abbrev pub next_write : ℕ → List Write → Data → Read Wrong Write
 next_write words done d = write_in words d >>= λ w. unless (written_before done w) (Ok w)
 
@@ -105,7 +117,7 @@ abbrev pub writes_from : ℕ → List Write → List Data → Read Wrong (List W
 writes_from words done [] = Ok done
 writes_from words done (d ∷ ds) = next_write words done d >>= λ w. writes_from words (done ++ w ∷ []) ds
 
--- the writes, no word of them twice
+-- the writes. No word is written twice
 abbrev pub writes_at : ℕ → Data → Read Wrong (List Write)
 writes_at words d = list_at key.Writes MAX_WRITES d >>= writes_from words []
 
@@ -131,7 +143,7 @@ abbrev pub named_row : ℕ → List ℕ → Option (Term × Term) → List Write
 named_row number name test writes answer =
     (record { op = number; test = test; writes = writes; answer = answer }, record { number = number; name = name })
 
--- an operation and its name, behind those that come before it
+-- an operation and its name, after those before it
 abbrev pub operation_of : ℕ → List OpRow → List OwnOperation → Data → Read Wrong (OpRow × OwnOperation)
 operation_of words rows operations d =
     unless (key_fault operation_keys d)

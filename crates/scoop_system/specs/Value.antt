@@ -1,12 +1,12 @@
--- What the values of a TOML text say, and what is wrong with them.
+-- Values of a TOML text, and their faults.
 use Rattle.std.specs.Prelude.{ℕ, ℤ, pos, negsuc, ◌==◌, ◌&&◌, nat_le, nat_lt, not, Bool, if◌then◌else◌, List, [], ◌∷◌, length, find, Option, Some, None, Ok, Err}
 use Rattle.std.specs.List.{list_any}
 use Rattle.std.specs.Option.{option_and_then, ok_or}
 use Rattle.std.specs.declared.net.socket_addr.SocketAddr.{SocketAddr}
 use Rattle.std.specs.Net.Socket.{socket_port}
 use Rattle.toml.specs.Data.{Data, Items, no_items, item, Members, no_members, member, get, as_str, as_integer, as_array, as_table}
-use Rattle.scoop_words.specs.Number.{decimal_of}
-use Rattle.scoop_words.specs.Reading.{Read, ◌>>=◌, each_of}
+use Rattle.scoop_lines.specs.Number.{decimal_of}
+use Rattle.scoop_lines.specs.Reading.{Read, ◌>>=◌, each_of}
 use Rattle.scoop_message.specs.declared.limits.TheConstants.{MAX_WORDS}
 use Rattle.scoop_classes.specs.Classes.{same_text}
 use Rattle.scoop_system.specs.declared.error.Key.{Key}
@@ -40,7 +40,7 @@ written_or (Some text) whole = decimal_of text
 abbrev pub word_of : Data → Option ℕ
 word_of d = written_or (as_str d) (whole_of d)
 
--- the number, where it is in its range
+-- the number, if it is in its range
 abbrev pub in_range : Key → ℕ → ℕ → Option ℕ → Read Wrong ℕ
 in_range k low high None = Err (NotANumber k low high)
 in_range k low high (Some n) = if nat_le low n && nat_le n high then Ok n else Err (NotANumber k low high)
@@ -93,12 +93,12 @@ abbrev pub listed : Key → Option Items → Read Wrong (List Data)
 listed k None = Err (NotAList k)
 listed k (Some ds) = Ok (list_of ds)
 
--- the values of the list at a key, none where the key is missing
+-- the values of the list at a key; none if the key is missing
 abbrev pub list_in : Key → Option Data → Read Wrong (List Data)
 list_in k None = Ok []
 list_in k (Some d) = listed k (as_array d)
 
--- so many values at most
+-- at most this many values
 abbrev pub list_at : Key → ℕ → Data → Read Wrong (List Data)
 list_at k limit d = list_in k (get (key_text k) d) >>= few k limit
 
@@ -117,7 +117,7 @@ abbrev pub table_fault : List Key → Option Members → Option Wrong
 table_fault known None = Some NoTable
 table_fault known (Some ms) = unknown (find (λ name. not (is_known known name)) (names_of ms))
 
--- why a value is no table of these keys: the first unknown one, by name
+-- the fault of a value that isn't a table of these keys: the first unknown key, by name
 abbrev pub key_fault : List Key → Data → Option Wrong
 key_fault known d = table_fault known (as_table d)
 

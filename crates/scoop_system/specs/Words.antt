@@ -1,7 +1,7 @@
 -- The words of a client's line.
 use Rattle.std.specs.Prelude.{ℕ, ◌==◌, ◌-◌, Bool, false, if◌then◌else◌, List, [], ◌∷◌, length, take, slice_get, Option, Some, None}
 use Rattle.scoop_classes.specs.Classes.{same_text}
-use Rattle.scoop_words.specs.Words.{Word}
+use Rattle.scoop_lines.specs.Words.{Word}
 
 abbrev pub is_return : Option ℕ → Bool
 is_return None = false
@@ -16,7 +16,7 @@ abbrev pub before : List ℕ → List Word → List Word
 before name [] = []
 before name (word ∷ words) = if same_text word name then [] else word ∷ before name words
 
--- the words behind the first of this name, if it is there
+-- the words after the first of this name, if it is there
 abbrev pub behind : List ℕ → List Word → Option (List Word)
 behind name [] = None
 behind name (word ∷ words) = if same_text word name then Some words else behind name words

@@ -1,4 +1,4 @@
-//! How many arguments an operation reads.
+//! The number of arguments that an operation reads.
 
 ghost use Rattle.std.specs.Prelude.{◌≡◌, ◌==◌, ℕ, find, nat_le};
 ghost use Rattle.std.specs.Option.{option_copied};
@@ -12,7 +12,7 @@ use crate::place::HandlerClass;
 use scoop_classes::DemoClass;
 use scoop_object::{OpRow, Term, Write};
 
-// How many arguments the operation of this number reads, if the class has it.
+// The number of arguments that the operation of this number reads, if the class has it.
 pub(crate) fn class_arguments(classes: &[OwnClass], op: u16, class: HandlerClass) -> Option<usize>
     ensures { result ≡ class_arguments classes.now op class }
 {
@@ -53,7 +53,7 @@ fn row_of(rows: &[OpRow], op: u16) -> Option<&OpRow>
     rows.iter().find(|row| row.op == op)
 }
 
-// How many arguments an operation reads: exactly with fewer the object refuses, since one is missing.
+// The number of arguments that an operation reads. The object refuses exactly fewer arguments.
 fn row_arguments(row: &OpRow) -> usize
     ensures value { result ≡ row_arguments row.now }
     ensures fewer { (n : ℕ) → has_args_below n row.now ≡ nat_le result n }

@@ -10,7 +10,7 @@ use scoop_object::Class;
 use std::marker::Model;
 
 /// The number and the name of an operation.
-#[derive(Clone, Copy, Debug, PartialEq, Eq)]
+#[derive(Clone, Copy)]
 pub struct OwnOperation {
     pub number: u16,
     pub name: Name,
@@ -18,7 +18,7 @@ pub struct OwnOperation {
 
 /// A class of a system's own. Contracts see its name, the class itself, and the numbers and names of its operations, in
 /// the order of its rows.
-#[derive(Drop, Debug)]
+#[derive(Drop)]
 pub struct OwnClass {
     name: Name,
     class: Class,

@@ -1,46 +1,46 @@
-//! What is wrong with the text of a system.
+//! Faults in the text of a system.
 
 use crate::name::Name;
 use std::error::Error;
 use std::fmt;
 
-/// Why a text is no system. Printed as what is told behind the file's name.
-#[derive(Clone, Copy, Debug, PartialEq, Eq)]
+/// Why a text is no system. Printed after the file's name.
+#[derive(Clone, Copy, Debug)]
 pub enum SystemError {
     /// The text isn't TOML.
     Toml(TomlFault),
-    /// The text is TOML, and says no system.
+    /// The text is TOML, and describes no system.
     Fault(Fault),
     /// A growth of memory was refused.
     OutOfMemory,
 }
 
-/// Where a text isn't TOML, with line and column counted from 1, and why.
-#[derive(Clone, Copy, Debug, PartialEq, Eq)]
+/// A fault of TOML, with its line and column counted from 1.
+#[derive(Clone, Copy, Debug)]
 pub struct TomlFault {
     pub line: usize,
-    /// Characters, not bytes, are counted.
+    /// In characters, not bytes.
     pub column: usize,
     pub error: toml::de::Error,
-    /// The kind of tables of which the text has one in single brackets, as `[node]`, where the fault is at a later table.
+    /// The kind of a table in single brackets, as `[node]`, before a fault at a later table.
     pub single: Option<Key>,
 }
 
-/// What is wrong, and where. Printed as `node 1: unknown key "adress"`.
-#[derive(Clone, Copy, Debug, PartialEq, Eq)]
+/// A fault and its place. Printed as `node 1: unknown key "adress"`.
+#[derive(Clone, Copy, Debug)]
 pub struct Fault {
     pub place: Place,
     pub wrong: Wrong,
 }
 
 /// A table of the file.
-#[derive(Clone, Copy, Debug, PartialEq, Eq)]
+#[derive(Clone, Copy, Debug)]
 pub enum Place {
     /// The whole file.
     File,
     /// The node, handler or client of this number.
     Numbered(Key, u32),
-    /// The class, node, handler or client that comes at this place, counted from 1: it has no name or number.
+    /// The class, node, handler or client at this place, counted from 1: it has no name or number.
     Nameless(Key, usize),
     /// The class of this name.
     Class(Name),
@@ -51,7 +51,7 @@ pub enum Place {
 }
 
 /// A key that tables have. Printed as it is written in the file.
-#[derive(Clone, Copy, Debug, PartialEq, Eq)]
+#[derive(Clone, Copy, Debug)]
 pub enum Key {
     Class,
     Node,
@@ -68,10 +68,10 @@ pub enum Key {
     Answer,
 }
 
-/// What is wrong at a place.
-#[derive(Clone, Copy, Debug, PartialEq, Eq)]
+/// A fault at a place.
+#[derive(Clone, Copy, Debug)]
 pub enum Wrong {
-    /// The table has this key, which such a table hasn't.
+    /// The table has this key, which no such table may have.
     UnknownKey(Name),
     /// The table hasn't this key.
     Missing(Key),
@@ -87,13 +87,13 @@ pub enum Wrong {
     OtherFamily,
     /// The value of the key isn't a list.
     NotAList(Key),
-    /// What is to be a table is none.
+    /// The value in place of a table isn't a table.
     NoTable,
     /// The list at the key has more values than this.
     TooMany(Key, usize),
     /// The number, or the name of a class, is taken.
     Twice,
-    /// The name is that of a class that every system has.
+    /// Every system has a class of this name.
     KnownClass,
     /// The name of the operation is taken.
     NameTwice(Name),
@@ -103,11 +103,11 @@ pub enum Wrong {
     NoSuchClass(Name),
     /// The words aren't 1 to 16 whole numbers below 2^64.
     NotWords,
-    /// There are so many words, and the class has so many.
+    /// The number of words that are given, and the number that the class has.
     WordCount(usize, usize),
     /// The text isn't a term.
     NotATerm(Name),
-    /// What is to be a term isn't a text.
+    /// The value in place of a term isn't a text.
     NotAText,
     /// The term names a word that the class hasn't.
     NoSuchWord(Name),
@@ -124,7 +124,7 @@ pub enum Wrong {
 impl fmt::Display for SystemError {
     ghost use Rattle.scoop_system.specs.FaultText.{system_error_text};
 
-    // What TOML's own faults say is told as they say it.
+    // TOML's own faults have TOML's texts.
     ghost output = { system_error_text };
 
     fn fmt<W: fmt::Write>(&self, f: &mut fmt::Formatter<W>) -> fmt::Result {
@@ -211,7 +211,7 @@ impl Key {
         }
     }
 
-    // How the tables of the key are written, for who writes one in single brackets.
+    // How the tables of the key are written, as a hint for a table in single brackets.
     fn hint(self) -> &'static str
         ensures { result.now ≡ hint_text self }
     {
@@ -250,20 +250,21 @@ impl Wrong {
     ghost use Rattle.std.specs.Prelude.{◌≡◌};
     ghost use Rattle.scoop_system.specs.FaultText.{plain_text};
 
-    // What is told of a fault that names nothing. Empty for the others, which `Display` tells.
+    // The text of a fault that names nothing. Empty for the others, which `Display` prints.
     fn plain_text(self) -> &'static str
         ensures { result.now ≡ plain_text self }
     {
         match self {
-            Wrong::NotAnAddress => "address is no IP address with a port from 1 to 65535",
-            Wrong::OtherFamily => "address is of another family, IPv4 or IPv6, than the first one",
+            Wrong::NotAnAddress => "address must be an IP address with a port from 1 to 65535",
+            Wrong::OtherFamily =>
+                "address must have the same family, IPv4 or IPv6, as the first one",
             Wrong::NoTable => "not a table",
-            Wrong::Twice => "twice",
-            Wrong::KnownClass => "the name of a class that every system has",
-            Wrong::NotWords => "words are not 1 to 16 whole numbers below 2^64",
-            Wrong::NotAText => "a term is no text: write it in quotes",
-            Wrong::NotATest => "test is no list of two terms",
-            Wrong::NotAWrite => "a write is no list of a word and three terms",
+            Wrong::Twice => "defined twice",
+            Wrong::KnownClass => "every system already has a class of this name",
+            Wrong::NotWords => "words must be a list of 1 to 16 whole numbers below 2^64",
+            Wrong::NotAText => "a term must be text: write it in quotes",
+            Wrong::NotATest => "test must be a list of two terms",
+            Wrong::NotAWrite => "a write must be a list of a word and three terms",
             _ => "",
         }
     }
@@ -280,28 +281,31 @@ impl fmt::Display for Wrong {
             Wrong::UnknownKey(key) => write!(f, "unknown key \"{key}\""),
             Wrong::Missing(key) => write!(f, "no {key}"),
             Wrong::NotANumber(key, low, high) => {
-                write!(f, "{key} is no whole number from {low} to {high}")
+                write!(f, "{key} must be a whole number from {low} to {high}")
             }
             Wrong::NotAName(key) => {
                 write!(
                     f,
-                    "{key} is not 1 to 32 letters, digits, _ and -, a letter first"
+                    "{key} must be 1 to 32 letters, digits, _ or -, beginning with a letter"
                 )
             }
-            Wrong::AddressOf(kind, number) => write!(f, "address is that of {kind} {number}"),
+            Wrong::AddressOf(kind, number) => write!(
+                f,
+                "address is already used by {kind} {number}"
+            ),
             Wrong::NotAList(key) => {
                 let hint = key.hint();
-                write!(f, "{key} is no list{hint}")
+                write!(f, "{key} must be a list{hint}")
             }
             Wrong::TooMany(key, limit) => write!(f, "{key}: more than {limit}"),
-            Wrong::NameTwice(name) => write!(f, "name \"{name}\" twice"),
+            Wrong::NameTwice(name) => write!(f, "name \"{name}\" is used twice"),
             Wrong::NoSuchNode(number) => write!(f, "no such node {number}"),
             Wrong::NoSuchClass(name) => write!(f, "no such class \"{name}\""),
-            Wrong::WordCount(given, wanted) => write!(f, "{given} words in place of {wanted}"),
-            Wrong::NotATerm(text) => write!(f, "\"{text}\" is no term"),
-            Wrong::NoSuchWord(term) => write!(f, "{term} is no word"),
-            Wrong::NoSuchArgument(term) => write!(f, "{term} is no argument"),
-            Wrong::WrittenTwice(word) => write!(f, "w{word} written twice"),
+            Wrong::WordCount(given, wanted) => write!(f, "{given} words instead of {wanted}"),
+            Wrong::NotATerm(text) => write!(f, "\"{text}\" is not a term"),
+            Wrong::NoSuchWord(term) => write!(f, "{term} is not a word"),
+            Wrong::NoSuchArgument(term) => write!(f, "{term} is not an argument"),
+            Wrong::WrittenTwice(word) => write!(f, "w{word} is written twice"),
             Wrong::NotAnAddress
             | Wrong::OtherFamily
             | Wrong::NoTable

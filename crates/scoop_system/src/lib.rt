@@ -1,8 +1,8 @@
-//! A system in a file: which nodes, handlers and clients there are, where they are reached, and which classes there are
-//! besides `cell`, `counter`, `account` and `exchange`.
+//! A system in a file: its nodes, handlers and clients with their addresses, and its classes besides `cell`, `counter`,
+//! `account` and `exchange`.
 //!
-//! [`System::read`] reads a TOML text, and tells its first fault with the place. [`print_system`] writes what was
-//! understood. [`read_line`] reads what a line asks of a client of the system.
+//! [`System::read`] reads a TOML text, and returns its first fault with the place. [`print_system`] writes a system.
+//! [`read_line`] reads the command that a line gives to a client of the system.
 //!
 //! ```
 //! let text = "\

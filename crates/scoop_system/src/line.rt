@@ -1,8 +1,8 @@
-//! What a line asks of a client.
+//! A client's line: the command that it gives.
 
 ghost use Rattle.std.specs.Prelude.{◌≡◌};
 ghost use Rattle.scoop_system.specs.Line.{client_line, line_of, end_line};
-ghost use Rattle.scoop_words.specs.Words.{words_of};
+ghost use Rattle.scoop_lines.specs.Words.{words_of};
 
 mod fault;
 mod number;
@@ -15,11 +15,11 @@ use crate::system::System;
 pub use fault::LineFault;
 use request::read_request_alone;
 use reserve::read_reserve;
+use scoop_lines::{is, is_blank, next_word};
 use scoop_message::{HandlerId, Request};
-use scoop_words::{is, is_blank, next_word};
 use words::without_return;
 
-/// What a line asks of a client.
+/// The command that a line gives to a client.
 #[derive(Clone, Copy, Debug, PartialEq, Eq)]
 pub enum ClientLine {
     /// Nothing: the line has no word, or begins with `#`.
@@ -35,24 +35,26 @@ pub enum ClientLine {
     /// `reserve H.. when H OP A.. least V tries T`: a block over these handlers, whose body comes in the next lines.
     ReserveWhen {
         handlers: NamedHandlers,
-        /// The handler of the condition, which holds where its answer is a value of at least `least`.
+        /// The handler of the condition. The condition holds if the answer is a value of at least `least`.
         asked: HandlerId,
         request: Request,
         least: u64,
-        /// How often is tried: at least once.
+        /// The number of tries: at least 1.
         tries: u32,
     },
 }
 
-/// What a line asks of a client. A carriage return at its end isn't part of it; words are parted by spaces.
+/// Reads the command of a line. A carriage return at its end isn't part of it. Words are separated by spaces.
 ///
-/// The error is `UnknownLine` by the first word. Of a `call` or a `query` it is `WrongNumberOfWords`, else
-/// `TooManyArguments` where there are more than four, else the first from the left of `NotANumber` and
-/// `NoSuchOperation`, in whose place `NoSuchHandler` comes where the system doesn't have the handler, else, where its
-/// class has the operation, `TooFewArguments` or `TooManyArguments` where it reads another number of them; of an `end`
-/// `WrongNumberOfWords`. Of a `reserve` it is `TooManyHandlers`, else `NotANumber` of a handler, else that of the words
-/// behind `when`: `WrongNumberOfWords`, or as of a `call`, or `NotANumber` of the least value or the tries, which are 1
-/// or more.
+/// # Errors
+/// The first one that applies, in this order:
+/// - any line: `UnknownLine`, by the first word;
+/// - `end`: `WrongNumberOfWords`;
+/// - `call`, `query`: `WrongNumberOfWords`; `TooManyArguments` for more than four; the first from the left of
+///   `NotANumber` and `NoSuchOperation`, or `NoSuchHandler` if the system doesn't have the handler; if the handler's
+///   class has the operation, `TooFewArguments` or `TooManyArguments` if it reads another number of them;
+/// - `reserve`: `TooManyHandlers`; `NotANumber` of a handler; then the errors of the words after `when`:
+///   `WrongNumberOfWords`, those of a `call`, or `NotANumber` of the least value or of the tries (1 or more).
 pub fn read_line(system: &System, line: &[u8]) -> Result<ClientLine, LineFault>
     ensures { result ≡ client_line system.now line.now }
 {
@@ -66,7 +68,7 @@ pub fn read_line(system: &System, line: &[u8]) -> Result<ClientLine, LineFault>
     }
 }
 
-// What the words behind the first one ask for, by that one.
+// The command of the words after the first one, by the first one.
 fn read_kind(system: &System, name: &[u8], rest: &[u8]) -> Result<ClientLine, LineFault>
     ensures { result ≡ line_of system.now name.now (words_of rest.now) }
 {

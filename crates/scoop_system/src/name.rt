@@ -1,4 +1,4 @@
-//! Names, as files give them.
+//! Names in files.
 
 ghost use Rattle.std.specs.Prelude.{◌≡◌, ◌≤◌, ◌==◌, length, take};
 ghost use Rattle.std.specs.List.{list_all};
@@ -13,7 +13,7 @@ use std::{fmt, str};
 /// Bytes of a name, at most.
 pub const MAX_NAME_LEN: usize = 32;
 
-/// The name of a class or an operation, or what is told of a text of the file: up to 32 printable bytes of ASCII.
+/// The name of a class or an operation, or a text of the file as faults print it: up to 32 bytes of printable ASCII.
 /// Contracts see it as the list of its bytes. Printed as it is.
 #[derive(Clone, Copy, Debug)]
 pub struct Name {
@@ -57,7 +57,7 @@ impl Eq for Name {
 }
 
 impl Name {
-    /// What is told of a text: its first 32 bytes, with a `?` for each that isn't printable ASCII.
+    /// A text as faults print it: its first 32 bytes, with a `?` for each that isn't printable ASCII.
     pub fn told(text: &str) -> Name
         ensures { result ≡ told text.now }
     {
@@ -98,7 +98,7 @@ impl fmt::Display for Name {
     }
 }
 
-// As many bytes of a text as a name may have.
+// The first bytes of a text: at most as many as a name may have.
 fn beginning(text: &[u8]) -> &[u8]
     ensures value { result.now ≡ take MAX_NAME_LEN text.now }
     ensures limit { length result.now ≤ MAX_NAME_LEN }
@@ -110,7 +110,7 @@ fn beginning(text: &[u8]) -> &[u8]
     }
 }
 
-// The byte, or `?` where it isn't printable.
+// The byte, or `?` if it isn't printable.
 fn told_byte(byte: u8) -> u8
     ensures { result ≡ told_byte byte }
 {
@@ -135,7 +135,7 @@ fn is_name_byte(byte: u8) -> bool
     is_letter(byte) || matches!(byte, b'0'..=b'9' | b'_' | b'-')
 }
 
-/// Whether a text is a name: up to 32 letters, digits, `_` and `-`, of which the first is a letter.
+/// Whether a text is a name: up to 32 letters, digits, `_` and `-`, the first of them a letter.
 #[tactic(auto, unfolding(crate::specs::Name::is_name))]
 pub fn is_name(text: &str) -> bool
     ensures { result ≡ is_name text.now }

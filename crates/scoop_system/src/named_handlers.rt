@@ -14,7 +14,7 @@ use thiserror::Error;
 /// Handlers that one line may name: one more than a block may have, so that a client itself refuses too many.
 pub const MAX_NAMED: usize = 9;
 
-// What stands in an unused cell.
+// The value of an unused cell.
 const NOBODY: HandlerId = HandlerId(0);
 
 /// A line names more than nine handlers.
@@ -65,7 +65,7 @@ impl Eq for NamedHandlers {
 }
 
 impl NamedHandlers {
-    /// The list as named handlers. `TooManyNamed` comes exactly where there are more than nine.
+    /// The list as named handlers. The error is `TooManyNamed` exactly if there are more than nine.
     pub fn of(handlers: &[HandlerId]) -> Result<NamedHandlers, TooManyNamed>
         ensures { OkIff result (length handlers.now ≤ MAX_NAMED) handlers.now }
     {

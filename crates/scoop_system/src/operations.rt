@@ -4,7 +4,7 @@ ghost use Rattle.std.specs.Prelude.{◌≡◌};
 ghost use Rattle.scoop_system.specs.Operations.{known_operation};
 
 use scoop_classes::DemoClass;
-use scoop_words::is;
+use scoop_lines::is;
 
 // The number of the operation of this name, if the class has it.
 pub(crate) fn known_operation(class: DemoClass, name: &[u8]) -> Option<u16>

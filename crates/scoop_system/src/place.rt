@@ -1,4 +1,4 @@
-//! Who takes part in a system, and where.
+//! Nodes, handlers and clients of a system, with their addresses.
 
 use crate::name::Name;
 use scoop_classes::DemoClass;
@@ -6,25 +6,25 @@ use scoop_message::{ClientId, HandlerId, Words};
 use std::fmt;
 use std::net::SocketAddr;
 
-/// A node, and where it is reached.
-#[derive(Clone, Copy, Debug, PartialEq, Eq)]
+/// A node and its address.
+#[derive(Clone, Copy)]
 pub struct NodePlace {
     pub number: u32,
-    /// Its port isn't 0, its family is that of all addresses of the system, and no other party has it.
+    /// Its port isn't 0, all addresses of the system are of its family, and no other party has it.
     pub address: SocketAddr,
 }
 
 /// The class of a handler's object.
-#[derive(Clone, Copy, Debug, PartialEq, Eq)]
+#[derive(Clone, Copy, PartialEq, Eq)]
 pub enum HandlerClass {
     /// A class that every system has.
     Known(DemoClass),
-    /// The class of this name, which the system's file has.
+    /// The class of this name in the system's file.
     Own(Name),
 }
 
-/// A handler: the node that it stands on, and its object's class and opening words.
-#[derive(Clone, Copy, Debug, PartialEq, Eq)]
+/// A handler with its node, and its object's class and initial words.
+#[derive(Clone, Copy)]
 pub struct HandlerPlace {
     pub handler: HandlerId,
     pub node: u32,
@@ -33,11 +33,11 @@ pub struct HandlerPlace {
     pub words: Words,
 }
 
-/// A client, where it is reached, and how many entries it puts into one Log: 1 to 4.
-#[derive(Clone, Copy, Debug, PartialEq, Eq)]
+/// A client, its address, and the number of entries that it puts into one Log: 1 to 4.
+#[derive(Clone, Copy)]
 pub struct ClientPlace {
     pub client: ClientId,
-    /// Its port isn't 0, its family is that of all addresses of the system, and no other party has it.
+    /// Its port isn't 0, all addresses of the system are of its family, and no other party has it.
     pub address: SocketAddr,
     pub batch: u8,
 }

@@ -1,4 +1,4 @@
-//! What was understood of a file.
+//! A printed system.
 
 ghost use Rattle.std.specs.Prelude.{OnOk};
 ghost use Rattle.std.specs.Io.KnownBytes.{Appends};
@@ -12,8 +12,8 @@ use class::print_classes;
 use std::io;
 use std::io::Write;
 
-/// Writes a system: for each node a line, and one for each of its handlers; a line for each client; and for each class of
-/// its own a line, and one for each of its operations.
+/// Writes a system: a line for each node and for each of its handlers, a line for each client, and a line for each class of
+/// its own and for each of the class's operations.
 pub fn print_system<W: Write>(system: &System, writer: &mut W) -> io::Result<()>
     ensures { OnOk result (Appends (W.contents writer.old) (W.contents writer.new) (system_text system.now)) }
 {

@@ -1,4 +1,4 @@
-//! What a TOML text says that a system is.
+//! The system that a TOML text describes.
 
 ghost use Rattle.std.specs.Prelude.{◌≡◌, ◌+◌, Some, None, Ok, Err, IfOk, IfErr, take};
 ghost use Rattle.toml.specs.Data.{table};
@@ -28,7 +28,7 @@ use toml::Value;
 /// Classes of one file, at most: as many as handlers.
 pub const MAX_CLASSES: usize = 64;
 
-// What a TOML table means as a system.
+// The system that a TOML table describes.
 pub(crate) fn read_table(alloc: Global, file: &Value) -> Result<System, Stop>
     ensures ok { IfOk result (λ system. system_of (view file.now) ≡ Ok system) }
     ensures fault { IfErr result (λ e. IfFault e (λ fault. system_of (view file.now) ≡ Err fault)) }
@@ -44,9 +44,11 @@ pub(crate) fn read_table(alloc: Global, file: &Value) -> Result<System, Stop>
 impl System {
     /// The system of a TOML text.
     ///
-    /// The error is `Toml` exactly where the text isn't TOML, and `Fault` exactly where it is, and means no system: with
-    /// the first fault, of the file's keys, else of its classes, nodes, handlers and clients, each in the order of the
-    /// file. It is `OutOfMemory` where a growth of memory was refused.
+    /// # Errors
+    /// - `Toml`: exactly if the text isn't TOML.
+    /// - `Fault`: exactly if the text is TOML and describes no system. It is the first fault: of the file's keys, then of
+    ///   its classes, nodes, handlers and clients, each in the order of the file.
+    /// - `OutOfMemory`: an allocation was refused.
     pub fn read(alloc: Global, text: &str) -> Result<System, SystemError>
         ensures system { IfOk result (λ system. Means text.now (Ok system)) }
         ensures error { IfErr result (SaysNoSystem text.now) }
@@ -63,7 +65,7 @@ impl System {
     }
 }
 
-// What TOML's own error says, with its place in the text.
+// TOML's own error, with its place in the text.
 fn toml_error(text: &str, error: toml::de::Error) -> SystemError
     requires { ¬ IsMemory error → parse_document text.now ≡ None }
     ensures { SaysNoSystem text.now result }
@@ -80,8 +82,8 @@ fn toml_error(text: &str, error: toml::de::Error) -> SystemError
     })
 }
 
-// The kind of the first table in single brackets up to this line, counted from 1, where the line begins a table. In such
-// a file each table stands in double ones, so TOML's fault comes of that.
+// The kind of the first table in single brackets up to this line, counted from 1, if the line begins a table. A system's
+// tables have double brackets, so this table is the cause of TOML's fault.
 fn single_before(text: &str, line: usize) -> Option<Key> {
     let mut single = None;
     for (above, header) in text.lines().take(line).enumerate() {

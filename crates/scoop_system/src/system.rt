@@ -1,4 +1,4 @@
-//! What a file says that a system is.
+//! A system as its file describes it.
 
 ghost use Rattle.std.specs.Prelude.{◌≡◌, ◌==◌, find, IfOk};
 ghost use Rattle.std.specs.Option.{option_copied, option_map};
@@ -15,7 +15,7 @@ use std::alloc::Global;
 use std::marker::Model;
 
 /// A system. Contracts see its classes, nodes, handlers and clients as lists, each in the order of the file.
-#[derive(Drop, Debug)]
+#[derive(Drop)]
 pub struct System {
     classes: Vec<OwnClass>,
     nodes: Vec<NodePlace>,
@@ -100,8 +100,8 @@ impl System {
         self.clients.iter().find(|place| place.client.0 == client.0)
     }
 
-    /// The class of a handler's object, kept by this allocator: `None` where it is of another system.
-    /// `OutOfMemory` is the one refusal.
+    /// The class of a handler's object, in memory of this allocator. `None` if the handler is of another system.
+    /// `OutOfMemory` is the one error.
     pub fn class_of(&self, alloc: Global, class: HandlerClass) -> Result<Option<Class>, OutOfMemory>
         ensures { IfOk result (λ c. c ≡ class_table self.now.classes class) }
     {
@@ -124,8 +124,8 @@ impl System {
         }
     }
 
-    /// How many arguments the operation of this number reads, if the handler's class has it: with fewer the object
-    /// refuses, and it ignores further ones.
+    /// The number of arguments that the operation of this number reads, if the handler's class has it. The object refuses
+    /// fewer arguments, and ignores further ones.
     pub fn arguments(&self, handler: HandlerId, op: u16) -> Option<usize>
         ensures { result ≡ handler_arguments self.now handler op }
     {

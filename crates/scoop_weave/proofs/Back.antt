@@ -1,70 +1,42 @@
--- Every world that is reached is that of a weave: one that opens is, with no move, and where a world changes its weave is one
--- move longer (or stays, where a node restarts that has no handler). What is looked up in the world stands for a handler or
--- a client of the system, which makes that move, and what it hears was sent, since the world has it.
-use Rattle.std.proofs.Common.{◌≡◌, ℕ, ◌==◌, true, false, List, [], ◌∷◌, ◌++◌, map, Option, Some, None, refl, sym, ap, ◌∙◌, subst}
-use Rattle.std.specs.Prelude.{◌||◌, if◌then◌else◌, Ok}
-use Rattle.std.specs.List.{list_any}
-use Rattle.std.specs.Option.{option_map}
-use Rattle.scoop_message.specs.declared.name.ClientId.{ClientId}
-use Rattle.scoop_message.specs.declared.name.HandlerId.{HandlerId}
-use Rattle.scoop_message.specs.declared.message.Message.{Message}
-use Rattle.scoop_message.specs.Message.{same_handler, same_client, handler_of, client_of, is_for_handler}
-use Rattle.scoop_message.proofs.Same.{handler_decides, client_decides}
-use Rattle.scoop_reserve.specs.Handlers.{has}
-use Rattle.scoop_handler.specs.Core.{core_of}
-use Rattle.scoop_handler.specs.Hearing.{hear}
-use Rattle.scoop_handler.specs.Running.{Task, ready, job_out, ran_of}
-use Rattle.scoop_client.specs.State.{ClientState}
-use Rattle.scoop_client.specs.Due.{due}
-use Rattle.scoop_client.specs.Hearing.{heard}
-use Rattle.scoop_client.specs.Commands as client
-use Rattle.scoop_client.specs.declared.command.Command.{Command}
-use Rattle.scoop_client.specs.declared.command.Command.TheVariants.{Reserve, Call, Query, End, GiveUp}
-use Rattle.scoop_model.specs.declared.event.Event.{Event}
-use Rattle.scoop_model.specs.World.{World, Site, Party, number_of, is_party, sent_at, site_of, party_of}
-use Rattle.scoop_model.specs.Step.{Placement, Newcomer, opening, newest_block, commanded_world, with_sent, heard_world, heard_party, with_party, with_site}
-use Rattle.scoop_model.specs.Step.{begun_site, finished_site, restarted_party, reopened, reopened_world}
-use Rattle.scoop_model.specs.Opening.{MayOpen}
-use Rattle.scoop_model.specs.Reach.{steps, IsReached}
+-- Every world that is reached is that of a weave. An opening world is that of no move. Each event makes the weave one move
+-- longer, or leaves it where a node without handlers restarts. A look-up in the world finds a handler or a client of the
+-- system, and that party makes the move. It hears only what was sent, since the world has taken it from there.
+use Rattle.scoop_weave.proofs.Names.{append-nil, append_assoc, ◌≡◌, ℕ, ◌==◌, true, false, List, [], ◌∷◌, ◌++◌, map, Option, Some, None, refl, sym, ap, ◌∙◌, subst, if◌then◌else◌}
+use Rattle.scoop_weave.proofs.Names.{Ok, list_any, option_map, Block, ClientId, HandlerId, Message, same_handler, same_client, handler_of, client_of}
+use Rattle.scoop_weave.proofs.Names.{is_for_handler, handler_decides, client_decides, has, core_of, hear, Task, ready, job_out, ran_of, ClientState, due, heard}
+use Rattle.scoop_weave.proofs.Names.{Command, Event, World, Site, Party, number_of, is_party, sent_at, site_of, party_of, Placement, Newcomer, opening}
+use Rattle.scoop_weave.proofs.Names.{newest_block, commanded_world, with_sent, heard_world, heard_party, with_party, with_site, begun_site, finished_site}
+use Rattle.scoop_weave.proofs.Names.{restarted_party, reopened, reopened_world, MayOpen, IsReached, by_test, key_found, all_found, clients_know}
+use Rattle.scoop_weave.proofs.Names.{LocalHandler, after_hearing, after_begin, after_finish, leaves, PlacedHandler, System, its_number, id_in}
+use Rattle.scoop_weave.proofs.Names.{placed_in, client_in, with_local, with_placed, with_client, after_reopening, after_step, after_restart, new_system}
+use Rattle.scoop_weave.proofs.Names.{LocalMove, Heard, Began, Finished, NodeReopened, Commanded, Sent, ClientHeard, ClientRestarted, HeardIn, Moves}
+use Rattle.scoop_weave.proofs.Names.{HandlerMoves, AtHandler, IsWeave, sent_by, site_by, party_by, world_by, Weave}
+use Rattle.scoop_model.specs.Reach.{steps}
 use Rattle.scoop_model.proofs.Granting.{sent_in}
-use Rattle.scoop_model.proofs.Basics.{by_test}
 use Rattle.scoop_model.proofs.Events.{Changes, steps_kept}
-use Rattle.scoop_model.proofs.Keys.{key_found}
-use Rattle.scoop_model.proofs.Order.Facts.{all_found}
-use Rattle.scoop_model.proofs.Knowing.Runs.{clients_know}
-use Rattle.scoop_model.proofs.Reaching.{reached_ordered}
-use Rattle.scoop_weave.specs.System.{System, number_in, id_in, handler_in, client_in, with_handler, with_client, after_hearing, after_begin, after_finish}
-use Rattle.scoop_weave.specs.System.{after_reopening, after_step, after_restart, new_system}
-use Rattle.scoop_weave.specs.Moves.{LocalMove, Heard, Began, Finished, NodeReopened, Commanded, Sent, ClientHeard, ClientRestarted, leaves, HeardIn, Moves}
-use Rattle.scoop_weave.specs.Moves.{IsWeave, sent_by}
-use Rattle.scoop_weave.specs.Histories.{site_by, party_by, world_by}
-use Rattle.scoop_weave.specs.Weave.{Weave, IsOfWeave}
+use Rattle.scoop_weave.specs.Weave.{IsOfWeave}
+use Rattle.scoop_client.specs.Commands as client
+use Rattle.std.proofs.lemmas.Bool.{or_parts}
 use Rattle.scoop_weave.proofs.Lists.{find_through, found_has}
-use Rattle.scoop_weave.proofs.Telling.{party_stays}
-use Rattle.scoop_weave.proofs.Worlds.{same_world, client_itself, sites_same, parties_changed, parties_same, nothing_sent, nothing_opened, nothing_logged}
+use Rattle.scoop_weave.proofs.Worlds.{client_itself}
+use Rattle.scoop_weave.proofs.Executing.{begun_world, run_world, any_through, reopened_same}
+use Rattle.scoop_weave.proofs.Driving.{takes_world, sent_world, restarted_world}
+use Rattle.scoop_weave.proofs.Headline.{opens_same, weave_reached}
 use Rattle.scoop_weave.proofs.Hearing as hearing
 use Rattle.scoop_weave.proofs.Noticing as noticing
-use Rattle.scoop_weave.proofs.Running.{begun_world, run_world, any_through, all_reopen}
-use Rattle.scoop_weave.proofs.Driving.{takes_world, sent_world}
-use Rattle.scoop_weave.proofs.Headline.{opens_same, weave_reached}
 
 -- ---- one move more
 
 longer :
     (past ms : List LocalMove) (m : LocalMove) (v w u : System) → IsWeave past v ms w → HeardIn (sent_by (past ++ ms)) m → Moves m w u
     → IsWeave past v (ms ++ m ∷ []) u
-longer past [] m v w u same sent r =
-    (u, subst (λ xs. HeardIn (sent_by xs) m) (nothing_behind past) sent, subst (λ x. Moves m x u) (sym same) r, refl)
-  where
-    nothing_behind : (xs : List LocalMove) → xs ++ [] ≡ xs
-    nothing_behind [] = refl
-    nothing_behind (x ∷ xs) = ap (λ ys. x ∷ ys) (nothing_behind xs)
+longer past [] m v w u same sent r = (u, subst (λ xs. HeardIn (sent_by xs) m) (append-nil past) sent, subst (λ x. Moves m x u) (sym same) r, refl)
 longer past (n ∷ ms) m v w u weave sent r =
-    (weave.0, weave.1, weave.2, longer (past ++ n ∷ []) ms m weave.0 w u weave.3 (subst (λ xs. HeardIn (sent_by xs) m) (sym (grouped past)) sent) r)
-  where
-    grouped : (xs : List LocalMove) → (xs ++ n ∷ []) ++ ms ≡ xs ++ n ∷ ms
-    grouped [] = refl
-    grouped (x ∷ xs) = ap (λ ys. x ∷ ys) (grouped xs)
+    (weave.0, weave.1, weave.2, longer (past ++ n ∷ []) ms m weave.0 w u weave.3 (subst (λ xs. HeardIn (sent_by xs) m) (sym (append_assoc past (n ∷ []) ms)) sent) r)
+
+at_place : (h : HandlerId) (m : LocalMove) (v : System) (s : PlacedHandler) (a : LocalHandler) → placed_in h v ≡ Some s → HandlerMoves m s (with_local a s)
+    → AtHandler h m v (with_placed (with_local a s) v)
+at_place h m v s a here moves = record { handler = s; here = here; new = with_local a s; moves = moves; after = refl }
 
 -- ---- what a look-up in the world found in the system
 
@@ -77,8 +49,8 @@ through : {A B : Type 0} (f : A → B) (o : Option A) (b : B) → option_map f o
 through f None b e = absurd (cc)
 through f (Some a) b e = record { it = a; found = refl; is = (let same : f a ≡ b = cc in same) }
 
-site_from : (past : List LocalMove) (v : System) (h : HandlerId) (s : Site) → site_of h (world_by past v) ≡ Some s → Through (site_by past) (handler_in h v) s
-site_from past v h s here = through (site_by past) (handler_in h v) s (sym (find_through number_of same_handler (site_by past) h v.handlers) ∙ here)
+site_from : (past : List LocalMove) (v : System) (h : HandlerId) (s : Site) → site_of h (world_by past v) ≡ Some s → Through (site_by past) (placed_in h v) s
+site_from past v h s here = through (site_by past) (placed_in h v) s (sym (find_through number_of same_handler (site_by past) h v.handlers) ∙ here)
 
 party_from : (past : List LocalMove) (v : System) (c : ClientId) (p : Party) → party_of c (world_by past v) ≡ Some p → Through (party_by past) (client_in c v) p
 party_from past v c p at = through (party_by past) (client_in c v) p
@@ -132,10 +104,11 @@ module _ (ps : List Placement) (ns : List Newcomer) (opens : MayOpen ps ns) wher
     hears i m s was goes here =
         let h = handler_of m in
         let t = site_from ms v h s here in
-        let own = key_found number_in same_handler handler_decides h v.handlers t.it t.found in
-        let now = hear t.it.core.state m in
-        more (Heard h m now.1) (with_handler (after_hearing now.0 t.it) v) (heard_world w s (hear s.core.state m)) (sent_in w i m was)
-        (record { handler = t.it; here = t.found; new = after_hearing now.0 t.it; moves = record { tells = refl; after = refl }; after = refl })
+        let own = key_found its_number same_handler handler_decides h v.handlers t.it t.found in
+        let now = hear t.it.local.core.state m in
+        let a : LocalHandler = after_hearing now.0 t.it.local in
+        more (Heard h m now.1) (with_placed (with_local a t.it) v) (heard_world w s (hear s.core.state m)) (sent_in w i m was)
+        (at_place h (Heard h m now.1) v t.it a t.found (record { new = a; moves = record { tells = refl; after = refl }; after = refl }))
         (ap (λ (x : Site). heard_world w x (hear x.core.state m)) (sym t.is) ∙ hearing.world_hears ms v h m t.it t.found own)
 
     notices : (i : ℕ) (m : Message) (p : Party) → sent_at i w ≡ Some m → is_for_handler m ≡ false → party_of (client_of m) w ≡ Some p
@@ -152,23 +125,23 @@ module _ (ps : List Placement) (ns : List Newcomer) (opens : MayOpen ps ns) wher
     begins : (h : HandlerId) (s : Site) (t : Task) → site_of h w ≡ Some s → ready s.core ≡ Some t → Woven (with_site w (begun_site s))
     begins h s t here is =
         let f = site_from ms v h s here in
-        more (Began h (option_map leaves (ready f.it.core))) (with_handler (after_begin f.it) v) (with_site w (begun_site s)) tt
-        (record { handler = f.it; here = f.found; new = after_begin f.it; moves = record { tells = refl; after = refl }; after = refl })
-        (ap (λ x. with_site w (begun_site x)) (sym f.is) ∙ begun_world ms v h f.it f.found (ready f.it.core))
+        let told : Option (Block × ℕ) = option_map leaves (ready f.it.local.core) in
+        let a : LocalHandler = after_begin f.it.local in
+        more (Began h told) (with_placed (with_local a f.it) v) (with_site w (begun_site s)) tt
+        (at_place h (Began h told) v f.it a f.found (record { new = a; moves = record { tells = refl; after = refl }; after = refl }))
+        (ap (λ x. with_site w (begun_site x)) (sym f.is) ∙ begun_world ms v h f.it f.found (ready f.it.local.core))
 
     finishes : (h : HandlerId) (s : Site) (t : Task) → site_of h w ≡ Some s → job_out s.core ≡ Some t → Woven (with_site w (finished_site s t))
     finishes h s t here is =
         let f = site_from ms v h s here in
-        let own = key_found number_in same_handler handler_decides h v.handlers f.it f.found in
-        more (Finished h (ran_of t)) (with_handler (after_finish t f.it) v) (with_site w (finished_site s t)) tt
-        (record {
-          handler = f.it;
-          here = f.found;
-          new = after_finish t f.it;
-          moves =
-              record { task = t; out = ap (λ (x : Site). job_out x.core) f.is ∙ is; tells = refl; after = refl };
+        let own = key_found its_number same_handler handler_decides h v.handlers f.it f.found in
+        let a : LocalHandler = after_finish t f.it.local in
+        more (Finished h (ran_of t)) (with_placed (with_local a f.it) v) (with_site w (finished_site s t)) tt
+        (at_place h (Finished h (ran_of t)) v f.it a f.found (record {
+          new = a;
+          moves = record { task = t; out = ap (λ (x : Site). job_out x.core) f.is ∙ is; tells = refl; after = refl };
           after = refl;
-        })
+        }))
         (ap (λ x. with_site w (finished_site x t)) (sym f.is) ∙ run_world ms v h f.it t f.found own)
 
     restarts : (c : ClientId) (p : Party) → party_of c w ≡ Some p → (p.stored == 4294967295) ≡ false → Woven (with_party w (restarted_party p))
@@ -184,21 +157,14 @@ module _ (ps : List Placement) (ns : List Newcomer) (opens : MayOpen ps ns) wher
               record { room = ap (λ (q : Party). q.stored == 4294967295) t.is ∙ room; after = refl };
           after = refl;
         })
-        (ap (λ q. with_party w (restarted_party q)) (sym t.is)
-        ∙ same_world _ _ _ _ _ _ _ _ _ _
-        (sites_same ms m v (λ k. record { opened = refl; ran = refl }))
-        (parties_changed ms m v (after_restart t.it) (restarted_party (party_by ms t.it)) (party_stays ms m (after_restart t.it) refl) (λ y e. refl))
-        (nothing_sent ms m v refl) (nothing_opened ms m v refl) (nothing_logged ms m v refl))
+        (ap (λ q. with_party w (restarted_party q)) (sym t.is) ∙ restarted_world ms v c t.it)
 
     none_reopen : (n : ℕ) (sites : List Site) → list_any (λ (s : Site). s.node == n) sites ≡ false → map (reopened n) sites ≡ sites
     none_reopen n [] none = refl
     none_reopen n (s ∷ ss) none =
-        by_test (λ t. (s.node == n) ≡ t → map (reopened n) (s ∷ ss) ≡ s ∷ ss) (s.node == n)
-        (λ _ e. absurd (let f : true ≡ false = ap (λ t. t || list_any (λ (s : Site). s.node == n) ss) (sym e) ∙ none in cc))
-        (λ _ e.
-        ap (λ t. (if t then record s { core = core_of s.core.class s.stored false } else s) ∷ map (reopened n) ss) e
-        ∙ ap (λ xs. s ∷ xs) (none_reopen n ss (ap (λ t. t || list_any (λ (s : Site). s.node == n) ss) (sym e) ∙ none)))
-        refl
+        let both = or_parts (s.node == n) (list_any (λ (s : Site). s.node == n) ss) none in
+        ap (λ t. (if t then record s { core = core_of s.core.class s.stored false } else s) ∷ map (reopened n) ss) both.0
+        ∙ ap (λ xs. s ∷ xs) (none_reopen n ss both.1)
 
     reopens : (n : ℕ) → Woven (reopened_world w n)
     reopens n =
@@ -208,8 +174,7 @@ module _ (ps : List Placement) (ns : List Newcomer) (opens : MayOpen ps ns) wher
         let u : System = record v { handlers = map (after_reopening n) v.handlers } in
         more m u (reopened_world w n) tt
         (record { some = sym (any_through (site_by ms) (λ (s : Site). s.node == n) v.handlers) ∙ e; after = refl })
-        (same_world _ _ _ _ _ _ _ _ _ _ (all_reopen ms n v.handlers w.joint (reached_ordered w reached).sites) (parties_same ms m v (λ c. refl))
-        (nothing_sent ms m v refl) (nothing_opened ms m v refl) (nothing_logged ms m v refl)))
+        (reopened_same ms v n reached))
         (λ _ e. record { moves = ms; now = v; weave = weave; is = ap (λ ss. let x : World = record w { sites = ss } in x) (none_reopen n w.sites e) })
         refl
 

@@ -1,13 +1,10 @@
--- Events one after another, behind which others may come.
-use Rattle.std.proofs.Common.{◌≡◌, ℕ, ◌+◌, List, [], ◌∷◌, ◌++◌, length, sym, ap, ◌∙◌, arith, append-nil, append_assoc, length-append}
-use Rattle.std.specs.Prelude.{Ok}
-use Rattle.scoop_model.specs.declared.event.Event.{Event}
+-- Events one after another, with others to follow.
+use Rattle.scoop_weave.proofs.Names.{◌≡◌, ℕ, ◌+◌, List, [], ◌∷◌, ◌++◌, length, sym, ap, ◌∙◌, arith, append-nil, append_assoc, Ok, Event, World, step, Leads}
+use Rattle.std.proofs.Common.{length-append}
 use Rattle.scoop_model.specs.declared.note.WorldNote.{WorldNote}
-use Rattle.scoop_model.specs.World.{World}
-use Rattle.scoop_model.specs.Step.{step}
-use Rattle.scoop_model.specs.Reach.{next, run_after, Leads}
+use Rattle.scoop_model.specs.Reach.{next, run_after}
 
--- none of the events is refused, and whatever comes behind them goes on from the new world
+-- none of the events is refused, and whatever follows them goes on from the new world
 abbrev pub Brings : World → List Event → World → Type 0
 Brings v es w = (n : ℕ) (rest : List Event) → run_after n v (es ++ rest) ≡ run_after (n + length es) w rest
 

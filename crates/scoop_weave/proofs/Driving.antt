@@ -1,25 +1,15 @@
 -- A client that takes a command, sends or restarts is the event of that name.
-use Rattle.std.proofs.Common.{◌≡◌, ◌+◌, List, [], ◌∷◌, ◌++◌, Option, Some, None, refl, sym, ap, ◌∙◌, subst}
-use Rattle.std.specs.Prelude.{if◌then◌else◌, Ok, Err}
-use Rattle.scoop_message.specs.declared.name.Block.{Block}
-use Rattle.scoop_message.specs.declared.name.ClientId.{ClientId}
-use Rattle.scoop_message.specs.declared.name.HandlerId.{HandlerId}
-use Rattle.scoop_message.specs.declared.message.Message.{Message}
-use Rattle.scoop_client.specs.State.{ClientState}
-use Rattle.scoop_client.specs.Due.{due}
-use Rattle.scoop_client.specs.declared.command.Command.{Command}
-use Rattle.scoop_client.specs.Commands as client
+use Rattle.scoop_weave.proofs.Names.{◌≡◌, ◌+◌, List, [], ◌∷◌, ◌++◌, Option, Some, None, refl, sym, ap, ◌∙◌, subst, if◌then◌else◌, Ok, Err, Block, ClientId}
+use Rattle.scoop_weave.proofs.Names.{HandlerId, Message, ClientState, due, Command, World, Party, party_of, site_of, newest_block, commanded_world, with_sent}
+use Rattle.scoop_weave.proofs.Names.{place_of, with_party, restarted_party, IsReached, onward_commanded, LocalClient, System, id_in, client_in, placed_in}
+use Rattle.scoop_weave.proofs.Names.{with_client, after_step, after_restart, LocalMove, Commanded, Sent, ClientRestarted, AtClient, sent_by, accepted_by}
+use Rattle.scoop_weave.proofs.Names.{party_with, party_by, world_by, event_in}
 use Rattle.scoop_model.specs.declared.event.Event.TheVariants.{Do, Tick, ClientRestart}
-use Rattle.scoop_model.specs.declared.note.WorldNote.TheVariants as note
 use Rattle.scoop_model.specs.declared.error.WorldError.TheVariants.{IncarnationsSpent}
-use Rattle.scoop_model.specs.World.{World, Party, party_of, site_of}
-use Rattle.scoop_model.specs.Step.{newest_block, commanded, commanded_world, do_at, with_sent, sends, sent_or_silent, place_of, tick_at, with_party}
-use Rattle.scoop_model.specs.Step.{restarted_party, restart_client}
-use Rattle.scoop_model.specs.Reach.{IsReached}
-use Rattle.scoop_model.proofs.Answering.Onward.{onward_commanded}
-use Rattle.scoop_weave.specs.System.{LocalClient, System, id_in, client_in, handler_in, with_client, after_step, after_restart}
-use Rattle.scoop_weave.specs.Moves.{LocalMove, Commanded, Sent, ClientRestarted, AtClient, sent_by}
-use Rattle.scoop_weave.specs.Histories.{accepted_by, party_with, party_by, world_by, tick_event, event_in}
+use Rattle.scoop_model.specs.Step.{commanded, do_at, sends, sent_or_silent, tick_at, restart_client}
+use Rattle.scoop_weave.specs.Histories.{tick_event}
+use Rattle.scoop_client.specs.Commands as client
+use Rattle.scoop_model.specs.declared.note.WorldNote.TheVariants as note
 use Rattle.scoop_weave.proofs.Brings.{Brings, brings_none, brings_one}
 use Rattle.scoop_weave.proofs.Telling.{sent_more, logged_more, party_stays}
 use Rattle.scoop_weave.proofs.Worlds.{same_world, site_there, party_there, sites_same, parties_changed, parties_same, nothing_sent, nothing_opened}
@@ -84,7 +74,7 @@ module _ (past : List LocalMove) (v : System) (c : ClientId) (h : HandlerId) (d 
       (parties_same past move v (λ k. refl))
       (sym (sent_more past move)) (nothing_opened past move v refl) (nothing_logged past move v refl)
 
-  send_brings : (o : Option Message) → (some : _) → handler_in h v ≡ Some some → due d.client h ≡ o
+  send_brings : (o : Option Message) → (some : _) → placed_in h v ≡ Some some → due d.client h ≡ o
       → Brings (world_by past v) (tick_event c h o) (world_by (past ++ Sent c h o ∷ []) v)
   send_brings None s there e =
       let silent : IsSilent past (Sent c h None) v = record {
@@ -116,6 +106,15 @@ sends_brings past v u c h o reached r =
 
 -- ---- a restart
 
+pub restarted_world : (past : List LocalMove) (v : System) (c : ClientId) (d : LocalClient)
+    → with_party (world_by past v) (restarted_party (party_by past d)) ≡ world_by (past ++ ClientRestarted c ∷ []) (with_client (after_restart d) v)
+restarted_world past v c d =
+    let m : LocalMove = ClientRestarted c in
+    same_world _ _ _ _ _ _ _ _ _ _
+    (sites_same past m v (λ k. record { opened = refl; ran = refl }))
+    (parties_changed past m v (after_restart d) (restarted_party (party_by past d)) (party_stays past m (after_restart d) refl) (λ y e. refl))
+    (nothing_sent past m v refl) (nothing_opened past m v refl) (nothing_logged past m v refl)
+
 pub restarts_brings :
     (past : List LocalMove) (v u : System) (c : ClientId) → AtClient c (ClientRestarted c) v u
     → Brings (world_by past v) (event_in (sent_by past) (ClientRestarted c)) (world_by (past ++ ClientRestarted c ∷ []) u)
@@ -128,10 +127,5 @@ restarts_brings past v u c r =
     let is : restart_client w (party_of c w) ≡ Ok (with_party w (restarted_party p), told) =
     ap (restart_client w) (party_there past v c d r.here) ∙ ap
     (λ t. if t then Err IncarnationsSpent else Ok (with_party w (restarted_party p), told)) r.moves.room in
-    let same : with_party w (restarted_party p) ≡ world_by (past ++ m ∷ []) (with_client (after_restart d) v) =
-    same_world _ _ _ _ _ _ _ _ _ _
-    (sites_same past m v (λ k. record { opened = refl; ran = refl }))
-    (parties_changed past m v (after_restart d) (restarted_party p) (party_stays past m (after_restart d) refl) (λ y e. refl))
-    (nothing_sent past m v refl) (nothing_opened past m v refl) (nothing_logged past m v refl) in
     subst (λ y. Brings w (ClientRestart c ∷ []) (world_by (past ++ m ∷ []) y)) (sym (r.after ∙ ap (λ y. with_client y v) r.moves.after))
-    (brings_one w (world_by (past ++ m ∷ []) (with_client (after_restart d) v)) (with_party w (restarted_party p)) (ClientRestart c) told is same)
+    (brings_one w (world_by (past ++ m ∷ []) (with_client (after_restart d) v)) (with_party w (restarted_party p)) (ClientRestart c) told is (restarted_world past v c d))

@@ -1,23 +1,15 @@
 -- Every weave is a world.
-use Rattle.std.proofs.Common.{◌≡◌, List, [], ◌∷◌, ◌++◌, map, refl, sym, ap, ◌∙◌, subst, append-nil, append_assoc}
-use Rattle.std.proofs.lemmas.Simd.{map-map}
-use Rattle.scoop_model.specs.declared.event.Event.{Event}
-use Rattle.scoop_model.specs.World.{World}
-use Rattle.scoop_model.specs.Step.{Placement, Newcomer, opening}
-use Rattle.scoop_model.specs.Opening.{MayOpen}
-use Rattle.scoop_model.specs.Reach.{Run, Leads, IsReached}
+use Rattle.scoop_weave.proofs.Names.{◌≡◌, List, [], ◌∷◌, ◌++◌, map, refl, sym, ap, ◌∙◌, subst, append-nil, append_assoc, map-map, Event, World, Placement}
+use Rattle.scoop_weave.proofs.Names.{Newcomer, opening, MayOpen, Run, Leads, IsReached, reached_safe, System, new_placed, new_client, new_system, LocalMove}
+use Rattle.scoop_weave.proofs.Names.{Heard, Began, Finished, NodeReopened, Commanded, Sent, ClientHeard, ClientRestarted, HeardIn, Moves, IsWeave, sent_by}
+use Rattle.scoop_weave.proofs.Names.{site_by, party_by, world_by, event_in, Weave, IsWorld}
 use Rattle.scoop_rules.specs.Paper.{RunsByRules}
-use Rattle.scoop_model.proofs.Headline.{reached_safe}
 use Rattle.scoop_rules.proofs.Follows.Runs.{runs_by_rules, follows_rules}
-use Rattle.scoop_weave.specs.System.{System, new_handler, new_client, new_system}
-use Rattle.scoop_weave.specs.Moves.{LocalMove, Heard, Began, Finished, NodeReopened, Commanded, Sent, ClientHeard, ClientRestarted, HeardIn, Moves, IsWeave}
-use Rattle.scoop_weave.specs.Moves.{sent_by}
-use Rattle.scoop_weave.specs.Histories.{site_by, party_by, world_by, event_in, events_behind, events_of}
-use Rattle.scoop_weave.specs.Weave.{Weave, IsWorld}
+use Rattle.scoop_weave.specs.Histories.{events_behind, events_of}
 use Rattle.scoop_weave.proofs.Brings.{Brings, brings_none, brings_both, brings_leads}
 use Rattle.scoop_weave.proofs.Worlds.{same_world}
 use Rattle.scoop_weave.proofs.Hearing.{hears_brings}
-use Rattle.scoop_weave.proofs.Running.{begins_brings, finishes_brings, reopens_brings}
+use Rattle.scoop_weave.proofs.Executing.{begins_brings, finishes_brings, reopens_brings}
 use Rattle.scoop_weave.proofs.Driving.{takes_brings, sends_brings, restarts_brings}
 use Rattle.scoop_weave.proofs.Promises.{promised}
 use Rattle.scoop_weave.proofs.Noticing.{notices_brings}
@@ -37,7 +29,7 @@ move_brings past v u (ClientRestarted c) reached sent r = restarts_brings past v
 pub opens_same : (ps : List Placement) (ns : List Newcomer) → opening ps ns ≡ world_by [] (new_system ps ns)
 opens_same ps ns =
     same_world _ _ _ _ _ _ _ _ _ _
-    (sym (map-map (site_by []) new_handler ps))
+    (sym (map-map (site_by []) new_placed ps))
     (sym (map-map (party_by []) (new_client (map (λ (p : Placement). p.handler) ps)) ns))
     refl refl refl
 
@@ -76,6 +68,6 @@ weave_is_a_world ps ns ms now opens weave =
       leads = leads;
       safe = reached_safe w (reached_by ps ns opens (events_of ms) w brings);
       rules = subst (RunsByRules (opening ps ns) (events_of ms)) (ap (λ (x : Run). x.0) leads) (runs_by_rules ps ns (events_of ms) opens);
-      promises = promised ms now (reached_safe w (reached_by ps ns opens (events_of ms) w brings));
+      promises = promised ms now (reached_by ps ns opens (events_of ms) w brings);
       follows = λ e. follows_rules w e (reached_by ps ns opens (events_of ms) w brings);
     }

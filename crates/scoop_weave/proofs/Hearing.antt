@@ -1,38 +1,27 @@
--- A handler that hears is the event that takes the message, or nothing where the message is not meant for it. In the first case
--- the world that the moves tell is the event's, part by part: the handler has the new state, a block more where one opened, the
--- reply was sent, and all else is as it was. In the second the handler drops the message, so the moves tell of the world before.
-use Rattle.std.proofs.Common.{◌≡◌, true, false, List, [], ◌∷◌, ◌++◌, Some, refl, sym, ap, ◌∙◌, subst, append-nil}
-use Rattle.std.specs.Prelude.{Contains, if◌then◌else◌, option_to_list, Ok}
-use Rattle.std.proofs.lemmas.Bool.{and_parts}
-use Rattle.scoop_message.specs.declared.name.HandlerId.{HandlerId}
-use Rattle.scoop_message.specs.declared.message.Message.{Message}
-use Rattle.scoop_message.specs.declared.message.Message.TheVariants.{Hello, Welcome, Lock, Locked, Busy, Open, Opened, Unlock, Unlocked, Log, Logged, Answer}
-use Rattle.scoop_message.specs.Message.{same_handler, handler_of, client_of, is_for_handler}
-use Rattle.scoop_message.proofs.Same.{handler_decides}
+-- A handler that hears is the event that takes the message, or no event where the message is meant for another. In the first
+-- case the moves make the event's world, part by part: the handler has the new state, and a block more where one opened. The
+-- reply was sent, and all else stays. In the second case the handler drops the message, so the world stays.
+use Rattle.scoop_weave.proofs.Names.{◌≡◌, true, false, List, [], ◌∷◌, ◌++◌, Some, refl, sym, ap, ◌∙◌, subst, append-nil, Contains, if◌then◌else◌, Ok, and_parts}
+use Rattle.scoop_weave.proofs.Names.{HandlerId, Message, Hello, Welcome, Lock, Locked, Busy, Open, Opened, Unlock, Unlocked, Log, Logged, Answer, same_handler}
+use Rattle.scoop_weave.proofs.Names.{handler_of, client_of, is_for_handler, handler_decides, HandlerState, hear, row, number-row, Take, World, Site, site_of}
+use Rattle.scoop_weave.proofs.Names.{party_of, sent_at, heard_world, place_of, taken, taken_by_handler, taken_by_client, IsReached, by_test, key_found}
+use Rattle.scoop_weave.proofs.Names.{after_hearing, PlacedHandler, System, its_number, placed_in, with_local, with_placed, LocalMove, Heard, AtHandler, sent_by}
+use Rattle.scoop_weave.proofs.Names.{opened_here, opened_by, ran_by, site_with, site_by, world_by, place_in, event_in}
+use Rattle.std.specs.Prelude.{option_to_list}
 use Rattle.scoop_handler.specs.declared.note.Heard.{Heard as Reply}
 use Rattle.scoop_handler.specs.declared.note.Reason.{Reason}
 use Rattle.scoop_handler.specs.declared.note.Reason.TheVariants.{NotForHandlers, WrongHandler}
 use Rattle.scoop_handler.specs.declared.note.Note.TheVariants.{Dropped}
 use Rattle.scoop_handler.specs.Marks.{mark_of}
-use Rattle.scoop_handler.specs.State.{HandlerState}
-use Rattle.scoop_handler.specs.Hearing.{Hearing, hear, dropped, hear_hello, hear_of, hear_lock, hear_open, hear_unlock, hear_log}
-use Rattle.scoop_handler.proofs.TableRows.{row}
-use Rattle.scoop_handler.proofs.TableLaws.{number-row}
-use Rattle.scoop_model.specs.declared.event.Event.TheVariants.{Take}
+use Rattle.scoop_handler.specs.Hearing.{Hearing, dropped, hear_hello, hear_of, hear_lock, hear_open, hear_unlock, hear_log}
+use Rattle.scoop_model.specs.Step.{newly_opened, heard_site}
+use Rattle.scoop_weave.specs.Histories.{is_for}
 use Rattle.scoop_model.specs.declared.note.WorldNote.TheVariants as note
-use Rattle.scoop_model.specs.World.{World, site_of, party_of, sent_at}
-use Rattle.scoop_model.specs.Step.{newly_opened, heard_site, heard_world, place_of, taken, taken_by_handler, taken_by_client}
-use Rattle.scoop_model.specs.Reach.{IsReached}
-use Rattle.scoop_model.proofs.Basics.{by_test}
-use Rattle.scoop_model.proofs.Keys.{key_found}
-use Rattle.scoop_weave.specs.System.{LocalHandler, System, number_in, handler_in, with_handler, after_hearing}
-use Rattle.scoop_weave.specs.Moves.{LocalMove, Heard, AtHandler, sent_by}
-use Rattle.scoop_weave.specs.Histories.{opened_here, opened_by, ran_by, site_with, site_by, world_by, place_in, is_for, event_in}
 use Rattle.scoop_weave.proofs.Lists.{itself, apart, from_false}
 use Rattle.scoop_weave.proofs.Brings.{Brings, brings_none, brings_one}
-use Rattle.scoop_weave.proofs.Telling.{sent_more, logged_more, joint_more, site_goes_on}
+use Rattle.scoop_weave.proofs.Telling.{went, sent_more, logged_more, joint_more, site_stays, site_goes_on}
 use Rattle.scoop_weave.proofs.Places.{sent_there}
-use Rattle.scoop_weave.proofs.Worlds.{same_world, site_there, stored_state, handler_itself, sites_changed, parties_same, IsElsewhere, IsSilent, told_nothing}
+use Rattle.scoop_weave.proofs.Worlds.{same_world, site_there, stored_state, sites_changed, parties_same, IsElsewhere, IsSilent, site_unmoved}
 
 -- ---- a message that is not meant for the handler
 
@@ -60,12 +49,12 @@ not_meant s (Answer h b n a) e = record { why = NotForHandlers; is = refl }
 
 -- ---- the move
 
-module _ (past : List LocalMove) (v : System) (h : HandlerId) (m : Message) (s : LocalHandler) (here : handler_in h v ≡ Some s) (own : number_in s ≡ h) where
+module _ (past : List LocalMove) (v : System) (h : HandlerId) (m : Message) (s : PlacedHandler) (here : placed_in h v ≡ Some s) (own : its_number s ≡ h) where
   abbrev now : Hearing
-  now = hear s.core.state m
+  now = hear s.local.core.state m
 
-  abbrev a : LocalHandler
-  a = after_hearing now.0 s
+  abbrev a : PlacedHandler
+  a = with_local (after_hearing now.0 s.local) s
 
   abbrev move : LocalMove
   move = Heard h m now.1
@@ -73,35 +62,35 @@ module _ (past : List LocalMove) (v : System) (h : HandlerId) (m : Message) (s :
   abbrev more : List LocalMove
   more = past ++ move ∷ []
 
-  number : number_in s ≡ number_in a
-  number = sym (number-row s.core.state m now (row s.core.state m))
+  number : its_number s ≡ its_number a
+  number = sym (number-row s.local.core.state m now (row s.local.core.state m))
 
-  named : h ≡ number_in a
+  named : h ≡ its_number a
   named = sym own ∙ number
 
-  opens : opened_here (number_in a) move ≡ newly_opened now.1.note
+  opens : opened_here (its_number a) move ≡ newly_opened now.1.note
   opens =
       ap (λ k. if same_handler h k then newly_opened now.1.note else []) (sym named)
       ∙ ap (λ t. if t then newly_opened now.1.note else []) (itself same_handler handler_decides h)
 
-  elsewhere : (x : LocalHandler) → same_handler (number_in x) (number_in a) ≡ false → IsElsewhere past move v (number_in x)
+  elsewhere : (x : PlacedHandler) → same_handler (its_number x) (its_number a) ≡ false → IsElsewhere past move v (its_number x)
   elsewhere x e = record {
     opened =
         ap (λ t. if t then newly_opened now.1.note else [])
-        (apart same_handler handler_decides h (number_in x) (λ f. from_false same_handler handler_decides (number_in x) (number_in a) e (sym f ∙ named)));
+        (apart same_handler handler_decides h (its_number x) (λ f. from_false same_handler handler_decides (its_number x) (its_number a) e (sym f ∙ named)));
     ran = refl;
   }
 
   site_hears : heard_site (site_by past s) now ≡ site_by more a
   site_hears =
-      let opened_to : opened_by (number_in s) past ≡ opened_by (number_in a) past = ap (λ k. opened_by k past) number in
-      let ran_to : ran_by (number_in s) past ≡ ran_by (number_in a) past ++ [] = ap (λ k. ran_by k past) number
-      ∙ sym (append-nil (ran_by (number_in a) past)) in
-      let to : heard_site (site_by past s) now ≡ site_with a (opened_by (number_in a) past ++ newly_opened now.1.note) (ran_by (number_in a) past ++ []) =
+      let opened_to : opened_by (its_number s) past ≡ opened_by (its_number a) past = ap (λ k. opened_by k past) number in
+      let ran_to : ran_by (its_number s) past ≡ ran_by (its_number a) past ++ [] = ap (λ k. ran_by k past) number
+      ∙ sym (append-nil (ran_by (its_number a) past)) in
+      let to : heard_site (site_by past s) now ≡ site_with a (opened_by (its_number a) past ++ newly_opened now.1.note) (ran_by (its_number a) past ++ []) =
       λ i. site_with a (opened_to i ++ newly_opened now.1.note) (ran_to i) in
       to ∙ site_goes_on past move a (newly_opened now.1.note) [] opens refl
 
-  pub world_hears : heard_world (world_by past v) (site_by past s) now ≡ world_by more (with_handler a v)
+  pub world_hears : heard_world (world_by past v) (site_by past s) now ≡ world_by more (with_placed a v)
   world_hears =
       same_world _ _ _ _ _ _ _ _ _ _
       (sites_changed past move v a (heard_site (site_by past s) now) site_hears elsewhere)
@@ -112,24 +101,21 @@ module _ (past : List LocalMove) (v : System) (h : HandlerId) (m : Message) (s :
   w = world_by past v
 
   takes : sent_at (place_in (sent_by past) m) w ≡ Some m → is_for_handler m ≡ true → handler_of m ≡ h
-      → Brings w (Take (place_in (sent_by past) m) ∷ []) (world_by more (with_handler a v))
+      → Brings w (Take (place_in (sent_by past) m) ∷ []) (world_by more (with_placed a v))
   takes was goes names =
       let receiver : site_of (handler_of m) w ≡ Some (site_by past s) = ap (λ k. site_of k w) names ∙ site_there past v h s here in
       let is : taken w (sent_at (place_in (sent_by past) m) w) ≡ Ok (heard_world w (site_by past s) now, note.Handler now.1.note (place_of w now.1.reply)) =
       ap (taken w) was
       ∙ ap (λ t. if t then taken_by_handler w m (site_of (handler_of m) w) else taken_by_client w m (party_of (client_of m) w)) goes
       ∙ ap (taken_by_handler w m) receiver in
-      brings_one w (world_by more (with_handler a v)) (heard_world w (site_by past s) now) (Take (place_in (sent_by past) m))
+      brings_one w (world_by more (with_placed a v)) (heard_world w (site_by past s) now) (Take (place_in (sent_by past) m))
       (note.Handler now.1.note (place_of w now.1.reply)) is world_hears
 
-  passes_over : IsReached w → is_for h m ≡ false → Brings w [] (world_by more (with_handler a v))
+  passes_over : IsReached w → is_for h m ≡ false → Brings w [] (world_by more (with_placed a v))
   passes_over reached e =
-      let d = not_meant s.core.state m (ap (λ k. is_for k m) own ∙ e) in
-      let state : now.0 ≡ s.core.state = ap (λ (x : Hearing). x.0) d.is in
-      let stays : a ≡ s = ap (λ t. after_hearing t s) state ∙ ap (λ t. let x : LocalHandler = record s { stored = t } in x)
-      (sym (stored_state past v reached h s here)) in
-      let same : with_handler a v ≡ v = ap (λ x. with_handler x v) stays ∙ handler_itself past v reached h s here in
-      let told : now.1 ≡ (dropped s.core.state d.why).1 = ap (λ (x : Hearing). x.1) d.is in
+      let d = not_meant s.local.core.state m (ap (λ k. is_for k m) own ∙ e) in
+      let state : now.0 ≡ s.local.core.state = ap (λ (x : Hearing). x.0) d.is in
+      let told : now.1 ≡ (dropped s.local.core.state d.why).1 = ap (λ (x : Hearing). x.1) d.is in
       let silent : IsSilent past move v = record {
         sent = ap (λ (x : Reply). option_to_list x.reply) told;
         opened = ap (λ (x : Reply). newly_opened x.note) told;
@@ -141,11 +127,15 @@ module _ (past : List LocalMove) (v : System) (h : HandlerId) (m : Message) (s :
         clients = λ c. refl;
         logs = refl;
       } in
-      brings_none w (world_by more (with_handler a v)) (told_nothing past move v silent ∙ ap (world_by more) (sym same))
+      let shows : site_by past s ≡ site_by past a = ap (λ t. let x : Site = record (site_by past s) { stored = t } in x) (stored_state past v reached h s here)
+      ∙ ap (λ t. site_by past (with_local (after_hearing t s.local) s)) (sym state) in
+      let here_too = silent.handlers (its_number a) in
+      brings_none w (world_by more (with_placed a v))
+      (site_unmoved past move v reached h s a here silent (shows ∙ site_stays past move a here_too.opened here_too.ran))
 
-  brings : IsReached w → sent_at (place_in (sent_by past) m) w ≡ Some m → Brings w (event_in (sent_by past) move) (world_by more (with_handler a v))
+  brings : IsReached w → sent_at (place_in (sent_by past) m) w ≡ Some m → Brings w (event_in (sent_by past) move) (world_by more (with_placed a v))
   brings reached was =
-      by_test (λ t. is_for h m ≡ t → Brings w (if t then Take (place_in (sent_by past) m) ∷ [] else []) (world_by more (with_handler a v))) (is_for h m)
+      by_test (λ t. is_for h m ≡ t → Brings w (if t then Take (place_in (sent_by past) m) ∷ [] else []) (world_by more (with_placed a v))) (is_for h m)
       (λ _ e. let both = and_parts (is_for_handler m) (same_handler (handler_of m) h) e in takes was both.0 ((handler_decides (handler_of m) h).0 both.1))
       (λ _ e. passes_over reached e)
       refl
@@ -156,10 +146,10 @@ pub hears_brings :
     → Brings (world_by past v) (event_in (sent_by past) (Heard h m told)) (world_by (past ++ Heard h m told ∷ []) u)
 hears_brings past v u h m told reached sent r =
     let w : World = world_by past v in
-    let own = key_found number_in same_handler handler_decides h v.handlers r.handler r.here in
+    let own = key_found its_number same_handler handler_decides h v.handlers r.handler r.here in
     let was : sent_at (place_in (sent_by past) m) w ≡ Some m = sent_there w m sent in
-    let answer : Reply = (hear r.handler.core.state m).1 in
-    subst (λ t. Brings w (event_in (sent_by past) (Heard h m t)) (world_by (past ++ Heard h m t ∷ []) u)) (sym r.moves.tells)
+    let answer : Reply = (hear r.handler.local.core.state m).1 in
+    subst (λ t. Brings w (event_in (sent_by past) (Heard h m t)) (world_by (past ++ Heard h m t ∷ []) u)) (sym r.moves.moves.tells)
     (subst (λ x. Brings w (event_in (sent_by past) (Heard h m answer)) (world_by (past ++ Heard h m answer ∷ []) x))
-    (sym (r.after ∙ ap (λ x. with_handler x v) r.moves.after))
+    (sym (r.after ∙ ap (λ x. with_placed x v) (went r.moves r.moves.moves.after)))
     (brings past v h m r.handler r.here own reached was))

@@ -1,21 +1,20 @@
 -- Look-ups by a key in a list that is seen through a function, and lists in which no key stands twice.
-use Rattle.std.proofs.Common.{◌≡◌, ℕ, suc, Bool, true, false, true≢false, List, [], ◌∷◌, ◌++◌, map, find, flat_map, slice_get, Some, refl, sym, ap, ◌∙◌, subst}
-use Rattle.std.proofs.Common.{append-nil}
-use Rattle.std.specs.Prelude.{if◌then◌else◌, ◌||◌}
-use Rattle.std.specs.List.{list_any}
-use Rattle.std.specs.Option.{option_map}
-use Rattle.std.specs.Bool.{Decides}
+use Rattle.scoop_weave.proofs.Names.{⊤, ◌≡◌, ℕ, suc, Bool, true, false, true≢false, List, [], ◌∷◌, ◌++◌, map, find, flat_map, slice_get, Some, refl, sym, ap, ◌∙◌}
+use Rattle.scoop_weave.proofs.Names.{subst, append-nil, if◌then◌else◌, ◌||◌, list_any, AllByRecursion, option_map, Decides, NoRepeats, by_test, key_found}
+use Rattle.std.specs.List.{AllZip}
+use Rattle.std.proofs.lemmas.Bool.{false_from_ne_true}
 use Rattle.std.proofs.lemmas.Grind.{flat_map-append}
-use Rattle.scoop_message.specs.Lists.{NoRepeats}
-use Rattle.scoop_model.proofs.Basics.{by_test}
-use Rattle.scoop_model.proofs.Keys.{key_found}
 
--- what one more adds
+-- one item more
 pub flat_map_snoc : {A B : Type 0} (f : A → List B) (xs : List A) (x : A) → flat_map f (xs ++ x ∷ []) ≡ flat_map f xs ++ f x
 flat_map_snoc f xs x = flat_map-append f xs (x ∷ []) ∙ ap (λ ys. flat_map f xs ++ ys) (append-nil (f x))
 
 pub nothing_more : {A B : Type 0} (f : A → List B) (xs : List A) (x : A) → f x ≡ [] → flat_map f (xs ++ x ∷ []) ≡ flat_map f xs
 nothing_more f xs x none = flat_map_snoc f xs x ∙ ap (λ ys. flat_map f xs ++ ys) none ∙ append-nil (flat_map f xs)
+
+pub all_split : {A : Type 0} (P : A → Type 0) (xs ys : List A) → AllByRecursion P (xs ++ ys) → AllByRecursion P xs × AllByRecursion P ys
+all_split P [] ys all = (tt, all)
+all_split P (x ∷ xs) ys all = let r = all_split P xs ys all.1 in ((all.0, r.0), r.1)
 
 -- a test that fails one way fails the other way
 module _ {K : Type 0} (same : K → K → Bool) (decides : (a b : K) → Decides (same a b) (a ≡ b)) where
@@ -23,7 +22,7 @@ module _ {K : Type 0} (same : K → K → Bool) (decides : (a b : K) → Decides
   itself k = (decides k k).1 refl
 
   pub apart : (a b : K) → (a ≡ b → ⊥) → same a b ≡ false
-  apart a b differ = by_test (λ t. same a b ≡ t → t ≡ false) (same a b) (λ yes_it_is e. absurd (differ ((decides a b).0 e))) (λ other e. refl) refl
+  apart a b differ = false_from_ne_true (same a b) (λ e. differ ((decides a b).0 e))
 
   pub from_false : (a b : K) → same a b ≡ false → a ≡ b → ⊥
   from_false a b differs e = true≢false (sym ((decides a b).1 e) ∙ differs)
@@ -68,6 +67,30 @@ module _ {B K : Type 0} (key : B → K) (same : K → K → Bool) where
 pub map_through : {A B : Type 0} (f g : A → B) (xs : List A) → ((x : A) → f x ≡ g x) → map f xs ≡ map g xs
 map_through f g [] is = refl
 map_through f g (x ∷ xs) is = ap (λ b. b ∷ map f xs) (is x) ∙ ap (λ bs. g x ∷ bs) (map_through f g xs is)
+
+-- two lists, place by place
+module _ {A : Type 0} (R : A → A → Type 0) where
+  pub zip_same : {B : Type 0} (f : A → B) → ((x y : A) → R x y → f y ≡ f x) → (xs ys : List A) → AllZip R xs ys → map f ys ≡ map f xs
+  zip_same f is [] [] all = refl
+  zip_same f is [] (y ∷ ys) all = absurd all
+  zip_same f is (x ∷ xs) [] all = absurd all
+  zip_same f is (x ∷ xs) (y ∷ ys) all = ap (λ b. b ∷ map f ys) (is x y all.0) ∙ ap (λ bs. f x ∷ bs) (zip_same f is xs ys all.1)
+
+  pub zip_all : (P Q : A → Type 0) → ((x y : A) → P x → R x y → Q y) → (xs ys : List A) → AllByRecursion P xs → AllZip R xs ys → AllByRecursion Q ys
+  zip_all P Q is [] [] each all = tt
+  zip_all P Q is [] (y ∷ ys) each all = absurd all
+  zip_all P Q is (x ∷ xs) [] each all = absurd all
+  zip_all P Q is (x ∷ xs) (y ∷ ys) each all = (is x y each.0 all.0, zip_all P Q is xs ys each.1 all.1)
+
+pub zip_more : {A B : Type 0} {R S : A → B → Type 0} → ((x : A) (y : B) → R x y → S x y) → (xs : List A) (ys : List B) → AllZip R xs ys → AllZip S xs ys
+zip_more more [] [] all = tt
+zip_more more [] (y ∷ ys) all = absurd all
+zip_more more (x ∷ xs) [] all = absurd all
+zip_more more (x ∷ xs) (y ∷ ys) all = (more x y all.0, zip_more more xs ys all.1)
+
+pub all_of_any : {A : Type 0} (xs : List A) → AllByRecursion (λ (x : A). ⊤) xs
+all_of_any [] = tt
+all_of_any (x ∷ xs) = (tt, all_of_any xs)
 
 -- an item that is put in the place of itself, where no key stands twice
 module _ {A K : Type 0} (key : A → K) (same : K → K → Bool) (decides : (a b : K) → Decides (same a b) (a ≡ b)) where

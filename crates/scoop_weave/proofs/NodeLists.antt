@@ -1,136 +1,114 @@
--- A node's own list leads each of its handlers by its own moves. A move of the list is that of one handler, as no number
--- stands twice, or of all where the node restarts, and the other handlers stay; a move that isn't in the list concerns none
--- of them. So it is of every node, and of all nodes' handlers together.
-use Rattle.std.proofs.Common.{◌≡◌, ℕ, zero, suc, ◌==◌, ◌||◌, Bool, true, false, List, [], ◌∷◌, ◌++◌, map, find, filter, flat_map, slice_get, Some, refl, sym}
-use Rattle.std.proofs.Common.{ap, ◌∙◌, subst}
-use Rattle.std.specs.Prelude.{⊤, if◌then◌else◌}
-use Rattle.std.specs.List.{AllByRecursion}
-use Rattle.std.proofs.lemmas.Simd.{map-map}
-use Rattle.scoop_message.specs.declared.name.HandlerId.{HandlerId}
-use Rattle.scoop_message.specs.Message.{same_handler}
-use Rattle.scoop_message.proofs.Same.{handler_decides}
-use Rattle.scoop_reserve.specs.Handlers.{has}
-use Rattle.scoop_handler.specs.Core.{core_of}
-use Rattle.scoop_model.specs.Step.{Placement, Newcomer}
-use Rattle.scoop_model.specs.Opening.{MayOpen}
-use Rattle.scoop_message.specs.Lists.{NoRepeats}
-use Rattle.scoop_model.proofs.Basics.{by_test}
-use Rattle.scoop_model.proofs.Keys.{key_found}
-use Rattle.scoop_weave.specs.System.{LocalHandler, System, number_in, is_handler, newer_handler, on_node, after_reopening, new_handler, new_system}
-use Rattle.scoop_weave.specs.Moves.{LocalMove, Heard, Began, Finished, NodeReopened, Commanded, Sent, ClientHeard, ClientRestarted, HandlerMoves}
-use Rattle.scoop_weave.specs.Parties.{is_at, moves_at, HandlerRuns, EachHandler, IsWoven}
-use Rattle.scoop_weave.specs.Nodes.{AtOne, NodeMoves, NodeRuns, is_of, Node, IsNode, IsWovenOfNodes}
-use Rattle.scoop_weave.proofs.Lists.{itself, apart, from_false, rest_once, none_later}
+-- A node's own list leads each of its handlers by that handler's own moves. No number stands twice, so a move of the list is
+-- that of one handler, or of all where the node restarts, and the other handlers stay. A move outside the list concerns none of
+-- them. The same holds of every node, and so of all handlers together.
+use Rattle.scoop_weave.proofs.Names.{◌≡◌, ℕ, zero, suc, ◌==◌, Bool, true, false, List, [], ◌∷◌, ◌++◌, map, find, filter, flat_map, slice_get, Some, refl}
+use Rattle.scoop_weave.proofs.Names.{sym, ap, ◌∙◌, subst, if◌then◌else◌, AllByRecursion, map-map, HandlerId, same_handler, handler_decides, has}
+use Rattle.scoop_weave.proofs.Names.{opening_handler, Placement, Newcomer, MayOpen, NoRepeats, by_test, key_found, PlacedHandler, System, IsStored, its_number}
+use Rattle.scoop_weave.proofs.Names.{is_placed, newer_placed, with_local, on_node, after_reopening, new_placed, new_system, LocalMove, Heard, Began, Finished}
+use Rattle.scoop_weave.proofs.Names.{NodeReopened, Commanded, Sent, ClientHeard, ClientRestarted, HandlerMoves, is_at, moves_at, HandlerRuns, EachHandler}
+use Rattle.scoop_weave.proofs.Names.{IsWoven, AtOne, NodeMoves, NodeRuns, is_of, Node, IsNode, IsWovenOfNodes}
+use Rattle.scoop_handler.proofs.Basics.{all_found}
+use Rattle.std.specs.List.{AllZip}
+use Rattle.std.proofs.lemmas.Bool.{or_parts}
+use Rattle.scoop_weave.proofs.Lists.{zip_same, zip_all, all_split, itself, apart, from_false, rest_once, none_later}
 use Rattle.scoop_weave.proofs.Steps.{StepAt, goes, stays}
-use Rattle.scoop_weave.proofs.Woven.{HandlerKept, handler_kept, stored_open}
+use Rattle.scoop_weave.proofs.Woven.{AllStored, HandlerKept, handler_kept, stored_open}
 
-abbrev pub AllStored : List LocalHandler → Type 0
-AllStored xs = AllByRecursion (λ s. s.stored ≡ s.core.state) xs
+abbrev pub numbers : List PlacedHandler → List HandlerId
+numbers xs = map its_number xs
 
-abbrev pub numbers : List LocalHandler → List HandlerId
-numbers xs = map number_in xs
+-- a handler that the move concerns goes on, and another stays
+abbrev pub GoesOn : LocalMove → PlacedHandler → PlacedHandler → Type 0
+GoesOn m x u = StepAt (HandlerMoves m) x (is_at (its_number x) x.node m) u × HandlerKept x u
 
--- each handler that the move concerns goes on, and the others stay
-abbrev pub EachKept : LocalMove → List LocalHandler → List LocalHandler → Type 0
-EachKept m [] [] = ⊤
-EachKept m [] (u ∷ us) = ⊥
-EachKept m (x ∷ xs) [] = ⊥
-EachKept m (x ∷ xs) (u ∷ us) = StepAt (HandlerMoves m) x (is_at (number_in x) x.node m) u × HandlerKept x u × EachKept m xs us
+abbrev pub EachKept : LocalMove → List PlacedHandler → List PlacedHandler → Type 0
+EachKept m xs us = AllZip (GoesOn m) xs us
 
 module _ (m : LocalMove) where
-  went : (x u : LocalHandler) → is_at (number_in x) x.node m ≡ true → HandlerMoves m x u → StepAt (HandlerMoves m) x (is_at (number_in x) x.node m) u
+  went : (x u : PlacedHandler) → is_at (its_number x) x.node m ≡ true → HandlerMoves m x u → StepAt (HandlerMoves m) x (is_at (its_number x) x.node m) u
   went x u e r = subst (λ b. StepAt (HandlerMoves m) x b u) (sym e) (goes u r)
 
-  rests : (x : LocalHandler) → is_at (number_in x) x.node m ≡ false → StepAt (HandlerMoves m) x (is_at (number_in x) x.node m) x
+  rests : (x : PlacedHandler) → is_at (its_number x) x.node m ≡ false → StepAt (HandlerMoves m) x (is_at (its_number x) x.node m) x
   rests x e = subst (λ b. StepAt (HandlerMoves m) x b x) (sym e) stays
 
-  same_kept : (x : LocalHandler) → x.stored ≡ x.core.state → HandlerKept x x
+  same_kept : (x : PlacedHandler) → IsStored x → HandlerKept x x
   same_kept x is = record { number = refl; node = refl; stored = is }
 
-  all_rest : (xs : List LocalHandler) → AllStored xs → AllByRecursion (λ x. is_at (number_in x) x.node m ≡ false) xs → EachKept m xs xs
+  all_rest : (xs : List PlacedHandler) → AllStored xs → AllByRecursion (λ x. is_at (its_number x) x.node m ≡ false) xs → EachKept m xs xs
   all_rest [] is none = tt
-  all_rest (x ∷ xs) is none = (rests x none.0, same_kept x is.0, all_rest xs is.1 none.1)
+  all_rest (x ∷ xs) is none = ((rests x none.0, same_kept x is.0), all_rest xs is.1 none.1)
 
   -- ---- at one handler
 
-  module _ (h : HandlerId) (at : (x : LocalHandler) → is_at (number_in x) x.node m ≡ same_handler h (number_in x)) (s new : LocalHandler)
-      (own : number_in s ≡ h) (moves : HandlerMoves m s new) (stored : s.stored ≡ s.core.state) where
+  module _ (h : HandlerId) (at : (x : PlacedHandler) → is_at (its_number x) x.node m ≡ same_handler h (its_number x)) (s new : PlacedHandler)
+      (own : its_number s ≡ h) (moves : HandlerMoves m s new) (stored : IsStored s) where
     kept : HandlerKept s new
     kept = handler_kept m s new stored moves
 
-    named : number_in new ≡ h
+    named : its_number new ≡ h
     named = kept.number ∙ own
 
-    left : (x : LocalHandler) → (number_in x ≡ h → ⊥) → newer_handler new x ≡ x
-    left x differ = ap (λ t. if t then new else x) (apart same_handler handler_decides (number_in x) (number_in new) (λ e. differ (e ∙ named)))
+    left : (x : PlacedHandler) → (its_number x ≡ h → ⊥) → newer_placed new x ≡ x
+    left x differ = ap (λ t. if t then new else x) (apart same_handler handler_decides (its_number x) (its_number new) (λ e. differ (e ∙ named)))
 
-    away : (x : LocalHandler) → (number_in x ≡ h → ⊥) → is_at (number_in x) x.node m ≡ false
-    away x differ = at x ∙ apart same_handler handler_decides h (number_in x) (λ e. differ (sym e))
+    away : (x : PlacedHandler) → (its_number x ≡ h → ⊥) → is_at (its_number x) x.node m ≡ false
+    away x differ = at x ∙ apart same_handler handler_decides h (its_number x) (λ e. differ (sym e))
 
-    stays_here : (x : LocalHandler) → (number_in x ≡ h → ⊥) → x.stored ≡ x.core.state
-        → StepAt (HandlerMoves m) x (is_at (number_in x) x.node m) (newer_handler new x) × HandlerKept x (newer_handler new x)
+    stays_here : (x : PlacedHandler) → (its_number x ≡ h → ⊥) → IsStored x
+        → GoesOn m x (newer_placed new x)
     stays_here x differ is =
-        subst (λ y. StepAt (HandlerMoves m) x (is_at (number_in x) x.node m) y × HandlerKept x y) (sym (left x differ))
+        subst (λ y. GoesOn m x y) (sym (left x differ))
         (rests x (away x differ), same_kept x is)
 
-    goes_here : StepAt (HandlerMoves m) s (is_at (number_in s) s.node m) (newer_handler new s) × HandlerKept s (newer_handler new s)
+    goes_here : GoesOn m s (newer_placed new s)
     goes_here =
-        let own_name : same_handler (number_in s) (number_in new) ≡ true = ap (same_handler (number_in s)) kept.number
-        ∙ itself same_handler handler_decides (number_in s) in
-        let put : newer_handler new s ≡ new = ap (λ t. if t then new else s) own_name in
-        let concerned : is_at (number_in s) s.node m ≡ true = at s ∙ ap (same_handler h) own ∙ itself same_handler handler_decides h in
-        subst (λ y. StepAt (HandlerMoves m) s (is_at (number_in s) s.node m) y × HandlerKept s y) (sym put) (went s new concerned moves, kept)
+        let own_name : same_handler (its_number s) (its_number new) ≡ true = ap (same_handler (its_number s)) kept.number
+        ∙ itself same_handler handler_decides (its_number s) in
+        let put : newer_placed new s ≡ new = ap (λ t. if t then new else s) own_name in
+        let concerned : is_at (its_number s) s.node m ≡ true = at s ∙ ap (same_handler h) own ∙ itself same_handler handler_decides h in
+        subst (λ y. GoesOn m s y) (sym put) (went s new concerned moves, kept)
 
-    none_goes : (xs : List LocalHandler) → AllStored xs → ((j : ℕ) → slice_get (numbers xs) j ≡ Some h → ⊥) → EachKept m xs (map (newer_handler new) xs)
+    none_goes : (xs : List PlacedHandler) → AllStored xs → ((j : ℕ) → slice_get (numbers xs) j ≡ Some h → ⊥) → EachKept m xs (map (newer_placed new) xs)
     none_goes [] is none = tt
     none_goes (x ∷ xs) is none =
-        let one = stays_here x (λ e. none 0 (ap Some e)) is.0 in
-        (one.0, one.1, none_goes xs is.1 (λ j e. none (suc j) e))
+        (stays_here x (λ e. none 0 (ap Some e)) is.0, none_goes xs is.1 (λ j e. none (suc j) e))
 
-    one_goes : (xs : List LocalHandler) → AllStored xs → NoRepeats (numbers xs) → find (is_handler h) xs ≡ Some s → EachKept m xs (map (newer_handler new) xs)
+    one_goes : (xs : List PlacedHandler) → AllStored xs → NoRepeats (numbers xs) → find (is_placed h) xs ≡ Some s → EachKept m xs (map (newer_placed new) xs)
     one_goes [] is once found = tt
     one_goes (x ∷ xs) is once found =
-        by_test (λ t. same_handler (number_in x) h ≡ t → (if t then Some x else find (is_handler h) xs) ≡ Some s
-        → EachKept m (x ∷ xs) (map (newer_handler new) (x ∷ xs))) (same_handler (number_in x) h)
+        by_test (λ t. same_handler (its_number x) h ≡ t → (if t then Some x else find (is_placed h) xs) ≡ Some s
+        → EachKept m (x ∷ xs) (map (newer_placed new) (x ∷ xs))) (same_handler (its_number x) h)
         (λ _ here e.
         let this : x ≡ s = cc in
-        let one = subst (λ y. StepAt (HandlerMoves m) y (is_at (number_in y) y.node m) (newer_handler new y) × HandlerKept y (newer_handler new y))
+        let one = subst (λ y. GoesOn m y (newer_placed new y))
         (sym this) goes_here in
-        let x_name : number_in x ≡ h = (handler_decides (number_in x) h).0 here in
-        (one.0, one.1, none_goes xs is.1 (λ j f. none_later number_in same_handler handler_decides x xs once j (f ∙ ap Some (sym x_name)))))
+        let x_name : its_number x ≡ h = (handler_decides (its_number x) h).0 here in
+        (one, none_goes xs is.1 (λ j f. none_later its_number same_handler handler_decides x xs once j (f ∙ ap Some (sym x_name)))))
         (λ _ there e.
-        let one = stays_here x (from_false same_handler handler_decides (number_in x) h there) is.0 in
-        (one.0, one.1, one_goes xs is.1 (rest_once number_in same_handler handler_decides x xs once) e))
+        let one = stays_here x (from_false same_handler handler_decides (its_number x) h there) is.0 in
+        (one, one_goes xs is.1 (rest_once its_number same_handler handler_decides x xs once) e))
         refl found
 
-  at_one : (h : HandlerId) → ((x : LocalHandler) → is_at (number_in x) x.node m ≡ same_handler h (number_in x)) → (hs ks : List LocalHandler) → AllStored hs
+  at_one : (h : HandlerId) → ((x : PlacedHandler) → is_at (its_number x) x.node m ≡ same_handler h (its_number x)) → (hs ks : List PlacedHandler) → AllStored hs
       → NoRepeats (numbers hs) → AtOne h m hs ks → EachKept m hs ks
   at_one h at hs ks is once r =
-      let own = key_found number_in same_handler handler_decides h hs r.handler r.here in
-      subst (EachKept m hs) (sym r.after) (one_goes h at r.handler r.new own r.moves (stored_found hs is r.here) hs is once r.here)
-    where
-      stored_found : (xs : List LocalHandler) → AllStored xs → find (is_handler h) xs ≡ Some r.handler → r.handler.stored ≡ r.handler.core.state
-      stored_found [] is e = absurd (cc)
-      stored_found (x ∷ xs) is e =
-          by_test (λ t. (if t then Some x else find (is_handler h) xs) ≡ Some r.handler → r.handler.stored ≡ r.handler.core.state)
-          (same_handler (number_in x) h)
-          (λ here f. let this : x ≡ r.handler = cc in subst (λ y. y.stored ≡ y.core.state) this is.0)
-          (λ there f. stored_found xs is.1 f) e
+      let own = key_found its_number same_handler handler_decides h hs r.handler r.here in
+      subst (EachKept m hs) (sym r.after) (one_goes h at r.handler r.new own r.moves (all_found IsStored (is_placed h) hs r.handler is r.here) hs is once r.here)
 
 -- ---- all handlers of the node
 
-reopens : (n : ℕ) (xs : List LocalHandler) → AllStored xs → EachKept (NodeReopened n) xs (map (after_reopening n) xs)
+reopens : (n : ℕ) (xs : List PlacedHandler) → AllStored xs → EachKept (NodeReopened n) xs (map (after_reopening n) xs)
 reopens n [] is = tt
 reopens n (x ∷ xs) is =
     let m : LocalMove = NodeReopened n in
-    let anew : LocalHandler = record x { core = core_of x.core.class x.stored false } in
+    let anew : PlacedHandler = with_local (opening_handler (its_number x) x.local.core.class x.placed x.local.stored) x in
     let step : StepAt (HandlerMoves m) x (on_node n x) (after_reopening n x) =
     by_test (λ t. on_node n x ≡ t → StepAt (HandlerMoves m) x t (if t then anew else x)) (on_node n x)
     (λ _ e. goes anew (ap (λ t. if t then anew else x) (sym e)))
     (λ _ e. stays) refl in
-    (step, handler_kept m x (after_reopening n x) is.0 refl, reopens n xs is.1)
+    ((step, handler_kept m x (after_reopening n x) is.0 refl), reopens n xs is.1)
 
-pub node_step : (m : LocalMove) (hs us : List LocalHandler) → AllStored hs → NoRepeats (numbers hs) → NodeMoves m hs us → EachKept m hs us
+pub node_step : (m : LocalMove) (hs us : List PlacedHandler) → AllStored hs → NoRepeats (numbers hs) → NodeMoves m hs us → EachKept m hs us
 node_step (Heard h x told) hs us is once r = at_one (Heard h x told) h (λ s. refl) hs us is once r
 node_step (Began h told) hs us is once r = at_one (Began h told) h (λ s. refl) hs us is once r
 node_step (Finished h ran) hs us is once r = at_one (Finished h ran) h (λ s. refl) hs us is once r
@@ -142,29 +120,22 @@ node_step (ClientRestarted c) hs us is once r = absurd r
 
 -- ---- a move of another party
 
-not_any : (h : HandlerId) (xs : List LocalHandler) → has (numbers xs) h ≡ false → AllByRecursion (λ x. same_handler h (number_in x) ≡ false) xs
+not_any : (h : HandlerId) (xs : List PlacedHandler) → has (numbers xs) h ≡ false → AllByRecursion (λ x. same_handler h (its_number x) ≡ false) xs
 not_any h [] e = tt
 not_any h (x ∷ xs) e =
-    by_test (λ t. same_handler (number_in x) h ≡ t → (t || has (numbers xs) h) ≡ false → AllByRecursion (λ x. same_handler h (number_in x) ≡ false) (x ∷ xs))
-    (same_handler (number_in x) h)
-    (λ _ here f. absurd (cc))
-    (λ _ there f. (
-      apart same_handler handler_decides h (number_in x)
-          (λ i. from_false same_handler handler_decides (number_in x) h there (sym i)),
-      not_any h xs f,
-    ))
-    refl e
+    let both = or_parts (same_handler (its_number x) h) (has (numbers xs) h) e in
+    (apart same_handler handler_decides h (its_number x) (λ i. from_false same_handler handler_decides (its_number x) h both.0 (sym i)), not_any h xs both.1)
 
-elsewhere : (n k : ℕ) (xs : List LocalHandler) → (n == k) ≡ false → AllByRecursion (λ s. s.node ≡ n) xs → AllByRecursion (λ x. (x.node == k) ≡ false) xs
+elsewhere : (n k : ℕ) (xs : List PlacedHandler) → (n == k) ≡ false → AllByRecursion (λ s. s.node ≡ n) xs → AllByRecursion (λ x. (x.node == k) ≡ false) xs
 elsewhere n k [] e stand = tt
 elsewhere n k (x ∷ xs) e stand = (ap (λ j. j == k) stand.0 ∙ e, elsewhere n k xs e stand.1)
 
-all_false : (xs : List LocalHandler) → AllByRecursion (λ (x : LocalHandler). false ≡ false) xs
+all_false : (xs : List PlacedHandler) → AllByRecursion (λ (x : PlacedHandler). false ≡ false) xs
 all_false [] = tt
 all_false (x ∷ xs) = (refl, all_false xs)
 
-not_of : (n : ℕ) (m : LocalMove) (xs : List LocalHandler) → is_of n (numbers xs) m ≡ false → AllByRecursion (λ s. s.node ≡ n) xs
-    → AllByRecursion (λ x. is_at (number_in x) x.node m ≡ false) xs
+not_of : (n : ℕ) (m : LocalMove) (xs : List PlacedHandler) → is_of n (numbers xs) m ≡ false → AllByRecursion (λ s. s.node ≡ n) xs
+    → AllByRecursion (λ x. is_at (its_number x) x.node m ≡ false) xs
 not_of n (Heard h x told) xs e stand = not_any h xs e
 not_of n (Began h told) xs e stand = not_any h xs e
 not_of n (Finished h ran) xs e stand = not_any h xs e
@@ -176,50 +147,38 @@ not_of n (ClientRestarted c) xs e stand = all_false xs
 
 -- ---- move after move
 
-one_before : (m : LocalMove) (x u k : LocalHandler) (part : List LocalMove) (b : Bool) → StepAt (HandlerMoves m) x b u → HandlerRuns u part k
+one_before : (m : LocalMove) (x u k : PlacedHandler) (part : List LocalMove) (b : Bool) → StepAt (HandlerMoves m) x b u → HandlerRuns u part k
     → HandlerRuns x (if b then m ∷ part else part) k
 one_before m x u k part true (goes y r) rest = (u, r, rest)
 one_before m x u k part false stays rest = rest
 
-before : (m : LocalMove) (ms : List LocalMove) (hs us ks : List LocalHandler) → EachKept m hs us → EachHandler ms us ks → EachHandler (m ∷ ms) hs ks
+before : (m : LocalMove) (ms : List LocalMove) (hs us ks : List PlacedHandler) → EachKept m hs us → EachHandler ms us ks → EachHandler (m ∷ ms) hs ks
 before m ms [] [] [] steps each = tt
 before m ms [] [] (k ∷ ks) steps each = absurd each
 before m ms [] (u ∷ us) ks steps each = absurd steps
 before m ms (x ∷ xs) [] ks steps each = absurd steps
 before m ms (x ∷ xs) (u ∷ us) [] steps each = absurd each
 before m ms (x ∷ xs) (u ∷ us) (k ∷ ks) steps each =
-    let number = steps.1.number in
-    let node = steps.1.node in
-    let part : moves_at (number_in u) u.node ms ≡ moves_at (number_in x) x.node ms = λ i. moves_at (number i) (node i) ms in (
-      one_before m x u k (moves_at (number_in x) x.node ms) (is_at (number_in x) x.node m) steps.0
+    let number = steps.0.1.number in
+    let node = steps.0.1.node in
+    let part : moves_at (its_number u) u.node ms ≡ moves_at (its_number x) x.node ms = λ i. moves_at (number i) (node i) ms in (
+      one_before m x u k (moves_at (its_number x) x.node ms) (is_at (its_number x) x.node m) steps.0.0
           (subst (λ xs. HandlerRuns u xs k) part each.0),
-      before m ms xs us ks steps.2 each.1,
+      before m ms xs us ks steps.1 each.1,
     )
 
-pub kept_numbers : (m : LocalMove) (hs us : List LocalHandler) → EachKept m hs us → numbers us ≡ numbers hs
-kept_numbers m [] [] steps = refl
-kept_numbers m [] (u ∷ us) steps = absurd steps
-kept_numbers m (x ∷ xs) [] steps = absurd steps
-kept_numbers m (x ∷ xs) (u ∷ us) steps = ap (λ k. k ∷ numbers us) steps.1.number ∙ ap (λ ks. number_in x ∷ ks) (kept_numbers m xs us steps.2)
+pub kept_numbers : (m : LocalMove) (hs us : List PlacedHandler) → EachKept m hs us → numbers us ≡ numbers hs
+kept_numbers m hs us steps = zip_same (GoesOn m) its_number (λ x u s. s.1.number) hs us steps
 
-pub kept_stored : (m : LocalMove) (hs us : List LocalHandler) → EachKept m hs us → AllStored us
-kept_stored m [] [] steps = tt
-kept_stored m [] (u ∷ us) steps = absurd steps
-kept_stored m (x ∷ xs) [] steps = absurd steps
-kept_stored m (x ∷ xs) (u ∷ us) steps = (steps.1.stored, kept_stored m xs us steps.2)
+pub kept_stored : (m : LocalMove) (hs us : List PlacedHandler) → AllStored hs → EachKept m hs us → AllStored us
+kept_stored m hs us is steps = zip_all (GoesOn m) IsStored IsStored (λ x u was s. s.1.stored) hs us is steps
 
-kept_stand : (n : ℕ) (m : LocalMove) (hs us : List LocalHandler) → EachKept m hs us → AllByRecursion (λ s. s.node ≡ n) hs → AllByRecursion (λ s. s.node ≡ n) us
-kept_stand n m [] [] steps stand = tt
-kept_stand n m [] (u ∷ us) steps stand = absurd steps
-kept_stand n m (x ∷ xs) [] steps stand = absurd steps
-kept_stand n m (x ∷ xs) (u ∷ us) steps stand = (steps.1.node ∙ stand.0, kept_stand n m xs us steps.2 stand.1)
-
-none_runs : (hs : List LocalHandler) → EachHandler [] hs hs
+none_runs : (hs : List PlacedHandler) → EachHandler [] hs hs
 none_runs [] = tt
 none_runs (x ∷ xs) = (refl, none_runs xs)
 
 node_each :
-    (n : ℕ) (ks : List LocalHandler) (ms : List LocalMove) (hs : List LocalHandler) → AllStored hs → NoRepeats (numbers hs)
+    (n : ℕ) (ks : List PlacedHandler) (ms : List LocalMove) (hs : List PlacedHandler) → AllStored hs → NoRepeats (numbers hs)
     → AllByRecursion (λ s. s.node ≡ n) hs
     → NodeRuns hs (filter (is_of n (numbers hs)) ms) ks → EachHandler ms hs ks
 node_each n ks [] hs is once stand = λ same. subst (EachHandler [] hs) same (none_runs hs)
@@ -231,34 +190,31 @@ node_each n ks (m ∷ ms) hs is once stand =
     let steps = node_step m hs us is once r.1 in
     let named = kept_numbers m hs us steps in
     before m ms hs us ks steps
-    (node_each n ks ms us (kept_stored m hs us steps) (subst NoRepeats (sym named) once) (kept_stand n m hs us steps stand)
+    (node_each n ks ms us (kept_stored m hs us is steps) (subst NoRepeats (sym named) once)
+    (zip_all (GoesOn m) (λ s. s.node ≡ n) (λ s. s.node ≡ n) (λ x u at s. s.1.node ∙ at) hs us stand steps)
     (subst (λ ns. NodeRuns us (filter (is_of n ns) ms) ks) (sym named) r.2)))
     (λ _ e r. before m ms hs hs ks (all_rest m hs is (not_of n m hs e stand)) (node_each n ks ms hs is once stand r))
     refl
 
 -- ---- all nodes
 
-both_each : (ms : List LocalMove) (hs ks gs ls : List LocalHandler) → EachHandler ms hs ks → EachHandler ms gs ls → EachHandler ms (hs ++ gs) (ks ++ ls)
+both_each : (ms : List LocalMove) (hs ks gs ls : List PlacedHandler) → EachHandler ms hs ks → EachHandler ms gs ls → EachHandler ms (hs ++ gs) (ks ++ ls)
 both_each ms [] [] gs ls a b = b
 both_each ms [] (k ∷ ks) gs ls a b = absurd a
 both_each ms (h ∷ hs) [] gs ls a b = absurd a
 both_each ms (h ∷ hs) (k ∷ ks) gs ls a b = (a.0, both_each ms hs ks gs ls a.1 b)
 
-pub front_stored : (hs gs : List LocalHandler) → AllStored (hs ++ gs) → AllStored hs × AllStored gs
-front_stored [] gs is = (tt, is)
-front_stored (h ∷ hs) gs is = let r = front_stored hs gs is.1 in ((is.0, r.0), r.1)
-
-in_front : (hs gs : List LocalHandler) (i : ℕ) (h : HandlerId) → slice_get (numbers hs) i ≡ Some h → slice_get (numbers (hs ++ gs)) i ≡ Some h
+in_front : (hs gs : List PlacedHandler) (i : ℕ) (h : HandlerId) → slice_get (numbers hs) i ≡ Some h → slice_get (numbers (hs ++ gs)) i ≡ Some h
 in_front [] gs i h e = absurd (cc)
 in_front (x ∷ xs) gs zero h e = e
 in_front (x ∷ xs) gs (suc i) h e = in_front xs gs i h e
 
-pub front_once : (hs gs : List LocalHandler) → NoRepeats (numbers (hs ++ gs)) → NoRepeats (numbers hs)
+pub front_once : (hs gs : List PlacedHandler) → NoRepeats (numbers (hs ++ gs)) → NoRepeats (numbers hs)
 front_once hs gs once i j k e f = once i j k (in_front hs gs i k e) (in_front hs gs j k f)
 
-pub back_once : (hs gs : List LocalHandler) → NoRepeats (numbers (hs ++ gs)) → NoRepeats (numbers gs)
+pub back_once : (hs gs : List PlacedHandler) → NoRepeats (numbers (hs ++ gs)) → NoRepeats (numbers gs)
 back_once [] gs once = once
-back_once (h ∷ hs) gs once = back_once hs gs (rest_once number_in same_handler handler_decides h (hs ++ gs) once)
+back_once (h ∷ hs) gs once = back_once hs gs (rest_once its_number same_handler handler_decides h (hs ++ gs) once)
 
 all_nodes : (ms : List LocalMove) (nodes : List Node) → AllStored (flat_map (λ (n : Node). n.opening) nodes)
     → NoRepeats (numbers (flat_map (λ (n : Node). n.opening) nodes)) → AllByRecursion (IsNode ms) nodes
@@ -266,7 +222,7 @@ all_nodes : (ms : List LocalMove) (nodes : List Node) → AllStored (flat_map (�
 all_nodes ms [] is once each = tt
 all_nodes ms (n ∷ nodes) is once each =
     let rest = flat_map (λ (n : Node). n.opening) nodes in
-    let stored = front_stored n.opening rest is in
+    let stored = all_split IsStored n.opening rest is in
     both_each ms n.opening n.now rest (flat_map (λ (n : Node). n.now) nodes)
     (node_each n.number n.now ms n.opening stored.0 (front_once n.opening rest once) each.0.stand each.0.runs)
     (all_nodes ms nodes stored.1 (back_once n.opening rest once) each.1)
@@ -274,8 +230,8 @@ all_nodes ms (n ∷ nodes) is once each =
 pub nodes_are_woven : (ps : List Placement) (ns : List Newcomer) (ms : List LocalMove) (now : System) → MayOpen ps ns → IsWovenOfNodes ps ns ms now
     → IsWoven ps ns ms now
 nodes_are_woven ps ns ms now opens w =
-    let opening : List LocalHandler = (new_system ps ns).handlers in
-    let once : NoRepeats (numbers opening) = subst NoRepeats (sym (map-map number_in new_handler ps)) opens.apart in
+    let opening : List PlacedHandler = (new_system ps ns).handlers in
+    let once : NoRepeats (numbers opening) = subst NoRepeats (sym (map-map its_number new_placed ps)) opens.apart in
     record {
       handlers =
           subst (λ hs. EachHandler ms hs now.handlers) w.opening

@@ -1,42 +1,31 @@
--- A client that hears is the event that takes the message, or nothing where the message is not meant for it. An answer is
--- accepted for the block that its message names, so the move itself tells what was accepted; and a message of another
+-- A client that hears is the event that takes the message, or no event where the message is meant for another. The client accepts
+-- an answer for the block that the message names, so the move itself shows which answer was accepted. A message of another
 -- client, or of its block, changes nothing.
-use Rattle.std.proofs.Common.{◌≡◌, ℕ, ◌==◌, false, not, ◌&&◌, List, [], ◌∷◌, ◌++◌, Option, Some, None, refl, sym, ap, ◌∙◌, subst}
-use Rattle.std.specs.Prelude.{Contains, if◌then◌else◌, Ok}
-use Rattle.std.proofs.lemmas.Bool.{and_parts, not-true}
-use Rattle.scoop_message.specs.declared.name.Block.{Block}
-use Rattle.scoop_message.specs.declared.name.ClientId.{ClientId}
-use Rattle.scoop_message.specs.declared.name.HandlerId.{HandlerId}
-use Rattle.scoop_message.specs.declared.message.Message.{Message}
-use Rattle.scoop_message.specs.declared.message.Message.TheVariants.{Hello, Welcome, Lock, Locked, Busy, Open, Opened, Unlock, Unlocked, Log, Logged, Answer}
-use Rattle.scoop_message.specs.Message.{same_client, same_block, handler_of, client_of, is_for_handler}
-use Rattle.scoop_message.proofs.Same.{client_decides}
+use Rattle.scoop_weave.proofs.Names.{◌≡◌, ℕ, ◌==◌, false, ◌&&◌, List, [], ◌∷◌, ◌++◌, Option, Some, None, refl, sym, ap, ◌∙◌, subst, Contains, if◌then◌else◌, Ok}
+use Rattle.scoop_weave.proofs.Names.{and_parts, Block, ClientId, HandlerId, Message, Hello, Welcome, Lock, Locked, Busy, Open, Opened, Unlock, Unlocked, Log}
+use Rattle.scoop_weave.proofs.Names.{Logged, Answer, same_client, handler_of, client_of, is_for_handler, client_decides, ClientState, heard, heard_row, Take}
+use Rattle.scoop_weave.proofs.Names.{World, Accepted, is_party, site_of, party_of, sent_at, newest_block, heard_party, with_party, taken, taken_by_handler}
+use Rattle.scoop_weave.proofs.Names.{taken_by_client, Run, IsReached, by_test, key_found, all_found, onward_heard, LocalClient, System, id_in, client_in}
+use Rattle.scoop_weave.proofs.Names.{with_client, after_step, LocalMove, ClientHeard, AtClient, sent_by, accepted_here, accepted_by, party_with, party_by}
+use Rattle.scoop_weave.proofs.Names.{world_by, place_in, event_in}
+use Rattle.std.proofs.Common.{not}
+use Rattle.std.proofs.lemmas.Bool.{not-true}
+use Rattle.scoop_message.specs.Message.{same_block}
 use Rattle.scoop_reserve.specs.declared.stage.Step.{Step}
-use Rattle.scoop_reserve.specs.declared.stage.Step.TheVariants as step
 use Rattle.scoop_reserve.specs.State.{ReservationState}
-use Rattle.scoop_reserve.specs.Hearing as reservation
 use Rattle.scoop_client.specs.declared.phase.ClientNote.{ClientNote}
 use Rattle.scoop_client.specs.declared.phase.ClientNote.TheVariants.{Ignored}
-use Rattle.scoop_client.specs.State.{ClientState}
 use Rattle.scoop_client.specs.Window.{window_of}
-use Rattle.scoop_client.specs.Hearing.{Notice, heard, ignored, hear_welcome, after_step as after_reserving, hear_step, hear_logged, hear_answer, hear_count}
+use Rattle.scoop_client.specs.Hearing.{Notice, ignored, hear_welcome, after_step as after_reserving, hear_step, hear_logged, hear_answer, hear_count}
 use Rattle.scoop_client.specs.Hearing.{hear_answer_to, up_to}
 use Rattle.scoop_client.specs.Rows.{HeardRow, passed_over, is_welcomed, takes_step, is_acknowledged, is_accepted}
-use Rattle.scoop_client.proofs.Rows.{heard_row}
-use Rattle.scoop_model.specs.declared.event.Event.TheVariants.{Take}
-use Rattle.scoop_model.specs.declared.note.WorldNote.TheVariants as note
-use Rattle.scoop_model.specs.World.{World, Accepted, is_party, site_of, party_of, sent_at}
-use Rattle.scoop_model.specs.Step.{newest_block, newly_accepted, heard_party, with_party, taken, taken_by_handler, taken_by_client}
-use Rattle.scoop_model.specs.Reach.{Run, IsReached}
-use Rattle.scoop_model.proofs.Basics.{by_test}
-use Rattle.scoop_model.proofs.Keys.{key_found}
-use Rattle.scoop_model.proofs.Order.Facts.{all_found}
+use Rattle.scoop_model.specs.Step.{newly_accepted}
 use Rattle.scoop_model.proofs.Logging.Facts.{PartyLogs}
 use Rattle.scoop_model.proofs.Logging.Runs.{Told, always_told}
-use Rattle.scoop_model.proofs.Answering.Onward.{onward_heard}
-use Rattle.scoop_weave.specs.System.{LocalClient, System, id_in, client_in, with_client, after_step}
-use Rattle.scoop_weave.specs.Moves.{LocalMove, ClientHeard, AtClient, sent_by}
-use Rattle.scoop_weave.specs.Histories.{block_in, accepted_here, accepted_by, party_with, party_by, world_by, place_in, is_to, event_in}
+use Rattle.scoop_weave.specs.Histories.{block_in, is_to}
+use Rattle.scoop_reserve.specs.declared.stage.Step.TheVariants as step
+use Rattle.scoop_reserve.specs.Hearing as reservation
+use Rattle.scoop_model.specs.declared.note.WorldNote.TheVariants as note
 use Rattle.scoop_weave.proofs.Lists.{itself, apart, from_false}
 use Rattle.scoop_weave.proofs.Brings.{Brings, brings_none, brings_one}
 use Rattle.scoop_weave.proofs.Telling.{party_goes_on}

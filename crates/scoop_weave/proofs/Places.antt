@@ -1,14 +1,8 @@
 -- The first place of a message that was sent is one at which it was sent.
-use Rattle.std.proofs.Common.{◌≡◌, ℕ, zero, suc, ◌+◌, ◌-◌, ◌<◌, ◌==◌, false, true≢false, List, [], ◌∷◌, length, get_or, slice_get, Some, None, refl, sym, ap}
-use Rattle.std.proofs.Common.{◌∙◌, arith}
-use Rattle.std.specs.Prelude.{if◌then◌else◌, Contains}
-use Rattle.std.proofs.lemmas.Bool.Decides.{Decides-eqb}
+use Rattle.scoop_weave.proofs.Names.{◌≡◌, ℕ, zero, suc, ◌+◌, ◌<◌, ◌==◌, false, true≢false, List, [], ◌∷◌, length, slice_get, Some, None, refl, sym, ap, ◌∙◌}
+use Rattle.scoop_weave.proofs.Names.{arith, if◌then◌else◌, Contains, Decides-eqb, Message, message_decides, World, sent_at, by_test, place_in}
+use Rattle.std.proofs.Common.{◌-◌, get_or}
 use Rattle.scoop_message.specs.contracts.message.MessagePartialEq.TheImpl as on_message
-use Rattle.scoop_message.specs.declared.message.Message.{Message}
-use Rattle.scoop_message.proofs.Same.{message_decides}
-use Rattle.scoop_model.specs.World.{World, sent_at}
-use Rattle.scoop_model.proofs.Basics.{by_test}
-use Rattle.scoop_weave.specs.Histories.{place_in}
 
 record IsAt (xs : List Message) (m : Message) (p : ℕ) : Type 0 where
   place : ℕ

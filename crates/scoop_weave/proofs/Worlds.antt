@@ -1,25 +1,13 @@
 -- The world of moves, once one more is made.
-use Rattle.std.proofs.Common.{true, ◌≡◌, false, List, [], ◌∷◌, ◌++◌, map, Some, refl, sym, ap, ◌∙◌, subst, append-nil}
-use Rattle.std.specs.Option.{option_map}
-use Rattle.std.proofs.lemmas.Simd.{map-map}
-use Rattle.scoop_message.specs.declared.name.Block.{Block}
-use Rattle.scoop_message.specs.declared.name.HandlerId.{HandlerId}
-use Rattle.scoop_message.specs.declared.name.ClientId.{ClientId}
-use Rattle.scoop_message.specs.declared.message.Message.{Message}
-use Rattle.scoop_message.specs.Message.{same_handler, same_client}
-use Rattle.scoop_message.proofs.Same.{handler_decides, client_decides}
-use Rattle.scoop_reserve.specs.Handlers.{has}
-use Rattle.scoop_model.specs.World.{World, is_party, Site, Party, BlockLog, number_of, id_of, is_site, site_of, party_of, set_site, set_party}
-use Rattle.scoop_model.specs.Step.{joined}
-use Rattle.scoop_model.specs.Reach.{IsReached}
-use Rattle.scoop_message.specs.Lists.{NoRepeats}
-use Rattle.scoop_model.proofs.Order.Facts.{SiteFits, all_found}
-use Rattle.scoop_model.proofs.Knowing.Runs.{clients_know}
-use Rattle.scoop_model.proofs.Reaching.{reached_ordered, sites_apart, parties_apart}
-use Rattle.scoop_weave.specs.System.{LocalHandler, LocalClient, System, number_in, id_in, handler_in, client_in, newer_handler, newer_client, with_handler}
-use Rattle.scoop_weave.specs.System.{with_client}
-use Rattle.scoop_weave.specs.Moves.{LocalMove, sent_in, sent_by}
-use Rattle.scoop_weave.specs.Histories.{opened_in, opened_here, ran_here, accepted_here, logs_more, logs_by, joint_by, site_by, party_by, world_by}
+use Rattle.scoop_weave.proofs.Names.{true, ◌≡◌, false, List, [], ◌∷◌, ◌++◌, map, Some, refl, sym, ap, ◌∙◌, subst, append-nil, option_map, map-map, Block}
+use Rattle.scoop_weave.proofs.Names.{HandlerId, ClientId, Message, same_handler, same_client, handler_decides, client_decides, has, World, is_party, Site}
+use Rattle.scoop_weave.proofs.Names.{Party, BlockLog, number_of, is_site, site_of, party_of, joined, IsReached, NoRepeats, SiteFits, all_found, clients_know}
+use Rattle.scoop_weave.proofs.Names.{reached_ordered, PlacedHandler, LocalClient, System, IsStored, its_number, id_in, placed_in, client_in, newer_placed}
+use Rattle.scoop_weave.proofs.Names.{with_placed, with_client, LocalMove, sent_in, sent_by, opened_in, opened_here, ran_here, accepted_here, logs_more, logs_by}
+use Rattle.scoop_weave.proofs.Names.{joint_by, site_by, party_by, world_by}
+use Rattle.scoop_model.specs.World.{id_of, set_site, set_party}
+use Rattle.scoop_model.proofs.Reaching.{sites_apart, parties_apart}
+use Rattle.scoop_weave.specs.System.{newer_client}
 use Rattle.scoop_weave.proofs.Lists.{find_through, set_through, map_through, put_itself, has_found}
 use Rattle.scoop_weave.proofs.Telling.{sent_more, logged_more, joint_more, site_stays, party_stays}
 
@@ -33,7 +21,7 @@ same_world a b c d e f g h k l sites parties sent joint logs = λ i. world_of (s
 
 -- ---- look-ups
 
-pub site_there : (past : List LocalMove) (v : System) (h : HandlerId) (s : LocalHandler) → handler_in h v ≡ Some s
+pub site_there : (past : List LocalMove) (v : System) (h : HandlerId) (s : PlacedHandler) → placed_in h v ≡ Some s
     → site_of h (world_by past v) ≡ Some (site_by past s)
 site_there past v h s here = find_through number_of same_handler (site_by past) h v.handlers ∙ ap (option_map (site_by past)) here
 
@@ -44,21 +32,19 @@ party_there past v c d here = find_through id_of same_client (party_by past) c v
 -- ---- in a world that is reached
 
 module _ (past : List LocalMove) (v : System) (reached : IsReached (world_by past v)) where
-  handlers_apart : NoRepeats (map number_in v.handlers)
-  handlers_apart = subst NoRepeats (map-map number_of (site_by past) v.handlers) (sites_apart (world_by past v) reached)
-
   clients_apart : NoRepeats (map id_in v.clients)
   clients_apart = subst NoRepeats (map-map id_of (party_by past) v.clients) (parties_apart (world_by past v) reached)
 
-  pub stored_state : (h : HandlerId) (s : LocalHandler) → handler_in h v ≡ Some s → s.stored ≡ s.core.state
+  pub stored_state : (h : HandlerId) (s : PlacedHandler) → placed_in h v ≡ Some s → IsStored s
   stored_state h s here =
       let w = world_by past v in
       (all_found (SiteFits w.joint) (is_site h) w.sites (site_by past s) (reached_ordered w reached).sites (site_there past v h s here)).stored
 
-  pub handler_itself : (h : HandlerId) (s : LocalHandler) → handler_in h v ≡ Some s → with_handler s v ≡ v
-  handler_itself h s here =
-      ap (λ hs. let u : System = record v { handlers = hs } in u)
-      (put_itself number_in same_handler handler_decides h v.handlers s handlers_apart here)
+  pub site_itself : (h : HandlerId) (s : PlacedHandler) → placed_in h v ≡ Some s
+      → set_site (site_by past s) (map (site_by past) v.handlers) ≡ map (site_by past) v.handlers
+  site_itself h s here =
+      put_itself number_of same_handler handler_decides h (map (site_by past) v.handlers) (site_by past s) (sites_apart (world_by past v) reached)
+      (site_there past v h s here)
 
   pub client_itself : (c : ClientId) (d : LocalClient) → client_in c v ≡ Some d → with_client d v ≡ v
   client_itself c d here =
@@ -66,13 +52,13 @@ module _ (past : List LocalMove) (v : System) (reached : IsReached (world_by pas
       (put_itself id_in same_client client_decides c v.clients d clients_apart here)
 
   -- a handler that a client knows is one of the handlers
-  pub receiver_there : (c : ClientId) (d : LocalClient) (h : HandlerId) → client_in c v ≡ Some d → has d.client.handlers h ≡ true → (s : LocalHandler)
-      × (handler_in h v ≡ Some s)
+  pub receiver_there : (c : ClientId) (d : LocalClient) (h : HandlerId) → client_in c v ≡ Some d → has d.client.handlers h ≡ true → (s : PlacedHandler)
+      × (placed_in h v ≡ Some s)
   receiver_there c d h here named =
       let w = world_by past v in
       let all : d.client.handlers ≡ map number_of w.sites = all_found (λ (p : Party). p.client.handlers ≡ map number_of w.sites) (is_party c) w.parties
       (party_by past d) (clients_know w reached) (party_there past v c d here) in
-      has_found number_in same_handler h v.handlers (ap (λ hs. has hs h) (sym (all ∙ map-map number_of (site_by past) v.handlers)) ∙ named)
+      has_found its_number same_handler h v.handlers (ap (λ hs. has hs h) (sym (all ∙ map-map number_of (site_by past) v.handlers)) ∙ named)
 
 -- ---- one move more
 
@@ -86,15 +72,15 @@ module _ (past : List LocalMove) (m : LocalMove) (v : System) where
     pub ran : ran_here h m ≡ []
 
   pub sites_changed :
-      (a : LocalHandler) (t : Site) → t ≡ site_by more a → ((x : LocalHandler) → same_handler (number_in x) (number_in a) ≡ false → IsElsewhere (number_in x))
-      → set_site t (map (site_by past) v.handlers) ≡ map (site_by more) (map (newer_handler a) v.handlers)
+      (a : PlacedHandler) (t : Site) → t ≡ site_by more a → ((x : PlacedHandler) → same_handler (its_number x) (its_number a) ≡ false → IsElsewhere (its_number x))
+      → set_site t (map (site_by past) v.handlers) ≡ map (site_by more) (map (newer_placed a) v.handlers)
   sites_changed a t is others =
-      subst (λ t. set_site t (map (site_by past) v.handlers) ≡ map (site_by more) (map (newer_handler a) v.handlers)) (sym is)
+      subst (λ t. set_site t (map (site_by past) v.handlers) ≡ map (site_by more) (map (newer_placed a) v.handlers)) (sym is)
       (set_through number_of same_handler (site_by past) (site_by more) (site_by more a) a v.handlers refl
       (λ x e. let f = others x e in site_stays past m x f.opened f.ran))
 
   pub sites_same : ((h : HandlerId) → IsElsewhere h) → map (site_by past) v.handlers ≡ map (site_by more) v.handlers
-  sites_same f = map_through (site_by past) (site_by more) v.handlers (λ x. site_stays past m x (f (number_in x)).opened (f (number_in x)).ran)
+  sites_same f = map_through (site_by past) (site_by more) v.handlers (λ x. site_stays past m x (f (its_number x)).opened (f (its_number x)).ran)
 
   pub parties_changed :
       (a : LocalClient) (t : Party) → t ≡ party_by more a → ((x : LocalClient) → same_client (id_in x) (id_in a) ≡ false → accepted_here (id_in x) m ≡ [])
@@ -122,6 +108,14 @@ module _ (past : List LocalMove) (m : LocalMove) (v : System) where
     pub handlers : (h : HandlerId) → IsElsewhere h
     pub clients : (c : ClientId) → accepted_here c m ≡ []
     pub logs : logs_more (logs_by past) m ≡ logs_by past
+
+  -- and by which the handler shows the same
+  pub site_unmoved : IsReached (world_by past v) → (h : HandlerId) (s a : PlacedHandler) → placed_in h v ≡ Some s → IsSilent → site_by past s ≡ site_by more a
+      → world_by past v ≡ world_by more (with_placed a v)
+  site_unmoved reached h s a here silent same =
+      same_world _ _ _ _ _ _ _ _ _ _
+      (sym (site_itself past v reached h s here) ∙ sites_changed a (site_by past s) same (λ x e. silent.handlers (its_number x)))
+      (parties_same silent.clients) (nothing_sent silent.sent) (nothing_opened silent.opened) (nothing_logged silent.logs)
 
   pub told_nothing : IsSilent → world_by past v ≡ world_by more v
   told_nothing silent =

@@ -1,5 +1,5 @@
--- What moves tell of themselves: what opened and ran at a handler, what a client logged and accepted, and the order
--- in which blocks opened for the first time.
+-- Histories that moves show: the blocks that opened and the entries that ran at a handler, the entries that a client logged and
+-- the answers that it accepted, and the order in which blocks opened for the first time.
 use Rattle.std.specs.Prelude.{ℕ, ◌+◌, Bool, not, ◌&&◌, if◌then◌else◌, List, [], ◌∷◌, ◌++◌, map, flat_map, Option, Some, None, unwrap_or}
 use Rattle.scoop_message.specs.contracts.message.MessagePartialEq.TheImpl as on_message
 use Rattle.scoop_message.specs.declared.name.Block.{Block}
@@ -13,7 +13,7 @@ use Rattle.scoop_model.specs.declared.event.Event.{Event}
 use Rattle.scoop_model.specs.declared.event.Event.TheVariants.{Do, Tick, Take, Begin, Finish, ClientRestart, NodeRestart}
 use Rattle.scoop_model.specs.World.{World, Site, Party, Accepted, BlockLog}
 use Rattle.scoop_model.specs.Step.{newly_opened, newly_accepted, joined, logs_after}
-use Rattle.scoop_weave.specs.System.{LocalHandler, LocalClient, System, number_in, id_in}
+use Rattle.scoop_weave.specs.System.{PlacedHandler, LocalClient, System, its_number, id_in, stored_in}
 use Rattle.scoop_weave.specs.Moves.{LocalMove, Heard, Began, Finished, NodeReopened, Commanded, Sent, ClientHeard, ClientRestarted, sent_by}
 
 -- ---- at a handler
@@ -40,7 +40,7 @@ opened_here h (Sent c k m) = []
 opened_here h (ClientHeard c m note) = []
 opened_here h (ClientRestarted c) = []
 
--- what ran there by the move
+-- the entries that ran there by the move
 abbrev pub ran_here : HandlerId → LocalMove → List Ran
 ran_here h (Heard k m told) = []
 ran_here h (Began k told) = []
@@ -108,12 +108,12 @@ joint_by ms = joint_behind [] ms
 -- ---- the world of the moves
 
 -- a handler, with what opened and ran there
-abbrev pub site_with : LocalHandler → List Block → List Ran → Site
+abbrev pub site_with : PlacedHandler → List Block → List Ran → Site
 site_with s opened ran =
-    record { node = s.node; placed = s.placed; core = s.core; stored = s.stored; opened = opened; ran = ran }
+    record { node = s.node; placed = s.placed; core = s.local.core; stored = stored_in s; opened = opened; ran = ran }
 
-abbrev pub site_by : List LocalMove → LocalHandler → Site
-site_by ms s = site_with s (opened_by (number_in s) ms) (ran_by (number_in s) ms)
+abbrev pub site_by : List LocalMove → PlacedHandler → Site
+site_by ms s = site_with s (opened_by (its_number s) ms) (ran_by (its_number s) ms)
 
 -- a client, with what it accepted
 abbrev pub party_with : LocalClient → List Accepted → Party

@@ -1,7 +1,6 @@
--- What happens at one handler, one node or one client, and what it shows.
+-- Local moves: one step of a handler, a node or a client, and all that it shows.
 use Rattle.std.specs.Prelude.{◌≡◌, ℕ, ◌-◌, ◌^◌, ◌==◌, ⊤, true, false, List, [], ◌∷◌, ◌++◌, map, flat_map, Contains, Option, Some, option_to_list, Ok}
 use Rattle.std.specs.List.{list_any}
-use Rattle.std.specs.Option.{option_map}
 use Rattle.scoop_message.specs.declared.name.Block.{Block}
 use Rattle.scoop_message.specs.declared.name.ClientId.{ClientId}
 use Rattle.scoop_message.specs.declared.name.HandlerId.{HandlerId}
@@ -9,8 +8,7 @@ use Rattle.scoop_message.specs.declared.message.Message.{Message}
 use Rattle.scoop_reserve.specs.Handlers.{has}
 use Rattle.scoop_handler.specs.declared.note.Heard.{Heard as Reply}
 use Rattle.scoop_handler.specs.declared.ran.Ran.{Ran}
-use Rattle.scoop_handler.specs.Hearing.{hear}
-use Rattle.scoop_handler.specs.Running.{Task, ready, job_out, ran_of}
+use Rattle.scoop_handler.specs.Local.{LocalHandler, Hears, Begins, Finishes}
 use Rattle.scoop_client.specs.declared.phase.ClientNote.{ClientNote}
 use Rattle.scoop_client.specs.State.{ClientState}
 use Rattle.scoop_client.specs.Due.{due}
@@ -18,8 +16,8 @@ use Rattle.scoop_client.specs.Hearing.{heard}
 use Rattle.scoop_client.specs.declared.command.Command.{Command}
 use Rattle.scoop_client.specs.Commands.{command}
 use Rattle.scoop_model.specs.Step.{newest_block}
-use Rattle.scoop_weave.specs.System.{LocalHandler, LocalClient, System, handler_in, client_in, on_node, with_handler, with_client, after_hearing, after_begin}
-use Rattle.scoop_weave.specs.System.{after_finish, after_reopening, after_step, after_restart}
+use Rattle.scoop_weave.specs.System.{PlacedHandler, LocalClient, System, placed_in, client_in, on_node, with_local, with_placed, with_client, after_reopening}
+use Rattle.scoop_weave.specs.System.{after_step, after_restart}
 
 pub data LocalMove : Type 0 where
   -- the handler heard the message, replied and noted
@@ -41,29 +39,17 @@ pub data LocalMove : Type 0 where
 
 -- ---- at a handler
 
-pub record Hears (m : Message) (told : Reply) (s t : LocalHandler) : Type 0 where
-  pub tells : told ≡ (hear s.core.state m).1
-  pub after : t ≡ after_hearing (hear s.core.state m).0 s
-
--- an entry that leaves, by its block and number
-abbrev pub leaves : Task → Block × ℕ
-leaves t = (t.block, t.number)
-
-pub record Begins (told : Option (Block × ℕ)) (s t : LocalHandler) : Type 0 where
-  pub tells : told ≡ option_map leaves (ready s.core)
-  pub after : t ≡ after_begin s
-
-pub record Finishes (ran : Ran) (s t : LocalHandler) : Type 0 where
-  pub task : Task
-  pub out : job_out s.core ≡ Some task
-  pub tells : ran ≡ ran_of task
-  pub after : t ≡ after_finish task s
+-- the handler goes on as this says, at its place
+pub record Goes (R : LocalHandler → LocalHandler → Type 0) (s t : PlacedHandler) : Type 0 where
+  pub new : LocalHandler
+  pub moves : R s.local new
+  pub after : t ≡ with_local new s
 
 -- the move takes a handler from the one to the other, and shows what it did
-abbrev pub HandlerMoves : LocalMove → LocalHandler → LocalHandler → Type 0
-HandlerMoves (Heard h m told) s t = Hears m told s t
-HandlerMoves (Began h told) s t = Begins told s t
-HandlerMoves (Finished h ran) s t = Finishes ran s t
+abbrev pub HandlerMoves : LocalMove → PlacedHandler → PlacedHandler → Type 0
+HandlerMoves (Heard h m told) s t = Goes (Hears m told) s t
+HandlerMoves (Began h told) s t = Goes (Begins told) s t
+HandlerMoves (Finished h ran) s t = Goes (Finishes ran) s t
 HandlerMoves (NodeReopened n) s t = t ≡ after_reopening n s
 HandlerMoves (Commanded c x b) s t = ⊥
 HandlerMoves (Sent c h m) s t = ⊥
@@ -105,11 +91,11 @@ ClientMoves (ClientRestarted x) c d = Restarts c d
 -- ---- in a system
 
 pub record AtHandler (h : HandlerId) (m : LocalMove) (v w : System) : Type 0 where
-  pub handler : LocalHandler
-  pub here : handler_in h v ≡ Some handler
-  pub new : LocalHandler
+  pub handler : PlacedHandler
+  pub here : placed_in h v ≡ Some handler
+  pub new : PlacedHandler
   pub moves : HandlerMoves m handler new
-  pub after : w ≡ with_handler new v
+  pub after : w ≡ with_placed new v
 
 -- each handler of the node takes its stored state, and some handler stands on it
 pub record AtNode (n : ℕ) (v w : System) : Type 0 where

@@ -1,11 +1,11 @@
--- What each handler and each client does, by itself, and how this is woven.
+-- One list of all moves, seen by each handler and each client alone.
 use Rattle.std.specs.Prelude.{◌≡◌, ℕ, ◌==◌, ⊤, Bool, true, false, List, [], ◌∷◌, ◌++◌, filter, map}
-use Rattle.std.specs.List.{list_any, AllByRecursion}
+use Rattle.std.specs.List.{list_any, AllByRecursion, AllZip}
 use Rattle.scoop_message.specs.declared.name.ClientId.{ClientId}
 use Rattle.scoop_message.specs.declared.name.HandlerId.{HandlerId}
 use Rattle.scoop_message.specs.Message.{same_handler, same_client}
 use Rattle.scoop_model.specs.Step.{Placement, Newcomer}
-use Rattle.scoop_weave.specs.System.{LocalHandler, LocalClient, System, number_in, id_in, new_system}
+use Rattle.scoop_weave.specs.System.{PlacedHandler, LocalClient, System, its_number, id_in, new_system}
 use Rattle.scoop_weave.specs.Moves.{LocalMove, Heard, Began, Finished, NodeReopened, Commanded, Sent, ClientHeard, ClientRestarted, HandlerMoves, ClientMoves}
 use Rattle.scoop_weave.specs.Moves.{HeardIn, sent_by}
 
@@ -40,28 +40,26 @@ moves_by c ms = filter (is_by c) ms
 
 -- ---- one party, move after move
 
-abbrev pub HandlerRuns : LocalHandler → List LocalMove → LocalHandler → Type 0
-HandlerRuns s [] t = s ≡ t
-HandlerRuns s (m ∷ ms) t = (u : LocalHandler) × HandlerMoves m s u × HandlerRuns u ms t
+-- moves, each of which leads on like this, lead from the one to the other
+abbrev pub LeadOn : {A : Type 0} → (LocalMove → A → A → Type 0) → A → List LocalMove → A → Type 0
+LeadOn R x [] y = x ≡ y
+LeadOn {A = A} R x (m ∷ ms) y = (z : A) × R m x z × LeadOn R z ms y
+
+abbrev pub HandlerRuns : PlacedHandler → List LocalMove → PlacedHandler → Type 0
+HandlerRuns s ms t = LeadOn HandlerMoves s ms t
 
 abbrev pub ClientRuns : LocalClient → List LocalMove → LocalClient → Type 0
-ClientRuns c [] d = c ≡ d
-ClientRuns c (m ∷ ms) d = (e : LocalClient) × ClientMoves m c e × ClientRuns e ms d
+ClientRuns c ms d = LeadOn ClientMoves c ms d
 
 -- ---- all parties
 
 -- the handlers, each by its own moves among these
-abbrev pub EachHandler : List LocalMove → List LocalHandler → List LocalHandler → Type 0
-EachHandler ms [] [] = ⊤
-EachHandler ms [] (t ∷ ts) = ⊥
-EachHandler ms (s ∷ ss) [] = ⊥
-EachHandler ms (s ∷ ss) (t ∷ ts) = HandlerRuns s (moves_at (number_in s) s.node ms) t × EachHandler ms ss ts
+abbrev pub EachHandler : List LocalMove → List PlacedHandler → List PlacedHandler → Type 0
+EachHandler ms ss ts = AllZip (λ s t. HandlerRuns s (moves_at (its_number s) s.node ms) t) ss ts
 
+-- the clients, each by its own moves among these
 abbrev pub EachClient : List LocalMove → List LocalClient → List LocalClient → Type 0
-EachClient ms [] [] = ⊤
-EachClient ms [] (d ∷ ds) = ⊥
-EachClient ms (c ∷ cs) [] = ⊥
-EachClient ms (c ∷ cs) (d ∷ ds) = ClientRuns c (moves_by (id_in c) ms) d × EachClient ms cs ds
+EachClient ms cs ds = AllZip (λ c d. ClientRuns c (moves_by (id_in c) ms) d) cs ds
 
 -- after the moves so far, each message that one of these hears was sent before it
 abbrev pub HeardAfterSent : List LocalMove → List LocalMove → Type 0
@@ -88,8 +86,8 @@ IsMember ps ns (Sent c h m) = has_client ns c ≡ true
 IsMember ps ns (ClientHeard c m note) = has_client ns c ≡ true
 IsMember ps ns (ClientRestarted c) = has_client ns c ≡ true
 
--- one list of moves, of which each party's own lead it by themselves from how it opens to how it is now, and in which
--- each message that is heard was sent before
+-- One list of moves. Each party's own moves lead it from how it opens to how it is now, and each message that is heard was sent
+-- before.
 pub record IsWoven (ps : List Placement) (ns : List Newcomer) (ms : List LocalMove) (now : System) : Type 0 where
   pub handlers : EachHandler ms (new_system ps ns).handlers now.handlers
   pub clients : EachClient ms (new_system ps ns).clients now.clients

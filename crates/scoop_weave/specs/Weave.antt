@@ -1,4 +1,4 @@
--- What is so of every weave.
+-- The promise for every weave.
 use Rattle.std.specs.Prelude.{◌≡◌, List, []}
 use Rattle.scoop_model.specs.World.{World}
 use Rattle.scoop_model.specs.Step.{Placement, Newcomer, opening}
@@ -15,9 +15,8 @@ use Rattle.scoop_weave.specs.Histories.{world_by, events_of}
 abbrev pub Weave : List Placement → List Newcomer → List LocalMove → System → Type 0
 Weave ps ns ms now = IsWeave [] (new_system ps ns) ms now
 
--- The events of the moves, none of which is refused, lead from the opening world to the one whose handlers and clients
--- are those of the system and whose histories are those of the moves. So these are safe, and a run of the written rules,
--- and so is whatever happens next.
+-- None of the moves' events is refused. They lead from the opening world to the one with the system's handlers and clients and
+-- the moves' histories. So these are safe and a run of the written rules, and so is whatever happens next.
 pub record IsWorld (ps : List Placement) (ns : List Newcomer) (ms : List LocalMove) (now : System) : Type 0 where
   pub leads : Leads (opening ps ns) (events_of ms) (world_by ms now)
   pub safe : Safe (world_by ms now)

@@ -1,4 +1,4 @@
--- What parties let through, move after move, and once they begin anew.
+-- The traffic of parties, move after move, and after they begin anew.
 use Rattle.std.proofs.Common.{◌≡◌, ℕ, ◌+◌, List, [], ◌∷◌, ◌++◌, map, take, refl, sym, ap, ◌∙◌, append_assoc, append-nil}
 use Rattle.std.proofs.lemmas.List.{map-append}
 use Rattle.scoop_book.specs.Moves.{Entry}
@@ -12,10 +12,10 @@ use Rattle.scoop_driver.specs.Steps.{after, message_in, walk}
 use Rattle.scoop_driver.proofs.StepLists.{walk-append}
 use Rattle.scoop_weave.specs.System.{LocalClient, id_in, after_restart}
 use Rattle.scoop_weave.specs.Moves.{LocalMove, NodeReopened, Sent, ClientRestarted}
-use Rattle.scoop_running.specs.Nodes as node
-use Rattle.scoop_running.specs.Nodes.{move_in}
-use Rattle.scoop_running.specs.Clients as client
-use Rattle.scoop_running.specs.Clients.{driven, hears, moves_at, moves_by, sends_to}
+use Rattle.scoop_weave.specs.NodeHistories as node
+use Rattle.scoop_weave.specs.NodeHistories.{move_in}
+use Rattle.scoop_weave.specs.ClientSteps as client
+use Rattle.scoop_weave.specs.ClientSteps.{driven, hears, moves_at, moves_by, sends_to}
 use Rattle.scoop_weaver.specs.declared.traffic.Traffic.{Traffic}
 use Rattle.scoop_weaver.specs.Passing.{silent, traffic_of, traffic_in, by_node, by_client, last_client}
 
@@ -87,7 +87,7 @@ next_step c now new front next s z ms ns so led is same noted made = (
 
 -- ---- anew
 
--- a move more in front of both
+-- one more move in front of both
 in_front : (ms ns : List LocalMove) (m : LocalMove) (ts : List Traffic) → traffic_of m ≡ silent → passed ns ≡ ts
     → passed (ms ++ m ∷ ns) ≡ passed ms ++ silent ∷ ts
 in_front ms ns m ts quiet is = passed_both ms (m ∷ ns) ∙ (ap (λ t. passed ms ++ t ∷ passed ns) quiet ∙ ap (λ xs. passed ms ++ silent ∷ xs) is)

@@ -1,17 +1,18 @@
--- An order of what moves let through is an order of the moves.
-use Rattle.std.proofs.Common.{◌≡◌, ℕ, zero, suc, ◌==◌, List, [], ◌∷◌, ◌++◌, map, refl, sym, ap, ◌∙◌, subst}
+-- An order of the moves' traffic is an order of the moves.
+use Rattle.std.proofs.Common.{arith, ◌≡◌, ℕ, zero, suc, ◌==◌, List, [], ◌∷◌, ◌++◌, map, refl, sym, ap, ◌∙◌, subst}
 use Rattle.std.specs.Prelude.{if◌then◌else◌, Contains, option_to_list}
 use Rattle.std.proofs.lemmas.Bool.Decides.{Decides-eqb}
 use Rattle.std.proofs.lemmas.List.{map-append}
+use Rattle.scoop_message.specs.declared.message.Message.{Message}
 use Rattle.scoop_model.specs.Opening.{MayOpen}
 use Rattle.scoop_model.proofs.Basics.{by_test}
 use Rattle.scoop_weave.specs.Moves as weave
-use Rattle.scoop_weave.specs.Moves.{LocalMove, Heard, Began, Finished, NodeReopened, Commanded, Sent, ClientHeard, ClientRestarted, HeardIn}
+use Rattle.scoop_weave.specs.Moves.{LocalMove, HeardIn}
 use Rattle.scoop_weave.specs.Parties.{HeardAfterSent}
-use Rattle.scoop_running.specs.Order.{own, party_at}
-use Rattle.scoop_running.specs.System.{NodeLife, ClientLife, Runs, placements_of, newcomers_of, parties_of}
-use Rattle.scoop_running.proofs.Nodes.{number_itself}
-use Rattle.scoop_running.proofs.Systems.{is_a_world}
+use Rattle.scoop_weave.specs.Order.{own, party_at}
+use Rattle.scoop_weave.specs.Lives.{NodeLife, ClientLife, Runs, placements_of, newcomers_of, parties_of}
+use Rattle.scoop_weave.proofs.NodeHistories.{number_itself}
+use Rattle.scoop_weave.proofs.JoinedLives.{is_a_world}
 use Rattle.scoop_weaver.specs.declared.traffic.Traffic.{Traffic}
 use Rattle.scoop_weaver.specs.Weaving.{AllSent, IsWoven, sent_by}
 use Rattle.scoop_weaver.specs.Passing.{traffic_of, tagged, traffic_by, AreLives, IsOfWorld}
@@ -42,7 +43,7 @@ front t ts (x ∷ xs) e =
     let more : ts ≡ map traffic_of xs = cc in
     record { first = x; rest = xs; is = refl; seen = seen; more = more }
 
--- the parties once this one has done its first move
+-- the parties after this one's first move
 abbrev after_first : ℕ → List LocalMove → (ℕ → List LocalMove) → ℕ → List LocalMove
 after_first p ms parties i = if p == i then ms else parties i
 
@@ -83,31 +84,20 @@ party_seen [] (suc i) = refl
 party_seen (ms ∷ parties) zero = refl
 party_seen (ms ∷ parties) (suc i) = party_seen parties i
 
--- ---- what was sent
+-- ---- the messages sent
 
 sends_same : (m : LocalMove) → option_to_list (traffic_of m).sent ≡ weave.sent_in m
-sends_same (Heard h m told) = refl
-sends_same (Began h told) = refl
-sends_same (Finished h ran) = refl
-sends_same (NodeReopened n) = refl
-sends_same (Commanded c x b) = refl
-sends_same (Sent c h m) = refl
-sends_same (ClientHeard c m note) = refl
-sends_same (ClientRestarted c) = refl
+sends_same m = grind arith
 
 all_sends_same : (ms : List LocalMove) → sent_by (map traffic_of ms) ≡ weave.sent_by ms
 all_sends_same [] = refl
 all_sends_same (m ∷ ms) = ap (λ xs. xs ++ sent_by (map traffic_of ms)) (sends_same m) ∙ ap (λ xs. weave.sent_in m ++ xs) (all_sends_same ms)
 
 heard_before : (past : List LocalMove) (m : LocalMove) (ts : List Traffic) → AllSent (map traffic_of past) (traffic_of m ∷ ts) → HeardIn (weave.sent_by past) m
-heard_before past (Heard h m told) ts all = subst (λ xs. Contains xs m) (all_sends_same past) all.0
-heard_before past (Began h told) ts all = tt
-heard_before past (Finished h ran) ts all = tt
-heard_before past (NodeReopened n) ts all = tt
-heard_before past (Commanded c x b) ts all = tt
-heard_before past (Sent c h m) ts all = tt
-heard_before past (ClientHeard c m note) ts all = subst (λ xs. Contains xs m) (all_sends_same past) all.0
-heard_before past (ClientRestarted c) ts all = tt
+heard_before past m ts all =
+    let was : (x : Message) → Contains (sent_by (map traffic_of past)) x → Contains (weave.sent_by past) x =
+    λ x sent. subst (λ xs. Contains xs x) (all_sends_same past) sent in
+    grind (arith, was, all.0)
 
 heard_after : (past ms : List LocalMove) → AllSent (map traffic_of past) (map traffic_of ms) → HeardAfterSent past ms
 heard_after past [] all = tt

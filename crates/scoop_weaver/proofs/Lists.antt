@@ -1,11 +1,11 @@
--- What each party did, as a list of moves grows.
+-- Each party's moves, as a list of moves grows.
 use Rattle.std.proofs.Common.{◌≡◌, ℕ, ◌≤◌, ◌==◌, false, List, [], ◌∷◌, ◌++◌, map, length, slice_get, Some, refl, sym, ap, ◌∙◌, subst, append_assoc, append-nil}
 use Rattle.std.proofs.Common.{arith}
 use Rattle.std.specs.Prelude.{if◌then◌else◌}
 use Rattle.std.specs.List.{AllByRecursion}
 use Rattle.scoop_model.proofs.Basics.{by_test}
-use Rattle.scoop_running.specs.Order.{own}
-use Rattle.scoop_running.proofs.Nodes.{number_itself}
+use Rattle.scoop_weave.specs.Order.{own}
+use Rattle.scoop_weave.proofs.NodeHistories.{number_itself}
 use Rattle.scoop_weaver.specs.Weaving.{IsStart}
 
 module _ {A : Type 0} where
@@ -24,7 +24,7 @@ module _ {A : Type 0} where
   pub own_same : (i p : ℕ) (xs : List (ℕ × A)) (t : A) → (p == i) ≡ false → own i (xs ++ (p, t) ∷ []) ≡ own i xs
   own_same i p xs t e = own_snoc i xs (p, t) ∙ (ap (λ b. own i xs ++ (if b then t ∷ [] else [])) e ∙ append-nil (own i xs))
 
-  -- what comes behind a beginning
+  -- the moves after a beginning
   pub next_rest : (xs rest : List A) (t : A) → slice_get (xs ++ rest) (length xs) ≡ Some t → (more : List A) × (rest ≡ t ∷ more)
   next_rest [] [] t e = absurd (cc)
   next_rest [] (y ∷ more) t e = (more, (let same : y ≡ t = cc in ap (λ z. z ∷ more) same))
@@ -50,7 +50,7 @@ module _ {A : Type 0} where
       front [] bs = omega arith
       front (a ∷ hs) bs = let h = front hs bs in omega arith
 
-  -- a beginning that is as long is all
+  -- a beginning of the same length is the whole
   pub start_whole : (xs ys : List A) → IsStart xs ys → length ys ≤ length xs → xs ≡ ys
   start_whole xs ys s e = whole xs s.rest ys s.is e
     where

@@ -1,6 +1,6 @@
--- Moves that are taken are a beginning of every order, and where none can be taken no order goes on. Every other beginning
--- has of each party no more than was taken (`Covers`): the first move that it has beyond that hears only what was sent by
--- moves that were taken too, so it could be taken. A party that stands there, with a move left, is unexplained by any order.
+-- The moves taken so far are a beginning of every order. When no further move can be taken, no order goes on. No other beginning
+-- has more of a party than was taken (`Covers`). Its first move beyond that would hear only messages of moves that were taken
+-- too, so it could be taken. If a party has a move left then, no order explains it.
 use Rattle.std.proofs.Common.{◌≡◌, ◌⊎◌, inl, inr, ℕ, zero, suc, ◌+◌, ◌-◌, ◌<◌, ◌≤◌, ◌==◌, true≢false, List, [], ◌∷◌, ◌++◌, map, length, get_or, set, slice_get}
 use Rattle.std.proofs.Common.{Option, Some, None, refl, sym, ap, ◌∙◌, subst, append_assoc, append-nil, arith, get_or-set_same, get_or-set_other, length-append}
 use Rattle.std.specs.Prelude.{◌↔◌, Contains, IfSome, option_to_list, slice_index, unwrap_or}
@@ -10,10 +10,10 @@ use Rattle.std.proofs.lemmas.List.{length-set, map-append}
 use Rattle.std.proofs.lemmas.List.Elements.{Contains-append_left, Contains-append_right, Contains-append_cases}
 use Rattle.std.proofs.lemmas.Option.{slice_get_within, slice_get_past}
 use Rattle.scoop_message.specs.declared.message.Message.{Message}
-use Rattle.scoop_model.proofs.Basics.{by_test}
+use Rattle.scoop_model.proofs.Basics.{by_test, all_mapped}
 use Rattle.scoop_weave.proofs.Lists.{flat_map_snoc}
-use Rattle.scoop_running.specs.Order.{own, party_at}
-use Rattle.scoop_running.proofs.Orders.{all_through, all_items}
+use Rattle.scoop_weave.specs.Order.{own, party_at}
+use Rattle.scoop_weave.proofs.Orders.{all_through}
 use Rattle.scoop_weaver.specs.declared.traffic.Traffic.{Traffic}
 use Rattle.scoop_weaver.specs.Weaving.{sent_by, AllSent, IsWoven, IsStart, Begins, IsUnexplained, IsReady, next_at, party_len, left, IsRun}
 use Rattle.scoop_weaver.proofs.Lists.{own_more, own_same, own_split, next_is, start_more, cancel, start_len, start_whole, of_nothing, all_start, all_own}
@@ -207,7 +207,7 @@ module _ (parties : List (List Traffic)) (places : List ℕ) (order : List (ℕ 
   unfolding Covers
   covered_sent past covers =
       from_known (items past)
-      (all_items IsKnown past
+      (all_mapped (λ x. x.1) (λ x. IsKnown x.1) IsKnown (λ x is. is) past
       (all_through (λ j. IsKnown) past (λ j. all_start IsKnown (own j past) (own j order) (covers j) (all_own IsKnown j order (all_known (items order))))))
 
   module _ (stuck : (p : ℕ) → p < length parties → IsReady sent (next_at parties places p) → ⊥) where
@@ -242,7 +242,7 @@ module _ (parties : List (List Traffic)) (places : List ℕ) (order : List (ℕ 
         (λ _ e. subst (λ xs. IsStart xs (own i order)) (sym (own_same i p past t e)) (covers i))
         refl
       where
-        -- what the party did, by the other beginning and by this one
+        -- the party's moves, by the other beginning and by this one
         ours : own p order ++ (run.begins.starts p).rest ≡ party_at parties p
         ours = (run.begins.starts p).is
 

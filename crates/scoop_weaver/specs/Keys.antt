@@ -1,4 +1,4 @@
--- What a message is looked up by.
+-- Keys by which a message is looked up.
 use Rattle.std.specs.Prelude.{ℕ, List, ◌++◌, unwrap_or}
 use Rattle.std.specs.Option.{option_map}
 use Rattle.std.specs.Hash as fed
@@ -17,7 +17,7 @@ entry_number (Logged h b n) = n
 entry_number (Answer h b n a) = n
 entry_number m = 0
 
--- what is hashed of it
+-- the bytes that are hashed
 abbrev pub key_bytes : Message → List (List ℕ)
 key_bytes m =
     fed.u32 (handler_of m).0 ++ fed.u32 (client_of m).0 ++ fed.u32 (inc_of m) ++ fed.u32 (block_number m) ++ fed.u32 (entry_number m)

@@ -1,4 +1,4 @@
--- What a move lets through to the others, and the one order of running nodes and clients.
+-- Traffic: the messages that a move hears and sends, and the one order of running nodes and clients.
 use Rattle.std.specs.Prelude.{◌≡◌, ℕ, List, [], ◌∷◌, map, Some, None}
 use Rattle.std.specs.List.{AllByRecursion}
 use Rattle.scoop_message.specs.Lists.{NoRepeats}
@@ -7,12 +7,12 @@ use Rattle.scoop_driver.specs.declared.step.Step.{Step}
 use Rattle.scoop_weave.specs.Moves.{LocalMove, Heard, Began, Finished, NodeReopened, Commanded, Sent, ClientHeard, ClientRestarted}
 use Rattle.scoop_weave.specs.System.{LocalClient, after_restart}
 use Rattle.scoop_weave.specs.Weave.{IsWorld}
-use Rattle.scoop_running.specs.Nodes as node
-use Rattle.scoop_running.specs.Nodes.{move_in}
-use Rattle.scoop_running.specs.Clients as client
-use Rattle.scoop_running.specs.Clients.{driven}
-use Rattle.scoop_running.specs.Order.{IsOrder}
-use Rattle.scoop_running.specs.System.{NodeLife, ClientLife, IsNodeLife, IsClientLife, placements_of, newcomers_of, words_in, parties_of, system_of}
+use Rattle.scoop_weave.specs.NodeHistories as node
+use Rattle.scoop_weave.specs.NodeHistories.{move_in}
+use Rattle.scoop_weave.specs.ClientSteps as client
+use Rattle.scoop_weave.specs.ClientSteps.{driven}
+use Rattle.scoop_weave.specs.Order.{IsOrder}
+use Rattle.scoop_weave.specs.Lives.{NodeLife, ClientLife, IsNodeLife, IsClientLife, placements_of, newcomers_of, words_in, parties_of, system_of}
 use Rattle.scoop_weaver.specs.declared.traffic.Traffic.{Traffic}
 
 abbrev pub silent : Traffic
@@ -28,19 +28,19 @@ traffic_of (Sent c h m) = record { heard = None; sent = m }
 traffic_of (ClientHeard c m note) = record { heard = Some m; sent = None }
 traffic_of (ClientRestarted c) = silent
 
--- what an entry of a history lets through
+-- the traffic of an entry of a history
 unfoldable pub traffic_in : Entry → Traffic
 traffic_in e = traffic_of (move_in e)
 
--- what a node lets through in its histories
+-- a node's traffic in its histories
 abbrev pub by_node : ℕ → List Entry → List (List Entry) → List Traffic
 by_node n first more = map traffic_of (node.moves_of n first more)
 
--- what a client lets through by the steps of its drivers
+-- a client's traffic in the steps of its drivers
 abbrev pub by_client : LocalClient → List Step → List (List Step) → List Traffic
 by_client c first more = map traffic_of (client.moves_of c first more)
 
--- the client as the last of its drivers leaves it
+-- the client after the last of its drivers
 abbrev pub last_client : LocalClient → List Step → List (List Step) → LocalClient
 last_client c first [] = driven c first
 last_client c first (steps ∷ more) = last_client (after_restart (driven c first)) steps more
@@ -49,7 +49,7 @@ last_client c first (steps ∷ more) = last_client (after_restart (driven c firs
 abbrev pub tagged : ℕ × LocalMove → ℕ × Traffic
 tagged x = (x.0, traffic_of x.1)
 
--- what all parties let through, as the checker takes it
+-- the traffic of all parties, as the checker takes it
 abbrev pub traffic_by : List NodeLife → List ClientLife → List (List Traffic)
 traffic_by nodes clients = map (λ ms. map traffic_of ms) (parties_of nodes clients)
 
@@ -59,7 +59,7 @@ pub record AreLives (nodes : List NodeLife) (clients : List ClientLife) : Type 0
   pub each_node : AllByRecursion (IsNodeLife (words_in (placements_of nodes))) nodes
   pub each_client : AllByRecursion (IsClientLife (placements_of nodes)) clients
 
--- the order is that of the nodes' and the clients' own moves, and these are a world
+-- the order has the nodes' and the clients' own moves, and these are a world
 pub record IsOfWorld (nodes : List NodeLife) (clients : List ClientLife) (order : List (ℕ × Traffic)) : Type 0 where
   pub moves : List (ℕ × LocalMove)
   pub is : map tagged moves ≡ order

@@ -1,4 +1,4 @@
-//! What a client lets through by the steps of its driver, as they are made again.
+//! The traffic of a client, found by making its driver's steps again.
 
 ghost use Rattle.std.specs.Prelude.{◌≡◌, ◌+◌, ◌++◌, map, take, OnOk};
 ghost use Rattle.scoop_client.specs.State.{ClientState};
@@ -7,7 +7,7 @@ ghost use Rattle.scoop_client.specs.Commands.{command as outcome_of};
 ghost use Rattle.scoop_driver.specs.declared.step.Step.TheVariants.{Broke, Turned};
 ghost use Rattle.scoop_driver.specs.Steps.{after, after_command, message_in};
 ghost use Rattle.scoop_weave.specs.Moves.LocalMove.{Sent as SentTo};
-ghost use Rattle.scoop_running.specs.Clients.{hears, moves_at, sends_to};
+ghost use Rattle.scoop_weave.specs.ClientSteps.{hears, moves_at, sends_to};
 ghost use Rattle.scoop_weaver.specs.Passing.{traffic_of};
 
 use crate::traffic::Traffic;
@@ -16,7 +16,7 @@ use scoop_driver::{Command, Received, Step};
 use scoop_message::{HandlerId, OutOfMemory};
 use std::alloc::Allocator;
 
-// What is due to the handler is sent.
+// Sends the message that is due to the handler.
 fn sending<A: Allocator>(client: &Client<A>, handler: &HandlerId) -> Traffic
     ensures { result ≡ traffic_of (SentTo client.now.id handler.now (due client.now handler.now)) }
 {
@@ -26,7 +26,7 @@ fn sending<A: Allocator>(client: &Client<A>, handler: &HandlerId) -> Traffic
     }
 }
 
-// What is due to each of these handlers is sent.
+// Sends each of these handlers the message that is due to it.
 fn note_sends<A: Allocator>(
     client: &Client<A>,
     handlers: &[HandlerId],
@@ -41,7 +41,7 @@ fn note_sends<A: Allocator>(
     Ok(())
 }
 
-// A message is heard, if one came.
+// Hears the message, if one came.
 fn note_heard<A: Allocator>(
     received: &Received,
     moves: &mut Vec<Traffic, A>,
@@ -68,7 +68,7 @@ fn up_to(handlers: &[HandlerId], place: usize) -> &[HandlerId]
     }
 }
 
-// All that is due is sent, and a message is heard, if one came.
+// Sends all that is due, and hears the message, if one came.
 fn note_turn<A: Allocator>(
     client: &Client<A>,
     received: &Received,
@@ -82,7 +82,7 @@ fn note_turn<A: Allocator>(
     Ok(())
 }
 
-// What is due is sent up to the handler at this place, where the turn broke off.
+// Sends the messages due up to the handler at this place, at which the turn broke off.
 fn note_broken<A: Allocator>(
     client: &Client<A>,
     place: usize,
@@ -96,7 +96,7 @@ fn note_broken<A: Allocator>(
     Ok(())
 }
 
-// What the step lets through, of this client.
+// Notes the traffic of this client's step.
 pub(crate) fn note_step<A: Allocator>(
     client: &Client<A>,
     step: &Step,
@@ -114,7 +114,7 @@ pub(crate) fn note_step<A: Allocator>(
     }
 }
 
-// The client is given the command. One that it refuses leaves it as it was.
+// Gives the client the command. A refused command changes nothing.
 fn give<A: Allocator + Clone>(client: &mut Client<A>, command: &Command) -> Result<(), OutOfMemory>
     ensures { OnOk result (client.new ≡ after_command client.old (outcome_of client.old command.now)) }
 {
@@ -124,7 +124,7 @@ fn give<A: Allocator + Clone>(client: &mut Client<A>, command: &Command) -> Resu
     }
 }
 
-// The client makes the step.
+// Makes the client's step.
 pub(crate) fn make_step<A: Allocator + Clone>(
     client: &mut Client<A>,
     step: &Step,

@@ -43,7 +43,7 @@ fn entry_number(message: &Message) -> u32
     }
 }
 
-// Whom it is from and to, and what it names: few messages have all of that in common.
+// Its sender, its receiver and the numbers that it names: few messages share all of these.
 impl Hash for Key {
     ghost use Rattle.scoop_weaver.specs.Keys.{key_bytes};
 

@@ -1,9 +1,9 @@
-//! Finds an order of what nodes and clients did, in which each message that is heard was sent before.
+//! One order of the moves of nodes and clients, in which each message that is heard was sent before.
 //!
-//! A node tells what it did by its history, a client by its driver's diary: `Party::of_node` and `Party::of_client`
-//! make of each the list of its moves, with what each move heard and sent. [`weave`] takes these lists and answers
-//! such an order, or names the first move that no order explains, and then there is none. What an order of running
-//! nodes and clients promises is [`woven_is_a_world`].
+//! A node's moves stand in its history, a client's in its driver's diary. `Party::of_node` and `Party::of_client` turn
+//! each into a list of moves, with the message that each move heard and sent. [`weave`] takes these lists and returns
+//! such an order. If there is none, it names the first move that no order explains. [`woven_is_a_world`] is the promise
+//! of such an order.
 //!
 //! ```
 //! // the node answers a greeting, and the client locks its handler once it is welcome

@@ -1,4 +1,4 @@
-//! What the moves of a party let through.
+//! The traffic of a party's moves.
 
 ghost use Rattle.std.specs.Prelude.{◌≡◌, ◌++◌, ◌∷◌, [], ℕ, IfOk, OnOk, OnErr};
 ghost use Rattle.scoop_weave.specs.System.{LocalClient};
@@ -12,7 +12,7 @@ use scoop_driver::Step;
 use scoop_message::OutOfMemory;
 use std::alloc::Allocator;
 
-// What an entry of a history hears and sends.
+// The message that an entry of a history hears, and the one that it sends.
 #[tactic(auto, unfolding(crate::specs::Passing::traffic_in))]
 fn entry_traffic(entry: &(u32, Event, Reply)) -> Traffic
     ensures { result ≡ traffic_in entry.now }
@@ -32,7 +32,7 @@ fn entry_traffic(entry: &(u32, Event, Reply)) -> Traffic
 }
 
 impl<A: Allocator + Copy> Party<A> {
-    /// What a node lets through by the entries of its first history.
+    /// The traffic of a node's first history.
     pub fn of_node(alloc: A, history: &[(u32, Event, Reply)]) -> Result<Party<A>, OutOfMemory>
         ensures { (number : ℕ) → IfOk result (λ p. p ≡ by_node number history.now []) }
     {
@@ -44,8 +44,8 @@ impl<A: Allocator + Copy> Party<A> {
         Ok(Party { moves })
     }
 
-    /// What a client lets through by the steps of its first driver, which are those in its diary. `client` is the client
-    /// with which the driver began: of the same number, incarnation, handlers and batch.
+    /// The traffic of a client's first driver, by the steps in its diary. `client` is the client with which the driver
+    /// began: the same number, incarnation, handlers and batch.
     pub fn of_client(alloc: A, client: Client<A>, steps: &[Step]) -> Result<Party<A>, OutOfMemory>
         ensures { (c : LocalClient) → c.client ≡ client → IfOk result (λ p. p ≡ by_client c steps.now []) }
     {
@@ -58,15 +58,15 @@ impl<A: Allocator + Copy> Party<A> {
         Ok(Party { moves })
     }
 
-    /// What a party lets through by these moves.
+    /// The traffic of these moves.
     pub fn of_moves(moves: Vec<Traffic, A>) -> Party<A>
         ensures { result ≡ moves.items }
     {
         Party { moves }
     }
 
-    /// The party began anew, and let this through since: a node by its next history, once it was opened again; a client by
-    /// the steps of its next driver, once it restarted. Where memory runs out, the party stays as it was.
+    /// Adds the traffic of a party that began anew: of a node's next history, or of a client's next driver. If memory runs
+    /// out, the party stays as it was.
     pub fn begin_anew(&mut self, since: &Party<A>) -> Result<(), OutOfMemory>
         ensures gains { OnOk result (self.new ≡ self.old ++ silent ∷ since.now) }
         ensures stays { OnErr result (self.new ≡ self.old) }

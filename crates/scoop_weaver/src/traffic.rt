@@ -1,4 +1,4 @@
-//! What a party hears and sends.
+//! The messages that a party hears and sends.
 
 ghost use Rattle.std.specs.Prelude.{◌≡◌, ◌+◌, ◌<◌, ◌^◌, length, slice_get, IfSome};
 
@@ -6,17 +6,17 @@ use scoop_message::Message;
 use std::alloc::{Allocator, Global};
 use std::marker::Model;
 
-/// The message that a move hears, and the one that it sends, where it does.
+/// The message that a move hears, and the one that it sends, if any.
 #[derive(Clone, Copy, Debug)]
 pub struct Traffic {
-    /// What it hears.
+    /// The message that it hears.
     pub heard: Option<Message>,
-    /// What it sends.
+    /// The message that it sends.
     pub sent: Option<Message>,
 }
 
 impl Traffic {
-    // Of a move that neither hears nor sends.
+    // A move that neither hears nor sends.
     pub(crate) const SILENT: Traffic = Traffic {
         heard: None,
         sent: None,

@@ -1,4 +1,4 @@
-//! How an order is found.
+//! The search for an order.
 
 ghost use Rattle.std.specs.Prelude.{◌≡◌, ◌≢◌, ◌↔◌, ◌<◌, ◌≤◌, ◌⊎◌, ℕ, List, Some, length, slice_get, slice_index, Contains, IsTrue, IfOk, IfErr, IfSome, IfNone};
 ghost use Rattle.std.specs.Prelude.{OnOk, map};
@@ -11,7 +11,7 @@ use crate::sent::Sent;
 use crate::traffic::{Party, Traffic};
 use std::alloc::{AllocError, Allocator};
 
-// Whether the party has a move at this place, and what it hears was sent.
+// Whether the party has a move at this place, and the message that it hears was sent.
 fn is_ready<A: Allocator>(party: &Party<A>, place: usize, sent: &Sent<A>) -> bool
     ensures { IsTrue result ↔ IsReady sent.now (slice_get party.now place) }
 {
@@ -60,7 +60,7 @@ fn first_left<A: Allocator>(parties: &[Party<A>], places: &[usize]) -> Option<us
     None
 }
 
-// What the move sends was sent.
+// Adds the message that the move sends.
 fn note_sent<A: Allocator>(sent: &mut Sent<A>, next: &Traffic) -> Result<(), NoWeave>
     ensures sent { OnOk result ((m : Told) → Contains sent.new m ↔ (Contains sent.old m ⊎ (next.now.sent ≡ Some m))) }
     ensures memory { IfErr result (λ e. e ≡ NoWeave.OutOfMemory) }
@@ -133,12 +133,12 @@ fn ending<A: Allocator>(
     }
 }
 
-/// One order of what all parties did, each move with its party, in which each message that is heard was sent before.
-/// What is sent stays sent, so a move that can be taken once can be taken later, and the order is found by taking, again
-/// and again, any party's next move whose message was sent.
+/// One order of all parties' moves, each move with its party, in which each message that is heard was sent before.
+/// A message that was sent stays sent, so a move that can be taken now can be taken later too. So the search takes any
+/// party's next move whose message was sent, again and again.
 ///
-/// `Unsent` where there is no order. It names a move that hears a message, and that no order explains: however the others'
-/// moves are ordered, nobody sends the message before. All that its party did before can be explained.
+/// `Unsent` if there is no order. It names a move that hears a message which no order of the others' moves sends before.
+/// All earlier moves of its party can be explained.
 pub fn weave<A: Allocator + Copy>(
     alloc: A,
     parties: &[Party<A>],

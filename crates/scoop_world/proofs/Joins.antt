@@ -1,4 +1,4 @@
--- The clients that have joined so far, and what the keeper then has of each.
+-- The clients that have joined so far, and their records in the keeper.
 use Rattle.std.proofs.Common.{◌≡◌, ◌⊎◌, inl, inr, ⊎_elim, ◌==◌, ℕ, zero, suc, ◌+◌, ◌<◌, ◌≤◌, List, [], ◌∷◌, ◌++◌, map, length, take, get_or, slice_get, Option}
 use Rattle.std.proofs.Common.{Some, None, refl, sym, ap, ◌∙◌, subst, arith}
 use Rattle.std.specs.Prelude.{unwrap_or, IfErr, Result, Ok, Err}
@@ -22,7 +22,7 @@ use Rattle.scoop_message.specs.Lists.{NoRepeats}
 use Rattle.scoop_world.specs.Kept.{HasIncarnation}
 use Rattle.scoop_model.proofs.Basics.{by_test}
 
--- a client before any place has its next incarnation, and a client from there on the one that it had
+-- a client before any place has its next incarnation, and a client from there on its old one
 pub record Joined (hs : List HandlerId) (before : MemoryRecord) (cs : List (ClientId × ℕ)) (i : ℕ) (ps : List Party) (k : MemoryRecord) : Type 0 where
   pub parties : ps ≡ map (new_party hs) (newcomers_of (incarnation_at before) (take i cs))
   pub joining : AllByRecursion IsJoining (newcomers_of (incarnation_at before) (take i cs))
@@ -30,7 +30,7 @@ pub record Joined (hs : List HandlerId) (before : MemoryRecord) (cs : List (Clie
   pub left : (j : ℕ) (c : ClientId × ℕ) → i ≤ j → slice_get cs j ≡ Some c → incarnation_at k c.0.0 ≡ incarnation_at before c.0.0
   pub states : k.states ≡ before.states
 
--- a client as it joins, by what is stored for it
+-- a client as it joins, by its stored incarnation
 abbrev joins_with : ClientId × ℕ → Option ℕ → Newcomer
 joins_with c o = record { id = c.0; batch = c.1; stored = unwrap_or o 0 }
 
@@ -82,7 +82,7 @@ pub all_stored : (hs : List HandlerId) (s : ℕ → Option ℕ) (k : MemoryRecor
 all_stored hs s k [] each = tt
 all_stored hs s k (c ∷ cs) each = (record { incarnation = each zero c refl }, all_stored hs s k cs (λ j d at. each (suc j) d at))
 
--- a client joins not, for want of memory or because its incarnations are spent
+-- a client doesn't join: memory ran out, or its incarnations are spent
 pub not_joined : (hs : List HandlerId) (before : MemoryRecord) (cs : List (ClientId × ℕ)) (i : ℕ) (ps : List Party) (k : MemoryRecord) (d : ClientId × ℕ)
     (e : WorldOpenError)
     → Joined hs before cs i ps k → i < length cs
@@ -98,7 +98,7 @@ not_joined hs before cs i ps k d e so within refused =
     again (y ∷ ys) zero x lt = refl
     again (y ∷ ys) (suc j) x lt = again ys j x (omega arith)
 
--- what is so of every error that passes
+-- a fact of every error that passes
 pub err_passes : {T E : Type 0} (r : Result T E) (P Q : E → Type 0) → IsErrAnd r P → ((e : E) → P e → Q e) → IfErr r Q
 err_passes (Ok x) P Q is each = tt
 err_passes (Err e) P Q is each = each e is

@@ -1,5 +1,5 @@
--- The place of a handler or a client among all, and what the keeper has once one of them changes: a write at its place is a
--- replacement by key, and what the keeper has of the others stays.
+-- The place of a handler or a client among all, and the keeper once one of them changes. A write at the place is a
+-- replacement by key, and the keeper's other records stay.
 use Rattle.std.proofs.Common.{◌≡◌, ℕ, zero, suc, ◌<◌, List, [], ◌∷◌, map, length, get_or, set, slice_get, Option, Some, None, refl, sym, ap, ◌∙◌, subst, arith}
 use Rattle.std.specs.List.{AllByRecursion}
 use Rattle.std.proofs.lemmas.Bool.{eqb-false}
@@ -18,7 +18,7 @@ use Rattle.scoop_model.proofs.Order.Facts.{all_at}
 
 -- ---- the sites and the parties
 
--- the site in place of that with its number, and the party in place of that with its client
+-- the site in place of the one with its number, and the party in place of the one with its client
 pub site_set :
     (sites : List Site) (i : ℕ) (old s : Site) → NoRepeats (map number_of sites) → slice_get sites i ≡ Some old → number_of s ≡ number_of old
     → set sites i s ≡ set_site s sites
@@ -31,7 +31,7 @@ pub party_set :
 party_set parties i old p apart at same =
     set_newer id_of same_client client_decides p parties i apart (key_at id_of same_client client_decides parties i old p at same)
 
--- ---- what the keeper has
+-- ---- the keeper's records
 
 -- a client that keeps its number and its incarnation
 pub has_party :
@@ -56,7 +56,7 @@ has_same_site k sites parties i old s all at same stored =
       incarnations = all.incarnations;
     }
 
--- what is stored is there
+-- a stored record is there
 pub holds_is : (o : Option HandlerState) (s : HandlerState) → stored_of o ≡ Holds s → o ≡ Some s
 holds_is None s e = absurd (cc)
 holds_is (Some t) s e = let same : t ≡ s = cc in ap Some same
@@ -93,7 +93,7 @@ same_states k l same = record {
 pub same_incarnations : (k l : MemoryRecord) → l.incarnations ≡ k.incarnations → IsSame (incarnation_at k) (incarnation_at l)
 same_incarnations k l same = record { each = λ c. ap (λ (is : List (ℕ × ℕ)). incarnation_at (record { states = []; incarnations = is }) c) same }
 
--- what is kept is there still
+-- a kept record is still there
 pub has_kept : (k l : MemoryRecord) (sites : List Site) (parties : List Party) → HasAll k sites parties → KeepsAll k l → HasAll l sites parties
 has_kept k l sites parties all kept =
     record { states = states_stay k l sites kept.states all.states; incarnations = incarnations_stay k l parties kept.incarnations all.incarnations }
@@ -141,7 +141,7 @@ all_by_place P [] all k d within = absurd (omega arith)
 all_by_place P (x ∷ xs) all zero d within = all.0
 all_by_place P (x ∷ xs) all (suc k) d within = all_by_place P xs all.1 k d (omega arith)
 
--- what stands at a place
+-- the item at a place
 pub read_at : {A : Type 0} (xs : List A) (i : ℕ) → i < length xs → (x : A) × (x ≡ get_or xs i x)
 read_at [] i within = absurd (omega arith)
 read_at (x ∷ xs) zero within = (x, refl)

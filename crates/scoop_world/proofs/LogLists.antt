@@ -1,6 +1,6 @@
--- What the calls on the map of blocks do to the logs that it keeps. The map has each block once, in the order of the
--- reserves, which is the order of the logs: an insert of a new block puts its log at the end, a write at a block's place
--- changes its log alone, and a look-up finds the place of the first log of the block, which is its only one.
+-- The calls on the map of blocks, as changes of the logs that it keeps. The map has each block once, in the order of
+-- the reserves, which is the order of the logs. An insert of a new block puts its log at the end, and a write at a
+-- block's place changes its log alone. A lookup finds the place of the block's first log, which is its only one.
 use Rattle.std.proofs.Common.{◌≡◌, ℕ, zero, suc, ◌+◌, ◌<◌, ◌≤◌, Bool, true, false, ◌||◌, cond, List, [], ◌∷◌, ◌++◌, length, map, slice_get, Option, None, Some}
 use Rattle.std.proofs.Common.{position, MatchOption, nat_lt, refl, sym, ap, ◌∙◌, subst, arith}
 use Rattle.std.specs.List.{AllByRecursion, IsDistinct, list_any, position_or_len}
@@ -34,11 +34,11 @@ any_flipped : (b : Block) (bs : List Block) → list_any (same_key b) bs ≡ has
 any_flipped b [] = refl
 any_flipped b (x ∷ xs) = ap (λ t. t || list_any (same_key b) xs) (sym (flipped x b)) ∙ ap (λ t. same_block x b || t) (any_flipped b xs)
 
--- a block that is put into the set of the common list joins that list
+-- a block that joins the set of the common list joins that list
 pub inserted : (b : Block) (bs : List Block) → insert_key same_key bs b ≡ joined bs (b ∷ [])
 inserted b bs = ap (λ t. if t then bs else bs ++ b ∷ []) (any_flipped b bs)
 
--- ---- where a block's log stands
+-- ---- the place of a block's log
 
 -- the first key that passes is that of the block's log
 place-first : {A : Type 0} → (b : Block) (e : Block × Vec (LoggedAt A) A) (es : Entries A) (n : ℕ) → position_or_len (same_key b) (keys_of (e ∷ es)) ≡ n
@@ -96,7 +96,7 @@ place-found {A} b es r is = by (nat_lt (position_or_len (same_key b) (keys_of es
 
 -- ---- blocks without a log
 
--- a test that some element would pass isn't passed by the first
+-- a disjunction is false only if both its parts are
 both_false : (t u : Bool) → (t || u) ≡ false → (t ≡ false) × (u ≡ false)
 both_false true u e = absurd (cc)
 both_false false u e = (refl, e)
@@ -163,7 +163,7 @@ kept-set b f p v (e ∷ es) zero apart place is becomes =
 kept-set b f p v (e ∷ es) (suc i) apart place is becomes =
     rw (place.0) (ap (λ ls. log_kept e ∷ ls) (kept-set b f p v es i (rest_apart e.0 (keys_of es) apart) place.1 is becomes))
 
--- a write of shares that are seen as they were
+-- a write of shares that look as they did
 pub kept-same :
     {A : Type 0} → (p v : Vec (LoggedAt A) A) (es : Entries A) (i : ℕ) → slice_get (values_of es) i ≡ Some p → map logged_kept v.items ≡ map logged_kept p.items
     → logs_kept (set_value_at es i v) ≡ logs_kept es

@@ -1,4 +1,4 @@
--- Which block of a client is its newest, once it has heard a message.
+-- The newest block of a client that has heard a message.
 use Rattle.std.proofs.Common.{◌≡◌, refl}
 use Rattle.std.specs.Prelude.{if◌then◌else◌}
 use Rattle.scoop_message.specs.declared.message.Message.{Message}

@@ -1,4 +1,4 @@
--- The world that is made of handlers and clients that may be placed is the one that opens.
+-- The world made of handlers and clients that may be placed is the world that opens.
 use Rattle.std.proofs.Common.{◌≡◌, ◌⊎◌, ◌≤◌, ℕ, List, [], ◌∷◌, map, length, Option, Some, refl, sym, ap, ◌∙◌, subst, ⊎_elim}
 use Rattle.std.specs.List.{AllByRecursion, Any}
 use Rattle.std.proofs.lemmas.List.{length-map}
@@ -73,7 +73,7 @@ module _ {B : Type 0} (words : B → List ℕ) where
       joined ∙ ap (λ ks. map (new_party ks) (newcomers_of stored cs)) (named ∙ sym (same_handlers ps)) in
       λ i. world_kept (placed i) (all i) [] [] []
 
--- what is stored, or want of memory, is why no world opens
+-- no world opens because of a stored incarnation, or because memory ran out
 pub unopened :
     {B : Type 0} (class : B → ClassTable) (ps : List (Placed B)) (cs : List (ClientId × ℕ)) (stored : ℕ → Option ℕ) (e : WorldOpenError)
     → MayPlace class ps cs → (e ≡ OutOfMemory) ⊎ ((e ≡ IncarnationsSpent) × Any (λ (c : ClientId × ℕ). stored c.0.0 ≡ Some last_incarnation) cs)
@@ -85,7 +85,7 @@ unopened class ps cs stored e may why =
     (may, p.1))
     why
 
--- the states are stored behind the incarnations, which stay
+-- the states are stored after the incarnations, which stay
 pub all_stored :
     (k l : MemoryRecord) (sites : List Site) (parties : List Party) → AllByRecursion (HasState l) sites → l.incarnations ≡ k.incarnations
     → AllByRecursion (HasIncarnation k) parties → HasAll l sites parties

@@ -1,4 +1,4 @@
--- A world stays one that is reached, whatever an event answers.
+-- A world stays reached, whatever the result of an event.
 use Rattle.std.proofs.Common.{sym, subst}
 use Rattle.std.specs.Prelude.{Result, Ok, Err}
 use Rattle.scoop_model.specs.declared.event.Event.{Event}

@@ -1,4 +1,4 @@
--- Lists whose items are seen as something else, item by item.
+-- Lists whose items have a view, item by item.
 use Rattle.std.proofs.Common.{◌≡◌, ℕ, ◌+◌, ◌<◌, List, ◌++◌, map, take, drop, length, get_or, set, sym, ap, ◌∙◌, subst, arith}
 use Rattle.std.specs.List.{All}
 use Rattle.std.proofs.Math.Seq.{map-set_same}
@@ -7,12 +7,12 @@ use Rattle.std.proofs.lemmas.List.Edits.{map_over_more}
 use Rattle.std.proofs.lemmas.List.Elements.{All-more}
 
 module _ {A B : Type 0} (view : A → B) where
-  -- an item is replaced by one that is seen as it was
+  -- an item is replaced by one with the same view
   pub seen_same :
       (all now : List A) (i : ℕ) (x new : A) → view new ≡ view (get_or now i x) → map view now ≡ map view all → map view (set now i new) ≡ map view all
   seen_same all now i x new e same = map-set_same view now i new x e ∙ same
 
-  -- an item is replaced by one that is seen as changed
+  -- an item is replaced by one with a changed view
   pub seen_changed :
       (f : B → B) (all now : List A) (i : ℕ) (x new : A) → i < length now → length now ≡ length all
       → map view now ≡ map f (take i (map view all)) ++ drop i (map view all)
@@ -25,7 +25,7 @@ module _ {A B : Type 0} (view : A → B) where
       map-set view now i new ∙ ap (set (map view now) i) e ∙ map_over_more f (map view all) (map view now) i y inside so_far at
 
 module _ {A : Type 0} where
-  -- the items that are left are as they were
+  -- the remaining items are as they were
   pub left_same : (all now : List A) (i : ℕ) (new : A) → drop i now ≡ drop i all → drop (i + 1) (set now i new) ≡ drop (i + 1) all
   left_same all now i new same =
       let lt : i < i + 1 = omega arith in

@@ -1,4 +1,4 @@
--- What is so of the handlers so far, as they are placed one by one and as their states are stored one by one.
+-- Facts of the handlers so far, as they are placed and as their states are stored one by one.
 use Rattle.std.proofs.Common.{◌≡◌, ℕ, zero, suc, ◌+◌, ◌<◌, List, [], ◌∷◌, ◌++◌, map, length, take, get_or, slice_get, Option, Some, None, refl, sym, ap, ◌∙◌}
 use Rattle.std.proofs.Common.{subst, arith, append-nil}
 use Rattle.std.specs.List.{AllByRecursion}
@@ -17,7 +17,7 @@ use Rattle.scoop_model.proofs.Order.Facts.{all_at}
 
 -- ---- the states that are stored one by one
 
--- a handler that is new has its own state
+-- a new handler has its own state
 pub new_own : (ps : List Placement) → AllByRecursion (λ s. s.stored.number ≡ number_of s) (map new_site ps)
 new_own [] = tt
 new_own (p ∷ ps) = (refl, new_own ps)

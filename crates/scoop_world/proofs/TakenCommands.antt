@@ -1,4 +1,4 @@
--- What a world is once a client has taken a command, or has refused it.
+-- A world after a client has taken a command, or has refused it.
 use Rattle.std.proofs.Common.{◌≡◌, ℕ, false, List, map, set, slice_get, Option, Some, None, refl, sym, ap, ◌∙◌, subst}
 use Rattle.std.specs.Prelude.{Ok, Err, IsOk}
 use Rattle.std.proofs.lemmas.Option.{same_Some}
@@ -44,7 +44,7 @@ logged_newest c d (Query h r) t logs is = log_newest c d h _ _ (command_row c (Q
 logged_newest c d End t logs is = end_newest c d _ (command_row c End) is
 logged_newest c d GiveUp t logs is = absurd (cc)
 
--- what it logs
+-- the entries that it logs
 pub logged_logs :
     (x : Command) (t : Option HandlerId × Entry) (b : Block) (logs : List BlockLog) → logged_by x ≡ Some t
     → logs_after x b logs ≡ map (changed_log b (with_entry_for t.0 t.1)) logs
@@ -60,7 +60,7 @@ logged_logs End t b logs is =
     ap (λ (u : Option HandlerId × Entry). map (changed_log b (with_entry_for u.0 u.1)) logs) (same_Some s t is)
 logged_logs GiveUp t b logs is = absurd (cc)
 
--- where the block has no log nothing is logged
+-- if the block has no log, nothing is logged
 pub unlogged :
     (c d : ClientState) (x : Command) (t : Option HandlerId × Entry) (logs : List BlockLog) → logged_by x ≡ Some t → outcome_of c x ≡ Ok d
     → has_log (newest_block c) logs ≡ false → logs ≡ logs_after x (newest_block d) logs
@@ -68,14 +68,14 @@ unlogged c d x t logs l is none =
     sym (ap (λ b. logs_after x b logs) (logged_newest c d x t l is) ∙ logged_logs x t (newest_block c) logs l
     ∙ none_changed (newest_block c) (with_entry_for t.0 t.1) logs none)
 
--- and else it is logged there
+-- otherwise the entry is logged there
 pub logged :
     (c d : ClientState) (x : Command) (t : Option HandlerId × Entry) (logs after : List BlockLog) → logged_by x ≡ Some t → outcome_of c x ≡ Ok d
     → after ≡ map (changed_log (newest_block c) (with_entry_for t.0 t.1)) logs → after ≡ logs_after x (newest_block d) logs
 logged c d x t logs after l is made =
     made ∙ sym (ap (λ b. logs_after x b logs) (logged_newest c d x t l is) ∙ logged_logs x t (newest_block c) logs l)
 
--- why it isn't taken where there is no room
+-- why it isn't taken if there is no room
 pub refuses_log :
     (c : ClientState) (x : Command) (t : Option HandlerId × Entry) (e : WorldError) → logged_by x ≡ Some t → RefusesLog c t.0 e → IsRefusal (outcome_of c x) e
 refuses_log c (Reserve hs) t e is told = absurd (cc)

@@ -1,6 +1,6 @@
--- What a world is once an event has happened to one of its parts. The code changes one item of a list in its place, and
--- stores it; the definitions put the item in place of the one with its key. As keys don't repeat, both make the same world,
--- and the keeper has all of it again. One lemma for each kind of event.
+-- A world after an event at one of its parts. The code changes one item of a list in its place, and stores it. The
+-- definitions put the item in place of the one with its key. As keys don't repeat, both make the same world, and the
+-- keeper has all of it again. There is one lemma for each kind of event.
 use Rattle.std.proofs.Common.{◌≡◌, ℕ, ◌+◌, ◌<◌, ◌==◌, ◌-◌, ◌^◌, true, false, List, [], ◌∷◌, ◌++◌, map, length, set, get_or, slice_get, Option, Some, None, refl}
 use Rattle.std.proofs.Common.{sym, ap, ◌∙◌, subst}
 use Rattle.std.specs.Prelude.{Ok, Err, IsOk, option_to_list, if◌then◌else◌}
@@ -127,7 +127,7 @@ module _
       subst (λ (y : World). taken_by_handler y m (site_of (handler_of m) y) ≡ made (set sites at t)) is
       (ap (taken_by_handler u m) found ∙ ap made (sym sets))
 
-  -- the same with what the calls have told
+  -- the same with the results of the calls
   pub heard_all :
       (m : Message) (at : ℕ) (s t : Site) (h : Heard) (base sent_now : List Message) (first_joint joint_now : List Block) (place : Option ℕ)
       → IsReached v → IsFirst (is_site (handler_of m)) sites at → s ≡ get_or sites at s → t ≡ heard_site s (hear s.core.state m) → number_of t ≡ number_of s
@@ -232,7 +232,7 @@ module _
       subst (λ (y : World). restart_client y (party_of c y) ≡ made (set parties at q)) is
       (ap (restart_client u) found ∙ open_still ∙ ap made (sym sets))
 
-  -- ---- what isn't refused
+  -- ---- events that aren't refused
 
   pub hears_ok :
       (m : Message) (at : ℕ) (s : Site) → IsFirst (is_site (handler_of m)) sites at → s ≡ get_or sites at s
@@ -298,7 +298,7 @@ module _
       subst (λ (y : World). tick_at y h (party_of c y) (site_of h y) ≡ made) is
       (ap (λ (o : Option Party). tick_at u h o (site_of h u)) found ∙ ap (tick_at u h (Some p)) here)
 
-  -- the same with what the calls have told
+  -- the same with the results of the calls
   pub ticked_all :
       (c : ClientId) (h : HandlerId) (at place : ℕ) (p : Party) (d : Option Message) (base sent_now : List Message) (o : Option ℕ)
       → IsFirst (is_party c) parties at → p ≡ get_or parties at p → IsFirst (is_site h) sites place
@@ -336,7 +336,7 @@ module _
     incarnations = all.incarnations;
   }
 
--- ---- what a task is, by what is told of it
+-- ---- a task, by its record
 
 pub from_began : (o : Option Task) (q : Block × ℕ) → Some q ≡ option_map began o → (x : Task) × (o ≡ Some x) × (began x ≡ q)
 from_began None q e = absurd (cc)

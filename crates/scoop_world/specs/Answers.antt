@@ -1,4 +1,4 @@
--- What the calls on a world answer.
+-- The results of the calls on a world.
 use Rattle.std.specs.Prelude.{◌≡◌, ℕ, ◌-◌, ◌^◌, ◌<◌, ◌==◌, true, false, List, length, take, slice_get, IfSome, Option, Some, None, Result, Ok, Err, IsOk}
 use Rattle.scoop_message.specs.declared.name.HandlerId.{HandlerId}
 use Rattle.scoop_message.specs.declared.request.Entry.{Entry}
@@ -16,11 +16,11 @@ use Rattle.scoop_model.specs.Reach.{Leads}
 
 -- ---- a client's command
 
--- what the client's core makes of a command
+-- the command's effect at the client
 abbrev pub outcome_of : ClientState → Command → Outcome
 outcome_of c x = command c x
 
--- why the command is refused; want of memory is the last refusal: all others would have come first
+-- the reason to refuse the command; out of memory is the last one, after all others
 abbrev pub IsRefusal : Outcome → WorldError → Type 0
 IsRefusal outcome NoSuchMessage = ⊥
 IsRefusal outcome NoSuchParty = ⊥
@@ -51,7 +51,7 @@ IsRestartRefusal stored OutOfMemory = (stored == 2 ^ 32 - 1) ≡ false
 
 -- ---- an event
 
--- why the event is refused; want of memory is the last refusal
+-- the reason to refuse the event; out of memory is the last one
 abbrev pub IsRefused : Stepped → WorldError → Type 0
 IsRefused outcome NoSuchMessage = outcome ≡ Err NoSuchMessage
 IsRefused outcome NoSuchParty = outcome ≡ Err NoSuchParty

@@ -1,4 +1,4 @@
--- How a world is kept: its parts, and what a keeper has of them.
+-- The representation of a world: its parts, and the records of a keeper.
 use Rattle.std.specs.Prelude.{◌≡◌, ℕ, zero, suc, ◌<◌, ◌==◌, Bool, true, false, if◌then◌else◌, List, [], ◌∷◌, map, find, length, slice_get, Option, Some, None}
 use Rattle.std.specs.Prelude.{Vec, vec_len, vec_capacity}
 use Rattle.std.specs.List.{AllByRecursion, list_any}
@@ -27,7 +27,7 @@ world_kept sites parties sent joint logs = record { sites = sites; parties = par
 
 -- ---- handlers and clients
 
--- a handler, whose stored state is the one that it has
+-- a handler, with its own state stored
 abbrev pub site_kept : ℕ → List ℕ → Core → List Block → List Ran → Site
 site_kept node placed core opened ran = record { node = node; placed = placed; core = core; stored = core.state; opened = opened; ran = ran }
 
@@ -48,11 +48,11 @@ after_job s (Some t) = finished_site s t
 abbrev pub began : Task → Block × ℕ
 began t = (t.block, t.number)
 
--- a client, whose newest block this is; the stored incarnation is that of the block
+-- a client with its newest block; the stored incarnation is the block's
 abbrev pub party_kept : Block → ClientState → List Accepted → Party
 party_kept newest client accepted = record { client = client; stored = newest.inc; accepted = accepted }
 
--- ---- what was logged
+-- ---- logs
 
 abbrev pub logged_kept : {A : Type 0} → LoggedAt A → HandlerLog
 logged_kept l = record { handler = l.handler; entries = l.entries.items }
@@ -76,7 +76,7 @@ IsPlaceOf b [] i = ⊥
 IsPlaceOf b (l ∷ ls) zero = is_log_of b l ≡ true
 IsPlaceOf b (l ∷ ls) (suc i) = (is_log_of b l ≡ false) × IsPlaceOf b ls i
 
--- what was logged for a handler
+-- the entries logged for a handler
 abbrev pub entries_in : HandlerId → List HandlerLog → Option (List Entry)
 entries_in h ls = option_map (λ l. l.entries) (find (is_share_of h) ls)
 
@@ -92,7 +92,7 @@ is_meant (Some h) l = is_share_of h l
 abbrev pub with_entry_for : Option HandlerId → Entry → HandlerLog → HandlerLog
 with_entry_for only e l = if is_meant only l then with_entry e l else l
 
--- what a command logs, for one handler or for all
+-- the entries that a command logs, for one handler or for all
 abbrev pub logged_by : Command → Option (Option HandlerId × Entry)
 logged_by (Reserve hs) = None
 logged_by (Call h r) = Some (Some h, CallEntry r)
@@ -100,19 +100,19 @@ logged_by (Query h r) = Some (Some h, QueryEntry r)
 logged_by End = Some (None, EndEntry)
 logged_by GiveUp = None
 
--- ---- what the keeper has
+-- ---- the keeper
 
--- the keeper has stored the state, and has of the others what it had
+-- the keeper has stored the state, and its other records stay
 pub record Stores (old new : MemoryRecord) (s : HandlerState) : Type 0 where
   pub states : Keeps (Has old) (Has new) s
   pub incarnations : IsSame (incarnation_at old) (incarnation_at new)
 
--- it has what it had
+-- its records stay
 pub record KeepsAll (old new : MemoryRecord) : Type 0 where
   pub states : Stays (Has old) (Has new)
   pub incarnations : IsSame (incarnation_at old) (incarnation_at new)
 
--- the state is stored where a job was out
+-- the state is stored if a job was out
 abbrev pub StoresJob : Option Task → MemoryRecord → MemoryRecord → HandlerState → Type 0
 StoresJob None old new s = KeepsAll old new
 StoresJob (Some t) old new s = Stores old new s

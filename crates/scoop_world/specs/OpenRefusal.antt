@@ -1,4 +1,4 @@
--- Which handlers and clients may be placed, and why others aren't.
+-- The handlers and clients that may be placed, and the reasons to refuse others.
 use Rattle.std.specs.Prelude.{◌≡◌, ◌≢◌, ℕ, ◌≤◌, ◌<◌, List, [], length, map, take, slice_get, Option, Some, Contains}
 use Rattle.std.specs.List.{AllByRecursion, Any}
 use Rattle.scoop_message.specs.declared.limits.TheConstants.{MAX_HANDLERS, MAX_CLIENTS}
@@ -13,18 +13,18 @@ use Rattle.scoop_world.specs.declared.error.WorldOpenError.TheVariants.{Incarnat
 use Rattle.scoop_world.specs.declared.placing.Placement.{Placement}
 use Rattle.scoop_message.specs.Lists.{NoRepeats}
 
--- the handlers that are placed, and the clients that join, in their order
+-- the placed handlers, and the clients that join, in their order
 abbrev pub handlers_of : {B : Type 0} → List (Placement B) → List HandlerId
 handlers_of ps = map (λ p. p.handler) ps
 
 abbrev pub clients_of : List (ClientId × ℕ) → List ClientId
 clients_of cs = map (λ c. c.0) cs
 
--- the object is of the class that is placed with it
+-- the object is of the class placed with it
 abbrev pub IsOfClass : {B : Type 0} → (B → ClassTable) → Placement B → Type 0
 IsOfClass class p = class p.object ≡ p.class
 
--- the handler is the first whose object isn't of the class that is placed with it
+-- the handler is the first whose object isn't of the class placed with it
 pub record IsFirstWrong {B : Type 0} (class : B → ClassTable) (ps : List (Placement B)) (h : HandlerId) : Type 0 where
   pub place : ℕ
   pub placement : Placement B
@@ -47,8 +47,8 @@ pub record MayPlace {B : Type 0} (class : B → ClassTable) (ps : List (Placemen
   pub few_clients : length cs ≤ MAX_CLIENTS
   pub clients_apart : NoRepeats (clients_of cs)
 
--- the first reason why the handlers and clients aren't placed, of those that don't depend on what is stored: each
--- says that those before it don't apply
+-- The first reason to refuse the handlers and clients, of those that don't depend on stored records. Each reason
+-- includes that those before it don't apply.
 abbrev pub IsOpenRefusal : {B : Type 0} → (B → ClassTable) → List (Placement B) → List (ClientId × ℕ) → WorldOpenError → Type 0
 IsOpenRefusal class ps cs NoHandlers = ps ≡ []
 IsOpenRefusal class ps cs TooManyHandlers = MAX_HANDLERS < length ps
@@ -59,7 +59,7 @@ IsOpenRefusal class ps cs (RepeatedClient c) = MayPlace class ps [] × (length c
 IsOpenRefusal class ps cs IncarnationsSpent = ⊥
 IsOpenRefusal class ps cs OutOfMemory = ⊥
 
--- why no world opens: what is stored counts only where nothing else is refused, and want of memory comes only then too
+-- The reasons why no world opens. Stored records count only if nothing else is refused, and memory too.
 abbrev pub IsUnopened : {B : Type 0} → (B → ClassTable) → List (Placement B) → List (ClientId × ℕ) → (ℕ → Option ℕ) → WorldOpenError → Type 0
 IsUnopened class ps cs stored NoHandlers = IsOpenRefusal class ps cs NoHandlers
 IsUnopened class ps cs stored TooManyHandlers = IsOpenRefusal class ps cs TooManyHandlers

@@ -5,7 +5,7 @@ use Rattle.scoop_message.specs.declared.name.ClientId.{ClientId}
 use Rattle.scoop_model.specs.Step.{Placement, Newcomer}
 use Rattle.scoop_world.specs.declared.placing.Placement.{Placement as Placed}
 
--- a client with how many entries one of its Logs carries at most
+-- a client, with the most entries that one of its Logs carries
 abbrev pub IsBatched : ClientId × ℕ → Type 0
 IsBatched c = (1 ≤ c.1) × (c.1 ≤ MAX_ENTRIES)
 
@@ -16,7 +16,7 @@ placement_of words p = record { node = p.node; handler = p.handler; class = p.cl
 abbrev pub placements_of : {B : Type 0} → (B → List ℕ) → List (Placed B) → List Placement
 placements_of words ps = map (placement_of words) ps
 
--- a client with its batch, and the incarnation that is stored for it
+-- a client with its batch, and its stored incarnation
 abbrev pub newcomer_of : (ℕ → Option ℕ) → ClientId × ℕ → Newcomer
 newcomer_of stored c = record { id = c.0; batch = c.1; stored = unwrap_or (stored c.0.0) 0 }
 

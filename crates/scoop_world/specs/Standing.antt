@@ -1,4 +1,4 @@
--- How handlers and clients stand, as a reader sees them.
+-- Handlers and clients as a reader sees them.
 use Rattle.std.specs.Prelude.{Bool}
 use Rattle.scoop_message.specs.declared.name.ClientId.{ClientId}
 use Rattle.scoop_handler.specs.State.{HandlerState}

@@ -1,4 +1,4 @@
-//! Why a world doesn't open.
+//! The reasons why a world doesn't open.
 
 ghost use Rattle.std.specs.Prelude.{◌≡◌};
 
@@ -6,7 +6,8 @@ use scoop_message::{ClientId, HandlerId, OutOfMemory};
 use std::alloc::{AllocError, AllocFailed};
 use thiserror::Error;
 
-/// Why a world doesn't open, in the order in which it is tested. Printed as its name, want of memory in words.
+/// Why a world doesn't open, in the order in which it is tested. Printed as its name; `OutOfMemory` is printed in
+/// words.
 #[derive(Clone, Copy, Debug, PartialEq, Eq, Error)]
 pub enum WorldOpenError {
     /// No handler is placed.
@@ -18,7 +19,7 @@ pub enum WorldOpenError {
     /// This handler stands at the first place that repeats an earlier one.
     #[error("Repeated")]
     Repeated(HandlerId),
-    /// This handler is the first whose object isn't of the class that is placed with it.
+    /// This handler is the first whose object isn't of the class placed with it.
     #[error("WrongClass")]
     WrongClass(HandlerId),
     /// There are more than `MAX_CLIENTS` clients.
@@ -27,7 +28,7 @@ pub enum WorldOpenError {
     /// This client stands at the first place that repeats an earlier one.
     #[error("RepeatedClient")]
     RepeatedClient(ClientId),
-    /// A client's stored incarnation is the highest there is.
+    /// A client's stored incarnation is the highest possible one.
     #[error("IncarnationsSpent")]
     IncarnationsSpent,
     /// A growth of memory was refused.

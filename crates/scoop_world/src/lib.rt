@@ -1,8 +1,8 @@
 //! All parties together: a world of handlers and clients that runs lists of events, over a record in memory.
 //!
-//! An event moves one party. Any message may come at any later moment, any number of times, in any order,
-//! or never, and clients and nodes may restart at any moment. Whatever the events are, the world stays safe, and
-//! what has happened is a run of the written rules: that is the theorem, on `World::run`.
+//! An event moves one party. Any message may come at any later moment, any number of times, in any order, or
+//! never. Clients and nodes may restart at any moment. Whatever the events are, the world stays safe, and they are
+//! a run of the written rules: that is the theorem, on `World::run`.
 //!
 //! ```
 //! // a world of handler 1, which is placed on a node with its object, and of client 7
@@ -21,12 +21,12 @@
 #![tactic(auto)]
 
 mod error;
+mod event_list;
 mod logs;
 mod opening;
 mod parts;
 mod party;
 mod placing;
-mod running;
 mod site;
 mod standing;
 mod world;

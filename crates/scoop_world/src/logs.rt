@@ -1,5 +1,4 @@
-//! What clients have logged: for each block that was ever reserved its handlers, and what was logged for
-//! each of them.
+//! The logs of clients: for each block that was ever reserved its handlers, and the entries logged for each.
 
 ghost use Rattle.std.specs.Prelude.{◌≡◌, ◌<◌, ◌++◌, [], ◌∷◌, None, false, map, MatchOption, IfOk, IfSome, OnOk};
 ghost use Rattle.std.specs.List.{All};
@@ -15,7 +14,7 @@ use scoop_message::{Block, Entry, HandlerId, OutOfMemory};
 use std::alloc::Allocator;
 use std::hash::{BuildHasherDefault, FoldHasher};
 
-/// What a block's client has logged for one handler.
+/// The entries that a block's client has logged for one handler.
 #[derive(Drop)]
 pub(crate) struct LoggedAt<A: Allocator> {
     handler: HandlerId,
@@ -35,7 +34,7 @@ fn fresh_share<A: Allocator + Copy>(alloc: A, handler: HandlerId) -> LoggedAt<A>
     }
 }
 
-/// Lines with nothing logged for these handlers.
+/// Shares with nothing logged for these handlers.
 pub(crate) fn fresh_shares<A: Allocator + Copy>(
     alloc: A,
     handlers: &[HandlerId],
@@ -73,7 +72,7 @@ pub(crate) fn add<A: Allocator + Copy>(
     };
 }
 
-// Makes room for one entry more on a share.
+// Makes room for one more entry on a share.
 fn make_room_at<A: Allocator + Copy>(share: &mut LoggedAt<A>) -> Result<(), OutOfMemory>
     ensures ok { OnOk result (HasRoom share.new) }
     ensures same { logged_kept share.new ≡ logged_kept share.old }
@@ -82,7 +81,7 @@ fn make_room_at<A: Allocator + Copy>(share: &mut LoggedAt<A>) -> Result<(), OutO
     Ok(())
 }
 
-/// Makes room for one entry more on each share.
+/// Makes room for one more entry on each share.
 pub(crate) fn make_room<A: Allocator + Copy>(shares: &mut [LoggedAt<A>]) -> Result<(), OutOfMemory>
     ensures ok { OnOk result (All HasRoom shares.new) }
     ensures same { map logged_kept shares.new ≡ map logged_kept shares.old }
@@ -93,7 +92,7 @@ pub(crate) fn make_room<A: Allocator + Copy>(shares: &mut [LoggedAt<A>]) -> Resu
     Ok(())
 }
 
-// Logs an entry, if this is a share for which it is meant. There is room for it.
+// Logs an entry, if it is meant for this share. There is room for it.
 fn log_at<A: Allocator + Copy>(share: &mut LoggedAt<A>, only: Option<HandlerId>, entry: &Entry)
     requires { HasRoom share.old }
     ensures { logged_kept share.new ≡ with_entry_for only entry.now (logged_kept share.old) }
@@ -121,7 +120,7 @@ pub(crate) fn log<A: Allocator + Copy>(
     }
 }
 
-// What was logged for a handler.
+// The entries logged for a handler.
 fn logged_in<A: Allocator + Copy>(shares: &[LoggedAt<A>], handler: HandlerId) -> Option<&[Entry]>
     ensures { option_map (λ es. es.now) result ≡ entries_in handler (map logged_kept shares.now) }
 {
@@ -133,7 +132,7 @@ fn logged_in<A: Allocator + Copy>(shares: &[LoggedAt<A>], handler: HandlerId) ->
     None
 }
 
-/// What the block's client has logged for a handler that the block has reserved.
+/// The entries that the block's client has logged for a handler that the block has reserved.
 pub(crate) fn logged<A: Allocator + Copy>(
     logs: &Logs<A>,
     block: Block,

@@ -1,4 +1,4 @@
-//! How a world opens.
+//! The opening of a world.
 
 ghost use Rattle.std.specs.Prelude.{◌≡◌, IfErr, IfOk, OnOk};
 ghost use Rattle.std.specs.List.{AllByRecursion};
@@ -28,14 +28,14 @@ use sites::{numbers, place_all, store_all};
 use std::alloc::Allocator;
 
 impl<B: Behaviour, A: Allocator + Copy> World<B, A> {
-    /// A world with these handlers and these clients, each of which puts at most so many entries into
-    /// one Log: 1 to 4. Every client knows all handlers, and greets in its next incarnation. Each
-    /// state and each incarnation is stored in the keeper. Nothing has happened yet: the world is safe, and
-    /// stands for the configuration of the written rules in which nothing was reserved and nothing has run.
+    /// Opens a world with these handlers and these clients. A client comes with the most entries of one of its
+    /// Logs, 1 to 4. Every client knows all handlers, and greets in its next incarnation. The keeper stores each
+    /// state and each incarnation. Nothing has happened yet: the world is safe, and stands for the configuration
+    /// of the written rules in which nothing was reserved and nothing has run.
     ///
     /// Refused, in this order: `NoHandlers`, `TooManyHandlers` above `MAX_HANDLERS`, `Repeated`, `WrongClass`,
-    /// `TooManyClients` above `MAX_CLIENTS`, `RepeatedClient`, `IncarnationsSpent`, `OutOfMemory`. Where memory is
-    /// refused before the incarnations are asked for, `OutOfMemory` comes though one of them is the last.
+    /// `TooManyClients` above `MAX_CLIENTS`, `RepeatedClient`, `IncarnationsSpent`, `OutOfMemory`. If memory is
+    /// refused before the incarnations are read, `OutOfMemory` comes even if one of them is the last.
     pub fn open(
         alloc: A,
         placements: Vec<Placement<B>>,

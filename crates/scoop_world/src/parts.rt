@@ -1,4 +1,4 @@
-//! What a world is made of.
+//! The parts of a world.
 
 ghost use Rattle.std.specs.Prelude.{◌≡◌, ◌<◌, ◌-◌, [], None, find, length, map, slice_get, MatchOption, IfOk};
 ghost use Rattle.std.specs.Option.{option_map};
@@ -9,8 +9,8 @@ ghost use Rattle.scoop_world.specs.Standing.{numbered, standing};
 
 mod commanding;
 mod hearing;
+mod jobs;
 mod restarting;
-mod running;
 mod sending;
 
 use crate::logs::{Logs, logged};
@@ -26,7 +26,7 @@ use std::alloc::Allocator;
 use std::hash::{BuildHasherDefault, FoldHasher};
 use std::marker::Model;
 
-/// The blocks of the common list, each at its first opening anywhere.
+/// The blocks of the common list, in the order of their first openings anywhere.
 pub(crate) type Joint<A> = IndexSet<Block, BuildHasherDefault<FoldHasher>, A>;
 
 /// All parties, every message ever sent, and what has happened so far. The keeper has the state of each
@@ -167,14 +167,14 @@ impl<B: Behaviour, A: Allocator + Copy> Parts<B, A> {
         states_of(*self.sent.allocator(), &self.sites)
     }
 
-    /// What was logged for a handler that the block has reserved.
+    /// The entries logged for a handler that the block has reserved.
     pub(crate) fn logged(&self, block: Block, handler: HandlerId) -> Option<&[Entry]>
         ensures { option_map (λ es. es.now) result ≡ logged_at block handler self.now }
     {
         logged(&self.logs, block, handler)
     }
 
-    /// The i-th message that was sent, i from 1.
+    /// The i-th sent message, i from 1.
     pub(crate) fn sent(&self, i: usize) -> Option<&Message>
         ensures { option_map (λ m. m.now) result ≡ sent_at i self.now }
     {

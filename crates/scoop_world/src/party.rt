@@ -21,7 +21,7 @@ use std::marker::Model;
 /// incarnation.
 #[derive(Drop)]
 pub(crate) struct Party<A: Allocator> {
-    // The newest block that the client began, of number 0 where this incarnation has begun none.
+    // The newest block that the client began, with number 0 if this incarnation has begun none.
     newest: Block,
     client: Client<A>,
     accepted: Vec<(HandlerId, Block, u32, Answer), A>,
@@ -40,7 +40,7 @@ impl<A: Allocator> Model for Party<A> {
     ghost invariant = { λ p. newest_block p.client ≡ p.newest };
 }
 
-// Why a reserve isn't taken, as an event tells it.
+// The reason why a reserve isn't taken, as an event reports it.
 fn refused(error: ClientError) -> WorldError
     ensures { (outcome : Outcome) → IsClientRefusal outcome error → IsRefusal outcome result }
 {
@@ -50,7 +50,7 @@ fn refused(error: ClientError) -> WorldError
     }
 }
 
-// Why a command isn't taken where there is no room for what it logs, by what the client says of it.
+// The reason why a command isn't taken if there is no room for its entries, by the client's refusal.
 fn refused_or_full(test: Result<(), ClientError>) -> WorldError
     ensures { (outcome : Outcome) → Foretells outcome test → IsRefusal outcome result }
 {
@@ -60,7 +60,7 @@ fn refused_or_full(test: Result<(), ClientError>) -> WorldError
     }
 }
 
-// Puts down an answer that is accepted by this note. There is room for it.
+// Records an answer that this note reports as accepted. There is room for it.
 fn accept<A: Allocator + Copy>(
     accepted: &mut Vec<(HandlerId, Block, u32, Answer), A>,
     block: Block,
@@ -82,7 +82,7 @@ impl<A: Allocator + Copy> Party<A> {
     ghost use Rattle.scoop_world.specs.Answers.{Commands, IsRestartRefusal, RefusesLog, outcome_of};
     ghost use Rattle.scoop_world.specs.Kept.{party_kept};
 
-    /// A client that begins in this incarnation, which is stored.
+    /// Makes a client that begins in this incarnation, which is stored.
     pub(crate) fn new(
         alloc: A,
         id: ClientId,
@@ -137,7 +137,7 @@ impl<A: Allocator + Copy> Party<A> {
         &self.accepted
     }
 
-    /// What it owes to a handler now.
+    /// The message owed to a handler now.
     pub(crate) fn due(&self, handler: HandlerId) -> Option<Message>
         ensures { result ≡ due self.now.client handler }
     {
@@ -178,14 +178,14 @@ impl<A: Allocator + Copy> Party<A> {
         Ok(())
     }
 
-    /// Why a block over these handlers doesn't begin, where there is no room for what it will log.
+    /// The reason why a block over these handlers doesn't begin, if there is no room for its entries.
     pub(crate) fn no_room_to_reserve(&self, handlers: &HandlerList) -> WorldError
         ensures { IsRefusal (outcome_of self.now.client (Command.Reserve handlers.now)) result }
     {
         refused_or_full(self.client.may_reserve(handlers.as_slice()))
     }
 
-    /// Why an entry for one handler, or an End for all, isn't logged, where there is no room for it.
+    /// The reason why an entry for one handler, or an End for all, isn't logged, if there is no room for it.
     pub(crate) fn no_room_to_log(&self, only: Option<HandlerId>) -> WorldError
         ensures { RefusesLog self.now.client only result }
     {

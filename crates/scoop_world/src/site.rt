@@ -1,4 +1,4 @@
-//! A handler in the world: where it stands, what has opened here, and what has run.
+//! A handler in the world: its node, the blocks that have opened here, and the entries that have run.
 
 ghost use Rattle.std.specs.Prelude.{◌≡◌, ◌<◌, ◌++◌, [], ◌∷◌, false, vec_len, vec_capacity, IfNone, IfOk, IsSome, OnOk, OnErr, OnSome};
 ghost use Rattle.std.specs.Option.{option_map};
@@ -15,15 +15,15 @@ use scoop_object::Behaviour;
 use std::alloc::Allocator;
 use std::marker::Model;
 
-/// A handler with its node and what has happened here. The keeper has its state.
+/// A handler with its node and its record of events. The keeper has its state.
 #[derive(Drop)]
 pub(crate) struct Site<B: Behaviour, A: Allocator> {
     node: u32,
     placed: Words,
     handler: Handler<B, A>,
-    // The handler's state once more, so that its room is used again. None before it is needed.
+    // A copy of the handler's state, whose room is used again. None before it is needed.
     beside: Option<HandlerState<A>>,
-    // The entry that has left, with what it does: that counts once it is finished.
+    // The entry that has left, with its effect, which counts once it is finished.
     job: Option<Done<B>>,
     opened: Vec<Block, A>,
     ran: Vec<Ran, A>,
@@ -42,12 +42,12 @@ impl<B: Behaviour, A: Allocator> Model for Site<B, A> {
     ghost invariant = { λ s. (s.job ≡ job_out s.handler) × IfSome s.beside (λ b. b ≡ s.handler.state) };
 }
 
-// Puts down what has run. There is room for it.
+// Records an entry that has run. There is room for it.
 fn put_down<A: Allocator + Copy>(ran: &mut Vec<Ran, A>, new: &Ran)
     requires { vec_len ran.old < vec_capacity ran.old }
     ensures { ran.new.items ≡ ran.old.items ++ new.now ∷ [] }
 {
-    // Names the types that a `Ran` holds, of which the prover has to be told here.
+    // For the prover: names the types that a `Ran` holds.
     let _parts: Option<(Entry, Request)> = None;
     ran.push_reserved(*new);
 }
@@ -58,7 +58,7 @@ impl<B: Behaviour, A: Allocator + Copy> Site<B, A> {
     ghost use Rattle.scoop_world.specs.Kept.{HasState, KeepsAll, Stores, StoresJob, after_job, began, site_kept};
     ghost use Rattle.scoop_model.specs.Step.{reopened_site};
 
-    /// A handler at which nothing has happened, with the words of its object.
+    /// Makes a handler without events, with the words of its object.
     pub(crate) fn new(alloc: A, node: u32, handler: Handler<B, A>) -> Site<B, A>
         requires { handler.out ≡ false }
         ensures { result ≡ site_kept node handler.state.words handler [] [] }
@@ -125,7 +125,7 @@ impl<B: Behaviour, A: Allocator + Copy> Site<B, A> {
         &self.opened
     }
 
-    /// What has run here, in its order.
+    /// The entries that have run here, in their order.
     pub(crate) fn ran(&self) -> &[Ran]
         ensures { result.now ≡ self.now.ran }
     {
@@ -168,8 +168,8 @@ impl<B: Behaviour, A: Allocator + Copy> Site<B, A> {
         Some(began)
     }
 
-    /// The entry that left has run: its object comes back, and the new state is stored. `None` where
-    /// no job is out. `OutOfMemory` changes nothing.
+    /// The entry that left has run: its object comes back, and the new state is stored. Returns `None` if no job
+    /// is out. `OutOfMemory` changes nothing.
     pub(crate) fn finish(
         &mut self,
         keeper: &mut MemoryKeeper<A>,

@@ -1,4 +1,4 @@
-//! How a handler stands, as a reader of a world sees it.
+//! A handler as a reader of a world sees it.
 
 ghost use Rattle.std.specs.Prelude.{◌≡◌};
 

@@ -19,8 +19,8 @@ use scoop_object::Behaviour;
 use std::alloc::{Allocator, Global};
 use std::marker::Model;
 
-/// All parties together, every message that was ever sent, and what has happened so far. Some events lead
-/// from a world that opens to this one.
+/// All parties together, every message that was ever sent, and the record of events. Some events lead from a world
+/// that opens to this one.
 #[derive(Drop)]
 pub struct World<B: Behaviour, A: Allocator = Global> {
     pub(crate) parts: Parts<B, A>,
@@ -38,8 +38,8 @@ impl<B: Behaviour, A: Allocator> Model for World<B, A> {
 }
 
 impl<B: Behaviour, A: Allocator + Copy> World<B, A> {
-    /// One event. On average the cost doesn't grow with the number of events before it: what grows a list
-    /// copies it now and then.
+    /// Takes one event. Its cost doesn't grow with the number of earlier events, on average: a list that grows
+    /// copies its items now and then.
     ///
     /// Refused with nothing changed, in this order: `NoSuchMessage`, `NoSuchParty`, `NothingToRun`,
     /// `ClientRefused`, `IncarnationsSpent`, `OutOfMemory`.
@@ -51,15 +51,14 @@ impl<B: Behaviour, A: Allocator + Copy> World<B, A> {
         happen(&mut self.parts, event)
     }
 
-    /// The common list: each block at its first opening anywhere.
+    /// The common list: the blocks in the order of their first openings anywhere.
     pub fn joint(&self) -> &[Block]
         ensures { result.now ≡ self.now.joint }
     {
         self.parts.joint()
     }
 
-    /// The blocks that have opened at the handler, in their order. `None` for a handler that isn't
-    /// there.
+    /// The blocks that have opened at the handler, in their order. `None` for an unknown handler.
     pub fn opened(&self, handler: HandlerId) -> Option<&[Block]>
         ensures { option_map (λ bs. bs.now) result ≡ option_map (λ s. s.opened) (site_of handler self.now) }
     {
@@ -69,7 +68,7 @@ impl<B: Behaviour, A: Allocator + Copy> World<B, A> {
         }
     }
 
-    /// What the block's client has logged for the handler, in its order. `None` where the block never
+    /// The entries that the block's client has logged for the handler, in their order. `None` if the block never
     /// reserved the handler.
     pub fn logged(&self, block: Block, handler: HandlerId) -> Option<&[Entry]>
         ensures { option_map (λ es. es.now) result ≡ logged_at block handler self.now }
@@ -77,7 +76,7 @@ impl<B: Behaviour, A: Allocator + Copy> World<B, A> {
         self.parts.logged(block, handler)
     }
 
-    /// What has run at the handler, in its order. `None` for a handler that isn't there.
+    /// The entries that have run at the handler, in their order. `None` for an unknown handler.
     pub fn ran(&self, handler: HandlerId) -> Option<&[Ran]>
         ensures { option_map (λ rs. rs.now) result ≡ option_map (λ s. s.ran) (site_of handler self.now) }
     {
@@ -87,8 +86,8 @@ impl<B: Behaviour, A: Allocator + Copy> World<B, A> {
         }
     }
 
-    /// The answers that the client has accepted over all its incarnations, in their order: handler,
-    /// block, the query's number, and the answer. `None` for a client that isn't there.
+    /// The answers that the client has accepted over all its incarnations, in their order: handler, block, the
+    /// query's number, and the answer. `None` for an unknown client.
     pub fn accepted(&self, client: ClientId) -> Option<&[(HandlerId, Block, u32, Answer)]>
         ensures { option_map (λ xs. xs.now) result ≡ option_map (λ p. p.accepted) (party_of client self.now) }
     {
@@ -105,15 +104,15 @@ impl<B: Behaviour, A: Allocator + Copy> World<B, A> {
         self.parts.clients()
     }
 
-    /// The client at a place, counted from 0 in the order in which they joined, with its number. `None` where so
-    /// many haven't joined.
+    /// The client at a place, counted from 0 in the order in which they joined, with its number. `None` past the
+    /// last one.
     pub fn client(&self, place: usize) -> Option<(ClientId, &Client<A>)>
         ensures { option_map (λ c. (c.0, c.1.now)) result ≡ option_map numbered (slice_get self.now.parties place) }
     {
         self.parts.client(place)
     }
 
-    /// A copy of each handler's state, in the order in which they were placed, and whether a job of it is out.
+    /// A copy of each handler's state, in the order of their placements, and whether a job of it is out.
     /// `OutOfMemory` is the one refusal.
     pub fn states(&self) -> Result<Vec<Standing<A>, A>, OutOfMemory>
         ensures states { IfOk result (λ states. states.items ≡ map standing self.now.sites) }
@@ -122,7 +121,7 @@ impl<B: Behaviour, A: Allocator + Copy> World<B, A> {
         self.parts.states()
     }
 
-    /// The i-th message that was sent, i from 1. `None` for 0, and where so many weren't sent.
+    /// The i-th sent message, i from 1. `None` for 0 and past the last one.
     pub fn sent(&self, i: usize) -> Option<&Message>
         ensures { option_map (λ m. m.now) result ≡ sent_at i self.now }
     {
@@ -130,7 +129,7 @@ impl<B: Behaviour, A: Allocator + Copy> World<B, A> {
     }
 }
 
-// One event.
+// Takes one event.
 fn happen<B: Behaviour, A: Allocator + Copy>(
     parts: &mut Parts<B, A>,
     event: Event,

@@ -1,4 +1,4 @@
-//! An account: 1 deposits, 2 withdraws what is there, 3 tells the balance.
+//! An account: 1 deposits, 2 withdraws if there is enough, 3 gets the balance.
 
 use scoop_message::{Args, OutOfMemory, Request, Words};
 use scoop_object::{Class, OpRow, Table, Term, Write, Writes};
@@ -36,7 +36,7 @@ pub(crate) fn account(alloc: Global, balance: u64) -> Result<Table, OutOfMemory>
     Table::new(class(alloc)?, words).map_err(|_| OutOfMemory)
 }
 
-/// What a client asks an account for, with an amount where there is one.
+/// A request to an account, with an amount if the operation takes one.
 pub(crate) fn request(op: u16, amount: Option<u64>) -> Request {
     let args = match amount {
         Some(amount) => Args::of(&[amount]),

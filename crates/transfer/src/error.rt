@@ -1,4 +1,4 @@
-//! Why a transfer isn't made.
+//! The reasons why a transfer isn't made.
 
 use scoop_chart::ChartError;
 use scoop_client::TooManyHandlers;

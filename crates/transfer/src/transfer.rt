@@ -1,4 +1,4 @@
-//! A client and two accounts, and what they do.
+//! A client and two accounts, with the transfer between them.
 
 use crate::account::{BALANCE, DEPOSIT, WITHDRAW, account, class, request};
 use crate::error::TransferError;
@@ -19,7 +19,7 @@ const TO: HandlerId = HandlerId(2);
 
 const BOTH: [HandlerId; 2] = [FROM, TO];
 
-// What an event sent, and its place in the list of sent messages.
+// The message that an event sent, and its place in the list of sent messages.
 #[derive(Clone, Copy)]
 enum Told {
     Sent(usize),
@@ -27,7 +27,7 @@ enum Told {
     Nothing,
 }
 
-// The word of an event in a script: whose event it is and where its message goes shows the chart itself.
+// The word of an event in a script. The chart itself shows the event's party and the message's receiver.
 fn word_of(event: &Event) -> &'static str {
     match event {
         Event::Do(_, Command::Reserve(_)) => "reserve",
@@ -59,7 +59,7 @@ pub struct Transfer {
 }
 
 impl Transfer {
-    /// Accounts that hold these balances. The client has greeted both.
+    /// Makes accounts that hold these balances. The client has greeted both.
     pub fn open(alloc: Global, from: u64, to: u64) -> Result<Transfer, TransferError> {
         let keeper = MemoryKeeper::new(alloc);
         let placements = placements(alloc, [from, to])?;
@@ -72,9 +72,9 @@ impl Transfer {
         Ok(transfer)
     }
 
-    /// Pays an amount in a joint block, and answers the balance of the second account, if the query was answered.
+    /// Pays an amount in a joint block, and returns the balance of the second account, if the query was answered.
     ///
-    /// The first message of the log to the second account is lost, and the message behind it comes twice.
+    /// The first message of the log to the second account is lost, and the next one comes twice.
     pub fn pay(&mut self, amount: u64) -> Result<Option<Answer>, TransferError> {
         self.begin()?;
         self.tell(Command::Call(FROM, request(WITHDRAW, Some(amount))))?;
@@ -95,7 +95,7 @@ impl Transfer {
         Ok(self.world.accepted(CLIENT).and_then(last_answer))
     }
 
-    /// Draws what has happened so far.
+    /// Draws the events so far.
     pub fn draw<W: Write>(&self, writer: &mut W) -> io::Result<()> {
         self.chart.draw(writer)
     }
@@ -122,7 +122,7 @@ impl Transfer {
         Ok(())
     }
 
-    // One event, which the chart is told with its word.
+    // Takes one event, and passes it to the chart with its word.
     fn step(&mut self, event: Event) -> Result<Told, TransferError> {
         let outcome = self.world.step(event);
         self.chart
@@ -138,7 +138,7 @@ impl Transfer {
         Ok(())
     }
 
-    // The client sends what it owes to the handler. The answer is the message's place.
+    // The client sends the message that it owes the handler. Returns the message's place.
     fn send(&mut self, handler: HandlerId) -> Result<usize, TransferError> {
         match self.step(Event::Tick(CLIENT, handler))? {
             Told::Sent(place) => Ok(place),
@@ -146,7 +146,7 @@ impl Transfer {
         }
     }
 
-    // A message comes to its receiver. The answer is the place of the reply, if it has one.
+    // A message comes to its receiver. Returns the place of the reply, if there is one.
     fn take(&mut self, place: usize) -> Result<Option<usize>, TransferError> {
         match self.step(Event::Take(place))? {
             Told::Replied(place) => Ok(Some(place)),
@@ -154,7 +154,7 @@ impl Transfer {
         }
     }
 
-    // The client sends what it owes, the handler hears it, and the client the reply.
+    // The client sends the message that it owes, the handler hears it, and the client hears the reply.
     fn trip(&mut self, handler: HandlerId) -> Result<(), TransferError> {
         let sent = self.send(handler)?;
         if let Some(reply) = self.take(sent)? {

@@ -1,7 +1,8 @@
-//! What happens at a book's handlers, and is entered.
+//! Events at a book's handlers, and their entries.
 
 ghost use Rattle.std.specs.Prelude.{◌≡◌, ◌≢◌, ◌⊎◌, ◌||◌, ℕ, IfOk, IfErr, OnOk, OnErr, IfSome};
 ghost use Rattle.std.specs.Option.{option_map};
+ghost use Rattle.scoop_message.specs.Message.{handler_of};
 ghost use Rattle.scoop_handler.specs.Running.{job_out, ran_of, ready};
 ghost use Rattle.scoop_keeper.specs.Keeper.{IsPutError, IsSame, Stays as KeeperStays};
 ghost use Rattle.scoop_book.specs.Moves.{handler_at, handler_in, is_handler, leaves};
@@ -12,13 +13,13 @@ ghost use Rattle.scoop_book.specs.Books.{fails_to_finish, no_place_to_finish, re
 use crate::book::{Book, enter};
 use crate::error::{BookError, FinishError, FinishRefusal};
 use crate::event::{Event, Reply};
-use scoop_handler::{Done, Job, Ran};
+use scoop_handler::{Done, Heard, Job, Ran};
 use scoop_keeper::{JobRefusal, Keeper, KeeperError};
-use scoop_message::{Block, HandlerId};
+use scoop_message::{Block, HandlerId, Message};
 use scoop_object::Behaviour;
 use std::alloc::Allocator;
 
-// Why an event isn't entered, by what the keeper says of the new state; and whether it is the last one.
+// Why an event isn't entered, if the keeper refuses the new state. A refused put fails the book.
 fn put_refused(failed: &mut bool, error: KeeperError) -> BookError
     requires { IsPutError error }
     ensures named { (result ≡ BookError.StoreRefused) ⊎ (result ≡ BookError.OutOfMemory) }
@@ -33,7 +34,7 @@ fn put_refused(failed: &mut bool, error: KeeperError) -> BookError
     }
 }
 
-// Why a job isn't finished, by what the handler and its keeper say; and whether it is the last one.
+// Why a job isn't finished, if the handler or its keeper refuses. A refused put fails the book.
 fn job_refused(failed: &mut bool, cause: JobRefusal) -> FinishRefusal
     ensures cause { result ≡ refusal_of cause }
     ensures failed { failed.new ≡ (failed.old || fails_to_finish result) }
@@ -58,6 +59,13 @@ pub(crate) fn entry_left<B: Behaviour>(job: &Option<Job<B>>) -> Option<(Block, u
     }
 }
 
+/// The reply to a Hear.
+pub(crate) fn heard_reply(heard: &Heard) -> Reply
+    ensures { result ≡ Reply.Heard heard.now }
+{
+    Reply::Heard(*heard)
+}
+
 /// The reply to a Finish.
 pub(crate) fn finished(ran: &Ran) -> Reply
     ensures { result ≡ Reply.Finished ran.now }
@@ -72,7 +80,7 @@ fn refused<B: Behaviour>(cause: FinishRefusal, done: Done<B>) -> FinishError<B>
     FinishError { cause, done }
 }
 
-// Why a job isn't finished where there is no place for its event.
+// Why a job isn't finished, if its event has no place.
 fn no_place(error: BookError) -> FinishRefusal
     ensures { result ≡ no_place_to_finish error }
 {
@@ -86,7 +94,7 @@ fn no_place(error: BookError) -> FinishRefusal
 }
 
 impl<B: Behaviour, K: Keeper<A>, A: Allocator + Copy> Book<B, K, A> {
-    // The place of a handler of which an event may be entered.
+    // The place of the handler, if its event may be entered.
     fn place_for(&self, handler: HandlerId) -> Result<usize, BookError>
         ensures may { OnOk result (MayHappen self.now handler) }
         ensures place { IfOk result (IsFirst (is_handler handler) self.now.handlers) }
@@ -105,11 +113,11 @@ impl<B: Behaviour, K: Keeper<A>, A: Allocator + Copy> Book<B, K, A> {
         }
     }
 
-    /// A handler hears a message, for the pass of this number. Its new state is stored before it takes it; a
-    /// put is left out where the keeper is known to have that state. The entry is the history's last.
+    /// A handler hears a message, for the pass of this number. The keeper stores the new state before the handler
+    /// takes it. The book skips the put if the keeper is known to have that state. The entry is the history's last.
     ///
-    /// Refused with handlers, history and record as they were, in this order: `NodeFailed`, `HistoryFull`,
-    /// `UnknownHandler`, `StoreRefused`, after which nothing is entered any more, `OutOfMemory`.
+    /// A refusal leaves handlers, history and record as they were. In this order: `NodeFailed`, `HistoryFull`,
+    /// `UnknownHandler`, `StoreRefused`, after which the book enters nothing any more, `OutOfMemory`.
     pub fn step(&mut self, pass: u32, event: Event) -> Result<Reply, BookError>
         requires { IsHear event }
         ensures gains { IfOk result (λ reply. Gains pass event reply self.old self.new) }
@@ -126,9 +134,27 @@ impl<B: Behaviour, K: Keeper<A>, A: Allocator + Copy> Book<B, K, A> {
         ensures was { IsBook K.handlers K.is_honest self.old }
         ensures sound { IsBook K.handlers K.is_honest self.new }
     {
-        let Event::Hear(message) = &event else {
-            unreachable!()
-        };
+        match self.hear(pass, event.message()) {
+            Ok(heard) => Ok(heard_reply(&heard)),
+            Err(error) => Err(error),
+        }
+    }
+
+    /// A handler hears this message, as in [`Book::step`].
+    pub fn hear(&mut self, pass: u32, message: &Message) -> Result<Heard, BookError>
+        ensures gains { IfOk result (λ heard. Gains pass (Event.Hear message.now) (Reply.Heard heard) self.old self.new) }
+        ensures may { OnOk result (MayHappen self.old (handler_of message.now)) }
+        ensures stored { K.is_honest self.new.keeper
+            → OnOk result (KeepsNew (handler_of message.now) self.new.handlers (K.handlers self.old.keeper) (K.handlers self.new.keeper)) }
+        ensures incarnations { K.is_honest self.new.keeper → IsSame (K.incarnations self.old.keeper) (K.incarnations self.new.keeper) }
+        ensures refused { IfErr result (IsRefused self.old (handler_of message.now)) }
+        ensures stays { OnErr result (Stays self.old self.new) }
+        ensures failed { IfErr result (λ e. self.new.failed ≡ (self.old.failed || fails e)) }
+        ensures kept { K.is_honest self.new.keeper → OnErr result (KeeperStays (K.handlers self.old.keeper) (K.handlers self.new.keeper)) }
+        ensures honest { K.is_honest self.new.keeper → K.is_honest self.old.keeper }
+        ensures was { IsBook K.handlers K.is_honest self.old }
+        ensures sound { IsBook K.handlers K.is_honest self.new }
+    {
         let at = self.place_for(message.handler())?;
         let Ok(()) = self.history.reserve(1) else {
             return Err(BookError::OutOfMemory);
@@ -137,15 +163,15 @@ impl<B: Behaviour, K: Keeper<A>, A: Allocator + Copy> Book<B, K, A> {
             Ok(heard) => heard,
             Err(error) => return Err(put_refused(&mut self.failed, error)),
         };
-        let reply = Reply::Heard(heard);
-        enter(&mut self.history, pass, &event, &reply);
-        Ok(reply)
+        let reply = heard_reply(&heard);
+        enter(&mut self.history, pass, &Event::Hear(*message), &reply);
+        Ok(heard)
     }
 
-    /// The handler's next entry leaves to be run, for the pass of this number. `None` exactly where the
-    /// handler has none, or a job is out; that is entered too. No keeper is asked.
+    /// The handler's next entry leaves to be run, for the pass of this number. `None` exactly if the handler has
+    /// no entry to run, or a job is out. That is entered too. The keeper isn't called.
     ///
-    /// Refused with handlers, history and record as they were, in this order: `NodeFailed`, `HistoryFull`,
+    /// A refusal leaves handlers, history and record as they were. In this order: `NodeFailed`, `HistoryFull`,
     /// `UnknownHandler`, `OutOfMemory`.
     pub fn begin(&mut self, pass: u32, handler: HandlerId) -> Result<Option<Job<B>>, BookError>
         ensures gains { IfOk result (λ job. Gains pass (Event.Begin handler) (Reply.Began (option_map leaves job)) self.old self.new) }
@@ -169,12 +195,12 @@ impl<B: Behaviour, K: Keeper<A>, A: Allocator + Copy> Book<B, K, A> {
         Ok(job)
     }
 
-    /// The entry that left a handler with this job has run, for the pass of this number. The handler's new
-    /// state is stored before it takes it.
+    /// The entry that left a handler with this job has run, for the pass of this number. The keeper stores the new
+    /// state before the handler takes it.
     ///
-    /// Refused with handlers, history and record as they were, and the job handed back, in this order:
-    /// `NodeFailed`, `HistoryFull`, `UnknownHandler`, `Stranger` where it isn't the job that is out at its
-    /// handler, `StoreRefused`, after which nothing is entered any more, `OutOfMemory`.
+    /// A refusal returns the job, and leaves handlers, history and record as they were. In this order: `NodeFailed`,
+    /// `HistoryFull`, `UnknownHandler`, `Stranger` if another job or none is out at its handler, `StoreRefused`,
+    /// after which the book enters nothing any more, `OutOfMemory`.
     pub fn finish(&mut self, pass: u32, done: Done<B>) -> Result<Ran, FinishError<B>>
         ensures gains { IfOk result (λ ran. Gains pass (Event.Finish done.handler) (Reply.Finished ran) self.old self.new) }
         ensures may { OnOk result (MayHappen self.old done.handler) }

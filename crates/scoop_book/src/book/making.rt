@@ -1,4 +1,4 @@
-//! How a book opens.
+//! Books as they open.
 
 ghost use Rattle.std.specs.Prelude.{◌≡◌, ◌≤◌, ℕ, [], false, length, IfOk, IfErr, OnOk};
 ghost use Rattle.scoop_message.specs.declared.limits.TheConstants.{MAX_HANDLERS, MAX_HISTORY};
@@ -18,14 +18,14 @@ use scoop_object::{Behaviour, Class};
 use std::alloc::Allocator;
 
 impl<B: Behaviour, K: Keeper<A>, A: Allocator + Copy> Book<B, K, A> {
-    /// A book of these handlers, each handed over as its number, the class of its object, and the object. A
-    /// handler has its stored state with no job out or, where the keeper has none, no holder, no marks, no
+    /// A book of these handlers. Each is given as its number, the class of its object, and the object. A handler
+    /// opens with its stored state and no job out. If the keeper has none, it opens with no holder, no marks, no
     /// private queues, and the words of its object. Nothing is stored yet. The history is empty, and may have
     /// 1,000,000 entries.
     ///
-    /// Refused, in this order, with handlers and keeper gone: `WrongClass` where an object hasn't its class,
-    /// `Repeated`; then, handler by handler, `Keeper` where its load is refused and `WrongClass` where the
-    /// stored words don't fit the class; `OutOfMemory`.
+    /// A refusal drops handlers and keeper. In this order: `WrongClass` if an object hasn't its class; `Repeated`;
+    /// then, handler by handler, `Keeper` if its load is refused and `WrongClass` if the stored words don't fit the
+    /// class; `OutOfMemory`.
     pub fn open(
         alloc: A,
         handlers: Vec<(HandlerId, Class, B)>,
@@ -39,7 +39,7 @@ impl<B: Behaviour, K: Keeper<A>, A: Allocator + Copy> Book<B, K, A> {
         ensures kept { IfOk result (λ b. K.is_honest b.keeper → KeeperStays (K.handlers keeper) (K.handlers b.keeper)) }
         ensures incarnations { IfOk result (λ b. K.is_honest b.keeper → IsSame (K.incarnations keeper) (K.incarnations b.keeper)) }
         ensures honest { IfOk result (λ b. K.is_honest b.keeper → K.is_honest keeper) }
-        // The keeper goes with a refusal, so this speaks of what is stored where every such keeper is honest.
+        // The keeper is dropped, so the clause speaks of the record only if every such keeper is honest.
         ensures refused { IfErr result (IsUnopened B.class (K.handlers keeper) ((k : K) → K.is_honest k) handlers.items) }
     {
         Book::open_limited(alloc, handlers, keeper, MAX_HISTORY)

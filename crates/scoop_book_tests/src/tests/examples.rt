@@ -32,7 +32,7 @@ fn runs(rt: &impl Abort, book: &mut MemoryBook) -> Result<(), Fail> {
 }
 
 fn stored(book: MemoryBook) -> Option<u64> {
-    // what the handler has come to is stored
+    // the handler's last state is stored
     let state = book.into_keeper().load_handler(ONE).ok()??;
     state.words().get(0)
 }

@@ -1,4 +1,4 @@
-//! A node, each growth of each event refused in turn.
+//! A node with each growth of each event refused in turn.
 
 ghost use Rattle.std.specs.Prelude.{IfSome};
 ghost use Rattle.scoop_book.specs.Books.{IsHear};
@@ -14,15 +14,15 @@ use std::process::Abort;
 use std::sync::Wait;
 use std::test::Fail;
 
-type Heap<'a> = &'a Refusing<Global>;
+pub(super) type Heap<'a> = &'a Refusing<Global>;
 
 type HeapNode<'a> = Node<Table, MemoryKeeper<Heap<'a>>, Heap<'a>>;
 
 type HeapPass<'a> = Pass<Heap<'a>>;
 
-/// What is done at the node, one after another.
+/// The acts at the node, one after another.
 #[derive(Clone, Copy)]
-enum Act {
+pub(super) enum Act {
     Hello,
     Lock,
     Open,
@@ -31,7 +31,7 @@ enum Act {
     Run,
 }
 
-const ACTS: [Act; 6] = [
+pub(super) const ACTS: [Act; 6] = [
     Act::Hello,
     Act::Lock,
     Act::Open,
@@ -49,7 +49,7 @@ fn opens<'a>(
 }
 
 // The message of an act. A run has none.
-fn message_of(act: Act) -> Option<scoop_book::Event>
+pub(super) fn message_of(act: Act) -> Option<scoop_book::Event>
     ensures { IfSome result IsHear }
 {
     match act {
@@ -61,8 +61,9 @@ fn message_of(act: Act) -> Option<scoop_book::Event>
     }
 }
 
-/// The message of an act to the node with the growth of this number refused: whether one was. Either nothing has
-/// changed, and it is heard once memory is there, or what was refused was but room for a next call, and it is heard.
+/// Sends the node the message of an act while the growth of this number is refused. Returns whether one was refused.
+/// Either nothing has changed, and the node hears the message once there is memory. Or only room for a next call was
+/// refused, and the node hears the message at once.
 fn hears<'a>(
     rt: &(impl Abort + Wait),
     heap: Heap<'a>,
@@ -85,7 +86,7 @@ fn hears<'a>(
     Some(refused)
 }
 
-/// What the handler has to run, with this growth refused: whether one was, and then all the same.
+/// Begins the handler's entry while this growth is refused, and again if that failed. Returns whether one was refused.
 fn begins<'a>(
     rt: &(impl Abort + Wait),
     heap: Heap<'a>,
@@ -125,7 +126,7 @@ fn finishes<'a>(
     Some(refused)
 }
 
-/// The same of a Begin and of its Finish.
+/// The same for a Begin and its Finish.
 fn runs<'a>(
     rt: &(impl Abort + Wait),
     heap: Heap<'a>,
@@ -169,7 +170,7 @@ fn closed<'a>(
     Some(node.close(rt, given).ok()?.history.len())
 }
 
-/// Whether the growth of this number was refused in any act. The node is closed at last.
+/// Whether the growth of this number was refused in any act. The node closes at the end.
 fn any_refused(rt: &(impl Abort + Wait), alloc: Global, number: u64) -> Option<bool> {
     let heap = Refusing::new(alloc, 0);
     let (node, mut passes) = opens(alloc, &heap)?.ok()?;
@@ -180,7 +181,7 @@ fn any_refused(rt: &(impl Abort + Wait), alloc: Global, number: u64) -> Option<b
     Some(any)
 }
 
-/// How a node opens with the growth of this number refused, and whether one was.
+/// Opens a node while the growth of this number is refused, and returns whether one was.
 fn opening(alloc: Global, number: u64) -> Option<(Option<OpenError>, bool)> {
     let heap = Refusing::new(alloc, number);
     let opened = opens(alloc, &heap)?;

@@ -1,4 +1,4 @@
-//! Limits of histories, and which handlers open.
+//! Limits of histories, and the handlers that open.
 
 use super::{MemoryBook, ONE, STRANGE, block, book, cells, hello, notes_log, refusal, sends};
 use scoop_book::{Book, BookError, Event, FinishRefusal, Node, OpenError, Pass, Reply};
@@ -25,7 +25,7 @@ fn word(book: &MemoryBook, handler: HandlerId) -> Option<u64> {
     book.words(handler)?.get(0)
 }
 
-/// What handler 1 has to run, which has run.
+/// Handler 1's next entry, run.
 fn done(book: &mut MemoryBook, pass: u32) -> Option<Done<Table>> {
     Some(book.begin(pass, ONE).ok()??.work())
 }
@@ -41,7 +41,7 @@ fn finished(
     }
 }
 
-/// The one entry leaves and is finished. Meanwhile there is none to run, and the word is as it was.
+/// The one entry leaves and finishes. Meanwhile there is none to run, and the word stays.
 fn runs(rt: &impl Abort, book: &mut MemoryBook) {
     let Some(job) = done(book, 5) else {
         panic!(rt; "no job");
@@ -129,7 +129,7 @@ fn limited(alloc: Global, book: MemoryBook) -> Option<Result<(MemoryNode, Vec<Pa
     Some(Node::open_limited(alloc, handlers, book.into_keeper(), 1, 2))
 }
 
-/// Why the job that leaves isn't finished, and the number of the one that is handed back.
+/// Why the job that leaves isn't finished, and the number of the job that the node returns.
 fn unfinished(rt: &impl Wait, node: &MemoryNode, pass: &mut Pass) -> Option<(FinishRefusal, u32)> {
     let job = node.begin(rt, pass, ONE).ok()??;
     let error = node.finish(rt, pass, job.work()).err()?;
@@ -152,7 +152,7 @@ fn closed(rt: &impl Wait, alloc: Global, node: MemoryNode, pass: Pass) -> Option
     Some(node.close(rt, given).ok()?.history.len())
 }
 
-/// A limit of two: a job that is out then is handed back, and the node can be closed.
+/// A limit of two: the node returns a job that is out then, and closes.
 #[test]
 fn a_history_ends(rt: HostRuntime) -> Result<(), Fail> {
     let mut before = book(rt.alloc(), &[1]).ok_or("cells")??;

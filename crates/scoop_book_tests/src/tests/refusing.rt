@@ -11,7 +11,7 @@ use std::test::Fail;
 
 type FailingBook = Book<Table, FailingKeeper<MemoryKeeper>>;
 
-/// A book of one cell over a keeper that takes so many calls, one of which is the load.
+/// A book of one cell over a keeper that takes that many calls, one of which is the load.
 fn failing(alloc: Global, calls: u64) -> Option<Result<FailingBook, OpenError>> {
     let keeper = FailingKeeper::new(MemoryKeeper::new(alloc), calls);
     Some(Book::open(alloc, cells(alloc, &[1])?, keeper))
@@ -29,7 +29,7 @@ fn fails(rt: &impl Abort, book: &mut FailingBook) {
     assert!(rt; book.history().len() == 2);
 }
 
-/// A book that opens over what is stored by the one that failed.
+/// A book that opens over the record of the one that failed.
 fn again(alloc: Global, book: FailingBook) -> Option<Result<MemoryBook, OpenError>> {
     let handlers = cells(alloc, &[1])?;
     Some(Book::open(alloc, handlers, book.into_keeper().into_inner()))
@@ -51,7 +51,7 @@ fn a_refused_put_fails_the_book(rt: HostRuntime) -> Result<(), Fail> {
     Ok(())
 }
 
-/// A fresh handler's first message is put even where it is dropped.
+/// A new handler's first message makes a put even if the handler drops it.
 #[test]
 fn a_first_message_is_put(rt: HostRuntime) -> Result<(), Fail> {
     let mut book = failing(rt.alloc(), 1).ok_or("cells")??;

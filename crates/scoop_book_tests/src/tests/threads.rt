@@ -1,4 +1,4 @@
-//! Two threads at one node, and how it is closed.
+//! Two threads at one node, and its close.
 
 use super::{cells, hello, lock, log, open};
 use scoop_book::{CloseRefusal, Event, Node, OpenError, Pass, Reply};
@@ -37,8 +37,8 @@ fn calls<R: Wait>(
     Some(())
 }
 
-/// What a thread does at one node: its client greets the handler, opens a private queue there, and logs calls
-/// each of which runs before the next, 500 events in all.
+/// A thread's events at one node, 500 in all. Its client greets the handler, opens a private queue there, and logs
+/// calls, each of which runs before the next.
 fn works<R: Wait>(
     rt: &R,
     node: &MemoryNode,
@@ -118,7 +118,7 @@ fn worked<R: Threads + Wait + Sync + Abort>(
     Some((second, given))
 }
 
-/// The node isn't closed with these passes: why, and both handed back.
+/// The node isn't closed with these passes: why, and both returned.
 fn unclosed<R: Wait>(
     rt: &R,
     node: MemoryNode,

@@ -33,7 +33,7 @@ pub fn counter_rows() -> [OpRow; 2]
     ]
 }
 
-/// An account: 1 deposits, 2 withdraws what is there, 3 tells the balance.
+/// An account: 1 deposits, 2 withdraws if there is enough, 3 gets the balance.
 pub fn account_rows() -> [OpRow; 3]
     ensures { result ≡ account_class.rows }
 {
@@ -44,7 +44,7 @@ pub fn account_rows() -> [OpRow; 3]
     ]
 }
 
-/// An exchange: 1 puts a number, and answers the one before it.
+/// An exchange: 1 puts a number, and returns the one before it.
 pub fn exchange_rows() -> [OpRow; 1]
     ensures { result ≡ exchange_class.rows }
 {

@@ -1,4 +1,4 @@
-//! Words to messages.
+//! Messages read from words.
 
 ghost use Rattle.std.specs.Prelude.{◌≡◌, IsTrue, IfOk, IfNone};
 ghost use Rattle.scoop_message.specs.Message.{Fits};
@@ -10,21 +10,21 @@ use crate::fault::InputFault;
 use crate::script::{read_u16, read_u32, read_u64};
 use arrayvec::ArrayVec;
 use scoop_frame::{FrameError, Version};
+use scoop_lines::{count_words, is, next_word, one_word};
 use scoop_message::limits::{MAX_ARGS, MAX_ENTRIES};
 use scoop_message::{
     Answer, Args, Block, ClientId, Entries, Entry, HandlerId, Message, OutOfMemory, Request,
 };
-use scoop_words::{count_words, is, next_word, one_word};
 use std::alloc::Global;
 use std::error::Error;
 use std::fmt;
 
-/// Why words are no message with a frame.
+/// Why words make no message with a frame.
 #[derive(Clone, Copy, Debug, PartialEq, Eq)]
 pub enum WordsError {
     /// They aren't the words of a message.
     Fault(InputFault),
-    /// The message has no frame of that version, for the reason for which its bytes would be refused.
+    /// The message has no frame of that version. The reason is the error of its bytes.
     Refused(FrameError),
     /// A growth of memory was refused.
     OutOfMemory,
@@ -54,12 +54,15 @@ impl From<OutOfMemory> for WordsError {
     }
 }
 
-/// The message that is said in words, and the version of its frame: what `print_message` writes, and nothing else, so
-/// words are parted by one space, and numbers have no zeros in front. The message fits, and the version carries it.
+/// Reads a message and the version of its frame from words: exactly those that `print_message` writes. So words are
+/// separated by one space, and numbers have no leading zeros. The message fits, and the version carries it.
 ///
-/// `Refused` tells why no frame says it: `FieldZero` where an incarnation, block or entry number is 0; `BadBody` where
-/// version 1 has several entries, there are more than four or one behind an End, or the last one's number is above
-/// 2^32-1. `Fault` is `NoSuchKind`, `WrongNumberOfWords`, `TooManyArguments` or `NotANumber`.
+/// # Errors
+/// - `Refused(FieldZero)`: an incarnation, block or entry number is 0.
+/// - `Refused(BadBody)`: version 1 with several entries, more than four entries, an entry after an End, or a last entry
+///   number above 2^32-1.
+/// - `Fault`: `NoSuchKind`, `WrongNumberOfWords`, `TooManyArguments` or `NotANumber`.
+/// - `OutOfMemory`.
 pub fn read_message(alloc: Global, line: &[u8]) -> Result<(Version, Message), WordsError>
     ensures words { IfOk result (λ read. frame_words read.0 read.1 ≡ line.now) }
     ensures fits { IfOk result (λ read. Fits read.1) }
@@ -127,7 +130,7 @@ fn lacks_block(block: &Block) -> bool {
     block.inc == 0 || block.num == 0
 }
 
-// The words as a message, which needn't have a frame.
+// The words as a message, with or without a frame.
 fn parsed(line: &[u8]) -> Result<(Version, Message), WordsError> {
     let (word, rest) = first(line)?;
     if is(word, "v2") {
@@ -141,7 +144,7 @@ fn first(line: &[u8]) -> Result<(&[u8], &[u8]), InputFault> {
     next_word(line).ok_or(InputFault::WrongNumberOfWords)
 }
 
-// The message of this kind that the words behind it say.
+// The message of this kind, by the words after the kind.
 fn message(kind: &[u8], line: &[u8]) -> Result<Message, WordsError> {
     let message = if is(kind, "Hello") {
         let (handler, client, inc) = greeting(line)?;
@@ -171,7 +174,7 @@ fn message(kind: &[u8], line: &[u8]) -> Result<Message, WordsError> {
     Ok(message)
 }
 
-// A kind of message that says a handler and a block alone.
+// A kind of message with a handler and a block alone.
 #[derive(Clone, Copy)]
 enum BlockKind {
     Lock,
@@ -210,7 +213,7 @@ fn block_message(kind: &[u8]) -> Option<BlockKind> {
     }
 }
 
-// The one word that is left.
+// The last word.
 fn last(line: &[u8]) -> Result<&[u8], InputFault> {
     one_word(line).ok_or(InputFault::WrongNumberOfWords)
 }
@@ -225,7 +228,7 @@ fn greeting(line: &[u8]) -> Result<(HandlerId, ClientId, u32), InputFault> {
     Ok((handler, client, read_u32(inc)?))
 }
 
-// A handler and a block, and what stands behind them.
+// A handler and a block, and the rest of the line.
 fn about_block(line: &[u8]) -> Result<(HandlerId, Block, &[u8]), InputFault> {
     let (handler, rest) = first(line)?;
     let (block, rest) = first(rest)?;
@@ -233,7 +236,7 @@ fn about_block(line: &[u8]) -> Result<(HandlerId, Block, &[u8]), InputFault> {
     Ok((handler, block_of(block)?, rest))
 }
 
-// A client, an incarnation and a number, parted by dots.
+// A client, an incarnation and a number, separated by dots.
 fn block_of(word: &[u8]) -> Result<Block, InputFault> {
     let (client, Some(rest)) = parted(word, b'.') else {
         return Err(InputFault::NotANumber);
@@ -255,7 +258,7 @@ fn answer(word: &[u8]) -> Result<Answer, InputFault> {
     Ok(Answer::Value(read_u64(word)?))
 }
 
-// What stands before the first such byte, and what behind it, if there is one.
+// The part before the first byte of this value, and the part after it if there is one.
 fn parted(word: &[u8], byte: u8) -> (&[u8], Option<&[u8]>) {
     match word.iter().position(|at| *at == byte) {
         Some(place) => (&word[..place], Some(&word[place + 1..])),
@@ -290,7 +293,7 @@ fn entry(word: &[u8]) -> Result<Entry, InputFault> {
     }
 }
 
-// An operation and its arguments, parted by colons.
+// An operation and its arguments, separated by colons.
 fn request(word: &[u8]) -> Result<Request, InputFault> {
     let (op, rest) = parted(word, b':');
     let op = read_u16(op)?;

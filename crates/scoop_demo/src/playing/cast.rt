@@ -6,7 +6,7 @@ ghost use Rattle.std.specs.Result.{result_ok, result_err};
 ghost use Rattle.scoop_message.specs.declared.limits.TheConstants.{MAX_ENTRIES};
 ghost use Rattle.scoop_message.specs.declared.name.ClientId.{ClientId};
 ghost use Rattle.scoop_keeper.specs.Memory.{incarnation_at};
-ghost use Rattle.scoop_words.specs.Words.{words_of};
+ghost use Rattle.scoop_lines.specs.Words.{words_of};
 ghost use Rattle.scoop_demo.specs.ScriptLine.{Placed, joining, handler_line, client_line, event_line};
 ghost use Rattle.scoop_demo.specs.Script.{Parties, Opens, StopsAtLine, StopsOpening, StopsClosed, parties_of, party_fault, words_fault, is_event, opens_at};
 ghost use Rattle.scoop_demo.specs.Script.{unopened};
@@ -32,8 +32,7 @@ use std::alloc::Global;
 use std::io::Write;
 use std::{io, mem};
 
-/// The parties that the lines so far have named, and their world from the first event on, with whether the last event
-/// was refused.
+/// The parties that the lines so far named, their world from the first event on, and whether the last event was refused.
 #[derive(Drop)]
 pub struct Cast {
     alloc: Global,
@@ -54,7 +53,7 @@ fn fault_at(line: u32, fault: InputFault) -> RunError
     RunError::Input { line, fault }
 }
 
-// How it is told at the line of this number that the world doesn't open.
+// The error at the line of this number if the world doesn't open.
 fn unopened(line: u32, error: WorldOpenError) -> RunError
     ensures { result ≡ unopened line error }
 {
@@ -65,7 +64,7 @@ fn unopened(line: u32, error: WorldOpenError) -> RunError
 }
 
 impl Cast {
-    /// A cast without parties, whose world will open over this keeper.
+    /// A cast without parties. Its world will open over this keeper.
     pub fn new(alloc: Global, keeper: MemoryKeeper) -> Cast
         ensures closed { is_some result.world ≡ false }
         ensures waits { IsWaiting ⟦<Table as Behaviour>⟧.class result.placements.items result.clients.items (incarnation_at result.keeper) (parties_of [])
@@ -84,7 +83,7 @@ impl Cast {
         }
     }
 
-    /// Plays the line of this number, told before what its event did where that is asked for. The picture is told each event.
+    /// Plays the line of this number. With `echoes`, writes the line before its event's. The picture notes each event.
     pub fn play_line<W: Write>(
         &mut self,
         number: u32,
@@ -146,7 +145,7 @@ impl Cast {
         }
     }
 
-    // Keeps a handler that is placed. One past the limit stands for all that follow.
+    // Stores a placed handler. One past the limit stands for all later ones.
     fn add_placement(&mut self, placed: PlacedLine) -> Result<(), OutOfMemory>
         requires { length placed.words ≡ placed.class.words }
         ensures same { is_some self.new.world ≡ is_some self.old.world }
@@ -200,7 +199,7 @@ impl Cast {
         }
     }
 
-    // Keeps a client that joins. One past the limit stands for all that follow.
+    // Stores a joining client. One past the limit stands for all later ones.
     fn add_client(&mut self, client: ClientId, batch: u8) -> Result<(), OutOfMemory>
         requires some { 1 ≤ batch }
         requires limit { batch ≤ MAX_ENTRIES }
@@ -249,7 +248,7 @@ impl Cast {
         self.play_in_world(number, &event, echo, picture, writer)
     }
 
-    // Plays events in the world, which has opened.
+    // Plays events in the open world.
     fn play_in_world<W: Write>(
         &mut self,
         number: u32,
@@ -275,7 +274,7 @@ impl Cast {
         }
     }
 
-    /// Opens the world, at the line of this number, where it hasn't opened yet.
+    /// Opens the world at the line of this number if it hasn't opened yet.
     pub fn open_by(&mut self, number: u32, picture: &mut Picture) -> Result<(), RunError>
         ensures ok { OnOk result (is_some self.new.world ≡ true) }
         ensures opens { (parties : Parties) (stored : ℕ → Option ℕ)
@@ -293,7 +292,7 @@ impl Cast {
         self.open(number, picture)
     }
 
-    // The picture begins with the parties that are there.
+    // Begins the picture with the parties.
     fn begin(&self, picture: &mut Picture) -> Result<(), OutOfMemory> {
         let mut handlers = Vec::new(self.alloc);
         for placement in &self.placements {
@@ -302,7 +301,7 @@ impl Cast {
         picture.begin(&self.names, &handlers)
     }
 
-    // Opens the world, at the line of this number.
+    // Opens the world at the line of this number.
     fn open(&mut self, number: u32, picture: &mut Picture) -> Result<(), RunError>
         ensures ok { OnOk result (is_some self.new.world ≡ true) }
         ensures opens { (parties : Parties) (stored : ℕ → Option ℕ)
@@ -326,7 +325,7 @@ impl Cast {
         }
     }
 
-    /// Lets the world settle, if it has opened and that is asked for, and then writes what has happened in it.
+    /// Lets an open world settle if the options say so, and then writes its histories.
     pub fn finish<W: Write>(
         &mut self,
         options: PlayOptions,
@@ -344,8 +343,8 @@ impl Cast {
         }
     }
 
-    // Writes what has happened in the world, if it has opened: the common list, then each handler's and each
-    // client's history in ascending order.
+    // Writes the histories of the world if it has opened: the common list, then each handler's and each client's history
+    // in ascending order.
     fn print_histories<W: Write>(&mut self, writer: &mut W) -> io::Result<()> {
         let Some(world) = &self.world else {
             return Ok(());

@@ -1,17 +1,17 @@
-//! What a script's line said, told before what it did.
+//! Echoes of a script's lines, before the lines of their events.
 
 use scoop_message::{Entry, Message, Request};
 use std::io;
 use std::io::Write;
 
-/// A line of a script: its number, if it stands there, and its bytes.
+/// A line to echo: its bytes, and its number if the script has it.
 #[derive(Clone, Copy)]
 pub struct Echo<'a> {
     number: Option<u32>,
     line: &'a [u8],
 }
 
-/// What a line's event is about.
+/// The subject of a line's event.
 #[derive(Clone, Copy)]
 pub enum Subject<'a> {
     /// The message that was sent or taken.
@@ -22,7 +22,7 @@ pub enum Subject<'a> {
 }
 
 impl<'a> Echo<'a> {
-    /// The line of this number, where it is to be told.
+    /// The echo of the line of this number, if `echoes` is set.
     pub fn of(echoes: bool, number: u32, line: &'a [u8]) -> Option<Echo<'a>> {
         if echoes {
             Some(Echo {
@@ -34,7 +34,7 @@ impl<'a> Echo<'a> {
         }
     }
 
-    /// A line that doesn't stand in the script, where it is to be told.
+    /// The echo of a line that the script doesn't have, if `echoes` is set.
     pub fn unnumbered(echoes: bool, line: &'a [u8]) -> Option<Echo<'a>> {
         if echoes {
             Some(Echo { number: None, line })
@@ -43,7 +43,7 @@ impl<'a> Echo<'a> {
         }
     }
 
-    /// Writes the echo: the line's number and the line, and what its event is about.
+    /// Writes the echo: the line's number, the line, and the subject of its event.
     pub fn print<W: Write>(&self, subject: Subject<'_>, writer: &mut W) -> io::Result<()> {
         match self.number {
             Some(number) => write!(writer, "{number}: ")?,
@@ -65,7 +65,7 @@ impl<'a> Echo<'a> {
     }
 }
 
-// Writes a message: its kind, whom it is about, its numbers, and the handler that it goes to or comes from.
+// Writes a message: its kind, its client or block, its numbers, and its handler.
 fn print_told<W: Write>(message: &Message, writer: &mut W) -> io::Result<()> {
     match message {
         Message::Hello(h, c, inc) => write!(writer, "Hello {c}.{inc} to {h}"),

@@ -1,8 +1,8 @@
-//! The events of a script.
+//! Events of a script.
 
 use crate::playing::echo::{Echo, Subject};
 use crate::playing::picture::Picture;
-use crate::playing::telling::tell_note;
+use crate::printing::print_note;
 use crate::script::EventLine;
 use scoop_message::{ClientId, HandlerId, OutOfMemory};
 use scoop_object::Table;
@@ -10,7 +10,7 @@ use scoop_world::{Event, World, WorldError, WorldNote};
 use std::io;
 use std::io::Write;
 
-/// Why a script isn't played further.
+/// Why a script isn't played to its end.
 #[derive(Clone, Copy)]
 pub enum Stop {
     /// The output could not be written.
@@ -19,19 +19,19 @@ pub enum Stop {
     OutOfMemory,
 }
 
-/// What came of an event.
+/// The outcome of an event.
 #[derive(Clone, Copy)]
 pub enum Outcome {
-    /// It was taken, and sent a message, which has this place.
+    /// It was taken, and sent the message at this place.
     Sent(usize),
-    /// It was taken, and sent none.
+    /// It was taken, and sent no message.
     Taken,
     /// It was refused.
     Refused,
 }
 
-/// Plays what one line asks for, and writes a line for each event, `refused` and the reason where it is refused,
-/// behind the echo that is asked for. The picture is told each event. The outcome is that of the last event.
+/// Plays the events of one line, and writes a line for each: `refused` and the reason for a refused event. The echo, if
+/// there is one, comes first. The picture notes each event. Returns the outcome of the last event.
 pub fn play<W: Write>(
     world: &mut World<Table>,
     event: &EventLine,
@@ -46,7 +46,7 @@ pub fn play<W: Write>(
     }
 }
 
-// Tells the picture what came of an event.
+// Notes an event and its outcome in the picture.
 fn draw(
     picture: &mut Picture,
     world: &World<Table>,
@@ -59,7 +59,7 @@ fn draw(
     }
 }
 
-// One event, with its line behind the echo.
+// Plays one event, and writes its line after the echo.
 fn step<W: Write>(
     world: &mut World<Table>,
     event: &Event,
@@ -75,7 +75,7 @@ fn step<W: Write>(
     tell(world, &outcome, writer)
 }
 
-// What an event is about: the message that was taken, or the entry that ran.
+// The subject of an event: the message that was taken, or the entry that ran.
 fn subject<'a>(
     world: &'a World<Table>,
     event: &Event,
@@ -88,7 +88,7 @@ fn subject<'a>(
     }
 }
 
-// The message that was sent at this place, where there is one.
+// The message that was sent at this place, if there is one.
 fn subject_at(world: &World<Table>, place: Option<usize>) -> Subject<'_> {
     let Some(place) = place else {
         return Subject::Nothing;
@@ -99,7 +99,7 @@ fn subject_at(world: &World<Table>, place: Option<usize>) -> Subject<'_> {
     }
 }
 
-// Writes the line of what came of an event.
+// Writes the line of an event's outcome.
 fn tell<W: Write>(
     world: &World<Table>,
     outcome: &Result<WorldNote, WorldError>,
@@ -110,10 +110,10 @@ fn tell<W: Write>(
         Err(error) => return refuse(*error, writer),
     };
     let Some(place) = sent_by(note) else {
-        written(tell_note(note, None, writer))?;
+        written(print_note(note, None, writer))?;
         return Ok(Outcome::Taken);
     };
-    written(tell_note(note, world.sent(place), writer))?;
+    written(print_note(note, world.sent(place), writer))?;
     Ok(Outcome::Sent(place))
 }
 
@@ -126,7 +126,7 @@ fn sent_by(note: &WorldNote) -> Option<usize> {
     }
 }
 
-// Writes the line of an event that is refused. Want of memory is no such line.
+// Writes the line of a refused event. Out of memory has no line.
 fn refuse<W: Write>(error: WorldError, writer: &mut W) -> Result<Outcome, Stop> {
     match error {
         WorldError::OutOfMemory => Err(Stop::OutOfMemory),
@@ -144,8 +144,8 @@ fn written(outcome: io::Result<()>) -> Result<(), Stop> {
     }
 }
 
-// The handler's next entry begins, and finishes at once: that it has run is the one line. Where it doesn't
-// begin, that is refused.
+// Begins the handler's next entry, and finishes it at once. Writes one line: of the entry that ran, or of the refused
+// Begin.
 fn run<W: Write>(
     world: &mut World<Table>,
     handler: HandlerId,
@@ -165,7 +165,7 @@ fn run<W: Write>(
     step(world, &Event::Finish(handler), echo, picture, writer)
 }
 
-// The client sends the handler what it owes; the handler hears it, and the client the reply.
+// The client sends the handler the due message. The handler hears it, and the client hears the reply.
 fn trip<W: Write>(
     world: &mut World<Table>,
     client: ClientId,
@@ -184,7 +184,7 @@ fn trip<W: Write>(
     }
 }
 
-// The client sends the handler what it owes. Its message is the echo's.
+// The client sends the handler the due message, which the echo shows.
 fn send<W: Write>(
     world: &mut World<Table>,
     client: ClientId,

@@ -1,6 +1,6 @@
-//! What has happened in a world, written at the end. A line is written by pieces of some items each.
+//! The histories of a world, written at the end. Each line is written in pieces of some items each.
 
-use crate::playing::telling::{LineText, put};
+use crate::printing::{LineText, put};
 use arrayvec::ArrayVec;
 use itoa::Buffer;
 use scoop_handler::Ran;
@@ -32,7 +32,7 @@ pub fn print_world<W: Write>(
     Ok(())
 }
 
-// Writes blocks behind the name of their line: `none` where there are none.
+// Writes blocks after the name of their line: `none` if there are none.
 fn print_blocks<W: Write>(blocks: &[Block], writer: &mut W) -> io::Result<()> {
     let mut line = ArrayVec::new();
     for block in blocks {
@@ -41,7 +41,7 @@ fn print_blocks<W: Write>(blocks: &[Block], writer: &mut W) -> io::Result<()> {
     end_line(&mut line, blocks.is_empty(), writer)
 }
 
-// Writes entries that have run behind the name of their line: `none` where there are none.
+// Writes entries that have run after the name of their line: `none` if there are none.
 fn print_all_ran<W: Write>(all: &[Ran], writer: &mut W) -> io::Result<()> {
     let mut line = ArrayVec::new();
     for ran in all {
@@ -50,7 +50,7 @@ fn print_all_ran<W: Write>(all: &[Ran], writer: &mut W) -> io::Result<()> {
     end_line(&mut line, all.is_empty(), writer)
 }
 
-// Writes accepted answers behind the name of their line: `none` where there are none.
+// Writes accepted answers after the name of their line: `none` if there are none.
 fn print_accepted<W: Write>(
     accepted: &[(HandlerId, Block, u32, Answer)],
     writer: &mut W,
@@ -85,7 +85,7 @@ fn gather_answer<W: Write>(
     }
 }
 
-// A block behind a text.
+// A block after a text.
 fn gather_block<W: Write>(
     line: &mut LineText,
     before: &str,
@@ -97,7 +97,7 @@ fn gather_block<W: Write>(
     gather_number(line, ".", u64::from(block.num), writer)
 }
 
-// A number in decimal digits behind a text.
+// A number in decimal digits after a text.
 fn gather_number<W: Write>(
     line: &mut LineText,
     before: &str,
@@ -109,7 +109,7 @@ fn gather_number<W: Write>(
     gather(line, digits.format(number), writer)
 }
 
-// A text. Where there is no room for it, what was gathered is written.
+// A text. Writes the gathered piece first if there is no room.
 fn gather<W: Write>(line: &mut LineText, text: &str, writer: &mut W) -> io::Result<()> {
     if put(line, text).is_ok() {
         return Ok(());
@@ -119,7 +119,7 @@ fn gather<W: Write>(line: &mut LineText, text: &str, writer: &mut W) -> io::Resu
     writer.write_all(text.as_bytes())
 }
 
-// Writes what was gathered, `none` where there are no items, and ends the line.
+// Writes the gathered piece, or `none` if there are no items, and ends the line.
 fn end_line<W: Write>(line: &mut LineText, is_empty: bool, writer: &mut W) -> io::Result<()> {
     let end = if is_empty { " none\n" } else { "\n" };
     gather(line, end, writer)?;

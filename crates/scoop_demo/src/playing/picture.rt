@@ -1,4 +1,4 @@
-//! The chart of a run, where one is wanted.
+//! The chart of a run, if one is wanted.
 
 use crate::printing::print_note;
 use scoop_chart::{Chart, ChartError};
@@ -9,23 +9,23 @@ use std::alloc::Global;
 use std::io;
 use std::io::Write;
 
-/// The sequence chart of a run, where one is wanted: of the parties that the script named, from its first event on.
+/// The sequence chart of a run, if one is wanted: the parties of the script, from its first event on.
 #[derive(Drop)]
 pub struct Picture {
     alloc: Global,
     is_wanted: bool,
-    // none before the world opens, and none where the run has more events than a chart shows
+    // `None` before the world opens, and after more events than a chart shows
     chart: Option<Chart>,
     is_too_long: bool,
 }
 
 impl Picture {
-    /// A run that is to be drawn.
+    /// A picture of a run to be drawn.
     pub fn wanted(alloc: Global) -> Picture {
         Picture::with(alloc, true)
     }
 
-    /// A run that isn't to be drawn.
+    /// A picture that isn't wanted.
     pub fn unwanted(alloc: Global) -> Picture {
         Picture::with(alloc, false)
     }
@@ -39,12 +39,12 @@ impl Picture {
         }
     }
 
-    /// Whether the run has more events than a chart shows. Then nothing of it is drawn.
+    /// Whether the run has more events than a chart shows. Then nothing is drawn.
     pub fn is_too_long(&self) -> bool {
         self.is_too_long
     }
 
-    /// Writes the chart as SVG, if there is one. A script without an event has none, unless its world opened.
+    /// Writes the chart as SVG, if there is one. A script has one after its world opened.
     pub fn draw<W: Write>(&self, writer: &mut W) -> io::Result<()> {
         match &self.chart {
             Some(chart) => chart.draw(writer),
@@ -52,7 +52,7 @@ impl Picture {
         }
     }
 
-    // The world has opened with these clients and handlers.
+    // Begins the chart: the world opened with these clients and handlers.
     pub(super) fn begin(
         &mut self,
         clients: &[ClientId],
@@ -66,7 +66,7 @@ impl Picture {
         Ok(())
     }
 
-    // An event has happened in the world.
+    // Notes an event of the world.
     pub(super) fn note(
         &mut self,
         world: &World<Table>,

@@ -1,18 +1,18 @@
-//! A world settles behind the last line of its script.
+//! Settling of a world after the last line of its script.
 
 use crate::playing::echo::Echo;
 use crate::playing::events::{Stop, play};
 use crate::playing::picture::Picture;
 use crate::script::EventLine;
+use scoop_calm::{Next, next_of};
 use scoop_message::OutOfMemory;
 use scoop_object::Table;
-use scoop_settle::{Next, next_of};
 use scoop_world::{Command, Event, World};
 use std::alloc::Global;
 use std::io::Write;
 
-/// Plays what is next in the world, again and again until it is calm. Each event writes its line, behind its echo where
-/// one is asked for: the line of a script by which it would happen.
+/// Plays the next useful event of the world until the world is calm. Each event writes its line, after its echo if
+/// `echoes` is set: the script's line for that event.
 pub fn settle<W: Write>(
     alloc: Global,
     world: &mut World<Table>,
@@ -32,7 +32,7 @@ pub fn settle<W: Write>(
     Ok(())
 }
 
-// The line by which it happens.
+// The script's line for the event.
 fn line_of(next: Next) -> EventLine {
     match next {
         Next::Finish(handler) => EventLine::One(Event::Finish(handler)),
@@ -42,7 +42,7 @@ fn line_of(next: Next) -> EventLine {
     }
 }
 
-// The same in the script's words.
+// The same line in words.
 fn said(alloc: Global, next: Next) -> Result<Vec<u8>, OutOfMemory> {
     let mut line = Vec::new(alloc);
     let written = match next {

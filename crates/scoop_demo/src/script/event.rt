@@ -1,37 +1,38 @@
-//! The lines of events.
+//! Lines of events.
 
 ghost use Rattle.std.specs.Prelude.{◌≡◌, ◌≤◌, length};
 ghost use Rattle.scoop_message.specs.declared.limits.TheConstants.{MAX_ARGS};
 ghost use Rattle.scoop_client.specs.declared.handlers.TheConstants.{MAX_NAMED_HANDLERS};
-ghost use Rattle.scoop_words.specs.Words.{words_of};
-ghost use Rattle.scoop_words.specs.Reading.{each_of};
+ghost use Rattle.scoop_lines.specs.Words.{words_of};
+ghost use Rattle.scoop_lines.specs.Reading.{each_of};
 ghost use Rattle.scoop_demo.specs.ScriptLine.{event_line, reserve_line, request_line, place_line, node_line, client_alone, handler_alone, pair_of, handler_of};
 ghost use Rattle.scoop_demo.specs.ScriptLine.{number_of};
 
 use super::kind::EventKind;
 use super::number::{read_numbers, read_u16, read_u32, read_u64};
 use crate::fault::InputFault;
+use scoop_lines::{count_words, next_word, one_word, two_words};
 use scoop_message::limits::MAX_ARGS;
 use scoop_message::{Args, ClientId, HandlerId, Request};
-use scoop_words::{count_words, next_word, one_word, two_words};
 use scoop_world::{Command, Event, HandlerList, MAX_NAMED_HANDLERS};
 
-/// What a line of an event asks for.
-#[derive(Clone, Copy, Debug, PartialEq, Eq)]
+/// The events of one line.
+#[derive(Clone, Copy, PartialEq, Eq)]
 pub enum EventLine {
     /// One event.
     One(Event),
     /// The handler's next entry begins, and finishes at once.
     Run(HandlerId),
-    /// The client sends the handler what it owes to it; if it does, the handler hears it, and the client the
+    /// The client sends the handler the due message, if there is one. The handler hears it, and the client hears the
     /// reply.
     Trip(ClientId, HandlerId),
 }
 
-/// What a line of this kind asks for, by the words behind those that say the kind.
+/// The events of a line of this kind, by the words after the kind.
 ///
-/// The error is `WrongNumberOfWords`, else `TooManyArguments` of a request, else `TooManyHandlers` of a
-/// reserve, else `NotANumber`.
+/// # Errors
+/// The first that applies: `WrongNumberOfWords`, `TooManyArguments` of a request, `TooManyHandlers` of a reserve,
+/// `NotANumber`.
 pub fn read_event(kind: EventKind, line: &[u8]) -> Result<EventLine, InputFault>
     ensures { result ≡ event_line kind (words_of line.now) }
 {

@@ -1,24 +1,24 @@
-//! What the first words of a line say that it is.
+//! Kinds of lines, by their first words.
 
 ghost use Rattle.std.specs.Prelude.{◌≡◌, None, Some, MatchOption};
-ghost use Rattle.scoop_words.specs.Words.{words_of};
+ghost use Rattle.scoop_lines.specs.Words.{words_of};
 ghost use Rattle.scoop_demo.specs.ScriptKind.{kind_of, word_kind, event_kind, restart_kind};
 
-use scoop_words::{is, next_word};
+use scoop_lines::{is, next_word};
 
-/// What a line of a script is, by its first words.
-#[derive(Clone, Copy, Debug, PartialEq, Eq)]
+/// The kind of a script's line, by its first words.
+#[derive(Clone, Copy)]
 pub enum LineKind {
-    /// `handler`: a handler is placed.
+    /// `handler`: it places a handler.
     Handler,
-    /// `client`: a client joins.
+    /// `client`: it lets a client join.
     Client,
-    /// Something happens.
+    /// It is an event.
     Event(EventKind),
 }
 
-/// What happens by a line of a script.
-#[derive(Clone, Copy, Debug, PartialEq, Eq)]
+/// The kind of an event.
+#[derive(Clone, Copy)]
 pub enum EventKind {
     Reserve,
     Call,
@@ -35,8 +35,7 @@ pub enum EventKind {
     RestartNode,
 }
 
-/// What a line is, and what stands behind the words that say so. `None` where they say nothing that is
-/// known.
+/// The kind of a line, and the rest of the line after the words that name the kind. `None` if the first words are unknown.
 pub fn line_kind(line: &[u8]) -> Option<(LineKind, &[u8])>
     ensures { MatchOption result (kind_of (words_of line.now) ≡ None) (λ found. kind_of (words_of line.now) ≡ Some (found.0, words_of found.1.now)) }
 {
@@ -48,7 +47,7 @@ pub fn line_kind(line: &[u8]) -> Option<(LineKind, &[u8])>
     Some((kind, rest))
 }
 
-// What restarts, by the word behind `restart`.
+// The kind of a restart, by the word after `restart`.
 fn restart_kind(line: &[u8]) -> Option<(LineKind, &[u8])>
     ensures { MatchOption result (restart_kind (words_of line.now) ≡ None) (λ found. restart_kind (words_of line.now) ≡ Some (found.0, words_of found.1.now)) }
 {

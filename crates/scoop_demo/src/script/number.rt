@@ -2,16 +2,16 @@
 
 ghost use Rattle.std.specs.Prelude.{◌≡◌, ◌≤◌, ◌^◌, length, MatchResult};
 ghost use Rattle.scoop_message.specs.declared.limits.TheConstants.{MAX_WORDS};
-ghost use Rattle.scoop_words.specs.Words.{words_of};
-ghost use Rattle.scoop_words.specs.Reading.{each_of};
+ghost use Rattle.scoop_lines.specs.Words.{words_of};
+ghost use Rattle.scoop_lines.specs.Reading.{each_of};
 ghost use Rattle.scoop_demo.specs.ScriptLine.{number_below, number_of};
 
 use crate::fault::InputFault;
 use arrayvec::ArrayVec;
+use scoop_lines::{decimal, decimal_u16, decimal_u32, next_word};
 use scoop_message::limits::MAX_WORDS;
-use scoop_words::{decimal, decimal_u16, decimal_u32, next_word};
 
-/// The number below 2^64 that a word writes in decimal digits. `NotANumber` comes exactly where it writes none.
+/// The number below 2^64 that a word writes in decimal digits. The error is `NotANumber` exactly if it writes none.
 pub fn read_u64(word: &[u8]) -> Result<u64, InputFault>
     ensures { result ≡ number_below (2 ^ 64) word.now }
 {
@@ -32,7 +32,7 @@ pub fn read_u16(word: &[u8]) -> Result<u16, InputFault>
     decimal_u16(word).ok_or(InputFault::NotANumber)
 }
 
-/// The numbers of a line that has no more of them than an object may have words.
+/// The numbers of a line of at most as many words as an object may have.
 pub fn read_numbers(line: &[u8]) -> Result<ArrayVec<u64, MAX_WORDS>, InputFault>
     requires { length (words_of line.now) ≤ MAX_WORDS }
     ensures { MatchResult result (λ numbers. each_of number_of (words_of line.now) ≡ Ok numbers.items)

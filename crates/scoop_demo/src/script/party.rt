@@ -1,24 +1,24 @@
-//! The lines of parties.
+//! Lines of parties.
 
 ghost use Rattle.std.specs.Prelude.{◌≡◌, ◌≤◌, length, Ok, Err, IfOk, IfErr};
 ghost use Rattle.scoop_message.specs.declared.limits.TheConstants.{MAX_WORDS, MAX_ENTRIES};
-ghost use Rattle.scoop_words.specs.Words.{words_of};
-ghost use Rattle.scoop_words.specs.Reading.{each_of};
+ghost use Rattle.scoop_lines.specs.Words.{words_of};
+ghost use Rattle.scoop_lines.specs.Reading.{each_of};
 ghost use Rattle.scoop_demo.specs.ScriptLine.{client_line, batch_of, handler_line, class_of, words_for, number_of};
 ghost use Rattle.scoop_demo.specs.LineFault.{IfFault};
 
 use super::number::{read_numbers, read_u32, read_u64};
 use crate::fault::InputFault;
 use scoop_classes::demo_class;
+use scoop_lines::{count_words, next_word};
 use scoop_message::limits::MAX_ENTRIES;
 use scoop_message::{ClientId, HandlerId, OutOfMemory, Words};
 use scoop_object::Class;
-use scoop_words::{count_words, next_word};
 use std::alloc::Global;
 use std::str;
 
 /// Why a line of a party isn't read.
-#[derive(Clone, Copy, Debug, PartialEq, Eq)]
+#[derive(Clone, Copy, PartialEq, Eq)]
 pub enum LineError {
     /// The line has this fault.
     Fault(InputFault),
@@ -26,8 +26,8 @@ pub enum LineError {
     OutOfMemory,
 }
 
-/// A handler as a line places it: its node, its number, and the class and the words of its object.
-#[derive(Drop, Debug)]
+/// A handler that a line places: its node, its number, and the class and the words of its object.
+#[derive(Drop)]
 pub struct PlacedLine {
     pub node: u32,
     pub handler: HandlerId,
@@ -35,9 +35,10 @@ pub struct PlacedLine {
     pub words: Words,
 }
 
-/// A client that joins, and how many entries it puts into one Log, by the words behind `client`.
+/// A client that joins, and the number of entries that it puts into one Log, by the words after `client`.
 ///
-/// The error is `WrongNumberOfWords`, else `NotANumber`, also where the number of entries isn't 1 to 4.
+/// # Errors
+/// The first that applies: `WrongNumberOfWords`; `NotANumber`, also for a number of entries that isn't 1 to 4.
 pub fn read_client(line: &[u8]) -> Result<(ClientId, u8), InputFault>
     ensures value { result ≡ client_line (words_of line.now) }
     ensures batch { IfOk result (λ joining. (1 ≤ joining.1) × (joining.1 ≤ MAX_ENTRIES)) }
@@ -56,7 +57,7 @@ pub fn read_client(line: &[u8]) -> Result<(ClientId, u8), InputFault>
     Ok((client, batch))
 }
 
-// How many entries a client puts into one Log.
+// The number of entries that a client puts into one Log.
 fn read_batch(word: &[u8]) -> Result<u8, InputFault>
     ensures value { result ≡ batch_of word.now }
     ensures bounds { IfOk result (λ batch. (1 ≤ batch) × (batch ≤ MAX_ENTRIES)) }
@@ -67,11 +68,13 @@ fn read_batch(word: &[u8]) -> Result<u8, InputFault>
     }
 }
 
-/// A handler that is placed, by the words behind `handler`.
+/// A handler that a line places, by the words after `handler`.
 ///
-/// The fault is `WrongNumberOfWords` where there are fewer than three words, else the first one from the
-/// left: `NotANumber`, `NoSuchClass`, `WrongNumberOfWords` where the class has more or fewer words, and
-/// `NotANumber` again.
+/// # Errors
+/// - `WrongNumberOfWords`: there are fewer than three words.
+/// - Else the first fault from the left: `NotANumber`, `NoSuchClass`, `WrongNumberOfWords` if the class has another
+///   number of words, and `NotANumber` again.
+/// - `OutOfMemory`.
 pub fn read_placement(alloc: Global, line: &[u8]) -> Result<PlacedLine, LineError>
     ensures ok { IfOk result (λ placed. handler_line (words_of line.now)
         ≡ Ok (record { node = placed.node; handler = placed.handler; class = placed.class; words = placed.words })) }
@@ -125,7 +128,7 @@ fn read_class(alloc: Global, word: &[u8]) -> Result<Class, LineError>
     }
 }
 
-// As many words as the class has.
+// The words of an object, as many as its class has.
 fn read_words(class: &Class, line: &[u8]) -> Result<Words, InputFault>
     ensures { result ≡ words_for class.now (words_of line.now) }
 {

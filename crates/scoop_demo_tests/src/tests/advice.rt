@@ -1,15 +1,16 @@
-//! What is told behind an error of a run: what to do.
+//! Advice on errors of a run.
 
 use super::ONE;
 use scoop_demo::*;
 use scoop_keeper::KeeperError;
+use scoop_lines::SourceFault;
 use scoop_message::ClientId;
 use scoop_world::WorldOpenError;
 
 const FAULTS: [InputFault; 14] = [
-    InputFault::LineTooLong,
-    InputFault::TooManyLines,
-    InputFault::ReadFault,
+    InputFault::Source(SourceFault::LineTooLong),
+    InputFault::Source(SourceFault::TooManyLines),
+    InputFault::Source(SourceFault::ReadFault),
     InputFault::NotHex,
     InputFault::OddDigits,
     InputFault::UnknownLine,
@@ -52,15 +53,17 @@ const ADVICES: [(RunError, &str); 3] = [
             line: 3,
             fault: InputFault::NotHex,
         },
-        "write hex digits, two for each byte of the datagram; spaces are skipped, tabs and carriage returns are not; scoop frame makes them of words that stand behind it, as scoop frame Lock 1 7.1.1",
+        "write two hex digits for each byte of the datagram. Spaces are skipped; tabs and carriage returns are not. To make a \
+        datagram from words, use scoop frame, for example scoop frame Lock 1 7.1.1",
     ),
     (
         RunError::WrongClass(ONE),
-        "name the class that the store was made with by --class",
+        "give --class the class that the store was made with",
     ),
     (
         RunError::Store(KeeperError::BadImage(ONE)),
-        "what it has of this handler was changed or damaged, and can't be repaired: begin anew, with new stores for all nodes and clients, and a new key if there is one",
+        "its state of this handler was changed or damaged, beyond repair. Start over with new stores for all nodes and clients, \
+        and a new key if there is one",
     ),
 ];
 

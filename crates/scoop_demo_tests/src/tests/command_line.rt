@@ -1,4 +1,4 @@
-//! What the program tells of wrong command lines, and its help.
+//! Errors of wrong command lines, and the help.
 
 use clap::Error;
 use scoop_classes::DemoClass;
@@ -6,7 +6,7 @@ use scoop_command_line::command;
 use std::alloc::Global;
 use std::process::Abort;
 
-// A command line, and parts of what it is told, in order.
+// A command line, and parts of its output, in order.
 type Case<'a> = (&'a [&'a str], &'a [&'a str]);
 
 const WRONG: [Case; 12] = [
@@ -88,7 +88,7 @@ const HELP: [Case; 8] = [
             "Runs one handler",
             "datagrams of standard input",
             "answered with one line",
-            "account    1 word    1 deposit A, 2 withdraw A (refused where there is less), 3 balance",
+            "account    1 word    1 deposit A, 2 withdraw A (refused if there is less), 3 balance",
             "Statuses: 0; 1 ",
             "Example: scoop frame Hello 1 7 1 | scoop answer",
             "Usage: scoop answer",
@@ -134,7 +134,7 @@ const HELP: [Case; 8] = [
     (
         &["scoop", "check", "--help"],
         &[
-            "Reads a file that says of a system",
+            "Reads a TOML file with a system's nodes",
             "class stock 2 words",
             "Statuses: 0; 1 ",
             "Example: scoop check examples/bank.toml",
@@ -160,9 +160,9 @@ const HELP: [Case; 8] = [
         &["scoop", "client", "--help"],
         &[
             "Runs a client of the system",
-            "give --new for a client that never ran",
+            "Use --new for a client that never ran",
             "condition failed T",
-            "Statuses: 0, also where lines were `refused`",
+            "Statuses: 0, also if lines were `refused`",
             "Example: scoop client 7 --system examples/bank.toml",
             "Usage: scoop client [OPTIONS] --system <FILE> <N>",
             "--strict",
@@ -172,9 +172,9 @@ const HELP: [Case; 8] = [
     ),
 ];
 
-// The error with which a command line ends that isn't taken.
+// The error of a command line that is refused.
 fn ended(rt: &impl Abort, alloc: Global, line: &[&str]) -> Error {
-    // what is wrong with a command line, and its help, is an error with a text and the program's status
+    // a wrong command line and the help are errors with a text and the program's status
     let names = DemoClass::names();
     let command = match command(alloc, &names) {
         Ok(command) => command,
@@ -197,7 +197,7 @@ fn has(rt: &impl Abort, text: &str, parts: &[&str]) {
     }
 }
 
-// The program is told what the parts say, and ends with this status.
+// The program prints these parts, and ends with this status.
 fn tells(rt: &impl Abort, alloc: Global, (line, parts): &Case<'_>, status: i32) {
     let error = ended(rt, alloc, line);
     assert_eq!(rt; error.exit_code(), status);
@@ -208,7 +208,7 @@ fn tells(rt: &impl Abort, alloc: Global, (line, parts): &Case<'_>, status: i32) 
 }
 
 #[test]
-fn wrong_command_lines_are_told(rt: HostRuntime) {
+fn wrong_command_lines_are_refused(rt: HostRuntime) {
     for case in &WRONG {
         tells(&rt, rt.alloc(), case, 2);
     }

@@ -1,16 +1,17 @@
-//! What is answered to inputs.
+//! Answers to inputs.
 
 use super::{Case, ONE, answers, runs_cell, runs_over, says, table_book};
 use scoop_classes::AccountObject;
 use scoop_demo::*;
 use scoop_keeper::{KeeperError, MemoryKeeper};
+use scoop_lines::SourceFault;
 use scoop_message::HandlerId;
 use scoop_object::Boxed;
 use std::alloc::Global;
 use std::process::Abort;
 use std::test::Fail;
 
-// A cell of its own answers the input so, and its words are shown.
+// A new cell gives these answers to the input, and shows its words.
 fn runs(rt: &impl Abort, alloc: Global, case: Case<'_>) {
     runs_cell(rt, alloc, MemoryKeeper::new(alloc), case);
 }
@@ -188,7 +189,7 @@ fn names_the_line_of_a_fault(rt: HostRuntime) -> Result<(), Fail> {
     runs(
         &rt,
         rt.alloc(),
-        (&longer, fault!(2, LineTooLong), "refused Short\n"),
+        (&longer, unread!(2, LineTooLong), "refused Short\n"),
     );
     Ok(())
 }
@@ -197,7 +198,7 @@ const ERRORS: [(RunError, &str, u8); 10] = [
     (
         RunError::Input {
             line: 3,
-            fault: InputFault::LineTooLong,
+            fault: InputFault::Source(SourceFault::LineTooLong),
         },
         "line 3: line too long",
         1,
@@ -205,7 +206,7 @@ const ERRORS: [(RunError, &str, u8); 10] = [
     (
         RunError::Input {
             line: 3,
-            fault: InputFault::TooManyLines,
+            fault: InputFault::Source(SourceFault::TooManyLines),
         },
         "line 3: too many lines",
         1,
@@ -213,7 +214,7 @@ const ERRORS: [(RunError, &str, u8); 10] = [
     (
         RunError::Input {
             line: 3,
-            fault: InputFault::ReadFault,
+            fault: InputFault::Source(SourceFault::ReadFault),
         },
         "line 3: read fault",
         1,
@@ -241,7 +242,7 @@ const ERRORS: [(RunError, &str, u8); 10] = [
     (RunError::HistoryFull, "store: HistoryFull", 3),
 ];
 
-// What a keeper's refusals are to a run.
+// A run's errors for a keeper's refusals.
 const REFUSALS: [(KeeperError, &str); 4] = [
     (KeeperError::OutOfMemory, "out of memory"),
     (KeeperError::Refused, "store: Refused"),

@@ -1,4 +1,4 @@
-//! Runs over keepers: what is stored, and what a refusal leaves.
+//! Runs over keepers, and refusals of keepers.
 
 use super::{Case, HELLO, LOCK, ONE, answers, opened, runs_cell, runs_over, table_book};
 use scoop_classes::{CellObject, ExchangeObject};
@@ -31,7 +31,7 @@ fn cell_refusal<K: Keeper<Global>>(rt: &impl Abort, alloc: Global, keeper: K) ->
 
 const EXCHANGED: Case = (LOCK, Ok(()), "none Dropped Ungreeted\nwords 0 0\n");
 
-// What a keeper has behind a run of an exchange, which has two words.
+// The keeper after a run of an exchange, which has two words.
 fn behind_an_exchange(rt: &impl Abort, alloc: Global) -> MemoryKeeper {
     let keeper = MemoryKeeper::new(alloc);
     match Box::new(alloc, ExchangeObject::new(0, 0)) {
@@ -110,7 +110,7 @@ const LINES: &str = opening!(
     5351010a0000000100000007000000010000000100000002000c010001010000000000000006\n"
 );
 
-// What is answered to its lines, and the words behind them.
+// The answers to its lines, and the words after them.
 const ANSWERS: &str = opened!(
     "5351010b00000001000000070000000100000001000000010000\n\
     5351010b00000001000000070000000100000001000000020000\n\
@@ -118,7 +118,7 @@ const ANSWERS: &str = opened!(
     words 6\n"
 );
 
-// What stands behind so many lines.
+// The text after this many lines.
 fn behind(text: &str, lines: usize) -> &str {
     let mut rest = text;
     for _ in 0..lines {
@@ -132,8 +132,8 @@ fn behind(text: &str, lines: usize) -> &str {
 
 const REFUSED: Result<(), RunError> = Err(RunError::Store(KeeperError::Refused));
 
-// What a keeper has behind a run over the block that is refused after so many of its calls, the first of which was its
-// load. So many lines are answered.
+// The keeper after a run over the block. It refuses after this many calls, the first of which is its load. This many lines
+// are answered.
 fn refused(rt: &impl Abort, alloc: Global, calls: u64, answered: usize) -> MemoryKeeper {
     let keeper = FailingKeeper::new(MemoryKeeper::new(alloc), calls);
     let output = ANSWERS.strip_suffix(behind(ANSWERS, answered));
@@ -141,15 +141,15 @@ fn refused(rt: &impl Abort, alloc: Global, calls: u64, answered: usize) -> Memor
     runs_cell(rt, alloc, keeper, case).into_inner()
 }
 
-// A run goes on behind that one with the lines that have no answer yet.
+// A second run goes on with the lines that have no answer yet.
 fn goes_on(rt: &impl Abort, alloc: Global, calls: u64, answered: usize) {
     let keeper = refused(rt, alloc, calls, answered);
     let case = (behind(LINES, answered), Ok(()), behind(ANSWERS, answered));
     runs_cell(rt, alloc, keeper, case);
 }
 
-// Behind how many calls the keeper refuses, and how many lines are answered then: one load; then one put for each line
-// before its answer, and one behind each entry that has run. The last line changes nothing, and is not put again.
+// The number of calls before the keeper refuses, and the number of answered lines: one load; then one put for each line
+// before its answer, and one after each entry that has run. The last line changes nothing, and is not put again.
 const ANSWERED: [(u64, usize); 8] = [
     (1, 0),
     (2, 1),

@@ -1,7 +1,7 @@
 //! Scripts that are played, and the lines that they write.
 //!
-//! A line of a text is a line of a script, and behind `> ` stands what it writes, parted by `; `. The last
-//! lines, which write the histories, have nothing before that.
+//! A line of a text is a line of a script. Its output comes after `> `, separated by `; `. The last lines, which write the
+//! histories, have nothing before that.
 
 use super::says;
 use scoop_demo::*;
@@ -15,7 +15,7 @@ use std::str;
 mod faults;
 mod limits;
 
-// Parts a text into a script and what that is to write.
+// Splits a text into a script and its expected output.
 fn parts(text: &str, script: &mut String, output: &mut String) -> Result<(), AllocError> {
     for line in text.split('\n') {
         let (asked, written) = line.split_once("> ").unwrap_or((line, ""));
@@ -29,7 +29,7 @@ fn parts(text: &str, script: &mut String, output: &mut String) -> Result<(), All
     Ok(())
 }
 
-// How a script ends over what a keeper has. What it writes is put behind what was written.
+// The end of a script over a keeper. Appends its output.
 fn played(
     alloc: Global,
     keeper: MemoryKeeper,
@@ -39,7 +39,7 @@ fn played(
     world_run(alloc, keeper, script.as_bytes(), written)
 }
 
-// Plays a text over what a keeper has: each line writes what stands behind it, and nothing else.
+// Plays a text over a keeper: each line writes exactly the output that the text gives it.
 fn plays_over(rt: &impl Abort, alloc: Global, keeper: MemoryKeeper, text: &str) {
     let mut script = String::new(alloc);
     let mut output = String::new(alloc);
@@ -53,7 +53,7 @@ fn plays(rt: &impl Abort, alloc: Global, text: &str) {
     plays_over(rt, alloc, MemoryKeeper::new(alloc), text);
 }
 
-// A script stops with this text, and has written this.
+// A script stops with this text and this output.
 fn stops(rt: &impl Abort, alloc: Global, script: &str, text: &str, output: &str) {
     let mut written = Vec::new(alloc);
     match played(alloc, MemoryKeeper::new(alloc), script, &mut written) {
@@ -404,7 +404,7 @@ fn spends_the_incarnations_of_a_client(rt: HostRuntime) {
     assert!(rt; written.is_empty());
 }
 
-// What a world refuses, the reserving of handlers aside.
+// Refusals of a world, except those of a reserve.
 const REFUSED: &str = "\
 handler 1 1 cell 0
 handler 1 2 cell 0
@@ -459,13 +459,13 @@ giveup 7 > refused TooLate
 > client 7 accepted none";
 
 #[test]
-fn tells_why_an_event_is_refused(rt: HostRuntime) {
+fn prints_why_an_event_is_refused(rt: HostRuntime) {
     plays(&rt, rt.alloc(), REFUSED);
 }
 
 const DOC_SCRIPT: &str = "handler 1 1 cell 0\nclient 7\ntrip 7 1";
 
-// a trip: the client says what it owes, and hears the reply; the histories come behind the last line
+// a trip: the client sends what it owes, and hears the reply; the histories come after the last line
 const DOC_OUTPUT: &str = "\
 sent 1 Hello
 Greeted sent 2
@@ -533,7 +533,7 @@ const ALL_ECHOES: &str = echoes!(
     client 7 accepted none\n"
 );
 
-// How a script ends that tells its lines, and ends at the first refusal where it is strict; and what it writes.
+// The end and the output of a script that echoes its lines, and that ends at the first refusal if it is strict.
 fn echoed(
     alloc: Global,
     script: &str,
@@ -550,7 +550,7 @@ fn echoed(
 }
 
 #[test]
-fn tells_the_lines_that_it_plays(rt: HostRuntime) {
+fn echoes_the_lines_that_it_plays(rt: HostRuntime) {
     let mut written = Vec::new(rt.alloc());
     assert_eq!(rt; echoed(rt.alloc(), ECHOED, false, &mut written), Ok(()));
     assert_eq!(rt; str::from_utf8(&written).ok(), Some(ALL_ECHOES));
@@ -594,7 +594,7 @@ ran 7.1.1 2 5
 ";
 
 #[test]
-fn tells_the_entries_that_run(rt: HostRuntime) {
+fn echoes_the_entries_that_run(rt: HostRuntime) {
     let mut written = Vec::new(rt.alloc());
     assert_eq!(rt; echoed(rt.alloc(), RAN, true, &mut written), Ok(()));
     let text = str::from_utf8(&written).ok().unwrap_or("");

@@ -1,8 +1,9 @@
-//! Readers and writers that fail, and who waits for an answer.
+//! Readers and writers that fail, and a user who waits for an answer.
 
 use super::{ONE, table_book};
 use scoop_demo::*;
 use scoop_keeper::MemoryKeeper;
+use scoop_lines::{MAX_LINES, SourceFault};
 use std::alloc::Global;
 use std::cell::Cell;
 use std::io;
@@ -53,7 +54,7 @@ impl Read for User<'_> {
     }
 }
 
-/// A screen with so much room, which shows what was flushed.
+/// A screen with this much room, which shows flushed output.
 #[derive(Drop)]
 pub struct Screen<'a> {
     pub hidden: &'a Cell<usize>,
@@ -77,7 +78,7 @@ impl Write for Screen<'_> {
     }
 }
 
-// How a run ends.
+// The end of a run.
 fn ended<R: Read + Drop, W: Write>(
     rt: &impl Abort,
     alloc: Global,
@@ -88,7 +89,7 @@ fn ended<R: Read + Drop, W: Write>(
     answer_run(&mut book, Some(ONE), reader, writer)
 }
 
-// How a run over so many newlines ends, behind which this error or the end comes.
+// The end of a run over this many newlines, after which this error or the end comes.
 fn ended_behind(
     rt: &impl Abort,
     alloc: Global,
@@ -101,9 +102,9 @@ fn ended_behind(
 #[test]
 fn ends_at_a_read_fault_and_past_the_last_line(rt: HostRuntime) {
     let faulty = ended_behind(&rt, rt.alloc(), 3, Some(ErrorKind::Other));
-    assert_eq!(rt; faulty, fault!(4, ReadFault));
+    assert_eq!(rt; faulty, unread!(4, ReadFault));
     let long = ended_behind(&rt, rt.alloc(), MAX_LINES as usize + 1, None);
-    assert_eq!(rt; long, fault!(MAX_LINES + 1, TooManyLines));
+    assert_eq!(rt; long, unread!(MAX_LINES + 1, TooManyLines));
 }
 
 // A Lock, a Hello, and the Lock again.
@@ -112,14 +113,14 @@ const TYPED: &str = "\
     53510101 00000001 00000007 00000001 00000000 00000000 0000\n\
     53510103 00000001 00000007 00000001 00000001 00000000 0000\n";
 
-// How much room the screen has, and how the run ends.
+// The room of the screen, and the end of the run.
 const ROOMS: [(usize, Result<(), RunError>); 3] = [
     (1000, Ok(())),
     (20, Err(RunError::Write)),
     (60, Err(RunError::Write)),
 ];
 
-// How a run ends over what a user types.
+// The end of a run over the bytes that a user types.
 fn typed(rt: &impl Abort, alloc: Global, room: usize) -> Result<(), RunError> {
     let hidden = Cell::new(0);
     let user = User {

@@ -1,5 +1,5 @@
-//! A driver's calls with what they answer, as rows. The driver is lent to them, so that a test has no way
-//! out of its calls that drops one.
+//! A driver's calls with their results, as rows. The rows borrow the driver, so no early return of a test has to
+//! drop one.
 
 use super::node::{BALANCE, DEPOSIT};
 use super::{ONE, request};
@@ -16,18 +16,18 @@ pub enum Act {
     Turn,
     Reserve(HandlerId),
     Call(HandlerId, u16, u64),
-    /// Pays one into the account, so many times.
+    /// Pays one into the account, this number of times.
     Pay(u32),
     Query(HandlerId, u16, u64),
     End,
     GiveUp,
     /// Waits for a balance of at least this, to make this request.
     When(u64, u16, u64),
-    /// Asks what is due to a handler.
+    /// Reads the message that is due to a handler.
     Due(HandlerId),
 }
 
-/// What a call answers.
+/// The result of a call.
 #[derive(Clone, Copy, Debug, PartialEq, Eq)]
 pub enum Told {
     Done,
@@ -37,7 +37,7 @@ pub enum Told {
     Due(Option<Message>),
 }
 
-/// A call, what it is to answer, and what the client is at behind it.
+/// A call, its result, and the client's phase after it.
 pub type Row = (Act, Result<Told, DriverError>, Phase);
 
 pub const DONE: Result<Told, DriverError> = Ok(Told::Done);
@@ -120,7 +120,7 @@ pub fn makes<L: Link, D: Diary<A>, A: Allocator + Clone>(
     }
 }
 
-/// Makes the calls, each of which is to answer so.
+/// Makes the calls, each with its result.
 pub fn plays<L: Link, D: Diary<A>, A: Allocator + Clone>(
     rt: &impl Abort,
     driver: &mut Driver<L, D, A>,

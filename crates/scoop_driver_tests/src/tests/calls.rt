@@ -18,7 +18,8 @@ const NO_BLOCK: Result<Told, DriverError> = Err(DriverError::Client(ClientError:
 
 const UNLOCKED: Result<Told, DriverError> = Ok(Told::Note(Some(ClientNote::Unlocked(ONE))));
 
-/// Plays the rows with a driver over a wire to this node, whose calls take so many turns: the balance in the end.
+/// Plays the rows with a driver over a wire to this node, whose calls take at most `turns` turns, and compares the
+/// balance in the end.
 fn plays_over(rt: &impl Abort, alloc: Global, node: Node, turns: u64, rows: &[Row]) -> Option<u64> {
     let mut driver = Driver::new(client(rt, alloc), Wire::new(node), turns);
     plays(rt, &mut driver, rows);
@@ -78,7 +79,7 @@ const WITHOUT_TURNS: [Row; 8] = [
 ];
 
 #[test]
-fn a_full_window_without_turns_is_told_as_such(rt: HostRuntime) {
+fn a_full_window_without_turns_is_reported(rt: HostRuntime) {
     let node = Node::new(&rt, rt.alloc());
     let _balance = plays_over(&rt, rt.alloc(), node, 0, &WITHOUT_TURNS);
 }
@@ -144,7 +145,7 @@ const REFUSED: [Row; 9] = [
 ];
 
 #[test]
-fn the_clients_refusals_are_told(rt: HostRuntime) {
+fn the_clients_refusals_are_returned(rt: HostRuntime) {
     let node = Node::new(&rt, rt.alloc());
     let _balance = plays_over(&rt, rt.alloc(), node, 10, &REFUSED);
 }

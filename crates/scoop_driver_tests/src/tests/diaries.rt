@@ -1,4 +1,4 @@
-//! What diaries are handed.
+//! Diaries: the steps that they get.
 
 use super::acts::{Act, DONE, FAULT, NO_FRAME, RESERVES, Row, Told, WELCOMED, plays};
 use super::node::{BALANCE, DEPOSIT, Node, Wire};
@@ -11,7 +11,7 @@ use std::alloc::Allocator;
 use std::process::Abort;
 use std::test::Fail;
 
-/// Does with a client what a step tells. Whether it took a command, if that is what the step tells.
+/// Plays a step with a client. Returns whether the client took its command, if the step has one.
 fn replays(client: &mut Client, step: &Step) -> bool {
     match step {
         Step::Gave(Command::Reserve(handlers)) => client.reserve(handlers.as_slice()).is_ok(),
@@ -27,14 +27,14 @@ fn replays(client: &mut Client, step: &Step) -> bool {
     }
 }
 
-/// Does with a client what the steps tell.
+/// Plays the steps with a client.
 pub fn takes(rt: &impl Abort, client: &mut Client, steps: &[Step]) {
     for step in steps {
         assert!(rt; replays(client, step));
     }
 }
 
-/// How many of the steps are commands.
+/// The number of commands among the steps.
 fn commands(steps: &[Step]) -> usize {
     let mut count = 0usize;
     for step in steps {
@@ -45,7 +45,7 @@ fn commands(steps: &[Step]) -> usize {
     count
 }
 
-/// A client that takes the steps of a diary stands where the block has ended.
+/// A client that plays the steps of a diary comes to where the block has ended.
 fn stands_behind(rt: &impl Abort, again: &mut Client, steps: &[Step]) {
     assert_eq!(rt; commands(steps), 4);
     takes(rt, again, steps);
@@ -82,7 +82,7 @@ fn a_kept_diary_replays(rt: HostRuntime) {
     plays(&rt, &mut driver, &[RESERVES]);
 }
 
-/// Which kind of turn the step at this place of the diary is: what was received, or a broken turn's place.
+/// The kind of the turn at this place of the diary: the datagram received, or a broken turn's place.
 fn kind(steps: &[Step], place: usize) -> Option<&str> {
     match steps.get(place)? {
         Step::Gave(_) => Some("gave"),
@@ -94,7 +94,7 @@ fn kind(steps: &[Step], place: usize) -> Option<&str> {
     }
 }
 
-/// The steps of a datagram that is no frame, of silence, and of a send without room.
+/// The steps of a datagram that is no frame, of a receive timeout, and of a send without room.
 fn are_three(rt: &impl Abort, steps: &[Step]) {
     let kinds = [Some("no frame"), Some("nothing"), Some("broke"), None];
     for place in 0..4usize {
@@ -121,7 +121,7 @@ fn strays_and_broken_turns_are_kept(rt: HostRuntime) -> Result<(), Fail> {
     Ok(())
 }
 
-/// A diary that counts what was sent, and keeps no steps.
+/// A diary that counts sends, and keeps no steps.
 #[derive(Drop)]
 struct Sends {
     count: u64,
@@ -153,7 +153,7 @@ impl<A: Allocator> Diary<A> for Sends {
     fn broke(&mut self, _client: &Client<A>, _place: usize) {}
 }
 
-/// Behind these calls so many sends are counted.
+/// After these calls this number of sends is counted.
 fn counts(rt: &impl Abort, driver: &mut Driver<Wire, Sends>, rows: &[Row], sends: u64) {
     plays(rt, driver, rows);
     assert_eq!(rt; driver.diary().count, sends);
@@ -162,7 +162,7 @@ fn counts(rt: &impl Abort, driver: &mut Driver<Wire, Sends>, rows: &[Row], sends
 const TURNS: [Row; 2] = [WELCOMED, (Act::Turn, NO_FRAME, Phase::Idle)];
 
 #[test]
-fn a_diary_sees_what_was_due(rt: HostRuntime) {
+fn a_diary_sees_due_messages(rt: HostRuntime) {
     let wire = Wire::new(Node::new(&rt, rt.alloc()));
     let mut driver = Driver::with_diary(client(&rt, rt.alloc()), wire, 10, Sends { count: 0 });
     counts(&rt, &mut driver, &[], 0);

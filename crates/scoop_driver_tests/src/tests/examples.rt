@@ -8,7 +8,7 @@ use scoop_message::{Answer, Args, Request};
 use std::process::Abort;
 use std::test::Fail;
 
-// Each part of the example is lent the driver, so that no way out of it has one to drop.
+// Each part of the example borrows the driver, so no early return of it has to drop one.
 fn pays(rt: &impl Abort, driver: &mut Driver<Wire>) -> Result<(), Fail> {
     assert_eq!(rt; driver.turn()?, Some(ClientNote::Welcomed(ONE)));
     driver.reserve(&[ONE])?;
@@ -33,7 +33,7 @@ fn an_account_is_paid_and_asked(rt: HostRuntime) -> Result<(), Fail> {
     let client = client(&rt, rt.alloc());
     let link = Wire::new(Node::new(&rt, rt.alloc()));
 
-    // the link leads to handler 1, whose object is an account, and each call takes ten turns at most
+    // the link leads to handler 1, whose object is an account, and each call takes at most ten turns
     let mut driver = Driver::new(client, link, 10);
     pays(&rt, &mut driver)?;
     asks(&rt, &mut driver)

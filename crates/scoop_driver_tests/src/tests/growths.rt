@@ -1,4 +1,4 @@
-//! A driver that keeps a diary, each growth of each call refused in turn.
+//! A driver that keeps a diary, with each growth of each call refused in turn.
 
 use super::acts::{Act, DONE, RESERVES, Row, Told, WELCOMED, makes, plays};
 use super::diaries::takes;
@@ -17,7 +17,7 @@ type Kept<'a> = Driver<Wire, StepList<Heap<'a>>, Heap<'a>>;
 
 const WANTING: Result<Told, DriverError> = Err(DriverError::Client(ClientError::OutOfMemory));
 
-/// What is done with the driver, one call after another.
+/// The calls of a driver, one after another.
 const ROWS: [Row; 6] = [
     WELCOMED,
     RESERVES,
@@ -35,7 +35,8 @@ const ROWS: [Row; 6] = [
     ),
 ];
 
-/// The diary has the steps that were made and no other: a client that takes these stands where the driver's does.
+/// The diary has exactly the steps that were made: a client that plays these comes to where the driver's client
+/// is.
 fn is_kept<'a>(rt: &impl Abort, alloc: Global, driver: &Kept<'a>) {
     let mut again = client(rt, alloc);
     takes(rt, &mut again, driver.diary().steps());
@@ -43,7 +44,7 @@ fn is_kept<'a>(rt: &impl Abort, alloc: Global, driver: &Kept<'a>) {
     assert_eq!(rt; again.due(ONE), driver.due(ONE));
 }
 
-/// The call of a row, with a growth refused, is told where memory is wanted.
+/// The call of a row, with a growth refused, reports that memory ran out.
 fn is_told<'a>(
     rt: &impl Abort,
     heap: Heap<'a>,
@@ -60,7 +61,8 @@ fn is_told<'a>(
     refused
 }
 
-/// The rows up to the one at this place, in whose call the growth of this number is refused: whether it was.
+/// The rows up to the one at this place, in whose call the growth of this number is refused. Returns whether it
+/// was.
 fn refuses_in<'a>(
     rt: &impl Abort,
     alloc: Global,
@@ -89,7 +91,7 @@ fn refuses(rt: &impl Abort, alloc: Global, last: usize, number: u64) -> bool {
     refuses_in(rt, alloc, &heap, &mut driver, last, number)
 }
 
-/// How many growths the call of the row at this place takes.
+/// The number of growths that the call of the row at this place takes.
 fn growths(rt: &impl Abort, alloc: Global, place: usize) -> u64 {
     for number in 1..16u64 {
         if !refuses(rt, alloc, place, number) {
@@ -101,7 +103,7 @@ fn growths(rt: &impl Abort, alloc: Global, place: usize) -> u64 {
 
 #[test]
 fn each_growth_of_each_call_is_refused(rt: HostRuntime) {
-    // the turn, the reserve and the wait take one at least
+    // the turn, the reserve and the wait take at least one each
     for (place, least) in [(0, 1), (1, 1), (2, 0), (3, 0), (4, 0), (5, 1)] {
         assert!(rt; growths(&rt, rt.alloc(), place) >= least);
     }

@@ -15,10 +15,10 @@ use std::process::Abort;
 /// Adds the argument to the balance.
 pub const DEPOSIT: u16 = 1;
 
-/// Takes the argument from the balance, if that is there.
+/// Takes the argument from the balance, if there is enough.
 pub const WITHDRAW: u16 = 2;
 
-/// Tells the balance.
+/// Gets the balance.
 pub const BALANCE: u16 = 3;
 
 const BALANCE_NOW: Term = Term::Word(0);
@@ -55,7 +55,7 @@ fn handler(alloc: Global) -> Option<Handler<Table>> {
     Handler::new(alloc, ONE, class(alloc)?, object).ok()
 }
 
-/// A node with handler 1, whose object is an account of balance 0. It runs what it can at once.
+/// A node with handler 1, whose object is an account of balance 0. It runs each entry at once.
 #[derive(Drop)]
 pub struct Node {
     handler: Handler<Table>,

@@ -13,7 +13,7 @@ use std::alloc::Global;
 use std::process::Abort;
 use std::test::Fail;
 
-/// A tape with room for so many sends, to which the Welcome of handler 1 comes, in this version.
+/// A tape with this room for sends; the Welcome of handler 1 comes on it, in this version.
 fn tape(alloc: Global, room: usize, version: Version) -> Result<TapeLink, Fail> {
     let mut link = TapeLink::new(alloc, room)?;
     let mut buffer = [0; BUFFER_LEN];
@@ -22,14 +22,14 @@ fn tape(alloc: Global, room: usize, version: Version) -> Result<TapeLink, Fail> 
     Ok(link)
 }
 
-/// A tape to which comes what is no frame.
+/// A tape on which a datagram comes that is no frame.
 pub fn stray(alloc: Global, room: usize) -> Result<TapeLink, Fail> {
     let mut link = TapeLink::new(alloc, room)?;
     link.feed(&[5, 5, 5])?;
     Ok(link)
 }
 
-/// The first datagram that was sent is the Hello, in this version, and there is no second.
+/// The first sent datagram is the Hello, in this version, and there is no second.
 fn sent_hello(rt: &impl Abort, link: &TapeLink, version: Version) {
     let mut buffer = [0; BUFFER_LEN];
     let len = encode(version, &Message::Hello(ONE, SEVEN, 1), &mut buffer);
@@ -41,7 +41,7 @@ fn sent_hello(rt: &impl Abort, link: &TapeLink, version: Version) {
     assert!(rt; link.sent(1).is_none());
 }
 
-/// A driver of this client over a tape from which it is greeted plays the rows, and has sent the Hello alone.
+/// A driver of this client, over a tape with its greeting, plays the rows, and has sent the Hello alone.
 fn greets(rt: &impl Abort, client: Client, link: TapeLink, rows: &[Row], version: Version) {
     let mut driver = Driver::new(client, link, 10);
     plays(rt, &mut driver, rows);
@@ -58,7 +58,7 @@ const GREETING: [Row; 4] = [
 ];
 
 #[test]
-fn a_turn_sends_what_is_due_and_hears_what_came(rt: HostRuntime) -> Result<(), Fail> {
+fn a_turn_sends_due_messages_and_hears_one(rt: HostRuntime) -> Result<(), Fail> {
     let link = tape(rt.alloc(), 8, Version::One)?;
     greets(&rt, client(&rt, rt.alloc()), link, &GREETING, Version::One);
     Ok(())
@@ -72,7 +72,7 @@ fn a_batch_is_sent_in_version_two(rt: HostRuntime) -> Result<(), Fail> {
     Ok(())
 }
 
-/// A turn over this tape leaves the client greeting, and so many datagrams to come.
+/// A turn over this tape leaves the client greeting, and this number of datagrams to come.
 fn turns_over(
     rt: &impl Abort,
     alloc: Global,
@@ -99,7 +99,7 @@ fn a_datagram_that_is_no_frame_is_passed_over(rt: HostRuntime) -> Result<(), Fai
     Ok(())
 }
 
-/// The node answers all that has come to its end.
+/// The node answers every datagram that has come to its end.
 fn answers(node: &mut Node, end: &mut ScriptLink) {
     let mut buffer = [0; BUFFER_LEN];
     for _ in 0..8 {
@@ -115,7 +115,7 @@ fn answers(node: &mut Node, end: &mut ScriptLink) {
     }
 }
 
-/// Takes turns, each answered by the node, up to this note, and counts those that failed.
+/// Takes turns, each answered by the node, up to this note. Returns the number of those that failed.
 fn turns_up_to(
     rt: &impl Abort,
     driver: &mut Driver<ScriptLink>,
@@ -145,8 +145,8 @@ const RESERVES_LATE: [Row; 1] = [(Act::Reserve(ONE), TURNS_OVER, Phase::Locking)
 
 const ASKS_LATE: [Row; 1] = [(Act::Query(ONE, BALANCE, 0), TURNS_OVER, Phase::Running)];
 
-/// What the driver is told once it is greeted: each of its calls takes no turn of its own, and further turns go
-/// on up to the answer.
+/// The results of a driver's calls once it is greeted: each takes no turn of its own, and further turns go on up
+/// to the answer.
 fn goes_on(
     rt: &impl Abort,
     driver: &mut Driver<ScriptLink>,
@@ -162,7 +162,7 @@ fn goes_on(
     assert_eq!(rt; driver.link().faults(), 1);
 }
 
-/// The same, behind the fault that the greeting meets.
+/// The same, after the fault in the greeting.
 fn goes_on_behind_a_fault(
     rt: &impl Abort,
     driver: &mut Driver<ScriptLink>,
@@ -177,7 +177,7 @@ fn goes_on_behind_a_fault(
 
 /// The fourth call of the driver's end fails.
 #[test]
-fn turns_go_on_behind_a_fault(rt: HostRuntime) -> Result<(), Fail> {
+fn turns_go_on_after_a_fault(rt: HostRuntime) -> Result<(), Fail> {
     let script = Script {
         fail_at: 4,
         ..Script::default()
@@ -198,9 +198,9 @@ const REPEATED: [Row; 4] = [
     (Act::Due(HandlerId(2)), Ok(Told::Due(None)), Phase::Locking),
 ];
 
-/// Handler 1 owes its lock to a block of client 7 alone.
+/// A reserve that runs out of turns still owes its Lock, and owes it to handler 1 alone.
 #[test]
-fn a_repeated_turn_sends_what_is_still_due(rt: HostRuntime) -> Result<(), Fail> {
+fn a_repeated_turn_sends_a_due_message_again(rt: HostRuntime) -> Result<(), Fail> {
     let link = tape(rt.alloc(), 8, Version::One)?;
     let mut driver = Driver::new(client(&rt, rt.alloc()), link, 2);
     plays(&rt, &mut driver, &REPEATED);

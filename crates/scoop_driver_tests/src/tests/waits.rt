@@ -19,7 +19,7 @@ const WAITS: [(Act, Result<Told, DriverError>, u64); 4] = [
     (Act::When(50, WITHDRAW, 100), AT_ONCE, 50),
 ];
 
-/// Waits one after another, each of which leaves this balance and no block.
+/// Waits one after another. Each leaves this balance and no block.
 fn withdraws(rt: &impl Abort, driver: &mut Driver<Wire>) {
     plays(rt, driver, &[WELCOMED]);
     for (act, told, balance) in WAITS {
@@ -29,13 +29,13 @@ fn withdraws(rt: &impl Abort, driver: &mut Driver<Wire>) {
 }
 
 #[test]
-fn a_wait_withdraws_once_the_balance_is_there(rt: HostRuntime) {
+fn a_wait_withdraws_once_there_is_enough(rt: HostRuntime) {
     let wire = Wire::new(Node::new(&rt, rt.alloc()));
     let mut driver = Driver::new(client(&rt, rt.alloc()), wire, 10);
     withdraws(&rt, &mut driver);
 }
 
-/// A wait with a condition on one handler, whose body names handler 1 and another, is refused so.
+/// The driver refuses a wait with a condition on one handler, whose body names handler 1 and another.
 fn refuses(
     rt: &impl Abort,
     driver: &mut Driver<Wire>,

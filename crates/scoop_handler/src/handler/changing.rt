@@ -1,4 +1,4 @@
-//! The changes by which a handler goes from one state to the next.
+//! The changes of a handler from one state to the next.
 
 ghost use Rattle.std.specs.Prelude.{◌≡◌, ◌<◌, length, None, OnOk, OnErr};
 ghost use Rattle.scoop_message.specs.Entries.{EndOnlyLast};
@@ -30,7 +30,7 @@ pub(super) fn greeting(client: ClientId, inc: u32) -> Mark
     )
 }
 
-// Opens a private queue where that is refused for want of memory alone. An `Err` changes nothing.
+// Opens a private queue that only memory can refuse. An `Err` changes nothing.
 fn open_in<A: Allocator + Copy>(
     queues: &mut QueueOfQueues<A>,
     block: Block,
@@ -46,7 +46,7 @@ fn open_in<A: Allocator + Copy>(
     }
 }
 
-// Puts entries where that is refused for want of memory alone. An `Err` changes nothing.
+// Puts entries that only memory can refuse. An `Err` changes nothing.
 fn put_in<A: Allocator>(
     queues: &mut QueueOfQueues<A>,
     block: Block,
@@ -85,8 +85,8 @@ impl<B: Behaviour, A: Allocator> Handler<B, A> {
         add_mark_in(&mut self.marks, mark)
     }
 
-    // A newer incarnation of the client takes the place of its mark: its lock is freed, and the private
-    // queue of its newest block is cut.
+    // A newer incarnation of the client replaces its mark: its lock is freed, and the private queue of its newest
+    // block is cut.
     pub(super) fn renew(&mut self, client: ClientId, inc: u32, mark: Mark)
         requires { IsState (with_incarnation self.old.state client inc mark) }
         ensures { self.new ≡ with_state (with_incarnation self.old.state client inc mark) self.old }
@@ -107,8 +107,8 @@ impl<B: Behaviour, A: Allocator> Handler<B, A> {
         }
     }
 
-    // Puts entries behind those of the block's private queue, and the mark in place of its client's. An
-    // `Err` changes nothing.
+    // Puts entries after those of the block's private queue, and the mark in place of its client's. An `Err`
+    // changes nothing.
     pub(super) fn put(
         &mut self,
         block: Block,

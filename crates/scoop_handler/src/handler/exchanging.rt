@@ -1,4 +1,4 @@
-//! A handler and a state beside it: each takes what the other one has.
+//! An exchange of states between a handler and a state beside it.
 
 ghost use Rattle.std.specs.Prelude.{◌≡◌, OnOk, OnErr};
 ghost use Rattle.scoop_handler.specs.Core.{with_state};
@@ -14,8 +14,8 @@ use std::alloc::Allocator;
 use std::mem;
 
 impl<B: Behaviour, A: Allocator> Handler<B, A> {
-    /// Makes this the state, sets the object's words, and hands out the state that it had. A job that is out stays
-    /// out. Takes no memory.
+    /// Makes this the state, sets the object's words, and returns the state that the handler had. A job that is
+    /// out stays out. Takes no memory.
     pub fn exchange(&mut self, state: &mut HandlerState<A>)
         requires { MayReset state.old self.old }
         ensures taken { self.new ≡ with_state state.old self.old }
@@ -33,8 +33,8 @@ impl<B: Behaviour, A: Allocator> Handler<B, A> {
 }
 
 impl<B: Behaviour, A: Allocator + Copy> Handler<B, A> {
-    /// Makes a state the same as the handler's, in the room that it has where that is enough. An `Err` changes
-    /// nothing; `OutOfMemory` is the one refusal.
+    /// Makes a state the same as the handler's, in its own room if that is enough. An `Err` changes nothing;
+    /// `OutOfMemory` is the one refusal.
     pub fn copy_to(&self, state: &mut HandlerState<A>) -> Result<(), OutOfMemory>
         ensures ok { OnOk result (state.new ≡ self.now.state) }
         ensures err { OnErr result (state.new ≡ state.old) }

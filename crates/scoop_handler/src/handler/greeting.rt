@@ -1,4 +1,4 @@
-//! A client greets.
+//! Greetings of clients.
 
 ghost use Rattle.std.specs.Prelude.{◌≡◌, IfOk, OnErr, IsErr, IsTrue};
 ghost use Rattle.scoop_handler.specs.Core.{with_state};
@@ -16,7 +16,7 @@ use scoop_object::Behaviour;
 use std::alloc::Allocator;
 
 impl<B: Behaviour, A: Allocator> Handler<B, A> {
-    // A client greets. An `Err` comes only at its first greeting, and changes nothing.
+    // A client greets. Only its first greeting can return an `Err`, which changes nothing.
     pub(super) fn hear_hello(&mut self, client: ClientId, inc: u32) -> Result<Heard, OutOfMemory>
         ensures ok { IfOk result
             (λ heard. hear_hello self.old.state client inc (mark_of client self.old.state.marks) ≡ (self.new.state, heard)) }

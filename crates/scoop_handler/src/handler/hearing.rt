@@ -1,4 +1,4 @@
-//! Hearing a message: which row of the table fits it.
+//! The hearing of a message: the row of the table that fits it.
 
 ghost use Rattle.std.specs.Prelude.{◌≡◌, IfOk, OnErr, IsErr, IsTrue};
 ghost use Rattle.scoop_message.specs.Message.{handler_of, is_for_handler};
@@ -21,14 +21,15 @@ use std::alloc::Allocator;
 impl<B: Behaviour, A: Allocator + Copy> Handler<B, A> {
     /// Hears one message.
     ///
-    /// `OutOfMemory` comes only where the handler has to keep more than before, and changes nothing.
+    /// Only a message for which the handler keeps more than before can return `OutOfMemory`, which changes
+    /// nothing.
     pub fn hear(&mut self, message: &Message) -> Result<Heard, OutOfMemory>
         ensures ok { IfOk result (λ heard. hear self.old.state message.now ≡ (self.new.state, heard)) }
         ensures stays { self.new ≡ with_state self.new.state self.old }
         ensures err { OnErr result (self.new ≡ self.old) }
         ensures memory { IsErr result → TakesMemory self.old.state message.now }
 
-        // What follows, for those who need no more.
+        // Weaker consequences, for callers that need no more.
         ensures sound { IsCore self.new }
         ensures confirms { IfOk result (ConfirmsOnlyHolder self.new.state) }
         ensures holder { HolderMoves self.old.state.holder message.now self.new.state.holder }
@@ -72,7 +73,7 @@ impl<B: Behaviour, A: Allocator + Copy> Handler<B, A> {
                 Err(why) => Heard::dropped(why),
             }),
             Message::Log(_, block, number, entries) => {
-                // For the prover: there are entries, an End only last.
+                // For the prover: there are entries, and only the last may be an End.
                 let _count = entries.len();
                 match self.mark_for(block) {
                     Ok(mark) => self.hear_log(block, number, entries.as_slice(), mark),
@@ -83,7 +84,7 @@ impl<B: Behaviour, A: Allocator + Copy> Handler<B, A> {
         }
     }
 
-    // The mark that a message of this block is heard at, or why it is dropped.
+    // The mark for a message of this block, or why the message is dropped.
     fn mark_for(&self, block: Block) -> Result<Mark, Reason>
         ensures mark { result ≡ mark_for block (mark_of block.client self.now.state.marks) }
         ensures heard { IfOk result (IsHeardAt self.now.state block) }

@@ -1,4 +1,4 @@
-//! A block asks for the lock, and gives it back.
+//! Requests for the lock, and its return.
 
 ghost use Rattle.std.specs.Prelude.{◌≡◌};
 ghost use Rattle.scoop_handler.specs.Core.{with_state};

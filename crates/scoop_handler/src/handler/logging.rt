@@ -1,4 +1,4 @@
-//! A block logs entries.
+//! The logging of entries.
 
 ghost use Rattle.std.specs.Prelude.{◌≡◌, ◌<◌, ◌≤◌, ◌+◌, ◌^◌, ℕ, length, IfOk, OnErr, IsErr, IsTrue, Some};
 ghost use Rattle.scoop_message.specs.Entries.{EndOnlyLast, last_number};
@@ -34,8 +34,8 @@ fn unreceived<'a>(mark: &Mark, number: u32, entries: &'a [Entry]) -> &'a [Entry]
 }
 
 impl<B: Behaviour, A: Allocator> Handler<B, A> {
-    // The block logs entries, the first of which has this number. `mark` is its client's. An `Err` comes
-    // only where entries would be taken, and changes nothing.
+    // The block logs entries, the first of which has this number. `mark` is its client's. An `Err` comes only if
+    // entries would be taken, and changes nothing.
     pub(super) fn hear_log(
         &mut self,
         block: Block,
@@ -77,7 +77,7 @@ impl<B: Behaviour, A: Allocator> Handler<B, A> {
         ))
     }
 
-    // Whether the block's private queue has no room for so many more entries.
+    // Whether the block's private queue has no room for this many more entries.
     fn has_no_room(&self, block: Block, more: usize) -> bool
         requires { more ≤ MAX_ENTRIES }
         ensures value { result ≡ has_no_room self.now.state block more }
@@ -86,7 +86,7 @@ impl<B: Behaviour, A: Allocator> Handler<B, A> {
         self.queues.pending_len(block) + more > MAX_PENDING
     }
 
-    // What is answered to entries that were all received, the last of which has this number.
+    // The reply to entries that were all received, the last of which has this number.
     fn received_before(&self, block: Block, last: u32, mark: &Mark) -> Heard
         ensures { received_before self.now.state block last mark.now (kept_answer last mark.now.kept) ≡ (self.now.state, result) }
     {

@@ -1,4 +1,4 @@
-//! How a handler is made, and copied.
+//! The making and the copying of a handler.
 
 ghost use Rattle.std.specs.Prelude.{◌≡◌, ◌↔◌, length, IsOk, IfOk, IfErr, false};
 ghost use Rattle.scoop_handler.specs.State.{new_state};
@@ -15,9 +15,9 @@ use scoop_queue::QueueOfQueues;
 use std::alloc::Allocator;
 
 impl<B: Behaviour, A: Allocator + Copy> Handler<B, A> {
-    /// A handler that nobody has greeted yet, with its object. Takes no memory yet.
+    /// Makes a handler that no client has greeted yet, with its object. Takes no memory yet.
     ///
-    /// `WrongClass` comes exactly where the object hasn't the class, and hands it back.
+    /// Returns `WrongClass`, with the object, exactly if the object hasn't the class.
     pub fn new(
         alloc: A,
         number: HandlerId,
@@ -58,10 +58,10 @@ impl<B: Behaviour, A: Allocator + Copy> Handler<B, A> {
 }
 
 impl<B: Behaviour, A: Allocator> Handler<B, A> {
-    /// A handler with a stored state and no job out, its object set to the stored words. Takes no memory.
+    /// Makes a handler of a stored state, with no job out and its object set to the stored words. Takes no memory.
     ///
-    /// `WrongClass` comes exactly where the object hasn't the class, or the stored words are not as many
-    /// as the class has. It hands the object back as it was.
+    /// Returns `WrongClass`, with the object as it was, exactly if the object hasn't the class, or the stored
+    /// words are not as many as the class has.
     pub fn restart(
         class: Class,
         mut object: B,

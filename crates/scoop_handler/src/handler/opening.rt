@@ -1,4 +1,4 @@
-//! A block asks for a private queue.
+//! Requests for a private queue.
 
 ghost use Rattle.std.specs.Prelude.{◌≡◌, IfOk, OnErr, IsErr, IsTrue, Some};
 ghost use Rattle.scoop_handler.specs.Core.{with_state};
@@ -14,8 +14,8 @@ use scoop_object::Behaviour;
 use std::alloc::Allocator;
 
 impl<B: Behaviour, A: Allocator + Copy> Handler<B, A> {
-    // The block asks for a private queue. `mark` is its client's. An `Err` comes only where the block
-    // would get one, and changes nothing.
+    // The block asks for a private queue. `mark` is its client's. An `Err` comes only if the block would get one,
+    // and changes nothing.
     pub(super) fn hear_open(&mut self, block: Block, mark: Mark) -> Result<Heard, OutOfMemory>
         requires { IsHeardAt self.old.state block mark }
         ensures ok { IfOk result (λ heard. hear_open self.old.state block mark ≡ (self.new.state, heard)) }

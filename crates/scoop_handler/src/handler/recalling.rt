@@ -1,4 +1,4 @@
-//! How a handler takes another state.
+//! States that replace a handler's.
 
 ghost use Rattle.std.specs.Prelude.{◌≡◌, ◌↔◌, IsTrue, IsOk, OnOk, IfErr, false};
 ghost use Rattle.scoop_handler.specs.Core.{IsCore, core_of, with_state};
@@ -13,9 +13,9 @@ use std::alloc::Allocator;
 impl<B: Behaviour, A: Allocator> Handler<B, A> {
     /// Makes this the state, and sets the object's words. A job that is out stays out. Takes no memory.
     ///
-    /// Refused exactly where the handler's number differs, or the words are not as many as the class
-    /// has; with a job out also where the words aren't those with which it left, or the first pending
-    /// entry isn't its entry. The state is handed back, and nothing changes.
+    /// Returns the state, with nothing changed, exactly if the handler's number differs, or the words are not as
+    /// many as the class has. With a job out, the words must also be those with which it left, and the first
+    /// pending entry must be its entry.
     pub fn reset(&mut self, state: HandlerState<A>) -> Result<(), HandlerState<A>>
         ensures accepted { IsOk result ↔ MayReset state self.old }
         ensures state { OnOk result (self.new ≡ with_state state self.old) }
@@ -34,12 +34,11 @@ impl<B: Behaviour, A: Allocator> Handler<B, A> {
         Ok(())
     }
 
-    /// Takes the state, and the object of a dropped job with it, set to the state's words: no job is
-    /// out any more. Takes no memory.
+    /// Takes the state, and with it the object of a dropped job, set to the state's words. No job is out
+    /// afterwards. Takes no memory.
     ///
-    /// Refused exactly where no job is out, where the handler's number or the object's class differs,
-    /// or where the words are not as many as the class has. Object and state are handed back, and
-    /// nothing changes.
+    /// Returns object and state, with nothing changed, exactly if no job is out, if the handler's number or the
+    /// object's class differs, or if the words are not as many as the class has.
     pub fn recall(
         &mut self,
         mut object: B,

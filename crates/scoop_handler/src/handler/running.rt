@@ -1,5 +1,4 @@
-//! How a handler runs the first entry of its first private queue: at once, or as a job that takes the
-//! object away meanwhile.
+//! Runs of the first entry of the first private queue: at once, or as a job that takes the object away meanwhile.
 
 ghost use Rattle.std.specs.Prelude.{◌≡◌, ◌≢◌, ◌↔◌, IsTrue, IsOk, OnOk, IfOk, IfErr, Some};
 ghost use Rattle.std.specs.Option.{option_map};
@@ -19,8 +18,8 @@ use std::alloc::Allocator;
 use std::mem;
 
 impl<B: Behaviour, A: Allocator> Handler<B, A> {
-    /// Runs the first entry of the first private queue. `None` comes exactly where there is no private
-    /// queue, the first one has no entry, or a job is out; then nothing changes. Takes no memory.
+    /// Runs the first entry of the first private queue. Returns `None`, with nothing changed, exactly if there is
+    /// no private queue, the first one has no entry, or a job is out. Takes no memory.
     pub fn run(&mut self) -> Option<Ran>
         ensures ran { result ≡ option_map ran_of (ready self.old) }
         ensures state { self.new ≡ run self.old }
@@ -42,9 +41,8 @@ impl<B: Behaviour, A: Allocator> Handler<B, A> {
         Some(ran)
     }
 
-    /// Starts the first entry of the first private queue as a job, which takes the object away. The
-    /// entry stays in its private queue until the job is finished. `None` comes exactly where `run`
-    /// would give it. Takes no memory.
+    /// Starts the first entry of the first private queue as a job, which takes the object away. The entry stays in
+    /// its private queue until the job is finished. Returns `None` exactly if `run` would. Takes no memory.
     pub fn begin(&mut self) -> Option<Job<B>>
         ensures job { result ≡ ready self.old }
         ensures state { self.new ≡ begun self.old }
@@ -61,10 +59,10 @@ impl<B: Behaviour, A: Allocator> Handler<B, A> {
         }
     }
 
-    /// Takes the object of a job back, with what its entry did. Takes no memory.
+    /// Takes the object of a job back, with the effect of its entry. Takes no memory.
     ///
-    /// `StrangerJob` comes exactly where no job is out, or handler, block, number, entry, class or
-    /// starting words aren't those of the job that is out. It hands the job back, and nothing changes.
+    /// Returns `StrangerJob`, with the job and nothing changed, exactly if no job is out, or handler, block,
+    /// number, entry, class or starting words aren't those of the job that is out.
     pub fn finish(&mut self, done: Done<B>) -> Result<Ran, StrangerJob<B>>
         ensures accepted { IsOk result ↔ (job_out self.old ≡ Some done) }
         ensures ran { IfOk result (λ ran. ran ≡ ran_of done) }
@@ -84,7 +82,7 @@ impl<B: Behaviour, A: Allocator> Handler<B, A> {
         Ok(ran)
     }
 
-    /// Makes of the handler's state, held beside it, what `finish` would make of it. Takes no memory.
+    /// Changes a copy of the handler's state as `finish` would change the state. Takes no memory.
     pub fn finish_state(&self, done: &Done<B>, state: &mut HandlerState<A>)
         requires out { job_out self.now ≡ Some done.now }
         requires own { state.old ≡ self.now.state }
@@ -109,7 +107,7 @@ impl<B: Behaviour, A: Allocator> Handler<B, A> {
 impl<B: Behaviour, A: Allocator + Copy> Handler<B, A> {
     /// The state that `finish` would give, kept with the same allocator.
     ///
-    /// `Stranger` comes exactly where `finish` would refuse the job; then `OutOfMemory`.
+    /// `Stranger` comes exactly if `finish` would refuse the job; then `OutOfMemory`.
     pub fn after_finish(&self, done: &Done<B>) -> Result<HandlerState<A>, AfterError>
         ensures out { OnOk result (job_out self.now ≡ Some done.now) }
         ensures state { IfOk result (λ s. s ≡ after done.now self.now.state) }

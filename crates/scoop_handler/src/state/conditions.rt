@@ -1,5 +1,5 @@
-//! Whether parts are those of a handler's state. There are at most `MAX_MARKS` marks and
-//! `MAX_QUEUES` private queues, so they are searched from the front.
+//! The conditions on a handler's state. There are at most `MAX_MARKS` marks and `MAX_QUEUES` private queues, so
+//! searches go from the front.
 
 ghost use Rattle.std.specs.Prelude.{◌≡◌, ◌↔◌, ◌+◌, List, length, IsTrue, IfSome, slice_get};
 ghost use Rattle.std.specs.List.{AllByRecursion};
@@ -16,7 +16,7 @@ use scoop_message::{Block, Words};
 use scoop_queue::{Head, QueueOfQueues, QueueState};
 use std::alloc::Allocator;
 
-// Whether the marks stand by ascending client, no two of one.
+// Whether the marks stand by ascending client, at most one for each.
 fn is_ascending(marks: &[Mark]) -> bool
     ensures { IsTrue result ↔ IsAscending marks.now }
 {
@@ -54,7 +54,7 @@ fn holds_if_held(holder: Option<Block>, mark: &Mark) -> bool
     }
 }
 
-// Whether nothing of the mark's block was received, unless it is open.
+// Whether no entry of the mark's block was received, unless it is open.
 fn is_unused_unless_open(mark: &Mark) -> bool
     ensures { IsTrue result ↔ IsUnusedUnlessOpen mark.now }
 {
@@ -162,7 +162,7 @@ pub(crate) fn is_state<A: Allocator>(
 ) -> bool
     ensures { (number : HandlerId) → IsTrue result ↔ IsState (state_of number holder marks.now queues.now words.now) }
 {
-    // For the prover: what is true of all words and of all private queues.
+    // For the prover: the facts of all words and of all private queues.
     let _words = words.len();
     let _queues = queues.list_len();
     marks.len() <= MAX_MARKS

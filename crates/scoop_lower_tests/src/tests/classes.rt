@@ -75,8 +75,8 @@ fn takes_back<B: Behaviour>(rt: &impl Abort, object: &mut B, words: Words) {
     assert_eq!(rt; object.words(), words);
 }
 
-/// A boxed object has the class of that name, runs the steps as a table of a copy of the class does,
-/// and takes as many words as the class has.
+/// A boxed object has the class of that name, runs the steps as a table of a copy of the class does, and takes as
+/// many words as the class has.
 fn behaves(
     rt: &impl Abort,
     alloc: Global,
@@ -94,7 +94,7 @@ fn behaves(
 
 /// The example of the crate.
 #[test]
-fn an_account_gives_what_it_has(rt: HostRuntime) -> Result<(), Fail> {
+fn an_account_gives_no_more_than_it_has(rt: HostRuntime) -> Result<(), Fail> {
     let class = DemoClass::Account.class(rt.alloc())?;
     let mut account = AccountObject::new(100);
     assert!(rt; account.has_class(&class));

@@ -248,7 +248,7 @@ fn frames_are_whole(rt: HostRuntime) {
 }
 
 #[test]
-fn the_first_fault_is_told(rt: HostRuntime) {
+fn the_first_fault_is_reported(rt: HostRuntime) {
     is_told(&rt, &[0xff; BUFFER_LEN], FrameError::BadMagic);
     is_told_of(&rt, LOCK, 1, 0x52, FrameError::BadMagic);
     is_told_of(&rt, LOCK, 2, 9, FrameError::BadVersion(9));
@@ -333,7 +333,7 @@ fn a_cut_frame_is_refused(rt: HostRuntime) {
     is_not_cut(&rt, &one);
 }
 
-// How long the message's frame is, if there is one.
+// The length of the message's frame, if there is one.
 fn length(version: Version, message: &Message) -> Option<usize> {
     if !message.fits() || !version.carries(message) {
         return None;
@@ -376,14 +376,14 @@ fn frames_differ(rt: HostRuntime) {
     assert_eq!(rt; have_same_frame(&one, &four), Some(false));
 }
 
-// The first bytes that are written of an entry, and how many are.
+// The first bytes that are written of an entry, and their number.
 fn entry_bytes(entry: &Entry) -> ([u8; 5], usize) {
     let mut buffer = [0xee; MAX_ENTRY];
     let len = entry_to(entry, &mut buffer);
     ([buffer[0], buffer[1], buffer[2], buffer[3], buffer[4]], len)
 }
 
-// The entry that is read from its bytes, all but the last few of which are there.
+// Reads the entry from its bytes without the last few.
 fn entry_again(entry: &Entry, cut: usize) -> Option<(Entry, usize)> {
     let mut buffer = [0; MAX_ENTRY];
     let len = entry_to(entry, &mut buffer);
@@ -416,7 +416,7 @@ fn entries_are_bytes(rt: HostRuntime) {
     reads_entry(&rt, &[1, 0, 1, 0, 9], short_call());
 }
 
-// The first bytes that are written of an answer, and how many are.
+// The first bytes that are written of an answer, and their number.
 fn answer_bytes(answer: &Answer) -> ([u8; 2], usize) {
     let mut buffer = [0xee; MAX_ANSWER];
     let len = answer_to(answer, &mut buffer);
@@ -429,7 +429,7 @@ fn answer_again(answer: &Answer, cut: usize) -> Option<(Answer, usize)> {
     answer_from(&buffer[..len.saturating_sub(cut)])
 }
 
-// The answer is written so, and read again.
+// The answer is written as these bytes, and read from them again.
 fn has_bytes(rt: &impl Abort, answer: &Answer, bytes: [u8; 2], len: usize) {
     assert_eq!(rt; answer_bytes(answer), (bytes, len));
     assert_eq!(rt; answer_again(answer, 0), Some((*answer, len)));
@@ -455,7 +455,7 @@ const FAULTS: [(FrameError, &str); 8] = [
 ];
 
 #[test]
-fn faults_are_told_by_name(rt: HostRuntime) -> Result<(), Fail> {
+fn faults_are_printed_by_name(rt: HostRuntime) -> Result<(), Fail> {
     for (fault, text) in &FAULTS {
         prints(&rt, rt.alloc(), fault, text)?;
     }

@@ -1,4 +1,4 @@
-//! Links: what each of them sends and receives, and how it counts its faults.
+//! Links: their sends and receives, and their counts of faults.
 
 ghost use Rattle.std.specs.Prelude.{◌≡◌, ◌-◌, ◌^◌, Ok};
 
@@ -27,7 +27,7 @@ pub(crate) fn tape(rt: &impl Abort, alloc: Global, room: usize) -> TapeLink {
     }
 }
 
-/// The tape will give these bytes behind what it was fed before.
+/// The tape will give these bytes after those that it was fed before.
 pub(crate) fn feeds(rt: &impl Abort, tape: &mut TapeLink, bytes: &[u8]) {
     assert!(rt; tape.feed(bytes).is_ok());
 }
@@ -61,8 +61,8 @@ pub(crate) fn has_faults<L: Link>(rt: &impl Abort, link: &L, faults: u64) {
     assert_eq!(rt; link.faults(), faults);
 }
 
-/// Sends where no fault can be counted any more: the send answers `Ok`, and the count stays. No number of calls
-/// that a test can make leads there, so a clause says it, of each link.
+/// Sends when no further fault can be counted: the send returns `Ok`, and the count stays. No number of calls that
+/// a test can make leads there, so a clause says it, of each link.
 pub(crate) fn sends_at_the_last_count<L: Link>(
     link: &mut L,
     to: Party,
@@ -80,7 +80,7 @@ fn keeps(bytes: &[u8], kept: &[u8]) -> bool {
     Datagram::of(bytes).as_slice() == kept
 }
 
-// What is written of a datagram over nines: how many bytes, and the first four that stand there then.
+// A datagram written over nines: the number of bytes, and the first four bytes afterwards.
 fn written(bytes: &[u8]) -> (usize, [u8; 4]) {
     let mut buffer = [9; BUFFER_LEN];
     let len = Datagram::of(bytes).write_to(&mut buffer);
@@ -114,7 +114,7 @@ fn parties_differ_by_kind_and_number(rt: HostRuntime) {
 #[test]
 fn a_script_drops_and_doubles(rt: HostRuntime) -> Result<(), Fail> {
     let alloc = rt.alloc();
-    // of what the client sends each third datagram is lost, and each second one comes twice
+    // every third datagram of the client is lost, and every second one comes twice
     let lossy = Script {
         drop_every: 3,
         double_every: 2,

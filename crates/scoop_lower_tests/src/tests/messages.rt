@@ -97,7 +97,7 @@ fn tells(rt: &impl Abort, message: &Message, for_handler: bool) {
 }
 
 #[test]
-fn messages_tell_what_they_name(rt: HostRuntime) {
+fn messages_name_their_parties(rt: HostRuntime) {
     let end = made(&rt, &[Entry::End]);
     let kinds = [
         (Message::Hello(HandlerId(1), ClientId(7), 2), true),
@@ -122,7 +122,7 @@ fn messages_tell_what_they_name(rt: HostRuntime) {
 }
 
 #[test]
-fn what_is_the_same_is_told(rt: HostRuntime) {
+fn equality_is_decided(rt: HostRuntime) {
     let lock = Message::Lock(HandlerId(1), block());
     let locked = Message::Locked(HandlerId(1), block());
     assert!(rt; !same_message(&lock, &locked));

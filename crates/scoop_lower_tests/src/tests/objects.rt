@@ -35,7 +35,7 @@ fn row(op: u16, writes: &[Write], answer: Term) -> Option<OpRow> {
     })
 }
 
-/// A row that withdraws what is there.
+/// A row that withdraws if there is enough.
 fn withdraw() -> Option<OpRow> {
     let all = write(0, Term::Word(0), ZERO, Term::Arg(0));
     let row = row(2, &[all], Term::Word(0))?;
@@ -45,7 +45,7 @@ fn withdraw() -> Option<OpRow> {
     })
 }
 
-/// An account: deposit, withdraw what is there, balance.
+/// An account: deposit, withdraw if there is enough, balance.
 fn account() -> Option<[OpRow; 3]> {
     let deposit = write(0, Term::Word(0), Term::Arg(0), ZERO);
     let deposit = row(1, &[deposit], Term::Word(0))?;
@@ -59,7 +59,7 @@ fn counter() -> Option<OpRow> {
     row(1, &[add], Term::Word(0))
 }
 
-/// An exchange: put, which answers what was there.
+/// An exchange: put, which returns the old number.
 fn exchange() -> Option<OpRow> {
     let put = write(0, Term::Arg(0), ZERO, ZERO);
     let keep = write(1, Term::Word(0), ZERO, ZERO);
@@ -90,7 +90,7 @@ fn exchange_of(alloc: Global, word: u64) -> Option<Table> {
     table(built(alloc, 2, &[exchange()?])?, &[word, 0])
 }
 
-/// An operation, its arguments, its answer and the object's words behind it.
+/// An operation, its arguments, its answer, and the object's words after it.
 pub(crate) type Step<'a> = (u16, &'a [u64], Answer, &'a [u64]);
 
 fn request(op: u16, args: &[u64]) -> Option<Request> {
@@ -190,7 +190,7 @@ impl Object for Stone {
     }
 }
 
-/// What refuses words to the object.
+/// The object's refusal of words.
 pub(crate) fn restored<B: Behaviour>(
     object: &mut B,
     words: &[u64],
@@ -314,7 +314,7 @@ fn rows_of(alloc: Global, kinds: &[Kind]) -> Option<Vec<OpRow>> {
     Some(rows)
 }
 
-// What refuses a class of one word with these rows.
+// The refusal of a class of one word with these rows.
 fn class_refusal(alloc: Global, kinds: &[Kind]) -> Option<ClassError> {
     Class::build(alloc, 1, &rows_of(alloc, kinds)?).err()
 }
@@ -358,7 +358,7 @@ fn writes_of(count: usize) -> Result<Writes, TooManyWrites> {
     Writes::of(&writes[..count.min(17)])
 }
 
-// How many writes there are, and the last two places.
+// The number of writes, and the last two places.
 fn last_of(writes: &Writes) -> (usize, Option<Write>, Option<Write>) {
     (writes.len(), writes.get(15), writes.get(16))
 }
@@ -376,7 +376,7 @@ fn sixteen_writes_are_most(rt: HostRuntime) -> Result<(), Fail> {
     Ok(())
 }
 
-// The operations of a class, 33 at the most, of which the first writes 16 words.
+// The operations of a class, at most 33. The first writes 16 words.
 fn operations(alloc: Global, words: u8, count: usize) -> Option<Result<Class, ClassError>>
     requires some { 1 ≤ words }
     requires few { words ≤ 16 }
@@ -390,7 +390,7 @@ fn operations(alloc: Global, words: u8, count: usize) -> Option<Result<Class, Cl
     Some(Class::build(alloc, words, &rows[..count.min(33)]))
 }
 
-// How many words and rows a class has, or what refuses it.
+// The number of words and rows of a class, or its refusal.
 fn size(alloc: Global, words: u8, count: usize) -> Option<Result<(usize, usize), ClassError>>
     requires some { 1 ≤ words }
     requires few { words ≤ 16 }

@@ -82,7 +82,7 @@ fn put<A: Allocator>(
     queues.put_all(block, entries.as_slice())
 }
 
-// What refuses entries to the queue of the block of a number.
+// The refusal of entries for the block of a number.
 fn put_refusal<A: Allocator>(
     queues: &mut QueueOfQueues<A>,
     num: u32,
@@ -94,7 +94,7 @@ fn put_refusal<A: Allocator>(
     }
 }
 
-// What refuses a queue to the block of a number.
+// The refusal of a queue for the block of a number.
 fn open_refusal<A: Allocator + Copy>(
     queues: &mut QueueOfQueues<A>,
     num: u32,
@@ -123,12 +123,12 @@ fn has_head(rt: &impl Abort, queues: &QueueOfQueues, i: usize, wanted: Option<He
     assert_eq!(rt; queues.head(i), wanted);
 }
 
-// What refuses a queue without entries.
+// The refusal of a queue without entries.
 fn refusal(queues: &mut QueueOfQueues, head: Head) -> Option<AppendError> {
     queues.append(head, &[]).err()
 }
 
-// The last of `MAX_QUEUES` queues is this block's, and no queue of it can be appended.
+// The last of `MAX_QUEUES` queues is this block's, and no other queue of it can be appended.
 fn is_full_with(rt: &impl Abort, queues: &mut QueueOfQueues, last: Block) {
     let fresh = Head {
         block: last,
@@ -157,7 +157,7 @@ fn opens_64_queues(rt: HostRuntime) {
     is_full_with(&rt, &mut queues, block(64));
 }
 
-// What is put at a block, what refuses it, and how many entries the block has then.
+// The entries put at a block, their refusal, and the number of the block's entries afterwards.
 type Row = (u32, Given, Option<PutError>, usize);
 
 fn has_pending(rt: &impl Abort, queues: &QueueOfQueues, num: u32, pending: usize) {
@@ -267,7 +267,7 @@ fn front(queues: &QueueOfQueues) -> Option<(u32, u32)> {
     }
 }
 
-// A step with the block and the number of the front behind it, and the number of queues.
+// A step, then the block and the number of the front, and the number of queues.
 type Turn = (Step, Option<(u32, u32)>, usize);
 
 fn goes_on(rt: &impl Abort, queues: &mut QueueOfQueues, turn: Turn) {
@@ -308,11 +308,11 @@ fn waits_and_goes_on_in_order(rt: HostRuntime) {
     }
 }
 
-// What is appended: the block's number, the first number and the state, and of 65 calls and two Ends
-// behind them the places of the entries.
+// A queue to append: the block's number, the first number and the state, and the places of its entries among 65
+// calls with two Ends after them.
 type Whole = (u32, u32, QueueState, usize, usize);
 
-// What refuses a whole queue.
+// The refusal of a whole queue.
 fn append_refusal(queues: &mut QueueOfQueues, whole: Whole) -> Option<AppendError> {
     let (num, first, state, from, to) = whole;
     let Some(call) = call(1) else {
@@ -370,7 +370,7 @@ fn refuses_to_append(rt: HostRuntime) {
     has_count(&rt, &queues, 0);
 }
 
-// The block's number and the entry's that are taken next, and whether it is an End.
+// The block's number and the entry's that are taken next, and whether the entry is an End.
 fn next(queues: &mut QueueOfQueues) -> Option<(u32, u32, bool)> {
     match queues.advance() {
         Some((of, number, entry)) => Some((of.num, number, entry.is_end())),
@@ -446,17 +446,17 @@ fn an_empty_queue_is_waited_for(rt: HostRuntime) -> Result<(), Fail> {
     assert_eq!(rt; queues.front(), None);
     queues.put(block(1), Entry::End)?;
     assert_eq!(rt; queues.front(), Some((block(1), 1, Entry::End)));
-    // a private queue goes with its End, and the other one is the first then
+    // a private queue goes with its End, and then the other one is the first
     assert_eq!(rt; queues.advance(), Some((block(1), 1, Entry::End)));
     assert_eq!(rt; queues.list_len(), 1);
     assert_eq!(rt; queues.open(block(2)), Err(OpenQueueError::AlreadyThere));
-    // one that is cut, as where its client restarts, goes once it is empty
+    // a queue that is cut, as when its client restarts, goes once it is empty
     assert!(rt; queues.cut(block(2)));
     assert_eq!(rt; queues.list_len(), 0);
     Ok(())
 }
 
-// The other ones, which differ, are copied.
+// The queues that differ are copied.
 fn copies(rt: &impl Abort, kept: &mut QueueOfQueues, queues: &QueueOfQueues) {
     assert!(rt; !kept.same(queues));
     assert!(rt; kept.copy_from(queues).is_ok());

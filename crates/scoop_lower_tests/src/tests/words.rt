@@ -1,13 +1,13 @@
-//! The words of a line, and the numbers that they write.
+//! Words of a line, and the numbers that they write.
 
-use scoop_words::{
+use scoop_lines::{
     count_words, decimal, decimal_u16, decimal_u32, is, is_blank, is_decimal, next_word, one_word,
     two_words,
 };
 
 #[test]
 fn reads_the_line_of_the_document(rt: HostRuntime) {
-    // words are parted by spaces alone, and a line that begins with `#` says nothing
+    // words are separated by spaces alone, and a line that begins with `#` is skipped
     let Some((name, rest)) = next_word(b" call  7 250") else {
         panic!(rt; "no word");
     };
@@ -22,7 +22,7 @@ fn reads_the_line_of_the_document(rt: HostRuntime) {
 }
 
 #[test]
-fn words_are_parted_by_spaces_alone(rt: HostRuntime) {
+fn words_are_separated_by_spaces_alone(rt: HostRuntime) {
     assert_eq!(rt; count_words(b"  call\t7  250 \r"), 3);
     let Some(word) = one_word(b" a\tb\r ") else {
         panic!(rt; "not one word");

@@ -2,7 +2,7 @@
 
 use super::data::{get, set};
 use super::growths::{
-    Calling, Heap, Trial, Trying, add, answered, each_grows, growths, told, tried,
+    Calling, Heap, Trial, Trying, add, answered, each_grows, growths, shown, tried,
 };
 use scoop_client::{BeginError, Client, ClientError};
 use scoop_message::{ClientId, HandlerId, Message};
@@ -31,7 +31,7 @@ enum Call {
     Begin,
     BeginAt,
     BeginBatched,
-    /// Reserves so many handlers.
+    /// Reserves N handlers.
     Reserve(usize),
     Log,
     Query,
@@ -49,19 +49,19 @@ fn add_client<A: Allocator>(text: &mut String, client: &Client<A>) -> Result<(),
     Ok(())
 }
 
-// Adds the text of a client that has begun. False where memory was wanted.
+// Adds the text of a client that has begun. False if memory ran out.
 fn begun<A: Allocator>(
     text: &mut String,
     client: Result<Client<A>, BeginError>,
 ) -> Result<bool, Fail> {
     match client {
-        Ok(client) => told(add_client(text, &client)),
+        Ok(client) => shown(add_client(text, &client)),
         Err(BeginError::OutOfMemory) => Ok(false),
         Err(error) => Err(error.into()),
     }
 }
 
-// What the client answers to a command.
+// The client's result of a command.
 fn commanded<A: Allocator + Clone>(
     client: &mut Client<A>,
     call: Call,
@@ -102,7 +102,7 @@ impl Calling for Commanding<'_, '_> {
     }
 }
 
-// What a handler replies that is free.
+// The reply of a free handler.
 fn reply_to(message: Message) -> Message {
     match message {
         Message::Hello(handler, client, inc) => Message::Welcome(handler, client, inc),
@@ -124,7 +124,7 @@ fn settle<A: Allocator>(client: &mut Client<A>) {
     }
 }
 
-// The call on a client, which may be told so.
+// A trial of the call on a client, which settles first, and reserves a block for a call that needs one.
 fn tries_on<'a>(
     alloc: Global,
     heap: Heap<'a>,

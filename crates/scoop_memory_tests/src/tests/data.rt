@@ -1,14 +1,14 @@
-//! What the tests are made of.
+//! Requests, blocks and classes of the tests.
 
 use scoop_message::{Args, Block, ClientId, Entries, Entry, HandlerId, Request, Words};
 use scoop_object::{Class, OpRow, Table, Term, Write, Writes};
 use std::alloc::Global;
 use std::test::Fail;
 
-/// Makes the word of a cell the argument, and answers it.
+/// Sets the word of a cell to the argument, and returns it.
 const SET: u16 = 1;
 
-/// Answers the word of a cell.
+/// Returns the word of a cell.
 const GET: u16 = 2;
 
 /// A block of the client's first incarnation.

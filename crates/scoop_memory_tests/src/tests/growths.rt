@@ -1,4 +1,4 @@
-//! How a call is made with each of its growths refused.
+//! Trials of a call, with each of its growths refused.
 
 use scoop_refusing::Refusing;
 use std::alloc::Global;
@@ -8,22 +8,22 @@ use std::ops::Range;
 use std::process::Abort;
 use std::test::Fail;
 
-/// A heap that refuses the growth that it is told to.
+/// A heap that refuses the growth of a given number.
 pub type Heap<'a> = &'a Refusing<Global>;
 
 /// More growths than any call here has.
 const TOO_MANY: u64 = 1000;
 
-/// How a trial of a call came out, whose first attempt had one growth refused.
+/// The outcome of a trial of a call, whose first attempt had one growth refused.
 #[derive(Drop)]
 pub struct Trial {
     /// Whether a growth was refused.
     pub refused: bool,
-    /// Whether the attempt was answered by want of memory.
-    pub wanted: bool,
-    /// Whether the attempt changed what can be read, where it wanted memory.
+    /// Whether the attempt ran out of memory.
+    pub ran_out: bool,
+    /// Whether an attempt that ran out of memory changed anything that can be read.
     pub changed: bool,
-    /// What the call answered in the end, and all that can be read then.
+    /// The call's result in the end, and all that can be read then.
     pub shown: String,
 }
 
@@ -32,7 +32,7 @@ impl Trial {
     pub fn new(alloc: Global) -> Trial {
         Trial {
             refused: false,
-            wanted: false,
+            ran_out: false,
             changed: false,
             shown: String::new(alloc),
         }
@@ -46,29 +46,29 @@ pub fn add<T: Debug>(text: &mut String, value: &T) -> Result<(), Fail> {
     Ok(())
 }
 
-/// True, once the text of an answer is added.
-pub fn told(added: Result<(), Fail>) -> Result<bool, Fail> {
+/// True, after the text of a result was added.
+pub fn shown(added: Result<(), Fail>) -> Result<bool, Fail> {
     added?;
     Ok(true)
 }
 
-/// Adds the text of what a call answers. False where it wants memory, which it tells so.
+/// Adds the text of a call's result. False if the result says that memory ran out.
 pub fn answered<T: Debug + Drop, E: Debug + PartialEq + Drop>(
     text: &mut String,
     answer: Result<T, E>,
     want: &E,
 ) -> Result<bool, Fail> {
     match answer {
-        Ok(value) => told(add(text, &value)),
+        Ok(value) => shown(add(text, &value)),
         Err(error) if error == *want => Ok(false),
         Err(error) => Err(error.into()),
     }
 }
 
-/// A subject, and a call that is made on it. The text that it adds to is lent, so that few ways out of it have one to
-/// drop: the proof of each would follow it.
+/// A subject, and a call that is made on it. It borrows the text that it adds to, so that few returns have a text to drop:
+/// the proof of each would follow it.
 pub trait Calling {
-    /// Makes the call, and adds the text of its answer. False where it wants memory.
+    /// Makes the call, and adds the text of its result. False if memory ran out.
     fn call(&mut self, text: &mut String) -> Result<bool, Fail>;
 
     /// Adds the text of all that can be read of the subject.
@@ -82,7 +82,7 @@ fn is_changed<C: Calling>(alloc: Global, before: &str, calling: &mut C) -> Resul
     Ok(now.as_str() != before)
 }
 
-// Makes the call with the growth of this number refused, and once more where it wants memory.
+// Makes the call with the growth of this number refused, and once more if memory ran out.
 fn attempts<C: Calling>(
     alloc: Global,
     heap: Heap<'_>,
@@ -96,7 +96,7 @@ fn attempts<C: Calling>(
     trial.refused = number != 0 && heap.has_refused();
     heap.refuse(0);
     if !called {
-        trial.wanted = true;
+        trial.ran_out = true;
         trial.changed = is_changed(alloc, before, calling)?;
         if !calling.call(&mut trial.shown)? {
             return Err("refused again".into());
@@ -105,8 +105,8 @@ fn attempts<C: Calling>(
     calling.read(&mut trial.shown)
 }
 
-/// Makes a call with the growth of this number refused, and with none refused under 0. Where it wants
-/// memory, it is made once more with none refused.
+/// Makes a call with the growth of this number refused, or with none refused for 0. If memory ran out, it makes the call
+/// once more with none refused.
 pub fn tried<C: Calling>(
     alloc: Global,
     heap: Heap<'_>,
@@ -122,15 +122,15 @@ pub fn tried<C: Calling>(
 
 /// A call with what it needs to be tried.
 pub trait Trying: Copy {
-    /// Makes the call on a new subject, that has as much as the count says, with the growth of this number refused.
+    /// Makes the call on a new subject, of the size that the count says, with the growth of this number refused.
     fn tries<R: Net>(self, rt: &R, alloc: Global, count: u32, number: u64) -> Result<Trial, Fail>;
 }
 
-// Want of memory is answered exactly where a growth is refused, or only there, if the call may keep room for a next one.
-// It changes nothing; the call ends as without.
+// A call runs out of memory exactly if a growth is refused, or only then, if it may keep room for a next one. That changes
+// nothing, and the repeated call ends as one without a refusal.
 fn agrees(rt: &impl Abort, number: u64, keeps_room: bool, trial: &Trial, free: &Trial) {
-    if trial.wanted || !keeps_room {
-        assert_eq!(rt; trial.wanted, trial.refused, "growth {number}");
+    if trial.ran_out || !keeps_room {
+        assert_eq!(rt; trial.ran_out, trial.refused, "growth {number}");
     }
     assert!(rt; !trial.changed, "growth {number}");
     assert_eq!(rt;
@@ -140,8 +140,8 @@ fn agrees(rt: &impl Abort, number: u64, keeps_room: bool, trial: &Trial, free: &
     );
 }
 
-// Makes trials of a call, with none of its growths refused, then with the first one, the second and so on, until it has no
-// more of them: how many it has.
+// Makes trials of a call: with none of its growths refused, then with the first one refused, the second and so on, until it
+// has no more of them. Returns how many it has.
 fn trials<R: Net + Abort, T: Trying>(
     rt: &R,
     alloc: Global,
@@ -150,7 +150,7 @@ fn trials<R: Net + Abort, T: Trying>(
     keeps_room: bool,
 ) -> Result<u64, Fail> {
     let free = call.tries(rt, alloc, count, 0)?;
-    assert!(rt; !free.wanted);
+    assert!(rt; !free.ran_out);
     for number in 1..TOO_MANY {
         let trial = call.tries(rt, alloc, count, number)?;
         agrees(rt, number, keeps_room, &trial, &free);
@@ -161,8 +161,8 @@ fn trials<R: Net + Abort, T: Trying>(
     Err("too many growths".into())
 }
 
-/// How many growths a call has. Each is refused in turn: want of memory is answered exactly there, and changes nothing; all
-/// trials end alike.
+/// How many growths a call has. Each is refused in turn: the call then runs out of memory, and changes nothing. All trials
+/// end alike.
 pub fn growths<R: Net + Abort, T: Trying>(
     rt: &R,
     alloc: Global,
@@ -172,7 +172,7 @@ pub fn growths<R: Net + Abort, T: Trying>(
     trials(rt, alloc, call, count, false)
 }
 
-/// The same of a call that keeps room for a next one, and does without where that is refused.
+/// The same of a call that keeps room for a next one, and does without if that is refused.
 pub fn growths_with_room<R: Net + Abort, T: Trying>(
     rt: &R,
     alloc: Global,

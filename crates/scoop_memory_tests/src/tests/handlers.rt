@@ -1,7 +1,7 @@
 //! A handler and its state.
 
 use super::data::{block, cell, class, four};
-use super::growths::{Calling, Heap, Trial, Trying, add, answered, each_grows, told, tried};
+use super::growths::{Calling, Heap, Trial, Trying, add, answered, each_grows, shown, tried};
 use super::queues::add_queues;
 use scoop_handler::{AfterError, Done, Handler, HandlerState, Heard, StateError};
 use scoop_message::{Block, HandlerId, Message, OutOfMemory};
@@ -35,7 +35,7 @@ struct Working<'h, 'a> {
     alloc: Global,
     heap: Heap<'a>,
     call: Call,
-    // How much of its kind has come before the call.
+    // How many of its kind have come before the call.
     count: u32,
     handler: &'h mut Handler<Table, Heap<'a>>,
     done: Option<Done<Table>>,
@@ -52,14 +52,14 @@ pub fn add_state<A: Allocator>(text: &mut String, state: &HandlerState<A>) -> Re
     add_queues(text, state.queues())
 }
 
-/// Adds the text of a state that was made. False where memory was wanted.
+/// Adds the text of a state that was made. False if memory ran out.
 pub fn made<A: Allocator, E: Debug + PartialEq + Drop>(
     text: &mut String,
     made: Result<HandlerState<A>, E>,
     want: &E,
 ) -> Result<bool, Fail> {
     match made {
-        Ok(state) => told(add_state(text, &state)),
+        Ok(state) => shown(add_state(text, &state)),
         Err(error) if error == *want => Ok(false),
         Err(error) => Err(error.into()),
     }
@@ -86,7 +86,7 @@ fn remade<'a>(
     HandlerState::of(heap, number, state.words(), holder, &marks, queues)
 }
 
-// Makes a state of the handler's, and adds its text. False where memory was wanted.
+// Makes a state of the handler's, and adds its text. False if memory ran out.
 fn copied<'a>(
     text: &mut String,
     alloc: Global,
@@ -100,7 +100,7 @@ fn copied<'a>(
     match call {
         Call::CopyState => made(text, state.copy(), &OutOfMemory),
         Call::MakeState => made(text, remade(alloc, heap, &state), &StateError::OutOfMemory),
-        _ => told(add_state(text, &state)),
+        _ => shown(add_state(text, &state)),
     }
 }
 
@@ -180,7 +180,7 @@ fn begun<A: Allocator + Copy>(handler: &mut Handler<Table, A>) -> Option<Done<Ta
     }
 }
 
-// The handler hears so much before the call.
+// The handler hears that many messages before the call.
 fn hears_before<A: Allocator + Copy>(
     handler: &mut Handler<Table, A>,
     call: Call,

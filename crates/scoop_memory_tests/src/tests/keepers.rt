@@ -1,6 +1,6 @@
 //! A keeper in memory, and images of states.
 
-use super::growths::{Calling, Heap, Trial, Trying, add, answered, each_grows, told, tried};
+use super::growths::{Calling, Heap, Trial, Trying, add, answered, each_grows, shown, tried};
 use super::handlers::{add_state, made};
 use scoop_handler::HandlerState;
 use scoop_keeper::{Keeper, KeeperError, MemoryKeeper};
@@ -54,15 +54,15 @@ fn state_of<'a>(heap: Heap<'a>, number: u8, word: u8) -> Result<HandlerState<Hea
     Ok(read_image(heap, HandlerId(u32::from(number)), &bytes, &PENDING)?)
 }
 
-// Adds the text of the state that the keeper has of a handler. False where memory was wanted.
+// Adds the text of the state that the keeper has of a handler. False if memory ran out.
 fn loaded<A: Allocator + Copy>(
     text: &mut String,
     keeper: &mut MemoryKeeper<A>,
     number: u32,
 ) -> Result<bool, Fail> {
     match keeper.load_handler(HandlerId(number)) {
-        Ok(Some(state)) => told(add_state(text, &state)),
-        Ok(None) => told(add(text, &"none")),
+        Ok(Some(state)) => shown(add_state(text, &state)),
+        Ok(None) => shown(add(text, &"none")),
         Err(KeeperError::OutOfMemory) => Ok(false),
         Err(error) => Err(error.into()),
     }
@@ -75,10 +75,10 @@ fn next<A: Allocator + Copy>(
     keeper.next_incarnation(ClientId(client))
 }
 
-// A new keeper that has the incarnation, if memory is there: what comes next there.
+// The next incarnation of a new keeper that has this one, if there is memory.
 fn with_incarnation<A: Allocator + Copy>(text: &mut String, heap: A) -> Result<bool, Fail> {
     match MemoryKeeper::new(heap).with_incarnation(ClientId(7), 4) {
-        Ok(mut keeper) => told(add(text, &next(&mut keeper, 7))),
+        Ok(mut keeper) => shown(add(text, &next(&mut keeper, 7))),
         Err(OutOfMemory) => Ok(false),
     }
 }
@@ -88,7 +88,7 @@ fn bytes<A: Allocator>(
     bytes: Result<Vec<u8, A>, OutOfMemory>,
 ) -> Result<bool, Fail> {
     match bytes {
-        Ok(bytes) => told(add(text, &bytes.as_slice())),
+        Ok(bytes) => shown(add(text, &bytes.as_slice())),
         Err(OutOfMemory) => Ok(false),
     }
 }
@@ -132,7 +132,7 @@ impl Calling for Kept<'_, '_> {
     }
 }
 
-// The keeper takes the states of so many handlers and the incarnations of so many clients.
+// The keeper takes the states of that many handlers and the incarnations of that many clients.
 fn fill<'a>(heap: Heap<'a>, keeper: &mut MemoryKeeper<Heap<'a>>, count: u8) -> Result<(), Fail> {
     for number in 0..count {
         put(keeper, &state_of(heap, number + 1, 5)?)?;

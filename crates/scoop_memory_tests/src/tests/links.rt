@@ -1,6 +1,7 @@
 //! Links.
 
-use super::growths::{Calling, Heap, Trial, Trying, add, each_grows, told, tried};
+use super::growths::{Calling, Heap, Trial, Trying, add, each_grows, shown, tried};
+use scoop_free_ports::free_ports;
 use scoop_link::{
     Lane, Link, LinkFault, OpenLinkError, Party, Peers, Script, ScriptLink, TapeLink, UdpLink,
 };
@@ -47,7 +48,7 @@ fn sends<L: Link>(link: &mut L) -> Result<(), LinkFault> {
     Ok(())
 }
 
-// Adds what comes through a lane.
+// Adds the datagrams that come through a lane.
 fn add_taken<A: Allocator>(text: &mut String, lane: &mut Lane<A>) -> Result<(), Fail> {
     for first in 0..4 {
         lane.put(&[first]);
@@ -61,12 +62,12 @@ fn add_taken<A: Allocator>(text: &mut String, lane: &mut Lane<A>) -> Result<(), 
 
 fn lane<A: Allocator>(text: &mut String, heap: A) -> Result<bool, Fail> {
     match Lane::new(heap, SCRIPT, 3) {
-        Ok(mut lane) => told(add_taken(text, &mut lane)),
+        Ok(mut lane) => shown(add_taken(text, &mut lane)),
         Err(OutOfMemory) => Ok(false),
     }
 }
 
-// Adds what comes from the first link to the second.
+// Adds the datagrams that come from the first link to the second.
 fn add_passed<L: Link, M: Link>(
     text: &mut String,
     first: &mut L,
@@ -78,7 +79,7 @@ fn add_passed<L: Link, M: Link>(
 
 fn pair<A: Allocator + Clone>(text: &mut String, heap: A) -> Result<bool, Fail> {
     match ScriptLink::pair(heap, SCRIPT, SCRIPT, 3) {
-        Ok((mut first, mut second)) => told(add_passed(text, &mut first, &mut second)),
+        Ok((mut first, mut second)) => shown(add_passed(text, &mut first, &mut second)),
         Err(OutOfMemory) => Ok(false),
     }
 }
@@ -100,7 +101,7 @@ fn add_sent<A: Allocator>(text: &mut String, tape: &mut TapeLink<A>) -> Result<(
 
 fn tape<A: Allocator + Clone>(text: &mut String, heap: A) -> Result<bool, Fail> {
     match TapeLink::new(heap, 4) {
-        Ok(mut tape) => told(add_sent(text, &mut tape)),
+        Ok(mut tape) => shown(add_sent(text, &mut tape)),
         Err(OutOfMemory) => Ok(false),
     }
 }
@@ -111,18 +112,19 @@ fn add_own<L: Link>(text: &mut String, link: &mut L) -> Result<(), Fail> {
 }
 
 fn udp<R: Net, A: Allocator>(text: &mut String, rt: &R, heap: A) -> Result<bool, Fail> {
+    let [own] = free_ports::<R, 1>(rt)?;
     let peers = Peers {
-        own: 47321,
-        table: &[(CLIENT, 47321)],
+        own,
+        table: &[(CLIENT, own)],
     };
     match UdpLink::open(rt, heap, peers) {
-        Ok(mut link) => told(add_own(text, &mut link)),
+        Ok(mut link) => shown(add_own(text, &mut link)),
         Err(OpenLinkError::OutOfMemory) => Ok(false),
         Err(error) => Err(error.into()),
     }
 }
 
-/// A tape, what other links are made of, and a call.
+/// A tape, the parts of other links, and a call.
 #[derive(Drop)]
 struct Linked<'t, 'a, R> {
     rt: &'a R,
@@ -147,7 +149,7 @@ impl<R: Net> Calling for Linked<'_, '_, R> {
     }
 }
 
-// The call beside a tape to which so many datagrams are to come, and of which some were sent. What then comes is
+// The call beside a tape to which N datagrams are to come, and from which some were sent. The datagrams that then come are
 // shown too.
 fn tries_on<'a, R: Net>(
     rt: &'a R,
@@ -181,7 +183,7 @@ impl Trying for Call {
     }
 }
 
-/// What makes a link takes memory, and so does what feeds a tape.
+/// Making a link takes memory, and so does feeding a tape.
 #[test]
 fn links_are_made_and_fed(rt: HostRuntime) -> Result<(), Fail> {
     let calls = [Call::Lane, Call::Pair, Call::Tape, Call::Feed, Call::Udp];

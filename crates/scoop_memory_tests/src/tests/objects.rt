@@ -1,7 +1,7 @@
 //! Classes.
 
 use super::data::cell_rows;
-use super::growths::{Calling, Heap, Trial, Trying, add, each_grows, told, tried};
+use super::growths::{Calling, Heap, Trial, Trying, add, each_grows, shown, tried};
 use scoop_message::OutOfMemory;
 use scoop_object::{Class, ClassError};
 use scoop_refusing::Refusing;
@@ -50,7 +50,7 @@ fn made<A: Allocator + Copy>(
 impl Calling for Kept<'_> {
     fn call(&mut self, text: &mut String) -> Result<bool, Fail> {
         match made(self.heap, &self.class, self.call) {
-            Ok(class) => told(add_class(text, &class)),
+            Ok(class) => shown(add_class(text, &class)),
             Err(ClassError::OutOfMemory) => Ok(false),
             Err(error) => Err(error.into()),
         }

@@ -1,7 +1,7 @@
 //! The queue of queues.
 
 use super::data::{block, four, set};
-use super::growths::{Calling, Heap, Trial, Trying, add, answered, each_grows, told, tried};
+use super::growths::{Calling, Heap, Trial, Trying, add, answered, each_grows, shown, tried};
 use scoop_message::limits::MAX_PENDING;
 use scoop_message::{Block, Entries, Entry, OutOfMemory};
 use scoop_queue::{AppendError, Head, OpenQueueError, PutError, QueueOfQueues, QueueState};
@@ -84,10 +84,10 @@ fn put<A: Allocator>(queues: &mut QueueOfQueues<A>, entry: Entry) -> Result<(), 
     }
 }
 
-// Adds the text of a copy. False where it wants memory.
+// Adds the text of a copy. False if memory ran out.
 fn copied<A: Allocator + Copy>(text: &mut String, queues: &QueueOfQueues<A>) -> Result<bool, Fail> {
     match queues.copy() {
-        Ok(copy) => told(add_queues(text, &copy)),
+        Ok(copy) => shown(add_queues(text, &copy)),
         Err(OutOfMemory) => Ok(false),
     }
 }
@@ -125,8 +125,8 @@ impl Calling for Kept<'_, '_> {
     }
 }
 
-// Fills the private queue of client 7's first block so many times; or adds so many private queues of that
-// client, for the calls that ask for no single one.
+// Fills the private queue of client 7's first block N times, or, for the calls that ask for no single queue, adds N private
+// queues of that client.
 fn fill<A: Allocator + Copy>(
     queues: &mut QueueOfQueues<A>,
     call: Call,

@@ -2,7 +2,7 @@
 
 use super::data::{block, cell, class, get, set};
 use super::growths::{
-    Calling, Heap, Trial, Trying, add, answered, growths, growths_with_room, told, tried,
+    Calling, Heap, Trial, Trying, add, answered, growths, growths_with_room, shown, tried,
 };
 use scoop_client::ClientNote;
 use scoop_handler::{Note, Ran};
@@ -21,7 +21,7 @@ const SEVEN: ClientId = ClientId(7);
 
 const ONE: HandlerId = HandlerId(1);
 
-/// What is done in a world of handlers 1 and 2 and clients 7 and 8.
+/// An act in a world of handlers 1 and 2 and clients 7 and 8.
 #[derive(Clone, Copy)]
 enum Act {
     /// The client reserves both handlers.
@@ -31,7 +31,7 @@ enum Act {
     End(u32),
     GiveUp(u32),
     Tick(u32, u32),
-    /// The message that was sent so many places before the last one comes to its receiver.
+    /// The message that was sent N places before the last one comes to its receiver.
     Take(usize),
     Begin(u32),
     Finish(u32),
@@ -109,7 +109,7 @@ fn command(client: u32, command: Command) -> Event {
     Event::Do(ClientId(client), command)
 }
 
-// The event of an act, once so many messages were sent.
+// The event of an act, after that many messages were sent.
 fn event(act: Act, sent: usize) -> Result<Event, Fail> {
     Ok(match act {
         Act::Reserve(client) => {
@@ -200,22 +200,22 @@ fn new_world<'a>(alloc: Global, heap: Heap<'a>) -> Result<World<Table, Heap<'a>>
     Ok(opens(heap, placements(alloc)?)?)
 }
 
-// Names the types that an event and its note hold, of which the prover has to be told where both are lent on.
+// Names the types that an event and its note hold. The prover needs the names if both are lent on.
 type Parts = Option<(Command, HandlerList, Entry, Request, Ran, Note, ClientNote)>;
 
-// The story happens in a new world: its events. The world is lent, here as everywhere, so that no way out of here has
-// it to drop: the proof of each would follow all that a world holds.
+// The story happens in a new world: its events. The world is borrowed, here as everywhere, so that no early return has to
+// drop it: the proof of each would follow all that a world holds.
 fn told_in<A: Allocator + Copy>(
     alloc: Global,
     world: &mut World<Table, A>,
 ) -> Result<Vec<Event>, Fail> {
-    // Names types that are held here, of which the prover has to be told.
+    // Names types that are held here, which the prover has to know.
     let _parts: Parts = None;
     let mut events = Vec::new(alloc);
     for act in STORY {
         let sent = sent_count(world);
         stepped(world, event(act, sent)?)?;
-        // Made anew: the prover doesn't follow an event that was passed on before.
+        // A new event, since the prover doesn't follow one that was passed on before.
         events.push(event(act, sent)?)?;
     }
     Ok(events)
@@ -244,7 +244,7 @@ struct Happening<'w, 'a> {
 
 impl Calling for Happening<'_, '_> {
     fn call(&mut self, text: &mut String) -> Result<bool, Fail> {
-        // Names types that are held here, of which the prover has to be told.
+        // Names types that are held here, which the prover has to know.
         let _parts: Parts = None;
         let stepped = stepped(self.world, self.event);
         answered(text, stepped, &WorldError::OutOfMemory)
@@ -285,7 +285,7 @@ fn add_ran(text: &mut String, alloc: Global, events: &[Event]) -> Result<(), Fai
     add_run(text, &mut world, events)
 }
 
-// Whether something else can be read of the world than of one in which these events have happened.
+// Whether the world reads differently from one in which these events have happened.
 fn differs<A: Allocator + Copy>(
     alloc: Global,
     world: &World<Table, A>,
@@ -298,7 +298,7 @@ fn differs<A: Allocator + Copy>(
     Ok(found.as_str() != wanted.as_str())
 }
 
-// All events as one run of a new world, with the growth of this number refused. Where one was, the events before have
+// All events as one run of a new world, with the growth of this number refused. If one was refused, the events before have
 // happened, and a run of the others goes on from there.
 fn runs<'a>(
     alloc: Global,
@@ -313,7 +313,7 @@ fn runs<'a>(
     trial.refused = number != 0 && heap.has_refused();
     heap.refuse(0);
     if let Err((taken, error)) = run {
-        trial.wanted = error == WorldError::OutOfMemory;
+        trial.ran_out = error == WorldError::OutOfMemory;
         trial.changed = differs(alloc, world, events.get(..taken).ok_or("so many")?)?;
         ran(world, events.get(taken..).ok_or("so many")?)?;
     }
@@ -332,7 +332,7 @@ fn tries_run<'a>(
     Ok(trial)
 }
 
-/// What is tried with these events.
+/// A trial of these events.
 #[derive(Clone, Copy)]
 enum Case<'e> {
     /// The one at the place of the count, after those before it.
@@ -386,7 +386,7 @@ struct Opened<'a> {
 impl Calling for Opened<'_> {
     fn call(&mut self, text: &mut String) -> Result<bool, Fail> {
         match opens(self.heap, placements(self.alloc)?) {
-            Ok(world) => told(add_world(text, &world)),
+            Ok(world) => shown(add_world(text, &world)),
             Err(WorldOpenError::OutOfMemory) => Ok(false),
             Err(error) => Err(error.into()),
         }

@@ -1,74 +1,30 @@
--- What a client does keeps the answers right, and accepts each once. An answer is accepted only of the query that waits, by
--- an Answer that was sent, so it has run with that answer; and then the query is acknowledged, so every answer that was
--- accepted lies behind the client, and the query that waits is none of them.
-use Rattle.std.proofs.Common.{◌≡◌, ℕ, ◌+◌, ◌<◌, Bool, true, false, List, [], ◌∷◌, ◌++◌, map, Option, Some, None, refl, sym, ap, ◌∙◌, subst, arith, append-nil}
-use Rattle.std.specs.Prelude.{if◌then◌else◌, Ok}
-use Rattle.std.specs.List.{AllByRecursion}
-use Rattle.std.specs.Option.{option_map_or}
-use Rattle.scoop_message.specs.declared.name.Block.{Block}
-use Rattle.scoop_message.specs.declared.name.HandlerId.{HandlerId}
-use Rattle.scoop_message.specs.declared.request.Answer.{Answer as ObjectAnswer}
-use Rattle.scoop_message.specs.declared.message.Message.{Message}
-use Rattle.scoop_message.specs.declared.message.Message.TheVariants.{Hello, Lock, Open, Unlock, Log}
-use Rattle.scoop_reserve.specs.declared.stage.Stage.{Stage}
-use Rattle.scoop_reserve.specs.declared.stage.Stage.TheVariants.{Locking, Opening, Unlocking, GivingUp as GivingBack}
-use Rattle.scoop_reserve.specs.declared.stage.Step.{Step}
-use Rattle.scoop_reserve.specs.declared.stage.Step.TheVariants as step
-use Rattle.scoop_reserve.specs.Handlers.{has, is_lowest}
-use Rattle.scoop_reserve.specs.State.{ReservationState}
-use Rattle.scoop_reserve.specs.Due.{due_in}
-use Rattle.scoop_reserve.specs.Hearing as reservation
-use Rattle.scoop_client.specs.declared.phase.ClientNote.{ClientNote}
-use Rattle.scoop_client.specs.Window.{WindowState, logged, acknowledged, first_entries, window_of, at_window}
-use Rattle.scoop_client.specs.State.{ClientState, with_windows}
-use Rattle.scoop_client.specs.Due.{due}
-use Rattle.scoop_client.specs.Hearing.{after_step, heard}
-use Rattle.scoop_client.specs.Commands as client
-use Rattle.scoop_client.specs.Rows.{DueRow, owes_nothing, greets, reserves, logs, HeardRow, passed_over, is_welcomed, takes_step, is_acknowledged, is_accepted}
-use Rattle.scoop_client.proofs.DueRows.{due_row}
-use Rattle.scoop_client.proofs.Rows.{heard_row}
-use Rattle.scoop_client.specs.declared.command.Command.{Command}
-use Rattle.scoop_model.specs.World.{World, Party, Accepted, BlockLog, set_party, ran_at}
-use Rattle.scoop_model.specs.Step.{newest_block, commanded_world, with_sent, with_party, newly_accepted, heard_party, restarted_party}
-use Rattle.scoop_message.specs.Lists.{NoRepeats}
-use Rattle.scoop_model.specs.Safe.{HasRun, query_of}
-use Rattle.scoop_model.proofs.Order.Holding.{upto_itself}
-use Rattle.scoop_model.proofs.Order.Facts.{PartyFits, all_more_of, all_pushed, all_set_party}
-use Rattle.scoop_model.proofs.Logging.Facts.{PartyLogs}
-use Rattle.scoop_model.proofs.Answering.Facts.{acked_at, TellsAnswer, IsBehind, AcceptedFits, PartyAnswers, Answering, messages_more, party_answers_more}
+-- A client's move keeps the answers right, and the client accepts each answer once. It accepts an answer only for the query that
+-- waits, from an Answer that was sent, so that query has run with this answer. Then the query is acknowledged. So every accepted
+-- answer is of a query that lies before the client's place, and the query that waits is none of them.
+use Rattle.scoop_model.proofs.Names.{◌≡◌, ℕ, ◌+◌, ◌<◌, List, [], ◌∷◌, ◌++◌, map, Some, None, refl, sym, ap, ◌∙◌, subst, arith, append-nil, Ok, AllByRecursion}
+use Rattle.scoop_model.proofs.Names.{option_map_or, NoRepeats, Message, Block, HandlerId, ObjectAnswer, once_more, ReservationState, Step, heard_row, due}
+use Rattle.scoop_model.proofs.Names.{after_step, heard, HeardRow, passed_over, is_welcomed, takes_step, is_acknowledged, is_accepted, ClientState, with_windows}
+use Rattle.scoop_model.proofs.Names.{WindowState, logged, acknowledged, window_of, at_window, Command, ClientNote, HasRun, query_of, newest_block}
+use Rattle.scoop_model.proofs.Names.{commanded_world, with_sent, with_party, newly_accepted, heard_party, restarted_party, World, Party, Accepted, BlockLog}
+use Rattle.scoop_model.proofs.Names.{set_party, ran_at}
+use Rattle.scoop_model.proofs.Order.{upto_itself, PartyFits, all_more_of, all_pushed, all_set_party}
+use Rattle.scoop_model.proofs.Logging.{PartyLogs}
+use Rattle.scoop_model.proofs.Answering.Facts.{TellsAnswer, IsBehind, AcceptedFits, PartyAnswers, Answering, messages_more, party_answers_more}
 use Rattle.scoop_model.proofs.Answering.Windows.{acked_there, acknowledged_raises, acknowledged_all}
 use Rattle.scoop_model.proofs.Answering.Onward.{Onward, behind_more, onward_heard, onward_commanded}
-use Rattle.scoop_handler.proofs.Once.{once_more}
+use Rattle.scoop_model.proofs.Moves.{Sends, sends_hello}
+use Rattle.scoop_reserve.specs.declared.stage.Step.TheVariants as step
+use Rattle.scoop_reserve.specs.Hearing as reservation
+use Rattle.scoop_client.specs.Commands as client
 
 -- ---- what a client owes is no answer
 
-owed : (w : World) (b : Bool) (n m : Message) → (if b then Some n else None) ≡ Some m → TellsAnswer w n → TellsAnswer w m
-owed w true n m e t = let same : n ≡ m = cc in subst (TellsAnswer w) same t
-owed w false n m e t = absurd (cc)
-
-module _ (w : World) (h : HandlerId) (m : Message) where
-  due_tells : (r : ReservationState) (stage : Stage) → due_in r h stage ≡ Some m → TellsAnswer w m
-  due_tells r Locking e = owed w (is_lowest h r.left) (Lock h r.block) m e tt
-  due_tells r Opening e = owed w (has r.left h) (Open h r.block) m e tt
-  due_tells r Unlocking e = owed w (has r.left h) (Unlock h r.block) m e tt
-  due_tells r GivingBack e = owed w (has r.left h) (Unlock h r.block) m e tt
-
-  owed_tells : (c : ClientState) (o : Option Message) → DueRow c h o → o ≡ Some m → TellsAnswer w m
-  owed_tells c o owes_nothing e = absurd (cc)
-  owed_tells c o (greets left) e = let same : Hello h c.id c.inc ≡ m = cc in subst (TellsAnswer w) same tt
-  owed_tells c o (reserves r n greeted held owes) e = due_tells r r.stage (owes ∙ e)
-  owed_tells c o (logs r l greeted held free opened window some) e =
-      let same : Log l.handler r.block (l.acked + 1) (first_entries c.batch l.unacked) ≡ m = cc in subst (TellsAnswer w) same tt
+due_tells : (w : World) (c : ClientState) (h : HandlerId) (m : Message) → Sends c h m → TellsAnswer w m
+due_tells w c h m sends_hello = tt
+due_tells w c h m s = tt
 
 pub sends_answering : (w : World) → Answering w → (p : Party) (h : HandlerId) → Answering (with_sent w (due p.client h))
-sends_answering w i p h =
-    let v : World = with_sent w (due p.client h) in
-    record {
-      messages = all_pushed (TellsAnswer v) w.sent (due p.client h) (messages_more w v (λ x b n a ran. ran) w.sent i.messages)
-          (λ m e. owed_tells v h m p.client (due p.client h) (due_row p.client h) e);
-      sites = i.sites;
-      parties = all_more_of (PartyAnswers w) (PartyAnswers v) (party_answers_more w v (λ x b n a ran. ran)) w.parties i.parties;
-    }
+sends_answering w i p h = grind (arith, all_more_of, all_pushed, due_tells, messages_more, party_answers_more)
 
 -- ---- a client goes on
 
@@ -103,7 +59,7 @@ party_moves w p q ls i f =
 
 -- ---- a client hears
 
--- the answer to the query that waits lies ahead of all that was accepted, and then behind the client
+-- the answer to the query that waits comes after all accepted ones, and then lies before the client's place
 module _ (w : World) (p : Party) (h : HandlerId) (n : ℕ) (a : ObjectAnswer) (r : ReservationState) where
   abbrev now : ClientState
   now = with_windows p.client (at_window h (acknowledged n) p.client.windows) None
@@ -111,8 +67,7 @@ module _ (w : World) (p : Party) (h : HandlerId) (n : ℕ) (a : ObjectAnswer) (r
   abbrev new : Accepted
   new = (h, newest_block p.client, n, a)
 
-  module _
-      (held : p.client.reservation ≡ Some r) (window : WindowState) (found : window_of h p.client.windows ≡ Some window) (last : n ≡ logged window)
+  module _ (held : p.client.reservation ≡ Some r) (window : WindowState) (found : window_of h p.client.windows ≡ Some window) (last : n ≡ logged window)
       (waiting : window.acked < n) where
     new_behind : IsBehind now new
     new_behind = record {
@@ -124,13 +79,7 @@ module _ (w : World) (p : Party) (h : HandlerId) (n : ℕ) (a : ObjectAnswer) (r
 
     -- none of them is the same query
     none_same : (x : Accepted) → AcceptedFits w p x → query_of x ≡ query_of new → ⊥
-    none_same x f e =
-        let b : x.1 ≡ newest_block p.client = ap (λ (q : HandlerId × Block × ℕ). q.1) e in
-        let low = f.behind.acked r held (ap (λ (y : Block). y.inc) b) (ap (λ (y : Block). y.num) b) in
-        let there : acked_at x.0 p.client.windows ≡ window.acked =
-        ap (λ (q : HandlerId × Block × ℕ). acked_at q.0 p.client.windows) e ∙ ap (λ o. option_map_or (λ (l : WindowState). l.acked) o 0) found in
-        let number : x.2 ≡ n = ap (λ (q : HandlerId × Block × ℕ). q.2) e in
-        omega (arith, low, there, number, waiting)
+    none_same x f e = grind (arith, option_map_or)
 
     accepts : Onward p.client now → HasRun (ran_at h w) (newest_block p.client) n a → PartyAnswers w p → PartyAnswers w (party_with p now (new ∷ []))
     accepts on ran f =
@@ -142,20 +91,16 @@ module _ (w : World) (p : Party) (h : HandlerId) (n : ℕ) (a : ObjectAnswer) (r
           once = once_more query_of p.accepted new f.once (all_more_of (AcceptedFits w p) (λ x. query_of x ≡ query_of new → ⊥) none_same p.accepted f.accepted);
         }
 
--- what a step of the reservation tells is no answer
+-- a step of the reservation returns no answer
 step_accepts : (b : Block) (c : ClientState) (s : ReservationState) (st : Step) → newly_accepted b (after_step c s st).1 ≡ []
 step_accepts b c s (step.Locked h) = refl
-step_accepts b c s (step.Busy h) = refl
-step_accepts b c s (step.Opened h) = refl
-step_accepts b c s (step.Unlocked h) = refl
-step_accepts b c s step.Ignored = refl
+step_accepts b c s st = refl
 
 module _ (w : World) (p : Party) (logging : PartyLogs w p) (f : PartyAnswers w p) where
   quiet : (d : ClientState) (ys : List Accepted) → Onward p.client d → ys ≡ [] → PartyAnswers w (party_with p d ys)
   quiet d ys on none = goes_on w p (party_with p d ys) on (ap (λ xs. p.accepted ++ xs) none ∙ append-nil p.accepted) f
 
-  heard_fits :
-      (m : Message) (d : ClientState) (note : ClientNote) → HeardRow p.client m d note → Onward p.client d → TellsAnswer w m
+  heard_fits : (m : Message) (d : ClientState) (note : ClientNote) → HeardRow p.client m d note → Onward p.client d → TellsAnswer w m
       → PartyAnswers w (party_with p d (newly_accepted (newest_block p.client) note))
   heard_fits m d note (passed_over n) on t = quiet d [] on refl
   heard_fits m d note (is_welcomed h left) on t = quiet d [] on refl
@@ -167,8 +112,7 @@ module _ (w : World) (p : Party) (logging : PartyLogs w p) (f : PartyAnswers w p
       let query = block.waits h n waits in
       accepts w p h n a r held query.window query.found query.query.number query.query.waiting on (subst (λ b. HasRun (ran_at h w) b n a) block.block t) f
 
-pub notices_answering :
-    (w : World) → Answering w → (m : Message) (p : Party) → TellsAnswer w m → PartyLogs w p → PartyAnswers w p
+pub notices_answering : (w : World) → Answering w → (m : Message) (p : Party) → TellsAnswer w m → PartyLogs w p → PartyAnswers w p
     → Answering (with_party w (heard_party p (heard p.client m)))
 notices_answering w i m p tells logging f =
     let now = heard p.client m in
@@ -177,8 +121,7 @@ notices_answering w i m p tells logging f =
 
 -- ---- a client takes a command, or restarts
 
-pub commands_answering :
-    (w : World) → Answering w → (p : Party) (x : Command) (d : ClientState) → PartyAnswers w p → client.command p.client x ≡ Ok d
+pub commands_answering : (w : World) → Answering w → (p : Party) (x : Command) (d : ClientState) → PartyAnswers w p → client.command p.client x ≡ Ok d
     → Answering (commanded_world w p x d)
 commands_answering w i p x d f e =
     party_moves w p (record p { client = d }) _ i (goes_on w p (record p { client = d }) (onward_commanded p.client x d e) refl f)

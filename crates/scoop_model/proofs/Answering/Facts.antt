@@ -1,23 +1,8 @@
--- What every event keeps of answers: the words that an object has come to, the answers that are kept and sent, and
--- those that clients have accepted.
-use Rattle.std.proofs.Common.{◌≡◌, ℕ, ◌≤◌, List, map, Some}
-use Rattle.std.specs.Prelude.{⊤}
-use Rattle.std.specs.List.{AllByRecursion}
-use Rattle.std.specs.Option.{option_map_or}
-use Rattle.scoop_message.specs.declared.name.Block.{Block}
-use Rattle.scoop_message.specs.declared.name.HandlerId.{HandlerId}
-use Rattle.scoop_message.specs.declared.request.Answer.{Answer as ObjectAnswer}
-use Rattle.scoop_message.specs.declared.message.Message.{Message}
-use Rattle.scoop_message.specs.declared.message.Message.TheVariants.{Answer}
-use Rattle.scoop_object.specs.Play.{play}
-use Rattle.scoop_reserve.specs.State.{ReservationState}
-use Rattle.scoop_client.specs.Window.{WindowState, window_of}
-use Rattle.scoop_client.specs.State.{ClientState}
-use Rattle.scoop_model.specs.World.{World, Site, Party, Accepted, ran_at}
-use Rattle.scoop_message.specs.Lists.{NoRepeats}
-use Rattle.scoop_model.specs.Safe.{entries_of, HasRun, IsAnswered, query_of}
-use Rattle.scoop_model.proofs.Order.Holding.{Upto}
-use Rattle.scoop_model.proofs.Order.Facts.{all_more_of}
+-- The invariant about answers: the words of an object, the answers that are kept and sent, and those that clients have accepted.
+use Rattle.scoop_model.proofs.Names.{◌≡◌, ℕ, List, map, Some, ◌≤◌, AllByRecursion, option_map_or, ⊤, NoRepeats, Message, Answer, Block, HandlerId, ObjectAnswer}
+use Rattle.scoop_model.proofs.Names.{play, ReservationState, ClientState, WindowState, window_of, HasRun, query_of, entries_of, IsAnswered, World, Party}
+use Rattle.scoop_model.proofs.Names.{Accepted, ran_at, Site}
+use Rattle.scoop_model.proofs.Order.{Upto, all_more_of}
 use Rattle.scoop_model.proofs.Answering.Objects.{AnswersFrom}
 use Rattle.scoop_model.proofs.Answering.Kept.{KeepsRan}
 
@@ -36,7 +21,7 @@ pub record SiteAnswers (s : Site) : Type 0 where
 abbrev pub acked_at : HandlerId → List WindowState → ℕ
 acked_at h ls = option_map_or (λ l. l.acked) (window_of h ls) 0
 
--- the query lies behind the client: in the block that the client has, it is acknowledged
+-- the query lies before the client's place: in the block that the client has, it is acknowledged
 pub record IsBehind (c : ClientState) (a : Accepted) : Type 0 where
   pub upto : Upto a.1.inc a.1.num c.inc c.last
   pub acked : (r : ReservationState) → c.reservation ≡ Some r → a.1.inc ≡ c.inc → a.1.num ≡ c.last → a.2 ≤ acked_at a.0 c.windows

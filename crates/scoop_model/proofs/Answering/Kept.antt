@@ -1,35 +1,14 @@
 -- The answers that a handler keeps and sends are ones that its entries had.
-use Rattle.std.proofs.Common.{◌≡◌, ℕ, true, ◌&&◌, List, [], ◌∷◌, ◌++◌, map, Option, Some, None, refl, sym, ap, ◌∙◌, subst, option_map}
-use Rattle.std.proofs.lemmas.Bool.{and_parts}
-use Rattle.std.proofs.lemmas.List.Elements.{Contains-append_left, Contains-push}
-use Rattle.std.specs.Prelude.{if◌then◌else◌, ⊤}
-use Rattle.std.specs.List.{AllByRecursion}
-use Rattle.scoop_message.specs.declared.name.Block.{Block}
-use Rattle.scoop_message.specs.declared.name.HandlerId.{HandlerId}
-use Rattle.scoop_message.specs.declared.request.Answer.{Answer as ObjectAnswer}
-use Rattle.scoop_message.specs.declared.message.Message.{Message}
-use Rattle.scoop_message.specs.declared.message.Message.TheVariants.{Answer}
-use Rattle.scoop_message.specs.Entries.{last_number}
-use Rattle.scoop_message.specs.Entry.{is_query}
-use Rattle.scoop_message.specs.Message.{same_block}
-use Rattle.scoop_message.proofs.Same.{pair}
-use Rattle.scoop_handler.specs.declared.mark.Mark.{Mark}
+use Rattle.scoop_model.proofs.Names.{◌≡◌, ℕ, List, [], ◌∷◌, ◌++◌, map, Some, None, refl, sym, ap, ◌∙◌, subst, Option, option_map, true, if◌then◌else◌, ◌&&◌}
+use Rattle.scoop_model.proofs.Names.{and_parts, Contains-append_left, Contains-push, AllByRecursion, ⊤, pair, last_number, is_query, same_block, Message}
+use Rattle.scoop_model.proofs.Names.{Answer, Block, HandlerId, ObjectAnswer, by_test, All-mark_of, All-set_mark, All-add_mark, block_of-same, Hearing}
+use Rattle.scoop_model.proofs.Names.{IsHeardAt, greeting_mark, block_of, fresh_mark, opened_mark, with_received, without_hold, set_mark, Row, first_greeting}
+use Rattle.scoop_model.proofs.Names.{newer_greeting, lock_granted, is_opened, unlock_of_a_block_never_held, is_freed, is_answered, is_taken, mark_after}
+use Rattle.scoop_model.proofs.Names.{HandlerState, Mark, AtHeld, AtShut, Ran, HasRun}
 use Rattle.scoop_handler.specs.declared.mark.Stage.{Stage}
-use Rattle.scoop_handler.specs.declared.mark.Stage.TheVariants.{Held as AtHeld, Shut as AtShut}
-use Rattle.scoop_handler.specs.declared.ran.Ran.{Ran}
-use Rattle.scoop_handler.specs.Marks.{block_of, fresh_mark, opened_mark, with_received, without_hold, set_mark}
-use Rattle.scoop_handler.specs.State.{HandlerState}
-use Rattle.scoop_handler.specs.Hearing.{Hearing, IsHeardAt, greeting_mark}
-use Rattle.scoop_handler.specs.Running.{mark_after}
-use Rattle.scoop_handler.specs.Rows.{Row, first_greeting, newer_greeting, lock_granted, is_opened, unlock_of_a_block_never_held, is_freed, is_answered}
-use Rattle.scoop_handler.specs.Rows.{is_taken}
-use Rattle.scoop_handler.proofs.MarkLists.{All-mark_of, All-set_mark, All-add_mark}
-use Rattle.scoop_handler.proofs.TableLaws.{block_of-same}
-use Rattle.scoop_model.specs.Safe.{HasRun}
-use Rattle.scoop_model.proofs.Basics.{by_test}
-use Rattle.scoop_model.proofs.Order.Lists.{same_block_is}
+use Rattle.scoop_model.proofs.Order.{same_block_is}
 
--- what ran stays when more runs
+-- an entry that ran stays when more entries run
 pub has_run_more : (rs : List Ran) (x : Ran) (b : Block) (n : ℕ) (a : ObjectAnswer) → HasRun rs b n a → HasRun (rs ++ x ∷ []) b n a
 has_run_more rs x b n a h = record {
   ran = h.ran;

@@ -1,12 +1,7 @@
 -- How many entries are acknowledged at a handler, once windows have changed.
-use Rattle.std.proofs.Common.{◌≡◌, ℕ, ◌≤◌, true≢false, List, map, Option, Some, None, refl, sym, ap, ◌∙◌, subst, option_map, arith}
-use Rattle.std.specs.Option.{option_map_or}
-use Rattle.scoop_message.specs.declared.name.HandlerId.{HandlerId}
-use Rattle.scoop_message.specs.Message.{same_handler}
-use Rattle.scoop_message.proofs.Same.{handler_decides}
-use Rattle.scoop_client.specs.Window.{WindowState, logged, acknowledged, window_of, at_window}
-use Rattle.scoop_model.proofs.Basics.{by_test}
-use Rattle.scoop_model.proofs.Logging.Windows.{StaysAt, window_in_all, window_own, window_other}
+use Rattle.scoop_model.proofs.Names.{◌≡◌, ℕ, List, map, Some, None, refl, sym, ap, ◌∙◌, subst, arith, ◌≤◌, Option, option_map, option_map_or, handler_decides}
+use Rattle.scoop_model.proofs.Names.{HandlerId, WindowState, logged, acknowledged, window_of, at_window}
+use Rattle.scoop_model.proofs.Logging.{StaysAt, window_in_all, window_own, window_other}
 use Rattle.scoop_model.proofs.Answering.Facts.{acked_at}
 
 -- a change of a window that leaves its handler, and takes no acknowledgement back
@@ -29,14 +24,7 @@ module _ (f : WindowState → WindowState) (raises : Raises f) where
   own_raised h ls = subst (λ o. acked_at h ls ≤ acked_in o) (sym (window_own h f raises.handler ls)) (raised (window_of h ls))
 
   pub acked_at_window : (h x : HandlerId) (ls : List WindowState) → acked_at x ls ≤ acked_at x (at_window h f ls)
-  acked_at_window h x ls =
-      by_test (λ t. same_handler h x ≡ t → acked_at x ls ≤ acked_at x (at_window h f ls)) (same_handler h x)
-      (λ _ is. let same : h ≡ x = (handler_decides h x).0 is in subst (λ k. acked_at k ls ≤ acked_at k (at_window h f ls)) same (own_raised h ls))
-      (λ _ is.
-      let apart : h ≡ x → ⊥ = λ e. true≢false (sym ((handler_decides h x).1 e) ∙ is) in
-      let stays : acked_at x (at_window h f ls) ≡ acked_at x ls = ap acked_in (window_other h x f raises.handler ls apart) in
-      omega (arith, stays))
-      refl
+  acked_at_window h x ls = grind (arith, handler_decides, own_raised, window_other)
 
   -- at the handler whose window changes
   pub acked_there : (h : HandlerId) (ls : List WindowState) (l : WindowState) → window_of h ls ≡ Some l → acked_at h (at_window h f ls) ≡ (f l).acked

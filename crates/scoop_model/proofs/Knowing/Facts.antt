@@ -1,17 +1,8 @@
--- What every event keeps of incarnations: where a message names a block, and where a client has one, each of the
--- handlers has been greeted by the block's incarnation.
-use Rattle.std.proofs.Common.{◌≡◌, ℕ, true, false, List, find, Some}
-use Rattle.std.specs.List.{AllByRecursion}
-use Rattle.scoop_message.specs.declared.name.Block.{Block}
-use Rattle.scoop_message.specs.declared.name.ClientId.{ClientId}
-use Rattle.scoop_message.specs.declared.name.HandlerId.{HandlerId}
-use Rattle.scoop_message.specs.declared.message.Message.{Message}
-use Rattle.scoop_reserve.specs.Handlers.{has}
-use Rattle.scoop_reserve.specs.State.{ReservationState}
-use Rattle.scoop_handler.specs.Replies.{named_block}
-use Rattle.scoop_client.specs.State.{ClientState, block_named}
-use Rattle.scoop_model.specs.World.{World, Site, Party, is_site}
-use Rattle.scoop_model.proofs.Order.Facts.{IsGrantedIn}
+-- The invariant about incarnations. If a message names a block, or a client has one, each of the handlers has been greeted by the
+-- block's incarnation.
+use Rattle.scoop_model.proofs.Names.{◌≡◌, ℕ, List, Some, find, true, false, AllByRecursion, Message, Block, ClientId, HandlerId, named_block, has}
+use Rattle.scoop_model.proofs.Names.{ReservationState, ClientState, block_named, World, Party, Site, is_site}
+use Rattle.scoop_model.proofs.Order.{IsGrantedIn}
 
 -- the handler's mark of the client is at the incarnation or past it
 abbrev pub HasGreeted : List Site → HandlerId → ClientId → ℕ → Type 0
@@ -39,7 +30,7 @@ pub record Knowing (hs : List HandlerId) (w : World) : Type 0 where
 
 -- ---- what goes on
 
--- what a handler has granted stays so
+-- a granted lock stays granted
 abbrev pub Remember : List Site → List Site → Type 0
 Remember ss ts = (h : HandlerId) (b : Block) → IsGrantedIn (find (is_site h) ss) b → IsGrantedIn (find (is_site h) ts) b
 

@@ -1,44 +1,22 @@
 -- Whatever happens, where a message names a block, every handler knows the block's incarnation. A client begins a block only
 -- once every handler has welcomed it, and a handler's Welcome tells that its mark has reached the incarnation. Marks only go on,
 -- so what a handler knew it knows later too; a message names its client's block, or that of the message that it replies to.
-use Rattle.std.proofs.Common.{◌≡◌, true, true≢false, List, [], ◌∷◌, map, find, Some, refl, sym, ap, ◌∙◌, subst}
-use Rattle.std.proofs.lemmas.Option.{same_Some}
-use Rattle.std.specs.Prelude.{if◌then◌else◌, ◌||◌}
-use Rattle.std.specs.List.{AllByRecursion}
-use Rattle.scoop_message.specs.declared.name.HandlerId.{HandlerId}
-use Rattle.scoop_message.specs.declared.message.Message.{Message}
-use Rattle.scoop_message.specs.Message.{client_of, handler_of}
-use Rattle.scoop_reserve.specs.Handlers.{has}
-use Rattle.scoop_handler.specs.Replies.{HasEntries}
-use Rattle.scoop_handler.specs.Growing.{MarksGrow}
-use Rattle.scoop_handler.specs.Hearing.{Hearing, hear}
-use Rattle.scoop_handler.specs.Running.{ran_of}
-use Rattle.scoop_handler.proofs.TableRows.{row}
-use Rattle.scoop_handler.proofs.TableLaws.{grows-row, number-row, replies-row}
-use Rattle.scoop_handler.proofs.After.{MarksGrow-after}
-use Rattle.scoop_handler.proofs.Fronts.{MarksGrow-refl}
-use Rattle.scoop_client.specs.Due.{due}
-use Rattle.scoop_client.specs.Hearing.{heard}
-use Rattle.scoop_client.proofs.DueRows.{due_row}
-use Rattle.scoop_client.proofs.Rows.{heard_row}
-use Rattle.scoop_model.specs.World.{World, Site, Party, number_of, is_party, is_site, sent_at, set_party, set_site, site_of}
-use Rattle.scoop_model.specs.Step.{Placement, Newcomer, new_party, opening, begun_site, finished_site, heard_party, heard_site, heard_world, reopened}
-use Rattle.scoop_model.specs.Step.{restarted_party}
-use Rattle.scoop_model.specs.Reach.{Run, IsReached}
+use Rattle.scoop_model.proofs.Names.{◌≡◌, List, [], ◌∷◌, map, Some, refl, sym, ap, ◌∙◌, subst, arith, find, true, true≢false, same_Some, AllByRecursion}
+use Rattle.scoop_model.proofs.Names.{client_of, handler_of, Message, HandlerId, MarksGrow-after, all_found, MarksGrow-refl, number-row, grows-row, replies-row}
+use Rattle.scoop_model.proofs.Names.{row, MarksGrow, Hearing, hear, HasEntries, ran_of, has, due, heard, all_made, IsReached, Run, heard_party, restarted_party}
+use Rattle.scoop_model.proofs.Names.{heard_world, heard_site, begun_site, finished_site, reopened, Placement, Newcomer, new_party, opening, World, Party}
+use Rattle.scoop_model.proofs.Names.{set_party, Site, number_of, is_site, site_of, set_site, is_party, sent_at}
 use Rattle.scoop_model.specs.Named.{IsMarked, NamesKnown}
 use Rattle.scoop_model.proofs.Events.{Changes, steps_kept}
-use Rattle.scoop_model.proofs.Basics.{by_test}
-use Rattle.scoop_model.proofs.Order.Facts.{Ordered, all_found, all_more_of, all_pushed, all_set_party}
-use Rattle.scoop_model.proofs.Order.Handlers.{granted_anew, granted_set}
-use Rattle.scoop_model.proofs.Order.Runs.{opens_ordered}
-use Rattle.scoop_model.proofs.Sound.Facts.{Sound}
-use Rattle.scoop_model.proofs.Sound.Runs.{InOrderAndSound, both_kept, ordered_sound_kept}
-use Rattle.scoop_model.proofs.Sound.Steps.{opens_sound, sent_all}
-use Rattle.scoop_model.proofs.Logging.Greetings.{Greetings, Greets, greetings_kept, opens_greetings}
+use Rattle.scoop_model.proofs.Order.{Ordered, all_more_of, all_pushed, all_set_party, granted_anew, granted_set, opens_ordered}
+use Rattle.scoop_model.proofs.Sound.{Sound, InOrderAndSound, both_kept, ordered_sound_kept, opens_sound, sent_all}
+use Rattle.scoop_model.proofs.Logging.{Greets, greetings_kept, opens_greetings}
+use Rattle.scoop_model.proofs.Logging.Greetings.{Greetings}
 use Rattle.scoop_model.proofs.Reaching.{sites_placed}
 use Rattle.scoop_model.proofs.Sites.{own_site}
 use Rattle.scoop_model.proofs.Knowing.Facts.{Names, PartyKnown, Knowing, Remember, names_more, party_more}
-use Rattle.scoop_model.proofs.Knowing.Clients.{command_known, due_names, heard_known}
+use Rattle.scoop_model.proofs.Knowing.Clients.{command_known, due_names, hears_known_by}
+use Rattle.scoop_model.proofs.Moves.{sends, hears}
 
 module _ (hs : List HandlerId) where
   -- the sites go on, and these messages are sent by now
@@ -53,8 +31,7 @@ module _ (hs : List HandlerId) where
   old_names w v i more = all_more_of (Names hs w.sites) (Names hs v.sites) (names_more hs w.sites v.sites more) w.sent i.messages
 
   -- one site goes on, and nothing is sent
-  site_known :
-      (w : World) (s old : Site) → Knowing hs w → site_of (number_of s) w ≡ Some old → MarksGrow old.core.state.marks s.core.state.marks
+  site_known : (w : World) (s old : Site) → Knowing hs w → site_of (number_of s) w ≡ Some old → MarksGrow old.core.state.marks s.core.state.marks
       → Knowing hs (record w { sites = set_site s w.sites })
   site_known w s old i here grows =
       let v : World = record w { sites = set_site s w.sites } in
@@ -65,8 +42,7 @@ module _ (hs : List HandlerId) where
   set_known : (w : World) (p : Party) → Knowing hs w → PartyKnown hs w.sites p → AllByRecursion (PartyKnown hs w.sites) (set_party p w.parties)
   set_known w p i own = all_set_party (PartyKnown hs w.sites) (PartyKnown hs w.sites) p w.parties own (λ y other k. k) i.parties
 
-  hears_known :
-      (w : World) → Sound w → Knowing hs w → (k : _) (m : Message) (s : Site) → sent_at k w ≡ Some m → site_of (handler_of m) w ≡ Some s
+  hears_known : (w : World) → Sound w → Knowing hs w → (k : _) (m : Message) (s : Site) → sent_at k w ≡ Some m → site_of (handler_of m) w ≡ Some s
       → Knowing hs (heard_world w s (hear s.core.state m))
   hears_known w sound i k m s was found =
       let now : Hearing = hear s.core.state m in
@@ -90,18 +66,16 @@ module _ (hs : List HandlerId) where
     };
     sends = λ c p h s at here. record {
       messages = all_pushed (Names hs w.sites) w.sent (due p.client h) i.messages
-          (due_names hs w.sites p.client h (due p.client h) (due_row p.client h) (all_found (PartyKnown hs w.sites) (is_party c) w.parties p i.parties at));
+          (λ m e. due_names hs w.sites p.client h (all_found (PartyKnown hs w.sites) (is_party c) w.parties p i.parties at) m (sends p.client h m e));
       parties = i.parties;
     };
     hears = λ k m s was goes here. hears_known w sound i k m s was here;
-    notices = λ k m p was goes at. (
-        let now = heard p.client m in
-        record {
-          messages = i.messages;
-          parties = set_known w (heard_party p now) i
-              (heard_known hs w p.client m now.0 now.1 (heard_row p.client m) (sent_all w k m was (Greets w) g.messages)
-              (all_found (PartyKnown hs w.sites) (is_party (client_of m)) w.parties p i.parties at));
-        });
+    notices = λ k m p was goes at. record {
+      messages = i.messages;
+      parties = set_known w (heard_party p (heard p.client m)) i
+          (hears_known_by hs w p.client m (heard p.client m).0 (hears p.client m) (sent_all w k m was (Greets w) g.messages)
+          (all_found (PartyKnown hs w.sites) (is_party (client_of m)) w.parties p i.parties at));
+    };
     begins = λ h s t here is. site_known w (begun_site s) s i (own_site w h s here) (MarksGrow-refl s.core.state.marks);
     finishes = λ h s t here is. site_known w (finished_site s t) s i (own_site w h s here) (MarksGrow-after (ran_of t) s.core.state.marks);
     restarts = λ c p at room. (
@@ -121,8 +95,11 @@ module _ (hs : List HandlerId) where
   }
 
   parties_open : (ss : List Site) (ns : List Newcomer) → AllByRecursion (PartyKnown hs ss) (map (new_party hs) ns)
-  parties_open ss [] = tt
-  parties_open ss (n ∷ ns) = (record { handlers = refl; greeted = λ h e f. absurd (true≢false (sym e ∙ f)); block = λ r e. absurd (cc) }, parties_open ss ns)
+  parties_open ss = all_made (new_party hs) (PartyKnown hs ss) (λ n. record {
+    handlers = refl;
+    greeted = λ h e f. absurd (true≢false (sym e ∙ f));
+    block = λ r e. absurd (cc);
+  })
 
   -- in order, sound, as greeted, and known
   abbrev All : World → Type 0
@@ -139,9 +116,7 @@ module _ (hs : List HandlerId) where
 -- the handlers of the world are those that were placed
 found_has : (h : HandlerId) (ss : List Site) (s : Site) → find (is_site h) ss ≡ Some s → has (map number_of ss) h ≡ true
 found_has h [] s e = absurd (cc)
-found_has h (x ∷ xs) s e =
-    by_test (λ t. (if t then Some x else find (is_site h) xs) ≡ Some s → (t || has (map number_of xs) h) ≡ true) (is_site h x) (λ here f. refl)
-    (λ there f. found_has h xs s f) e
+found_has h (x ∷ xs) s e = grind (arith, found_has h xs s)
 
 names_shown : (hs : List HandlerId) (w : World) → map number_of w.sites ≡ hs → (m : Message) → Names hs w.sites m → NamesKnown w m
 names_shown hs w numbers m n = record {
@@ -153,7 +128,7 @@ names_shown hs w numbers m n = record {
   };
 }
 
--- what is known in a world that is reached
+-- the facts about incarnations in a world that is reached
 reached_knowing : (w : World) (r : IsReached w) → Knowing (map (λ (p : Placement). p.handler) r.placements) w
 reached_knowing w r =
     let hs = map (λ (p : Placement). p.handler) r.placements in

@@ -1,44 +1,22 @@
--- What a command to a client does leaves its windows at the end of the logs. The log and the client's own window at a handler
--- grow by the same entry, so that the window stays the log's end; other blocks' logs stay; and nothing is logged before the
--- block has opened at all of its handlers. Command by command, by the rows of the client's table.
-use Rattle.std.proofs.Common.{◌≡◌, ℕ, ◌+◌, ◌-◌, ◌^◌, Bool, true, false, true≢false, nat_le, List, [], ◌∷◌, ◌++◌, map, Option, Some, None, refl, sym, ap, ◌∙◌}
-use Rattle.std.proofs.Common.{subst, append-nil, ⊎_elim}
-use Rattle.std.proofs.lemmas.Option.{same_Some}
-use Rattle.std.specs.Prelude.{if◌then◌else◌, Ok}
-use Rattle.std.specs.Option.{option_map}
-use Rattle.scoop_message.specs.declared.name.Block.{Block}
-use Rattle.scoop_message.specs.declared.name.HandlerId.{HandlerId}
-use Rattle.scoop_message.specs.declared.request.Entry.{Entry}
-use Rattle.scoop_message.specs.declared.request.Entry.TheVariants.{End as EndEntry, Call as CallEntry, Query as QueryEntry}
-use Rattle.scoop_message.specs.Entry.{is_end}
-use Rattle.scoop_message.specs.Entries.{EndOnlyLast, ends}
-use Rattle.scoop_message.specs.Message.{same_handler}
-use Rattle.scoop_message.proofs.Same.{handler_decides, client_decides}
-use Rattle.scoop_queue.proofs.Ends.{EndOnlyLast-append}
-use Rattle.scoop_reserve.specs.declared.stage.Stage.{Stage}
-use Rattle.scoop_reserve.specs.declared.stage.Stage.TheVariants.{Locking as AtLocking, Opening as AtOpening, Unlocking as AtUnlocking, GivingUp as AtGivingUp}
-use Rattle.scoop_reserve.specs.Handlers.{asked, is_empty}
-use Rattle.scoop_reserve.specs.State.{ReservationState, at_stage}
-use Rattle.scoop_reserve.specs.Starting.{fresh}
-use Rattle.scoop_reserve.specs.Hearing.{is_open, is_open_in, given_up_in}
-use Rattle.scoop_client.specs.declared.phase.Phase.TheVariants.{Greeting, Running, Ending}
-use Rattle.scoop_client.specs.Window.{WindowState, logged, fresh_window, with_entry as with_window_entry, with_end, window_of, at_window, is_ended}
-use Rattle.scoop_client.specs.State.{ClientState, phase_at, phase_of, phase_of_block, with_windows, with_reservation}
-use Rattle.scoop_client.specs.Commands as client
-use Rattle.scoop_client.specs.Rows.{ReserveRow, begins_block, LogRow, is_logged, EndRow, ends_block, GiveUpRow, gives_up}
-use Rattle.scoop_client.proofs.CommandRows.{command_row}
-use Rattle.scoop_client.specs.declared.command.Command.{Command}
-use Rattle.scoop_client.specs.declared.command.Command.TheVariants.{Reserve, Call, Query, End, GiveUp}
-use Rattle.scoop_model.specs.World.{World, Party, HandlerLog, id_of, is_party, log_of, shares_of, handlers_of}
-use Rattle.scoop_model.specs.Step.{newest_block, logs_after, commanded_world}
-use Rattle.scoop_model.proofs.Basics.{ok_is, by_test}
-use Rattle.scoop_model.proofs.Order.Facts.{PartyFits, all_more_of, all_set_party}
-use Rattle.scoop_model.proofs.Order.Commands.{next_is_new, started_fresh}
+-- A command keeps its client's windows at the end of the logs. The log and the client's own window at a handler grow by the same
+-- entry, so that the window stays the log's end. Other blocks' logs stay. Nothing is logged before the block has opened at all of
+-- its handlers. The proof goes command by command.
+use Rattle.scoop_model.proofs.Names.{◌≡◌, ℕ, ◌+◌, List, [], ◌∷◌, ◌++◌, map, Some, None, refl, sym, ap, ◌∙◌, subst, arith, append-nil, Ok, Option, option_map}
+use Rattle.scoop_model.proofs.Names.{true, if◌then◌else◌, false, true≢false, Bool, ◌-◌, ◌^◌, ⊎_elim, nat_le, same_Some, handler_decides, client_decides}
+use Rattle.scoop_model.proofs.Names.{EndOnlyLast, ends, is_end, same_handler, Block, HandlerId, Entry, CallEntry, QueryEntry, EndOnlyLast-append, by_test}
+use Rattle.scoop_model.proofs.Names.{asked, is_empty, is_open, is_open_in, fresh, ReservationState, at_stage, Stage, GivingBack as AtGivingUp}
+use Rattle.scoop_model.proofs.Names.{Locking as AtLocking, Unlocking as AtUnlocking, ClientState, with_windows, with_reservation, phase_of, phase_of_block}
+use Rattle.scoop_model.proofs.Names.{phase_at, WindowState, logged, window_of, at_window, with_entry as with_window_entry, with_end, fresh_window, is_ended}
+use Rattle.scoop_model.proofs.Names.{Command, Reserve, End, GiveUp, Greeting, Running, Ending, newest_block, commanded_world, logs_after, World, Party}
+use Rattle.scoop_model.proofs.Names.{is_party, log_of, id_of, handlers_of, HandlerLog, shares_of}
+use Rattle.scoop_model.proofs.Order.{PartyFits, all_more_of, all_set_party, next_is_new}
 use Rattle.scoop_model.proofs.Logging.Facts.{Carries, WindowFits, IsLastQuery, WaitsAt, WindowsFit, PartyLogs, Logging, Grown}
 use Rattle.scoop_model.proofs.Logging.Logs.{HasLine, IsAdded, added, added_last, log_after, log_here, log_other, named_shares, reserved_same, unreserved_empty}
 use Rattle.scoop_model.proofs.Logging.Windows.{by_all, by_window, fits_ended, fits_fresh, fits_logged, fresh_found, handlers_at, handlers_at_window}
 use Rattle.scoop_model.proofs.Logging.Windows.{handlers_fresh_windows, handlers_in_all, window_own, not_ended, query_logged, same_found}
-use Rattle.scoop_model.proofs.Logging.Clients.{StaysLogged, carries_more, fit_again, windows_more, party_more}
+use Rattle.scoop_model.proofs.Logging.Clients.{carries_more, fit_again, windows_more, party_more, stays_logged}
+use Rattle.scoop_model.proofs.Moves.{Takes, takes_reserve, takes_call, takes_query, takes_end, takes_give_up, takes}
+use Rattle.scoop_client.specs.Commands as client
 
 -- ---- a command, once it is known what it does to the client's own windows
 
@@ -91,11 +69,9 @@ pub record IsRunning (c : ClientState) : Type 0 where
   pub going : is_ended c.windows ≡ false
 
 running_at : (ended : Bool) (s : Stage) → phase_at s ended ≡ Running → (is_open_in s ≡ true) × (ended ≡ false)
-running_at ended AtLocking e = absurd (cc)
-running_at ended AtOpening e = absurd (cc)
 running_at ended AtUnlocking e =
     by_test (λ t. (if t then Ending else Running) ≡ Running → (true ≡ true) × (t ≡ false)) ended (λ over f. absurd (cc)) (λ on f. (refl, refl)) e
-running_at ended AtGivingUp e = absurd (cc)
+running_at ended stage e = absurd (cc)
 
 pub running_is : (c : ClientState) → phase_of c ≡ Running → IsRunning c
 running_is c e =
@@ -140,7 +116,7 @@ module _ (w : World) (p : Party) (fits : PartyFits w p) (f : PartyLogs w p) wher
   is_the_one : (run : IsRunning c) (r : ReservationState) → c.reservation ≡ Some r → run.reservation ≡ r
   is_the_one run r held = let both : Some run.reservation ≡ Some r = sym run.held ∙ held in cc
 
-  -- the log of a running block's handler has the command's entries behind its own
+  -- the log of a running block's handler has the command's entries after its own
   log_grows :
       (x : Command) (r : ReservationState) → c.reservation ≡ Some r → (h : HandlerId) (l : WindowState) → window_of h c.windows ≡ Some l → (d : ClientState)
       → newest_block d ≡ newest_block c
@@ -151,8 +127,7 @@ module _ (w : World) (p : Party) (fits : PartyFits w p) (f : PartyLogs w p) wher
 
 -- ---- a call or a query
 
-module _
-    (w : World) (p : Party) (x : Command) (k : HandlerId) (e : Entry) (adds : (h : HandlerId) → added x h ≡ (if same_handler h k then e ∷ [] else []))
+module _ (w : World) (p : Party) (x : Command) (k : HandlerId) (e : Entry) (adds : (h : HandlerId) → added x h ≡ (if same_handler h k then e ∷ [] else []))
     (no_end : is_end e ≡ false) (fits : PartyFits w p) (f : PartyLogs w p) (l : WindowState) (run : IsRunning p.client)
     (window : window_of k p.client.windows ≡ Some l) (more : nat_le (2 ^ 32 - 2) (logged l) ≡ false) where
   abbrev later : ClientState
@@ -165,16 +140,12 @@ module _
   adds_here = adds k ∙ ap (λ t. if t then e ∷ [] else []) ((handler_decides k k).1 refl)
 
   adds_elsewhere : (h : HandlerId) → (k ≡ h → ⊥) → added x h ≡ []
-  adds_elsewhere h apart =
-      adds h
-      ∙ by_test (λ t. same_handler h k ≡ t → (if t then e ∷ [] else []) ≡ []) (same_handler h k) (λ _ is. absurd (apart (sym ((handler_decides h k).0 is))))
-      (λ _ is. refl) refl
+  adds_elsewhere h apart = grind (arith, handler_decides)
 
   own_log : (r : ReservationState) → p.client.reservation ≡ Some r → log_of r.block k w ++ e ∷ [] ≡ log_of r.block k after
   own_log r held = ap (λ es. log_of r.block k w ++ es) (sym adds_here) ∙ log_grows w p fits f x r held k l window later refl
 
-  windows_logged :
-      (r : ReservationState) → p.client.reservation ≡ Some r → (h : HandlerId) (m : WindowState) → window_of h later.windows ≡ Some m
+  windows_logged : (r : ReservationState) → p.client.reservation ≡ Some r → (h : HandlerId) (m : WindowState) → window_of h later.windows ≡ Some m
       → WindowFits (log_of r.block h after) m
   windows_logged r held =
       let own = f.block r held in
@@ -188,11 +159,8 @@ module _
       subst (λ log. WindowFits log m) (sym (append-nil (log_of r.block h w)) ∙ ap (λ es. log_of r.block h w ++ es) (sym (adds_elsewhere h apart))
       ∙ log_grows w p fits f x r held h m there later refl) (own.windows h m there))
 
-  waits_logged :
-      (r : ReservationState) → p.client.reservation ≡ Some r → (n : Entry) → e ≡ n → (h : HandlerId) (q : ℕ)
+  waits_logged : (r : ReservationState) → p.client.reservation ≡ Some r → (n : Entry) → e ≡ n → (h : HandlerId) (q : ℕ)
       → client.waits_for k (logged l + 1) n ≡ Some (h, q) → WaitsAt after later r.block h q
-  waits_logged r held (CallEntry s) is h q waits = absurd (cc)
-  waits_logged r held EndEntry is h q waits = absurd (cc)
   waits_logged r held (QueryEntry s) is h q waits =
       let pair : (k, logged l + 1) ≡ (h, q) = cc in
       let here : k ≡ h = ap (λ (y : HandlerId × ℕ). y.0) pair in
@@ -205,6 +173,7 @@ module _
         query = subst (λ log. IsLastQuery log (with_window_entry e l) (logged l + 1)) (own_log r held)
             (subst (λ y. IsLastQuery (log_of r.block k w ++ y ∷ []) (with_window_entry y l) (logged l + 1)) (sym is) (query_logged (log_of r.block k w) l s));
       }))
+  waits_logged r held n is h q waits = absurd (cc)
 
   entry_logs : Logs w p x later
   entry_logs = record {
@@ -254,9 +223,7 @@ module _ (w : World) (p : Party) (hs : List HandlerId) (r : ReservationState) (f
   first = commanded_world w p (Reserve hs) begun
 
   no_log : (h : HandlerId) → log_of (client.next_block p.client) h first ≡ []
-  no_log h =
-      reserved_same hs (newest_block begun) (client.next_block p.client) h w.logs
-      ∙ unreserved_empty (client.next_block p.client) h w.logs (next_is_new w p fits (handlers_of (client.next_block p.client) w) refl)
+  no_log h = grind (arith, next_is_new, reserved_same, unreserved_empty)
 
   fresh_fits : WindowsFit first begun (fresh (client.next_block p.client) hs)
   fresh_fits = record {
@@ -280,72 +247,33 @@ module _ (w : World) (p : Party) (hs : List HandlerId) (r : ReservationState) (f
           subst (λ y. [] ≡ log_of y h w) more.block (sym (unreserved_empty (client.next_block p.client) h w.logs
           (next_is_new w p fits (handlers_of (client.next_block p.client) w) refl)))
 
-given_stays :
-    (c : ClientState) (r s : ReservationState) (stage : Stage) → r.stage ≡ stage → given_up_in r stage ≡ Ok s → StaysLogged c (with_reservation c s) r s
-given_stays c r s AtLocking at e =
-    let given : at_stage r AtGivingUp (asked r.handlers r.left) ≡ s = cc in
-    subst (λ q. StaysLogged c (with_reservation c q) r q) given
-    (record { newest = refl; windows = refl; waits = refl; block = refl; handlers = refl; opened = λ _. ap is_open_in at })
-given_stays c r s AtOpening at e = absurd (cc)
-given_stays c r s AtUnlocking at e = absurd (cc)
-given_stays c r s AtGivingUp at e = absurd (cc)
-
-given_shut : (r s : ReservationState) (stage : Stage) → given_up_in r stage ≡ Ok s → is_open_in stage ≡ false
-given_shut r s AtLocking e = refl
-given_shut r s AtOpening e = refl
-given_shut r s AtUnlocking e = absurd (cc)
-given_shut r s AtGivingUp e = refl
-
-give_up_logs :
-    (w : World) (p : Party) (r s : ReservationState) → PartyLogs w p → p.client.reservation ≡ Some r → given_up_in r r.stage ≡ Ok s
-    → Logs w p GiveUp (with_reservation p.client s)
-give_up_logs w p r s f held given =
+give_up_logs : (w : World) (p : Party) (r : ReservationState) → PartyLogs w p → p.client.reservation ≡ Some r → r.stage ≡ AtLocking
+    → Logs w p GiveUp (with_reservation p.client (at_stage r AtGivingUp (asked r.handlers r.left)))
+give_up_logs w p r f held at =
+    let s : ReservationState = at_stage r AtGivingUp (asked r.handlers r.left) in
     let d : ClientState = with_reservation p.client s in
     record {
       id = refl;
       going = λ b h more. (
           let same : r.block ≡ b = (f.block r held).block ∙ more.block in
-          subst (λ y. ends (log_of y h w) ≡ false) same (ap ends ((f.block r held).unlogged (given_shut r s r.stage given) h)));
-      windows = λ q is. (
-          let same : s ≡ q = same_Some s q is in
-          subst (WindowsFit (commanded_world w p GiveUp d) d) same
+          subst (λ y. ends (log_of y h w) ≡ false) same (ap ends ((f.block r held).unlogged (ap is_open_in at) h)));
+      windows = λ q is.
+          subst (WindowsFit (commanded_world w p GiveUp d) d) (same_Some s q is)
           (windows_more w (commanded_world w p GiveUp d) d s (λ h. refl)
-          (fit_again w p.client d r s (given_stays p.client r s r.stage refl given) (f.block r held))));
+          (fit_again w p.client d r s (stays_logged p.client r s refl refl (λ _. ap is_open_in at)) (f.block r held)));
     }
 
 -- ---- any command
 
-module _ (w : World) (p : Party) (d : ClientState) (fits : PartyFits w p) (f : PartyLogs w p) where
-  reserve_row : (hs : List HandlerId) (o : client.Outcome) → ReserveRow p.client hs o → o ≡ Ok d → Logs w p (Reserve hs) d
-  reserve_row hs o (begins_block r at_idle room begins) e =
-      subst (Logs w p (Reserve hs)) (ok_is (client.with_block p.client hs r) d e)
-      (reserve_logs w p hs r fits (started_fresh (client.next_block p.client) hs p.client.handlers r begins))
-  reserve_row hs o r e = absurd (cc)
+logs_by : (w : World) (p : Party) (x : Command) (d : ClientState) → PartyFits w p → PartyLogs w p → Takes p.client x d → Logs w p x d
+logs_by w p x d fits f (takes_reserve hs at_idle begins) = reserve_logs w p hs (fresh (client.next_block p.client) hs) fits refl
+logs_by w p x d fits f (takes_call h r l running free window more) =
+    entry_logs w p x h (CallEntry r) (λ j. refl) refl fits f l (running_is p.client running) window more
+logs_by w p x d fits f (takes_query h r l running free window more) =
+    entry_logs w p x h (QueryEntry r) (λ j. refl) refl fits f l (running_is p.client running) window more
+logs_by w p x d fits f (takes_end running free) = end_logs w p fits f (running_is p.client running)
+logs_by w p x d fits f (takes_give_up r held at) = give_up_logs w p r f held at
 
-  log_row :
-      (x : Command) (k : HandlerId) (n : Entry) (o : client.Outcome) → ((h : HandlerId) → added x h ≡ (if same_handler h k then n ∷ [] else []))
-      → is_end n ≡ false → LogRow p.client k n o → o ≡ Ok d → Logs w p x d
-  log_row x k n o adds no_end (is_logged l running free window room more) e =
-      subst (Logs w p x) (ok_is _ d e) (entry_logs w p x k n adds no_end fits f l (running_is p.client running) window more)
-  log_row x k n o adds no_end r e = absurd (cc)
-
-  end_row : (o : client.Outcome) → EndRow p.client o → o ≡ Ok d → Logs w p End d
-  end_row o (ends_block running free room) e = subst (Logs w p End) (ok_is _ d e) (end_logs w p fits f (running_is p.client running))
-  end_row o r e = absurd (cc)
-
-  give_up_row : (o : client.Outcome) → GiveUpRow p.client o → o ≡ Ok d → Logs w p GiveUp d
-  give_up_row o (gives_up r s locking has_one given) e =
-      subst (Logs w p GiveUp) (ok_is (with_reservation p.client s) d e) (give_up_logs w p r s f has_one given)
-  give_up_row o r e = absurd (cc)
-
-  logs_of : (x : Command) → client.command p.client x ≡ Ok d → Logs w p x d
-  logs_of (Reserve hs) e = reserve_row hs _ (command_row p.client (Reserve hs)) e
-  logs_of (Call h r) e = log_row (Call h r) h (CallEntry r) _ (λ j. refl) refl (command_row p.client (Call h r)) e
-  logs_of (Query h r) e = log_row (Query h r) h (QueryEntry r) _ (λ j. refl) refl (command_row p.client (Query h r)) e
-  logs_of End e = end_row _ (command_row p.client End) e
-  logs_of GiveUp e = give_up_row _ (command_row p.client GiveUp) e
-
-pub commands_logging :
-    (w : World) → Logging w → (p : Party) (x : Command) (d : ClientState) → PartyFits w p → PartyLogs w p → client.command p.client x ≡ Ok d
+pub commands_logging : (w : World) → Logging w → (p : Party) (x : Command) (d : ClientState) → PartyFits w p → PartyLogs w p → client.command p.client x ≡ Ok d
     → Logging (commanded_world w p x d)
-commands_logging w i p x d fits f e = commanded_logging w p x d i (logs_of w p d fits f x e)
+commands_logging w i p x d fits f e = commanded_logging w p x d i (logs_by w p x d fits f (takes p.client d x e))

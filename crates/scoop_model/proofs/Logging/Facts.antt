@@ -1,22 +1,8 @@
--- What every event keeps of what clients logged: what a Log carries stands in its block's log, and a client's window at
--- a handler holds the end of that log, the part that isn't acknowledged.
-use Rattle.std.proofs.Common.{◌≡◌, ℕ, ◌<◌, false, List, [], ◌∷◌, ◌++◌, length, map, Some, sym, ap, ◌∙◌, append_assoc, append-nil}
-use Rattle.std.specs.Prelude.{⊤}
-use Rattle.std.specs.List.{AllByRecursion}
-use Rattle.scoop_message.specs.declared.name.Block.{Block}
-use Rattle.scoop_message.specs.declared.name.HandlerId.{HandlerId}
-use Rattle.scoop_message.specs.declared.request.Entry.{Entry}
-use Rattle.scoop_message.specs.declared.request.Entry.TheVariants.{Query as QueryEntry}
-use Rattle.scoop_message.specs.declared.request.Request.{Request}
-use Rattle.scoop_message.specs.declared.message.Message.{Message}
-use Rattle.scoop_message.specs.declared.message.Message.TheVariants.{Log}
-use Rattle.scoop_message.specs.Entries.{EndOnlyLast, ends}
-use Rattle.scoop_reserve.specs.State.{ReservationState}
-use Rattle.scoop_reserve.specs.Hearing.{is_open}
-use Rattle.scoop_client.specs.Window.{WindowState, IsNumberable, logged, window_of}
-use Rattle.scoop_client.specs.State.{ClientState}
-use Rattle.scoop_model.specs.World.{World, Party, log_of}
-use Rattle.scoop_model.specs.Step.{newest_block}
+-- The invariant about the entries that clients logged. A Log carries entries of its block's log. A client's window at a handler
+-- holds the end of that log, the part that isn't acknowledged.
+use Rattle.scoop_model.proofs.Names.{◌≡◌, ℕ, ◌<◌, List, [], ◌∷◌, ◌++◌, map, Some, sym, ap, ◌∙◌, append-nil, false, length, append_assoc, AllByRecursion, ⊤}
+use Rattle.scoop_model.proofs.Names.{EndOnlyLast, ends, Message, Log, Block, HandlerId, Entry, QueryEntry, Request, is_open, ReservationState, ClientState}
+use Rattle.scoop_model.proofs.Names.{WindowState, logged, window_of, IsNumberable, newest_block, World, Party, log_of}
 use Rattle.scoop_model.proofs.Stands.{Stands}
 
 -- ---- messages
@@ -28,7 +14,7 @@ Carries w m = ⊤
 
 -- ---- clients
 
--- a window holds what comes in the log behind the entries that are acknowledged
+-- a window holds the part of the log after the acknowledged entries
 pub record WindowFits (log : List Entry) (l : WindowState) : Type 0 where
   pub acknowledged : List Entry
   pub all : acknowledged ++ l.unacked ≡ log
@@ -63,7 +49,7 @@ pub record PartyLogs (w : World) (p : Party) : Type 0 where
 
 -- ---- all of it
 
--- no log has an entry behind an End
+-- no log has an entry after an End
 pub record Logging (w : World) : Type 0 where
   pub messages : AllByRecursion (Carries w) w.sent
   pub logs : (b : Block) (h : HandlerId) → EndOnlyLast (log_of b h w)

@@ -1,58 +1,23 @@
--- Who greets whom: a client greets in no incarnation above its own, no handler's mark is above its client's incarnation,
--- and a handler that has welcomed an incarnation has a mark that isn't below it.
-use Rattle.std.proofs.Common.{◌≡◌, ℕ, ◌+◌, ◌<◌, ◌≤◌, ◌||◌, true, true≢false, nat_lt, List, [], ◌∷◌, map, find, Option, Some, None, refl, sym, ap, ◌∙◌, subst}
-use Rattle.std.proofs.Common.{arith}
-use Rattle.std.specs.Prelude.{⊤}
-use Rattle.std.specs.List.{AllByRecursion, list_any}
-use Rattle.std.specs.Option.{option_map_or}
-use Rattle.std.proofs.lemmas.Bool.{and_parts}
-use Rattle.std.proofs.lemmas.Bool.Decides.{nat_tests}
-use Rattle.scoop_message.specs.declared.name.Block.{Block}
-use Rattle.scoop_message.specs.declared.name.ClientId.{ClientId}
-use Rattle.scoop_message.specs.declared.name.HandlerId.{HandlerId}
-use Rattle.scoop_message.specs.declared.message.Message.{Message}
-use Rattle.scoop_message.specs.declared.message.Message.TheVariants.{Hello, Welcome, Log}
-use Rattle.scoop_message.specs.Message.{client_of, handler_of, same_client, same_handler}
-use Rattle.scoop_message.proofs.Same.{client_decides, handler_decides}
-use Rattle.scoop_handler.specs.declared.mark.Mark.{Mark}
+-- The invariant about greetings. A client greets in no incarnation above its own, and no handler's mark is above its client's
+-- incarnation. A handler that has welcomed an incarnation has a mark that isn't below it.
+use Rattle.scoop_model.proofs.Names.{◌≡◌, ℕ, ◌<◌, List, [], ◌∷◌, map, Some, None, refl, sym, ap, ◌∙◌, subst, arith, ◌≤◌, Option, find, true, true≢false, nat_lt}
+use Rattle.scoop_model.proofs.Names.{and_parts, nat_tests, AllByRecursion, list_any, option_map_or, ⊤, handler_decides, client_decides, client_of, handler_of}
+use Rattle.scoop_model.proofs.Names.{same_client, same_handler, Message, Hello, Welcome, Block, ClientId, HandlerId, MarksGrow-after, all_found, MarksGrow-refl}
+use Rattle.scoop_model.proofs.Names.{All-mark_of, All-set_mark, All-add_mark, mark_of-set_mark_own, mark_of-client, mark_of-add_mark_own, number-row, grows-row}
+use Rattle.scoop_model.proofs.Names.{row, MarksGrow, Hearing, hear, IsHeardAt, greeting_mark, fresh_mark, opened_mark, with_received, without_hold, set_mark}
+use Rattle.scoop_model.proofs.Names.{mark_of, Row, first_greeting, newer_greeting, lock_granted, is_opened, unlock_of_a_block_never_held, is_freed, is_taken}
+use Rattle.scoop_model.proofs.Names.{repeated_greeting, ran_of, mark_after, HandlerState, Mark, AtHeld, AtShut, Ran, due, heard, block_named, all_made}
+use Rattle.scoop_model.proofs.Names.{all_mapped, by_site, by_party, id_found, commanded_world, with_sent, with_party, heard_party, restarted_party, heard_world}
+use Rattle.scoop_model.proofs.Names.{heard_site, with_site, begun_site, finished_site, reopened_world, Placement, Newcomer, new_site, opening, World, Party}
+use Rattle.scoop_model.proofs.Names.{set_party, Site, number_of, is_site, site_of, set_site, is_party, sent_at, party_of, id_of, is_succeeded, is_newer_welcome}
+use Rattle.scoop_model.proofs.Names.{inc_of}
 use Rattle.scoop_handler.specs.declared.mark.Stage.{Stage}
-use Rattle.scoop_handler.specs.declared.mark.Stage.TheVariants.{Held as AtHeld, Shut as AtShut}
-use Rattle.scoop_handler.specs.declared.ran.Ran.{Ran}
-use Rattle.scoop_handler.specs.Marks.{fresh_mark, opened_mark, with_received, without_hold, mark_of, set_mark}
-use Rattle.scoop_handler.specs.State.{HandlerState}
-use Rattle.scoop_handler.specs.Growing.{MarksGrow}
-use Rattle.scoop_handler.specs.Hearing.{Hearing, IsHeardAt, greeting_mark, hear}
-use Rattle.scoop_handler.specs.Running.{mark_after, ran_of}
-use Rattle.scoop_handler.specs.Rows.{Row, first_greeting, newer_greeting, repeated_greeting, lock_granted, is_opened, unlock_of_a_block_never_held, is_freed}
-use Rattle.scoop_handler.specs.Rows.{is_taken}
-use Rattle.scoop_handler.proofs.MarkLists.{mark_of-client, mark_of-add_mark_own, mark_of-set_mark_own, All-mark_of, All-set_mark, All-add_mark}
-use Rattle.scoop_handler.proofs.TableRows.{row}
-use Rattle.scoop_handler.proofs.TableLaws.{grows-row, number-row}
-use Rattle.scoop_handler.proofs.After.{MarksGrow-after}
-use Rattle.scoop_handler.proofs.Fronts.{MarksGrow-refl}
-use Rattle.scoop_client.specs.Window.{first_entries}
-use Rattle.scoop_client.specs.State.{block_named}
-use Rattle.scoop_client.specs.Due.{due}
-use Rattle.scoop_client.specs.Hearing.{heard}
-use Rattle.scoop_client.specs.Rows.{DueRow, owes_nothing, greets, reserves, logs}
-use Rattle.scoop_client.proofs.DueRows.{due_row}
-use Rattle.scoop_client.proofs.Rows.{heard_row}
-use Rattle.scoop_model.specs.World.{World, Site, Party, number_of, id_of, is_party, is_site, is_succeeded, is_newer_welcome, party_of, sent_at, set_party}
-use Rattle.scoop_model.specs.World.{set_site, site_of, inc_of}
-use Rattle.scoop_model.specs.Step.{Placement, Newcomer, new_site, opening, commanded_world, with_sent, heard_site, heard_world, heard_party, begun_site}
-use Rattle.scoop_model.specs.Step.{finished_site, restarted_party, reopened, reopened_world, with_party, with_site}
 use Rattle.scoop_model.proofs.Events.{Changes}
-use Rattle.scoop_model.proofs.Basics.{by_test}
-use Rattle.scoop_model.proofs.Keys.{by_party, by_site, id_found}
 use Rattle.scoop_model.proofs.Sites.{own_site}
-use Rattle.scoop_reserve.specs.State.{ReservationState}
-use Rattle.scoop_model.proofs.Sound.Owed.{OwedRow, asks, opens, unlocks, gives_back, owed_row}
-use Rattle.scoop_model.proofs.Sound.Steps.{sent_all}
-use Rattle.scoop_model.proofs.Order.Holding.{IsReachedIn}
-use Rattle.scoop_model.proofs.Order.Facts.{IsGranted, IsGrantedIn, PartyFits, SiteFits, Ordered, all_found, all_more_of, all_pushed, all_set_site}
-use Rattle.scoop_model.proofs.Order.Handlers.{granted_set, granted_anew, sent_tells, state_anew}
-use Rattle.scoop_model.proofs.Order.Clients.{keeps_row}
-use Rattle.scoop_model.proofs.Order.Commands.{goes_on}
+use Rattle.scoop_model.proofs.Sound.{sent_all}
+use Rattle.scoop_model.proofs.Order.{IsReachedIn, IsGranted, IsGrantedIn, PartyFits, Ordered, all_more_of, all_pushed, all_set_site, granted_set, granted_anew}
+use Rattle.scoop_model.proofs.Order.{goes_on, keeps_hearing, by_restart, all_anew}
+use Rattle.scoop_model.proofs.Moves.{Sends, sends_hello, sends}
 
 -- ---- what is true
 
@@ -103,8 +68,7 @@ pub inc_there : (w : World) (c : ClientId) (p : Party) → party_of c w ≡ Some
 inc_there w c p at = ap (inc_of w) (id_found c w p at) ∙ ap (λ o. option_map_or (λ q. q.client.inc) o 0) at
 
 -- one client's incarnation grows, or stays
-inc_set :
-    (w : World) (c : ClientId) (p q : Party) → party_of c w ≡ Some p → id_of q ≡ id_of p → p.client.inc ≤ q.client.inc
+inc_set : (w : World) (c : ClientId) (p q : Party) → party_of c w ≡ Some p → id_of q ≡ id_of p → p.client.inc ≤ q.client.inc
     → (d : ClientId) → inc_of w d ≤ option_map_or (λ (y : Party). y.client.inc) (find (is_party d) (set_party q w.parties)) 0
 inc_set w c p q at same le d =
     let own : c ≡ id_of q = sym (id_found c w p at) ∙ sym same in
@@ -114,28 +78,12 @@ inc_set w c p q at same le d =
     subst (λ o. option_map_or (λ (y : Party). y.client.inc) o 0 ≤ q.client.inc) (sym there) le)
     (λ apart. omega arith)
 
-owed_greets : (w : World) (r : ReservationState) (h : HandlerId) (m : Message) → OwedRow r h m → Greets w m
-owed_greets w r h m (asks at low) = tt
-owed_greets w r h m (opens at is) = tt
-owed_greets w r h m (unlocks at is) = tt
-owed_greets w r h m (gives_back at is) = tt
-
-due_greets :
-    (w : World) (c : ClientId) (p : Party) (h : HandlerId) (o : Option Message) → party_of c w ≡ Some p → DueRow p.client h o → (m : Message) → o ≡ Some m
-    → Greets w m
-due_greets w c p h o at owes_nothing m e = absurd (cc)
-due_greets w c p h o at (greets left) m e =
-    let same : Hello h p.client.id p.client.inc ≡ m = cc in
-    let is = inc_there w c p at in
-    subst (Greets w) same (omega (arith, is))
-due_greets w c p h o at (reserves r n greeted has_one owes) m e = owed_greets w r h m (owed_row r h m (owes ∙ e))
-due_greets w c p h o at (logs r l greeted has_one free opened window some) m e =
-    let same : Log l.handler r.block (l.acked + 1) (first_entries p.client.batch l.unacked) ≡ m = cc in
-    subst (Greets w) same tt
+due_greets : (w : World) (c : ClientId) (p : Party) (h : HandlerId) → party_of c w ≡ Some p → (m : Message) → Sends p.client h m → Greets w m
+due_greets w c p h at m sends_hello = let is = inc_there w c p at in omega (arith, is)
+due_greets w c p h at m s = tt
 
 -- one client's incarnation grows, or stays, and nothing is sent
-party_greets :
-    (w v : World) (c : ClientId) (p q : Party) → Greetings w → party_of c w ≡ Some p → id_of q ≡ id_of p → p.client.inc ≤ q.client.inc
+party_greets : (w v : World) (c : ClientId) (p q : Party) → Greetings w → party_of c w ≡ Some p → id_of q ≡ id_of p → p.client.inc ≤ q.client.inc
     → v.sites ≡ w.sites → v.sent ≡ w.sent → v.parties ≡ set_party q w.parties → Greetings v
 party_greets w v c p q i at same le sites sent parties =
     greetings_more w v
@@ -148,23 +96,16 @@ party_greets w v c p q i at same le sites sent parties =
 
 -- ---- a handler hears
 
-heard_mark :
-    (bound : ClientId → ℕ) (marks : List Mark) (c : ClientId) (k : Mark) → AllByRecursion (IsMarkUpto bound) marks → mark_of c marks ≡ Some k
+heard_mark : (bound : ClientId → ℕ) (marks : List Mark) (c : ClientId) (k : Mark) → AllByRecursion (IsMarkUpto bound) marks → mark_of c marks ≡ Some k
     → IsMarkUpto bound k
 heard_mark bound marks c k all found = All-mark_of (IsMarkUpto bound) c marks k all found
 
 -- a new mark in the place of the client's, in the same incarnation
-block_mark :
-    (bound : ClientId → ℕ) (s : HandlerState) (b : Block) (k : Mark) (stage : Stage) → AllByRecursion (IsMarkUpto bound) s.marks → IsHeardAt s b k
+block_mark : (bound : ClientId → ℕ) (s : HandlerState) (b : Block) (k : Mark) (stage : Stage) → AllByRecursion (IsMarkUpto bound) s.marks → IsHeardAt s b k
     → IsMarkUpto bound (fresh_mark b stage)
-block_mark bound s b k stage all at =
-    let u = (heard_mark bound s.marks b.client k all at.found).upto in
-    let own = ap bound (mark_of-client b.client s.marks k at.found) in
-    let inc = at.inc in
-    record { upto = omega (arith, u, own, inc) }
+block_mark bound s b k stage all at = grind (arith, heard_mark, mark_of-client)
 
-set_upto :
-    (bound : ClientId → ℕ) (k : Mark) (marks : List Mark) → IsMarkUpto bound k → AllByRecursion (IsMarkUpto bound) marks
+set_upto : (bound : ClientId → ℕ) (k : Mark) (marks : List Mark) → IsMarkUpto bound k → AllByRecursion (IsMarkUpto bound) marks
     → AllByRecursion (IsMarkUpto bound) (set_mark k marks)
 set_upto bound k marks own all = All-set_mark (IsMarkUpto bound) (IsMarkUpto bound) k marks own (λ x apart u. u) all
 
@@ -172,8 +113,7 @@ set_upto bound k marks own all = All-set_mark (IsMarkUpto bound) (IsMarkUpto bou
 abbrev HelloUpto : (ClientId → ℕ) → Message → Type 0
 HelloUpto bound m = (h : HandlerId) (c : ClientId) (inc : ℕ) → m ≡ Hello h c inc → inc ≤ bound c
 
-upto-row :
-    (bound : ClientId → ℕ) (s : HandlerState) (m : Message) (h : Hearing) → Row s m h → HelloUpto bound m → AllByRecursion (IsMarkUpto bound) s.marks
+upto-row : (bound : ClientId → ℕ) (s : HandlerState) (m : Message) (h : Hearing) → Row s m h → HelloUpto bound m → AllByRecursion (IsMarkUpto bound) s.marks
     → AllByRecursion (IsMarkUpto bound) h.0.marks
 upto-row bound s m h (first_greeting x c inc here none room) hello all =
     All-add_mark (IsMarkUpto bound) (IsMarkUpto bound) (greeting_mark c inc) s.marks (record { upto = hello x c inc refl }) (λ y u. u) all
@@ -223,8 +163,7 @@ hello_upto : (w : World) (m : Message) → Greets w m → HelloUpto (inc_of w) m
 hello_upto w m g h c inc same = subst (Greets w) same g
 
 -- one handler's marks go on
-module _
-    (w v : World) (i : Greetings w) (s old : Site) (here : site_of (number_of s) w ≡ Some old) (grows : MarksGrow old.core.state.marks s.core.state.marks)
+module _ (w v : World) (i : Greetings w) (s old : Site) (here : site_of (number_of s) w ≡ Some old) (grows : MarksGrow old.core.state.marks s.core.state.marks)
     (parties : v.parties ≡ w.parties) (sites : v.sites ≡ set_site s w.sites) where
   site_onward : Onward w v
   site_onward = record {
@@ -242,8 +181,7 @@ module _
   old_greets : AllByRecursion (Greets v) w.sent
   old_greets = all_more_of (Greets w) (Greets v) (greets_more w v site_onward) w.sent i.messages
 
-hears_greets :
-    (w : World) → Greetings w → (k : ℕ) (m : Message) (s : Site) → sent_at k w ≡ Some m → site_of (handler_of m) w ≡ Some s
+hears_greets : (w : World) → Greetings w → (k : ℕ) (m : Message) (s : Site) → sent_at k w ≡ Some m → site_of (handler_of m) w ≡ Some s
     → Greetings (heard_world w s (hear s.core.state m))
 hears_greets w i k m s was found =
     let now : Hearing = hear s.core.state m in
@@ -261,18 +199,9 @@ hears_greets w i k m s was found =
 
 -- ---- an entry runs, and a node restarts
 
-after_upto :
-    (bound : ClientId → ℕ) (r : Ran) (marks : List Mark) → AllByRecursion (IsMarkUpto bound) marks
+after_upto : (bound : ClientId → ℕ) (r : Ran) (marks : List Mark) → AllByRecursion (IsMarkUpto bound) marks
     → AllByRecursion (IsMarkUpto bound) (map (mark_after r) marks)
-after_upto bound r [] all = tt
-after_upto bound r (k ∷ ks) all = (record { upto = all.0.upto }, after_upto bound r ks all.1)
-
-upto_anew :
-    (w : World) (n : ℕ) (sites : List Site) → AllByRecursion (SiteFits w.joint) sites → AllByRecursion (MarksUpto w) sites
-    → AllByRecursion (MarksUpto w) (map (reopened n) sites)
-upto_anew w n [] fits all = tt
-upto_anew w n (s ∷ ss) fits all =
-    (subst (λ (x : HandlerState). AllByRecursion (IsMarkUpto (inc_of w)) x.marks) (sym (state_anew w.joint n s fits.0)) all.0, upto_anew w n ss fits.1 all.1)
+after_upto bound r = all_mapped (mark_after r) (IsMarkUpto bound) (IsMarkUpto bound) (λ k u. record { upto = u.upto })
 
 -- ---- a client that was succeeded
 
@@ -305,10 +234,7 @@ welcome_passes w h b m g e = absurd (true≢false (sym e))
 any_passes :
     (w : World) (h : HandlerId) (b : Block) (ms : List Message) → AllByRecursion (Greets w) ms → list_any (is_newer_welcome h b) ms ≡ true → IsPassed w h b
 any_passes w h b [] all e = absurd (true≢false (sym e))
-any_passes w h b (m ∷ ms) all e =
-    by_test (λ t. is_newer_welcome h b m ≡ t → (t || list_any (is_newer_welcome h b) ms) ≡ true → IsPassed w h b) (is_newer_welcome h b m)
-    (λ _ is f. welcome_passes w h b m all.0 is)
-    (λ _ is f. any_passes w h b ms all.1 f) refl e
+any_passes w h b (m ∷ ms) all e = grind (arith, welcome_passes, any_passes w h b ms)
 
 -- where a newer incarnation was welcomed, the handler's mark is of one
 pub succeeded_passed : (w : World) → Greetings w → (b : Block) (h : HandlerId) → is_succeeded b h w ≡ true → IsPassed w h b
@@ -337,14 +263,12 @@ greetings_kept w o i = record {
         (greets_more w (with_sent w (due p.client h)) (record { incs = λ d. omega arith; granted = λ j b g. g })) w.sent i.messages)
         (λ m e.
         greets_more w (with_sent w (due p.client h)) (record { incs = λ d. omega arith; granted = λ j b g. g }) m
-        (due_greets w c p h (due p.client h) at (due_row p.client h) m e));
+        (due_greets w c p h at m (sends p.client h m e)));
     marks = i.marks;
   };
   hears = λ k m s was goes here. hears_greets w i k m s was here;
   notices = λ k m p was goes at. (
-      let kept =
-      keeps_row w p.client (all_found (PartyFits w) (is_party (client_of m)) w.parties p o.parties at).reservation m (heard p.client m).0 (heard p.client m).1
-      (heard_row p.client m) (sent_tells w k m was o.messages) in
+      let kept = keeps_hearing w o k m p was at in
       party_greets w (with_party w (heard_party p (heard p.client m))) (client_of m) p (heard_party p (heard p.client m)) i at kept.id
       (let e = kept.inc in omega (arith, e)) refl refl refl);
   begins = λ h s t here is.
@@ -360,12 +284,8 @@ greetings_kept w o i = record {
       party_greets w (with_party w (restarted_party p)) c p (restarted_party p) i at refl (omega (arith, stored)) refl refl refl);
   reopens = λ n.
       greetings_more w (reopened_world w n) (record { incs = λ d. omega arith; granted = λ h b. granted_anew w.joint n h b w.sites o.sites }) i.messages
-      (upto_anew w n w.sites o.sites i.marks);
+      (all_anew w.joint n (MarksUpto w) (MarksUpto w) (λ s f all. by_restart w.joint n (MarksUpto w) s f all all) w.sites o.sites i.marks);
 }
 
-no_marks : (w : World) (ps : List Placement) → AllByRecursion (MarksUpto w) (map new_site ps)
-no_marks w [] = tt
-no_marks w (p ∷ ps) = (tt, no_marks w ps)
-
 pub opens_greetings : (ps : List Placement) (ns : List Newcomer) → Greetings (opening ps ns)
-opens_greetings ps ns = record { messages = tt; marks = no_marks (opening ps ns) ps }
+opens_greetings ps ns = record { messages = tt; marks = all_made new_site (MarksUpto (opening ps ns)) (λ p. tt) ps }

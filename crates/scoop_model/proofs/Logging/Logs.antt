@@ -1,25 +1,15 @@
--- What a command adds to the logs: entries behind those of its client's block, and nothing to the other blocks. Logs are
--- looked up by block and by handler; a command changes the shares of one block by a function of each share, so a look-up finds
--- either the changed share or what it found before.
-use Rattle.std.proofs.Common.{◌≡◌, ◌⊎◌, inl, inr, true≢false, List, [], ◌∷◌, ◌++◌, map, find, Option, Some, None, refl, sym, ap, ◌∙◌, subst, append-nil}
-use Rattle.std.specs.Prelude.{if◌then◌else◌, unwrap_or}
-use Rattle.std.specs.Option.{option_map, option_map_or}
-use Rattle.scoop_message.specs.declared.name.Block.{Block}
-use Rattle.scoop_message.specs.declared.name.HandlerId.{HandlerId}
-use Rattle.scoop_message.specs.declared.request.Entry.{Entry}
-use Rattle.scoop_message.specs.declared.request.Entry.TheVariants.{End as EndEntry, Call as CallEntry, Query as QueryEntry}
-use Rattle.scoop_message.specs.Entries.{EndOnlyLast}
-use Rattle.scoop_message.specs.Message.{same_handler, same_block}
-use Rattle.scoop_message.proofs.Same.{handler_decides, block_decides}
-use Rattle.scoop_client.specs.declared.command.Command.{Command}
-use Rattle.scoop_client.specs.declared.command.Command.TheVariants.{Reserve, Call, Query, End, GiveUp}
-use Rattle.scoop_model.specs.World.{HandlerLog, BlockLog, is_log_of, is_share_of, handlers_in, shares_of}
-use Rattle.scoop_model.specs.Step.{fresh_log, with_entry, with_entry_at, changed_log, logs_after}
-use Rattle.scoop_model.proofs.Basics.{by_test}
-use Rattle.scoop_model.proofs.Keys.{key_found}
-use Rattle.scoop_model.proofs.Order.Sets.{LeavesHandler, leaves_at}
+-- The entries that a command adds to the logs: they come after those of its client's block, and other blocks get none. Logs are
+-- looked up by block and by handler. A command changes the shares of one block by a function of each share. So a look-up finds
+-- either the changed share or the one that it found before.
+use Rattle.scoop_model.proofs.Names.{◌≡◌, List, [], ◌∷◌, ◌++◌, map, Some, None, refl, sym, ap, ◌∙◌, subst, arith, append-nil, Option, find, option_map}
+use Rattle.scoop_model.proofs.Names.{if◌then◌else◌, true≢false, ◌⊎◌, inl, inr, unwrap_or, option_map_or, handler_decides, block_decides, EndOnlyLast}
+use Rattle.scoop_model.proofs.Names.{same_block, same_handler, Block, HandlerId, Entry, CallEntry, QueryEntry, EndEntry, by_test, key_found, Command, Reserve}
+use Rattle.scoop_model.proofs.Names.{End, GiveUp, Call, Query, logs_after, fresh_log, with_entry_at, changed_log, BlockLog, HandlerLog, shares_of, is_log_of}
+use Rattle.scoop_model.proofs.Names.{is_share_of, handlers_in}
+use Rattle.scoop_model.specs.Step.{with_entry}
+use Rattle.scoop_model.proofs.Order.{LeavesHandler, leaves_at}
 
--- what the block's client logged for the handler, among these logs
+-- the entries that the block's client logged for the handler, in these logs
 abbrev pub log_in : Block → HandlerId → List BlockLog → List Entry
 log_in b h logs = unwrap_or (option_map (λ l. l.entries) (find (is_share_of h) (shares_of b logs))) []
 
@@ -38,56 +28,23 @@ abbrev Adds : (HandlerLog → HandlerLog) → HandlerId → List Entry → Type 
 Adds f h es = (l : HandlerLog) → l.handler ≡ h → (f l).entries ≡ l.entries ++ es
 
 adds_at : (k : HandlerId) (e : Entry) (h : HandlerId) → Adds (with_entry_at k e) h (if same_handler h k then e ∷ [] else [])
-adds_at k e h l own =
-    subst (λ j. (with_entry_at k e l).entries ≡ l.entries ++ (if same_handler j k then e ∷ [] else [])) own
-    (by_test (λ t. (if t then with_entry e l else l).entries ≡ l.entries ++ (if t then e ∷ [] else [])) (same_handler l.handler k)
-    (λ here. refl)
-    (λ there. sym (append-nil l.entries)))
+adds_at k e h l own = grind (arith, append-nil)
 
-share_changed :
-    (h : HandlerId) (f : HandlerLog → HandlerLog) → LeavesHandler f → (ls : List HandlerLog)
+share_changed : (h : HandlerId) (f : HandlerLog → HandlerLog) → LeavesHandler f → (ls : List HandlerLog)
     → find (is_share_of h) (map f ls) ≡ option_map f (find (is_share_of h) ls)
 share_changed h f keeps [] = refl
-share_changed h f keeps (l ∷ ls) =
-    let rest = find (is_share_of h) (map f ls) in
-    subst (λ j. (if same_handler j h then Some (f l) else rest) ≡ option_map f (if is_share_of h l then Some l else find (is_share_of h) ls)) (sym (keeps l))
-    (by_test (λ t. (if t then Some (f l) else rest) ≡ option_map f (if t then Some l else find (is_share_of h) ls)) (is_share_of h l)
-    (λ here. refl)
-    (λ there. share_changed h f keeps ls))
+share_changed h f keeps (l ∷ ls) = grind (arith, share_changed h f keeps ls)
 
 abbrev shares_in : Option BlockLog → List HandlerLog
 shares_in o = option_map_or (λ l. l.shares) o []
 
 shares_here : (b : Block) (f : HandlerLog → HandlerLog) (logs : List BlockLog) → shares_of b (map (changed_log b f) logs) ≡ map f (shares_of b logs)
 shares_here b f [] = refl
-shares_here b f (l ∷ ls) =
-    let rest = find (is_log_of b) (map (changed_log b f) ls) in
-    let m : BlockLog = record { block = l.block; shares = map f l.shares } in
-    by_test
-    (λ t. is_log_of b l ≡ t
-    → shares_in (if is_log_of b (if t then m else l) then Some (if t then m else l) else rest) ≡ map f (shares_in (if t then Some l else find (is_log_of b) ls)))
-    (is_log_of b l)
-    (λ here is. ap (λ u. shares_in (if u then Some m else rest)) is)
-    (λ there is. ap (λ u. shares_in (if u then Some l else rest)) is ∙ shares_here b f ls) refl
+shares_here b f (l ∷ ls) = grind (arith, shares_here b f ls)
 
 shares_other : (c b : Block) (f : HandlerLog → HandlerLog) (logs : List BlockLog) → (c ≡ b → ⊥) → shares_of b (map (changed_log c f) logs) ≡ shares_of b logs
 shares_other c b f [] apart = refl
-shares_other c b f (l ∷ ls) apart =
-    let rest = find (is_log_of b) (map (changed_log c f) ls) in
-    let m : BlockLog = record { block = l.block; shares = map f l.shares } in
-    by_test
-    (λ t. is_log_of c l ≡ t
-    → shares_in (if is_log_of b (if t then m else l) then Some (if t then m else l) else rest)
-    ≡ shares_in (if is_log_of b l then Some l else find (is_log_of b) ls))
-    (is_log_of c l)
-    (λ here is.
-    by_test (λ u. is_log_of b l ≡ u → shares_in (if u then Some m else rest) ≡ shares_in (if u then Some l else find (is_log_of b) ls)) (is_log_of b l)
-    (λ both so. absurd (apart (sym ((block_decides l.block c).0 is) ∙ (block_decides l.block b).0 so)))
-    (λ one so. shares_other c b f ls apart) refl)
-    (λ there is.
-    by_test (λ u. shares_in (if u then Some l else rest) ≡ shares_in (if u then Some l else find (is_log_of b) ls)) (is_log_of b l)
-    (λ both. refl)
-    (λ one. shares_other c b f ls apart)) refl
+shares_other c b f (l ∷ ls) apart = grind (arith, block_decides, shares_other c b f ls apart)
 
 -- ---- what a change makes of a log
 
@@ -117,13 +74,9 @@ changed_here b h f es logs keeps adds has =
 changed_nowhere :
     (b : Block) (h : HandlerId) (f : HandlerLog → HandlerLog) (logs : List BlockLog) → LeavesHandler f → find (is_share_of h) (shares_of b logs) ≡ None
     → log_in b h (map (changed_log b f) logs) ≡ log_in b h logs
-changed_nowhere b h f logs keeps none =
-    ap (λ ls. entries_in (find (is_share_of h) ls)) (shares_here b f logs)
-    ∙ ap entries_in (share_changed h f keeps (shares_of b logs) ∙ ap (option_map f) none)
-    ∙ ap entries_in (sym none)
+changed_nowhere b h f logs keeps none = grind (arith, option_map, share_changed, shares_here)
 
-changed_other :
-    (c b : Block) (h : HandlerId) (f : HandlerLog → HandlerLog) (logs : List BlockLog) → (c ≡ b → ⊥)
+changed_other : (c b : Block) (h : HandlerId) (f : HandlerLog → HandlerLog) (logs : List BlockLog) → (c ≡ b → ⊥)
     → log_in b h (map (changed_log c f) logs) ≡ log_in b h logs
 changed_other c b h f logs apart = ap (λ ls. entries_in (find (is_share_of h) ls)) (shares_other c b f logs apart)
 
@@ -131,21 +84,12 @@ changed_other c b h f logs apart = ap (λ ls. entries_in (find (is_share_of h) l
 
 fresh_empty : (h : HandlerId) (hs : List HandlerId) → entries_in (find (is_share_of h) (map fresh_log hs)) ≡ []
 fresh_empty h [] = refl
-fresh_empty h (k ∷ ks) =
-    by_test (λ t. entries_in (if t then Some (fresh_log k) else find (is_share_of h) (map fresh_log ks)) ≡ []) (same_handler k h) (λ here. refl)
-    (λ there. fresh_empty h ks)
+fresh_empty h (k ∷ ks) = grind (arith, fresh_empty h ks)
 
 -- a new block has logged nothing
 pub reserved_same : (hs : List HandlerId) (c b : Block) (h : HandlerId) (logs : List BlockLog) → log_in b h (logs_after (Reserve hs) c logs) ≡ log_in b h logs
-reserved_same hs c b h [] =
-    by_test (λ t. entries_in (find (is_share_of h) (shares_in (if t then Some (record { block = c; shares = map fresh_log hs }) else None))) ≡ []) (same_block c b)
-    (λ here. fresh_empty h hs)
-    (λ there. refl)
-reserved_same hs c b h (l ∷ ls) =
-    by_test (λ t. entries_in (find (is_share_of h) (shares_in (if t then Some l else find (is_log_of b) (logs_after (Reserve hs) c ls))))
-    ≡ entries_in (find (is_share_of h) (shares_in (if t then Some l else find (is_log_of b) ls)))) (is_log_of b l)
-    (λ here. refl)
-    (λ there. reserved_same hs c b h ls)
+reserved_same hs c b h [] = grind (arith, fresh_empty)
+reserved_same hs c b h (l ∷ ls) = grind (arith, reserved_same hs c b h ls)
 
 -- a block that was never reserved has no log
 pub unreserved_empty : (b : Block) (h : HandlerId) (logs : List BlockLog) → option_map handlers_in (find (is_log_of b) logs) ≡ None → log_in b h logs ≡ []
@@ -156,8 +100,7 @@ unreserved_empty b h logs none = from (find (is_log_of b) logs) none
     from (Some l) e = absurd (cc)
 
 -- a block's shares are of the handlers that its reserve named
-pub named_shares :
-    (b : Block) (logs : List BlockLog) (hs : List HandlerId) → option_map handlers_in (find (is_log_of b) logs) ≡ Some hs
+pub named_shares : (b : Block) (logs : List BlockLog) (hs : List HandlerId) → option_map handlers_in (find (is_log_of b) logs) ≡ Some hs
     → map (λ (x : HandlerLog). x.handler) (shares_of b logs) ≡ hs
 named_shares b logs hs named = from (find (is_log_of b) logs) named
   where
@@ -175,7 +118,7 @@ log_other (Query k r) c b h logs apart = changed_other c b h (with_entry_at k (Q
 log_other End c b h logs apart = changed_other c b h (with_entry EndEntry) logs apart
 log_other GiveUp c b h logs apart = refl
 
--- the block's log has the command's entries behind its own
+-- the block's log has the command's entries after its own
 pub log_here : (x : Command) (b : Block) (h : HandlerId) (logs : List BlockLog) → HasLine b h logs → GrowsBy b h logs (logs_after x b logs) (added x h)
 log_here (Reserve hs) b h logs has = reserved_same hs b b h logs ∙ sym (append-nil (log_in b h logs))
 log_here (Call k r) b h logs has =
@@ -186,8 +129,7 @@ log_here End b h logs has = changed_here b h (with_entry EndEntry) (EndEntry ∷
 log_here GiveUp b h logs has = sym (append-nil (log_in b h logs))
 
 -- a handler without a share has no log
-log_nowhere :
-    (x : Command) (b : Block) (h : HandlerId) (logs : List BlockLog) → find (is_share_of h) (shares_of b logs) ≡ None
+log_nowhere : (x : Command) (b : Block) (h : HandlerId) (logs : List BlockLog) → find (is_share_of h) (shares_of b logs) ≡ None
     → log_in b h (logs_after x b logs) ≡ log_in b h logs
 log_nowhere (Reserve hs) b h logs none = reserved_same hs b b h logs
 log_nowhere (Call k r) b h logs none = changed_nowhere b h (with_entry_at k (CallEntry r)) logs (leaves_at k (CallEntry r)) none
@@ -195,7 +137,7 @@ log_nowhere (Query k r) b h logs none = changed_nowhere b h (with_entry_at k (Qu
 log_nowhere End b h logs none = changed_nowhere b h (with_entry EndEntry) logs (λ l. refl) none
 log_nowhere GiveUp b h logs none = refl
 
--- the block's share at the handler has the command's entries behind its own
+-- the block's share at the handler has the command's entries after its own
 pub record IsAdded (x : Command) (c b : Block) (h : HandlerId) (logs : List BlockLog) : Type 0 where
   pub block : c ≡ b
   pub share : HasLine b h logs
@@ -209,7 +151,7 @@ added_last (Query k r) h = by_test (λ t. EndOnlyLast (if t then QueryEntry r �
 added_last End h = refl
 added_last GiveUp h = refl
 
--- any log stays, or has the command's entries behind its own
+-- any log stays, or has the command's entries after its own
 pub log_after : (x : Command) (c b : Block) (h : HandlerId) (logs : List BlockLog) → (log_in b h (logs_after x c logs) ≡ log_in b h logs) ⊎ IsAdded x c b h logs
 log_after x c b h logs =
     by_test (λ t. same_block c b ≡ t → (log_in b h (logs_after x c logs) ≡ log_in b h logs) ⊎ IsAdded x c b h logs) (same_block c b)

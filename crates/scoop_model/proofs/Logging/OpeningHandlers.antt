@@ -1,43 +1,18 @@
--- What a handler does keeps what is told of openings. The one row that opens a block makes its mark open and puts it down
--- as opened in the same event, so an open mark's block has opened; what opened stays; and an Opened is replied only of such
--- a block. Running and restarting change no stage.
-use Rattle.std.proofs.Common.{◌≡◌, inl, ℕ, ◌==◌, ◌||◌, true, false, true≢false, IsFalse, List, [], ◌∷◌, ◌++◌, map, find, Option, Some, None, refl, sym, ap, ◌∙◌}
-use Rattle.std.proofs.Common.{subst, ⊎_elim, append-nil}
-use Rattle.std.specs.Prelude.{if◌then◌else◌, ⊤, option_to_list}
-use Rattle.std.specs.List.{AllByRecursion}
-use Rattle.std.specs.Option.{option_map_or}
-use Rattle.scoop_message.specs.declared.name.Block.{Block}
-use Rattle.scoop_message.specs.declared.name.HandlerId.{HandlerId}
-use Rattle.scoop_message.specs.declared.message.Message.{Message}
-use Rattle.scoop_message.specs.declared.message.Message.TheVariants.{Hello, Welcome, Lock, Locked, Busy, Open, Opened, Unlock, Unlocked, Log, Logged, Answer}
-use Rattle.scoop_message.specs.Message.{handler_of, is_for_handler, same_block, same_handler}
-use Rattle.scoop_handler.specs.declared.mark.Mark.{Mark}
+-- A handler's move keeps the invariant about openings. The one case that opens a block makes its mark open and records the block as
+-- opened in the same event, so an open mark's block has opened. A block that opened stays so, and an Opened is the reply only for
+-- such a block. Running and restarting change no stage.
+use Rattle.scoop_model.proofs.Names.{◌≡◌, ℕ, List, [], ◌∷◌, ◌++◌, map, Some, None, refl, sym, ap, ◌∙◌, subst, arith, append-nil, Option, find, true}
+use Rattle.scoop_model.proofs.Names.{if◌then◌else◌, false, true≢false, ◌==◌, option_to_list, inl, ⊎_elim, IsFalse, AllByRecursion, option_map_or, ⊤, handler_of}
+use Rattle.scoop_model.proofs.Names.{is_for_handler, Message, Open, Log, Unlock, Opened, Block, HandlerId, all_found, by_test, All-mark_of, All-set_mark}
+use Rattle.scoop_model.proofs.Names.{All-add_mark, number-row, block_of-same, replies-row, row, core_of, Hearing, hear, greeting_mark, block_of, fresh_mark}
+use Rattle.scoop_model.proofs.Names.{opened_mark, with_received, without_hold, set_mark, is_held, HasEntries, Row, first_greeting, newer_greeting, lock_granted}
+use Rattle.scoop_model.proofs.Names.{is_opened, unlock_of_a_block_never_held, is_freed, is_taken, repeated_open, Task, ran_of, mark_after, HandlerState, Mark}
+use Rattle.scoop_model.proofs.Names.{AtHeld, AtShut, AtOpen, Note, OpenedNote, all_mapped, by_site, heard_world, heard_site, with_site, begun_site}
+use Rattle.scoop_model.proofs.Names.{finished_site, reopened, reopened_world, newly_opened, World, Site, number_of, is_site, site_of, set_site, sent_at}
+use Rattle.scoop_model.proofs.Names.{has_block, opened_at}
 use Rattle.scoop_handler.specs.declared.mark.Stage.{Stage}
-use Rattle.scoop_handler.specs.declared.mark.Stage.TheVariants.{Held as AtHeld, Open as AtOpen, Shut as AtShut}
-use Rattle.scoop_handler.specs.declared.note.Note.{Note}
-use Rattle.scoop_handler.specs.declared.note.Note.TheVariants.{Greeted, Granted, Held, Opened as OpenedNote, Freed, Took, Known, Dropped}
-use Rattle.scoop_handler.specs.declared.ran.Ran.{Ran}
-use Rattle.scoop_handler.specs.Marks.{block_of, fresh_mark, is_held, opened_mark, set_mark, with_received, without_hold}
-use Rattle.scoop_handler.specs.State.{HandlerState}
-use Rattle.scoop_handler.specs.Core.{core_of}
-use Rattle.scoop_handler.specs.Hearing.{Hearing, greeting_mark, hear}
-use Rattle.scoop_handler.specs.Running.{Task, mark_after, ran_of}
-use Rattle.scoop_handler.specs.Replies.{HasEntries}
-use Rattle.scoop_handler.specs.Rows.{Row, first_greeting, newer_greeting, lock_granted, is_opened, repeated_open, unlock_of_a_block_never_held, is_freed}
-use Rattle.scoop_handler.specs.Rows.{is_taken}
-use Rattle.scoop_handler.proofs.MarkLists.{All-mark_of, All-set_mark, All-add_mark}
-use Rattle.scoop_handler.proofs.TableRows.{row}
-use Rattle.scoop_handler.proofs.TableLaws.{block_of-same, number-row, replies-row}
-use Rattle.scoop_model.specs.World.{World, Site, number_of, has_block, is_site, opened_at, sent_at, set_site, site_of}
-use Rattle.scoop_model.specs.Step.{newly_opened, heard_site, heard_world, with_site, begun_site, finished_site, reopened, reopened_world}
-use Rattle.scoop_model.proofs.Basics.{by_test}
-use Rattle.scoop_model.proofs.Keys.{by_site}
-use Rattle.scoop_model.proofs.Order.Lists.{in_last, in_pushed}
-use Rattle.scoop_model.proofs.Order.Holding.{hears_row}
-use Rattle.scoop_model.proofs.Order.Facts.{IsNamed, SiteFits, all_found, all_more_of, all_pushed, all_set_site}
-use Rattle.scoop_model.proofs.Order.Handlers.{state_anew}
-use Rattle.scoop_model.proofs.Sound.Facts.{Sound}
-use Rattle.scoop_model.proofs.Sound.Steps.{sent_all}
+use Rattle.scoop_model.proofs.Order.{in_last, in_pushed, hears_row, IsNamed, SiteFits, all_more_of, all_pushed, all_set_site, by_restart, all_anew, found_anew}
+use Rattle.scoop_model.proofs.Sound.{Sound, sent_all}
 use Rattle.scoop_model.proofs.Sites.{own_site}
 use Rattle.scoop_model.proofs.Logging.Openings.{IsOpenedAt, IsMarkOpened, SiteOpened, Shows, Onto, Openings, is_open_of, logs_more, named_more, none_pushed}
 use Rattle.scoop_model.proofs.Logging.Openings.{reservation_more, shows_more, site_more}
@@ -71,8 +46,7 @@ module _ (bs new : List Block) (more : (b : Block) → has_block bs b ≡ true �
   was_open AtShut e = e
 
   -- the blocks of open marks have opened, where that of a new one has
-  pub marks-row :
-      (s : HandlerState) (m : Message) (h : Hearing) → Row s m h → ((b : Block) → h.1.note ≡ OpenedNote b → has_block new b ≡ true)
+  pub marks-row : (s : HandlerState) (m : Message) (h : Hearing) → Row s m h → ((b : Block) → h.1.note ≡ OpenedNote b → has_block new b ≡ true)
       → AllByRecursion (IsMarkOpened bs) s.marks → AllByRecursion (IsMarkOpened new) h.0.marks
   marks-row s m h (first_greeting x c inc here none room) opens all =
       All-add_mark (IsMarkOpened bs) (IsMarkOpened new) (greeting_mark c inc) s.marks (not_open (greeting_mark c inc) shut_not_open) others_stay all
@@ -101,8 +75,7 @@ module _ (bs new : List Block) (more : (b : Block) → has_block bs b ≡ true �
   ShowsBack s (Some (Log x b n es)) = ⊥
   ShowsBack s (Some m) = ⊤
 
-  back-row :
-      (s : HandlerState) (m : Message) (h : Hearing) → Row s m h → ((b : Block) → h.1.note ≡ OpenedNote b → has_block new b ≡ true)
+  back-row : (s : HandlerState) (m : Message) (h : Hearing) → Row s m h → ((b : Block) → h.1.note ≡ OpenedNote b → has_block new b ≡ true)
       → AllByRecursion (IsMarkOpened bs) s.marks → ShowsBack h.0 h.1.reply
   back-row s m h (is_opened x b k here at same was room) opens all = (refl, opens b refl)
   back-row s m h (repeated_open x b k here at same was) opens all = (
@@ -119,27 +92,19 @@ module _ (bs new : List Block) (more : (b : Block) → has_block bs b ≡ true �
   back_shows v s (Some n) here is t m e = let same : n ≡ m = cc in subst (Shows v) same (told n t)
     where
       told : (n : Message) → ShowsBack s.core.state (Some n) → Shows v n
-      told (Hello h c inc) t = tt
-      told (Welcome h c inc) t = tt
-      told (Lock h b) t = tt
-      told (Locked h b) t = tt
-      told (Busy h b) t = tt
       told (Open h b) t = absurd t
       told (Opened h b) t =
           ap (λ j. has_block (opened_at j v) b) t.0 ∙ ap (λ o. has_block (option_map_or (λ x. x.opened) o []) b) here ∙ ap (λ bs. has_block bs b) is ∙ t.1
       told (Unlock h b) t = absurd t
-      told (Unlocked h b) t = tt
       told (Log h b n es) t = absurd t
-      told (Logged h b n) t = tt
-      told (Answer h b n a) t = tt
+      told n t = tt
 
 -- ---- the sites of a world, once one of them goes on
 
 abbrev pub OpenedMore : Site → Site → Type 0
 OpenedMore old s = (b : Block) → has_block old.opened b ≡ true → has_block s.opened b ≡ true
 
-opened_set :
-    (w : World) (s old : Site) → site_of (number_of s) w ≡ Some old → OpenedMore old s → (h : HandlerId) (b : Block) → IsOpenedAt w h b
+opened_set : (w : World) (s old : Site) → site_of (number_of s) w ≡ Some old → OpenedMore old s → (h : HandlerId) (b : Block) → IsOpenedAt w h b
     → has_block (option_map_or (λ (x : Site). x.opened) (find (is_site h) (set_site s w.sites)) []) b ≡ true
 opened_set w s old here more h b o =
     by_site (λ q. has_block (option_map_or (λ (x : Site). x.opened) q []) b ≡ true) w s old h here
@@ -177,13 +142,9 @@ module _
 
 in_front : (bs new : List Block) (b : Block) → has_block bs b ≡ true → has_block (bs ++ new) b ≡ true
 in_front [] new b e = absurd (true≢false (sym e))
-in_front (y ∷ ys) new b e =
-    by_test (λ t. (t || has_block ys b) ≡ true → (t || has_block (ys ++ new) b) ≡ true) (same_block y b)
-    (λ same _. refl)
-    (λ other f. in_front ys new b f) e
+in_front (y ∷ ys) new b e = grind (arith, in_front ys new b)
 
-module _
-    (w : World) (sound : Sound w) (i : Openings w) (k : ℕ) (m : Message) (s : Site) (was : sent_at k w ≡ Some m)
+module _ (w : World) (sound : Sound w) (i : Openings w) (k : ℕ) (m : Message) (s : Site) (was : sent_at k w ≡ Some m)
     (found : site_of (handler_of m) w ≡ Some s) where
   abbrev now : Hearing
   now = hear s.core.state m
@@ -217,13 +178,7 @@ module _
       subst (λ z. IsNamed w (number_of s) z) same (subst (Shows w) asks (sent_all w k m was (Shows w) i.messages)))
       (λ (old : has_block s.opened b ≡ true). old_site.named b old)
       (in_pushed s.opened y b has)
-  by_note Greeted e b has = old_site.named b (same_opened b has)
-  by_note Granted e b has = old_site.named b (same_opened b has)
-  by_note Held e b has = old_site.named b (same_opened b has)
-  by_note Freed e b has = old_site.named b (same_opened b has)
-  by_note (Took n) e b has = old_site.named b (same_opened b has)
-  by_note Known e b has = old_site.named b (same_opened b has)
-  by_note (Dropped why) e b has = old_site.named b (same_opened b has)
+  by_note told e b has = old_site.named b (same_opened b has)
 
   pub reply_quiet : (b : Block) (reply : Message) → now.1.reply ≡ Some reply → is_open_of b reply ≡ false
   reply_quiet b reply e = no_open b reply (replies-row s.core.state m now (row s.core.state m) (sent_all w k m was HasEntries sound.messages) reply e).to_client
@@ -276,12 +231,9 @@ module _ (w : World) (i : Openings w) (h : HandlerId) (s : Site) (found : site_o
   begins_openings = quiet_site (begun_site s) refl refl site_opened.marks
 
   pub finishes_openings : (t : Task) → Openings (with_site w (finished_site s t))
-  finishes_openings t = quiet_site (finished_site s t) refl refl (after_opened (ran_of t) s.core.state.marks site_opened.marks)
-    where
-      after_opened :
-          (r : Ran) (marks : List Mark) → AllByRecursion (IsMarkOpened s.opened) marks → AllByRecursion (IsMarkOpened s.opened) (map (mark_after r) marks)
-      after_opened r [] all = tt
-      after_opened r (k ∷ ks) all = (record { opened = all.0.opened }, after_opened r ks all.1)
+  finishes_openings t =
+      quiet_site (finished_site s t) refl refl
+      (all_mapped (mark_after (ran_of t)) (IsMarkOpened s.opened) (IsMarkOpened s.opened) (λ k o. record { opened = o.opened }) s.core.state.marks site_opened.marks)
 
 -- ---- a node restarts
 
@@ -289,18 +241,11 @@ pub same_list : (n : ℕ) (s : Site) → (reopened n s).opened ≡ s.opened
 same_list n s =
     by_test (λ t. (if t then record s { core = core_of s.core.class s.stored false } else s).opened ≡ s.opened) (s.node == n) (λ here. refl) (λ there. refl)
 
-pub opened_anew :
-    (js : List Block) (n : ℕ) (h : HandlerId) (sites : List Site) → AllByRecursion (SiteFits js) sites
+pub opened_anew : (js : List Block) (n : ℕ) (h : HandlerId) (sites : List Site) → AllByRecursion (SiteFits js) sites
     → option_map_or (λ (s : Site). s.opened) (find (is_site h) (map (reopened n) sites)) [] ≡ option_map_or (λ (s : Site). s.opened) (find (is_site h) sites) []
-opened_anew js n h [] fits = refl
-opened_anew js n h (s ∷ ss) fits =
-    let rest = find (is_site h) (map (reopened n) ss) in
-    ap (λ j. option_map_or (λ (x : Site). x.opened) (if same_handler j h then Some (reopened n s) else rest) [])
-    (ap (λ (st : HandlerState). st.number) (state_anew js n s fits.0))
-    ∙ by_test (λ t. option_map_or (λ (x : Site). x.opened) (if t then Some (reopened n s) else rest) []
-    ≡ option_map_or (λ (x : Site). x.opened) (if t then Some s else find (is_site h) ss) []) (is_site h s)
-    (λ here. same_list n s)
-    (λ there. opened_anew js n h ss fits.1)
+opened_anew js n h sites fits =
+    found_anew js n (λ o. option_map_or (λ (s : Site). s.opened) o [] ≡ option_map_or (λ (s : Site). s.opened) (find (is_site h) sites) []) h
+    (λ s f same. same_list n s ∙ same) sites fits refl
 
 module _ (w : World) (fits : AllByRecursion (SiteFits w.joint) w.sites) (i : Openings w) (n : ℕ) where
   pub anew_onto : Onto w (reopened_world w n)
@@ -311,26 +256,12 @@ module _ (w : World) (fits : AllByRecursion (SiteFits w.joint) w.sites) (i : Ope
   }
 
   site_anew : (s : Site) → SiteFits w.joint s → SiteOpened w s → SiteOpened (reopened_world w n) (reopened n s)
-  site_anew s f o =
-      let state = state_anew w.joint n s f in
-      record {
-        named = λ b has.
-            named_more w (reopened_world w n) anew_onto (number_of (reopened n s)) b
-            (subst (λ (st : HandlerState). IsNamed w st.number b) (sym state) (o.named b (ap (λ bs. has_block bs b) (sym (same_list n s)) ∙ has)));
-        marks = subst (λ bs. AllByRecursion (IsMarkOpened bs) (reopened n s).core.state.marks) (sym (same_list n s))
-            (subst (λ (st : HandlerState). AllByRecursion (IsMarkOpened s.opened) st.marks) (sym state) o.marks);
-      }
-
-  sites_anew :
-      (sites : List Site) → AllByRecursion (SiteFits w.joint) sites → AllByRecursion (SiteOpened w) sites
-      → AllByRecursion (SiteOpened (reopened_world w n)) (map (reopened n) sites)
-  sites_anew [] f o = tt
-  sites_anew (s ∷ ss) f o = (site_anew s f.0 o.0, sites_anew ss f.1 o.1)
+  site_anew s f o = grind (arith, by_restart, site_more)
 
   pub reopens_openings : Openings (reopened_world w n)
   reopens_openings = record {
     messages = all_more_of (Shows w) (Shows (reopened_world w n)) (shows_more w (reopened_world w n) anew_onto) w.sent i.messages;
     logs = logs_more w (reopened_world w n) anew_onto (λ b h. inl refl) i.logs;
-    sites = sites_anew w.sites fits i.sites;
+    sites = all_anew w.joint n (SiteOpened w) (SiteOpened (reopened_world w n)) site_anew w.sites fits i.sites;
     parties = λ c p at r held. reservation_more w (reopened_world w n) anew_onto r (λ none. none) (i.parties c p at r held);
   }

@@ -1,26 +1,13 @@
 -- Whatever happens, messages tell who has greeted whom and where blocks have opened, and only a block of the common
 -- list has entries.
-use Rattle.std.proofs.Common.{◌≡◌, ℕ, ◌<◌, true, false, true≢false, List, [], Option, Some, None, refl, sym, ap, ◌∙◌, ⊎_elim}
-use Rattle.std.specs.Prelude.{unwrap_or}
-use Rattle.std.specs.Option.{option_map_or}
-use Rattle.scoop_message.specs.declared.name.Block.{Block}
-use Rattle.scoop_message.specs.declared.name.ClientId.{ClientId}
-use Rattle.scoop_message.specs.declared.name.HandlerId.{HandlerId}
-use Rattle.scoop_message.specs.declared.request.Entry.{Entry}
-use Rattle.scoop_message.specs.declared.message.Message.TheVariants.{Log}
-use Rattle.scoop_reserve.specs.Handlers.{has}
-use Rattle.scoop_reserve.specs.State.{ReservationState}
-use Rattle.scoop_reserve.specs.Hearing.{is_open}
-use Rattle.scoop_model.specs.declared.event.Event.{Event}
-use Rattle.scoop_model.specs.World.{World, Site, Party, has_block, is_site, is_succeeded, log_of, opened_at, party_of, sent_at, set_of, site_of, inc_of}
-use Rattle.scoop_model.specs.Step.{Placement, Newcomer, opening}
-use Rattle.scoop_model.specs.Opening.{MayOpen}
-use Rattle.scoop_model.specs.Reach.{steps}
+use Rattle.scoop_model.proofs.Names.{◌≡◌, ℕ, ◌<◌, List, [], Some, None, refl, sym, ap, ◌∙◌, arith, Option, true, false, true≢false, unwrap_or, option_map_or}
+use Rattle.scoop_model.proofs.Names.{Log, Block, ClientId, HandlerId, Entry, all_found, has, is_open, ReservationState, MayOpen, steps, Placement, Newcomer}
+use Rattle.scoop_model.proofs.Names.{opening, World, Party, Site, is_site, site_of, sent_at, has_block, opened_at, log_of, party_of, is_succeeded, inc_of}
+use Rattle.scoop_model.proofs.Names.{set_of, Event}
 use Rattle.scoop_model.proofs.Events.{Changes, steps_kept}
-use Rattle.scoop_model.proofs.Order.Facts.{IsNamed, SiteFits, Ordered, all_found}
-use Rattle.scoop_model.proofs.Sound.Runs.{both_kept}
-use Rattle.scoop_model.proofs.Sound.Steps.{sent_all}
-use Rattle.scoop_model.proofs.Tape.Shown.{left_without}
+use Rattle.scoop_model.proofs.Order.{SiteFits, Ordered}
+use Rattle.scoop_model.proofs.Sound.{both_kept, sent_all}
+use Rattle.scoop_model.proofs.Tape.{left_without}
 use Rattle.scoop_model.proofs.Logging.Facts.{Logging}
 use Rattle.scoop_model.proofs.Logging.Runs.{Told, told_kept, opens_told}
 use Rattle.scoop_model.proofs.Logging.Greetings.{Greetings, greetings_kept, opens_greetings, succeeded_inc}
@@ -30,7 +17,7 @@ use Rattle.scoop_model.proofs.Logging.OpeningSteps.{openings_kept, opens_opening
 
 -- ---- what openings say of a world
 
--- what has opened at a handler is in the common list
+-- a block that opened at a handler is in the common list
 opened_joint : (w : World) → Ordered w → (h : HandlerId) (b : Block) → IsOpenedAt w h b → has_block w.joint b ≡ false → ⊥
 opened_joint w o h b e none = from (site_of h w) (λ s found. all_found (SiteFits w.joint) (is_site h) w.sites s o.sites found) e
   where
@@ -40,19 +27,10 @@ opened_joint w o h b e none = from (site_of h w) (λ s found. all_found (SiteFit
 
 -- a block that isn't in the common list has empty logs
 pub unjoined_empty : (w : World) → Ordered w → Openings w → (b : Block) → has_block w.joint b ≡ false → (h : HandlerId) → log_of b h w ≡ []
-unjoined_empty w o i b none h =
-    ⊎_elim
-    (λ (empty : log_of b h w ≡ []). empty)
-    (λ (both : IsNamed w h b × IsOpenedAtAll w b).
-    let all = both.1 in
-    let sets : Some both.0.handlers ≡ Some all.handlers = sym both.0.set ∙ all.set in
-    let same : both.0.handlers ≡ all.handlers = cc in
-    absurd (opened_joint w o h b (all.opened h (ap (λ hs. has hs h) (sym same) ∙ both.0.member)) none))
-    (i.logs b h)
+unjoined_empty w o i b none h = grind (arith, opened_joint)
 
 -- a client whose reservation is opened at all has opened it at each of its handlers
-pub running_opened :
-    (w : World) → Ordered w → Logging w → Openings w → (c : ClientId) (p : Party) → party_of c w ≡ Some p → (r : ReservationState)
+pub running_opened : (w : World) → Ordered w → Logging w → Openings w → (c : ClientId) (p : Party) → party_of c w ≡ Some p → (r : ReservationState)
     → p.client.reservation ≡ Some r → is_open r ≡ true → IsOpenedAtAll w r.block
 running_opened w o l i c p at r held opened = opened_at_all w o l i c p at r held (unlocking_is r.stage opened)
 
@@ -83,8 +61,7 @@ module _ (ps : List Placement) (ns : List Newcomer) (es : List Event) (may : May
   told = always_told_more ps ns es may
 
   -- a Log is sent only of a block that has opened at each of its handlers
-  pub logs_opened :
-      (i : ℕ) (h : HandlerId) (b : Block) (n : ℕ) (entries : List Entry) → sent_at i now ≡ Some (Log h b n entries) → (x : HandlerId)
+  pub logs_opened : (i : ℕ) (h : HandlerId) (b : Block) (n : ℕ) (entries : List Entry) → sent_at i now ≡ Some (Log h b n entries) → (x : HandlerId)
       → has (set_of b now) x ≡ true → has_block (opened_at x now) b ≡ true
   logs_opened i h b n entries was x member =
       let o = (sent_all now i (Log h b n entries) was (Shows now) told.1.1.messages).1 in

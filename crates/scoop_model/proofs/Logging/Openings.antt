@@ -1,23 +1,9 @@
--- Where blocks have opened: what Open, Opened, Unlock and Log messages tell of it, and what a client's reservation does.
-use Rattle.std.proofs.Common.{◌≡◌, ◌⊎◌, inl, inr, ◌||◌, Bool, true, false, true≢false, List, [], ◌∷◌, ◌++◌, Option, Some, None, refl, ap, ◌∙◌, ⊎_elim}
-use Rattle.std.specs.Prelude.{⊤, option_to_list}
-use Rattle.std.specs.List.{AllByRecursion, list_any}
-use Rattle.scoop_message.specs.declared.name.Block.{Block}
-use Rattle.scoop_message.specs.declared.name.ClientId.{ClientId}
-use Rattle.scoop_message.specs.declared.name.HandlerId.{HandlerId}
-use Rattle.scoop_message.specs.declared.message.Message.{Message}
-use Rattle.scoop_message.specs.declared.message.Message.TheVariants.{Open, Opened, Unlock, Log}
-use Rattle.scoop_message.specs.Message.{same_block}
-use Rattle.scoop_reserve.specs.declared.stage.Stage.{Stage}
-use Rattle.scoop_reserve.specs.declared.stage.Stage.TheVariants.{Locking, Opening, Unlocking, GivingUp}
-use Rattle.scoop_reserve.specs.Handlers.{has}
-use Rattle.scoop_reserve.specs.State.{ReservationState}
-use Rattle.scoop_handler.specs.declared.mark.Mark.{Mark}
-use Rattle.scoop_handler.specs.declared.mark.Stage.TheVariants.{Open as AtOpen}
-use Rattle.scoop_handler.specs.Marks.{block_of}
-use Rattle.scoop_model.specs.World.{World, Site, Party, number_of, has_block, handlers_of, log_of, opened_at, party_of}
-use Rattle.scoop_model.proofs.Basics.{by_test}
-use Rattle.scoop_model.proofs.Order.Facts.{IsNamed}
+-- The invariant about openings: the claims of Open, Opened, Unlock and Log messages about it, and the client's reservation.
+use Rattle.scoop_model.proofs.Names.{◌≡◌, List, [], ◌∷◌, ◌++◌, Some, None, refl, ap, arith, Option, true, false, ◌||◌, Bool, option_to_list, ◌⊎◌, inl, inr}
+use Rattle.scoop_model.proofs.Names.{⊎_elim, AllByRecursion, list_any, ⊤, same_block, Message, Open, Log, Unlock, Opened, Block, ClientId, HandlerId, block_of}
+use Rattle.scoop_model.proofs.Names.{Mark, AtOpen, has, ReservationState, Stage, GivingBack as GivingUp, Locking, Opening, Unlocking, World, Party, Site}
+use Rattle.scoop_model.proofs.Names.{number_of, has_block, opened_at, log_of, party_of, handlers_of}
+use Rattle.scoop_model.proofs.Order.{IsNamed}
 
 -- ---- where a block has opened
 
@@ -91,7 +77,7 @@ pub record Openings (w : World) : Type 0 where
 
 -- ---- what goes on
 
--- what lasts goes on from w to v
+-- the lasting facts of w hold in v too
 pub record Onto (w v : World) : Type 0 where
   pub sets : (b : Block) (hs : List HandlerId) → handlers_of b w ≡ Some hs → handlers_of b v ≡ Some hs
   pub opened : (h : HandlerId) (b : Block) → IsOpenedAt w h b → IsOpenedAt v h b
@@ -126,15 +112,7 @@ module _ (w v : World) (x : Onto w v) where
 -- the same where some logs have grown, of blocks that have opened
 module _ (w v : World) (x : Onto w v) where
   pub logs_more : ((b : Block) (h : HandlerId) → (log_of b h v ≡ log_of b h w) ⊎ (IsNamed w h b × IsOpenedAtAll w b)) → OpenIfLogged w → OpenIfLogged v
-  logs_more grown all b h =
-      ⊎_elim
-      (λ (same : log_of b h v ≡ log_of b h w).
-      ⊎_elim
-      (λ (none : log_of b h w ≡ []). inl (same ∙ none))
-      (λ (o : IsNamed w h b × IsOpenedAtAll w b). inr (named_more w v x h b o.0, opened_more w v x b o.1))
-      (all b h))
-      (λ (o : IsNamed w h b × IsOpenedAtAll w b). inr (named_more w v x h b o.0, opened_more w v x b o.1))
-      (grown b h)
+  logs_more grown all b h = grind (arith, named_more, opened_more)
 
 -- no Open is among the new messages
 pub none_pushed :
@@ -142,7 +120,4 @@ pub none_pushed :
     → list_any (is_open_of b) (ms ++ option_to_list o) ≡ false
 none_pushed b [] None none new = refl
 none_pushed b [] (Some m) none new = ap (λ t. t || false) (new m refl)
-none_pushed b (x ∷ xs) o none new =
-    by_test (λ t. (t || list_any (is_open_of b) xs) ≡ false → (t || list_any (is_open_of b) (xs ++ option_to_list o)) ≡ false) (is_open_of b x)
-    (λ there e. absurd (true≢false e))
-    (λ other e. none_pushed b xs o e new) none
+none_pushed b (x ∷ xs) o none new = grind (arith, none_pushed b xs o)

@@ -1,14 +1,8 @@
 -- Whatever happens, every Log carries what its block's client logged.
-use Rattle.std.proofs.Common.{List}
-use Rattle.scoop_model.specs.declared.event.Event.{Event}
-use Rattle.scoop_model.specs.World.{World}
-use Rattle.scoop_model.specs.Step.{Placement, Newcomer, opening}
-use Rattle.scoop_model.specs.Opening.{MayOpen}
-use Rattle.scoop_model.specs.Reach.{steps}
+use Rattle.scoop_model.proofs.Names.{List, MayOpen, steps, Placement, Newcomer, opening, World, Event}
 use Rattle.scoop_model.proofs.Events.{Changes, steps_kept}
-use Rattle.scoop_model.proofs.Order.Runs.{opens_ordered}
-use Rattle.scoop_model.proofs.Sound.Runs.{InOrderAndSound, both_kept, ordered_sound_kept}
-use Rattle.scoop_model.proofs.Sound.Steps.{opens_sound}
+use Rattle.scoop_model.proofs.Order.{opens_ordered}
+use Rattle.scoop_model.proofs.Sound.{InOrderAndSound, both_kept, ordered_sound_kept, opens_sound}
 use Rattle.scoop_model.proofs.Logging.Facts.{Logging}
 use Rattle.scoop_model.proofs.Logging.Steps.{logging_kept, opens_logging}
 

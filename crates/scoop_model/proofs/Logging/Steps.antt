@@ -1,20 +1,10 @@
 -- Every event keeps what clients logged, and nothing is logged in a world that opens.
-use Rattle.std.proofs.Common.{◌≡◌, ℕ, true≢false, IsFalse, List, [], ◌∷◌, map, Some, refl}
-use Rattle.std.specs.List.{AllByRecursion}
-use Rattle.scoop_message.specs.declared.name.HandlerId.{HandlerId}
-use Rattle.scoop_message.specs.declared.message.Message.{Message}
-use Rattle.scoop_message.specs.declared.message.Message.TheVariants.{Log}
-use Rattle.scoop_message.specs.Message.{client_of, is_for_handler}
-use Rattle.scoop_handler.specs.Hearing.{hear}
-use Rattle.scoop_handler.specs.Replies.{HasEntries}
-use Rattle.scoop_handler.proofs.TableRows.{row}
-use Rattle.scoop_handler.proofs.TableLaws.{replies-row}
-use Rattle.scoop_model.specs.World.{World, Site, is_party, sent_at}
-use Rattle.scoop_model.specs.Step.{Placement, Newcomer, new_party, opening, heard_world, with_site, begun_site, finished_site, reopened_world}
+use Rattle.scoop_model.proofs.Names.{◌≡◌, ℕ, List, map, Some, refl, true≢false, IsFalse, client_of, is_for_handler, Message, Log, all_found, replies-row, row}
+use Rattle.scoop_model.proofs.Names.{hear, HasEntries, all_made, heard_world, with_site, begun_site, finished_site, reopened_world, Placement, Newcomer}
+use Rattle.scoop_model.proofs.Names.{new_party, opening, World, Site, is_party, sent_at}
 use Rattle.scoop_model.proofs.Events.{Changes}
-use Rattle.scoop_model.proofs.Order.Facts.{PartyFits, Ordered, all_found, all_pushed}
-use Rattle.scoop_model.proofs.Sound.Facts.{Sound}
-use Rattle.scoop_model.proofs.Sound.Steps.{sent_all}
+use Rattle.scoop_model.proofs.Order.{PartyFits, Ordered, all_pushed}
+use Rattle.scoop_model.proofs.Sound.{Sound, sent_all}
 use Rattle.scoop_model.proofs.Logging.Facts.{Carries, PartyLogs, Logging}
 use Rattle.scoop_model.proofs.Logging.Clients.{logging_more, sends_logging, notices_logging, restarts_logging}
 use Rattle.scoop_model.proofs.Logging.Commands.{commands_logging}
@@ -47,9 +37,9 @@ logging_kept w o sound i = record {
   reopens = λ n. logging_more w (reopened_world w n) (λ b h. refl) i i.messages i.parties;
 }
 
-parties_open : (w : World) (hs : List HandlerId) (ns : List Newcomer) → AllByRecursion (PartyLogs w) (map (new_party hs) ns)
-parties_open w hs [] = tt
-parties_open w hs (n ∷ ns) = (record { block = λ r e. absurd (cc) }, parties_open w hs ns)
-
 pub opens_logging : (ps : List Placement) (ns : List Newcomer) → Logging (opening ps ns)
-opens_logging ps ns = record { messages = tt; logs = λ b h. refl; parties = parties_open (opening ps ns) (map (λ p. p.handler) ps) ns }
+opens_logging ps ns = record {
+  messages = tt;
+  logs = λ b h. refl;
+  parties = all_made (new_party (map (λ p. p.handler) ps)) (PartyLogs (opening ps ns)) (λ n. record { block = λ r e. absurd (cc) }) ns;
+}

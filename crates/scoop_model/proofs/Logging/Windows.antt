@@ -1,25 +1,11 @@
 -- How a client's windows change beside the log: an entry more, an End more, and a count that is acknowledged. A window fits its
 -- log where the acknowledged entries and the window's own, one after the other, are the log. Each change of a window is looked
 -- at alone, and then among the windows of a block, of which one changes.
-use Rattle.std.proofs.Common.{◌≡◌, ℕ, ◌+◌, ◌-◌, ◌^◌, ◌<◌, ◌≤◌, ◌&&◌, ◌||◌, true, false, true≢false, nat_le, List, [], ◌∷◌, ◌++◌, length, take, drop, map, find}
-use Rattle.std.proofs.Common.{Option, Some, None, refl, sym, ap, ◌∙◌, subst, arith, length-append, length-drop, append_assoc}
-use Rattle.std.specs.Prelude.{if◌then◌else◌}
-use Rattle.std.specs.Option.{option_map}
-use Rattle.std.proofs.lemmas.List.{take-append-drop, length-take-le}
-use Rattle.std.proofs.lemmas.Bool.Decides.{nat_tests}
-use Rattle.scoop_message.specs.declared.name.HandlerId.{HandlerId}
-use Rattle.scoop_message.specs.declared.request.Entry.{Entry}
-use Rattle.scoop_message.specs.declared.request.Entry.TheVariants.{Call, Query, End}
-use Rattle.scoop_message.specs.Entry.{is_end}
-use Rattle.scoop_message.specs.Message.{same_handler}
-use Rattle.scoop_message.proofs.Same.{handler_decides}
-use Rattle.scoop_queue.proofs.Ends.{ends-append}
-use Rattle.scoop_reserve.specs.Handlers.{has}
-use Rattle.scoop_client.specs.Window.{WindowState, fresh_window, logged, with_entry, with_end, newly, acknowledged, up_to_end, first_entries, window_of}
-use Rattle.scoop_client.specs.Window.{at_window, is_ended}
-use Rattle.scoop_client.specs.Hearing.{up_to}
-use Rattle.scoop_model.proofs.Basics.{by_test}
-use Rattle.scoop_model.proofs.Keys.{key_found}
+use Rattle.scoop_model.proofs.Names.{◌≡◌, ℕ, ◌+◌, ◌<◌, List, [], ◌∷◌, ◌++◌, map, Some, None, refl, sym, ap, ◌∙◌, subst, arith, ◌≤◌, Option, find, option_map}
+use Rattle.scoop_model.proofs.Names.{true, if◌then◌else◌, ◌&&◌, take, false, true≢false, length, ◌-◌, ◌^◌, nat_le, append_assoc, drop, length-append}
+use Rattle.scoop_model.proofs.Names.{length-drop, take-append-drop, length-take-le, nat_tests, handler_decides, is_end, same_handler, HandlerId, Entry}
+use Rattle.scoop_model.proofs.Names.{CallEntry as Call, QueryEntry as Query, EndEntry as End, ends-append, by_test, key_found, has, up_to, WindowState, logged}
+use Rattle.scoop_model.proofs.Names.{acknowledged, window_of, at_window, with_entry, with_end, first_entries, fresh_window, is_ended, newly, up_to_end}
 use Rattle.scoop_model.proofs.Logging.Facts.{WindowFits, IsLastQuery}
 
 -- ---- which window is found
@@ -37,39 +23,20 @@ window_handler h ls l found = key_found (λ (x : WindowState). x.handler) same_h
 pub window_in_all : (h : HandlerId) (f : WindowState → WindowState) → StaysAt f → (ls : List WindowState)
     → window_of h (map f ls) ≡ option_map f (window_of h ls)
 window_in_all h f stays [] = refl
-window_in_all h f stays (l ∷ ls) =
-    let rest = window_of h (map f ls) in
-    subst (λ j. (if same_handler j h then Some (f l) else rest) ≡ option_map f (if same_handler l.handler h then Some l else window_of h ls)) (sym (stays l))
-    (by_test (λ t. (if t then Some (f l) else rest) ≡ option_map f (if t then Some l else window_of h ls)) (same_handler l.handler h)
-    (λ here. refl)
-    (λ there. window_in_all h f stays ls))
+window_in_all h f stays (l ∷ ls) = grind (arith, window_in_all h f stays ls)
 
 pub window_own : (k : HandlerId) (f : WindowState → WindowState) → StaysAt f → (ls : List WindowState)
     → window_of k (at_window k f ls) ≡ option_map f (window_of k ls)
 window_own k f stays [] = refl
-window_own k f stays (l ∷ ls) =
-    by_test (λ t. same_handler l.handler k ≡ t → window_of k (if t then f l ∷ ls else l ∷ at_window k f ls)
-    ≡ option_map f (if t then Some l else window_of k ls)) (same_handler l.handler k)
-    (λ here is. ap (λ u. if u then Some (f l) else window_of k ls) (ap (λ j. same_handler j k) (stays l) ∙ is))
-    (λ there is. ap (λ u. if u then Some l else window_of k (at_window k f ls)) is ∙ window_own k f stays ls) refl
+window_own k f stays (l ∷ ls) = grind (arith, window_own k f stays ls)
 
 pub window_other : (k h : HandlerId) (f : WindowState → WindowState) → StaysAt f → (ls : List WindowState) → (k ≡ h → ⊥)
     → window_of h (at_window k f ls) ≡ window_of h ls
 window_other k h f stays [] apart = refl
-window_other k h f stays (l ∷ ls) apart =
-    by_test (λ t. same_handler l.handler k ≡ t → window_of h (if t then f l ∷ ls else l ∷ at_window k f ls)
-    ≡ (if same_handler l.handler h then Some l else window_of h ls)) (same_handler l.handler k)
-    (λ here is.
-    let own : l.handler ≡ k = (handler_decides l.handler k).0 is in
-    let off : same_handler l.handler h ≡ false =
-    by_test (λ u. same_handler l.handler h ≡ u → u ≡ false) (same_handler l.handler h)
-    (λ both e. absurd (apart (sym own ∙ (handler_decides l.handler h).0 e))) (λ one e. refl) refl in
-    ap (λ u. if u then Some (f l) else window_of h ls) (ap (λ j. same_handler j h) (stays l) ∙ off) ∙ sym (ap (λ u. if u then Some l else window_of h ls) off))
-    (λ there is. ap (λ r. if same_handler l.handler h then Some l else r) (window_other k h f stays ls apart)) refl
+window_other k h f stays (l ∷ ls) apart = grind (arith, handler_decides, window_other k h f stays ls apart)
 
--- what is to be shown of a window once one of them has changed, of that one and of the others
-pub by_window :
-    (Q : HandlerId → WindowState → Type 0) (k : HandlerId) (f : WindowState → WindowState) → StaysAt f → (ls : List WindowState)
+-- the cases of a window after one of them has changed: that one, and the others
+pub by_window : (Q : HandlerId → WindowState → Type 0) (k : HandlerId) (f : WindowState → WindowState) → StaysAt f → (ls : List WindowState)
     → ((l : WindowState) → window_of k ls ≡ Some l → Q k (f l)) → ((h : HandlerId) (l : WindowState) → (k ≡ h → ⊥) → window_of h ls ≡ Some l → Q h l)
     → (h : HandlerId) (l : WindowState) → window_of h (at_window k f ls) ≡ Some l → Q h l
 by_window Q k f stays ls own other h l found =
@@ -88,8 +55,7 @@ by_window Q k f stays ls own other h l found =
     from (Some x) is e = let same : f x ≡ l = cc in subst (Q k) same (own x is)
 
 -- the same, where all of them change
-pub by_all :
-    (Q : HandlerId → WindowState → Type 0) (f : WindowState → WindowState) → StaysAt f → (ls : List WindowState)
+pub by_all : (Q : HandlerId → WindowState → Type 0) (f : WindowState → WindowState) → StaysAt f → (ls : List WindowState)
     → ((h : HandlerId) (l : WindowState) → window_of h ls ≡ Some l → Q h (f l)) → (h : HandlerId) (l : WindowState) → window_of h (map f ls) ≡ Some l → Q h l
 by_all Q f stays ls each h l found = from (window_of h ls) refl (sym (window_in_all h f stays ls) ∙ found)
   where
@@ -99,10 +65,7 @@ by_all Q f stays ls each h l found = from (window_of h ls) refl (sym (window_in_
 
 pub handlers_at_window : (k : HandlerId) (f : WindowState → WindowState) → StaysAt f → (ls : List WindowState) → handlers_at (at_window k f ls) ≡ handlers_at ls
 handlers_at_window k f stays [] = refl
-handlers_at_window k f stays (l ∷ ls) =
-    by_test (λ t. handlers_at (if t then f l ∷ ls else l ∷ at_window k f ls) ≡ l.handler ∷ handlers_at ls) (same_handler l.handler k)
-    (λ here. ap (λ j. j ∷ handlers_at ls) (stays l))
-    (λ there. ap (λ js. l.handler ∷ js) (handlers_at_window k f stays ls))
+handlers_at_window k f stays (l ∷ ls) = grind (arith, handlers_at_window k f stays ls)
 
 pub handlers_in_all : (f : WindowState → WindowState) → StaysAt f → (ls : List WindowState) → handlers_at (map f ls) ≡ handlers_at ls
 handlers_in_all f stays [] = refl
@@ -114,15 +77,10 @@ handlers_fresh_windows (h ∷ hs) = ap (λ ks. h ∷ ks) (handlers_fresh_windows
 
 pub fresh_found : (hs : List HandlerId) (h : HandlerId) (l : WindowState) → window_of h (map fresh_window hs) ≡ Some l → fresh_window h ≡ l
 fresh_found [] h l e = absurd (cc)
-fresh_found (k ∷ ks) h l e =
-    by_test (λ t. same_handler k h ≡ t → (if t then Some (fresh_window k) else window_of h (map fresh_window ks)) ≡ Some l → fresh_window h ≡ l)
-    (same_handler k h)
-    (λ _ is f. let same : fresh_window k ≡ l = cc in ap fresh_window (sym ((handler_decides k h).0 is)) ∙ same)
-    (λ _ is f. fresh_found ks h l f) refl e
+fresh_found (k ∷ ks) h l e = grind (arith, handler_decides, fresh_found ks h l)
 
 -- where the items of two lists are of the same handlers, a handler that has one has the other
-pub same_found :
-    {A B : Type 0} (a_of : A → HandlerId) (b_of : B → HandlerId) (h : HandlerId) (xs : List A) (ys : List B) (x : A) → map a_of xs ≡ map b_of ys
+pub same_found : {A B : Type 0} (a_of : A → HandlerId) (b_of : B → HandlerId) (h : HandlerId) (xs : List A) (ys : List B) (x : A) → map a_of xs ≡ map b_of ys
     → find (λ a. same_handler (a_of a) h) xs ≡ Some x → (y : B) × (find (λ b. same_handler (b_of b) h) ys ≡ Some y)
 same_found a_of b_of h [] ys x same e = absurd (cc)
 same_found a_of b_of h (a ∷ xs) [] x same e = absurd (cc)
@@ -136,27 +94,15 @@ same_found {A} {B} a_of b_of h (a ∷ xs) (b ∷ ys) x same e =
     (λ there f. same_found a_of b_of h xs ys x rest f) e)
 
 -- a handler that has an item is among the handlers
-pub found_has :
-    {A : Type 0} (handler : A → HandlerId) (h : HandlerId) (xs : List A) (x : A) → find (λ a. same_handler (handler a) h) xs ≡ Some x
+pub found_has : {A : Type 0} (handler : A → HandlerId) (h : HandlerId) (xs : List A) (x : A) → find (λ a. same_handler (handler a) h) xs ≡ Some x
     → has (map handler xs) h ≡ true
 found_has handler h [] x e = absurd (cc)
-found_has handler h (a ∷ xs) x e =
-    by_test (λ t. (if t then Some a else find (λ y. same_handler (handler y) h) xs) ≡ Some x → (t || has (map handler xs) h) ≡ true)
-    (same_handler (handler a) h)
-    (λ here f. refl)
-    (λ there f. found_has handler h xs x f) e
+found_has handler h (a ∷ xs) x e = grind (arith, found_has handler h xs x)
 
 -- no window has ended
 pub not_ended : (h : HandlerId) (ls : List WindowState) (l : WindowState) → is_ended ls ≡ false → window_of h ls ≡ Some l → l.ended ≡ false
 not_ended h [] l none e = absurd (cc)
-not_ended h (y ∷ ys) l none e =
-    by_test (λ t. y.ended ≡ t → (t || is_ended ys) ≡ false → l.ended ≡ false) y.ended
-    (λ ended is over. absurd (true≢false over))
-    (λ open_window is over.
-    by_test (λ u. (if u then Some y else window_of h ys) ≡ Some l → l.ended ≡ false) (same_handler y.handler h)
-    (λ here f. let same : y ≡ l = cc in subst (λ (x : WindowState). x.ended ≡ false) same is)
-    (λ there f. not_ended h ys l over f) e)
-    refl none
+not_ended h (y ∷ ys) l none e = grind (arith, not_ended h ys l)
 
 -- ---- a window beside its log
 
@@ -169,38 +115,17 @@ room_left n e = let l : n < 2 ^ 32 - 2 = grind (arith, nat_tests) in omega (arit
 pub fits_logged :
     (log : List Entry) (l : WindowState) (e : Entry) → WindowFits log l → l.ended ≡ false → is_end e ≡ false → nat_le (2 ^ 32 - 2) (logged l) ≡ false
     → WindowFits (log ++ e ∷ []) (with_entry e l)
-fits_logged log l e f more no_end free =
-    let long = length-append l.unacked (e ∷ []) in
-    let room = room_left (logged l) free in
-    record {
-      acknowledged = f.acknowledged;
-      all = sym (append_assoc f.acknowledged l.unacked (e ∷ [])) ∙ ap (λ xs. xs ++ e ∷ []) f.all;
-      count = f.count;
-      ended = more ∙ sym no_end ∙ sym (ends-append log (e ∷ []) (omega arith));
-      numbers = record { last = omega (arith, long, room); end = λ _. omega (arith, long, room) };
-    }
+fits_logged log l e f more no_end free = grind (arith, append_assoc, ends-append, length-append, room_left)
 
 pub fits_ended : (log : List Entry) (l : WindowState) → WindowFits log l → l.ended ≡ false → WindowFits (log ++ End ∷ []) (with_end l)
-fits_ended log l f more =
-    let long = length-append l.unacked (End ∷ []) in
-    let room = f.numbers.end more in
-    record {
-      acknowledged = f.acknowledged;
-      all = sym (append_assoc f.acknowledged l.unacked (End ∷ [])) ∙ ap (λ xs. xs ++ End ∷ []) f.all;
-      count = f.count;
-      ended = sym (ends-append log (End ∷ []) (omega arith));
-      numbers = record { last = omega (arith, long, room); end = λ e. absurd (true≢false e) };
-    }
+fits_ended log l f more = grind (arith, append_assoc, ends-append, length-append)
 
 pub newly_within : (k : ℕ) (l : WindowState) → newly k l ≤ length l.unacked
 newly_within k l = omega arith
 
 -- acknowledging moves nothing in the log
 pub acknowledged_logged : (k : ℕ) (l : WindowState) → logged (acknowledged k l) ≡ logged l
-acknowledged_logged k l =
-    let within = newly_within k l in
-    let left = length-drop (newly k l) l.unacked in
-    omega (arith, within, left)
+acknowledged_logged k l = grind (arith, length-drop, newly_within)
 
 pub fits_acknowledged : (log : List Entry) (k : ℕ) (l : WindowState) → WindowFits log l → WindowFits log (acknowledged k l)
 fits_acknowledged log k l f =
@@ -222,9 +147,7 @@ fits_acknowledged log k l f =
 -- ---- a query that waits
 
 pub query_logged : (log : List Entry) (l : WindowState) (r : _) → IsLastQuery (log ++ Query r ∷ []) (with_entry (Query r) l) (logged l + 1)
-query_logged log l r =
-    let long = length-append l.unacked (Query r ∷ []) in
-    record { before = log; request = r; last = refl; number = omega (arith, long); waiting = omega arith }
+query_logged log l r = grind (arith, length-append)
 
 -- a count stays below the query that waits
 up_to_below : (h : HandlerId) (n q : ℕ) → 0 < q → up_to h n (Some (h, q)) < q
@@ -233,8 +156,7 @@ up_to_below h n q pos =
     (λ _ is. by_test (λ u. nat_le q n ≡ u → (if u then q - 1 else n) < q) (nat_le q n) (λ _ le. omega arith) (λ _ off. grind (arith, nat_tests)) refl)
     (λ _ is. absurd (true≢false (sym ((handler_decides h h).1 refl) ∙ is))) refl
 
-pub query_acknowledged :
-    (log : List Entry) (h : HandlerId) (n q : ℕ) (l : WindowState) → nat_le (up_to h n (Some (h, q))) l.acked ≡ false → IsLastQuery log l q
+pub query_acknowledged : (log : List Entry) (h : HandlerId) (n q : ℕ) (l : WindowState) → nat_le (up_to h n (Some (h, q))) l.acked ≡ false → IsLastQuery log l q
     → IsLastQuery log (acknowledged (up_to h n (Some (h, q))) l) q
 query_acknowledged log h n q l new is =
     let k = up_to h n (Some (h, q)) in

@@ -1,23 +1,11 @@
--- What every event keeps of joint reservations: what messages tell for good, and how the handlers, the clients and
--- the common list stand to each other.
-use Rattle.std.proofs.Common.{◌≡◌, Bool, true, false, List, [], ◌∷◌, ◌++◌, find, Option, Some, None, refl, sym, subst}
-use Rattle.std.specs.Prelude.{if◌then◌else◌, ⊤, option_to_list}
-use Rattle.std.specs.List.{AllByRecursion}
-use Rattle.std.specs.Option.{option_map}
-use Rattle.scoop_message.specs.declared.name.Block.{Block}
-use Rattle.scoop_message.specs.declared.name.HandlerId.{HandlerId}
-use Rattle.scoop_message.specs.declared.message.Message.{Message}
-use Rattle.scoop_message.specs.declared.message.Message.TheVariants.{Lock, Locked, Open}
-pub use Rattle.scoop_handler.proofs.Basics.{all_at, all_found}
-use Rattle.scoop_reserve.specs.declared.stage.Stage.{Stage}
-use Rattle.scoop_reserve.specs.declared.stage.Stage.TheVariants.{Locking, Opening, Unlocking, GivingUp}
-use Rattle.scoop_reserve.specs.Handlers.{has}
-use Rattle.scoop_reserve.specs.State.{ReservationState}
-use Rattle.scoop_model.specs.World.{World, Site, Party, number_of, id_of, is_site, is_party, site_of, set_site, set_party, has_block, is_log_of, handlers_in}
-use Rattle.scoop_model.specs.World.{handlers_of}
-use Rattle.scoop_model.specs.Safe.{IsSubsequence}
-use Rattle.scoop_model.proofs.Basics.{by_test}
+-- The invariant about joint reservations: the lasting claims of messages, and how the handlers, the clients and the common list
+-- stand to each other.
+use Rattle.scoop_model.proofs.Names.{◌≡◌, List, [], ◌∷◌, ◌++◌, Some, None, refl, sym, subst, arith, Option, find, option_map, true, false, option_to_list}
+use Rattle.scoop_model.proofs.Names.{AllByRecursion, ⊤, Message, Open, Locked, Lock, Block, HandlerId, has, ReservationState, Stage, GivingBack as GivingUp}
+use Rattle.scoop_model.proofs.Names.{Locking, Opening, Unlocking, IsSubsequence, World, Party, set_party, Site, site_of, set_site, is_party, has_block, id_of}
+use Rattle.scoop_model.proofs.Names.{handlers_of, is_log_of, handlers_in}
 use Rattle.scoop_model.proofs.Order.Holding.{Upto, IsReachedIn, IsHeldIn, HeldHolds}
+pub use Rattle.scoop_handler.proofs.Basics.{all_at, all_found}
 
 -- ---- blocks that were granted
 
@@ -42,7 +30,7 @@ pub record IsGrantedAtAll (w : World) (b : Block) : Type 0 where
   pub set : handlers_of b w ≡ Some handlers
   pub granted : (h : HandlerId) → has handlers h ≡ true → IsGranted w h b
 
--- what a message that was sent tells for good
+-- the lasting claim of a message that was sent
 abbrev pub Tells : World → Message → Type 0
 Tells w (Lock h b) = IsNamed w h b
 Tells w (Locked h b) = IsGranted w h b
@@ -84,7 +72,7 @@ pub record Ordered (w : World) : Type 0 where
 
 -- ---- what goes on
 
--- the facts that last go on from v to w
+-- the lasting facts of v hold in w too
 pub record Extends (v w : World) : Type 0 where
   pub granted : (h : HandlerId) (b : Block) → IsGranted v h b → IsGranted w h b
   pub sets : (b : Block) (hs : List HandlerId) → handlers_of b v ≡ Some hs → handlers_of b w ≡ Some hs
@@ -122,8 +110,7 @@ pub all_more_of : {A : Type 0} (P Q : A → Type 0) → ((a : A) → P a → Q a
 all_more_of P Q f [] all = tt
 all_more_of P Q f (x ∷ xs) all = (f x all.0, all_more_of P Q f xs all.1)
 
-pub all_pushed :
-    {A : Type 0} (P : A → Type 0) (xs : List A) (o : Option A) → AllByRecursion P xs → ((a : A) → o ≡ Some a → P a)
+pub all_pushed : {A : Type 0} (P : A → Type 0) (xs : List A) (o : Option A) → AllByRecursion P xs → ((a : A) → o ≡ Some a → P a)
     → AllByRecursion P (xs ++ option_to_list o)
 all_pushed P [] None all one = tt
 all_pushed P [] (Some a) all one = (one a refl, tt)
@@ -132,16 +119,10 @@ all_pushed P (x ∷ xs) o all one = (all.0, all_pushed P xs o all.1 one)
 pub all_set_site :
     (P Q : Site → Type 0) (s : Site) (sites : List Site) → Q s → ((x : Site) → P x → Q x) → AllByRecursion P sites → AllByRecursion Q (set_site s sites)
 all_set_site P Q s [] own others all = tt
-all_set_site P Q s (x ∷ xs) own others all = (
-  by_test (λ t. Q (if t then s else x)) (is_site (number_of s) x) (λ here. own) (λ there. others x all.0),
-  all_set_site P Q s xs own others all.1,
-)
+all_set_site P Q s (x ∷ xs) own others all = grind (arith, all_set_site P Q s xs own others)
 
 pub all_set_party :
     (P Q : Party → Type 0) (p : Party) (parties : List Party) → Q p → ((x : Party) → is_party (id_of p) x ≡ false → P x → Q x) → AllByRecursion P parties
     → AllByRecursion Q (set_party p parties)
 all_set_party P Q p [] own others all = tt
-all_set_party P Q p (x ∷ xs) own others all = (
-  by_test (λ t. Q (if t then p else x)) (is_party (id_of p) x) (λ here. own) (λ there. others x there all.0),
-  all_set_party P Q p xs own others all.1,
-)
+all_set_party P Q p (x ∷ xs) own others all = grind (arith, all_set_party P Q p xs own others)

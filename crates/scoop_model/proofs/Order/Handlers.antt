@@ -1,45 +1,22 @@
--- What a handler does keeps the order. Where a block opens, it was held; if it is in the common list already, what has
--- opened here stands before it there; if not, it is put at that list's end, behind all of them. A lock is granted only where
--- the mark hasn't reached the block, so never for a block of the common list, which was granted at each of its handlers.
-use Rattle.std.proofs.Common.{◌≡◌, ℕ, ◌-◌, ◌==◌, true, List, [], ◌∷◌, ◌++◌, map, find, slice_get, Option, Some, None, refl, sym, ap, ◌∙◌, subst, ⊎_elim, arith}
-use Rattle.std.proofs.Common.{append-nil}
-use Rattle.std.proofs.lemmas.Option.{same_Some}
-use Rattle.std.specs.Prelude.{if◌then◌else◌, ◌<◌, ◌≤◌, option_to_list}
-use Rattle.std.specs.List.{AllByRecursion}
-use Rattle.scoop_message.specs.declared.name.Block.{Block}
-use Rattle.scoop_message.specs.declared.name.HandlerId.{HandlerId}
-use Rattle.scoop_message.specs.declared.message.Message.{Message}
-use Rattle.scoop_message.specs.declared.message.Message.TheVariants.{Lock, Locked, Open}
-use Rattle.scoop_message.specs.Message.{handler_of, same_handler}
-use Rattle.scoop_handler.specs.declared.note.Note.{Note}
-use Rattle.scoop_handler.specs.declared.note.Note.TheVariants.{Greeted, Granted, Held, Opened as OpenedNote, Freed, Took, Known, Dropped}
-use Rattle.scoop_handler.specs.declared.mark.Mark.{Mark}
-use Rattle.scoop_handler.specs.Growing.{MarksGrow}
-use Rattle.scoop_handler.specs.State.{HandlerState}
-use Rattle.scoop_handler.specs.Core.{with_state}
-use Rattle.scoop_handler.specs.Hearing.{Hearing, hear}
-use Rattle.scoop_handler.specs.Running.{Task, ran_of}
-use Rattle.scoop_handler.proofs.TableRows.{row}
-use Rattle.scoop_handler.proofs.TableLaws.{grows-row, number-row}
-use Rattle.scoop_handler.proofs.After.{MarksGrow-after}
-use Rattle.scoop_handler.proofs.Fronts.{MarksGrow-refl}
-use Rattle.scoop_reserve.specs.Handlers.{has}
-use Rattle.scoop_model.specs.World.{World, Site, number_of, is_site, site_of, set_site, has_block, sent_at}
-use Rattle.scoop_model.specs.Step.{joined, newly_opened, heard_world, with_site, begun_site, finished_site, reopened, reopened_world, reopened_site}
-use Rattle.scoop_model.specs.Safe.{IsSubsequence}
-use Rattle.scoop_model.proofs.Basics.{by_test}
-use Rattle.scoop_model.proofs.Keys.{number_found, by_site, site_put}
+-- A handler's move keeps the order. A block that opens was held. If it is in the common list already, all blocks that opened here
+-- stand before it there. If not, it goes to that list's end, after all of them. A lock is granted only if the mark hasn't reached
+-- the block. So it is never granted to a block of the common list, which each of its handlers has granted its lock before.
+use Rattle.scoop_model.proofs.Names.{◌≡◌, ℕ, ◌<◌, List, [], ◌∷◌, ◌++◌, map, Some, None, refl, sym, ap, ◌∙◌, subst, arith, append-nil, ◌≤◌, Option, find, true}
+use Rattle.scoop_model.proofs.Names.{slice_get, ◌-◌, option_to_list, ⊎_elim, same_Some, AllByRecursion, handler_of, Message, Open, Locked, Lock, Block}
+use Rattle.scoop_model.proofs.Names.{HandlerId, MarksGrow-after, all_found, all_at, MarksGrow-refl, number-row, grows-row, row, with_state, MarksGrow, Hearing}
+use Rattle.scoop_model.proofs.Names.{hear, Task, ran_of, HandlerState, Mark, Note, OpenedNote, number_found, by_site, site_put, IsSubsequence, heard_world}
+use Rattle.scoop_model.proofs.Names.{with_site, begun_site, finished_site, reopened, reopened_world, newly_opened, joined, World, Site, number_of, is_site}
+use Rattle.scoop_model.proofs.Names.{site_of, set_site, sent_at, has_block}
 use Rattle.scoop_model.proofs.Order.Lists.{with_block, joined_has, joined_more, joined_last, joined_next}
-use Rattle.scoop_model.proofs.Order.Holding.{IsReachedIn, IsHeldIn, HeldHolds, IsNewlyLocked, TellsBack, Hears, hears_row, held_ran, reached_more}
-use Rattle.scoop_model.proofs.Order.Facts.{IsGrantedIn, IsGranted, IsNamed, IsGrantedAtAll, Tells, SiteFits, PartyFits, Ordered, Extends, all_more, tells_more}
-use Rattle.scoop_model.proofs.Order.Facts.{party_more, all_more_of, all_pushed, all_at, all_found, all_set_site}
+use Rattle.scoop_model.proofs.Order.Holding.{IsReachedIn, IsHeldIn, IsNewlyLocked, TellsBack, Hears, hears_row, held_ran, reached_more}
+use Rattle.scoop_model.proofs.Order.Restarts.{by_restart, all_anew, found_anew}
+use Rattle.scoop_model.proofs.Order.Facts.{IsGrantedIn, IsGranted, IsGrantedAtAll, Tells, SiteFits, PartyFits, Ordered, Extends, all_more, tells_more}
+use Rattle.scoop_model.proofs.Order.Facts.{party_more, all_more_of, all_pushed, all_set_site}
+pub use Rattle.scoop_model.proofs.Order.Restarts.{state_anew}
 
 -- a message that was sent tells the truth
 pub sent_tells : (w : World) (i : ℕ) (m : Message) → sent_at i w ≡ Some m → AllByRecursion (Tells w) w.sent → Tells w m
-sent_tells w i m was all =
-    by_test (λ t. (if t then None else slice_get w.sent (i - 1)) ≡ Some m → Tells w m) (i == 0)
-    (λ zero_place e. absurd (cc))
-    (λ place e. all_at (Tells w) w.sent (i - 1) m e all) was
+sent_tells w i m was all = grind (arith, all_at, slice_get)
 
 -- the clients stay
 parties_more : (w v : World) → Extends w v → w.logs ≡ v.logs → AllByRecursion (PartyFits w) w.parties → AllByRecursion (PartyFits v) w.parties
@@ -57,14 +34,12 @@ module _ (w : World) (s old : Site) (here : site_of (number_of s) w ≡ Some old
       record {
         site = s;
         found = refl;
-        reached = reached_more old.core.state.marks s.core.state.marks b grows
-            (subst (λ (x : Site). IsReachedIn x.core.state.marks b) one g.reached);
+        reached = reached_more old.core.state.marks s.core.state.marks b grows (subst (λ (x : Site). IsReachedIn x.core.state.marks b) one g.reached);
       })
       (λ apart. g)
 
   -- nothing opens
-  pub site_moves :
-      (ms : List Message) → Ordered w → SiteFits w.joint s
+  pub site_moves : (ms : List Message) → Ordered w → SiteFits w.joint s
       → ((v : World) → site_of (number_of s) v ≡ Some s → AllByRecursion (Tells v) w.sent → AllByRecursion (Tells v) ms)
       → Ordered (record w { sites = set_site s w.sites; sent = ms })
   site_moves ms i fits tells =
@@ -90,22 +65,12 @@ reached_not_new s m now b r new =
     absurd_place : (i j n k c d : ℕ) → i ≡ j → n ≡ k → (i ≡ c → d ≤ n) → j ≡ c → k < d → ⊥
     absurd_place i j n k c d ij nk up jc kd = let le = up (ij ∙ jc) in omega (arith, le, nk, kd)
 
-newly_locked_new :
-    (w : World) (s : Site) (m : Message) (now : Hearing) (b : Block) → Ordered w → site_of (number_of s) w ≡ Some s → Tells w m
+newly_locked_new : (w : World) (s : Site) (m : Message) (now : Hearing) (b : Block) → Ordered w → site_of (number_of s) w ≡ Some s → Tells w m
     → IsNewlyLocked s.core.state m now b
     → has_block w.joint b ≡ true → ⊥
-newly_locked_new w s m now b i here tells new e =
-    let names : IsNamed w (number_of s) b = subst (Tells w) new.asks tells in
-    let all = i.joint b e in
-    let both : Some names.handlers ≡ Some all.handlers = sym names.set ∙ all.set in
-    let same : names.handlers ≡ all.handlers = cc in
-    let g = all.granted (number_of s) (subst (λ hs. has hs (number_of s) ≡ true) same names.member) in
-    let found : Some g.site ≡ Some s = sym g.found ∙ here in
-    let one : g.site ≡ s = cc in
-    let r : IsReachedIn s.core.state.marks b = subst (λ (x : Site). IsReachedIn x.core.state.marks b) one g.reached in
-    reached_not_new s m now b r new
+newly_locked_new w s m now b i here tells new e = grind (arith, reached_not_new)
 
--- what a reply tells
+-- the claim of a reply
 reply_tells : (v : World) (s : Site) (o : Option Message) → site_of (number_of s) v ≡ Some s → TellsBack s.core.state o → (m : Message) → o ≡ Some m → Tells v m
 reply_tells v s None here t m e = absurd (cc)
 reply_tells v s (Some n) here t m e = let same : n ≡ m = cc in subst (Tells v) same (told n t)
@@ -121,8 +86,7 @@ abbrev site_with : Site → HandlerState → List Block → Site
 site_with s st new = record s { core = with_state st s.core; stored = st; opened = s.opened ++ new }
 
 abbrev world_with : World → Site → HandlerState → Option Message → List Block → World
-world_with w s st reply new =
-    record w { sites = set_site (site_with s st new) w.sites; sent = w.sent ++ option_to_list reply; joint = joined w.joint new }
+world_with w s st reply new = record w { sites = set_site (site_with s st new) w.sites; sent = w.sent ++ option_to_list reply; joint = joined w.joint new }
 
 module _ (w : World) (s : Site) (m : Message) (i : Ordered w) (found : site_of (handler_of m) w ≡ Some s) (tells : Tells w m) where
   abbrev now : Hearing
@@ -144,8 +108,7 @@ module _ (w : World) (s : Site) (m : Message) (i : Ordered w) (found : site_of (
   grows = grows-row s.core.state m now (row s.core.state m)
 
   -- the messages, once the reply is among them
-  replies :
-      (new : List Block) (v : World) → site_of now.0.number v ≡ Some (site_with s now.0 new) → AllByRecursion (Tells v) w.sent
+  replies : (new : List Block) (v : World) → site_of now.0.number v ≡ Some (site_with s now.0 new) → AllByRecursion (Tells v) w.sent
       → AllByRecursion (Tells v) (w.sent ++ option_to_list now.1.reply)
   replies new v there all = all_pushed (Tells v) w.sent now.1.reply all (reply_tells v (site_with s now.0 new) now.1.reply there heard.tells)
 
@@ -198,16 +161,9 @@ module _ (w : World) (s : Site) (m : Message) (i : Ordered w) (found : site_of (
 
   by_note : (told : Note) → now.1.note ≡ told → Ordered (world_with w s now.0 now.1.reply (newly_opened told))
   by_note (OpenedNote b) e = opens b e
-  by_note Greeted e = quiet
-  by_note Granted e = quiet
-  by_note Held e = quiet
-  by_note Freed e = quiet
-  by_note (Took n) e = quiet
-  by_note Known e = quiet
-  by_note (Dropped why) e = quiet
+  by_note note e = quiet
 
-pub hears_ordered :
-    (w : World) → Ordered w → (i : ℕ) (m : Message) (s : Site) → sent_at i w ≡ Some m → site_of (handler_of m) w ≡ Some s
+pub hears_ordered : (w : World) → Ordered w → (i : ℕ) (m : Message) (s : Site) → sent_at i w ≡ Some m → site_of (handler_of m) w ≡ Some s
     → Ordered (heard_world w s (hear s.core.state m))
 hears_ordered w o i m s was found = by_note w s m o found (sent_tells w i m was o.messages) (hear s.core.state m).1.note refl
 
@@ -242,47 +198,21 @@ module _ (w : World) (o : Ordered w) (h : HandlerId) (s : Site) (found : site_of
 
 -- ---- a node restarts
 
-granted_first :
-    (h : HandlerId) (b : Block) (x y : Site) (xs ys : List Site) → y.core.state ≡ x.core.state
-    → (IsGrantedIn (find (is_site h) xs) b → IsGrantedIn (find (is_site h) ys) b)
-    → IsGrantedIn (find (is_site h) (x ∷ xs)) b → IsGrantedIn (find (is_site h) (y ∷ ys)) b
-granted_first h b x y xs ys same later g =
-    let k : number_of y ≡ number_of x = ap (λ (st : HandlerState). st.number) same in
-    subst (λ n. IsGrantedIn (if same_handler n h then Some y else find (is_site h) ys) b) (sym k)
-    (by_test (λ t. IsGrantedIn (if t then Some x else find (is_site h) xs) b → IsGrantedIn (if t then Some y else find (is_site h) ys) b) (is_site h x)
-    (λ first g. let one : x ≡ g.site = same_Some x g.site g.found in
-    record {
-      site = y;
-      found = refl;
-      reached = subst (λ (st : HandlerState). IsReachedIn st.marks b) (sym same)
-          (subst (λ (z : Site). IsReachedIn z.core.state.marks b) (sym one) g.reached);
-    })
-    (λ other g. later g) g)
-
-pub state_anew : (js : List Block) (n : ℕ) (x : Site) → SiteFits js x → (reopened n x).core.state ≡ x.core.state
-state_anew js n x f = by_test (λ t. (if t then reopened_site x else x).core.state ≡ x.core.state) (x.node == n) (λ here. f.stored) (λ there. refl)
-
-fits_anew : (js : List Block) (n : ℕ) (x : Site) → SiteFits js x → SiteFits js (reopened n x)
-fits_anew js n x f =
-    by_test (λ t. SiteFits js (if t then reopened_site x else x)) (x.node == n)
-    (λ here. record {
-      stored = refl;
-      holds = subst HeldHolds (sym f.stored) f.holds;
-      next = subst (λ (st : HandlerState). (b : Block) → IsHeldIn st.marks b → has_block js b ≡ true → IsSubsequence (x.opened ++ b ∷ []) js)
-          (sym f.stored) f.next;
-      left = f.left;
-    })
-    (λ there. f)
-
 pub granted_anew :
     (js : List Block) (n : ℕ) (h : HandlerId) (b : Block) (xs : List Site) → AllByRecursion (SiteFits js) xs → IsGrantedIn (find (is_site h) xs) b
     → IsGrantedIn (find (is_site h) (map (reopened n) xs)) b
-granted_anew js n h b [] all g = g
-granted_anew js n h b (x ∷ xs) all g = granted_first h b x (reopened n x) xs (map (reopened n) xs) (state_anew js n x all.0) (granted_anew js n h b xs all.1) g
+granted_anew js n h b xs all g = found_anew js n (λ o. IsGrantedIn o b) h stays xs all g
+  where
+    stays : (x : Site) → SiteFits js x → IsGrantedIn (Some x) b → IsGrantedIn (Some (reopened n x)) b
+    stays x f q = record {
+      site = reopened n x;
+      found = refl;
+      reached = subst (λ (st : HandlerState). IsReachedIn st.marks b)
+          (ap (λ (y : Site). y.core.state) (sym (same_Some x q.site q.found)) ∙ sym (state_anew js n x f)) q.reached;
+    }
 
-all_anew : (js : List Block) (n : ℕ) (xs : List Site) → AllByRecursion (SiteFits js) xs → AllByRecursion (SiteFits js) (map (reopened n) xs)
-all_anew js n [] all = tt
-all_anew js n (x ∷ xs) all = (fits_anew js n x all.0, all_anew js n xs all.1)
+fits_anew : (js : List Block) (n : ℕ) (x : Site) → SiteFits js x → SiteFits js (reopened n x)
+fits_anew js n x f = by_restart js n (SiteFits js) x f (record { stored = f.stored; holds = f.holds; next = f.next; left = f.left }) f
 
 pub reopens_ordered : (w : World) → Ordered w → (n : ℕ) → Ordered (reopened_world w n)
 reopens_ordered w o n =
@@ -290,7 +220,7 @@ reopens_ordered w o n =
     let x : Extends w v = record { granted = λ h b. granted_anew w.joint n h b w.sites o.sites; sets = λ b hs e. e } in
     record {
       messages = all_more_of (Tells w) (Tells v) (tells_more w v x) w.sent o.messages;
-      sites = all_anew w.joint n w.sites o.sites;
+      sites = all_anew w.joint n (SiteFits w.joint) (SiteFits w.joint) (λ x f _. fits_anew w.joint n x f) w.sites o.sites o.sites;
       parties = parties_more w v x refl o.parties;
       joint = λ b e. all_more w v x b (o.joint b e);
     }

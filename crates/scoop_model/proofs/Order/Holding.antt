@@ -1,30 +1,14 @@
--- What a handler's marks tell: which block holds its lock, and which blocks it has granted. A mark is at one block of its
--- client and only grows: a block is *reached* where the mark is at it or past it, which stays; it is *held* where the mark
--- is at it and held, which begins with the row that grants the lock and ends with the one that opens or frees.
-use Rattle.std.proofs.Common.{◌≡◌, ◌⊎◌, inl, inr, ℕ, ◌<◌, ◌≤◌, true, false, true≢false, List, map, Option, Some, None, refl, sym, ap, ◌∙◌, subst, ⊎_elim, arith}
-use Rattle.std.specs.Prelude.{if◌then◌else◌, ⊤}
-use Rattle.std.specs.Option.{option_map}
-use Rattle.scoop_message.specs.declared.name.Block.{Block}
-use Rattle.scoop_message.specs.declared.name.ClientId.{ClientId}
-use Rattle.scoop_message.specs.declared.message.Message.{Message}
-use Rattle.scoop_message.specs.declared.message.Message.TheVariants.{Hello, Lock, Locked, Open, Unlock, Log}
-use Rattle.scoop_message.specs.Message.{same_client}
-use Rattle.scoop_handler.specs.declared.mark.Mark.{Mark}
+-- A handler's marks show which block holds its lock and which blocks it has granted. A mark is at one block of its client and only
+-- grows. A block is *reached* if the mark is at it or past it, and that stays. A block is *held* if the mark is at it and held. The
+-- case that grants the lock begins this, and the one that opens or frees ends it.
+use Rattle.scoop_model.proofs.Names.{◌≡◌, ℕ, ◌<◌, List, map, Some, None, refl, sym, ap, ◌∙◌, subst, arith, ◌≤◌, Option, option_map, true, if◌then◌else◌, false}
+use Rattle.scoop_model.proofs.Names.{true≢false, ◌⊎◌, inl, inr, ⊎_elim, ⊤, same_client, Message, Open, Locked, Lock, Log, Hello, Unlock, Block, ClientId}
+use Rattle.scoop_model.proofs.Names.{mark_of-after, by_test, mark_of-set_mark_own, mark_of-client, mark_of-add_mark_own, client_from_same, same_client-refl}
+use Rattle.scoop_model.proofs.Names.{mark_of-set_mark_other, mark_of-add_mark_other, MarksGrow, IsNewer, IsFurther, Hearing, greeting_mark, holder_without}
+use Rattle.scoop_model.proofs.Names.{fresh_mark, opened_mark, with_received, without_hold, set_mark, mark_of, is_held, add_mark, Row, first_greeting}
+use Rattle.scoop_model.proofs.Names.{newer_greeting, lock_granted, is_opened, unlock_of_a_block_never_held, is_freed, is_taken, repeated_lock, mark_after}
+use Rattle.scoop_model.proofs.Names.{HandlerState, Mark, AtHeld, AtShut, AtOpen, Granted, OpenedNote, Ran, some_same}
 use Rattle.scoop_handler.specs.declared.mark.Stage.{Stage}
-use Rattle.scoop_handler.specs.declared.mark.Stage.TheVariants.{Held as AtHeld, Open as AtOpen, Shut as AtShut}
-use Rattle.scoop_handler.specs.declared.note.Note.TheVariants.{Granted, Opened as OpenedNote}
-use Rattle.scoop_handler.specs.declared.ran.Ran.{Ran}
-use Rattle.scoop_handler.specs.Marks.{is_held, fresh_mark, opened_mark, with_received, without_hold, mark_of, set_mark, add_mark}
-use Rattle.scoop_handler.specs.State.{HandlerState}
-use Rattle.scoop_handler.specs.Growing.{MarksGrow, IsNewer, IsFurther}
-use Rattle.scoop_handler.specs.Hearing.{Hearing, greeting_mark, holder_without}
-use Rattle.scoop_handler.specs.Running.{mark_after}
-use Rattle.scoop_handler.specs.Rows.{Row, first_greeting, newer_greeting, lock_granted, repeated_lock, is_opened, unlock_of_a_block_never_held, is_freed}
-use Rattle.scoop_handler.specs.Rows.{is_taken}
-use Rattle.scoop_handler.proofs.MarkLists.{client_from_same, same_client-refl, mark_of-client, mark_of-set_mark_own, mark_of-set_mark_other}
-use Rattle.scoop_handler.proofs.MarkLists.{mark_of-add_mark_own, mark_of-add_mark_other}
-use Rattle.scoop_handler.proofs.After.{mark_of-after}
-use Rattle.scoop_model.proofs.Basics.{by_test, some_same}
 
 -- one place among the blocks of a client is not past another
 pub record Upto (i n j k : ℕ) : Type 0 where
@@ -46,24 +30,13 @@ pub record IsReachedIn (marks : List Mark) (b : Block) : Type 0 where
   pub upto : Upto b.inc b.num mark.inc mark.num
 
 newer_upto : (k x : Mark) → IsNewer k x → Upto k.inc k.num x.inc x.num
-newer_upto k x n =
-    ⊎_elim
-    (λ (p : k.inc < x.inc). record { inc = omega (arith, p); num = λ e. absurd (omega (arith, p, e)) })
-    (λ (p : (k.inc ≡ x.inc) × (k.num < x.num)). record { inc = omega (arith, p.0); num = λ e. omega (arith, p.1) })
-    n
+newer_upto k x n = grind arith
 
 further_upto : (k x : Mark) → IsFurther k x → Upto k.inc k.num x.inc x.num
 further_upto k x f = record { inc = omega (arith, f.inc); num = λ e. omega (arith, f.num) }
 
 pub reached_more : (old new : List Mark) (b : Block) → MarksGrow old new → IsReachedIn old b → IsReachedIn new b
-reached_more old new b grows r =
-    let k = r.mark in
-    let x = grows b.client k r.found in
-    record {
-      mark = x.0;
-      found = x.1;
-      upto = upto_more b.inc b.num k.inc k.num x.0.inc x.0.num r.upto (⊎_elim (newer_upto k x.0) (further_upto k x.0) x.2);
-    }
+reached_more old new b grows r = grind (arith, further_upto, newer_upto, upto_more)
 
 -- ---- blocks that hold the lock
 
@@ -102,20 +75,10 @@ clients_apart : (c d : ClientId) → same_client c d ≡ false → c ≡ d → �
 clients_apart c d e p = true≢false (sym (subst (λ x. same_client x d ≡ true) (sym p) (same_client-refl d)) ∙ e)
 
 held_set : (k old : Mark) (marks : List Mark) (b : Block) → mark_of k.client marks ≡ Some old → IsHeldIn (set_mark k marks) b → IsOwn k b ⊎ IsOther k marks b
-held_set k old marks b found h =
-    by_test (λ t. IsOwn k b ⊎ IsOther k marks b) (same_client b.client k.client)
-    (λ e.
-    let c = client_from_same b.client k.client e in
-    let here = ap (λ x. mark_of x (set_mark k marks)) (sym c) ∙ h.found in
-    inl (own_from k b (set_mark k marks) h c (some_same (mark_of k.client (set_mark k marks)) k h.mark (mark_of-set_mark_own k old marks found) here)))
-    (λ e. inr (record {
-      apart = clients_apart b.client k.client e;
-      held = record { mark = h.mark; found = sym (mark_of-set_mark_other b.client k marks e) ∙ h.found; inc = h.inc; num = h.num; stage = h.stage };
-    }))
+held_set k old marks b found h = grind (arith, client_from_same, mark_of-set_mark_other, mark_of-set_mark_own, own_from)
 
 -- a mark that isn't held leaves those of other clients
-held_left :
-    (k old : Mark) (marks : List Mark) (b : Block) → mark_of k.client marks ≡ Some old → (k.stage ≡ AtHeld → ⊥) → IsHeldIn (set_mark k marks) b
+held_left : (k old : Mark) (marks : List Mark) (b : Block) → mark_of k.client marks ≡ Some old → (k.stage ≡ AtHeld → ⊥) → IsHeldIn (set_mark k marks) b
     → IsOther k marks b
 held_left k old marks b found off h =
     ⊎_elim (λ (own : IsOwn k b). absurd (off own.stage)) (λ (other : IsOther k marks b). other) (held_set k old marks b found h)
@@ -183,19 +146,14 @@ shut_not_held e = cc
 
 freed_not_held : (stage : Stage) → (if is_held stage then AtShut else stage) ≡ AtHeld → ⊥
 freed_not_held AtHeld e = cc
-freed_not_held AtOpen e = cc
-freed_not_held AtShut e = cc
+freed_not_held stage e = cc
 
 pub own_place : (b : Block) (k : Mark) (marks : List Mark) → mark_of b.client marks ≡ Some k → mark_of k.client marks ≡ Some k
 own_place b k marks found = ap (λ c. mark_of c marks) (mark_of-client b.client marks k found) ∙ found
 
 still_holds : (o : Option Block) (c : ClientId) (b : Block) → o ≡ Some b → (b.client ≡ c → ⊥) → holder_without c o ≡ Some b
 still_holds None c b e apart = absurd (cc)
-still_holds (Some x) c b e apart =
-    let same : x ≡ b = cc in
-    by_test (λ t. (if t then None else Some x) ≡ Some b) (same_client x.client c)
-    (λ yes_same. absurd (apart (ap (λ (y : Block). y.client) (sym same) ∙ client_from_same x.client c yes_same)))
-    (λ other. e)
+still_holds (Some x) c b e apart = grind (arith, client_from_same)
 
 own_is : (b x : Block) (stage : Stage) → IsOwn (fresh_mark b stage) x → b ≡ x
 own_is b x stage own = λ t. record { client = (sym own.client) t; inc = own.inc t; num = own.num t }

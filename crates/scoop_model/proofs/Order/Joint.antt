@@ -1,26 +1,12 @@
 -- The common list: no block stands there twice.
-use Rattle.std.proofs.Common.{List}
-use Rattle.scoop_message.specs.declared.name.Block.{Block}
-use Rattle.scoop_handler.specs.declared.note.Note.{Note}
-use Rattle.scoop_handler.specs.declared.note.Note.TheVariants.{Greeted, Granted, Held, Opened, Freed, Took, Known, Dropped}
-use Rattle.scoop_handler.specs.Hearing.{hear}
-use Rattle.scoop_model.specs.declared.event.Event.{Event}
-use Rattle.scoop_model.specs.World.{World}
-use Rattle.scoop_model.specs.Step.{Placement, Newcomer, joined, newly_opened, opening}
-use Rattle.scoop_model.specs.Reach.{steps}
-use Rattle.scoop_message.specs.Lists.{NoRepeats}
+use Rattle.scoop_model.proofs.Names.{List, NoRepeats, Block, hear, Note, OpenedNote as Opened, steps, Placement, Newcomer, opening, newly_opened, joined, World}
+use Rattle.scoop_model.proofs.Names.{Event}
 use Rattle.scoop_model.proofs.Events.{Changes, steps_kept}
 use Rattle.scoop_model.proofs.Order.Lists.{AreApart, apart_once, joined_apart}
 
 note_apart : (bs : List Block) (told : Note) → AreApart bs → AreApart (joined bs (newly_opened told))
 note_apart bs (Opened b) d = joined_apart bs b d
-note_apart bs Greeted d = d
-note_apart bs Granted d = d
-note_apart bs Held d = d
-note_apart bs Freed d = d
-note_apart bs (Took n) d = d
-note_apart bs Known d = d
-note_apart bs (Dropped why) d = d
+note_apart bs told d = d
 
 pub joint_kept : (w : World) → AreApart w.joint → Changes (λ v. AreApart v.joint) w
 joint_kept w d = record {

@@ -1,19 +1,14 @@
 -- Every world that a list of events leads to is in order.
-use Rattle.std.proofs.Common.{true≢false, List, [], ◌∷◌, map, refl, sym}
-use Rattle.std.specs.List.{AllByRecursion}
-use Rattle.scoop_message.specs.declared.name.HandlerId.{HandlerId}
-use Rattle.scoop_message.specs.Message.{client_of}
-use Rattle.scoop_model.specs.declared.event.Event.{Event}
-use Rattle.scoop_model.specs.World.{World, is_party}
-use Rattle.scoop_model.specs.Step.{Placement, Newcomer, new_site, new_party, opening}
-use Rattle.scoop_model.specs.Reach.{steps}
-use Rattle.scoop_model.specs.Safe.{InOrder, IsSubsequence, nothing}
+use Rattle.scoop_model.proofs.Names.{◌≡◌, List, [], map, refl, sym, true, true≢false, AllByRecursion, client_of, Block, all_found, all_made, steps}
+use Rattle.scoop_model.proofs.Names.{IsSubsequence, nothing, InOrder, Placement, Newcomer, new_site, new_party, opening, World, Site, is_party, has_block}
+use Rattle.scoop_model.proofs.Names.{Event}
 use Rattle.scoop_model.proofs.Events.{Changes, steps_kept}
 use Rattle.scoop_model.proofs.Order.Joint.{joint_once}
-use Rattle.scoop_model.proofs.Order.Facts.{SiteFits, PartyFits, Ordered, all_more_of, all_found}
+use Rattle.scoop_model.proofs.Order.Facts.{SiteFits, PartyFits, Ordered, all_more_of}
 use Rattle.scoop_model.proofs.Order.Handlers.{sent_tells, hears_ordered, begins_ordered, finishes_ordered, reopens_ordered}
 use Rattle.scoop_model.proofs.Order.Clients.{sends_ordered, notices_ordered, restarts_ordered}
 use Rattle.scoop_model.proofs.Order.Commands.{commands_ordered}
+use Rattle.scoop_model.proofs.Order.Lists.{left_has}
 
 pub ordered_kept : (w : World) → Ordered w → Changes Ordered w
 ordered_kept w o = record {
@@ -28,28 +23,20 @@ ordered_kept w o = record {
   reopens = λ n. reopens_ordered w o n;
 }
 
-sites_open : (ps : List Placement) → AllByRecursion (SiteFits []) (map new_site ps)
-sites_open [] = tt
-sites_open (p ∷ ps) = (
-  record {
-    stored = refl;
-    holds = λ b held. absurd (let f = held.found in cc);
-    next = λ b held e. absurd (true≢false (sym e));
-    left =
-        nothing;
-  },
-  sites_open ps,
-)
-
-parties_open : (hs : List HandlerId) (ps : List Placement) (all ns : List Newcomer) → AllByRecursion (PartyFits (opening ps all)) (map (new_party hs) ns)
-parties_open hs ps all [] = tt
-parties_open hs ps all (n ∷ ns) = (record { stored = refl; newest = λ b ks own e. absurd (cc); reservation = λ r e. absurd (cc) }, parties_open hs ps all ns)
-
 pub opens_ordered : (ps : List Placement) (ns : List Newcomer) → Ordered (opening ps ns)
 opens_ordered ps ns = record {
   messages = tt;
-  sites = sites_open ps;
-  parties = parties_open (map (λ p. p.handler) ps) ps ns ns;
+  sites = all_made new_site (SiteFits []) (λ p. record {
+    stored = refl;
+    holds = λ b held. absurd (let f = held.found in cc);
+    next = λ b held e. absurd (true≢false (sym e));
+    left = nothing;
+  }) ps;
+  parties = all_made (new_party (map (λ p. p.handler) ps)) (PartyFits (opening ps ns)) (λ n. record {
+    stored = refl;
+    newest = λ b ks own e. absurd (cc);
+    reservation = λ r e. absurd (cc);
+  }) ns;
   joint = λ b e. absurd (true≢false (sym e));
 }
 
@@ -58,3 +45,13 @@ in_order ps ns es =
     let o = steps_kept Ordered ordered_kept (opening ps ns) es (opens_ordered ps ns) in
     let w : World = steps (opening ps ns) es in
     record { once = joint_once ps ns es; common = all_more_of (SiteFits w.joint) (λ s. IsSubsequence s.opened w.joint) (λ s f. f.left) w.sites o.sites }
+
+-- a block that opened at the handler is in the list
+abbrev pub OpenedIn : List Block → Site → Type 0
+OpenedIn js s = (b : Block) → has_block s.opened b ≡ true → has_block js b ≡ true
+
+pub opened_in_joint :
+    (ps : List Placement) (ns : List Newcomer) (es : List Event) → AllByRecursion (OpenedIn (steps (opening ps ns) es).joint) (steps (opening ps ns) es).sites
+opened_in_joint ps ns es =
+    let w : World = steps (opening ps ns) es in
+    all_more_of (λ s. IsSubsequence s.opened w.joint) (OpenedIn w.joint) (λ s left b e. left_has left b e) w.sites (in_order ps ns es).common

@@ -1,43 +1,23 @@
 -- Whatever happens, a handler tells counts of received entries only of blocks that have opened there.
-use Rattle.std.proofs.Common.{◌≡◌, true, false, ◌&&◌, true≢false, List, [], Option, Some, None, refl, sym, ap, ◌∙◌, subst, arith}
-use Rattle.std.specs.Prelude.{⊤, if◌then◌else◌}
-use Rattle.std.specs.List.{AllByRecursion}
-use Rattle.std.specs.Option.{option_map_or}
-use Rattle.std.proofs.lemmas.List.Folds.{list_any-append}
-use Rattle.scoop_message.specs.declared.name.Block.{Block}
-use Rattle.scoop_message.specs.declared.name.HandlerId.{HandlerId}
-use Rattle.scoop_message.specs.declared.message.Message.{Message}
-use Rattle.scoop_message.specs.declared.message.Message.TheVariants.{Logged}
-use Rattle.scoop_message.specs.Message.{handler_of, same_block, same_handler}
-use Rattle.scoop_message.proofs.Same.{handler_decides}
-use Rattle.scoop_handler.specs.State.{HandlerState}
-use Rattle.scoop_handler.specs.Hearing.{Hearing, hear}
-use Rattle.scoop_handler.specs.Rows.{Row, IsLogAt, already_received, is_taken}
-use Rattle.scoop_handler.specs.declared.mark.Mark.{Mark}
-use Rattle.scoop_handler.proofs.MarkLists.{All-mark_of}
-use Rattle.scoop_handler.proofs.TableRows.{row}
-use Rattle.scoop_handler.proofs.TableLaws.{block_of-same, number-row}
-use Rattle.scoop_client.specs.Due.{due}
-use Rattle.scoop_model.specs.World.{World, Site, number_of, is_site, site_of, has_block, opened_at, received}
-use Rattle.scoop_model.specs.Step.{Placement, Newcomer, opening, newly_opened, heard_site, heard_world, begun_site, finished_site}
+use Rattle.scoop_model.proofs.Names.{◌≡◌, List, [], Some, None, refl, sym, ap, ◌∙◌, subst, arith, Option, true, false, list_any-append, AllByRecursion}
+use Rattle.scoop_model.proofs.Names.{option_map_or, ⊤, handler_decides, same_block, handler_of, Message, Logged, Block, HandlerId, all_found, All-mark_of}
+use Rattle.scoop_model.proofs.Names.{number-row, block_of-same, row, Hearing, hear, Row, is_taken, IsLogAt, already_received, HandlerState, Mark, due}
+use Rattle.scoop_model.proofs.Names.{first_false, by_site, heard_world, heard_site, begun_site, finished_site, Placement, Newcomer, opening, newly_opened}
+use Rattle.scoop_model.proofs.Names.{World, Site, number_of, is_site, site_of, has_block, opened_at, received}
 use Rattle.scoop_model.proofs.Events.{Changes}
-use Rattle.scoop_model.proofs.Basics.{by_test, first_false}
-use Rattle.scoop_model.proofs.Keys.{by_site}
-use Rattle.scoop_model.proofs.Order.Facts.{Ordered, all_found}
-use Rattle.scoop_model.proofs.Order.Lists.{same_block_is}
-use Rattle.scoop_model.proofs.Logging.OpeningHandlers.{same_list}
-use Rattle.scoop_model.proofs.Logging.Openings.{IsMarkOpened, SiteOpened, Openings}
-use Rattle.scoop_model.proofs.Whole.Sent.{told_in, greatest_stays, alike_from_client}
-use Rattle.scoop_model.proofs.Whole.Steps.{due_goes}
+use Rattle.scoop_model.proofs.Order.{Ordered, same_block_is}
+use Rattle.scoop_model.proofs.Logging.{same_list, IsMarkOpened, SiteOpened}
+use Rattle.scoop_model.proofs.Logging.Openings.{Openings}
+use Rattle.scoop_model.proofs.Whole.{told_in, greatest_stays, alike_from_client, due_goes}
 use Rattle.scoop_model.proofs.Sites.{own_site, set_same, anew_same, states_anew}
 
--- nothing was told of blocks that haven't opened at the handler
+-- no count was sent of blocks that haven't opened at the handler
 abbrev pub Counts : World → Type 0
 Counts w = (h : HandlerId) (b : Block) → has_block (opened_at h w) b ≡ false → received b h w ≡ 0
 
 -- ---- a handler tells the count of a block that has opened
 
--- a count is told only of the block of an open mark
+-- a count is sent only of the block of an open mark
 pub record TellsOpened (s : HandlerState) (bs : List Block) (x : HandlerId) (y : Block) : Type 0 where
   pub here : x ≡ s.number
   pub opened : has_block bs y ≡ true
@@ -49,7 +29,7 @@ at_log s bs b k all at = record {
       ((All-mark_of (IsMarkOpened bs) b.client s.marks k all at.heard.found).opened at.stage);
 }
 
--- what the reply tells
+-- the claim of the reply
 abbrev CountsBack : HandlerState → List Block → Option Message → Type 0
 CountsBack s bs None = ⊤
 CountsBack s bs (Some (Logged x y n)) = TellsOpened s bs x y
@@ -66,17 +46,7 @@ reply_silent :
     → has_block (opened_at h w) b ≡ false
     → told_in h b o ≡ 0
 reply_silent w s here None t h b off = refl
-reply_silent w s here (Some (Logged x y n)) t h b off =
-    by_test (λ u. same_handler x h ≡ u → (if u && same_block y b then n else 0) ≡ 0) (same_handler x h)
-    (λ _ is. by_test (λ u. same_block y b ≡ u → (if u then n else 0) ≡ 0) (same_block y b)
-    (λ _ own.
-    let at : number_of s ≡ h = sym t.here ∙ (handler_decides x h).0 is in
-    let there : has_block (opened_at h w) b ≡ true =
-    ap (λ j. has_block (opened_at j w) b) (sym at) ∙ ap (λ q. has_block (option_map_or (λ (z : Site). z.opened) q []) b) here
-    ∙ ap (has_block s.opened) (sym (same_block_is y b own)) ∙ t.opened in
-    absurd (true≢false (sym there ∙ off)))
-    (λ _ other. refl) refl)
-    (λ _ elsewhere. refl) refl
+reply_silent w s here (Some (Logged x y n)) t h b off = grind (arith, handler_decides, option_map_or, same_block_is)
 reply_silent w s here (Some m) t h b off = refl
 
 module _ (w : World) (i : Openings w) (counts : Counts w) (m : Message) (s : Site) (found : site_of (handler_of m) w ≡ Some s) where
@@ -89,7 +59,7 @@ module _ (w : World) (i : Openings w) (counts : Counts w) (m : Message) (s : Sit
   place : site_of (number_of s) w ≡ Some s
   place = own_site w (handler_of m) s found
 
-  -- what hasn't opened now had not opened before
+  -- a block that hasn't opened now had not opened before
   still_off : (h : HandlerId) (b : Block) → has_block (opened_at h after) b ≡ false → has_block (opened_at h w) b ≡ false
   still_off h b =
       by_site (λ o. has_block (option_map_or (λ (x : Site). x.opened) o []) b ≡ false → has_block (opened_at h w) b ≡ false) w (heard_site s now) s h

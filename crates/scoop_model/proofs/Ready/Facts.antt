@@ -1,21 +1,10 @@
--- What every event keeps, shown of each handler: its slots with what ran and waits, where it stands in the common list,
--- and what its marks tell of greetings.
-use Rattle.std.proofs.Common.{◌≡◌, ◌⊎◌, ℕ, ◌<◌, ◌≤◌, true, false, List, [], ◌∷◌, ◌++◌, length, map, Some, None}
-use Rattle.std.specs.List.{AllByRecursion}
-use Rattle.scoop_message.specs.declared.name.Block.{Block}
-use Rattle.scoop_message.specs.declared.name.ClientId.{ClientId}
-use Rattle.scoop_message.specs.declared.name.HandlerId.{HandlerId}
-use Rattle.scoop_message.specs.declared.message.Message.TheVariants.{Hello}
-use Rattle.scoop_message.specs.Entries.{EndOnlyLast}
-use Rattle.scoop_object.specs.Play.{play}
-use Rattle.scoop_handler.specs.declared.mark.Mark.{Mark}
-use Rattle.scoop_handler.specs.Marks.{mark_of}
-use Rattle.scoop_reserve.specs.Handlers.{has}
-use Rattle.scoop_model.specs.World.{World, Site, sent_at, site_of, has_block, set_of, log_of, opened_at, ran_at, is_succeeded, received, has_end, inc_of}
-use Rattle.scoop_model.specs.Safe.{IsSubsequence, untold, entries_of}
-use Rattle.scoop_model.proofs.Order.Lists.{AreApart}
-use Rattle.scoop_model.proofs.Tape.Slots.{Slot, queues_of, ran_of, blocks_of}
-use Rattle.scoop_model.proofs.Tape.Fits.{IsBegun}
+-- The invariants of all layers, stated for each handler: its slots with the entries that ran and wait, its place in the common
+-- list, and its marks' record of greetings.
+use Rattle.scoop_model.proofs.Names.{◌≡◌, ℕ, ◌<◌, List, [], ◌∷◌, ◌++◌, map, Some, None, ◌≤◌, true, false, length, ◌⊎◌, AllByRecursion, EndOnlyLast, Hello}
+use Rattle.scoop_model.proofs.Names.{Block, ClientId, HandlerId, play, mark_of, Mark, has, entries_of, IsSubsequence, untold, World, ran_at, Site, site_of}
+use Rattle.scoop_model.proofs.Names.{sent_at, has_block, opened_at, log_of, received, is_succeeded, inc_of, set_of, has_end}
+use Rattle.scoop_model.proofs.Order.{AreApart}
+use Rattle.scoop_model.proofs.Tape.{Slot, queues_of, ran_of, blocks_of, IsBegun}
 
 -- as many entries were received as the slot has
 abbrev pub IsToldAs : World → HandlerId → Slot → Type 0
@@ -40,12 +29,11 @@ pub record HandlerReady (w : World) (h : HandlerId) : Type 0 where
   pub told : AllByRecursion (IsToldAs w h) slots
   pub gone : AllByRecursion (IsOverIfGone w h) slots
   pub named : AllByRecursion (IsNamedAt w h) slots
-  -- nothing was told of blocks that haven't opened here
+  -- no count was sent of blocks that haven't opened here
   pub silent : (b : Block) → has_block (opened_at h w) b ≡ false → received b h w ≡ 0
-  -- what has opened here is left of the common list, and stands before whatever may still open here
+  -- the blocks that opened here are a part of the common list, and stand before all that may still open here
   pub left : IsSubsequence (opened_at h w) w.joint
-  pub placed :
-      (b : Block) → has_block w.joint b ≡ true → has (set_of b w) h ≡ true
+  pub placed : (b : Block) → has_block w.joint b ≡ true → has (set_of b w) h ≡ true
       → (has_block (opened_at h w) b ≡ true) ⊎ ((is_succeeded b h w ≡ true) ⊎ IsSubsequence (opened_at h w ++ b ∷ []) w.joint)
 
 -- the marks of a handler tell which incarnations have greeted

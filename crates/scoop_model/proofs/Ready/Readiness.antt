@@ -1,46 +1,23 @@
--- What every event keeps, joined: what is shown of each handler of a world. The layers speak of sites, each by its place, and of
--- messages; here it is said of a handler by its number: its slots are its tape's, each with what was told of it, and a block of
--- the common list has opened there, is succeeded, or may come next. Of a handler that isn't in the world it is so of no slot.
-use Rattle.std.proofs.Common.{◌≡◌, ◌⊎◌, inl, inr, ◌<◌, Bool, true, false, ◌||◌, true≢false, IsTrue, List, [], ◌∷◌, ◌++◌, map, Option, Some, None, refl, sym, ap}
-use Rattle.std.proofs.Common.{◌∙◌, subst, ⊎_elim, arith, length-append}
-use Rattle.std.specs.Prelude.{unwrap_or}
-use Rattle.std.specs.List.{AllByRecursion}
-use Rattle.std.specs.Option.{option_map_or}
-use Rattle.std.proofs.lemmas.Option.{none-some, same_Some}
-use Rattle.scoop_message.specs.declared.name.Block.{Block}
-use Rattle.scoop_message.specs.declared.name.HandlerId.{HandlerId}
-use Rattle.scoop_message.specs.declared.message.Message.TheVariants.{Hello}
-use Rattle.scoop_message.specs.declared.request.Entry.{Entry}
-use Rattle.scoop_message.specs.Entry.{is_end}
-use Rattle.scoop_message.specs.Entries.{ends}
-use Rattle.scoop_message.specs.Message.{same_block}
-use Rattle.scoop_handler.specs.declared.mark.Mark.{Mark}
-use Rattle.scoop_handler.specs.Marks.{mark_of}
-use Rattle.scoop_handler.proofs.MarkLists.{mark_of-client, All-mark_of}
-use Rattle.scoop_reserve.specs.Handlers.{has}
-use Rattle.scoop_model.specs.World.{World, Site, number_of, is_site, site_of, has_block, has_end, set_of, opened_at, log_of, is_succeeded}
-use Rattle.scoop_model.specs.Safe.{IsSubsequence, untold}
-use Rattle.scoop_model.proofs.Basics.{by_test}
-use Rattle.scoop_model.proofs.Keys.{number_found}
-use Rattle.scoop_model.proofs.Order.Facts.{IsNamed, SiteFits, Ordered, all_found, all_more_of}
-use Rattle.scoop_model.proofs.Order.Holding.{IsHeldIn}
-use Rattle.scoop_model.proofs.Order.Lists.{AreApart, same_block_itself, none_left}
-use Rattle.scoop_model.proofs.Sound.Steps.{sent_all}
-use Rattle.scoop_model.proofs.Logging.Facts.{Logging}
-use Rattle.scoop_model.proofs.Logging.Greetings.{IsPassed, Greets, Greetings, succeeded_passed, succeeded_inc}
-use Rattle.scoop_model.proofs.Logging.Openings.{SiteOpened, Openings}
-use Rattle.scoop_model.proofs.Logging.OpeningRuns.{unjoined_empty}
-use Rattle.scoop_model.proofs.Answering.Facts.{SiteAnswers, Answering}
-use Rattle.scoop_model.proofs.Tape.Slots.{Slot, queues_of, blocks_of}
-use Rattle.scoop_model.proofs.Tape.Fits.{IsBegun}
-use Rattle.scoop_model.proofs.Whole.Sent.{IsGreeted}
-use Rattle.scoop_model.proofs.Whole.Marks.{MarkTold}
-use Rattle.scoop_model.proofs.Whole.Slots.{SlotWhole}
-use Rattle.scoop_model.proofs.Whole.Slots as slot
-use Rattle.scoop_model.proofs.Whole.Facts.{SiteTaped, Taped}
+-- The invariants joined, for each handler of a world. The layers speak of sites, each by its place, and of messages. This file speaks
+-- of a handler by its number. Its slots are those of its tape, each with the counts that were sent of it. A block of the common list
+-- has opened there, is succeeded, or may come next. A handler that isn't in the world has no slots.
+use Rattle.scoop_model.proofs.Names.{◌≡◌, ◌<◌, List, [], ◌∷◌, ◌++◌, map, Some, None, refl, sym, ap, ◌∙◌, subst, arith, Option, true, false, true≢false, ◌||◌}
+use Rattle.scoop_model.proofs.Names.{Bool, ◌⊎◌, inl, inr, ⊎_elim, unwrap_or, length-append, IsTrue, same_Some, none-some, AllByRecursion, option_map_or, ends}
+use Rattle.scoop_model.proofs.Names.{is_end, same_block, Hello, Block, HandlerId, Entry, all_found, by_test, All-mark_of, mark_of-client, mark_of, Mark, has}
+use Rattle.scoop_model.proofs.Names.{number_found, IsSubsequence, untold, World, Site, number_of, is_site, site_of, has_block, opened_at, log_of, is_succeeded}
+use Rattle.scoop_model.proofs.Names.{set_of, has_end}
+use Rattle.scoop_model.proofs.Order.{IsNamed, SiteFits, Ordered, all_more_of, IsHeldIn, AreApart, same_block_itself, none_left}
+use Rattle.scoop_model.proofs.Sound.{sent_all}
+use Rattle.scoop_model.proofs.Logging.{Logging, IsPassed, Greets, succeeded_passed, succeeded_inc, SiteOpened, unjoined_empty}
+use Rattle.scoop_model.proofs.Logging.Greetings.{Greetings}
+use Rattle.scoop_model.proofs.Logging.Openings.{Openings}
+use Rattle.scoop_model.proofs.Answering.{SiteAnswers, Answering}
+use Rattle.scoop_model.proofs.Tape.{Slot, queues_of, blocks_of, IsBegun}
+use Rattle.scoop_model.proofs.Whole.{IsGreeted, MarkTold, SlotWhole, SiteTaped, Taped}
 use Rattle.scoop_model.proofs.Ready.Facts.{IsToldAs, IsOverIfGone, IsNamedAt, HandlerReady, MarksReady, Ready}
-use Rattle.scoop_model.proofs.Standing.Facts.{IsPastIn, StandsAt, Standing, joint_stands}
+use Rattle.scoop_model.proofs.Standing.{IsPastIn, StandsAt, Standing, joint_stands}
 use Rattle.scoop_model.proofs.Ready.Counts.{Counts}
+use Rattle.scoop_model.proofs.Whole.Slots as slot
 
 -- entries that end have an End
 pub end_there : (es : List Entry) → IsTrue (ends es) → has_end es ≡ true
@@ -51,7 +28,7 @@ end_there (x ∷ y ∷ es) e = by_test (λ t. (t || has_end (y ∷ es)) ≡ true
 abbrev opened_in : Option Site → List Block
 opened_in o = option_map_or (λ (x : Site). x.opened) o []
 
--- what is so of every block that has a slot
+-- the facts about every block that has a slot
 by_slot : (P : Block → Type 0) (ss : List Slot) → ((b : Block) → has_block (blocks_of ss) b ≡ true → P b) → AllByRecursion (λ t. P t.block) ss
 by_slot P [] f = tt
 by_slot P (s ∷ ss) f = (
@@ -63,8 +40,7 @@ by_slot P (s ∷ ss) f = (
     or_true true m = refl
     or_true false m = m
 
-module _
-    (w : World) (once : AreApart w.joint) (o : Ordered w) (l : Logging w) (taped : Taped w) (answers : Answering w) (greetings : Greetings w)
+module _ (w : World) (once : AreApart w.joint) (o : Ordered w) (l : Logging w) (taped : Taped w) (answers : Answering w) (greetings : Greetings w)
     (openings : Openings w) (standing : Standing w) (counts : Counts w) where
   module _ (h : HandlerId) (s : Site) (at : site_of h w ≡ Some s) where
     number : number_of s ≡ h
@@ -110,8 +86,7 @@ module _
         (all_found (SiteOpened w) (is_site h) w.sites s openings.sites at).named b (ap (λ bs. has_block bs b) f.tape.opened ∙ m) in
         ap (λ hs. has hs h) (ap (λ (q : Option (List HandlerId)). unwrap_or q []) n.set) ∙ ap (has n.handlers) (sym number) ∙ n.member
 
-    stands_here :
-        (b : Block) → has_block w.joint b ≡ true → has (set_of b w) h ≡ true
+    stands_here : (b : Block) → has_block w.joint b ≡ true → has (set_of b w) h ≡ true
         → (has_block (opened_at h w) b ≡ true) ⊎ ((is_succeeded b h w ≡ true) ⊎ IsSubsequence (opened_at h w ++ b ∷ []) w.joint)
     stands_here b m named =
         let all = joint_stands w standing b m in

@@ -1,25 +1,14 @@
 -- All that every event keeps, together: it holds of every world that is reached.
-use Rattle.std.proofs.Common.{List, ap, subst}
-use Rattle.scoop_model.specs.World.{World}
-use Rattle.scoop_model.specs.Step.{Placement, Newcomer, opening}
-use Rattle.scoop_model.specs.Opening.{MayOpen}
-use Rattle.scoop_model.specs.Reach.{Run, IsReached}
+use Rattle.scoop_model.proofs.Names.{List, ap, subst, MayOpen, IsReached, Run, Placement, Newcomer, opening, World}
 use Rattle.scoop_model.proofs.Events.{Changes, steps_kept}
-use Rattle.scoop_model.proofs.Order.Facts.{Ordered}
-use Rattle.scoop_model.proofs.Order.Joint.{joint_kept}
-use Rattle.scoop_model.proofs.Order.Lists.{AreApart}
-use Rattle.scoop_model.proofs.Sound.Facts.{Sound}
-use Rattle.scoop_model.proofs.Sound.Runs.{both_kept}
-use Rattle.scoop_model.proofs.Logging.Facts.{Logging}
+use Rattle.scoop_model.proofs.Order.{Ordered, joint_kept, AreApart}
+use Rattle.scoop_model.proofs.Sound.{Sound, both_kept}
+use Rattle.scoop_model.proofs.Logging.{Logging, ToldMore, told_more_kept, opens_told_more}
 use Rattle.scoop_model.proofs.Logging.Greetings.{Greetings}
 use Rattle.scoop_model.proofs.Logging.Openings.{Openings}
-use Rattle.scoop_model.proofs.Logging.OpeningRuns.{ToldMore, told_more_kept, opens_told_more}
-use Rattle.scoop_model.proofs.Answering.Facts.{Answering}
-use Rattle.scoop_model.proofs.Answering.Runs.{answering_kept, opens_answering}
-use Rattle.scoop_model.proofs.Whole.Facts.{Taped}
-use Rattle.scoop_model.proofs.Whole.Steps.{taped_kept, opens_taped}
-use Rattle.scoop_model.proofs.Standing.Facts.{Standing}
-use Rattle.scoop_model.proofs.Standing.Runs.{standing_kept, opens_standing}
+use Rattle.scoop_model.proofs.Answering.{Answering, answering_kept, opens_answering}
+use Rattle.scoop_model.proofs.Whole.{Taped, taped_kept, opens_taped}
+use Rattle.scoop_model.proofs.Standing.{Standing, standing_kept, opens_standing}
 use Rattle.scoop_model.proofs.Ready.Facts.{Ready}
 use Rattle.scoop_model.proofs.Ready.Counts.{Counts, counts_kept, opens_counts}
 use Rattle.scoop_model.proofs.Ready.Readiness as readiness
@@ -79,7 +68,7 @@ opens_kept ps ns may = ((opens_told_more ps ns may, (opens_answering ps ns, open
 
 -- ---- so it is of every world that is reached
 
--- what each event keeps, and an opening world has
+-- the facts that each event keeps and an opening world has
 pub reached_keeps :
     (P : World → Type 0) → ((w : World) → P w → Changes P w) → ((ps : List Placement) (ns : List Newcomer) → MayOpen ps ns → P (opening ps ns)) → (w : World)
     → IsReached w → P w

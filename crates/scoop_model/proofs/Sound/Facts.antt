@@ -1,11 +1,6 @@
--- What is true of every handler, every message that was sent and every client.
-use Rattle.std.specs.Prelude.{◌≤◌}
-use Rattle.std.specs.List.{AllByRecursion}
+-- The soundness of every handler, every message that was sent and every client.
+use Rattle.scoop_model.proofs.Names.{◌≤◌, AllByRecursion, IsCore, HasEntries, ClientState, World}
 use Rattle.scoop_message.specs.declared.limits.TheConstants.{MAX_ENTRIES}
-use Rattle.scoop_handler.specs.Core.{IsCore}
-use Rattle.scoop_handler.specs.Replies.{HasEntries}
-use Rattle.scoop_client.specs.State.{ClientState}
-use Rattle.scoop_model.specs.World.{World}
 
 -- a Log carries one to four entries
 pub record HasBatch (c : ClientState) : Type 0 where

@@ -1,15 +1,7 @@
--- What a reservation owes a handler, a case for each stage.
-use Rattle.std.proofs.Common.{◌≡◌, Bool, true, Some, None, refl, subst}
-use Rattle.std.specs.Prelude.{if◌then◌else◌}
-use Rattle.scoop_message.specs.declared.name.HandlerId.{HandlerId}
-use Rattle.scoop_message.specs.declared.message.Message.{Message}
-use Rattle.scoop_message.specs.declared.message.Message.TheVariants.{Lock, Open, Unlock}
-use Rattle.scoop_reserve.specs.declared.stage.Stage.{Stage}
-use Rattle.scoop_reserve.specs.declared.stage.Stage.TheVariants.{Locking, Opening, Unlocking, GivingUp}
-use Rattle.scoop_reserve.specs.Handlers.{has, is_lowest}
-use Rattle.scoop_reserve.specs.State.{ReservationState}
-use Rattle.scoop_reserve.specs.Due.{due, due_in}
-use Rattle.scoop_model.proofs.Basics.{by_test}
+-- The message that a reservation owes a handler, with one case for each stage.
+use Rattle.scoop_model.proofs.Names.{◌≡◌, Some, None, refl, arith, true, if◌then◌else◌, Bool, Message, Open, Lock, Unlock, HandlerId, has, is_lowest}
+use Rattle.scoop_model.proofs.Names.{ReservationState, Stage, GivingBack as GivingUp, Locking, Opening, Unlocking}
+use Rattle.scoop_reserve.specs.Due.{due_in, due}
 
 pub data OwedRow (r : ReservationState) (h : HandlerId) : Message → Type 0 where
   asks : r.stage ≡ Locking → is_lowest h r.left ≡ true → OwedRow r h (Lock h r.block)
@@ -19,10 +11,7 @@ pub data OwedRow (r : ReservationState) (h : HandlerId) : Message → Type 0 whe
 
 module _ (r : ReservationState) (h : HandlerId) (m : Message) where
   tested : (t : Bool) (n : Message) → (t ≡ true → OwedRow r h n) → (if t then Some n else None) ≡ Some m → OwedRow r h m
-  tested t n case e =
-      by_test (λ u. t ≡ u → (if u then Some n else None) ≡ Some m → OwedRow r h m) t
-      (λ _ is f. let same : n ≡ m = cc in subst (OwedRow r h) same (case is))
-      (λ _ is f. absurd (cc)) refl e
+  tested t n case e = grind arith
 
   owed_in : (stage : Stage) → r.stage ≡ stage → due_in r h stage ≡ Some m → OwedRow r h m
   owed_in Locking at e = tested (is_lowest h r.left) (Lock h r.block) (asks at) e
@@ -30,6 +19,6 @@ module _ (r : ReservationState) (h : HandlerId) (m : Message) where
   owed_in Unlocking at e = tested (has r.left h) (Unlock h r.block) (unlocks at) e
   owed_in GivingUp at e = tested (has r.left h) (Unlock h r.block) (gives_back at) e
 
-  -- what is owed is so by one of these cases
+  -- one of these cases holds of the message that is owed
   pub owed_row : due r h ≡ Some m → OwedRow r h m
   owed_row e = owed_in r.stage refl e

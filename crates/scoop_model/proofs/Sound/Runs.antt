@@ -1,19 +1,11 @@
 -- Whatever happens, handlers, messages and clients stay sound.
-use Rattle.std.proofs.Common.{List}
-use Rattle.std.specs.List.{AllByRecursion}
-use Rattle.scoop_handler.specs.Core.{IsCore}
-use Rattle.scoop_model.specs.declared.event.Event.{Event}
-use Rattle.scoop_model.specs.World.{World}
-use Rattle.scoop_model.specs.Step.{Placement, Newcomer, opening}
-use Rattle.scoop_model.specs.Opening.{MayOpen}
-use Rattle.scoop_model.specs.Reach.{steps}
+use Rattle.scoop_model.proofs.Names.{List, AllByRecursion, IsCore, MayOpen, steps, Placement, Newcomer, opening, World, Event}
 use Rattle.scoop_model.proofs.Events.{Changes, steps_kept}
-use Rattle.scoop_model.proofs.Order.Facts.{Ordered}
-use Rattle.scoop_model.proofs.Order.Runs.{ordered_kept, opens_ordered}
+use Rattle.scoop_model.proofs.Order.{Ordered, ordered_kept, opens_ordered}
 use Rattle.scoop_model.proofs.Sound.Facts.{Sound}
 use Rattle.scoop_model.proofs.Sound.Steps.{sound_kept, opens_sound}
 
--- what keeps one thing and another keeps both
+-- an event that keeps P and keeps Q keeps both
 pub both_kept : (P Q : World → Type 0) (w : World) → Changes P w → Changes Q w → Changes (λ v. P v × Q v) w
 both_kept P Q w p q = record {
   commands = λ c y x d at is. (p.commands c y x d at is, q.commands c y x d at is);

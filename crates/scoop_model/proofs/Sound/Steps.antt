@@ -1,30 +1,13 @@
 -- Every event keeps what is true of handlers, messages and clients, and it is true of a world that opens. Hearing, beginning and
 -- finishing keep a handler sound, and a restart gives it its stored state, which is its own. A client's batch stays what it was, so
 -- the Log that it owes carries entries, and a reply carries none.
-use Rattle.std.proofs.Common.{◌≡◌, ℕ, ◌-◌, ◌==◌, false, true≢false, IsFalse, List, [], ◌∷◌, length, map, slice_get, Some, None, refl, sym, ap, ◌∙◌, subst}
-use Rattle.std.proofs.Common.{arith}
-use Rattle.std.specs.Prelude.{if◌then◌else◌}
-use Rattle.std.specs.List.{AllByRecursion}
-use Rattle.scoop_message.specs.declared.name.HandlerId.{HandlerId}
-use Rattle.scoop_message.specs.declared.message.Message.{Message}
-use Rattle.scoop_message.specs.declared.message.Message.TheVariants.{Log}
-use Rattle.scoop_message.specs.Message.{client_of, handler_of, is_for_handler}
-use Rattle.scoop_handler.specs.State.{HandlerState, AreWords, IsState, new_state}
-use Rattle.scoop_handler.specs.Core.{IsCore, core_of}
-use Rattle.scoop_handler.specs.Hearing.{hear}
-use Rattle.scoop_handler.specs.Replies.{HasEntries}
-use Rattle.scoop_handler.proofs.TableRows.{row}
-use Rattle.scoop_handler.proofs.TableLaws.{IsCore-hear, replies-row}
-use Rattle.scoop_handler.proofs.After.{IsCore-begun, IsCore-finished, job-first}
-use Rattle.scoop_client.specs.Due.{due}
-use Rattle.scoop_client.specs.Hearing.{heard}
-use Rattle.scoop_model.specs.World.{World, Site, Party, is_site, is_party, sent_at, set_party, set_site}
-use Rattle.scoop_model.specs.Step.{Placement, Newcomer, new_site, new_party, opening, heard_site, heard_party, begun_site, finished_site, restarted_party}
-use Rattle.scoop_model.specs.Step.{reopened}
-use Rattle.scoop_model.specs.Opening.{IsPlaced, IsJoining, MayOpen}
+use Rattle.scoop_model.proofs.Names.{◌≡◌, ℕ, List, map, Some, refl, sym, arith, slice_get, false, true≢false, ◌-◌, IsFalse, AllByRecursion, client_of}
+use Rattle.scoop_model.proofs.Names.{handler_of, is_for_handler, Message, Log, Block, HandlerId, job-first, IsCore-begun, IsCore-finished, all_found, all_at}
+use Rattle.scoop_model.proofs.Names.{replies-row, IsCore-hear, row, IsCore, hear, HasEntries, AreWords, IsState, new_state, due, heard, all_mapped, MayOpen}
+use Rattle.scoop_model.proofs.Names.{IsPlaced, IsJoining, heard_party, restarted_party, heard_site, begun_site, finished_site, reopened, Placement, Newcomer}
+use Rattle.scoop_model.proofs.Names.{new_site, new_party, opening, World, Party, set_party, Site, is_site, set_site, is_party, sent_at}
 use Rattle.scoop_model.proofs.Events.{Changes}
-use Rattle.scoop_model.proofs.Basics.{by_test}
-use Rattle.scoop_model.proofs.Order.Facts.{SiteFits, Ordered, all_at, all_found, all_pushed, all_set_party, all_set_site}
+use Rattle.scoop_model.proofs.Order.{SiteFits, Ordered, all_pushed, all_set_party, all_set_site, by_restart, all_anew}
 use Rattle.scoop_model.proofs.Sound.Facts.{HasBatch, Sound}
 use Rattle.scoop_model.proofs.Sound.Clients.{command_batch, heard_batch, same_batch, due_entries}
 
@@ -34,12 +17,9 @@ SiteSound s = IsCore s.core
 abbrev PartySound : Party → Type 0
 PartySound p = HasBatch p.client
 
--- what is true of every message that was sent
+-- a property of all messages that were sent holds of each
 pub sent_all : (w : World) (i : ℕ) (m : Message) → sent_at i w ≡ Some m → (P : Message → Type 0) → AllByRecursion P w.sent → P m
-sent_all w i m was P all =
-    by_test (λ t. (if t then None else slice_get w.sent (i - 1)) ≡ Some m → P m) (i == 0)
-    (λ zero_place e. absurd (cc))
-    (λ place e. all_at P w.sent (i - 1) m e all) was
+sent_all w i m was P all = grind (arith, all_at, slice_get)
 
 -- a reply carries no entries
 to_client_has : (m : Message) → IsFalse (is_for_handler m) → HasEntries m
@@ -48,20 +28,8 @@ to_client_has m back = tt
 
 -- ---- handlers
 
-anew :
-    (js : List _) (n : ℕ) (sites : List Site) → AllByRecursion (SiteFits js) sites → AllByRecursion SiteSound sites
-    → AllByRecursion SiteSound (map (reopened n) sites)
-anew js n [] fits all = tt
-anew js n (s ∷ ss) fits all = (
-  by_test (λ t. SiteSound (if t then record s { core = core_of s.core.class s.stored false } else s)) (s.node == n)
-      (λ here. record {
-        state = subst IsState (sym fits.0.stored) all.0.state;
-        words = ap (λ (x : HandlerState). length x.words) fits.0.stored ∙ all.0.words;
-        job = λ out. absurd (true≢false (sym out));
-      })
-      (λ there. all.0),
-  anew js n ss fits.1 all.1,
-)
+site_anew : (js : List Block) (n : ℕ) (s : Site) → SiteFits js s → SiteSound s → SiteSound (reopened n s)
+site_anew js n s f is = by_restart js n SiteSound s f (record { state = is.state; words = is.words; job = λ out. absurd (true≢false (sym out)) }) is
 
 -- ---- all of it
 
@@ -116,7 +84,7 @@ module _ (w : World) (o : Ordered w) (i : Sound w) where
       parties = set_party_sound (restarted_party p) (same_batch p.client (restarted_party p).client refl
           (all_found PartySound (is_party c) w.parties p i.parties at));
     };
-    reopens = λ n. record { sites = anew w.joint n w.sites o.sites i.sites; messages = i.messages; parties = i.parties };
+    reopens = λ n. record { sites = all_anew w.joint n SiteSound SiteSound (site_anew w.joint n) w.sites o.sites i.sites; messages = i.messages; parties = i.parties };
   }
 
 -- every event keeps it
@@ -138,18 +106,12 @@ new_state_is h words are = record {
   words = are;
 }
 
-sites_open : (ps : List Placement) → AllByRecursion IsPlaced ps → AllByRecursion SiteSound (map new_site ps)
-sites_open [] all = tt
-sites_open (p ∷ ps) all =
-    (record { state = new_state_is p.handler p.words all.0.words; words = all.0.class; job = λ out. absurd (true≢false (sym out)) }, sites_open ps all.1)
-
-parties_open : (hs : List HandlerId) (ns : List Newcomer) → AllByRecursion IsJoining ns → AllByRecursion PartySound (map (new_party hs) ns)
-parties_open hs [] all = tt
-parties_open hs (n ∷ ns) all = (record { some = all.0.some; limit = all.0.limit }, parties_open hs ns all.1)
-
 pub opens_sound : (ps : List Placement) (ns : List Newcomer) → MayOpen ps ns → Sound (opening ps ns)
 opens_sound ps ns may = record {
-  sites = sites_open ps may.placed;
+  sites = all_mapped new_site IsPlaced SiteSound
+      (λ p placed. record { state = new_state_is p.handler p.words placed.words; words = placed.class; job = λ out. absurd (true≢false (sym out)) })
+      ps may.placed;
   messages = tt;
-  parties = parties_open (map (λ p. p.handler) ps) ns may.joining;
+  parties = all_mapped (new_party (map (λ p. p.handler) ps)) IsJoining PartySound (λ n joining. record { some = joining.some; limit = joining.limit })
+      ns may.joining;
 }

@@ -1,27 +1,13 @@
--- A block that opened somewhere stands at each of its handlers: it has opened there, holds the lock there, or is past
--- there for good. What every event keeps of that, over what messages tell.
-use Rattle.std.proofs.Common.{◌≡◌, ◌⊎◌, inl, inr, ℕ, zero, suc, ◌-◌, ◌==◌, ◌<◌, ◌||◌, true, false, true≢false, List, [], ◌∷◌, ◌++◌, slice_get, Option, Some}
-use Rattle.std.proofs.Common.{None, refl, sym, ap, ◌∙◌, subst, ⊎_elim, arith}
-use Rattle.std.specs.Prelude.{if◌then◌else◌, option_to_list}
-use Rattle.std.specs.List.{AllByRecursion, list_any}
-use Rattle.scoop_message.specs.declared.name.Block.{Block}
-use Rattle.scoop_message.specs.declared.name.ClientId.{ClientId}
-use Rattle.scoop_message.specs.declared.name.HandlerId.{HandlerId}
-use Rattle.scoop_message.specs.declared.message.Message.{Message}
-use Rattle.scoop_message.specs.declared.message.Message.TheVariants.{Locked}
-use Rattle.scoop_reserve.specs.declared.stage.Stage.{Stage}
-use Rattle.scoop_reserve.specs.declared.stage.Stage.TheVariants.{Locking, Opening, Unlocking, GivingUp}
-use Rattle.scoop_reserve.specs.Handlers.{has}
-use Rattle.scoop_reserve.specs.State.{ReservationState}
-use Rattle.scoop_handler.specs.declared.mark.Mark.{Mark}
-use Rattle.scoop_handler.specs.Growing.{MarksGrow}
-use Rattle.scoop_handler.specs.Marks.{mark_of}
-use Rattle.scoop_model.specs.World.{World, Site, Party, has_block, handlers_of, party_of, sent_at, site_of}
-use Rattle.scoop_model.proofs.Basics.{by_test, locking_giving, opening_giving}
+-- A block that opened somewhere stands at each of its handlers: it has opened there, holds the lock there, or is past there. This
+-- file has the invariant, together with the claims of messages.
+use Rattle.scoop_model.proofs.Names.{◌≡◌, ℕ, ◌<◌, List, [], ◌∷◌, ◌++◌, Some, None, refl, sym, ap, ◌∙◌, subst, arith, Option, true, if◌then◌else◌, zero, suc}
+use Rattle.scoop_model.proofs.Names.{slice_get, false, true≢false, ◌||◌, ◌==◌, ◌-◌, option_to_list, ◌⊎◌, inl, inr, ⊎_elim, AllByRecursion, list_any, Message}
+use Rattle.scoop_model.proofs.Names.{Locked, Block, ClientId, HandlerId, by_test, MarksGrow, mark_of, Mark, has, ReservationState, Stage}
+use Rattle.scoop_model.proofs.Names.{GivingBack as GivingUp, Locking, Opening, Unlocking, locking_giving, opening_giving, World, Party, Site, site_of, sent_at}
+use Rattle.scoop_model.proofs.Names.{has_block, party_of, handlers_of}
 use Rattle.scoop_model.proofs.Locking.{Locks, HasLocks, locks_more}
-use Rattle.scoop_model.proofs.Order.Holding.{IsHeldIn, reached_more}
-use Rattle.scoop_model.proofs.Order.Facts.{all_more_of, all_pushed}
-use Rattle.scoop_model.proofs.Logging.Openings.{IsGivenUp, Onto, is_open_of}
+use Rattle.scoop_model.proofs.Order.{IsHeldIn, reached_more, all_more_of, all_pushed}
+use Rattle.scoop_model.proofs.Logging.{IsGivenUp, Onto, is_open_of}
 
 -- ---- where a block stands
 
@@ -50,7 +36,7 @@ pub record StandsAtAll (w : World) (b : Block) : Type 0 where
 
 -- ---- what is kept
 
--- a block whose lock was told to be granted stands there, or was given up
+-- a block with a Locked that was sent stands there, or was given up
 pub record LockedStands (w : World) (m : Message) : Type 0 where
   pub stands : (h : HandlerId) (b : Block) → m ≡ Locked h b → StandsAt w h b ⊎ IsGivenUp w b
 
@@ -79,16 +65,9 @@ joint_stands w i b e = i.opened b (i.joint b e)
 
 -- ---- what goes on
 
--- what is past stays past
+-- a mark that is past a block stays past it
 pub past_more : (old new : List Mark) (b : Block) → MarksGrow old new → IsPastIn old b → IsPastIn new b
-past_more old new b grows p =
-    let k = p.mark in
-    let newer = p.newer in
-    let r =
-    reached_more old new (record { client = b.client; inc = k.inc; num = k.num }) grows
-    (record { mark = k; found = p.found; upto = record { inc = omega arith; num = λ e. omega arith } }) in
-    let up = r.upto.inc in
-    record { mark = r.mark; found = r.found; newer = omega (arith, newer, up) }
+past_more old new b grows p = grind (arith, reached_more)
 
 -- where a block stood it stands on, or it was given up
 pub record StandsOn (v w : World) : Type 0 where
@@ -97,10 +76,7 @@ pub record StandsOn (v w : World) : Type 0 where
 
 any_before : (b : Block) (ms : List Message) (o : Option Message) → list_any (is_open_of b) ms ≡ true → list_any (is_open_of b) (ms ++ option_to_list o) ≡ true
 any_before b [] o e = absurd (true≢false (sym e))
-any_before b (m ∷ ms) o e =
-    by_test (λ t. (t || list_any (is_open_of b) ms) ≡ true → (t || list_any (is_open_of b) (ms ++ option_to_list o)) ≡ true) (is_open_of b m)
-    (λ here f. refl)
-    (λ there f. any_before b ms o f) e
+any_before b (m ∷ ms) o e = grind (arith, any_before b ms o)
 
 -- the new message is an Open of the block
 pub record IsNewOpen (b : Block) (o : Option Message) : Type 0 where
@@ -108,18 +84,11 @@ pub record IsNewOpen (b : Block) (o : Option Message) : Type 0 where
   pub is : o ≡ Some message
   pub opens : is_open_of b message ≡ true
 
-any_pushed :
-    (b : Block) (ms : List Message) (o : Option Message) → list_any (is_open_of b) (ms ++ option_to_list o) ≡ true
+any_pushed : (b : Block) (ms : List Message) (o : Option Message) → list_any (is_open_of b) (ms ++ option_to_list o) ≡ true
     → (list_any (is_open_of b) ms ≡ true) ⊎ IsNewOpen b o
 any_pushed b [] None e = absurd (true≢false (sym e))
-any_pushed b [] (Some m) e =
-    by_test (λ t. is_open_of b m ≡ t → (t || false) ≡ true → (false ≡ true) ⊎ IsNewOpen b (Some m)) (is_open_of b m)
-    (λ _ is f. inr (record { message = m; is = refl; opens = is }))
-    (λ _ is f. absurd (true≢false (sym f))) refl e
-any_pushed b (m ∷ ms) o e =
-    by_test (λ t. (t || list_any (is_open_of b) (ms ++ option_to_list o)) ≡ true → ((t || list_any (is_open_of b) ms) ≡ true) ⊎ IsNewOpen b o) (is_open_of b m)
-    (λ here f. inl refl)
-    (λ there f. any_pushed b ms o f) e
+any_pushed b [] (Some m) e = grind arith
+any_pushed b (m ∷ ms) o e = grind (arith, any_pushed b ms o)
 
 -- a message that was sent is among those that were
 pub open_sent : (w : World) (k : ℕ) (m : Message) (b : Block) → sent_at k w ≡ Some m → is_open_of b m ≡ true → HasOpen w b
@@ -175,8 +144,7 @@ module _ (v w : World) (x : StandsOn v w) (i : Standing v) where
   reservation_on r on f = locks_more (StandsAt v) (StandsAt w) r on f
 
   -- one message may be new
-  pub standing_more :
-      (o : Option Message) → w.sent ≡ v.sent ++ option_to_list o
+  pub standing_more : (o : Option Message) → w.sent ≡ v.sent ++ option_to_list o
       → ((m : Message) → o ≡ Some m → LockedStands w m)
       → ((b : Block) → IsNewOpen b o → StandsAtAll w b)
       → ((b : Block) → has_block w.joint b ≡ true → HasOpen v b)

@@ -1,42 +1,16 @@
--- What a handler does leaves each block standing where it stood, but for one that was given up. A held block stops being
--- held only by opening, by a newer greeting of its client (then it is past there), or by its own Unlock, which is sent only
--- of a block that has opened at all of its handlers or was given up.
-use Rattle.std.proofs.Common.{◌≡◌, ◌⊎◌, inl, inr, ℕ, ◌||◌, true, true≢false, List, [], ◌∷◌, ◌++◌, map, find, Some, None, refl, sym, ap, ◌∙◌, subst, ⊎_elim}
-use Rattle.std.proofs.Common.{append-nil}
-use Rattle.std.proofs.lemmas.Option.{same_Some}
-use Rattle.std.specs.Prelude.{if◌then◌else◌}
-use Rattle.std.specs.List.{AllByRecursion}
-use Rattle.std.specs.Option.{option_map_or}
-use Rattle.std.proofs.lemmas.List.Folds.{list_any-append}
-use Rattle.scoop_message.specs.declared.name.Block.{Block}
-use Rattle.scoop_message.specs.declared.name.HandlerId.{HandlerId}
-use Rattle.scoop_message.specs.declared.message.Message.{Message}
-use Rattle.scoop_message.specs.declared.message.Message.TheVariants.{Unlock}
-use Rattle.scoop_message.specs.Message.{handler_of, same_block, same_handler}
-use Rattle.scoop_reserve.specs.Handlers.{has}
-use Rattle.scoop_handler.specs.declared.note.Note.{Note}
-use Rattle.scoop_handler.specs.declared.note.Note.TheVariants.{Greeted, Granted, Held, Opened as OpenedNote, Freed, Took, Known, Dropped}
-use Rattle.scoop_handler.specs.State.{HandlerState}
-use Rattle.scoop_handler.specs.Growing.{MarksGrow}
-use Rattle.scoop_handler.specs.Hearing.{Hearing, hear}
-use Rattle.scoop_handler.specs.Running.{Task, ran_of}
-use Rattle.scoop_handler.proofs.After.{MarksGrow-after}
-use Rattle.scoop_handler.proofs.Fronts.{MarksGrow-refl}
-use Rattle.scoop_handler.proofs.TableRows.{row}
-use Rattle.scoop_handler.proofs.TableLaws.{grows-row, number-row}
-use Rattle.scoop_model.specs.World.{World, Site, has_block, is_site, number_of, opened_at, sent_at, set_site, site_of}
-use Rattle.scoop_model.specs.Step.{begun_site, finished_site, heard_site, heard_world, joined, newly_opened, reopened, reopened_world, with_site}
-use Rattle.scoop_model.proofs.Basics.{by_test}
-use Rattle.scoop_model.proofs.Keys.{by_site}
+-- A handler's move leaves each block standing where it stood, unless the block was given up. A held block stops being held in three
+-- ways: it opens, its client greets anew (then it is past there), or its own Unlock comes. An Unlock is sent only of a block that
+-- has opened at all of its handlers or was given up.
+use Rattle.scoop_model.proofs.Names.{◌≡◌, ℕ, List, [], ◌++◌, Some, None, refl, sym, ap, ◌∙◌, subst, append-nil, find, true, true≢false, ◌||◌, ◌⊎◌, inl, inr}
+use Rattle.scoop_model.proofs.Names.{⊎_elim, list_any-append, same_Some, option_map_or, same_block, handler_of, Message, Unlock, Block, HandlerId}
+use Rattle.scoop_model.proofs.Names.{MarksGrow-after, all_found, MarksGrow-refl, number-row, grows-row, row, MarksGrow, Hearing, hear, Task, ran_of, Note}
+use Rattle.scoop_model.proofs.Names.{OpenedNote, has, by_site, heard_world, heard_site, with_site, begun_site, finished_site, reopened, reopened_world}
+use Rattle.scoop_model.proofs.Names.{newly_opened, joined, World, Site, number_of, is_site, site_of, set_site, sent_at, has_block, opened_at}
 use Rattle.scoop_model.proofs.Sites.{own_site}
-use Rattle.scoop_model.proofs.Order.Holding.{IsHeldIn, hears_row}
-use Rattle.scoop_model.proofs.Order.Facts.{SiteFits, Ordered, all_found}
-use Rattle.scoop_model.proofs.Order.Handlers.{state_anew}
-use Rattle.scoop_model.proofs.Order.Lists.{in_last, joined_has, same_block_itself}
-use Rattle.scoop_model.proofs.Sound.Facts.{Sound}
-use Rattle.scoop_model.proofs.Sound.Steps.{sent_all}
-use Rattle.scoop_model.proofs.Logging.Openings.{IsGivenUp, IsOpenedAtAll, Onto, Openings, Shows, is_open_of}
-use Rattle.scoop_model.proofs.Logging.OpeningHandlers.{anew_onto, now_onto, reply_quiet, same_list}
+use Rattle.scoop_model.proofs.Order.{IsHeldIn, hears_row, SiteFits, Ordered, in_last, joined_has, same_block_itself, by_restart, found_anew}
+use Rattle.scoop_model.proofs.Sound.{Sound, sent_all}
+use Rattle.scoop_model.proofs.Logging.{IsGivenUp, IsOpenedAtAll, Onto, Shows, is_open_of, anew_onto, now_onto, reply_quiet}
+use Rattle.scoop_model.proofs.Logging.Openings.{Openings}
 use Rattle.scoop_model.proofs.Standing.Facts.{HasOpen, IsPastIn, LockedStands, Standing, StandsAt, StandsFor, StandsIn, StandsOn, open_sent, past_more}
 use Rattle.scoop_model.proofs.Standing.Facts.{reservation_more, standing_more}
 use Rattle.scoop_model.proofs.Standing.Rows.{HeldGoes, held_after, held_row, locked_row}
@@ -58,8 +32,7 @@ module _ (w : World) (s old : Site) (here : site_of (number_of s) w ≡ Some old
 
 -- ---- a handler hears
 
-module _
-    (w : World) (o : Ordered w) (sound : Sound w) (openings : Openings w) (i : Standing w) (k : ℕ) (m : Message) (s : Site) (was : sent_at k w ≡ Some m)
+module _ (w : World) (o : Ordered w) (sound : Sound w) (openings : Openings w) (i : Standing w) (k : ℕ) (m : Message) (s : Site) (was : sent_at k w ≡ Some m)
     (found : site_of (handler_of m) w ≡ Some s) where
   abbrev now : Hearing
   now = hear s.core.state m
@@ -135,13 +108,7 @@ module _
       subst (HasOpen w) same (open_sent w k m y was (subst (λ n. is_open_of y n ≡ true) (sym asks) (same_block_itself y))))
       (λ (old : has_block w.joint b ≡ true). i.joint b old)
       (joined_has w.joint y b in_joint)
-  joins Greeted e b in_joint = i.joint b in_joint
-  joins Granted e b in_joint = i.joint b in_joint
-  joins Held e b in_joint = i.joint b in_joint
-  joins Freed e b in_joint = i.joint b in_joint
-  joins (Took n) e b in_joint = i.joint b in_joint
-  joins Known e b in_joint = i.joint b in_joint
-  joins (Dropped why) e b in_joint = i.joint b in_joint
+  joins told e b in_joint = i.joint b in_joint
 
   reply_locked : (reply : Message) → now.1.reply ≡ Some reply → LockedStands after reply
   reply_locked reply e = record {
@@ -161,8 +128,7 @@ module _
 
 module _ (w : World) (i : Standing w) (h : HandlerId) (s : Site) (found : site_of h w ≡ Some s) where
   -- the handler goes on with what opened at it, and with the blocks that hold its lock
-  quiet_site :
-      (t : Site) → number_of t ≡ number_of s → t.opened ≡ s.opened → MarksGrow s.core.state.marks t.core.state.marks
+  quiet_site : (t : Site) → number_of t ≡ number_of s → t.opened ≡ s.opened → MarksGrow s.core.state.marks t.core.state.marks
       → ((b : Block) → IsHeldIn s.core.state.marks b → IsHeldIn t.core.state.marks b) → Standing (with_site w t)
   quiet_site t same opened grows held =
       let there : site_of (number_of t) w ≡ Some s = subst (λ j. site_of j w ≡ Some s) (sym same) (own_site w h s found) in
@@ -197,32 +163,14 @@ module _ (w : World) (i : Standing w) (h : HandlerId) (s : Site) (found : site_o
 
 -- ---- a node restarts
 
-same_stands : (x y : Site) (b : Block) → y.core.state ≡ x.core.state → y.opened ≡ x.opened → StandsIn x b → StandsIn y b
-same_stands x y b state opened stands =
-    ⊎_elim
-    (λ (e : has_block x.opened b ≡ true). inl (ap (λ bs. has_block bs b) opened ∙ e))
-    (λ (q : IsHeldIn x.core.state.marks b ⊎ IsPastIn x.core.state.marks b).
-    inr (subst (λ (st : HandlerState). IsHeldIn st.marks b ⊎ IsPastIn st.marks b) (sym state) q))
-    stands
-
-stands_anew :
-    (js : List Block) (n : ℕ) (h : HandlerId) (b : Block) (xs : List Site) → AllByRecursion (SiteFits js) xs → StandsFor (find (is_site h) xs) b
-    → StandsFor (find (is_site h) (map (reopened n) xs)) b
-stands_anew js n h b [] fits g = g
-stands_anew js n h b (x ∷ xs) fits g =
-    let y = reopened n x in
-    let rest = find (is_site h) (map (reopened n) xs) in
-    let state : y.core.state ≡ x.core.state = state_anew js n x fits.0 in
-    subst (λ j. StandsFor (if same_handler j h then Some y else rest) b) (sym (ap (λ (st : HandlerState). st.number) state))
-    (by_test (λ t. StandsFor (if t then Some x else find (is_site h) xs) b → StandsFor (if t then Some y else rest) b) (is_site h x)
-    (λ first q.
-    let one : x ≡ q.site = same_Some _ _ q.found in
-    record { site = y; found = refl; stands = same_stands x y b state (same_list n x) (subst (λ (z : Site). StandsIn z b) (sym one) q.stands) })
-    (λ other q. stands_anew js n h b xs fits.1 q) g)
+stands_anew : (n : ℕ) (js : List Block) (b : Block) (x : Site) → SiteFits js x → StandsFor (Some x) b → StandsFor (Some (reopened n x)) b
+stands_anew n js b x f q =
+    let here = subst (λ (z : Site). StandsIn z b) (sym (same_Some x q.site q.found)) q.stands in
+    record { site = reopened n x; found = refl; stands = by_restart js n (λ y. StandsIn y b) x f here here }
 
 pub reopens_standing : (w : World) → Ordered w → Openings w → Standing w → (n : ℕ) → Standing (reopened_world w n)
 reopens_standing w o openings i n =
     let v : World = reopened_world w n in
-    let on : StandsOn w v = record { onto = anew_onto w o.sites openings n; stands = λ h b g. inl (stands_anew w.joint n h b w.sites o.sites g) } in
+    let on : StandsOn w v = record { onto = anew_onto w o.sites openings n; stands = λ h b g. inl (found_anew w.joint n (λ q. StandsFor q b) h (stands_anew n w.joint b) w.sites o.sites g) } in
     standing_more w v on i None (sym (append-nil w.sent)) (λ m e. absurd (cc)) (λ b new. absurd (let f = new.is in cc)) i.joint
     (λ c p at r held. reservation_more w v on i c p at r held)

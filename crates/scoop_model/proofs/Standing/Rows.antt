@@ -1,30 +1,15 @@
--- What a handler hears leaves a block that holds the lock there held, past or opened, unless it is the block's Unlock.
-use Rattle.std.proofs.Common.{◌≡◌, ◌⊎◌, inl, inr, ◌||◌, ◌&&◌, not, true, false, true≢false, List, map, Some, refl, sym, ap, ◌∙◌, subst, arith}
-use Rattle.std.proofs.lemmas.Option.{none-some, same_Some}
-use Rattle.scoop_message.specs.declared.name.Block.{Block}
-use Rattle.scoop_message.specs.declared.name.ClientId.{ClientId}
-use Rattle.scoop_message.specs.declared.name.HandlerId.{HandlerId}
-use Rattle.scoop_message.specs.declared.message.Message.{Message}
-use Rattle.scoop_message.specs.declared.message.Message.TheVariants.{Locked, Unlock}
-use Rattle.scoop_message.specs.Message.{same_client}
-use Rattle.scoop_handler.specs.declared.mark.Mark.{Mark}
-use Rattle.scoop_handler.specs.declared.mark.Stage.TheVariants.{Held as AtHeld}
-use Rattle.scoop_handler.specs.declared.note.Note.TheVariants.{Opened as OpenedNote}
-use Rattle.scoop_handler.specs.declared.ran.Ran.{Ran}
-use Rattle.scoop_handler.specs.Marks.{block_of, fresh_mark, mark_of, set_mark, with_received, is_open}
-use Rattle.scoop_handler.specs.State.{HandlerState, is_holder}
-use Rattle.scoop_handler.specs.Hearing.{Hearing, greeting_mark}
-use Rattle.scoop_handler.specs.Running.{mark_after}
-use Rattle.scoop_handler.specs.Rows.{Row, first_greeting, newer_greeting, lock_granted, repeated_lock, is_opened, unlock_of_a_block_never_held, is_freed}
-use Rattle.scoop_handler.specs.Rows.{is_taken}
-use Rattle.scoop_handler.proofs.After.{found-after}
-use Rattle.scoop_handler.proofs.MarkLists.{client_from_same, mark_of-client, mark_of-set_mark_own, mark_of-set_mark_other, mark_of-add_mark_other}
-use Rattle.scoop_model.proofs.Basics.{by_test, some_same}
-use Rattle.scoop_model.proofs.Order.Holding.{HeldHolds, IsHeldIn, open_not_held}
-use Rattle.scoop_model.proofs.Order.Lists.{same_block_itself}
+-- Hearing leaves a block that holds the handler's lock held, past or opened, unless the message is the block's Unlock.
+use Rattle.scoop_model.proofs.Names.{◌≡◌, List, map, Some, refl, sym, ap, ◌∙◌, subst, arith, true, ◌&&◌, false, true≢false, ◌||◌, ◌⊎◌, inl, inr, not, same_Some}
+use Rattle.scoop_model.proofs.Names.{none-some, same_client, Message, Locked, Unlock, Block, ClientId, HandlerId, found-after, by_test, mark_of-set_mark_own}
+use Rattle.scoop_model.proofs.Names.{mark_of-client, client_from_same, mark_of-set_mark_other, mark_of-add_mark_other, Hearing, greeting_mark, block_of}
+use Rattle.scoop_model.proofs.Names.{fresh_mark, with_received, set_mark, mark_of, Row, first_greeting, newer_greeting, lock_granted, is_opened}
+use Rattle.scoop_model.proofs.Names.{unlock_of_a_block_never_held, is_freed, is_taken, repeated_lock, mark_after, HandlerState, is_holder, Mark, AtHeld}
+use Rattle.scoop_model.proofs.Names.{OpenedNote, Ran, some_same}
+use Rattle.scoop_handler.specs.Marks.{is_open}
+use Rattle.scoop_model.proofs.Order.{HeldHolds, IsHeldIn, open_not_held, same_block_itself}
 use Rattle.scoop_model.proofs.Standing.Facts.{IsPastIn}
 
--- what becomes of a block that is held
+-- the fates of a block that is held
 abbrev pub HeldGoes : HandlerState → Message → Hearing → Block → Type 0
 HeldGoes s m h b = IsHeldIn h.0.marks b ⊎ (IsPastIn h.0.marks b ⊎ ((h.1.note ≡ OpenedNote b) ⊎ (m ≡ Unlock s.number b)))
 
@@ -43,13 +28,7 @@ module _ (s : HandlerState) (b : Block) (holds : HeldHolds s) (held : IsHeldIn s
   -- a mark of one client is set: where it is this block's, it was at this block
   set_goes : (m : Message) (h : Hearing) (c : ClientId) (k old : Mark) → mark_of c s.marks ≡ Some old → k.client ≡ c → h.0.marks ≡ set_mark k s.marks
       → (b.client ≡ c → old ≡ held.mark → HeldGoes s m h b) → HeldGoes s m h b
-  set_goes m h c k old found own is goes =
-      by_test (λ t. same_client b.client c ≡ t → HeldGoes s m h b) (same_client b.client c)
-      (λ _ e.
-      let same = client_from_same b.client c e in
-      goes same (some_same (mark_of c s.marks) old held.mark found (ap (λ d. mark_of d s.marks) (sym same) ∙ held.found)))
-      (λ _ e. inl (subst (λ marks. IsHeldIn marks b) (sym is) (held_beside k s.marks b (ap (same_client b.client) own ∙ e) held)))
-      refl
+  set_goes m h c k old found own is goes = grind (arith, client_from_same, held_beside)
 
   pub held_row : (m : Message) (h : Hearing) → Row s m h → HeldGoes s m h b
   held_row m h (first_greeting x c inc here none room) =
@@ -84,8 +63,7 @@ module _ (s : HandlerState) (b : Block) (holds : HeldHolds s) (held : IsHeldIn s
       let busy : is_holder s.holder (block_of k) ≡ true = ap (is_holder s.holder) at_block ∙ ap (λ o. is_holder o b) holder ∙ same_block_itself b in
       absurd (true≢false (sym (ap (λ t. t || is_open k.stage && not k.ended) busy) ∙ clear)))
   held_row m h (is_freed x y k here at same holds_it) =
-      let one : y ≡ b = some_same s.holder y b holds_it holder in
-      inr (inr (inr (λ i. Unlock (here i) (one i))))
+      let one : y ≡ b = some_same s.holder y b holds_it holder in inr (inr (inr (λ i. Unlock (here i) (one i))))
   held_row m h (is_taken x y n es k here at next goes_on room) =
       set_goes m h y.client (with_received _ _ k) k at.heard.found (mark_of-client y.client s.marks k at.heard.found) refl
       (λ same is. absurd (open_not_held (sym at.stage ∙ ap (λ (z : Mark). z.stage) is ∙ held.stage)))
@@ -98,8 +76,7 @@ locked_handler : {p q : HandlerId} {a b : Block} → Locked p a ≡ Locked q b �
 locked_handler e = cc
 
 -- a Locked is of a block that holds the lock
-pub locked_row :
-    (s : HandlerState) (m : Message) (h : Hearing) → Row s m h → (x : HandlerId) (b : Block) → h.1.reply ≡ Some (Locked x b)
+pub locked_row : (s : HandlerState) (m : Message) (h : Hearing) → Row s m h → (x : HandlerId) (b : Block) → h.1.reply ≡ Some (Locked x b)
     → (x ≡ h.0.number) × IsHeldIn h.0.marks b
 locked_row s m h (lock_granted y c k here at new free clear) = λ x b e.
     let same : Locked s.number c ≡ Locked x b = same_Some _ _ e in

@@ -6,27 +6,21 @@
 -- after an entry has run. The slots stay the same where a job goes out (`begun_tape`), where the node restarts with the
 -- stored state (`reopened_tape`), and where logs grow at their end (`grown_tape`). Then `site_tape_shown` gives what
 -- Safe calls the tape. What an open slot tells of its client's mark follows by `live_slots` (in Taking).
-use Rattle.std.proofs.Common.{◌≡◌, ℕ, ◌+◌, ◌-◌, ◌≤◌, List, [], ◌∷◌, ◌++◌, length, take, drop, Some, refl, sym, ap, ◌∙◌, subst, arith, length-append}
-use Rattle.std.proofs.Common.{append_assoc}
-use Rattle.std.specs.List.{AllByRecursion}
-use Rattle.std.proofs.lemmas.List.{take-append-drop, length-take-le}
-use Rattle.scoop_message.specs.declared.name.Block.{Block}
-use Rattle.scoop_message.specs.declared.request.Entry.{Entry}
-use Rattle.scoop_queue.specs.declared.state.QueueState.{QueueState}
-use Rattle.scoop_queue.specs.Queue.{PrivateQueue, opened, put_all, cut, front, advance}
-use Rattle.scoop_queue.specs.Sound.{AreApart}
+use Rattle.scoop_model.proofs.Names.{◌≡◌, ℕ, ◌+◌, List, [], ◌∷◌, ◌++◌, Some, refl, sym, ap, ◌∙◌, subst, arith, ◌≤◌, take, length, ◌-◌, append_assoc, drop}
+use Rattle.scoop_model.proofs.Names.{length-append, take-append-drop, length-take-le, AllByRecursion, Block, Entry, PrivateQueue, opened, put_all, cut, front}
+use Rattle.scoop_model.proofs.Names.{advance, AreApart, QueueState, all_mapped}
 use Rattle.scoop_model.proofs.Stands.{Stands}
-use Rattle.scoop_model.proofs.Order.Facts.{all_more_of}
+use Rattle.scoop_model.proofs.Order.{all_more_of}
 use Rattle.scoop_model.proofs.Tape.Slots.{Slot, new_slot, slots_new, slots_put, put_in, slots_cut, slots_run, run_rest, queues_of, ran_of, blocks_of, InTurn}
 use Rattle.scoop_model.proofs.Tape.Slots.{queues-new, ran-new, blocks-new, turn-new, queues-put, ran-put, blocks-put, turn-put, cut_in, cut_keeps, cut_rest}
-use Rattle.scoop_model.proofs.Tape.Slots.{queues-cut, ran-cut, blocks-cut, turn-cut, Runs, slots-run, each_kept, each_run}
+use Rattle.scoop_model.proofs.Tape.Slots.{queues-cut, ran-cut, blocks-cut, turn-cut, Runs, slots-run, each_run}
 
 -- the first list is a beginning of the second
 pub record IsBeginningOf (es log : List Entry) : Type 0 where
   pub behind : List Entry
   pub all : es ++ behind ≡ log
 
--- what has run of the block, with what waits behind it, is a beginning of the block's log
+-- the entries of the block that have run, and after them those that wait, are a beginning of the block's log
 abbrev pub IsBegun : (Block → List Entry) → Slot → Type 0
 IsBegun log s = IsBeginningOf (s.ran ++ s.rest) (log s.block)
 
@@ -47,8 +41,7 @@ begun_more log more grow s i =
       all = sym (append_assoc (s.ran ++ s.rest) i.behind g.behind) ∙ ap (λ es. es ++ g.behind) i.all ∙ g.all;
     }
 
-pub tape_more :
-    (log more : Block → List Entry) → ((b : Block) → IsBeginningOf (log b) (more b))
+pub tape_more : (log more : Block → List Entry) → ((b : Block) → IsBeginningOf (log b) (more b))
     → (qs : List PrivateQueue) (bs : List Block) (rs : List (Block × ℕ × Entry)) (ss : List Slot)
     → TapeFits log qs bs rs ss → TapeFits more qs bs rs ss
 tape_more log more grow qs bs rs ss f = record {
@@ -65,8 +58,7 @@ all_last : (P : Slot → Type 0) (ss : List Slot) (s : Slot) → AllByRecursion 
 all_last P [] s all last = (last, tt)
 all_last P (x ∷ xs) s all last = (all.0, all_last P xs s all.1 last)
 
-module _
-    (log : Block → List Entry) (qs : List PrivateQueue) (bs : List Block) (rs : List (Block × ℕ × Entry)) (ss : List Slot)
+module _ (log : Block → List Entry) (qs : List PrivateQueue) (bs : List Block) (rs : List (Block × ℕ × Entry)) (ss : List Slot)
     (f : TapeFits log qs bs rs ss) where
   pub open_tape : (b : Block) → TapeFits log (opened b qs) (bs ++ b ∷ []) rs (slots_new b ss)
   open_tape b = record {
@@ -92,18 +84,17 @@ module _
     queues = ap (cut b) f.queues ∙ sym (queues-cut b ss (apart_slots apart));
     ran = f.ran ∙ sym (ran-cut b ss);
     turn = turn-cut b ss f.turn;
-    begun = each_kept (IsBegun log) (IsBegun log) (cut_in b) (cut_begun b) ss f.begun;
+    begun = all_mapped (cut_in b) (IsBegun log) (IsBegun log) (cut_begun b) ss f.begun;
   }
 
-  pub put_tape :
-      (b : Block) (es : List Entry) → AreApart qs → AllByRecursion (λ s. IsBegun log (put_in b es s)) ss
+  pub put_tape : (b : Block) (es : List Entry) → AreApart qs → AllByRecursion (λ s. IsBegun log (put_in b es s)) ss
       → TapeFits log (put_all b es qs) bs rs (slots_put b es ss)
   put_tape b es apart begun = record {
     opened = f.opened ∙ sym (blocks-put b es ss);
     queues = ap (put_all b es) f.queues ∙ sym (queues-put b es ss (apart_slots apart));
     ran = f.ran ∙ sym (ran-put b es ss);
     turn = turn-put b es ss f.turn;
-    begun = each_kept (λ s. IsBegun log (put_in b es s)) (IsBegun log) (put_in b es) (λ s i. i) ss begun;
+    begun = all_mapped (put_in b es) (λ s. IsBegun log (put_in b es s)) (IsBegun log) (λ s i. i) ss begun;
   }
 
   run_begun : (s : Slot) (t : QueueState) (es : List Entry) → s.rest ≡ es → IsBegun log s → IsBegun log (run_rest s t es)

@@ -1,23 +1,11 @@
--- What has run at a handler, in the terms of the slots, is its tape: block after block in the order of their opening,
--- a beginning of each block's log.
-use Rattle.std.proofs.Common.{◌≡◌, ℕ, suc, ◌+◌, Bool, true, false, ◌||◌, List, [], ◌∷◌, ◌++◌, length, map, filter, flat_map, take, slice_get, Some, refl, sym}
-use Rattle.std.proofs.Common.{ap, ◌∙◌, subst, arith, append_assoc, append-nil, true≢false}
-use Rattle.std.specs.Prelude.{if◌then◌else◌}
-use Rattle.std.specs.List.{AllByRecursion}
-use Rattle.std.proofs.Math.Seq.{take-append_seam}
-use Rattle.std.proofs.lemmas.List.{length-map}
-use Rattle.std.proofs.lemmas.List.Elements.{filter-append}
-use Rattle.scoop_message.specs.declared.name.Block.{Block}
-use Rattle.scoop_message.specs.declared.request.Entry.{Entry}
-use Rattle.scoop_message.specs.Message.{same_block}
-use Rattle.scoop_handler.specs.declared.ran.Ran.{Ran}
-use Rattle.scoop_queue.specs.Queue.{PrivateQueue}
-use Rattle.scoop_queue.proofs.Lookup.{same_block-sym}
-use Rattle.scoop_model.specs.World.{World, Site, has_block, number_of, log_of}
-use Rattle.scoop_message.specs.Lists.{NoRepeats}
-use Rattle.scoop_model.specs.Safe.{IsSubsequence, nothing, left_out, taken, untold, numbered, Tape}
-use Rattle.scoop_model.proofs.Basics.{by_test}
-use Rattle.scoop_model.proofs.Order.Lists.{AreApart, same_block_is, same_block_itself}
+-- The entries that ran at a handler, in the terms of its slots, are its tape: block after block in the order of their opening, a
+-- beginning of each block's log.
+use Rattle.scoop_model.proofs.Names.{◌≡◌, ℕ, ◌+◌, List, [], ◌∷◌, ◌++◌, map, Some, refl, sym, ap, ◌∙◌, subst, arith, append-nil, true, suc, take, slice_get}
+use Rattle.scoop_model.proofs.Names.{false, true≢false, ◌||◌, length, Bool, append_assoc, filter, flat_map, take-append_seam, length-map, filter-append}
+use Rattle.scoop_model.proofs.Names.{AllByRecursion, NoRepeats, same_block, Block, Entry, same_block-sym, PrivateQueue, by_test, Ran, IsSubsequence, nothing}
+use Rattle.scoop_model.proofs.Names.{Tape, left_out, untold, numbered, World, Site, number_of, has_block, log_of}
+use Rattle.scoop_model.specs.Safe.{taken}
+use Rattle.scoop_model.proofs.Order.{AreApart, same_block_is, same_block_itself}
 use Rattle.scoop_model.proofs.Tape.Slots.{Slot, ran_in, ran_of, blocks_of}
 use Rattle.scoop_model.proofs.Tape.Fits.{IsBegun, TapeFits}
 
@@ -42,14 +30,12 @@ once_apart (b ∷ bs) once = (
     not_zero : (k : ℕ) → 0 ≡ suc k → ⊥
     not_zero k e = omega (arith, e)
 
--- what is left of a list without a block is without it
+-- a list without a block leaves no list with it
 pub left_without : {xs ys : List Block} → IsSubsequence xs ys → (b : Block) → has_block ys b ≡ false → has_block xs b ≡ false
 left_without nothing b e = refl
 left_without (left_out y xs ys s) b e =
     by_test (λ t. (t || has_block ys b) ≡ false → has_block xs b ≡ false) (same_block y b) (λ same f. absurd (true≢false f)) (λ other f. left_without s b f) e
-left_without (taken y xs ys s) b e =
-    by_test (λ t. (t || has_block ys b) ≡ false → (t || has_block xs b) ≡ false) (same_block y b) (λ same f. absurd (true≢false f))
-    (λ other f. left_without s b f) e
+left_without (taken y xs ys s) b e = grind (arith, left_without s b)
 
 pub left_apart : {xs ys : List Block} → IsSubsequence xs ys → AreApart ys → AreApart xs
 left_apart nothing d = tt
@@ -85,32 +71,19 @@ split_next r u rs us vs head s = record {
 split_at : (rs : List Ran) (us vs : List (Block × ℕ × Entry)) → map untold rs ≡ us ++ vs → Split rs us vs
 split_at rs [] vs e = record { first = []; later = rs; all = refl; first_told = refl; later_told = e }
 split_at [] (u ∷ us) vs e = absurd (cc)
-split_at (r ∷ rs) (u ∷ us) vs e =
-    let head : untold r ≡ u = cc in
-    let tail : map untold rs ≡ us ++ vs = cc in
-    split_next r u rs us vs head (split_at rs us vs tail)
+split_at (r ∷ rs) (u ∷ us) vs e = grind (arith, split_next, split_at rs us vs)
 
--- what is numbered for a block is of that block
+-- the numbered entries of a block are of that block
 all_of : (rs : List Ran) (b : Block) (n : ℕ) (es : List Entry) → map untold rs ≡ numbered b n es → part_of rs b ≡ rs
 all_of [] b n es e = refl
 all_of (r ∷ rs) b n [] e = absurd (cc)
-all_of (r ∷ rs) b n (x ∷ xs) e =
-    let head : untold r ≡ (b, n, x) = cc in
-    let tail : map untold rs ≡ numbered b (n + 1) xs = cc in
-    let block : r.block ≡ b = ap (λ (u : Block × ℕ × Entry). u.0) head in
-    let mine : of_block b r ≡ true = subst (λ c. same_block r.block c ≡ true) block (same_block_itself r.block) in
-    ap (λ t. if t then r ∷ part_of rs b else part_of rs b) mine ∙ ap (λ xs. r ∷ xs) (all_of rs b (n + 1) xs tail)
+all_of (r ∷ rs) b n (x ∷ xs) e = grind (arith, same_block_itself, all_of rs b)
 
 -- and of no other
 none_of : (rs : List Ran) (b c : Block) (n : ℕ) (es : List Entry) → map untold rs ≡ numbered b n es → same_block b c ≡ false → part_of rs c ≡ []
 none_of [] b c n es e other = refl
 none_of (r ∷ rs) b c n [] e other = absurd (cc)
-none_of (r ∷ rs) b c n (x ∷ xs) e other =
-    let head : untold r ≡ (b, n, x) = cc in
-    let tail : map untold rs ≡ numbered b (n + 1) xs = cc in
-    let block : r.block ≡ b = ap (λ (u : Block × ℕ × Entry). u.0) head in
-    let apart : of_block c r ≡ false = subst (λ d. same_block d c ≡ false) (sym block) other in
-    ap (λ t. if t then r ∷ part_of rs c else part_of rs c) apart ∙ none_of rs b c (n + 1) xs tail other
+none_of (r ∷ rs) b c n (x ∷ xs) e other = grind (arith, none_of rs b c)
 
 -- a block that isn't among the slots has run nothing
 pub none_ran : (rs : List Ran) (ss : List Slot) (b : Block) → map untold rs ≡ ran_of ss → has_block (blocks_of ss) b ≡ false → part_of rs b ≡ []
@@ -130,21 +103,13 @@ none_ran rs (s ∷ ss) b e none =
 -- ---- in turn
 
 -- the parts of other blocks are those of the later part
-parts_later :
-    (rs qs : List Ran) (s : Slot) (bs : List Block) → map untold rs ≡ ran_in s → has_block bs s.block ≡ false
+parts_later : (rs qs : List Ran) (s : Slot) (bs : List Block) → map untold rs ≡ ran_in s → has_block bs s.block ≡ false
     → flat_map (part_of (rs ++ qs)) bs ≡ flat_map (part_of qs) bs
 parts_later rs qs s [] e none = refl
-parts_later rs qs s (b ∷ bs) e none =
-    by_test (λ t. (t || has_block bs s.block) ≡ false → same_block b s.block ≡ t → flat_map (part_of (rs ++ qs)) (b ∷ bs) ≡ flat_map (part_of qs) (b ∷ bs))
-    (same_block b s.block)
-    (λ same f _. absurd (true≢false f))
-    (λ other f is.
-    λ i. (filter-append (of_block b) rs qs ∙ ap (λ xs. xs ++ part_of qs b) (none_of rs s.block b 1 s.ran e (same_block-sym b s.block is)))
-    i ++ parts_later rs qs s bs e f i) none refl
+parts_later rs qs s (b ∷ bs) e none = grind (arith, filter-append, none_of, same_block-sym, parts_later rs qs s bs e)
 
 -- the first block's part is the first part
-own_part :
-    (rs qs : List Ran) (s : Slot) (ss : List Slot) → map untold rs ≡ ran_in s → map untold qs ≡ ran_of ss → has_block (blocks_of ss) s.block ≡ false
+own_part : (rs qs : List Ran) (s : Slot) (ss : List Slot) → map untold rs ≡ ran_in s → map untold qs ≡ ran_of ss → has_block (blocks_of ss) s.block ≡ false
     → part_of (rs ++ qs) s.block ≡ rs
 own_part rs qs s ss first later apart =
     filter-append (of_block s.block) rs qs ∙ (λ i. all_of rs s.block 1 s.ran first i ++ none_ran qs ss s.block later apart i) ∙ append-nil rs
@@ -161,17 +126,13 @@ in_turn rs (s ∷ ss) e apart =
 
 -- ---- each slot's part
 
--- what is so of each slot, none of which is of the block that is given
-all_others :
-    (P Q : Slot → Type 0) (b : Block) (ss : List Slot) → has_block (blocks_of ss) b ≡ false → ((t : Slot) → same_block t.block b ≡ false → P t → Q t)
+-- a property of each slot, if none is of the given block
+all_others : (P Q : Slot → Type 0) (b : Block) (ss : List Slot) → has_block (blocks_of ss) b ≡ false → ((t : Slot) → same_block t.block b ≡ false → P t → Q t)
     → AllByRecursion P ss → AllByRecursion Q ss
 all_others P Q b [] none f all = tt
-all_others P Q b (t ∷ ts) none f all =
-    by_test (λ y. (y || has_block (blocks_of ts) b) ≡ false → same_block t.block b ≡ y → AllByRecursion Q (t ∷ ts)) (same_block t.block b)
-    (λ same e _. absurd (true≢false e))
-    (λ other e is. (f t is all.0, all_others P Q b ts e f all.1)) none refl
+all_others P Q b (t ∷ ts) none f all = grind (arith, all_others P Q b ts)
 
--- what ran of a slot's block is what the slot tells
+-- the slot has exactly the entries that ran of its block
 abbrev pub IsPart : List Ran → Slot → Type 0
 IsPart rs t = map untold (part_of rs t.block) ≡ ran_in t
 
@@ -192,7 +153,7 @@ slot_parts rs (s ∷ ss) e apart =
 
 -- ---- beginnings
 
--- what ran of the block are the first entries of the block's log
+-- the entries of the block that ran are the first of its log
 abbrev IsFirst : (Block → List Entry) → List Ran → Block → Type 0
 IsFirst log rs b = map untold (part_of rs b) ≡ numbered b 1 (take (length (part_of rs b)) (log b))
 
@@ -203,24 +164,21 @@ length-numbered b n (e ∷ es) = ap suc (length-numbered b (n + 1) es)
 pub length-part : (rs : List Ran) (t : Slot) → map untold rs ≡ ran_in t → length rs ≡ length t.ran
 length-part rs t told = sym (length-map rs untold) ∙ ap length told ∙ length-numbered t.block 1 t.ran
 
-first_entries :
-    (log : Block → List Entry) (rs : List Ran) (t : Slot) → map untold rs ≡ ran_in t → IsBegun log t
+first_entries : (log : Block → List Entry) (rs : List Ran) (t : Slot) → map untold rs ≡ ran_in t → IsBegun log t
     → map untold rs ≡ numbered t.block 1 (take (length rs) (log t.block))
 first_entries log rs t told i =
     let starts : take (length t.ran) (log t.block) ≡ t.ran =
     ap (take (length t.ran)) (sym (sym (append_assoc t.ran t.rest i.behind) ∙ i.all)) ∙ take-append_seam t.ran (t.rest ++ i.behind) in
     told ∙ ap (numbered t.block 1) (sym (ap (λ n. take n (log t.block)) (length-part rs t told) ∙ starts))
 
-all_firsts :
-    (log : Block → List Entry) (rs : List Ran) (ss : List Slot) → AllByRecursion (IsPart rs) ss → AllByRecursion (IsBegun log) ss
+all_firsts : (log : Block → List Entry) (rs : List Ran) (ss : List Slot) → AllByRecursion (IsPart rs) ss → AllByRecursion (IsBegun log) ss
     → AllByRecursion (IsFirst log rs) (blocks_of ss)
 all_firsts log rs [] parts begun = tt
 all_firsts log rs (s ∷ ss) parts begun = (first_entries log (part_of rs s.block) s parts.0 begun.0, all_firsts log rs ss parts.1 begun.1)
 
 -- ---- the tape of a site
 
-pub tape_shown :
-    (w : World) (s : Site) (qs : List PrivateQueue) (ss : List Slot) → AreApart s.opened
+pub tape_shown : (w : World) (s : Site) (qs : List PrivateQueue) (ss : List Slot) → AreApart s.opened
     → TapeFits (λ b. log_of b (number_of s) w) qs s.opened (map untold s.ran) ss → Tape w s
 tape_shown w s qs ss apart f =
     let slots_apart : AreApart (blocks_of ss) = subst AreApart f.opened apart in

@@ -1,21 +1,7 @@
 -- The slots of one site, as each kind of event changes it.
-use Rattle.std.proofs.Common.{◌≡◌, ℕ, ◌==◌, false, List, [], ◌∷◌, map, Some, refl, sym, subst}
-use Rattle.std.specs.Prelude.{if◌then◌else◌}
-use Rattle.std.proofs.lemmas.List.{map-append}
-use Rattle.scoop_message.specs.declared.name.Block.{Block}
-use Rattle.scoop_message.specs.declared.request.Entry.{Entry}
-use Rattle.scoop_message.specs.declared.message.Message.{Message}
-use Rattle.scoop_handler.specs.State.{HandlerState, IsState}
-use Rattle.scoop_handler.specs.Core.{core_of}
-use Rattle.scoop_handler.specs.Hearing.{hear}
-use Rattle.scoop_handler.specs.Running.{Task, job_out, ran_of}
-use Rattle.scoop_handler.proofs.After.{job-front}
-use Rattle.scoop_handler.proofs.TableRows.{row}
-use Rattle.scoop_model.specs.World.{World, Site, number_of, log_of}
-use Rattle.scoop_model.specs.Step.{Placement, heard_site, begun_site, finished_site, reopened, new_site}
-use Rattle.scoop_message.specs.Lists.{NoRepeats}
-use Rattle.scoop_model.specs.Safe.{IsSubsequence, untold, Tape}
-use Rattle.scoop_model.proofs.Basics.{by_test}
+use Rattle.scoop_model.proofs.Names.{◌≡◌, ℕ, List, [], ◌∷◌, map, Some, refl, sym, subst, arith, map-append, NoRepeats, Message, Block, Entry, job-front, row}
+use Rattle.scoop_model.proofs.Names.{hear, Task, ran_of, job_out, IsState, IsSubsequence, Tape, untold, heard_site, begun_site, finished_site, reopened}
+use Rattle.scoop_model.proofs.Names.{Placement, new_site, World, Site, number_of, log_of}
 use Rattle.scoop_model.proofs.Tape.Slots.{Slot, slots_run}
 use Rattle.scoop_model.proofs.Tape.Fits.{IsBeginningOf, TapeFits, tape_more, run_tape}
 use Rattle.scoop_model.proofs.Tape.Taking.{StandsIfLog, slots_after, row_tape}
@@ -50,15 +36,12 @@ module _ (log : Block → List Entry) (s : Site) (ss : List Slot) (f : SiteTape 
       subst (λ us. TapeFits log (finished_site s t).core.state.queues s.opened us (slots_run ss)) (sym (map-append untold s.ran (ran_of t ∷ []))) runs
 
   pub reopened_tape : (n : ℕ) → s.stored ≡ s.core.state → SiteTape log (reopened n s) ss
-  reopened_tape n stored =
-      by_test (λ t. SiteTape log (if t then record s { core = core_of s.core.class s.stored false } else s) ss) (s.node == n)
-      (λ here. subst (λ (x : HandlerState). TapeFits log x.queues s.opened (map untold s.ran) ss) (sym stored) f)
-      (λ there. f)
+  reopened_tape n stored = grind arith
 
   pub grown_tape : (more : Block → List Entry) → ((b : Block) → IsBeginningOf (log b) (more b)) → SiteTape more s ss
   grown_tape more grow = tape_more log more grow s.core.state.queues s.opened (map untold s.ran) ss f
 
--- what opened here is left of the common list, in which no block repeats
+-- the blocks that opened here are a part of the common list, so no block repeats
 pub site_tape_shown :
     (w : World) (s : Site) (js : List Block) (ss : List Slot) → NoRepeats js → IsSubsequence s.opened js → SiteTape (logs_at w s) s ss → Tape w s
 site_tape_shown w s js ss once left f = tape_shown w s s.core.state.queues ss (left_apart left (once_apart js once)) f

@@ -1,24 +1,12 @@
--- What has run at a handler and what waits there, as a list of slots: one for each block that opened there, in the
--- order of their opening. What the changes of the private queues do to the slots, and what the slots tell.
-use Rattle.std.proofs.Common.{◌≡◌, ℕ, ◌+◌, Bool, true, false, List, [], ◌∷◌, ◌++◌, length, map, flat_map, Option, Some, None, refl, sym, ap, ◌∙◌, subst, arith}
-use Rattle.std.proofs.Common.{length-append, append_assoc, append-nil}
-use Rattle.std.specs.Prelude.{⊤, if◌then◌else◌}
-use Rattle.std.specs.List.{AllByRecursion}
+-- The entries that have run at a handler and those that wait there, as a list of slots: one for each block that opened there, in the
+-- order of their opening. The file has the effect of each change of the private queues on the slots.
+use Rattle.scoop_model.proofs.Names.{◌≡◌, ℕ, ◌+◌, List, [], ◌∷◌, ◌++◌, map, Some, None, refl, sym, ap, ◌∙◌, subst, arith, append-nil, Option, true}
+use Rattle.scoop_model.proofs.Names.{if◌then◌else◌, false, length, Bool, append_assoc, length-append, flat_map, map-append, same_Some, none-some}
+use Rattle.scoop_model.proofs.Names.{AllByRecursion, ⊤, ends, same_block, Block, Entry, same_block-true, at_block-absent, PrivateQueue, opened, put_all, cut}
+use Rattle.scoop_model.proofs.Names.{front, advance, at_block, has_queue, with_entries, left_by_cut, first_of, goes_with, AreApart, QueueState}
+use Rattle.scoop_model.proofs.Names.{TakesMore as Open, Ended, Cut, by_test, numbered}
 use Rattle.std.proofs.lemmas.Grind.{flat_map-append}
-use Rattle.std.proofs.lemmas.List.{map-append}
-use Rattle.std.proofs.lemmas.Option.{none-some, same_Some}
-use Rattle.scoop_message.specs.declared.name.Block.{Block}
-use Rattle.scoop_message.specs.declared.request.Entry.{Entry}
-use Rattle.scoop_message.specs.Entries.{ends}
-use Rattle.scoop_message.specs.Message.{same_block}
-use Rattle.scoop_queue.specs.declared.state.QueueState.{QueueState}
-use Rattle.scoop_queue.specs.declared.state.QueueState.TheVariants.{Open, Ended, Cut}
-use Rattle.scoop_queue.specs.Queue.{PrivateQueue, is_open, at_block, has_queue, with_entries, opened, put_all, left_by_cut, cut, first_of, front, goes_with}
-use Rattle.scoop_queue.specs.Queue.{advance}
-use Rattle.scoop_queue.specs.Sound.{AreApart}
-use Rattle.scoop_queue.proofs.Lookup.{same_block-true, at_block-absent}
-use Rattle.scoop_model.specs.Safe.{numbered}
-use Rattle.scoop_model.proofs.Basics.{by_test}
+use Rattle.scoop_queue.specs.Queue.{is_open}
 
 -- a block that opened: what has run of it, what waits in its private queue, and how that queue is, unless it is gone
 pub record Slot : Type 0 where
@@ -62,7 +50,7 @@ blocks_of ss = map block_in ss
 abbrev pub NoneRan : List Slot → Type 0
 NoneRan ss = AllByRecursion (λ (s : Slot). s.ran ≡ []) ss
 
--- while a block has a private queue, nothing runs behind it
+-- while a block has a private queue, no later block runs
 abbrev pub Waits : Option QueueState → List Slot → Type 0
 Waits None ss = ⊤
 Waits (Some t) ss = NoneRan ss
@@ -75,9 +63,9 @@ waits_for_none : (o : Option QueueState) (ss : List Slot) → NoneRan ss → Wai
 waits_for_none None ss n = tt
 waits_for_none (Some t) ss n = n
 
-pub none_ran : (ss : List Slot) → NoneRan ss → ran_of ss ≡ []
-none_ran [] n = refl
-none_ran (s ∷ ss) n = ap (λ es. numbered s.block 1 es ++ ran_of ss) n.0 ∙ none_ran ss n.1
+pub nothing_ran : (ss : List Slot) → NoneRan ss → ran_of ss ≡ []
+nothing_ran [] n = refl
+nothing_ran (s ∷ ss) n = ap (λ es. numbered s.block 1 es ++ ran_of ss) n.0 ∙ nothing_ran ss n.1
 
 -- ---- a block opens
 
@@ -136,11 +124,6 @@ module _ (f : Slot → Slot) (keeps : (s : Slot) → KeepsRan s (f s)) where
   turn-kept [] i = tt
   turn-kept (s ∷ ss) i = (waits-kept s.state (f s).state ss (keeps s).gone i.0, turn-kept ss i.1)
 
--- what is so of each slot, once each has changed
-pub each_kept : (P Q : Slot → Type 0) (f : Slot → Slot) → ((s : Slot) → P s → Q (f s)) → (ss : List Slot) → AllByRecursion P ss → AllByRecursion Q (map f ss)
-each_kept P Q f each [] all = tt
-each_kept P Q f each (s ∷ ss) all = (each s all.0, each_kept P Q f each ss all.1)
-
 -- ---- entries are put
 
 abbrev pub put_slot : List Entry → Slot → QueueState → Slot
@@ -176,19 +159,16 @@ blocks-put b es = blocks-kept (put_in b es) (put_keeps b es)
 pub turn-put : (b : Block) (es : List Entry) (ss : List Slot) → InTurn ss → InTurn (slots_put b es ss)
 turn-put b es = turn-kept (put_in b es) (put_keeps b es)
 
--- behind a queue of the block there is none that a change at the block would meet
-same_behind :
-    (b : Block) (change : PrivateQueue → List PrivateQueue) (c : Block) (qs rs : List PrivateQueue)
+-- no later queue is of the block, so a change at the block leaves them
+same_behind : (b : Block) (change : PrivateQueue → List PrivateQueue) (c : Block) (qs rs : List PrivateQueue)
     → same_block b c ≡ true → has_queue c qs ≡ false → rs ≡ at_block b change qs → rs ≡ qs
-same_behind b change c qs rs same none e =
-    e ∙ at_block-absent b change qs (subst (λ (d : Block). has_queue d qs ≡ false) (sym (same_block-true b c same)) none)
+same_behind b change c qs rs same none e = e ∙ at_block-absent b change qs (subst (λ (d : Block). has_queue d qs ≡ false) (sym (same_block-true b c same)) none)
 
 pub queues-put : (b : Block) (es : List Entry) (ss : List Slot) → AreApart (queues_of ss) → queues_of (slots_put b es ss) ≡ put_all b es (queues_of ss)
 queues-put b es [] apart = refl
 queues-put b es (s ∷ ss) apart = at s.block s.ran s.rest s.state apart (queues-put b es ss)
   where
-    at :
-        (c : Block) (ran rest : List Entry) (o : Option QueueState) → AreApart (queues_of (slot_of c ran rest o ∷ ss))
+    at : (c : Block) (ran rest : List Entry) (o : Option QueueState) → AreApart (queues_of (slot_of c ran rest o ∷ ss))
         → (AreApart (queues_of ss) → queues_of (slots_put b es ss) ≡ put_all b es (queues_of ss))
         → queues_of (slots_put b es (slot_of c ran rest o ∷ ss)) ≡ put_all b es (queues_of (slot_of c ran rest o ∷ ss))
     at c ran rest None a later = later a
@@ -253,20 +233,17 @@ pub turn-cut : (b : Block) (ss : List Slot) → InTurn ss → InTurn (slots_cut 
 turn-cut b = turn-kept (cut_in b) (cut_keeps b)
 
 -- the queue of a slot that is cut
-queue-cut :
-    (c : Block) (ran rest : List Entry) (t : QueueState)
+queue-cut : (c : Block) (ran rest : List Entry) (t : QueueState)
     → queue_in (cut_slot (slot_of c ran rest (Some t)) t) ≡ left_by_cut (slot_queue (slot_of c ran rest (Some t)) t)
 queue-cut c ran [] Open = refl
 queue-cut c ran (e ∷ es) Open = refl
-queue-cut c ran rest Ended = refl
-queue-cut c ran rest Cut = refl
+queue-cut c ran rest t = refl
 
 pub queues-cut : (b : Block) (ss : List Slot) → AreApart (queues_of ss) → queues_of (slots_cut b ss) ≡ cut b (queues_of ss)
 queues-cut b [] apart = refl
 queues-cut b (s ∷ ss) apart = at s.block s.ran s.rest s.state apart (queues-cut b ss)
   where
-    at :
-        (c : Block) (ran rest : List Entry) (o : Option QueueState) → AreApart (queues_of (slot_of c ran rest o ∷ ss))
+    at : (c : Block) (ran rest : List Entry) (o : Option QueueState) → AreApart (queues_of (slot_of c ran rest o ∷ ss))
         → (AreApart (queues_of ss) → queues_of (slots_cut b ss) ≡ cut b (queues_of ss))
         → queues_of (slots_cut b (slot_of c ran rest o ∷ ss)) ≡ cut b (queues_of (slot_of c ran rest o ∷ ss))
     at c ran rest None a later = later a
@@ -294,9 +271,8 @@ abbrev pub slots_run : List Slot → List Slot
 slots_run [] = []
 slots_run (s ∷ ss) = run_at s s.state ss (slots_run ss)
 
--- what is so of each slot, once an entry has run
-pub each_run :
-    (P Q : Slot → Type 0) → ((s : Slot) → P s → Q s) → ((s : Slot) (t : QueueState) → s.state ≡ Some t → P s → Q (run_rest s t s.rest))
+-- a property of each slot, after an entry has run
+pub each_run : (P Q : Slot → Type 0) → ((s : Slot) → P s → Q s) → ((s : Slot) (t : QueueState) → s.state ≡ Some t → P s → Q (run_rest s t s.rest))
     → (ss : List Slot) → AllByRecursion P ss → AllByRecursion Q (slots_run ss)
 each_run P Q stays runs [] all = tt
 each_run P Q stays runs (s ∷ ss) all = at s.state refl (each_run P Q stays runs ss all.1)
@@ -309,7 +285,7 @@ each_run P Q stays runs (s ∷ ss) all = at s.state refl (each_run P Q stays run
     at None is later = (stays s all.0, later)
     at (Some t) is later = (runs s t is all.0, others ss all.1)
 
--- what a run of the first pending entry leaves
+-- the slots after a run of the first pending entry
 pub record Runs (ss ts : List Slot) (f : Block × ℕ × Entry) : Type 0 where
   pub queues : queues_of ts ≡ advance (queues_of ss)
   pub ran : ran_of ts ≡ ran_of ss ++ f ∷ []
@@ -320,18 +296,11 @@ numbered-push : (b : Block) (n : ℕ) (es : List Entry) (e : Entry) → numbered
 numbered-push b n [] e = ap (λ m. (b, m, e) ∷ []) (omega arith)
 numbered-push b n (x ∷ xs) e = ap (λ ts. (b, n, x) ∷ ts) (numbered-push b (n + 1) xs e ∙ ap (λ m. numbered b (n + 1) xs ++ (b, m, e) ∷ []) (omega arith))
 
-ran-next :
-    (b : Block) (ran : List Entry) (x : Entry) (ss : List Slot) (f : Block × ℕ × Entry) → NoneRan ss → (b, length ran + 1, x) ≡ f
+ran-next : (b : Block) (ran : List Entry) (x : Entry) (ss : List Slot) (f : Block × ℕ × Entry) → NoneRan ss → (b, length ran + 1, x) ≡ f
     → numbered b 1 (ran ++ x ∷ []) ++ ran_of ss ≡ (numbered b 1 ran ++ ran_of ss) ++ f ∷ []
-ran-next b ran x ss f none is =
-    let z = none_ran ss none in
-    ap (λ ts. numbered b 1 (ran ++ x ∷ []) ++ ts) z ∙ append-nil (numbered b 1 (ran ++ x ∷ [])) ∙ numbered-push b 1 ran x
-    ∙ ap (λ m. numbered b 1 ran ++ (b, m, x) ∷ []) (omega arith)
-    ∙ ap (λ u. numbered b 1 ran ++ u ∷ []) is
-    ∙ sym (ap (λ ts. (numbered b 1 ran ++ ts) ++ f ∷ []) z ∙ ap (λ ts. ts ++ f ∷ []) (append-nil (numbered b 1 ran)))
+ran-next b ran x ss f none is = grind (arith, append-nil, nothing_ran, numbered-push)
 
-first-runs :
-    (b : Block) (ran rest : List Entry) (t : QueueState) (ss : List Slot) (f : Block × ℕ × Entry) → NoneRan ss → InTurn ss
+first-runs : (b : Block) (ran rest : List Entry) (t : QueueState) (ss : List Slot) (f : Block × ℕ × Entry) → NoneRan ss → InTurn ss
     → first_of (slot_queue (slot_of b ran rest (Some t)) t) rest ≡ Some f
     → Runs (slot_of b ran rest (Some t) ∷ ss) (run_rest (slot_of b ran rest (Some t)) t rest ∷ ss) f
 first-runs b ran [] t ss f none turn e = absurd (none-some _ e)
@@ -346,8 +315,7 @@ first-runs b ran (x ∷ es) t ss f none turn e = record {
   turn = (waits_for_none (if goes_with t x es then None else Some t) ss none, turn);
 }
 
-gone-runs :
-    (b : Block) (ran rest : List Entry) (ss ts : List Slot) (f : Block × ℕ × Entry) → Runs ss ts f
+gone-runs : (b : Block) (ran rest : List Entry) (ss ts : List Slot) (f : Block × ℕ × Entry) → Runs ss ts f
     → Runs (slot_of b ran rest None ∷ ss) (slot_of b ran rest None ∷ ts) f
 gone-runs b ran rest ss ts f r = record {
   queues = r.queues;
@@ -360,8 +328,7 @@ pub slots-run : (ss : List Slot) (f : Block × ℕ × Entry) → InTurn ss → f
 slots-run [] f turn e = absurd (none-some _ e)
 slots-run (s ∷ ss) f turn e = at s.block s.ran s.rest s.state turn.0 e (slots-run ss f turn.1)
   where
-    at :
-        (b : Block) (ran rest : List Entry) (o : Option QueueState) → Waits o ss → front (queues_of (slot_of b ran rest o ∷ ss)) ≡ Some f
+    at : (b : Block) (ran rest : List Entry) (o : Option QueueState) → Waits o ss → front (queues_of (slot_of b ran rest o ∷ ss)) ≡ Some f
         → (front (queues_of ss) ≡ Some f → Runs ss (slots_run ss) f) → Runs (slot_of b ran rest o ∷ ss) (slots_run (slot_of b ran rest o ∷ ss)) f
     at b ran rest None waits e later = gone-runs b ran rest ss (slots_run ss) f (later e)
     at b ran rest (Some t) waits e later = first-runs b ran rest t ss f waits turn.1 e

@@ -1,32 +1,13 @@
--- What each row of the table by which a handler hears does to its slots, and what an open slot tells of its client's
--- mark.
-use Rattle.std.proofs.Common.{◌≡◌, ℕ, ◌+◌, ◌-◌, Bool, true, false, not, IsTrue, List, [], ◌∷◌, ◌++◌, length, drop, Option, Some, None, refl, sym, ap, ◌∙◌}
-use Rattle.std.proofs.Common.{subst, arith, length-append, append_assoc, append-nil, true≢false}
-use Rattle.std.specs.Prelude.{IsFalse, if◌then◌else◌}
-use Rattle.std.specs.List.{AllByRecursion}
-use Rattle.std.proofs.lemmas.Option.{none-some, same_Some}
-use Rattle.scoop_message.specs.declared.name.Block.{Block}
-use Rattle.scoop_message.specs.declared.name.HandlerId.{HandlerId}
-use Rattle.scoop_message.specs.declared.request.Entry.{Entry}
-use Rattle.scoop_message.specs.declared.message.Message.{Message}
-use Rattle.scoop_message.specs.declared.message.Message.TheVariants.{Log}
-use Rattle.scoop_message.specs.Message.{same_block}
-use Rattle.scoop_queue.specs.declared.state.QueueState.{QueueState}
-use Rattle.scoop_queue.specs.declared.state.QueueState.TheVariants.{Open as TakesMore}
-use Rattle.scoop_queue.specs.Queue.{PrivateQueue, put_all}
-use Rattle.scoop_queue.proofs.Lookup.{same_block-true, same_block-refl}
-use Rattle.scoop_queue.proofs.Ends.{both}
-use Rattle.scoop_handler.specs.declared.mark.Mark.{Mark}
-use Rattle.scoop_handler.specs.Marks.{block_of, is_open, mark_of}
-use Rattle.scoop_handler.specs.State.{HandlerState, IsState, FitsMark, FitsNewest, HasMark}
-use Rattle.scoop_handler.specs.Hearing.{Hearing, new_entries}
-use Rattle.scoop_handler.specs.Rows.{Row, IsLogAt, IsNext, newer_greeting, is_opened, is_taken}
-use Rattle.scoop_handler.proofs.Basics.{all_both}
-use Rattle.scoop_handler.proofs.TableLaws.{block_of-same}
-use Rattle.scoop_model.specs.Step.{newly_opened}
-use Rattle.scoop_model.proofs.Basics.{by_test}
+-- The effect of each case of the handler's table on its slots. An open slot also shows its client's mark.
+use Rattle.scoop_model.proofs.Names.{◌≡◌, ℕ, ◌+◌, List, [], ◌∷◌, ◌++◌, Some, None, refl, sym, ap, ◌∙◌, subst, arith, append-nil, Option, true, if◌then◌else◌}
+use Rattle.scoop_model.proofs.Names.{false, true≢false, length, Bool, ◌-◌, append_assoc, not, IsFalse, drop, length-append, IsTrue, same_Some, none-some}
+use Rattle.scoop_model.proofs.Names.{AllByRecursion, same_block, Message, Log, Block, HandlerId, Entry, both, same_block-true, same_block-refl, PrivateQueue}
+use Rattle.scoop_model.proofs.Names.{put_all, QueueState, TakesMore, by_test, all_both, block_of-same, Hearing, new_entries, block_of, mark_of, Row}
+use Rattle.scoop_model.proofs.Names.{newer_greeting, is_opened, is_taken, IsLogAt, IsNext, HandlerState, IsState, FitsMark, FitsNewest, HasMark, Mark}
+use Rattle.scoop_model.proofs.Names.{newly_opened}
+use Rattle.scoop_handler.specs.Marks.{is_open}
 use Rattle.scoop_model.proofs.Stands.{Stands}
-use Rattle.scoop_model.proofs.Order.Facts.{all_more_of}
+use Rattle.scoop_model.proofs.Order.{all_more_of}
 use Rattle.scoop_model.proofs.Tape.Slots.{Slot, slot_of, slot_queue, queues_of, slots_new, slots_put, put_in, put_slot, slots_cut}
 use Rattle.scoop_model.proofs.Tape.Fits.{IsBeginningOf, IsBegun, TapeFits, open_tape, cut_tape, put_tape, beginning_next}
 
@@ -46,8 +27,7 @@ pub each_queue : (P : PrivateQueue → Type 0) (ss : List Slot) → AllByRecursi
 each_queue P [] all = tt
 each_queue P (s ∷ ss) all = at s.block s.ran s.rest s.state all (each_queue P ss)
   where
-    at :
-        (b : Block) (ran rest : List Entry) (o : Option QueueState) → AllByRecursion P (queues_of (slot_of b ran rest o ∷ ss))
+    at : (b : Block) (ran rest : List Entry) (o : Option QueueState) → AllByRecursion P (queues_of (slot_of b ran rest o ∷ ss))
         → (AllByRecursion P (queues_of ss) → AllByRecursion (InQueue P) ss) → AllByRecursion (InQueue P) (slot_of b ran rest o ∷ ss)
     at b ran rest None all later = (record { has = λ t e. absurd (none-some _ e) }, later all)
     at b ran rest (Some u) all later =
@@ -99,17 +79,13 @@ live_slot marks s has = record {
     not_true false h = refl
 
 pub live_slots : (s : HandlerState) (ss : List Slot) → IsState s → s.queues ≡ queues_of ss → AllByRecursion (IsLiveIfOpen s.marks) ss
-live_slots s ss is queues =
-    all_more_of (InQueue (HasMark s.marks)) (IsLiveIfOpen s.marks) (live_slot s.marks) ss
-    (each_queue (HasMark s.marks) ss (subst (AllByRecursion (HasMark s.marks)) queues is.marked))
+live_slots s ss is queues = grind (arith, all_more_of, each_queue, live_slot)
 
 -- ---- a Log is taken
 
-module _
-    (log : Block → List Entry) (s : HandlerState) (b : Block) (n : ℕ) (es : List Entry) (k : Mark) (at : IsLogAt s b k) (next : IsNext k n es)
+module _ (log : Block → List Entry) (s : HandlerState) (b : Block) (n : ℕ) (es : List Entry) (k : Mark) (at : IsLogAt s b k) (next : IsNext k n es)
     (st : Stands (log b) n es) where
-  grown :
-      (c : Block) (ran rest : List Entry) (u : QueueState) → b ≡ c → IsBegun log (slot_of c ran rest (Some u))
+  grown : (c : Block) (ran rest : List Entry) (u : QueueState) → b ≡ c → IsBegun log (slot_of c ran rest (Some u))
       → HasMark s.marks (slot_queue (slot_of c ran rest (Some u)) u)
       → IsBegun log (put_slot (new_entries n es k) (slot_of c ran rest (Some u)) u)
   grown c ran rest u is i has =
@@ -126,8 +102,7 @@ module _
   put_begun : (t : Slot) → IsBegun log t → InQueue (HasMark s.marks) t → IsBegun log (put_in b (new_entries n es k) t)
   put_begun t i has = by t.block t.ran t.rest t.state i has
     where
-      by :
-          (c : Block) (ran rest : List Entry) (o : Option QueueState) → IsBegun log (slot_of c ran rest o) → InQueue (HasMark s.marks) (slot_of c ran rest o)
+      by : (c : Block) (ran rest : List Entry) (o : Option QueueState) → IsBegun log (slot_of c ran rest o) → InQueue (HasMark s.marks) (slot_of c ran rest o)
           → IsBegun log (put_in b (new_entries n es k) (slot_of c ran rest o))
       by c ran rest None i has = i
       by c ran rest (Some u) i has =
@@ -135,8 +110,7 @@ module _
           (λ same. grown c ran rest u (same_block-true b c same) i (has.has u refl))
           (λ other. i)
 
-  take_tape :
-      (bs : List Block) (rs : List (Block × ℕ × Entry)) (ss : List Slot) → IsState s → TapeFits log s.queues bs rs ss
+  take_tape : (bs : List Block) (rs : List (Block × ℕ × Entry)) (ss : List Slot) → IsState s → TapeFits log s.queues bs rs ss
       → TapeFits log (put_all b (new_entries n es k) s.queues) bs rs (slots_put b (new_entries n es k) ss)
   take_tape bs rs ss is f =
       put_tape log s.queues bs rs ss f b (new_entries n es k) is.queues.apart
@@ -149,8 +123,7 @@ module _
 abbrev pub StandsIfLog : (Block → List Entry) → Message → Type 0
 StandsIfLog log m = (h : HandlerId) (b : Block) (n : ℕ) (es : List Entry) → m ≡ Log h b n es → Stands (log b) n es
 
-same_opened :
-    (log : Block → List Entry) (qs : List PrivateQueue) (bs : List Block) (rs : List (Block × ℕ × Entry)) (ss : List Slot)
+same_opened : (log : Block → List Entry) (qs : List PrivateQueue) (bs : List Block) (rs : List (Block × ℕ × Entry)) (ss : List Slot)
     → TapeFits log qs bs rs ss → TapeFits log qs (bs ++ []) rs ss
 same_opened log qs bs rs ss f = subst (λ xs. TapeFits log qs xs rs ss) (sym (append-nil bs)) f
 

@@ -1,16 +1,9 @@
--- What every event keeps of a site: its slots fit its tape, blocks whose private queues are gone are whole, and
--- messages tell what was received. What that shows of a world in order.
-use Rattle.std.proofs.Common.{List}
-use Rattle.std.specs.List.{AllByRecursion}
-use Rattle.scoop_handler.proofs.Fronts.{MarksGrow-refl}
-use Rattle.scoop_model.specs.World.{World, Site, number_of}
-use Rattle.scoop_message.specs.Lists.{NoRepeats}
-use Rattle.scoop_model.specs.Safe.{Tape, WholeBeforeNext}
-use Rattle.scoop_model.proofs.Order.Facts.{SiteFits, Ordered}
-use Rattle.scoop_model.proofs.Logging.Facts.{Grown}
-use Rattle.scoop_model.proofs.Tape.Slots.{Slot}
-use Rattle.scoop_handler.proofs.Basics.{all_both}
-use Rattle.scoop_model.proofs.Tape.Sites.{SiteTape, logs_at, grown_tape, site_tape_shown}
+-- The invariant about a site: its slots fit its tape, blocks whose private queues are gone are whole, and messages report the
+-- entries that were received. The file also shows its consequence for a world in order.
+use Rattle.scoop_model.proofs.Names.{List, AllByRecursion, NoRepeats, all_both, MarksGrow-refl, Tape, WholeBeforeNext, World, Site, number_of}
+use Rattle.scoop_model.proofs.Order.{SiteFits, Ordered}
+use Rattle.scoop_model.proofs.Logging.{Grown}
+use Rattle.scoop_model.proofs.Tape.{Slot, SiteTape, logs_at, grown_tape, site_tape_shown}
 use Rattle.scoop_model.proofs.Whole.Sent.{TellsAlike}
 use Rattle.scoop_model.proofs.Whole.Marks.{MarksTold, marks_alike}
 use Rattle.scoop_model.proofs.Whole.Rows.{SlotsWhole, slots_moved}

@@ -1,36 +1,14 @@
--- What a handler has told of its marks: each newer incarnation was welcomed, and each count of received entries is the
--- greatest one that was told. Every row of the table keeps it.
-use Rattle.std.proofs.Common.{◌≡◌, ℕ, ◌<◌, ◌≤◌, Bool, true, false, true≢false, List, [], ◌∷◌, ◌++◌, map, Some, None, refl, sym, ap, ◌∙◌, subst, ⊎_elim, arith}
-use Rattle.std.specs.Prelude.{option_to_list}
-use Rattle.std.specs.List.{AllByRecursion}
-use Rattle.std.proofs.lemmas.Bool.{cases_eq}
-use Rattle.scoop_message.specs.declared.name.Block.{Block}
-use Rattle.scoop_message.specs.declared.name.ClientId.{ClientId}
-use Rattle.scoop_message.specs.declared.name.HandlerId.{HandlerId}
-use Rattle.scoop_message.specs.declared.message.Message.{Message}
-use Rattle.scoop_message.specs.declared.message.Message.TheVariants.{Welcome, Logged}
-use Rattle.scoop_message.specs.Entries.{ends, last_number}
-use Rattle.scoop_message.specs.Message.{same_block, same_client}
-use Rattle.scoop_handler.specs.declared.mark.Mark.{Mark}
+-- The claims that a handler has sent about its marks: each newer incarnation was welcomed, and each count of received entries is the
+-- greatest one that was sent. Every case of the table keeps them.
+use Rattle.scoop_model.proofs.Names.{◌≡◌, ℕ, ◌<◌, List, [], ◌∷◌, ◌++◌, map, Some, None, refl, sym, ap, ◌∙◌, subst, arith, ◌≤◌, true, false, true≢false, Bool}
+use Rattle.scoop_model.proofs.Names.{option_to_list, ⊎_elim, cases_eq, AllByRecursion, last_number, ends, same_block, same_client, Message, Welcome, Logged}
+use Rattle.scoop_model.proofs.Names.{Block, ClientId, HandlerId, MarksGrow-after, by_test, All-mark_of, All-set_mark, All-add_mark, mark_of-client}
+use Rattle.scoop_model.proofs.Names.{same_client-refl, block_of-same, grows-row, MarksGrow, Hearing, greeting_mark, block_of, fresh_mark, opened_mark}
+use Rattle.scoop_model.proofs.Names.{with_received, without_hold, set_mark, mark_of, add_mark, Row, first_greeting, newer_greeting, lock_granted, is_opened}
+use Rattle.scoop_model.proofs.Names.{unlock_of_a_block_never_held, is_freed, is_taken, already_received, mark_after, HandlerState, Mark, AtHeld, AtShut, Took}
+use Rattle.scoop_model.proofs.Names.{Ran, all_mapped, count_in, greatest_count}
 use Rattle.scoop_handler.specs.declared.mark.Stage.{Stage}
-use Rattle.scoop_handler.specs.declared.mark.Stage.TheVariants.{Held as AtHeld, Shut as AtShut}
-use Rattle.scoop_handler.specs.declared.note.Note.TheVariants.{Took}
-use Rattle.scoop_handler.specs.declared.ran.Ran.{Ran}
-use Rattle.scoop_handler.specs.Growing.{MarksGrow}
-use Rattle.scoop_handler.specs.Marks.{block_of, fresh_mark, opened_mark, with_received, without_hold, mark_of, set_mark, add_mark}
-use Rattle.scoop_handler.specs.State.{HandlerState}
-use Rattle.scoop_handler.specs.Hearing.{Hearing, greeting_mark}
-use Rattle.scoop_handler.specs.Running.{mark_after}
-use Rattle.scoop_handler.specs.Rows.{Row, first_greeting, newer_greeting, lock_granted, is_opened, unlock_of_a_block_never_held, is_freed, already_received}
-use Rattle.scoop_handler.specs.Rows.{is_taken}
-use Rattle.scoop_handler.proofs.After.{MarksGrow-after}
-use Rattle.scoop_handler.proofs.MarkLists.{same_client-refl, mark_of-client, All-mark_of, All-set_mark, All-add_mark}
-use Rattle.scoop_handler.proofs.TableLaws.{grows-row, block_of-same}
-use Rattle.scoop_model.specs.World.{count_in, greatest_count}
-use Rattle.scoop_model.proofs.Basics.{by_test}
-use Rattle.scoop_model.proofs.Order.Holding.{IsReachedIn, Upto, upto_itself, reached_more}
-use Rattle.scoop_model.proofs.Order.Facts.{all_more_of}
-use Rattle.scoop_model.proofs.Order.Lists.{same_block_is, same_block_itself}
+use Rattle.scoop_model.proofs.Order.{IsReachedIn, Upto, upto_itself, reached_more, all_more_of, same_block_is, same_block_itself}
 use Rattle.scoop_model.proofs.Whole.Sent.{IsGreeted, TellsAlike, alike_more, count_itself, count_other, greatest_new, greatest_stays, greeted_last}
 use Rattle.scoop_model.proofs.Whole.Sent.{greeted_more}
 
@@ -41,7 +19,7 @@ pub record MarkTold (ms : List Message) (h : HandlerId) (k : Mark) : Type 0 wher
   pub greeted : (b : Block) → b.client ≡ k.client → b.inc < k.inc → IsGreeted h b ms
   pub received : greatest_count h (block_of k) ms ≡ k.received
 
--- counts were told only of blocks that their clients' marks have reached
+-- counts were sent only of blocks that their clients' marks have reached
 pub record MarksTold (ms : List Message) (h : HandlerId) (marks : List Mark) : Type 0 where
   pub each : AllByRecursion (MarkTold ms h) marks
   pub reached : (b : Block) → 0 < greatest_count h b ms → IsReachedIn marks b
@@ -66,8 +44,7 @@ marks_alike ms ns h marks same t = record {
 
 -- ---- a block that isn't reached has no count
 
-none_counted :
-    (ms : List Message) (h : HandlerId) (marks : List Mark) (b : Block) → ((x : Block) → 0 < greatest_count h x ms → IsReachedIn marks x)
+none_counted : (ms : List Message) (h : HandlerId) (marks : List Mark) (b : Block) → ((x : Block) → 0 < greatest_count h x ms → IsReachedIn marks x)
     → (IsReachedIn marks b → ⊥) → greatest_count h b ms ≡ 0
 none_counted ms h marks b all past =
     ⊎_elim
@@ -80,10 +57,7 @@ none_counted ms h marks b all past =
 
 -- no mark of the client, or one that is below the block
 pub not_reached : (marks : List Mark) (b : Block) (k : Mark) → mark_of b.client marks ≡ Some k → (Upto b.inc b.num k.inc k.num → ⊥) → IsReachedIn marks b → ⊥
-not_reached marks b k found below r =
-    let both : Some r.mark ≡ Some k = sym r.found ∙ found in
-    let same : r.mark ≡ k = cc in
-    below (subst (λ (x : Mark). Upto b.inc b.num x.inc x.num) same r.upto)
+not_reached marks b k found below r = grind arith
 
 pub none_reached : (marks : List Mark) (b : Block) → mark_of b.client marks ≡ None → IsReachedIn marks b → ⊥
 none_reached marks b none r = let both : None ≡ Some r.mark = sym none ∙ r.found in cc
@@ -107,8 +81,7 @@ zero_le n = omega arith
 -- ---- what one mark tells once it moves
 
 -- the handler's marks stay at the same blocks and counts
-same_mark :
-    (ms : List Message) (h : HandlerId) (k x : Mark) → x.client ≡ k.client → x.inc ≡ k.inc → x.num ≡ k.num → x.received ≡ k.received → MarkTold ms h k
+same_mark : (ms : List Message) (h : HandlerId) (k x : Mark) → x.client ≡ k.client → x.inc ≡ k.inc → x.num ≡ k.num → x.received ≡ k.received → MarkTold ms h k
     → MarkTold ms h x
 same_mark ms h k x client inc num received t = record {
   greeted = λ b own newer. t.greeted b (own ∙ client) (let e = inc in omega (arith, newer, e));
@@ -119,8 +92,7 @@ same_mark ms h k x client inc num received t = record {
     same i = record { client = client i; inc = inc i; num = num i }
 
 -- a mark that comes to a newer block of its incarnation
-next_mark :
-    (ms : List Message) (h : HandlerId) (marks : List Mark) (b : Block) (k : Mark) (stage : Stage) → mark_of b.client marks ≡ Some k → k.inc ≡ b.inc
+next_mark : (ms : List Message) (h : HandlerId) (marks : List Mark) (b : Block) (k : Mark) (stage : Stage) → mark_of b.client marks ≡ Some k → k.inc ≡ b.inc
     → k.num < b.num
     → MarksTold ms h marks → MarkTold ms h (fresh_mark b stage)
 next_mark ms h marks b k stage found inc newer t =
@@ -131,8 +103,7 @@ next_mark ms h marks b k stage found inc newer t =
     }
 
 -- a mark of a newer incarnation, which is welcomed
-greeted_mark :
-    (ms : List Message) (h : HandlerId) (marks : List Mark) (c : ClientId) (inc : ℕ) → (IsReachedIn marks (block_of (greeting_mark c inc)) → ⊥)
+greeted_mark : (ms : List Message) (h : HandlerId) (marks : List Mark) (c : ClientId) (inc : ℕ) → (IsReachedIn marks (block_of (greeting_mark c inc)) → ⊥)
     → MarksTold ms h marks → MarkTold (ms ++ Welcome h c inc ∷ []) h (greeting_mark c inc)
 greeted_mark ms h marks c inc past t = record {
   greeted = λ b own newer. greeted_last h b ms c inc own newer;
@@ -140,7 +111,7 @@ greeted_mark ms h marks c inc past t = record {
       ∙ none_counted ms h marks (block_of (greeting_mark c inc)) t.reached past;
 }
 
--- ---- a count more is told
+-- ---- one more count is sent
 
 pub block_reached : (marks : List Mark) (b : Block) (k : Mark) → mark_of b.client marks ≡ Some k → block_of k ≡ b → IsReachedIn marks b
 block_reached marks b k found same = record {
@@ -155,8 +126,7 @@ pub record IsMoreTold (ms ns : List Message) (h : HandlerId) (b : Block) (k : Ma
   pub own : greatest_count h b ns ≡ last
   pub others : (x : Block) → same_block b x ≡ false → greatest_count h x ns ≡ greatest_count h x ms
 
-module _
-    (ms : List Message) (s : HandlerState) (b : Block) (k : Mark) (last : ℕ) (found : mark_of b.client s.marks ≡ Some k) (same : block_of k ≡ b)
+module _ (ms : List Message) (s : HandlerState) (b : Block) (k : Mark) (last : ℕ) (found : mark_of b.client s.marks ≡ Some k) (same : block_of k ≡ b)
     (new : k.received < last) (t : MarksTold ms s.number s.marks) where
   abbrev ns : List Message
   ns = ms ++ Logged s.number b last ∷ []
@@ -201,15 +171,14 @@ module _
       (λ _ is. t.reached x (let e = count_more.others x is in omega (arith, e, some)))
       refl)
 
-  taken_told :
-      (ended : Bool) → MarksGrow s.marks (set_mark (with_received last ended k) s.marks)
+  taken_told : (ended : Bool) → MarksGrow s.marks (set_mark (with_received last ended k) s.marks)
       → MarksTold ns s.number (set_mark (with_received last ended k) s.marks)
   taken_told ended grows = record {
     each = All-set_mark (MarkTold ms s.number) (MarkTold ns s.number) (with_received last ended k) s.marks (taken_mark ended) other_mark t.each;
     reached = taken_reached (set_mark (with_received last ended k) s.marks) grows;
   }
 
--- ---- what is told after each row
+-- ---- the messages after each case
 
 -- a reply tells nothing new, unless entries are taken
 pub alike-row :
@@ -235,9 +204,8 @@ alike-row ms s m h (already_received x b n es k here at before none) t quiet = a
         refl
 alike-row ms s m h r t quiet = alike_more s.number ms h.1.reply (λ b. zero_le (greatest_count s.number b ms))
 
--- the marks change while nothing new is told
-module _
-    (ms ns : List Message) (h : HandlerId) (marks news : List Mark) (alike : TellsAlike h ms ns) (grows : MarksGrow marks news)
+-- the marks change and no message says anything new
+module _ (ms ns : List Message) (h : HandlerId) (marks news : List Mark) (alike : TellsAlike h ms ns) (grows : MarksGrow marks news)
     (t : MarksTold ms h marks) where
   now : MarksTold ns h marks
   now = marks_alike ms ns h marks alike t
@@ -258,8 +226,7 @@ module _
   found_told : (b : Block) (k : Mark) → mark_of b.client marks ≡ Some k → MarkTold ns h k
   found_told b k found = All-mark_of (MarkTold ns h) b.client marks k now.each found
 
-pub marks_told-row :
-    (ms : List Message) (s : HandlerState) (m : Message) (h : Hearing) → Row s m h → MarksTold ms s.number s.marks
+pub marks_told-row : (ms : List Message) (s : HandlerState) (m : Message) (h : Hearing) → Row s m h → MarksTold ms s.number s.marks
     → MarksTold (ms ++ option_to_list h.1.reply) s.number h.0.marks
 marks_told-row ms s m h (first_greeting x c inc here none room) t =
     let r = first_greeting x c inc here none room in
@@ -303,10 +270,6 @@ marks_told-row ms s m h r t = marks_alike ms (ms ++ option_to_list h.1.reply) s.
 -- an entry that runs changes no count
 pub marks_told-after : (ms : List Message) (h : HandlerId) (r : Ran) (marks : List Mark) → MarksTold ms h marks → MarksTold ms h (map (mark_after r) marks)
 marks_told-after ms h r marks t = record {
-  each = each_after marks t.each;
+  each = all_mapped (mark_after r) (MarkTold ms h) (MarkTold ms h) (λ k m. record { greeted = m.greeted; received = m.received }) marks t.each;
   reached = λ b some. reached_more marks (map (mark_after r) marks) b (MarksGrow-after r marks) (t.reached b some);
 }
-  where
-    each_after : (ks : List Mark) → AllByRecursion (MarkTold ms h) ks → AllByRecursion (MarkTold ms h) (map (mark_after r) ks)
-    each_after [] all = tt
-    each_after (k ∷ ks) all = (record { greeted = all.0.greeted; received = all.0.received }, each_after ks all.1)

@@ -1,29 +1,13 @@
 -- Every row of the table by which a handler hears keeps what is so of the slots.
-use Rattle.std.proofs.Common.{◌≡◌, ℕ, ◌+◌, ◌-◌, ◌<◌, false, List, [], ◌∷◌, ◌++◌, length, Some, sym, ap, ◌∙◌, subst, arith}
-use Rattle.std.specs.Prelude.{option_to_list}
-use Rattle.std.specs.List.{AllByRecursion}
-use Rattle.std.proofs.lemmas.List.{length-drop}
-use Rattle.scoop_message.specs.declared.name.Block.{Block}
-use Rattle.scoop_message.specs.declared.name.HandlerId.{HandlerId}
-use Rattle.scoop_message.specs.declared.request.Entry.{Entry}
-use Rattle.scoop_message.specs.declared.message.Message.{Message}
-use Rattle.scoop_message.specs.declared.message.Message.TheVariants.{Logged}
-use Rattle.scoop_message.specs.Entries.{ends, last_number}
-use Rattle.scoop_handler.specs.declared.mark.Mark.{Mark}
-use Rattle.scoop_handler.specs.Growing.{MarksGrow}
-use Rattle.scoop_handler.specs.Marks.{block_of, is_open, mark_of, opened_mark, set_mark, with_received}
-use Rattle.scoop_handler.specs.State.{HandlerState, IsState, IsUnusedUnlessOpen}
-use Rattle.scoop_handler.specs.Hearing.{Hearing, greeting_mark, is_closed, new_entries}
-use Rattle.scoop_handler.specs.Rows.{Row, IsLogAt, IsNext, newer_greeting, is_opened, is_taken}
-use Rattle.scoop_handler.proofs.MarkLists.{mark_of-client, mark_of-set_mark_own, All-mark_of}
+use Rattle.scoop_model.proofs.Names.{◌≡◌, ℕ, ◌+◌, ◌<◌, List, [], ◌∷◌, ◌++◌, Some, sym, ap, ◌∙◌, subst, arith, false, length, ◌-◌, option_to_list, length-drop}
+use Rattle.scoop_model.proofs.Names.{AllByRecursion, last_number, ends, Message, Logged, Block, HandlerId, Entry, All-mark_of, mark_of-set_mark_own}
+use Rattle.scoop_model.proofs.Names.{mark_of-client, block_of-same, grows-row, MarksGrow, Hearing, greeting_mark, new_entries, is_closed, block_of, opened_mark}
+use Rattle.scoop_model.proofs.Names.{with_received, set_mark, mark_of, Row, newer_greeting, is_opened, is_taken, IsLogAt, IsNext, HandlerState, IsState}
+use Rattle.scoop_model.proofs.Names.{IsUnusedUnlessOpen, Mark, first_false, greatest_count}
+use Rattle.scoop_handler.specs.Marks.{is_open}
 use Rattle.scoop_handler.proofs.States.{ends-drop}
-use Rattle.scoop_handler.proofs.TableLaws.{grows-row, block_of-same}
-use Rattle.scoop_model.specs.World.{greatest_count}
-use Rattle.scoop_model.proofs.Basics.{first_false}
-use Rattle.scoop_model.proofs.Order.Facts.{all_more_of, all_pushed}
-use Rattle.scoop_model.proofs.Order.Holding.{reached_more}
-use Rattle.scoop_model.proofs.Tape.Slots.{Slot, new_slot}
-use Rattle.scoop_model.proofs.Tape.Taking.{slots_after}
+use Rattle.scoop_model.proofs.Order.{all_more_of, all_pushed, reached_more}
+use Rattle.scoop_model.proofs.Tape.{Slot, new_slot, slots_after}
 use Rattle.scoop_model.proofs.Whole.Sent.{TellsAlike}
 use Rattle.scoop_model.proofs.Whole.Marks.{MarkTold, MarksTold, IsMoreTold, alike-row, block_reached, count_more}
 use Rattle.scoop_model.proofs.Whole.Slots.{SlotWhole, IsTaken, slot_more, passed_from, new_whole, slots_cut_whole, slots_put_whole}
@@ -31,7 +15,7 @@ use Rattle.scoop_model.proofs.Whole.Slots.{SlotWhole, IsTaken, slot_more, passed
 abbrev pub SlotsWhole : List Message → HandlerId → List Mark → List Slot → Type 0
 SlotsWhole ms h marks ss = AllByRecursion (SlotWhole ms h marks) ss
 
--- the marks grow, and nothing new is told
+-- the marks grow, and no message says anything new
 pub slots_moved :
     (ms ns : List Message) (h : HandlerId) (old new : List Mark) (ss : List Slot) → TellsAlike h ms ns → MarksGrow old new → SlotsWhole ms h old ss
     → SlotsWhole ns h new ss
@@ -40,8 +24,7 @@ slots_moved ms ns h old new ss alike grows all =
 
 -- ---- a Log is taken
 
-module _
-    (ms : List Message) (s : HandlerState) (b : Block) (n : ℕ) (es : List Entry) (k : Mark) (at : IsLogAt s b k) (next : IsNext k n es)
+module _ (ms : List Message) (s : HandlerState) (b : Block) (n : ℕ) (es : List Entry) (k : Mark) (at : IsLogAt s b k) (next : IsNext k n es)
     (goes_on : is_closed k (last_number n es) es ≡ false) (t : MarksTold ms s.number s.marks) where
   abbrev news : List Entry
   news = new_entries n es k
@@ -64,8 +47,7 @@ module _
   told : IsMoreTold ms (ms ++ Logged s.number b (last_number n es) ∷ []) s.number b k (last_number n es)
   told = count_more ms s b k (last_number n es) at.heard.found same next.new t
 
-  takes :
-      MarksGrow s.marks (set_mark after s.marks)
+  takes : MarksGrow s.marks (set_mark after s.marks)
       → IsTaken ms (ms ++ Logged s.number b (last_number n es) ∷ []) s.number s.marks (set_mark after s.marks) b news
   takes grows = record {
     grows = grows;

@@ -1,17 +1,10 @@
 -- Whatever happens, each handler's tape is of beginnings of logs, and a block runs something only once each block that
 -- opened before it is whole.
-use Rattle.std.proofs.Common.{List}
-use Rattle.std.specs.List.{AllByRecursion}
-use Rattle.scoop_model.specs.declared.event.Event.{Event}
-use Rattle.scoop_model.specs.World.{World}
-use Rattle.scoop_model.specs.Step.{Placement, Newcomer, opening}
-use Rattle.scoop_model.specs.Opening.{MayOpen}
-use Rattle.scoop_model.specs.Reach.{steps}
-use Rattle.scoop_model.specs.Safe.{Tape, WholeBeforeNext}
+use Rattle.scoop_model.proofs.Names.{List, AllByRecursion, MayOpen, steps, Tape, WholeBeforeNext, Placement, Newcomer, opening, World, Event}
 use Rattle.scoop_model.proofs.Events.{Changes, steps_kept}
-use Rattle.scoop_model.proofs.Order.Joint.{joint_once}
-use Rattle.scoop_model.proofs.Sound.Runs.{both_kept}
-use Rattle.scoop_model.proofs.Logging.Runs.{Told, told_kept, opens_told}
+use Rattle.scoop_model.proofs.Order.{joint_once}
+use Rattle.scoop_model.proofs.Sound.{both_kept}
+use Rattle.scoop_model.proofs.Logging.{Told, told_kept, opens_told}
 use Rattle.scoop_model.proofs.Whole.Facts.{Taped, all_tapes, all_whole}
 use Rattle.scoop_model.proofs.Whole.Steps.{taped_kept, opens_taped}
 

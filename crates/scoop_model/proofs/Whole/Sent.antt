@@ -1,37 +1,21 @@
--- What the messages sent so far tell of a handler, as one more is sent.
-use Rattle.std.proofs.Common.{◌≡◌, ℕ, ◌≤◌, ◌<◌, true, false, ◌||◌, true≢false, List, [], ◌∷◌, ◌++◌, Option, Some, None, refl, sym, ap, ◌∙◌, arith, append-nil}
-use Rattle.std.specs.Prelude.{max, nat_lt, ◌&&◌, if◌then◌else◌, option_to_list}
-use Rattle.std.specs.List.{list_any}
-use Rattle.std.proofs.lemmas.Bool.Decides.{nat_tests}
-use Rattle.std.proofs.lemmas.List.Folds.{list_any-append}
-use Rattle.scoop_message.specs.declared.name.Block.{Block}
-use Rattle.scoop_message.specs.declared.name.ClientId.{ClientId}
-use Rattle.scoop_message.specs.declared.name.HandlerId.{HandlerId}
-use Rattle.scoop_message.specs.declared.message.Message.{Message}
-use Rattle.scoop_message.specs.declared.message.Message.TheVariants.{Welcome, Logged}
-use Rattle.scoop_message.specs.Message.{handler_of, is_for_handler, same_block, same_client, same_handler}
-use Rattle.scoop_message.proofs.Same.{block_decides, client_decides, handler_decides}
-use Rattle.scoop_model.specs.World.{is_newer_welcome, count_in, greatest_count}
-use Rattle.scoop_model.proofs.Basics.{by_test}
+-- The claims of all messages sent so far about one handler, as one more is sent.
+use Rattle.scoop_model.proofs.Names.{◌≡◌, ℕ, ◌<◌, List, [], ◌∷◌, ◌++◌, Some, None, refl, sym, ap, ◌∙◌, arith, append-nil, ◌≤◌, Option, true, if◌then◌else◌}
+use Rattle.scoop_model.proofs.Names.{◌&&◌, false, true≢false, ◌||◌, option_to_list, nat_lt, max, nat_tests, list_any-append, list_any, handler_decides}
+use Rattle.scoop_model.proofs.Names.{client_decides, block_decides, same_block, handler_of, is_for_handler, same_client, same_handler, Message, Welcome, Logged}
+use Rattle.scoop_model.proofs.Names.{Block, ClientId, HandlerId, count_in, greatest_count, is_newer_welcome}
 
 -- ---- one message
 
 pub same_handler_itself : (h : HandlerId) → same_handler h h ≡ true
 same_handler_itself h = (handler_decides h h).1 refl
 
--- a count is told of its own handler and block
+-- a count is of its own handler and block
 pub count_itself : (h : HandlerId) (b : Block) (n : ℕ) → count_in h b (Logged h b n) ≡ n
 count_itself h b n = ap (λ t. if t then n else 0) (ap (λ t. t && same_block b b) (same_handler_itself h) ∙ (block_decides b b).1 refl)
 
 -- and of no other
 pub count_other : (x h : HandlerId) (y b : Block) (n : ℕ) → (x ≡ h → y ≡ b → ⊥) → count_in h b (Logged x y n) ≡ 0
-count_other x h y b n apart =
-    by_test (λ t. same_handler x h ≡ t → (if t && same_block y b then n else 0) ≡ 0) (same_handler x h)
-    (λ _ here.
-    by_test (λ t. same_block y b ≡ t → (if t then n else 0) ≡ 0) (same_block y b)
-    (λ _ is. absurd (apart ((handler_decides x h).0 here) ((block_decides y b).0 is)))
-    (λ _ is. refl) refl)
-    (λ _ there. refl) refl
+count_other x h y b n apart = grind (arith, block_decides, handler_decides)
 
 -- nor is one told by a message of another handler
 count_elsewhere : (h : HandlerId) (b : Block) (m : Message) → (handler_of m ≡ h → ⊥) → count_in h b m ≡ 0
@@ -65,8 +49,7 @@ told_in h b None = 0
 told_in h b (Some m) = count_in h b m
 
 -- a count that isn't above the greatest one leaves it
-pub greatest_stays :
-    (h : HandlerId) (b : Block) (ms : List Message) (o : Option Message) → told_in h b o ≤ greatest_count h b ms
+pub greatest_stays : (h : HandlerId) (b : Block) (ms : List Message) (o : Option Message) → told_in h b o ≤ greatest_count h b ms
     → greatest_count h b (ms ++ option_to_list o) ≡ greatest_count h b ms
 greatest_stays h b ms None le = ap (greatest_count h b) (append-nil ms)
 greatest_stays h b ms (Some m) le = let more = greatest_pushed h b ms m in omega (arith, more, le)
@@ -85,9 +68,7 @@ greeted_more h b ms o e = list_any-append (is_newer_welcome h b) ms (option_to_l
 pub greeted_last :
     (h : HandlerId) (b : Block) (ms : List Message) (c : ClientId) (inc : ℕ) → b.client ≡ c → b.inc < inc → IsGreeted h b (ms ++ Welcome h c inc ∷ [])
 greeted_last h b [] c inc own newer = ap (λ t. t || false) (newer_welcome h b c inc own newer)
-greeted_last h b (m ∷ ms) c inc own newer =
-    by_test (λ t. (t || list_any (is_newer_welcome h b) (ms ++ Welcome h c inc ∷ [])) ≡ true) (is_newer_welcome h b m) (λ first. refl)
-    (λ later. greeted_last h b ms c inc own newer)
+greeted_last h b (m ∷ ms) c inc own newer = grind (arith, list_any, greeted_last h b ms c inc own newer)
 
 -- ---- messages that tell a handler's counts as before
 
@@ -98,22 +79,20 @@ pub record TellsAlike (h : HandlerId) (ms ns : List Message) : Type 0 where
 pub alike_same : (h : HandlerId) (ms : List Message) → TellsAlike h ms ms
 alike_same h ms = record { greeted = λ b e. e; counted = λ b. refl }
 
-pub alike_more :
-    (h : HandlerId) (ms : List Message) (o : Option Message) → ((b : Block) → told_in h b o ≤ greatest_count h b ms)
+pub alike_more : (h : HandlerId) (ms : List Message) (o : Option Message) → ((b : Block) → told_in h b o ≤ greatest_count h b ms)
     → TellsAlike h ms (ms ++ option_to_list o)
 alike_more h ms o le = record { greeted = λ b e. greeted_more h b ms o e; counted = λ b. greatest_stays h b ms o (le b) }
 
 none_told : (h : HandlerId) (ms : List Message) (o : Option Message) → ((b : Block) → told_in h b o ≡ 0) → TellsAlike h ms (ms ++ option_to_list o)
 none_told h ms o none = alike_more h ms o (λ b. let e = none b in omega (arith, e))
 
--- what a client sends
-pub alike_from_client :
-    (h : HandlerId) (ms : List Message) (o : Option Message) → ((m : Message) → o ≡ Some m → is_for_handler m ≡ true)
+-- a message that a client sends
+pub alike_from_client : (h : HandlerId) (ms : List Message) (o : Option Message) → ((m : Message) → o ≡ Some m → is_for_handler m ≡ true)
     → TellsAlike h ms (ms ++ option_to_list o)
 alike_from_client h ms None goes = none_told h ms None (λ b. refl)
 alike_from_client h ms (Some m) goes = none_told h ms (Some m) (λ b. count_of_client h b m (goes m refl))
 
--- what another handler replies
+-- a reply of another handler
 pub alike_elsewhere :
     (h : HandlerId) (ms : List Message) (o : Option Message) → ((m : Message) → o ≡ Some m → handler_of m ≡ h → ⊥) → TellsAlike h ms (ms ++ option_to_list o)
 alike_elsewhere h ms None apart = none_told h ms None (λ b. refl)

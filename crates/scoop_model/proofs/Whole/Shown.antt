@@ -1,23 +1,10 @@
 -- A block runs something only once each block that opened before it is whole, where slots tell so.
-use Rattle.std.proofs.Common.{◌≡◌, ◌≢◌, inl, inr, ℕ, ◌+◌, true, IsTrue, List, [], ◌∷◌, ◌++◌, length, map, take, Option, Some, None, refl, sym, ap, ◌∙◌, subst}
-use Rattle.std.proofs.Common.{⊎_elim, arith, append_assoc}
-use Rattle.std.specs.List.{AllByRecursion}
-use Rattle.std.proofs.Math.Seq.{take-append_seam}
-use Rattle.scoop_message.specs.declared.name.Block.{Block}
-use Rattle.scoop_message.specs.declared.request.Entry.{Entry}
-use Rattle.scoop_message.specs.Entries.{ends}
-use Rattle.scoop_queue.specs.declared.state.QueueState.{QueueState}
-use Rattle.scoop_handler.specs.declared.ran.Ran.{Ran}
-use Rattle.scoop_handler.proofs.MarkLists.{mark_of-client, All-mark_of}
-use Rattle.scoop_model.specs.World.{World, Site, number_of, log_of, received, is_succeeded}
-use Rattle.scoop_message.specs.Lists.{NoRepeats}
-use Rattle.scoop_model.specs.Safe.{IsSubsequence, untold, numbered, part, entries_of, IsWhole, WholeBeforeNext}
-use Rattle.scoop_model.proofs.Order.Lists.{AreApart}
-use Rattle.scoop_model.proofs.Tape.Slots.{Slot, ran_in, blocks_of, NoneRan, Waits, InTurn}
-use Rattle.scoop_model.proofs.Tape.Fits.{IsBegun}
-use Rattle.scoop_handler.proofs.Basics.{all_both}
-use Rattle.scoop_model.proofs.Tape.Shown.{once_apart, left_apart, IsPart, slot_parts}
-use Rattle.scoop_model.proofs.Tape.Sites.{SiteTape, logs_at}
+use Rattle.scoop_model.proofs.Names.{◌≡◌, ℕ, ◌+◌, List, [], ◌∷◌, ◌++◌, map, Some, None, refl, sym, ap, ◌∙◌, subst, arith, Option, true, take, length, inl, inr}
+use Rattle.scoop_model.proofs.Names.{⊎_elim, append_assoc, IsTrue, ◌≢◌, take-append_seam, AllByRecursion, ends, NoRepeats, Block, Entry, QueueState, all_both}
+use Rattle.scoop_model.proofs.Names.{All-mark_of, mark_of-client, Ran, entries_of, IsSubsequence, WholeBeforeNext, untold, numbered, part, IsWhole, World, Site}
+use Rattle.scoop_model.proofs.Names.{number_of, log_of, received, is_succeeded}
+use Rattle.scoop_model.proofs.Order.{AreApart}
+use Rattle.scoop_model.proofs.Tape.{Slot, ran_in, blocks_of, NoneRan, Waits, InTurn, IsBegun, once_apart, left_apart, IsPart, slot_parts, SiteTape, logs_at}
 use Rattle.scoop_model.proofs.Whole.Marks.{MarkTold, MarksTold}
 use Rattle.scoop_model.proofs.Whole.Slots.{IsPassed, SlotWhole}
 use Rattle.scoop_model.proofs.Whole.Rows.{SlotsWhole}
@@ -29,11 +16,7 @@ pub told_entries : (rs : List Ran) (b : Block) (n : ℕ) (es : List Entry) → m
 told_entries [] b n [] e = refl
 told_entries [] b n (x ∷ xs) e = absurd (cc)
 told_entries (r ∷ rs) b n [] e = absurd (cc)
-told_entries (r ∷ rs) b n (x ∷ xs) e =
-    let head : untold r ≡ (b, n, x) = cc in
-    let tail : map untold rs ≡ numbered b (n + 1) xs = cc in
-    let entry : r.entry ≡ x = ap (λ (u : Block × ℕ × Entry). u.2) head in
-    λ i. entry i ∷ told_entries rs b (n + 1) xs tail i
+told_entries (r ∷ rs) b n (x ∷ xs) e = grind (arith, told_entries rs b)
 
 none_told : (rs : List Ran) → map untold rs ≡ [] → rs ≡ []
 none_told [] e = refl
@@ -65,21 +48,15 @@ module _ (w : World) (s : Site) (marks_told : MarksTold w.sent (number_of s) s.c
       (λ (p : IsPassed s.core.state.marks t.block). inr (succeeded t.block p, es ∙ sym all))
       d.whole
 
-  -- where nothing has run behind a slot, no block there has a part
-  none_behind :
-      (ss : List Slot) (between back : List Block) (later : Block) → NoneRan ss → AllByRecursion IsShown ss → blocks_of ss ≡ between ++ later ∷ back
+  -- if nothing has run after a slot, no later block has a part
+  none_behind : (ss : List Slot) (between back : List Block) (later : Block) → NoneRan ss → AllByRecursion IsShown ss → blocks_of ss ≡ between ++ later ∷ back
       → part later s ≡ []
   none_behind [] [] back later none all e = absurd (cc)
   none_behind [] (x ∷ between) back later none all e = absurd (cc)
-  none_behind (t ∷ ts) [] back later none all e =
-      let one : t.block ≡ later = cc in
-      none_told (part later s) (subst (λ b. map untold (part b s) ≡ []) one (all.0.told ∙ ap (numbered t.block 1) none.0))
-  none_behind (t ∷ ts) (x ∷ between) back later none all e =
-      let tail : blocks_of ts ≡ between ++ later ∷ back = cc in
-      none_behind ts between back later none.1 all.1 tail
+  none_behind (t ∷ ts) [] back later none all e = grind (arith, none_told)
+  none_behind (t ∷ ts) (x ∷ between) back later none all e = grind (arith, none_behind ts between back later)
 
-  before_whole :
-      (ss : List Slot) (front between back : List Block) (b later : Block) → InTurn ss → AllByRecursion IsShown ss
+  before_whole : (ss : List Slot) (front between back : List Block) (b later : Block) → InTurn ss → AllByRecursion IsShown ss
       → blocks_of ss ≡ front ++ b ∷ between ++ later ∷ back → part later s ≢ [] → IsWhole w s b
   before_whole [] [] between back b later turn all e some = absurd (cc)
   before_whole [] (x ∷ front) between back b later turn all e some = absurd (cc)
@@ -92,12 +69,10 @@ module _ (w : World) (s : Site) (marks_told : MarksTold w.sent (number_of s) s.c
       by_state one tail None is waits = subst (IsWhole w s) one (gone_whole t all.0 is)
       by_state one tail (Some q) is waits = absurd (some (none_behind ts between back later waits all.1 tail))
   before_whole (t ∷ ts) (x ∷ front) between back b later turn all e some =
-      let tail : blocks_of ts ≡ front ++ b ∷ between ++ later ∷ back = cc in
-      before_whole ts front between back b later turn.1 all.1 tail some
+      let tail : blocks_of ts ≡ front ++ b ∷ between ++ later ∷ back = cc in before_whole ts front between back b later turn.1 all.1 tail some
 
--- what opened here is left of the common list, in which no block repeats
-pub whole_shown :
-    (w : World) (s : Site) (js : List Block) (ss : List Slot) → NoRepeats js → IsSubsequence s.opened js → SiteTape (logs_at w s) s ss
+-- the blocks that opened here are a part of the common list, so no block repeats
+pub whole_shown : (w : World) (s : Site) (js : List Block) (ss : List Slot) → NoRepeats js → IsSubsequence s.opened js → SiteTape (logs_at w s) s ss
     → MarksTold w.sent (number_of s) s.core.state.marks → SlotsWhole w.sent (number_of s) s.core.state.marks ss → WholeBeforeNext w s
 whole_shown w s js ss once left f told whole front between back b later opened some =
     let apart : AreApart (blocks_of ss) = subst AreApart f.opened (left_apart left (once_apart js once)) in

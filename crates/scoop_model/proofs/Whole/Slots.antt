@@ -1,42 +1,18 @@
--- A block whose private queue is gone has run to its End, or a newer incarnation of its client has greeted; and of each
--- block as many entries were received as the greatest count tells. Every change of the slots keeps it.
-use Rattle.std.proofs.Common.{◌≡◌, ◌⊎◌, inl, inr, ◌+◌, ◌<◌, ◌≤◌, Bool, true, false, ◌&&◌, ◌==◌, not, IsTrue, true≢false, List, [], ◌∷◌, ◌++◌, length, map}
-use Rattle.std.proofs.Common.{Option, Some, None, refl, sym, ap, ◌∙◌, subst, ⊎_elim, arith, length-append}
-use Rattle.std.specs.Prelude.{if◌then◌else◌}
-use Rattle.std.specs.List.{AllByRecursion}
-use Rattle.std.proofs.lemmas.Bool.{eqb-true, or_cases}
-use Rattle.scoop_message.specs.declared.name.Block.{Block}
-use Rattle.scoop_message.specs.declared.name.HandlerId.{HandlerId}
-use Rattle.scoop_message.specs.declared.request.Entry.{Entry}
-use Rattle.scoop_message.specs.declared.message.Message.{Message}
-use Rattle.scoop_message.specs.Entry.{is_end}
-use Rattle.scoop_message.specs.Entries.{EndOnlyLast, ends}
-use Rattle.scoop_message.specs.Message.{same_block}
-use Rattle.scoop_queue.specs.declared.state.QueueState.{QueueState}
-use Rattle.scoop_queue.specs.declared.state.QueueState.TheVariants.{Open, Ended, Cut}
-use Rattle.scoop_queue.specs.Queue.{is_open, is_ended, is_cut, goes_with}
-use Rattle.scoop_queue.specs.Sound.{IsQueue}
-use Rattle.scoop_queue.proofs.Ends.{both, ends-append}
-use Rattle.scoop_handler.specs.declared.mark.Mark.{Mark}
-use Rattle.scoop_handler.specs.declared.ran.Ran.{Ran}
-use Rattle.scoop_handler.specs.Growing.{MarksGrow, Grows, IsNewer, IsFurther}
-use Rattle.scoop_handler.specs.Marks.{block_of, mark_of}
-use Rattle.scoop_handler.specs.State.{HasMark}
-use Rattle.scoop_handler.specs.Running.{mark_after}
-use Rattle.scoop_handler.proofs.After.{MarksGrow-after}
-use Rattle.scoop_handler.proofs.MarkLists.{mark_of-client}
-use Rattle.scoop_model.specs.World.{greatest_count}
-use Rattle.scoop_model.proofs.Basics.{by_test, some_same}
-use Rattle.scoop_model.proofs.Order.Holding.{IsReachedIn, Upto, reached_more}
-use Rattle.scoop_model.proofs.Order.Lists.{same_block_is}
-use Rattle.scoop_handler.proofs.Basics.{all_both}
-use Rattle.scoop_model.proofs.Tape.Taking.{InQueue, each_queue}
-use Rattle.scoop_model.proofs.Tape.Slots.{Slot, slot_of, new_slot, put_slot, put_in, slots_put, state_cut, cut_slot, cut_in, slots_cut, run_rest, slots_run}
-use Rattle.scoop_model.proofs.Tape.Slots.{slot_queue, queues_of, each_kept, each_run}
+-- A block whose private queue is gone has run to its End, or a newer incarnation of its client has greeted. The handler has received
+-- as many entries of each block as the block's slot has.
+use Rattle.scoop_model.proofs.Names.{◌≡◌, ◌+◌, ◌<◌, List, [], ◌∷◌, ◌++◌, map, Some, None, refl, sym, ap, ◌∙◌, subst, arith, Option, true, if◌then◌else◌, ◌&&◌}
+use Rattle.scoop_model.proofs.Names.{false, true≢false, length, Bool, ◌==◌, ◌⊎◌, inl, inr, ⊎_elim, not, length-append, IsTrue, eqb-true, or_cases}
+use Rattle.scoop_model.proofs.Names.{AllByRecursion, EndOnlyLast, ends, is_end, same_block, Message, Block, HandlerId, Entry, ends-append, both, goes_with}
+use Rattle.scoop_model.proofs.Names.{is_cut, IsQueue, QueueState, TakesMore as Open, Ended, Cut, MarksGrow-after, by_test, all_both, mark_of-client, MarksGrow}
+use Rattle.scoop_model.proofs.Names.{IsNewer, IsFurther, Grows, block_of, mark_of, mark_after, HasMark, Mark, Ran, all_mapped, some_same, greatest_count}
+use Rattle.scoop_queue.specs.Queue.{is_open}
+use Rattle.scoop_model.proofs.Order.{IsReachedIn, Upto, reached_more, same_block_is}
+use Rattle.scoop_model.proofs.Tape.{InQueue, each_queue, Slot, slot_of, new_slot, put_slot, put_in, slots_put, state_cut, cut_slot, cut_in, slots_cut, run_rest}
+use Rattle.scoop_model.proofs.Tape.{slots_run, slot_queue, queues_of, each_run}
 
 -- ---- what the marks tell of a block
 
--- what comes behind all blocks of the block's incarnation
+-- the first place after all blocks of the block's incarnation
 abbrev next_incarnation : Block → Block
 next_incarnation b = record { client = b.client; inc = b.inc + 1; num = 0 }
 
@@ -50,16 +26,12 @@ HasEnded marks b = (k : Mark) → mark_of b.client marks ≡ Some k → block_of
 
 -- a block of an older incarnation isn't the client's newest
 passed_ended : (marks : List Mark) (b : Block) → IsPassed marks b → HasEnded marks b
-passed_ended marks b p k found own =
-    let same : p.mark ≡ k = some_same (mark_of b.client marks) p.mark k p.found found in
-    let inc : k.inc ≡ b.inc = ap (λ (y : Block). y.inc) own in
-    let le : b.inc + 1 ≤ k.inc = subst (λ (y : Mark). b.inc + 1 ≤ y.inc) same p.upto.inc in
-    absurd (omega (arith, inc, le))
+passed_ended marks b p k found own = grind arith
 
 pub passed_from : (marks : List Mark) (b : Block) (k : Mark) → mark_of b.client marks ≡ Some k → b.inc < k.inc → IsPassed marks b
 passed_from marks b k found newer = record { mark = k; found = found; upto = record { inc = omega (arith, newer); num = λ e. omega arith } }
 
--- what has ended stays so, however the marks grow
+-- a block that has ended stays so, however the marks grow
 ended_more : (old new : List Mark) (b : Block) → MarksGrow old new → IsReachedIn old b → HasEnded old b → HasEnded new b
 ended_more old new b grows r has x found own =
     let k = r.mark in
@@ -74,13 +46,7 @@ ended_more old new b grows r has x found own =
     num = ap (λ (y : Block). y.num) own
 
     past : (k : Mark) → IsNewer k x → Upto b.inc b.num k.inc k.num → ⊥
-    past k n u =
-        let i = inc in
-        let j = num in
-        ⊎_elim
-        (λ (p : k.inc < x.inc). let le = u.inc in omega (arith, le, p, i))
-        (λ (p : (k.inc ≡ x.inc) × (k.num < x.num)). let le = u.num (p.0 ∙ i) in let lt = p.1 in omega (arith, le, lt, j))
-        n
+    past k n u = grind arith
 
     block_is : (k : Mark) → IsFurther k x → mark_of b.client old ≡ Some k → block_of k ≡ b
     block_is k f at i = record { client = mark_of-client b.client old k at i; inc = (f.inc ∙ inc) i; num = (f.num ∙ num) i }
@@ -131,13 +97,11 @@ new_whole ms h marks b reached none = record {
 
 -- ---- a block's queue is cut
 
-cut_whole :
-    (ms : List Message) (h : HandlerId) (marks : List Mark) (b : Block) (t : Slot) → IsPassed marks b → SlotWhole ms h marks t
+cut_whole : (ms : List Message) (h : HandlerId) (marks : List Mark) (b : Block) (t : Slot) → IsPassed marks b → SlotWhole ms h marks t
     → SlotWhole ms h marks (cut_in b t)
 cut_whole ms h marks b t passed w = at t.block t.ran t.rest t.state w.reached w.ended w.gone w.received
   where
-    at :
-        (c : Block) (ran rest : List Entry) (o : Option QueueState) → IsReachedIn marks c → (takes_more o ≡ false → HasEnded marks c)
+    at : (c : Block) (ran rest : List Entry) (o : Option QueueState) → IsReachedIn marks c → (takes_more o ≡ false → HasEnded marks c)
         → (o ≡ None → IsDone marks (slot_of c ran rest o)) → greatest_count h c ms ≡ length ran + length rest
         → SlotWhole ms h marks (cut_in b (slot_of c ran rest o))
     at c ran rest None reached ended gone received = record { reached = reached; ended = ended; gone = gone; received = received }
@@ -157,19 +121,17 @@ cut_whole ms h marks b t passed w = at t.block t.ran t.rest t.state w.reached w.
       where
         left : (q : QueueState) (es : List Entry) → (if is_open q then state_cut es else Some q) ≡ None → es ≡ []
         left Open [] e = refl
-        left Open (x ∷ xs) e = absurd (cc)
-        left Ended es e = absurd (cc)
-        left Cut es e = absurd (cc)
+        left q es e = absurd (cc)
 
 pub slots_cut_whole :
     (ms : List Message) (h : HandlerId) (marks : List Mark) (b : Block) (ss : List Slot) → IsPassed marks b → AllByRecursion (SlotWhole ms h marks) ss
     → AllByRecursion (SlotWhole ms h marks) (slots_cut b ss)
 slots_cut_whole ms h marks b ss passed all =
-    each_kept (SlotWhole ms h marks) (SlotWhole ms h marks) (cut_in b) (λ t w. cut_whole ms h marks b t passed w) ss all
+    all_mapped (cut_in b) (SlotWhole ms h marks) (SlotWhole ms h marks) (λ t w. cut_whole ms h marks b t passed w) ss all
 
 -- ---- entries are put
 
--- what is so of a block as entries of it are taken
+-- the facts about a block as entries of it are taken
 pub record IsTaken (ms ns : List Message) (h : HandlerId) (old new : List Mark) (b : Block) (es : List Entry) : Type 0 where
   pub grows : MarksGrow old new
   pub mark : Mark
@@ -182,8 +144,7 @@ pub record IsTaken (ms ns : List Message) (h : HandlerId) (old new : List Mark) 
   pub more : greatest_count h b ns ≡ greatest_count h b ms + length es
   pub others : (x : Block) → same_block b x ≡ false → greatest_count h x ns ≡ greatest_count h x ms
 
-put_whole :
-    (ms ns : List Message) (h : HandlerId) (old new : List Mark) (b : Block) (es : List Entry) → IsTaken ms ns h old new b es → (t : Slot)
+put_whole : (ms ns : List Message) (h : HandlerId) (old new : List Mark) (b : Block) (es : List Entry) → IsTaken ms ns h old new b es → (t : Slot)
     → SlotWhole ms h old t → SlotWhole ns h new (put_in b es t)
 put_whole ms ns h old new b es k t w = at t.block t.ran t.rest t.state w
   where
@@ -191,8 +152,7 @@ put_whole ms ns h old new b es k t w = at t.block t.ran t.rest t.state w
     still_runs : (c : Block) → same_block b c ≡ true → HasEnded old c → ⊥
     still_runs c is has = true≢false (sym (subst (HasEnded old) (sym (same_block_is b c is)) has k.mark k.found k.newest) ∙ k.running)
 
-    at :
-        (c : Block) (ran rest : List Entry) (o : Option QueueState) → SlotWhole ms h old (slot_of c ran rest o)
+    at : (c : Block) (ran rest : List Entry) (o : Option QueueState) → SlotWhole ms h old (slot_of c ran rest o)
         → SlotWhole ns h new (put_in b es (slot_of c ran rest o))
     at c ran rest None w =
         let s : Slot = slot_of c ran rest None in
@@ -207,8 +167,7 @@ put_whole ms ns h old new b es k t w = at t.block t.ran t.rest t.state w
         (λ _ is. slot_more ms ns h old new s k.grows (k.others c is) w)
         refl
       where
-        own :
-            (q : QueueState) → same_block b c ≡ true → SlotWhole ms h old (slot_of c ran rest (Some q))
+        own : (q : QueueState) → same_block b c ≡ true → SlotWhole ms h old (slot_of c ran rest (Some q))
             → SlotWhole ns h new (put_slot es (slot_of c ran rest (Some q)) q)
         own Ended is w = absurd (still_runs c is (w.ended refl))
         own Cut is w = absurd (still_runs c is (w.ended refl))
@@ -229,14 +188,13 @@ put_whole ms ns h old new b es k t w = at t.block t.ran t.rest t.state w
                   omega (arith, count, was, length-append rest es);
             }
 
-pub slots_put_whole :
-    (ms ns : List Message) (h : HandlerId) (old new : List Mark) (b : Block) (es : List Entry) (ss : List Slot) → IsTaken ms ns h old new b es
+pub slots_put_whole : (ms ns : List Message) (h : HandlerId) (old new : List Mark) (b : Block) (es : List Entry) (ss : List Slot) → IsTaken ms ns h old new b es
     → AllByRecursion (SlotWhole ms h old) ss → AllByRecursion (SlotWhole ns h new) (slots_put b es ss)
-slots_put_whole ms ns h old new b es ss k all = each_kept (SlotWhole ms h old) (SlotWhole ns h new) (put_in b es) (put_whole ms ns h old new b es k) ss all
+slots_put_whole ms ns h old new b es ss k all = all_mapped (put_in b es) (SlotWhole ms h old) (SlotWhole ns h new) (put_whole ms ns h old new b es k) ss all
 
 -- ---- the first entry runs
 
--- an End that stands only last leaves nothing behind it
+-- no entry comes after an End that stands only last
 end_last : (e : Entry) (es : List Entry) → EndOnlyLast (e ∷ es) → is_end e ≡ true → es ≡ []
 end_last e [] only is = refl
 end_last e (x ∷ xs) only is = absurd (true≢false (sym (both (not (is_end e)) _ only).0 ∙ ap not is))
@@ -246,8 +204,7 @@ none_behind [] e = refl
 none_behind (x ∷ xs) e = absurd (let l = eqb-true (length (x ∷ xs)) 0 e in omega (arith, l))
 
 -- an entry goes ahead of others, in a queue that is as all are
-module _
-    (ms : List Message) (h : HandlerId) (old new : List Mark) (grows : MarksGrow old new) (c : Block) (ran : List Entry) (e : Entry) (es : List Entry)
+module _ (ms : List Message) (h : HandlerId) (old new : List Mark) (grows : MarksGrow old new) (c : Block) (ran : List Entry) (e : Entry) (es : List Entry)
     (q : QueueState) where
   abbrev before : Slot
   before = slot_of c ran (e ∷ es) (Some q)
@@ -258,11 +215,7 @@ module _
   module _ (sound : IsQueue (slot_queue before q)) (has : HasMark old (slot_queue before q)) (w : SlotWhole ms h old before) where
     -- an open queue's entries have no End among them
     open_stays : q ≡ Open → goes_with q e es ≡ true → ⊥
-    open_stays is goes =
-        let ends_it : is_end e ≡ true =
-        ⊎_elim (λ (p : is_end e ≡ true). p) (λ (p : (is_cut q && length es == 0) ≡ true). absurd (true≢false (sym p ∙ ap (λ t. is_cut t && length es == 0) is)))
-        (or_cases (is_end e) (is_cut q && length es == 0) goes) in
-        true≢false (sym ends_it ∙ ap (λ xs. ends (e ∷ xs)) (sym (end_last e es sound.end ends_it)) ∙ sound.ended ∙ ap is_ended is)
+    open_stays is goes = grind (arith, end_last, or_cases)
 
     goes_done : goes_with q e es ≡ true → IsDone new (behind true)
     goes_done goes =
@@ -303,8 +256,7 @@ run_whole :
     → SlotWhole ms h new (run_rest t q t.rest)
 run_whole ms h old new grows t q is sound has w = at t.block t.ran t.rest t.state is sound has w
   where
-    at :
-        (c : Block) (ran rest : List Entry) (o : Option QueueState) → o ≡ Some q → IsQueue (slot_queue (slot_of c ran rest o) q)
+    at : (c : Block) (ran rest : List Entry) (o : Option QueueState) → o ≡ Some q → IsQueue (slot_queue (slot_of c ran rest o) q)
         → HasMark old (slot_queue (slot_of c ran rest o) q) → SlotWhole ms h old (slot_of c ran rest o)
         → SlotWhole ms h new (run_rest (slot_of c ran rest o) q rest)
     at c ran [] o is sound has w = slot_more ms ms h old new (slot_of c ran [] o) grows refl w
@@ -312,8 +264,7 @@ run_whole ms h old new grows t q is sound has w = at t.block t.ran t.rest t.stat
         runs_whole ms h old new grows c ran e es q sound has (subst (λ (p : Option QueueState). SlotWhole ms h old (slot_of c ran (e ∷ es) p)) is w)
         (goes_with q e es) refl
 
-pub slots_run_whole :
-    (ms : List Message) (h : HandlerId) (marks : List Mark) (r : Ran) (ss : List Slot) → AllByRecursion IsQueue (queues_of ss)
+pub slots_run_whole : (ms : List Message) (h : HandlerId) (marks : List Mark) (r : Ran) (ss : List Slot) → AllByRecursion IsQueue (queues_of ss)
     → AllByRecursion (HasMark marks) (queues_of ss)
     → AllByRecursion (SlotWhole ms h marks) ss → AllByRecursion (SlotWhole ms h (map (mark_after r) marks)) (slots_run ss)
 slots_run_whole ms h marks r ss sound marked all =

@@ -1,82 +1,34 @@
--- Every event keeps what is so of the sites, and it is so of a world that opens. Of each site the slots are kept up with:
--- hearing and running change them as they change the private queues (`Tape`), the marks as the table says (`Marks`), and
--- what was told of counts as the replies say (`Sent`). Other sites stay, as no other handler speaks for them.
-use Rattle.std.proofs.Common.{◌≡◌, ℕ, ◌==◌, ◌<◌, Bool, true, false, true≢false, List, [], ◌∷◌, map, Option, Some, None, refl, sym, ap, ◌∙◌, subst, arith}
-use Rattle.std.specs.Prelude.{if◌then◌else◌}
-use Rattle.std.specs.List.{AllByRecursion}
-use Rattle.scoop_message.specs.declared.name.Block.{Block}
-use Rattle.scoop_message.specs.declared.name.HandlerId.{HandlerId}
-use Rattle.scoop_message.specs.declared.message.Message.{Message}
-use Rattle.scoop_message.specs.declared.message.Message.TheVariants.{Hello, Lock, Open, Unlock, Log}
-use Rattle.scoop_message.specs.Message.{handler_of, is_for_handler}
-use Rattle.scoop_message.proofs.Same.{handler_decides}
-use Rattle.scoop_queue.specs.Sound.{IsQueue}
-use Rattle.scoop_reserve.specs.declared.stage.Stage.{Stage}
-use Rattle.scoop_reserve.specs.declared.stage.Stage.TheVariants.{Locking, Opening, Unlocking, GivingUp as GivingBack}
-use Rattle.scoop_reserve.specs.Handlers.{has, is_lowest}
-use Rattle.scoop_reserve.specs.State.{ReservationState}
-use Rattle.scoop_reserve.specs.Due.{due_in}
-use Rattle.scoop_handler.specs.State.{HandlerState, HasMark, IsState}
-use Rattle.scoop_handler.specs.Core.{IsCore, core_of}
-use Rattle.scoop_handler.specs.Hearing.{Hearing, hear}
-use Rattle.scoop_handler.specs.Replies.{HasEntries}
-use Rattle.scoop_handler.specs.Rows.{Row}
-use Rattle.scoop_handler.specs.Running.{Task, job_out, ran_of}
-use Rattle.scoop_handler.proofs.TableRows.{row}
-use Rattle.scoop_handler.proofs.TableLaws.{number-row, replies-row}
-use Rattle.scoop_client.specs.State.{ClientState}
-use Rattle.scoop_client.specs.Due.{due}
-use Rattle.scoop_client.specs.Hearing.{heard}
-use Rattle.scoop_client.specs.Rows.{DueRow, owes_nothing, greets, reserves, logs}
-use Rattle.scoop_client.proofs.DueRows.{due_row}
-use Rattle.scoop_model.specs.World.{World, Site, number_of, is_site, site_of, set_site, sent_at, log_of, greatest_count}
-use Rattle.scoop_model.specs.Step.{Placement, Newcomer, new_site, opening, commanded_world, with_sent, with_party, heard_party, restarted_party, heard_site}
-use Rattle.scoop_model.specs.Step.{heard_world, with_site, begun_site, finished_site, reopened, reopened_world}
+-- Every event keeps the invariant about the sites, and a world that opens has it. Hearing and running change a site's slots as they
+-- change the private queues (`Tape`), the marks as the table says (`Marks`), and the counts that were sent as the replies say
+-- (`Sent`). Other sites stay, since no other handler speaks for them.
+use Rattle.scoop_model.proofs.Names.{◌≡◌, ℕ, ◌<◌, List, [], ◌∷◌, Some, refl, sym, ap, ◌∙◌, subst, arith, true, if◌then◌else◌, false, true≢false, AllByRecursion}
+use Rattle.scoop_model.proofs.Names.{handler_decides, handler_of, is_for_handler, Message, Block, HandlerId, IsQueue, all_found, number-row, replies-row, row}
+use Rattle.scoop_model.proofs.Names.{IsCore, Hearing, hear, HasEntries, Row, Task, ran_of, job_out, IsState, HasMark, due, heard, ClientState, all_made}
+use Rattle.scoop_model.proofs.Names.{number_found, commanded_world, with_sent, with_party, heard_party, restarted_party, heard_world, heard_site, with_site}
+use Rattle.scoop_model.proofs.Names.{begun_site, finished_site, reopened, reopened_world, Placement, Newcomer, new_site, opening, World, Site, number_of}
+use Rattle.scoop_model.proofs.Names.{is_site, site_of, set_site, sent_at, log_of, greatest_count}
 use Rattle.scoop_model.proofs.Events.{Changes}
-use Rattle.scoop_model.proofs.Basics.{by_test}
-use Rattle.scoop_model.proofs.Keys.{number_found}
 use Rattle.scoop_model.proofs.Stands.{Stands}
-use Rattle.scoop_model.proofs.Order.Facts.{SiteFits, Ordered, all_found, all_more_of}
-use Rattle.scoop_model.proofs.Sound.Facts.{Sound}
-use Rattle.scoop_model.proofs.Sound.Steps.{sent_all}
-use Rattle.scoop_model.proofs.Logging.Facts.{Carries, Logging, grown_same}
-use Rattle.scoop_model.proofs.Logging.Commands.{commanded_grown}
-use Rattle.scoop_model.proofs.Tape.Slots.{slots_run}
-use Rattle.scoop_model.proofs.Tape.Taking.{StandsIfLog}
-use Rattle.scoop_model.proofs.Tape.Sites.{SiteTape, logs_at, slots_heard, placed_tape, heard_tape, finished_tape}
+use Rattle.scoop_model.proofs.Order.{SiteFits, Ordered, all_more_of, by_restart, all_anew}
+use Rattle.scoop_model.proofs.Sound.{Sound, sent_all}
+use Rattle.scoop_model.proofs.Logging.{Carries, Logging, grown_same, commanded_grown}
+use Rattle.scoop_model.proofs.Tape.{slots_run, StandsIfLog, SiteTape, logs_at, slots_heard, placed_tape, heard_tape, finished_tape}
 use Rattle.scoop_model.proofs.Whole.Sent.{TellsAlike, alike_same, alike_from_client, alike_elsewhere}
 use Rattle.scoop_model.proofs.Whole.Marks.{MarksTold, marks_told-row, marks_told-after}
 use Rattle.scoop_model.proofs.Whole.Slots.{slots_run_whole}
 use Rattle.scoop_model.proofs.Whole.Rows.{SlotsWhole, slots_whole-row}
 use Rattle.scoop_model.proofs.Whole.Facts.{SiteTaped, Taped, site_more}
+use Rattle.scoop_model.proofs.Moves.{Sends, sends_hello, sends}
 
 -- ---- messages
 
--- what a client sends goes to a handler
-owed_goes : (h : HandlerId) (r : ReservationState) (m : Message) (stage : Stage) → due_in r h stage ≡ Some m → is_for_handler m ≡ true
-owed_goes h r m stage e = by_stage stage e
-  where
-    owed : (t : Bool) (n : Message) → is_for_handler n ≡ true → (if t then Some n else None) ≡ Some m → is_for_handler m ≡ true
-    owed true n goes e = let same : n ≡ m = cc in subst (λ x. is_for_handler x ≡ true) same goes
-    owed false n goes e = absurd (cc)
-
-    by_stage : (stage : Stage) → due_in r h stage ≡ Some m → is_for_handler m ≡ true
-    by_stage Locking e = owed (is_lowest h r.left) (Lock h r.block) refl e
-    by_stage Opening e = owed (has r.left h) (Open h r.block) refl e
-    by_stage Unlocking e = owed (has r.left h) (Unlock h r.block) refl e
-    by_stage GivingBack e = owed (has r.left h) (Unlock h r.block) refl e
-
-due_row_goes : (c : ClientState) (h : HandlerId) (o : Option Message) → DueRow c h o → (m : Message) → o ≡ Some m → is_for_handler m ≡ true
-due_row_goes c h o owes_nothing m e = absurd (cc)
-due_row_goes c h o (greets left) m e = let same : Hello h c.id c.inc ≡ m = cc in subst (λ x. is_for_handler x ≡ true) same refl
-due_row_goes c h o (reserves r n greeted has_one owes) m e = owed_goes h r m r.stage (owes ∙ e)
-due_row_goes c h o (logs r l greeted has_one free opened window some) m e = sent_on e
-  where
-    sent_on : {k : HandlerId} {b : Block} {n : ℕ} {es : _} → Some (Log k b n es) ≡ Some m → is_for_handler m ≡ true
-    sent_on {k} {b} {n} {es} e = let same : Log k b n es ≡ m = cc in subst (λ x. is_for_handler x ≡ true) same refl
+-- a client's message goes to a handler
+sends_to_handler : (c : ClientState) (h : HandlerId) (m : Message) → Sends c h m → is_for_handler m ≡ true
+sends_to_handler c h m sends_hello = refl
+sends_to_handler c h m s = refl
 
 pub due_goes : (c : ClientState) (h : HandlerId) (m : Message) → due c h ≡ Some m → is_for_handler m ≡ true
-due_goes c h m e = due_row_goes c h (due c h) (due_row c h) m e
+due_goes c h m e = sends_to_handler c h m (sends c h m e)
 
 -- ---- sites
 
@@ -85,10 +37,7 @@ all_set_others :
     (P Q : Site → Type 0) (s : Site) (sites : List Site) → Q s → ((x : Site) → is_site (number_of s) x ≡ false → P x → Q x) → AllByRecursion P sites
     → AllByRecursion Q (set_site s sites)
 all_set_others P Q s [] own others all = tt
-all_set_others P Q s (x ∷ xs) own others all = (
-  by_test (λ t. is_site (number_of s) x ≡ t → Q (if t then s else x)) (is_site (number_of s) x) (λ _ here. own) (λ _ there. others x there all.0) refl,
-  all_set_others P Q s xs own others all.1,
-)
+all_set_others P Q s (x ∷ xs) own others all = grind (arith, all_set_others P Q s xs own others)
 
 -- where nothing is sent or logged
 same_site : (v w : World) → v.sent ≡ w.sent → v.logs ≡ w.logs → (s : Site) → SiteTaped v s → SiteTaped w s
@@ -99,8 +48,7 @@ same_sites v w told logged sites all = all_more_of (SiteTaped v) (SiteTaped w) (
 
 -- ---- a handler hears
 
-module _
-    (w : World) (sound : Sound w) (logged : Logging w) (i : Taped w) (k : ℕ) (m : Message) (s : Site) (was : sent_at k w ≡ Some m)
+module _ (w : World) (sound : Sound w) (logged : Logging w) (i : Taped w) (k : ℕ) (m : Message) (s : Site) (was : sent_at k w ≡ Some m)
     (here : site_of (handler_of m) w ≡ Some s) where
   abbrev now : Hearing
   now = hear s.core.state m
@@ -186,20 +134,10 @@ module _ (w : World) (sound : Sound w) (i : Taped w) (h : HandlerId) (s : Site) 
 
 -- ---- a node restarts
 
-anew_taped : (w : World) (n : ℕ) (s : Site) → s.stored ≡ s.core.state → SiteTaped w s → SiteTaped (reopened_world w n) (reopened n s)
-anew_taped w n s stored f =
-    let v : World = reopened_world w n in
-    by_test (λ t. SiteTaped v (if t then record s { core = core_of s.core.class s.stored false } else s)) (s.node == n)
-    (λ here.
-    subst (λ (x : HandlerState). SiteTaped v (record s { core = core_of s.core.class x false })) (sym stored)
-    (record { told = f.told; slots = f.slots; tape = f.tape; whole = f.whole }))
-    (λ there. same_site w v refl refl s f)
-
-all_anew :
-    (w : World) (n : ℕ) (sites : List Site) → AllByRecursion (SiteFits w.joint) sites → AllByRecursion (SiteTaped w) sites
-    → AllByRecursion (SiteTaped (reopened_world w n)) (map (reopened n) sites)
-all_anew w n [] fits all = tt
-all_anew w n (s ∷ ss) fits all = (anew_taped w n s fits.0.stored all.0, all_anew w n ss fits.1 all.1)
+anew_taped : (w : World) (n : ℕ) (s : Site) → SiteFits w.joint s → SiteTaped w s → SiteTaped (reopened_world w n) (reopened n s)
+anew_taped w n s fits f =
+    by_restart w.joint n (SiteTaped (reopened_world w n)) s fits (record { told = f.told; slots = f.slots; tape = f.tape; whole = f.whole })
+    (same_site w (reopened_world w n) refl refl s f)
 
 -- ---- every event
 
@@ -217,25 +155,21 @@ taped_kept w o sound logged i = record {
   begins = λ h s t here is. begins_taped w sound i h s here;
   finishes = λ h s t here is. finishes_taped w sound i h s here t is;
   restarts = λ c p at room. same_sites w (with_party w (restarted_party p)) refl refl w.sites i;
-  reopens = λ n. all_anew w n w.sites o.sites i;
+  reopens = λ n. all_anew w.joint n (SiteTaped w) (SiteTaped (reopened_world w n)) (anew_taped w n) w.sites o.sites i;
 }
 
 -- ---- a world that opens
 
-sites_open : (w : World) → w.sent ≡ [] → (ps : List Placement) → AllByRecursion (SiteTaped w) (map new_site ps)
-sites_open w none [] = tt
-sites_open w none (p ∷ ps) = (
-  record {
-    told = record { each = tt; reached = λ b some. absurd (never (number_of (new_site p)) b some) };
-    slots = [];
-    tape = placed_tape (logs_at w (new_site p)) p;
-    whole = tt;
-  },
-  sites_open w none ps,
-)
+site_opens : (w : World) → w.sent ≡ [] → (p : Placement) → SiteTaped w (new_site p)
+site_opens w none p = record {
+  told = record { each = tt; reached = λ b some. absurd (never (number_of (new_site p)) b some) };
+  slots = [];
+  tape = placed_tape (logs_at w (new_site p)) p;
+  whole = tt;
+}
   where
     never : (h : HandlerId) (b : Block) → 0 < greatest_count h b w.sent → ⊥
     never h b some = let e : greatest_count h b w.sent ≡ 0 = ap (greatest_count h b) none in omega (arith, e, some)
 
 pub opens_taped : (ps : List Placement) (ns : List Newcomer) → Taped (opening ps ns)
-opens_taped ps ns = sites_open (opening ps ns) refl ps
+opens_taped ps ns = all_made new_site (SiteTaped (opening ps ns)) (site_opens (opening ps ns) refl) ps

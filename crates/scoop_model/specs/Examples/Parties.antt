@@ -86,12 +86,12 @@ add x = record { op = 1; args = x ∷ [] }
 abbrev pub runs : ℕ → List Event
 runs h = Begin (handler h) ∷ Finish (handler h) ∷ []
 
--- what events tell, up to the first that is refused
+-- the notes of events, up to the first that is refused
 abbrev pub told : World → List Event → List WorldNote
 told w [] = []
 told w (e ∷ es) = elim (step w e) [ Ok r ↦ r.1 ∷ told r.0 es | Err x ↦ [] ]
 
--- what clients, and what handlers, tell of messages
+-- the notes of clients and of handlers on messages
 abbrev pub of_client : WorldNote → List ClientNote
 of_client (note.Client told) = told ∷ []
 of_client (note.Handler told i) = []

@@ -1,4 +1,4 @@
-//! What holds of locks over a whole list of events.
+//! Theorems about locks over a whole list of events.
 
 ghost use Rattle.std.specs.Prelude.{◌≡◌, ℕ, List};
 ghost use Rattle.scoop_message.specs.declared.name.Block.{Block};
@@ -17,7 +17,7 @@ pub fn granted_once()
 {}
 
 /// Over any list of events from a world that opens, a block that opens at a handler was granted the lock there by an
-/// earlier event, and was the holder from then on without a break.
+/// earlier event. From that event on it was the holder, without a break.
 pub fn held_until_opened()
     ensures { (placements : List Placement) (newcomers : List Newcomer) (events : List WorldEvent) (w : World)
         → Leads (opening placements newcomers) events w → (j : ℕ) (h : HandlerId) (b : Block) → OpensAt (opening placements newcomers) events j h b

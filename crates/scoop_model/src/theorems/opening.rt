@@ -1,10 +1,10 @@
-//! What holds of a world as it opens.
+//! The theorem about a world that opens.
 
 ghost use Rattle.std.specs.Prelude.{List};
 ghost use Rattle.scoop_model.specs.Step.{Placement, Newcomer, opening};
 ghost use Rattle.scoop_model.specs.Safe.{Safe};
 
-/// Nothing has happened in a world that opens, so that it is safe.
+/// A world that opens is safe: nothing has happened in it.
 pub fn opens_safe()
     ensures { (placements : List Placement) (newcomers : List Newcomer) → Safe (opening placements newcomers) }
 {}

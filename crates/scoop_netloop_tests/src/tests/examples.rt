@@ -5,16 +5,17 @@ use super::loops::Looped;
 use super::{ONE, SEVEN, client};
 use scoop_book::Book;
 use scoop_client::ClientNote;
+use scoop_driver::Driver;
 use scoop_frame::FrameError;
 use scoop_handler::Note;
 use scoop_keeper::MemoryKeeper;
 use scoop_message::limits::BUFFER_LEN;
-use scoop_netloop::{Answered, Driver, LoopLink, answer_datagram};
+use scoop_netloop::{Answered, LoopLink, answer_datagram};
 use scoop_object::Table;
 use std::process::Abort;
 use std::test::Fail;
 
-// Each part of the example is lent what it works on, so that no way out of it has that to drop.
+// Each part of the example borrows what it works on, so that no early return has to drop it.
 fn answers(rt: &impl Abort, book: &mut Book<Table, MemoryKeeper>) -> Result<(), Fail> {
     // client 7 greets handler 1 of the book, and the handler's reply is a frame too
     let hello = b"SQ\x01\x01\0\0\0\x01\0\0\0\x07\0\0\0\x01\0\0\0\0\0\0\0\0\0\0";

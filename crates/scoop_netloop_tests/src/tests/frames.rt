@@ -35,7 +35,7 @@ pub fn deposit(rt: &impl Abort) -> Message {
     }
 }
 
-/// What client 7 sends up to its first entry.
+/// The messages of client 7 up to its first entry.
 pub fn first_messages(rt: &impl Abort) -> [Message; 5] {
     [HELLO, LOCK, OPEN, UNLOCK, deposit(rt)]
 }

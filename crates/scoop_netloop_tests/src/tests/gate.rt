@@ -4,10 +4,12 @@ use super::frames::{FIRST, deposit, first_messages, sends, tape};
 use super::loops::{Passes, balance, closes, opened, turns};
 use super::{EIGHT, ONE, SEVEN, TWO, client};
 use scoop_book::{Node, Pass, Reply};
+use scoop_driver::{Driver, DriverError};
+use scoop_free_ports::free_ports;
 use scoop_keeper::MemoryKeeper;
 use scoop_link::{Link, PacedLink, Party, Peers, UdpLink};
 use scoop_message::{Answer, Block, ClientId, HandlerId, Message};
-use scoop_netloop::{Driver, DriverError, Gate, OpenGate, ServeEnd, Stop, serve};
+use scoop_netloop::{Gate, OpenGate, ServeEnd, Stop, serve};
 use scoop_object::Table;
 use scoop_seal::{Key, SealedLink};
 use std::alloc::Global;
@@ -19,7 +21,7 @@ use std::thread;
 use std::thread::Threads;
 use std::time::{Clock, Duration};
 
-// How often something is looked for, ten milliseconds apart.
+// The looks at a flag, ten milliseconds apart.
 const LOOKS: u32 = 1_000;
 
 /// Handler 1 waits here until client 8 has its answer.
@@ -58,7 +60,15 @@ impl Gate for Held {
     }
 }
 
-// A link of this number's own port.
+// Free ports.
+fn ports<R: Net + Abort, const N: usize>(rt: &R) -> [u16; N] {
+    match free_ports::<R, N>(rt) {
+        Ok(ports) => ports,
+        Err(error) => panic!(rt; "{error}"),
+    }
+}
+
+// A link from this port.
 fn open<R: Net + Abort>(rt: &R, alloc: Global, own: u16, table: &[(Party, u16)]) -> UdpLink {
     match UdpLink::open(rt, alloc, Peers { own, table }) {
         Ok(link) => link,
@@ -66,7 +76,7 @@ fn open<R: Net + Abort>(rt: &R, alloc: Global, own: u16, table: &[(Party, u16)])
     }
 }
 
-// What a client is told that asks a handler for its balance by this link.
+// The reply to a client that asks a handler for its balance over this link.
 fn asks<L: Link>(
     rt: &impl Abort,
     alloc: Global,
@@ -151,10 +161,11 @@ where
 #[test]
 fn one_handler_works_while_another_is_held(rt: HostRuntime) {
     let alloc = rt.alloc();
-    let clients = [(Party::Client(SEVEN), 47402), (Party::Client(EIGHT), 47403)];
-    let mut link = open(&rt, alloc, 47401, &clients);
-    let first = open(&rt, alloc, 47402, &[(Party::Handler(ONE), 47401)]);
-    let second = open(&rt, alloc, 47403, &[(Party::Handler(TWO), 47401)]);
+    let [node, seven, eight] = ports::<_, 3>(&rt);
+    let clients = [(Party::Client(SEVEN), seven), (Party::Client(EIGHT), eight)];
+    let mut link = open(&rt, alloc, node, &clients);
+    let first = open(&rt, alloc, seven, &[(Party::Handler(ONE), node)]);
+    let second = open(&rt, alloc, eight, &[(Party::Handler(TWO), node)]);
     one_is_held(&rt, alloc, &mut link, first, second, &Held::new());
 }
 
@@ -164,9 +175,15 @@ const OTHER_KEY: [u8; 32] = [6; 32];
 
 type Sealed = SealedLink<UdpLink>;
 
-// The link of a client to a handler of the node.
-fn paced<R: Net + Abort>(rt: &R, alloc: Global, own: u16, handler: HandlerId) -> PacedLink<Sealed> {
-    let link = open(rt, alloc, own, &[(Party::Handler(handler), 47411)]);
+// The link of a client to a handler of the node at this port.
+fn paced<R: Net + Abort>(
+    rt: &R,
+    alloc: Global,
+    own: u16,
+    handler: HandlerId,
+    node: u16,
+) -> PacedLink<Sealed> {
+    let link = open(rt, alloc, own, &[(Party::Handler(handler), node)]);
     match PacedLink::new(alloc, SealedLink::new(link, Key::new(KEY)), 1, 1) {
         Ok(link) => link,
         Err(_) => panic!(rt; "no link"),
@@ -182,7 +199,7 @@ const OTHER_FIRST: Block = Block {
 
 const FORGED: Answer = Answer::Value(99);
 
-// What would end client 7's block, and what would answer each client's query, if it were heard.
+// Sends forged messages: a greeting that would cut client 7's block, and an answer to each client's query.
 fn forge<L: Link>(rt: &impl Abort, link: &mut L) {
     let greeting = Message::Hello(ONE, SEVEN, 2);
     let first = Message::Answer(ONE, FIRST, 1, FORGED);
@@ -192,21 +209,23 @@ fn forge<L: Link>(rt: &impl Abort, link: &mut L) {
     sends(rt, link, Party::Client(EIGHT), &second);
 }
 
-/// What forges: a link without a seal, and one with that of another key.
+/// The links of a forger: one without a seal, and one sealed with another key.
 #[derive(Drop)]
 struct Forgers {
     bare: UdpLink,
     sealed: Sealed,
 }
 
-fn make_forgers<R: Net + Abort>(rt: &R, alloc: Global) -> Forgers {
+// The ports are those of the node, and of clients 7 and 8.
+fn make_forgers<R: Net + Abort>(rt: &R, alloc: Global, parties: [u16; 3]) -> Forgers {
     let all = [
-        (Party::Handler(ONE), 47411),
-        (Party::Client(SEVEN), 47412),
-        (Party::Client(EIGHT), 47413),
+        (Party::Handler(ONE), parties[0]),
+        (Party::Client(SEVEN), parties[1]),
+        (Party::Client(EIGHT), parties[2]),
     ];
-    let bare = open(rt, alloc, 47414, &all);
-    let sealed = SealedLink::new(open(rt, alloc, 47415, &all), Key::new(OTHER_KEY));
+    let [own, other] = ports::<R, 2>(rt);
+    let bare = open(rt, alloc, own, &all);
+    let sealed = SealedLink::new(open(rt, alloc, other, &all), Key::new(OTHER_KEY));
     Forgers { bare, sealed }
 }
 
@@ -225,11 +244,12 @@ fn forges<R: Clock + Abort>(rt: &R, forgers: &mut Forgers, gate: &Held) {
 #[test]
 fn nothing_forged_is_heard_under_seals(rt: HostRuntime) {
     let alloc = rt.alloc();
-    let clients = [(Party::Client(SEVEN), 47412), (Party::Client(EIGHT), 47413)];
-    let mut link = SealedLink::new(open(&rt, alloc, 47411, &clients), Key::new(KEY));
-    let first = paced(&rt, alloc, 47412, ONE);
-    let second = paced(&rt, alloc, 47413, TWO);
-    let mut forgers = make_forgers(&rt, alloc);
+    let [node, seven, eight] = ports::<_, 3>(&rt);
+    let clients = [(Party::Client(SEVEN), seven), (Party::Client(EIGHT), eight)];
+    let mut link = SealedLink::new(open(&rt, alloc, node, &clients), Key::new(KEY));
+    let first = paced(&rt, alloc, seven, ONE, node);
+    let second = paced(&rt, alloc, eight, TWO, node);
+    let mut forgers = make_forgers(&rt, alloc, [node, seven, eight]);
     let gate = Held::new();
     forge(&rt, &mut forgers.bare);
     forge(&rt, &mut forgers.sealed);
@@ -250,7 +270,7 @@ impl Gate for Shut {
     }
 }
 
-// What a node keeps whose gate lets none of its handlers pass.
+// The record of a node whose gate lets no handler pass.
 fn kept_by_shut<R>(rt: &R, alloc: Global, link: &mut UdpLink) -> MemoryKeeper
 where
     R: Threads + Wait + Clock + Abort + Sync,
@@ -280,8 +300,9 @@ fn has_run(rt: &impl Abort, pass: &Pass) {
 #[test]
 fn a_gate_that_stays_shut_ends_the_loop(rt: HostRuntime) {
     let alloc = rt.alloc();
-    let mut link = open(&rt, alloc, 47421, &[(Party::Client(SEVEN), 47422)]);
-    let mut client = open(&rt, alloc, 47422, &[(Party::Handler(ONE), 47421)]);
+    let [node, seven] = ports::<_, 2>(&rt);
+    let mut link = open(&rt, alloc, node, &[(Party::Client(SEVEN), seven)]);
+    let mut client = open(&rt, alloc, seven, &[(Party::Handler(ONE), node)]);
     for message in first_messages(&rt).iter() {
         sends(&rt, &mut client, Party::Handler(ONE), message);
     }

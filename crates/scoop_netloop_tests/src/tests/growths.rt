@@ -18,7 +18,7 @@ type Heap<'a> = &'a Refusing<Global>;
 
 type HeapBook<'a> = Book<Table, MemoryKeeper<Heap<'a>>, Heap<'a>>;
 
-// What the buffer has before a call.
+// The bytes of the buffer before a call.
 const BEFORE: [u8; BUFFER_LEN] = [9; BUFFER_LEN];
 
 /// The datagram of a message, with the growth of this number refused: whether one was. Either nothing has changed,
@@ -95,7 +95,7 @@ fn each_growth_of_an_answer_and_a_run_is_refused(rt: HostRuntime) -> Result<(), 
 }
 
 #[test]
-fn want_of_memory_is_told_as_everywhere(rt: HostRuntime) -> Result<(), Fail> {
+fn out_of_memory_is_reported_as_everywhere(rt: HostRuntime) -> Result<(), Fail> {
     let told = format!(in rt.alloc(); "{} {}", ServeEnd::OutOfMemory, ServeEnd::GateShut)?;
     assert_eq!(rt; told.as_str(), "out of memory GateShut");
     Ok(())

@@ -5,10 +5,11 @@ ghost use Rattle.std.specs.Prelude.{◌≤◌, vec_len};
 use super::accounts::{BALANCE, node};
 use super::{SEVEN, client, request};
 use scoop_book::{Book, Node, Pass};
+use scoop_driver::{Driver, DriverError};
 use scoop_keeper::{Keeper, MemoryKeeper};
 use scoop_link::Link;
 use scoop_message::{Answer, HandlerId};
-use scoop_netloop::{Driver, DriverError, Gate, LoopLink, ServeEnd, Stop, serve};
+use scoop_netloop::{Gate, LoopLink, ServeEnd, Stop, serve};
 use scoop_object::Table;
 use std::alloc::Global;
 use std::process::Abort;
@@ -38,7 +39,7 @@ pub fn opened<K: Keeper<Global>>(
     (node, Passes { list })
 }
 
-/// The node hears by this link for so many turns, and ends so. All its passes come back.
+/// The node hears over this link for `turns`, and ends so. All its passes come back.
 pub fn turns<R, K, L, G>(
     rt: &R,
     alloc: Global,

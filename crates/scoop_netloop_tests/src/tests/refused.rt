@@ -25,7 +25,7 @@ type HeapNode<'a> = Node<Table, MemoryKeeper<Heap<'a>>, Heap<'a>>;
 
 type HeapPasses<'a> = Vec<Pass<Heap<'a>>, Heap<'a>>;
 
-/// What came of a loop in which a growth was refused, or none was.
+/// The end of a loop in which a growth was refused, or none was.
 #[derive(Clone, Copy)]
 struct Trial {
     end: ServeEnd,
@@ -125,7 +125,7 @@ fn closes<'a>(rt: &(impl Abort + Wait), alloc: Global, node: HeapNode<'a>, passe
     }
 }
 
-/// What comes of a loop over the first messages of a client.
+/// Runs a loop over the first messages of a client.
 fn tries<R>(rt: &R, alloc: Global, number: u64) -> Trial
 where
     R: Threads + Wait + Clock + Abort + Sync,

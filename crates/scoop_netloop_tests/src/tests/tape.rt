@@ -127,7 +127,7 @@ fn a_loop_goes_on_after_a_fault_with_another_link(rt: HostRuntime) {
     let _keeper = closes(&rt, node, passes);
 }
 
-// What is stored by a node whose keeper refuses the third put.
+// The record of a node whose keeper refuses the third put.
 fn stored<R>(rt: &R, alloc: Global) -> MemoryKeeper
 where
     R: Threads + Wait + Clock + Abort + Sync,

@@ -4,8 +4,8 @@ use super::accounts::{BALANCE, DEPOSIT, WITHDRAW, book};
 use super::loops::{Looped, balance, looped};
 use super::{ONE, request};
 use scoop_client::{ClientError, ClientNote};
+use scoop_driver::{Condition, DriverError};
 use scoop_message::{Answer, HandlerId};
-use scoop_netloop::{Condition, DriverError};
 use std::process::Abort;
 
 const NINE: HandlerId = HandlerId(9);
@@ -37,7 +37,7 @@ fn does(rt: &impl Abort, driver: &mut Looped, step: Step) -> Result<u32, DriverE
     driver.when(&[ONE], condition, &body, step.tries)
 }
 
-// The driver is lent, so that no way out of here has it to drop.
+// Borrows the driver, so that no early return has to drop it.
 fn waits(rt: &impl Abort, driver: &mut Looped) {
     assert_eq!(rt; driver.turn(), Ok(Some(ClientNote::Welcomed(ONE))));
     for (op, amount, handler, least, tries, told, left) in [

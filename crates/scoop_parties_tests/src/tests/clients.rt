@@ -46,7 +46,7 @@ fn logged(handler: HandlerId, block: Block, number: u32, entries: &Entries) -> M
     Message::Logged(handler, block, u32::try_from(last).unwrap_or(number))
 }
 
-// What a handler that is free and has room replies. Entries are acknowledged, and nothing is answered.
+// The reply of a handler that is free and has room. It acknowledges entries, and answers no query.
 fn reply_to(message: Message) -> Message {
     match message {
         Message::Hello(handler, client, inc) => Message::Welcome(handler, client, inc),
@@ -60,7 +60,7 @@ fn reply_to(message: Message) -> Message {
     }
 }
 
-// Sends all that is due, and hears the replies, until nothing more is due or a query waits.
+// Sends every due message, and hears the replies, until no more is due or a query waits.
 fn settle(client: &mut Client) {
     for _ in 0..100 {
         for number in 1..10 {
@@ -115,7 +115,7 @@ fn notes(rt: &impl Abort, client: &mut Client, message: Message, note: ClientNot
     assert_eq!(rt; client.hear(&message), note, "{message:?}");
 }
 
-/// What a program asks of its client.
+/// A program's command to its client.
 #[derive(Clone, Copy)]
 enum Act {
     ReserveNothing,
@@ -163,7 +163,7 @@ fn refuses_all(rt: &impl Abort, client: &mut Client, rows: &[(Act, ClientError)]
     }
 }
 
-// What refuses a client these handlers.
+// The client's refusal of these handlers.
 fn begin_refusal(alloc: Global, handlers: &[HandlerId]) -> Option<BeginError> {
     Client::begin(alloc, SEVEN, 1, handlers).err()
 }
@@ -201,7 +201,7 @@ fn beginning_is_refused_in_order(rt: HostRuntime) -> Result<(), Fail> {
     Ok(())
 }
 
-// A greeting of a client and an incarnation comes, and is noted or not.
+// A greeting of a client and an incarnation comes, and the client's note on it, if any.
 fn is_welcomed(rt: &impl Abort, client: &mut Client, row: (HandlerId, ClientId, u32, bool, Phase)) {
     let (handler, greeted, inc, is_noted, phase) = row;
     let note = if is_noted {
@@ -291,7 +291,7 @@ fn log_of_query(number: u32, value: u64) -> Option<Message> {
     log(number, Entry::Query(add(value)?))
 }
 
-// Handler 1 says that entries of the block up to this number have come.
+// Handler 1 acknowledges the entries of the block up to this number.
 fn is_logged(rt: &impl Abort, client: &mut Client, number: u32, note: ClientNote) {
     notes(rt, client, Message::Logged(ONE, BLOCK, number), note);
 }
@@ -368,7 +368,7 @@ fn it_waits_for_an_answer(rt: HostRuntime) {
     is_due(&rt, &client, ONE, log_of_query(2, 1));
 }
 
-// The client ends its block, and handler 1 has all of it.
+// The client ends its block, and handler 1 has all its entries.
 fn ends(rt: &impl Abort, client: &mut Client) {
     does(rt, client, Act::End);
     is_at(rt, client, Phase::Ending);
@@ -405,7 +405,7 @@ fn unlocks(rt: &impl Abort, client: &mut Client, handler: HandlerId) {
     );
 }
 
-// A client whose block holds handler 1, and was refused handler 2.
+// A client whose block holds handler 1, and didn't get handler 2.
 fn refused(rt: &impl Abort, alloc: Global) -> Client {
     let mut client = settled(rt, alloc, &[ONE, TWO]);
     reserves(rt, &mut client, &[TWO, ONE]);
@@ -473,7 +473,7 @@ fn reserving_is_refused_in_order(rt: HostRuntime) {
     refuses_to_reserve(&rt, &mut client, &[ONE, FIVE], ReserveError::Unknown(FIVE));
 }
 
-// As many calls as may stand without an acknowledgement, and no more.
+// As many calls as may wait for an acknowledgement, and no more.
 fn fills(rt: &impl Abort, client: &mut Client, handler: HandlerId) {
     for _ in 0..MAX_UNACKNOWLEDGED {
         does(rt, client, Act::Call(handler, 1));
@@ -507,7 +507,7 @@ fn begun_at(alloc: Global, last: u32) -> Option<Client> {
     Client::begin_at(alloc, SEVEN, 1, &[ONE], last).ok()
 }
 
-// A client that has had blocks up to this number is refused the next, or isn't.
+// A client that has used the block numbers up to this one is refused the next block, or isn't.
 fn goes_on(rt: &impl Abort, alloc: Global, last: u32, refusal: Option<ClientError>) {
     let Some(mut client) = begun_at(alloc, last) else {
         panic!(rt; "no client");

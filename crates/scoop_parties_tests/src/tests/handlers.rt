@@ -23,7 +23,7 @@ const SET: u16 = 1;
 /// Adds the argument to the word.
 const ADD: u16 = 2;
 
-/// What a client of a row asks.
+/// The request of a client in a row.
 #[derive(Clone, Copy)]
 enum Act {
     Hello,
@@ -46,7 +46,7 @@ enum Does {
     Nothing,
 }
 
-/// What the handler of a row answers and notes.
+/// The reply and the note of the handler in a row.
 #[derive(Clone, Copy)]
 enum Said {
     Greeted,
@@ -54,7 +54,7 @@ enum Said {
     Busy,
     Opened,
     Freed,
-    /// What was asked for stands already.
+    /// The message asks for what holds already.
     Known,
     /// The entries up to this number were taken now.
     Took(u32),
@@ -65,7 +65,7 @@ enum Said {
     Dropped(Reason),
 }
 
-/// What the block of a client, an incarnation and a number asks, and what it hears.
+/// The message of a client's block, by incarnation and number, and the reply.
 type Row = (Act, u32, u32, u32, Said);
 
 fn block(client: u32, inc: u32, num: u32) -> Block {
@@ -76,7 +76,7 @@ fn block(client: u32, inc: u32, num: u32) -> Block {
     }
 }
 
-/// An operation that makes the word the sum of two terms, and answers it.
+/// An operation that makes the word the sum of two terms, and returns it.
 fn row(op: u16, base: Term, plus: Term) -> Option<OpRow> {
     let write = Write {
         word: 0,
@@ -105,7 +105,7 @@ fn object(alloc: Global) -> Option<Table> {
     Table::new(class(alloc)?, words).ok()
 }
 
-/// A handler with such an object, which nobody has greeted.
+/// A handler with such an object, which no client has greeted.
 fn made(alloc: Global) -> Option<Handler<Table>> {
     let object = object(alloc)?;
     Handler::new(alloc, HERE, class(alloc)?, object).ok()
@@ -154,7 +154,7 @@ fn message(act: Act, from: Block) -> Option<Message> {
     }
 }
 
-/// The reply that says that what is asked for stands.
+/// The reply that the requested state holds.
 fn confirms(act: Act, from: Block) -> Message {
     match act {
         Act::Hello => Message::Welcome(HERE, from.client, from.inc),
@@ -198,12 +198,12 @@ fn heard(act: Act, from: Block, said: Said) -> Heard {
     }
 }
 
-/// The handler hears a message, and answers so.
+/// The handler hears a message, and replies like this.
 fn answers(rt: &impl Abort, handler: &mut Handler<Table>, message: &Message, answer: Heard) {
     assert_eq!(rt; handler.hear(message), Ok(answer), "to {message:?}");
 }
 
-/// The handler hears what is asked in a row, and answers so.
+/// The handler hears the message of a row, and replies like this.
 fn hears_one(rt: &impl Abort, handler: &mut Handler<Table>, row: Row) {
     let (act, client, inc, num, said) = row;
     let from = block(client, inc, num);
@@ -213,7 +213,7 @@ fn hears_one(rt: &impl Abort, handler: &mut Handler<Table>, row: Row) {
     answers(rt, handler, &message, heard(act, from, said));
 }
 
-/// The handler hears what is asked in each row, and answers so.
+/// The handler hears the message of each row, and replies like this.
 fn hears(rt: &impl Abort, handler: &mut Handler<Table>, rows: &[Row]) {
     for row in rows {
         hears_one(rt, handler, *row);
@@ -277,7 +277,7 @@ fn has_word(rt: &impl Abort, handler: &Handler<Table>, word: u64) {
     assert_eq!(rt; words.as_slice(), [word].as_slice());
 }
 
-/// Whether the handler's state is this one, where memory suffices to tell.
+/// Whether the handler's state is this one, if there is memory to test it.
 fn has_state(handler: &Handler<Table>, state: &HandlerState) -> Option<bool> {
     let own = handler.copy().ok()?;
     Some(own.same(state))

@@ -70,7 +70,7 @@ fn is_due(rt: &impl Abort, reservation: &Reservation, handler: HandlerId, wanted
     assert_eq!(rt; reservation.due(handler), wanted);
 }
 
-// While it locks, a Lock is due to handler 1, or to handler 2 behind it.
+// While it locks, a Lock is due to handler 1, or to handler 2 after it.
 fn locks_in_order(rt: &impl Abort, reservation: &Reservation) {
     if reservation.stage() == Stage::Locking {
         let next = if reservation.due(ONE) == None {
@@ -173,7 +173,7 @@ fn lists_of_handlers_are_searched(rt: HostRuntime) {
     assert_eq!(rt; first_repeated(&[ONE, TWO, TWO, ONE]), Some(TWO));
 }
 
-// Handlers 1 and 2 are to be unlocked, and are in turn.
+// Handlers 1 and 2 have to be unlocked, and are unlocked in turn.
 fn unlocks_two(rt: &impl Abort, reservation: &mut Reservation) {
     is_due(rt, reservation, ONE, Some(Message::Unlock(ONE, BLOCK)));
     is_due(rt, reservation, TWO, Some(Message::Unlock(TWO, BLOCK)));

@@ -1,4 +1,4 @@
-//! Why bytes are no state.
+//! Errors of reading an image.
 
 ghost use Rattle.std.specs.Prelude.{◌≡◌};
 ghost use Rattle.scoop_record.specs.Faults.{fault_of_append, fault_of_state};
@@ -18,7 +18,7 @@ pub enum ReadError {
     OutOfMemory,
 }
 
-/// What it says of an image that a private queue of it is refused.
+/// The error of an image whose private queue is refused.
 pub(crate) fn fault_of_append(error: AppendError) -> ReadError
     ensures { result ≡ fault_of_append error }
 {
@@ -30,7 +30,7 @@ pub(crate) fn fault_of_append(error: AppendError) -> ReadError
     }
 }
 
-/// What it says of an image that its state is refused.
+/// The error of an image whose state is refused.
 pub(crate) fn fault_of_state(error: StateError) -> ReadError
     ensures { result ≡ fault_of_state error }
 {

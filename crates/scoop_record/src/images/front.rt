@@ -9,7 +9,7 @@ use scoop_handler::Mark;
 use scoop_message::limits::MAX_MARKS;
 use scoop_message::{Block, HandlerId, Words};
 
-/// What an image begins with. The marks stand in cells beside it.
+/// The parts that an image begins with. The marks stand in cells beside it.
 #[derive(Clone, Copy)]
 pub(crate) struct Front {
     pub(crate) words: Words,

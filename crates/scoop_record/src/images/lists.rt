@@ -9,8 +9,7 @@ use scoop_handler::Mark;
 use scoop_message::Entry;
 use scoop_message::limits::{MAX_MARKS, MAX_PENDING};
 
-/// Reads the marks that begin the bytes, behind their count. Answers how many there are and how many
-/// bytes they take.
+/// Reads the count and the marks that begin the bytes. Returns how many marks there are and how many bytes they take.
 pub(crate) fn marks_from(bytes: &[u8], cells: &mut [Mark; MAX_MARKS]) -> Option<(usize, usize)>
     ensures { ReadsMarks bytes.now cells.new result }
 {
@@ -32,7 +31,7 @@ pub(crate) fn marks_from(bytes: &[u8], cells: &mut [Mark; MAX_MARKS]) -> Option<
     Some((count, at))
 }
 
-/// Reads so many entries that begin the bytes. Answers how many bytes they take.
+/// Reads that many entries, which begin the bytes. Returns how many bytes they take.
 pub(crate) fn entries_from(
     bytes: &[u8],
     count: usize,

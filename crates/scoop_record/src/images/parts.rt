@@ -137,7 +137,7 @@ pub(crate) fn head_from(bytes: &[u8]) -> Option<(Head, usize)>
     ))
 }
 
-/// The words that begin the bytes, behind their count, and how many bytes they take.
+/// The words that begin the bytes, after their count, and how many bytes they take.
 pub(crate) fn words_from(bytes: &[u8]) -> Option<(Words, usize)>
     ensures { ReadsFirst words_bytes AreObjectWords bytes.now result }
 {

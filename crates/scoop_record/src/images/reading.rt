@@ -21,7 +21,7 @@ const VERSION_WITH_ENTRIES: u8 = 1;
 // How many bytes the head of a private queue takes.
 const HEAD_LEN: usize = 18;
 
-// What cells hold before a mark is read into them.
+// The content of cells before a mark is read into them.
 const NO_MARK: Mark = Mark {
     client: ClientId(0),
     inc: 0,
@@ -33,7 +33,7 @@ const NO_MARK: Mark = Mark {
 };
 
 // Appends the private queue whose head begins the first bytes and whose entries begin the others.
-// Answers how many bytes the entries take.
+// Returns how many bytes the entries take.
 fn add_queue<A: Allocator + Copy>(
     queues: &mut QueueOfQueues<A>,
     heads: &[u8],

@@ -1,7 +1,7 @@
 //! States to images.
 
 ghost use Rattle.std.specs.Prelude.{◌≡◌, ◌≤◌, ◌++◌, length, IfOk, OnOk};
-ghost use Rattle.std.specs.Int.{w32, to_be_bytes};
+ghost use Rattle.std.specs.Int.{w32, w64, to_be_bytes};
 ghost use Rattle.std.specs.List.{flat_map, AllByRecursion};
 ghost use Rattle.scoop_message.specs.Range.{IsEntry};
 ghost use Rattle.scoop_frame.specs.Body.{entry_bytes};
@@ -11,6 +11,7 @@ ghost use Rattle.scoop_record.specs.Places.{entries_at};
 ghost use Rattle.scoop_record.specs.Range.{BareInRange, BlockInRange, EntriesInRange, HeadInRange, HolderInRange, KeptInRange, MarkInRange, PartsInRange};
 ghost use Rattle.scoop_record.specs.Range.{WordsInRange};
 
+use byteorder::{BigEndian, ByteOrder};
 use scoop_frame::{MAX_ANSWER, MAX_ENTRY, answer_to, entry_to};
 use scoop_handler::{HandlerState, Mark, Stage};
 use scoop_message::limits::{MAX_MARKS, MAX_PENDING};
@@ -24,7 +25,18 @@ pub(crate) const VERSION: u8 = 2;
 fn put_u32<A: Allocator>(out: &mut Vec<u8, A>, number: u32) -> Result<(), OutOfMemory>
     ensures { OnOk result (out.new.items ≡ out.old.items ++ to_be_bytes w32 number) }
 {
-    out.extend_from_slice(&number.to_be_bytes())?;
+    let mut bytes = [0; 4];
+    BigEndian::write_u32(&mut bytes, number);
+    out.extend_from_slice(&bytes)?;
+    Ok(())
+}
+
+fn put_u64<A: Allocator>(out: &mut Vec<u8, A>, number: u64) -> Result<(), OutOfMemory>
+    ensures { OnOk result (out.new.items ≡ out.old.items ++ to_be_bytes w64 number) }
+{
+    let mut bytes = [0; 8];
+    BigEndian::write_u64(&mut bytes, number);
+    out.extend_from_slice(&bytes)?;
     Ok(())
 }
 
@@ -45,7 +57,7 @@ fn put_words<A: Allocator>(out: &mut Vec<u8, A>, words: &Words) -> Result<(), Ou
     out.push(words.len() as u8)?;
     let items = words.as_slice();
     for word in items {
-        out.extend_from_slice(&word.to_be_bytes())?;
+        put_u64(out, *word)?;
     }
     Ok(())
 }
@@ -177,7 +189,7 @@ fn put_entry<A: Allocator>(out: &mut Vec<u8, A>, entry: &Entry) -> Result<(), Ou
     Ok(())
 }
 
-// The entries of the private queue at a place, which has so many.
+// The entries of the private queue at a place, which has that many.
 fn put_entries<A: Allocator, B: Allocator>(
     out: &mut Vec<u8, A>,
     queues: &QueueOfQueues<B>,
@@ -232,7 +244,7 @@ pub fn image<A: Allocator>(alloc: A, state: &HandlerState<A>) -> Result<Vec<u8, 
     Ok(out)
 }
 
-/// The pending entries of a state, queue by queue in order, joined: no bytes where there are none.
+/// The pending entries of a state, queue by queue in order, joined.
 /// `OutOfMemory` is the one refusal.
 pub fn pending_row<A: Allocator>(
     alloc: A,

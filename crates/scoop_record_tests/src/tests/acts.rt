@@ -1,5 +1,5 @@
-//! What is done with a database and with a keeper, as rows with what is answered. What owns a connection passes it on
-//! over any medium and has one way out, since the proof of each way out follows all that a connection holds.
+//! Steps with a database and with a keeper, as rows with the expected results. A function that owns a connection passes it
+//! on over any medium and returns at one place, since the proof of each return follows all that a connection holds.
 
 use super::images::{bare, waiting};
 use scoop_handler::HandlerState;
@@ -9,7 +9,7 @@ use sqlite::{Alter, Connection, Error, Row};
 use std::alloc::Global;
 use std::process::Abort;
 
-/// What is done at a keeper, with what it answers.
+/// A call of a keeper, with its expected result.
 #[derive(Clone, Copy)]
 pub enum Act {
     /// The client's next incarnation.
@@ -22,7 +22,7 @@ pub enum Act {
     Load(Result<Option<u64>, KeeperError>),
 }
 
-/// What is done with a database, with what it answers.
+/// A step with a database, with its expected result.
 #[derive(Clone, Copy)]
 pub enum Step {
     /// Makes the tables, or why not.
@@ -57,13 +57,13 @@ pub const NO_PENDING: Step = Step::Run("DROP TABLE pending");
 
 pub const FIRST: Step = Step::Run("UPDATE meta SET version = 1");
 
-/// Handler 1 with the word 0, whom client 7's block 1 has sent the entries of two calls, which are pending.
+/// Handler 1 with the word 0. Client 7's block 1 has sent it the entries of two calls, which are pending.
 pub const OLD: Step = Step::Run(
     "INSERT INTO handlers (h, image) VALUES (1, x'0100000001010000000000000000000100000007000000010000000102000000020000\
     01000000070000000100000001010000000102010001010000000000000005010001010000000000000006')",
 );
 
-/// What is loaded of handler 1: the word of its state.
+/// The word of handler 1's state, as it is loaded.
 pub fn word<K: Keeper<Global>>(
     rt: &impl Abort,
     keeper: &mut K,
@@ -83,7 +83,7 @@ fn puts<K: Keeper<Global>>(keeper: &mut K, state: &HandlerState) -> bool {
     keeper.put_handler(state).is_ok()
 }
 
-/// Does it: whether it was answered so.
+/// Makes the call, and returns whether its result is the expected one.
 pub fn acts<K: Keeper<Global>>(rt: &impl Abort, alloc: Global, keeper: &mut K, act: Act) -> bool {
     match act {
         Act::Next(client, next) => keeper.next_incarnation(ClientId(client)) == next,
@@ -93,7 +93,7 @@ pub fn acts<K: Keeper<Global>>(rt: &impl Abort, alloc: Global, keeper: &mut K, a
     }
 }
 
-/// The keeper answers all of this so.
+/// All calls of the keeper have their expected results.
 pub fn plays<K: Keeper<Global>>(rt: &impl Abort, alloc: Global, keeper: &mut K, rows: &[Act]) {
     for i in 0..rows.len() {
         assert!(rt; acts(rt, alloc, keeper, rows[i]), "act {i}");
@@ -146,7 +146,7 @@ fn has_texts<S: Alter>(conn: &mut Connection<S>, texts: &[&str]) -> bool {
     }
 }
 
-/// Whether the connection answers the step so. A store's steps aren't for it.
+/// Whether the step at the connection has its expected result. A store's steps aren't for it.
 pub fn answers<S: Alter>(alloc: Global, conn: &mut Connection<S>, step: Step) -> bool {
     match step {
         Step::Make(error) => create_tables(conn).err() == error,
@@ -159,7 +159,7 @@ pub fn answers<S: Alter>(alloc: Global, conn: &mut Connection<S>, step: Step) ->
     }
 }
 
-/// A store in a database that has no tables, `None` where it is refused.
+/// A store in a database that has no tables, `None` if it is refused.
 fn created<S: Alter + Drop>(alloc: Global, conn: Connection<S>) -> Option<Store<S>> {
     match Store::create(alloc, conn) {
         Ok(store) => Some(store),
@@ -167,7 +167,7 @@ fn created<S: Alter + Drop>(alloc: Global, conn: Connection<S>) -> Option<Store<
     }
 }
 
-/// The store that is in a database, `None` where it is refused.
+/// The store that is in a database, `None` if it is refused.
 pub fn adopted<S: Alter + Drop>(alloc: Global, conn: Connection<S>) -> Option<Store<S>> {
     match Store::adopt(alloc, conn) {
         Ok(store) => Some(store),
@@ -175,7 +175,7 @@ pub fn adopted<S: Alter + Drop>(alloc: Global, conn: Connection<S>) -> Option<St
     }
 }
 
-/// What is behind a store once it has done this.
+/// The connection under a store after these calls.
 fn behind<S: Alter + Drop>(
     rt: &impl Abort,
     alloc: Global,
@@ -201,7 +201,8 @@ fn answered<S: Alter + Drop>(
     conn
 }
 
-/// The connection behind a step. Each arm passes it on: what lends it in one and moves it in another is slow to prove.
+/// The connection after a step. Each arm moves it: a function that lends it in one arm and moves it in another is slow to
+/// prove.
 fn stepped<S: Alter + Drop>(
     rt: &impl Abort,
     alloc: Global,
@@ -216,7 +217,7 @@ fn stepped<S: Alter + Drop>(
     }
 }
 
-/// The database answers all of this so.
+/// All steps with the database have their expected results.
 pub fn steps<S: Alter + Drop>(
     rt: &impl Abort,
     alloc: Global,
@@ -229,7 +230,7 @@ pub fn steps<S: Alter + Drop>(
     conn
 }
 
-/// A database in memory, which has nothing yet, answers all of this so.
+/// All steps with a new database in memory have their expected results.
 pub fn steps_in_memory(rt: &impl Abort, alloc: Global, rows: &[Step]) {
     match Connection::open_in_memory(alloc) {
         Ok(conn) => ends(rt, alloc, conn, rows),

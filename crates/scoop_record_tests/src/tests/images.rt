@@ -14,7 +14,7 @@ pub const IMAGE: [u8; 54] =
 
 pub const PENDING: [u8; 24] = *b"\x01\0\x01\x01\0\0\0\0\0\0\0\x05\x01\0\x01\x01\0\0\0\0\0\0\0\x06";
 
-// The image of handler 1 with the word 0, whom nobody has greeted.
+// The image of handler 1 with the word 0, which no client has greeted.
 const BARE: [u8; 17] = *b"\x02\0\0\0\x01\x01\0\0\0\0\0\0\0\0\0\0\0";
 
 fn state(rt: &impl Abort, alloc: Global, image: &[u8], pending: &[u8]) -> HandlerState {
@@ -24,7 +24,7 @@ fn state(rt: &impl Abort, alloc: Global, image: &[u8], pending: &[u8]) -> Handle
     }
 }
 
-/// The state of a handler with this one word, whom nobody has greeted.
+/// The state of a handler with this one word, which no client has greeted.
 pub fn bare(rt: &impl Abort, alloc: Global, word: u8) -> HandlerState {
     let mut image = BARE;
     image[13] = word;
@@ -134,7 +134,7 @@ const CHANGED: [(usize, u8); 13] = [
 ];
 
 #[test]
-fn what_no_handler_has_is_no_image(rt: HostRuntime) {
+fn parts_that_no_handler_has_are_no_image(rt: HostRuntime) {
     for (at, byte) in CHANGED {
         let mut image = IMAGE;
         match image.get_mut(at) {
@@ -145,7 +145,7 @@ fn what_no_handler_has_is_no_image(rt: HostRuntime) {
     }
 }
 
-/// What there is so much of in an image of handler 1.
+/// A part of which an image of handler 1 has N.
 #[derive(Clone, Copy)]
 enum Many {
     /// Words that are 0.
@@ -170,7 +170,7 @@ pub fn put_times(rt: &impl Abort, bytes: &mut Vec<u8>, count: u8, more: &[u8]) {
     }
 }
 
-// The count, and so many times a number, counted from 1, between these bytes.
+// The count N, and then N times a number, counted from 1, between these bytes.
 fn put_counted(rt: &impl Abort, bytes: &mut Vec<u8>, count: u8, before: &[u8], behind: &[u8]) {
     put(rt, bytes, &[count]);
     for i in 0..count {
@@ -180,14 +180,14 @@ fn put_counted(rt: &impl Abort, bytes: &mut Vec<u8>, count: u8, before: &[u8], b
     }
 }
 
-// So many words, and no holder.
+// N words, and no holder.
 fn put_front(rt: &impl Abort, bytes: &mut Vec<u8>, words: u8) {
     put(rt, bytes, &[2, 0, 0, 0, 1, words]);
     put_times(rt, bytes, words, &[0; 8]);
     put(rt, bytes, &[0]);
 }
 
-// Client 7's block 1 is open, and its queue has so many pending entries.
+// Client 7's block 1 is open, and its queue has N pending entries.
 fn put_open(rt: &impl Abort, bytes: &mut Vec<u8>, pending: u8) {
     put_front(rt, bytes, 1);
     put(rt, bytes, b"\x01\0\0\0\x07\0\0\0\x01\0\0\0\x01\x02\0\0\0");
@@ -203,7 +203,7 @@ fn put_open(rt: &impl Abort, bytes: &mut Vec<u8>, pending: u8) {
 // The mark of client 7's block 66, which is over.
 const OVER: [u8; 20] = *b"\x01\0\0\0\x07\0\0\0\x01\0\0\0\x42\x03\0\0\0\0\0\0";
 
-// What stands before and behind a client's number in its mark, and before and behind a block's in its queue.
+// The bytes before and after a client's number in its mark, and before and after a block's in its queue.
 const MARK: ([u8; 3], [u8; 15]) = (*b"\0\0\0", *b"\0\0\0\x01\0\0\0\0\x03\0\0\0\0\0\0");
 
 const QUEUE: ([u8; 11], [u8; 6]) = (*b"\0\0\0\x07\0\0\0\x01\0\0\0", *b"\x02\0\0\0\x01\x01");
@@ -241,8 +241,8 @@ fn put_pending(rt: &impl Abort, bytes: &mut Vec<u8>, many: Many) {
     }
 }
 
-// What is said of such an image.
-fn told(rt: &impl Abort, alloc: Global, many: Many) -> Option<ReadError> {
+// The reader's verdict on such an image.
+fn verdict(rt: &impl Abort, alloc: Global, many: Many) -> Option<ReadError> {
     let mut image = Vec::new(alloc);
     put_image(rt, &mut image, many);
     let mut pending = Vec::new(alloc);
@@ -250,10 +250,10 @@ fn told(rt: &impl Abort, alloc: Global, many: Many) -> Option<ReadError> {
     fault(alloc, &image, &pending)
 }
 
-fn are_told(rt: &impl Abort, alloc: Global, rows: &[(Many, Option<ReadError>)]) {
+fn have_verdicts(rt: &impl Abort, alloc: Global, rows: &[(Many, Option<ReadError>)]) {
     for i in 0..rows.len() {
         let (many, error) = rows[i];
-        assert!(rt; told(rt, alloc, many) == error, "row {i}");
+        assert!(rt; verdict(rt, alloc, many) == error, "row {i}");
     }
 }
 
@@ -268,14 +268,14 @@ const WORDS_AND_MARKS: [(Many, Option<ReadError>); 6] = [
 
 #[test]
 fn words_and_marks_have_limits(rt: HostRuntime) {
-    are_told(&rt, rt.alloc(), &WORDS_AND_MARKS);
+    have_verdicts(&rt, rt.alloc(), &WORDS_AND_MARKS);
 }
 
 const QUEUES: [(Many, Option<ReadError>); 2] = [(Many::Queues(64), None), (Many::Queues(65), BAD)];
 
 #[test]
 fn private_queues_have_a_limit(rt: HostRuntime) {
-    are_told(&rt, rt.alloc(), &QUEUES);
+    have_verdicts(&rt, rt.alloc(), &QUEUES);
 }
 
 const ENTRIES: [(Many, Option<ReadError>); 4] = [
@@ -287,5 +287,5 @@ const ENTRIES: [(Many, Option<ReadError>); 4] = [
 
 #[test]
 fn pending_entries_and_arguments_have_limits(rt: HostRuntime) {
-    are_told(&rt, rt.alloc(), &ENTRIES);
+    have_verdicts(&rt, rt.alloc(), &ENTRIES);
 }

@@ -165,7 +165,7 @@ fn a_negative_number_is_no_handlers(rt: HostRuntime) {
     steps_in_memory(&rt, rt.alloc(), &NEGATIVE);
 }
 
-// The image is that of handler 1 with the word 5, whom nobody has greeted.
+// The image is that of handler 1 with the word 5, which no client has greeted.
 const IMAGE_ALONE: [Step; 3] = [
     Step::Create(&[]),
     Step::Run("INSERT INTO handlers (h, image) VALUES (1, x'0200000001010000000000000005000000')"),
@@ -230,7 +230,7 @@ const BELOW_FIRST: [Step; 3] = [
 ];
 
 #[test]
-fn what_is_no_incarnation_is_the_last_one(rt: HostRuntime) {
+fn a_value_that_is_no_incarnation_counts_as_the_last_one(rt: HostRuntime) {
     steps_in_memory(&rt, rt.alloc(), &UP_TO_LAST);
     steps_in_memory(&rt, rt.alloc(), &AT_LAST);
     steps_in_memory(&rt, rt.alloc(), &ABOVE_LAST);

@@ -11,8 +11,8 @@ const TOP: u32 = 4294967295;
 
 const BAD: Option<ReadError> = Some(ReadError::BadImage);
 
-// What an image says of a block: its incarnation and its number; the stage of its mark and how many entries were
-// received, or the state of its private queue and the number of the first entry that is pending.
+// The numbers of a block in an image: its incarnation and its number; the stage of its mark and how many entries were
+// received, or the state of its private queue and the number of the first pending entry.
 #[derive(Clone, Copy)]
 struct Part(u32, u32, u8, u32);
 
@@ -32,8 +32,8 @@ const FRONT: [u8; 14] = *b"\x02\xff\xff\xff\xff\x01\xff\xff\xff\xff\xff\xff\xff\
 
 const NO_HOLDER: [u8; 1] = [0];
 
-// A handler with a holder, one mark, which these bytes end, and one private queue, which has so many calls pending, and
-// an End where it has ended.
+// A handler with a holder, one mark, which these bytes end, and one private queue. The queue has N pending calls, and an
+// End if it has ended.
 #[derive(Clone, Copy)]
 struct Shape<'s> {
     holder: &'s [u8],
@@ -72,7 +72,7 @@ fn put_image(rt: &impl Abort, bytes: &mut Vec<u8>, shape: Shape<'_>) {
     );
 }
 
-// What is said of these bytes. The state that they are is written as the same bytes.
+// The reader's verdict on these bytes. The state that they are is written as the same bytes.
 fn said(rt: &impl Abort, alloc: Global, bytes: &[u8], entries: &[u8]) -> Option<ReadError> {
     match read_image(alloc, HandlerId(TOP), bytes, entries) {
         Ok(state) => {
@@ -83,8 +83,8 @@ fn said(rt: &impl Abort, alloc: Global, bytes: &[u8], entries: &[u8]) -> Option<
     }
 }
 
-// What is said of such a handler.
-fn told(rt: &impl Abort, alloc: Global, shape: Shape<'_>) -> Option<ReadError> {
+// The reader's verdict on such a handler.
+fn verdict(rt: &impl Abort, alloc: Global, shape: Shape<'_>) -> Option<ReadError> {
     let mut bytes = Vec::new(alloc);
     put_image(rt, &mut bytes, shape);
     let mut entries = Vec::new(alloc);
@@ -93,10 +93,10 @@ fn told(rt: &impl Abort, alloc: Global, shape: Shape<'_>) -> Option<ReadError> {
     said(rt, alloc, &bytes, &entries)
 }
 
-// A mark and a private queue with so many calls, and what is said of them. The mark has ended where the queue has.
+// A mark and a private queue with N calls, and the reader's verdict. The mark has ended if the queue has.
 type Row = (Part, Part, u8, Option<ReadError>);
 
-fn are_told(rt: &impl Abort, alloc: Global, rows: &[Row]) {
+fn have_verdicts(rt: &impl Abort, alloc: Global, rows: &[Row]) {
     for i in 0..rows.len() {
         let (mark, queue, calls, error) = rows[i];
         let shape = Shape {
@@ -106,7 +106,7 @@ fn are_told(rt: &impl Abort, alloc: Global, rows: &[Row]) {
             queue,
             calls,
         };
-        assert!(rt; told(rt, alloc, shape) == error, "row {i}");
+        assert!(rt; verdict(rt, alloc, shape) == error, "row {i}");
     }
 }
 
@@ -155,7 +155,7 @@ const OPEN_QUEUES: [Row; 7] = [
 // that is TOP at most, which is kept for an End: TOP-1 entries may have been received.
 #[test]
 fn an_open_queue_keeps_the_last_number(rt: HostRuntime) {
-    are_told(&rt, rt.alloc(), &OPEN_QUEUES);
+    have_verdicts(&rt, rt.alloc(), &OPEN_QUEUES);
 }
 
 const ENDED_QUEUES: [Row; 6] = [
@@ -201,7 +201,7 @@ const ENDED_QUEUES: [Row; 6] = [
 // The End may have the number TOP, so TOP entries may have been received.
 #[test]
 fn an_end_may_have_the_last_number(rt: HostRuntime) {
-    are_told(&rt, rt.alloc(), &ENDED_QUEUES);
+    have_verdicts(&rt, rt.alloc(), &ENDED_QUEUES);
 }
 
 // The client has greeted with its last incarnation, and has no block yet.
@@ -218,7 +218,7 @@ const CUT_QUEUES: [Row; 5] = [
 // The last entry of a cut queue may have the number TOP, and its incarnation is below that of the mark.
 #[test]
 fn a_cut_queue_may_have_the_last_number(rt: HostRuntime) {
-    are_told(&rt, rt.alloc(), &CUT_QUEUES);
+    have_verdicts(&rt, rt.alloc(), &CUT_QUEUES);
 }
 
 const BLOCKS: [Row; 8] = [
@@ -255,7 +255,7 @@ const BLOCKS: [Row; 8] = [
 // A private queue's block isn't above that of its client's mark: by the incarnation, then by the number.
 #[test]
 fn no_queue_is_above_the_last_block(rt: HostRuntime) {
-    are_told(&rt, rt.alloc(), &BLOCKS);
+    have_verdicts(&rt, rt.alloc(), &BLOCKS);
 }
 
 // The last block, which has ended, with one of these holders: itself, and the block before it.
@@ -275,11 +275,11 @@ const HELD_BY_OTHER: Shape<'static> = Shape {
 #[test]
 fn the_last_block_may_hold_the_lock(rt: HostRuntime) {
     // It is its client's newest block, and no other.
-    assert!(rt; told(&rt, rt.alloc(), HELD).is_none());
-    assert!(rt; told(&rt, rt.alloc(), HELD_BY_OTHER) == BAD);
+    assert!(rt; verdict(&rt, rt.alloc(), HELD).is_none());
+    assert!(rt; verdict(&rt, rt.alloc(), HELD_BY_OTHER) == BAD);
 }
 
-// The kept answer 2^64-1 of the query with the number TOP, behind a mark that has not ended.
+// The kept answer 2^64-1 of the query with the number TOP, after a mark that has not ended.
 const KEPT: [u8; 15] = *b"\0\x01\xff\xff\xff\xff\x01\xff\xff\xff\xff\xff\xff\xff\xff";
 
 const OPEN_KEPT: Shape<'static> = Shape {
@@ -304,7 +304,7 @@ const OVER_BARE: Shape<'static> = Shape {
 // Nothing but its 32 bits binds the number of a kept answer, but only an open block has one.
 #[test]
 fn the_last_query_may_have_a_kept_answer(rt: HostRuntime) {
-    assert!(rt; told(&rt, rt.alloc(), OPEN_KEPT).is_none());
-    assert!(rt; told(&rt, rt.alloc(), OVER_KEPT) == BAD);
-    assert!(rt; told(&rt, rt.alloc(), OVER_BARE).is_none());
+    assert!(rt; verdict(&rt, rt.alloc(), OPEN_KEPT).is_none());
+    assert!(rt; verdict(&rt, rt.alloc(), OVER_KEPT) == BAD);
+    assert!(rt; verdict(&rt, rt.alloc(), OVER_BARE).is_none());
 }

@@ -26,8 +26,8 @@ enum Call {
     Adopt,
 }
 
-/// Where it is stopped: at the log's calls, or at those of the log or of the database file where the call begins
-/// with a checkpoint.
+/// The calls at which it is stopped: the log's; or, if the call begins with a checkpoint, those of the log or of the
+/// database file.
 #[derive(Clone, Copy)]
 enum Part {
     Log,
@@ -35,7 +35,7 @@ enum Part {
     File,
 }
 
-/// A file with these bytes that takes so many calls.
+/// A file with these bytes that takes N calls.
 fn file(rt: &impl Abort, alloc: Global, bytes: &[u8], calls: u64) -> Stopped {
     let mut file = Memory::new(alloc);
     let written = file.write_at(0, bytes).is_ok() && file.sync().is_ok();
@@ -50,7 +50,7 @@ fn blank(rt: &impl Abort, alloc: Global) -> Files<Stopped> {
     }
 }
 
-/// Files with the same bytes, of which that part takes so many calls.
+/// Files with the same bytes, of which that part takes N calls.
 fn copy_of(
     rt: &impl Abort,
     alloc: Global,
@@ -79,7 +79,7 @@ fn options_of(part: Part) -> Options {
     }
 }
 
-// What names the files' type does one thing alone, and takes nothing apart.
+// A function that names the files' type does one thing alone, and takes nothing apart.
 fn connected(
     alloc: Global,
     files: Files<Stopped>,
@@ -134,7 +134,7 @@ fn prepared<S: Alter + Drop>(
     }
 }
 
-/// What is below such a database.
+/// The files of such a database.
 fn medium_before<S: Alter + Drop>(
     rt: &impl Abort,
     alloc: Global,
@@ -153,7 +153,7 @@ fn files_before(rt: &impl Abort, alloc: Global, call: Call, part: Part) -> Files
     left_by(medium_before(rt, alloc, conn, call, part))
 }
 
-/// What is below a database once the call is made there, and whether that succeeded.
+/// The files of a database after the call, and whether the call succeeded.
 fn called_there<S: Alter + Drop>(
     alloc: Global,
     mut conn: Connection<S>,
@@ -194,7 +194,7 @@ fn called<S: Alter + Drop>(
     }
 }
 
-/// All tables, or none: where no record is taken, one is made.
+/// All tables, or none: if no record is adopted, one is made.
 fn has_tables<S: Alter + Drop>(rt: &impl Abort, alloc: Global, mut conn: Connection<S>) -> bool {
     let taken = answers(alloc, &mut conn, Step::Take(None));
     assert!(rt; taken || answers(alloc, &mut conn, Step::Make(None)));
@@ -225,7 +225,7 @@ fn has_word<K: Keeper<Global>>(rt: &impl Abort, keeper: &mut K) -> bool {
     }
 }
 
-/// The number behind the incarnation that the call stores, or behind the one before it.
+/// The number after the incarnation that the call stores, or after the one before it.
 fn has_number<K: Keeper<Global>>(rt: &impl Abort, keeper: &mut K) -> bool {
     match keeper.next_incarnation(ClientId(7)) {
         Ok(2) => false,

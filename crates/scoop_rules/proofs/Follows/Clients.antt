@@ -1,32 +1,13 @@
 -- Clients that log nothing: a reserve, a block given up and what a client hears leave the configuration, and a restart
 -- is a restart.
-use Rattle.std.proofs.Common.{◌≡◌, ℕ, ◌+◌, true, List, [], ◌∷◌, find, Option, Some, refl, sym, ap, ◌∙◌, subst}
-use Rattle.std.specs.Prelude.{if◌then◌else◌, unwrap_or, Ok}
-use Rattle.std.specs.Option.{option_map_or}
-use Rattle.scoop_message.specs.declared.name.Block.{Block}
-use Rattle.scoop_message.specs.declared.name.ClientId.{ClientId}
-use Rattle.scoop_message.specs.declared.name.HandlerId.{HandlerId}
-use Rattle.scoop_message.specs.declared.message.Message.{Message}
-use Rattle.scoop_message.specs.Message.{client_of, same_client}
-use Rattle.scoop_message.proofs.Same.{client_decides}
-use Rattle.scoop_reserve.specs.Handlers.{has}
-use Rattle.scoop_client.specs.State.{ClientState}
-use Rattle.scoop_client.specs.Hearing.{heard}
-use Rattle.scoop_client.specs.Commands.{command}
-use Rattle.scoop_client.proofs.Rows.{heard_row}
-use Rattle.scoop_client.specs.declared.command.Command.{Command}
-use Rattle.scoop_client.specs.declared.command.Command.TheVariants.{Reserve, GiveUp}
-use Rattle.scoop_model.specs.World.{World, Party, id_of, is_party, party_of, set_party, sent_at, has_block, set_of, log_of, inc_of}
-use Rattle.scoop_model.specs.Step.{newest_block, commanded_world, with_party, heard_party, restarted_party}
-use Rattle.scoop_rules.specs.Paper.{Objects, Restart, MovesLead, put_at_client, restart, seen, queue_of, queue_at, configuration_of}
-use Rattle.scoop_model.proofs.Basics.{by_test}
-use Rattle.scoop_model.proofs.Keys.{id_found, by_party}
-use Rattle.scoop_model.proofs.Order.Facts.{PartyFits, Ordered, all_found}
-use Rattle.scoop_model.proofs.Order.Sets.{handlers_after}
-use Rattle.scoop_model.proofs.Order.Clients.{keeps_row}
-use Rattle.scoop_model.proofs.Order.Commands.{goes_on}
-use Rattle.scoop_model.proofs.Order.Handlers.{sent_tells}
-use Rattle.scoop_model.proofs.Logging.Logs.{reserved_same}
+use Rattle.scoop_rules.proofs.Names.{◌≡◌, ℕ, ◌+◌, List, [], ◌∷◌, Some, refl, sym, ap, ◌∙◌, subst, Ok, Option, find, true, if◌then◌else◌, unwrap_or}
+use Rattle.scoop_rules.proofs.Names.{option_map_or, client_decides, client_of, same_client, Message, Block, ClientId, HandlerId, all_found, by_test, has, heard}
+use Rattle.scoop_rules.proofs.Names.{ClientState, Command, Reserve, GiveUp, by_party, id_found, newest_block, commanded_world, with_party, heard_party}
+use Rattle.scoop_rules.proofs.Names.{restarted_party, World, Party, set_party, is_party, sent_at, has_block, log_of, party_of, id_of, inc_of, set_of}
+use Rattle.scoop_rules.proofs.Names.{reserved_same, goes_on, PartyFits, Ordered, handlers_after, configuration_of, queue_at, queue_of, seen, Objects, Restart}
+use Rattle.scoop_rules.proofs.Names.{MovesLead, put_at_client, restart}
+use Rattle.scoop_model.proofs.Names.{command}
+use Rattle.scoop_model.proofs.Order.Clients.{keeps_hearing}
 use Rattle.scoop_rules.proofs.Lists.{same_configuration, queues_same}
 
 abbrev inc_in : Option Party → ℕ
@@ -61,23 +42,16 @@ module _ (w : World) (c : ClientId) (p q : Party) (at : party_of c w ≡ Some p)
 
 -- ---- a notice, and a restart
 
-pub party_same :
-    (w : World) (c : ClientId) (p q : Party) → party_of c w ≡ Some p → id_of q ≡ id_of p → q.client.inc ≡ p.client.inc
+pub party_same : (w : World) (c : ClientId) (p q : Party) → party_of c w ≡ Some p → id_of q ≡ id_of p → q.client.inc ≡ p.client.inc
     → configuration_of w ≡ configuration_of (with_party w q)
 party_same w c p q at own same =
     same_configuration (configuration_of w) (configuration_of (with_party w q)) (λ h. refl) (λ h. refl) refl (inc_same w c p q at own same)
 
-pub notice_same :
-    (w : World) (o : Ordered w) (i : ℕ) (m : Message) (p : Party) → sent_at i w ≡ Some m → party_of (client_of m) w ≡ Some p
+pub notice_same : (w : World) (o : Ordered w) (i : ℕ) (m : Message) (p : Party) → sent_at i w ≡ Some m → party_of (client_of m) w ≡ Some p
     → configuration_of w ≡ configuration_of (with_party w (heard_party p (heard p.client m)))
-notice_same w o i m p was at =
-    let kept =
-    keeps_row w p.client (all_found (PartyFits w) (is_party (client_of m)) w.parties p o.parties at).reservation m (heard p.client m).0 (heard p.client m).1
-    (heard_row p.client m) (sent_tells w i m was o.messages) in
-    party_same w (client_of m) p (heard_party p (heard p.client m)) at kept.id kept.inc
+notice_same w o i m p was at = let kept = keeps_hearing w o i m p was at in party_same w (client_of m) p (heard_party p (heard p.client m)) at kept.id kept.inc
 
-pub restart_follows :
-    (w : World) (o : Ordered w) (g : Objects) (c : ClientId) (p : Party) → party_of c w ≡ Some p
+pub restart_follows : (w : World) (o : Ordered w) (g : Objects) (c : ClientId) (p : Party) → party_of c w ≡ Some p
     → MovesLead g (configuration_of w) (Restart c ∷ []) (configuration_of (with_party w (restarted_party p)))
 restart_follows w o g c p at =
     let q : Party = restarted_party p in
@@ -90,15 +64,13 @@ restart_follows w o g c p at =
 -- ---- a reserve, and a block given up
 
 -- a block of the common list was reserved before, and keeps its handlers
-pub same_set :
-    (w : World) (o : Ordered w) (p : Party) (x : Command) (d : ClientState) (b : Block) → has_block w.joint b ≡ true
+pub same_set : (w : World) (o : Ordered w) (p : Party) (x : Command) (d : ClientState) (b : Block) → has_block w.joint b ≡ true
     → set_of b w ≡ set_of b (commanded_world w p x d)
 same_set w o p x d b m =
     let all = o.joint b m in
     ap (λ (q : Option (List HandlerId)). unwrap_or q []) (all.set ∙ sym (handlers_after x (newest_block d) b w.logs all.handlers all.set))
 
-pub reserve_same :
-    (w : World) (o : Ordered w) (c : ClientId) (p : Party) (hs : List HandlerId) (d : ClientState) → party_of c w ≡ Some p
+pub reserve_same : (w : World) (o : Ordered w) (c : ClientId) (p : Party) (hs : List HandlerId) (d : ClientState) → party_of c w ≡ Some p
     → command p.client (Reserve hs) ≡ Ok d
     → configuration_of w ≡ configuration_of (commanded_world w p (Reserve hs) d)
 reserve_same w o c p hs d at is =
@@ -116,9 +88,7 @@ reserve_same w o c p hs d at is =
         let log : log_of b h w ≡ log_of b h then_world = sym (reserved_same hs (newest_block d) b h w.logs) in
         λ i. if has (same_set w o p (Reserve hs) d b m i) h then queue_of b (record (seen b h w) { logged = log i }) else []
 
-pub give_up_same :
-    (w : World) (o : Ordered w) (c : ClientId) (p : Party) (d : ClientState) → party_of c w ≡ Some p → command p.client GiveUp ≡ Ok d
+pub give_up_same : (w : World) (o : Ordered w) (c : ClientId) (p : Party) (d : ClientState) → party_of c w ≡ Some p → command p.client GiveUp ≡ Ok d
     → configuration_of w ≡ configuration_of (commanded_world w p GiveUp d)
 give_up_same w o c p d at is =
-    let g = goes_on w p GiveUp d is (all_found (PartyFits w) (is_party c) w.parties p o.parties at) in
-    party_same w c p (record p { client = d }) at g.id g.inc
+    let g = goes_on w p GiveUp d is (all_found (PartyFits w) (is_party c) w.parties p o.parties at) in party_same w c p (record p { client = d }) at g.id g.inc

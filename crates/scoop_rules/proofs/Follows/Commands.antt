@@ -1,49 +1,26 @@
--- What a client's command does follows the rules: each entry that it logs is logged in the queues of the rules. The block
--- has opened at all of its handlers, so each has a queue for it, which is open since no End is logged and its client has
--- greeted in no newer incarnation; and no query of it waits. An End is one move at each handler, one after another.
-use Rattle.std.proofs.Common.{◌≡◌, ◌⊎◌, inl, inr, ◌<◌, true, false, ◌&&◌, ◌||◌, true≢false, List, [], ◌∷◌, ◌++◌, length, map, flat_map, find, Option, Some}
-use Rattle.std.proofs.Common.{None, refl, sym, ap, ◌∙◌, subst, ⊎_elim, arith, length-append, append-nil}
-use Rattle.std.specs.Prelude.{if◌then◌else◌, unwrap_or, Ok}
-use Rattle.std.specs.Option.{option_map_or}
-use Rattle.scoop_message.specs.declared.name.Block.{Block}
-use Rattle.scoop_message.specs.declared.name.ClientId.{ClientId}
-use Rattle.scoop_message.specs.declared.name.HandlerId.{HandlerId}
-use Rattle.scoop_message.specs.declared.request.Entry.{Entry}
-use Rattle.scoop_message.specs.declared.request.Entry.TheVariants.{Call as CallEntry, Query as QueryEntry, End as EndEntry}
-use Rattle.scoop_message.specs.Entries.{EndOnlyLast}
-use Rattle.scoop_message.specs.Message.{same_block, same_handler}
-use Rattle.scoop_message.proofs.Same.{handler_decides}
-use Rattle.scoop_reserve.specs.Handlers.{has}
-use Rattle.scoop_reserve.specs.State.{ReservationState}
-use Rattle.scoop_client.specs.Window.{WindowState, window_of}
-use Rattle.scoop_client.specs.State.{ClientState}
-use Rattle.scoop_client.specs.Commands as client
-use Rattle.scoop_client.specs.Rows.{LogRow, is_logged, EndRow, ends_block}
-use Rattle.scoop_client.proofs.CommandRows.{command_row}
-use Rattle.scoop_client.specs.declared.command.Command.{Command}
-use Rattle.scoop_client.specs.declared.command.Command.TheVariants.{Reserve, Call, Query, End, GiveUp}
-use Rattle.scoop_model.specs.World.{World, Party, HandlerLog, is_share_of, is_party, party_of, has_block, shares_of, handlers_of, set_of, log_of, opened_at}
-use Rattle.scoop_model.specs.World.{is_succeeded, has_end, inc_of}
-use Rattle.scoop_model.specs.Step.{newest_block, logs_after, commanded_world}
-use Rattle.scoop_rules.specs.Paper.{LogOne, MovesLead, logged_to, has_open, waits, Seen, seen, queue_of, queue_at, configuration_of, objects_of, command_moves}
-use Rattle.scoop_model.proofs.Basics.{ok_is, by_test}
-use Rattle.scoop_model.proofs.Whole.Sent.{same_handler_itself}
-use Rattle.scoop_model.proofs.Keys.{id_found}
-use Rattle.scoop_model.proofs.Order.Facts.{PartyFits, all_found}
-use Rattle.scoop_model.proofs.Order.Commands.{goes_on}
-use Rattle.scoop_model.proofs.Order.Lists.{same_block_is, same_block_itself}
-use Rattle.scoop_model.proofs.Logging.Facts.{PartyLogs}
-use Rattle.scoop_model.proofs.Logging.Logs.{HasLine, IsAdded, added, log_in, log_after, log_here, log_other, named_shares}
+-- A client's command follows the rules: each entry that it logs is logged in the queues of the rules. The block has opened at all of
+-- its handlers, so each has a queue for it. That queue is open, since no End is logged and its client has greeted in no newer
+-- incarnation. No query of it waits. An End is one move at each handler, one after another.
+use Rattle.scoop_rules.proofs.Names.{◌≡◌, ◌<◌, List, [], ◌∷◌, ◌++◌, map, Some, None, refl, sym, ap, ◌∙◌, subst, arith, append-nil, Ok, Option, find, true}
+use Rattle.scoop_rules.proofs.Names.{if◌then◌else◌, ◌&&◌, false, true≢false, ◌||◌, length, ◌⊎◌, inl, inr, ⊎_elim, unwrap_or, length-append, flat_map}
+use Rattle.scoop_rules.proofs.Names.{option_map_or, handler_decides, EndOnlyLast, same_block, same_handler, Block, ClientId, HandlerId, Entry, CallEntry}
+use Rattle.scoop_rules.proofs.Names.{QueryEntry, EndEntry, all_found, by_test, has, ReservationState, ClientState, phase_of, WindowState, window_of, Command}
+use Rattle.scoop_rules.proofs.Names.{id_found, newest_block, commanded_world, logs_after, World, Party, is_party, has_block, opened_at, log_of, party_of}
+use Rattle.scoop_rules.proofs.Names.{handlers_of, HandlerLog, shares_of, is_succeeded, inc_of, is_share_of, set_of, has_end, PartyLogs, IsAdded, added}
+use Rattle.scoop_rules.proofs.Names.{log_after, log_other, HasLine, log_in, log_here, named_shares, Takes, takes_reserve, takes_call, takes_query, takes_end}
+use Rattle.scoop_rules.proofs.Names.{takes_give_up, takes, goes_on, PartyFits, same_block_itself, same_block_is, HandlerReady, same_handler_itself}
+use Rattle.scoop_rules.proofs.Names.{configuration_of, queue_at, queue_of, seen, Seen, waits, MovesLead, LogOne, logged_to, has_open, objects_of, command_moves}
 use Rattle.scoop_model.proofs.Logging.Windows.{handlers_at}
 use Rattle.scoop_model.proofs.Logging.Commands.{IsRunning, running_is, commands_logging}
+use Rattle.scoop_model.proofs.Names.{Running}
 use Rattle.scoop_rules.proofs.Lists.{same_configuration, queues_same, logged_over, logged_other, own_queue_at}
 use Rattle.scoop_rules.proofs.Seen.{SlotOf, slot_seen, slot_at, none_before, no_end_left}
 use Rattle.scoop_rules.proofs.Front.{left_has}
-use Rattle.scoop_model.proofs.Ready.Facts.{HandlerReady}
 use Rattle.scoop_rules.proofs.Runs.{SlotReady, slots_ready}
 use Rattle.scoop_rules.proofs.Follows.Facts.{AreDistinct, Following}
 use Rattle.scoop_rules.proofs.Follows.Logging.{IsOpen, logged_at_all, one_at_all, logs_lead, open_among, open_queue, logged_queue}
 use Rattle.scoop_rules.proofs.Follows.Clients.{same_set, inc_same, reserve_same, give_up_same}
+use Rattle.scoop_client.specs.Commands as client
 
 -- ---- shares of handlers
 
@@ -66,8 +43,7 @@ handler_there h (m ∷ ms) l e =
 
 -- ---- a client whose block runs, and that doesn't wait, logs
 
-module _
-    (w : World) (f : Following w) (c : ClientId) (p : Party) (at : party_of c w ≡ Some p) (x : Command) (d : ClientState)
+module _ (w : World) (f : Following w) (c : ClientId) (p : Party) (at : party_of c w ≡ Some p) (x : Command) (d : ClientState)
     (is : client.command p.client x ≡ Ok d) (run : IsRunning p.client) (free : p.client.waits ≡ None)
     (same : newest_block d ≡ newest_block p.client)
   where
@@ -177,8 +153,7 @@ module _
       takes_more = open_among b (queue_at w h) w.joint (in_joint h m) its_queue
 
     -- a queue stays where its block's log does, or where its block doesn't name the handler
-    queue_stays :
-        (h : HandlerId) (y : Block) → has_block w.joint y ≡ true → (log_of y h after ≡ log_of y h w) ⊎ (has (set_of y w) h ≡ false)
+    queue_stays : (h : HandlerId) (y : Block) → has_block w.joint y ≡ true → (log_of y h after ≡ log_of y h w) ⊎ (has (set_of y w) h ≡ false)
         → queue_at after h y ≡ queue_at w h y
     queue_stays h y my why = ⊎_elim
         (λ (log : log_of y h after ≡ log_of y h w).
@@ -191,8 +166,7 @@ module _
     other_than : (y : Block) → same_block y b ≡ false → b ≡ y → ⊥
     other_than y other e = true≢false (sym (ap (λ z. same_block z b) (sym e) ∙ same_block_itself b) ∙ other)
 
-    queues_logged :
-        (h : HandlerId) → has (set_of b w) h ≡ true → (e : Entry) → added x h ≡ e ∷ []
+    queues_logged : (h : HandlerId) → has (set_of b w) h ≡ true → (e : Entry) → added x h ≡ e ∷ []
         → map (logged_to b e) (flat_map (queue_at w h) w.joint) ≡ flat_map (queue_at after h) w.joint
     queues_logged h m e adds =
         logged_over b e (queue_at w h) w.joint
@@ -215,8 +189,7 @@ module _
         (λ _ other. sym (queue_stays h y my (inl (log_stays y h (inl (other_than y other)))))) refl)
 
     -- the entry goes to these handlers, and to no others
-    pub all_logged :
-        (hs : List HandlerId) (e : Entry) → ((h : HandlerId) → has hs h ≡ true → (has (set_of b w) h ≡ true) × (added x h ≡ e ∷ []))
+    pub all_logged : (hs : List HandlerId) (e : Entry) → ((h : HandlerId) → has hs h ≡ true → (has (set_of b w) h ≡ true) × (added x h ≡ e ∷ []))
         → ((h : HandlerId) → has hs h ≡ false → (has (set_of b w) h ≡ false) ⊎ (added x h ≡ []))
         → logged_at_all b e hs (configuration_of w) ≡ configuration_of after
     all_logged hs e there off =
@@ -232,8 +205,7 @@ module _
     none_waits : (h : HandlerId) → waits b ((configuration_of w).queues h) ≡ false
     none_waits h = subst (λ y. waits y ((configuration_of w).queues h) ≡ false) is_newest ((f.clients c p at).asked r run.held free h)
 
-    pub one_leads :
-        (k : HandlerId) (e : Entry) → has (set_of b w) k ≡ true → ((h : HandlerId) → added x h ≡ (if same_handler h k then e ∷ [] else []))
+    pub one_leads : (k : HandlerId) (e : Entry) → has (set_of b w) k ≡ true → ((h : HandlerId) → added x h ≡ (if same_handler h k then e ∷ [] else []))
         → MovesLead (objects_of w) (configuration_of w) (LogOne b k e ∷ []) (configuration_of after)
     one_leads k e m adds = (
       (its_inc, takes_more k m e (here k (same_handler_itself k)), none_waits),
@@ -260,8 +232,7 @@ module _
             (λ _ so. absurd (true≢false (sym (ap (λ y. has (k ∷ []) y) ((handler_decides h k).0 so) ∙ ap (λ t. t || false) (same_handler_itself k)) ∙ off)))
             (λ _ so. refl) refl
 
-    pub end_leads :
-        ((h : HandlerId) → added x h ≡ EndEntry ∷ [])
+    pub end_leads : ((h : HandlerId) → added x h ≡ EndEntry ∷ [])
         → MovesLead (objects_of w) (configuration_of w) (map (λ h. LogOne b h EndEntry) (set_of b w)) (configuration_of after)
     end_leads adds =
         subst (λ g. MovesLead (objects_of w) (configuration_of w) (map (λ h. LogOne b h EndEntry) (set_of b w)) g)
@@ -271,30 +242,26 @@ module _
 
 -- ---- any command
 
-module _ (w : World) (f : Following w) (c : ClientId) (p : Party) (at : party_of c w ≡ Some p) (d : ClientState) where
-  log_row :
-      (x : Command) (k : HandlerId) (e : Entry) (o : client.Outcome) → ((h : HandlerId) → added x h ≡ (if same_handler h k then e ∷ [] else []))
-      → client.command p.client x ≡ Ok d → LogRow p.client k e o → o ≡ Ok d
+module _ (w : World) (f : Following w) (c : ClientId) (p : Party) (at : party_of c w ≡ Some p) where
+  -- one entry is logged at a handler of the block
+  logs_one : (x : Command) (d : ClientState) (is : client.command p.client x ≡ Ok d) (k : HandlerId) (e : Entry) (l : WindowState) → phase_of p.client ≡ Running
+      → p.client.waits ≡ None → window_of k p.client.windows ≡ Some l → newest_block d ≡ newest_block p.client
+      → ((h : HandlerId) → added x h ≡ (if same_handler h k then e ∷ [] else []))
       → MovesLead (objects_of w) (configuration_of w) (LogOne (newest_block p.client) k e ∷ []) (configuration_of (commanded_world w p x d))
-  log_row x k e o adds is (is_logged l running free window room more) done =
+  logs_one x d is k e l running free window same adds =
       let run = running_is p.client running in
-      let same : newest_block d ≡ newest_block p.client = sym (ap newest_block (ok_is _ d done)) in
       let own = (all_found (PartyLogs w) (is_party c) w.parties p f.logging.parties at).block run.reservation run.held in
       let member : has run.reservation.handlers k ≡ true = subst (λ hs. has hs k ≡ true) own.handlers (handler_there k p.client.windows l window) in
       one_leads w f c p at x d is run free same k e (subst (λ hs. has hs k ≡ true) (sym (set_is w f c p at x d is run free same)) member) adds
-  log_row x k e o adds is r done = absurd (cc)
 
-  end_row : (o : client.Outcome) → client.command p.client End ≡ Ok d → EndRow p.client o → o ≡ Ok d
-      → MovesLead (objects_of w) (configuration_of w) (map (λ h. LogOne (newest_block p.client) h EndEntry) (set_of (newest_block p.client) w))
-      (configuration_of (commanded_world w p End d))
-  end_row o is (ends_block running free room) done =
-      end_leads w f c p at End d is (running_is p.client running) free (sym (ap newest_block (ok_is _ d done))) (λ h. refl)
-  end_row o is r done = absurd (cc)
-
-  pub command_follows : (x : Command) → client.command p.client x ≡ Ok d
+  follows_by : (x : Command) (d : ClientState) → Takes p.client x d → client.command p.client x ≡ Ok d
       → MovesLead (objects_of w) (configuration_of w) (command_moves w (newest_block p.client) x) (configuration_of (commanded_world w p x d))
-  command_follows (Reserve hs) is = reserve_same w f.ordered c p hs d at is
-  command_follows (Call h r) is = log_row (Call h r) h (CallEntry r) _ (λ j. refl) is (command_row p.client (Call h r)) is
-  command_follows (Query h r) is = log_row (Query h r) h (QueryEntry r) _ (λ j. refl) is (command_row p.client (Query h r)) is
-  command_follows End is = end_row _ is (command_row p.client End) is
-  command_follows GiveUp is = give_up_same w f.ordered c p d at is
+  follows_by x d (takes_reserve hs at_idle begins) is = reserve_same w f.ordered c p hs d at is
+  follows_by x d (takes_call h r l running free window room) is = logs_one x d is h (CallEntry r) l running free window refl (λ j. refl)
+  follows_by x d (takes_query h r l running free window room) is = logs_one x d is h (QueryEntry r) l running free window refl (λ j. refl)
+  follows_by x d (takes_end running free) is = end_leads w f c p at x d is (running_is p.client running) free refl (λ h. refl)
+  follows_by x d (takes_give_up r held at_lock) is = give_up_same w f.ordered c p d at is
+
+  pub command_follows : (d : ClientState) (x : Command) → client.command p.client x ≡ Ok d
+      → MovesLead (objects_of w) (configuration_of w) (command_moves w (newest_block p.client) x) (configuration_of (commanded_world w p x d))
+  command_follows d x is = follows_by x d (takes p.client d x is) is

@@ -1,18 +1,8 @@
--- What following the rules asks of a world: what each handler and the messages ask (see Ready), what is in order and
--- as logged, that a block names each of its handlers once, and where its client may log.
-use Rattle.std.proofs.Common.{◌≡◌, true, false, List, [], ◌∷◌, Some, None}
-use Rattle.std.specs.Prelude.{⊤}
-use Rattle.scoop_message.specs.declared.name.Block.{Block}
-use Rattle.scoop_message.specs.declared.name.ClientId.{ClientId}
-use Rattle.scoop_message.specs.declared.name.HandlerId.{HandlerId}
-use Rattle.scoop_reserve.specs.Handlers.{has}
-use Rattle.scoop_reserve.specs.Hearing.{is_open}
-use Rattle.scoop_reserve.specs.State.{ReservationState}
-use Rattle.scoop_model.specs.World.{World, Party, party_of, handlers_of, has_block, opened_at}
-use Rattle.scoop_rules.specs.Paper.{waits, configuration_of}
-use Rattle.scoop_model.proofs.Order.Facts.{Ordered}
-use Rattle.scoop_model.proofs.Logging.Facts.{Logging}
-use Rattle.scoop_model.proofs.Ready.Facts.{Ready}
+-- The conditions under which a world follows the rules: those on each handler and the messages (see Ready), the order, and the logs.
+-- A block names each of its handlers once, and its client may log only while no query waits.
+use Rattle.scoop_rules.proofs.Names.{◌≡◌, List, [], ◌∷◌, Some, None, true, false, Block, ClientId, HandlerId, has, ReservationState, World, Party, has_block}
+use Rattle.scoop_rules.proofs.Names.{opened_at, party_of, handlers_of, Logging, Ordered, Ready, configuration_of, waits}
+use Rattle.scoop_model.proofs.Names.{⊤, is_open}
 
 -- no handler stands twice
 abbrev pub AreDistinct : List HandlerId → Type 0
@@ -21,12 +11,10 @@ AreDistinct (h ∷ hs) = (has hs h ≡ false) × AreDistinct hs
 
 pub record ClientReady (w : World) (p : Party) : Type 0 where
   -- the block in which a client may log has opened at each of its handlers
-  pub opened :
-      (r : ReservationState) → p.client.reservation ≡ Some r → is_open r ≡ true → (h : HandlerId) → has r.handlers h ≡ true
+  pub opened : (r : ReservationState) → p.client.reservation ≡ Some r → is_open r ≡ true → (h : HandlerId) → has r.handlers h ≡ true
       → has_block (opened_at h w) r.block ≡ true
   -- where no query waits, none of the block waits in the queues of the rules
-  pub asked :
-      (r : ReservationState) → p.client.reservation ≡ Some r → p.client.waits ≡ None → (h : HandlerId)
+  pub asked : (r : ReservationState) → p.client.reservation ≡ Some r → p.client.waits ≡ None → (h : HandlerId)
       → waits r.block ((configuration_of w).queues h) ≡ false
 
 pub record Following (w : World) : Type 0 where

@@ -1,18 +1,11 @@
--- Whatever happens, a world stays ready to follow the rules.
-use Rattle.std.proofs.Common.{List}
-use Rattle.scoop_model.specs.World.{World}
-use Rattle.scoop_model.specs.Step.{Placement, Newcomer, opening}
-use Rattle.scoop_model.specs.Opening.{MayOpen}
-use Rattle.scoop_model.specs.Reach.{IsReached}
-use Rattle.scoop_model.proofs.Events.{Changes}
-use Rattle.scoop_model.proofs.Sound.Runs.{both_kept}
-use Rattle.scoop_model.proofs.Ready.Runs.{facts, reached_keeps}
-use Rattle.scoop_model.proofs.Ready.Runs as model
+-- Every event keeps a world ready to follow the rules.
+use Rattle.scoop_rules.proofs.Names.{List, MayOpen, IsReached, Placement, Newcomer, opening, World, Changes, facts, reached_keeps, both_kept}
 use Rattle.scoop_rules.proofs.Asked.{Asked}
 use Rattle.scoop_rules.proofs.AskedRuns.{asked_kept, opens_asked}
 use Rattle.scoop_rules.proofs.Follows.Facts.{Following}
 use Rattle.scoop_rules.proofs.Follows.Sets.{Sets, sets_kept, opens_sets}
 use Rattle.scoop_rules.proofs.Follows.Readiness.{following}
+use Rattle.scoop_model.proofs.Ready.Runs as model
 
 -- beside what the theorem on safety needs: what is asked, and which handlers a block names
 abbrev pub Kept : World → Type 0

@@ -1,24 +1,10 @@
--- One entry that is logged at several handlers of a block, each in a move of its own; and where a block's queue stands
--- among the others.
-use Rattle.std.proofs.Common.{◌≡◌, ℕ, zero, suc, ◌≤◌, true, false, ◌&&◌, ◌||◌, true≢false, List, [], ◌∷◌, ◌++◌, length, map, flat_map, drop, refl, sym, ap, ◌∙◌}
-use Rattle.std.proofs.Common.{subst, arith}
-use Rattle.std.specs.Prelude.{if◌then◌else◌}
-use Rattle.std.specs.List.{list_any}
-use Rattle.std.proofs.lemmas.List.Folds.{list_any-append}
-use Rattle.std.proofs.Math.Bool.{or-false, or-true}
-use Rattle.scoop_message.specs.declared.name.Block.{Block}
-use Rattle.scoop_message.specs.declared.name.HandlerId.{HandlerId}
-use Rattle.scoop_message.specs.declared.request.Entry.{Entry}
-use Rattle.scoop_message.specs.Entry.{is_end, is_query}
-use Rattle.scoop_message.specs.Message.{same_block, same_handler}
-use Rattle.scoop_message.proofs.Same.{handler_decides}
-use Rattle.scoop_queue.specs.declared.state.QueueState.TheVariants.{Open, Ended}
-use Rattle.scoop_queue.specs.Queue.{is_open}
-use Rattle.scoop_reserve.specs.Handlers.{has}
-use Rattle.scoop_model.specs.World.{has_block, has_end}
-use Rattle.scoop_rules.specs.Paper.{Waiting, Configuration, Objects, LogOne, MovesLead, is_of, logged_to, log_one, has_open, waits, Seen, queue_of}
-use Rattle.scoop_model.proofs.Basics.{by_test}
-use Rattle.scoop_model.proofs.Order.Lists.{same_block_is, same_block_itself}
+-- One entry that is logged at several handlers of a block, each in a move of its own, and the place of a block's queue among the
+-- others.
+use Rattle.scoop_rules.proofs.Names.{◌≡◌, ℕ, List, [], ◌∷◌, ◌++◌, map, refl, sym, ap, ◌∙◌, subst, arith, ◌≤◌, true, if◌then◌else◌, ◌&&◌, zero, suc, false}
+use Rattle.scoop_rules.proofs.Names.{true≢false, ◌||◌, length, drop, flat_map, list_any-append, list_any, handler_decides, is_query, is_end, same_block}
+use Rattle.scoop_rules.proofs.Names.{same_handler, Block, HandlerId, Entry, Open, Ended, by_test, has, has_block, has_end, or-false, or-true, is_open}
+use Rattle.scoop_rules.proofs.Names.{same_block_itself, same_block_is, Waiting, is_of, queue_of, Seen, waits, Objects, MovesLead, LogOne, logged_to, has_open}
+use Rattle.scoop_rules.proofs.Names.{Configuration, log_one}
 use Rattle.scoop_rules.proofs.Lists.{same_configuration}
 use Rattle.scoop_rules.proofs.Follows.Facts.{AreDistinct}
 
@@ -55,8 +41,7 @@ waits_logged b e no_query (q ∷ qs) = λ i. one i || waits_logged b e no_query 
         (λ other. refl)
 
 module _ (o : Objects) (b : Block) (e : Entry) (no_query : is_query e ≡ false) where
-  pub logs_lead :
-      (hs : List HandlerId) → AreDistinct hs → (g : Configuration) → g.inc b.client ≡ b.inc
+  pub logs_lead : (hs : List HandlerId) → AreDistinct hs → (g : Configuration) → g.inc b.client ≡ b.inc
       → ((h : HandlerId) → has hs h ≡ true → has_open b (g.queues h) ≡ true)
       → ((x : HandlerId) → waits b (g.queues x) ≡ false) → MovesLead o g (map (λ h. LogOne b h e) hs) (logged_at_all b e hs g)
   logs_lead [] apart g inc there none = refl

@@ -1,11 +1,6 @@
--- What every event keeps makes a world ready to follow the rules.
-use Rattle.std.proofs.Common.{◌≡◌, true, Some, sym, subst, ◌∙◌}
-use Rattle.std.proofs.lemmas.Option.{same_Some}
-use Rattle.scoop_reserve.specs.Handlers.{has}
-use Rattle.scoop_model.specs.World.{World, is_party, handlers_of}
-use Rattle.scoop_model.proofs.Order.Facts.{PartyFits, all_found}
+-- The invariants of every event make a world ready to follow the rules.
+use Rattle.scoop_rules.proofs.Names.{◌≡◌, Some, sym, ◌∙◌, subst, true, same_Some, all_found, has, World, is_party, handlers_of, PartyFits, facts_ready, Facts}
 use Rattle.scoop_model.proofs.Logging.OpeningRuns.{running_opened}
-use Rattle.scoop_model.proofs.Ready.Runs.{Facts, facts_ready}
 use Rattle.scoop_rules.proofs.Asked.{Asked}
 use Rattle.scoop_rules.proofs.AskedRuns.{none_waits}
 use Rattle.scoop_rules.proofs.Follows.Facts.{Following}

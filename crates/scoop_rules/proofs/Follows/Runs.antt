@@ -1,29 +1,15 @@
--- Whatever happens in a reached world follows the rules, and so a list of events from an opening world is a run of them.
-use Rattle.std.proofs.Common.{◌≡◌, ℕ, ◌+◌, ◌==◌, false, List, [], ◌∷◌, ◌++◌, map, find, Some, refl, sym, ap, ◌∙◌, subst}
-use Rattle.std.specs.Prelude.{if◌then◌else◌, Ok, Err}
-use Rattle.std.specs.Option.{option_map_or}
-use Rattle.scoop_message.specs.declared.name.HandlerId.{HandlerId}
-use Rattle.scoop_message.specs.Message.{handler_of}
-use Rattle.scoop_handler.specs.Core.{core_of}
-use Rattle.scoop_handler.specs.Hearing.{hear}
-use Rattle.scoop_handler.proofs.TableRows.{row}
-use Rattle.scoop_handler.proofs.TableLaws.{number-row}
-use Rattle.scoop_model.specs.declared.event.Event.{Event}
-use Rattle.scoop_model.specs.World.{World, Site, number_of, is_site, site_of, set_site, inc_of}
-use Rattle.scoop_model.specs.Step.{Stepped, Placement, Newcomer, step, new_site, opening, heard_site, begun_site, finished_site, reopened}
-use Rattle.scoop_model.specs.Opening.{MayOpen}
-use Rattle.scoop_model.specs.Reach.{Run, next, run_after, steps, IsReached}
-use Rattle.scoop_model.specs.Reach as reach
-use Rattle.scoop_rules.specs.Paper.{Configuration, Objects, Move, MovesLead, moved, configuration_of, objects_of, no_class, empty_configuration, FollowsRules}
-use Rattle.scoop_rules.specs.Paper.{moves_of, moves_in, replayed, RunsByRules, LeadsByRules}
-use Rattle.scoop_model.proofs.Events.{Changes}
-use Rattle.scoop_model.proofs.Basics.{by_test}
-use Rattle.scoop_model.proofs.Events as events
-use Rattle.scoop_model.proofs.Order.Facts.{Ordered}
+-- Every event in a reached world follows the rules, so a list of events from an opening world is a run of them.
+use Rattle.scoop_rules.proofs.Names.{◌≡◌, ℕ, ◌+◌, List, [], ◌∷◌, ◌++◌, map, Some, refl, sym, ap, ◌∙◌, subst, Ok, find, if◌then◌else◌, false, ◌==◌, Err}
+use Rattle.scoop_rules.proofs.Names.{option_map_or, handler_of, HandlerId, by_test, number-row, row, core_of, hear, MayOpen, steps, IsReached, Run, next}
+use Rattle.scoop_rules.proofs.Names.{run_after, heard_site, begun_site, finished_site, reopened, Placement, Newcomer, new_site, opening, Stepped, step, World}
+use Rattle.scoop_rules.proofs.Names.{Site, number_of, is_site, site_of, set_site, inc_of, Changes, Ordered, own_site, set_same, anew_same, states_anew, Event}
+use Rattle.scoop_rules.proofs.Names.{configuration_of, Objects, MovesLead, objects_of, Follows, FollowsRules, Configuration, Move, moved, no_class}
+use Rattle.scoop_rules.proofs.Names.{empty_configuration, moves_of, moves_in, replayed, RunsByRules, LeadsByRules}
 use Rattle.scoop_rules.proofs.Lists.{same_configuration}
-use Rattle.scoop_model.proofs.Sites.{own_site, set_same, anew_same, states_anew}
-use Rattle.scoop_rules.proofs.Follows.Events.{FollowsTo, event_follows}
+use Rattle.scoop_rules.proofs.Follows.Events.{event_follows}
 use Rattle.scoop_rules.proofs.Follows.Kept.{Kept, all_kept, opens_kept, kept_following, reached_kept, reached_following}
+use Rattle.scoop_model.specs.Reach as reach
+use Rattle.scoop_model.proofs.Events as events
 
 pub follows_rules : (w : World) (e : Event) → IsReached w → FollowsRules w e
 follows_rules w e r = event_follows w (reached_following w r) e
@@ -46,8 +32,7 @@ same_objects :
     → objects_of v ≡ objects_of w
 same_objects v w class words = λ i. record { class = λ h. class h i; words = λ h. words h i }
 
-site_objects :
-    (w : World) (s old : Site) → site_of (number_of s) w ≡ Some old → s.core.class ≡ old.core.class → s.placed ≡ old.placed
+site_objects : (w : World) (s old : Site) → site_of (number_of s) w ≡ Some old → s.core.class ≡ old.core.class → s.placed ≡ old.placed
     → objects_of (record w { sites = set_site s w.sites }) ≡ objects_of w
 site_objects w s old here class placed =
     same_objects (record w { sites = set_site s w.sites }) w (set_same (λ (x : Site). x.core.class) no_class w s old here class)
@@ -87,10 +72,9 @@ objects_kept o w ordered i = record {
 -- ---- events one after another
 
 module _ (o : Objects) where
-  after_one :
-      (n : ℕ) (w : World) (e : Event) (es : List Event) → HasObjects o w
+  after_one : (n : ℕ) (w : World) (e : Event) (es : List Event) → HasObjects o w
       → ((v : World) → Kept v → HasObjects o v → MovesLead o (configuration_of v) (moves_in v es) (configuration_of (run_after (n + 1) v es).0))
-      → (s : Stepped) → FollowsTo w e s → events.Kept Kept s → events.Kept (HasObjects o) s
+      → (s : Stepped) → events.Gives (Follows w e) s → events.Kept Kept s → events.Kept (HasObjects o) s
       → MovesLead o (configuration_of w) (elim s [ Ok r ↦ moves_of w r.0 e r.1 ++ moves_in r.0 es | Err x ↦ [] ])
       (configuration_of (next n w (λ v. run_after (n + 1) v es) s).0)
   after_one n w e es same later (Ok r) follows kept objects =
@@ -99,8 +83,7 @@ module _ (o : Objects) where
       (later r.0 kept objects)
   after_one n w e es same later (Err x) follows kept objects = refl
 
-  pub events_lead :
-      (n : ℕ) (w : World) (es : List Event) → Kept w → HasObjects o w
+  pub events_lead : (n : ℕ) (w : World) (es : List Event) → Kept w → HasObjects o w
       → MovesLead o (configuration_of w) (moves_in w es) (configuration_of (run_after n w es).0)
   events_lead n w [] kept same = refl
   events_lead n w (e ∷ es) kept same =

@@ -1,32 +1,15 @@
 -- Whatever happens, a block names each of its handlers once.
-use Rattle.std.proofs.Common.{◌≡◌, ◌==◌, true, false, ◌||◌, true≢false, List, [], ◌∷◌, ◌++◌, length, Option, Some, None, refl, sym, ap, ◌∙◌, subst, ⊎_elim}
-use Rattle.std.specs.Prelude.{if◌then◌else◌, nat_lt, Ok, Err}
-use Rattle.std.proofs.lemmas.List.Folds.{list_any-append}
-use Rattle.std.proofs.Math.Bool.{or-true}
-use Rattle.scoop_message.specs.declared.limits.TheConstants.{MAX_BLOCK_HANDLERS}
-use Rattle.scoop_message.specs.declared.name.Block.{Block}
-use Rattle.scoop_message.specs.declared.name.HandlerId.{HandlerId}
-use Rattle.scoop_message.specs.declared.request.Entry.TheVariants.{Call as CallEntry, Query as QueryEntry, End as EndEntry}
-use Rattle.scoop_message.specs.Message.{same_handler}
-use Rattle.scoop_message.proofs.Same.{handler_decides}
-use Rattle.scoop_reserve.specs.declared.error.ReserveError.TheVariants as refusal
-use Rattle.scoop_reserve.specs.Handlers.{has, first_repeated, first_repeated_after, first_unknown}
-use Rattle.scoop_reserve.specs.Starting.{fresh, unless_repeated, started}
-use Rattle.scoop_reserve.specs.State.{ReservationState}
-use Rattle.scoop_client.specs.State.{ClientState}
-use Rattle.scoop_client.specs.Commands as client
-use Rattle.scoop_client.specs.Rows.{ReserveRow, begins_block}
-use Rattle.scoop_client.proofs.CommandRows.{command_row}
-use Rattle.scoop_client.specs.declared.command.Command.{Command}
-use Rattle.scoop_client.specs.declared.command.Command.TheVariants.{Reserve, Call, Query, End, GiveUp}
-use Rattle.scoop_model.specs.World.{World, Party, is_party, handlers_of}
-use Rattle.scoop_model.specs.Step.{Placement, Newcomer, newest_block, with_entry, with_entry_at, commanded_world, opening}
-use Rattle.scoop_model.proofs.Basics.{ok_is, by_test}
-use Rattle.scoop_model.proofs.Events.{Changes}
-use Rattle.scoop_model.proofs.Order.Facts.{PartyFits, Ordered, all_found}
-use Rattle.scoop_model.proofs.Order.Sets.{leaves_at, found_changed, handlers_before, handlers_fresh}
-use Rattle.scoop_model.proofs.Order.Commands.{next_is_new}
+use Rattle.scoop_rules.proofs.Names.{◌≡◌, List, [], ◌∷◌, ◌++◌, Some, None, refl, sym, ap, ◌∙◌, subst, Ok, Option, true, if◌then◌else◌, false, true≢false, ◌||◌}
+use Rattle.scoop_rules.proofs.Names.{length, ◌==◌, Err, nat_lt, ⊎_elim, list_any-append, same_Some, handler_decides, same_handler, Block, HandlerId, CallEntry}
+use Rattle.scoop_rules.proofs.Names.{QueryEntry, EndEntry, all_found, by_test, has, first_repeated, first_unknown, fresh, started, unless_repeated}
+use Rattle.scoop_rules.proofs.Names.{ReservationState, ClientState, Command, newest_block, commanded_world, Placement, Newcomer, opening, with_entry_at, World}
+use Rattle.scoop_rules.proofs.Names.{Party, is_party, handlers_of, or-true, first_repeated_after, Changes, Takes, takes_reserve, takes_call, takes_query}
+use Rattle.scoop_rules.proofs.Names.{takes_end, takes_give_up, takes, next_is_new, PartyFits, Ordered, leaves_at, found_changed, handlers_before}
+use Rattle.scoop_rules.proofs.Names.{handlers_fresh, with_entry}
+use Rattle.scoop_model.proofs.Names.{MAX_BLOCK_HANDLERS}
 use Rattle.scoop_rules.proofs.Follows.Facts.{AreDistinct}
+use Rattle.scoop_reserve.specs.declared.error.ReserveError.TheVariants as refusal
+use Rattle.scoop_client.specs.Commands as client
 
 -- ---- handlers of which none is repeated
 
@@ -58,8 +41,7 @@ none_repeated before (h ∷ hs) e =
         (λ _ so. absurd (true≢false (sym m ∙ ap (has before) (sym ((handler_decides h x).0 so)) ∙ is)))
         (λ _ so. rest) refl
 
-distinct_unless :
-    (b : Block) (hs known : List HandlerId) (s : ReservationState) (o : Option HandlerId) → first_repeated hs ≡ o
+distinct_unless : (b : Block) (hs known : List HandlerId) (s : ReservationState) (o : Option HandlerId) → first_repeated hs ≡ o
     → unless_repeated (fresh b hs) o (first_unknown known hs) ≡ Ok s → AreDistinct hs
 distinct_unless b hs known s None is e = (none_repeated [] hs is).0
 distinct_unless b hs known s (Some h) is e = absurd (cc)
@@ -81,33 +63,26 @@ started_distinct b hs known s e =
 abbrev pub Sets : World → Type 0
 Sets w = (b : Block) (hs : List HandlerId) → handlers_of b w ≡ Some hs → AreDistinct hs
 
-module _ (w : World) (i : Sets w) (p : Party) (d : ClientState) (fits : PartyFits w p) where
-  reserve_sets : (ks : List HandlerId) (o : client.Outcome) → ReserveRow p.client ks o → o ≡ Ok d → Sets (commanded_world w p (Reserve ks) d)
-  reserve_sets ks o (begins_block r idle room begins) done b hs e =
-      let new : client.next_block p.client ≡ newest_block d = ap newest_block (ok_is (client.with_block p.client ks r) d done) in
-      let none : handlers_of (newest_block d) w ≡ None =
-      subst (λ y. handlers_of y w ≡ None) new (next_is_new w p fits (handlers_of (client.next_block p.client) w) refl) in
-      ⊎_elim
-      (λ (old : handlers_of b w ≡ Some hs). i b hs old)
-      (λ (own : newest_block d ≡ b).
-      let named : Some ks ≡ Some hs =
-      sym (handlers_fresh (newest_block d) ks w.logs none) ∙ ap (λ y. handlers_of y (commanded_world w p (Reserve ks) d)) own ∙ e in
-      let same : ks ≡ hs = cc in
-      subst AreDistinct same (started_distinct (client.next_block p.client) ks p.client.handlers r begins))
-      (handlers_before (Reserve ks) (newest_block d) b w.logs hs e)
-  reserve_sets ks o r done b hs e = absurd (cc)
-
-  commands_sets : (x : Command) → client.command p.client x ≡ Ok d → Sets (commanded_world w p x d)
-  commands_sets (Reserve ks) is = reserve_sets ks _ (command_row p.client (Reserve ks)) is
-  commands_sets (Call h r) is = λ b hs e. i b hs (sym (found_changed b (newest_block d) (with_entry_at h (CallEntry r)) (leaves_at h (CallEntry r)) w.logs) ∙ e)
-  commands_sets (Query h r) is =
-      λ b hs e. i b hs (sym (found_changed b (newest_block d) (with_entry_at h (QueryEntry r)) (leaves_at h (QueryEntry r)) w.logs) ∙ e)
-  commands_sets End is = λ b hs e. i b hs (sym (found_changed b (newest_block d) (with_entry EndEntry) (λ l. refl) w.logs) ∙ e)
-  commands_sets GiveUp is = λ b hs e. i b hs e
+takes_sets : (w : World) → Sets w → (p : Party) → PartyFits w p → (x : Command) (d : ClientState) → Takes p.client x d → Sets (commanded_world w p x d)
+takes_sets w i p fits x d (takes_reserve ks at_idle begins) b hs e =
+    let n : Block = client.next_block p.client in
+    let none = next_is_new w p fits (handlers_of n w) refl in
+    ⊎_elim
+    (λ (old : handlers_of b w ≡ Some hs). i b hs old)
+    (λ (own : n ≡ b).
+    let named : Some ks ≡ Some hs = sym (handlers_fresh n ks w.logs none) ∙ ap (λ y. handlers_of y (commanded_world w p x d)) own ∙ e in
+    subst AreDistinct (same_Some ks hs named) (started_distinct n ks p.client.handlers (fresh n ks) begins))
+    (handlers_before x n b w.logs hs e)
+takes_sets w i p fits x d (takes_call h r l running free window room) b hs e =
+    i b hs (sym (found_changed b (newest_block d) (with_entry_at h (CallEntry r)) (leaves_at h (CallEntry r)) w.logs) ∙ e)
+takes_sets w i p fits x d (takes_query h r l running free window room) b hs e =
+    i b hs (sym (found_changed b (newest_block d) (with_entry_at h (QueryEntry r)) (leaves_at h (QueryEntry r)) w.logs) ∙ e)
+takes_sets w i p fits x d (takes_end running free) b hs e = i b hs (sym (found_changed b (newest_block d) (with_entry EndEntry) (λ l. refl) w.logs) ∙ e)
+takes_sets w i p fits x d (takes_give_up r held at) b hs e = i b hs e
 
 pub sets_kept : (w : World) → Ordered w → Sets w → Changes Sets w
 sets_kept w o i = record {
-  commands = λ c p x d at is. commands_sets w i p d (all_found (PartyFits w) (is_party c) w.parties p o.parties at) x is;
+  commands = λ c p x d at is. takes_sets w i p (all_found (PartyFits w) (is_party c) w.parties p o.parties at) x d (takes p.client d x is);
   sends = λ c p h s at here. i;
   hears = λ k m s was goes here. i;
   notices = λ k m p was goes at. i;

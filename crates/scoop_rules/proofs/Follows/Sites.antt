@@ -1,16 +1,7 @@
--- What stays of each handler where one site goes on, or a node restarts; where the same has run, so does the
--- configuration.
-use Rattle.std.proofs.Common.{◌≡◌, ℕ, ◌==◌, false, List, [], map, Some, refl, sym}
-use Rattle.std.specs.Prelude.{if◌then◌else◌}
-use Rattle.scoop_message.specs.declared.name.HandlerId.{HandlerId}
-use Rattle.scoop_reserve.specs.Handlers.{has}
-use Rattle.scoop_handler.specs.Core.{core_of}
-use Rattle.scoop_model.specs.World.{World, Site, site_of, set_site, ran_at, set_of, log_of, is_succeeded, received}
-use Rattle.scoop_model.specs.Step.{with_site, begun_site, reopened, reopened_world}
-use Rattle.scoop_rules.specs.Paper.{count_of, has_ended, queue_of, queue_at, configuration_of}
-use Rattle.scoop_model.proofs.Basics.{by_test}
-use Rattle.scoop_model.proofs.Order.Facts.{Ordered}
-use Rattle.scoop_model.proofs.Sites.{own_site, set_same, anew_same, states_anew}
+-- The configuration stays when one site goes on or a node restarts, if the same entries have run.
+use Rattle.scoop_rules.proofs.Names.{◌≡◌, ℕ, List, [], map, Some, refl, sym, if◌then◌else◌, false, ◌==◌, HandlerId, by_test, core_of, has, with_site}
+use Rattle.scoop_rules.proofs.Names.{begun_site, reopened, reopened_world, World, ran_at, Site, site_of, set_site, log_of, received, is_succeeded, set_of}
+use Rattle.scoop_rules.proofs.Names.{Ordered, own_site, set_same, anew_same, states_anew, count_of, configuration_of, queue_at, queue_of, has_ended}
 use Rattle.scoop_rules.proofs.Lists.{same_configuration, queues_same}
 use Rattle.scoop_rules.proofs.Sends.{ran_in}
 
@@ -34,8 +25,7 @@ ran_same w sites same =
     (λ h. sym (same h)) refl (λ c. refl)
 
 pub begin_same : (w : World) (h : HandlerId) (s : Site) → site_of h w ≡ Some s → configuration_of w ≡ configuration_of (with_site w (begun_site s))
-begin_same w h s found =
-    ran_same w (set_site (begun_site s) w.sites) (set_same (λ (x : Site). x.ran) [] w (begun_site s) s (own_site w h s found) refl)
+begin_same w h s found = ran_same w (set_site (begun_site s) w.sites) (set_same (λ (x : Site). x.ran) [] w (begun_site s) s (own_site w h s found) refl)
 
 ran_kept : (n : ℕ) (s : Site) → (reopened n s).ran ≡ s.ran
 ran_kept n s =

@@ -96,7 +96,7 @@ all_events = calling ++ greeting_again ++ runs 1 ++ runs 1
 abbrev pub all_replayed : Configuration
 all_replayed = replayed (objects_of one_cell) (moves_in one_cell all_events) (configuration_of one_cell)
 
--- what was received still runs, and no more
+-- the received entries still run, and no others
 pub record RunsWhatCame : Type 0 where
   pub opens : CellsMayOpen (1 ∷ []) (7 ∷ [])
   pub all_taken : (run one_cell all_events).1 ≡ Ok 31

@@ -1,9 +1,9 @@
-//! Deals, each of which carries money from one purse to another in one block, and what clients were told of them.
+//! Deals, each of which moves money from one purse to another in one block, and the clients' replies.
 
-/// How many lines a deal has.
+/// The number of lines of a deal.
 pub const DEAL_LINES: usize = 7;
 
-/// One more than all deals have lines.
+/// One more than the number of lines of all deals.
 pub const LINES_BOUND: u64 = 22;
 
 /// The lines of three deals, one after another. Each draws a ticket at both purses before it touches the money.
@@ -31,7 +31,7 @@ query 3 balance
 end
 ";
 
-// From which purse to which the deals carry how much. Purses are counted from 0.
+// The purses and the amount of each deal. Purses are counted from 0.
 const ROUTES: [Route; 3] = [
     Route {
         from: 0,
@@ -50,7 +50,7 @@ const ROUTES: [Route; 3] = [
     },
 ];
 
-// What stands before the number in the answer to each line of a deal.
+// The words before the number in the reply to each line of a deal.
 const REPLIES: [&str; DEAL_LINES] = [
     "reserved ",
     "answer ",
@@ -79,7 +79,7 @@ struct Route {
     amount: u64,
 }
 
-/// What a client was told of a deal, as far as it got.
+/// The replies to a client's lines of a deal, as far as it got.
 #[derive(Clone, Copy)]
 pub struct Deal {
     route: Route,
@@ -87,7 +87,7 @@ pub struct Deal {
     numbers: [u64; DEAL_LINES],
 }
 
-/// What one purse had of a deal, as its client was told: the ticket, by how much the money changed, and what it was then.
+/// One purse's part in a deal by the replies: the ticket, the change of the money, and the money after it.
 #[derive(Clone, Copy)]
 pub struct Visit {
     pub purse: usize,
@@ -97,7 +97,7 @@ pub struct Visit {
 }
 
 impl Deal {
-    // The deal of this number in the lines, of which nothing was heard yet.
+    // The deal of this number in the lines, without a reply so far.
     fn numbered(number: usize) -> Option<Deal> {
         let route = *ROUTES.get(number)?;
         Some(Deal {
@@ -107,7 +107,7 @@ impl Deal {
         })
     }
 
-    // Takes the answer to its next line. Answers whether it is one.
+    // Reads the reply to its next line. Returns whether it is one.
     fn hear(&mut self, answer: &str) -> bool {
         let Some(reply) = REPLIES.get(self.heard) else {
             return false;
@@ -122,7 +122,7 @@ impl Deal {
         true
     }
 
-    // The number in the answer to a line, where it was heard.
+    // The number in the reply to a line, if that was read.
     fn told(&self, line: usize) -> Option<u64> {
         if line < self.heard {
             self.numbers.get(line).copied()
@@ -131,7 +131,7 @@ impl Deal {
         }
     }
 
-    /// What both purses had of it.
+    /// Both purses' parts in it.
     pub fn visits(&self) -> [Visit; 2] {
         let withdrawn = self.told(WITHDRAWN);
         let taken = if withdrawn.is_some() {
@@ -160,7 +160,7 @@ impl Deal {
         ]
     }
 
-    /// What it withdrew and never deposited, since its client was gone.
+    /// The money that it withdrew and never deposited, since its client had stopped.
     pub fn lost(&self) -> u64 {
         if self.told(WITHDRAWN).is_some() && self.told(DEPOSITED).is_none() {
             self.route.amount
@@ -170,7 +170,7 @@ impl Deal {
     }
 }
 
-// Takes what was printed for the line of this number.
+// Reads the reply to the line of this number.
 fn read_line(number: usize, line: &str, deals: &mut Vec<Deal>) -> bool {
     if number % DEAL_LINES == 0 {
         let Some(deal) = Deal::numbered(number / DEAL_LINES) else {
@@ -186,7 +186,7 @@ fn read_line(number: usize, line: &str, deals: &mut Vec<Deal>) -> bool {
     }
 }
 
-/// Reads what a client printed in one life, line by line. Answers whether each line is one that a deal is answered with.
+/// Reads a client's output of one life, line by line. Returns whether each line is a reply to a deal.
 pub fn read_deals(printed: &[u8], deals: &mut Vec<Deal>) -> bool {
     let Ok(printed) = str::from_utf8(printed) else {
         return false;
@@ -199,7 +199,7 @@ pub fn read_deals(printed: &[u8], deals: &mut Vec<Deal>) -> bool {
     true
 }
 
-/// The first so many lines of the deals.
+/// The first `count` lines of the deals.
 pub fn first_lines(count: usize) -> &'static [u8] {
     let mut left = count;
     for (place, byte) in LINES.iter().enumerate() {

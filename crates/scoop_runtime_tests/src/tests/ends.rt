@@ -1,4 +1,4 @@
-//! How a client ends whose link gives nothing, or a welcome alone.
+//! Ends of clients whose link gives nothing, or only a welcome.
 
 use super::text_lines::TextLines;
 use scoop_keeper::MemoryKeeper;
@@ -29,10 +29,10 @@ const WELCOME: [u8; 26] = [
     0x53, 0x51, 1, 2, 0, 0, 0, 1, 0, 0, 0, 7, 0, 0, 0, 1, 0, 0, 0, 0, 0, 0, 0, 0, 0, 0,
 ];
 
-// How many turns a line takes at most.
+// The turns that a line takes at most.
 const TURNS: u64 = 3;
 
-// Runs the client over a link that gives these datagrams. Answers how it ends, and what it wrote.
+// Runs the client over a link that gives these datagrams. Returns its end and its output.
 fn ask_planned(
     alloc: Global,
     plan: &ClientPlan<'_>,
@@ -102,7 +102,7 @@ fn a_client_that_nobody_answers_names_the_handler(rt: HostRuntime) -> Result<(),
 }
 
 #[test]
-fn a_strict_client_ends_behind_its_first_refusal(rt: HostRuntime) -> Result<(), Fail> {
+fn a_strict_client_ends_after_its_first_refusal(rt: HostRuntime) -> Result<(), Fail> {
     let alloc = rt.alloc();
     let system = System::read(alloc, CELL)?;
     let plan = plan_in(&system).ok_or("no plan")?;

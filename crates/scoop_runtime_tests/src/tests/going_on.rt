@@ -1,4 +1,4 @@
-//! What a node finds in its record, and what it leaves there.
+//! The record that a node finds, and the record that it leaves.
 
 use scoop_keeper::{Keeper, KeeperError, MemoryKeeper};
 use scoop_link::TapeLink;
@@ -16,7 +16,7 @@ const ONE: HandlerId = HandlerId(1);
 
 const TWO: HandlerId = HandlerId(2);
 
-// A node of one handler, and behind it what makes it one of two.
+// A node of two handlers. Without the last part it has one.
 const NODE: &str = "\
 node = [{number = 1, address = \"127.0.0.1:47101\"}]
 [[handler]]
@@ -37,7 +37,7 @@ fn node_of(alloc: Global, text: &str) -> Option<NodePlan> {
     NodePlan::of(alloc, &system, system.node(1)?).ok()
 }
 
-// Serves the node for one turn, over a link that gives nothing. Answers the keeper, and whether anything was written.
+// Serves the node for one turn, over a link that gives nothing. Returns the keeper, and whether it wrote anything.
 fn serve<R: Threads + Wait + Clock + Sync>(
     rt: &R,
     alloc: Global,
@@ -52,7 +52,7 @@ fn serve<R: Threads + Wait + Clock + Sync>(
     Some((ended, !output.is_empty()))
 }
 
-// The first word that is stored of a handler.
+// The first stored word of a handler.
 fn stored(keeper: &mut MemoryKeeper, handler: HandlerId) -> Result<Option<u64>, KeeperError> {
     match keeper.load_handler(handler)? {
         Some(state) => Ok(state.words().get(0)),

@@ -5,8 +5,7 @@ ghost use Rattle.std.specs.Prelude.{None};
 use scoop_link::{Link, LinkFault, Party};
 use scoop_message::limits::BUFFER_LEN;
 
-/// A link that is lent for one life of a party, and that loses each fifth datagram that it is to send, and sends each
-/// seventh twice.
+/// A link for one life of a party. It loses each fifth datagram and sends each seventh twice.
 #[derive(Drop)]
 pub struct LossyLink<'l, L: Link> {
     inner: &'l mut L,

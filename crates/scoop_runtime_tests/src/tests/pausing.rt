@@ -1,10 +1,11 @@
 //! A client that pauses inside its block, and another one that wants the same handlers meanwhile.
 
 use super::text_lines::TextLines;
-use super::{Told, ask, ask_lines, client_link, node_link, serve};
+use super::{Told, ask, ask_lines, client_link, node_link, serve, with_ports};
+use scoop_free_ports::free_ports;
 use scoop_keeper::MemoryKeeper;
+use scoop_lines::{LineBytes, LineSource, SourceError};
 use scoop_link::UdpLink;
-use scoop_runtime::{LineBytes, LineSource, SourceError};
 use scoop_system::System;
 use std::alloc::Global;
 use std::net::Net;
@@ -15,13 +16,13 @@ use std::thread;
 use std::thread::Threads;
 use std::time::Clock;
 
-// How many turns the node takes: no more than some seconds.
+// The turns of the node: a few seconds.
 const NODE_TURNS: u64 = 400;
 
 const CELLS: &str = "\
 [[node]]
 number = 1
-address = \"127.0.0.1:47761\"
+address = \"127.0.0.1:NODE\"
 [[handler]]
 number = 1
 node = 1
@@ -34,15 +35,15 @@ class = \"cell\"
 words = [0]
 [[client]]
 number = 7
-address = \"127.0.0.1:47762\"
+address = \"127.0.0.1:SEVEN\"
 batch = 1
 [[client]]
 number = 8
-address = \"127.0.0.1:47763\"
+address = \"127.0.0.1:EIGHT\"
 batch = 1
 ";
 
-// The lines of a client. Behind the first one, once that is answered, another client does all of its own.
+// The lines of a client. After the reply to the first one another client does all of its own.
 #[derive(Drop)]
 struct PausingLines<'a> {
     alloc: Global,
@@ -106,7 +107,7 @@ fn run_beside<R: Threads + Wait + Clock + Sync>(
     })
 }
 
-// Runs all of them. What is lent to this has no way out of here to drop it.
+// Runs all of them. Borrows what it uses, so that no early return has to drop it.
 fn plays<R: Threads + Wait + Clock + Net + Sync + Abort>(
     rt: &R,
     alloc: Global,
@@ -128,7 +129,13 @@ fn plays<R: Threads + Wait + Clock + Net + Sync + Abort>(
 #[test]
 fn a_client_that_pauses_in_its_block_keeps_no_lock(rt: HostRuntime) -> Result<(), Fail> {
     let alloc = rt.alloc();
-    let system = System::read(alloc, CELLS).ok().ok_or("no system")?;
+    let text = with_ports(
+        alloc,
+        CELLS,
+        &["NODE", "SEVEN", "EIGHT"],
+        &free_ports::<_, 3>(&rt)?,
+    )?;
+    let system = System::read(alloc, &text).ok().ok_or("no system")?;
     let mut lines = PausingLines {
         alloc,
         system: &system,

@@ -1,15 +1,16 @@
 //! The texts of a client.
 
 use scoop_client::{BeginError, ClientError};
+use scoop_driver::DriverError;
+use scoop_errors::PartyError;
 use scoop_keeper::KeeperError;
+use scoop_lines::{SourceError, SourceFault};
 use scoop_message::{Answer, Block, ClientId, HandlerId};
-use scoop_netloop::{DriverError, ServeEnd};
+use scoop_netloop::ServeEnd;
 use scoop_reserve::ReserveError;
 use scoop_runtime::{
-    About, OutOfRange, Progress, Reply, RuntimeError, Serving, SourceError, SourceFault, Unended,
-    print_reply,
+    About, OutOfRange, Progress, Reply, RuntimeError, Serving, Unended, print_reply,
 };
-use scoop_show::ShowError;
 use scoop_system::LineFault;
 use std::alloc::Global;
 use std::process::Abort;
@@ -98,8 +99,7 @@ fn errors_are_told(rt: HostRuntime) -> Result<(), Fail> {
     let alloc = rt.alloc();
     let inside = "the input ended inside a block, which is left to the next incarnation";
     reads(&rt, alloc, RuntimeError::InsideBlock, inside, 1)?;
-    let noted =
-        "the input ended inside a block that waits for its condition, of which nothing is done";
+    let noted = "the input ended inside a waiting block, and nothing of it is done";
     reads(&rt, alloc, RuntimeError::InsideWhen, noted, 1)?;
     let long = SourceError {
         line: 4,
@@ -115,7 +115,7 @@ fn errors_are_told(rt: HostRuntime) -> Result<(), Fail> {
     reads(
         &rt,
         alloc,
-        RuntimeError::Ended(ShowError::NoLink),
+        RuntimeError::Ended(PartyError::NoLink),
         "link: Fault",
         3,
     )?;
@@ -140,7 +140,7 @@ fn advises(rt: &impl Abort, error: RuntimeError, about: About, words: &str) {
 
 #[test]
 fn a_party_over_a_store_goes_on_with_it(rt: HostRuntime) {
-    let unwritten = RuntimeError::Ended(ShowError::Write);
+    let unwritten = RuntimeError::Ended(PartyError::Write);
     assert!(rt; unwritten.advice_over_store().contains("--store"));
     assert!(rt; !unwritten.advice().contains("--store"));
 }
@@ -152,38 +152,38 @@ fn errors_are_told_with_what_to_do(rt: HostRuntime) {
         &rt,
         RuntimeError::NoHandler(HandlerId(2)),
         About::Store,
-        "by --new",
+        "Use --new only",
     );
     advises(
         &rt,
-        ended(ShowError::NoLink),
+        ended(PartyError::NoLink),
         About::Address,
-        "another program",
+        "a running program",
     );
     advises(
         &rt,
-        ended(ShowError::Store(KeeperError::Refused)),
+        ended(PartyError::Store(KeeperError::Refused)),
         About::Store,
-        "room on the disk",
+        "the disk has room",
     );
     advises(
         &rt,
-        ended(ShowError::Loop(ServeEnd::NodeFailed)),
+        ended(PartyError::Loop(ServeEnd::NodeFailed)),
         About::Store,
         "--store",
     );
     advises(
         &rt,
-        ended(ShowError::Driver(DriverError::TurnsOver)),
+        ended(PartyError::Driver(DriverError::TurnsOver)),
         About::Nothing,
-        "by --turns",
+        "raise --turns",
     );
     let inside = RuntimeError::InsideBlock;
-    advises(&rt, inside, About::Nothing, "write end behind");
+    advises(&rt, inside, About::Nothing, "write end after the last line");
     let line = RuntimeError::Line(4, LineFault::NoSuchHandler);
     advises(&rt, line, About::Nothing, "scoop check shows the handlers");
-    let full = ended(ShowError::Write);
-    advises(&rt, full, About::Nothing, "room for the output");
+    let full = ended(PartyError::Write);
+    advises(&rt, full, About::Nothing, "the output has room");
 }
 
 #[test]
@@ -194,7 +194,7 @@ fn a_clients_errors_name_what_they_are_about(rt: HostRuntime) {
     let unanswered = RuntimeError::NotAnswered(HandlerId(2));
     advises(&rt, unanswered, at, "stopped inside a block");
     let line = RuntimeError::Line(4, LineFault::NotANumber);
-    advises(&rt, line, About::Nothing, "decimal digits");
+    advises(&rt, line, About::Nothing, "whole decimal number");
     let refused = RuntimeError::Refused(4);
     advises(&rt, refused, About::Nothing, "without --strict");
 }
@@ -216,13 +216,13 @@ fn ranges(
 fn numbers_out_of_range_are_told(rt: HostRuntime) -> Result<(), Fail> {
     let alloc = rt.alloc();
     let refused = |executors, history, turns| Serving::new(executors, history, turns).err();
-    let executors = "--executors is a whole number from 1 to 64";
+    let executors = "--executors must be a whole number from 1 to 64";
     ranges(&rt, alloc, refused(0, 1, 0), executors)?;
     ranges(&rt, alloc, refused(65, 2, 1), executors)?;
-    let history = "--history is a whole number from 2 to 1000000";
+    let history = "--history must be a whole number from 2 to 1000000";
     ranges(&rt, alloc, refused(64, 1, 0), history)?;
     ranges(&rt, alloc, refused(1, 1_000_001, 1), history)?;
-    let turns = "--turns is a whole number from 1 to 18446744073709551615";
+    let turns = "--turns must be a whole number from 1 to 18446744073709551615";
     ranges(&rt, alloc, refused(1, 2, 0), turns)?;
     assert!(rt; Serving::new(64, 1_000_000, u64::MAX).is_ok());
     Ok(())
@@ -238,7 +238,7 @@ fn says(rt: &impl Abort, alloc: Global, progress: Progress, text: &str) -> Resul
 fn progress_is_told(rt: HostRuntime) -> Result<(), Fail> {
     let alloc = rt.alloc();
     let unready =
-        "the client was not ready, and no line was read: go on with --store, or with the store of an earlier run where there is one";
+        "the client was not ready, and no line was read: resume with --store, or with the store of an earlier run if there is one";
     let greeting = Progress {
         is_ready: false,
         answered: None,
@@ -252,7 +252,12 @@ fn progress_is_told(rt: HostRuntime) -> Result<(), Fail> {
         has_begun: false,
         unended: Unended::Nothing,
     };
-    says(&rt, alloc, none, "no line was answered: go on with --store")?;
+    says(
+        &rt,
+        alloc,
+        none,
+        "no line was answered: resume with --store",
+    )?;
     let inside = Progress {
         is_ready: true,
         answered: Some(3),
@@ -260,8 +265,7 @@ fn progress_is_told(rt: HostRuntime) -> Result<(), Fail> {
         unended: Unended::Block,
     };
     let text =
-        "the lines up to line 3 were answered, the next one may be done, and the block is left to the next incarnation, which cuts \
-        it: go on with --store, and begin with reserve";
+        "the lines up to line 3 were answered, the next one may be done, and the next incarnation cuts the block: resume with --store, and begin with reserve";
     says(&rt, alloc, inside, text)?;
     let waiting = Progress {
         is_ready: true,
@@ -270,7 +274,6 @@ fn progress_is_told(rt: HostRuntime) -> Result<(), Fail> {
         unended: Unended::When,
     };
     let text =
-        "the lines up to line 2 were answered, and nothing is done of the block that waits for its condition: go on with --store, \
-        and begin with its reserve";
+        "the lines up to line 2 were answered, and nothing of the waiting block is done: resume with --store, and begin with its reserve";
     says(&rt, alloc, waiting, text)
 }

@@ -3,7 +3,7 @@
 use super::deals::{Deal, Visit};
 use scoop_message::Words;
 
-/// What a purse has: how many tickets it gave, and its money.
+/// A purse: the tickets that it gave, and its money.
 #[derive(Clone, Copy, Debug, PartialEq, Eq)]
 pub struct Purse {
     pub tickets: u64,
@@ -27,7 +27,7 @@ impl Purse {
         }
     }
 
-    // Does what the visit did. Answers whether its client was told the right balance.
+    // Does what the visit did. Returns whether its client read the right balance.
     fn take(&mut self, visit: &Visit) -> bool {
         if let Some(ticket) = visit.ticket {
             self.tickets = ticket;
@@ -50,7 +50,7 @@ fn is_next(deal: &Deal, purses: &[Purse]) -> bool {
     true
 }
 
-// Does the deal. Answers whether its client was told what is right.
+// Does the deal. Returns whether its client got the right replies.
 fn take(deal: &Deal, purses: &mut [Purse]) -> bool {
     for visit in &deal.visits() {
         let Some(purse) = purses.get_mut(visit.purse) else {

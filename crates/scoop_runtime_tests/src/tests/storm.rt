@@ -1,12 +1,13 @@
-//! Two nodes and three clients over UDP, on links that lose and double, where nodes and clients are dropped and begun again
-//! at moments from a seed. Their blocks come in one order at all handlers, each answer is right in it, and no money is made
-//! or lost, but for blocks whose client was gone in between.
+//! A storm of two nodes and three clients over UDP, on links that lose and double datagrams. Nodes and clients stop and
+//! begin again at moments from a seed. Their blocks have one order at all handlers, in which each answer is right. No money
+//! is made, and none is lost, except in blocks whose client stopped in between.
 
 use super::deals::{DEAL_LINES, Deal, LINES_BOUND, first_lines, read_deals};
 use super::lossy_link::LossyLink;
 use super::moments::Moments;
 use super::replay::{Purse, replay};
-use super::{ask, client_link, node_link, serve};
+use super::{ask, client_link, node_link, serve, with_ports};
+use scoop_free_ports::free_ports;
 use scoop_keeper::{Keeper, MemoryKeeper};
 use scoop_link::UdpLink;
 use scoop_message::HandlerId;
@@ -48,10 +49,10 @@ name = \"balance\"
 answer = \"w1\"
 [[node]]
 number = 1
-address = \"127.0.0.1:47711\"
+address = \"127.0.0.1:ONE\"
 [[node]]
 number = 2
-address = \"127.0.0.1:47712\"
+address = \"127.0.0.1:TWO\"
 [[handler]]
 number = 1
 node = 1
@@ -69,34 +70,34 @@ class = \"purse\"
 words = [0, 1000]
 [[client]]
 number = 7
-address = \"127.0.0.1:47717\"
+address = \"127.0.0.1:SEVEN\"
 batch = 1
 [[client]]
 number = 8
-address = \"127.0.0.1:47718\"
+address = \"127.0.0.1:EIGHT\"
 batch = 4
 [[client]]
 number = 9
-address = \"127.0.0.1:47719\"
+address = \"127.0.0.1:NINE\"
 batch = 2
 ";
 
 const SEED: u64 = 1;
 
-// How often all links are opened anew.
+// All links are opened this many times.
 const ROUNDS: u32 = 2;
 
-// How often each client is begun in a round, and then once more, for it leaves nothing reserved.
+// The lives of each client in a round. One more follows, which frees what the last one left reserved.
 const CLIENT_LIVES: u32 = 2;
 
-// How often each node is begun in a round at most, with how many turns, and how long its history is.
+// The most lives of each node in a round, the range of turns of each, and the limit of its history.
 const NODE_LIVES: u32 = 400;
 
 const NODE_TURNS: (u64, u64) = (20, 80);
 
 const HISTORY: usize = 25;
 
-/// A node that is begun again and again over its record.
+/// A node that begins again and again over its record.
 #[derive(Drop)]
 struct Host {
     number: u32,
@@ -116,7 +117,7 @@ impl Host {
         }
     }
 
-    // Opens its link, once the one before has given the port back.
+    // Opens its link, after the last one has closed.
     fn open<R: Net>(&mut self, rt: &R, alloc: Global, system: &System) -> bool {
         self.link = None;
         if let Some(Ok(link)) = node_link(rt, alloc, system, self.number) {
@@ -125,13 +126,13 @@ impl Host {
         self.link.is_some()
     }
 
-    // What its record has of the purse of a handler.
+    // The purse of a handler in its record.
     fn purse_at(&mut self, handler: HandlerId) -> Option<Purse> {
         let state = self.keeper.as_mut()?.load_handler(handler).ok()??;
         Some(Purse::of(state.words()))
     }
 
-    // One life of so many turns.
+    // One life of this many turns.
     fn live<R: Threads + Wait + Clock + Sync>(
         &mut self,
         rt: &R,
@@ -150,7 +151,7 @@ impl Host {
         self.keeper = served.and_then(|(ended, _)| ended.ok());
     }
 
-    // Lives until all is over, and then once more, in which it runs what it has taken.
+    // Lives until the storm is over. One more life runs what is pending.
     fn live_on<R: Threads + Wait + Clock + Sync>(
         &mut self,
         rt: &R,
@@ -169,7 +170,7 @@ impl Host {
     }
 }
 
-/// A client that is begun again and again, and what it was told.
+/// A client that begins again and again, and the replies to it.
 #[derive(Drop)]
 struct Guest {
     number: u32,
@@ -193,7 +194,7 @@ impl Guest {
         }
     }
 
-    // Opens its link, once the one before has given the port back.
+    // Opens its link, after the last one has closed.
     fn open<R: Net>(&mut self, rt: &R, alloc: Global, system: &System) -> bool {
         self.link = None;
         if let Some(Ok(link)) = client_link(rt, alloc, system, self.number) {
@@ -202,7 +203,7 @@ impl Guest {
         self.link.is_some()
     }
 
-    // One life, in which it does so many lines. Answers whether it ends as it is to, and was answered line by line.
+    // One life of this many lines. Returns whether it ended as it should, with a reply to each line.
     fn live(&mut self, alloc: Global, system: &System, lines: usize) -> bool {
         let Some(link) = &mut self.link else {
             return false;
@@ -220,7 +221,7 @@ impl Guest {
         is_right && read_deals(&told.output, &mut self.deals)
     }
 
-    // Lives as often as it is to, and then once more, in which it frees what it has left.
+    // Lives all its lives. One more frees what the last one left reserved.
     fn live_on(&mut self, alloc: Global, system: &System) {
         for _ in 0..CLIENT_LIVES {
             let lines = usize::try_from(self.moments.between(1, LINES_BOUND)).unwrap_or(0);
@@ -262,7 +263,7 @@ impl Parties {
         all
     }
 
-    // What the records of the nodes have of the purse of a handler.
+    // The purse of a handler in the nodes' records.
     fn stored(&mut self, handler: HandlerId) -> Option<Purse> {
         for host in self.hosts.iter_mut() {
             let purse = host.purse_at(handler);
@@ -290,7 +291,7 @@ fn let_live<R: Threads + Wait + Sync>(
     })
 }
 
-// The nodes and the clients live beside each other, until the clients are done.
+// Nodes and clients live side by side until the clients are done.
 fn storm<R: Threads + Wait + Clock + Sync>(
     rt: &R,
     alloc: Global,
@@ -313,7 +314,7 @@ fn storm<R: Threads + Wait + Clock + Sync>(
     })
 }
 
-// Gathers what the clients were told, each of which did what it was to do.
+// Gathers the deals of the clients, none of which failed.
 fn gather(rt: &impl Abort, guests: &[Guest], deals: &mut Vec<Deal>) -> Result<(), Fail> {
     for guest in guests {
         assert!(rt; !guest.failed);
@@ -322,7 +323,7 @@ fn gather(rt: &impl Abort, guests: &[Guest], deals: &mut Vec<Deal>) -> Result<()
     Ok(())
 }
 
-// The deals are replayed, and leave the purses as the nodes have stored them. No money is gone but what was withdrawn alone.
+// The deals replay to the purses that the nodes stored. The only money gone was withdrawn and not deposited.
 fn comes_out_even(rt: &impl Abort, parties: &mut Parties, deals: &mut Vec<Deal>) {
     let mut money = 0u64;
     for deal in deals.iter() {
@@ -340,7 +341,7 @@ fn comes_out_even(rt: &impl Abort, parties: &mut Parties, deals: &mut Vec<Deal>)
     assert_eq!(rt; money, 3_000);
 }
 
-// All rounds, and what came of them.
+// Runs all rounds, and checks their deals.
 fn plays<R: Threads + Wait + Clock + Net + Sync + Abort>(
     rt: &R,
     alloc: Global,
@@ -361,7 +362,9 @@ fn plays<R: Threads + Wait + Clock + Net + Sync + Abort>(
 #[test]
 fn blocks_keep_one_order_through_a_storm(rt: HostRuntime) -> Result<(), Fail> {
     let alloc = rt.alloc();
-    let system = System::read(alloc, PURSES).ok().ok_or("no system")?;
+    let words = ["ONE", "TWO", "SEVEN", "EIGHT", "NINE"];
+    let text = with_ports(alloc, PURSES, &words, &free_ports::<_, 5>(&rt)?)?;
+    let system = System::read(alloc, &text).ok().ok_or("no system")?;
     let mut parties = Parties::new(alloc);
     plays(&rt, alloc, &system, &mut parties)
 }

@@ -1,6 +1,6 @@
 //! The lines of a text.
 
-use scoop_runtime::{LineBytes, LineSource, SourceError, SourceFault};
+use scoop_lines::{LineBytes, LineSource, SourceError, SourceFault};
 
 /// The lines of a text, each of which fits.
 #[derive(Drop)]

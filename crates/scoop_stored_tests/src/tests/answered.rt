@@ -13,10 +13,10 @@ use std::process::Abort;
 
 const ONE: HandlerId = HandlerId(1);
 
-/// An input, and what a run writes that takes all of it.
+/// An input, and the output of a run over all of it.
 type Case<'a> = (&'a str, &'a str);
 
-/// Runs the cell over what a keeper has, which is handed back.
+/// Runs the cell over a keeper, and returns the keeper.
 fn runs<B: Behaviour, K: Keeper<Global>>(
     rt: &impl Abort,
     alloc: Global,
@@ -113,7 +113,7 @@ fn changed<S: Alter + Drop>(
     }
 }
 
-// A Lock before and behind the greeting, and then once more.
+// A Lock before and after the greeting, and then once more.
 const GONE_ON: [Case; 2] = [
     (
         "53510103 00000001 00000007 00000001 00000001 00000000 0000\n\

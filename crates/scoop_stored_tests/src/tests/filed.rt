@@ -26,8 +26,8 @@ const SECOND: Place = Place {
     handler: HandlerId(2),
 };
 
-/// What a thread does at a node: its client opens a private queue at its handler and logs calls there, each of
-/// which runs before the next, 500 events in all.
+/// The work of a thread at a node: its client opens a private queue at its handler and logs calls there. Each call runs
+/// before the next; these are 500 events in all.
 fn works<K: Keeper<Global>, R: Wait + Abort>(
     rt: &R,
     node: &Cells<K>,
@@ -67,7 +67,7 @@ fn both_work<K: Keeper<Global> + Send, R: Threads + Wait + Abort + Sync>(
     )
 }
 
-/// The same with both passes of a node, which come back.
+/// The same with both passes of a node, which it returns.
 fn all_work<K: Keeper<Global> + Send, R: Threads + Wait + Abort + Sync>(
     rt: &R,
     alloc: Global,
@@ -84,13 +84,13 @@ fn all_work<K: Keeper<Global> + Send, R: Threads + Wait + Abort + Sync>(
     }
 }
 
-/// The words of both handlers that the keeper has.
+/// The keeper's words of both handlers.
 fn words<K: Keeper<Global>>(rt: &impl Abort, mut keeper: K) -> (u64, u64) {
     let first = word(rt, &mut keeper, FIRST.handler);
     (first, word(rt, &mut keeper, SECOND.handler))
 }
 
-/// How many entries the node's history has when it is closed, and the words that its keeper has then.
+/// The number of entries of the closed node's history, and the words of its keeper.
 fn closed<K: Keeper<Global>, R: Wait + Abort>(
     rt: &R,
     node: Cells<K>,
@@ -127,7 +127,7 @@ fn words_of<S: Alter + Drop>(
     }
 }
 
-/// 1,000 events at a node over a new store, from two threads: how many entries its history has then, and the words of
+/// 1,000 events at a node over a new store, from two threads. Returns the number of entries of its history, and the words of
 /// its keeper.
 fn worked<S: Alter + Drop + Send, R: Threads + Wait + Abort + Sync>(
     rt: &R,
@@ -139,7 +139,7 @@ fn worked<S: Alter + Drop + Send, R: Threads + Wait + Abort + Sync>(
     closed(rt, node, passes)
 }
 
-// What names the files' type does one thing alone, and takes nothing apart.
+// A function that names the files' type does one thing alone, and takes nothing apart.
 fn connected(host: &HostRuntime, path: &str) -> Option<Connection<Filed>> {
     match Connection::open(host, path) {
         Ok(connection) => Some(connection),
@@ -156,7 +156,7 @@ fn worked_in<R: Threads + Wait + Abort + Sync>(
     worked(rt, host.alloc(), connected(host, path))
 }
 
-/// The words of the store that is in the file.
+/// The words of the store in the file.
 fn words_in(rt: &impl Abort, host: &HostRuntime, path: &str) -> (u64, u64) {
     words_of(rt, host.alloc(), connected(host, path))
 }

@@ -20,7 +20,7 @@ const PLACE: Place = Place {
     handler: HandlerId(1),
 };
 
-/// A node over this keeper, with its one pass. `None` where the keeper refuses.
+/// A node over this keeper, with its one pass. `None` if the keeper refuses.
 fn one_pass<K: Keeper<Global>>(
     rt: &impl Abort,
     alloc: Global,
@@ -49,7 +49,7 @@ fn keeper_of<K: Keeper<Global>, R: Wait + Abort>(
     }
 }
 
-/// The keeper behind these acts, at a node that opens over it.
+/// The keeper after these acts, at a node that opens over it.
 fn acted<K: Keeper<Global>, R: Wait + Abort>(rt: &R, alloc: Global, keeper: K, acts: &[Act]) -> K {
     let (node, mut pass) = match one_pass(rt, alloc, keeper) {
         Some(opened) => opened,
@@ -59,7 +59,7 @@ fn acted<K: Keeper<Global>, R: Wait + Abort>(rt: &R, alloc: Global, keeper: K, a
     keeper_of(rt, alloc, node, pass)
 }
 
-/// Whether the node answers the act. Where the store refuses it, the node has failed.
+/// Whether the node answers the act. If the store refuses it, the node has failed.
 fn answers<K: Keeper<Global>, R: Wait + Abort>(
     rt: &R,
     node: &Cells<K>,
@@ -74,7 +74,7 @@ fn answers<K: Keeper<Global>, R: Wait + Abort>(
     false
 }
 
-/// The keeper behind the act at a node that opens over it, and whether the act was answered. `None` where no node opens.
+/// The keeper after the act at a node that opens over it, and whether the act was answered. `None` if no node opens.
 fn tried<K: Keeper<Global>, R: Wait + Abort>(
     rt: &R,
     alloc: Global,
@@ -87,7 +87,7 @@ fn tried<K: Keeper<Global>, R: Wait + Abort>(
     Some(keeper_of(rt, alloc, node, pass))
 }
 
-/// What the keeper has of the handler.
+/// The keeper's state of the handler.
 fn loaded<K: Keeper<Global>>(rt: &impl Abort, keeper: &mut K) -> Option<HandlerState> {
     match keeper.load_handler(PLACE.handler) {
         Ok(state) => state,
@@ -95,7 +95,7 @@ fn loaded<K: Keeper<Global>>(rt: &impl Abort, keeper: &mut K) -> Option<HandlerS
     }
 }
 
-/// What a keeper has of the handler, and what it has once a node that opened over it has done an act.
+/// The keeper's state of the handler, before and after an act of a node that opened over it.
 #[derive(Drop)]
 struct Around {
     before: Option<HandlerState>,
@@ -114,7 +114,7 @@ fn found<K: Keeper<Global>, R: Wait + Abort>(
     Around { before, behind }
 }
 
-/// What is below a store behind these acts.
+/// The medium of a store after these acts.
 fn behind<S: Alter + Drop, R: Wait + Abort>(
     rt: &R,
     alloc: Global,
@@ -124,7 +124,7 @@ fn behind<S: Alter + Drop, R: Wait + Abort>(
     medium_of(acted(rt, alloc, created(rt, alloc, connection), acts))
 }
 
-/// What is found in the store of a database.
+/// The state in the store of a database.
 fn found_over<S: Alter + Drop, R: Wait + Abort>(
     rt: &R,
     alloc: Global,
@@ -137,7 +137,7 @@ fn found_over<S: Alter + Drop, R: Wait + Abort>(
     }
 }
 
-/// The same as `tried` over the store of a database: what was below it.
+/// The same as `tried` over the store of a database.
 fn tried_over<S: Alter + Drop, R: Wait + Abort>(
     rt: &R,
     alloc: Global,
@@ -149,7 +149,7 @@ fn tried_over<S: Alter + Drop, R: Wait + Abort>(
     Some(medium_of(tried(rt, alloc, store, act, answered)?))
 }
 
-/// A file with these bytes that takes so many calls.
+/// A file with these bytes that takes this many calls.
 fn file(rt: &impl Abort, alloc: Global, bytes: &[u8], calls: u64) -> Stopped {
     let mut file = Memory::new(alloc);
     let written = file.write_at(0, bytes).is_ok() && file.sync().is_ok();
@@ -157,8 +157,7 @@ fn file(rt: &impl Abort, alloc: Global, bytes: &[u8], calls: u64) -> Stopped {
     Fuse::new(file, calls)
 }
 
-/// Files with the same bytes, of which the log takes so many calls. With no checkpoint the database file is only
-/// read.
+/// Files with the same bytes. The log takes this many calls. Without a checkpoint the database file is only read.
 fn copy_of(rt: &impl Abort, alloc: Global, files: &Files<Stopped>, calls: u64) -> Files<Stopped> {
     Files {
         log: file(rt, alloc, files.log.inner().bytes(), calls),
@@ -173,7 +172,7 @@ fn blank(rt: &impl Abort, alloc: Global) -> Files<Stopped> {
     }
 }
 
-// What names the files' type does one thing alone, and takes nothing apart.
+// A function that names the files' type does one thing alone, and takes nothing apart.
 fn connected(alloc: Global, files: Files<Stopped>) -> Option<Connection<Stoppable>> {
     if !files.may_be_used() {
         return None;
@@ -188,19 +187,19 @@ fn left_by(medium: Stoppable) -> Files<Stopped> {
     medium.close()
 }
 
-/// The files of a store behind these acts.
+/// The files of a store after these acts.
 fn files_behind<R: Wait + Abort>(rt: &R, alloc: Global, acts: &[Act]) -> Files<Stopped> {
     left_by(behind(rt, alloc, connected(alloc, blank(rt, alloc)), acts))
 }
 
-/// What is found in these files, before the act and behind it.
+/// The states in these files before and after the act.
 fn found_in<R: Wait + Abort>(rt: &R, alloc: Global, files: &Files<Stopped>, act: Act) -> Around {
     let copied = copy_of(rt, alloc, files, u64::MAX);
     found_over(rt, alloc, connected(alloc, copied), act)
 }
 
-/// What files hold, whose log takes so many calls, behind the act, and whether that was answered. `None` where no node
-/// opens over them.
+/// The files after the act, if their log takes this many calls, and whether the act was answered. `None` if no node opens
+/// over them.
 fn stopped<R: Wait + Abort>(
     rt: &R,
     alloc: Global,
@@ -223,15 +222,15 @@ fn same(left: &Option<HandlerState>, right: &Option<HandlerState>) -> bool {
     }
 }
 
-/// Whether what is found is the state before the act or the act's own, and that one where the act was answered. The act
-/// leads to its own state once more.
+/// Whether the state that is found is the one before the act or the act's own, and the latter if the act was answered.
+/// Repeating the act leads to its own state.
 fn is_whole(whole: &Around, answered: bool, found: &Around) -> bool {
     let is_own = same(&found.before, &whole.behind);
     let is_old = same(&found.before, &whole.before) && !answered;
     (is_own || is_old) && same(&found.behind, &whole.behind)
 }
 
-/// Holds what is found in these files against the same where nothing is stopped.
+/// Compares the states in these files with those of a run that isn't stopped.
 fn is_found<R: Wait + Abort>(
     rt: &R,
     alloc: Global,
@@ -243,8 +242,8 @@ fn is_found<R: Wait + Abort>(
     is_whole(whole, answered, &found_in(rt, alloc, files, act))
 }
 
-/// Stops the act at this one of the log's calls, and opens a node over the files as they were written, and as a
-/// crash leaves them, which loses what wasn't synced. Whether the act was answered; `None` where no node opened for it.
+/// Stops the act at this one of the log's calls. Opens a node over the files as they were written, and as a crash leaves
+/// them without unsynced bytes. Returns whether the act was answered; `None` if no node opened for it.
 fn stops_at<R: Wait + Abort>(
     rt: &R,
     alloc: Global,
@@ -262,7 +261,7 @@ fn stops_at<R: Wait + Abort>(
     Some(answered)
 }
 
-/// Stops the act at each of the log's calls in turn, up to where it is answered.
+/// Stops the act at each of the log's calls in turn, until it is answered.
 fn stops<R: Wait + Abort>(rt: &R, alloc: Global, files: &Files<Stopped>, act: Act, whole: &Around) {
     let mut any = false;
     for calls in 0..400u64 {
@@ -278,7 +277,7 @@ fn stops<R: Wait + Abort>(rt: &R, alloc: Global, files: &Files<Stopped>, act: Ac
     panic!(rt; "it was never answered")
 }
 
-/// The same of the act behind these.
+/// The same for the act after these.
 fn stops_behind<R: Wait + Abort>(rt: &R, alloc: Global, acts: &[Act], act: Act) {
     let files = files_behind(rt, alloc, acts);
     let whole = found_in(rt, alloc, &files, act);
@@ -286,8 +285,8 @@ fn stops_behind<R: Wait + Abort>(rt: &R, alloc: Global, acts: &[Act], act: Act) 
     stops(rt, alloc, &files, act, &whole);
 }
 
-// A store that is stopped at each write in turn refuses the act, and a node that opens over it again has the state
-// before the act or the act's own. One of the acts stores an entry that waits, the other that none does.
+// A store that is stopped at each write in turn refuses the act. A node that opens over it again has the state before the
+// act or the act's own. One of the acts stores a waiting entry, the other none.
 #[test]
 fn a_stopped_hear_leaves_a_whole_state(rt: HostRuntime) {
     let acts = [Act::Hello, Act::Lock, Act::Open];

@@ -1,16 +1,16 @@
-//! What is wrong with a line.
+//! Faults of a line.
 
 use std::error::Error;
 use std::fmt;
 
-/// What is wrong with a line. Printed in words, as `not a number`.
+/// The fault of a line. Printed in words, as `not a number`.
 #[derive(Clone, Copy, Debug, PartialEq, Eq)]
 pub enum LineFault {
-    /// The first word says nothing that is known.
+    /// The first word is unknown.
     UnknownLine,
     /// The line has fewer or more words than its kind has.
     WrongNumberOfWords,
-    /// A word that is to be a number isn't one, or is out of its range.
+    /// The word in place of a number isn't one, or is out of its range.
     NotANumber,
     /// A request has fewer arguments than its operation reads.
     TooFewArguments,
@@ -20,7 +20,7 @@ pub enum LineFault {
     TooManyHandlers,
     /// A word that is no number names no operation of the handler's class.
     NoSuchOperation,
-    /// A word that is no number is to name an operation of a handler that the system doesn't have.
+    /// A word in place of an operation is no number, and the system doesn't have the handler.
     NoSuchHandler,
 }
 

@@ -4,8 +4,8 @@ ghost use Rattle.std.specs.Prelude.{◌≡◌, ◌≤◌, ◌^◌, IfOk};
 ghost use Rattle.scoop_system.specs.Line.{number_below, handler_of, tries_of};
 
 use super::fault::LineFault;
+use scoop_lines::{decimal, decimal_u16, decimal_u32};
 use scoop_message::HandlerId;
-use scoop_words::{decimal, decimal_u16, decimal_u32};
 
 // The number below 2^64 that a word writes.
 pub(super) fn read_u64(word: &[u8]) -> Result<u64, LineFault>
@@ -35,7 +35,7 @@ pub(super) fn read_handler(word: &[u8]) -> Result<HandlerId, LineFault>
     Ok(HandlerId(read_u32(word)?))
 }
 
-// How often is tried: a number from 1 on.
+// A number of tries, from 1 on.
 pub(super) fn read_tries(word: &[u8]) -> Result<u32, LineFault>
     ensures value { result ≡ tries_of word.now }
     ensures some { IfOk result (λ tries. 1 ≤ tries) }

@@ -2,8 +2,8 @@
 
 ghost use Rattle.std.specs.Prelude.{◌≡◌, ◌≤◌, length, codes};
 ghost use Rattle.scoop_message.specs.declared.limits.TheConstants.{MAX_ARGS};
-ghost use Rattle.scoop_words.specs.Words.{words_of};
-ghost use Rattle.scoop_words.specs.Reading.{each_of};
+ghost use Rattle.scoop_lines.specs.Words.{words_of};
+ghost use Rattle.scoop_lines.specs.Reading.{each_of};
 ghost use Rattle.scoop_system.specs.Words.{before};
 ghost use Rattle.scoop_system.specs.System.{handler_named};
 ghost use Rattle.scoop_system.specs.Line.{request_line, request_of, operation_of, unnamed_fault, number_of, count_fault};
@@ -12,9 +12,9 @@ use super::fault::LineFault;
 use super::number::{read_handler, read_u16, read_u64};
 use super::words::{behind, count_before};
 use crate::system::System;
+use scoop_lines::{is, is_decimal, next_word};
 use scoop_message::limits::MAX_ARGS;
 use scoop_message::{Args, HandlerId, Request};
-use scoop_words::{is, is_decimal, next_word};
 
 // The word that ends the arguments of a condition.
 pub(super) const LEAST: &str = "least";
@@ -54,7 +54,7 @@ pub(super) fn read_request(system: &System, line: &[u8]) -> Result<(HandlerId, R
     }
 }
 
-// What is wrong with how many arguments are given, where it is known how many are wanted.
+// The fault of a number of arguments, if the operation's number of arguments is known.
 fn count_fault(wanted: Option<usize>, given: usize) -> Option<LineFault>
     ensures { result ≡ count_fault wanted given }
 {
@@ -78,7 +78,7 @@ fn read_operation(system: &System, handler: HandlerId, word: &[u8]) -> Result<u1
     }
 }
 
-// Why no operation of the handler has a name.
+// The fault of a name that no operation of the handler has.
 fn unnamed_fault(system: &System, handler: HandlerId) -> LineFault
     ensures { result ≡ unnamed_fault (handler_named system.now.handlers handler) }
 {
@@ -88,7 +88,7 @@ fn unnamed_fault(system: &System, handler: HandlerId) -> LineFault
     }
 }
 
-// The arguments up to the word `least`, of which there are few enough.
+// The arguments up to the word `least`. They are few enough.
 fn read_args(line: &[u8]) -> Result<Args, LineFault>
     requires { length (before (codes "least") (words_of line.now)) ≤ MAX_ARGS }
     ensures { result ≡ each_of number_of (before (codes "least") (words_of line.now)) }

@@ -1,9 +1,9 @@
-//! What a line reserves, and under which condition.
+//! A `reserve` line, with its condition.
 
 ghost use Rattle.std.specs.Prelude.{◌≡◌, ◌≤◌, length, codes, Some, Ok, Err, MatchResult};
 ghost use Rattle.scoop_system.specs.declared.named_handlers.TheConstants.{MAX_NAMED};
-ghost use Rattle.scoop_words.specs.Words.{words_of};
-ghost use Rattle.scoop_words.specs.Reading.{each_of};
+ghost use Rattle.scoop_lines.specs.Words.{words_of};
+ghost use Rattle.scoop_lines.specs.Reading.{each_of};
 ghost use Rattle.scoop_system.specs.Words.{before, behind};
 ghost use Rattle.scoop_system.specs.Line.{reserve_line, when_line, handler_of, bounds_of};
 
@@ -14,13 +14,13 @@ use super::request::{LEAST, read_request};
 use super::words::{behind, count_before};
 use crate::named_handlers::{MAX_NAMED, NamedHandlers};
 use crate::system::System;
+use scoop_lines::{is, next_word};
 use scoop_message::HandlerId;
-use scoop_words::{is, next_word};
 
 // The word that ends the handlers.
 const WHEN: &str = "when";
 
-// Up to nine handlers, and a condition where `when` stands.
+// Up to nine handlers, and a condition after `when` if that word is there.
 pub(super) fn read_reserve(system: &System, line: &[u8]) -> Result<ClientLine, LineFault>
     ensures { result ≡ reserve_line system.now (words_of line.now) }
 {
@@ -34,7 +34,7 @@ pub(super) fn read_reserve(system: &System, line: &[u8]) -> Result<ClientLine, L
     }
 }
 
-// The handlers up to the word `when`, of which there are few enough.
+// The handlers up to the word `when`. They are few enough.
 fn read_handlers(line: &[u8]) -> Result<NamedHandlers, LineFault>
     requires { length (before (codes "when") (words_of line.now)) ≤ MAX_NAMED }
     ensures { result ≡ each_of handler_of (before (codes "when") (words_of line.now)) }
@@ -76,7 +76,7 @@ fn read_when(system: &System, handlers: NamedHandlers, line: &[u8]) -> Result<Cl
     })
 }
 
-// The two words of `V tries T` behind the word `least`.
+// The two words of `V tries T` after the word `least`.
 fn find_bounds(line: &[u8]) -> Result<(&[u8], &[u8]), LineFault>
     ensures { MatchResult result (λ b. bounds_of (behind (codes "least") (words_of line.now)) ≡ Ok (b.0.now, b.1.now))
         (λ e. bounds_of (behind (codes "least") (words_of line.now)) ≡ Err e) }

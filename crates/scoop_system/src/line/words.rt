@@ -1,10 +1,10 @@
 //! The words of a client's line.
 
 ghost use Rattle.std.specs.Prelude.{◌≡◌, None, Some, length, MatchOption};
-ghost use Rattle.scoop_words.specs.Words.{words_of};
+ghost use Rattle.scoop_lines.specs.Words.{words_of};
 ghost use Rattle.scoop_system.specs.Words.{without_return, before, behind};
 
-use scoop_words::{is, next_word};
+use scoop_lines::{is, next_word};
 
 // The line without the carriage return at its end.
 pub(crate) fn without_return(line: &[u8]) -> &[u8]
@@ -16,7 +16,7 @@ pub(crate) fn without_return(line: &[u8]) -> &[u8]
     }
 }
 
-// How many words stand before the first of this name, or at all.
+// The number of words before the first of this name, or of all words.
 pub(crate) fn count_before(line: &[u8], name: &str) -> usize
     ensures { result ≡ length (before name.now (words_of line.now)) }
 {
@@ -32,7 +32,7 @@ pub(crate) fn count_before(line: &[u8], name: &str) -> usize
     count
 }
 
-// What stands behind the first word of this name, if it is there.
+// The rest of the line after the first word of this name, if it is there.
 pub(crate) fn behind<'a>(line: &'a [u8], name: &str) -> Option<&'a [u8]>
     ensures { MatchOption result (behind name.now (words_of line.now) ≡ None) (λ back. behind name.now (words_of line.now) ≡ Some (words_of back.now)) }
 {

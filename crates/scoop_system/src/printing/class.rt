@@ -1,4 +1,4 @@
-//! What was understood of the classes of a file.
+//! Printed classes of a system.
 
 ghost use Rattle.std.specs.Prelude.{◌++◌, codes, OnOk};
 ghost use Rattle.std.specs.Io.KnownBytes.{Appends};
@@ -108,7 +108,7 @@ fn print_writes<W: Write>(writes: &[WordWrite], writer: &mut W) -> io::Result<()
     }
 }
 
-// The writes behind the first one.
+// The writes after the first one.
 fn print_more_writes<W: Write>(writes: &[WordWrite], writer: &mut W) -> io::Result<()>
     ensures { OnOk result (Appends (W.contents writer.old) (W.contents writer.new) (more_writes_text writes.now)) }
 {

@@ -6,7 +6,7 @@ ghost use Rattle.toml.specs.View.{view};
 ghost use Rattle.scoop_message.specs.declared.limits.TheConstants.{MAX_WORDS, MAX_OPS};
 ghost use Rattle.scoop_object.specs.Class.{IsClass};
 ghost use Rattle.scoop_classes.specs.Classes.{same_text, class_of_name};
-ghost use Rattle.scoop_system.specs.Classes.{class_of, class_head, operations_from, class_before};
+ghost use Rattle.scoop_system.specs.Classes.{class_of, classes_from, class_head, operations_from, class_before};
 ghost use Rattle.scoop_system.specs.Meaning.{classes_of};
 ghost use Rattle.scoop_system.specs.Terms.{operation_of};
 ghost use Rattle.scoop_system.specs.Stop.{IfFault};
@@ -25,7 +25,7 @@ use scoop_object::{Class, ClassError, OpRow};
 use std::alloc::Global;
 use toml::Value;
 
-// What a class is but for its operations, and the values that are to be these.
+// The name and the number of words of a class, and the values of its operations.
 #[derive(Drop)]
 struct ClassHead<'a> {
     name: Name,
@@ -39,15 +39,26 @@ pub(super) fn read_classes(alloc: Global, file: &Value) -> Result<Vec<OwnClass>,
     ensures fault { IfErr result (λ e. IfFault e (λ fault. classes_of (view file.now) ≡ Err fault)) }
 {
     let values = at(Place::File, list_at(file, Key::Class, MAX_CLASSES))?;
-    let mut classes = Vec::with_capacity(alloc, values.len())?;
+    let mut classes = Vec::new(alloc);
+    match add_classes(alloc, &mut classes, values) {
+        Ok(()) => Ok(classes),
+        Err(stop) => Err(stop),
+    }
+}
+
+// Adds the classes of these values.
+fn add_classes(alloc: Global, classes: &mut Vec<OwnClass>, values: &[Value]) -> Result<(), Stop>
+    ensures ok { IfOk result (λ _. classes_from classes.old.items (map view values.now) ≡ Ok classes.new.items) }
+    ensures fault { IfErr result (λ e. IfFault e (λ fault. classes_from classes.old.items (map view values.now) ≡ Err fault)) }
+{
     for value in values {
         let class = read_class(alloc, value, classes.as_slice())?;
         classes.push(class)?;
     }
-    Ok(classes)
+    Ok(())
 }
 
-// A class, behind those that come before it.
+// A class, after those before it.
 fn read_class(alloc: Global, value: &Value, done: &[OwnClass]) -> Result<OwnClass, Stop>
     ensures ok { IfOk result (λ class. class_of done.now (view value.now) ≡ Ok class) }
     ensures fault { IfErr result (λ e. IfFault e (λ fault. class_of done.now (view value.now) ≡ Err fault)) }
@@ -64,7 +75,7 @@ fn read_class(alloc: Global, value: &Value, done: &[OwnClass]) -> Result<OwnClas
     Ok(OwnClass::new(head.name, class, operations))
 }
 
-// The class of rows that are known to make one.
+// The class of rows that make one.
 fn build_class(alloc: Global, words: u8, rows: &[OpRow]) -> Result<Class, Stop>
     requires { IsClass words rows.now }
     ensures ok { IfOk result (λ class. class ≡ record { words = words; rows = rows.now }) }
@@ -102,7 +113,7 @@ fn class_head<'a>(value: &'a Value, done: &[OwnClass]) -> Result<ClassHead<'a>, 
     })
 }
 
-// Why no class may have this name: one has it already.
+// The fault of a name that a class before it has.
 fn class_before(classes: &[OwnClass], name: Name) -> Option<Wrong>
     ensures { result ≡ class_before classes.now name }
 {
@@ -130,15 +141,21 @@ fn read_operations(
     for value in head.operations {
         let place = operation_place(value, head.name, rows.len() + 1);
         let words = usize::from(head.words);
-        let read = read_operation(value, words, rows.as_slice(), operations.as_slice());
-        let (row, operation) = at(place, read)?;
-        rows.push(row)?;
-        operations.push(operation)?;
+        match at(
+            place,
+            read_operation(value, words, rows.as_slice(), operations.as_slice()),
+        ) {
+            Ok((row, operation)) => {
+                rows.push(row)?;
+                operations.push(operation)?;
+            }
+            Err(fault) => return Err(Stop::Fault(fault)),
+        }
     }
     Ok(())
 }
 
-// An operation and its name, behind those that come before it.
+// An operation and its name, after those before it.
 fn read_operation(
     value: &Value,
     words: usize,

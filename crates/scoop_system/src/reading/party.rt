@@ -5,7 +5,7 @@ ghost use Rattle.std.specs.List.{list_any};
 ghost use Rattle.std.specs.Option.{option_copied};
 ghost use Rattle.toml.specs.View.{view};
 ghost use Rattle.scoop_classes.specs.Classes.{table_of};
-ghost use Rattle.scoop_system.specs.Meaning.{node_of, nodes_of, handler_of, handlers_of, handler_class, client_of, clients_of, batch_at, number_of};
+ghost use Rattle.scoop_system.specs.Meaning.{node_of, nodes_from, nodes_of, handler_of, handlers_from, handlers_of, handler_class, client_of, clients_from, clients_of, batch_at, number_of};
 ghost use Rattle.scoop_system.specs.Meaning.{first_address, first_client, other_family, is_v4, node_at, client_at, address_taken, address_fault};
 ghost use Rattle.scoop_system.specs.Stop.{IfFault};
 
@@ -29,16 +29,29 @@ pub(super) fn read_nodes(alloc: Global, file: &Value) -> Result<Vec<NodePlace>, 
     ensures fault { IfErr result (λ e. IfFault e (λ fault. nodes_of (view file.now) ≡ Err fault)) }
 {
     let values = at(Place::File, list_at(file, Key::Node, MAX_NODES))?;
-    let mut nodes = Vec::with_capacity(alloc, values.len())?;
-    for value in values {
-        let place = place_at(value, Key::Node, nodes.len() + 1);
-        let node = at(place, read_node(value, nodes.as_slice()))?;
-        nodes.push(node)?;
+    let mut nodes = Vec::new(alloc);
+    match add_nodes(&mut nodes, values) {
+        Ok(()) => Ok(nodes),
+        Err(stop) => Err(stop),
     }
-    Ok(nodes)
 }
 
-// A node, behind those that come before it.
+// Adds the nodes of these values. The list is borrowed, so that no early return has to drop it.
+fn add_nodes(nodes: &mut Vec<NodePlace>, values: &[Value]) -> Result<(), Stop>
+    ensures ok { IfOk result (λ _. nodes_from nodes.old.items (map view values.now) ≡ Ok nodes.new.items) }
+    ensures fault { IfErr result (λ e. IfFault e (λ fault. nodes_from nodes.old.items (map view values.now) ≡ Err fault)) }
+{
+    for value in values {
+        let place = place_at(value, Key::Node, nodes.len() + 1);
+        match at(place, read_node(value, nodes.as_slice())) {
+            Ok(node) => nodes.push(node)?,
+            Err(fault) => return Err(Stop::Fault(fault)),
+        }
+    }
+    Ok(())
+}
+
+// A node, after those before it.
 fn read_node(value: &Value, done: &[NodePlace]) -> Result<NodePlace, Wrong>
     ensures { result ≡ node_of done.now (view value.now) }
 {
@@ -80,7 +93,7 @@ fn first_address(nodes: &[NodePlace], clients: &[ClientPlace]) -> Option<SocketA
     }
 }
 
-// Whether an address isn't of the family of the first one.
+// Whether an address is of another family than the first one.
 fn other_family(first: Option<SocketAddr>, address: SocketAddr) -> bool
     ensures { result ≡ other_family first address }
 {
@@ -90,7 +103,7 @@ fn other_family(first: Option<SocketAddr>, address: SocketAddr) -> bool
     }
 }
 
-// What is wrong with the address of a party behind these.
+// The fault of the address of a party after these.
 fn address_fault(nodes: &[NodePlace], clients: &[ClientPlace], address: SocketAddr) -> Option<Wrong>
     ensures { result ≡ address_fault nodes.now clients.now address }
 {
@@ -103,7 +116,7 @@ fn address_fault(nodes: &[NodePlace], clients: &[ClientPlace], address: SocketAd
     }
 }
 
-// Whose the address is, where somebody has it.
+// The node or the client that has the address already.
 fn address_taken(nodes: &[NodePlace], clients: &[ClientPlace], address: SocketAddr) -> Option<Wrong>
     ensures { result ≡ address_taken nodes.now clients.now address }
 {
@@ -137,17 +150,38 @@ pub(super) fn read_handlers(
     ensures fault { IfErr result (λ e. IfFault e (λ fault. handlers_of classes.now nodes.now (view file.now) ≡ Err fault)) }
 {
     let values = at(Place::File, list_at(file, Key::Handler, MAX_HANDLERS))?;
-    let mut handlers = Vec::with_capacity(alloc, values.len())?;
-    for value in values {
-        let place = place_at(value, Key::Handler, handlers.len() + 1);
-        let read = read_handler(value, classes, nodes, handlers.as_slice());
-        let handler = at(place, read)?;
-        handlers.push(handler)?;
+    let mut handlers = Vec::new(alloc);
+    match add_handlers(&mut handlers, classes, nodes, values) {
+        Ok(()) => Ok(handlers),
+        Err(stop) => Err(stop),
     }
-    Ok(handlers)
 }
 
-// A handler, behind those that come before it.
+// Adds the handlers of these values.
+fn add_handlers(
+    handlers: &mut Vec<HandlerPlace>,
+    classes: &[OwnClass],
+    nodes: &[NodePlace],
+    values: &[Value],
+) -> Result<(), Stop>
+    ensures ok { IfOk result (λ _. handlers_from classes.now nodes.now handlers.old.items (map view values.now) ≡ Ok handlers.new.items) }
+    ensures fault { IfErr result (λ e. IfFault e (λ fault.
+        handlers_from classes.now nodes.now handlers.old.items (map view values.now) ≡ Err fault)) }
+{
+    for value in values {
+        let place = place_at(value, Key::Handler, handlers.len() + 1);
+        match at(
+            place,
+            read_handler(value, classes, nodes, handlers.as_slice()),
+        ) {
+            Ok(handler) => handlers.push(handler)?,
+            Err(fault) => return Err(Stop::Fault(fault)),
+        }
+    }
+    Ok(())
+}
+
+// A handler, after those before it.
 fn read_handler(
     value: &Value,
     classes: &[OwnClass],
@@ -188,7 +222,7 @@ fn has_handler(handlers: &[HandlerPlace], number: u32) -> bool
     handlers.iter().any(|place| place.handler.0 == number)
 }
 
-// The class of this name, and how many words it has.
+// The class of this name, and its number of words.
 fn handler_class(classes: &[OwnClass], name: &str) -> Result<(HandlerClass, usize), Wrong>
     ensures { result ≡ handler_class classes.now name.now }
 {
@@ -201,7 +235,7 @@ fn handler_class(classes: &[OwnClass], name: &str) -> Result<(HandlerClass, usiz
     }
 }
 
-// How many words an object of the class has.
+// The number of words of an object of the class.
 fn known_words(class: DemoClass) -> usize
     ensures { result ≡ (table_of class).words }
 {
@@ -221,16 +255,33 @@ pub(super) fn read_clients(
     ensures fault { IfErr result (λ e. IfFault e (λ fault. clients_of nodes.now (view file.now) ≡ Err fault)) }
 {
     let values = at(Place::File, list_at(file, Key::Client, MAX_CLIENTS))?;
-    let mut clients = Vec::with_capacity(alloc, values.len())?;
-    for value in values {
-        let place = place_at(value, Key::Client, clients.len() + 1);
-        let client = at(place, read_client(value, nodes, clients.as_slice()))?;
-        clients.push(client)?;
+    let mut clients = Vec::new(alloc);
+    match add_clients(&mut clients, nodes, values) {
+        Ok(()) => Ok(clients),
+        Err(stop) => Err(stop),
     }
-    Ok(clients)
 }
 
-// A client, behind those that come before it.
+// Adds the clients of these values.
+fn add_clients(
+    clients: &mut Vec<ClientPlace>,
+    nodes: &[NodePlace],
+    values: &[Value],
+) -> Result<(), Stop>
+    ensures ok { IfOk result (λ _. clients_from nodes.now clients.old.items (map view values.now) ≡ Ok clients.new.items) }
+    ensures fault { IfErr result (λ e. IfFault e (λ fault. clients_from nodes.now clients.old.items (map view values.now) ≡ Err fault)) }
+{
+    for value in values {
+        let place = place_at(value, Key::Client, clients.len() + 1);
+        match at(place, read_client(value, nodes, clients.as_slice())) {
+            Ok(client) => clients.push(client)?,
+            Err(fault) => return Err(Stop::Fault(fault)),
+        }
+    }
+    Ok(())
+}
+
+// A client, after those before it.
 fn read_client(
     value: &Value,
     nodes: &[NodePlace],
@@ -263,7 +314,7 @@ fn has_client(clients: &[ClientPlace], number: u32) -> bool
     clients.iter().any(|place| place.client.0 == number)
 }
 
-// How many entries a client puts into one Log: 1 where it isn't said.
+// The number of entries that a client puts into one Log: 1 by default.
 fn batch_at(value: &Value) -> Result<u8, Wrong>
     ensures { result ≡ batch_at (view value.now) }
 {

@@ -1,10 +1,10 @@
-//! Where something is wrong.
+//! Places of faults.
 
 ghost use Rattle.std.specs.Prelude.{◌≡◌, None, Ok, Err, IfOk, IfErr};
 ghost use Rattle.toml.specs.View.{view};
 ghost use Rattle.scoop_system.specs.Meaning.{file_keys};
 ghost use Rattle.scoop_system.specs.Place.{at, place_at};
-ghost use Rattle.scoop_words.specs.Reading.{unless};
+ghost use Rattle.scoop_lines.specs.Reading.{unless};
 ghost use Rattle.scoop_system.specs.Value.{key_fault};
 ghost use Rattle.scoop_system.specs.Classes.{class_place, operation_place};
 
@@ -13,7 +13,7 @@ use crate::error::{Fault, Key, Place, Wrong};
 use crate::name::Name;
 use toml::Value;
 
-// What is wrong is wrong at this place.
+// The fault of a reading at this place.
 pub(super) fn at<T>(place: Place, read: Result<T, Wrong>) -> Result<T, Fault>
     ensures { result ≡ at place read }
 {
@@ -23,7 +23,7 @@ pub(super) fn at<T>(place: Place, read: Result<T, Wrong>) -> Result<T, Fault>
     }
 }
 
-// A fault where the file has a key that no file has.
+// Refuses a file with an unknown key.
 pub(super) fn check_keys(file: &Value) -> Result<(), Fault>
     ensures ok { IfOk result (λ _. key_fault file_keys (view file.now) ≡ None) }
     ensures fault { IfErr result (λ fault. at Place.File (unless (key_fault file_keys (view file.now)) (Ok (view file.now))) ≡ Err fault) }
@@ -38,7 +38,7 @@ pub(super) fn check_keys(file: &Value) -> Result<(), Fault>
     }
 }
 
-// The place of a table of this kind: by its number, or by its count where it has none.
+// The place of a table of this kind: by its number, or by its count if it has none.
 pub(super) fn place_at(value: &Value, kind: Key, count: usize) -> Place
     ensures { result ≡ place_at kind count (view value.now) }
 {

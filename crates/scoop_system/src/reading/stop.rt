@@ -1,10 +1,10 @@
-//! Why a file isn't read to its end.
+//! Reasons to stop reading a file.
 
 use crate::error::Fault;
 use std::alloc::{AllocError, AllocFailed};
 
-// A fault, or want of memory.
-#[derive(Clone, Copy, Debug, PartialEq, Eq)]
+// A fault, or out of memory.
+#[derive(Clone, Copy)]
 pub(crate) enum Stop {
     Fault(Fault),
     OutOfMemory,

@@ -4,19 +4,19 @@ ghost use Rattle.std.specs.Prelude.{◌≡◌, ◌≤◌, ◌==◌, [], length, 
 ghost use Rattle.std.specs.List.{list_any};
 ghost use Rattle.toml.specs.View.{view};
 ghost use Rattle.scoop_message.specs.declared.limits.TheConstants.{MAX_WORDS, MAX_WRITES};
-ghost use Rattle.scoop_words.specs.Number.{decimal_of};
-ghost use Rattle.scoop_system.specs.Terms.{term_of, word_term, argument_term, constant_term, term_in, test_in, test_at, two_terms, write_in, four_terms};
+ghost use Rattle.scoop_lines.specs.Number.{decimal_of};
+ghost use Rattle.scoop_system.specs.Terms.{term_of, word_term, argument_term, constant_term, term_in, test_in, test_at, test_of, two_terms, word_in, write_in, write_of, four_terms};
 ghost use Rattle.scoop_system.specs.Terms.{written_word, next_write, writes_at, writes_from, answer_at};
 
 use super::value::{entry, list_at};
 use crate::error::{Key, Wrong};
 use crate::name::Name;
+use scoop_lines::decimal;
 use scoop_message::limits::{MAX_ARGS, MAX_WRITES};
 use scoop_object::{Term, Write, Writes};
-use scoop_words::decimal;
 use toml::Value;
 
-// What stands in an unused cell.
+// The value of an unused cell.
 const BLANK: Write = Write {
     word: 0,
     base: Term::Const(0),
@@ -24,7 +24,7 @@ const BLANK: Write = Write {
     minus: Term::Const(0),
 };
 
-// A term of a class of so many words.
+// A term of a class of this many words.
 fn read_term(text: &str, words: usize) -> Result<Term, Wrong>
     requires { words ≤ MAX_WORDS }
     ensures { result ≡ term_of words text.now }
@@ -107,12 +107,20 @@ fn two_terms(values: &[Value], words: usize) -> Result<Option<(Term, Term)>, Wro
     let [left, right] = values else {
         return Err(Wrong::NotATest);
     };
-    let left = term_in(left, words)?;
-    let right = term_in(right, words)?;
-    Ok(Some((left, right)))
+    test_of(term_in(left, words), term_in(right, words))
 }
 
-// The writes, no word of them twice.
+// A test of two terms.
+fn test_of(
+    left: Result<Term, Wrong>,
+    right: Result<Term, Wrong>,
+) -> Result<Option<(Term, Term)>, Wrong>
+    ensures { result ≡ test_of left right }
+{
+    Ok(Some((left?, right?)))
+}
+
+// The writes. No word is written twice.
 pub(super) fn writes_at(value: &Value, words: usize) -> Result<Writes, Wrong>
     requires { words ≤ MAX_WORDS }
     ensures { result ≡ writes_at words (view value.now) }
@@ -138,7 +146,7 @@ fn read_writes(values: &[Value], words: usize) -> Result<Writes, Wrong>
     }
 }
 
-// A write, behind those that come before it.
+// A write, after those before it.
 fn next_write(value: &Value, words: usize, done: &[Write]) -> Result<Write, Wrong>
     requires { words ≤ MAX_WORDS }
     ensures { result ≡ next_write words done.now (view value.now) }
@@ -173,16 +181,37 @@ fn four_terms(values: &[Value], words: usize) -> Result<Write, Wrong>
     let [word, base, plus, minus] = values else {
         return Err(Wrong::NotAWrite);
     };
-    let word = written_word(term_in(word, words)?)?;
-    let base = term_in(base, words)?;
-    let plus = term_in(plus, words)?;
-    let minus = term_in(minus, words)?;
+    write_of(
+        word_in(word, words),
+        term_in(base, words),
+        term_in(plus, words),
+        term_in(minus, words),
+    )
+}
+
+// A write of a word and three terms.
+fn write_of(
+    word: Result<u8, Wrong>,
+    base: Result<Term, Wrong>,
+    plus: Result<Term, Wrong>,
+    minus: Result<Term, Wrong>,
+) -> Result<Write, Wrong>
+    ensures { result ≡ write_of word base plus minus }
+{
     Ok(Write {
-        word,
-        base,
-        plus,
-        minus,
+        word: word?,
+        base: base?,
+        plus: plus?,
+        minus: minus?,
     })
+}
+
+// The word that a write names.
+fn word_in(value: &Value, words: usize) -> Result<u8, Wrong>
+    requires { words ≤ MAX_WORDS }
+    ensures { result ≡ word_in words (view value.now) }
+{
+    written_word(term_in(value, words)?)
 }
 
 fn written_word(term: Term) -> Result<u8, Wrong>

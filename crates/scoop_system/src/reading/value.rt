@@ -1,4 +1,4 @@
-//! What the values of a TOML text say.
+//! Values of a TOML text.
 
 ghost use Rattle.std.specs.Prelude.{◌≡◌, ◌≤◌, ◌==◌, length, map, find, not, option_map, string_bytes, Ok, Err, MatchResult, IfOk};
 ghost use Rattle.std.specs.List.{list_any};
@@ -14,9 +14,9 @@ ghost use Rattle.scoop_system.specs.Address.{address_of};
 
 use crate::error::{Key, Wrong};
 use crate::name::{Name, is_name};
+use scoop_lines::decimal;
 use scoop_message::Words;
 use scoop_message::limits::MAX_WORDS;
-use scoop_words::decimal;
 use std::net::SocketAddr;
 use toml::{Table, Value};
 
@@ -47,7 +47,7 @@ fn word(value: &Value) -> Option<u64>
     }
 }
 
-// The number that is the value of this key, in its range.
+// The number that is the value of this key, if it is in the range.
 pub(super) fn in_range(value: &Value, key: Key, low: u64, high: u64) -> Result<u64, Wrong>
     ensures value { result ≡ in_range key low high (whole_of (view value.now)) }
     ensures low { IfOk result (λ number. low ≤ number) }
@@ -59,7 +59,7 @@ pub(super) fn in_range(value: &Value, key: Key, low: u64, high: u64) -> Result<u
     }
 }
 
-// The number at a key, in its range.
+// The number at a key, if it is in the range.
 pub(super) fn number_at(value: &Value, key: Key, low: u64, high: u64) -> Result<u64, Wrong>
     ensures value { result ≡ number_at key low high (view value.now) }
     ensures low { IfOk result (λ number. low ≤ number) }
@@ -124,7 +124,7 @@ fn parse_address(text: &str) -> Option<SocketAddr>
     text.parse::<SocketAddr>().ok()
 }
 
-// So many values at most of the list at a key, none where the key is missing.
+// The values of the list at a key, at most `limit`; none if the key is missing.
 pub(super) fn list_at(value: &Value, key: Key, limit: usize) -> Result<&[Value], Wrong>
     ensures value { MatchResult result (λ values. list_at key limit (view value.now) ≡ Ok (map view values.now))
         (λ wrong. list_at key limit (view value.now) ≡ Err wrong) }
@@ -143,7 +143,7 @@ pub(super) fn list_at(value: &Value, key: Key, limit: usize) -> Result<&[Value],
     Ok(values)
 }
 
-// Why a value is no table of these keys: the first unknown one, by name.
+// The fault of a value that isn't a table of these keys: the first unknown key, by name.
 pub(super) fn key_fault(value: &Value, known: &[Key]) -> Option<Wrong>
     ensures { result ≡ key_fault known.now (view value.now) }
 {

@@ -1,4 +1,4 @@
-//! Why handlers and clients open no world.
+//! The reasons why handlers and clients open no world.
 
 ghost use Rattle.std.specs.Prelude.{◌≡◌, IfNone, IfSome};
 ghost use Rattle.std.specs.List.{AllByRecursion, list_any};
@@ -53,7 +53,7 @@ fn repeated_client(clients: &[(ClientId, u8)]) -> Option<ClientId>
     None
 }
 
-// The first handler whose object isn't of the class that is placed with it.
+// The first handler whose object isn't of the class placed with it.
 fn wrong_class<B: Behaviour>(placements: &[Placement<B>]) -> Option<HandlerId>
     ensures none { IfNone result (AllByRecursion (IsOfClass B.class) placements.now) }
     ensures some { IfSome result (IsFirstWrong B.class placements.now) }
@@ -66,7 +66,7 @@ fn wrong_class<B: Behaviour>(placements: &[Placement<B>]) -> Option<HandlerId>
     None
 }
 
-// Why these handlers and clients open no world, whatever is stored.
+// The reason why these handlers and clients open no world, whatever is stored.
 pub(crate) fn refusal<B: Behaviour>(
     placements: &[Placement<B>],
     clients: &[(ClientId, u8)],

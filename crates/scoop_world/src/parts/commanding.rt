@@ -1,4 +1,4 @@
-//! A client takes a command.
+//! Commands of a client.
 
 ghost use Rattle.std.specs.Prelude.{◌≡◌, ◌<◌, Some, length, map, slice_get, IfOk, OnErr, OnOk};
 ghost use Rattle.indexmap.specs.IndexMap.{spare};
@@ -54,7 +54,7 @@ fn room_for<A: Allocator + Copy>(
 }
 
 impl<B: Behaviour, A: Allocator + Copy> Parts<B, A> {
-    /// The client takes the command, and what it logs is logged.
+    /// The client takes the command, and its entries are logged.
     pub(crate) fn command(
         &mut self,
         client: ClientId,

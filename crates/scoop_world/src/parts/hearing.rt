@@ -1,4 +1,4 @@
-//! A message comes to its receiver.
+//! Messages that come to their receivers.
 
 ghost use Rattle.std.specs.Prelude.{◌≡◌, ◌<◌};
 ghost use Rattle.indexmap.specs.IndexSet.{spare};

@@ -1,4 +1,4 @@
-//! Clients and nodes restart.
+//! Restarts of clients and nodes.
 
 ghost use Rattle.std.specs.Prelude.{◌≡◌, ◌==◌, length, map, IfOk, OnErr, OnOk};
 ghost use Rattle.std.specs.List.{AllByRecursion, list_any};
@@ -74,7 +74,7 @@ fn load_all<B: Behaviour, A: Allocator + Copy>(
     Ok(states)
 }
 
-// The handler takes its stored state, if there is one here.
+// The handler takes its stored state, if it stands on the node.
 fn reopen_with<B: Behaviour, A: Allocator + Copy>(
     site: &mut Site<B, A>,
     node: u32,
@@ -88,7 +88,7 @@ fn reopen_with<B: Behaviour, A: Allocator + Copy>(
     }
 }
 
-// Each handler takes its stored state, if there is one here.
+// Each handler takes its stored state, if it stands on the node.
 fn reopen_all<B: Behaviour, A: Allocator + Copy>(
     sites: &mut [Site<B, A>],
     node: u32,

@@ -1,4 +1,4 @@
-//! A client sends what it owes.
+//! Messages that a client sends.
 
 ghost use Rattle.std.specs.Prelude.{◌≡◌, ◌<◌, ◌+◌, ◌++◌, length, option_to_list, vec_len, vec_capacity};
 ghost use Rattle.std.specs.Option.{option_map};
@@ -12,7 +12,7 @@ use scoop_model::{WorldError, WorldNote};
 use scoop_object::Behaviour;
 use std::alloc::Allocator;
 
-/// Appends a message, if there is one, and answers its place, counted from 1. There is room for it.
+/// Appends a message, if there is one, and returns its place, counted from 1. There is room for it.
 pub(super) fn send<A: Allocator + Copy>(
     sent: &mut Vec<Message, A>,
     message: &Option<Message>,
@@ -21,7 +21,7 @@ pub(super) fn send<A: Allocator + Copy>(
     ensures sent { sent.new.items ≡ sent.old.items ++ option_to_list message.now }
     ensures place { result ≡ option_map (λ _. length sent.old.items + 1) message.now }
 {
-    // Names the types that a message holds, of which the prover has to be told here.
+    // For the prover: names the types that a message holds.
     let _parts: Option<(Entry, Request)> = None;
     match message {
         Some(message) => {
@@ -33,7 +33,7 @@ pub(super) fn send<A: Allocator + Copy>(
 }
 
 impl<B: Behaviour, A: Allocator + Copy> Parts<B, A> {
-    /// The client sends the handler what it owes to it, if anything.
+    /// The client sends the handler the message owed to it, if any.
     pub(crate) fn tick(
         &mut self,
         client: ClientId,

@@ -1,4 +1,4 @@
-//! Sequence charts. A chart has an owner that lends it, and its picture, to what fills and reads them.
+//! Sequence charts. A chart and its picture have one owner; the functions that fill and read them borrow them.
 
 use scoop_chart::{Chart, ChartError, MAX_ROWS};
 use scoop_handler::Note;
@@ -11,7 +11,7 @@ const SEVEN: ClientId = ClientId(7);
 
 const ONE: HandlerId = HandlerId(1);
 
-/// An event, what came of it, and its label.
+/// An event, its outcome, and its label.
 type Row = (Event, Result<WorldNote, WorldError>, &'static [u8]);
 
 /// A chart of client 7 and these handlers, with their nodes.
@@ -90,7 +90,7 @@ fn a_run_is_drawn(rt: HostRuntime) {
 fn draws_greeting(rt: &impl Abort, alloc: Global) -> Result<(), ChartError> {
     // client 7, and handler 1 of node 1
     let mut chart = Chart::new(alloc, &[SEVEN], &[(1, ONE)])?;
-    // each event is noted as it happens, with what came of it and the text of its row
+    // each event is recorded as it happens, with its outcome and the text of its row
     let sent = Ok(WorldNote::Sent(1));
     chart.note(&Event::Tick(SEVEN, ONE), &sent, b"sent 1 Hello")?;
     let greeted = Ok(WorldNote::Handler(Note::Greeted, Some(2)));
@@ -104,7 +104,7 @@ fn draws_greeting(rt: &impl Abort, alloc: Global) -> Result<(), ChartError> {
 }
 
 #[test]
-fn a_chart_is_told_and_drawn(rt: HostRuntime) {
+fn a_chart_is_filled_and_drawn(rt: HostRuntime) {
     assert_eq!(rt; draws_greeting(&rt, rt.alloc()), Ok(()));
 }
 
@@ -120,7 +120,7 @@ const RUN: [Row; 1] = [(
     b"began 7.1.1 1",
 )];
 
-/// The end of its picture: the dot behind the piece, and so over it.
+/// The end of its picture: the dot after the piece, and so over it.
 const RUN_END: &[u8] = b"
 <line class=\"runs\" stroke=\"#1f77b4\" x1=\"312\" y1=\"64\" x2=\"312\" y2=\"80\"/>
 <circle cx=\"312\" cy=\"72\" r=\"3\"/>

@@ -1,4 +1,4 @@
-//! What events, notes and refusals are, and how refusals are printed.
+//! Events, notes and refusals, and the printed forms of refusals.
 
 use scoop_client::{ClientError, ClientNote};
 use scoop_handler::{Note, Ran, Reason};
@@ -81,7 +81,7 @@ const EVENTS: [Event; 7] = [
     Event::NodeRestart(1),
 ];
 
-/// One of 14 events: seven commands behind seven others.
+/// One of 14 events: seven commands after seven others.
 fn event(rt: &impl Abort, place: usize) -> Event {
     match EVENTS.get(place) {
         Some(event) => *event,
@@ -114,7 +114,7 @@ const NOTES: [WorldNote; 13] = [
     WorldNote::Reopened,
 ];
 
-/// One of 14 notes: that a query has run is behind the others.
+/// One of 14 notes, of which the run of a query is the last.
 fn note(rt: &impl Abort, place: usize) -> WorldNote {
     match NOTES.get(place) {
         Some(note) => *note,

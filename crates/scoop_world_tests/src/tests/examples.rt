@@ -2,11 +2,11 @@
 
 use super::settling::next;
 use super::worlds::cells;
+use scoop_calm::Next;
 use scoop_keeper::MemoryKeeper;
 use scoop_message::{ClientId, HandlerId, Message};
 use scoop_model::{Command, Event, HandlerList, TooManyHandlers, same_event};
 use scoop_object::Table;
-use scoop_settle::Next;
 use scoop_world::{Placement, World, WorldNote, WorldOpenError};
 use std::alloc::Global;
 use std::process::Abort;
@@ -47,7 +47,7 @@ fn theorems_of_the_rules_are_called() {
     scoop_rules::examples::runs_what_came();
 }
 
-/// The example of `scoop_calm`.
+/// The first example of `scoop_calm`.
 #[test]
 fn theorems_of_calm_worlds_are_called() {
     // some events, no restart among them, lead from every world that can be reached to a calm one
@@ -58,6 +58,11 @@ fn theorems_of_calm_worlds_are_called() {
     scoop_calm::next_leaves_less();
     // and nothing is next exactly where the world is calm
     scoop_calm::calm_has_no_next();
+    // every fair way leads to a calm world too, in as many rounds as there is left to do
+    scoop_calm::rounds_calm();
+    // what is left is counted along a block, and two clients keep a third one from a lock
+    scoop_calm::examples::counted();
+    scoop_calm::examples::taken_in_turns();
     // the calm world was reached, so it is safe as every such world is
     scoop_model::theorems::reached_safe();
 }
@@ -96,7 +101,7 @@ const GREETING: [Event; 3] = [
     Event::Take(2),
 ];
 
-/// The example of `scoop_settle`.
+/// The second example of `scoop_calm`.
 fn settles(rt: &impl Abort, world: &mut World<Table>) -> Result<(), TooManyHandlers> {
     // a client that joins is to greet the handler (`next` is `next_of` where memory isn't refused)
     let asks = Next::Ask(ClientId(7), HandlerId(1));

@@ -1,4 +1,4 @@
-//! A long run: a fixed rule chooses its events, of which every tenth has no memory.
+//! A long run: a fixed rule chooses its events, and every tenth has no memory.
 
 mod counts;
 mod objects;

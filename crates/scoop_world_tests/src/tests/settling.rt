@@ -1,15 +1,15 @@
-//! A world settles: what is next in it is played until nothing is, and it is calm.
+//! Worlds that settle: the next event is played until there is none, and the world is calm.
 
+use scoop_calm::{Next, next_of};
 use scoop_client::{ClientNote, Phase};
 use scoop_object::Table;
-use scoop_settle::{Next, next_of};
 use scoop_world::{Command, Event, Standing, World, WorldError, WorldNote};
 use std::alloc::Allocator;
 
 /// Why a world doesn't settle.
 type Fault = &'static str;
 
-/// More turns than any world here takes.
+/// More events than any world here takes.
 const TURNS: u32 = 100_000;
 
 fn stepped<A: Allocator + Copy>(
@@ -19,7 +19,7 @@ fn stepped<A: Allocator + Copy>(
     world.step(event)
 }
 
-// The client sends what it owes, the handler hears it, and the client the reply.
+// The client sends the message that it owes, the handler hears it, and the client hears the reply.
 fn ask<A: Allocator + Copy>(world: &mut World<Table, A>, tick: Event) -> Result<(), Fault> {
     let Ok(WorldNote::Sent(place)) = stepped(world, tick) else {
         return Err("nothing was owed");
@@ -47,7 +47,7 @@ fn play<A: Allocator + Copy>(world: &mut World<Table, A>, next: Next) -> Result<
     }
 }
 
-// Nobody holds the lock, no private queue is left, and no job is out.
+// No block holds the lock, no private queue is left, and no job is out.
 fn is_free<A: Allocator + Copy>(standing: &Standing<A>) -> bool {
     let state = standing.state();
     !standing.is_out() && state.holder().is_none() && state.queues().list_len() == 0
@@ -85,7 +85,7 @@ fn is_calm<A: Allocator + Copy>(world: &World<Table, A>) -> Result<bool, Fault> 
     Ok(handlers_are_free(world)? && clients_are_idle(world)?)
 }
 
-/// What is next in a world.
+/// The next event of a world.
 pub fn next<A: Allocator + Copy>(world: &World<Table, A>) -> Result<Option<Next>, Fault> {
     match next_of(world) {
         Ok(next) => Ok(next),
@@ -93,7 +93,7 @@ pub fn next<A: Allocator + Copy>(world: &World<Table, A>) -> Result<Option<Next>
     }
 }
 
-/// What is next is played until nothing is, and then the world is calm.
+/// Plays the next event until there is none; then the world is calm.
 pub fn settles<A: Allocator + Copy>(world: &mut World<Table, A>) -> Result<(), Fault> {
     for _ in 0..TURNS {
         let Some(next) = next(world)? else {

@@ -10,10 +10,10 @@ use transfer::{Transfer, TransferError};
 fn pays_and_draws(rt: &impl Abort, alloc: Global) -> Result<(), TransferError> {
     // one account holds 100, the other nothing, and the client has greeted both
     let mut transfer = Transfer::open(alloc, 100, 0)?;
-    // what is paid is answered by what the second account holds then
+    // the paid amount is the second account's new balance, which the query returns
     assert_eq!(rt; transfer.pay(30), Ok(Some(Answer::Value(30))));
     assert_eq!(rt; transfer.pay(20), Ok(Some(Answer::Value(50))));
-    // the chart of all that has happened, from the first greeting on
+    // the chart of all events, from the first greeting on
     let mut picture = Vec::new(alloc);
     assert!(rt; transfer.draw(&mut picture).is_ok());
     assert!(rt; picture.starts_with(b"<svg "));

@@ -1,5 +1,5 @@
-//! Worlds of cells, and what is done in them and read of them, as rows. Their one owner lends them: each way out of
-//! a function that owns a world drops it, which is dear to prove.
+//! Worlds of cells, with their events and reads as rows. One owner lends each world: each early return of a
+//! function that owns a world drops it, which is dear to prove.
 
 mod acts;
 pub mod cells;
@@ -21,16 +21,16 @@ use scoop_world::{Event, World, WorldError};
 use std::alloc::Global;
 use std::process::Abort;
 
-/// What happens to a world.
+/// A step of a test.
 #[derive(Clone, Copy)]
 enum Step<'a> {
-    /// The acts tell this, one after another.
+    /// The acts have these outcomes, one after another.
     Plays(&'a [Row]),
-    /// The events are taken by one call, which ends so.
+    /// One call takes the events, and ends like this.
     Runs(&'a [Event], Result<usize, (usize, WorldError)>),
-    /// This is read.
+    /// A read has this result.
     Reads(&'a [Look<'a>]),
-    /// What is next is played until nothing is, and then the world is calm.
+    /// The next event is played until there is none, and then the world is calm.
     Settles,
 }
 

@@ -8,6 +8,6 @@ loop-i-preserved g c =
     let x = c.index-left-i.result in
     let y = c.index-right-i.result in
     take_more c.args.left.now i x (omega (arith, c.loop-i-test.true))
-    ∙ ap (λ a. take i c.args.left.now ++ a ∷ []) (sym c.index-left-i.is ∙ c.same.ensures c.if-not-same.false ∙ c.index-right-i.is)
+    ∙ ap (λ a. take i c.args.left.now ++ a ∷ []) (sym c.index-left-i.is ∙ c.same.ensures.0 c.if-not-same.false ∙ c.index-right-i.is)
     ∙ ap (λ zs. zs ++ get_or c.args.right.now i y ∷ []) c.loop-i.invariant
     ∙ sym (take_more c.args.right.now i y (omega (arith, c.loop-i-test.true, c.if-count-right.false)))

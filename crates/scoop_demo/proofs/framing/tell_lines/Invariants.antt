@@ -1,5 +1,5 @@
 use Rattle.std.proofs.Common.{◌-◌}
-use Rattle.scoop_demo.specs.Line.{count_limit}
+use Rattle.scoop_lines.specs.Line.{count_limit}
 use Rattle.scoop_demo.proofs.framing.tell_lines.Given as goal
 
 abbrev pub decreases-loop-lines : goal.decreases-loop-lines

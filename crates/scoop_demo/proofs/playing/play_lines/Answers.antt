@@ -17,7 +17,7 @@ returns-in-Ok-false-clause-err g c =
     (c.open_by.ensures.err _ _ c.loop-cast.invariant.staged)
 
 pub returns-in-Err-clause-err : goal.returns-in-Err-clause-err
-returns-in-Err-clause-err g c = taken_stops c.args.options.is_strict c.loop-cast.invariant _ c.in-Err.ensures.err
+returns-in-Err-clause-err g c = rw c.from.ensures (taken_stops c.args.options.is_strict c.loop-cast.invariant _ c.in-Err.ensures.err)
 
 pub loop-cast-preserved : goal.loop-cast-preserved
 loop-cast-preserved g c =

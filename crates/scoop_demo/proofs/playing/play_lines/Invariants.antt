@@ -1,6 +1,6 @@
 use Rattle.std.proofs.Common.{◌-◌, is_some}
 use Rattle.scoop_keeper.specs.Memory.{incarnation_at}
-use Rattle.scoop_demo.specs.Line.{count_limit}
+use Rattle.scoop_lines.specs.Line.{count_limit}
 use Rattle.scoop_demo.proofs.ScriptLemmas.{Taken}
 use Rattle.scoop_demo.proofs.playing.play_lines.Given as goal
 

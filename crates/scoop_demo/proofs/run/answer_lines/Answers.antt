@@ -16,7 +16,7 @@ returns-in-Ok-false-clause-ok g c = progress_all c.loop-lines.invariant.progress
     (c.in-Ok-false.ensures.end (ap Ok c.in-Ok-false.field-0-test)) c.next_line.ensures.output
 
 pub returns-in-Err-clause-err : goal.returns-in-Err-clause-err
-returns-in-Err-clause-err g c = progress_stops c.loop-lines.invariant.progress _ c.in-Err.ensures.err c.next_line.ensures.output
+returns-in-Err-clause-err g c = rw c.from.ensures (progress_stops c.loop-lines.invariant.progress _ c.in-Err.ensures.err c.next_line.ensures.output)
 
 pub loop-lines-preserved : goal.loop-lines-preserved
 loop-lines-preserved g c =

@@ -2,7 +2,7 @@ use Rattle.std.proofs.Common.{◌≡◌, ◌-◌, None}
 use Rattle.scoop_message.specs.declared.name.HandlerId.{HandlerId}
 use Rattle.scoop_book.specs.Books.{IsBook}
 use Rattle.scoop_book.specs.Moves.{handler_in}
-use Rattle.scoop_demo.specs.Line.{count_limit}
+use Rattle.scoop_lines.specs.Line.{count_limit}
 use Rattle.scoop_demo.specs.Storing.{KeepsElsewhere}
 use Rattle.scoop_demo.proofs.RunLemmas.{Progress}
 use Rattle.scoop_demo.proofs.run.answer_lines.Given as goal

@@ -1,9 +1,10 @@
-//! Scripts that stop: at which line, why, and what they have written before.
+//! Scripts that stop: the line, the reason, and the output before it.
 
 use super::stops;
 use crate::tests::readers::{Newlines, Screen, User};
 use scoop_demo::*;
 use scoop_keeper::MemoryKeeper;
+use scoop_lines::{MAX_LINES, SourceFault};
 use std::alloc::{AllocError, Global};
 use std::cell::Cell;
 use std::io::{ErrorKind, Read, Write};
@@ -19,7 +20,7 @@ macro_rules! greeting {
 
 const GREETING: &str = greeting!("");
 
-// Each of these scripts stops with its text, and has written this.
+// Each of these scripts stops with its text and this output.
 fn all_stop(rt: &impl Abort, alloc: Global, scripts: &[(&str, &str)], output: &str) {
     for (script, text) in scripts {
         stops(rt, alloc, script, text, output);
@@ -87,7 +88,7 @@ const BEHIND_AN_EVENT: [(&str, &str); 33] = [
 ];
 
 #[test]
-fn tells_the_fault_of_a_line_behind_an_event(rt: HostRuntime) {
+fn finds_the_fault_of_a_line_after_an_event(rt: HostRuntime) {
     all_stop(&rt, rt.alloc(), &BEHIND_AN_EVENT, "sent 1 Hello\n");
 }
 
@@ -111,7 +112,7 @@ const PARTIES: [(&str, &str); 16] = [
 ];
 
 #[test]
-fn tells_the_fault_of_a_party(rt: HostRuntime) {
+fn finds_the_fault_of_a_party(rt: HostRuntime) {
     all_stop(&rt, rt.alloc(), &PARTIES, "");
 }
 
@@ -155,7 +156,7 @@ const UNOPENED: [(&str, &str); 11] = [
 ];
 
 #[test]
-fn tells_why_the_world_does_not_open(rt: HostRuntime) {
+fn prints_why_the_world_does_not_open(rt: HostRuntime) {
     all_stop(&rt, rt.alloc(), &UNOPENED, "");
 }
 
@@ -176,7 +177,7 @@ fn too_long(text: &mut String) -> Result<(), AllocError> {
     text.push_str("x")
 }
 
-// How a script that a reader gives ends.
+// The end of a script that a reader gives.
 fn ended<R: Read + Drop, W: Write>(
     alloc: Global,
     reader: R,
@@ -185,7 +186,7 @@ fn ended<R: Read + Drop, W: Write>(
     world_run(alloc, MemoryKeeper::new(alloc), reader, writer)
 }
 
-// How empty lines end: so many, and then an error of this kind or the end.
+// The end of this many empty lines, followed by an error of this kind or the end.
 fn ended_behind(alloc: Global, left: usize, then: Option<ErrorKind>) -> Result<(), RunError> {
     ended(alloc, Newlines { left, then }, &mut io::sink())
 }
@@ -203,12 +204,12 @@ fn ends_at_the_limits_of_an_input(rt: HostRuntime) {
         "sent 1 Hello\n",
     );
     let faulty = ended_behind(alloc, 3, Some(ErrorKind::Other));
-    assert!(rt; faulty == fault!(4, ReadFault));
+    assert!(rt; faulty == unread!(4, ReadFault));
     let long = ended_behind(alloc, MAX_LINES as usize + 1, None);
-    assert!(rt; long == fault!(MAX_LINES + 1, TooManyLines));
+    assert!(rt; long == unread!(MAX_LINES + 1, TooManyLines));
 }
 
-// How a greeting ends that a user types event by event, on a screen with so much room.
+// The end of a greeting that a user types event by event, on a screen with this much room.
 fn typed(alloc: Global, room: usize) -> Result<(), RunError> {
     let hidden = Cell::new(0);
     let user = User {
@@ -222,7 +223,7 @@ fn typed(alloc: Global, room: usize) -> Result<(), RunError> {
     ended(alloc, user, &mut screen)
 }
 
-// How much room the screen has, and how the run ends.
+// The room of the screen, and the end of the run.
 const ROOMS: [(usize, Result<(), RunError>); 3] = [
     (1000, Ok(())),
     (12, Err(RunError::Write)),

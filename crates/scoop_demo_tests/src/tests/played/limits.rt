@@ -1,4 +1,4 @@
-//! Scripts that reach limits. Their texts are made, which fails for want of memory alone.
+//! Scripts that reach limits. Making their texts fails only by running out of memory.
 
 use super::{plays, stops};
 use std::alloc::AllocError;
@@ -57,7 +57,7 @@ fn push_logged(text: &mut String) -> Result<(), AllocError> {
     Ok(())
 }
 
-// What runs of these calls behind the first one.
+// Runs of these calls after the first one.
 fn push_runs(text: &mut String) -> Result<(), AllocError> {
     for n in 2..65_u32 {
         writeln!(text, "run 1 > ran 8.1.1 {n} {n}")?;
@@ -65,7 +65,7 @@ fn push_runs(text: &mut String) -> Result<(), AllocError> {
     Ok(())
 }
 
-// What has run of them.
+// The runs of them in the history.
 fn push_ran(text: &mut String) -> Result<(), AllocError> {
     for n in 1..65_u32 {
         write!(text, " 8.1.1:{n}:{n}")?;
@@ -73,7 +73,7 @@ fn push_ran(text: &mut String) -> Result<(), AllocError> {
     Ok(())
 }
 
-// A private queue that is full stands behind one that is empty and has not ended.
+// A full private queue stands behind an empty one that has not ended.
 fn full_behind_empty(text: &mut String) -> Result<(), AllocError> {
     text.push_str(TWO_QUEUES)?;
     push_logged(text)?;
@@ -95,7 +95,7 @@ fn waits_for_the_first_queue_and_takes_64_entries(rt: HostRuntime) {
     plays(&rt, rt.alloc(), &text);
 }
 
-// A block that ends, behind as many others.
+// A block that ends, after as many others.
 fn push_block(text: &mut String, before: u8) -> Result<(), AllocError> {
     let sent = 8 * u32::from(before) + 2;
     let [lock, locked, open, opened] = [sent + 1, sent + 2, sent + 3, sent + 4];
@@ -111,7 +111,7 @@ fn push_block(text: &mut String, before: u8) -> Result<(), AllocError> {
     )
 }
 
-// The line of 65 blocks behind its name.
+// The line of 65 blocks after its name.
 fn push_blocks(text: &mut String, name: &str) -> Result<(), AllocError> {
     text.push_str(name)?;
     for n in 1..66_u32 {

@@ -1,4 +1,4 @@
-//! Lanes: what a script drops and doubles, and what finds room.
+//! Lanes: the datagrams that a script drops and doubles, and those that find room.
 
 ghost use Rattle.std.specs.Prelude.{◌≡◌, ◌-◌, ◌^◌, ◌++◌, ◌∷◌, [], take};
 
@@ -8,7 +8,7 @@ use scoop_message::limits::BUFFER_LEN;
 use std::alloc::Global;
 use std::process::Abort;
 
-// A lane over which six datagrams were put.
+// A lane with six puts.
 fn put_six(alloc: Global, drop_every: u64, double_every: u64, room: usize) -> Option<Lane> {
     let script = Script {
         drop_every,
@@ -39,7 +39,7 @@ fn holds(lane: &mut Lane, wanted: &[u8]) -> bool {
     taken(lane).is_none()
 }
 
-/// How many puts are dropped and doubled, and the datagrams of six puts where there is room for all.
+/// The number of puts that are dropped and doubled, and the datagrams of six puts if there is room for all.
 type Row<'a> = (u64, u64, &'a [u8]);
 
 const ROWS: [Row; 9] = [
@@ -112,8 +112,8 @@ fn a_long_datagram_is_cut(rt: HostRuntime) {
     takes(&rt, &mut lane, None);
 }
 
-// Puts three datagrams. The clauses are about a lane that is two puts before the last that can be counted, where no
-// number of calls that a test can make leads: where that last put is dropped, so is each one behind it.
+// Puts three datagrams. The clauses are about a lane with two puts left to count, where no number of calls that a
+// test can make leads. If the last of them is dropped, so is every later one.
 fn puts_three(lane: &mut Lane)
     ensures count { lane.old.puts ≡ 2 ^ 64 - 3 → lane.new.puts ≡ 2 ^ 64 - 1 }
     ensures dropped { lane.old.puts ≡ 2 ^ 64 - 3 → lane.old.script.drop_every ≡ 2 ^ 64 - 1 → lane.old.script.double_every ≡ 0

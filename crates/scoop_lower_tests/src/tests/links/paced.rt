@@ -1,4 +1,4 @@
-//! Paced links: which datagrams they hold back.
+//! Rate-limited links: the datagrams that they hold back.
 
 use super::scripts::ends;
 use super::{CLIENT, HANDLER, fails, feeds, gets, has_faults, sends, tape};
@@ -10,7 +10,7 @@ use std::process::Abort;
 
 const OTHER: Party = Party::Handler(HandlerId(8));
 
-// A pace for two parties, with two repeats at once, over a tape with this much room that gives so many
+// A link for two parties, with two repeats at once, over a tape with this room that gives this number of
 // datagrams.
 fn paced(rt: &impl Abort, alloc: Global, room: usize, to_come: usize) -> PacedLink<TapeLink> {
     let mut tape = tape(rt, alloc, room);
@@ -23,21 +23,21 @@ fn paced(rt: &impl Abort, alloc: Global, room: usize, to_come: usize) -> PacedLi
     link
 }
 
-// How many datagrams were passed on.
+// The number of datagrams passed on.
 fn passed_on(link: &PacedLink<TapeLink>) -> usize {
     (0..64usize)
         .filter(|i| link.inner().sent(*i).is_some())
         .count()
 }
 
-// The link sends one byte, and has passed on so many datagrams then.
+// The link sends one byte, and has then passed on this number of datagrams.
 fn passes_on(rt: &impl Abort, link: &mut PacedLink<TapeLink>, to: Party, byte: u8, wanted: usize) {
     sends(rt, link, to, &[byte]);
     assert_eq!(rt; passed_on(link), wanted, "{byte}");
 }
 
 #[test]
-fn a_repeated_datagram_waits_for_a_silence(rt: HostRuntime) {
+fn a_repeated_datagram_waits_for_a_timeout(rt: HostRuntime) {
     let mut link = paced(&rt, rt.alloc(), 16, 0);
     passes_on(&rt, &mut link, HANDLER, 1, 1);
     passes_on(&rt, &mut link, HANDLER, 1, 1);
@@ -68,7 +68,7 @@ fn a_datagram_is_repeated_at_once_while_nothing_is_on_its_way(rt: HostRuntime) {
 }
 
 #[test]
-fn a_party_without_room_is_not_paced(rt: HostRuntime) {
+fn a_party_without_room_is_not_limited(rt: HostRuntime) {
     let mut link = paced(&rt, rt.alloc(), 16, 0);
     passes_on(&rt, &mut link, HANDLER, 1, 1);
     passes_on(&rt, &mut link, CLIENT, 1, 2);
@@ -89,7 +89,7 @@ fn has_sent(rt: &impl Abort, link: &PacedLink<TapeLink>, i: usize, wanted: bool)
 }
 
 #[test]
-fn many_datagrams_count_as_a_silence(rt: HostRuntime) {
+fn many_datagrams_count_as_a_timeout(rt: HostRuntime) {
     let mut link = paced(&rt, rt.alloc(), 80, 64);
     for byte in 1..=70u8 {
         sends(&rt, &mut link, HANDLER, &[byte]);
@@ -113,7 +113,7 @@ fn a_send_that_failed_was_not_passed_on(rt: HostRuntime) {
     passes_on(&rt, &mut link, HANDLER, 1, 1);
 }
 
-// Two datagrams are sent, of which the second is lost and its repeat waits.
+// Two datagrams are sent; the second is lost, and its repeat waits.
 fn loses_one<L: Link>(rt: &impl Abort, link: &mut L, other: &mut ScriptLink) {
     for byte in [1, 2, 2] {
         sends(rt, link, CLIENT, &[byte]);
@@ -123,7 +123,7 @@ fn loses_one<L: Link>(rt: &impl Abort, link: &mut L, other: &mut ScriptLink) {
 }
 
 #[test]
-fn a_lost_datagram_is_sent_again_after_a_silence(rt: HostRuntime) {
+fn a_lost_datagram_is_sent_again_after_a_timeout(rt: HostRuntime) {
     let lossy = Script {
         drop_every: 2,
         ..Script::default()
@@ -139,7 +139,7 @@ fn a_lost_datagram_is_sent_again_after_a_silence(rt: HostRuntime) {
     gets(&rt, &mut other, None);
 }
 
-// Whether a pace is made where the growth of this number is refused.
+// Whether a rate-limited link is made if the growth of this number is refused.
 fn is_made(rt: &impl Abort, alloc: Global, number: u64) -> bool {
     let heap = Refusing::new(alloc, number);
     match PacedLink::new(&heap, tape(rt, alloc, 1), 4, 2) {

@@ -1,4 +1,4 @@
-//! Links by a script: what each end loses and doubles, and which call fails.
+//! Scripted links: the datagrams that each end loses and doubles, and the call that fails.
 
 ghost use Rattle.std.specs.Prelude.{◌≡◌, ◌-◌, ◌^◌, IsTrue};
 ghost use Rattle.scoop_link.specs.ScriptEnd.{faults_of};
@@ -10,7 +10,7 @@ use scoop_message::limits::BUFFER_LEN;
 use std::alloc::Global;
 use std::process::Abort;
 
-/// Two ends, of which the first has this script.
+/// Two ends; the first has this script.
 pub(super) fn ends(rt: &impl Abort, alloc: Global, script: Script) -> (ScriptLink, ScriptLink) {
     match ScriptLink::pair(alloc, script, Script::default(), 16) {
         Ok(ends) => ends,
@@ -65,8 +65,8 @@ fn one_call_fails_and_does_nothing_else(rt: HostRuntime) {
     has_faults(&rt, &other, 0);
 }
 
-// Receives three times, and answers whether the first call alone failed. The clauses are about an end that has one
-// call to count, where no number of calls that a test can make leads: where that call fails, no other one does.
+// Receives three times, and returns whether the first call alone failed. The clauses are about an end with one
+// call left to count, where no number of calls that a test can make leads. If that call fails, no other one does.
 fn fails_once(end: &mut ScriptLink) -> bool
     ensures count { end.old.calls ≡ 2 ^ 64 - 2 → end.new.calls ≡ 2 ^ 64 - 1 }
     ensures fails { end.old.calls ≡ 2 ^ 64 - 2 → end.old.script.fail_at ≡ 2 ^ 64 - 1 → IsTrue result }

@@ -1,6 +1,7 @@
 //! Links over UDP, of this machine.
 
 use super::{CLIENT, HANDLER, fails, gets, has_faults, sends, sends_at_the_last_count};
+use scoop_free_ports::free_ports;
 use scoop_link::{Addresses, Link, LinkFault, OpenLinkError, Peers, UdpLink};
 use scoop_message::limits::BUFFER_LEN;
 use scoop_refusing::Refusing;
@@ -11,17 +12,12 @@ use std::rt::Clock;
 use std::test::Fail;
 use std::time::{Duration, Instant};
 
-const OWN: Peers<'static> = Peers {
-    own: 47311,
-    table: &[],
-};
-
-// What refuses a link to these peers.
+// The refusal of a link to these peers.
 fn refusal<R: Net, A: Allocator>(rt: &R, alloc: A, peers: Peers<'_>) -> Option<OpenLinkError> {
     UdpLink::open(rt, alloc, peers).err()
 }
 
-// What refuses a link to these addresses.
+// The refusal of a link to these addresses.
 fn refusal_at<R: Net, A: Allocator>(
     rt: &R,
     alloc: A,
@@ -59,11 +55,12 @@ fn carries_all(rt: &impl Abort, from: &mut UdpLink, to: &mut UdpLink) {
 }
 
 #[test]
-fn datagrams_go_from_link_to_link(rt: HostRuntime) {
-    let mut receiver = udp(&rt, rt.alloc(), OWN);
+fn datagrams_go_from_link_to_link(rt: HostRuntime) -> Result<(), Fail> {
+    let [own, other] = free_ports::<_, 2>(&rt)?;
+    let mut receiver = udp(&rt, rt.alloc(), Peers { own, table: &[] });
     let peers = Peers {
-        own: 47312,
-        table: &[(HANDLER, 47312), (CLIENT, 47311), (CLIENT, 47312)],
+        own: other,
+        table: &[(HANDLER, other), (CLIENT, own), (CLIENT, other)],
     };
     let mut sender = udp(&rt, rt.alloc(), peers);
     carries_all(&rt, &mut sender, &mut receiver);
@@ -71,6 +68,7 @@ fn datagrams_go_from_link_to_link(rt: HostRuntime) {
     gets(&rt, &mut sender, Some((1, 4)));
     has_faults(&rt, &sender, 0);
     has_faults(&rt, &receiver, 0);
+    Ok(())
 }
 
 fn took_a_while<R: Clock>(rt: &R, link: &mut UdpLink) -> Option<bool> {
@@ -81,39 +79,38 @@ fn took_a_while<R: Clock>(rt: &R, link: &mut UdpLink) -> Option<bool> {
 }
 
 #[test]
-fn a_receive_waits(rt: HostRuntime) {
-    let own = Peers {
-        own: 47316,
-        table: &[],
-    };
-    let mut link = udp(&rt, rt.alloc(), own);
+fn a_receive_waits(rt: HostRuntime) -> Result<(), Fail> {
+    let [own] = free_ports::<_, 1>(&rt)?;
+    let mut link = udp(&rt, rt.alloc(), Peers { own, table: &[] });
     assert_eq!(rt; took_a_while(&rt, &mut link), Some(true));
+    Ok(())
 }
 
 #[test]
-fn a_port_is_taken_once(rt: HostRuntime) {
-    let own = Peers {
-        own: 47317,
-        table: &[],
-    };
+fn a_port_is_taken_once(rt: HostRuntime) -> Result<(), Fail> {
+    let [own] = free_ports::<_, 1>(&rt)?;
+    let own = Peers { own, table: &[] };
     let first = udp(&rt, rt.alloc(), own);
     assert_eq!(rt; refusal(&rt, rt.alloc(), own), Some(OpenLinkError::Fault));
     has_faults(&rt, &first, 0);
+    Ok(())
 }
 
 #[test]
-fn a_port_is_not_0(rt: HostRuntime) {
+fn a_port_is_not_0(rt: HostRuntime) -> Result<(), Fail> {
+    let [own, other] = free_ports::<_, 2>(&rt)?;
     let portless = Peers {
-        own: 47315,
-        table: &[(CLIENT, 47314), (HANDLER, 0)],
+        own,
+        table: &[(CLIENT, other), (HANDLER, 0)],
     };
     assert_eq!(rt;
         refusal(&rt, rt.alloc(), portless),
         Some(OpenLinkError::Fault)
     );
+    Ok(())
 }
 
-// What the system refuses is a fault, and a party without an address none.
+// A send that the system refuses is a fault; a send to a party without an address is none.
 fn refuses(rt: &impl Abort, link: &mut UdpLink, too_long: &[u8]) {
     fails(rt, link, CLIENT, too_long);
     sends(rt, link, HANDLER, too_long);
@@ -124,11 +121,12 @@ fn refuses(rt: &impl Abort, link: &mut UdpLink, too_long: &[u8]) {
 }
 
 #[test]
-fn what_the_system_refuses_is_a_fault_until_the_count_is_full(rt: HostRuntime) -> Result<(), Fail> {
+fn a_refused_send_is_a_fault_until_the_count_is_full(rt: HostRuntime) -> Result<(), Fail> {
     let too_long = vec![in rt.alloc(); 0; 70_000]?;
+    let [own, other] = free_ports::<_, 2>(&rt)?;
     let peers = Peers {
-        own: 47313,
-        table: &[(CLIENT, 47314)],
+        own,
+        table: &[(CLIENT, other)],
     };
     refuses(&rt, &mut udp(&rt, rt.alloc(), peers), &too_long);
     Ok(())
@@ -153,7 +151,7 @@ fn go_and_come(rt: &impl Abort, first: &mut UdpLink, second: &mut UdpLink) {
     has_faults(rt, second, 0);
 }
 
-// A datagram goes from an address to another one and back.
+// A datagram goes from one address to another and back.
 fn go_between<R: Net + Abort>(rt: &R, alloc: Global, here: SocketAddr, there: SocketAddr) {
     let first = Addresses {
         own: here,
@@ -168,19 +166,24 @@ fn go_between<R: Net + Abort>(rt: &R, alloc: Global, here: SocketAddr, there: So
 }
 
 #[test]
-fn datagrams_go_by_ipv6(rt: HostRuntime) {
-    go_between(&rt, rt.alloc(), at(0, 47321), at(0, 47322));
+fn datagrams_go_by_ipv6(rt: HostRuntime) -> Result<(), Fail> {
+    let [here, there] = free_ports::<_, 2>(&rt)?;
+    go_between(&rt, rt.alloc(), at(0, here), at(0, there));
+    Ok(())
 }
 
 #[test]
-fn datagrams_go_between_addresses(rt: HostRuntime) {
-    go_between(&rt, rt.alloc(), at(2, 47323), at(3, 47323));
+fn datagrams_go_between_addresses(rt: HostRuntime) -> Result<(), Fail> {
+    let [port] = free_ports::<_, 1>(&rt)?;
+    go_between(&rt, rt.alloc(), at(2, port), at(3, port));
+    Ok(())
 }
 
 #[test]
-fn an_address_is_taken_once_and_has_a_port(rt: HostRuntime) {
+fn an_address_is_taken_once_and_has_a_port(rt: HostRuntime) -> Result<(), Fail> {
+    let [port, other] = free_ports::<_, 2>(&rt)?;
     let own = Addresses {
-        own: at(2, 47324),
+        own: at(2, port),
         table: &[],
     };
     let _first = udp_at(&rt, rt.alloc(), own);
@@ -189,35 +192,39 @@ fn an_address_is_taken_once_and_has_a_port(rt: HostRuntime) {
         Some(OpenLinkError::Fault)
     );
     let portless = Addresses {
-        own: at(2, 47325),
-        table: &[(CLIENT, at(2, 47324)), (HANDLER, at(2, 0))],
+        own: at(2, other),
+        table: &[(CLIENT, at(2, port)), (HANDLER, at(2, 0))],
     };
     assert_eq!(rt;
         refusal_at(&rt, rt.alloc(), portless),
         Some(OpenLinkError::Fault)
     );
+    Ok(())
 }
 
 #[test]
-fn an_address_of_the_other_family_is_a_fault(rt: HostRuntime) {
+fn an_address_of_the_other_family_is_a_fault(rt: HostRuntime) -> Result<(), Fail> {
+    let [port] = free_ports::<_, 1>(&rt)?;
     let mixed = Addresses {
-        own: at(2, 47326),
-        table: &[(CLIENT, at(0, 47326))],
+        own: at(2, port),
+        table: &[(CLIENT, at(0, port))],
     };
     let mut link = udp_at(&rt, rt.alloc(), mixed);
     fails(&rt, &mut link, CLIENT, &[1]);
     has_faults(&rt, &link, 1);
+    Ok(())
 }
 
 #[test]
-fn each_growth_of_a_table_is_refused(rt: HostRuntime) {
+fn each_growth_of_a_table_is_refused(rt: HostRuntime) -> Result<(), Fail> {
+    let [own, other] = free_ports::<_, 2>(&rt)?;
     let ports = Peers {
-        own: 47327,
-        table: &[(CLIENT, 47328)],
+        own,
+        table: &[(CLIENT, other)],
     };
     let addresses = Addresses {
-        own: at(2, 47327),
-        table: &[(CLIENT, at(2, 47328))],
+        own: at(2, own),
+        table: &[(CLIENT, at(2, other))],
     };
     let heap = Refusing::new(rt.alloc(), 1);
     let refused = Some(OpenLinkError::OutOfMemory);
@@ -228,4 +235,5 @@ fn each_growth_of_a_table_is_refused(rt: HostRuntime) {
     assert_eq!(rt; refusal(&rt, &heap, ports), None);
     heap.refuse(2);
     assert_eq!(rt; refusal_at(&rt, &heap, addresses), None);
+    Ok(())
 }

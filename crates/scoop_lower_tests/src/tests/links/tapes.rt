@@ -1,4 +1,4 @@
-//! Tapes: what they give and keep.
+//! Tapes: the datagrams that they give and record.
 
 ghost use Rattle.std.specs.Prelude.{◌≡◌, ◌-◌, ◌^◌, length, IsTrue};
 
@@ -7,7 +7,7 @@ use scoop_link::{Link, Party, TapeLink};
 use scoop_message::OutOfMemory;
 use std::process::Abort;
 
-// Whether the i-th datagram that was sent went to this party with these bytes.
+// Whether the i-th sent datagram went to this party with these bytes.
 fn was_sent(tape: &TapeLink, i: usize, to: Party, bytes: &[u8]) -> bool {
     match tape.sent(i) {
         Some((receiver, sent)) => receiver == to && sent == bytes,
@@ -23,14 +23,14 @@ fn has_not_sent(rt: &impl Abort, tape: &TapeLink, i: usize) {
     assert!(rt; tape.sent(i).is_none());
 }
 
-// The tape is fed, and has so many datagrams to give then.
+// The tape is fed, and then has this number of datagrams to give.
 fn comes(rt: &impl Abort, tape: &mut TapeLink, bytes: &[u8], to_come: usize) {
     feeds(rt, tape, bytes);
     assert_eq!(rt; tape.to_come(), to_come);
 }
 
 #[test]
-fn a_tape_gives_what_it_was_fed(rt: HostRuntime) {
+fn a_tape_plays_fed_datagrams(rt: HostRuntime) {
     let mut tape = tape(&rt, rt.alloc(), 8);
     comes(&rt, &mut tape, &[5], 1);
     comes(&rt, &mut tape, &[5; 192], 2);
@@ -43,7 +43,7 @@ fn a_tape_gives_what_it_was_fed(rt: HostRuntime) {
 }
 
 #[test]
-fn a_tape_keeps_what_it_was_sent(rt: HostRuntime) {
+fn a_tape_records_sent_datagrams(rt: HostRuntime) {
     let mut tape = tape(&rt, rt.alloc(), 8);
     sends(&rt, &mut tape, HANDLER, &[5; 200]);
     for _ in 1..8 {
@@ -58,8 +58,9 @@ fn a_tape_keeps_what_it_was_sent(rt: HostRuntime) {
     has_not_sent(&rt, &tape, 8);
 }
 
-// Sends three times, and answers whether the first call alone failed. The clauses are about a tape that has no room
-// and one fault to count, where no number of calls that a test can make leads: the sends behind that fault are lost.
+// Sends three times, and returns whether the first call alone failed. The clauses are about a tape without room
+// and with one fault left to count, where no number of calls that a test can make leads. The sends after that
+// fault are lost.
 fn fails_once(tape: &mut TapeLink) -> bool
     ensures fails { tape.old.faults ≡ 2 ^ 64 - 2 → length tape.old.sent ≡ tape.old.room → IsTrue result }
     ensures count { tape.old.faults ≡ 2 ^ 64 - 2 → length tape.old.sent ≡ tape.old.room → tape.new.faults ≡ 2 ^ 64 - 1 }

@@ -10,7 +10,7 @@ use std::test::Fail;
 
 const DIGITS: &[u8; 64] = b"000102030405060708090a0b0c0d0e0f101112131415161718191A1B1C1D1E1F";
 
-// The bytes that the digits say.
+// The bytes of the digits.
 const NUMBERS: [u8; 32] = [
     0, 1, 2, 3, 4, 5, 6, 7, 8, 9, 10, 11, 12, 13, 14, 15, 16, 17, 18, 19, 20, 21, 22, 23, 24, 25,
     26, 27, 28, 29, 30, 31,
@@ -25,7 +25,7 @@ fn text_of<'a>(buffer: &'a mut [u8; 70], digits: &[u8], end: &[u8]) -> &'a [u8] 
     &buffer[..digits_len + end_len]
 }
 
-// Why the text is no key.
+// The reason why the text is no key.
 fn refusal(text: &[u8]) -> Option<KeyError> {
     Key::read(text).err()
 }
@@ -84,7 +84,7 @@ fn other_texts_are_no_keys(rt: HostRuntime) {
 }
 
 #[test]
-fn refusals_say_nothing_of_the_key(rt: HostRuntime) -> Result<(), Fail> {
+fn refusals_reveal_nothing_of_the_key(rt: HostRuntime) -> Result<(), Fail> {
     let text = format!(in rt.alloc(); "{}, {}", KeyError::Length, KeyError::Digit)?;
     assert_eq!(rt;
         text.as_str(),

@@ -1,9 +1,10 @@
-//! Sealed links: what they send, take and refuse.
+//! Sealed links: the datagrams that they send, take and refuse.
 
 ghost use Rattle.std.specs.Prelude.{◌≡◌, ◌-◌, ◌^◌, None};
 
 use super::BYTES;
 use crate::tests::links::{CLIENT, HANDLER, fails, feeds, gets, has_faults, sends, tape};
+use scoop_free_ports::free_ports;
 use scoop_link::{Link, LinkFault, PacedLink, Party, Peers, TapeLink, UdpLink};
 use scoop_message::OutOfMemory;
 use scoop_message::limits::BUFFER_LEN;
@@ -50,7 +51,7 @@ fn bytes_are_sent_with_their_tag(rt: HostRuntime) {
     has_faults(&rt, &link, 0);
 }
 
-// Feeds the sealed bytes with each of their bits turned.
+// Feeds the sealed bytes with one bit turned, for each of their bits.
 fn feeds_turned(rt: &impl Abort, tape: &mut TapeLink) {
     let datagram = sealed_with(&KEY);
     for i in 0..42usize {
@@ -62,7 +63,7 @@ fn feeds_turned(rt: &impl Abort, tape: &mut TapeLink) {
     }
 }
 
-// The link receives such a datagram, and has refused so many in all then.
+// The link receives a datagram like this, and has then refused this number in all.
 fn gets_past(
     rt: &impl Abort,
     link: &mut SealedLink<TapeLink>,
@@ -87,12 +88,12 @@ fn each_bit_matters(rt: HostRuntime) {
     has_faults(&rt, &link, 0);
 }
 
-// Feeds so many of the first bytes.
+// Feeds the first bytes, up to this number.
 fn feeds_front(rt: &impl Abort, tape: &mut TapeLink, datagram: &[u8; 42], len: usize) {
     feeds(rt, tape, &datagram[..len.min(42)]);
 }
 
-// Feeds forged and cut datagrams, and last a sealed one, and one whose sealed bytes are none.
+// Feeds forged and cut datagrams, then a sealed one, and last one whose sealed bytes are none.
 fn feeds_forged(rt: &impl Abort, tape: &mut TapeLink) {
     let datagram = sealed_with(&KEY);
     feeds(rt, tape, &sealed_with(&OTHER_KEY));
@@ -246,7 +247,7 @@ fn paced(
     }
 }
 
-// Each of three datagrams is sent behind two forged ones.
+// Each of three datagrams is sent after two forged ones.
 fn sends_and_forges<L: Link>(rt: &impl Abort, sender: &mut L, forger: &mut UdpLink) {
     for _ in 0..3 {
         sends(rt, forger, CLIENT, &BYTES);
@@ -263,15 +264,17 @@ fn hears_no_forger(rt: &impl Abort, receiver: &mut SealedLink<UdpLink>) {
 }
 
 #[test]
-fn a_paced_and_sealed_socket_hears_no_forger(rt: HostRuntime) {
+fn a_paced_and_sealed_socket_hears_no_forger(rt: HostRuntime) -> Result<(), Fail> {
     let alloc = rt.alloc();
-    let mut sender = paced(&rt, alloc, sealed_udp(&rt, alloc, 47331, 47332));
-    let mut forger = udp(&rt, alloc, 47333, 47332);
-    let mut receiver = sealed_udp(&rt, alloc, 47332, 47331);
+    let [own, other, third] = free_ports::<_, 3>(&rt)?;
+    let mut sender = paced(&rt, alloc, sealed_udp(&rt, alloc, own, other));
+    let mut forger = udp(&rt, alloc, third, other);
+    let mut receiver = sealed_udp(&rt, alloc, other, own);
     sends_and_forges(&rt, &mut sender, &mut forger);
     hears_no_forger(&rt, &mut receiver);
     sends(&rt, &mut receiver, CLIENT, &[4; 30]);
     gets(&rt, &mut sender, Some((30, 4)));
+    Ok(())
 }
 
 /// The example of the crate.
@@ -288,7 +291,7 @@ fn a_seal_is_opened_by_the_key(rt: HostRuntime) -> Result<(), Fail> {
 
 // The example goes on, at the other end.
 fn opens(rt: &impl Abort, alloc: Global, key: Key, sealed: &[u8]) -> Result<(), Fail> {
-    // who has the key gets the bytes, and what came without their tag is passed over
+    // a holder of the key gets the bytes; a datagram without their tag is passed over
     let mut tape = TapeLink::new(alloc, 0)?;
     tape.feed(b"forged")?;
     tape.feed(sealed)?;

@@ -1,4 +1,4 @@
-//! What is heard, and when it is dropped.
+//! Hearing: the messages that a handler hears, and those that it drops.
 
 use super::{
     Act, Does, ELSEWHERE, HERE, Row, Said, answers, block, dropped, fresh, hears, opened, rests,
@@ -207,7 +207,7 @@ const BATCHES: [Row; 7] = [
     ),
 ];
 
-/// A batch that overlaps is taken in part, and nothing is taken behind an End.
+/// A handler takes an overlapping batch in part, and nothing after an End.
 #[test]
 fn batches(rt: HostRuntime) {
     let mut handler = opened(&rt, rt.alloc(), &[7]);
@@ -237,7 +237,7 @@ const ANEW: [Row; 5] = [
     (Act::Lock, 7, 2, 1, Said::Granted),
 ];
 
-/// A client starts anew: what was received of its block still runs, and nothing more is taken.
+/// A client starts anew: the received entries of its block still run, and no more are taken.
 #[test]
 fn a_client_starts_anew(rt: HostRuntime) {
     let mut handler = opened(&rt, rt.alloc(), &[7]);

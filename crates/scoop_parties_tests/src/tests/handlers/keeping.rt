@@ -84,14 +84,14 @@ fn a_handler_starts_anew(rt: HostRuntime) {
     has_word(&rt, &early, 0);
 }
 
-// The handler's job is lost, and gives its object back to the other's state.
+// The handler's job is lost, and returns its object to the other's state.
 fn loses(rt: &impl Abort, handler: &mut Handler<Table>, other: &Handler<Table>) {
     let lost = taken(rt, handler);
     resets(rt, handler, other, false);
     recalls(rt, handler, lost.into_object(), other, true);
 }
 
-/// A job that is lost gives its object back to any state, but its handler takes no other words before.
+/// A lost job returns its object to any state, but its handler takes no other words before.
 #[test]
 fn a_lost_job_is_recalled(rt: HostRuntime) {
     let (mut handler, late) = early_and_late(&rt, rt.alloc());
@@ -175,9 +175,9 @@ fn words_that_fit_no_object(rt: HostRuntime) {
 enum Marked {
     /// Client 7's block is open, and two of its entries were received.
     Open,
-    /// So, and its End was received.
+    /// The same, and its End was received.
     Over,
-    /// So, but with one entry more.
+    /// The same, but with one more entry.
     Ahead,
     /// Client 7's second block has come, and was freed.
     Moved,
@@ -185,17 +185,17 @@ enum Marked {
     Held,
     /// It was freed before it opened.
     Shut,
-    /// So, but with a received entry.
+    /// The same, but with a received entry.
     Early,
-    /// So, but with a received End.
+    /// The same, but with a received End.
     Ended,
-    /// So, but with an answer.
+    /// The same, but with an answer.
     Kept,
     /// It is open, without a private queue.
     Empty,
 }
 
-// A mark of a block of which nothing is received.
+// A mark of a block without received entries.
 fn fresh_mark(from: Block, stage: Stage) -> Mark {
     Mark {
         client: from.client,
@@ -277,7 +277,7 @@ fn holder(client: Option<u32>) -> Option<Block> {
     }
 }
 
-// What refuses a state of these parts.
+// The refusal of a state of these parts.
 fn refusal(alloc: Global, parts: Parts) -> Option<StateError> {
     let (client, first, second, queued) = parts;
     let marks = [mark(first), mark(second)];
@@ -311,7 +311,7 @@ const BAD: [Parts; 15] = [
 ];
 
 #[test]
-fn states_that_none_has(rt: HostRuntime) {
+fn impossible_states_are_refused(rt: HostRuntime) {
     let good = (Some(8), Marked::Open, Marked::Held, Queued::Open);
     assert_eq!(rt; refusal(rt.alloc(), good), None);
     for (row, parts) in BAD.iter().enumerate() {
@@ -337,7 +337,7 @@ fn with_marks(alloc: Global, marks: &[Mark]) -> Result<HandlerState, StateError>
     HandlerState::of(alloc, HERE, words, None, marks, QueueOfQueues::new(alloc))
 }
 
-// How many marks there are in a state with as many, and the last one.
+// The number of marks in a state with as many, and the last one.
 fn counted(alloc: Global, count: u32) -> Option<(usize, Option<Mark>)> {
     let state = with_marks(alloc, &marks(alloc, count)?).ok()?;
     Some((state.marks(), state.mark(63)))
@@ -354,7 +354,7 @@ fn a_state_has_64_marks(rt: HostRuntime) {
     assert_eq!(rt; marks_refusal(rt.alloc(), 65), Some(StateError::BadState));
 }
 
-// A state at which all numbers of a block but the last were received.
+// A state that has received all numbers of a block except the last.
 fn almost_full(alloc: Global) -> Option<HandlerState> {
     let from = block(7, 1, 1);
     let open = Mark {

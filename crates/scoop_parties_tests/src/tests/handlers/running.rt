@@ -1,4 +1,4 @@
-//! What runs and when, jobs, and the limits.
+//! Runs: their order, jobs, and the limits.
 
 use super::{
     Act, Does, HERE, Said, block, fresh, has_state, has_word, hears, hears_one, opened, opens, ran,
@@ -83,7 +83,7 @@ fn opens_as_many_queues_as_there_may_be(rt: HostRuntime) {
     assert_eq!(rt; MAX_QUEUES, 64);
 }
 
-// The handler hands back a job that is a stranger to it.
+// The handler returns a job that is a stranger to it.
 fn stranger(handler: &mut Handler<Table>, done: Done<Table>) -> Option<Done<Table>> {
     match handler.finish(done) {
         Ok(_) => None,
@@ -122,8 +122,8 @@ fn worked(rt: &impl Abort, handler: &mut Handler<Table>) -> Done<Table> {
     taken(rt, handler).work()
 }
 
-/// A handler starts anew from its stored state while a job is out: the old job is a stranger there, and
-/// its entry runs again.
+/// A handler starts anew from its stored state while a job is out. The old job is a stranger there, and its entry
+/// runs again.
 #[test]
 fn a_restart_loses_no_job(rt: HostRuntime) {
     let query = Act::Log(1, Does::Ask(1), Does::Nothing);
@@ -166,7 +166,7 @@ fn after<B: Behaviour>(handler: &Handler<B>, done: &Done<B>) -> Option<HandlerSt
     handler.after_finish(done).ok()
 }
 
-// The handler finishes the job, and has the state that was foretold.
+// The handler finishes the job, and has the state that `after_finish` gave.
 fn finishes_as_told(rt: &impl Abort, handler: &mut Handler<Table>, done: Done<Table>) {
     let Some(told) = after(handler, &done) else {
         panic!(rt; "no state is told");

@@ -2,7 +2,7 @@ use Rattle.std.proofs.Common.{◌≡◌, ◌++◌}
 use Rattle.scoop_queue.specs.Kept.{queues_kept}
 use Rattle.scoop_queue.proofs.table.copied.Given as goal
 
--- what is copied and what is left are all
+-- the copied queues and those that are left are all
 abbrev pub invariant-loop-key : goal.invariant-loop-key
 invariant-loop-key g l =
     (goal.iterator-loop-key g).can_next l.key-iterator

@@ -1,4 +1,4 @@
--- A thread may give a block back to it where it may give one back to the inner allocator.
+-- A thread may give a block back to it if it may give one back to the inner allocator.
 use mir.Syntax.{Dict}
 use denote.RattleType.{RattleType}
 use denote.Param.Send.{Frees}

@@ -1,4 +1,4 @@
--- It refuses, or answers what the inner allocator answers. Assumes `Logic`.
+-- It refuses, or returns the inner allocator's result. Assumes `Logic`.
 use Rattle.std.proofs.Common.{◌≡◌, Bool, ℕ, ◌+◌, ◌^◌, ◌<◌, true, false, List, [], ◌∷◌, Ok, Err, refl, w64, Bor}
 use seplogic.Ra.Ura.{Ura}
 use mir.Syntax.{Ty, Args, Fn, a_type, dnil, dcons}

@@ -3,7 +3,7 @@ use Rattle.scoop_runtime.specs.Texts.{awaited_text}
 use Rattle.scoop_runtime.proofs.Writing.{appends_behind}
 use Rattle.scoop_runtime.proofs.waiting_link.print_waiting.Goals as goal
 
--- the handlers behind the first words
+-- the handlers after the first words
 pub returns : goal.returns
 returns g c =
     appends_behind c.print_awaited.result _ _ _ (codes "scoop: waiting for handlers") (awaited_text c.args.is_greeting c.args.handlers.now)

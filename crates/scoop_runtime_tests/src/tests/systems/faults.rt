@@ -9,7 +9,7 @@ const FAULTS: [(&str, &str); 40] = [
     ("nodes = 1", "unknown key \"nodes\""),
     (
         "[node]\nnumber = 1",
-        "node is no list: a node is written [[node]], not [node]",
+        "node must be a list: a node is written [[node]], not [node]",
     ),
     ("node = [1]", "[[node]] 1: not a table"),
     (
@@ -22,56 +22,56 @@ const FAULTS: [(&str, &str); 40] = [
     ),
     (
         "[[node]]\nnumber = -1",
-        "[[node]] 1: number is no whole number from 0 to 4294967295",
+        "[[node]] 1: number must be a whole number from 0 to 4294967295",
     ),
     ("[[node]]\nnumber = 1", "node 1: no address"),
     (
         "[[node]]\nnumber = 1\naddress = \"127.0.0.1:0\"",
-        "node 1: address is no IP address with a port from 1 to 65535",
+        "node 1: address must be an IP address with a port from 1 to 65535",
     ),
     (
         "[[node]]\nnumber = 1\naddress = \"localhost:1\"",
-        "node 1: address is no IP address with a port from 1 to 65535",
+        "node 1: address must be an IP address with a port from 1 to 65535",
     ),
     (
         "node = [{number = 1, address = \"127.0.0.1:1\"}, {number = 1, address = \"[::1]:1\"}]",
-        "node 1: twice",
+        "node 1: defined twice",
     ),
     (
         "node = [{number = 1, address = \"127.0.0.1:1\"}, {number = 2, address = \"[::1]:1\"}]",
-        "node 2: address is of another family, IPv4 or IPv6, than the first one",
+        "node 2: address must have the same family, IPv4 or IPv6, as the first one",
     ),
     (
         "node = [{number = 1, address = \"[::1]:1\"}]\nclient = [{number = 7, address = \"127.0.0.1:1\"}]",
-        "client 7: address is of another family, IPv4 or IPv6, than the first one",
+        "client 7: address must have the same family, IPv4 or IPv6, as the first one",
     ),
     (
         "node = [{number = 1, address = \"127.0.0.1:1\"}, {number = 2, address = \"127.0.0.1:1\"}]",
-        "node 2: address is that of node 1",
+        "node 2: address is already used by node 1",
     ),
     (
         "client = [{number = 8, address = \"[::1]:1\"}]\nnode = [{number = 1, address = \"[::1]:2\"}, {number = 3, address = \"[0:0::1]:1\"}]",
-        "client 8: address is that of node 3",
+        "client 8: address is already used by node 3",
     ),
     (
         "client = [{number = 7, address = \"127.0.0.1:1\"}, {number = 8, address = \"127.0.0.1:1\"}]",
-        "client 8: address is that of client 7",
+        "client 8: address is already used by client 7",
     ),
     (
         "client = [{number = 7, address = \"127.0.0.1:1\", batch = 5}]",
-        "client 7: batch is no whole number from 1 to 4",
+        "client 7: batch must be a whole number from 1 to 4",
     ),
     (
         "client = [{number = 7, address = \"127.0.0.1:1\"}, {number = 7, address = \"127.0.0.1:2\"}]",
-        "client 7: twice",
+        "client 7: defined twice",
     ),
     (
         "handler = [{number = 2, node = 1, class = \"cell\", words = []}]",
-        "handler 2: words are not 1 to 16 whole numbers below 2^64",
+        "handler 2: words must be a list of 1 to 16 whole numbers below 2^64",
     ),
     (
         "handler = [{number = 2, node = 1, class = \"cell\", words = [\"18446744073709551616\"]}]",
-        "handler 2: words are not 1 to 16 whole numbers below 2^64",
+        "handler 2: words must be a list of 1 to 16 whole numbers below 2^64",
     ),
     (
         "handler = [{number = 2, node = 1, class = \"cell\", words = [0]}]",
@@ -83,32 +83,32 @@ const FAULTS: [(&str, &str); 40] = [
     ),
     (
         "handler = [{number = 2, node = 1, class = \"cell\", words = [0, 1]}]\nnode = [{number = 1, address = \"127.0.0.1:1\"}]",
-        "handler 2: 2 words in place of 1",
+        "handler 2: 2 words instead of 1",
     ),
     (
         "class = [{name = \"1st\", words = 1}]",
-        "[[class]] 1: name is not 1 to 32 letters, digits, _ and -, a letter first",
+        "[[class]] 1: name must be 1 to 32 letters, digits, _ or -, beginning with a letter",
     ),
     ("class = [{name = \"a\"}]", "class \"a\": no words"),
     (
         "class = [{name = \"a\", words = 17}]",
-        "class \"a\": words is no whole number from 1 to 16",
+        "class \"a\": words must be a whole number from 1 to 16",
     ),
     (
         "class = [{name = \"cell\", words = 1}]",
-        "class \"cell\": the name of a class that every system has",
+        "class \"cell\": every system already has a class of this name",
     ),
     (
         "class = [{name = \"a\", words = 1}, {name = \"a\", words = 2}]",
-        "class \"a\": twice",
+        "class \"a\": defined twice",
     ),
     (
         "[[class]]\nname = \"a\"\nwords = 1\n[class.operation]\nnumber = 1",
-        "class \"a\": operation is no list: an operation is written [[class.operation]], not [class.operation]",
+        "class \"a\": operation must be a list: an operation is written [[class.operation]], not [class.operation]",
     ),
     (
         "class = [{name = \"a\", words = 1, operation = [{number = 1, name = \"b\", writes = 1, answer = \"0\"}]}]",
-        "operation 1 of class \"a\": writes is no list",
+        "operation 1 of class \"a\": writes must be a list",
     ),
     (
         "class = [{name = \"a\", words = 1, operation = [{name = \"b\", answer = \"w0\"}]}]",
@@ -120,39 +120,39 @@ const FAULTS: [(&str, &str); 40] = [
     ),
     (
         "class = [{name = \"a\", words = 1, operation = [{number = 1, name = \"b\", answer = \"a4\"}]}]",
-        "operation 1 of class \"a\": a4 is no argument",
+        "operation 1 of class \"a\": a4 is not an argument",
     ),
     (
         "class = [{name = \"a\", words = 1, operation = [{number = 1, name = \"b\", answer = \"w1\"}]}]",
-        "operation 1 of class \"a\": w1 is no word",
+        "operation 1 of class \"a\": w1 is not a word",
     ),
     (
         "class = [{name = \"a\", words = 1, operation = [{number = 1, name = \"b\", answer = \"x\"}]}]",
-        "operation 1 of class \"a\": \"x\" is no term",
+        "operation 1 of class \"a\": \"x\" is not a term",
     ),
     (
         "class = [{name = \"a\", words = 1, operation = [{number = 1, name = \"b\", answer = 5}]}]",
-        "operation 1 of class \"a\": a term is no text: write it in quotes",
+        "operation 1 of class \"a\": a term must be text: write it in quotes",
     ),
     (
         "class = [{name = \"a\", words = 1, operation = [{number = 1, name = \"b\", test = [\"a0\"], answer = \"0\"}]}]",
-        "operation 1 of class \"a\": test is no list of two terms",
+        "operation 1 of class \"a\": test must be a list of two terms",
     ),
     (
         "class = [{name = \"a\", words = 1, operation = [{number = 1, name = \"b\", writes = [[\"a0\", \"0\", \"0\", \"0\"]], answer = \"0\"}]}]",
-        "operation 1 of class \"a\": a write is no list of a word and three terms",
+        "operation 1 of class \"a\": a write must be a list of a word and three terms",
     ),
     (
         "class = [{name = \"a\", words = 1, operation = [{number = 1, name = \"b\", writes = [[\"w0\", \"0\", \"0\", \"0\"], [\"w0\", \"1\", \"0\", \"0\"]], answer = \"0\"}]}]",
-        "operation 1 of class \"a\": w0 written twice",
+        "operation 1 of class \"a\": w0 is written twice",
     ),
     (
         "class = [{name = \"a\", words = 1, operation = [{number = 1, name = \"b\", answer = \"w0\"}, {number = 1, name = \"c\", answer = \"w0\"}]}]",
-        "operation 1 of class \"a\": twice",
+        "operation 1 of class \"a\": defined twice",
     ),
     (
         "class = [{name = \"a\", words = 1, operation = [{number = 1, name = \"b\", answer = \"w0\"}, {number = 2, name = \"b\", answer = \"w0\"}]}]",
-        "operation 2 of class \"a\": name \"b\" twice",
+        "operation 2 of class \"a\": name \"b\" is used twice",
     ),
 ];
 

@@ -1,4 +1,4 @@
-//! What a line asks of a client.
+//! Lines of a client.
 
 use super::SYSTEM;
 use scoop_message::{Args, HandlerId, Request};
@@ -86,7 +86,7 @@ fn waits_for_a_balance(rt: &impl Abort, system: &System) -> Result<(), Fail> {
 }
 
 #[test]
-fn a_condition_stands_behind_when(rt: HostRuntime) -> Result<(), Fail> {
+fn a_condition_stands_after_when(rt: HostRuntime) -> Result<(), Fail> {
     let system = System::read(rt.alloc(), SYSTEM)?;
     waits_for_a_balance(&rt, &system)
 }

@@ -1,6 +1,6 @@
 use Rattle.std.proofs.Common.{◌++◌, take, refl, ap, ◌∙◌}
 use Rattle.std.proofs.lemmas.List.{take_all, take_more}
-use Rattle.scoop_running.specs.Clients.{sends_to}
+use Rattle.scoop_weave.specs.ClientSteps.{sends_to}
 use Rattle.scoop_weaver.proofs.Anew.{passed, next_send}
 use Rattle.scoop_weaver.proofs.driving.note_sends.Goals as goal
 

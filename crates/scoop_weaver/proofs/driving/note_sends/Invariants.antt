@@ -1,6 +1,6 @@
--- What was sent so far.
+-- The sends so far are noted.
 use Rattle.std.proofs.Common.{◌≡◌, ◌++◌, take}
-use Rattle.scoop_running.specs.Clients.{sends_to}
+use Rattle.scoop_weave.specs.ClientSteps.{sends_to}
 use Rattle.scoop_weaver.proofs.Anew.{passed}
 use Rattle.scoop_weaver.proofs.driving.note_sends.Given as goal
 

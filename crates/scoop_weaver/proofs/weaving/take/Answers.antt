@@ -1,6 +1,6 @@
 use Rattle.std.proofs.Common.{◌≡◌, ◌<◌, Some, slice_get, sym, subst, ◌+◌, set}
 use Rattle.std.specs.Prelude.{slice_index}
-use Rattle.scoop_running.specs.Order.{party_at}
+use Rattle.scoop_weave.specs.Order.{party_at}
 use Rattle.scoop_weaver.specs.Weaving.{IsReady, IsRun}
 use Rattle.scoop_weaver.proofs.Taking.{left_less, next_there, run_more}
 use Rattle.scoop_weaver.proofs.weaving.take.Goals as goal

@@ -1,4 +1,4 @@
--- What was taken so far is a run, and with each move fewer are left.
+-- The moves taken so far are a run, and each move leaves fewer.
 use Rattle.scoop_weaver.specs.Weaving.{IsRun, left}
 use Rattle.scoop_weaver.proofs.weaving.weave.Given as goal
 

@@ -1,4 +1,4 @@
-//! What the run must contain, and how often each came.
+//! The things that the run must contain, with their counts.
 
 use scoop_client::ClientError;
 use scoop_reserve::ReserveError;
@@ -19,7 +19,7 @@ pub enum Thing {
     OldMessageDropped,
     /// A Log of several entries is taken.
     Batch,
-    /// A Log is taken of which some entries have come before.
+    /// A Log is taken, and some of its entries have come before.
     Overlap,
     Accepted,
     NoSuchMessage,
@@ -40,7 +40,7 @@ pub enum Thing {
     Unknown,
 }
 
-/// How many there are.
+/// The number of these things.
 const THINGS: usize = Thing::Unknown as usize + 1;
 
 fn of_reserve(error: ReserveError) -> Option<Thing> {
@@ -67,7 +67,7 @@ fn of_client(error: ClientError) -> Option<Thing> {
     }
 }
 
-/// The name of a refusal, `None` of one that doesn't come here.
+/// The name of a refusal, `None` if it doesn't come here.
 pub fn of_refusal(error: WorldError) -> Option<Thing> {
     match error {
         WorldError::NoSuchMessage => Some(Thing::NoSuchMessage),
@@ -79,7 +79,7 @@ pub fn of_refusal(error: WorldError) -> Option<Thing> {
     }
 }
 
-/// How often each thing came.
+/// The count of each thing.
 #[derive(Drop)]
 pub struct Counts {
     found: [u64; THINGS],

@@ -42,7 +42,7 @@ fn writing(rt: &impl Abort, op: u16, base: Term, plus: Term, minus: Term) -> OpR
     row(rt, op, &[write])
 }
 
-// An operation that takes the argument from the word, where it isn't greater.
+// An operation that takes the argument from the word, if the word isn't less.
 fn withdrawing(rt: &impl Abort, op: u16) -> OpRow {
     OpRow {
         test: Some((ARGUMENT, WORD)),
@@ -61,7 +61,7 @@ pub fn class(rt: &impl Abort, alloc: Global, handler: HandlerId) -> Class {
     }
 }
 
-// What a request with an argument makes of the word, `None` where it is refused.
+// The word after a request with an argument; `None` if it is refused.
 fn changed(handler: HandlerId, word: u64, op: u16, argument: u64) -> Option<u64> {
     match (handler, op) {
         (CELL, 1) => Some(argument),
@@ -71,7 +71,7 @@ fn changed(handler: HandlerId, word: u64, op: u16, argument: u64) -> Option<u64>
     }
 }
 
-// What a request makes of the word, `None` where it is refused.
+// The word after a request; `None` if it is refused.
 fn answered(handler: HandlerId, word: u64, request: &Request) -> Option<u64> {
     match (handler, request.op) {
         (CELL | COUNTER, 2) | (ACCOUNT, 3) => Some(word),
@@ -79,7 +79,7 @@ fn answered(handler: HandlerId, word: u64, request: &Request) -> Option<u64> {
     }
 }
 
-/// The word after an entry, and what the entry answers.
+/// The word after an entry, and the entry's answer.
 pub fn effect(handler: HandlerId, word: u64, entry: &Entry) -> (u64, Option<Answer>) {
     match entry {
         Entry::Call(request) | Entry::Query(request) => {

@@ -10,7 +10,7 @@ use scoop_world::{Placement, World, WorldOpenError};
 use std::alloc::Global;
 use std::process::Abort;
 
-/// A heap that refuses the growth that it is told to.
+/// A heap that refuses the growth that the run chooses.
 pub type Heap<'a> = &'a Refusing<Global>;
 
 pub const HANDLERS: [HandlerId; 3] = [CELL, COUNTER, ACCOUNT];

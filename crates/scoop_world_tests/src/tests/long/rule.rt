@@ -7,7 +7,7 @@ use scoop_client::{ClientError, ClientNote};
 use scoop_message::{Args, ClientId, HandlerId, Request};
 use scoop_world::{Command, Event, HandlerList, WorldError, WorldNote};
 
-/// What an event told.
+/// The outcome of an event.
 pub type Told = Result<WorldNote, WorldError>;
 
 /// Numbers that look random and are the same in each run.
@@ -42,7 +42,7 @@ pub struct Burst {
     left: u32,
 }
 
-/// What the rule knows of the run.
+/// The rule's knowledge of the run.
 #[derive(Drop)]
 pub struct Rule {
     dice: Dice,
@@ -134,7 +134,7 @@ impl Rule {
         }
     }
 
-    // Any event, now and then one that has to be refused.
+    // Any event, now and then one that the world must refuse.
     fn any(&mut self, sent: usize) -> Option<Event> {
         match self.dice.roll(200) {
             0 => Some(self.restart()),
@@ -158,7 +158,7 @@ impl Rule {
         Some(Event::Do(burst.client, command))
     }
 
-    /// What a client has heard may make it log many calls.
+    /// A message to a client may make it log many calls.
     pub fn hears(&mut self, client: ClientId, note: ClientNote) {
         self.hearer = Some(client);
         if let ClientNote::Unlocked(handler) = note {
@@ -172,8 +172,8 @@ impl Rule {
         }
     }
 
-    // What mostly comes behind an event that happened: a message that was sent is taken, what has begun is
-    // finished, and a client goes on.
+    // The usual event after one that happened: the receiver takes the new message, the begun job is finished, and
+    // a client goes on.
     fn behind(&mut self, event: Event, note: WorldNote) -> Option<Event> {
         match (event, note) {
             (_, WorldNote::Sent(place)) => Some(Event::Take(place)),
@@ -189,7 +189,7 @@ impl Rule {
         }
     }
 
-    // What mostly comes behind a command that the client refused.
+    // The usual event after a command that the client refused.
     fn behind_refusal(&mut self, event: Event, error: ClientError) -> Option<Event> {
         let Event::Do(client, _) = event else {
             return None;
@@ -200,7 +200,7 @@ impl Rule {
         }
     }
 
-    // What comes behind the last event, three times out of four.
+    // The event after the last one, three times out of four.
     fn next_behind(&mut self, event: Event, told: Told) -> Option<Event> {
         if self.dice.roll(4) == 0 {
             return None;
@@ -212,7 +212,7 @@ impl Rule {
         }
     }
 
-    // What comes behind a message that the client has heard.
+    // The event after a message that the client has heard.
     fn next_of(&mut self, client: ClientId) -> Option<Event> {
         match self.dice.roll(4) {
             0..=1 => Some(Event::Tick(client, self.handler())),
@@ -221,7 +221,7 @@ impl Rule {
         }
     }
 
-    /// The next event, behind one that told this, where so many messages were sent.
+    /// The next event, after one with this outcome and this number of sent messages.
     pub fn next(&mut self, last: Option<(Event, Told)>, sent: usize) -> Option<Event> {
         if self.burst.is_some() {
             return self.burst_event();

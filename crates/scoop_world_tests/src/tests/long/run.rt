@@ -14,13 +14,13 @@ use scoop_world::{Event, World, WorldError, WorldNote};
 use std::alloc::Global;
 use std::process::Abort;
 
-/// How many events the run has.
+/// The number of events of the run.
 const EVENTS: u32 = 20_000;
 
-/// After so many events the run's world is let settle.
+/// After this number of events the run's world settles.
 const PLACES: [u32; 5] = [137, 1_000, 4_321, 9_999, EVENTS];
 
-/// Messages that were sent before so many others are old.
+/// A message is old once this number of others was sent.
 const OLD: usize = 200;
 
 /// A world that is watched.
@@ -33,7 +33,7 @@ struct Run<'a> {
     counts: Counts,
     // The block of the job that is out at handler 1, 2 and 3.
     out: [Option<Block>; 3],
-    // The last event and what it told.
+    // The last event and its outcome.
     last: Option<(Event, Told)>,
 }
 
@@ -45,7 +45,7 @@ fn stepped<'a>(world: &mut World<Table, Heap<'a>>, event: Event) -> Told {
     world.step(event)
 }
 
-// What an event that told this has added to the lists.
+// The items that an event with this outcome has added to the lists.
 fn wanted(told: Told) -> Grown {
     let mut grown = Grown::default();
     match told {
@@ -110,7 +110,7 @@ impl<'a> Run<'a> {
         }
     }
 
-    // A Log was taken, of whose block so many entries had been received.
+    // A Log was taken, when this number of entries of its block had been received.
     fn count_log(&mut self, message: &Message, received: u32) {
         let Message::Log(_, _, number, entries) = *message else {
             return;
@@ -139,7 +139,7 @@ impl<'a> Run<'a> {
         }
     }
 
-    // A message has come, when so many were sent and so many entries of its block received.
+    // A message has come, with these numbers of sent messages and of its block's received entries.
     fn count_message(
         &mut self,
         place: usize,
@@ -169,7 +169,7 @@ impl<'a> Run<'a> {
         Ok(())
     }
 
-    // An event told this, when so many messages were sent and so many entries of its block received.
+    // An event has this outcome, with these numbers of sent messages and of its block's received entries.
     fn count(&mut self, event: Event, told: Told, sent: usize, received: u32) -> Result<(), Fault> {
         let note = match told {
             Ok(note) => note,
@@ -188,7 +188,7 @@ impl<'a> Run<'a> {
         Ok(())
     }
 
-    // How many entries the receiver of the message at this place has told to have of its block.
+    // The number of its block's entries that the receiver of the message at this place has acknowledged.
     fn received(&self, event: Event) -> u32 {
         let Event::Take(place) = event else {
             return 0;
@@ -199,7 +199,7 @@ impl<'a> Run<'a> {
         }
     }
 
-    // One event, without memory or with all that it asks for.
+    // One event, without memory or with all that it needs.
     fn takes(&mut self, event: Event, without: bool) -> Result<(), Fault> {
         let (sent, received) = (self.watch.sent(), self.received(event));
         self.heap.refuse(u64::from(without));
@@ -222,7 +222,8 @@ impl<'a> Run<'a> {
         Ok(())
     }
 
-    // The next event by the rule. Every tenth has no memory, and after every hundredth everything is looked at.
+    // The next event by the rule. Every tenth has no memory, and every hundredth is followed by a look at
+    // everything.
     fn goes_on(&mut self, rt: &impl Abort, alloc: Global, number: u32) -> Result<(), Fault> {
         let next = self.rule.next(self.last, self.watch.sent());
         let event = next.ok_or("the rule has no event")?;
@@ -233,7 +234,7 @@ impl<'a> Run<'a> {
         Ok(())
     }
 
-    // So many events.
+    // Takes this number of events.
     fn takes_all(&mut self, rt: &impl Abort, alloc: Global, count: u32) {
         for number in 0..count {
             if let Err(fault) = self.goes_on(rt, alloc, number) {
@@ -243,10 +244,10 @@ impl<'a> Run<'a> {
     }
 }
 
-// What a run shows behind its last event.
+// A run's tests after its last event.
 #[derive(Clone, Copy)]
 enum End {
-    // Everything has come that it must contain.
+    // Everything has come that the run must contain.
     IsFull,
     // Its world settles.
     Settles,
@@ -259,7 +260,7 @@ fn ends(rt: &impl Abort, run: &mut Run, end: End) {
     }
 }
 
-// A run of so many events.
+// A run of this number of events.
 fn runs(rt: &impl Abort, alloc: Global, count: u32, end: End) {
     let owner = Refusing::new(alloc, 0);
     let mut run = Run::new(rt, alloc, &owner);

@@ -1,4 +1,4 @@
-//! What is watched: plain lists of what has happened so far, and the rules that each new item has to keep.
+//! The watch over a world: plain lists of its past, and the rules that each new item has to keep.
 
 mod party;
 mod site;
@@ -15,7 +15,7 @@ use std::process::Abort;
 /// Which rule was broken.
 pub type Fault = &'static str;
 
-/// What has happened so far.
+/// The past of a world.
 #[derive(Drop)]
 pub struct Watch {
     joint: Vec<Block>,
@@ -24,7 +24,7 @@ pub struct Watch {
     sent: usize,
 }
 
-/// How many items have come to the lists.
+/// The number of items that have come to the lists.
 #[derive(Clone, Copy, Default, PartialEq, Eq)]
 pub struct Grown {
     pub opened: usize,
@@ -50,8 +50,8 @@ fn last_of<T: Copy>(list: &[T]) -> Option<T> {
     list.get(list.len().checked_sub(1)?).copied()
 }
 
-// The item that has come to a list. No other has come, and none has gone; of those before, the last one is
-// looked at.
+// Notes the item that has come to a list. No other has come, and none has gone; of the older ones, only the last
+// is compared.
 fn newest<T: PartialEq + Copy>(old: &[T], new: &[T]) -> Result<Option<T>, Fault> {
     let before = new.get(..old.len()).ok_or("an item has gone")?;
     let more = new.get(old.len()..).ok_or("an item has gone")?;
@@ -70,7 +70,7 @@ fn join(joint: &mut Vec<Block>, block: Block) -> Result<(), Fault> {
 }
 
 impl Watch {
-    /// Nothing has happened.
+    /// The empty past.
     pub fn new(rt: &impl Abort, alloc: Global) -> Watch {
         let mut watch = Watch {
             joint: Vec::new(alloc),
@@ -91,13 +91,13 @@ impl Watch {
         }
     }
 
-    /// How many messages were sent.
+    /// The number of sent messages.
     pub fn sent(&self) -> usize {
         self.sent
     }
 
-    /// How many entries the message's handler has told to have of the message's block, 0 where it names no
-    /// block or is for a client.
+    /// The number of entries of the message's block that its handler has acknowledged, 0 if it names no block or
+    /// is for a client.
     pub fn received(&self, message: &Message) -> u32 {
         let Message::Log(handler, block, _, _) = *message else {
             return 0;
@@ -110,7 +110,7 @@ impl Watch {
         0
     }
 
-    // What a message that was sent tells of its handler.
+    // Notes the facts of its handler that a sent message shows.
     fn note_message(&mut self, message: &Message) -> Result<(), Fault> {
         for site in &mut self.sites {
             site.note_message(message)?;
@@ -118,7 +118,7 @@ impl Watch {
         Ok(())
     }
 
-    // Notes the messages that were sent since: how many.
+    // Notes the messages sent since, and returns their number.
     fn see_messages<A: Allocator + Copy>(
         &mut self,
         world: &World<Table, A>,
@@ -145,7 +145,7 @@ impl Watch {
         }
     }
 
-    /// What has come since, of each list at most one item: it keeps the rules.
+    /// Notes the items that have come since, at most one of each list; each keeps the rules.
     pub fn see<A: Allocator + Copy>(&mut self, world: &World<Table, A>) -> Result<Grown, Fault> {
         let mut grown = Grown::default();
         let joint = self.joint.len();
@@ -165,7 +165,7 @@ impl Watch {
         Ok(grown)
     }
 
-    // All that has happened in the world: each item keeps the rules.
+    // The whole past of the world: each item keeps the rules.
     fn see_all<A: Allocator + Copy>(&mut self, world: &World<Table, A>) -> Result<(), Fault> {
         for block in world.joint() {
             join(&mut self.joint, *block)?;
@@ -180,7 +180,7 @@ impl Watch {
         Ok(())
     }
 
-    /// All that has happened in the world from its beginning: each item keeps the rules, and it is what was watched.
+    /// The whole past of the world from its beginning: each item keeps the rules, and the watch had noted it.
     pub fn looks_back<A: Allocator + Copy>(
         &self,
         rt: &impl Abort,
@@ -194,7 +194,7 @@ impl Watch {
         }
     }
 
-    // Whether the same has happened.
+    // Whether both pasts are the same.
     fn same(&self, other: &Watch) -> bool {
         if self.joint.as_slice() != other.joint.as_slice() || self.sent != other.sent {
             return false;

@@ -1,4 +1,4 @@
-//! What is done in a world of cells, and what it tells, as rows.
+//! Acts in a world of cells, with their outcomes, as rows.
 
 use super::cells::{GET, SET};
 use scoop_client::ClientNote;
@@ -8,7 +8,7 @@ use scoop_object::Table;
 use scoop_world::{Command, Event, HandlerList, World, WorldError, WorldNote};
 use std::process::Abort;
 
-/// What is done in a world.
+/// An act in a world.
 #[derive(Clone, Copy)]
 pub enum Act {
     /// The client reserves one handler.
@@ -27,7 +27,8 @@ pub enum Act {
     Finish(u32),
     RestartClient(u32),
     RestartNode(u32),
-    /// The client sends the handler what it owes; the handler hears it, and the client the reply.
+    /// The client sends the message that it owes the handler; the handler hears it, and the client hears the
+    /// reply.
     Trip(u32, u32),
 }
 
@@ -39,16 +40,16 @@ pub enum Item {
     End,
 }
 
-/// An entry that has run, with its number in client 7's first block and what it answered.
+/// An entry that has run, with its number in client 7's first block and its answer.
 pub type Done = (u32, Item, Option<u64>);
 
-/// What an act tells. A handler is told by its number.
+/// The outcome of an act, with handlers by their numbers.
 #[derive(Clone, Copy)]
 pub enum Told {
     Done,
     Silent,
     Sent(usize),
-    /// What a handler did, with the place of its reply.
+    /// The handler's note, with the place of its reply.
     Replied(Note, usize),
     Dropped(Reason),
     Welcomed(u32),
@@ -68,7 +69,7 @@ pub enum Told {
     Refused(WorldError),
 }
 
-/// An act, and what it tells.
+/// An act, and its outcome.
 pub type Row = (Act, Told);
 
 /// The first block of the client's first incarnation.
@@ -127,7 +128,7 @@ fn does(client: u32, command: Command) -> Event {
     Event::Do(ClientId(client), command)
 }
 
-/// The event of an act, of a trip the first one.
+/// The event of an act; of a trip the first one.
 fn event(rt: &impl Abort, act: Act) -> Event {
     match act {
         Act::Reserve(client, handler) => does(client, reserve(rt, &[HandlerId(handler)])),
@@ -155,7 +156,7 @@ fn stepped(world: &mut World<Table>, event: Event) -> Result<WorldNote, WorldErr
     world.step(event)
 }
 
-/// What comes of a message that was sent, once its receiver has it, and the sender the reply.
+/// Takes a sent message at its receiver, and the reply at the sender.
 fn arrived(world: &mut World<Table>, sent: WorldNote) -> Result<WorldNote, WorldError> {
     let WorldNote::Sent(place) = sent else {
         return Ok(sent);
@@ -166,7 +167,7 @@ fn arrived(world: &mut World<Table>, sent: WorldNote) -> Result<WorldNote, World
     }
 }
 
-/// What an act tells, of a trip its last event.
+/// The outcome of an act; of a trip that of its last event.
 fn tells(rt: &impl Abort, world: &mut World<Table>, act: Act) -> Result<WorldNote, WorldError> {
     match (act, stepped(world, event(rt, act))) {
         (Act::Trip(_, _), Ok(sent)) => arrived(world, sent),
@@ -207,7 +208,7 @@ fn wanted(rt: &impl Abort, told: Told) -> Result<WorldNote, WorldError> {
     })
 }
 
-/// The acts tell this, one after another.
+/// The acts have these outcomes, one after another.
 pub fn plays(rt: &impl Abort, world: &mut World<Table>, rows: &[Row]) {
     for (number, (act, told)) in rows.iter().enumerate() {
         assert_eq!(rt; tells(rt, world, *act), wanted(rt, *told), "row {number}");
@@ -219,7 +220,8 @@ fn add(rt: &impl Abort, events: &mut Vec<Event>, event: Event) {
     assert!(rt; events.push(event).is_ok());
 }
 
-/// Adds the events of an act behind so many sent messages: how many are sent then. A trip is its three events.
+/// Adds the events of an act, after this number of sent messages, and returns the number sent afterwards. A trip
+/// is three events.
 fn add_act(rt: &impl Abort, events: &mut Vec<Event>, row: Row, sent: usize) -> usize {
     add(rt, events, event(rt, row.0));
     match row {

@@ -1,5 +1,5 @@
-//! Cells, and worlds of them. What can't be made ends the test, so that nothing that is owned here is dropped on a
-//! way out. No helper has a contract, so that the tests' own proofs see nothing of the contracts of a world.
+//! Cells, and worlds of them. A failure to make one ends the test, so no early return drops an owned value. No
+//! helper has a contract, so the tests' own proofs see nothing of a world's contracts.
 
 ghost use Rattle.std.specs.Prelude.{◌≤◌};
 ghost use Rattle.std.specs.List.{All};
@@ -15,10 +15,10 @@ use std::process::Abort;
 /// Makes the word the argument.
 pub const SET: u16 = 1;
 
-/// Answers the word.
+/// Returns the word.
 pub const GET: u16 = 2;
 
-/// Handlers from this number on are placed with a class that isn't their object's.
+/// Handlers from this number on are placed with a class other than their object's.
 pub const STRANGE: u32 = 100;
 
 /// The handlers and clients of a world, and the last incarnation of client 7.
@@ -135,7 +135,7 @@ fn keeper(rt: &impl Abort, alloc: Global, inc: u32) -> MemoryKeeper {
     }
 }
 
-/// How a world of these parties opens.
+/// The result of opening a world with these parties.
 pub fn opens(
     rt: &impl Abort,
     alloc: Global,

@@ -1,4 +1,4 @@
-//! What is read of a world of cells.
+//! Reads of a world of cells.
 
 use super::acts::{Done, Item, entry, first, ran};
 use scoop_handler::Ran;
@@ -10,18 +10,18 @@ use std::process::Abort;
 /// An accepted answer: handler, block, the query's number, and the answer.
 pub type Accepted = (HandlerId, Block, u32, Answer);
 
-/// What is read, and what it is. A block is told by its client, whose first one it is.
+/// A read, and its result. A block is the first one of its client, and is named by the client.
 #[derive(Clone, Copy)]
 pub enum Look<'a> {
     /// The common list.
     Joint(&'a [u32]),
     /// The blocks that have opened at the handler.
     Opened(u32, Option<&'a [u32]>),
-    /// What the block has logged for the handler.
+    /// The entries that the block has logged for the handler.
     Logged(u32, u32, Option<&'a [Item]>),
-    /// What has run at the handler.
+    /// The entries that have run at the handler.
     Ran(u32, Option<&'a [Done]>),
-    /// What the client has accepted.
+    /// The answers that the client has accepted.
     Accepted(u32, Option<&'a [Accepted]>),
     /// The message of this place.
     Sent(usize, Option<Message>),
@@ -102,7 +102,7 @@ fn holds(rt: &impl Abort, world: &World<Table>, look: &Look) -> bool {
     }
 }
 
-/// This is read of the world.
+/// A read of the world has this result.
 pub fn reads(rt: &impl Abort, world: &World<Table>, looks: &[Look]) {
     for (number, look) in looks.iter().enumerate() {
         assert!(rt; holds(rt, world, look), "look {number}");

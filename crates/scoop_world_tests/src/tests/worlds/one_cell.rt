@@ -1,4 +1,4 @@
-//! One block at one cell, and what is read of it.
+//! One block at one cell, and the reads of it.
 
 use super::acts::{Act, Item, Row, Told};
 use super::cells::Parties;
@@ -53,7 +53,7 @@ const ENTRIES: [Row; 14] = [
     (Act::Tick(7, 1), Told::Silent),
 ];
 
-/// Behind the whole block this is read.
+/// The reads after the whole block.
 fn block_tells(rt: &impl Abort, alloc: Global, looks: &[Look]) {
     let steps = [
         Step::Plays(&OPENING),
@@ -70,7 +70,7 @@ const BLOCKS: [Look; 3] = [
 ];
 
 #[test]
-fn blocks_are_told(rt: HostRuntime) {
+fn blocks_are_read(rt: HostRuntime) {
     block_tells(&rt, rt.alloc(), &BLOCKS);
 }
 
@@ -90,7 +90,7 @@ const LOGGED_AND_RAN: [Look; 5] = [
 ];
 
 #[test]
-fn entries_are_told(rt: HostRuntime) {
+fn entries_are_read(rt: HostRuntime) {
     block_tells(&rt, rt.alloc(), &LOGGED_AND_RAN);
 }
 
@@ -100,7 +100,7 @@ const ANSWERS: [Look; 2] = [
 ];
 
 #[test]
-fn answers_are_told(rt: HostRuntime) {
+fn answers_are_read(rt: HostRuntime) {
     block_tells(&rt, rt.alloc(), &ANSWERS);
 }
 
@@ -113,7 +113,7 @@ const MESSAGES: [Look; 5] = [
 ];
 
 #[test]
-fn messages_are_told(rt: HostRuntime) {
+fn messages_are_read(rt: HostRuntime) {
     block_tells(&rt, rt.alloc(), &MESSAGES);
 }
 
@@ -125,9 +125,9 @@ const NOTHING: [Look; 5] = [
     Look::Sent(1, None),
 ];
 
-/// A world in which nothing has happened yet.
+/// A world without events.
 #[test]
-fn nothing_is_told(rt: HostRuntime) {
+fn an_empty_world_is_read(rt: HostRuntime) {
     visits(&rt, rt.alloc(), ONE_CELL, &[Step::Reads(&NOTHING)]);
 }
 
@@ -156,7 +156,7 @@ const RAN_ONCE: [Look; 4] = [
     Look::Sent(12, ZERO),
 ];
 
-/// A query comes three times and is answered twice, and one answer is accepted.
+/// A query comes three times, two replies answer it, and the client accepts one.
 #[test]
 fn a_repeated_query_runs_once(rt: HostRuntime) {
     let steps = [

@@ -1,4 +1,4 @@
-//! How worlds open, and why they don't.
+//! The opening of worlds, and the reasons not to open.
 
 use super::cells::{Parties, STRANGE, opens};
 use scoop_message::{ClientId, HandlerId};
@@ -29,7 +29,7 @@ fn worlds_of_64_handlers_and_clients_open(rt: HostRuntime) {
 
 const LAST: u32 = u32::MAX;
 
-/// Each refusal once, of a world to which the next one applies too.
+/// Each refusal once, for a world to which the next one applies too.
 const REFUSED: [(Parties<'static>, WorldOpenError); 7] = [
     ((&[], &MANY, 0), WorldOpenError::NoHandlers),
     ((&MANY, &[7], 0), WorldOpenError::TooManyHandlers),

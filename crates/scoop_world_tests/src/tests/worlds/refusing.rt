@@ -35,7 +35,7 @@ const REFUSED: [Row; 15] = [
     (Act::Trip(7, 1), Told::Welcomed(1)),
 ];
 
-/// Each refusal, and the world goes on behind it.
+/// Each refusal, after which the world goes on.
 #[test]
 fn refused_events(rt: HostRuntime) {
     visits(&rt, rt.alloc(), ONE_CELL, &[Step::Plays(&REFUSED)]);
@@ -49,7 +49,7 @@ const RESTARTS: [Row; 3] = [
     (Act::Trip(7, 1), Told::Welcomed(1)),
 ];
 
-/// The stored incarnation of client 7 is the last but one as the world opens.
+/// The stored incarnation of client 7 is the last but one when the world opens.
 const OLD_CLIENT: Parties<'static> = (&[1], &[7, 8], u32::MAX - 1);
 
 #[test]
@@ -88,7 +88,7 @@ const NO_BLOCK: [Look; 1] = [Look::Joint(&[])];
 
 const OPENS: [Row; 1] = [(Act::Trip(7, 1), Told::Opened(1))];
 
-/// What comes before a refused event has happened, and what comes behind it hasn't.
+/// The events before a refused one have happened, and those after it haven't.
 #[test]
 fn a_run_ends_at_a_refusal(rt: HostRuntime) {
     let mut events = Vec::new(rt.alloc());

@@ -23,8 +23,8 @@ const BLOCK: Block = Block {
 
 pub const TWO_CELLS: Parties<'static> = (&[1, 2], &[7], 0);
 
-/// A client restarts between the openings of its block: an Open that comes before its greeting still opens,
-/// one that comes later doesn't.
+/// A client restarts between the openings of its block. An Open that comes before its greeting still opens; one
+/// that comes later doesn't.
 pub const BETWEEN_OPENINGS: [Row; 16] = [
     (Act::Trip(7, 1), Told::Welcomed(1)),
     (Act::Trip(7, 2), Told::Welcomed(2)),
@@ -44,7 +44,7 @@ pub const BETWEEN_OPENINGS: [Row; 16] = [
     (Act::Take(15), Told::Welcomed(2)),
 ];
 
-/// What is read then: the last message is the second cell's welcome.
+/// The reads afterwards: the last message is the second cell's welcome.
 pub const OPENED_AT_ONE: [Look; 5] = [
     Look::Joint(&[7]),
     Look::Opened(1, Some(&[])),
@@ -89,7 +89,7 @@ const CLIENT_RESTARTS: [Row; 10] = [
     (Act::Take(13), Told::Dropped(Reason::Stale)),
 ];
 
-/// What was received before the restart runs, and nothing behind it.
+/// The entries received before the restart run, and none after them.
 #[test]
 fn received_calls_outlive_a_restart(rt: HostRuntime) {
     plays_behind_calls(&rt, rt.alloc(), &CLIENT_RESTARTS);
@@ -128,7 +128,7 @@ const UNSENT_ANSWER: [Row; 11] = [
     (Act::Begin(1), NOTHING),
 ];
 
-/// The reply that a restart leaves unsent is given again.
+/// A reply that a restart lost is given again.
 #[test]
 fn an_answer_outlives_a_node(rt: HostRuntime) {
     plays_behind_calls(&rt, rt.alloc(), &UNSENT_ANSWER);

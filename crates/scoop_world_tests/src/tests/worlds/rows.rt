@@ -10,7 +10,7 @@ use scoop_world::WorldError;
 
 pub const THREE_CELLS: Parties<'static> = (&[1, 2, 3], &[7, 8, 9], 0);
 
-/// Three clients greet three cells, and reserve two of them each, in a circle.
+/// Three clients greet three cells, and each reserves two of them, in a circle.
 pub const CIRCLE: [Row; 30] = [
     (Act::Trip(7, 1), Told::Welcomed(1)),
     (Act::Trip(7, 2), Told::Welcomed(2)),

@@ -1,4 +1,4 @@
-//! Whole worked examples, by one call.
+//! Whole worked examples, each in one call.
 
 use super::acts::{Row, add_events};
 use super::cells::Parties;
@@ -9,7 +9,7 @@ use super::{Step, visits};
 use std::alloc::Global;
 use std::process::Abort;
 
-/// The events of the rows are all taken by one call, and then this is read.
+/// One call takes all the events of the rows, and then come the reads.
 fn runs(rt: &impl Abort, alloc: Global, parties: Parties, rows: &[Row], looks: &[Look]) {
     let mut events = Vec::new(alloc);
     add_events(rt, &mut events, rows);

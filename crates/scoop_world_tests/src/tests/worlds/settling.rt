@@ -1,4 +1,4 @@
-//! The worlds of the worked examples settle wherever they are.
+//! The worlds of the worked examples settle from every state.
 
 use super::acts::{Act, Item, Row, Told, add_events};
 use super::cells::Parties;
@@ -37,8 +37,8 @@ fn a_restart_between_openings_settles(rt: HostRuntime) {
     settle(&rt, rt.alloc(), TWO_CELLS, &BETWEEN_OPENINGS);
 }
 
-/// A block in which a call is taken and a query waits, and nobody has run anything yet; then a job is out, the
-/// query is acknowledged late, and client and node restart.
+/// A block with a received call and a waiting query, and no run yet; then a job is out, the query is acknowledged
+/// late, and client and node restart.
 const RESTARTS: [Row; 17] = [
     (Act::Trip(7, 1), Told::Welcomed(1)),
     (Act::Reserve(7, 1), Told::Done),

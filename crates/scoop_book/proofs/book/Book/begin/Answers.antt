@@ -1,4 +1,4 @@
-use Rattle.std.proofs.Common.{ap}
+use Rattle.std.proofs.Common.{ap, subst}
 use Rattle.std.specs.Option.{option_map}
 use Rattle.scoop_book.specs.declared.event.Event.TheVariants.{Begin}
 use Rattle.scoop_book.specs.declared.event.Reply.TheVariants.{Began}
@@ -13,9 +13,10 @@ invariant_of-self-2 g c =
     (Began (option_map leaves c.begin-job.result)) c.begin-job.ensures.moves
     (entered c.self.inside.history.items c.reserve.new.self.items c.enter.new.history.items c.args.pass (Begin c.args.handler)
     (Began (option_map leaves c.begin-job.result)) (Began c.entry_left.result) c.enter.ensures c.reserve.ensures.items (ap Began c.entry_left.ensures))
-    g.K.Keeper.handlers g.K.Keeper.is_honest c.self.invariant.replays
+    g.K.Keeper.handlers g.K.Keeper.is_honest c.self.invariant
     (room_left c.self.inside.opening.items c.self.inside.handlers c.self.inside.history.items c.self.inside.limit c.self.inside.failed c.args.self.now
     c.self.view_is c.args.handler c.in_ok-at.ensures.may) c.begin-job.ensures.held
+    (λ honest. subst g.K.Keeper.is_honest c.begin-job.ensures.keeper honest)
 
 pub returns-clause-gains : goal.returns-clause-gains
 returns-clause-gains g c =
@@ -31,6 +32,7 @@ returns-clause-sound g c =
     (Began (option_map leaves c.begin-job.result)) c.begin-job.ensures.moves
     (entered c.self.inside.history.items c.reserve.new.self.items c.enter.new.history.items c.args.pass (Begin c.args.handler)
     (Began (option_map leaves c.begin-job.result)) (Began c.entry_left.result) c.enter.ensures c.reserve.ensures.items (ap Began c.entry_left.ensures))
-    g.K.Keeper.handlers g.K.Keeper.is_honest c.self.invariant.replays
+    g.K.Keeper.handlers g.K.Keeper.is_honest c.self.invariant
     (room_left c.self.inside.opening.items c.self.inside.handlers c.self.inside.history.items c.self.inside.limit c.self.inside.failed c.args.self.now
     c.self.view_is c.args.handler c.in_ok-at.ensures.may) c.begin-job.ensures.held
+    (λ honest. subst g.K.Keeper.is_honest c.begin-job.ensures.keeper honest)

@@ -19,14 +19,14 @@ invariant_of-result g c =
     opened_book_of g.B.Behaviour.words g.K.Keeper.handlers g.K.Keeper.is_honest c.args.keeper c.open_all.new.keeper c.args.handlers.items c.in-Ok.opened.1.items
     c.in-Ok.opened.0.items c.args.limit false c.new.result c.new-2.result.items
     c.new.ensures c.new-2.ensures.items c.in-Ok.ensures.opens c.in-Ok.ensures.kept
-    (subst (MayOpen g.B.Behaviour.class) c.deref.ensures.value c.in_default.ensures.none).apart c.open_all.ensures.handlers
+    (subst (MayOpen g.B.Behaviour.class) c.deref.ensures.value c.in_default.ensures.none).apart c.open_all.ensures.handlers c.open_all.ensures.honest
 
 pub returns-clause-sound : goal.returns-clause-sound
 returns-clause-sound g c =
     opened_book_of g.B.Behaviour.words g.K.Keeper.handlers g.K.Keeper.is_honest c.args.keeper c.open_all.new.keeper c.args.handlers.items c.in-Ok.opened.1.items
     c.in-Ok.opened.0.items c.args.limit false c.new.result c.new-2.result.items
     c.new.ensures c.new-2.ensures.items c.in-Ok.ensures.opens c.in-Ok.ensures.kept
-    (subst (MayOpen g.B.Behaviour.class) c.deref.ensures.value c.in_default.ensures.none).apart c.open_all.ensures.handlers
+    (subst (MayOpen g.B.Behaviour.class) c.deref.ensures.value c.in_default.ensures.none).apart c.open_all.ensures.handlers c.open_all.ensures.honest
 
 pub returns-clause-kept : goal.returns-clause-kept
 returns-clause-kept g c =

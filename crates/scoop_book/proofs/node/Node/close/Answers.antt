@@ -2,7 +2,7 @@ use Rattle.std.proofs.Common.{◌≡◌, ◌↔◌, ℕ, List, ap, subst}
 use Rattle.scoop_book.specs.declared.error.CloseRefusal.TheVariants.{MissingPass}
 use Rattle.scoop_book.specs.Closing.{IsComplete}
 use Rattle.scoop_book.specs.Passes.{NodeValue, PassValue}
-use Rattle.scoop_book.proofs.NodeLemmas.{closed_of}
+use Rattle.scoop_book.proofs.NodeLemmas.{closed_of, differs_of, follows_of}
 use Rattle.scoop_book.proofs.node.Node.close.Goals as goal
 
 pub returns-in-None-clause-closed : goal.returns-in-None-clause-closed
@@ -18,3 +18,15 @@ returns-in-Some-clause-missing g c =
     subst (λ (n : ℕ). (c.in-Some.cause ≡ MissingPass) ↔ (IsComplete n c.args.passes.items → ⊥)) (ap (λ (n : NodeValue). n.passes) c.self.view_is)
     (subst (λ (ps : List PassValue). (c.in-Some.cause ≡ MissingPass) ↔ (IsComplete c.self.inside.passes ps → ⊥))
     c.deref.ensures.value c.in-Some.ensures.missing)
+
+pub returns-in-None-clause-since : goal.returns-in-None-clause-since
+returns-in-None-clause-since g c =
+    follows_of g.K.Keeper.handlers g.K.Keeper.is_honest c.into_inner-book.result c.args.passes.items c.deref.result.now c.opening.result.now
+    c.history.result.now c.into_closed.result.keeper c.deref.ensures.value c.opening.ensures c.into_closed.ensures.keeper c.history.ensures.sound
+    c.in-None.ensures.agree
+
+pub returns-in-Some-clause-differs : goal.returns-in-Some-clause-differs
+returns-in-Some-clause-differs g c n is =
+    differs_of g.K.Keeper.handlers g.K.Keeper.is_honest c.into_inner-book.result c.args.self.passes c.self.inside.passes c.args.passes.items c.deref.result.now
+    c.opening.result.now c.history.result.now n (ap (λ (x : NodeValue). x.passes) c.self.view_is) c.deref.ensures.value c.opening.ensures
+    c.history.ensures.entries c.history.ensures.sound (c.in-Some.ensures.differs n is)

@@ -1,9 +1,12 @@
-use Rattle.std.proofs.Common.{refl}
-use Rattle.scoop_book.proofs.NodeLemmas.{pass_gains}
+use Rattle.std.proofs.Common.{◌≡◌, ◌⊎◌, subst, sym}
+use Rattle.scoop_book.specs.declared.error.BookError.TheVariants.{OutOfMemory}
+use Rattle.scoop_book.specs.declared.event.Event.{Event}
+use Rattle.scoop_book.specs.Moves.{handler_at}
+use Rattle.scoop_book.specs.Books.{IsRefused}
+use Rattle.scoop_book.specs.Closing.{WasSo}
 use Rattle.scoop_book.proofs.node.Node.event.Goals as goal
 
-pub returns-clause-gains : goal.returns-clause-gains
-returns-clause-gains g c =
-    pass_gains c.pass.inside.number _ c.pass.inside.events.items c.reserve.new.self.items c.put_down.new.events.items c.args.event c.args.event
-    c.in-Ok-step_in.reply c.in-Ok-step_in.reply c.args.pass.now
-    c.pass.view_is c.put_down.ensures c.reserve.ensures.items refl refl
+pub returns-in-Err-clause-refused : goal.returns-in-Err-clause-refused
+returns-in-Err-clause-refused g c =
+    subst (λ (e : Event). (c.in-Err.error ≡ OutOfMemory) ⊎ WasSo g.K.Keeper.handlers g.K.Keeper.is_honest (λ b. IsRefused b (handler_at e)) c.in-Err.error)
+    (sym c.message.ensures) c.in-Err.ensures.refused

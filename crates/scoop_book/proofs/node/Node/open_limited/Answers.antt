@@ -7,6 +7,7 @@ pub returns-clause-opened : goal.returns-clause-opened
 returns-clause-opened g c = record {
   opening = c.in-Ok.book.opening;
   now = c.in-Ok.book.keeper;
+  honest = c.in-Ok.ensures.honest;
   count_is = c.in-Ok-fresh_passes.ensures.count;
   fresh = subst (λ (hs : List LocalHandler). (n : ℕ) → n < c.args.passes → slice_get c.in-Ok-fresh_passes.fresh.items n ≡ Some (fresh_pass hs n))
       c.opening.ensures c.in-Ok-fresh_passes.ensures.fresh;

@@ -1,5 +1,5 @@
 use Rattle.scoop_demo.specs.ScriptLine.{number_of}
-use Rattle.scoop_words.proofs.ReadingLemmas.{length-each_of}
+use Rattle.scoop_lines.proofs.ReadingLemmas.{length-each_of}
 use Rattle.scoop_demo.proofs.script.event.read_args.Goals as goal
 
 pub unreachable-requires : goal.unreachable-requires

@@ -1,10 +1,10 @@
 use Rattle.std.proofs.Common.{◌<◌, ◌∙◌, length, arith, ap, sym}
 use Rattle.std.proofs.lemmas.List.{take_more_set}
 use Rattle.std.proofs.Math.ListN.{length-set}
-use Rattle.scoop_words.specs.Reading.{each_of}
+use Rattle.scoop_lines.specs.Reading.{each_of}
 use Rattle.scoop_demo.specs.ScriptLine.{handler_of}
-use Rattle.scoop_words.specs.Words.{words_of}
-use Rattle.scoop_words.proofs.ReadingLemmas.{joined, joined_more}
+use Rattle.scoop_lines.specs.Words.{words_of}
+use Rattle.scoop_lines.proofs.ReadingLemmas.{joined, joined_more}
 use Rattle.scoop_demo.proofs.PartyLemmas.{handler_read}
 use Rattle.scoop_demo.proofs.script.event.read_handlers.Goals as goal
 

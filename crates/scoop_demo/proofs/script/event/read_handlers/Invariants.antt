@@ -1,9 +1,9 @@
 use Rattle.std.proofs.Common.{◌≡◌, ◌≤◌, ◌+◌, length, take}
 use Rattle.scoop_client.specs.declared.handlers.TheConstants.{MAX_NAMED_HANDLERS}
-use Rattle.scoop_words.specs.Words.{words_of}
-use Rattle.scoop_words.specs.Reading.{each_of}
+use Rattle.scoop_lines.specs.Words.{words_of}
+use Rattle.scoop_lines.specs.Reading.{each_of}
 use Rattle.scoop_demo.specs.ScriptLine.{handler_of}
-use Rattle.scoop_words.proofs.ReadingLemmas.{joined}
+use Rattle.scoop_lines.proofs.ReadingLemmas.{joined}
 use Rattle.scoop_demo.proofs.script.event.read_handlers.Given as goal
 
 abbrev pub invariant-loop-word : goal.invariant-loop-word

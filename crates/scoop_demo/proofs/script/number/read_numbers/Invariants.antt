@@ -1,9 +1,9 @@
 use Rattle.std.proofs.Common.{◌≡◌, ◌≤◌, ◌+◌, length}
 use Rattle.scoop_message.specs.declared.limits.TheConstants.{MAX_WORDS}
-use Rattle.scoop_words.specs.Words.{words_of}
-use Rattle.scoop_words.specs.Reading.{each_of}
+use Rattle.scoop_lines.specs.Words.{words_of}
+use Rattle.scoop_lines.specs.Reading.{each_of}
 use Rattle.scoop_demo.specs.ScriptLine.{number_of}
-use Rattle.scoop_words.proofs.ReadingLemmas.{joined}
+use Rattle.scoop_lines.proofs.ReadingLemmas.{joined}
 use Rattle.scoop_demo.proofs.script.number.read_numbers.Given as goal
 
 abbrev pub invariant-loop-word : goal.invariant-loop-word

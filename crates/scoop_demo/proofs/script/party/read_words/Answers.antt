@@ -1,7 +1,7 @@
 use Rattle.std.proofs.Common.{◌≡◌, length, arith}
 use Rattle.scoop_demo.specs.ScriptLine.{number_of}
-use Rattle.scoop_words.specs.Words.{words_of}
-use Rattle.scoop_words.proofs.ReadingLemmas.{length-each_of}
+use Rattle.scoop_lines.specs.Words.{words_of}
+use Rattle.scoop_lines.proofs.ReadingLemmas.{length-each_of}
 use Rattle.scoop_demo.proofs.script.party.read_words.Goals as goal
 
 pub unreachable-requires : goal.unreachable-requires

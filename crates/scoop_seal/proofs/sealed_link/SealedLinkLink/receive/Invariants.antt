@@ -2,7 +2,7 @@ use Rattle.std.proofs.Common.{◌≡◌}
 use Rattle.scoop_seal.proofs.Opening.{SoFar}
 use Rattle.scoop_seal.proofs.sealed_link.SealedLinkLink.receive.Given as goal
 
--- so many datagrams were taken and refused, and nothing else has changed
+-- this number of datagrams was taken and refused, and nothing else has changed
 abbrev pub invariant-loop : goal.invariant-loop
 invariant-loop g l = record {
   so_far : SoFar l.initial.self.key (g.L.Link.told l.initial.self.inner) (g.L.Link.told l.self.inner) l.initial.self.refused l.self.refused l.counter;

@@ -4,6 +4,9 @@ use Rattle.scoop_system.proofs.error.WrongDisplay.fmt.Goals as goal
 pub returns-in-WordCount-clause-writes : goal.returns-in-WordCount-clause-writes
 returns-in-WordCount-clause-writes g c plain ok = rw c.in-WordCount.is (simp append_assoc (c.write-in-WordCount.ensures.writes plain ok))
 
+pub returns-in-NameTwice-clause-writes : goal.returns-in-NameTwice-clause-writes
+returns-in-NameTwice-clause-writes g c plain ok = rw c.in-NameTwice.is (simp append_assoc (c.write-in-NameTwice.ensures.writes plain ok))
+
 pub returns-in-NotATerm-clause-writes : goal.returns-in-NotATerm-clause-writes
 returns-in-NotATerm-clause-writes g c plain ok = rw c.in-NotATerm.is (simp append_assoc (c.write-in-NotATerm.ensures.writes plain ok))
 

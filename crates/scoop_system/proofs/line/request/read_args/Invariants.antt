@@ -1,10 +1,10 @@
 use Rattle.std.proofs.Common.{◌≡◌, ◌≤◌, ◌+◌, length, take, codes}
 use Rattle.scoop_message.specs.declared.limits.TheConstants.{MAX_ARGS}
-use Rattle.scoop_words.specs.Words.{words_of}
+use Rattle.scoop_lines.specs.Words.{words_of}
 use Rattle.scoop_system.specs.Words.{before}
-use Rattle.scoop_words.specs.Reading.{each_of}
+use Rattle.scoop_lines.specs.Reading.{each_of}
 use Rattle.scoop_system.specs.Line.{number_of}
-use Rattle.scoop_words.proofs.ReadingLemmas.{joined}
+use Rattle.scoop_lines.proofs.ReadingLemmas.{joined}
 use Rattle.scoop_system.proofs.line.request.read_args.Given as goal
 
 abbrev pub invariant-loop-word : goal.invariant-loop-word

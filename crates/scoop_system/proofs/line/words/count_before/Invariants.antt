@@ -1,5 +1,5 @@
 use Rattle.std.proofs.Common.{length, ◌≤◌, ◌≡◌, ◌+◌}
-use Rattle.scoop_words.specs.Words.{words_of}
+use Rattle.scoop_lines.specs.Words.{words_of}
 use Rattle.scoop_system.specs.Words.{before}
 use Rattle.scoop_system.proofs.line.words.count_before.Given as goal
 

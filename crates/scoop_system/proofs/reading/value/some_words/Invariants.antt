@@ -1,7 +1,7 @@
 use Rattle.std.proofs.Common.{◌≡◌, length, take, drop, map}
 use Rattle.toml.specs.View.{view}
-use Rattle.scoop_words.specs.Reading.{each_of}
-use Rattle.scoop_words.proofs.ReadingLemmas.{joined}
+use Rattle.scoop_lines.specs.Reading.{each_of}
+use Rattle.scoop_lines.proofs.ReadingLemmas.{joined}
 use Rattle.scoop_message.specs.declared.limits.TheConstants.{MAX_WORDS}
 use Rattle.scoop_system.specs.Value.{some_word}
 use Rattle.scoop_system.proofs.reading.value.some_words.Given as goal

@@ -1,6 +1,6 @@
 use Rattle.std.proofs.Common.{take, sym, ap, ◌∙◌}
 use Rattle.std.proofs.lemmas.List.{take_all, take_more}
-use Rattle.scoop_running.specs.Clients.{moves_by}
+use Rattle.scoop_weave.specs.ClientSteps.{moves_by}
 use Rattle.scoop_weaver.proofs.Anew.{passed, next_step}
 use Rattle.scoop_weaver.proofs.traffic.Party.of_client.Goals as goal
 

@@ -1,7 +1,7 @@
--- What the steps so far let through, and where they led the client.
+-- The traffic of the steps so far is noted, and the client is where they led it.
 use Rattle.std.proofs.Common.{◌≡◌, take}
 use Rattle.scoop_driver.specs.Steps.{walk}
-use Rattle.scoop_running.specs.Clients.{moves_by}
+use Rattle.scoop_weave.specs.ClientSteps.{moves_by}
 use Rattle.scoop_weaver.proofs.Anew.{passed}
 use Rattle.scoop_weaver.proofs.traffic.Party.of_client.Given as goal
 

@@ -1,4 +1,4 @@
--- What the entries so far let through.
+-- The traffic of the entries so far is noted.
 use Rattle.std.proofs.Common.{◌≡◌, map, take}
 use Rattle.scoop_weaver.specs.Passing.{traffic_in}
 use Rattle.scoop_weaver.proofs.traffic.Party.of_node.Given as goal

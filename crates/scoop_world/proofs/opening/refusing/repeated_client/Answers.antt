@@ -9,7 +9,7 @@ use Rattle.scoop_world.specs.OpenRefusal.{clients_of}
 use Rattle.scoop_keeper.proofs.Keyed.{first_repeat, once_longer}
 use Rattle.scoop_world.proofs.opening.refusing.repeated_client.Goals as goal
 
--- what is read beyond the list
+-- a read beyond the list
 abbrev nobody : ClientId × ℕ
 nobody = (record { 0 = 0 }, 0)
 

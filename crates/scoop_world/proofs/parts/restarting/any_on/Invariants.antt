@@ -1,4 +1,4 @@
--- None of those that were looked at stands there.
+-- No handler that was tested stands there.
 use Rattle.std.proofs.Common.{◌≡◌, false, take}
 use Rattle.std.specs.List.{list_any}
 use Rattle.scoop_world.specs.Kept.{on_node}

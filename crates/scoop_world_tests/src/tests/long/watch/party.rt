@@ -10,7 +10,7 @@ use std::alloc::{Allocator, Global};
 /// An accepted answer: handler, block, the query's number, and the answer.
 type Accepted = (HandlerId, Block, u32, Answer);
 
-/// What a client has accepted.
+/// The answers that a client has accepted.
 #[derive(Drop)]
 pub struct Party {
     client: ClientId,
@@ -64,7 +64,7 @@ impl Party {
         self.accepted.push(new).map_err(|_| "no memory")
     }
 
-    /// The answer that was accepted since, if any: how many.
+    /// Notes the answer accepted since, if any, and returns the number.
     pub fn see_accepted<A: Allocator + Copy>(
         &mut self,
         sites: &[Site],
@@ -77,7 +77,7 @@ impl Party {
         Ok(1)
     }
 
-    /// All that the client has accepted.
+    /// The whole past of the client.
     pub fn see_all<A: Allocator + Copy>(
         &mut self,
         sites: &[Site],
@@ -89,7 +89,7 @@ impl Party {
         Ok(())
     }
 
-    /// Whether the same was accepted.
+    /// Whether both have accepted the same.
     pub fn same(&self, other: &Party) -> bool {
         self.accepted.as_slice() == other.accepted.as_slice()
     }

@@ -8,24 +8,24 @@ use scoop_object::Table;
 use scoop_world::World;
 use std::alloc::{Allocator, Global};
 
-/// What has happened at a handler.
+/// The past of a handler.
 #[derive(Drop)]
 pub struct Site {
     handler: HandlerId,
     opened: Vec<Block>,
     ran: Vec<Ran>,
-    // The place among the opened blocks of the one that runs, and how many of its entries have run.
+    // The place of the running block among the opened ones, and the number of its entries that have run.
     at: usize,
     done: u32,
     // The object's word.
     word: u64,
-    // The newest incarnation of each client that was welcomed.
+    // The newest incarnation of each client that the handler has welcomed.
     welcomed: Vec<(ClientId, u32)>,
-    // How many entries of a block the handler has told to be received, at most.
+    // The most entries of a block that the handler has acknowledged.
     received: Vec<(Block, u32)>,
 }
 
-// The number beside a key, 0 where there is none.
+// The number beside a key, 0 if there is none.
 fn number_of<T: PartialEq + Copy>(pairs: &[(T, u32)], wanted: T) -> u32 {
     for (key, number) in pairs {
         if *key == wanted {
@@ -64,7 +64,7 @@ fn logged_entry<A: Allocator + Copy>(
     }
 }
 
-// Whether the entry that has run is the one of its number that the block's client has logged.
+// Whether the entry that has run is the one that the block's client has logged under its number.
 fn is_logged<A: Allocator + Copy>(world: &World<Table, A>, handler: HandlerId, ran: &Ran) -> bool {
     match logged_entry(world, ran.block, handler, ran.number) {
         Some(entry) => entry == ran.entry,
@@ -73,7 +73,7 @@ fn is_logged<A: Allocator + Copy>(world: &World<Table, A>, handler: HandlerId, r
 }
 
 fn put_down(list: &mut Vec<Ran>, ran: &Ran) -> Result<(), Fault> {
-    // Names types that are held here, of which the prover has to be told.
+    // For the prover: names types that are held here.
     let _nested: Option<(Entry, Request)> = None;
     match list.push(*ran) {
         Ok(()) => Ok(()),
@@ -92,7 +92,7 @@ fn ran_at<A: Allocator + Copy>(
     world: &World<Table, A>,
     handler: HandlerId,
 ) -> Result<&[Ran], Fault> {
-    // Names types that are held here, of which the prover has to be told.
+    // For the prover: names types that are held here.
     let _nested: Option<(Entry, Request)> = None;
     world.ran(handler).ok_or("a handler has gone")
 }
@@ -111,8 +111,8 @@ impl Site {
         }
     }
 
-    /// What a message that was sent tells: which incarnation the handler has welcomed, and how many entries
-    /// of a block it has received.
+    /// Notes the facts in a sent message: the incarnation that the handler has welcomed, and the number of a
+    /// block's entries that it has received.
     pub fn note_message(&mut self, message: &Message) -> Result<(), Fault> {
         if message.handler() != self.handler {
             return Ok(());
@@ -134,8 +134,8 @@ impl Site {
         self.opened.push(block).map_err(|_| "no memory")
     }
 
-    // What has run of a block is all of it: it ends with its End, or the client's greeting has cut it off
-    // behind what was received.
+    // The block has run whole: its End has run, or the client's greeting has cut it off after the received
+    // entries.
     fn is_whole<A: Allocator + Copy>(&self, world: &World<Table, A>, block: Block) -> bool {
         if logged_entry(world, block, self.handler, self.done) == Some(Entry::End) {
             return true;
@@ -185,7 +185,7 @@ impl Site {
         put_down(&mut self.ran, ran)
     }
 
-    /// The block that has opened since, if any: how many.
+    /// Notes the block that has opened since, if any, and returns the number.
     pub fn see_opened<A: Allocator + Copy>(
         &mut self,
         joint: &[Block],
@@ -198,12 +198,12 @@ impl Site {
         Ok(1)
     }
 
-    /// The entry that has run since, if any: how many.
+    /// Notes the entry that has run since, if any, and returns the number.
     pub fn see_ran<A: Allocator + Copy>(
         &mut self,
         world: &World<Table, A>,
     ) -> Result<usize, Fault> {
-        // Names types that are held here, of which the prover has to be told.
+        // For the prover: names types that are held here.
         let _nested: Option<(Entry, Request)> = None;
         let Some(ran) = newest(&self.ran, ran_at(world, self.handler)?)? else {
             return Ok(0);
@@ -212,7 +212,7 @@ impl Site {
         Ok(1)
     }
 
-    /// All that has happened at the handler.
+    /// The whole past of the handler.
     pub fn see_all<A: Allocator + Copy>(
         &mut self,
         joint: &[Block],
@@ -241,14 +241,14 @@ impl Site {
         self.handler
     }
 
-    /// How many entries of the block it has told to have received.
+    /// The number of the block's entries that the handler has acknowledged.
     pub fn received(&self, block: Block) -> u32 {
         number_of(&self.received, block)
     }
 
-    /// Whether the same has happened.
+    /// Whether both pasts are the same.
     pub fn same(&self, other: &Site) -> bool {
-        // Names types that are held here, of which the prover has to be told.
+        // For the prover: names types that are held here.
         let _nested: Option<(Entry, Request)> = None;
         self.opened.as_slice() == other.opened.as_slice()
             && self.ran.as_slice() == other.ran.as_slice()

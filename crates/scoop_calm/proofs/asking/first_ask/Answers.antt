@@ -1,0 +1,25 @@
+use Rattle.std.proofs.Common.{◌≡◌, Some, sym, ap, ◌∙◌, arith}
+use Rattle.std.specs.Option.{option_map}
+use Rattle.scoop_handler.specs.State.{HandlerState}
+use Rattle.scoop_keeper.proofs.Keyed.{item_at}
+use Rattle.scoop_calm.specs.declared.next.Next.TheVariants as next
+use Rattle.scoop_world.specs.Standing.{Standing}
+use Rattle.scoop_calm.specs.Standing.{gets_from}
+use Rattle.scoop_calm.proofs.Firsts.{found_here, not_here}
+use Rattle.scoop_calm.proofs.asking.first_ask.Goals as goal
+
+pub returns-then-gets_from : goal.returns-then-gets_from
+returns-then-gets_from g c =
+    let x = c.standing-item.result in
+    let i = c.loop-standing.standing-index in
+    let at = item_at c.args.states.now i x (omega arith) c.standing-item.is in
+    let found = found_here (gets_from c.args.client.now) c.args.states.now i x at c.loop-standing.invariant (sym c.gets_from.ensures ∙ c.if-gets_from.true) in
+    ap (λ h. Some (next.Ask c.args.id h)) (c.handler.ensures.value ∙ ap (λ (s : HandlerState). s.number) c.state.ensures)
+    ∙ sym (ap (option_map (λ (s : Standing). next.Ask c.args.id s.state.number)) found)
+
+pub loop-standing-preserved : goal.loop-standing-preserved
+loop-standing-preserved g c =
+    let x = c.standing-item.result in
+    let i = c.loop-standing.standing-index in
+    let at = item_at c.args.states.now i x (omega arith) c.standing-item.is in
+    not_here (gets_from c.args.client.now) c.args.states.now i x at c.loop-standing.invariant (sym c.gets_from.ensures ∙ c.if-gets_from.false)

@@ -1,0 +1,52 @@
+//! The rows of the tables that the command line is built from.
+
+/// A subcommand.
+#[derive(Clone, Copy)]
+pub(crate) struct CommandRow {
+    pub(crate) name: &'static str,
+    /// The usage that stands in its help, where it isn't made from its arguments.
+    pub(crate) usage: Option<&'static str>,
+    /// One line, for the list of commands.
+    pub(crate) about: &'static str,
+    pub(crate) help: &'static str,
+    pub(crate) arguments: &'static [ArgumentRow],
+}
+
+/// An argument of a subcommand.
+#[derive(Clone, Copy)]
+pub(crate) struct ArgumentRow {
+    pub(crate) name: &'static str,
+    pub(crate) place: Place,
+    pub(crate) value: Value,
+    /// The name of the value in help and usage.
+    pub(crate) value_name: &'static str,
+    pub(crate) default: Option<&'static str>,
+    pub(crate) help: &'static str,
+}
+
+/// The place of an argument.
+#[derive(Clone, Copy)]
+pub(crate) enum Place {
+    /// By itself, and required.
+    Word,
+    /// By itself, as often as one likes.
+    Words,
+    /// After `--name`.
+    Option,
+    /// After `--name`, and required.
+    RequiredOption,
+    /// After `--name`, and never together with this option.
+    OptionWithout(&'static str),
+}
+
+/// The value of an argument.
+#[derive(Clone, Copy)]
+pub(crate) enum Value {
+    /// Nothing: it is there or not.
+    Flag,
+    Text,
+    /// The name of a class.
+    ClassName,
+    U32,
+    U64,
+}

@@ -1,0 +1,16 @@
+//! The report of a store in a file that isn't opened or closed.
+
+use crate::error::FileError;
+use scoop_report::{FOLDER, Hints, Status, hint_of_file, is_folder, report};
+
+/// Reports the error of the store in this file, which isn't a refusal of the store itself.
+pub fn report_file(rt: &HostRuntime, hints: Hints, path: &str, error: FileError) -> Status {
+    report(rt, error);
+    let advice = if is_folder(rt, path) {
+        FOLDER
+    } else {
+        error.advice()
+    };
+    hint_of_file(rt, hints, path, advice);
+    Status(error.status())
+}

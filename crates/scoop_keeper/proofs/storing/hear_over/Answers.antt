@@ -1,0 +1,30 @@
+use Rattle.std.proofs.Common.{sym, ap, ◌∙◌}
+use Rattle.scoop_handler.specs.Running.{job_out}
+use Rattle.scoop_keeper.proofs.StoringLemmas.{heard_job, is_kept, is_left, may_go_back}
+use Rattle.scoop_keeper.proofs.storing.hear_over.Goals as goal
+
+pub returns-then-leaves_state-clause-stored : goal.returns-then-leaves_state-clause-stored
+returns-then-leaves_state-clause-stored g c honest =
+    is_kept c.args.handler.now c.hear.new.self c.args.message.now c.in_ok-heard.heard c.in_ok-heard.ensures.ok c.hear.ensures.stays c.number-number.ensures.core
+    (g.K.Keeper.handlers c.args.keeper.now) (sym c.leaves_state.ensures ∙ c.if-leaves_state.true) (c.requires.stored c.if-is_stored.true honest)
+
+pub returns-then-leaves_state-clause-job : goal.returns-then-leaves_state-clause-job
+returns-then-leaves_state-clause-job g c =
+    heard_job c.args.handler.now c.hear.new.self c.args.message.now c.in_ok-heard.heard c.in_ok-heard.ensures.ok c.hear.ensures.stays c.number-number.ensures.core
+
+pub store_or_take_back-requires-clause-may : goal.store_or_take_back-requires-clause-may
+store_or_take_back-requires-clause-may g c =
+    may_go_back c.args.handler.now c.hear.new.self c.args.message.now c.in_ok-heard.heard c.in_ok-heard.ensures.ok c.hear.ensures.stays
+    c.number-number.ensures.core
+    c.args.before.now c.requires.before
+
+pub returns-then-leaves_state-clause-left : goal.returns-then-leaves_state-clause-left
+returns-then-leaves_state-clause-left g c stored left =
+    c.requires.before
+    ∙ sym (is_left c.args.handler.now c.hear.new.self c.args.message.now c.in_ok-heard.heard c.in_ok-heard.ensures.ok c.hear.ensures.stays c.number-number.ensures.core
+    (sym c.leaves_state.ensures ∙ c.if-leaves_state.true))
+
+pub returns-in-Ok-clause-job : goal.returns-in-Ok-clause-job
+returns-in-Ok-clause-job g c =
+    ap job_out c.in-Ok.ensures.ok
+    ∙ heard_job c.args.handler.now c.hear.new.self c.args.message.now c.in_ok-heard.heard c.in_ok-heard.ensures.ok c.hear.ensures.stays c.number-number.ensures.core

@@ -1,0 +1,7 @@
+pub mod Words
+pub mod Number
+pub mod Reading
+pub mod SourceText
+pub mod Line
+pub mod Piece
+pub mod Input

@@ -1,5 +1,0 @@
-use Rattle.scoop_model.proofs.Order.Sets.{handlers_stay}
-use Rattle.scoop_model.proofs.theorems.running.handlers_stay.Goals as goal
-
-pub returns : goal.returns
-returns c = handlers_stay

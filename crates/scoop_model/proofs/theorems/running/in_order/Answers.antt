@@ -1,5 +1,0 @@
-use Rattle.scoop_model.proofs.Order.Runs.{in_order}
-use Rattle.scoop_model.proofs.theorems.running.in_order.Goals as goal
-
-pub returns : goal.returns
-returns c = in_order

@@ -1,4 +1,0 @@
-pub mod Clients
-pub mod Nodes
-pub mod Orders
-pub mod Systems

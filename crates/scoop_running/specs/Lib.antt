@@ -1,4 +1,0 @@
-pub mod Nodes
-pub mod Clients
-pub mod Order
-pub mod System

@@ -1,8 +1,0 @@
--- It is among those that are left.
-use Rattle.std.proofs.Common.{◌≡◌, find, drop}
-use Rattle.scoop_message.specs.Message.{same_client}
-use Rattle.scoop_handler.specs.Marks.{mark_of}
-use Rattle.scoop_settle.proofs.asking.mark_of.Given as goal
-
-abbrev pub invariant-loop-place : goal.invariant-loop-place
-invariant-loop-place g l = mark_of l.client (drop l.place l.state.marks) ≡ mark_of l.client l.state.marks

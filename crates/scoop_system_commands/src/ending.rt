@@ -1,0 +1,144 @@
+//! The ends of a node or a client, and their reports.
+
+use scoop_errors::PartyError;
+use scoop_files::{FileError, report_file};
+use scoop_message::{HandlerId, OutOfMemory};
+use scoop_report::{Hints, Status, hint, hint_of_file, report};
+use scoop_runtime::{About, ClientStop, OutOfRange, RuntimeError};
+use scoop_system::System;
+use std::net::SocketAddr;
+
+/// Why a node or a client ends early.
+#[derive(Clone, Copy)]
+pub(crate) enum End {
+    /// Its store in this file isn't opened or closed.
+    File(FileError),
+    /// It doesn't begin or go on.
+    Runtime(RuntimeError),
+    /// A client stops at one of its lines.
+    Lines(ClientStop),
+}
+
+impl From<FileError> for End {
+    fn from(error: FileError) -> End {
+        match error {
+            FileError::Store(refusal) => End::Runtime(RuntimeError::from(refusal)),
+            error => End::File(error),
+        }
+    }
+}
+
+impl From<RuntimeError> for End {
+    fn from(error: RuntimeError) -> End {
+        End::Runtime(error)
+    }
+}
+
+impl From<OutOfMemory> for End {
+    fn from(error: OutOfMemory) -> End {
+        End::Runtime(RuntimeError::from(error))
+    }
+}
+
+impl From<ClientStop> for End {
+    fn from(stop: ClientStop) -> End {
+        End::Lines(stop)
+    }
+}
+
+/// The things that a report of a node or a client may name besides its error.
+#[derive(Clone, Copy)]
+pub(crate) struct Party<'a> {
+    pub(crate) system: &'a System,
+    pub(crate) address: SocketAddr,
+    /// The file of its store, if it has one.
+    pub(crate) store: Option<&'a str>,
+}
+
+/// Reports why the node or the client ends, with where to look and what to do.
+pub(crate) fn report_end(rt: &HostRuntime, party: &Party<'_>, end: End) -> Status {
+    match end {
+        End::File(error) => report_file(rt, Hints::Always, party.store.unwrap_or(""), error),
+        End::Runtime(error) => report_runtime(rt, party, error),
+        End::Lines(stop) => {
+            let status = report_runtime(rt, party, stop.error);
+            if had_begun(stop.error) {
+                report(rt, stop.progress);
+            }
+            status
+        }
+    }
+}
+
+// Whether the client had its incarnation when this came. Refusals of its handlers or its store come before.
+fn had_begun(error: RuntimeError) -> bool {
+    !matches!(
+        error,
+        RuntimeError::Handlers(_) | RuntimeError::Ended(PartyError::Store(_))
+    )
+}
+
+fn report_runtime(rt: &HostRuntime, party: &Party<'_>, error: RuntimeError) -> Status {
+    report(rt, error);
+    match party.store {
+        Some(path) => hint_over_store(rt, party, path, error),
+        None => hint_about(rt, party, error.about(), error.advice()),
+    }
+    Status(error.status())
+}
+
+fn hint_over_store(rt: &HostRuntime, party: &Party<'_>, path: &str, error: RuntimeError) {
+    let advice = error.advice_over_store();
+    match error.about() {
+        About::Store => hint_of_file(rt, Hints::Always, path, advice),
+        about => hint_about(rt, party, about, advice),
+    }
+}
+
+fn hint_about(rt: &HostRuntime, party: &Party<'_>, about: About, advice: &str) {
+    match about {
+        About::Address => hint(
+            rt,
+            Hints::Always,
+            format_args!("{}: {advice}", party.address),
+        ),
+        About::Handler(handler) => hint_of_handler(rt, party.system, handler, advice),
+        About::Store | About::Nothing => hint(rt, Hints::Always, advice),
+    }
+}
+
+// Prints what to do about a handler, and where it stands.
+fn hint_of_handler(rt: &HostRuntime, system: &System, handler: HandlerId, advice: &str) {
+    match system
+        .handler(handler)
+        .and_then(|place| system.node(place.node))
+    {
+        Some(node) => hint(
+            rt,
+            Hints::Always,
+            format_args!(
+                "handler {handler} on node {} at {}: {advice}",
+                node.number, node.address
+            ),
+        ),
+        None => hint(
+            rt,
+            Hints::Always,
+            format_args!("handler {handler}: {advice}"),
+        ),
+    }
+}
+
+/// Reports why a command ends, with a hint that names nothing.
+pub(crate) fn report_plainly(rt: &HostRuntime, error: RuntimeError) -> Status {
+    report(rt, error);
+    hint(rt, Hints::Always, error.advice());
+    Status(error.status())
+}
+
+/// Reports that a number of the command line is out of its range.
+pub(crate) fn report_range(rt: &HostRuntime, range: OutOfRange) -> Status {
+    report(rt, range);
+    hint(rt, Hints::Always, range.advice());
+    Status(2)
+}

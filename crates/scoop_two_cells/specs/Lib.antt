@@ -1,0 +1,3 @@
+pub mod Outcomes
+pub mod Plans
+pub mod Orders

@@ -1,3 +1,0 @@
-mod WordLemmas
-mod NumberLemmas
-pub mod ReadingLemmas

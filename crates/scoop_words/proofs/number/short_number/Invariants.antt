@@ -1,7 +1,0 @@
--- What the digits so far write.
-use Rattle.std.proofs.Common.{◌≡◌, take}
-use Rattle.std.specs.Str.Parse.{digits_value}
-use Rattle.scoop_words.proofs.number.short_number.Given as goal
-
-abbrev pub invariant-loop-digit : goal.invariant-loop-digit
-invariant-loop-digit l = l.number ≡ digits_value 10 (take l.digit-index l.digits)
