@@ -1,5 +1,5 @@
--- Progress of one client or block: greeting and giving back locks, a block that is opened, the earliest block that has a
--- private queue, and, if no block has one, every block past locking.
+-- Progress of one client or one block. A client greets and gives locks back, and an opened block gets on. The earliest
+-- block that has a private queue gets on. If no block has one, every block past locking gets on.
 use Rattle.scoop_calm.proofs.Names.{◌≡◌, ◌⊎◌, inl, inr, List, [], map, Option, Some, None, refl, sym, ap, ◌∙◌, subst, ⊎_elim, HandlerId, Stage, Locking}
 use Rattle.scoop_calm.proofs.Names.{Opening, Unlocking, GivingUp, has, ReservationState, World, Party, id_of, party_of, Placement, IsReached, Member, nat_tests}
 use Rattle.scoop_calm.proofs.Names.{ℕ, ◌<◌, ◌==◌, ◌&&◌, ◌||◌, Bool, true, false, true≢false, nat_le, ◌∷◌, length, arith, if◌then◌else◌, find, not}

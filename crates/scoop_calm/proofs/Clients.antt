@@ -1,6 +1,6 @@
--- Facts about every client. A reservation gets its locks in ascending order and has something left to do until it is
--- opened everywhere. Something of a block is still to be acknowledged, and each unacknowledged query is the one that
--- waits. A client has a block only after all handlers have welcomed it, and waits for an answer only in a block.
+-- Facts about every client. A reservation gets its locks in ascending order. It has something left to do until it is
+-- opened everywhere. Something of a block is still to be acknowledged. Each unacknowledged query is the one that waits.
+-- A client has a block only after all handlers have welcomed it. It waits for an answer only in a block.
 use Rattle.scoop_calm.proofs.Names.{or_right, ◌≡◌, ◌<◌, ◌≤◌, ◌==◌, not, true, false, true≢false, nat_lt, List, ◌∷◌, length, Option, Some, None, refl, sym, ◌∙◌}
 use Rattle.scoop_calm.proofs.Names.{subst, arith, if◌then◌else◌, Ok, Err, nat_tests, MAX_BLOCK_HANDLERS, Block, HandlerId, Message, handler_decides, Stage}
 use Rattle.scoop_calm.proofs.Names.{Locking, Opening, Unlocking, GivingUp, Step, has, without, is_empty, is_lowest, asked, first_unknown, first_repeated}
@@ -173,7 +173,7 @@ given_reserves known r s GivingUp at e f = absurd (cc)
 pub give_up_reserves : (known : List HandlerId) (r s : ReservationState) → given_up r ≡ Ok s → Reserves known r → Reserves known s × (is_gone s ≡ false)
 give_up_reserves known r s e f = given_reserves known r s r.stage refl e f
 
--- -------- Facts about a client's windows while it has a block: something of the block is still to be acknowledged, and each
+-- -------- Facts about a client's windows while it has a block. Something of the block is still to be acknowledged. Each
 -- unacknowledged query is the one that waits.
 
 -- each query of the window that isn't acknowledged is the one that waits

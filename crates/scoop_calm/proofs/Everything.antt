@@ -1,5 +1,5 @@
--- All that is so of every world that is reached. Every event keeps that clients attend to their blocks: the other
--- layers' facts give what a client needs to know about the world around it.
+-- All facts of a reached world. One of them is that clients attend to their blocks, and every event keeps it. For that
+-- the other layers say what a client has to know of its handlers and messages.
 use Rattle.scoop_calm.proofs.Names.{reopened, ◌≡◌, ℕ, ◌≤◌, ◌==◌, ◌&&◌, ◌||◌, not, Bool, true, false, true≢false, List, [], ◌∷◌, ◌++◌, length, Option, Some}
 use Rattle.scoop_calm.proofs.Names.{None, refl, sym, ap, ◌∙◌, subst, arith, length-append, append-nil, and_parts, ⊤, and-false, Block, HandlerId, Entry}
 use Rattle.scoop_calm.proofs.Names.{Message, Hello, Welcome, Lock, Locked, Busy, Open, Opened, Unlock, Unlocked, Log, Logged, Answer, ends, Mark, MarkStage}
@@ -30,9 +30,9 @@ use Rattle.scoop_reserve.specs.Due as reserve
 use Rattle.scoop_model.proofs.Tape.Slots.{ran_of}
 use Rattle.scoop_calm.proofs.Clients.{Reserves, ClientFits, PartyFitsWell, AllFit, fit_kept, opens_fit}
 
--- -------- Facts about a client that leaves its block, and about replies. A block without an Open is open nowhere, so it is over
--- once its lock is given back. A block whose windows are over was received up to its End at each of its handlers, so it
--- is over too. The handler's own replies show that a lock is given back.
+-- -------- Facts about a client that leaves its block, and about replies. A block that never sent Open is open at no handler. So
+-- it is over once its lock is given back. A block whose windows are over was received up to its End at each of its
+-- handlers. So it is over too. The handler's own replies show that a lock is given back.
 
 -- ---- a block without its lock is over, once nothing is open
 
@@ -437,7 +437,7 @@ attending_kept w g i = record {
 pub opens_attending : (ps : List Placement) (ns : List Newcomer) → Attending (opening ps ns)
 opens_attending ps ns = record { messages = tt; parties = λ c p at r held. absurd (none_reserved c (map (λ (y : Placement). y.handler) ps) ns p at r held) }
 
--- -------- All that is so of every world that is reached.
+-- -------- All facts of a reached world.
 
 abbrev Base : World → Type 0
 Base w = ToldMore w × Standing w

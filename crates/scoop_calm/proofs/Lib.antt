@@ -15,5 +15,6 @@ mod Places
 mod Stepping
 mod RoundsCalm
 mod Firsts
+mod Sums
 mod Logs
 mod Chosen

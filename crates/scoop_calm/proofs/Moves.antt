@@ -1,6 +1,5 @@
 -- The moves that settle a world, and induction over what is left to do. Worlds are compared by what their clients, their
--- marks and their queues have left. A property holds of every reached world if it holds of each world when it holds of
--- all those with less left.
+-- marks and their queues have left.
 use Rattle.scoop_calm.proofs.Names.{is_out, can_begin, ◌≡◌, ℕ, ◌+◌, ◌<◌, ◌≤◌, Some, same_client, same_handler, handler_decides, client_decides, World, Site}
 use Rattle.scoop_calm.proofs.Names.{Party, number_of, id_of, site_of, party_of, set_site, set_party, IsReached, sites_apart, parties_apart, total, clients_left}
 use Rattle.scoop_calm.proofs.Names.{room_left, Member, work_left, zero, suc, List, ◌++◌, arith, Event, Next, events_of, Settles, ◌-◌, ◌==◌, true, false, []}
@@ -47,8 +46,8 @@ module _ (w : World) (reached : IsReached w) where
   parties_total f p old at = total_newer id_of same_client client_decides f p old w.parties
       (distinct id_of same_client client_decides w.parties (parties_apart w reached)) at
 
--- -------- Induction over what is left to do: a property holds of every reached world if it holds of each world when it holds of
--- all those with less left.
+-- -------- Induction over what is left to do. Suppose that a property holds of a world whenever it holds of all worlds with
+-- less left. Then it holds of every reached world.
 
 -- it may be next, and leaves less to do
 pub record Helps (w : World) (x : Next) : Type 0 where

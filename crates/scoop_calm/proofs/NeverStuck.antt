@@ -1,5 +1,5 @@
--- Events lead from every reached world to a calm one: no private queue stays forever, one of several clients that lock
--- gets its lock, and what is left then is calm.
+-- Events lead from every reached world to a calm one. No private queue stays forever. Of the clients that lock, one gets
+-- its lock. If no client locks and no private queue is left, the world is calm.
 use Rattle.scoop_calm.proofs.Names.{◌≡◌, ◌⊎◌, inl, inr, ◌==◌, ◌&&◌, not, Bool, true, false, true≢false, List, [], ◌∷◌, length, Option, Some, None, refl, sym}
 use Rattle.scoop_calm.proofs.Names.{ap, ◌∙◌, subst, ⊎_elim, list_any, AllByRecursion, or_right, MAX_QUEUES, Block, same_block, PrivateQueue, takes_more}
 use Rattle.scoop_calm.proofs.Names.{queue_of, has_queue, front, IsQueue, IsCore, is_open, block_of, mark_of, HasMark, is_holder, is_unfinished, mark_of-client}

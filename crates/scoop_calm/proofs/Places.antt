@@ -1,5 +1,5 @@
--- What is left to do never grows: at a handler that hears, and at a client that hears or ends its block. Two worlds that
--- look alike have the same left.
+-- The number `left` never grows when a handler hears, or when a client hears or ends its block. Two worlds with the same
+-- clients and handlers have the same `left`.
 use Rattle.scoop_calm.proofs.Names.{◌≡◌, ℕ, suc, ◌+◌, ◌-◌, ◌<◌, ◌≤◌, inl, inr, true, false, List, [], ◌∷◌, find, Option, Some, None, refl, sym, ap, ◌∙◌, subst}
 use Rattle.scoop_calm.proofs.Names.{⊎_elim, arith, nat_tests, if◌then◌else◌, option_map_or, Block, ClientId, HandlerId, same_block, Mark, IsNewer, IsFurther}
 use Rattle.scoop_calm.proofs.Names.{Grows, block_of, HandlerLog, BlockLog, is_share_of, by_test, total, entries_of, is_later, share_left, block_left}
@@ -463,7 +463,7 @@ pub total_map : {A B : Type 0} (f : B → ℕ) (g : A → B) (xs : List A) → t
 total_map f g [] = refl
 total_map f g (x ∷ xs) = ap (λ n. f (g x) + n) (total_map f g xs)
 
--- what is left at a handler, and in a world, by the clients and the handlers alone
+-- the number left at a handler, and in a world, by the clients and the handlers alone
 abbrev core_left : List BlockLog → List ClientState → Core → ℕ
 core_left logs cs k =
     3 * total (λ (c : ClientState). places_from logs k.state.number c.inc (mark_at c.id k.state.marks)) cs + lock_left k.state + jobs_left k.state.queues k.out

@@ -9,7 +9,7 @@ use Rattle.scoop_calm.proofs.Names.{row, ClientState, Notice, heard, DoEnd, Do, 
 use Rattle.scoop_calm.proofs.Names.{taken, taken_by_handler, taken_by_client, tick_at, with_sent, place_of, sent_or_silent, heard_site, heard_party}
 use Rattle.scoop_calm.proofs.Names.{heard_world, with_party, id_found, site_put, sites_apart, parties_apart, own_site, Next, events_of, can_do, place_in}
 use Rattle.scoop_calm.proofs.Names.{sent_by, IsTaken, IsAsked, Round, Rounds, none, one_more, stays}
-use Rattle.scoop_calm.proofs.Places.{Alike, alike_self, alike_on, left_alike, alike_back, not_less, site_alike, party_alike, cores, clients, heard_id}
+use Rattle.scoop_calm.proofs.Places.{Alike, alike_self, alike_on, left_alike, alike_back, not_less, site_alike, party_alike, heard_id}
 use Rattle.scoop_calm.proofs.Stepping.{calm_stays, event_descends, less_or_alike, Descends}
 use Rattle.scoop_model.specs.declared.note.WorldNote.TheVariants as note
 use Rattle.scoop_calm.specs.declared.next.Next.TheVariants as next
@@ -99,7 +99,7 @@ stays_calm w v (e ∷ es) r all p calm = stays_calm p.0.0 v es (reached_more w e
 
 -- ---- what was sent
 
--- what was sent stays sent, at its place
+-- a message that was sent stays sent, at its place
 abbrev SentOn : List Message → World → Type 0
 SentOn ms w = (more : List Message) × (w.sent ≡ ms ++ more)
 

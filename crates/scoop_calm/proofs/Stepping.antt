@@ -20,7 +20,7 @@ use Rattle.scoop_calm.proofs.Names.{all_set_site, all_set_party, newer_num, not_
 use Rattle.scoop_calm.proofs.Names.{GivingUp, Greeting, Idle, is_ended, phase_at, phase_of_block}
 use Rattle.scoop_handler.proofs.Basics.{all_found}
 use Rattle.scoop_calm.proofs.Everything.{everything, AllFacts}
-use Rattle.scoop_calm.proofs.Places.{HasLog, IsKnown, Alike, cores, clients, hears_less, hears_lessens, total_same}
+use Rattle.scoop_calm.proofs.Places.{HasLog, IsKnown, Alike, hears_less, hears_lessens, total_same}
 use Rattle.scoop_calm.proofs.Marks.{MarkFits, TakenAs, SiteMarked}
 use Rattle.scoop_calm.proofs.Blocks.{party_there, owner}
 use Rattle.scoop_calm.proofs.Lists.{found_in, item_there, distinct, map_newer, some_in, sent_member, all_member, none_long}

@@ -7,7 +7,7 @@ use Rattle.scoop_calm.proofs.Names.{block_work, client_work, windows_work, stage
 use Rattle.scoop_calm.proofs.Names.{find, Option, None, sym, subst, AllByRecursion, option_map_or, length-map, MAX_CLIENTS, ClientId, HandlerId, same_handler}
 use Rattle.scoop_calm.proofs.Names.{handler_decides, IsAscending, has, without, is_party, newer_party, Placement, new_party, opening, inc_of, Run}
 use Rattle.scoop_calm.proofs.Names.{tail-ascending, Changes, steps_kept, is_gone_one, IsMarkUpto, ◌&&◌, eq-eqb, Hello, Welcome, same_client, client_decides}
-use Rattle.scoop_calm.proofs.Names.{Greeted, Known, IsCore, TooManyClients, hear_hello, known, greeted_first, with_mark, with_incarnation, greeting_mark}
+use Rattle.scoop_calm.proofs.Names.{Greeted, Known, IsCore, TooManyClients, hear_hello, greeted_first, with_mark, with_incarnation, greeting_mark}
 use Rattle.scoop_calm.proofs.Names.{All-mark_of, mark_of-client, Welcomed, with_unwelcomed, due_in_block, hear_welcome, ignored, is_site, number_found}
 use Rattle.scoop_calm.proofs.Names.{sites_placed, all_found, MarksUpto, inc_there, own_site, PartyKnown, ◌⊎◌, not, Bool, IsFalse, ⊎_elim, same_Some, Lock}
 use Rattle.scoop_calm.proofs.Names.{MarkStage, AtShut, is_open, is_shut, block_of, IsState, HolderIsUnderWay, is_holder, is_unfinished, holder_from_test}

@@ -1,4 +1,5 @@
 pub mod Bound
+pub mod Capped
 pub mod Examples
 pub mod Left
 pub mod Next

@@ -1,5 +1,5 @@
 -- Rounds: events after which everything is done that was due at their start.
-use Rattle.std.specs.Prelude.{◌≡◌, ◌⊎◌, ℕ, zero, suc, ◌++◌, Bool, true, false, IsTrue, List, [], ◌∷◌, Option, Some, None, IfSome, is_some, Result, Ok, Err}
+use Rattle.std.specs.Prelude.{◌≡◌, ◌⊎◌, ℕ, zero, suc, ◌++◌, Bool, true, false, IsTrue, List, [], ◌∷◌, Option, Some, None, IfSome, is_some, Ok, Err}
 use Rattle.std.specs.List.{AllByRecursion}
 use Rattle.scoop_message.specs.declared.name.ClientId.{ClientId}
 use Rattle.scoop_message.specs.declared.name.HandlerId.{HandlerId}
@@ -24,7 +24,7 @@ is_end (Call h r) = false
 is_end (Query h r) = false
 is_end GiveUp = false
 
--- nobody restarts, and no client takes a command other than to end its block
+-- no party restarts, and no client takes a command other than to end its block
 abbrev pub goes_on : Event → Bool
 goes_on (Do c x) = is_end x
 goes_on (Tick c h) = true
@@ -73,8 +73,8 @@ pub record IsAsked (w : World) (es : List Event) (c : ClientId) (h : HandlerId) 
 
 -- ---- rounds
 
--- each job that is out is finished, each entry that can leave is begun, each client that can ends its block, and each
--- message that is due is sent and taken, and so is its reply; other such events may come between
+-- Each job that is out is finished, and each entry that can leave is begun. Each client that can ends its block. Each
+-- message that is due is sent and taken, and so is its reply. Other such events may come between.
 pub record Round (w : World) (es : List Event) : Type 0 where
   pub kinds : AllByRecursion (λ e. IsTrue (goes_on e)) es
   pub finishes : (h : HandlerId) (s : Site) → site_of h w ≡ Some s → is_out s ≡ true → Member (Finish h) es

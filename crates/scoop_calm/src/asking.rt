@@ -14,8 +14,8 @@ use scoop_message::{Block, ClientId, Message};
 use scoop_world::Standing;
 use std::alloc::Allocator;
 
-// The mark of a client.
-fn mark_of<A: Allocator>(state: &HandlerState<A>, client: ClientId) -> Option<Mark>
+/// The mark of a client.
+pub(crate) fn mark_of<A: Allocator>(state: &HandlerState<A>, client: ClientId) -> Option<Mark>
     ensures { result ≡ mark_of client state.now.marks }
 {
     for place in 0..state.marks() {

@@ -7,10 +7,13 @@ ghost use Rattle.scoop_calm.specs.Bound.{left};
 ghost use Rattle.scoop_calm.specs.Rounds.{Rounds};
 ghost use Rattle.scoop_calm.specs.Settling.{Calm};
 
-/// Every fair way leads to a calm world, and `left` rounds are enough. In a round each job that is out at its start is
-/// finished, each entry that can leave is begun, each client that can ends its block, and each message that is due is
-/// sent and taken, and so is its reply. These come in any order, and other such events may come between them, with
-/// messages lost, repeated and delayed. Nobody restarts, and no client begins a block or calls.
+/// Every fair way leads to a calm world, and `left` rounds are enough. A round does all that
+/// was open at its start. Each job that is out is finished, and each entry that can leave is begun. Each client that can
+/// ends its block. Each message that is due is sent and taken, and so is its reply. These come in any order, and other
+/// such events may come between them. Messages may be lost, repeated and delayed. No party restarts, and no client
+/// begins a block or calls.
+///
+/// [`left_of`](crate::left_of) computes `left` of a running world.
 ///
 /// One client alone has no such promise: see [`taken_in_turns`](crate::examples::taken_in_turns).
 pub fn rounds_calm()

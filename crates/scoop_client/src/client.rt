@@ -64,11 +64,25 @@ impl<A: Allocator> Client<A> {
         self.batch
     }
 
+    /// The client's incarnation, from 1 on.
+    pub fn inc(&self) -> u32
+        ensures { result ≡ self.now.inc }
+    {
+        self.inc
+    }
+
     /// The handlers with which the client began, in their order.
     pub fn handlers(&self) -> &[HandlerId]
         ensures { result.now ≡ self.now.handlers }
     {
         &self.handlers
+    }
+
+    /// The handlers that haven't welcomed the client, in their order.
+    pub fn unwelcomed(&self) -> &[HandlerId]
+        ensures { result.now ≡ self.now.unwelcomed }
+    {
+        &self.unwelcomed
     }
 
     /// The client's phase.
@@ -103,6 +117,27 @@ impl<A: Allocator> Client<A> {
             Some(reservation) => Some(reservation.block()),
             None => None,
         }
+    }
+
+    /// The reservation of the client's block.
+    pub fn reservation(&self) -> Option<Reservation>
+        ensures { result ≡ self.now.reservation }
+    {
+        self.reservation
+    }
+
+    /// The windows of the client's block: one for each handler that it reserved.
+    pub fn windows(&self) -> &[Window<A>]
+        ensures { result.now ≡ self.now.windows }
+    {
+        &self.windows
+    }
+
+    /// The block's query that waits for its answer: its handler and number.
+    pub fn waits(&self) -> Option<(HandlerId, u32)>
+        ensures { result ≡ self.now.waits }
+    {
+        self.waits
     }
 
     /// The one message owed to this handler now.

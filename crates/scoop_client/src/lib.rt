@@ -38,3 +38,4 @@ pub use command::Command;
 pub use error::{BeginError, ClientError};
 pub use handlers::{HandlerList, MAX_NAMED_HANDLERS, TooManyHandlers};
 pub use phase::{ClientNote, Phase};
+pub use window::Window;

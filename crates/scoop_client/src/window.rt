@@ -13,8 +13,10 @@ use std::marker::Model;
 
 /// The window of one handler of a block: the logged entries that aren't acknowledged yet, oldest first. It has
 /// room for a whole window, so logging takes no memory.
+///
+/// Contracts see the handler, how many entries are acknowledged, whether the End is logged, and the other entries.
 #[derive(Drop)]
-pub(crate) struct Window<A: Allocator> {
+pub struct Window<A: Allocator> {
     handler: HandlerId,
     acked: u32,
     ended: bool,
@@ -86,10 +88,17 @@ impl<A: Allocator> Window<A> {
     }
 
     /// Whether the End is logged.
-    pub(crate) fn is_ended(&self) -> bool
+    pub fn is_ended(&self) -> bool
         ensures { result ≡ self.now.ended }
     {
         self.ended
+    }
+
+    /// The logged entries that aren't acknowledged, oldest first.
+    pub fn unacked(&self) -> &[Entry]
+        ensures { result.now ≡ self.now.unacked }
+    {
+        &self.unacked
     }
 
     /// Whether the window has no room for one more entry.

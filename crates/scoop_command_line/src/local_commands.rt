@@ -149,7 +149,7 @@ const WORLD_ARGUMENTS: [ArgumentRow; 4] = [
         value_name: "",
         default: None,
         help: "After the last line, lets the world settle: entries run, clients send what is due and end their blocks, \
-            until every client is idle",
+            until every client is idle. Then says how many rounds were left at most, and how many steps it took",
     },
     ArgumentRow {
         name: "chart",

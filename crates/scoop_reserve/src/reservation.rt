@@ -86,6 +86,13 @@ impl Reservation {
         self.handlers.as_slice()
     }
 
+    /// The handlers that are left to do in this stage.
+    pub fn left(&self) -> &[HandlerId]
+        ensures { result.now ≡ self.now.left }
+    {
+        self.left.as_slice()
+    }
+
     /// The stage of the reservation.
     pub fn stage(&self) -> Stage
         ensures { result ≡ self.now.stage }

@@ -9,6 +9,8 @@ use Rattle.std.specs.Prelude.{Vec, if◌then◌else◌}
 use Rattle.std.proofs.lemmas.Bool.{ltb-true, ltb-false}
 use Rattle.std.proofs.lemmas.Bool.Decides.{same_from_decides}
 use Rattle.std.proofs.lemmas.List.{length-map}
+use Rattle.std.proofs.lemmas.Option.{slice_get-map}
+use Rattle.std.specs.Option.{option_map}
 use Rattle.indexmap.specs.IndexMap.{insert_entry, set_value_at}
 use Rattle.indexmap.specs.IndexSet.{insert_key}
 use Rattle.scoop_message.specs.contracts.name.BlockPartialEq.TheImpl as on_block
@@ -172,3 +174,9 @@ kept-same p v (e ∷ es) zero is same =
     let here : e.1 ≡ p = cc in
     rw (same, here) refl
 kept-same p v (e ∷ es) (suc i) is same = ap (λ ls. log_kept e ∷ ls) (kept-same p v es i is same)
+
+-- the block at a place of the map is that of the log there
+pub block-there : {A : Type 0} → (es : Entries A) (i : ℕ) (o : Option (Block × Vec (LoggedAt A) A)) → o ≡ slice_get es i
+    → option_map (λ e. e.0) o ≡ option_map (λ (l : BlockLog). l.block) (slice_get (logs_kept es) i)
+block-there es i None at = sym (ap (option_map (λ (l : BlockLog). l.block)) (slice_get-map log_kept es i ∙ ap (option_map log_kept) (sym at)))
+block-there es i (Some e) at = sym (ap (option_map (λ (l : BlockLog). l.block)) (slice_get-map log_kept es i ∙ ap (option_map log_kept) (sym at)))

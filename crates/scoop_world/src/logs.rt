@@ -1,6 +1,6 @@
 //! The logs of clients: for each block that was ever reserved its handlers, and the entries logged for each.
 
-ghost use Rattle.std.specs.Prelude.{◌≡◌, ◌<◌, ◌++◌, [], ◌∷◌, None, false, map, MatchOption, IfOk, IfSome, OnOk};
+ghost use Rattle.std.specs.Prelude.{◌≡◌, ◌<◌, ◌++◌, [], ◌∷◌, None, false, map, MatchOption, IfOk, IfSome, OnOk, slice_get, option_and_then};
 ghost use Rattle.std.specs.List.{All};
 ghost use Rattle.std.specs.Option.{option_map};
 ghost use Rattle.indexmap.specs.IndexMap.{IsUnique, index_map_len, spare};
@@ -120,6 +120,16 @@ pub(crate) fn log<A: Allocator + Copy>(
     }
 }
 
+/// The block at a place, counted from 0 in the order of the reserves.
+pub(crate) fn block_at<A: Allocator + Copy>(logs: &Logs<A>, place: usize) -> Option<Block>
+    ensures { result ≡ option_map (λ l. l.block) (slice_get (logs_kept logs.now.entries) place) }
+{
+    match logs.get_index(place) {
+        Some((block, _)) => Some(*block),
+        None => None,
+    }
+}
+
 // The entries logged for a handler.
 fn logged_in<A: Allocator + Copy>(shares: &[LoggedAt<A>], handler: HandlerId) -> Option<&[Entry]>
     ensures { option_map (λ es. es.now) result ≡ entries_in handler (map logged_kept shares.now) }
@@ -142,6 +152,21 @@ pub(crate) fn logged<A: Allocator + Copy>(
 {
     match place_of(logs, block) {
         Some(place) => logged_in(&logs[place], handler),
+        None => None,
+    }
+}
+
+/// The entries logged for a handler by the client of the block at a place, if that block has reserved the handler.
+pub(crate) fn logged_by<A: Allocator + Copy>(
+    logs: &Logs<A>,
+    place: usize,
+    handler: HandlerId,
+) -> Option<&[Entry]>
+    ensures { option_map (λ es. es.now) result
+        ≡ option_and_then (λ l. entries_in handler l.shares) (slice_get (logs_kept logs.now.entries) place) }
+{
+    match logs.get_index(place) {
+        Some((_, shares)) => logged_in(shares, handler),
         None => None,
     }
 }

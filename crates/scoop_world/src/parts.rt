@@ -1,10 +1,10 @@
 //! The parts of a world.
 
-ghost use Rattle.std.specs.Prelude.{◌≡◌, ◌<◌, ◌-◌, [], None, find, length, map, slice_get, MatchOption, IfOk};
+ghost use Rattle.std.specs.Prelude.{◌≡◌, ◌<◌, ◌-◌, [], None, find, length, map, slice_get, option_and_then, MatchOption, IfOk};
 ghost use Rattle.std.specs.Option.{option_map};
 ghost use Rattle.scoop_model.specs.World.{is_site, is_party, logged_at, party_of, sent_at, site_of};
 ghost use Rattle.scoop_keeper.specs.Keyed.{IsFirst};
-ghost use Rattle.scoop_world.specs.Kept.{HasAll, world_kept};
+ghost use Rattle.scoop_world.specs.Kept.{HasAll, entries_in, world_kept};
 ghost use Rattle.scoop_world.specs.Standing.{numbered, standing};
 
 mod commanding;
@@ -13,7 +13,7 @@ mod jobs;
 mod restarting;
 mod sending;
 
-use crate::logs::{Logs, logged};
+use crate::logs::{Logs, block_at, logged, logged_by};
 use crate::party::Party;
 use crate::site::Site;
 use crate::standing::Standing;
@@ -172,6 +172,28 @@ impl<B: Behaviour, A: Allocator + Copy> Parts<B, A> {
         ensures { option_map (λ es. es.now) result ≡ logged_at block handler self.now }
     {
         logged(&self.logs, block, handler)
+    }
+
+    /// How many blocks were ever reserved.
+    pub(crate) fn blocks(&self) -> usize
+        ensures { result ≡ length self.now.logs }
+    {
+        self.logs.len()
+    }
+
+    /// The block at a place, in the order of the reserves.
+    pub(crate) fn block(&self, place: usize) -> Option<Block>
+        ensures { result ≡ option_map (λ l. l.block) (slice_get self.now.logs place) }
+    {
+        block_at(&self.logs, place)
+    }
+
+    /// The entries logged for a handler by the client of the block at a place.
+    pub(crate) fn logged_by(&self, place: usize, handler: HandlerId) -> Option<&[Entry]>
+        ensures { option_map (λ es. es.now) result
+            ≡ option_and_then (λ l. entries_in handler l.shares) (slice_get self.now.logs place) }
+    {
+        logged_by(&self.logs, place, handler)
     }
 
     /// The i-th sent message, i from 1.

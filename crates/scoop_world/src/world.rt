@@ -1,11 +1,12 @@
 //! A world: all parties over a list of events.
 
-ghost use Rattle.std.specs.Prelude.{◌≡◌, IfOk, length, map, slice_get};
+ghost use Rattle.std.specs.Prelude.{◌≡◌, IfOk, length, map, slice_get, option_and_then};
 ghost use Rattle.std.specs.Option.{option_map};
 ghost use Rattle.scoop_model.specs.World.{logged_at, party_of, sent_at, site_of};
 ghost use Rattle.scoop_model.specs.Step.{step};
 ghost use Rattle.scoop_model.specs.Reach.{IsReached};
 ghost use Rattle.scoop_world.specs.Answers.{Takes};
+ghost use Rattle.scoop_world.specs.Kept.{entries_in};
 ghost use Rattle.scoop_world.specs.Standing.{numbered, standing};
 ghost use Rattle.scoop_rules.specs.Paper.{FollowsRules};
 
@@ -74,6 +75,29 @@ impl<B: Behaviour, A: Allocator + Copy> World<B, A> {
         ensures { option_map (λ es. es.now) result ≡ logged_at block handler self.now }
     {
         self.parts.logged(block, handler)
+    }
+
+    /// How many blocks were ever reserved.
+    pub fn blocks(&self) -> usize
+        ensures { result ≡ length self.now.logs }
+    {
+        self.parts.blocks()
+    }
+
+    /// The block at a place, counted from 0 in the order in which blocks were reserved. `None` past the last one.
+    pub fn block(&self, place: usize) -> Option<Block>
+        ensures { result ≡ option_map (λ l. l.block) (slice_get self.now.logs place) }
+    {
+        self.parts.block(place)
+    }
+
+    /// The entries that the client of the block at a place has logged for the handler, in their order. `None` past the
+    /// last block, and if the block never reserved the handler.
+    pub fn logged_by(&self, place: usize, handler: HandlerId) -> Option<&[Entry]>
+        ensures { option_map (λ es. es.now) result
+            ≡ option_and_then (λ l. entries_in handler l.shares) (slice_get self.now.logs place) }
+    {
+        self.parts.logged_by(place, handler)
     }
 
     /// The entries that have run at the handler, in their order. `None` for an unknown handler.

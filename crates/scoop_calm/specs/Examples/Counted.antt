@@ -1,5 +1,5 @@
 -- A client joins, reserves a cell and ends its block: what is left after each step.
-use Rattle.std.specs.Prelude.{◌≡◌, ℕ, List, [], ◌∷◌, ◌++◌}
+use Rattle.std.specs.Prelude.{◌≡◌, ℕ, List, [], ◌∷◌}
 use Rattle.scoop_client.specs.declared.command.Command.TheVariants.{End}
 use Rattle.scoop_model.specs.declared.event.Event.{Event}
 use Rattle.scoop_model.specs.declared.event.Event.TheVariants.{Do, Take, Begin, Finish}
@@ -8,7 +8,7 @@ use Rattle.scoop_model.specs.Reach.{steps}
 use Rattle.scoop_model.specs.Examples.Parties.{handler, client, cells, trip, reserve}
 use Rattle.scoop_calm.specs.Bound.{left}
 
--- what is left at first, and after each of these lists of events
+-- the number left at first, and after each of these lists of events
 abbrev pub counted : World → List (List Event) → List ℕ
 counted w [] = left w ∷ []
 counted w (es ∷ more) = left w ∷ counted (steps w es) more

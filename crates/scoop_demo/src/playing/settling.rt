@@ -4,15 +4,17 @@ use crate::playing::echo::Echo;
 use crate::playing::events::{Stop, play};
 use crate::playing::picture::Picture;
 use crate::script::EventLine;
-use scoop_calm::{Next, next_of};
+use scoop_calm::{Next, left_of, next_of};
 use scoop_message::OutOfMemory;
 use scoop_object::Table;
 use scoop_world::{Command, Event, World};
 use std::alloc::Global;
+use std::io;
 use std::io::Write;
 
 /// Plays the next useful event of the world until the world is calm. Each event writes its line, after its echo if
-/// `echoes` is set: the script's line for that event.
+/// `echoes` is set: the script's line for that event. The last line says how many rounds were left at most at first, and
+/// how many steps were taken. A step is one of these events, or the three of a trip.
 pub fn settle<W: Write>(
     alloc: Global,
     world: &mut World<Table>,
@@ -20,16 +22,26 @@ pub fn settle<W: Write>(
     picture: &mut Picture,
     writer: &mut W,
 ) -> Result<(), Stop> {
-    for _ in 0..u64::MAX {
+    let left = left_of(world).map_err(|_| Stop::OutOfMemory)?;
+    for taken in 0..u64::MAX {
         let found = next_of(world).map_err(|_| Stop::OutOfMemory)?;
         let Some(next) = found else {
-            return Ok(());
+            return print_settled(left, taken, writer).map_err(|_| Stop::Write);
         };
         let line = said(alloc, next).map_err(|_| Stop::OutOfMemory)?;
         let echo = Echo::unnumbered(echoes, &line);
         play(world, &line_of(next), echo, picture, writer)?;
     }
     Ok(())
+}
+
+// Writes how many rounds were left at most, and how many steps were taken.
+fn print_settled<W: Write>(left: Option<u64>, taken: u64, writer: &mut W) -> io::Result<()> {
+    match left {
+        Some(left) => write!(writer, "settled: at most {left} rounds were left, ")?,
+        None => writer.write_all(b"settled: more than 2^64 - 2 rounds may have been left, ")?,
+    }
+    writeln!(writer, "{taken} steps were taken")
 }
 
 // The script's line for the event.

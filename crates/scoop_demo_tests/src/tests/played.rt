@@ -602,3 +602,74 @@ fn echoes_the_entries_that_run(rt: HostRuntime) {
     let (told, _) = behind.split_once("joint").unwrap_or((behind, ""));
     assert_eq!(rt; told, RUNS);
 }
+
+// A client that is to reserve a handler, and what it did before.
+const RESERVING: &str = "\
+handler 1 1 cell 0
+client 7
+trip 7 1
+reserve 7 1
+";
+
+const RESERVED: &str = "\
+sent 1 Hello
+Greeted sent 2
+Welcomed 1
+done
+";
+
+// It locks, opens and unlocks the handler and ends its block, whose End runs. Each trip is one step.
+const SETTLES: &str = "\
+sent 3 Lock
+Granted sent 4
+Locked 1
+sent 5 Open
+Opened sent 6
+Opened 1
+sent 7 Unlock
+Freed sent 8
+Unlocked 1
+done
+sent 9 Log
+Took 1 sent 10
+Acknowledged 1 1
+began 7.1.1 1
+ran 7.1.1 1 end
+settled: at most 11 rounds were left, 7 steps were taken
+joint 7.1.1
+";
+
+// The output of a script whose world settles.
+fn settled(alloc: Global, script: &str, written: &mut Vec<u8>) -> Result<(), RunError> {
+    let options = PlayOptions {
+        echoes: false,
+        is_strict: false,
+        settles: true,
+    };
+    let keeper = MemoryKeeper::new(alloc);
+    world_run_with(alloc, keeper, options, script.as_bytes(), written)
+}
+
+#[test]
+fn says_how_many_rounds_were_left_and_how_many_steps_were_taken(rt: HostRuntime) {
+    let mut written = Vec::new(rt.alloc());
+    assert_eq!(rt; settled(rt.alloc(), RESERVING, &mut written), Ok(()));
+    let text = str::from_utf8(&written).ok().unwrap_or("");
+    let (_, steps) = text.split_once(RESERVED).unwrap_or(("", ""));
+    let (told, _) = steps.split_once("handler").unwrap_or((steps, ""));
+    assert_eq!(rt; told, SETTLES);
+}
+
+#[test]
+fn a_calm_world_settles_in_no_step(rt: HostRuntime) {
+    let mut written = Vec::new(rt.alloc());
+    let script = "handler 1 1 cell 0\nclient 7\ntrip 7 1\n";
+    assert_eq!(rt; settled(rt.alloc(), script, &mut written), Ok(()));
+    let text = str::from_utf8(&written).ok().unwrap_or("");
+    let (_, told) = text.split_once("Welcomed 1\n").unwrap_or(("", ""));
+    let (line, _) = told.split_once('\n').unwrap_or((told, ""));
+    assert_eq!(rt;
+        line,
+        "settled: at most 0 rounds were left, 0 steps were taken"
+    );
+}

@@ -1,6 +1,6 @@
 //! The examples that open the documents of the crates.
 
-use super::settling::next;
+use super::settling::{left, next};
 use super::worlds::cells;
 use scoop_calm::Next;
 use scoop_keeper::MemoryKeeper;
@@ -103,17 +103,20 @@ const GREETING: [Event; 3] = [
 
 /// The second example of `scoop_calm`.
 fn settles(rt: &impl Abort, world: &mut World<Table>) -> Result<(), TooManyHandlers> {
-    // a client that joins is to greet the handler (`next` is `next_of` where memory isn't refused)
+    // a client that joins is to greet the handler (`next` and `left` are `next_of` and `left_of` where memory isn't refused)
     let asks = Next::Ask(ClientId(7), HandlerId(1));
     assert_eq!(rt; next(world), Ok(Some(asks)));
+    assert_eq!(rt; left(world), Ok(4));
     // it does, and hears the reply: then the world is calm
     assert_eq!(rt; world.run(&GREETING), Ok(3));
     assert_eq!(rt; next(world), Ok(None));
+    assert_eq!(rt; left(world), Ok(0));
     // a client that is to reserve the handler asks it for the lock
     let one = HandlerList::of(&[HandlerId(1)])?;
     let reserve = Event::Do(ClientId(7), Command::Reserve(one));
     assert_eq!(rt; world.step(reserve), Ok(WorldNote::Done));
     assert_eq!(rt; next(world), Ok(Some(asks)));
+    assert_eq!(rt; left(world), Ok(11));
     Ok(())
 }
 

@@ -1,6 +1,6 @@
 //! Worlds that settle: the next event is played until there is none, and the world is calm.
 
-use scoop_calm::{Next, next_of};
+use scoop_calm::{Next, left_of, next_of};
 use scoop_client::{ClientNote, Phase};
 use scoop_object::Table;
 use scoop_world::{Command, Event, Standing, World, WorldError, WorldNote};
@@ -93,15 +93,32 @@ pub fn next<A: Allocator + Copy>(world: &World<Table, A>) -> Result<Option<Next>
     }
 }
 
-/// Plays the next event until there is none; then the world is calm.
+/// How many rounds the world has left at most.
+pub fn left<A: Allocator + Copy>(world: &World<Table, A>) -> Result<u64, Fault> {
+    match left_of(world) {
+        Ok(Some(left)) => Ok(left),
+        Ok(None) => Err("too much is left to be counted"),
+        Err(_) => Err("memory is wanted where none was refused"),
+    }
+}
+
+// The end of a world in which nothing is next, after this many steps of those that were left.
+fn ended<A: Allocator + Copy>(world: &World<Table, A>, taken: u32, left: u64) -> Result<(), Fault> {
+    if !is_calm(world)? {
+        return Err("nothing is next, and the world isn't calm");
+    }
+    if u64::from(taken) > left {
+        return Err("more steps were taken than were left");
+    }
+    Ok(())
+}
+
+/// Plays the next event until there is none; then the world is calm, after no more steps than were left.
 pub fn settles<A: Allocator + Copy>(world: &mut World<Table, A>) -> Result<(), Fault> {
-    for _ in 0..TURNS {
+    let left = left(world)?;
+    for taken in 0..TURNS {
         let Some(next) = next(world)? else {
-            return if is_calm(world)? {
-                Ok(())
-            } else {
-                Err("nothing is next, and the world isn't calm")
-            };
+            return ended(world, taken, left);
         };
         play(world, next)?;
     }

@@ -1,6 +1,5 @@
 -- It is among those that are left.
-use Rattle.std.proofs.Common.{◌≡◌, find, drop}
-use Rattle.scoop_message.specs.Message.{same_client}
+use Rattle.std.proofs.Common.{◌≡◌, drop}
 use Rattle.scoop_handler.specs.Marks.{mark_of}
 use Rattle.scoop_calm.proofs.asking.mark_of.Given as goal
 

@@ -1,10 +1,9 @@
-use Rattle.std.proofs.Common.{◌≡◌, ◌+◌, drop, map, Option, sym, ap, ◌∙◌}
+use Rattle.std.proofs.Common.{◌≡◌, ◌+◌, drop, sym, ap, ◌∙◌}
 use Rattle.std.specs.Prelude.{is_some}
 use Rattle.scoop_message.specs.declared.name.ClientId.{ClientId}
 use Rattle.scoop_client.specs.State.{ClientState}
 use Rattle.scoop_model.specs.World.{id_of}
-use Rattle.scoop_world.specs.Standing.{Standing, standing}
-use Rattle.scoop_calm.specs.declared.next.Next.{Next}
+use Rattle.scoop_world.specs.Standing.{Standing}
 use Rattle.scoop_calm.specs.declared.next.Next.TheVariants as next
 use Rattle.scoop_calm.specs.Next.{ask_of, next_ask}
 use Rattle.scoop_calm.specs.Standing.{gets_from, first_ask}

@@ -1,4 +1,4 @@
-use Rattle.std.proofs.Common.{◌≡◌, sym, ◌∙◌}
+use Rattle.std.proofs.Common.{sym, ◌∙◌}
 use Rattle.scoop_calm.proofs.choosing.next_of.Goals as goal
 
 pub returns-clause-calm : goal.returns-clause-calm

@@ -1,0 +1,7 @@
+-- What the items so far and those that are left are worth is the sum of all.
+use Rattle.scoop_calm.specs.Left.{queue_work}
+use Rattle.scoop_calm.proofs.Sums.{Sums}
+use Rattle.scoop_calm.proofs.counting.pending.Given as goal
+
+abbrev pub invariant-loop-place : goal.invariant-loop-place
+invariant-loop-place g l = Sums queue_work l.queues l.sum l.place

@@ -1,0 +1,7 @@
+-- What the items so far and those that are left are worth is the sum of all.
+use Rattle.scoop_calm.specs.Bound.{block_left}
+use Rattle.scoop_calm.proofs.Sums.{Sums}
+use Rattle.scoop_calm.proofs.mark_places.blocks_left.Given as goal
+
+abbrev pub invariant-loop-place : goal.invariant-loop-place
+invariant-loop-place g l = Sums (block_left l.handler l.mark) l.world.logs l.sum l.place

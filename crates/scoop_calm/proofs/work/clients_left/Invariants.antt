@@ -1,0 +1,8 @@
+-- What the items so far and those that are left are worth is the sum of all.
+use Rattle.scoop_model.specs.World.{Party}
+use Rattle.scoop_calm.specs.Left.{client_work}
+use Rattle.scoop_calm.proofs.Sums.{Sums}
+use Rattle.scoop_calm.proofs.work.clients_left.Given as goal
+
+abbrev pub invariant-loop-place : goal.invariant-loop-place
+invariant-loop-place g l = Sums (λ (p : Party). client_work p.client) l.world.parties l.sum l.place
