@@ -1,19 +1,19 @@
 -- Clients attend to their blocks until nothing of them is unfinished. After a Lock was sent, its client is still at the
 -- block, or the handler is done with it. Hearing and commands keep this.
 use Rattle.scoop_calm.proofs.Names.{◌≡◌, ◌⊎◌, inl, inr, ℕ, ◌<◌, ◌≤◌, true, false, List, [], ◌∷◌, ◌++◌, map, find, Option, Some, refl, sym, ap, ◌∙◌, subst}
-use Rattle.scoop_calm.proofs.Names.{⊎_elim, arith, same_Some, if◌then◌else◌, ⊤, AllByRecursion, Block, ClientId, HandlerId, Message, Hello, Welcome, Lock}
-use Rattle.scoop_calm.proofs.Names.{Locked, Busy, Open, Opened, Unlock, Unlocked, Log, Logged, Answer, same_handler, HandlerState, Stage, Locking, Opening}
-use Rattle.scoop_calm.proofs.Names.{Unlocking, GivingUp, has, is_lowest, ReservationState, WindowState, window_of, ClientState, World, Site, Party, number_of}
-use Rattle.scoop_calm.proofs.Names.{id_of, is_site, is_party, site_of, party_of, set_site, set_party, count_in, greatest_count, reopened, inc_of, by_test}
-use Rattle.scoop_calm.proofs.Names.{by_site, by_party, id_found, SiteFits, all_more_of, state_anew, count_itself, Member, ◌&&◌, true≢false, None, nat_tests}
-use Rattle.scoop_calm.proofs.Names.{Entry, ObjectAnswer, handler_decides, Step, without, is_empty, at_stage, is_gone, StepRow, steps_over, one_is_locked}
-use Rattle.scoop_calm.proofs.Names.{all_are_locked, is_busy, one_is_opened, all_are_opened, is_unlocked, is_given_back, step_row, ClientNote, with_entry}
-use Rattle.scoop_calm.proofs.Names.{with_end, acknowledged, at_window, all_over, with_windows, with_reservation, idle, heard, stepped, after_step, up_to}
-use Rattle.scoop_calm.proofs.Names.{HeardRow, passed_over, is_welcomed, takes_step, is_acknowledged, is_accepted, heard_row, has_without, is_gone_one}
-use Rattle.scoop_calm.proofs.Names.{none_in_empty, WindowFits, WindowsFit, handlers_at, by_window, by_all, handlers_at_window, fits_acknowledged, unlocking_is}
-use Rattle.scoop_calm.proofs.Names.{log_of, ◌||◌, not, Bool, Ok, Call, Query, asked, fresh, given_up_in, Greeting, Idle, is_ended, phase_of, phase_of_block}
-use Rattle.scoop_calm.proofs.Names.{phase_at, Command, Reserve, DoCall, DoQuery, DoEnd, GiveUp, Outcome, command, next_block, with_block, ReserveRow}
-use Rattle.scoop_calm.proofs.Names.{begins_block, LogRow, is_logged, EndRow, ends_block, GiveUpRow, gives_up, command_row, ok_is, started_fresh, fresh_found}
+use Rattle.scoop_calm.proofs.Names.{⊎_elim, arith, same_Some, if◌then◌else◌, ⊤, AllByRecursion, Block, ClientId, HandlerId, Message, Lock, Unlocked, Log}
+use Rattle.scoop_calm.proofs.Names.{Logged, Answer, same_handler, HandlerState, Stage, Locking, Opening, Unlocking, GivingUp, has, is_lowest, ReservationState}
+use Rattle.scoop_calm.proofs.Names.{WindowState, window_of, ClientState, World, Site, Party, number_of, id_of, is_site, is_party, site_of, party_of, set_site}
+use Rattle.scoop_calm.proofs.Names.{set_party, count_in, greatest_count, reopened, inc_of, by_test, by_site, by_party, id_found, SiteFits, all_more_of}
+use Rattle.scoop_calm.proofs.Names.{state_anew, count_itself, Member, ◌&&◌, true≢false, None, nat_tests, Entry, ObjectAnswer, handler_decides, Step, without}
+use Rattle.scoop_calm.proofs.Names.{is_empty, at_stage, is_gone, StepRow, steps_over, one_is_locked, all_are_locked, is_busy, one_is_opened, all_are_opened}
+use Rattle.scoop_calm.proofs.Names.{is_unlocked, is_given_back, step_row, ClientNote, with_entry, with_end, acknowledged, at_window, all_over, with_windows}
+use Rattle.scoop_calm.proofs.Names.{with_reservation, idle, heard, stepped, after_step, up_to, HeardRow, passed_over, is_welcomed, takes_step, is_acknowledged}
+use Rattle.scoop_calm.proofs.Names.{is_accepted, heard_row, has_without, is_gone_one, none_in_empty, WindowFits, WindowsFit, handlers_at, by_window, by_all}
+use Rattle.scoop_calm.proofs.Names.{handlers_at_window, fits_acknowledged, unlocking_is, log_of, ◌||◌, not, Bool, Ok, Call, Query, asked, fresh, given_up_in}
+use Rattle.scoop_calm.proofs.Names.{Greeting, Idle, is_ended, phase_of, phase_of_block, phase_at, Command, Reserve, DoCall, DoQuery, DoEnd, GiveUp, Outcome}
+use Rattle.scoop_calm.proofs.Names.{command, next_block, with_block, ReserveRow, begins_block, LogRow, is_logged, EndRow, ends_block, GiveUpRow, gives_up}
+use Rattle.scoop_calm.proofs.Names.{command_row, ok_is, started_fresh, fresh_found}
 use Rattle.scoop_calm.proofs.Marks.{IsReleasedIn, IsOverIn}
 use Rattle.scoop_reserve.specs.Hearing as reservation
 use Rattle.scoop_calm.proofs.Lists.{gone_without, lowest_has, lowest_below, in_asked}
@@ -129,13 +129,7 @@ module _ (v w : World) (x : Onto v w) where
   attends_more (Log h b n es) a = x.released h b a
   attends_more (Logged h b n) a = x.released h b a
   attends_more (Answer h b n y) a = x.released h b a
-  attends_more (Hello h c inc) a = tt
-  attends_more (Welcome h c inc) a = tt
-  attends_more (Locked h b) a = tt
-  attends_more (Busy h b) a = tt
-  attends_more (Open h b) a = tt
-  attends_more (Opened h b) a = tt
-  attends_more (Unlock h b) a = tt
+  attends_more m a = tt
 
   pub messages_more : (ms : List Message) → AllByRecursion (Attends v) ms → AllByRecursion (Attends w) ms
   messages_more ms all = all_more_of (Attends v) (Attends w) attends_more ms all
@@ -250,9 +244,9 @@ module _ (w : World) (c : ClientState) (f : PartyAttends w c) where
 
     stepped_follows : Follows w c (stepped c s)
     stepped_follows =
-        by_test (λ t. is_gone s ≡ t → Follows w c (if t then idle c else with_reservation c s)) (is_gone s)
-        (λ _ gone. record { goes = λ h b a. let own = own_asked h b a in inl (subst (IsOver w h) own.1 (leaves gone h own.0)); attends = λ q e. absurd (cc) })
-        (λ _ on. record {
+        by_test (λ t. Follows w c (if t then idle c else with_reservation c s)) (is_gone s)
+        (λ gone. record { goes = λ h b a. let own = own_asked h b a in inl (subst (IsOver w h) own.1 (leaves gone h own.0)); attends = λ q e. absurd (cc) })
+        (λ on. record {
           goes = λ h b a.
               let own = own_asked h b a in
               ⊎_elim (λ (o : IsOver w h r.block). inl (subst (IsOver w h) own.1 o))
@@ -264,7 +258,7 @@ module _ (w : World) (c : ClientState) (f : PartyAttends w c) where
                 acked = λ h l found some. subst (IsReleased w h) (sym block) (g.acked h l found some);
                 counts = λ h l found. subst (λ b. l.acked ≤ greatest_count h b w.sent) (sym block) (g.counts h l found);
               });
-        }) refl
+        })
 
   lowest_one : (h x : HandlerId) (hs : List HandlerId) → is_lowest h hs ≡ true → is_lowest x hs ≡ true → h ≡ x
   lowest_one h x hs p q =
@@ -307,18 +301,18 @@ module _ (w : World) (c : ClientState) (f : PartyAttends w c) where
       stepped_follows r (at_stage r Unlocking (without h r.left)) held refl
       (λ x a. let old : AskedAt r x Unlocking = subst (AskedAt r x) at a in inr old)
       (λ e x named free.
-      by_test (λ y. has r.left x ≡ y → IsReleased w x r.block) (has r.left x)
-      (λ _ in_left. subst (λ z. IsReleased w z r.block) (is_gone_one h x r.left in_left free) t)
-      (λ _ gone. (f r held).unlocked at x named gone) refl)
+      by_test (λ _. IsReleased w x r.block) (has r.left x)
+      (λ in_left. subst (λ z. IsReleased w z r.block) (is_gone_one h x r.left in_left free) t)
+      (λ gone. (f r held).unlocked at x named gone))
       (λ gone x a. absurd (true≢false (sym gone)))
   step_follows m round r s st held (is_given_back h at is) t =
       let over : IsOver w h r.block = round.given_over r held at h t in
       stepped_follows r (at_stage r GivingUp (without h r.left)) held refl
       (λ x a.
       let old : AskedAt r x GivingUp = subst (AskedAt r x) at a in
-      by_test (λ y. has (without h r.left) x ≡ y → IsOver w x r.block ⊎ (has (without h r.left) x ≡ true)) (has (without h r.left) x)
-      (λ _ still. inr still)
-      (λ _ gone. inl (subst (λ z. IsOver w z r.block) (is_gone_one h x r.left old gone) over)) refl)
+      by_test (λ _. IsOver w x r.block ⊎ (has (without h r.left) x ≡ true)) (has (without h r.left) x)
+      (λ still. inr still)
+      (λ gone. inl (subst (λ z. IsOver w z r.block) (is_gone_one h x r.left old gone) over)))
       (λ e. absurd (cc))
       (λ gone x a.
       let old : AskedAt r x GivingUp = subst (AskedAt r x) at a in
@@ -361,15 +355,15 @@ module _ (w : World) (c : ClientState) (f : PartyAttends w c) where
       settled_follows : r.stage ≡ Unlocking → (waits : Option (HandlerId × ℕ))
           → Follows w c (if all_over news then idle (with_windows c news waits) else with_windows c news waits)
       settled_follows at waits =
-          by_test (λ t. all_over news ≡ t → Follows w c (if t then idle (with_windows c news waits) else with_windows c news waits)) (all_over news)
-          (λ _ over. record {
+          by_test (λ t. Follows w c (if t then idle (with_windows c news waits) else with_windows c news waits)) (all_over news)
+          (λ over. record {
             goes = λ x b a.
                 let one : a.reservation ≡ r = same_Some a.reservation r (sym a.held ∙ held) in
                 let asked_now : AskedAt r x Unlocking = subst (AskedAt r x) at (subst (λ (q : ReservationState). AskedAt q x q.stage) one a.asked) in
                 inl (subst (IsOver w x) (ap (λ (q : ReservationState). q.block) (sym one) ∙ a.block) (round.ends_over r news news_told over x asked_now));
             attends = λ q e. absurd (cc);
           })
-          (λ _ on. news_follow waits) refl
+          (λ on. news_follow waits)
 
   row_follows : (m : Message) → Around w c m → (d : ClientState) (note : ClientNote) → HeardRow c m d note → Attends w m → Follows w c d
   row_follows m round d note (passed_over n) t = stays c refl refl
@@ -411,10 +405,8 @@ module _ (w : World) (c : ClientState) (f : PartyAttends w c) where
 -- an idle client has no block
 phase_busy : (stage : Stage) (t : Bool) → phase_at stage t ≡ Idle → ⊥
 phase_busy Locking t e = cc
-phase_busy Opening t e = cc
 phase_busy Unlocking true e = cc
-phase_busy Unlocking false e = cc
-phase_busy GivingUp t e = cc
+phase_busy stage t e = cc
 
 pub idle_none : (c : ClientState) (r : ReservationState) → phase_of c ≡ Idle → c.reservation ≡ Some r → ⊥
 idle_none c r e held =
@@ -448,9 +440,8 @@ module _ (w : World) (c : ClientState) (f : PartyAttends w c) where
   end_follows d o row e = absurd (cc)
 
   or_true : (t u : Bool) → (t ≡ false) ⊎ (u ≡ true) → (not t || u) ≡ true
-  or_true true true e = refl
   or_true true false e = ⊎_elim (λ (p : true ≡ false). absurd (true≢false p)) (λ (q : false ≡ true). absurd (true≢false (sym q))) e
-  or_true false u e = refl
+  or_true t u e = refl
 
   given : (r s : ReservationState) (stage : Stage) → r.stage ≡ stage → c.reservation ≡ Some r → given_up_in r stage ≡ Ok s → Follows w c (with_reservation c s)
   given r s Locking at held e =
@@ -474,9 +465,7 @@ module _ (w : World) (c : ClientState) (f : PartyAttends w c) where
               counts = g.counts;
             });
       })
-  given r s Opening at held e = absurd (cc)
-  given r s Unlocking at held e = absurd (cc)
-  given r s GivingUp at held e = absurd (cc)
+  given r s stage at held e = absurd (cc)
 
   give_up_follows : (d : ClientState) (o : Outcome) → GiveUpRow c o → o ≡ Ok d → Follows w c d
   give_up_follows d o (gives_up r s locking held is) e = subst (Follows w c) (ok_is (with_reservation c s) d e) (given r s r.stage refl held is)

@@ -8,9 +8,9 @@ use Rattle.scoop_calm.proofs.Names.{is_lowest_full, lowest_full, all_over, windo
 use Rattle.scoop_calm.proofs.Names.{same_handler_itself, ◌++◌, or_right, Block, same_block, PrivateQueue, first_of, front, QueueState, has_block, IsSubsequence}
 use Rattle.scoop_calm.proofs.Names.{nothing, left_out, AreApart, same_block_is, same_block_itself, left_has, Slot, slot_queue, queue_at, queues_of, blocks_of}
 use Rattle.scoop_calm.proofs.Names.{◌≤◌, same_Some, is_some, list_any, option_map_or, MAX_QUEUES, ClientId, ends, Ended, Cut, takes_more, is_cut, is_queue_of}
-use Rattle.scoop_calm.proofs.Names.{queue_of, has_queue, IsQueue, Mark, MarkStage, AtHeld, AtOpen, AtShut, is_open, block_of, mark_of, All-mark_of, is_empty}
-use Rattle.scoop_calm.proofs.Names.{is_given_up_in, number_of, inc_of, id_found, sites_placed, IsHeldIn, SiteFits, IsMarkUpto, MarksUpto, NoOpen, IsMarkOpened}
-use Rattle.scoop_calm.proofs.Names.{SiteOpened, PartyKnown}
+use Rattle.scoop_calm.proofs.Names.{queue_of, has_queue, IsQueue, Mark, MarkStage, AtOpen, is_open, block_of, mark_of, All-mark_of, is_empty, is_given_up_in}
+use Rattle.scoop_calm.proofs.Names.{number_of, inc_of, id_found, sites_placed, IsHeldIn, SiteFits, IsMarkUpto, MarksUpto, NoOpen, IsMarkOpened, SiteOpened}
+use Rattle.scoop_calm.proofs.Names.{PartyKnown}
 use Rattle.scoop_calm.specs.declared.next.Next.TheVariants as next
 use Rattle.scoop_calm.proofs.Moves.{IsWelcome, GaveBack, HasGivenBack, IsSettled, party_found, Useful, useful, site_found}
 use Rattle.scoop_calm.proofs.Chosen.{Found}
@@ -40,10 +40,9 @@ module _ (w : World) (r : IsReached w) (e : AllFacts w r) where
 
   back_or : (p : Party) → party_of (id_of p) w ≡ Some p → (q : ReservationState) → p.client.reservation ≡ Some q → (stage : Stage) → q.stage ≡ stage
       → GaveBack q stage ⊎ Useful w
-  back_or p at q held Locking is = inl tt
-  back_or p at q held Opening is = inl tt
   back_or p at q held Unlocking is = frees p at q held (subst IsReleasing (sym is) unlocks) q.left refl (filled q.left)
   back_or p at q held GivingUp is = frees p at q held (subst IsReleasing (sym is) gives_back) q.left refl (filled q.left)
+  back_or p at q held stage is = inl tt
 
   releases : (p : Party) → party_of (id_of p) w ≡ Some p → (o : Option ReservationState) → p.client.reservation ≡ o → HasGivenBack o ⊎ Useful w
   releases p at None is = inl tt
@@ -195,8 +194,8 @@ pub record First (test : Block → Bool) (js : List Block) : Type 0 where
 pub first_or : (test : Block → Bool) (js : List Block) → AreApart js → ((a : Block) → has_block js a ≡ true → test a ≡ false) ⊎ First test js
 first_or test [] apart = inl (λ a m. absurd (true≢false (sym m)))
 first_or test (x ∷ xs) apart =
-    by_test (λ t. test x ≡ t → ((a : Block) → has_block (x ∷ xs) a ≡ true → test a ≡ false) ⊎ First test (x ∷ xs)) (test x)
-    (λ _ is. inr (record {
+    by_test (λ _. ((a : Block) → has_block (x ∷ xs) a ≡ true → test a ≡ false) ⊎ First test (x ∷ xs)) (test x)
+    (λ is. inr (record {
       block = x;
       passes = is;
       none_before = λ a f.
@@ -204,7 +203,7 @@ first_or test (x ∷ xs) apart =
           (λ (g : (x ≡ a) × (has_block xs x ≡ true)). absurd (true≢false (sym g.1 ∙ apart.0)))
           (λ (g : Before a x xs). absurd (true≢false (sym (behind xs a x g) ∙ apart.0))) f;
     }))
-    (λ _ is.
+    (λ is.
     ⊎_elim
     (λ (none : (a : Block) → has_block xs a ≡ true → test a ≡ false).
     inl (λ a m.
@@ -217,7 +216,7 @@ first_or test (x ∷ xs) apart =
           (λ (h : (x ≡ a) × (has_block xs f.block ≡ true)). subst (λ y. test y ≡ false) h.0 is)
           (λ (h : Before a f.block xs). f.none_before a h) g;
     }))
-    (first_or test xs apart.1)) refl
+    (first_or test xs apart.1))
   where
     behind : (xs : List Block) (a b : Block) → Before a b xs → has_block xs b ≡ true
     behind [] a b f = absurd f
@@ -289,9 +288,9 @@ any_member f (y ∷ ys) x (inr n) e = let rest = any_member f ys x n e in grind 
 pub passing : {A : Type 0} (f : A → Bool) (xs : List A) → list_any f xs ≡ true → Found f xs
 passing f [] e = absurd (true≢false (sym e))
 passing f (x ∷ xs) e =
-    by_test (λ t. f x ≡ t → (t || list_any f xs) ≡ true → Found f (x ∷ xs)) (f x)
-    (λ _ is _. record { item = x; in_list = inl refl; passes = is })
-    (λ _ is g. let p = passing f xs g in record { item = p.item; in_list = inr p.in_list; passes = p.passes }) refl e
+    by_test (λ t. (t || list_any f xs) ≡ true → Found f (x ∷ xs)) (f x)
+    (λ is _. record { item = x; in_list = inl refl; passes = is })
+    (λ is g. let p = passing f xs g in record { item = p.item; in_list = inr p.in_list; passes = p.passes }) e
 
 pub queue_there : (b : Block) (qs : List PrivateQueue) (x : PrivateQueue) → Member x qs → x.block ≡ b → has_queue b qs ≡ true
 queue_there b [] x m e = absurd m
@@ -341,9 +340,8 @@ module _ (w : World) (r : IsReached w) (e : AllFacts w r) where
   is_open_at stage t f = by_cases stage f
     where
       by_cases : (stage : MarkStage) → (is_open stage && t) ≡ true → stage ≡ AtOpen
-      by_cases AtHeld f = absurd (true≢false (sym f))
       by_cases AtOpen f = refl
-      by_cases AtShut f = absurd (true≢false (sym f))
+      by_cases stage f = absurd (true≢false (sym f))
 
 module _ (w : World) (r : IsReached w) (e : AllFacts w r) (settled : AllByRecursion IsSettled w.parties) where
   pub welcome_all : (p : Party) → Member p w.parties → p.client.unwelcomed ≡ []

@@ -25,12 +25,12 @@ pub record MadeOf {A : Type 0} (test : A → Bool) (make : A → Next) (xs : Lis
 made_of : {A : Type 0} (test : A → Bool) (make : A → Next) (xs : List A) (x : Next) → option_map make (find test xs) ≡ Some x → MadeOf test make xs x
 made_of test make [] x e = absurd (cc)
 made_of test make (y ∷ ys) x e =
-    by_test (λ t. test y ≡ t → option_map make (if t then Some y else find test ys) ≡ Some x → MadeOf test make (y ∷ ys) x) (test y)
-    (λ _ is f. record { found = record { item = y; in_list = inl refl; passes = is }; makes = same_Some (make y) x f })
-    (λ _ is f. let m = made_of test make ys x f in record {
+    by_test (λ t. option_map make (if t then Some y else find test ys) ≡ Some x → MadeOf test make (y ∷ ys) x) (test y)
+    (λ is f. record { found = record { item = y; in_list = inl refl; passes = is }; makes = same_Some (make y) x f })
+    (λ is f. let m = made_of test make ys x f in record {
       found = record { item = m.found.item; in_list = inr m.found.in_list; passes = m.found.passes };
       makes = m.makes;
-    }) refl e
+    }) e
 
 pub finds : {A : Type 0} (test : A → Bool) (make : A → Next) (xs : List A) (x : A) → Member x xs → test x ≡ true → option_map make (find test xs) ≡ None → ⊥
 finds test make [] x m is e = m

@@ -5,15 +5,15 @@ use Rattle.scoop_calm.proofs.Names.{or_right, ◌≡◌, ◌<◌, ◌≤◌, ◌
 use Rattle.scoop_calm.proofs.Names.{subst, arith, if◌then◌else◌, Ok, Err, nat_tests, MAX_BLOCK_HANDLERS, Block, HandlerId, Message, handler_decides, Stage}
 use Rattle.scoop_calm.proofs.Names.{Locking, Opening, Unlocking, GivingUp, Step, has, without, is_empty, is_lowest, asked, first_unknown, first_repeated}
 use Rattle.scoop_calm.proofs.Names.{ReservationState, at_stage, fresh, started, unless_repeated, unless_unknown, is_gone, given_up, given_up_in, one_is_locked}
-use Rattle.scoop_calm.proofs.Names.{all_are_locked, is_busy, one_is_opened, all_are_opened, is_unlocked, is_given_back, by_test, has_without, is_gone_one}
-use Rattle.scoop_calm.proofs.Names.{has_filtered, StepRow, steps_over, ◌⊎◌, inl, inr, ℕ, zero, suc, ◌+◌, ◌&&◌, Bool, [], ◌++◌, drop, map, slice_get, ap, ⊎_elim}
-use Rattle.scoop_calm.proofs.Names.{length-append, AllByRecursion, Entry, is_query, WindowState, fresh_window, with_entry, with_end, newly, acknowledged}
-use Rattle.scoop_calm.proofs.Names.{window_of, at_window, is_ended, all_over, StaysAt, by_window, by_all, fresh_found, EndEntry as End, same_Some, Call, Query}
-use Rattle.scoop_calm.proofs.Names.{client_of, step_row, ClientNote, logged, ClientState, with_windows, with_reservation, idle, heard, stepped, after_step}
-use Rattle.scoop_calm.proofs.Names.{up_to, Command, Reserve, DoCall, DoQuery, DoEnd, GiveUp, Outcome, command, next_block, with_block, waits_for, HeardRow}
-use Rattle.scoop_calm.proofs.Names.{passed_over, is_welcomed, takes_step, is_acknowledged, is_accepted, ReserveRow, begins_block, LogRow, is_logged, EndRow}
-use Rattle.scoop_calm.proofs.Names.{ends_block, GiveUpRow, gives_up, heard_row, command_row, World, Party, is_party, set_party, Placement, Newcomer, new_party}
-use Rattle.scoop_calm.proofs.Names.{opening, heard_party, restarted_party, Changes, started_fresh, all_found, all_set_party, running_is, idle_left}
+use Rattle.scoop_calm.proofs.Names.{all_are_locked, one_is_opened, all_are_opened, is_unlocked, is_given_back, by_test, has_without, is_gone_one, has_filtered}
+use Rattle.scoop_calm.proofs.Names.{StepRow, ◌⊎◌, inl, inr, ℕ, zero, suc, ◌+◌, ◌&&◌, Bool, [], ◌++◌, drop, map, slice_get, ap, ⊎_elim, length-append}
+use Rattle.scoop_calm.proofs.Names.{AllByRecursion, Entry, is_query, WindowState, fresh_window, with_entry, with_end, newly, acknowledged, window_of, at_window}
+use Rattle.scoop_calm.proofs.Names.{is_ended, all_over, StaysAt, by_window, by_all, fresh_found, EndEntry as End, same_Some, Call, Query, client_of, step_row}
+use Rattle.scoop_calm.proofs.Names.{ClientNote, logged, ClientState, with_windows, with_reservation, idle, heard, stepped, after_step, up_to, Command, Reserve}
+use Rattle.scoop_calm.proofs.Names.{DoCall, DoQuery, DoEnd, GiveUp, Outcome, command, next_block, with_block, waits_for, HeardRow, passed_over, is_welcomed}
+use Rattle.scoop_calm.proofs.Names.{takes_step, is_acknowledged, is_accepted, ReserveRow, begins_block, LogRow, is_logged, EndRow, ends_block, GiveUpRow}
+use Rattle.scoop_calm.proofs.Names.{gives_up, heard_row, command_row, World, Party, is_party, set_party, Placement, Newcomer, new_party, opening, heard_party}
+use Rattle.scoop_calm.proofs.Names.{restarted_party, Changes, started_fresh, all_found, all_set_party, running_is, idle_left}
 use Rattle.scoop_reserve.specs.declared.error.ReserveError.TheVariants as error
 use Rattle.scoop_calm.proofs.Lists.{Filled, nothing_in, first_in, filled, some_in, gone_without, lowest_has, lowest_below, lowest_of, in_asked, all_known}
 use Rattle.scoop_calm.proofs.Lists.{NoTwice, none_repeated}
@@ -59,15 +59,15 @@ record Starts (hs known : List HandlerId) : Type 0 where
 
 starts : (b : Block) (hs known : List HandlerId) (s : ReservationState) → started b hs known ≡ Ok s → Starts hs known
 starts b hs known s e =
-    by_test (λ t. (length hs == 0) ≡ t → (if t then Err error.Empty else if nat_lt MAX_BLOCK_HANDLERS (length hs) then Err error.TooMany
+    by_test (λ t. (if t then Err error.Empty else if nat_lt MAX_BLOCK_HANDLERS (length hs) then Err error.TooMany
     else unless_repeated (fresh b hs) (first_repeated hs) (first_unknown known hs)) ≡ Ok s → Starts hs known) (length hs == 0)
-    (λ _ is f. absurd (cc))
-    (λ _ is f.
+    (λ is f. absurd (cc))
+    (λ is f.
     by_test (λ t. (if t then Err error.TooMany else unless_repeated (fresh b hs) (first_repeated hs) (first_unknown known hs)) ≡ Ok s → Starts hs known)
     (nat_lt MAX_BLOCK_HANDLERS (length hs))
     (λ many g. absurd (cc))
     (λ few g. let n = repeated_none (fresh b hs) s (first_repeated hs) (first_unknown known hs) g in record { none_unknown = n.1; none_again = n.0; one = is })
-    f) refl e
+    f) e
 
 pub fresh_reserves : (b : Block) (hs known : List HandlerId) (s : ReservationState) → started b hs known ≡ Ok s → Reserves known (fresh b hs)
     × (is_gone (fresh b hs) ≡ false)
@@ -114,7 +114,6 @@ module _ (known : List HandlerId) (r : ReservationState) (stage : Stage) where
   }
 
 pub heard_reserves : (known : List HandlerId) (r s : ReservationState) (m : Message) (st : Step) → StepRow r m s st → Reserves known r → Reserves known s
-heard_reserves known r s m st (steps_over n) f = f
 heard_reserves known r s m st (one_is_locked h at low more) f = record {
   known_all = f.known_all;
   some = f.some;
@@ -123,20 +122,20 @@ heard_reserves known r s m st (one_is_locked h at low more) f = record {
   stays = λ _. more;
   order = λ _ x y in_set gone there.
       let y_left : has r.left y ≡ true = has_without h y r.left there in
-      by_test (λ t. has r.left x ≡ t → x.0 < y.0) (has r.left x)
-      (λ _ is.
+      by_test (λ _. x.0 < y.0) (has r.left x)
+      (λ is.
       let one : h ≡ x = is_gone_one h x r.left is gone in
       subst (λ (z : HandlerId). z.0 < y.0) one
       (lower_or_same h y (lowest_below h r.left y low y_left)
       (λ e. true≢false (sym (subst (λ z. has (without h r.left) z ≡ true) (sym e) there) ∙ gone_without h r.left))))
-      (λ _ is. f.order at x y in_set is y_left) refl;
+      (λ is. f.order at x y in_set is y_left);
 }
 heard_reserves known r s m st (all_are_locked h at low none_left) f = all_reserves known r Opening (λ e. cc) f
-heard_reserves known r s m st (is_busy h at low) f = f
 heard_reserves known r s m st (one_is_opened h at is more) f = without_reserves known r Opening h (λ e. cc) (λ _. more) f
 heard_reserves known r s m st (all_are_opened h at is none_left) f = all_reserves known r Unlocking (λ e. cc) f
 heard_reserves known r s m st (is_unlocked h at is) f = without_reserves known r Unlocking h (λ e. cc) (λ out. absurd (off_unlocking out)) f
 heard_reserves known r s m st (is_given_back h at is) f = without_reserves known r GivingUp h (λ e. cc) (λ out. absurd (off_giving out)) f
+heard_reserves known r s m st row f = f
 
 -- ---- it is given up
 
@@ -166,9 +165,7 @@ given_reserves known r s Locking at e f =
       },
       left,
     )
-given_reserves known r s Opening at e f = absurd (cc)
-given_reserves known r s Unlocking at e f = absurd (cc)
-given_reserves known r s GivingUp at e f = absurd (cc)
+given_reserves known r s stage at e f = absurd (cc)
 
 pub give_up_reserves : (known : List HandlerId) (r s : ReservationState) → given_up r ≡ Ok s → Reserves known r → Reserves known s × (is_gone s ≡ false)
 give_up_reserves known r s e f = given_reserves known r s r.stage refl e f
@@ -361,10 +358,10 @@ module _ (ls : List WindowState) (h : HandlerId) (k : ℕ) (waits : Option (Hand
       (ap (λ (z : HandlerId × ℕ). z.0) one, ap (λ (z : HandlerId × ℕ). z.1) one)
 
   past_end : (es : List Entry) (n i : ℕ) (e : Entry) → length es ≤ n → slice_get (drop n es) i ≡ Some e → ⊥
-  past_end [] zero i e le at = cc
-  past_end [] (suc n) i e le at = cc
   past_end (x ∷ xs) zero i e le at = omega (arith, le)
   past_end (x ∷ xs) (suc n) i e le at = past_end xs n i e (omega (arith, le)) at
+  past_end [] zero i e le at = cc
+  past_end [] (suc n) i e le at = cc
 
   -- the query that waits is answered
   pub answered_go : waits ≡ Some (h, k) → WindowsGo news None
@@ -405,9 +402,9 @@ idle_fits c within = record { within = within; quiet = λ e. refl; block = λ r 
 
 stepped_fits : (c : ClientState) (r s : ReservationState) → c.reservation ≡ Some r → Reserves c.handlers s → ClientFits c → ClientFits (stepped c s)
 stepped_fits c r s held f g =
-    by_test (λ t. is_gone s ≡ t → ClientFits (if t then idle c else with_reservation c s)) (is_gone s)
-    (λ _ over. idle_fits c g.within)
-    (λ _ on. record {
+    by_test (λ t. ClientFits (if t then idle c else with_reservation c s)) (is_gone s)
+    (λ over. idle_fits c g.within)
+    (λ on. record {
       within = g.within;
       quiet = λ e. absurd (cc);
       block = λ q e.
@@ -419,15 +416,12 @@ stepped_fits c r s held f g =
             windows = b.windows;
             begun = b.begun;
           };
-    }) refl
+    })
 
 step_fits : (c : ClientState) (r s : ReservationState) (st : Step) → c.reservation ≡ Some r → Reserves c.handlers s → ClientFits c
     → ClientFits (after_step c s st).0
-step_fits c r s (step.Locked h) held f g = stepped_fits c r s held f g
-step_fits c r s (step.Busy h) held f g = stepped_fits c r s held f g
-step_fits c r s (step.Opened h) held f g = stepped_fits c r s held f g
-step_fits c r s (step.Unlocked h) held f g = stepped_fits c r s held f g
 step_fits c r s step.Ignored held f g = g
+step_fits c r s st held f g = stepped_fits c r s held f g
 
 none_left : (h : HandlerId) (hs : List HandlerId) → is_empty hs ≡ true → has hs h ≡ true → ⊥
 none_left h [] e m = true≢false (sym m)
@@ -455,9 +449,9 @@ row_fits c m d note (takes_step n r held) g =
 row_fits c m d note (is_acknowledged h n r l held opened window new_count) g =
     let ls = at_window h (acknowledged (up_to h n c.waits)) c.windows in
     let e : ClientState = with_windows c ls c.waits in
-    by_test (λ t. all_over ls ≡ t → ClientFits (if t then idle e else e)) (all_over ls)
-    (λ _ over. idle_fits e g.within)
-    (λ _ on. with_windows_fits c ls c.waits r held g (counted_go c.windows h (up_to h n c.waits) c.waits (g.block r held).windows on)) refl
+    by_test (λ t. ClientFits (if t then idle e else e)) (all_over ls)
+    (λ over. idle_fits e g.within)
+    (λ on. with_windows_fits c ls c.waits r held g (counted_go c.windows h (up_to h n c.waits) c.waits (g.block r held).windows on))
 row_fits c m d note (is_accepted h n a r held opened waits) g =
     with_windows_fits c (at_window h (acknowledged n) c.windows) None r held g (answered_go c.windows h n c.waits (g.block r held).windows waits)
 

@@ -1,23 +1,21 @@
 -- All facts of a reached world. One of them is that clients attend to their blocks, and every event keeps it. For that
 -- the other layers say what a client has to know of its handlers and messages.
 use Rattle.scoop_calm.proofs.Names.{reopened, ◌≡◌, ℕ, ◌≤◌, ◌==◌, ◌&&◌, ◌||◌, not, Bool, true, false, true≢false, List, [], ◌∷◌, ◌++◌, length, Option, Some}
-use Rattle.scoop_calm.proofs.Names.{None, refl, sym, ap, ◌∙◌, subst, arith, length-append, append-nil, and_parts, ⊤, and-false, Block, HandlerId, Entry}
-use Rattle.scoop_calm.proofs.Names.{Message, Hello, Welcome, Lock, Locked, Busy, Open, Opened, Unlock, Unlocked, Log, Logged, Answer, ends, Mark, MarkStage}
-use Rattle.scoop_calm.proofs.Names.{AtHeld, AtOpen, AtShut, is_open, block_of, fresh_mark, mark_of, HandlerState, IsState, is_holder, Hearing, IsHeardAt, Row}
-use Rattle.scoop_calm.proofs.Names.{unlock_of_a_block_never_held, is_freed, repeated_unlock, is_answered, already_received, is_taken, All-mark_of}
+use Rattle.scoop_calm.proofs.Names.{opens_knowing, None, refl, sym, ap, ◌∙◌, subst, arith, length-append, append-nil, and_parts, ⊤, and-false, Block, HandlerId}
+use Rattle.scoop_calm.proofs.Names.{Entry, Message, Hello, Welcome, Lock, Locked, Busy, Open, Opened, Unlock, Unlocked, Log, Logged, Answer, ends, Mark}
+use Rattle.scoop_calm.proofs.Names.{MarkStage, AtOpen, AtShut, is_open, block_of, fresh_mark, mark_of, HandlerState, IsState, is_holder, Hearing, IsHeardAt}
+use Rattle.scoop_calm.proofs.Names.{Row, unlock_of_a_block_never_held, is_freed, repeated_unlock, is_answered, already_received, is_taken, All-mark_of}
 use Rattle.scoop_calm.proofs.Names.{mark_of-set_mark_own, holder_is_newest, holder_from_test, grows-row, has, ReservationState, WindowState, is_over, window_of}
-use Rattle.scoop_calm.proofs.Names.{all_over, World, Site, number_of, is_site, has_block, log_of, greatest_count, by_test, number_found, IsReachedIn}
-use Rattle.scoop_calm.proofs.Names.{upto_itself, SiteFits, Ordered, all_found, NoOpen, IsMarkOpened, SiteOpened, Openings, left_has, MarkTold, SiteTaped, Taped}
-use Rattle.scoop_calm.proofs.Names.{none_behind, ◌⊎◌, inl, inr, ◌+◌, ◌<◌, map, find, ⊎_elim, if◌then◌else◌, option_to_list, AllByRecursion, option_map_or}
-use Rattle.scoop_calm.proofs.Names.{All-contains, All-from_recursion, ClientId, ObjectAnswer, handler_of, client_of, Ran, IsCore, hear, row, number-row}
-use Rattle.scoop_calm.proofs.Names.{first_entries, due, heard, DueRow, owes_nothing, greets, reserves, logs, due_row, heard_row, Party, BlockLog, id_of}
-use Rattle.scoop_calm.proofs.Names.{is_party, site_of, party_of, set_site, set_party, sent_at, ran_at, Placement, Newcomer, opening, newest_block}
-use Rattle.scoop_calm.proofs.Names.{commanded_world, with_sent, heard_site, heard_world, heard_party, begun_site, finished_site, restarted_party, HasRun}
-use Rattle.scoop_calm.proofs.Names.{numbered, untold, inc_of, Changes, by_party, site_put, id_found, OwedRow, asks, opens, unlocks, gives_back, owed_row, Sound}
+use Rattle.scoop_calm.proofs.Names.{all_over, World, Site, number_of, is_site, has_block, log_of, greatest_count, number_found, IsReachedIn, upto_itself}
+use Rattle.scoop_calm.proofs.Names.{SiteFits, Ordered, all_found, NoOpen, IsMarkOpened, SiteOpened, Openings, left_has, MarkTold, SiteTaped, Taped, none_behind}
+use Rattle.scoop_calm.proofs.Names.{◌⊎◌, inl, inr, ◌+◌, ◌<◌, map, find, ⊎_elim, if◌then◌else◌, option_to_list, AllByRecursion, option_map_or, All-contains}
+use Rattle.scoop_calm.proofs.Names.{All-from_recursion, ClientId, ObjectAnswer, handler_of, client_of, Ran, IsCore, hear, row, number-row, due, heard, reserves}
+use Rattle.scoop_calm.proofs.Names.{logs, heard_row, Party, BlockLog, id_of, is_party, site_of, party_of, set_site, set_party, sent_at, ran_at, Placement}
+use Rattle.scoop_calm.proofs.Names.{Newcomer, opening, newest_block, commanded_world, with_sent, heard_site, heard_world, heard_party, begun_site}
+use Rattle.scoop_calm.proofs.Names.{finished_site, restarted_party, HasRun, numbered, untold, inc_of, Changes, by_party, site_put, id_found, Sound}
 use Rattle.scoop_calm.proofs.Names.{sent_all, PartyFits, all_pushed, sent_tells, keeps_row, went_on as goes_on, WindowsFit, PartyLogs, Logging, window_handler}
-use Rattle.scoop_calm.proofs.Names.{found_has, own_site, StageOpened, unlocking_is, none_reserved, TellsAnswer, Answering, Slot, SlotWhole, Member, new_party}
-use Rattle.scoop_calm.proofs.Names.{Run, IsReached, steps_kept, both_kept, AreApart, joint_kept, ToldMore, told_more_kept, opens_told_more, answering_kept}
-use Rattle.scoop_calm.proofs.Names.{opens_answering, standing_kept, opens_standing, taped_kept, opens_taped, PartyKnown, Knowing, knowing_kept}
+use Rattle.scoop_calm.proofs.Names.{found_has, own_site, StageOpened, unlocking_is, none_reserved, TellsAnswer, Answering, Slot, SlotWhole, Member, Run}
+use Rattle.scoop_calm.proofs.Names.{IsReached, steps_kept, both_kept, AreApart, ToldMore, Knowing, knowing_kept}
 use Rattle.scoop_model.proofs.Order.Holding.{reached_more}
 use Rattle.scoop_model.proofs.Standing.Facts.{Standing}
 use Rattle.scoop_calm.proofs.Lists.{some_if_ends, none_long, item_there, sent_member, lowest_has}
@@ -28,7 +26,10 @@ use Rattle.scoop_calm.proofs.Attending.{attends_more, messages_more, client_more
 use Rattle.scoop_calm.proofs.Attending.{command_follows}
 use Rattle.scoop_reserve.specs.Due as reserve
 use Rattle.scoop_model.proofs.Tape.Slots.{ran_of}
-use Rattle.scoop_calm.proofs.Clients.{Reserves, ClientFits, PartyFitsWell, AllFit, fit_kept, opens_fit}
+use Rattle.scoop_calm.proofs.Clients.{ClientFits, PartyFitsWell, AllFit, fit_kept, opens_fit}
+use Rattle.std.proofs.lemmas.Bool.{false_from_ne_true}
+use Rattle.scoop_model.proofs.Ready.Runs as model
+use Rattle.scoop_model.proofs.Moves.{Sends, sends_lock, sends_log, sends}
 
 -- -------- Facts about a client that leaves its block, and about replies. A block that never sent Open is open at no handler. So
 -- it is over once its lock is given back. A block whose windows are over was received up to its End at each of its
@@ -37,9 +38,8 @@ use Rattle.scoop_calm.proofs.Clients.{Reserves, ClientFits, PartyFitsWell, AllFi
 -- ---- a block without its lock is over, once nothing is open
 
 open_not : (e : Bool) (stage : MarkStage) → (stage ≡ AtOpen → ⊥) → (is_open stage && e) ≡ false
-open_not e AtHeld off = refl
 open_not e AtOpen off = absurd (off refl)
-open_not e AtShut off = refl
+open_not e stage off = refl
 
 pub over_if : (s : HandlerState) (b : Block) → IsReleasedIn s b
     → ((k : Mark) → mark_of b.client s.marks ≡ Some k → block_of k ≡ b → (is_open k.stage && not k.ended) ≡ false) → IsOverIn s b
@@ -47,8 +47,7 @@ over_if s b r shut = record {
   reached = r.reached;
   finished = λ k found is.
       let free : is_holder s.holder (block_of k) ≡ false =
-      by_test (λ t. is_holder s.holder (block_of k) ≡ t → t ≡ false) (is_holder s.holder (block_of k))
-      (λ _ e. absurd (r.free (holder_from_test s.holder (block_of k) e ∙ ap Some is))) (λ _ e. refl) refl in
+      false_from_ne_true (is_holder s.holder (block_of k)) (λ e. r.free (holder_from_test s.holder (block_of k) e ∙ ap Some is)) in
       ap (λ t. t || (is_open k.stage && not k.ended)) free ∙ shut k found is;
 }
 
@@ -225,37 +224,27 @@ around w g k m p was at = record {
 
 -- ---- what a client sends
 
-owed_attends : (w : World) (c : ClientId) (p : Party) (r : ReservationState) (h : HandlerId) (m : Message) → party_of c w ≡ Some p
-    → p.client.reservation ≡ Some r → r.block.client ≡ c → Reserves p.client.handlers r → OwedRow r h m → Attends w m
-owed_attends w c p r h m at held own f (asks stage low) =
-    inr (inr (record {
-      party = p;
-      at = ap (λ d. party_of d w) own ∙ at;
-      goes = record { reservation = r; held = held; block = refl; asked = subst (AskedAt r h) (sym stage) (f.within h (lowest_has h r.left low), inr low) };
-    }))
-owed_attends w c p r h m at held own f (opens stage is) = tt
-owed_attends w c p r h m at held own f (unlocks stage is) = tt
-owed_attends w c p r h m at held own f (gives_back stage is) = tt
-
 none_left : (t : Bool) (n : Message) → (if t then Some n else None) ≡ None → t ≡ false
 none_left true n e = absurd (cc)
 none_left false n e = refl
 
-due_attends : (w : World) (c : ClientId) (p : Party) (h : HandlerId) (o : Option Message) → party_of c w ≡ Some p → PartyAttends w p.client
-    → ClientFits p.client → ((r : ReservationState) → p.client.reservation ≡ Some r → WindowsFit w p.client r) → DueRow p.client h o
-    → (m : Message) → o ≡ Some m → Attends w m
-due_attends w c p h o at f fits windows owes_nothing m e = absurd (cc)
-due_attends w c p h o at f fits windows (greets left) m e = let same : Hello h p.client.id p.client.inc ≡ m = cc in subst (Attends w) same tt
-due_attends w c p h o at f fits windows (reserves r n greeted held owes) m e =
+due_attends : (w : World) (c : ClientId) (p : Party) (h : HandlerId) → party_of c w ≡ Some p → PartyAttends w p.client → ClientFits p.client
+    → ((r : ReservationState) → p.client.reservation ≡ Some r → WindowsFit w p.client r) → (m : Message) → Sends p.client h m → Attends w m
+due_attends w c p h at f fits windows m (sends_lock r held stage low) =
     let own : r.block.client ≡ c = ap (λ (y : Block). y.client) (windows r held).block ∙ id_found c w p at in
-    owed_attends w c p r h m at held own (fits.block r held).reserves (owed_row r h m (owes ∙ e))
-due_attends w c p h o at f fits windows (logs r l greeted held free opened window some) m e =
-    let same : Log l.handler r.block (l.acked + 1) (first_entries p.client.batch l.unacked) ≡ m = cc in
+    let within = (fits.block r held).reserves.within in
+    inr (inr (record {
+      party = p;
+      at = ap (λ d. party_of d w) own ∙ at;
+      goes = record { reservation = r; held = held; block = refl; asked = subst (AskedAt r h) (sym stage) (within h (lowest_has h r.left low), inr low) };
+    }))
+due_attends w c p h at f fits windows m (sends_log r l held free opened window some) =
     let stage = unlocking_is r.stage opened in
     let gone : has r.left h ≡ false = none_left (has r.left h) (Unlock h r.block) (sym (ap (reserve.due_in r h) stage) ∙ free) in
     let named : has r.handlers h ≡ true = ap (λ hs. has hs h) (sym (windows r held).handlers)
     ∙ found_has (λ (y : WindowState). y.handler) h p.client.windows l window in
-    subst (Attends w) same (subst (λ j. IsReleased w j r.block) (sym (window_handler h p.client.windows l window)) ((f r held).unlocked stage h named gone))
+    subst (λ j. IsReleased w j r.block) (sym (window_handler h p.client.windows l window)) ((f r held).unlocked stage h named gone)
+due_attends w c p h at f fits windows m s = tt
 
 -- ---- one client changes, and nothing is sent
 
@@ -365,15 +354,9 @@ module _ (w : World) (g : Background w) (i : Attending w) (k : ℕ) (m : Message
   }
   reply_attends (Logged x b n) t = by_log x b t
   reply_attends (Answer x b n a) t = by_log x b t
-  reply_attends (Hello x c inc) t = tt
-  reply_attends (Welcome x c inc) t = tt
   reply_attends (Lock x b) t = absurd t
-  reply_attends (Locked x b) t = tt
-  reply_attends (Busy x b) t = tt
-  reply_attends (Open x b) t = tt
-  reply_attends (Opened x b) t = tt
-  reply_attends (Unlock x b) t = tt
   reply_attends (Log x b n es) t = absurd t
+  reply_attends m t = tt
 
   hears_attending : Attending heard_now
   hears_attending =
@@ -406,8 +389,8 @@ attending_kept w g i = record {
       let logs = all_found (PartyLogs w) (is_party c) w.parties p g.logging.parties at in
       record {
         messages = all_pushed (Attends v) w.sent (due p.client h) (messages_more w v onto w.sent i.messages)
-            (λ m e. attends_more w v onto m (due_attends w c p h (due p.client h) at (i.parties c p at)
-            (all_found PartyFitsWell (is_party c) w.parties p g.fit at) logs.block (due_row p.client h) m e));
+            (λ m e. attends_more w v onto m (due_attends w c p h at (i.parties c p at)
+            (all_found PartyFitsWell (is_party c) w.parties p g.fit at) logs.block m (sends p.client h m e)));
         parties = λ d x there. client_more w v onto x.client (i.parties d x there);
       });
   hears = λ k m s was goes here. hears_attending w g i k m s was here;
@@ -439,67 +422,40 @@ opens_attending ps ns = record { messages = tt; parties = λ c p at r held. absu
 
 -- -------- All facts of a reached world.
 
-abbrev Base : World → Type 0
-Base w = ToldMore w × Standing w
-
-base_kept : (w : World) → Base w → Changes Base w
-base_kept w i = let t = i.0.0 in both_kept ToldMore Standing w (told_more_kept w i.0) (standing_kept w t.0.0 t.0.1 t.1 i.0.1.1 i.1)
-
-abbrev Played : World → Type 0
-Played w = Base w × (Answering w × Taped w)
-
-played_kept : (w : World) → Played w → Changes Played w
-played_kept w i =
-    let t = i.0.0.0 in
-    both_kept Base (λ v. Answering v × Taped v) w (base_kept w i.0)
-    (both_kept Answering Taped w (answering_kept w t.0.0 t.1 i.1.0) (taped_kept w t.0.0 t.0.1 t.1 i.1.1))
-
 abbrev Kept : World → Type 0
-Kept w = Played w × (Marked w × AllFit w)
+Kept w = model.Kept w × (Marked w × AllFit w)
 
 kept_kept : (w : World) → Kept w → Changes Kept w
 kept_kept w i =
-    let t = i.0.0.0.0 in
-    both_kept Played (λ v. Marked v × AllFit v) w (played_kept w i.0)
-    (both_kept Marked AllFit w (marked_kept w t.0.0 t.0.1 t.1 i.0.0.0.1.1 i.0.1.1 i.1.0) (fit_kept w i.1.1))
+    let f = model.facts w i.0 in
+    both_kept model.Kept (λ v. Marked v × AllFit v) w (model.all_kept w i.0)
+    (both_kept Marked AllFit w (marked_kept w f.ordered f.sound f.logging f.openings f.taped i.1.0) (fit_kept w i.1.1))
 
 pub background : (w : World) → Kept w → Background w
 background w i =
-    let t = i.0.0.0.0 in
+    let f = model.facts w i.0 in
     record {
-      ordered = t.0.0;
-      sound = t.0.1;
-      logging = t.1;
-      openings = i.0.0.0.1.1;
-      standing = i.0.0.1;
-      taped = i.0.1.1;
-      answering = i.0.1.0;
+      ordered = f.ordered;
+      sound = f.sound;
+      logging = f.logging;
+      openings = f.openings;
+      standing = f.standing;
+      taped = f.taped;
+      answering = f.answering;
       marked = i.1.0;
       fit = i.1.1;
     }
 
 -- with the handlers, in the order in which they were placed
 abbrev All : List HandlerId → World → Type 0
-All hs w = ((Kept w × Attending w) × AreApart w.joint) × Knowing hs w
+All hs w = (Kept w × Attending w) × Knowing hs w
 
 all_kept : (hs : List HandlerId) (w : World) → All hs w → Changes (All hs) w
 all_kept hs w i =
-    let k = i.0.0.0 in
-    let t = k.0.0.0.0 in
-    both_kept (λ v. (Kept v × Attending v) × AreApart v.joint) (Knowing hs) w
-    (both_kept (λ v. Kept v × Attending v) (λ v. AreApart v.joint) w
-    (both_kept Kept Attending w (kept_kept w k) (attending_kept w (background w k) i.0.0.1)) (joint_kept w i.0.1))
-    (knowing_kept hs w t.0.0 t.0.1 k.0.0.0.1.0 i.1)
-
-parties_known : (hs : List HandlerId) (ss : List Site) (ns : List Newcomer) → AllByRecursion (PartyKnown hs ss) (map (new_party hs) ns)
-parties_known hs ss [] = tt
-parties_known hs ss (n ∷ ns) = (
-  record { handlers = refl; greeted = λ h e f. absurd (true≢false (sym e ∙ f)); block = λ r e. absurd (cc) },
-  parties_known hs ss ns,
-)
-
-opens_knowing : (ps : List Placement) (ns : List Newcomer) → Knowing (map (λ (p : Placement). p.handler) ps) (opening ps ns)
-opens_knowing ps ns = let hs = map (λ (p : Placement). p.handler) ps in record { messages = tt; parties = parties_known hs (opening ps ns).sites ns }
+    let f = model.facts w i.0.0.0 in
+    both_kept (λ v. Kept v × Attending v) (Knowing hs) w
+    (both_kept Kept Attending w (kept_kept w i.0.0) (attending_kept w (background w i.0.0) i.0.1))
+    (knowing_kept hs w f.ordered f.sound f.greetings i.1)
 
 pub record Everything (hs : List HandlerId) (w : World) : Type 0 where
   pub background : Background w
@@ -518,14 +474,6 @@ everything w r =
     let ns = r.newcomers in
     let i : All hs w =
     subst (All hs) (ap (λ (x : Run). x.0) r.leads)
-    (steps_kept (All hs) (all_kept hs) (opening ps ns) r.events (
-      (
-        (
-          (((opens_told_more ps ns r.opens, opens_standing ps ns), (opens_answering ps ns, opens_taped ps ns)), (opens_marked ps ns, opens_fit ps ns)),
-          opens_attending ps ns,
-        ),
-        tt,
-      ),
-      opens_knowing ps ns,
-    )) in
-    record { background = background w i.0.0.0; told = i.0.0.0.0.0.0; attending = i.0.0.1; apart = i.0.1; knowing = i.1 }
+    (steps_kept (All hs) (all_kept hs) (opening ps ns) r.events
+    (((model.opens_kept ps ns r.opens, (opens_marked ps ns, opens_fit ps ns)), opens_attending ps ns), opens_knowing ps ns)) in
+    record { background = background w i.0.0; told = i.0.0.0.0.0; attending = i.0.1; apart = i.0.0.0.1.1; knowing = i.1 }

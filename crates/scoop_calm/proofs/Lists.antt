@@ -195,9 +195,9 @@ lowest_of h (x ∷ xs) =
     let l = lowest_of x xs in
     let g = l.handler in
     let there = and_parts (has (x ∷ xs) g) _ l.is in
-    by_test (λ t. nat_le h.0 g.0 ≡ t → Lowest (h ∷ x ∷ xs)) (nat_le h.0 g.0)
-    (λ _ is. let all = all_higher h g (x ∷ xs) (grind (arith, nat_tests)) there.1 in record { handler = h; is = grind (arith, nat_tests, all) })
-    (λ _ is. record { handler = g; is = grind (arith, nat_tests, there) }) refl
+    by_test (λ _. Lowest (h ∷ x ∷ xs)) (nat_le h.0 g.0)
+    (λ is. let all = all_higher h g (x ∷ xs) (grind (arith, nat_tests)) there.1 in record { handler = h; is = grind (arith, nat_tests, all) })
+    (λ is. record { handler = g; is = grind (arith, nat_tests, there) })
 
 -- ---- the asked, and the known
 
@@ -234,15 +234,15 @@ record Apart (seen hs : List HandlerId) : Type 0 where
 apart_after : (seen hs : List HandlerId) → first_repeated_after seen hs ≡ None → Apart seen hs
 apart_after seen [] e = record { once = tt; new = λ h m. absurd (true≢false (sym m)) }
 apart_after seen (x ∷ xs) e =
-    by_test (λ t. has seen x ≡ t → (if t then Some x else first_repeated_after (seen ++ x ∷ []) xs) ≡ None → Apart seen (x ∷ xs)) (has seen x)
-    (λ _ is f. absurd (cc))
-    (λ _ is f.
+    by_test (λ t. (if t then Some x else first_repeated_after (seen ++ x ∷ []) xs) ≡ None → Apart seen (x ∷ xs)) (has seen x)
+    (λ is f. absurd (cc))
+    (λ is f.
     let rest = apart_after (seen ++ x ∷ []) xs f in
     record {
       once = (let here = has_pushed seen x in let new = rest.new x in grind (arith, here, new), rest.once);
       new = λ h m. let before = has_before seen (x ∷ []) h in let new = rest.new h in let same = (handler_decides x h).0 in
           grind (arith, nat_tests, before, new, same);
-    }) refl e
+    }) e
 
 pub none_repeated : (hs : List HandlerId) → first_repeated hs ≡ None → NoTwice hs
 none_repeated hs e = (apart_after [] hs e).once

@@ -32,9 +32,9 @@ end_only : (xs ys : List Entry) → EndOnlyLast (xs ++ ys) → ends xs ≡ true 
 end_only [] ys only e = absurd (true≢false (sym e))
 end_only (x ∷ []) [] only e = refl
 end_only (x ∷ []) (y ∷ ys) only e =
-    by_test (λ t. is_end x ≡ t → (not t && end_only_last (y ∷ ys)) ≡ true → y ∷ ys ≡ []) (is_end x)
-    (λ _ is f. absurd (true≢false (sym f)))
-    (λ _ is f. absurd (true≢false (sym e ∙ is))) refl only
+    by_test (λ t. (not t && end_only_last (y ∷ ys)) ≡ true → y ∷ ys ≡ []) (is_end x)
+    (λ is f. absurd (true≢false (sym f)))
+    (λ is f. absurd (true≢false (sym e ∙ is))) only
 end_only (x ∷ z ∷ zs) ys only e = end_only (z ∷ zs) ys (and_parts (not (is_end x)) _ only).1 e
 
 -- ---- what the client owes
@@ -159,15 +159,15 @@ module _ (w : World) (r : IsReached w) (e : AllFacts w r) (p : Party) (at : part
       by_ended : (t : Bool) → l.ended ≡ t → last_number (l.acked + 1) es < 2 ^ 32 - 1
       by_ended false is = let n = fits.numbers.end is in let le = last_le in omega (arith, n, le)
       by_ended true is =
-          by_test (λ t. nat_lt (last_number (l.acked + 1) es) (logged l) ≡ t → last_number (l.acked + 1) es < 2 ^ 32 - 1)
+          by_test (λ _. last_number (l.acked + 1) es < 2 ^ 32 - 1)
           (nat_lt (last_number (l.acked + 1) es) (logged l))
-          (λ _ lt. let less : last_number (l.acked + 1) es < logged l = grind (arith, nat_tests) in omega (arith, fits.numbers.last, less))
-          (λ _ ge.
+          (λ lt. let less : last_number (l.acked + 1) es < logged l = grind (arith, nat_tests) in omega (arith, fits.numbers.last, less))
+          (λ ge.
           let least : logged l ≤ last_number (l.acked + 1) es = grind (arith, nat_tests) in
           let parts = first_of_all c.batch l.unacked in
           let none : parts.0 ≡ [] = none_long parts.0 (omega (arith, ap length parts.1, length-append es parts.0, least, last_le, last_more)) in
           let same : es ≡ l.unacked = sym (append-nil es) ∙ ap (λ xs. es ++ xs) (sym none) ∙ parts.1 in
-          absurd (true≢false (sym is ∙ fits.ended ∙ sym unacked_ends ∙ ap ends (sym same) ∙ not_end))) refl
+          absurd (true≢false (sym is ∙ fits.ended ∙ sym unacked_ends ∙ ap ends (sym same) ∙ not_end)))
 
   pub is_due : pending q.block s.core.state.queues ≡ 0 → IsDue s.core.state q.block k (l.acked + 1) es
   is_due idle =
@@ -271,11 +271,11 @@ module _ (w : World) (r : IsReached w) (e : AllFacts w r) (p : Party) (at : part
       by_kept : (k : Option (ℕ × ObjectAnswer)) → own.mark.mark.kept ≡ k → kept_answer n k ≡ Some a → p.client.waits ≡ Some (h, n)
       by_kept None kept is = absurd (cc)
       by_kept (Some x) kept is =
-          by_test (λ t. (x.0 == n) ≡ t → (if t then Some x.1 else None) ≡ Some a → p.client.waits ≡ Some (h, n)) (x.0 == n)
-          (λ _ same _.
+          by_test (λ t. (if t then Some x.1 else None) ≡ Some a → p.client.waits ≡ Some (h, n)) (x.0 == n)
+          (λ same _.
           let one : x.0 ≡ n = eqb-true x.0 n same in
           subst (λ (m : ℕ). p.client.waits ≡ Some (h, m)) one (ran_at x.0 x.1 kept (subst (λ (m : ℕ). l.acked < m) (sym one) more)))
-          (λ _ other f. absurd (cc)) refl is
+          (λ other f. absurd (cc)) is
 
   -- A client with an opened block sends its entries to a handler where nothing of the block is pending, and gets on.
 
@@ -327,11 +327,10 @@ module _ (w : World) (r : IsReached w) (e : AllFacts w r) (p : Party) (at : part
       → (c.waits ≡ Some (h, logged l)) × (k.received ≡ logged l) × (last ≡ logged l)
   only_query None is before off = absurd (let more = last_more in off (omega (arith, more, before)))
   only_query (Some y) is before off =
-      by_test
-      (λ t. (same_handler y.0 h && nat_le y.1 k.received) ≡ t → (l.acked < (if t then y.1 - 1 else k.received) → ⊥) → (c.waits ≡ Some (h, logged l))
+      by_test (λ t. (l.acked < (if t then y.1 - 1 else k.received) → ⊥) → (c.waits ≡ Some (h, logged l))
       × (k.received ≡ logged l) × (last ≡ logged l))
       (same_handler y.0 h && nat_le y.1 k.received)
-      (λ _ test down.
+      (λ test down.
       let tests = and_parts (same_handler y.0 h) (nat_le y.1 k.received) test in
       let there : c.waits ≡ Some (h, y.1) = is ∙ (λ i. Some ((handler_decides y.0 h).0 tests.0 i, y.1)) in
       let g = (own_windows w r e p at q held).waits h y.1 there in
@@ -345,7 +344,7 @@ module _ (w : World) (r : IsReached w) (e : AllFacts w r) (p : Party) (at : part
         omega (arith, below tests.1, number, received_le),
         omega (arith, number, waiting, not_below, last_le, more),
       ))
-      (λ _ test down. absurd (let more = last_more in down (omega (arith, more, before)))) refl off
+      (λ test down. absurd (let more = last_more in down (omega (arith, more, before)))) off
     where
       below : nat_le y.1 k.received ≡ true → y.1 ≤ k.received
       below f = grind (arith, nat_tests)
@@ -359,15 +358,15 @@ module _ (w : World) (r : IsReached w) (e : AllFacts w r) (p : Party) (at : part
       let counts = counted c q held is_opened h l window k.received received_le in
       let n : Notice = counts.notice in
       let hears : heard c (Logged (number_of s) q.block k.received) ≡ n = ap (λ j. heard c (Logged j q.block k.received)) own.mark.number ∙ counts.is in
-      by_test (λ t. nat_lt l.acked (up_to h k.received c.waits) ≡ t → Helps w (next.Ask (id_of p) (number_of s))) (nat_lt l.acked (up_to h k.received c.waits))
-      (λ _ lt.
+      by_test (λ _. Helps w (next.Ask (id_of p) (number_of s))) (nat_lt l.acked (up_to h k.received c.waits))
+      (λ lt.
       let less : l.acked < up_to h k.received c.waits = grind (arith, nat_tests) in
       asks_useful w r p s (Log (number_of s) q.block (l.acked + 1) es) (Logged (number_of s) q.block k.received) at here owes refl refl rep
       (eq-eqb (pending q.block s.core.state.queues) 0 (none_pending q.block s.core.state.queues idle)) refl own_client n hears counts.id (counts.less less))
-      (λ _ ge.
+      (λ ge.
       let only = only_query c.waits refl before (λ lt. true≢false
       (sym (let is : nat_lt l.acked (up_to h k.received c.waits) ≡ true = grind (arith, nat_tests) in is) ∙ ge)) in
-      absurd (has_answer idle only.0 only.1 (ap (λ (m : ℕ). kept_answer m k.kept) (sym only.2) ∙ none))) refl
+      absurd (has_answer idle only.0 only.1 (ap (λ (m : ℕ). kept_answer m k.kept) (sym only.2) ∙ none)))
 
   pub log_useful : IsIdleIn s.core.state.queues q.block → Helps w (next.Ask (id_of p) h)
   log_useful idle =

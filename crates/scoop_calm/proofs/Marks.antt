@@ -10,11 +10,10 @@ use Rattle.scoop_calm.proofs.Names.{is_opened, unlock_of_a_block_never_held, is_
 use Rattle.scoop_calm.proofs.Names.{block_of-same, World, log_of, handlers_of, numbered, untold, by_test, Stands, same_block_is, IsReachedIn, IsNamed, Grown}
 use Rattle.scoop_calm.proofs.Names.{Slot, ran_in, all_append, newer_inc, newer_num, none_reached, not_reached, Member, MarkStage as Stage, ◌==◌, false}
 use Rattle.scoop_calm.proofs.Names.{true≢false, IsFalse, append-nil, option_to_list, handler_of, client_of, is_for_handler, core_of, hear, ran_of, HasEntries}
-use Rattle.scoop_calm.proofs.Names.{row, number-row, replies-row, ReservationState, ClientState, due, heard, DueRow, owes_nothing, greets, reserves, logs}
-use Rattle.scoop_calm.proofs.Names.{due_row, heard_row, Site, Party, number_of, is_site, is_party, site_of, set_site, set_party, sent_at, Placement, Newcomer}
-use Rattle.scoop_calm.proofs.Names.{new_site, new_party, opening, newest_block, commanded_world, with_sent, heard_site, heard_world, heard_party, with_site}
-use Rattle.scoop_calm.proofs.Names.{with_party, begun_site, finished_site, restarted_party, reopened, reopened_world, Changes, OwedRow, asks, opens, unlocks}
-use Rattle.scoop_calm.proofs.Names.{gives_back, owed_row, Sound, sent_all, handlers_after, Tells, SiteFits, PartyFits, Ordered, all_more_of, all_found}
+use Rattle.scoop_calm.proofs.Names.{row, number-row, replies-row, ClientState, due, heard, logs, heard_row, Site, Party, number_of, is_site, is_party, site_of}
+use Rattle.scoop_calm.proofs.Names.{set_site, set_party, sent_at, Placement, Newcomer, new_site, new_party, opening, newest_block, commanded_world, with_sent}
+use Rattle.scoop_calm.proofs.Names.{heard_site, heard_world, heard_party, with_site, with_party, begun_site, finished_site, restarted_party, reopened}
+use Rattle.scoop_calm.proofs.Names.{reopened_world, Changes, Sound, sent_all, handlers_after, Tells, SiteFits, PartyFits, Ordered, all_more_of, all_found}
 use Rattle.scoop_calm.proofs.Names.{all_set_site, all_set_party, sent_tells, keeps_row, went_on as goes_on, Carries, Logging, grown_same, commanded_grown}
 use Rattle.scoop_calm.proofs.Names.{Shows, Openings, SlotWhole, SiteTaped, Taped, ◌||◌, not, Bool, true, same_Some, or_parts, same_client, client_decides}
 use Rattle.scoop_calm.proofs.Names.{is_open, IsState, is_holder, is_unfinished, holder_without, Task, after, MarksGrow, mark_of-set_mark_own}
@@ -23,6 +22,8 @@ use Rattle.scoop_calm.proofs.Names.{held_holds, grows-row, same_block_itself, Up
 use Rattle.scoop_model.proofs.Tape.Slots.{ran_of as slots_ran}
 use Rattle.scoop_calm.proofs.Lists.{member_more, member_pushed, sent_member}
 use Rattle.scoop_model.proofs.Order.Holding.{reached_more}
+use Rattle.std.proofs.lemmas.Bool.{false_from_ne_true}
+use Rattle.scoop_model.proofs.Moves.{Sends, sends_hello, sends as owed}
 
 -- -------- Facts about each mark that a handler keeps. Its block was reserved, and asked for its lock if it got it. The received
 -- entries are a beginning of its log. The kept answer is that of its last query that has run.
@@ -258,12 +259,12 @@ pub none_answered : (P : Block → Type 0) (b : Block) (rs : List Ran) (kept : O
     → last_answer b rs kept ≡ kept
 none_answered P b [] kept off all = refl
 none_answered P b (r ∷ rs) kept off all =
-    by_test (λ t. same_block b r.block ≡ t → last_answer b rs (next_answer b r kept) ≡ kept) (same_block b r.block)
-    (λ _ is. absurd (off (subst P (sym (same_block_is b r.block is)) all.0)))
-    (λ _ is.
+    by_test (λ _. last_answer b rs (next_answer b r kept) ≡ kept) (same_block b r.block)
+    (λ is. absurd (off (subst P (sym (same_block_is b r.block is)) all.0)))
+    (λ is.
     ap (λ t. last_answer b rs (if is_query r.entry && t then option_map (λ a. (r.number, a)) r.answer else kept)) is
     ∙ ap (λ t. last_answer b rs (if t then option_map (λ a. (r.number, a)) r.answer else kept)) (and-false (is_query r.entry))
-    ∙ none_answered P b rs kept off all.1) refl
+    ∙ none_answered P b rs kept off all.1)
 
 pub ran_reached : (marks : List Mark) (ran : List Ran) (ss : List Slot) → map untold ran ≡ slots_ran ss
     → AllByRecursion (λ (t : Slot). IsReachedIn marks t.block) ss → RanReached ran marks
@@ -312,19 +313,9 @@ hellos_more v w o sent i new h c inc m =
 same_hello : (c d : ClientId) (g h : HandlerId) (i j : ℕ) → Hello g c i ≡ Hello h d j → i ≡ j
 same_hello c d g h i j e = cc
 
-owed_hello : (r : ReservationState) (k : HandlerId) (m : Message) → OwedRow r k m → (h : HandlerId) (c : ClientId) (inc : ℕ) → m ≡ Hello h c inc → ⊥
-owed_hello r k m (asks at low) h c inc e = cc
-owed_hello r k m (opens at is) h c inc e = cc
-owed_hello r k m (unlocks at is) h c inc e = cc
-owed_hello r k m (gives_back at is) h c inc e = cc
-
-due_hello : (c : ClientState) (k : HandlerId) (o : Option Message) → DueRow c k o → 1 ≤ c.inc → (h : HandlerId) (d : ClientId) (inc : ℕ)
-    → o ≡ Some (Hello h d inc) → 1 ≤ inc
-due_hello c k o owes_nothing one h d inc e = absurd (cc)
-due_hello c k o (greets left) one h d inc e = let same : Hello k c.id c.inc ≡ Hello h d inc = cc in omega (arith, one, same_hello c.id d k h c.inc inc same)
-due_hello c k o (reserves r n greeted held owes) one h d inc e =
-    absurd (let same : n ≡ Hello h d inc = cc in owed_hello r k n (owed_row r k n owes) h d inc same)
-due_hello c k o (logs r l greeted held free opened window some) one h d inc e = absurd (cc)
+due_hello : (c : ClientState) (k : HandlerId) (m : Message) → Sends c k m → 1 ≤ c.inc → (h : HandlerId) (d : ClientId) (inc : ℕ) → m ≡ Hello h d inc → 1 ≤ inc
+due_hello c k m sends_hello one h d inc e = omega (arith, one, same_hello c.id d k h c.inc inc e)
+due_hello c k m s one h d inc e = absurd (cc)
 
 -- ---- sites
 
@@ -405,7 +396,7 @@ marked_kept w o sound l openings tape i = record {
       let v : World = with_sent w (due p.client h) in
       let one = (all_found PartyBegun (is_party c) w.parties p i.parties at).inc in
       record {
-        hellos = hellos_more w v (due p.client h) refl i (due_hello p.client h (due p.client h) (due_row p.client h) one);
+        hellos = hellos_more w v (due p.client h) refl i (λ j d inc e. due_hello p.client h (Hello j d inc) (owed p.client h (Hello j d inc) e) one j d inc refl);
         sites = sites_more w v (sends_further w v (due p.client h) refl refl) w.sites i.sites;
         parties = i.parties;
       });
@@ -503,15 +494,15 @@ open_unfinished o k at on e =
 set_case : (Q : Mark → Mark → Type 0) (y old : Mark) (marks : List Mark) (c : ClientId) (k x : Mark) → mark_of y.client marks ≡ Some old
     → mark_of c marks ≡ Some k → mark_of c (set_mark y marks) ≡ Some x → Q old y → (same_client c y.client ≡ false → Q k k) → Q k x
 set_case Q y old marks c k x was here now own other =
-    by_test (λ t. same_client c y.client ≡ t → Q k x) (same_client c y.client)
-    (λ _ is.
+    by_test (λ _. Q k x) (same_client c y.client)
+    (λ is.
     let c_is : c ≡ y.client = client_from_same c y.client is in
     let k_is : old ≡ k = same_Some old k (sym was ∙ ap (λ d. mark_of d marks) (sym c_is) ∙ here) in
     let x_is : y ≡ x = same_Some y x (sym (mark_of-set_mark_own y old marks was) ∙ ap (λ d. mark_of d (set_mark y marks)) (sym c_is) ∙ now) in
     subst (λ z. Q z x) k_is (subst (Q old) x_is own))
-    (λ _ is.
+    (λ is.
     let x_is : k ≡ x = same_Some k x (sym here ∙ sym (mark_of-set_mark_other c y marks is) ∙ now) in
-    subst (Q k) x_is (other is)) refl
+    subst (Q k) x_is (other is))
 
 -- the same block is finished later too
 abbrev StaysFinished : Option Block → Option Block → Mark → Mark → Type 0
@@ -533,8 +524,7 @@ other_block b c k marks found apart = apart_blocks b (block_of k)
 finished-row : (s : HandlerState) (m : Message) (h : Hearing) → Row s m h → IsState s → (c : ClientId) (k x : Mark) → mark_of c s.marks ≡ Some k
     → mark_of c h.0.marks ≡ Some x → StaysFinished s.holder h.0.holder k x
 finished-row s m h (first_greeting y d inc here none room) is = λ c k x found now inc_same num_same e.
-    let apart : same_client d c ≡ false = by_test (λ t. same_client d c ≡ t → t ≡ false) (same_client d c)
-    (λ _ same. absurd (let both : None ≡ Some k = sym none ∙ ap (λ z. mark_of z s.marks) (client_from_same d c same) ∙ found in cc)) (λ _ same. refl) refl in
+    let apart : same_client d c ≡ false = false_from_ne_true (same_client d c) (λ same. let both : None ≡ Some k = sym none ∙ ap (λ z. mark_of z s.marks) (client_from_same d c same) ∙ found in cc) in
     let one : k ≡ x = same_Some k x (sym found ∙ sym (mark_of-add_mark_other c (greeting_mark d inc) s.marks apart) ∙ now) in
     subst (λ z. unfinished s.holder z ≡ false) one e
 finished-row s m h (newer_greeting y d inc k0 here found0 newer) is = λ c k x found now.

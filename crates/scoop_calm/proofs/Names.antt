@@ -115,33 +115,30 @@ pub use Rattle.scoop_model.proofs.Answering.Kept.{KeepsRan}
 pub use Rattle.scoop_model.proofs.Answering.Objects.{AnswersFrom}
 pub use Rattle.scoop_model.proofs.Answering.Runs.{answering_kept, opens_answering}
 pub use Rattle.scoop_model.proofs.Basics.{by_test, ok_is}
-pub use Rattle.scoop_model.proofs.Events.{Changes, Gives, Happens, Kept, event_happens, event_kept, steps_kept}
-pub use Rattle.scoop_model.proofs.Keys.{by_party, by_site, id_found, number_found, site_put}
+pub use Rattle.scoop_model.proofs.Events.{both_kept, Changes, Gives, Happens, Kept, event_happens, event_kept, steps_kept}
+pub use Rattle.scoop_model.proofs.Keys.{by_party, by_site, id_found, number_found, own_site, site_put}
 pub use Rattle.scoop_model.proofs.Knowing.Clients.{none_left as idle_left}
 pub use Rattle.scoop_model.proofs.Knowing.Facts.{Knowing, PartyKnown}
-pub use Rattle.scoop_model.proofs.Knowing.Runs.{knowing_kept}
+pub use Rattle.scoop_model.proofs.Knowing.Runs.{knowing_kept, opens_knowing}
 pub use Rattle.scoop_model.proofs.Logging.Commands.{commanded_grown, running_is}
 pub use Rattle.scoop_model.proofs.Logging.Facts.{Carries, Grown, Logging, PartyLogs, WindowFits, WindowsFit, grown_same}
 pub use Rattle.scoop_model.proofs.Logging.Greetings.{IsMarkUpto, MarksUpto, inc_there}
 pub use Rattle.scoop_model.proofs.Logging.OpeningClients.{has_filtered, unlocking_is}
 pub use Rattle.scoop_model.proofs.Logging.OpeningRuns.{ToldMore, opens_told_more, told_more_kept}
-pub use Rattle.scoop_model.proofs.Logging.OpeningSteps.{none_reserved}
+pub use Rattle.scoop_model.proofs.Logging.Steps.{none_reserved}
 pub use Rattle.scoop_model.proofs.Logging.Openings.{IsGivenUp, IsMarkOpened, IsOpenedAtAll, NoOpen, Openings, Shows, SiteOpened, StageOpened}
 pub use Rattle.scoop_model.proofs.Logging.Windows.{StaysAt, by_all, by_window, first_of_all, fits_acknowledged, found_has, fresh_found, handlers_at}
 pub use Rattle.scoop_model.proofs.Logging.Windows.{handlers_at_window, window_handler}
 pub use Rattle.scoop_model.proofs.Order.Clients.{has_without, is_gone_one, keeps_row, none_in_empty}
 pub use Rattle.scoop_model.proofs.Order.Commands.{goes_on as went_on, started_fresh}
-pub use Rattle.scoop_model.proofs.Order.Facts.{IsNamed, Ordered, PartyFits, SiteFits, Tells, all_found, all_more_of, all_pushed, all_set_party, all_set_site}
-pub use Rattle.scoop_model.proofs.Order.Handlers.{sent_tells, state_anew}
+pub use Rattle.scoop_model.proofs.Order.Facts.{IsNamed, Ordered, PartyFits, SiteFits, Tells, all_found, all_more_of, all_pushed, all_set_party, all_set_site, state_anew}
+pub use Rattle.scoop_model.proofs.Order.Handlers.{sent_tells}
 pub use Rattle.scoop_model.proofs.Order.Holding.{IsHeldIn, IsReachedIn, Upto, own_place, upto_itself}
-pub use Rattle.scoop_model.proofs.Order.Joint.{joint_kept}
+pub use Rattle.scoop_model.proofs.Order.Runs.{joint_kept}
 pub use Rattle.scoop_model.proofs.Order.Lists.{AreApart, same_block_is, same_block_itself}
 pub use Rattle.scoop_model.proofs.Order.Sets.{handlers_after}
 pub use Rattle.scoop_model.proofs.Reaching.{parties_apart, reached_more, sites_apart, sites_placed}
-pub use Rattle.scoop_model.proofs.Sites.{own_site}
 pub use Rattle.scoop_model.proofs.Sound.Facts.{HasBatch, Sound}
-pub use Rattle.scoop_model.proofs.Sound.Owed.{OwedRow, asks, gives_back, opens, owed_row, unlocks}
-pub use Rattle.scoop_model.proofs.Sound.Runs.{both_kept}
 pub use Rattle.scoop_model.proofs.Sound.Steps.{sent_all}
 pub use Rattle.scoop_model.proofs.Standing.Facts.{IsPastIn, StageStands, StandsAt, StandsIn}
 pub use Rattle.scoop_model.proofs.Standing.Runs.{opens_standing, standing_kept}

@@ -104,10 +104,10 @@ module _ (w : World) (r : IsReached w) (e : AllFacts w r) (ran : AllByRecursion 
         let client : k.client ≡ x.0.block.client = mark_of-client x.0.block.client s.core.state.marks k marked.found in
         let found : mark_of k.client s.core.state.marks ≡ Some k = ap (λ c. mark_of c s.core.state.marks) client ∙ marked.found in
         let own : block_of k ≡ x.0.block =
-        by_test (λ t. same_block (block_of k) x.0.block ≡ t → block_of k ≡ x.0.block) (same_block (block_of k) x.0.block)
-        (λ _ same. same_block_is (block_of k) x.0.block same)
-        (λ _ other. absurd (true≢false (sym more ∙ marked.fits.older
-        (λ same. true≢false (sym (ap (λ z. same_block z x.0.block) same ∙ same_block_itself x.0.block) ∙ other))))) refl in
+        by_test (λ _. block_of k ≡ x.0.block) (same_block (block_of k) x.0.block)
+        (λ same. same_block_is (block_of k) x.0.block same)
+        (λ other. absurd (true≢false (sym more ∙ marked.fits.older
+        (λ same. true≢false (sym (ap (λ z. same_block z x.0.block) same ∙ same_block_itself x.0.block) ∙ other))))) in
         let going : (is_open k.stage && not k.ended) ≡ true = (marked.fits.newest own).unfinished more in
         let unfinished : is_unfinished s.core.state k ≡ true = or_right (is_holder s.core.state.holder (block_of k)) (is_open k.stage && not k.ended) going in
         let o = owner w r e settled s m k found in
@@ -303,16 +303,16 @@ module _ (w : World) (r : IsReached w) (e : AllFacts w r) where
     -- a free lock can be got
     pub if_free : s.core.state.holder ≡ None → is_lowest h q.left ≡ true → Helps w (following.Ask (id_of p) h)
     if_free none_holds low =
-        by_test (λ t. nat_lt k.num q.block.num ≡ t → Helps w (following.Ask (id_of p) h)) (nat_lt k.num q.block.num)
-        (λ _ lt.
+        by_test (λ _. Helps w (following.Ask (id_of p) h)) (nat_lt k.num q.block.num)
+        (λ lt.
         let newer : k.num < q.block.num = grind (arith, nat_tests) in
         let new : is_new q.block k ≡ true = lt in
         lock_useful p at q held stage h low own (inl (newer, none_holds, newer_clear w r e p at q held h own.mark new))
         (ap (λ y. is_none y || is_holder y q.block) none_holds))
-        (λ _ ge.
+        (λ ge.
         let le = own.num in
         let num : k.num ≡ q.block.num = grind (arith, nat_tests) in
-        lock_useful p at q held stage h low own (inr (num, must_be_held num)) (ap (λ y. is_none y || is_holder y q.block) none_holds)) refl
+        lock_useful p at q held stage h low own (inr (num, must_be_held num)) (ap (λ y. is_none y || is_holder y q.block) none_holds))
 
     -- a mark that is held is at the holder
     held_by : k.num ≡ q.block.num → s.core.state.holder ≡ Some q.block

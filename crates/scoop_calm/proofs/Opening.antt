@@ -29,9 +29,9 @@ pub record SlotOf (ss : List Slot) (b : Block) : Type 0 where
 pub slot_of : (ss : List Slot) (b : Block) → has_block (blocks_of ss) b ≡ true → SlotOf ss b
 slot_of [] b e = absurd (true≢false (sym e))
 slot_of (t ∷ ts) b e =
-    by_test (λ y. same_block t.block b ≡ y → (y || has_block (blocks_of ts) b) ≡ true → SlotOf (t ∷ ts) b) (same_block t.block b)
-    (λ _ is f. record { slot = t; in_list = inl refl; block = same_block_is t.block b is })
-    (λ _ is f. let s = slot_of ts b f in record { slot = s.slot; in_list = inr s.in_list; block = s.block }) refl e
+    by_test (λ y. (y || has_block (blocks_of ts) b) ≡ true → SlotOf (t ∷ ts) b) (same_block t.block b)
+    (λ is f. record { slot = t; in_list = inl refl; block = same_block_is t.block b is })
+    (λ is f. let s = slot_of ts b f in record { slot = s.slot; in_list = inr s.in_list; block = s.block }) e
 
 member_behind : {A : Type 0} (x : A) (xs ys : List A) → Member x ys → Member x (xs ++ ys)
 member_behind x [] ys m = m
@@ -89,10 +89,10 @@ module _ (w : World) (s : Site) (is : IsState s.core.state) (tape : SiteTaped w 
 
     pub opened_open : is_open k.stage ≡ true
     opened_open =
-        by_test (λ t. is_open k.stage ≡ t → t ≡ true) (is_open k.stage)
-        (λ _ _. refl)
-        (λ _ closed. absurd (not_closed ((All-mark_of IsUnusedUnlessOpen b.client s.core.state.marks k is.unused found).unused closed)
-        closed own_slot.slot.state refl)) refl
+        by_test (λ t. t ≡ true) (is_open k.stage)
+        (λ _. refl)
+        (λ closed. absurd (not_closed ((All-mark_of IsUnusedUnlessOpen b.client s.core.state.marks k is.unused found).unused closed)
+        closed own_slot.slot.state refl))
 
 -- -------- A client that opens its block can open it wherever there is room for a private queue. Its mark at each handler of the
 -- block is at that block, held or already open, since every handler granted the lock before. So the handler replies

@@ -5,15 +5,15 @@ use Rattle.scoop_calm.proofs.Names.{⊎_elim, arith, nat_tests, if◌then◌else
 use Rattle.scoop_calm.proofs.Names.{Grows, block_of, HandlerLog, BlockLog, is_share_of, by_test, total, entries_of, is_later, share_left, block_left}
 use Rattle.scoop_calm.proofs.Names.{places_from, Member, ◌*◌, ◌⊎◌, ◌||◌, Bool, IsTrue, length, length-append, length-drop, nat_lt, IsFalse, unwrap_or, Entry}
 use Rattle.scoop_calm.proofs.Names.{Message, ends, last_number, same_client, client_decides, PrivateQueue, cut, cut_open, left_by_cut, opened, put_all, AtHeld}
-use Rattle.scoop_calm.proofs.Names.{AtOpen, AtShut, MarksGrow, is_held, fresh_mark, opened_mark, with_received, without_hold, mark_of, set_mark, add_mark}
-use Rattle.scoop_calm.proofs.Names.{HandlerState, IsState, Hearing, greeting_mark, holder_without, new_entries, Row, first_greeting, newer_greeting}
-use Rattle.scoop_calm.proofs.Names.{lock_granted, is_opened, unlock_of_a_block_never_held, is_freed, is_taken, Grows-refl, mark_of-client, mark_of-set_mark_own}
-use Rattle.scoop_calm.proofs.Names.{mark_of-add_mark_own, Party, id_of, queue_work, mark_at, places_left, hold_left, lock_left, handler_left}
-use Rattle.scoop_calm.proofs.Names.{MarkStage as Stage, holder_left, out_left, nat_le, or_parts, same_handler, Step, ReservationState, step_row, WindowState}
-use Rattle.scoop_calm.proofs.Names.{acknowledged, at_window, logged, ClientState, with_reservation, with_windows, idle, ClientNote, heard, after_step, stepped}
-use Rattle.scoop_calm.proofs.Names.{up_to, HeardRow, passed_over, is_welcomed, takes_step, is_acknowledged, is_accepted, heard_row, block_work, client_work}
-use Rattle.scoop_calm.proofs.Names.{stage_work, wait_work, windows_work, all_over, map, Core, World, Site, site_of, party_of, mark_room, clients_left}
-use Rattle.scoop_calm.proofs.Names.{room_left, work_left, runs_left, jobs_left, left}
+use Rattle.scoop_calm.proofs.Names.{AtShut, MarksGrow, is_held, fresh_mark, opened_mark, with_received, without_hold, mark_of, set_mark, add_mark, HandlerState}
+use Rattle.scoop_calm.proofs.Names.{IsState, Hearing, greeting_mark, holder_without, new_entries, Row, first_greeting, newer_greeting, lock_granted, is_opened}
+use Rattle.scoop_calm.proofs.Names.{unlock_of_a_block_never_held, is_freed, is_taken, Grows-refl, mark_of-client, mark_of-set_mark_own, mark_of-add_mark_own}
+use Rattle.scoop_calm.proofs.Names.{Party, id_of, queue_work, mark_at, places_left, hold_left, lock_left, handler_left, MarkStage as Stage, holder_left}
+use Rattle.scoop_calm.proofs.Names.{out_left, nat_le, or_parts, same_handler, Step, ReservationState, step_row, WindowState, acknowledged, at_window, logged}
+use Rattle.scoop_calm.proofs.Names.{ClientState, with_reservation, with_windows, idle, ClientNote, heard, after_step, stepped, up_to, HeardRow, passed_over}
+use Rattle.scoop_calm.proofs.Names.{is_welcomed, takes_step, is_acknowledged, is_accepted, heard_row, block_work, client_work, stage_work, wait_work}
+use Rattle.scoop_calm.proofs.Names.{windows_work, all_over, map, Core, World, Site, site_of, party_of, mark_room, clients_left, room_left, work_left, runs_left}
+use Rattle.scoop_calm.proofs.Names.{jobs_left, left}
 use Rattle.scoop_calm.proofs.Lists.{total_append, total_newer, less_without, lowest_has}
 use Rattle.scoop_calm.proofs.Sending.{marks_distinct, acknowledged_window, counted}
 use Rattle.scoop_reserve.specs.Hearing as reservation
@@ -68,9 +68,6 @@ module _ (k x : Mark) (b : Block) (client : k.client ≡ x.client) where
 own_now : (k : Mark) (b : Block) → same_block b (block_of k) ≡ true → is_later b k ≡ false
 own_now k b e = grind (arith, nat_tests)
 
-own_not_later : (k : Mark) → is_later (block_of k) k ≡ false
-own_not_later k = grind (arith, nat_tests)
-
 own_same : (k : Mark) → same_block (block_of k) (block_of k) ≡ true
 own_same k = grind (arith, nat_tests)
 
@@ -84,16 +81,16 @@ own_share k b l is =
 
 share_less : (k x : Mark) (b : Block) (l : HandlerLog) → k.client ≡ x.client → Grows k x → share_left x b l ≤ share_left k b l
 share_less k x b l client grows =
-    by_test (λ t. is_later b x ≡ t → share_left x b l ≤ share_left k b l) (is_later b x)
-    (λ _ is.
+    by_test (λ _. share_left x b l ≤ share_left k b l) (is_later b x)
+    (λ is.
     omega (arith, later_share x b l is, later_share k b l (later_before k x b client grows is)))
-    (λ _ not_later.
-    by_test (λ t. same_block b (block_of x) ≡ t → share_left x b l ≤ share_left k b l) (same_block b (block_of x))
-    (λ _ is. at_block grows is)
-    (λ _ other.
+    (λ not_later.
+    by_test (λ _. share_left x b l ≤ share_left k b l) (same_block b (block_of x))
+    (λ is. at_block grows is)
+    (λ other.
     let none : share_left x b l ≡ 0 =
     (λ i. if not_later i then suc (entries_of l) else if other i then entries_of l - x.received else 0) in
-    omega (arith, none)) refl) refl
+    omega (arith, none)))
   where
     at_block : Grows k x → same_block b (block_of x) ≡ true → share_left x b l ≤ share_left k b l
     at_block (inl newer) is = omega (arith, own_share x b l is, later_share k b l (newer_later k x b client newer is))
@@ -240,8 +237,7 @@ unheld k = by_stage k.stage
   where
     by_stage : (t : Stage) → hold_left (record k { stage = if is_held t then AtShut else t }) ≡ 0
     by_stage AtHeld = refl
-    by_stage AtOpen = refl
-    by_stage AtShut = refl
+    by_stage stage = refl
 
 holder_less : (c : ClientId) (o : Option Block) → holder_left (holder_without c o) ≤ holder_left o
 holder_less c None = omega arith
@@ -417,20 +413,15 @@ hears_lessens c m fits = row_lessens c m (heard c m).0 (heard c m).1 (heard_row 
 -- ---- it keeps its name
 
 step_id : (c : ClientState) (r : ReservationState) (st : Step) → (after_step c r st).0.id ≡ c.id
-step_id c r (step.Locked h) = stepped_id c r
-step_id c r (step.Busy h) = stepped_id c r
-step_id c r (step.Opened h) = stepped_id c r
-step_id c r (step.Unlocked h) = stepped_id c r
 step_id c r step.Ignored = refl
+step_id c r st = stepped_id c r
 
 row_id : (c : ClientState) (m : Message) (d : ClientState) (note : ClientNote) → HeardRow c m d note → d.id ≡ c.id
-row_id c m d note (passed_over n) = refl
-row_id c m d note (is_welcomed h left) = refl
 row_id c m d note (takes_step n r held) = step_id c (reservation.heard r n).0 (reservation.heard r n).1
 row_id c m d note (is_acknowledged h n r l held opened window new) =
     let e = with_windows c (at_window h (acknowledged (up_to h n c.waits)) c.windows) c.waits in
     by_test (λ t. (if t then idle e else e).id ≡ c.id) (all_over e.windows) (λ _. refl) (λ _. refl)
-row_id c m d note (is_accepted h n a r held opened waits) = refl
+row_id c m d note row = refl
 
 pub heard_id : (c : ClientState) (m : Message) → (heard c m).0.id ≡ c.id
 heard_id c m = row_id c m (heard c m).0 (heard c m).1 (heard_row c m)
@@ -513,19 +504,17 @@ not_less v w a less = by_less less
 
 found_alike : {A B : Type 0} (f : A → B) (test : B → Bool) (xs ys : List A) (x : A) → map f xs ≡ map f ys → find (λ (z : A). test (f z)) xs ≡ Some x
     → (y : A) × (find (λ (z : A). test (f z)) ys ≡ Some y) × (f y ≡ f x)
-found_alike f test [] ys x same found = absurd (cc)
-found_alike f test (z ∷ zs) [] x same found = absurd (cc)
 found_alike f test (z ∷ zs) (y ∷ ys) x same found =
     let one : f z ≡ f y = cc in
     let rest : map f zs ≡ map f ys = cc in
-    by_test
-    (λ t. test (f z) ≡ t → (if t then Some z else find (λ u. test (f u)) zs) ≡ Some x
+    by_test (λ t. (if t then Some z else find (λ u. test (f u)) zs) ≡ Some x
     → (u : _) × ((if test (f y) then Some y else find (λ u. test (f u)) ys) ≡ Some u) × (f u ≡ f x))
     (test (f z))
-    (λ _ is e. (y, ap (λ t. if t then Some y else find (λ u. test (f u)) ys) (ap test (sym one) ∙ is), sym one ∙ (let here : z ≡ x = cc in ap f here)))
-    (λ _ is e.
+    (λ is e. (y, ap (λ t. if t then Some y else find (λ u. test (f u)) ys) (ap test (sym one) ∙ is), sym one ∙ (let here : z ≡ x = cc in ap f here)))
+    (λ is e.
     let g = found_alike f test zs ys x rest e in
-    (g.0, ap (λ t. if t then Some y else find (λ u. test (f u)) ys) (ap test (sym one) ∙ is) ∙ g.1, g.2)) refl found
+    (g.0, ap (λ t. if t then Some y else find (λ u. test (f u)) ys) (ap test (sym one) ∙ is) ∙ g.1, g.2)) found
+found_alike f test xs ys x same found = absurd (cc)
 
 pub site_alike : (v w : World) (h : HandlerId) (s : Site) → Alike v w → site_of h v ≡ Some s → (t : Site) × (site_of h w ≡ Some t) × (t.core ≡ s.core)
 site_alike v w h s a found = found_alike (λ (x : Site). x.core) (λ (k : Core). same_handler k.state.number h) v.sites w.sites s a.cores found

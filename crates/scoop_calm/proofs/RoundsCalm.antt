@@ -291,8 +291,8 @@ module _ (v w : World) (vr : IsReached v) (wr : IsReached w) (a : Alike v w) whe
 
     taken_alike : (b : World × WorldNote) → step w (Take j) ≡ Ok b → (a : World × WorldNote) × TakenAlike v w (step v (Take i)) a b
     taken_alike b is =
-        by_test (λ t. is_for_handler m ≡ t → (a : World × WorldNote) × TakenAlike v w (step v (Take i)) a b) (is_for_handler m)
-        (λ _ goes. by_handler goes b is) (λ _ goes. by_client goes b is) refl
+        by_test (λ _. (a : World × WorldNote) × TakenAlike v w (step v (Take i)) a b) (is_for_handler m)
+        (λ goes. by_handler goes b is) (λ goes. by_client goes b is)
 
 -- ---- places of messages
 
@@ -321,10 +321,8 @@ ok_same x y e = cc
 -- ---- what a move leaves
 
 kinds_of : (w : World) (x : Next) → AllGoOn (events_of w x)
-kinds_of w (next.Finish h) = (refl, tt)
-kinds_of w (next.Begin h) = (refl, tt)
 kinds_of w (next.Ask c h) = (refl, (refl, (refl, tt)))
-kinds_of w (next.End c) = (refl, tt)
+kinds_of w x = (refl, tt)
 
 helps_path : (w : World) (x : Next) (h : Helps w x) → Path w (events_of w x) h.after
 helps_path w x h =
@@ -333,8 +331,8 @@ helps_path w x h =
 
 less_or : (a b : ℕ) → (b ≤ a → ⊥) → a < b
 less_or a b never =
-    by_test (λ t. nat_lt a b ≡ t → a < b) (nat_lt a b) (λ _ is. grind (arith, nat_tests))
-    (λ _ is. absurd (never (let le : b ≤ a = grind (arith, nat_tests) in le))) refl
+    by_test (λ _. a < b) (nat_lt a b) (λ is. grind (arith, nat_tests))
+    (λ is. absurd (never (let le : b ≤ a = grind (arith, nat_tests) in le)))
 
 pub helps_falls : (w : World) → IsReached w → (x : Next) (h : Helps w x) → left h.after < left w
 helps_falls w r x h =

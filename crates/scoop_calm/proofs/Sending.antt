@@ -8,9 +8,8 @@ use Rattle.scoop_calm.proofs.Names.{window_work, windows_work, stage_work, wait_
 use Rattle.scoop_calm.proofs.Names.{last_number, same_client, client_decides, pending, Mark, Took, Known, is_open as is_mark_open, mark_of, set_mark}
 use Rattle.scoop_calm.proofs.Names.{HandlerState, IsAscending, is_new, hear_of, if_here, hear_log, took, with_entries, received_before, kept_answer}
 use Rattle.scoop_calm.proofs.Names.{new_entries, is_closed, has_no_room, mark_room, total, tail-ascending, suc, ◌++◌, map, filter, slice_get, subst}
-use Rattle.scoop_calm.proofs.Names.{length-append, append_assoc, Contains, AllByRecursion, option_map, All-contains, All-from_recursion, Call, Query, is_query}
+use Rattle.scoop_calm.proofs.Names.{length-append, append_assoc, Contains, AllByRecursion, option_map, All-contains, All-from_recursion, Query, is_query}
 use Rattle.scoop_calm.proofs.Names.{same_block, ClassTable, eff, entry_effect, Ran, AnswersFrom, Slot, IsBegun, same_block-sym, numbered, untold}
-use Rattle.scoop_calm.proofs.Names.{EndEntry as End}
 use Rattle.scoop_reserve.specs.Hearing.{is_open}
 use Rattle.scoop_calm.proofs.Lists.{Distinct, total_newer}
 use Rattle.scoop_calm.proofs.Talk.{Replies, heard_of}
@@ -62,15 +61,15 @@ module _ (c : ClientState) (q : ReservationState) (held : c.reservation ≡ Some
       ap (hear_logged c h q.block n) held ∙ ap (λ t. if t then hear_count c h n k (window_of h c.windows) else ignored c) open_own
       ∙ ap (hear_count c h n k) window in
       let before = was c.waits refl in
-      by_test (λ t. nat_le k l.acked ≡ t → Counts c h q.block n l) (nat_le k l.acked)
-      (λ _ old. record {
+      by_test (λ _. Counts c h q.block n l) (nat_le k l.acked)
+      (λ old. record {
         notice = (c, Ignored);
         is = start ∙ (λ i. if few i || old i then ignored c else (settled d, Acknowledged h k));
         id = refl;
         no_more = omega arith;
         less = λ more. absurd (let off : nat_le k l.acked ≡ false = grind (arith, nat_tests) in true≢false (sym old ∙ off));
       })
-      (λ _ new.
+      (λ new.
       let more : l.acked < k = grind (arith, nat_tests) in
       let windows = windows_at h (acknowledged k) c.windows l window in
       let one = acknowledged_window k l in
@@ -85,7 +84,7 @@ module _ (c : ClientState) (q : ReservationState) (held : c.reservation ≡ Some
         id = by_test (λ t. (if t then idle d else d).id ≡ c.id) (all_over ls) (λ _. refl) (λ _. refl);
         no_more = omega (arith, fewer);
         less = λ _. fewer;
-      }) refl
+      })
     where
       positive : (k : ℕ) → n ≤ logged l → nat_le (up_to h n c.waits) l.acked ≡ false → l.acked < up_to h n c.waits → 1 ≤ newly (up_to h n c.waits) l
       positive k le new more = omega (arith, le, more, up_to_le h n c.waits)
@@ -198,11 +197,11 @@ module _ (s : HandlerState) (b : Block) (k : Mark) (n : ℕ) (es : List Entry) (
 
   pub log_reply : LogReply s b k n es
   log_reply =
-      by_test (λ t. nat_le last k.received ≡ t → LogReply s b k n es) (nat_le last k.received)
-      (λ _ old. by_kept old (kept_answer last k.kept) refl)
-      (λ _ new.
+      by_test (λ _. LogReply s b k n es) (nat_le last k.received)
+      (λ old. by_kept old (kept_answer last k.kept) refl)
+      (λ new.
       taken (let more : k.received < last = grind (arith, nat_tests) in more)
-      (record { state = with_entries s b n es k; told = Took last; is = begins ∙ new_outcome new }) refl) refl
+      (record { state = with_entries s b n es k; told = Took last; is = begins ∙ new_outcome new }) refl)
     where
       begins : if_here s s.number (hear_of s b (hear_log s b n es)) ≡ hear_log s b n es k
       begins = let num = d.num in heard_of s b k (hear_log s b n es) d.found d.inc (omega (arith, num))
@@ -222,14 +221,14 @@ pub own_answers : (b : Block) (rs : List Ran) (kept : Option (ℕ × ObjectAnswe
     → last_answer b rs kept ≡ last_answer b (filter (λ r. same_block r.block b) rs) kept
 own_answers b [] kept = refl
 own_answers b (r ∷ rs) kept =
-    by_test (λ t. same_block r.block b ≡ t → last_answer b rs (next_answer b r kept)
+    by_test (λ t. last_answer b rs (next_answer b r kept)
     ≡ last_answer b (if t then r ∷ filter (λ x. same_block x.block b) rs else filter (λ x. same_block x.block b) rs) kept) (same_block r.block b)
-    (λ _ is. own_answers b rs (next_answer b r kept))
-    (λ _ is.
+    (λ is. own_answers b rs (next_answer b r kept))
+    (λ is.
     let other : same_block b r.block ≡ false = same_block-sym r.block b is in
     ap (λ t. last_answer b rs (if is_query r.entry && t then option_map (λ a. (r.number, a)) r.answer else kept)) other
     ∙ ap (λ t. last_answer b rs (if t then option_map (λ a. (r.number, a)) r.answer else kept)) (and-false (is_query r.entry))
-    ∙ own_answers b rs kept) refl
+    ∙ own_answers b rs kept)
 
 -- the last of what ran of a block
 pub record LastRan (rs : List Ran) (b : Block) (n : ℕ) (e : Entry) : Type 0 where
@@ -277,9 +276,8 @@ pub record IsAnsweredRan (r : Ran) : Type 0 where
 
 query_effect : (class : ClassTable) (words : List ℕ) (e : Entry) (o : Option ObjectAnswer) → o ≡ (entry_effect class words e).1 → is_query e ≡ true
     → (a : ObjectAnswer) × (o ≡ Some a)
-query_effect class words (Call r) o is q = absurd (true≢false (sym q))
 query_effect class words (Query r) o is q = ((eff class words r).1, is)
-query_effect class words End o is q = absurd (true≢false (sym q))
+query_effect class words e o is q = absurd (true≢false (sym q))
 
 pub all_answered : (class : ClassTable) (words : List ℕ) (rs : List Ran) → AnswersFrom class words rs → AllByRecursion IsAnsweredRan rs
 all_answered class words [] all = tt

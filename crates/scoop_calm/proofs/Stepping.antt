@@ -1,23 +1,22 @@
 -- No event of a round adds to what is left, and a calm world stays calm.
 use Rattle.scoop_calm.proofs.Names.{◌≡◌, suc, ◌≤◌, ◌⊎◌, inl, inr, true, true≢false, List, [], ◌∷◌, ◌++◌, length, filter, find, not, Option, Some, None, refl}
-use Rattle.scoop_calm.proofs.Names.{sym, ap, ◌∙◌, subst, ⊎_elim, arith, length-append, if◌then◌else◌, unwrap_or, option_map, option_map_or, ClientId, HandlerId}
-use Rattle.scoop_calm.proofs.Names.{Entry, is_end, EndOnlyLast, same_block, block_decides, Mark, block_of, mark_of, key_found, All-mark_of, has, World, Site}
-use Rattle.scoop_calm.proofs.Names.{Party, HandlerLog, BlockLog, number_of, site_of, inc_of, log_of, is_site, is_log_of, is_share_of, handlers_in, IsReached}
-use Rattle.scoop_calm.proofs.Names.{by_test, id_found, IsMarkUpto, MarksUpto, IsNamed, ℕ, ◌+◌, ◌-◌, ◌*◌, ◌<◌, ◌||◌, false, map, is_some, Ok, Block, EndEntry}
-use Rattle.scoop_calm.proofs.Names.{Message, same_client, same_handler, handler_of, client_of, handler_decides, client_decides, Ran, Core, IsCore, with_state}
-use Rattle.scoop_calm.proofs.Names.{HandlerState, Hearing, hear, greeting_mark, Task, ready, job_out, first_task, begun, finished, after, mark_after, ran_of}
-use Rattle.scoop_calm.proofs.Names.{task_of, mark_of-after, number-row, grows-row, row, front, ClientState, heard, EndRow, ends_block, Command, Reserve, DoEnd}
-use Rattle.scoop_calm.proofs.Names.{GiveUp, Outcome, command, with_ends, command_row, heard_row, Event, WorldNote, id_of, party_of, set_party, sent_at}
+use Rattle.scoop_calm.proofs.Names.{Unlocking, sym, ap, ◌∙◌, subst, ⊎_elim, arith, length-append, if◌then◌else◌, unwrap_or, option_map, option_map_or, ClientId}
+use Rattle.scoop_calm.proofs.Names.{HandlerId, Entry, is_end, EndOnlyLast, same_block, block_decides, Mark, block_of, mark_of, key_found, All-mark_of, has}
+use Rattle.scoop_calm.proofs.Names.{World, Site, Party, HandlerLog, BlockLog, number_of, site_of, inc_of, log_of, is_site, is_log_of, is_share_of, handlers_in}
+use Rattle.scoop_calm.proofs.Names.{IsReached, by_test, id_found, IsMarkUpto, MarksUpto, IsNamed, ℕ, ◌+◌, ◌-◌, ◌*◌, ◌<◌, ◌||◌, false, map, is_some, Ok, Block}
+use Rattle.scoop_calm.proofs.Names.{EndEntry, Message, same_client, same_handler, handler_of, client_of, handler_decides, client_decides, Ran, Core, IsCore}
+use Rattle.scoop_calm.proofs.Names.{with_state, HandlerState, Hearing, hear, greeting_mark, Task, ready, job_out, first_task, begun, finished, after}
+use Rattle.scoop_calm.proofs.Names.{mark_after, ran_of, task_of, mark_of-after, number-row, grows-row, row, front, ClientState, heard, EndRow, ends_block}
+use Rattle.scoop_calm.proofs.Names.{Command, DoEnd, Outcome, command, with_ends, command_row, heard_row, Event, WorldNote, id_of, party_of, set_party, sent_at}
 use Rattle.scoop_calm.proofs.Names.{is_party, step, with_site, begun_site, finished_site, heard_site, heard_party, heard_world, with_party, commanded_world}
 use Rattle.scoop_calm.proofs.Names.{newest_block, changed_log, ok_is, Gives, Happens, event_happens, site_put, running_is, keeps_row, went_on, PartyFits}
 use Rattle.scoop_calm.proofs.Names.{sites_apart, parties_apart, own_site, total, client_work, queue_work, is_later, lock_left, share_left, block_left}
 use Rattle.scoop_calm.proofs.Names.{places_from, places_left, mark_at, hold_left, jobs_left, handler_left, site_left, left, Do, sent_tells, Tick, Take, Begin}
-use Rattle.scoop_calm.proofs.Names.{Finish, ClientRestart, NodeRestart, ⊤, DoCall as Call, DoQuery as Query, reached_more, goes_on, out_left, Bool, nat_tests}
-use Rattle.scoop_calm.proofs.Names.{same_Some, AllByRecursion, Lock, cut, put_all, IsHeardAt, holder_without, new_entries, IsState, Row, newer_greeting}
-use Rattle.scoop_calm.proofs.Names.{lock_granted, is_opened, is_freed, is_taken, mark_of-client, held_holds, is_empty, ReservationState, phase_of, HeardRow}
-use Rattle.scoop_calm.proofs.Names.{passed_over, is_welcomed, takes_step, is_acknowledged, is_accepted, ClientNote, end_block, inc_there, IsReachedIn}
-use Rattle.scoop_calm.proofs.Names.{all_set_site, all_set_party, newer_num, not_reached, Member, IsIdle, IsFree, Calm, Stage, Locking, Opening, Unlocking}
-use Rattle.scoop_calm.proofs.Names.{GivingUp, Greeting, Idle, is_ended, phase_at, phase_of_block}
+use Rattle.scoop_calm.proofs.Names.{Finish, ClientRestart, NodeRestart, ⊤, reached_more, goes_on, out_left, Bool, nat_tests, same_Some, AllByRecursion, Lock}
+use Rattle.scoop_calm.proofs.Names.{cut, put_all, IsHeardAt, holder_without, new_entries, IsState, Row, newer_greeting, lock_granted, is_opened, is_freed}
+use Rattle.scoop_calm.proofs.Names.{is_taken, mark_of-client, held_holds, is_empty, ReservationState, phase_of, HeardRow, passed_over, is_welcomed, takes_step}
+use Rattle.scoop_calm.proofs.Names.{is_acknowledged, is_accepted, ClientNote, end_block, inc_there, IsReachedIn, all_set_site, all_set_party, newer_num}
+use Rattle.scoop_calm.proofs.Names.{not_reached, Member, IsIdle, IsFree, Calm, Stage, Locking, Greeting, Idle, is_ended, phase_at, phase_of_block}
 use Rattle.scoop_handler.proofs.Basics.{all_found}
 use Rattle.scoop_calm.proofs.Everything.{everything, AllFacts}
 use Rattle.scoop_calm.proofs.Places.{HasLog, IsKnown, Alike, hears_less, hears_lessens, total_same}
@@ -132,15 +131,15 @@ some_front f (Some y) x e = refl
 -- a ready entry is pending, and no job is out
 ready_is : (k : Core) (t : Task) → ready k ≡ Some t → (k.out ≡ false) × (is_some (front k.state.queues) ≡ true)
 ready_is k t e =
-    by_test (λ b. k.out ≡ b → (if b then None else first_task k) ≡ Some t → (k.out ≡ false) × (is_some (front k.state.queues) ≡ true)) k.out
-    (λ _ out f. absurd (cc))
-    (λ _ out f. (out, some_front (task_of k) (front k.state.queues) t f)) refl e
+    by_test (λ b. (if b then None else first_task k) ≡ Some t → (k.out ≡ false) × (is_some (front k.state.queues) ≡ true)) k.out
+    (λ out f. absurd (cc))
+    (λ out f. (out, some_front (task_of k) (front k.state.queues) t f)) e
 
 out_is : (k : Core) (t : Task) → job_out k ≡ Some t → (k.out ≡ true) × (is_some (front k.state.queues) ≡ true)
 out_is k t e =
-    by_test (λ b. k.out ≡ b → (if b then first_task k else None) ≡ Some t → (k.out ≡ true) × (is_some (front k.state.queues) ≡ true)) k.out
-    (λ _ out f. (out, some_front (task_of k) (front k.state.queues) t f))
-    (λ _ out f. absurd (cc)) refl e
+    by_test (λ b. (if b then first_task k else None) ≡ Some t → (k.out ≡ true) × (is_some (front k.state.queues) ≡ true)) k.out
+    (λ out f. (out, some_front (task_of k) (front k.state.queues) t f))
+    (λ out f. absurd (cc)) e
 
 begun_less : (k : Core) (t : Task) → ready k ≡ Some t → jobs_left k.state.queues (begun k).out < jobs_left k.state.queues k.out
 begun_less k t e =
@@ -234,13 +233,11 @@ Descends (ClientRestart c) w v = ⊤
 Descends (NodeRestart n) w v = ⊤
 
 pub less_or_alike : (e : Event) (w v : World) → goes_on e ≡ true → Descends e w v → (left v < left w) ⊎ Alike v w
-less_or_alike (Do c x) w v on d = inl d
 less_or_alike (Tick c h) w v on d = inr d
 less_or_alike (Take i) w v on d = d
-less_or_alike (Begin h) w v on d = inl d
-less_or_alike (Finish h) w v on d = inl d
 less_or_alike (ClientRestart c) w v on d = absurd (true≢false (sym on))
 less_or_alike (NodeRestart n) w v on d = absurd (true≢false (sym on))
+less_or_alike e w v on d = inl d
 
 module _ (w : World) (r : IsReached w) where
   abbrev all : AllFacts w r
@@ -323,11 +320,8 @@ module _ (w : World) (r : IsReached w) where
 
   commands_descend : (c : ClientId) (p : Party) (x : Command) (d : ClientState) → party_of c w ≡ Some p → command p.client x ≡ Ok d
       → goes_on (Do c x) ≡ true → left (commanded_world w p x d) < left w
-  commands_descend c p (Reserve hs) d at is on = absurd (true≢false (sym on))
-  commands_descend c p (Call h y) d at is on = absurd (true≢false (sym on))
-  commands_descend c p (Query h y) d at is on = absurd (true≢false (sym on))
   commands_descend c p DoEnd d at is on = ends_descend c p d at is
-  commands_descend c p GiveUp d at is on = absurd (true≢false (sym on))
+  commands_descend c p x d at is on = absurd (true≢false (sym on))
 
   descends : Happens Ordinary w
   descends = record {
@@ -359,16 +353,14 @@ pub record HasNothing (c : ClientState) : Type 0 where
 
 pub has_nothing : (c : ClientState) → phase_of c ≡ Idle → HasNothing c
 has_nothing c idle =
-    by_test (λ t. is_empty c.unwelcomed ≡ t → (if t then phase_of_block c.windows c.reservation else Greeting) ≡ Idle → HasNothing c) (is_empty c.unwelcomed)
-    (λ _ is f. record { welcome = is; none = by_block c.reservation f })
-    (λ _ is f. absurd (cc)) refl idle
+    by_test (λ t. (if t then phase_of_block c.windows c.reservation else Greeting) ≡ Idle → HasNothing c) (is_empty c.unwelcomed)
+    (λ is f. record { welcome = is; none = by_block c.reservation f })
+    (λ is f. absurd (cc)) idle
   where
     by_stage : (t : Bool) (stage : Stage) → phase_at stage t ≡ Idle → ⊥
     by_stage t Locking f = cc
-    by_stage t Opening f = cc
     by_stage true Unlocking f = cc
-    by_stage false Unlocking f = cc
-    by_stage t GivingUp f = cc
+    by_stage t stage f = cc
 
     by_block : (o : Option ReservationState) → phase_of_block c.windows o ≡ Idle → o ≡ None
     by_block None f = refl
@@ -447,14 +439,11 @@ module _ (w : World) (r : IsReached w) (calm : Calm w) where
 
   commands_stay : (c : ClientId) (p : Party) (x : Command) (d : ClientState) → party_of c w ≡ Some p → command p.client x ≡ Ok d
       → goes_on (Do c x) ≡ true → Calm (commanded_world w p x d)
-  commands_stay c p (Reserve hs) d at is on = absurd (true≢false (sym on))
-  commands_stay c p (Call h y) d at is on = absurd (true≢false (sym on))
-  commands_stay c p (Query h y) d at is on = absurd (true≢false (sym on))
-  commands_stay c p GiveUp d at is on = absurd (true≢false (sym on))
   commands_stay c p DoEnd d at is on =
       let idle = (all_found IsIdle (is_party c) w.parties p calm.parties at).idle in
       let e = sym is ∙ ap (end_block p.client) idle in
       absurd (cc)
+  commands_stay c p x d at is on = absurd (true≢false (sym on))
 
   stays_calm : Happens Stays w
   stays_calm = record {

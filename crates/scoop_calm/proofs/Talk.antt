@@ -161,9 +161,9 @@ pub has_room : (w : World) → IsReached w → (h : HandlerId) (ran : _) (marks 
     → (c : ClientId) (p : Party) → party_of c w ≡ Some p → mark_of c marks ≡ None → (length marks == MAX_CLIENTS) ≡ false
 has_room w r h ran marks fits upto up c p at none =
     let all = within_length (name c ∷ names marks) (people w.parties) (none_named c marks none, marks_once marks up) (λ x e.
-    by_test (λ t. same_handler (name c) x ≡ t → (t || has (names marks) x) ≡ true → has (people w.parties) x ≡ true) (same_handler (name c) x)
-    (λ _ is f. subst (λ y. has (people w.parties) y ≡ true) ((handler_decides (name c) x).0 is) (found_named c w.parties p at))
-    (λ _ is f. all_there w h ran marks fits upto x f) refl e) in
+    by_test (λ t. (t || has (names marks) x) ≡ true → has (people w.parties) x ≡ true) (same_handler (name c) x)
+    (λ is f. subst (λ y. has (people w.parties) y ≡ true) ((handler_decides (name c) x).0 is) (found_named c w.parties p at))
+    (λ is f. all_there w h ran marks fits upto x f) e) in
     let besides = length-map w.parties (λ (p : Party). name p.client.id) in
     let less : length marks < MAX_CLIENTS = omega (arith, parties_few w r, besides, length-map marks (λ (k : Mark). name k.client), all) in
     grind (arith, nat_tests)
@@ -184,12 +184,12 @@ hello_heard s c inc None room le found = record {
 hello_heard s c inc (Some k) room le found =
     let start = ap (λ t. if t then hear_hello s c inc (mark_of c s.marks) else dropped s WrongHandler) (same_handler_itself s.number)
     ∙ ap (hear_hello s c inc) found in
-    by_test (λ t. nat_lt k.inc inc ≡ t → Replies s (Hello s.number c inc) (Welcome s.number c inc)) (nat_lt k.inc inc)
-    (λ _ is. record { state = with_incarnation s c inc k; told = Greeted; is = start ∙ grind (arith, is) })
-    (λ _ is.
+    by_test (λ _. Replies s (Hello s.number c inc) (Welcome s.number c inc)) (nat_lt k.inc inc)
+    (λ is. record { state = with_incarnation s c inc k; told = Greeted; is = start ∙ grind (arith, is) })
+    (λ is.
     let below = le k refl in
     let same : (k.inc == inc) ≡ true = grind (arith, nat_tests) in
-    record { state = s; told = Known; is = start ∙ grind (arith, is, same) }) refl
+    record { state = s; told = Known; is = start ∙ grind (arith, is, same) })
 
 -- ---- the client
 
@@ -338,12 +338,12 @@ pub unlock_heard : (s : HandlerState) (b : Block) (k : Mark) → mark_of b.clien
     → (is_new b k ≡ true → is_unfinished s k ≡ false) → Replies s (Unlock s.number b) (Unlocked s.number b)
 unlock_heard s b k found inc num clear =
     let start = heard_of s b k (hear_unlock s b) found inc num in
-    by_test (λ t. is_new b k ≡ t → Replies s (Unlock s.number b) (Unlocked s.number b)) (is_new b k)
-    (λ _ new. record { state = moved s s.holder (fresh_mark b AtShut); told = Freed; is = start ∙ grind (arith, new, clear new) })
-    (λ _ old.
-    by_test (λ t. is_holder s.holder b ≡ t → Replies s (Unlock s.number b) (Unlocked s.number b)) (is_holder s.holder b)
-    (λ _ holds. record { state = moved s None (without_hold k); told = Freed; is = start ∙ grind (arith, old, holds) })
-    (λ _ free. record { state = s; told = Known; is = start ∙ grind (arith, old, free) }) refl) refl
+    by_test (λ _. Replies s (Unlock s.number b) (Unlocked s.number b)) (is_new b k)
+    (λ new. record { state = moved s s.holder (fresh_mark b AtShut); told = Freed; is = start ∙ grind (arith, new, clear new) })
+    (λ old.
+    by_test (λ _. Replies s (Unlock s.number b) (Unlocked s.number b)) (is_holder s.holder b)
+    (λ holds. record { state = moved s None (without_hold k); told = Freed; is = start ∙ grind (arith, old, holds) })
+    (λ free. record { state = s; told = Known; is = start ∙ grind (arith, old, free) }))
 
 -- ---- the client
 
@@ -393,14 +393,14 @@ module _ (w : World) (r : IsReached w) (e : AllFacts w r) (p : Party) (at : part
   -- where the client's mark isn't at its block, it is finished
   pub newer_clear : (h : HandlerId) (m : MarkAt w p h) → is_new q.block m.mark ≡ true → is_unfinished m.site.core.state m.mark ≡ false
   newer_clear h m new =
-      by_test (λ t. is_unfinished m.site.core.state m.mark ≡ t → t ≡ false) (is_unfinished m.site.core.state m.mark)
-      (λ _ on.
+      by_test (λ t. t ≡ false) (is_unfinished m.site.core.state m.mark)
+      (λ on.
       let a : Goes p.client h (block_of m.mark) = at_work w r e p at h m on in
       let both : Some a.reservation ≡ Some q = sym a.held ∙ held in
       let one : a.reservation ≡ q = cc in
       let num : q.block.num ≡ m.mark.num = ap (λ (x : ReservationState). x.block.num) (sym one) ∙ ap (λ (y : Block). y.num) a.block in
       absurd (is_not_new q.block m.mark num new))
-      (λ _ off. refl) refl
+      (λ off. refl)
     where
       is_not_new : (b : Block) (k : Mark) → b.num ≡ k.num → is_new b k ≡ true → ⊥
       is_not_new b k same new = let less : nat_lt k.num b.num ≡ false = grind (arith, nat_tests) in true≢false (sym new ∙ less)

@@ -2,7 +2,6 @@ pub mod Objects
 pub mod Kept
 pub mod Facts
 pub mod Handlers
-pub mod Windows
 pub mod Onward
 pub mod Clients
 pub mod Runs
@@ -10,7 +9,6 @@ pub use Objects.*
 pub use Kept.*
 pub use Facts.*
 pub use Handlers.*
-pub use Windows.*
 pub use Onward.*
 pub use Clients.*
 pub use Runs.*

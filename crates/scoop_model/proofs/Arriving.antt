@@ -1,13 +1,13 @@
 -- The entries that a handler reported as received have run there or are pending there. A handler has a slot for each block that opened
 -- at it, with the block's entries that ran and those that wait. Together these are a beginning of the block's log, as long as the
 -- greatest count that was sent. So all entries that any message reports have arrived, and they are the first.
-use Rattle.scoop_model.proofs.Names.{◌≡◌, ℕ, List, [], ◌∷◌, ◌++◌, Some, None, refl, sym, ap, ◌∙◌, subst, arith, ◌≤◌, Option, true, if◌then◌else◌, take, false}
-use Rattle.scoop_model.proofs.Names.{true≢false, ◌||◌, length, take-append-le, AllByRecursion, option_map_or, same_block, Message, Block, HandlerId, Entry}
-use Rattle.scoop_model.proofs.Names.{same_block-sym, PrivateQueue, queue_of, QueueState, by_test, all_both, IsReached, entries_of, IsSubsequence, World, ran_at}
-use Rattle.scoop_model.proofs.Names.{Site, site_of, has_block, opened_at, log_of, received, count_in, greatest_count}
-use Rattle.scoop_model.specs.Received.{entries_in, queues_at, arrived_at, HasReceived, TellsReceived}
+use Rattle.scoop_model.proofs.Names.{◌≡◌, ℕ, List, [], ◌∷◌, ◌++◌, Some, None, refl, sym, ap, ◌∙◌, subst, arith, ◌≤◌, Option, true, take, false, true≢false}
+use Rattle.scoop_model.proofs.Names.{◌||◌, take-append-le, AllByRecursion, option_map_or, same_block, Message, Block, HandlerId, same_block-sym, PrivateQueue}
+use Rattle.scoop_model.proofs.Names.{QueueState, by_test, all_both, IsReached, IsSubsequence, World, ran_at, has_block, opened_at, log_of, received, count_in}
+use Rattle.scoop_model.proofs.Names.{greatest_count}
+use Rattle.scoop_model.specs.Received.{entries_in, queues_at, HasReceived, TellsReceived}
 use Rattle.scoop_model.proofs.Order.{all_more_of, AreApart, same_block_is, same_block_itself}
-use Rattle.scoop_model.proofs.Tape.{Slot, slot_queue, queue_at, queues_of, blocks_of, IsBegun, IsPart, left_apart, part_of, slot_parts}
+use Rattle.scoop_model.proofs.Tape.{Slot, queue_at, queues_of, blocks_of, IsBegun, IsPart, left_apart, part_of, slot_parts}
 use Rattle.scoop_model.proofs.Whole.{count_itself, told_entries}
 use Rattle.scoop_model.proofs.Ready.{IsToldAs, IsOverIfGone, HandlerReady, Ready, reached_ready}
 
@@ -17,8 +17,7 @@ use Rattle.scoop_model.proofs.Ready.{IsToldAs, IsOverIfGone, HandlerReady, Ready
 other_queue : (s : Slot) (qs : List PrivateQueue) (b : Block) → same_block s.block b ≡ false → (o : Option QueueState)
     → entries_in b (queue_at s o ++ qs) ≡ entries_in b qs
 other_queue s qs b other None = refl
-other_queue s qs b other (Some u) =
-    ap (λ t. option_map_or (λ (q : PrivateQueue). q.entries) (if t then Some (slot_queue s u) else queue_of b qs) []) (same_block-sym s.block b other)
+other_queue s qs b other (Some u) = grind (arith, option_map_or, same_block-sym)
 
 none_pending : (ss : List Slot) (b : Block) → has_block (blocks_of ss) b ≡ false → entries_in b (queues_of ss) ≡ []
 none_pending [] b none = refl
@@ -86,36 +85,19 @@ module _ (w : World) (h : HandlerId) where
 
     -- the private queues of a handler, which are none where there is no such handler
     queues_there : queues_at h w ≡ queues_of here.slots
-    queues_there = by (site_of h w) refl
-      where
-        by : (o : Option Site) → site_of h w ≡ o → option_map_or (λ (s : Site). s.core.state.queues) o [] ≡ queues_of here.slots
-        by None at = no_slots here.slots (sym (ap (λ o. option_map_or (λ (s : Site). s.opened) o []) at) ∙ here.opened)
-        by (Some s) at = here.queues s at
+    queues_there = grind (arith, option_map_or, here, no_slots)
 
     slot_received : (b : Block) (n : ℕ) → n ≤ received b h w → PendingIn w h b (queues_of here.slots) → HasReceived w h b n
-    slot_received b n le p =
-        let t = p.slot in
-        let log : List Entry = log_of b h w in
-        let ran : entries_of (part_of (ran_at h w) b) ≡ t.ran =
-        subst (λ d. entries_of (part_of (ran_at h w) d) ≡ t.ran) p.block (told_entries (part_of (ran_at h w) t.block) t.block 1 t.ran p.has.part) in
-        let pending : entries_in b (queues_at h w) ≡ t.rest = ap (entries_in b) queues_there ∙ p.pending in
-        let arrived : arrived_at b h w ≡ t.ran ++ t.rest = λ i. ran i ++ pending i in
-        let count : received b h w ≡ length (t.ran ++ t.rest) = subst (λ d. received d h w ≡ length (t.ran ++ t.rest)) p.block p.has.told in
-        let most : n ≤ length (t.ran ++ t.rest) = omega (arith, le, count) in
-        let all : (t.ran ++ t.rest) ++ p.has.begun.behind ≡ log = p.has.begun.all ∙ ap (λ d. log_of d h w) p.block in
-        record {
-          enough = subst (λ es. n ≤ length es) (sym arrived) most;
-          first = ap (take n) arrived ∙ sym (take-append-le n (t.ran ++ t.rest) p.has.begun.behind most) ∙ ap (take n) all;
-        }
+    slot_received b n le p = grind (arith, part_of, ran_at, told_entries, queues_there, received, take, take-append-le)
 
     pub has_received : (b : Block) (n : ℕ) → n ≤ received b h w → HasReceived w h b n
     has_received b n le =
-        by_test (λ t. has_block (opened_at h w) b ≡ t → HasReceived w h b n) (has_block (opened_at h w) b)
-        (λ _ e. slot_received b n le (pending_slot here.slots b apart arrived_slots (ap (λ bs. has_block bs b) (sym here.opened) ∙ e)))
-        (λ _ e.
+        by_test (λ _. HasReceived w h b n) (has_block (opened_at h w) b)
+        (λ e. slot_received b n le (pending_slot here.slots b apart arrived_slots (ap (λ bs. has_block bs b) (sym here.opened) ∙ e)))
+        (λ e.
         let none = here.silent b e in
         let zero_count : 0 ≡ n = omega (arith, none, le) in
-        subst (HasReceived w h b) zero_count (record { enough = omega arith; first = refl })) refl
+        subst (HasReceived w h b) zero_count (record { enough = omega arith; first = refl }))
 
 -- ---- the counts that were sent
 

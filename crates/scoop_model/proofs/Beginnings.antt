@@ -1,13 +1,9 @@
 -- A world that opens is safe.
-use Rattle.scoop_model.proofs.Names.{◌≡◌, List, [], ◌∷◌, ◌++◌, map, refl, NoRepeats, Block, all_made, RightAnswers, AcceptsRight, IsSubsequence, Safe, nothing}
-use Rattle.scoop_model.proofs.Names.{Tape, WholeBeforeNext, Placement, Newcomer, new_site, new_party, opening, World}
+use Rattle.scoop_model.proofs.Names.{List, [], map, refl, NoRepeats, all_made, RightAnswers, AcceptsRight, IsSubsequence, Safe, nothing, Tape, WholeBeforeNext}
+use Rattle.scoop_model.proofs.Names.{Placement, Newcomer, new_site, new_party, opening, World}
 
 pub no_repeats : {A : Type 0} → NoRepeats {A = A} []
 no_repeats i j x e f = absurd (cc)
-
-nothing_before : (front back : List Block) (b : Block) → [] ≡ front ++ b ∷ back → ⊥
-nothing_before [] back b e = cc
-nothing_before (x ∷ front) back b e = cc
 
 pub opens_safe : (placements : List Placement) (newcomers : List Newcomer) → Safe (opening placements newcomers)
 opens_safe ps ns =

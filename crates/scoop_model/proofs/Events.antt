@@ -48,9 +48,8 @@ module _ (Q : Event → World → WorldNote → Type 0) (w : World) (all : Happe
 
   tick_happens :
       (c : ClientId) (h : HandlerId) (o : Option Party) (t : Option Site) → party_of c w ≡ o → site_of h w ≡ t → Gives (Q (Tick c h)) (tick_at w h o t)
-  tick_happens c h None t at here = tt
-  tick_happens c h (Some p) None at here = tt
   tick_happens c h (Some p) (Some s) at here = all.sends c p h s at here
+  tick_happens c h o p at here = tt
 
   hear_happens : (i : ℕ) (m : Message) (o : Option Site) → sent_at i w ≡ Some m → is_for_handler m ≡ true → site_of (handler_of m) w ≡ o
       → Gives (Q (Take i)) (taken_by_handler w m o)
@@ -115,6 +114,10 @@ Changes P w = Happens (λ e v told. P v) w
 
 pub event_kept : (P : World → Type 0) (w : World) → Changes P w → (e : Event) → Kept P (step w e)
 event_kept P w all e = event_happens (λ x v told. P v) w all e
+
+-- an event that keeps P and keeps Q keeps both
+pub both_kept : (P Q : World → Type 0) (w : World) → Changes P w → Changes Q w → Changes (λ v. P v × Q v) w
+both_kept P Q w p q = grind (arith, begins, finishes)
 
 module _ (P : World → Type 0) (each : (w : World) → P w → Changes P w) where
   one_kept : (n : ℕ) (w : World) (go_on : World → Run) → ((v : World) → P v → P (go_on v).0) → (o : Stepped) → P w → Kept P o → P (next n w go_on o).0

@@ -8,11 +8,10 @@ use Rattle.scoop_model.proofs.Names.{MarksGrow-after, all_found, by_test, MarksG
 use Rattle.scoop_model.proofs.Names.{fresh_mark, Row, lock_granted, ran_of, HandlerState, Mark, AtHeld, Note, Granted, OpenedNote as Opened, number_found}
 use Rattle.scoop_model.proofs.Names.{by_site, site_put, Run, next, run_after, Leads, heard_world, heard_site, with_site, begun_site, finished_site, Placement}
 use Rattle.scoop_model.proofs.Names.{Newcomer, new_site, opening, Stepped, step, place_of, taken_by_handler, taken, World, Site, number_of, is_site, site_of}
-use Rattle.scoop_model.proofs.Names.{set_site, sent_at, Event, Take, Begin, Finish, WorldNote}
+use Rattle.scoop_model.proofs.Names.{set_site, sent_at, Event, Take, Begin, Finish, WorldNote, own_site, heard_place}
 use Rattle.scoop_model.specs.declared.note.WorldNote.TheVariants.{Handler}
 use Rattle.scoop_model.specs.Grants.{world_after, holder_at, IsGrant, IsOpening, GrantsAt, OpensAt, HoldsSinceGrant}
 use Rattle.scoop_model.proofs.Events.{Gives, Happens, event_happens, Changes, event_kept, steps_kept}
-use Rattle.scoop_model.proofs.Sites.{own_site}
 use Rattle.scoop_model.proofs.Order.{IsReachedIn, IsHeldIn, IsNewlyLocked, hears_row, held_ran, upto_itself, IsGranted, SiteFits, Ordered, granted_set}
 use Rattle.scoop_model.proofs.Order.{granted_anew, reached_not_new, ordered_kept, opens_ordered, found_anew, state_anew}
 
@@ -116,7 +115,7 @@ module _ (w : World) (o : Ordered w) where
     number = number-row s.core.state m now (row s.core.state m)
 
     place : site_of (number_of later) w ≡ Some s
-    place = subst (λ j. site_of j w ≡ Some s) (sym number) (own_site w (handler_of m) s here)
+    place = heard_place w m s here
 
     took : step w (Take i) ≡ Ok (heard_world w s now, Handler now.1.note (place_of w now.1.reply))
     took = grind arith
@@ -171,9 +170,7 @@ module _ (w : World) (o : Ordered w) where
     sends = λ c p j s at here. g;
     hears = λ i m s was goes here. (
         let now = hear s.core.state m in
-        let by = row s.core.state m in
-        granted_set w (heard_site s now) s (subst (λ j. site_of j w ≡ Some s) (sym (number-row s.core.state m now by)) (own_site w (handler_of m) s here))
-        (grows-row s.core.state m now by) h b g);
+        granted_set w (heard_site s now) s (heard_place w m s here) (grows-row s.core.state m now (row s.core.state m)) h b g);
     notices = λ i m p was goes at. g;
     begins = λ j s t here is. granted_set w (begun_site s) s (own_site w j s here) (MarksGrow-refl s.core.state.marks) h b g;
     finishes = λ j s t here is. granted_set w (finished_site s t) s (own_site w j s here) (MarksGrow-after (ran_of t) s.core.state.marks) h b g;
@@ -212,11 +209,7 @@ grant_new w e h b g r =
 
 -- a block that opens is held before
 opening_held : (w : World) (e : Event) (h : HandlerId) (b : Block) → IsOpening w e h b → HeldAt w h b
-opening_held w e h b g =
-    let took = opening_took w e h b g in
-    let s = took.site in
-    let new = (hears_row s.core.state (Open h b) (hear s.core.state (Open h b)) (row s.core.state (Open h b))).opens b took.note in
-    subst (λ q. IsHeldIn (marks_in q) b) (sym took.found) new.held
+opening_held w e h b g = grind (arith, took, opening_took, hears_row, row)
 
 -- ---- any list of events from a world that opens
 
@@ -255,11 +248,11 @@ module _ (ps : List Placement) (ns : List Newcomer) (es : List Event) (w : World
     before = let lt = since.before in omega (arith, lt);
     granted = since.granted;
     held = λ m lt le.
-        by_test (λ t. (m == suc k) ≡ t → holder_at h (world_after v es m) ≡ Some b) (m == suc k)
-        (λ _ is.
+        by_test (λ _. holder_at h (world_after v es m) ≡ Some b) (m == suc k)
+        (λ is.
         let same : suc k ≡ m = let e = eqb-true m (suc k) is in omega (arith, e) in
         subst (λ j. holder_at h (world_after v es j) ≡ Some b) same (held_holder (world_after v es (suc k)) (ordered_at (suc k)) h b held))
-        (λ _ is. since.held m lt (let apart = eqb-false m (suc k) is in omega (arith, le, apart))) refl;
+        (λ is. since.held m lt (let apart = eqb-false m (suc k) is in omega (arith, le, apart)));
   }
 
   held_since : (k : ℕ) → k ≤ length es → (h : HandlerId) (b : Block) → HeldAt (world_after v es k) h b → HoldsSinceGrant v es k h b
@@ -284,20 +277,20 @@ module _ (ps : List Placement) (ns : List Newcomer) (es : List Event) (w : World
   reached_from : (i : ℕ) (h : HandlerId) (b : Block) → GrantsAt v es i h b → (k : ℕ) → i < k → k ≤ length es → IsGranted (world_after v es k) h b
   reached_from i h b g zero lt le = absurd (omega (arith, lt))
   reached_from i h b g (suc k) lt le =
-      by_test (λ t. (i == k) ≡ t → IsGranted (world_after v es (suc k)) h b) (i == k)
-      (λ _ is.
+      by_test (λ _. IsGranted (world_after v es (suc k)) h b) (i == k)
+      (λ is.
       let same : i ≡ k = eqb-true i k is in
       let c = comes i g.event g.there in
       let here : g.grant.next ≡ world_after v es (suc i) = world_is g.grant.next (world_after v es (suc i)) (sym g.grant.granted ∙ c.is) in
       subst (λ j. IsGranted (world_after v es (suc j)) h b) same (subst (λ u. IsGranted u h b) here (grant_reaches (world_after v es i) g.event h b g.grant)))
-      (λ _ is.
+      (λ is.
       let apart = eqb-false i k is in
       let now : World = world_after v es k in
       let before = reached_from i h b g k (omega (arith, lt, apart)) (omega (arith, le)) in
       let e = event_at k (omega (arith, le)) in
       let c = comes k e.0 e.1 in
       outcome (λ u told. IsGranted u h b) (step now e.0) (world_after v es (suc k)) c.told c.is
-      (event_kept (λ u. IsGranted u h b) now (granted_changes now (ordered_at k) h b before) e.0)) refl
+      (event_kept (λ u. IsGranted u h b) now (granted_changes now (ordered_at k) h b before) e.0))
     where
       world_is : {t u : WorldNote} → (x y : World) → ◌≡◌ {A = Stepped} (Ok (x, t)) (Ok (y, u)) → x ≡ y
       world_is {t} {u} x y e = let same : ◌≡◌ {A = World × WorldNote} (x, t) (y, u) = cc in ap (λ (r : World × WorldNote). r.0) same
@@ -309,9 +302,9 @@ module _ (ps : List Placement) (ns : List Newcomer) (es : List Event) (w : World
 
   pub granted_once : (i j : ℕ) (h : HandlerId) (b : Block) → GrantsAt v es i h b → GrantsAt v es j h b → i ≡ j
   granted_once i j h b f g =
-      by_test (λ t. nat_lt i j ≡ t → i ≡ j) (nat_lt i j)
-      (λ _ is. let lt : i < j = grind (arith, nat_tests) in absurd (not_later i j h b f g lt))
-      (λ _ is.
-      by_test (λ t. nat_lt j i ≡ t → i ≡ j) (nat_lt j i)
-      (λ _ back. let lt : j < i = grind (arith, nat_tests) in absurd (not_later j i h b g f lt))
-      (λ _ back. grind (arith, nat_tests)) refl) refl
+      by_test (λ _. i ≡ j) (nat_lt i j)
+      (λ is. let lt : i < j = grind (arith, nat_tests) in absurd (not_later i j h b f g lt))
+      (λ is.
+      by_test (λ _. i ≡ j) (nat_lt j i)
+      (λ back. let lt : j < i = grind (arith, nat_tests) in absurd (not_later j i h b g f lt))
+      (λ back. grind (arith, nat_tests)))

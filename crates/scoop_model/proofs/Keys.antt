@@ -3,10 +3,16 @@ use Rattle.std.proofs.Common.{◌≡◌, Bool, true, false, true≢false, List, 
 use Rattle.std.specs.Bool.{Decides}
 use Rattle.scoop_message.specs.declared.name.ClientId.{ClientId}
 use Rattle.scoop_message.specs.declared.name.HandlerId.{HandlerId}
-use Rattle.scoop_message.specs.Message.{same_client, same_handler}
+use Rattle.scoop_message.specs.declared.message.Message.{Message}
+use Rattle.scoop_message.specs.Message.{handler_of, same_client, same_handler}
 use Rattle.scoop_message.proofs.Same.{handler_decides, client_decides}
 use Rattle.scoop_model.specs.World.{World, Site, Party, number_of, id_of, is_site, is_party, site_of, party_of, set_site, set_party}
+use Rattle.scoop_model.specs.Step.{heard_site}
+use Rattle.scoop_handler.specs.Hearing.{hear}
 use Rattle.scoop_handler.proofs.Basics.{by_test}
+use Rattle.scoop_handler.proofs.TableLaws.{number-row}
+use Rattle.scoop_handler.proofs.TableRows.{row}
+use Rattle.std.proofs.lemmas.Bool.{false_from_ne_true}
 pub use Rattle.scoop_handler.proofs.Basics.{key_found}
 
 module _ {A K : Type 0} (key : A → K) (same : K → K → Bool) (decides : (a b : K) → Decides (same a b) (a ≡ b)) where
@@ -35,33 +41,39 @@ module _ {A K : Type 0} (key : A → K) (same : K → K → Bool) (decides : (a 
   other_found a k [] apart = refl
   other_found a k (x ∷ xs) apart =
       let rest = find (has_key k) (map (newer a) xs) in
-      by_test
-      (λ t. has_key (key a) x ≡ t
-      → (if has_key k (if t then a else x) then Some (if t then a else x) else rest) ≡ (if has_key k x then Some x else find (has_key k) xs))
+      by_test (λ t. (if has_key k (if t then a else x) then Some (if t then a else x) else rest) ≡ (if has_key k x then Some x else find (has_key k) xs))
       (has_key (key a) x)
-      (λ here is.
+      (λ is.
       let own : key x ≡ key a = (decides (key x) (key a)).0 is in
       let not_a : has_key k a ≡ false =
-      by_test (λ u. has_key k a ≡ u → u ≡ false) (has_key k a) (λ yes_it_is f. absurd (apart ((decides (key a) k).0 f))) (λ other f. refl) refl in
+      false_from_ne_true (has_key k a) (λ f. apart ((decides (key a) k).0 f)) in
       let not_x : has_key k x ≡ false = subst (λ j. same j k ≡ false) (sym own) not_a in
       ap (λ u. if u then Some a else rest) not_a ∙ other_found a k xs apart ∙ sym (ap (λ u. if u then Some x else find (has_key k) xs) not_x))
-      (λ there is. ap (λ r. if has_key k x then Some x else r) (other_found a k xs apart)) refl
+      (λ is. ap (λ r. if has_key k x then Some x else r) (other_found a k xs apart))
 
   -- the cases of a look-up: the key that is new, and the others
   pub by_key : (P : Option A → Type 0) (a old : A) (xs : List A) (k : K) → find (has_key (key a)) xs ≡ Some old
       → (key a ≡ k → P (Some a)) → ((key a ≡ k → ⊥) → P (find (has_key k) xs)) → P (find (has_key k) (map (newer a) xs))
   by_key P a old xs k was here there =
-      by_test (λ t. same (key a) k ≡ t → P (find (has_key k) (map (newer a) xs))) (same (key a) k)
-      (λ _ is. let e = (decides (key a) k).0 is in subst (λ j. P (find (has_key j) (map (newer a) xs))) e (subst P (sym (own_found a old xs was)) (here e)))
-      (λ _ is.
+      by_test (λ _. P (find (has_key k) (map (newer a) xs))) (same (key a) k)
+      (λ is. let e = (decides (key a) k).0 is in subst (λ j. P (find (has_key j) (map (newer a) xs))) e (subst P (sym (own_found a old xs was)) (here e)))
+      (λ is.
       let apart : key a ≡ k → ⊥ = λ e. true≢false (sym ((decides (key a) k).1 e) ∙ is) in
       subst P (sym (other_found a k xs apart)) (there apart))
-      refl
 
 -- ---- the sites and the parties of a world
 
 pub number_found : (h : HandlerId) (w : World) (s : Site) → site_of h w ≡ Some s → number_of s ≡ h
 number_found h w s e = key_found number_of same_handler handler_decides h w.sites s e
+
+-- the site that is found for a handler is that of its own number, also once the handler has heard a message
+pub own_site : (w : World) (h : HandlerId) (s : Site) → site_of h w ≡ Some s → site_of (number_of s) w ≡ Some s
+own_site w h s found = subst (λ j. site_of j w ≡ Some s) (sym (number_found h w s found)) found
+
+pub heard_place :
+    (w : World) (m : Message) (s : Site) → site_of (handler_of m) w ≡ Some s → site_of (number_of (heard_site s (hear s.core.state m))) w ≡ Some s
+heard_place w m s found =
+    subst (λ j. site_of j w ≡ Some s) (sym (number-row s.core.state m (hear s.core.state m) (row s.core.state m))) (own_site w (handler_of m) s found)
 
 pub id_found : (c : ClientId) (w : World) (p : Party) → party_of c w ≡ Some p → id_of p ≡ c
 id_found c w p e = key_found id_of same_client client_decides c w.parties p e

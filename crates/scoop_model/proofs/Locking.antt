@@ -1,9 +1,8 @@
 -- A fact about a handler and a block that each Locked brings, and that lasts. A reservation that locks has it at each of its
 -- handlers that isn't left, and one that opens has it at all of them. A client's move keeps that.
 use Rattle.scoop_model.proofs.Names.{◌≡◌, Some, refl, sym, ◌∙◌, subst, Ok, true, false, true≢false, same_Some, ⊤, Message, Locked, Block, HandlerId, by_test}
-use Rattle.scoop_model.proofs.Names.{StepRow, steps_over, one_is_locked, all_are_locked, is_busy, one_is_opened, all_are_opened, is_unlocked, is_given_back}
-use Rattle.scoop_model.proofs.Names.{asked, has, without, fresh, ReservationState, at_stage, Stage, GivingBack, Locking, Opening, Unlocking, Step, heard}
-use Rattle.scoop_model.proofs.Names.{ClientState, Command}
+use Rattle.scoop_model.proofs.Names.{StepRow, one_is_locked, all_are_locked, one_is_opened, all_are_opened, is_unlocked, is_given_back, asked, has, without}
+use Rattle.scoop_model.proofs.Names.{fresh, ReservationState, at_stage, Stage, GivingBack, Locking, Opening, Unlocking, Step, heard, ClientState, Command}
 use Rattle.scoop_model.proofs.Order.{is_gone_one, none_in_empty}
 use Rattle.scoop_model.proofs.Moves.{Notices, steps_on, is_over, hears, Takes, takes_reserve, takes_give_up, takes}
 use Rattle.scoop_client.specs.Commands as client
@@ -24,8 +23,7 @@ locks_more G H r on f = record { stage = mapped r.stage f.stage }
     mapped : (stage : Stage) → Locks G r stage → Locks H r stage
     mapped Locking g = λ h member gone. on h (g h member gone)
     mapped Opening g = λ h member. on h (g h member)
-    mapped Unlocking g = tt
-    mapped GivingBack g = tt
+    mapped stage g = tt
 
 module _ (G : HandlerId → Block → Type 0) (c : ClientState) (i : (r : ReservationState) → c.reservation ≡ Some r → HasLocks G r) where
   abbrev AllLock : ClientState → Type 0
@@ -41,20 +39,19 @@ module _ (G : HandlerId → Block → Type 0) (c : ClientState) (i : (r : Reserv
   one_more : (r : ReservationState) → c.reservation ≡ Some r → r.stage ≡ Locking → (h : HandlerId) → Tells (Locked h r.block) → (x : HandlerId)
       → has r.handlers x ≡ true → has (without h r.left) x ≡ false → G x r.block
   one_more r held is h t x member gone =
-      by_test (λ u. has r.left x ≡ u → G x r.block) (has r.left x)
-      (λ _ left. subst (λ j. G j r.block) (is_gone_one h x r.left left gone) (t r held is h refl))
-      (λ _ off. (subst (Locks G r) is (i r held).stage) x member off) refl
+      by_test (λ _. G x r.block) (has r.left x)
+      (λ left. subst (λ j. G j r.block) (is_gone_one h x r.left left gone) (t r held is h refl))
+      (λ off. (subst (Locks G r) is (i r held).stage) x member off)
 
   step_locks : (r : ReservationState) → c.reservation ≡ Some r → (m : Message) (s : ReservationState) (st : Step) → StepRow r m s st → Tells m → HasLocks G s
-  step_locks r held m s st (steps_over n) t = i r held
   step_locks r held m s st (one_is_locked h is low rest) t = record { stage = one_more r held is h t }
   step_locks r held m s st (all_are_locked h is low all) t =
       record { stage = λ x member. one_more r held is h t x member (none_in_empty (without h r.left) x all) }
-  step_locks r held m s st (is_busy h is low) t = i r held
   step_locks r held m s st (one_is_opened h is left rest) t = record { stage = subst (Locks G r) is (i r held).stage }
   step_locks r held m s st (all_are_opened h is left all) t = record { stage = tt }
   step_locks r held m s st (is_unlocked h is left) t = record { stage = tt }
   step_locks r held m s st (is_given_back h is left) t = record { stage = tt }
+  step_locks r held m s st row t = i r held
 
   hears_locks : (m : Message) (d : ClientState) → Notices c m d → Tells m → AllLock d
   hears_locks m d (steps_on n r s st held row) t = λ q e. subst (HasLocks G) (same_Some s q e) (step_locks r held m s st row t)

@@ -8,8 +8,6 @@ pub mod Greetings
 pub mod Openings
 pub mod OpeningHandlers
 pub mod OpeningClients
-pub mod OpeningSteps
-pub mod Runs
 pub mod OpeningRuns
 pub use Facts.*
 pub use Logs.*
@@ -21,6 +19,4 @@ pub use Greetings.*
 pub use Openings.*
 pub use OpeningHandlers.*
 pub use OpeningClients.*
-pub use OpeningSteps.*
-pub use Runs.*
 pub use OpeningRuns.*

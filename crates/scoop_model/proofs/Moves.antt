@@ -8,11 +8,11 @@ use Rattle.scoop_model.proofs.Names.{GivingBack, Locking, Opening, Unlocking, St
 use Rattle.scoop_model.proofs.Names.{is_welcomed, takes_step, is_acknowledged, is_accepted, logs, DueRow, owes_nothing, greets, reserves, ReserveRow}
 use Rattle.scoop_model.proofs.Names.{begins_block, LogRow, is_logged, EndRow, ends_block, GiveUpRow, gives_up, ClientState, with_windows, with_reservation}
 use Rattle.scoop_model.proofs.Names.{phase_of, idle, with_unwelcomed, WindowState, logged, acknowledged, window_of, at_window, with_entry, with_end}
-use Rattle.scoop_model.proofs.Names.{first_entries, all_over, Command, Reserve, End, GiveUp, Call, Query, ClientNote, Idle, Running, ok_is}
+use Rattle.scoop_model.proofs.Names.{first_entries, all_over, Command, Reserve, End, GiveUp, Call, Query, ClientNote, Idle, Running, ok_is, Bool}
 use Rattle.scoop_client.proofs.CommandRows.{command_row}
 use Rattle.scoop_client.proofs.DueRows.{due_row}
-use Rattle.scoop_model.proofs.Sound.Owed.{OwedRow, asks, opens, unlocks, gives_back, owed_row}
 use Rattle.scoop_client.specs.Commands as client
+use Rattle.scoop_reserve.specs.Due as owed
 use Rattle.scoop_reserve.specs.Hearing as reservation
 use Rattle.scoop_reserve.specs.declared.stage.Step.TheVariants as step
 
@@ -24,23 +24,27 @@ pub data Sends (c : ClientState) (h : HandlerId) : Message → Type 0 where
   sends_open : (r : ReservationState) → c.reservation ≡ Some r → r.stage ≡ Opening → has r.left h ≡ true → Sends c h (Open h r.block)
   sends_unlock : (r : ReservationState) → c.reservation ≡ Some r → r.stage ≡ Unlocking → has r.left h ≡ true → Sends c h (Unlock h r.block)
   sends_back : (r : ReservationState) → c.reservation ≡ Some r → r.stage ≡ GivingBack → has r.left h ≡ true → Sends c h (Unlock h r.block)
-  sends_log : (r : ReservationState) (l : WindowState) → c.reservation ≡ Some r → is_open r ≡ true → window_of h c.windows ≡ Some l →
-      (length l.unacked == 0) ≡ false → Sends c h (Log l.handler r.block (l.acked + 1) (first_entries c.batch l.unacked))
+  sends_log : (r : ReservationState) (l : WindowState) → c.reservation ≡ Some r → owed.due r h ≡ None → is_open r ≡ true →
+      window_of h c.windows ≡ Some l → (length l.unacked == 0) ≡ false → Sends c h (Log l.handler r.block (l.acked + 1) (first_entries c.batch l.unacked))
 
-pub sends : (c : ClientState) (h : HandlerId) (m : Message) → due c h ≡ Some m → Sends c h m
-sends c h m = by_row (due c h) (due_row c h)
-  where
-    owed : (r : ReservationState) → c.reservation ≡ Some r → (n : Message) → OwedRow r h n → Sends c h n
-    owed r held n (asks at low) = sends_lock r held at low
-    owed r held n (opens at is) = sends_open r held at is
-    owed r held n (unlocks at is) = sends_unlock r held at is
-    owed r held n (gives_back at is) = sends_back r held at is
+module _ (c : ClientState) (h : HandlerId) (m : Message) where
+  tested : (t : Bool) (n : Message) → (t ≡ true → Sends c h n) → (if t then Some n else None) ≡ Some m → Sends c h m
+  tested t n case e = grind arith
 
-    by_row : (o : Option Message) → DueRow c h o → o ≡ Some m → Sends c h m
-    by_row o owes_nothing e = absurd (cc)
-    by_row o (greets left) e = subst (Sends c h) (same_Some _ m e) sends_hello
-    by_row o (reserves r n greeted held owes) e = owed r held m (owed_row r h m (owes ∙ e))
-    by_row o (logs r l greeted held free opened window some) e = subst (Sends c h) (same_Some _ m e) (sends_log r l held opened window some)
+  by_stage : (r : ReservationState) → c.reservation ≡ Some r → (stage : Stage) → r.stage ≡ stage → owed.due_in r h stage ≡ Some m → Sends c h m
+  by_stage r held Locking at e = tested (is_lowest h r.left) (Lock h r.block) (sends_lock r held at) e
+  by_stage r held Opening at e = tested (has r.left h) (Open h r.block) (sends_open r held at) e
+  by_stage r held Unlocking at e = tested (has r.left h) (Unlock h r.block) (sends_unlock r held at) e
+  by_stage r held GivingBack at e = tested (has r.left h) (Unlock h r.block) (sends_back r held at) e
+
+  by_row : (o : Option Message) → DueRow c h o → o ≡ Some m → Sends c h m
+  by_row o owes_nothing e = absurd (cc)
+  by_row o (greets left) e = subst (Sends c h) (same_Some _ m e) sends_hello
+  by_row o (reserves r n greeted held owes) e = by_stage r held r.stage refl (owes ∙ e)
+  by_row o (logs r l greeted held free opened window some) e = subst (Sends c h) (same_Some _ m e) (sends_log r l held free opened window some)
+
+  pub sends : due c h ≡ Some m → Sends c h m
+  sends = by_row (due c h) (due_row c h)
 
 -- ---- a client hears a message
 

@@ -4,7 +4,7 @@ pub use Rattle.std.proofs.Common.{option_map, true, if◌then◌else◌, ◌&&�
 pub use Rattle.std.proofs.Common.{option_to_list, Contains, ◌⊎◌, inl, inr, nat_lt, get_or, ⊎_elim, nat_le, append_assoc, unwrap_or, not, filter, IsFalse, drop}
 pub use Rattle.std.proofs.Common.{length-append, length-drop, take-append-drop, length-take-le, IsTrue, flat_map, max, ◌≢◌}
 pub use Rattle.std.proofs.Math.Seq.{take-append_seam}
-pub use Rattle.std.proofs.lemmas.Bool.{and_parts, eqb-true, eqb-false, cases_eq, or_cases}
+pub use Rattle.std.proofs.lemmas.Bool.{and_parts, eqb-true, eqb-false, cases_eq, or_cases, false_from_ne_true}
 pub use Rattle.std.proofs.lemmas.Bool.Decides.{nat_tests, Decides-like, Decides-eqb}
 pub use Rattle.std.proofs.lemmas.List.{take-append-le, length-map, map-append}
 pub use Rattle.std.proofs.lemmas.List.Elements.{Contains-append_left, Contains-push, filter-append}
@@ -83,7 +83,7 @@ pub use Rattle.scoop_client.specs.declared.command.Command.TheVariants.{Reserve,
 pub use Rattle.scoop_client.specs.declared.phase.ClientNote.{ClientNote}
 pub use Rattle.scoop_client.specs.declared.phase.Phase.TheVariants.{Idle, Greeting, Running, Ending}
 pub use Rattle.scoop_model.proofs.Basics.{all_made, of_party, all_mapped, locking_giving, opening_giving, some_same, ok_is, first_false}
-pub use Rattle.scoop_model.proofs.Keys.{number_found, by_site, site_put, by_party, id_found}
+pub use Rattle.scoop_model.proofs.Keys.{number_found, by_site, site_put, own_site, heard_place, by_party, id_found}
 pub use Rattle.scoop_model.specs.Opening.{MayOpen, IsPlaced, IsJoining}
 pub use Rattle.scoop_model.specs.Reach.{steps, IsReached, Run, next, run_after, Leads, run}
 pub use Rattle.scoop_model.specs.Safe.{HasRun, query_of, entries_of, IsAnswered, RightAnswers, AcceptsRight, IsSubsequence, Safe, nothing, Tape}

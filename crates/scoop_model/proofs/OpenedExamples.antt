@@ -41,45 +41,13 @@ joining : (c : ℕ) → IsJoining (joins c)
 joining c = record { some = omega arith; limit = omega arith; next = omega arith }
 
 pub one_cell_opens : CellsMayOpen (1 ∷ []) (7 ∷ [])
-one_cell_opens = record {
-  some = omega arith;
-  few = omega arith;
-  apart = one_handler (placed cell 0 1);
-  placed = (has_cell 1, tt);
-  few_clients = omega arith;
-  clients_apart = one_client (joins 7);
-  joining = (joining 7, tt);
-}
+one_cell_opens = grind (arith, one_handler, placed, has_cell, one_client, joins, joining)
 
 pub two_cells_open : CellsMayOpen (1 ∷ 2 ∷ []) (7 ∷ [])
-two_cells_open = record {
-  some = omega arith;
-  few = omega arith;
-  apart = two_handlers;
-  placed = (has_cell 1, (has_cell 2, tt));
-  few_clients = omega arith;
-  clients_apart = one_client (joins 7);
-  joining = (joining 7, tt);
-}
+two_cells_open = grind (arith, two_handlers, placed, has_cell, one_client, joins, joining)
 
 pub three_cells_open : CellsMayOpen (1 ∷ 2 ∷ 3 ∷ []) (7 ∷ 8 ∷ 9 ∷ [])
-three_cells_open = record {
-  some = omega arith;
-  few = omega arith;
-  apart = three_handlers;
-  placed = (has_cell 1, (has_cell 2, (has_cell 3, tt)));
-  few_clients = omega arith;
-  clients_apart = three_clients;
-  joining = (joining 7, (joining 8, (joining 9, tt)));
-}
+three_cells_open = grind (arith, three_handlers, placed, has_cell, three_clients, joining)
 
 pub counter_opens : CounterMayOpen (7 ∷ [])
-counter_opens = record {
-  some = omega arith;
-  few = omega arith;
-  apart = one_handler (placed counter 0 1);
-  placed = (has_counter 1, tt);
-  few_clients = omega arith;
-  clients_apart = one_client (joins 7);
-  joining = (joining 7, tt);
-}
+counter_opens = grind (arith, one_handler, placed, has_counter, one_client, joins, joining)

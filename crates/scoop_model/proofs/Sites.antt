@@ -1,11 +1,7 @@
 -- The parts of each handler that stay when one site goes on or a node restarts.
-use Rattle.scoop_model.proofs.Names.{◌≡◌, ℕ, List, [], ◌∷◌, map, Some, refl, sym, ap, ◌∙◌, subst, arith, Option, find, AllByRecursion, option_map_or, HandlerId}
-use Rattle.scoop_model.proofs.Names.{number_found, by_site, reopened, World, Site, number_of, is_site, site_of, set_site}
+use Rattle.scoop_model.proofs.Names.{◌≡◌, ℕ, List, [], ◌∷◌, map, Some, refl, sym, ap, ◌∙◌, arith, Option, find, AllByRecursion, option_map_or, HandlerId}
+use Rattle.scoop_model.proofs.Names.{by_site, reopened, World, Site, number_of, is_site, site_of, set_site}
 use Rattle.scoop_model.proofs.Order.{SiteFits, Ordered, state_anew}
-
--- the site that is found for a handler is that of its own number
-pub own_site : (w : World) (h : HandlerId) (s : Site) → site_of h w ≡ Some s → site_of (number_of s) w ≡ Some s
-own_site w h s found = subst (λ j. site_of j w ≡ Some s) (sym (number_found h w s found)) found
 
 -- ---- a part of a site
 

@@ -1,10 +1,6 @@
 pub mod Facts
-pub mod Owed
 pub mod Clients
 pub mod Steps
-pub mod Runs
 pub use Facts.*
-pub use Owed.*
 pub use Clients.*
 pub use Steps.*
-pub use Runs.*

@@ -1,10 +1,8 @@
 pub mod Facts
-pub mod Rows
 pub mod Handlers
 pub mod Clients
 pub mod Runs
 pub use Facts.*
-pub use Rows.*
 pub use Handlers.*
 pub use Clients.*
 pub use Runs.*

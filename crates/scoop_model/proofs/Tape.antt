@@ -2,9 +2,7 @@ pub mod Slots
 pub mod Fits
 pub mod Taking
 pub mod Shown
-pub mod Sites
 pub use Slots.*
 pub use Fits.*
 pub use Taking.*
 pub use Shown.*
-pub use Sites.*

@@ -1,20 +1,19 @@
 -- The lasting claims of every message that was ever sent. The layers have these facts as invariants. Here each is stated as the
 -- theorem states it, for every message of a world that is reached.
-use Rattle.scoop_model.proofs.Names.{◌≡◌, ℕ, ◌+◌, ◌<◌, List, [], ◌∷◌, ◌++◌, Some, None, refl, sym, ap, ◌∙◌, subst, arith, Option, true, zero, suc, slice_get}
-use Rattle.scoop_model.proofs.Names.{false, true≢false, length, ◌-◌, Contains, inl, inr, nat_lt, ⊎_elim, append_assoc, nat_tests, slice_get-get_or}
-use Rattle.scoop_model.proofs.Names.{AllByRecursion, list_any, option_map_or, Message, Open, Block, ClientId, HandlerId, Entry, all_found, by_test, all_both}
-use Rattle.scoop_model.proofs.Names.{all_at, mark_of-client, Mark, AtHeld, AtShut, AtOpen, IsReached, TellsGranted, stored_of, TellsStored, TellsGreeted}
-use Rattle.scoop_model.proofs.Names.{HoldsOpenedOrOver, TellsHeld, TellsOpened, HasOpenedAtAll, IsAbandoned, TellsUnlocked, AreOfLog, TellsLogged, TellsRan}
-use Rattle.scoop_model.proofs.Names.{World, Party, Site, is_site, is_party, log_of, party_of, inc_of}
+use Rattle.scoop_model.proofs.Names.{◌≡◌, ℕ, ◌+◌, List, [], ◌∷◌, ◌++◌, Some, sym, ap, ◌∙◌, subst, arith, zero, suc, slice_get, false, true≢false, length, ◌-◌}
+use Rattle.scoop_model.proofs.Names.{Contains, inl, nat_lt, append_assoc, nat_tests, slice_get-get_or, AllByRecursion, list_any, option_map_or, Message, Open}
+use Rattle.scoop_model.proofs.Names.{Block, ClientId, HandlerId, Entry, all_found, all_both, all_at, mark_of-client, Mark, AtHeld, AtShut, AtOpen, IsReached}
+use Rattle.scoop_model.proofs.Names.{TellsGranted, stored_of, TellsStored, TellsGreeted, HoldsOpenedOrOver, TellsHeld, TellsOpened, HasOpenedAtAll, IsAbandoned}
+use Rattle.scoop_model.proofs.Names.{TellsUnlocked, AreOfLog, TellsLogged, TellsRan, World, Site, is_site, log_of, inc_of}
 use Rattle.scoop_handler.specs.declared.mark.Stage.{Stage}
 use Rattle.scoop_model.proofs.Stands.{Stands}
-use Rattle.scoop_model.proofs.Order.{IsGranted, Tells, SiteFits, PartyFits, all_more_of, same_block_itself, ordered_kept, opens_ordered, Ordered}
+use Rattle.scoop_model.proofs.Order.{IsGranted, Tells, SiteFits, all_more_of, same_block_itself, ordered_kept, opens_ordered, Ordered}
 use Rattle.scoop_model.proofs.Logging.{Carries, Greets, IsOpenedAtAll, IsGivenUp, Shows, is_open_of}
 use Rattle.scoop_model.proofs.Answering.{TellsAnswer}
 use Rattle.scoop_model.proofs.Ready.{reached_facts, reached_keeps}
 use Rattle.scoop_model.proofs.Ready.Runs.{Facts}
 use Rattle.scoop_model.proofs.Granting.{granting_kept, opens_granting, Granting}
-use Rattle.scoop_model.proofs.Sound.{both_kept}
+use Rattle.scoop_model.proofs.Events.{both_kept}
 
 -- ---- lists
 
@@ -42,21 +41,13 @@ module _ (w : World) (f : Facts w) where
   -- ---- greetings
 
   inc_stored : (c : ClientId) → inc_of w c ≡ stored_of c w
-  inc_stored c = by (party_of c w) refl
-    where
-      by : (o : Option Party) → party_of c w ≡ o → option_map_or (λ (p : Party). p.client.inc) o 0 ≡ option_map_or (λ (p : Party). p.stored) o 0
-      by None at = refl
-      by (Some p) at = (all_found (PartyFits w) (is_party c) w.parties p f.ordered.parties at).stored
+  inc_stored c = grind (arith, option_map_or, all_found)
 
   tells_stored : (m : Message) → Greets w m → TellsStored w m
   tells_stored m g = record { stored = λ h c inc is. let le = subst (Greets w) is g in let own = inc_stored c in omega (arith, le, own) }
 
   tells_greeted : (m : Message) → Greets w m → TellsGreeted w m
-  tells_greeted m g = record {
-    greeted = λ h c inc is.
-        let t = subst (Greets w) is g in
-        record { site = t.site; found = t.found; mark = t.reached.mark; marked = t.reached.found; greeted = t.reached.upto.inc };
-  }
+  tells_greeted m g = grind arith
 
   -- ---- locks
 
@@ -76,33 +67,13 @@ module _ (w : World) (f : Facts w) where
           (record { mark = mark; found = g.reached.found; inc = inc; num = num; stage = is }));
     }
     own_held inc num AtOpen is = grind (arith, all_found, mark_of-client)
-    own_held inc num AtShut is = record {
-      site = site;
-      found = g.found;
-      is = inr (inr (record { mark = mark; marked = g.reached.found; over = inr (inc, num, is) }));
-    }
+    own_held inc num AtShut is = grind arith
 
     same_inc_held : mark.inc ≡ b.inc → HoldsOpenedOrOver w h b
-    same_inc_held inc =
-        let le = g.reached.upto.num inc in
-        by_test (λ t. nat_lt b.num mark.num ≡ t → HoldsOpenedOrOver w h b) (nat_lt b.num mark.num)
-        (λ _ is.
-        let newer : b.num < mark.num = grind (arith, nat_tests) in
-        record { site = site; found = g.found; is = inr (inr (record { mark = mark; marked = g.reached.found; over = inl (inr (inc, newer)) })) })
-        (λ _ is.
-        let same : mark.num ≡ b.num = grind (arith, nat_tests) in
-        own_held inc same mark.stage refl) refl
+    same_inc_held inc = grind (arith, nat_lt, nat_tests, own_held)
 
     granted_held : HoldsOpenedOrOver w h b
-    granted_held =
-        let le = g.reached.upto.inc in
-        by_test (λ t. nat_lt b.inc mark.inc ≡ t → HoldsOpenedOrOver w h b) (nat_lt b.inc mark.inc)
-        (λ _ is.
-        let newer : b.inc < mark.inc = grind (arith, nat_tests) in
-        record { site = site; found = g.found; is = inr (inr (record { mark = mark; marked = g.reached.found; over = inl (inl newer) })) })
-        (λ _ is.
-        let same : mark.inc ≡ b.inc = grind (arith, nat_tests) in
-        same_inc_held same) refl
+    granted_held = grind (arith, nat_lt, nat_tests, same_inc_held)
 
   tells_held : (m : Message) → Tells w m → TellsHeld w m
   tells_held m t = record { held = λ h b is. granted_held h b (subst (Tells w) is t) }
@@ -123,9 +94,7 @@ module _ (w : World) (f : Facts w) where
   tells_opened m s = record { opened = λ h b is. subst (Shows w) is s }
 
   tells_unlocked : (m : Message) → Shows w m → TellsUnlocked w m
-  tells_unlocked m s = record {
-    unlocked = λ h b is. ⊎_elim (λ (o : IsOpenedAtAll w b). inl (opened_all b o)) (λ (g : IsGivenUp w b). inr (is_abandoned b g)) (subst (Shows w) is s).1;
-  }
+  tells_unlocked m s = grind (arith, opened_all, is_abandoned)
 
   -- ---- logs and answers
 

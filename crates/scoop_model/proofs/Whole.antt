@@ -5,7 +5,6 @@ pub mod Rows
 pub mod Shown
 pub mod Facts
 pub mod Steps
-pub mod Runs
 pub use Sent.*
 pub use Marks.*
 pub use Slots.*
@@ -13,4 +12,3 @@ pub use Rows.*
 pub use Shown.*
 pub use Facts.*
 pub use Steps.*
-pub use Runs.*

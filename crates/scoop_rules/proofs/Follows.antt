@@ -4,7 +4,4 @@ pub mod Logging
 pub mod Commands
 pub mod Sets
 pub mod Sites
-pub mod Events
-pub mod Readiness
-pub mod Kept
 pub mod Runs

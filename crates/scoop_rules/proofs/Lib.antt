@@ -8,8 +8,5 @@ pub mod Sends
 pub mod Opens
 pub mod Greets
 pub mod Asked
-pub mod AskedRan
-pub mod AskedClients
-pub mod AskedRuns
 pub mod Hears
 pub mod Follows

@@ -1,8 +1,8 @@
 -- The private queues of the rules as lists over blocks, and the effect of one move on the queue of one block.
-use Rattle.scoop_rules.proofs.Names.{◌≡◌, ℕ, ◌+◌, List, [], ◌∷◌, ◌++◌, map, refl, sym, ap, ◌∙◌, subst, arith, append-nil, true, if◌then◌else◌, ◌&&◌, zero, suc}
-use Rattle.scoop_rules.proofs.Names.{take, false, true≢false, ◌||◌, length, Bool, drop, flat_map, AllByRecursion, same_block, Block, ClientId, HandlerId, Entry}
-use Rattle.scoop_rules.proofs.Names.{by_test, has, World, has_block, set_of, flat_map-append, same_block_itself, Waiting, is_gone, is_of, kept, queue_at}
-use Rattle.scoop_rules.proofs.Names.{queue_of, seen, Seen, state_of, logged_to, Configuration, cut_queue, cut_waiting}
+use Rattle.scoop_rules.proofs.Names.{◌≡◌, ℕ, ◌+◌, List, [], ◌∷◌, ◌++◌, map, refl, sym, ap, ◌∙◌, arith, append-nil, true, if◌then◌else◌, ◌&&◌, zero, suc, take}
+use Rattle.scoop_rules.proofs.Names.{false, true≢false, ◌||◌, length, Bool, drop, flat_map, AllByRecursion, same_block, Block, ClientId, HandlerId, Entry}
+use Rattle.scoop_rules.proofs.Names.{by_test, World, has_block, flat_map-append, same_block_itself, Waiting, is_of, kept, queue_at, queue_of, Seen, logged_to}
+use Rattle.scoop_rules.proofs.Names.{Configuration, cut_queue, cut_waiting}
 use Rattle.scoop_model.proofs.Names.{map-append}
 
 -- a choice by two tests, of which one fails
@@ -48,20 +48,17 @@ abbrev pub AreOwn : Block → List Waiting → Type 0
 AreOwn b qs = AllByRecursion (IsOwn b) qs
 
 pub own_queue : (b : Block) (s : Seen) → AreOwn b (queue_of b s)
-own_queue b s =
-    by_test (λ t. AreOwn b (if t then [] else record { block = b; entries = drop s.count (kept s); state = state_of s } ∷ [])) (is_gone s) (λ gone. tt)
-    (λ there. (refl, tt))
+own_queue b s = grind (arith, kept)
 
 pub own_queue_at : (w : World) (h : HandlerId) (b : Block) → AreOwn b (queue_at w h b)
-own_queue_at w h b =
-    by_test (λ t. AreOwn b (if t then queue_of b (seen b h w) else [])) (has (set_of b w) h) (λ named. own_queue b (seen b h w)) (λ not_named. tt)
+own_queue_at w h b = grind (arith, own_queue)
 
 pub logged_other : (b x : Block) (e : Entry) (qs : List Waiting) → same_block x b ≡ false → AreOwn x qs → map (logged_to b e) qs ≡ qs
 logged_other b x e [] other own = refl
 logged_other b x e (q ∷ qs) other own =
     let apart : is_of b q ≡ false = ap (λ y. same_block y b) own.0 ∙ other in
     let first : logged_to b e q ≡ q =
-    by_test (λ t. is_of b q ≡ t → logged_to b e q ≡ q) (is_of b q) (λ _ is. absurd (true≢false (sym is ∙ apart))) (λ _ is. stays is) refl in
+    by_test (λ _. logged_to b e q ≡ q) (is_of b q) (λ is. absurd (true≢false (sym is ∙ apart))) (λ is. stays is) in
     λ i. first i ∷ logged_other b x e qs other own.1 i
   where
     stays : is_of b q ≡ false → logged_to b e q ≡ q
@@ -85,18 +82,9 @@ own_append x (y ∷ ys) qs p q = (p.0, own_append x ys qs p.1 q)
 -- the queues that a cut leaves of a block are the block's
 pub own_cut : (b x : Block) (k : ℕ) (qs : List Waiting) → AreOwn x qs → AreOwn x (flat_map (cut_waiting b k) qs)
 own_cut b x k [] own = tt
-own_cut b x k (q ∷ qs) own =
-    own_append x (cut_waiting b k q) (flat_map (cut_waiting b k) qs)
-    (by_test (λ t. AreOwn x (if t then cut_queue q.block (take k q.entries) else q ∷ [])) (is_of b q)
-    (λ same. subst (λ y. AreOwn y (cut_queue q.block (take k q.entries))) own.0 (own_cut_one q.block (take k q.entries)))
-    (λ other. (own.0, tt)))
-    (own_cut b x k qs own.1)
+own_cut b x k (q ∷ qs) own = grind (arith, own_append, take, own_cut_one, (own_cut b x k qs own.1))
 
 -- ---- entries that were taken, and those that are left
-
-pub drop_all : (xs ys : List Entry) → drop (length xs) (xs ++ ys) ≡ ys
-drop_all [] ys = refl
-drop_all (x ∷ xs) ys = drop_all xs ys
 
 drop_next : (n : ℕ) (xs ys : List Entry) (x : Entry) → drop n xs ≡ x ∷ ys → (drop (suc n) xs ≡ ys) × (length xs ≡ n + 1 + length ys)
 drop_next zero [] ys x e = absurd (cc)

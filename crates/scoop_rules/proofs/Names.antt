@@ -11,7 +11,7 @@ pub use Rattle.scoop_model.proofs.Names.{number-row, row, Core, core_of, Hearing
 pub use Rattle.scoop_model.proofs.Names.{unlock_of_a_block_never_held, is_freed, is_answered, is_taken, repeated_greeting, repeated_open, repeated_lock}
 pub use Rattle.scoop_model.proofs.Names.{already_received, Task, ran_of as told_of, job_out, task_of, Greeted, Ran, asked, has, first_repeated, first_unknown}
 pub use Rattle.scoop_model.proofs.Names.{fresh, started, unless_repeated, ReservationState, at_stage, due, heard, ClientState, phase_of, WindowState, logged}
-pub use Rattle.scoop_model.proofs.Names.{window_of, Command, Reserve, GiveUp, Call, Query, all_made, first_false, number_found, by_site, by_party, id_found}
+pub use Rattle.scoop_model.proofs.Names.{window_of, Command, Reserve, GiveUp, Call, Query, all_made, first_false, number_found, own_site, heard_place, by_site, by_party, id_found}
 pub use Rattle.scoop_model.proofs.Names.{MayOpen, steps, IsReached, Run, next, run_after, HasRun, entries_of, IsSubsequence, nothing, left_out, untold}
 pub use Rattle.scoop_model.proofs.Names.{numbered, newest_block, commanded_world, with_sent, with_party, heard_party, restarted_party, heard_world, heard_site}
 pub use Rattle.scoop_model.proofs.Names.{with_site, begun_site, finished_site, reopened, reopened_world, Placement, Newcomer, new_site, new_party, opening}
@@ -20,7 +20,7 @@ pub use Rattle.scoop_model.proofs.Names.{site_of, set_site, is_party, sent_at, h
 pub use Rattle.scoop_model.proofs.Names.{id_of, handlers_of, HandlerLog, shares_of, is_succeeded, is_newer_welcome, inc_of, is_share_of, set_of, has_end}
 pub use Rattle.std.proofs.Math.Bool.{or-false, or-true, and-false}
 pub use Rattle.std.proofs.Math.Seq.{take-nil}
-pub use Rattle.std.proofs.lemmas.Bool.{ltb-true, le-leb}
+pub use Rattle.std.proofs.lemmas.Bool.{ltb-true, le-leb, false_from_ne_true}
 pub use Rattle.std.proofs.lemmas.Grind.{flat_map-append}
 pub use Rattle.std.proofs.lemmas.List.Elements.{All-contains, All-from_recursion}
 pub use Rattle.scoop_message.specs.Entries.{end_only_last}
@@ -30,7 +30,7 @@ pub use Rattle.scoop_handler.specs.Hearing.{greeted_first, greeted_newer, opened
 pub use Rattle.scoop_handler.specs.Rows.{lock_refused, repeated_unlock}
 pub use Rattle.scoop_reserve.specs.Handlers.{first_repeated_after}
 pub use Rattle.scoop_model.proofs.Answering.Facts.{TellsAnswer, Answering}
-pub use Rattle.scoop_model.proofs.Events.{Changes, steps_kept, Happens, event_happens}
+pub use Rattle.scoop_model.proofs.Events.{Changes, both_kept, steps_kept, Happens, event_happens}
 pub use Rattle.scoop_model.proofs.Logging.Facts.{WindowsFit, PartyLogs, Logging}
 pub use Rattle.scoop_model.proofs.Logging.Logs.{IsAdded, added, log_after, log_other, reserved_same, unreserved_empty, HasLine, log_in, log_here, named_shares}
 pub use Rattle.scoop_model.proofs.Moves.{Notices, steps_on, is_over, gets_answer, hears, Takes, takes_reserve, takes_call, takes_query, takes_end}
@@ -41,8 +41,7 @@ pub use Rattle.scoop_model.proofs.Order.Lists.{same_block_itself, same_block_is,
 pub use Rattle.scoop_model.proofs.Order.Sets.{handlers_after, leaves_at, found_changed, handlers_before, handlers_fresh}
 pub use Rattle.scoop_model.proofs.Ready.Facts.{HandlerReady, Ready, IsOverIfGone, IsNamedAt, IsToldAs}
 pub use Rattle.scoop_model.proofs.Ready.Runs.{facts, reached_keeps, facts_ready, Facts}
-pub use Rattle.scoop_model.proofs.Sites.{own_site, set_same, anew_same, states_anew}
-pub use Rattle.scoop_model.proofs.Sound.Runs.{both_kept}
+pub use Rattle.scoop_model.proofs.Sites.{set_same, anew_same, states_anew}
 pub use Rattle.scoop_model.proofs.Tape.Fits.{IsBegun}
 pub use Rattle.scoop_model.proofs.Tape.Shown.{left_apart, part_of, IsPart, slot_parts, length-part, none_ran}
 pub use Rattle.scoop_model.proofs.Tape.Slots.{Slot, ran_in, ran_of, slot_queue, queues_of, blocks_of}

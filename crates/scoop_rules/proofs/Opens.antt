@@ -2,11 +2,11 @@
 -- yet, so each new queue is empty and open. If a newer incarnation of its client has greeted, the queue is cut at once and gone. A
 -- later opening is no move: the block is in the common list already.
 use Rattle.scoop_rules.proofs.Names.{◌≡◌, ℕ, ◌<◌, List, [], ◌∷◌, ◌++◌, map, refl, sym, ap, ◌∙◌, subst, arith, append-nil, Option, true, if◌then◌else◌, ◌&&◌}
-use Rattle.scoop_rules.proofs.Names.{take, false, true≢false, ◌||◌, Bool, ◌-◌, ◌⊎◌, inl, inr, ⊎_elim, filter, flat_map, handler_decides, same_block}
-use Rattle.scoop_rules.proofs.Names.{same_handler, Message, Block, HandlerId, by_test, has, joined, World, ran_at, Site, has_block, opened_at, is_succeeded}
-use Rattle.scoop_rules.proofs.Names.{inc_of, set_of, take-nil, flat_map-append, same_block_itself, same_block_is, HandlerReady, Ready, same_handler_itself}
-use Rattle.scoop_rules.proofs.Names.{count_of, Waiting, configuration_of, queue_at, queue_of, seen, Seen, Objects, MovesLead, Configuration, CutTo}
-use Rattle.scoop_rules.proofs.Names.{put_at_handler, cut_to, cut_queue, cut_waiting, Separate, late_cuts, separate, new_queue}
+use Rattle.scoop_rules.proofs.Names.{take, false, true≢false, Bool, ◌⊎◌, inl, inr, filter, flat_map, handler_decides, same_block, same_handler, Message, Block}
+use Rattle.scoop_rules.proofs.Names.{HandlerId, by_test, has, joined, World, ran_at, Site, has_block, opened_at, is_succeeded, inc_of, set_of, take-nil}
+use Rattle.scoop_rules.proofs.Names.{flat_map-append, same_block_itself, same_block_is, HandlerReady, Ready, same_handler_itself, count_of, Waiting}
+use Rattle.scoop_rules.proofs.Names.{configuration_of, queue_at, queue_of, seen, Seen, Objects, MovesLead, Configuration, CutTo, put_at_handler, cut_to}
+use Rattle.scoop_rules.proofs.Names.{cut_queue, cut_waiting, Separate, late_cuts, separate, new_queue, false_from_ne_true}
 use Rattle.scoop_rules.proofs.Lists.{and_never, same_configuration, queues_same, queues_last, cut_over, cut_other, own_queue_at}
 use Rattle.scoop_rules.proofs.Seen.{seen_none}
 use Rattle.scoop_rules.proofs.Front.{left_has}
@@ -15,9 +15,7 @@ use Rattle.scoop_rules.proofs.Sends.{IsQuietIfSome, ran_in, with_news, same_queu
 -- ---- tests of handlers
 
 handlers_turned : (x h : HandlerId) → same_handler x h ≡ false → same_handler h x ≡ false
-handlers_turned x h e =
-    by_test (λ t. same_handler h x ≡ t → t ≡ false) (same_handler h x)
-    (λ _ is. absurd (true≢false (sym ((handler_decides x h).1 (sym ((handler_decides h x).0 is))) ∙ e))) (λ _ is. refl) refl
+handlers_turned x h e = grind (arith, true≢false, handler_decides)
 
 -- ---- cuts of a queue that is new
 
@@ -26,10 +24,7 @@ abbrev with_last : World → List Block → (HandlerId → List Waiting) → Con
 with_last w js last = record { queues = λ x. flat_map (queue_at w x) w.joint ++ last x; ran = λ x. ran_at x w; separated = js; inc = inc_of w }
 
 other_than : (b y : Block) (js : List Block) → has_block js b ≡ false → has_block js y ≡ true → same_block y b ≡ false
-other_than b y js none m =
-    by_test (λ t. same_block y b ≡ t → t ≡ false) (same_block y b)
-    (λ _ is. absurd (true≢false (sym m ∙ ap (has_block js) (same_block_is y b is) ∙ none)))
-    (λ _ is. refl) refl
+other_than b y js none m = grind (arith, true≢false, has_block, same_block_is)
 
 cut_new : (b : Block) (k : ℕ) → flat_map (cut_waiting b k) (new_queue b ∷ []) ≡ []
 cut_new b k = ap (λ t. (if t then cut_queue b (take k []) else new_queue b ∷ []) ++ []) (same_block_itself b) ∙ ap (λ es. cut_queue b es ++ []) (take-nil k)
@@ -37,12 +32,7 @@ cut_new b k = ap (λ t. (if t then cut_queue b (take k []) else new_queue b ∷ 
 -- a cut of a block that isn't in the list
 cut_behind : (w : World) (h : HandlerId) (b : Block) (k : ℕ) (qs : List Waiting) → has_block w.joint b ≡ false
     → flat_map (cut_waiting b k) (flat_map (queue_at w h) w.joint ++ qs) ≡ flat_map (queue_at w h) w.joint ++ flat_map (cut_waiting b k) qs
-cut_behind w h b k qs new =
-    flat_map-append (cut_waiting b k) (flat_map (queue_at w h) w.joint) qs
-    ∙ ap (λ ps. ps ++ flat_map (cut_waiting b k) qs)
-    (cut_over b k (queue_at w h) w.joint
-    ∙ queues_same (λ y. flat_map (cut_waiting b k) (queue_at w h y)) (queue_at w h) w.joint
-    (λ y m. cut_other b y k (queue_at w h y) (other_than b y w.joint new m) (own_queue_at w h y)))
+cut_behind w h b k qs new = grind (arith, flat_map-append, cut_over, queues_same, cut_other, other_than, own_queue_at)
 
 module _ (o : Objects) (w : World) (js : List Block) (b : Block) (new : has_block w.joint b ≡ false)
     (below : (h : HandlerId) → is_succeeded b h w ≡ true → b.inc < inc_of w b.client) (none : (h : HandlerId) → count_of b (ran_at h w) ≡ 0) where
@@ -54,77 +44,39 @@ module _ (o : Objects) (w : World) (js : List Block) (b : Block) (new : has_bloc
   without_at h last = put_at_handler h [] last
 
   cut_step : (h : HandlerId) (last : HandlerId → List Waiting) → IsNewOrNone last → cut_to b h 0 (with_last w js last) ≡ with_last w js (without_at h last)
-  cut_step h last is =
-      same_configuration (cut_to b h 0 (with_last w js last)) (with_last w js (without_at h last))
-      (λ x.
-      let k = 0 - count_of b (ran_at h w) in
-      by_test
-      (λ t. same_handler x h ≡ t
-      → (if t then flat_map (cut_waiting b k) (flat_map (queue_at w h) w.joint ++ last h) else flat_map (queue_at w x) w.joint ++ last x)
-      ≡ flat_map (queue_at w x) w.joint ++ (if t then [] else last x))
-      (same_handler x h)
-      (λ _ same.
-      cut_behind w h b k (last h) new
-      ∙ ap (λ qs. flat_map (queue_at w h) w.joint ++ qs)
-      (⊎_elim (λ (p : last h ≡ []). ap (flat_map (cut_waiting b k)) p) (λ (p : last h ≡ new_queue b ∷ []). ap (flat_map (cut_waiting b k)) p ∙ cut_new b k)
-      (is h))
-      ∙ ap (λ j. flat_map (queue_at w j) w.joint ++ []) (sym ((handler_decides x h).0 same)))
-      (λ _ other. refl) refl)
-      (λ x. refl) refl (λ c. refl)
+  cut_step h last is = grind (arith, same_configuration, ran_at, cut_behind, cut_new, handler_decides)
 
   still_new : (h : HandlerId) (last : HandlerId → List Waiting) → IsNewOrNone last → IsNewOrNone (without_at h last)
-  still_new h last is x =
-      by_test (λ t. ((if t then [] else last x) ≡ []) ⊎ ((if t then [] else last x) ≡ new_queue b ∷ [])) (same_handler x h) (λ _. inl refl) (λ _. is x)
+  still_new h last is x = grind arith
 
   abbrev cut_where : List HandlerId → (HandlerId → List Waiting) → HandlerId → List Waiting
   cut_where hs last x = if has hs x && is_succeeded b x w then [] else last x
 
   cut_where_first : (h : HandlerId) (hs : List HandlerId) (last : HandlerId → List Waiting) → is_succeeded b h w ≡ true → (x : HandlerId)
       → cut_where (h ∷ hs) last x ≡ cut_where hs (without_at h last) x
-  cut_where_first h hs last newer x =
-      by_test
-      (λ t.
-      same_handler h x ≡ t → (if (t || has hs x) && is_succeeded b x w then [] else last x)
-      ≡ (if has hs x && is_succeeded b x w then [] else (if same_handler x h then [] else last x)))
-      (same_handler h x)
-      (λ _ same.
-      let one : h ≡ x = (handler_decides h x).0 same in
-      ap (λ t. if t then [] else last x) (subst (λ j. is_succeeded b j w ≡ true) one newer)
-      ∙ sym (ap (λ t. if has hs x && is_succeeded b x w then [] else (if t then [] else last x))
-      (subst (λ j. same_handler j h ≡ true) one (same_handler_itself h))
-      ∙ either (has hs x && is_succeeded b x w)))
-      (λ _ other. ap (λ t. if has hs x && is_succeeded b x w then [] else (if t then [] else last x)) (sym (handlers_turned h x other))) refl
-    where
-      either : (t : Bool) → (if t then [] else (if true then [] else last x)) ≡ []
-      either true = refl
-      either false = refl
+  cut_where_first h hs last newer x = grind (arith, handler_decides, same_handler_itself, handlers_turned)
 
   cut_where_not : (h : HandlerId) (hs : List HandlerId) (last : HandlerId → List Waiting) → is_succeeded b h w ≡ false → (x : HandlerId)
       → cut_where (h ∷ hs) last x ≡ cut_where hs last x
-  cut_where_not h hs last older x =
-      by_test (λ t. same_handler h x ≡ t → (if (t || has hs x) && is_succeeded b x w then [] else last x) ≡ cut_where hs last x) (same_handler h x)
-      (λ _ same.
-      let not_so : is_succeeded b x w ≡ false = subst (λ j. is_succeeded b j w ≡ false) ((handler_decides h x).0 same) older in
-      ap (λ t. if t then [] else last x) not_so ∙ sym (ap (λ t. if has hs x && t then [] else last x) not_so ∙ and_never (has hs x) [] (last x)))
-      (λ _ other. refl) refl
+  cut_where_not h hs last older x = grind (arith, handler_decides, and_never)
 
   late : (hs : List HandlerId) (last : HandlerId → List Waiting) → IsNewOrNone last → (end : Configuration) → with_last w js (cut_where hs last) ≡ end
       → MovesLead o (with_last w js last) (map (λ h. CutTo b h 0) (filter (λ h. is_succeeded b h w) hs)) end
   late [] last is end e = e
   late (h ∷ hs) last is end e =
-      by_test (λ t. is_succeeded b h w ≡ t → MovesLead o (with_last w js last)
+      by_test (λ t. MovesLead o (with_last w js last)
       (map (λ j. CutTo b j 0) (if t then h ∷ filter (λ j. is_succeeded b j w) hs else filter (λ j. is_succeeded b j w) hs)) end) (is_succeeded b h w)
-      (λ _ newer. (
+      (λ newer. (
         (below h newer, let n = none h in omega (arith, n)),
         subst (λ g. MovesLead o g (map (λ j. CutTo b j 0) (filter (λ j. is_succeeded b j w) hs)) end) (sym (cut_step h last is))
             (late hs (without_at h last) (still_new h last is) end
             (same_configuration (with_last w js (cut_where hs (without_at h last))) (with_last w js (cut_where (h ∷ hs) last))
             (λ x. ap (λ qs. flat_map (queue_at w x) w.joint ++ qs) (sym (cut_where_first h hs last newer x))) (λ x. refl) refl (λ c. refl) ∙ e)),
       ))
-      (λ _ older.
+      (λ older.
       late hs last is end
       (same_configuration (with_last w js (cut_where hs last)) (with_last w js (cut_where (h ∷ hs) last))
-      (λ x. ap (λ qs. flat_map (queue_at w x) w.joint ++ qs) (sym (cut_where_not h hs last older x))) (λ x. refl) refl (λ c. refl) ∙ e)) refl
+      (λ x. ap (λ qs. flat_map (queue_at w x) w.joint ++ qs) (sym (cut_where_not h hs last older x))) (λ x. refl) refl (λ c. refl) ∙ e))
 
 -- ---- an opening
 
@@ -148,8 +100,7 @@ module _ (w : World) (sites : List Site) (m : Option Message) (same_ran : (j : H
 
     not_opened : (x : HandlerId) → has_block (opened_at x w) b ≡ false
     not_opened x =
-        by_test (λ t. has_block (opened_at x w) b ≡ t → t ≡ false) (has_block (opened_at x w) b)
-        (λ _ is. absurd (true≢false (sym (left_has (ready.handlers x).left b is) ∙ new))) (λ _ is. refl) refl
+        false_from_ne_true (has_block (opened_at x w) b) (λ is. true≢false (sym (left_has (ready.handlers x).left b is) ∙ new))
 
     looks : (x : HandlerId) → seen b x w ≡ record { logged = []; count = 0; over = false; newer = is_succeeded b x w; received = 0 }
     looks x =
@@ -176,14 +127,7 @@ module _ (w : World) (sites : List Site) (m : Option Message) (same_ran : (j : H
         ∙ sym (same_queue w sites m same_ran quiet (joined w.joint (b ∷ [])) x b)
 
     begins : with_last w js at_each ≡ separate b (set_of b w) (configuration_of w)
-    begins =
-        same_configuration (with_last w js at_each) (separate b (set_of b w) (configuration_of w))
-        (λ x.
-        by_test (λ t. flat_map (queue_at w x) w.joint ++ (if t then new_queue b ∷ [] else [])
-        ≡ (if t then flat_map (queue_at w x) w.joint ++ new_queue b ∷ [] else flat_map (queue_at w x) w.joint)) (has (set_of b w) x)
-        (λ _. refl)
-        (λ _. append-nil (flat_map (queue_at w x) w.joint)))
-        (λ x. refl) refl (λ c. refl)
+    begins = grind (arith, same_configuration, append-nil)
 
     ends : with_last w js (λ x. queue_at opened_world x b) ≡ configuration_of opened_world
     ends =

@@ -1,17 +1,17 @@
 -- An entry that runs is a run of the first entry of the first private queue. The handler's own first queue with an entry is its first
 -- slot that isn't over. The queues of the rules before it are gone, since their blocks are over there, and its block's queue begins
 -- with the same entry. Then one more entry has run of that block, and all other queues stay.
-use Rattle.scoop_rules.proofs.Names.{◌≡◌, ℕ, ◌+◌, List, [], ◌∷◌, ◌++◌, Some, None, refl, sym, ap, ◌∙◌, subst, arith, Option, option_map, true, if◌then◌else◌}
-use Rattle.scoop_rules.proofs.Names.{◌&&◌, false, true≢false, ◌||◌, length, Bool, ◌⊎◌, inl, inr, ⊎_elim, nat_le, append_assoc, filter, length-append, flat_map}
-use Rattle.scoop_rules.proofs.Names.{nat_tests, filter-append, list_any-append, same_Some, none-some, AllByRecursion, option_map_or, handler_decides}
-use Rattle.scoop_rules.proofs.Names.{EndOnlyLast, is_end, same_block, same_handler, Block, HandlerId, Entry, front, by_test, Core, Task, told_of, job_out}
-use Rattle.scoop_rules.proofs.Names.{task_of, Ran, has, number_found, by_site, entries_of, IsSubsequence, with_site, finished_site, World, ran_at, Site}
-use Rattle.scoop_rules.proofs.Names.{number_of, site_of, has_block, opened_at, log_of, received, is_succeeded, set_of, has_end, or-false, flat_map-append}
-use Rattle.scoop_rules.proofs.Names.{same_block_itself, same_block_is, AreApart, HandlerReady, Ready, IsOverIfGone, IsNamedAt, IsBegun, left_apart, Slot}
-use Rattle.scoop_rules.proofs.Names.{blocks_of, count_of, Waiting, configuration_of, queue_at, queue_of, seen, Seen, state_of, Objects, MovesLead, objects_of}
-use Rattle.scoop_rules.proofs.Names.{Configuration, no_class, has_ended, put_at_handler, RunOne, next_ran, rest_of, run_entries, run_first, has_entry}
+use Rattle.scoop_rules.proofs.Names.{◌≡◌, ℕ, ◌+◌, List, [], ◌∷◌, ◌++◌, Some, None, refl, sym, ap, ◌∙◌, subst, arith, option_map, true, if◌then◌else◌, ◌&&◌}
+use Rattle.scoop_rules.proofs.Names.{false, true≢false, ◌||◌, Bool, nat_le, append_assoc, length-append, flat_map, nat_tests, filter-append, list_any-append}
+use Rattle.scoop_rules.proofs.Names.{same_Some, none-some, AllByRecursion, option_map_or, handler_decides, is_end, same_block, same_handler, Block, HandlerId}
+use Rattle.scoop_rules.proofs.Names.{Entry, front, by_test, Core, Task, told_of, job_out, Ran, has, number_found, by_site, IsSubsequence, with_site}
+use Rattle.scoop_rules.proofs.Names.{finished_site, World, ran_at, Site, number_of, site_of, has_block, opened_at, log_of, received, is_succeeded, set_of}
+use Rattle.scoop_rules.proofs.Names.{has_end, or-false, flat_map-append, same_block_itself, same_block_is, AreApart, HandlerReady, Ready, IsOverIfGone}
+use Rattle.scoop_rules.proofs.Names.{IsNamedAt, IsBegun, left_apart, Slot, blocks_of, count_of, Waiting, configuration_of, queue_at, queue_of, seen, Seen}
+use Rattle.scoop_rules.proofs.Names.{state_of, Objects, MovesLead, objects_of, Configuration, no_class, has_ended, put_at_handler, RunOne, next_ran, rest_of}
+use Rattle.scoop_rules.proofs.Names.{false_from_ne_true}
 use Rattle.scoop_handler.proofs.After.{job-class}
-use Rattle.scoop_model.proofs.Names.{job-front, job-first, ClassTable, entry_effect, play}
+use Rattle.scoop_model.proofs.Names.{job-front, job-first}
 use Rattle.scoop_rules.proofs.Lists.{same_configuration, queues_same}
 use Rattle.scoop_rules.proofs.Seen.{IsSeen, HasFirst, slot_seen, all_seen, seen_none, none_before, none_queue, gone_queue, first_queue, ran_queue}
 use Rattle.scoop_rules.proofs.Front.{IsPlaced, Parted, parted}
@@ -19,15 +19,10 @@ use Rattle.scoop_rules.proofs.Front.{IsPlaced, Parted, parted}
 -- ---- one more that ran
 
 pub count_pushed : (b : Block) (rs : List Ran) (r : Ran) → count_of b (rs ++ r ∷ []) ≡ count_of b rs + (if same_block r.block b then 1 else 0)
-count_pushed b rs r =
-    ap length (filter-append (λ x. same_block x.block b) rs (r ∷ []))
-    ∙ length-append (filter (λ x. same_block x.block b) rs) (filter (λ x. same_block x.block b) (r ∷ []))
-    ∙ by_test (λ t. count_of b rs + length (if t then r ∷ [] else []) ≡ count_of b rs + (if t then 1 else 0)) (same_block r.block b) (λ _. refl) (λ _. refl)
+count_pushed b rs r = grind (arith, filter-append, length-append)
 
 pub ended_pushed : (b : Block) (rs : List Ran) (r : Ran) → has_ended b (rs ++ r ∷ []) ≡ (has_ended b rs || same_block r.block b && is_end r.entry)
-ended_pushed b rs r =
-    list_any-append (λ x. same_block x.block b && is_end x.entry) rs (r ∷ [])
-    ∙ ap (λ t. has_ended b rs || t) (or-false (same_block r.block b && is_end r.entry))
+ended_pushed b rs r = grind (arith, list_any-append, has_ended, or-false)
 
 -- ---- the common list around a block
 
@@ -36,20 +31,15 @@ has_middle b [] ys = ap (λ t. t || has_block ys b) (same_block_itself b)
 has_middle b (x ∷ xs) ys = by_test (λ t. (t || has_block (xs ++ b ∷ ys) b) ≡ true) (same_block x b) (λ _. refl) (λ _. has_middle b xs ys)
 
 apart_from : (b y : Block) (bs : List Block) → has_block bs b ≡ false → has_block bs y ≡ true → same_block b y ≡ false
-apart_from b y bs none m =
-    by_test (λ t. same_block b y ≡ t → t ≡ false) (same_block b y)
-    (λ _ is. absurd (true≢false (sym m ∙ ap (has_block bs) (sym (same_block_is b y is)) ∙ none)))
-    (λ _ is. refl) refl
+apart_from b y bs none m = grind (arith, true≢false, has_block, same_block_is)
 
 -- in a list without repeats the blocks before and behind one are others
 before_apart : (b y : Block) (xs ys : List Block) → AreApart (xs ++ b ∷ ys) → has_block xs y ≡ true → same_block b y ≡ false
 before_apart b y [] ys d m = absurd (true≢false (sym m))
 before_apart b y (x ∷ xs) ys d m =
-    by_test (λ t. same_block x y ≡ t → (t || has_block xs y) ≡ true → same_block b y ≡ false) (same_block x y)
-    (λ _ is _. by_test (λ t. same_block b y ≡ t → t ≡ false) (same_block b y)
-    (λ _ also. absurd (true≢false (sym (has_middle b xs ys) ∙ ap (has_block (xs ++ b ∷ ys)) (same_block_is b y also ∙ sym (same_block_is x y is)) ∙ d.0)))
-    (λ _ also. refl) refl)
-    (λ _ is n. before_apart b y xs ys d.1 n) refl m
+    by_test (λ t. (t || has_block xs y) ≡ true → same_block b y ≡ false) (same_block x y)
+    (λ is _. false_from_ne_true (same_block b y) (λ also. true≢false (sym (has_middle b xs ys) ∙ ap (has_block (xs ++ b ∷ ys)) (same_block_is b y also ∙ sym (same_block_is x y is)) ∙ d.0)))
+    (λ is n. before_apart b y xs ys d.1 n) m
 
 behind_apart : (b y : Block) (xs ys : List Block) → AreApart (xs ++ b ∷ ys) → has_block ys y ≡ true → same_block b y ≡ false
 behind_apart b y [] ys d m = apart_from b y ys d.0 m
@@ -69,13 +59,7 @@ first_runs : (o : Objects) (h : HandlerId) (g k : Configuration) (q : Waiting) (
       ran = put_at_handler h (g.ran h ++ next_ran (o.class h) (o.words h) (g.ran h) q.block x ∷ []) g.ran;
     } ≡ k
     → MovesLead o g (RunOne h ∷ []) k
-first_runs o h g k q x es qs entries first e = (
-  ap has_entry first ∙ ap (λ ys. nat_le 1 (length ys)) entries ∙ some x es,
-  ap (λ rs. run_first o h rs g) first ∙ ap (λ ys. run_entries o h q ys qs g) entries ∙ e,
-)
-  where
-    some : (y : Entry) (ys : List Entry) → nat_le 1 (length (y ∷ ys)) ≡ true
-    some y ys = grind (arith, nat_tests)
+first_runs o h g k q x es qs entries first e = grind (arith, nat_le, nat_tests)
 
 -- ---- what a slot tells of its block's queue
 
@@ -114,9 +98,7 @@ module _ (w : World) (h : HandlerId) (ready : Ready w) where
 
   -- a slot whose private queue is gone has no queue
   pub gone_at : (t : Slot) → SlotReady w h t → t.state ≡ None → queue_at w h t.block ≡ []
-  gone_at t r none =
-      if_nothing (has (set_of t.block w) h) (queue_of t.block (seen t.block h w))
-      (ap (queue_of t.block) r.seen.is ∙ gone_queue t.block t.ran t.rest r.seen.more (is_succeeded t.block h w) (r.gone.rest none) (r.gone.why none))
+  gone_at t r none = grind (arith, if_nothing, gone_queue)
 
   -- a block without a slot, whose client has been succeeded, has no queue
   none_at : (b : Block) → has_block (opened_at h w) b ≡ false → is_succeeded b h w ≡ true → queue_at w h b ≡ []
@@ -127,27 +109,11 @@ module _ (w : World) (h : HandlerId) (ready : Ready w) where
       ∙ none_queue b (log_of b h w))
 
   pub placed_at : (b : Block) → has_block w.joint b ≡ true → IsPlaced (queue_at w h) (blocks_of here.slots) w.joint b
-  placed_at b m =
-      by_test (λ t. has (set_of b w) h ≡ t → IsPlaced (queue_at w h) (blocks_of here.slots) w.joint b) (has (set_of b w) h)
-      (λ _ named. by_test (λ t. has_block (opened_at h w) b ≡ t → IsPlaced (queue_at w h) (blocks_of here.slots) w.joint b) (has_block (opened_at h w) b)
-      (λ _ is. inl (subst (λ bs. has_block bs b ≡ true) here.opened is))
-      (λ _ none. ⊎_elim
-      (λ (p : has_block (opened_at h w) b ≡ true). absurd (true≢false (sym p ∙ none)))
-      (λ (p : (is_succeeded b h w ≡ true) ⊎ IsSubsequence (opened_at h w ++ b ∷ []) w.joint). ⊎_elim
-      (λ (q : is_succeeded b h w ≡ true). inr (inl (none_at b none q)))
-      (λ (q : IsSubsequence (opened_at h w ++ b ∷ []) w.joint). inr (inr (subst (λ bs. IsSubsequence (bs ++ b ∷ []) w.joint) here.opened q))) p)
-      (here.placed b m named)) refl)
-      (λ _ other. inr (inl (ap (λ t. if t then queue_of b (seen b h w) else []) other))) refl
+  placed_at b m = grind (arith, has_block, true≢false, none_at)
 
 -- the words that a job went out with are the handler's
 job_words : (c : Core) (t : Task) → job_out c ≡ Some t → t.words ≡ c.state.words
-job_words c t out = of (front c.state.queues) refl
-  where
-    of : (f : Option (Block × ℕ × Entry)) → front c.state.queues ≡ f → t.words ≡ c.state.words
-    of None none = absurd (none-some _ (sym (ap (option_map (task_of c)) none) ∙ job-first c t out))
-    of (Some f) some =
-        let same : task_of c f ≡ t = same_Some (task_of c f) t (sym (ap (option_map (task_of c)) some) ∙ job-first c t out) in
-        sym (ap (λ (x : Task). x.words) same)
+job_words c t out = grind (arith, front, none-some, option_map, job-first, same_Some)
 
 -- ---- the world once the entry has run
 
@@ -174,30 +140,10 @@ module _ (w : World) (h : HandlerId) (s : Site) (t : Task) (found : site_of h w 
       (λ other. refl)
 
   other_block : (b : Block) → same_block t.block b ≡ false → queue_at ran_world h b ≡ queue_at w h b
-  other_block b other =
-      let count =
-      ap (count_of b) ran_here ∙ count_pushed b (ran_at h w) (told_of t) ∙ ap (λ y. count_of b (ran_at h w) + (if y then 1 else 0)) other ∙ omega arith in
-      let over =
-      ap (has_ended b) ran_here ∙ ended_pushed b (ran_at h w) (told_of t) ∙ ap (λ y. has_ended b (ran_at h w) || y && is_end t.entry) other
-      ∙ or-false (has_ended b (ran_at h w)) in
-      λ i. if has (set_of b w) h then queue_of b (record {
-        logged = log_of b h w;
-        count = count i;
-        over = over i;
-        newer = is_succeeded b h w;
-        received = received b h w;
-      }) else []
+  other_block b other = grind (arith, ran_here, count_pushed, ran_at, has_ended, ended_pushed, or-false, received)
 
   other_place : (j : HandlerId) (b : Block) → (j ≡ h → ⊥) → queue_at ran_world j b ≡ queue_at w j b
-  other_place j b apart =
-      let ran = ran_elsewhere j apart in
-      λ i. if has (set_of b w) j then queue_of b (record {
-        logged = log_of b j w;
-        count = count_of b (ran i);
-        over = has_ended b (ran i);
-        newer = is_succeeded b j w;
-        received = received b j w;
-      }) else []
+  other_place j b apart = grind (arith, ran_elsewhere, has_ended, received)
 
   own_block : (f : HasFirst (seen t.block h w) t.entry) → has (set_of t.block w) h ≡ true
       → queue_at ran_world h t.block ≡ rest_of record { block = t.block; entries = t.entry ∷ f.later; state = state_of (seen t.block h w) } t.entry f.later
@@ -225,16 +171,10 @@ module _ (w : World) (h : HandlerId) (s : Site) (t : Task) (found : site_of h w 
     own_slot = around.first.block
 
     looks : seen t.block h w ≡ slot_seen around.slot.ran (t.entry ∷ around.first.later) around.has.seen.more (is_succeeded around.slot.block h w)
-    looks = ap (λ b. seen b h w) (sym own_slot) ∙ around.has.seen.is
-        ∙ ap (λ es. slot_seen around.slot.ran es around.has.seen.more (is_succeeded around.slot.block h w)) around.first.rest
+    looks = grind (arith, own_slot, around)
 
     no_end : has_end around.slot.ran ≡ false
-    no_end =
-        let v = around.slot in
-        let all : v.ran ++ t.entry ∷ (around.first.later ++ around.has.begun.behind) ≡ log_of v.block h w =
-        sym (append_assoc v.ran (t.entry ∷ around.first.later) around.has.begun.behind)
-        ∙ ap (λ es. (v.ran ++ es) ++ around.has.begun.behind) (sym around.first.rest) ∙ around.has.begun.all in
-        none_before v.ran t.entry (around.first.later ++ around.has.begun.behind) (subst EndOnlyLast (sym all) (ready.logs v.block h))
+    no_end = grind (arith, around, append_assoc, none_before)
 
     first : HasFirst (seen t.block h w) t.entry
     first = subst (λ x. HasFirst x t.entry) (sym looks) (first_queue around.slot.ran t.entry around.first.later around.has.seen.more
@@ -247,8 +187,7 @@ module _ (w : World) (h : HandlerId) (s : Site) (t : Task) (found : site_of h w 
     q = record { block = t.block; entries = t.entry ∷ first.later; state = state_of (seen t.block h w) }
 
     own_now : queue_at w h t.block ≡ q ∷ []
-    own_now = λ i. if named i then (if first.there i then []
-        else record { block = t.block; entries = first.entries i; state = state_of (seen t.block h w) } ∷ []) else []
+    own_now = grind (arith, named, first)
 
     stands : w.joint ≡ around.before ++ t.block ∷ around.behind
     stands = around.here ∙ ap (λ b. around.before ++ b ∷ around.behind) own_slot
@@ -260,16 +199,7 @@ module _ (w : World) (h : HandlerId) (s : Site) (t : Task) (found : site_of h w 
     number = ap (λ (x : Seen). x.count + 1) looks ∙ around.first.number
 
     same_ran : next_ran ((objects_of w).class h) ((objects_of w).words h) (ran_at h w) t.block t.entry ≡ told_of t
-    same_ran =
-        let class : (objects_of w).class h ≡ s.core.class = ap (λ o. option_map_or (λ (x : Site). x.core.class) o no_class) found in
-        let placed : (objects_of w).words h ≡ s.placed = ap (λ o. option_map_or (λ (x : Site). x.placed) o []) found in
-        let words : play s.core.class s.placed (entries_of s.ran) ≡ t.words = sym (job_words s.core t out ∙ ready.words h s found) in
-        let told : (λ (x : ClassTable). entry_effect x (play x ((objects_of w).words h) (entries_of (ran_at h w))) t.entry) ((objects_of w).class h)
-        ≡ entry_effect t.class t.words t.entry =
-        (λ i. entry_effect (class i) (play (class i) (placed i) (entries_of (ran_before i))) t.entry)
-        ∙ ap (λ x. entry_effect s.core.class x t.entry) words
-        ∙ ap (λ x. entry_effect x t.words t.entry) (sym (job-class s.core t out)) in
-        λ i. record { block = t.block; number = number i; entry = t.entry; answer = (told i).1 }
+    same_ran = grind (arith, option_map_or, no_class, job_words, ran_at, ran_before, job-class, number)
 
     abbrev later : List Waiting
     later = flat_map (queue_at w h) around.behind
@@ -293,19 +223,15 @@ module _ (w : World) (h : HandlerId) (s : Site) (t : Task) (found : site_of h w 
     queues_after :
         (j : HandlerId) → put_at_handler h (rest_of q t.entry first.later ++ later) (configuration_of w).queues j ≡ flat_map (queue_at ran_world j) w.joint
     queues_after j =
-        by_test (λ y. same_handler j h ≡ y → (if y then rest_of q t.entry first.later ++ later else flat_map (queue_at w j) w.joint)
+        by_test (λ y. (if y then rest_of q t.entry first.later ++ later else flat_map (queue_at w j) w.joint)
         ≡ flat_map (queue_at ran_world j) w.joint) (same_handler j h)
-        (λ _ is. queues_here ∙ ap (λ k. flat_map (queue_at ran_world k) w.joint) (sym (is_here j is)))
-        (λ _ is. sym (queues_same (queue_at ran_world j) (queue_at w j) w.joint (λ b m. other_place j b (is_not_here j is)))) refl
+        (λ is. queues_here ∙ ap (λ k. flat_map (queue_at ran_world k) w.joint) (sym (is_here j is)))
+        (λ is. sym (queues_same (queue_at ran_world j) (queue_at w j) w.joint (λ b m. other_place j b (is_not_here j is))))
 
     ran_after : (j : HandlerId)
         → put_at_handler h (ran_at h w ++ next_ran ((objects_of w).class h) ((objects_of w).words h) (ran_at h w) t.block t.entry ∷ [])
         (configuration_of w).ran j ≡ ran_at j ran_world
-    ran_after j =
-        by_test (λ y. same_handler j h ≡ y → (if y then ran_at h w ++ next_ran ((objects_of w).class h) ((objects_of w).words h)
-        (ran_at h w) t.block t.entry ∷ [] else ran_at j w) ≡ ran_at j ran_world) (same_handler j h)
-        (λ _ is. ap (λ r. ran_at h w ++ r ∷ []) same_ran ∙ sym ran_here ∙ ap (λ k. ran_at k ran_world) (sym (is_here j is)))
-        (λ _ is. sym (ran_elsewhere j (is_not_here j is))) refl
+    ran_after j = grind (arith, ran_at, same_ran, ran_here, is_here, ran_elsewhere, is_not_here)
 
     pub run_follows : MovesLead (objects_of w) (configuration_of w) (RunOne h ∷ []) (configuration_of ran_world)
     run_follows =

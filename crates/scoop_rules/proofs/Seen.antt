@@ -2,15 +2,14 @@
 -- shows: the log, the number of entries that ran, whether its End has run, whether a newer incarnation greeted, and the number of
 -- entries reported as received. A slot gives all five, and so determines that queue.
 use Rattle.scoop_rules.proofs.Names.{◌≡◌, ℕ, ◌+◌, List, [], ◌∷◌, ◌++◌, map, refl, sym, ap, ◌∙◌, arith, append-nil, true, if◌then◌else◌, ◌&&◌, take, false}
-use Rattle.scoop_rules.proofs.Names.{true≢false, ◌||◌, length, Bool, ◌==◌, ◌⊎◌, ⊎_elim, nat_le, append_assoc, not, drop, length-append, IsTrue}
-use Rattle.scoop_rules.proofs.Names.{take-append_seam, nat_tests, AllByRecursion, list_any, EndOnlyLast, is_end, same_block, Block, HandlerId, Entry, is_cut}
-use Rattle.scoop_rules.proofs.Names.{Open, Ended, Cut, by_test, Ran, first_false, untold, numbered, World, ran_at, has_block, log_of, received, is_succeeded}
-use Rattle.scoop_rules.proofs.Names.{has_end, and-false, le-leb, end_only_last, same_block_is, AreApart, IsToldAs, IsBegun, part_of, IsPart, slot_parts}
-use Rattle.scoop_rules.proofs.Names.{length-part, none_ran, Slot, ran_of, blocks_of, count_of, Waiting, is_cut_off, is_gone, kept, queue_of, seen, Seen}
-use Rattle.scoop_rules.proofs.Names.{state_of, has_ended, rest_of}
-use Rattle.std.proofs.Math.Nat.{le_refl}
+use Rattle.scoop_rules.proofs.Names.{true≢false, ◌||◌, length, Bool, ◌==◌, ◌⊎◌, nat_le, append_assoc, not, drop, length-append, IsTrue, take-append_seam}
+use Rattle.scoop_rules.proofs.Names.{nat_tests, AllByRecursion, list_any, EndOnlyLast, is_end, same_block, Block, HandlerId, Entry, is_cut, Open, Ended, Cut}
+use Rattle.scoop_rules.proofs.Names.{by_test, Ran, first_false, untold, numbered, World, ran_at, has_block, log_of, received, is_succeeded, has_end, and-false}
+use Rattle.scoop_rules.proofs.Names.{le-leb, end_only_last, same_block_is, AreApart, IsToldAs, IsBegun, part_of, IsPart, slot_parts, length-part, none_ran}
+use Rattle.scoop_rules.proofs.Names.{Slot, ran_of, blocks_of, count_of, Waiting, is_cut_off, is_gone, kept, queue_of, seen, Seen, state_of, has_ended, rest_of}
 use Rattle.scoop_model.proofs.Names.{both}
-use Rattle.scoop_rules.proofs.Lists.{drop_all, drop_more}
+use Rattle.std.proofs.Math.Seq.{drop-append_seam}
+use Rattle.scoop_rules.proofs.Lists.{drop_more}
 
 -- ---- where an End stands
 
@@ -34,20 +33,15 @@ no_end_left (x ∷ xs) ys e =
 
 pub ended_part : (b : Block) (rs : List Ran) → has_ended b rs ≡ list_any (λ r. is_end r.entry) (part_of rs b)
 ended_part b [] = refl
-ended_part b (r ∷ rs) =
-    by_test (λ t. (t && is_end r.entry || has_ended b rs) ≡ list_any (λ x. is_end x.entry) (if t then r ∷ part_of rs b else part_of rs b))
-    (same_block r.block b)
-    (λ same. ap (λ t. is_end r.entry || t) (ended_part b rs))
-    (λ other. ended_part b rs)
+ended_part b (r ∷ rs) = grind (arith, has_ended, list_any, part_of, (ended_part b rs))
 
 ended_told : (b : Block) (n : ℕ) (rs : List Ran) (es : List Entry) → map untold rs ≡ numbered b n es → list_any (λ r. is_end r.entry) rs ≡ has_end es
 ended_told b n [] [] e = refl
-ended_told b n [] (x ∷ xs) e = absurd (cc)
-ended_told b n (r ∷ rs) [] e = absurd (cc)
 ended_told b n (r ∷ rs) (x ∷ xs) e =
     let head : untold r ≡ (b, n, x) = cc in
     let tail : map untold rs ≡ numbered b (n + 1) xs = cc in
     λ i. is_end (head i).2 || ended_told b (n + 1) rs xs tail i
+ended_told b n rs es e = absurd (cc)
 
 pub count_slot : (rs : List Ran) (t : Slot) → IsPart rs t → count_of t.block rs ≡ length t.ran
 count_slot rs t told = length-part (part_of rs t.block) t told
@@ -67,13 +61,7 @@ pub record IsSeen (w : World) (h : HandlerId) (t : Slot) : Type 0 where
   pub is : seen t.block h w ≡ slot_seen t.ran t.rest more (is_succeeded t.block h w)
 
 seen_slot : (w : World) (h : HandlerId) (t : Slot) → IsPart (ran_at h w) t → IsBegun (λ b. log_of b h w) t → IsToldAs w h t → IsSeen w h t
-seen_slot w h t part begun told =
-    let count = count_slot (ran_at h w) t part in
-    let over = ended_slot (ran_at h w) t part in
-    record {
-      more = begun.behind;
-      is = λ i. record { logged = sym begun.all i; count = count i; over = over i; newer = is_succeeded t.block h w; received = told i };
-    }
+seen_slot w h t part begun told = grind (arith, count_slot, ran_at, ended_slot, received)
 
 pub all_seen : (w : World) (h : HandlerId) (ss : List Slot) → map untold (ran_at h w) ≡ ran_of ss → AreApart (blocks_of ss)
     → AllByRecursion (IsBegun (λ b. log_of b h w)) ss → AllByRecursion (IsToldAs w h) ss → AllByRecursion (IsSeen w h) ss
@@ -88,10 +76,7 @@ all_seen w h ss ran apart begun told = all ss (slot_parts (ran_at h w) ss ran ap
 pub seen_none :
     (w : World) (h : HandlerId) (ss : List Slot) (b : Block) → map untold (ran_at h w) ≡ ran_of ss → has_block (blocks_of ss) b ≡ false → received b h w ≡ 0
     → seen b h w ≡ record { logged = log_of b h w; count = 0; over = false; newer = is_succeeded b h w; received = 0 }
-seen_none w h ss b ran none told =
-    let part : part_of (ran_at h w) b ≡ [] = none_ran (ran_at h w) ss b ran none in
-    let over : has_ended b (ran_at h w) ≡ false = ended_part b (ran_at h w) ∙ ap (list_any (λ r. is_end r.entry)) part in
-    λ i. record { logged = log_of b h w; count = length (part i); over = over i; newer = is_succeeded b h w; received = told i }
+seen_none w h ss b ran none told = grind (arith, part_of, ran_at, none_ran, has_ended, ended_part, list_any, received)
 
 -- ---- the slot of a block
 
@@ -116,32 +101,7 @@ none_queue b log = refl
 -- the private queue is gone
 pub gone_queue : (b : Block) (ran rest more : List Entry) (newer : Bool) → rest ≡ [] → (has_end ran ≡ true) ⊎ (newer ≡ true)
     → queue_of b (slot_seen ran rest more newer) ≡ []
-gone_queue b ran rest more newer none why =
-    ap (λ es. queue_of b (slot_seen ran es more newer)) none
-    ∙ ⊎_elim
-    (λ (e : has_end ran ≡ true). ended newer e)
-    (λ (n : newer ≡ true).
-    ap (λ t. queue_of b (slot_seen ran [] more t)) n
-    ∙ by_test (λ t. has_end ran ≡ t → queue_of b (slot_seen ran [] more true) ≡ []) (has_end ran) (λ _ e. ended true e) (λ _ e. cut e) refl)
-    why
-  where
-    ended : (t : Bool) → has_end ran ≡ true → queue_of b (slot_seen ran [] more t) ≡ []
-    ended t e = ap (λ y. queue_of b (record { logged = (ran ++ []) ++ more; count = length ran; over = y; newer = t; received = length (ran ++ []) })) e
-
-    took : take (length (ran ++ [])) ((ran ++ []) ++ more) ≡ ran
-    took = take-append_seam (ran ++ []) more ∙ append-nil ran
-
-    cut : has_end ran ≡ false → queue_of b (slot_seen ran [] more true) ≡ []
-    cut e =
-        let no_end : has_end (take (length (ran ++ [])) ((ran ++ []) ++ more)) ≡ false = ap has_end took ∙ e in
-        let all : nat_le (length (take (length (ran ++ [])) ((ran ++ []) ++ more))) (length ran) ≡ true =
-        ap (λ es. nat_le (length es) (length ran)) took ∙ le-leb (length ran) (length ran) (le_refl (length ran)) in
-        ap (λ t. if t then [] else record {
-          block = b;
-          entries = drop (length ran) (kept (slot_seen ran [] more true));
-          state = state_of (slot_seen ran [] more true);
-        } ∷ [])
-        (λ i. e i || not (no_end i) && all i)
+gone_queue b ran rest more newer none why = grind (arith, received, take, take-append_seam, append-nil, nat_le, le-leb, kept)
 
 -- the private queue has a first entry
 pub record HasFirst (s : Seen) (x : Entry) : Type 0 where
@@ -153,19 +113,19 @@ pub first_queue : (ran : List Entry) (x : Entry) (es more : List Entry) (newer :
 first_queue ran x es more newer e =
     let s : Seen = slot_seen ran (x ∷ es) more newer in
     let took : take (length (ran ++ x ∷ es)) ((ran ++ x ∷ es) ++ more) ≡ ran ++ x ∷ es = take-append_seam (ran ++ x ∷ es) more in
-    by_test (λ t. is_cut_off s ≡ t → HasFirst s x) (is_cut_off s)
-    (λ _ c. record {
+    by_test (λ _. HasFirst s x) (is_cut_off s)
+    (λ c. record {
       there = (λ i. e i || is_cut_off s && (ap (λ ys. nat_le (length ys) (length ran)) took ∙ longer) i) ∙ and-false (is_cut_off s);
       later = es;
       entries = ap (λ t. drop (length ran) (if t then take (length (ran ++ x ∷ es)) ((ran ++ x ∷ es) ++ more) else (ran ++ x ∷ es) ++ more)) c
-          ∙ ap (drop (length ran)) took ∙ drop_all ran (x ∷ es);
+          ∙ ap (drop (length ran)) took ∙ drop-append_seam ran (x ∷ es);
     })
-    (λ _ c. record {
+    (λ c. record {
       there = (λ i. e i || is_cut_off s && (ap (λ ys. nat_le (length ys) (length ran)) took ∙ longer) i) ∙ and-false (is_cut_off s);
       later = es ++ more;
       entries = ap (λ t. drop (length ran) (if t then take (length (ran ++ x ∷ es)) ((ran ++ x ∷ es) ++ more) else (ran ++ x ∷ es) ++ more)) c
-          ∙ ap (drop (length ran)) (append_assoc ran (x ∷ es) more) ∙ drop_all ran (x ∷ es ++ more);
-    }) refl
+          ∙ ap (drop (length ran)) (append_assoc ran (x ∷ es) more) ∙ drop-append_seam ran (x ∷ es ++ more);
+    })
   where
     longer : nat_le (length (ran ++ x ∷ es)) (length ran) ≡ false
     longer = let l = length-append ran (x ∷ es) in grind (arith, nat_tests)
@@ -182,23 +142,21 @@ ran_queue b s x f =
     (λ i.
     if (over i || is_end x) || is_cut_off s && nat_le (length (take s.received s.logged)) (s.count + 1) then []
     else record { block = b; entries = next.0 i; state = state_of s } ∷ [])
-    ∙ by_test
-    (λ t. is_cut_off s ≡ t
-    → (if is_end x || t && nat_le (length (take s.received s.logged)) (s.count + 1) then []
+    ∙ by_test (λ t. (if is_end x || t && nat_le (length (take s.received s.logged)) (s.count + 1) then []
     else record { block = b; entries = f.later; state = state_of s } ∷ []) ≡ rest_of q x f.later)
     (is_cut_off s)
-    (λ _ c.
+    (λ c.
     let long : length (take s.received s.logged) ≡ s.count + 1 + length f.later =
     ap (λ t. length (if t then take s.received s.logged else s.logged)) (sym c) ∙ next.1 in
     let same : nat_le (length (take s.received s.logged)) (s.count + 1) ≡ (is_cut (state_of s) && length f.later == 0) =
     same_length f.later (length (take s.received s.logged)) (s.count + 1) long
     ∙ sym (ap (λ t. is_cut (if t then Cut else if has_end s.logged then Ended else Open) && length f.later == 0) c) in
     λ i. if is_end x || same i then [] else record { block = b; entries = f.later; state = state_of s } ∷ [])
-    (λ _ c.
+    (λ c.
     let same : false ≡ (is_cut (state_of s) && length f.later == 0) =
     uncut (has_end s.logged) (length f.later == 0)
     ∙ sym (ap (λ t. is_cut (if t then Cut else if has_end s.logged then Ended else Open) && length f.later == 0) c) in
-    λ i. if is_end x || same i then [] else record { block = b; entries = f.later; state = state_of s } ∷ []) refl
+    λ i. if is_end x || same i then [] else record { block = b; entries = f.later; state = state_of s } ∷ [])
   where
     uncut : (t u : Bool) → false ≡ (is_cut (if t then Ended else Open) && u)
     uncut true u = refl

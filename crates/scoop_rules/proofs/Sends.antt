@@ -1,10 +1,9 @@
 -- A world with other sites and messages stands for the same configuration, if the same entries have run and the messages are quiet.
-use Rattle.scoop_rules.proofs.Names.{◌≡◌, ℕ, ◌<◌, List, [], ◌++◌, Some, None, refl, sym, ap, ◌∙◌, subst, arith, append-nil, Option, find, if◌then◌else◌}
-use Rattle.scoop_rules.proofs.Names.{option_to_list, none-some, option_map_or, Message, Answer, Locked, Welcome, Opened, Logged, Busy, Unlocked, Block}
-use Rattle.scoop_rules.proofs.Names.{HandlerId, Hearing, Row, first_greeting, newer_greeting, lock_granted, is_opened, unlock_of_a_block_never_held, is_freed}
-use Rattle.scoop_rules.proofs.Names.{is_answered, is_taken, repeated_greeting, repeated_open, repeated_lock, already_received, Greeted, Ran, has, World, ran_at}
-use Rattle.scoop_rules.proofs.Names.{Site, number_of, is_site, site_of, log_of, set_of, lock_refused, repeated_unlock, Ready, count_of, configuration_of}
-use Rattle.scoop_rules.proofs.Names.{queue_at, queue_of, has_ended}
+use Rattle.scoop_rules.proofs.Names.{◌≡◌, ℕ, ◌<◌, List, [], ◌++◌, Some, refl, sym, subst, arith, append-nil, Option, find, option_to_list, none-some}
+use Rattle.scoop_rules.proofs.Names.{option_map_or, Message, Answer, Locked, Welcome, Opened, Logged, Busy, Unlocked, Block, HandlerId, Hearing, Row}
+use Rattle.scoop_rules.proofs.Names.{first_greeting, newer_greeting, lock_granted, is_opened, unlock_of_a_block_never_held, is_freed, is_answered, is_taken}
+use Rattle.scoop_rules.proofs.Names.{repeated_greeting, repeated_open, repeated_lock, already_received, Greeted, Ran, World, ran_at, Site, number_of, is_site}
+use Rattle.scoop_rules.proofs.Names.{site_of, log_of, lock_refused, repeated_unlock, Ready, count_of, configuration_of, queue_at, queue_of, has_ended}
 use Rattle.scoop_model.proofs.Names.{Mark, mark_of}
 use Rattle.scoop_rules.proofs.Lists.{same_configuration, queues_same}
 use Rattle.scoop_rules.proofs.Messages.{IsQuiet, IsPlain, told_seen, quiet_queue, plain_quiet, welcome_quiet, count_quiet}
@@ -25,20 +24,10 @@ module _ (w : World) (sites : List Site) (o : Option Message) (same_ran : (j : H
   same_told : (h : HandlerId) (b : Block) (rs : List Ran)
       → queue_of b (told_seen h b (log_of b h w) (count_of b rs) (has_ended b rs) (w.sent ++ option_to_list o))
       ≡ queue_of b (told_seen h b (log_of b h w) (count_of b rs) (has_ended b rs) w.sent)
-  same_told h b rs = of o quiet
-    where
-      of : (p : Option Message) → IsQuietIfSome w.sent p
-          → queue_of b (told_seen h b (log_of b h w) (count_of b rs) (has_ended b rs) (w.sent ++ option_to_list p))
-          ≡ queue_of b (told_seen h b (log_of b h w) (count_of b rs) (has_ended b rs) w.sent)
-      of None q = ap (λ ms. queue_of b (told_seen h b (log_of b h w) (count_of b rs) (has_ended b rs) ms)) (append-nil w.sent)
-      of (Some m) q = quiet_queue h b (log_of b h w) (count_of b rs) (has_ended b rs) w.sent m (q m refl)
+  same_told h b rs = grind (arith, has_ended, append-nil, quiet_queue)
 
   pub same_queue : (js : List Block) (h : HandlerId) (b : Block) → queue_at (with_news js) h b ≡ queue_at w h b
-  same_queue js h b =
-      (λ i.
-      if has (set_of b w) h then queue_of b (told_seen h b (log_of b h w) (count_of b (same_ran h i)) (has_ended b (same_ran h i)) (w.sent ++ option_to_list o))
-      else [])
-      ∙ ap (λ qs. if has (set_of b w) h then qs else []) (same_told h b (ran_at h w))
+  same_queue js h b = grind (arith, has_ended, same_told, ran_at)
 
   pub quiet_same : configuration_of w ≡ configuration_of (with_news w.joint)
   quiet_same =

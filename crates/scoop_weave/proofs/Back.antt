@@ -1,16 +1,16 @@
 -- Every world that is reached is that of a weave. An opening world is that of no move. Each event makes the weave one move
 -- longer, or leaves it where a node without handlers restarts. A look-up in the world finds a handler or a client of the
 -- system, and that party makes the move. It hears only what was sent, since the world has taken it from there.
-use Rattle.scoop_weave.proofs.Names.{append-nil, append_assoc, ◌≡◌, ℕ, ◌==◌, true, false, List, [], ◌∷◌, ◌++◌, map, Option, Some, None, refl, sym, ap, ◌∙◌, subst, if◌then◌else◌}
-use Rattle.scoop_weave.proofs.Names.{Ok, list_any, option_map, Block, ClientId, HandlerId, Message, same_handler, same_client, handler_of, client_of}
-use Rattle.scoop_weave.proofs.Names.{is_for_handler, handler_decides, client_decides, has, core_of, hear, Task, ready, job_out, ran_of, ClientState, due, heard}
-use Rattle.scoop_weave.proofs.Names.{Command, Event, World, Site, Party, number_of, is_party, sent_at, site_of, party_of, Placement, Newcomer, opening}
-use Rattle.scoop_weave.proofs.Names.{newest_block, commanded_world, with_sent, heard_world, heard_party, with_party, with_site, begun_site, finished_site}
-use Rattle.scoop_weave.proofs.Names.{restarted_party, reopened, reopened_world, MayOpen, IsReached, by_test, key_found, all_found, clients_know}
-use Rattle.scoop_weave.proofs.Names.{LocalHandler, after_hearing, after_begin, after_finish, leaves, PlacedHandler, System, its_number, id_in}
-use Rattle.scoop_weave.proofs.Names.{placed_in, client_in, with_local, with_placed, with_client, after_reopening, after_step, after_restart, new_system}
-use Rattle.scoop_weave.proofs.Names.{LocalMove, Heard, Began, Finished, NodeReopened, Commanded, Sent, ClientHeard, ClientRestarted, HeardIn, Moves}
-use Rattle.scoop_weave.proofs.Names.{HandlerMoves, AtHandler, IsWeave, sent_by, site_by, party_by, world_by, Weave}
+use Rattle.scoop_weave.proofs.Names.{append-nil, append_assoc, ◌≡◌, ℕ, ◌==◌, true, false, List, [], ◌∷◌, ◌++◌, map, Option, Some, None, refl, sym, ap, ◌∙◌}
+use Rattle.scoop_weave.proofs.Names.{subst, if◌then◌else◌, Ok, list_any, option_map, Block, ClientId, HandlerId, Message, same_handler, same_client, handler_of}
+use Rattle.scoop_weave.proofs.Names.{client_of, is_for_handler, handler_decides, client_decides, has, core_of, hear, Task, ready, job_out, ran_of, ClientState}
+use Rattle.scoop_weave.proofs.Names.{due, heard, Command, Event, World, Site, Party, number_of, is_party, sent_at, site_of, party_of, Placement, Newcomer}
+use Rattle.scoop_weave.proofs.Names.{opening, newest_block, commanded_world, with_sent, heard_world, heard_party, with_party, with_site, begun_site}
+use Rattle.scoop_weave.proofs.Names.{finished_site, restarted_party, reopened, reopened_world, MayOpen, IsReached, by_test, key_found, all_found, clients_know}
+use Rattle.scoop_weave.proofs.Names.{LocalHandler, after_hearing, after_begin, after_finish, leaves, PlacedHandler, System, its_number, id_in, placed_in}
+use Rattle.scoop_weave.proofs.Names.{client_in, with_local, with_placed, with_client, after_reopening, after_step, after_restart, new_system, LocalMove, Heard}
+use Rattle.scoop_weave.proofs.Names.{Began, Finished, NodeReopened, Commanded, Sent, ClientHeard, ClientRestarted, HeardIn, Moves, HandlerMoves, AtHandler}
+use Rattle.scoop_weave.proofs.Names.{IsWeave, sent_by, site_by, party_by, world_by, Weave}
 use Rattle.scoop_model.specs.Reach.{steps}
 use Rattle.scoop_model.proofs.Granting.{sent_in}
 use Rattle.scoop_model.proofs.Events.{Changes, steps_kept}
@@ -168,15 +168,14 @@ module _ (ps : List Placement) (ns : List Newcomer) (opens : MayOpen ps ns) wher
 
     reopens : (n : ℕ) → Woven (reopened_world w n)
     reopens n =
-        by_test (λ t. list_any (λ (s : Site). s.node == n) w.sites ≡ t → Woven (reopened_world w n)) (list_any (λ (s : Site). s.node == n) w.sites)
-        (λ _ e.
+        by_test (λ _. Woven (reopened_world w n)) (list_any (λ (s : Site). s.node == n) w.sites)
+        (λ e.
         let m : LocalMove = NodeReopened n in
         let u : System = record v { handlers = map (after_reopening n) v.handlers } in
         more m u (reopened_world w n) tt
         (record { some = sym (any_through (site_by ms) (λ (s : Site). s.node == n) v.handlers) ∙ e; after = refl })
         (reopened_same ms v n reached))
-        (λ _ e. record { moves = ms; now = v; weave = weave; is = ap (λ ss. let x : World = record w { sites = ss } in x) (none_reopen n w.sites e) })
-        refl
+        (λ e. record { moves = ms; now = v; weave = weave; is = ap (λ ss. let x : World = record w { sites = ss } in x) (none_reopen n w.sites e) })
 
     all : Changes Woven w
     all = record {

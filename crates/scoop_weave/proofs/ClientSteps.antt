@@ -1,9 +1,9 @@
 -- The steps of a driver are moves of its client, and lead it on. A command is one move. A turn is a send to each handler, and
 -- then the message that came is heard. A turn that broke off is its sends up to there. Between two drivers the client restarts.
 -- All these moves name the client, whose number stays, and they are no node's.
-use Rattle.scoop_weave.proofs.Names.{client_decides, arith, ◌≡◌, ℕ, ◌+◌, true, false, ◌||◌, List, [], ◌∷◌, ◌++◌, take, drop, Option, Some, None, refl, sym, ap, ◌∙◌, subst, append-nil}
-use Rattle.scoop_weave.proofs.Names.{append_assoc, AllByRecursion, ClientId, HandlerId, Message, same_handler, same_client, handler_decides, all_append, has}
-use Rattle.scoop_weave.proofs.Names.{ClientState, AllCan, LocalClient, id_in, after_step, after_restart, LocalMove}
+use Rattle.scoop_weave.proofs.Names.{client_decides, arith, ◌≡◌, ℕ, ◌+◌, true, false, ◌||◌, List, [], ◌∷◌, ◌++◌, take, drop, Option, Some, None, refl, sym, ap}
+use Rattle.scoop_weave.proofs.Names.{◌∙◌, subst, append-nil, append_assoc, AllByRecursion, ClientId, HandlerId, Message, same_handler, same_client}
+use Rattle.scoop_weave.proofs.Names.{handler_decides, all_append, has, ClientState, AllCan, LocalClient, id_in, after_step, after_restart, LocalMove}
 use Rattle.scoop_weave.proofs.Names.{ClientRestarted, ClientMoves, ClientRuns, is_by, is_of}
 use Rattle.std.proofs.lemmas.List.{take-append-drop}
 use Rattle.std.proofs.Math.Bool.{or-true}

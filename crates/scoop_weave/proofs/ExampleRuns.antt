@@ -1,11 +1,11 @@
 -- The example is a run. Its events can happen and its steps can be made, as is computed, and so is that each message that is
 -- heard was sent before. Whatever the parties did, turns are an order of it.
-use Rattle.scoop_weave.proofs.Names.{◌≡◌, ℕ, zero, suc, ◌≤◌, ◌==◌, ◌&&◌, Bool, true, false, true≢false, List, [], ◌∷◌, ◌++◌, map, take, drop, length, Option, Some}
-use Rattle.scoop_weave.proofs.Names.{None, is_some, refl, sym, ap, ◌∙◌, subst, arith, inl, inr, if◌then◌else◌, AllByRecursion, option_map_or, and_parts, Message}
-use Rattle.scoop_weave.proofs.Names.{Welcome, Locked, Opened, Unlocked, Logged, message_decides, Task, job_out, ran_of, LocalHandler, after_finish, append-nil, list_any}
-use Rattle.scoop_weave.proofs.Names.{Hear, Begin, Finish, Replays, handler_at, AllCan, LocalMove, Heard, Began, Finished, NodeReopened, Commanded, Sent, NoRepeats}
-use Rattle.scoop_weave.proofs.Names.{ClientHeard, ClientRestarted, HeardIn, sent_in, sent_by, HeardAfterSent, own, party_at, NodeLife, Runs, IsNodeLife, IsClientLife}
-use Rattle.scoop_weave.proofs.Names.{words_in, Placement, Newcomer, new_client, LocalClient, ⊤}
+use Rattle.scoop_weave.proofs.Names.{◌≡◌, ℕ, zero, suc, ◌≤◌, ◌==◌, ◌&&◌, Bool, true, false, true≢false, List, [], ◌∷◌, ◌++◌, map, take, drop, length, Option}
+use Rattle.scoop_weave.proofs.Names.{Some, None, is_some, refl, sym, ap, ◌∙◌, subst, arith, inl, inr, if◌then◌else◌, AllByRecursion, option_map_or, and_parts}
+use Rattle.scoop_weave.proofs.Names.{Message, Welcome, Locked, Opened, Unlocked, Logged, message_decides, Task, job_out, ran_of, LocalHandler, after_finish}
+use Rattle.scoop_weave.proofs.Names.{append-nil, list_any, Hear, Begin, Finish, Replays, handler_at, AllCan, LocalMove, Heard, Began, Finished, NodeReopened}
+use Rattle.scoop_weave.proofs.Names.{Commanded, Sent, NoRepeats, ClientHeard, ClientRestarted, HeardIn, sent_in, sent_by, HeardAfterSent, own, party_at}
+use Rattle.scoop_weave.proofs.Names.{NodeLife, Runs, IsNodeLife, IsClientLife, words_in, Placement, Newcomer, new_client, LocalClient, ⊤}
 use Rattle.std.specs.Prelude.{◌-◌, ◌^◌}
 use Rattle.std.proofs.lemmas.Map.Views.{Contains-from_any}
 use Rattle.std.proofs.lemmas.Grind.{flat_map-append}
@@ -25,8 +25,9 @@ use Rattle.scoop_weave.specs.NodeHistories.{AllOpenFirst}
 use Rattle.scoop_weave.specs.ClientSteps.{driven}
 use Rattle.scoop_weave.specs.Order.{IsOrder}
 use Rattle.scoop_weave.specs.Lives.{ClientLife, placements_of, moves_of_node, moves_of_client}
-use Rattle.scoop_weave.specs.Example.{gone_on, told_at, after_event, reply_to, entries_by, handlers_by, opened_again, reopening_node, restarted, restarting_client}
-use Rattle.scoop_weave.specs.Example.{by_turns, order_of, turns, cells, opening, first_events, next_events, node, first_steps, next_steps, party, order}
+use Rattle.scoop_weave.specs.Example.{gone_on, told_at, after_event, reply_to, entries_by, handlers_by, opened_again, reopening_node, restarted}
+use Rattle.scoop_weave.specs.Example.{restarting_client, by_turns, order_of, turns, cells, opening, first_events, next_events, node, first_steps, next_steps}
+use Rattle.scoop_weave.specs.Example.{party, order}
 use Rattle.scoop_weave.proofs.NodeHistories.{number_itself}
 use Rattle.scoop_weave.proofs.JoinedLives.{number_test}
 
@@ -45,14 +46,13 @@ all_happen hs [] = true
 all_happen hs (e ∷ es) = can_happen e hs && all_happen (after_event e hs) es
 
 moves : (e : Event) (s : LocalHandler) → can_at e s ≡ true → HandlerMoves e (told_at e s) s (gone_on e s)
-moves (Hear m) s can = record { tells = refl; after = refl }
-moves (Begin h) s can = record { tells = refl; after = refl }
 moves (Finish h) s can = out (job_out s.core) refl can
   where
     out : (o : Option Task) → job_out s.core ≡ o → is_some o ≡ true
         → HandlerMoves (Finish h) (option_map_or (λ t. reply.Finished (ran_of t)) o (reply.Began None)) s (option_map_or (λ t. after_finish t s) o s)
     out None here some = absurd (true≢false (sym some))
     out (Some t) here some = record { task = t; out = here; tells = refl; after = refl }
+moves e s can = record { tells = refl; after = refl }
 
 happens : (e : Event) (hs : List LocalHandler) → can_happen e hs ≡ true → Moves e (reply_to e hs) hs (after_event e hs)
 happens e hs can = at (handler_in (handler_at e) hs) refl can

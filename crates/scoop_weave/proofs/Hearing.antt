@@ -2,11 +2,11 @@
 -- case the moves make the event's world, part by part: the handler has the new state, and a block more where one opened. The
 -- reply was sent, and all else stays. In the second case the handler drops the message, so the world stays.
 use Rattle.scoop_weave.proofs.Names.{◌≡◌, true, false, List, [], ◌∷◌, ◌++◌, Some, refl, sym, ap, ◌∙◌, subst, append-nil, Contains, if◌then◌else◌, Ok, and_parts}
-use Rattle.scoop_weave.proofs.Names.{HandlerId, Message, Hello, Welcome, Lock, Locked, Busy, Open, Opened, Unlock, Unlocked, Log, Logged, Answer, same_handler}
-use Rattle.scoop_weave.proofs.Names.{handler_of, client_of, is_for_handler, handler_decides, HandlerState, hear, row, number-row, Take, World, Site, site_of}
-use Rattle.scoop_weave.proofs.Names.{party_of, sent_at, heard_world, place_of, taken, taken_by_handler, taken_by_client, IsReached, by_test, key_found}
-use Rattle.scoop_weave.proofs.Names.{after_hearing, PlacedHandler, System, its_number, placed_in, with_local, with_placed, LocalMove, Heard, AtHandler, sent_by}
-use Rattle.scoop_weave.proofs.Names.{opened_here, opened_by, ran_by, site_with, site_by, world_by, place_in, event_in}
+use Rattle.scoop_weave.proofs.Names.{HandlerId, Message, Hello, Lock, Open, Unlock, Log, same_handler, handler_of, client_of, is_for_handler, handler_decides}
+use Rattle.scoop_weave.proofs.Names.{HandlerState, hear, row, number-row, Take, World, Site, site_of, party_of, sent_at, heard_world, place_of, taken}
+use Rattle.scoop_weave.proofs.Names.{taken_by_handler, taken_by_client, IsReached, by_test, key_found, after_hearing, PlacedHandler, System, its_number}
+use Rattle.scoop_weave.proofs.Names.{placed_in, with_local, with_placed, LocalMove, Heard, AtHandler, sent_by, opened_here, opened_by, ran_by, site_with}
+use Rattle.scoop_weave.proofs.Names.{site_by, world_by, place_in, event_in}
 use Rattle.std.specs.Prelude.{option_to_list}
 use Rattle.scoop_handler.specs.declared.note.Heard.{Heard as Reply}
 use Rattle.scoop_handler.specs.declared.note.Reason.{Reason}
@@ -35,17 +35,11 @@ not_here s h heard e = record { why = WrongHandler; is = ap (λ t. if t then hea
 
 not_meant : (s : HandlerState) (m : Message) → is_for s.number m ≡ false → IsDropped s (hear s m)
 not_meant s (Hello h c inc) e = not_here s h (hear_hello s c inc (mark_of c s.marks)) e
-not_meant s (Welcome h c inc) e = record { why = NotForHandlers; is = refl }
 not_meant s (Lock h b) e = not_here s h (hear_of s b (hear_lock s b)) e
-not_meant s (Locked h b) e = record { why = NotForHandlers; is = refl }
-not_meant s (Busy h b) e = record { why = NotForHandlers; is = refl }
 not_meant s (Open h b) e = not_here s h (hear_of s b (hear_open s b)) e
-not_meant s (Opened h b) e = record { why = NotForHandlers; is = refl }
 not_meant s (Unlock h b) e = not_here s h (hear_of s b (hear_unlock s b)) e
-not_meant s (Unlocked h b) e = record { why = NotForHandlers; is = refl }
 not_meant s (Log h b n es) e = not_here s h (hear_of s b (hear_log s b n es)) e
-not_meant s (Logged h b n) e = record { why = NotForHandlers; is = refl }
-not_meant s (Answer h b n a) e = record { why = NotForHandlers; is = refl }
+not_meant s m e = record { why = NotForHandlers; is = refl }
 
 -- ---- the move
 
@@ -135,10 +129,9 @@ module _ (past : List LocalMove) (v : System) (h : HandlerId) (m : Message) (s :
 
   brings : IsReached w → sent_at (place_in (sent_by past) m) w ≡ Some m → Brings w (event_in (sent_by past) move) (world_by more (with_placed a v))
   brings reached was =
-      by_test (λ t. is_for h m ≡ t → Brings w (if t then Take (place_in (sent_by past) m) ∷ [] else []) (world_by more (with_placed a v))) (is_for h m)
-      (λ _ e. let both = and_parts (is_for_handler m) (same_handler (handler_of m) h) e in takes was both.0 ((handler_decides (handler_of m) h).0 both.1))
-      (λ _ e. passes_over reached e)
-      refl
+      by_test (λ t. Brings w (if t then Take (place_in (sent_by past) m) ∷ [] else []) (world_by more (with_placed a v))) (is_for h m)
+      (λ e. let both = and_parts (is_for_handler m) (same_handler (handler_of m) h) e in takes was both.0 ((handler_decides (handler_of m) h).0 both.1))
+      (λ e. passes_over reached e)
 
 pub hears_brings :
     (past : List LocalMove) (v u : System) (h : HandlerId) (m : Message) (told : Reply) → IsReached (world_by past v) → Contains (sent_by past) m

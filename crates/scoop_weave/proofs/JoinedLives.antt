@@ -6,9 +6,8 @@ use Rattle.scoop_weave.proofs.Names.{length, slice_get, Some, refl, sym, ap, ◌
 use Rattle.scoop_weave.proofs.Names.{option_map, Decides, Decides-eqb, map-map, ClientId, HandlerId, same_handler, same_client, handler_decides, client_decides}
 use Rattle.scoop_weave.proofs.Names.{has, HandlerState, core_of, LocalHandler, local_handler, opening_handler, Placement, Newcomer, MayOpen, NoRepeats, by_test}
 use Rattle.scoop_weave.proofs.Names.{key_found, all_more_of, PlacedHandler, IsStored, its_number, id_in, is_placed, new_placed, new_client, LocalMove}
-use Rattle.scoop_weave.proofs.Names.{ClientRuns, EachClient, IsMember, is_by}
-use Rattle.scoop_weave.proofs.Names.{moves_by, has_handler, has_node, has_client, Node, NodeRuns, IsNode, IsWovenOfNodes, is_of, IsWorld, local_of, own}
-use Rattle.scoop_weave.proofs.Names.{party_at, NodeLife, Runs, IsNodeLife, IsClientLife, words_in}
+use Rattle.scoop_weave.proofs.Names.{ClientRuns, EachClient, IsMember, is_by, moves_by, has_handler, has_node, has_client, Node, NodeRuns, IsNode}
+use Rattle.scoop_weave.proofs.Names.{IsWovenOfNodes, is_of, IsWorld, local_of, own, party_at, NodeLife, Runs, IsNodeLife, IsClientLife, words_in}
 use Rattle.std.proofs.lemmas.Bool.{false_from_ne_true}
 use Rattle.std.specs.Prelude.{◌⊎◌, unwrap_or}
 use Rattle.std.proofs.lemmas.List.{map-append}
@@ -116,13 +115,12 @@ module _ (nodes : List NodeLife) (clients : List ClientLife) (opens : MayOpen (p
   open_placed : (n : ℕ) (qs : List Placement) (hs : List LocalHandler) → AllByRecursion (λ (p : Placement). p.node ≡ n) qs → AllOpenFirst qs hs
       → AllByRecursion IsFoundPlaced qs → map (local_of (words_in ps) n) hs ≡ map new_placed qs
   open_placed n [] [] stand first found = refl
-  open_placed n [] (s ∷ hs) stand first found = absurd first
-  open_placed n (p ∷ qs) [] stand first found = absurd first
   open_placed n (p ∷ qs) (s ∷ hs) stand first found =
       let words : words_in ps p.handler ≡ p.words = ap (λ o. unwrap_or (option_map (λ (q : Placement). q.words) o) []) found.0 in
       let one : local_of (words_in ps) n s ≡ new_placed p = ap (local_of (words_in ps) n) first.0.opens
       ∙ opens_as n p s.stored first.0.stored words stand.0 in
       ap (λ x. x ∷ map (local_of (words_in ps) n) hs) one ∙ ap (λ ss. new_placed p ∷ ss) (open_placed n qs hs stand.1 first.1 found.1)
+  open_placed n xs ys stand first found = absurd first
 
   all_open : (xs : List NodeLife) → AllByRecursion Stand xs → AllByRecursion IsFoundPlaced (flat_map (λ (n : NodeLife). n.placed) xs)
       → openings xs ≡ map new_placed (flat_map (λ (n : NodeLife). n.placed) xs)
@@ -265,16 +263,15 @@ module _ (nodes : List NodeLife) (clients : List ClientLife) (opens : MayOpen (p
     nodes_test : (i j : ℕ) (n k : NodeLife) (m : LocalMove) → slice_get nodes i ≡ Some n → slice_get nodes j ≡ Some k → is_of k.number (names k) m ≡ true
         → is_of n.number (names n) m ≡ (j == i)
     nodes_test i j n k m e f own =
-        by_test (λ t. (j == i) ≡ t → is_of n.number (names n) m ≡ t) (j == i)
-        (λ _ here.
+        by_test (λ t. is_of n.number (names n) m ≡ t) (j == i)
+        (λ here.
         let place : j ≡ i = (Decides-eqb j i).0 here in
         let both : Some k ≡ Some n = sym f ∙ (ap (slice_get nodes) place ∙ e) in
         let one : k ≡ n = cc in
         subst (λ (x : NodeLife). is_of x.number (names x) m ≡ true) one own)
-        (λ _ there.
+        (λ there.
         not_its n k m (all_at Facts nodes i n e each_node) (all_at Facts nodes j k f each_node)
         (λ same. true≢false (sym ((Decides-eqb j i).1 (same_place i j n k e f same)) ∙ there)) own)
-        refl
 
     apart_places : (i j k : ℕ) (n : NodeLife) → slice_get nodes i ≡ Some n → j ≡ length nodes + k → j ≡ i → ⊥
     apart_places i j k n e f same = let h = slice_get_within nodes i n e in omega (arith, h)
@@ -297,23 +294,21 @@ module _ (nodes : List NodeLife) (clients : List ClientLife) (opens : MayOpen (p
         let ids_at : (i : ℕ) (x : ClientLife) → slice_get clients i ≡ Some x → slice_get (map (λ (n : Newcomer). n.id) ns) i ≡ Some (id x) =
         λ i x g. mapped (λ (n : Newcomer). n.id) ns i x.joined (mapped (λ (x : ClientLife). x.joined) clients i x g) in
         is_its (id d) (id c) m own
-        ∙ by_test (λ t. (l == k) ≡ t → same_client (id d) (id c) ≡ t) (l == k)
-        (λ _ here.
+        ∙ by_test (λ t. same_client (id d) (id c) ≡ t) (l == k)
+        (λ here.
         let place : l ≡ k = (Decides-eqb l k).0 here in
         let both : Some d ≡ Some c = sym f ∙ (ap (slice_get clients) place ∙ e) in
         let one : d ≡ c = cc in
         (client_decides (id d) (id c)).1 (ap id one))
-        (λ _ there.
+        (λ there.
         Lists.apart same_client client_decides (id d) (id c)
         (λ same. true≢false (sym ((Decides-eqb l k).1 (opens.clients_apart l k (id c) (ids_at l d f ∙ ap Some same) (ids_at k c e))) ∙ there)))
-        refl
 
     shifted : (a l k : ℕ) → (l == k) ≡ (a + l == a + k)
     shifted a l k =
-        by_test (λ t. (l == k) ≡ t → t ≡ (a + l == a + k)) (l == k)
-        (λ _ e. let same : l ≡ k = (Decides-eqb l k).0 e in sym ((Decides-eqb (a + l) (a + k)).1 (ap (λ x. a + x) same)))
-        (λ _ e. sym (number_test (a + l) (a + k) (λ f. true≢false (sym ((Decides-eqb l k).1 (omega arith)) ∙ e))))
-        refl
+        by_test (λ t. t ≡ (a + l == a + k)) (l == k)
+        (λ e. let same : l ≡ k = (Decides-eqb l k).0 e in sym ((Decides-eqb (a + l) (a + k)).1 (ap (λ x. a + x) same)))
+        (λ e. sym (number_test (a + l) (a + k) (λ f. true≢false (sym ((Decides-eqb l k).1 (omega arith)) ∙ e))))
 
     client_filtered : (k : ℕ) (c : ClientLife) → slice_get clients k ≡ Some c → moves_by (id_in (newly ps c)) moves ≡ moves_of_client ps c
     client_filtered k c e =

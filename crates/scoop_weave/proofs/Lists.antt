@@ -1,6 +1,6 @@
 -- Look-ups by a key in a list that is seen through a function, and lists in which no key stands twice.
-use Rattle.scoop_weave.proofs.Names.{⊤, ◌≡◌, ℕ, suc, Bool, true, false, true≢false, List, [], ◌∷◌, ◌++◌, map, find, flat_map, slice_get, Some, refl, sym, ap, ◌∙◌}
-use Rattle.scoop_weave.proofs.Names.{subst, append-nil, if◌then◌else◌, ◌||◌, list_any, AllByRecursion, option_map, Decides, NoRepeats, by_test, key_found}
+use Rattle.scoop_weave.proofs.Names.{⊤, ◌≡◌, ℕ, suc, Bool, true, false, true≢false, List, [], ◌∷◌, ◌++◌, map, find, flat_map, slice_get, Some, refl, sym, ap}
+use Rattle.scoop_weave.proofs.Names.{◌∙◌, subst, append-nil, if◌then◌else◌, ◌||◌, list_any, AllByRecursion, option_map, Decides, NoRepeats, by_test, key_found}
 use Rattle.std.specs.List.{AllZip}
 use Rattle.std.proofs.lemmas.Bool.{false_from_ne_true}
 use Rattle.std.proofs.lemmas.Grind.{flat_map-append}
@@ -43,9 +43,9 @@ module _ {A B K : Type 0} (key : B → K) (same : K → K → Bool) where
   set_through f g t a [] is others = refl
   set_through f g t a (x ∷ xs) is others =
       ap (λ b. b ∷ map (λ b. if same (key b) (key t) then t else b) (map f xs))
-      (by_test (λ u. same (key (f x)) (key t) ≡ u → (if u then t else f x) ≡ g (if u then a else x)) (same (key (f x)) (key t))
-      (λ here e. is)
-      (λ there e. others x e) refl)
+      (by_test (λ u. (if u then t else f x) ≡ g (if u then a else x)) (same (key (f x)) (key t))
+      (λ e. is)
+      (λ e. others x e))
       ∙ ap (λ bs. g (if same (key (f x)) (key t) then a else x) ∷ bs) (set_through f g t a xs is others)
 
 module _ {B K : Type 0} (key : B → K) (same : K → K → Bool) where
@@ -72,21 +72,18 @@ map_through f g (x ∷ xs) is = ap (λ b. b ∷ map f xs) (is x) ∙ ap (λ bs. 
 module _ {A : Type 0} (R : A → A → Type 0) where
   pub zip_same : {B : Type 0} (f : A → B) → ((x y : A) → R x y → f y ≡ f x) → (xs ys : List A) → AllZip R xs ys → map f ys ≡ map f xs
   zip_same f is [] [] all = refl
-  zip_same f is [] (y ∷ ys) all = absurd all
-  zip_same f is (x ∷ xs) [] all = absurd all
   zip_same f is (x ∷ xs) (y ∷ ys) all = ap (λ b. b ∷ map f ys) (is x y all.0) ∙ ap (λ bs. f x ∷ bs) (zip_same f is xs ys all.1)
+  zip_same f is xs ys all = absurd all
 
   pub zip_all : (P Q : A → Type 0) → ((x y : A) → P x → R x y → Q y) → (xs ys : List A) → AllByRecursion P xs → AllZip R xs ys → AllByRecursion Q ys
   zip_all P Q is [] [] each all = tt
-  zip_all P Q is [] (y ∷ ys) each all = absurd all
-  zip_all P Q is (x ∷ xs) [] each all = absurd all
   zip_all P Q is (x ∷ xs) (y ∷ ys) each all = (is x y each.0 all.0, zip_all P Q is xs ys each.1 all.1)
+  zip_all P Q is xs ys each all = absurd all
 
 pub zip_more : {A B : Type 0} {R S : A → B → Type 0} → ((x : A) (y : B) → R x y → S x y) → (xs : List A) (ys : List B) → AllZip R xs ys → AllZip S xs ys
 zip_more more [] [] all = tt
-zip_more more [] (y ∷ ys) all = absurd all
-zip_more more (x ∷ xs) [] all = absurd all
 zip_more more (x ∷ xs) (y ∷ ys) all = (more x y all.0, zip_more more xs ys all.1)
+zip_more more xs ys all = absurd all
 
 pub all_of_any : {A : Type 0} (xs : List A) → AllByRecursion (λ (x : A). ⊤) xs
 all_of_any [] = tt
@@ -114,17 +111,16 @@ module _ {A K : Type 0} (key : A → K) (same : K → K → Bool) (decides : (a 
       → map (λ x. if same (key x) (key s) then s else x) xs ≡ xs
   put_itself k [] s once found = refl
   put_itself k (x ∷ xs) s once found =
-      by_test (λ t. same (key x) k ≡ t → (if t then Some x else find (λ a. same (key a) k) xs) ≡ Some s
+      by_test (λ t. (if t then Some x else find (λ a. same (key a) k) xs) ≡ Some s
       → map (λ x. if same (key x) (key s) then s else x) (x ∷ xs) ≡ x ∷ xs) (same (key x) k)
-      (λ _ here is.
+      (λ here is.
       let own : x ≡ s = cc in
       subst (λ s. map (λ x. if same (key x) (key s) then s else x) (x ∷ xs) ≡ x ∷ xs) own
       (ap (λ t. (if t then x else x) ∷ map (λ y. if same (key y) (key x) then x else y) xs) (itself same decides (key x))
       ∙ ap (λ ys. x ∷ ys) (untouched x xs (none_later x xs once))))
-      (λ _ there is.
+      (λ there is.
       let later = put_itself k xs s (rest_once x xs once) is in
       let found_key : key s ≡ k = key_found key same decides k xs s is in
       let not_here : same (key x) (key s) ≡ false = subst (λ j. same (key x) j ≡ false) (sym found_key) there in
       ap (λ t. (if t then s else x) ∷ map (λ x. if same (key x) (key s) then s else x) xs) not_here
-      ∙ ap (λ ys. x ∷ ys) later)
-      refl found
+      ∙ ap (λ ys. x ∷ ys) later) found

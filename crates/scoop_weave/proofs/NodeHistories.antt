@@ -4,8 +4,8 @@
 use Rattle.scoop_weave.proofs.Names.{arith, ◌≡◌, ℕ, ◌==◌, true, false, List, [], ◌∷◌, map, Option, Some, refl, sym, ap, ◌∙◌, subst, if◌then◌else◌}
 use Rattle.scoop_weave.proofs.Names.{AllByRecursion, option_map, Decides-eqb, Block, HandlerId, Message, same_handler, has, Ran, HandlerState, core_of, hear}
 use Rattle.scoop_weave.proofs.Names.{row, number-row, NoRepeats, Hear, Begin, Finish, Replays, handler_at, LocalHandler, local_handler, opening_state}
-use Rattle.scoop_weave.proofs.Names.{opening_handler, PlacedHandler, IsStored, its_number, stored_in, with_local, after_reopening, LocalMove}
-use Rattle.scoop_weave.proofs.Names.{NodeReopened, Goes, HandlerMoves, AtOne, NodeMoves, NodeRuns, is_of, local_of, all_append}
+use Rattle.scoop_weave.proofs.Names.{opening_handler, PlacedHandler, IsStored, its_number, stored_in, with_local, after_reopening, LocalMove, NodeReopened}
+use Rattle.scoop_weave.proofs.Names.{Goes, HandlerMoves, AtOne, NodeMoves, NodeRuns, is_of, local_of, all_append}
 use Rattle.scoop_handler.specs.declared.note.Heard.{Heard as Told}
 use Rattle.scoop_book.specs.declared.event.Event.{Event}
 use Rattle.scoop_book.specs.declared.event.Reply.{Reply}
@@ -64,14 +64,9 @@ module _ (words : HandlerId → List ℕ) (n : ℕ) where
 
   node_moves : (e : Event) (r : Reply) (hs ks : List LocalHandler) → book.Moves e r hs ks → NodeMoves (move_of e r) (all hs) (all ks)
   node_moves (Hear m) (reply.Heard told) hs ks x = at_one (Hear m) (reply.Heard told) hs ks x (hears m told x.handler x.new x.moves)
-  node_moves (Hear m) (reply.Began told) hs ks x = absurd x.moves
-  node_moves (Hear m) (reply.Finished ran) hs ks x = absurd x.moves
-  node_moves (Begin h) (reply.Heard told) hs ks x = absurd x.moves
   node_moves (Begin h) (reply.Began told) hs ks x = at_one (Begin h) (reply.Began told) hs ks x (begins told x.handler x.new x.moves)
-  node_moves (Begin h) (reply.Finished ran) hs ks x = absurd x.moves
-  node_moves (Finish h) (reply.Heard told) hs ks x = absurd x.moves
-  node_moves (Finish h) (reply.Began told) hs ks x = absurd x.moves
   node_moves (Finish h) (reply.Finished ran) hs ks x = at_one (Finish h) (reply.Finished ran) hs ks x (finishes ran x.handler x.new x.moves)
+  node_moves e r hs ks x = absurd x.moves
 
   is_here : (e : Event) (r : Reply) (hs ks : List LocalHandler) → book.Moves e r hs ks → has (numbers (all hs)) (handler_at e) ≡ true
   is_here e r hs ks x =

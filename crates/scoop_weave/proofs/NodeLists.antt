@@ -1,12 +1,12 @@
 -- A node's own list leads each of its handlers by that handler's own moves. No number stands twice, so a move of the list is
 -- that of one handler, or of all where the node restarts, and the other handlers stay. A move outside the list concerns none of
 -- them. The same holds of every node, and so of all handlers together.
-use Rattle.scoop_weave.proofs.Names.{◌≡◌, ℕ, zero, suc, ◌==◌, Bool, true, false, List, [], ◌∷◌, ◌++◌, map, find, filter, flat_map, slice_get, Some, refl}
-use Rattle.scoop_weave.proofs.Names.{sym, ap, ◌∙◌, subst, if◌then◌else◌, AllByRecursion, map-map, HandlerId, same_handler, handler_decides, has}
-use Rattle.scoop_weave.proofs.Names.{opening_handler, Placement, Newcomer, MayOpen, NoRepeats, by_test, key_found, PlacedHandler, System, IsStored, its_number}
-use Rattle.scoop_weave.proofs.Names.{is_placed, newer_placed, with_local, on_node, after_reopening, new_placed, new_system, LocalMove, Heard, Began, Finished}
-use Rattle.scoop_weave.proofs.Names.{NodeReopened, Commanded, Sent, ClientHeard, ClientRestarted, HandlerMoves, is_at, moves_at, HandlerRuns, EachHandler}
-use Rattle.scoop_weave.proofs.Names.{IsWoven, AtOne, NodeMoves, NodeRuns, is_of, Node, IsNode, IsWovenOfNodes}
+use Rattle.scoop_weave.proofs.Names.{◌≡◌, ℕ, zero, suc, ◌==◌, Bool, true, false, List, [], ◌∷◌, ◌++◌, map, find, filter, flat_map, slice_get, Some, refl, sym}
+use Rattle.scoop_weave.proofs.Names.{ap, ◌∙◌, subst, if◌then◌else◌, AllByRecursion, map-map, HandlerId, same_handler, handler_decides, has, opening_handler}
+use Rattle.scoop_weave.proofs.Names.{Placement, Newcomer, MayOpen, NoRepeats, by_test, key_found, PlacedHandler, System, IsStored, its_number, is_placed}
+use Rattle.scoop_weave.proofs.Names.{newer_placed, with_local, on_node, after_reopening, new_placed, new_system, LocalMove, Heard, Began, Finished}
+use Rattle.scoop_weave.proofs.Names.{NodeReopened, HandlerMoves, is_at, moves_at, HandlerRuns, EachHandler, IsWoven, AtOne, NodeMoves, NodeRuns, is_of, Node}
+use Rattle.scoop_weave.proofs.Names.{IsNode, IsWovenOfNodes}
 use Rattle.scoop_handler.proofs.Basics.{all_found}
 use Rattle.std.specs.List.{AllZip}
 use Rattle.std.proofs.lemmas.Bool.{or_parts}
@@ -76,18 +76,17 @@ module _ (m : LocalMove) where
     one_goes : (xs : List PlacedHandler) → AllStored xs → NoRepeats (numbers xs) → find (is_placed h) xs ≡ Some s → EachKept m xs (map (newer_placed new) xs)
     one_goes [] is once found = tt
     one_goes (x ∷ xs) is once found =
-        by_test (λ t. same_handler (its_number x) h ≡ t → (if t then Some x else find (is_placed h) xs) ≡ Some s
+        by_test (λ t. (if t then Some x else find (is_placed h) xs) ≡ Some s
         → EachKept m (x ∷ xs) (map (newer_placed new) (x ∷ xs))) (same_handler (its_number x) h)
-        (λ _ here e.
+        (λ here e.
         let this : x ≡ s = cc in
         let one = subst (λ y. GoesOn m y (newer_placed new y))
         (sym this) goes_here in
         let x_name : its_number x ≡ h = (handler_decides (its_number x) h).0 here in
         (one, none_goes xs is.1 (λ j f. none_later its_number same_handler handler_decides x xs once j (f ∙ ap Some (sym x_name)))))
-        (λ _ there e.
+        (λ there e.
         let one = stays_here x (from_false same_handler handler_decides (its_number x) h there) is.0 in
-        (one, one_goes xs is.1 (rest_once its_number same_handler handler_decides x xs once) e))
-        refl found
+        (one, one_goes xs is.1 (rest_once its_number same_handler handler_decides x xs once) e)) found
 
   at_one : (h : HandlerId) → ((x : PlacedHandler) → is_at (its_number x) x.node m ≡ same_handler h (its_number x)) → (hs ks : List PlacedHandler) → AllStored hs
       → NoRepeats (numbers hs) → AtOne h m hs ks → EachKept m hs ks
@@ -103,9 +102,9 @@ reopens n (x ∷ xs) is =
     let m : LocalMove = NodeReopened n in
     let anew : PlacedHandler = with_local (opening_handler (its_number x) x.local.core.class x.placed x.local.stored) x in
     let step : StepAt (HandlerMoves m) x (on_node n x) (after_reopening n x) =
-    by_test (λ t. on_node n x ≡ t → StepAt (HandlerMoves m) x t (if t then anew else x)) (on_node n x)
-    (λ _ e. goes anew (ap (λ t. if t then anew else x) (sym e)))
-    (λ _ e. stays) refl in
+    by_test (λ t. StepAt (HandlerMoves m) x t (if t then anew else x)) (on_node n x)
+    (λ e. goes anew (ap (λ t. if t then anew else x) (sym e)))
+    (λ e. stays) in
     ((step, handler_kept m x (after_reopening n x) is.0 refl), reopens n xs is.1)
 
 pub node_step : (m : LocalMove) (hs us : List PlacedHandler) → AllStored hs → NoRepeats (numbers hs) → NodeMoves m hs us → EachKept m hs us
@@ -113,10 +112,7 @@ node_step (Heard h x told) hs us is once r = at_one (Heard h x told) h (λ s. re
 node_step (Began h told) hs us is once r = at_one (Began h told) h (λ s. refl) hs us is once r
 node_step (Finished h ran) hs us is once r = at_one (Finished h ran) h (λ s. refl) hs us is once r
 node_step (NodeReopened n) hs us is once r = subst (EachKept (NodeReopened n) hs) (sym r) (reopens n hs is)
-node_step (Commanded c x b) hs us is once r = absurd r
-node_step (Sent c h m) hs us is once r = absurd r
-node_step (ClientHeard c m note) hs us is once r = absurd r
-node_step (ClientRestarted c) hs us is once r = absurd r
+node_step m hs us is once r = absurd r
 
 -- ---- a move of another party
 
@@ -140,10 +136,7 @@ not_of n (Heard h x told) xs e stand = not_any h xs e
 not_of n (Began h told) xs e stand = not_any h xs e
 not_of n (Finished h ran) xs e stand = not_any h xs e
 not_of n (NodeReopened k) xs e stand = elsewhere n k xs e stand
-not_of n (Commanded c x b) xs e stand = all_false xs
-not_of n (Sent c h m) xs e stand = all_false xs
-not_of n (ClientHeard c m note) xs e stand = all_false xs
-not_of n (ClientRestarted c) xs e stand = all_false xs
+not_of n m xs e stand = all_false xs
 
 -- ---- move after move
 
@@ -154,10 +147,8 @@ one_before m x u k part false stays rest = rest
 
 before : (m : LocalMove) (ms : List LocalMove) (hs us ks : List PlacedHandler) → EachKept m hs us → EachHandler ms us ks → EachHandler (m ∷ ms) hs ks
 before m ms [] [] [] steps each = tt
-before m ms [] [] (k ∷ ks) steps each = absurd each
 before m ms [] (u ∷ us) ks steps each = absurd steps
 before m ms (x ∷ xs) [] ks steps each = absurd steps
-before m ms (x ∷ xs) (u ∷ us) [] steps each = absurd each
 before m ms (x ∷ xs) (u ∷ us) (k ∷ ks) steps each =
     let number = steps.0.1.number in
     let node = steps.0.1.node in
@@ -166,6 +157,7 @@ before m ms (x ∷ xs) (u ∷ us) (k ∷ ks) steps each =
           (subst (λ xs. HandlerRuns u xs k) part each.0),
       before m ms xs us ks steps.1 each.1,
     )
+before m ms xs ys zs steps each = absurd each
 
 pub kept_numbers : (m : LocalMove) (hs us : List PlacedHandler) → EachKept m hs us → numbers us ≡ numbers hs
 kept_numbers m hs us steps = zip_same (GoesOn m) its_number (λ x u s. s.1.number) hs us steps
@@ -183,9 +175,9 @@ node_each :
     → NodeRuns hs (filter (is_of n (numbers hs)) ms) ks → EachHandler ms hs ks
 node_each n ks [] hs is once stand = λ same. subst (EachHandler [] hs) same (none_runs hs)
 node_each n ks (m ∷ ms) hs is once stand =
-    by_test (λ b. is_of n (numbers hs) m ≡ b → NodeRuns hs (if b then m ∷ filter (is_of n (numbers hs)) ms else filter (is_of n (numbers hs)) ms) ks
+    by_test (λ b. NodeRuns hs (if b then m ∷ filter (is_of n (numbers hs)) ms else filter (is_of n (numbers hs)) ms) ks
     → EachHandler (m ∷ ms) hs ks) (is_of n (numbers hs) m)
-    (λ _ e r.
+    (λ e r.
     let us = r.0 in
     let steps = node_step m hs us is once r.1 in
     let named = kept_numbers m hs us steps in
@@ -193,16 +185,14 @@ node_each n ks (m ∷ ms) hs is once stand =
     (node_each n ks ms us (kept_stored m hs us is steps) (subst NoRepeats (sym named) once)
     (zip_all (GoesOn m) (λ s. s.node ≡ n) (λ s. s.node ≡ n) (λ x u at s. s.1.node ∙ at) hs us stand steps)
     (subst (λ ns. NodeRuns us (filter (is_of n ns) ms) ks) (sym named) r.2)))
-    (λ _ e r. before m ms hs hs ks (all_rest m hs is (not_of n m hs e stand)) (node_each n ks ms hs is once stand r))
-    refl
+    (λ e r. before m ms hs hs ks (all_rest m hs is (not_of n m hs e stand)) (node_each n ks ms hs is once stand r))
 
 -- ---- all nodes
 
 both_each : (ms : List LocalMove) (hs ks gs ls : List PlacedHandler) → EachHandler ms hs ks → EachHandler ms gs ls → EachHandler ms (hs ++ gs) (ks ++ ls)
 both_each ms [] [] gs ls a b = b
-both_each ms [] (k ∷ ks) gs ls a b = absurd a
-both_each ms (h ∷ hs) [] gs ls a b = absurd a
 both_each ms (h ∷ hs) (k ∷ ks) gs ls a b = (a.0, both_each ms hs ks gs ls a.1 b)
+both_each ms xs ys gs ls a b = absurd a
 
 in_front : (hs gs : List PlacedHandler) (i : ℕ) (h : HandlerId) → slice_get (numbers hs) i ≡ Some h → slice_get (numbers (hs ++ gs)) i ≡ Some h
 in_front [] gs i h e = absurd (cc)

@@ -2,12 +2,11 @@
 -- an answer for the block that the message names, so the move itself shows which answer was accepted. A message of another
 -- client, or of its block, changes nothing.
 use Rattle.scoop_weave.proofs.Names.{◌≡◌, ℕ, ◌==◌, false, ◌&&◌, List, [], ◌∷◌, ◌++◌, Option, Some, None, refl, sym, ap, ◌∙◌, subst, Contains, if◌then◌else◌, Ok}
-use Rattle.scoop_weave.proofs.Names.{and_parts, Block, ClientId, HandlerId, Message, Hello, Welcome, Lock, Locked, Busy, Open, Opened, Unlock, Unlocked, Log}
-use Rattle.scoop_weave.proofs.Names.{Logged, Answer, same_client, handler_of, client_of, is_for_handler, client_decides, ClientState, heard, heard_row, Take}
-use Rattle.scoop_weave.proofs.Names.{World, Accepted, is_party, site_of, party_of, sent_at, newest_block, heard_party, with_party, taken, taken_by_handler}
-use Rattle.scoop_weave.proofs.Names.{taken_by_client, Run, IsReached, by_test, key_found, all_found, onward_heard, LocalClient, System, id_in, client_in}
-use Rattle.scoop_weave.proofs.Names.{with_client, after_step, LocalMove, ClientHeard, AtClient, sent_by, accepted_here, accepted_by, party_with, party_by}
-use Rattle.scoop_weave.proofs.Names.{world_by, place_in, event_in}
+use Rattle.scoop_weave.proofs.Names.{and_parts, Block, ClientId, HandlerId, Message, Welcome, Locked, Busy, Opened, Unlocked, Logged, Answer, same_client}
+use Rattle.scoop_weave.proofs.Names.{handler_of, client_of, is_for_handler, client_decides, ClientState, heard, heard_row, Take, World, Accepted, is_party}
+use Rattle.scoop_weave.proofs.Names.{site_of, party_of, sent_at, newest_block, heard_party, with_party, taken, taken_by_handler, taken_by_client, IsReached}
+use Rattle.scoop_weave.proofs.Names.{by_test, key_found, all_found, onward_heard, LocalClient, System, id_in, client_in, with_client, after_step, LocalMove}
+use Rattle.scoop_weave.proofs.Names.{ClientHeard, AtClient, sent_by, accepted_here, accepted_by, party_with, party_by, world_by, place_in, event_in}
 use Rattle.std.proofs.Common.{not}
 use Rattle.std.proofs.lemmas.Bool.{not-true}
 use Rattle.scoop_message.specs.Message.{same_block}
@@ -18,10 +17,10 @@ use Rattle.scoop_client.specs.declared.phase.ClientNote.TheVariants.{Ignored}
 use Rattle.scoop_client.specs.Window.{window_of}
 use Rattle.scoop_client.specs.Hearing.{Notice, ignored, hear_welcome, after_step as after_reserving, hear_step, hear_logged, hear_answer, hear_count}
 use Rattle.scoop_client.specs.Hearing.{hear_answer_to, up_to}
-use Rattle.scoop_client.specs.Rows.{HeardRow, passed_over, is_welcomed, takes_step, is_acknowledged, is_accepted}
+use Rattle.scoop_client.specs.Rows.{HeardRow, takes_step, is_accepted}
 use Rattle.scoop_model.specs.Step.{newly_accepted}
 use Rattle.scoop_model.proofs.Logging.Facts.{PartyLogs}
-use Rattle.scoop_model.proofs.Logging.Runs.{Told, always_told}
+use Rattle.scoop_model.proofs.Ready.Runs.{reached_facts}
 use Rattle.scoop_weave.specs.Histories.{block_in, is_to}
 use Rattle.scoop_reserve.specs.declared.stage.Step.TheVariants as step
 use Rattle.scoop_reserve.specs.Hearing as reservation
@@ -67,43 +66,34 @@ module _ (c : ClientState) (newest : HasNewest c) where
       ap (λ t. if t && reservation.is_open r then hear_answer_to c h n a c.waits else ignored c) (other_block b r held e)
 
   not_meant : (m : Message) → is_to c.id m ≡ false → heard c m ≡ ignored c
-  not_meant (Hello h x inc) e = refl
   not_meant (Welcome h x inc) e = ap (λ t. if t && inc == c.inc then hear_welcome c h else ignored c) e
-  not_meant (Lock h b) e = refl
   not_meant (Locked h b) e = step_over (Locked h b) b (λ r. reservation.hear_locked r h r.stage) c.reservation (λ r. refl) refl e
   not_meant (Busy h b) e = step_over (Busy h b) b (λ r. reservation.hear_busy r h r.stage) c.reservation (λ r. refl) refl e
-  not_meant (Open h b) e = refl
   not_meant (Opened h b) e = step_over (Opened h b) b (λ r. reservation.hear_opened r h r.stage) c.reservation (λ r. refl) refl e
-  not_meant (Unlock h b) e = refl
   not_meant (Unlocked h b) e = step_over (Unlocked h b) b (λ r. reservation.hear_unlocked r h r.stage) c.reservation (λ r. refl) refl e
-  not_meant (Log h b n es) e = refl
   not_meant (Logged h b n) e = logged_over h b n c.reservation refl e
   not_meant (Answer h b n a) e = answer_over h b n a c.reservation refl e
+  not_meant m e = refl
 
   -- ---- an answer is accepted for the block that its message names
 
   step_accepts : (b d : Block) (r : ReservationState) (st : Step) → newly_accepted b (after_reserving c r st).1 ≡ newly_accepted d (after_reserving c r st).1
   step_accepts b d r (step.Locked h) = refl
-  step_accepts b d r (step.Busy h) = refl
-  step_accepts b d r (step.Opened h) = refl
-  step_accepts b d r (step.Unlocked h) = refl
-  step_accepts b d r step.Ignored = refl
+  step_accepts b d r st = refl
 
   accepts_named : (m : Message) (d : ClientState) (told : ClientNote) → HeardRow c m d told
       → newly_accepted (newest_block c) told ≡ newly_accepted (block_in m) told
-  accepts_named m d told (passed_over x) = refl
-  accepts_named m d told (is_welcomed h left) = refl
   accepts_named m d told (takes_step x r held) = step_accepts (newest_block c) (block_in x) (reservation.heard r x).0 (reservation.heard r x).1
-  accepts_named m d told (is_acknowledged h n r l held opened window new) = refl
   accepts_named m d told (is_accepted h n a r held opened waits) = ap (λ b. let xs : List Accepted = (h, b, n, a) ∷ [] in xs) (sym (newest r held))
+  accepts_named m d told row = refl
 
 -- ---- the move
 
 newest_held : (past : List LocalMove) (v : System) (c : ClientId) (d : LocalClient) → IsReached (world_by past v) → client_in c v ≡ Some d → HasNewest d.client
 newest_held past v c d reached here r held =
     let w : World = world_by past v in
-    let told : Told w = subst Told (ap (λ (x : Run). x.0) reached.leads) (always_told reached.placements reached.newcomers reached.events reached.opens) in
-    ((all_found (PartyLogs w) (is_party c) w.parties (party_by past d) told.1.parties (party_there past v c d here)).block r held).block
+    let logging = (reached_facts w reached).logging in
+    ((all_found (PartyLogs w) (is_party c) w.parties (party_by past d) logging.parties (party_there past v c d here)).block r held).block
 
 module _ (past : List LocalMove) (v : System) (c : ClientId) (m : Message) (d : LocalClient) (here : client_in c v ≡ Some d) (own : id_in d ≡ c)
     (reached : IsReached (world_by past v)) where
@@ -186,11 +176,10 @@ module _ (past : List LocalMove) (v : System) (c : ClientId) (m : Message) (d : 
 
   brings : sent_at (place_in (sent_by past) m) w ≡ Some m → Brings w (event_in (sent_by past) move) (world_by more (with_client a v))
   brings was =
-      by_test (λ t. is_to c m ≡ t → Brings w (if t then Take (place_in (sent_by past) m) ∷ [] else []) (world_by more (with_client a v))) (is_to c m)
-      (λ _ e. let both = and_parts (not (is_for_handler m)) (same_client (client_of m) c) e in
+      by_test (λ t. Brings w (if t then Take (place_in (sent_by past) m) ∷ [] else []) (world_by more (with_client a v))) (is_to c m)
+      (λ e. let both = and_parts (not (is_for_handler m)) (same_client (client_of m) c) e in
       takes was (not-true (is_for_handler m) both.0) ((client_decides (client_of m) c).0 both.1))
-      (λ _ e. passes_over e)
-      refl
+      (λ e. passes_over e)
 
 pub notices_brings :
     (past : List LocalMove) (v u : System) (c : ClientId) (m : Message) (told : ClientNote) → IsReached (world_by past v) → Contains (sent_by past) m

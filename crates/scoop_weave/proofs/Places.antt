@@ -23,10 +23,9 @@ none_in m k within = omega arith
 placed : (xs : List Message) (m : Message) → Contains xs m → IsAt xs m (place_in xs m)
 placed [] m c = absurd (none_in m c.0 c.1)
 placed (x ∷ xs) m c =
-    by_test (λ t. on_message.eq-value.it x m ≡ t → IsAt (x ∷ xs) m (if t then 1 else place_in xs m + 1)) (on_message.eq-value.it x m)
-    (λ _ here. record { place = 0; next = refl; found = ap Some ((message_decides x m).0 here) })
-    (λ _ other. later x xs m (place_in xs m) (placed xs m (in_rest x xs m c.0 c.1 c.2 other)))
-    refl
+    by_test (λ t. IsAt (x ∷ xs) m (if t then 1 else place_in xs m + 1)) (on_message.eq-value.it x m)
+    (λ here. record { place = 0; next = refl; found = ap Some ((message_decides x m).0 here) })
+    (λ other. later x xs m (place_in xs m) (placed xs m (in_rest x xs m c.0 c.1 c.2 other)))
 
 not_zero : (k : ℕ) → suc k ≡ 0 → ⊥
 not_zero k e = omega arith
@@ -34,10 +33,9 @@ not_zero k e = omega arith
 at_place : (w : World) (k : ℕ) → sent_at (suc k) w ≡ slice_get w.sent k
 at_place w k =
     let back : suc k - 1 ≡ k = omega arith in
-    by_test (λ t. suc k == 0 ≡ t → (if t then None else slice_get w.sent (suc k - 1)) ≡ slice_get w.sent k) (suc k == 0)
-    (λ _ e. absurd (not_zero k ((Decides-eqb (suc k) 0).0 e)))
-    (λ _ e. ap (slice_get w.sent) back)
-    refl
+    by_test (λ t. (if t then None else slice_get w.sent (suc k - 1)) ≡ slice_get w.sent k) (suc k == 0)
+    (λ e. absurd (not_zero k ((Decides-eqb (suc k) 0).0 e)))
+    (λ e. ap (slice_get w.sent) back)
 
 pub sent_there : (w : World) (m : Message) → Contains w.sent m → sent_at (place_in w.sent m) w ≡ Some m
 sent_there w m c =

@@ -1,12 +1,12 @@
 -- A safe world is safe in the histories that it is made of.
-use Rattle.scoop_weave.proofs.Names.{arith, ◌<◌, length, ◌≡◌, ℕ, List, [], Option, Some, None, refl, ap, ◌∙◌, subst, AllByRecursion, option_map, option_map_or}
-use Rattle.scoop_weave.proofs.Names.{ClientId, HandlerId, same_handler, same_client, handler_decides, client_decides, Ran, World, Site, Accepted, number_of}
-use Rattle.scoop_weave.proofs.Names.{is_site, is_party, Run, IsReached, key_found, all_found, all_more_of, reached_safe, PlacedHandler, LocalClient, System}
-use Rattle.scoop_weave.proofs.Names.{its_number, id_in, placed_in, client_in, LocalMove, ran_by, accepted_by, site_by, party_by, world_by}
+use Rattle.scoop_weave.proofs.Names.{arith, ◌<◌, length, ◌≡◌, ℕ, List, [], Option, Some, None, refl, ap, ◌∙◌, subst, option_map, option_map_or, ClientId}
+use Rattle.scoop_weave.proofs.Names.{HandlerId, same_handler, same_client, handler_decides, client_decides, Ran, World, Site, Accepted, number_of, is_site}
+use Rattle.scoop_weave.proofs.Names.{is_party, IsReached, key_found, all_found, all_more_of, reached_safe, PlacedHandler, LocalClient, System, its_number}
+use Rattle.scoop_weave.proofs.Names.{id_in, placed_in, client_in, LocalMove, ran_by, accepted_by, site_by, party_by, world_by}
 use Rattle.scoop_model.specs.World.{ran_at}
 use Rattle.scoop_model.specs.Safe.{Safe, IsSubsequence, Tape, WholeBeforeNext, RightAnswers, HasRun, IsAnswered, AcceptsRight}
 use Rattle.scoop_model.proofs.Answering.Facts.{SiteAnswers}
-use Rattle.scoop_model.proofs.Answering.Runs.{Answered, always_answered}
+use Rattle.scoop_model.proofs.Ready.Runs.{reached_facts}
 use Rattle.scoop_weave.specs.Promises.{HandlerPromise, IsTrulyAnswered, ClientPromise, Promises}
 use Rattle.scoop_weave.proofs.Lists.{find_through}
 use Rattle.scoop_weave.proofs.Worlds.{stored_state, site_there, party_there}
@@ -17,12 +17,6 @@ module _ (ms : List LocalMove) (now : System) (reached : IsReached (world_by ms 
 
   safe : Safe w
   safe = reached_safe w reached
-
-  plays : AllByRecursion SiteAnswers w.sites
-  plays =
-      let answered : Answered w = subst Answered (ap (λ (x : Run). x.0) reached.leads)
-      (always_answered reached.placements reached.newcomers reached.events reached.opens) in
-      answered.1.sites
 
   handler_promise : (h : HandlerId) (s : PlacedHandler) → placed_in h now ≡ Some s → HandlerPromise ms h s
   handler_promise h s here =
@@ -36,7 +30,7 @@ module _ (ms : List LocalMove) (now : System) (reached : IsReached (world_by ms 
         whole = all_found (WholeBeforeNext w) (is_site h) w.sites site safe.whole there;
         answers = all_found RightAnswers (is_site h) w.sites site safe.answers there;
         stored = stored_state ms now reached h s here;
-        words = (all_found SiteAnswers (is_site h) w.sites site plays there).words;
+        words = (all_found SiteAnswers (is_site h) w.sites site (reached_facts w reached).answering.sites there).words;
       })
 
   -- the moves show all that ran at a handler of the world

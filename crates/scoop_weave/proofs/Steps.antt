@@ -1,6 +1,6 @@
 -- A list of items of which those that a step concerns go on, and the others stay.
-use Rattle.scoop_weave.proofs.Names.{filter, AllByRecursion, LocalMove, ◌≡◌, ℕ, suc, Bool, true, false, true≢false, List, [], ◌∷◌, map, find, slice_get, Some, refl, sym, ap, ◌∙◌, subst}
-use Rattle.scoop_weave.proofs.Names.{if◌then◌else◌, Decides, NoRepeats, by_test}
+use Rattle.scoop_weave.proofs.Names.{filter, AllByRecursion, LocalMove, ◌≡◌, ℕ, suc, Bool, true, false, true≢false, List, [], ◌∷◌, map, find, slice_get, Some}
+use Rattle.scoop_weave.proofs.Names.{refl, sym, ap, ◌∙◌, subst, if◌then◌else◌, Decides, NoRepeats, by_test}
 use Rattle.std.specs.List.{AllZip}
 use Rattle.std.proofs.lemmas.List.Elements.{same_from_all_zip}
 use Rattle.scoop_weave.specs.Parties.{LeadOn}
@@ -36,14 +36,13 @@ module _ {A K : Type 0} (key : A → K) (same : K → K → Bool) (decides : (a 
   -- where the step is a function, and leaves what it doesn't concern
   pub all_go : (f : A → A) (xs us : List A) → EachStep xs us → ((x u : A) → R x u → u ≡ f x) → ((x : A) → on x ≡ false → f x ≡ x) → us ≡ map f xs
   all_go f [] [] all is other = refl
-  all_go f [] (u ∷ us) all is other = absurd all
-  all_go f (x ∷ xs) [] all is other = absurd all
   all_go f (x ∷ xs) (u ∷ us) all is other =
       let here : u ≡ f x =
-      by_test (λ b. on x ≡ b → u ≡ f x) (on x)
-      (λ _ e. is x u (gone R x u (on x) all.0.0 e))
-      (λ _ e. stayed R x u (on x) all.0.0 e ∙ sym (other x e)) refl in
+      by_test (λ _. u ≡ f x) (on x)
+      (λ e. is x u (gone R x u (on x) all.0.0 e))
+      (λ e. stayed R x u (on x) all.0.0 e ∙ sym (other x e)) in
       ap (λ y. y ∷ us) here ∙ ap (λ ys. f x ∷ ys) (all_go f xs us all.1 is other)
+  all_go f xs ys all is other = absurd all
 
   -- the step concerns the items of one key
   module _ (k : K) (at : (x : A) → on x ≡ same k (key x)) where
@@ -52,11 +51,10 @@ module _ {A K : Type 0} (key : A → K) (same : K → K → Bool) (decides : (a 
 
     others_stay : (xs us : List A) → EachStep xs us → ((j : ℕ) → slice_get (map key xs) j ≡ Some k → ⊥) → us ≡ xs
     others_stay [] [] all none = refl
-    others_stay [] (u ∷ us) all none = absurd all
-    others_stay (x ∷ xs) [] all none = absurd all
     others_stay (x ∷ xs) (u ∷ us) all none =
         ap (λ y. y ∷ us) (stayed R x u (on x) all.0.0 (away x (λ e. none 0 (ap Some e))))
         ∙ ap (λ ys. x ∷ ys) (others_stay xs us all.1 (λ j e. none (suc j) e))
+    others_stay xs ys all none = absurd all
 
     pub record GoesAt (s : A) (xs us : List A) : Type 0 where
       pub new : A
@@ -68,8 +66,8 @@ module _ {A K : Type 0} (key : A → K) (same : K → K → Bool) (decides : (a 
     one_goes [] us s all once found own = absurd (cc)
     one_goes (x ∷ xs) [] s all once found own = absurd all
     one_goes (x ∷ xs) (u ∷ us) s all once found own =
-        by_test (λ t. same (key x) k ≡ t → (if t then Some x else find (λ a. same (key a) k) xs) ≡ Some s → GoesAt s (x ∷ xs) (u ∷ us)) (same (key x) k)
-        (λ _ here is.
+        by_test (λ t. (if t then Some x else find (λ a. same (key a) k) xs) ≡ Some s → GoesAt s (x ∷ xs) (u ∷ us)) (same (key x) k)
+        (λ here is.
         let this : x ≡ s = cc in
         let x_key : key x ≡ k = (decides (key x) k).0 here in
         let u_key : key u ≡ k = all.0.1 ∙ x_key in
@@ -84,7 +82,7 @@ module _ {A K : Type 0} (key : A → K) (same : K → K → Bool) (decides : (a 
           keeps = all.0.1 ∙ ap key this;
           after = ap (λ ys. u ∷ ys) rest ∙ ap (λ y. y ∷ map (λ y. if same (key y) (key u) then u else y) xs) (sym head);
         })
-        (λ _ there is.
+        (λ there is.
         let later = one_goes xs us s all.1 (rest_once key same decides x xs once) is own in
         let new_key : key later.new ≡ k = later.keeps ∙ own in
         let other : u ≡ x = stayed R x u (on x) all.0.0 (away x (from_false same decides (key x) k there)) in
@@ -96,8 +94,7 @@ module _ {A K : Type 0} (key : A → K) (same : K → K → Bool) (decides : (a 
           after =
               ap (λ y. y ∷ us) (other ∙ sym head)
               ∙ ap (λ ys. (if same (key x) (key later.new) then later.new else x) ∷ ys) later.after;
-        })
-        refl found
+        }) found
 
 -- ---- one party's own moves, of which the first is made
 
@@ -119,8 +116,8 @@ module _ {A : Type 0} (Moves : LocalMove → A → A → Type 0) (on : LocalMove
 
   onward : (x t : A) → Good x → LeadOn Moves x (own x (m ∷ ms)) t → Onward x t
   onward x t is =
-      by_test (λ b. on m x ≡ b → LeadOn Moves x (if b then m ∷ own x ms else own x ms) t → Onward x t) (on m x)
-      (λ _ e r.
+      by_test (λ b. LeadOn Moves x (if b then m ∷ own x ms else own x ms) t → Onward x t) (on m x)
+      (λ e r.
       let k = moved m x r.0 is r.1 in
       let same : (λ m. on m x) ≡ (λ m. on m r.0) = λ i m. alike x r.0 k m i in
       record {
@@ -128,8 +125,7 @@ module _ {A : Type 0} (Moves : LocalMove → A → A → Type 0) (on : LocalMove
         step = (subst (λ b. StepAt (Moves m) x b r.0) (sym e) (goes r.0 r.1), k);
         rest = subst (λ f. LeadOn Moves r.0 (filter f ms) t) same r.2;
       })
-      (λ _ e r. record { new = x; step = (subst (λ b. StepAt (Moves m) x b x) (sym e) stays, unmoved x is); rest = r })
-      refl
+      (λ e r. record { new = x; step = (subst (λ b. StepAt (Moves m) x b x) (sym e) stays, unmoved x is); rest = r })
 
   pub record AllOnward (xs ts : List A) : Type 0 where
     pub new : List A
@@ -138,9 +134,8 @@ module _ {A : Type 0} (Moves : LocalMove → A → A → Type 0) (on : LocalMove
 
   pub all_onward : (xs ts : List A) → AllByRecursion Good xs → AllZip (λ x t. LeadOn Moves x (own x (m ∷ ms)) t) xs ts → AllOnward xs ts
   all_onward [] [] is each = record { new = []; steps = tt; rest = tt }
-  all_onward [] (t ∷ ts) is each = absurd each
-  all_onward (x ∷ xs) [] is each = absurd each
   all_onward (x ∷ xs) (t ∷ ts) is each =
       let one = onward x t is.0 each.0 in
       let more = all_onward xs ts is.1 each.1 in
       record { new = one.new ∷ more.new; steps = (one.step, more.steps); rest = (one.rest, more.rest) }
+  all_onward xs ys is each = absurd each

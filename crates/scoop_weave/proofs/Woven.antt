@@ -3,12 +3,11 @@
 -- stay, so the system is one of the same parties again, and the rest of the moves leads on from there.
 use Rattle.scoop_weave.proofs.Names.{⊤, ◌≡◌, ℕ, ◌==◌, Bool, true, false, List, [], ◌∷◌, ◌++◌, map, refl, sym, ap, ◌∙◌, subst, if◌then◌else◌, list_any}
 use Rattle.scoop_weave.proofs.Names.{AllByRecursion, map-map, ClientId, HandlerId, same_handler, same_client, handler_decides, client_decides, HandlerState}
-use Rattle.scoop_weave.proofs.Names.{opening_state, opening_handler, hear, row, number-row, heard, heard_row, Placement, Newcomer, MayOpen}
-use Rattle.scoop_weave.proofs.Names.{NoRepeats, by_test, key_found, onward_heard, onward_commanded, PlacedHandler, LocalClient, System, its_number, id_in}
-use Rattle.scoop_weave.proofs.Names.{on_node, after_reopening, new_placed, new_client, new_system, IsStored, stored_in, with_local, LocalMove, Heard, Began}
-use Rattle.scoop_weave.proofs.Names.{Finished, NodeReopened, Commanded, Sent, ClientHeard, ClientRestarted, HandlerMoves, ClientMoves, AtHandler, AtNode}
-use Rattle.scoop_weave.proofs.Names.{AtClient, Moves, IsWeave, is_at, is_by, EachHandler, EachClient}
-use Rattle.scoop_weave.proofs.Names.{HeardAfterSent, has_handler, has_node, has_client, IsMember, IsWoven, Weave}
+use Rattle.scoop_weave.proofs.Names.{opening_state, opening_handler, hear, row, number-row, heard, heard_row, Placement, Newcomer, MayOpen, NoRepeats, by_test}
+use Rattle.scoop_weave.proofs.Names.{key_found, onward_heard, onward_commanded, PlacedHandler, LocalClient, System, its_number, id_in, on_node, after_reopening}
+use Rattle.scoop_weave.proofs.Names.{new_placed, new_client, new_system, IsStored, stored_in, with_local, LocalMove, Heard, Began, Finished, NodeReopened}
+use Rattle.scoop_weave.proofs.Names.{Commanded, Sent, ClientHeard, ClientRestarted, HandlerMoves, ClientMoves, AtHandler, AtNode, AtClient, Moves, IsWeave}
+use Rattle.scoop_weave.proofs.Names.{is_at, is_by, EachHandler, EachClient, HeardAfterSent, has_handler, has_node, has_client, IsMember, IsWoven, Weave}
 use Rattle.std.proofs.lemmas.List.Elements.{same_from_all_zip}
 use Rattle.std.specs.List.{AllZip}
 use Rattle.scoop_weave.proofs.Lists.{zip_more, zip_same, zip_all, all_of_any, has_found}
@@ -37,10 +36,7 @@ handler_kept (NodeReopened n) s t is r =
     (by_test (λ t. HandlerKept s (if t then anew else s)) (on_node n s)
     (λ here. record { number = number; node = refl; stored = ap (λ h. opening_state h s.placed s.local.stored) number })
     (λ there. record { number = refl; node = refl; stored = is }))
-handler_kept (Commanded c x b) s t is r = absurd r
-handler_kept (Sent c h m) s t is r = absurd r
-handler_kept (ClientHeard c m note) s t is r = absurd r
-handler_kept (ClientRestarted c) s t is r = absurd r
+handler_kept m s t is r = absurd r
 
 abbrev pub AllStored : List PlacedHandler → Type 0
 AllStored xs = AllByRecursion IsStored xs
@@ -55,14 +51,11 @@ same_concern x y kept m = λ i. is_at (sym kept.number i) (sym kept.node i) m
 -- ---- a client
 
 pub client_kept : (m : LocalMove) (c d : LocalClient) → ClientMoves m c d → id_in d ≡ id_in c
-client_kept (Heard h y told) c d r = absurd r
-client_kept (Began h told) c d r = absurd r
-client_kept (Finished h ran) c d r = absurd r
-client_kept (NodeReopened n) c d r = absurd r
 client_kept (Commanded z y b) c d r = ap id_in r.after ∙ (onward_commanded c.client y r.new r.taken).id
 client_kept (Sent z h y) c d r = ap id_in r.after
 client_kept (ClientHeard z y note) c d r = ap id_in r.after ∙ (onward_heard c.client y (heard c.client y).0 (heard c.client y).1 (heard_row c.client y)).id
 client_kept (ClientRestarted z) c d r = ap id_in r.after
+client_kept m c d r = absurd r
 
 abbrev is_its : LocalMove → LocalClient → Bool
 is_its m c = is_by (id_in c) m

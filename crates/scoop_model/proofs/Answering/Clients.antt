@@ -1,17 +1,15 @@
 -- A client's move keeps the answers right, and the client accepts each answer once. It accepts an answer only for the query that
 -- waits, from an Answer that was sent, so that query has run with this answer. Then the query is acknowledged. So every accepted
 -- answer is of a query that lies before the client's place, and the query that waits is none of them.
-use Rattle.scoop_model.proofs.Names.{◌≡◌, ℕ, ◌+◌, ◌<◌, List, [], ◌∷◌, ◌++◌, map, Some, None, refl, sym, ap, ◌∙◌, subst, arith, append-nil, Ok, AllByRecursion}
-use Rattle.scoop_model.proofs.Names.{option_map_or, NoRepeats, Message, Block, HandlerId, ObjectAnswer, once_more, ReservationState, Step, heard_row, due}
-use Rattle.scoop_model.proofs.Names.{after_step, heard, HeardRow, passed_over, is_welcomed, takes_step, is_acknowledged, is_accepted, ClientState, with_windows}
-use Rattle.scoop_model.proofs.Names.{WindowState, logged, acknowledged, window_of, at_window, Command, ClientNote, HasRun, query_of, newest_block}
-use Rattle.scoop_model.proofs.Names.{commanded_world, with_sent, with_party, newly_accepted, heard_party, restarted_party, World, Party, Accepted, BlockLog}
-use Rattle.scoop_model.proofs.Names.{set_party, ran_at}
+use Rattle.scoop_model.proofs.Names.{◌≡◌, ℕ, ◌<◌, List, [], ◌∷◌, ◌++◌, Some, None, refl, ap, ◌∙◌, subst, arith, append-nil, Ok, option_map_or, Message, Block}
+use Rattle.scoop_model.proofs.Names.{HandlerId, ObjectAnswer, once_more, ReservationState, Step, heard_row, due, after_step, heard, HeardRow, takes_step}
+use Rattle.scoop_model.proofs.Names.{is_accepted, ClientState, with_windows, WindowState, logged, acknowledged, window_of, at_window, Command, ClientNote}
+use Rattle.scoop_model.proofs.Names.{HasRun, query_of, newest_block, commanded_world, with_sent, with_party, newly_accepted, heard_party, restarted_party}
+use Rattle.scoop_model.proofs.Names.{World, Party, Accepted, BlockLog, set_party, ran_at}
 use Rattle.scoop_model.proofs.Order.{upto_itself, PartyFits, all_more_of, all_pushed, all_set_party}
 use Rattle.scoop_model.proofs.Logging.{PartyLogs}
 use Rattle.scoop_model.proofs.Answering.Facts.{TellsAnswer, IsBehind, AcceptedFits, PartyAnswers, Answering, messages_more, party_answers_more}
-use Rattle.scoop_model.proofs.Answering.Windows.{acked_there, acknowledged_raises, acknowledged_all}
-use Rattle.scoop_model.proofs.Answering.Onward.{Onward, behind_more, onward_heard, onward_commanded}
+use Rattle.scoop_model.proofs.Answering.Onward.{acked_there, acknowledged_raises, acknowledged_all, Onward, behind_more, onward_heard, onward_commanded}
 use Rattle.scoop_model.proofs.Moves.{Sends, sends_hello}
 use Rattle.scoop_reserve.specs.declared.stage.Step.TheVariants as step
 use Rattle.scoop_reserve.specs.Hearing as reservation
@@ -32,18 +30,11 @@ abbrev party_with : Party → ClientState → List Accepted → Party
 party_with p d new = record p { client = d; accepted = p.accepted ++ new }
 
 accepted_more : (w : World) (p q : Party) (a : Accepted) → Onward p.client q.client → AcceptedFits w p a → AcceptedFits w q a
-accepted_more w p q a on f = record {
-  answered = record { own = f.answered.own ∙ sym on.id; ran = f.answered.ran };
-  behind = behind_more p.client q.client a on f.behind;
-}
+accepted_more w p q a on f = grind (arith, behind_more)
 
 -- nothing is accepted
 goes_on : (w : World) (p q : Party) → Onward p.client q.client → q.accepted ≡ p.accepted → PartyAnswers w p → PartyAnswers w q
-goes_on w p q on same f = record {
-  accepted = subst (AllByRecursion (AcceptedFits w q)) (sym same)
-      (all_more_of (AcceptedFits w p) (AcceptedFits w q) (λ a. accepted_more w p q a on) p.accepted f.accepted);
-  once = subst (λ xs. NoRepeats (map query_of xs)) (sym same) f.once;
-}
+goes_on w p q on same f = grind (arith, all_more_of, accepted_more)
 
 -- a world in which a party has gone on, with other logs or the same
 party_moves :
@@ -70,12 +61,7 @@ module _ (w : World) (p : Party) (h : HandlerId) (n : ℕ) (a : ObjectAnswer) (r
   module _ (held : p.client.reservation ≡ Some r) (window : WindowState) (found : window_of h p.client.windows ≡ Some window) (last : n ≡ logged window)
       (waiting : window.acked < n) where
     new_behind : IsBehind now new
-    new_behind = record {
-      upto = upto_itself p.client.inc p.client.last;
-      acked = λ s is inc num.
-          let all = acked_there (acknowledged n) (acknowledged_raises n) h p.client.windows window found ∙ acknowledged_all n window last in
-          omega (arith, all);
-    }
+    new_behind = grind (arith, upto_itself, acked_there, acknowledged_raises, acknowledged_all)
 
     -- none of them is the same query
     none_same : (x : Accepted) → AcceptedFits w p x → query_of x ≡ query_of new → ⊥
@@ -102,15 +88,13 @@ module _ (w : World) (p : Party) (logging : PartyLogs w p) (f : PartyAnswers w p
 
   heard_fits : (m : Message) (d : ClientState) (note : ClientNote) → HeardRow p.client m d note → Onward p.client d → TellsAnswer w m
       → PartyAnswers w (party_with p d (newly_accepted (newest_block p.client) note))
-  heard_fits m d note (passed_over n) on t = quiet d [] on refl
-  heard_fits m d note (is_welcomed h left) on t = quiet d [] on refl
   heard_fits m d note (takes_step n r held) on t =
       quiet d _ on (step_accepts (newest_block p.client) p.client (reservation.heard r n).0 (reservation.heard r n).1)
-  heard_fits m d note (is_acknowledged h n r l held opened window new_count) on t = quiet d [] on refl
   heard_fits m d note (is_accepted h n a r held opened waits) on t =
       let block = logging.block r held in
       let query = block.waits h n waits in
       accepts w p h n a r held query.window query.found query.query.number query.query.waiting on (subst (λ b. HasRun (ran_at h w) b n a) block.block t) f
+  heard_fits m d note row on t = quiet d [] on refl
 
 pub notices_answering : (w : World) → Answering w → (m : Message) (p : Party) → TellsAnswer w m → PartyLogs w p → PartyAnswers w p
     → Answering (with_party w (heard_party p (heard p.client m)))

@@ -2,10 +2,10 @@
 -- the answer if the entry is a query of the mark's block, and an Answer that is sent as a reply is the kept one. Hearing runs
 -- nothing. A restarted node has the words that were stored with the entries that ran.
 use Rattle.scoop_model.proofs.Names.{◌≡◌, ℕ, List, [], map, Some, None, refl, sym, ap, ◌∙◌, subst, arith, Option, find, option_map, AllByRecursion}
-use Rattle.scoop_model.proofs.Names.{option_map_or, pair, Message, Answer, Block, HandlerId, ObjectAnswer, ClassTable, play, entry_effect, job-first, job-front}
-use Rattle.scoop_model.proofs.Names.{all_found, number-row, words-row, row, Core, Hearing, hear, Task, ran_of, job_out, Ran, number_found, by_site, site_put}
-use Rattle.scoop_model.proofs.Names.{HasRun, entries_of, heard_world, heard_site, with_site, begun_site, finished_site, reopened, reopened_world, World, ran_at}
-use Rattle.scoop_model.proofs.Names.{Site, number_of, is_site, site_of, set_site}
+use Rattle.scoop_model.proofs.Names.{option_map_or, pair, Message, Block, HandlerId, ObjectAnswer, ClassTable, play, entry_effect, job-first, job-front}
+use Rattle.scoop_model.proofs.Names.{all_found, number-row, words-row, row, Core, Hearing, hear, Task, ran_of, job_out, Ran, by_site, site_put, HasRun}
+use Rattle.scoop_model.proofs.Names.{entries_of, heard_world, heard_site, with_site, begun_site, finished_site, reopened, reopened_world, World, ran_at, Site}
+use Rattle.scoop_model.proofs.Names.{number_of, is_site, site_of, set_site, own_site}
 use Rattle.scoop_model.proofs.Order.{SiteFits, Ordered, all_pushed, all_set_site, by_restart, all_anew, found_anew}
 use Rattle.scoop_model.proofs.Answering.Objects.{play_pushed, answers_pushed}
 use Rattle.scoop_model.proofs.Answering.Kept.{TellsRan, has_run_more, keeps-row, tells_ran-row, keeps_ran}
@@ -44,11 +44,7 @@ module _ (w : World) (s old : Site) (here : site_of (number_of s) w ≡ Some old
 reply_tells :
     (v : World) (h : HandlerId) (rs : List Ran) (o : Option Message) → ran_at h v ≡ rs → TellsRan rs h o → (m : Message) → o ≡ Some m → TellsAnswer v m
 reply_tells v h rs None at t m e = absurd (cc)
-reply_tells v h rs (Some r) at t m e = let same : r ≡ m = cc in subst (TellsAnswer v) same (told r t)
-  where
-    told : (r : Message) → TellsRan rs h (Some r) → TellsAnswer v r
-    told (Answer x b n a) t = subst (λ j. HasRun (ran_at j v) b n a) (sym t.0) (subst (λ xs. HasRun xs b n a) (sym at) t.1)
-    told m t = tt
+reply_tells v h rs (Some r) at t m e = grind (arith, ran_at)
 
 -- the task of a job that is out has the class of its handler, and the words that these are
 job_object : (c : Core) (t : Task) {words : List ℕ} → job_out c ≡ Some t → c.state.words ≡ words → pair t.class t.words ≡ pair c.class words
@@ -56,7 +52,7 @@ job_object c t {words} is same = grind (arith, job-first, job-front, option_map)
 
 module _ (w : World) (i : Answering w) (h : HandlerId) (s : Site) (found : site_of h w ≡ Some s) where
   place : site_of (number_of s) w ≡ Some s
-  place = subst (λ j. site_of j w ≡ Some s) (sym (number_found h w s found)) found
+  place = own_site w h s found
 
   site_answers : SiteAnswers s
   site_answers = all_found SiteAnswers (is_site h) w.sites s i.sites found

@@ -82,12 +82,11 @@ module _ (rs : List Ran) (r : Ran) where
   mark_keeps_ran : (k : Mark) → KeepsRan rs k → KeepsRan (rs ++ r ∷ []) (mark_after r k)
   mark_keeps_ran k f = record {
     has = λ n a e.
-        by_test (λ t. (is_query r.entry && same_block (block_of k) r.block) ≡ t → (if t then option_map (pair r.number) r.answer else k.kept) ≡ Some (pair n a)
+        by_test (λ t. (if t then option_map (pair r.number) r.answer else k.kept) ≡ Some (pair n a)
         → HasRun (rs ++ r ∷ []) (block_of k) n a)
         (is_query r.entry && same_block (block_of k) r.block)
-        (λ _ newest q. own_ran k n a r.answer newest refl q)
-        (λ _ other q. has_run_more rs r (block_of k) n a (f.has n a q))
-        refl e;
+        (λ newest q. own_ran k n a r.answer newest refl q)
+        (λ other q. has_run_more rs r (block_of k) n a (f.has n a q)) e;
   }
 
   pub keeps_ran : (marks : List Mark) → AllByRecursion (KeepsRan rs) marks → AllByRecursion (KeepsRan (rs ++ r ∷ [])) (map (mark_after r) marks)

@@ -1,13 +1,51 @@
 -- A client only goes on: to a later block, or in the same one with no fewer entries acknowledged.
-use Rattle.scoop_model.proofs.Names.{◌≡◌, ℕ, List, Some, None, refl, sym, ◌∙◌, arith, Ok, ◌≤◌, Option, Message, HandlerId, Entry, CallEntry, QueryEntry, asked}
-use Rattle.scoop_model.proofs.Names.{ReservationState, at_stage, GivingBack, HeardRow, ClientState, with_windows, with_reservation, WindowState, acknowledged}
-use Rattle.scoop_model.proofs.Names.{at_window, with_entry, with_end, Command, ClientNote, Accepted}
+use Rattle.scoop_model.proofs.Names.{◌≡◌, ℕ, List, Some, None, refl, sym, ◌∙◌, arith, Ok, ◌≤◌, Option, Message, HandlerId, Entry, asked, ReservationState}
+use Rattle.scoop_model.proofs.Names.{at_stage, GivingBack, HeardRow, ClientState, with_windows, with_reservation, WindowState, acknowledged, at_window}
+use Rattle.scoop_model.proofs.Names.{with_entry, with_end, Command, ClientNote, Accepted, map, ap, subst, option_map, option_map_or, handler_decides, logged}
+use Rattle.scoop_model.proofs.Names.{window_of}
 use Rattle.scoop_model.proofs.Order.{Upto, upto_more}
 use Rattle.scoop_model.proofs.Answering.Facts.{acked_at, IsBehind}
-use Rattle.scoop_model.proofs.Answering.Windows.{Raises, acked_at_window, acked_all, acknowledged_raises}
 use Rattle.scoop_model.proofs.Moves.{Notices, passes_over, is_greeted, steps_on, is_over, counts_on, gets_answer, notices, Takes, takes_reserve, takes_call}
 use Rattle.scoop_model.proofs.Moves.{takes_query, takes_end, takes_give_up, takes}
 use Rattle.scoop_client.specs.Commands as client
+use Rattle.scoop_model.proofs.Logging.{StaysAt, window_in_all, window_own, window_other}
+
+-- ---- how many entries are acknowledged at a handler, once windows have changed
+
+-- a change of a window that leaves its handler, and takes no acknowledgement back
+pub record Raises (f : WindowState → WindowState) : Type 0 where
+  pub handler : StaysAt f
+  pub acked : (l : WindowState) → l.acked ≤ (f l).acked
+
+abbrev acked_in : Option WindowState → ℕ
+acked_in o = option_map_or (λ (l : WindowState). l.acked) o 0
+
+module _ (f : WindowState → WindowState) (raises : Raises f) where
+  raised : (o : Option WindowState) → acked_in o ≤ acked_in (option_map f o)
+  raised None = omega arith
+  raised (Some l) = raises.acked l
+
+  pub acked_all : (x : HandlerId) (ls : List WindowState) → acked_at x ls ≤ acked_at x (map f ls)
+  acked_all x ls = subst (λ o. acked_at x ls ≤ acked_in o) (sym (window_in_all x f raises.handler ls)) (raised (window_of x ls))
+
+  own_raised : (h : HandlerId) (ls : List WindowState) → acked_at h ls ≤ acked_at h (at_window h f ls)
+  own_raised h ls = subst (λ o. acked_at h ls ≤ acked_in o) (sym (window_own h f raises.handler ls)) (raised (window_of h ls))
+
+  pub acked_at_window : (h x : HandlerId) (ls : List WindowState) → acked_at x ls ≤ acked_at x (at_window h f ls)
+  acked_at_window h x ls = grind (arith, handler_decides, own_raised, window_other)
+
+  -- at the handler whose window changes
+  pub acked_there : (h : HandlerId) (ls : List WindowState) (l : WindowState) → window_of h ls ≡ Some l → acked_at h (at_window h f ls) ≡ (f l).acked
+  acked_there h ls l found = ap acked_in (window_own h f raises.handler ls) ∙ ap (λ o. acked_in (option_map f o)) found
+
+pub acknowledged_raises : (n : ℕ) → Raises (acknowledged n)
+acknowledged_raises n = record { handler = λ l. refl; acked = λ l. omega arith }
+
+-- all entries of the window are acknowledged
+pub acknowledged_all : (n : ℕ) (l : WindowState) → n ≡ logged l → (acknowledged n l).acked ≡ n
+acknowledged_all n l all = omega (arith, all)
+
+-- ---- the client goes on
 
 -- the block that the client had goes on
 pub record GoesOnIn (c d : ClientState) : Type 0 where
@@ -22,31 +60,14 @@ pub record Onward (c d : ClientState) : Type 0 where
 
 -- a query that lies before the client's place stays so
 pub behind_more : (c d : ClientState) (a : Accepted) → Onward c d → IsBehind c a → IsBehind d a
-behind_more c d a o b = record {
-  upto = upto_more a.1.inc a.1.num c.inc c.last d.inc d.last b.upto o.upto;
-  acked = λ r held inc num.
-      let up = b.upto in
-      let on = o.upto in
-      let same_inc : d.inc ≡ c.inc = omega (arith, up.inc, on.inc, inc) in
-      let behind = up.num (sym same_inc ∙ sym inc) in
-      let ahead = on.num same_inc in
-      let same_last : d.last ≡ c.last = omega (arith, behind, ahead, num) in
-      let block = o.same same_inc same_last r held in
-      let low = b.acked block.reservation block.held (inc ∙ same_inc) (num ∙ same_last) in
-      let more = block.acked a.0 in
-      omega (arith, low, more);
-}
+behind_more c d a o b = grind (arith, upto_more)
 
 -- ---- the client stays in its block
 
 module _ (c : ClientState) where
   onward_here :
       (d : ClientState) → d.id ≡ c.id → d.inc ≡ c.inc → d.last ≡ c.last → ((r : ReservationState) → d.reservation ≡ Some r → GoesOnIn c d) → Onward c d
-  onward_here d id inc last goes_on = record {
-    id = id;
-    upto = record { inc = omega (arith, inc); num = λ e. omega (arith, last) };
-    same = λ _ _. goes_on;
-  }
+  onward_here d id inc last goes_on = grind arith
 
   onward_itself : Onward c c
   onward_itself = onward_here c refl refl refl (λ r held. record { reservation = r; held = held; acked = λ h. omega arith })
@@ -67,8 +88,7 @@ module _ (c : ClientState) where
   hears_onward m d (steps_on n r s st held row) = onward_reserved r s held
   hears_onward m d (is_over n) = onward_here d refl refl refl (λ r e. absurd (cc))
   hears_onward m d (counts_on h n r l held window fresh_count) = grind (arith, acked_at_window, acknowledged_raises, onward_windows)
-  hears_onward m d (gets_answer h n a r held waits) =
-      onward_windows (at_window h (acknowledged n) c.windows) None (λ x. acked_at_window (acknowledged n) (acknowledged_raises n) h x c.windows)
+  hears_onward m d (gets_answer h n a r held waits) = grind (arith, onward_windows, acked_at_window, acknowledged_raises)
 
   pub onward_heard : (m : Message) (d : ClientState) (note : ClientNote) → HeardRow c m d note → Onward c d
   onward_heard m d note row = hears_onward m d (notices c m d note row)
@@ -82,15 +102,9 @@ module _ (c : ClientState) where
   ends_raise = record { handler = λ l. refl; acked = λ l. omega arith }
 
   takes_onward : (x : Command) (d : ClientState) → Takes c x d → Onward c d
-  takes_onward x d (takes_reserve hs at_idle begins) = record {
-    id = refl;
-    upto = record { inc = omega arith; num = λ _. omega arith };
-    same = λ inc last. absurd (omega (arith, last));
-  }
-  takes_onward x d (takes_call h q l running free window room) =
-      onward_windows d.windows d.waits (λ y. acked_at_window (with_entry (CallEntry q)) (logs_raise (CallEntry q)) h y c.windows)
-  takes_onward x d (takes_query h q l running free window room) =
-      onward_windows d.windows d.waits (λ y. acked_at_window (with_entry (QueryEntry q)) (logs_raise (QueryEntry q)) h y c.windows)
+  takes_onward x d (takes_reserve hs at_idle begins) = grind arith
+  takes_onward x d (takes_call h q l running free window room) = grind (arith, onward_windows, acked_at_window, logs_raise)
+  takes_onward x d (takes_query h q l running free window room) = grind (arith, onward_windows, acked_at_window, logs_raise)
   takes_onward x d (takes_end running free) = onward_windows d.windows d.waits (λ y. acked_all with_end ends_raise y c.windows)
   takes_onward x d (takes_give_up r held at) = onward_reserved r (at_stage r GivingBack (asked r.handlers r.left)) held
 

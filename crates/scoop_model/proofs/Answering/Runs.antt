@@ -1,10 +1,10 @@
 -- Whatever happens, the answers are right.
-use Rattle.scoop_model.proofs.Names.{◌≡◌, ℕ, List, map, Some, refl, arith, AllByRecursion, client_of, Message, all_found, all_made, MayOpen, steps}
-use Rattle.scoop_model.proofs.Names.{RightAnswers, AcceptsRight, Placement, Newcomer, new_site, new_party, opening, World, is_party, sent_at, Event}
-use Rattle.scoop_model.proofs.Events.{Changes, steps_kept}
+use Rattle.scoop_model.proofs.Names.{◌≡◌, ℕ, List, map, Some, refl, arith, AllByRecursion, client_of, Message, all_found, all_made, RightAnswers, AcceptsRight}
+use Rattle.scoop_model.proofs.Names.{Placement, Newcomer, new_site, new_party, opening, World, is_party, sent_at}
+use Rattle.scoop_model.proofs.Events.{Changes}
 use Rattle.scoop_model.proofs.Order.{PartyFits, Ordered, all_more_of}
-use Rattle.scoop_model.proofs.Sound.{both_kept, sent_all}
-use Rattle.scoop_model.proofs.Logging.{PartyLogs, Logging, Told, told_kept, opens_told}
+use Rattle.scoop_model.proofs.Sound.{sent_all}
+use Rattle.scoop_model.proofs.Logging.{PartyLogs, Logging}
 use Rattle.scoop_model.proofs.Answering.Objects.{answers_at}
 use Rattle.scoop_model.proofs.Answering.Facts.{TellsAnswer, SiteAnswers, PartyAnswers, Answering}
 use Rattle.scoop_model.proofs.Answering.Handlers.{hears_answering, begins_answering, finishes_answering, reopens_answering}
@@ -50,15 +50,3 @@ right_answers w i = all_more_of SiteAnswers RightAnswers (λ s f. answers_at s.c
 -- every accepted query has run, and was accepted once
 pub accepts_right : (w : World) → Answering w → AllByRecursion (AcceptsRight w) w.parties
 accepts_right w i = grind (arith, all_more_of)
-
--- ---- whatever happens
-
--- all claims of messages are true, and the answers are right
-abbrev pub Answered : World → Type 0
-Answered w = Told w × Answering w
-
-pub answered_kept : (w : World) → Answered w → Changes Answered w
-answered_kept w i = both_kept Told Answering w (told_kept w i.0) (answering_kept w i.0.0.0 i.0.1 i.1)
-
-pub always_answered : (ps : List Placement) (ns : List Newcomer) (es : List Event) → MayOpen ps ns → Answered (steps (opening ps ns) es)
-always_answered ps ns es may = steps_kept Answered answered_kept (opening ps ns) es (opens_told ps ns may, opens_answering ps ns)

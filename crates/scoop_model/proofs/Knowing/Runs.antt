@@ -1,19 +1,19 @@
 -- Whatever happens, where a message names a block, every handler knows the block's incarnation. A client begins a block only
 -- once every handler has welcomed it, and a handler's Welcome tells that its mark has reached the incarnation. Marks only go on,
 -- so what a handler knew it knows later too; a message names its client's block, or that of the message that it replies to.
-use Rattle.scoop_model.proofs.Names.{◌≡◌, List, [], ◌∷◌, map, Some, refl, sym, ap, ◌∙◌, subst, arith, find, true, true≢false, same_Some, AllByRecursion}
-use Rattle.scoop_model.proofs.Names.{client_of, handler_of, Message, HandlerId, MarksGrow-after, all_found, MarksGrow-refl, number-row, grows-row, replies-row}
-use Rattle.scoop_model.proofs.Names.{row, MarksGrow, Hearing, hear, HasEntries, ran_of, has, due, heard, all_made, IsReached, Run, heard_party, restarted_party}
-use Rattle.scoop_model.proofs.Names.{heard_world, heard_site, begun_site, finished_site, reopened, Placement, Newcomer, new_party, opening, World, Party}
-use Rattle.scoop_model.proofs.Names.{set_party, Site, number_of, is_site, site_of, set_site, is_party, sent_at}
+use Rattle.scoop_model.proofs.Names.{◌≡◌, List, map, Some, refl, sym, ap, ◌∙◌, subst, true≢false, same_Some, AllByRecursion, client_of, handler_of, Message}
+use Rattle.scoop_model.proofs.Names.{HandlerId, MarksGrow-after, all_found, MarksGrow-refl, grows-row, replies-row, row, MarksGrow, Hearing, hear, HasEntries}
+use Rattle.scoop_model.proofs.Names.{ran_of, has, due, heard, all_made, IsReached, Run, heard_party, restarted_party, heard_world, heard_site, begun_site}
+use Rattle.scoop_model.proofs.Names.{finished_site, reopened, Placement, Newcomer, new_party, opening, World, Party, set_party, Site, number_of, site_of}
+use Rattle.scoop_model.proofs.Names.{set_site, is_party, sent_at, own_site, heard_place}
 use Rattle.scoop_model.specs.Named.{IsMarked, NamesKnown}
-use Rattle.scoop_model.proofs.Events.{Changes, steps_kept}
-use Rattle.scoop_model.proofs.Order.{Ordered, all_more_of, all_pushed, all_set_party, granted_anew, granted_set, opens_ordered}
-use Rattle.scoop_model.proofs.Sound.{Sound, InOrderAndSound, both_kept, ordered_sound_kept, opens_sound, sent_all}
-use Rattle.scoop_model.proofs.Logging.{Greets, greetings_kept, opens_greetings}
+use Rattle.scoop_model.proofs.Events.{Changes, both_kept, steps_kept}
+use Rattle.scoop_model.proofs.Order.{Ordered, all_more_of, all_pushed, all_set_party, granted_anew, granted_set}
+use Rattle.scoop_model.proofs.Sound.{Sound, sent_all}
+use Rattle.scoop_model.proofs.Logging.{Greets, found_has}
 use Rattle.scoop_model.proofs.Logging.Greetings.{Greetings}
+use Rattle.scoop_model.proofs.Ready.Runs.{Kept, facts, all_kept, opens_kept}
 use Rattle.scoop_model.proofs.Reaching.{sites_placed}
-use Rattle.scoop_model.proofs.Sites.{own_site}
 use Rattle.scoop_model.proofs.Knowing.Facts.{Names, PartyKnown, Knowing, Remember, names_more, party_more}
 use Rattle.scoop_model.proofs.Knowing.Clients.{command_known, due_names, hears_known_by}
 use Rattle.scoop_model.proofs.Moves.{sends, hears}
@@ -49,9 +49,7 @@ module _ (hs : List HandlerId) where
       let by = row s.core.state m in
       let t : Site = heard_site s now in
       let v : World = heard_world w s now in
-      let here : site_of (number_of t) w ≡ Some s =
-      subst (λ j. site_of j w ≡ Some s) (sym (number-row s.core.state m now by)) (own_site w (handler_of m) s found) in
-      let more = granted_set w t s here (grows-row s.core.state m now by) in
+      let more = granted_set w t s (heard_place w m s found) (grows-row s.core.state m now by) in
       let named : Names hs v.sites m = names_more hs w.sites v.sites more m (sent_all w k m was (Names hs w.sites) i.messages) in
       let replies = replies-row s.core.state m now by (sent_all w k m was HasEntries sound.messages) in
       sites_known w v i more refl
@@ -101,47 +99,35 @@ module _ (hs : List HandlerId) where
     block = λ r e. absurd (cc);
   })
 
-  -- in order, sound, as greeted, and known
+  -- known, beside all that every event keeps
   abbrev All : World → Type 0
-  All w = (InOrderAndSound w × Greetings w) × Knowing hs w
+  All w = Kept w × Knowing hs w
 
-  all_kept : (w : World) → All w → Changes All w
-  all_kept w i =
-      both_kept (λ v. InOrderAndSound v × Greetings v) (Knowing hs) w
-      (both_kept InOrderAndSound Greetings w (ordered_sound_kept w i.0.0) (greetings_kept w i.0.0.0 i.0.1))
-      (knowing_kept w i.0.0.0 i.0.0.1 i.0.1 i.1)
+  still_kept : (w : World) → All w → Changes All w
+  still_kept w i = let f = facts w i.0 in both_kept Kept (Knowing hs) w (all_kept w i.0) (knowing_kept w f.ordered f.sound f.greetings i.1)
 
 -- ---- what it shows
 
 -- the handlers of the world are those that were placed
-found_has : (h : HandlerId) (ss : List Site) (s : Site) → find (is_site h) ss ≡ Some s → has (map number_of ss) h ≡ true
-found_has h [] s e = absurd (cc)
-found_has h (x ∷ xs) s e = grind (arith, found_has h xs s)
-
 names_shown : (hs : List HandlerId) (w : World) → map number_of w.sites ≡ hs → (m : Message) → Names hs w.sites m → NamesKnown w m
 names_shown hs w numbers m n = record {
   known = λ b e. record {
     marked = λ h s found.
-        let g = n b e h (ap (λ ks. has ks h) (sym numbers) ∙ found_has h w.sites s found) in
+        let g = n b e h (ap (λ ks. has ks h) (sym numbers) ∙ found_has number_of h w.sites s found) in
         let one : g.site ≡ s = same_Some g.site s (sym g.found ∙ found) in
         subst (λ (x : Site). IsMarked b x.core.state.marks) one (record { mark = g.reached.mark; found = g.reached.found; inc = g.reached.upto.inc });
   };
 }
 
+pub opens_knowing : (ps : List Placement) (ns : List Newcomer) → Knowing (map (λ (p : Placement). p.handler) ps) (opening ps ns)
+opens_knowing ps ns = record { messages = tt; parties = parties_open (map (λ (p : Placement). p.handler) ps) (opening ps ns).sites ns }
+
 -- the facts about incarnations in a world that is reached
 reached_knowing : (w : World) (r : IsReached w) → Knowing (map (λ (p : Placement). p.handler) r.placements) w
 reached_knowing w r =
     let hs = map (λ (p : Placement). p.handler) r.placements in
-    let v : World = opening r.placements r.newcomers in
-    let opens : All hs v = (
-      ((opens_ordered r.placements r.newcomers, opens_sound r.placements r.newcomers r.opens), opens_greetings r.placements r.newcomers),
-      record {
-        messages = tt;
-        parties = parties_open hs v.sites r.newcomers;
-      },
-    ) in
-    let i : All hs w = subst (All hs) (ap (λ (x : Run). x.0) r.leads) (steps_kept (All hs) (all_kept hs) v r.events opens) in
-    i.1
+    (subst (All hs) (ap (λ (x : Run). x.0) r.leads) (steps_kept (All hs) (still_kept hs) (opening r.placements r.newcomers) r.events
+    (opens_kept r.placements r.newcomers r.opens, opens_knowing r.placements r.newcomers))).1
 
 pub names_known : (w : World) → IsReached w → AllByRecursion (NamesKnown w) w.sent
 names_known w r =

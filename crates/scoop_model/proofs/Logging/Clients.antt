@@ -3,10 +3,10 @@
 -- entries off a window's front alone. Hearing and restarting log nothing.
 use Rattle.scoop_model.proofs.Names.{◌≡◌, ℕ, ◌+◌, List, [], ◌++◌, Some, refl, sym, ap, ◌∙◌, subst, append-nil, option_map, true, false, true≢false, ◌||◌, Bool}
 use Rattle.scoop_model.proofs.Names.{nat_lt, nat_le, append_assoc, same_Some, AllByRecursion, handler_decides, EndOnlyLast, same_handler, Message, Log, Block}
-use Rattle.scoop_model.proofs.Names.{HandlerId, Entry, by_test, StepRow, steps_over, one_is_locked, all_are_locked, is_busy, one_is_opened, all_are_opened}
-use Rattle.scoop_model.proofs.Names.{is_unlocked, is_given_back, is_open, is_open_in, ReservationState, Step, due, heard, up_to, ClientState, with_windows}
-use Rattle.scoop_model.proofs.Names.{with_reservation, WindowState, logged, acknowledged, window_of, at_window, first_entries, newest_block, with_sent}
-use Rattle.scoop_model.proofs.Names.{with_party, heard_party, restarted_party, World, Party, log_of}
+use Rattle.scoop_model.proofs.Names.{HandlerId, Entry, by_test, StepRow, one_is_locked, all_are_locked, one_is_opened, all_are_opened, is_unlocked}
+use Rattle.scoop_model.proofs.Names.{is_given_back, is_open, is_open_in, ReservationState, Step, due, heard, up_to, ClientState, with_windows, with_reservation}
+use Rattle.scoop_model.proofs.Names.{WindowState, logged, acknowledged, window_of, at_window, first_entries, newest_block, with_sent, with_party, heard_party}
+use Rattle.scoop_model.proofs.Names.{restarted_party, World, Party, log_of}
 use Rattle.scoop_model.proofs.Stands.{Stands}
 use Rattle.scoop_model.proofs.Order.{all_more_of, all_pushed, all_set_party}
 use Rattle.scoop_model.proofs.Logging.Facts.{Carries, WindowFits, IsLastQuery, WaitsAt, WindowsFit, PartyLogs, Logging, Grown, stands_more}
@@ -62,7 +62,7 @@ window_stands log l batch f =
     }
 
 due_carries : (w : World) (p : Party) (h : HandlerId) → PartyLogs w p → (m : Message) → Sends p.client h m → Carries w m
-due_carries w p h f m (sends_log r l held opened window some) =
+due_carries w p h f m (sends_log r l held free opened window some) =
     let own = window_handler h p.client.windows l window in
     window_stands (log_of r.block l.handler w) l p.client.batch
     (subst (λ j. WindowFits (log_of r.block j w) l) (sym own) ((f.block r held).windows h l window))
@@ -104,14 +104,13 @@ pub stays_logged : (c : ClientState) (r s : ReservationState) → s.block ≡ r.
 stays_logged c r s block handlers opened = record { newest = refl; windows = refl; waits = refl; block = block; handlers = handlers; opened = opened }
 
 step_stays : (c : ClientState) (r : ReservationState) (m : Message) (s : ReservationState) (st : Step) → StepRow r m s st → StaysLogged c (with_reservation c s) r s
-step_stays c r m s st (steps_over n) = stays_logged c r s refl refl (λ e. e)
-step_stays c r m s st (is_busy h at low) = stays_logged c r s refl refl (λ e. e)
 step_stays c r m s st (one_is_locked h at low rest) = stays_logged c r s refl refl (λ e. ap is_open_in at)
 step_stays c r m s st (all_are_locked h at low all) = stays_logged c r s refl refl (λ e. ap is_open_in at)
 step_stays c r m s st (one_is_opened h at is rest) = stays_logged c r s refl refl (λ e. ap is_open_in at)
 step_stays c r m s st (all_are_opened h at is all) = stays_logged c r s refl refl (λ e. ap is_open_in at)
 step_stays c r m s st (is_unlocked h at is) = stays_logged c r s refl refl (λ e. absurd (true≢false e))
 step_stays c r m s st (is_given_back h at is) = stays_logged c r s refl refl (λ e. ap is_open_in at)
+step_stays c r m s st row = stays_logged c r s refl refl (λ e. e)
 
 -- every window beside its log, where the client has a block
 abbrev AllFit : World → ClientState → Type 0
@@ -133,8 +132,8 @@ module _ (w : World) (c : ClientState) (fits : AllFit w c) where
   counted_waits r h n l held window fresh_count j q waits =
       let k = up_to h n c.waits in
       let g = (fits r held).waits j q waits in
-      by_test (λ t. same_handler h j ≡ t → WaitsAt w (with_windows c (at_window h (acknowledged k) c.windows) c.waits) r.block j q) (same_handler h j)
-      (λ _ is.
+      by_test (λ _. WaitsAt w (with_windows c (at_window h (acknowledged k) c.windows) c.waits) r.block j q) (same_handler h j)
+      (λ is.
       let same : h ≡ j = (handler_decides h j).0 is in
       let there : window_of h c.windows ≡ Some g.window = ap (λ i. window_of i c.windows) same ∙ g.found in
       let one : l ≡ g.window = same_Some l g.window (sym window ∙ there) in
@@ -149,11 +148,11 @@ module _ (w : World) (c : ClientState) (fits : AllFit w c) where
         query = subst (λ a. IsLastQuery (log_of r.block j w) (acknowledged a g.window) q) (sym now)
             (query_acknowledged (log_of r.block j w) h n q g.window new g.query);
       })
-      (λ _ is. record {
+      (λ is. record {
         window = g.window;
         found = window_other h j (acknowledged k) (λ x. refl) c.windows (λ same. true≢false (sym ((handler_decides h j).1 same) ∙ is)) ∙ g.found;
         query = g.query;
-      }) refl
+      })
     where
       second : (s t : Bool) → (s || t) ≡ false → t ≡ false
       second true t e = absurd (true≢false e)

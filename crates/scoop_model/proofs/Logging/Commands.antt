@@ -1,14 +1,13 @@
 -- A command keeps its client's windows at the end of the logs. The log and the client's own window at a handler grow by the same
 -- entry, so that the window stays the log's end. Other blocks' logs stay. Nothing is logged before the block has opened at all of
 -- its handlers. The proof goes command by command.
-use Rattle.scoop_model.proofs.Names.{◌≡◌, ℕ, ◌+◌, List, [], ◌∷◌, ◌++◌, map, Some, None, refl, sym, ap, ◌∙◌, subst, arith, append-nil, Ok, Option, option_map}
-use Rattle.scoop_model.proofs.Names.{true, if◌then◌else◌, false, true≢false, Bool, ◌-◌, ◌^◌, ⊎_elim, nat_le, same_Some, handler_decides, client_decides}
-use Rattle.scoop_model.proofs.Names.{EndOnlyLast, ends, is_end, same_handler, Block, HandlerId, Entry, CallEntry, QueryEntry, EndOnlyLast-append, by_test}
-use Rattle.scoop_model.proofs.Names.{asked, is_empty, is_open, is_open_in, fresh, ReservationState, at_stage, Stage, GivingBack as AtGivingUp}
-use Rattle.scoop_model.proofs.Names.{Locking as AtLocking, Unlocking as AtUnlocking, ClientState, with_windows, with_reservation, phase_of, phase_of_block}
-use Rattle.scoop_model.proofs.Names.{phase_at, WindowState, logged, window_of, at_window, with_entry as with_window_entry, with_end, fresh_window, is_ended}
-use Rattle.scoop_model.proofs.Names.{Command, Reserve, End, GiveUp, Greeting, Running, Ending, newest_block, commanded_world, logs_after, World, Party}
-use Rattle.scoop_model.proofs.Names.{is_party, log_of, id_of, handlers_of, HandlerLog, shares_of}
+use Rattle.scoop_model.proofs.Names.{◌≡◌, ℕ, ◌+◌, List, [], ◌∷◌, ◌++◌, map, Some, None, refl, sym, ap, ◌∙◌, subst, arith, append-nil, Ok, option_map, true}
+use Rattle.scoop_model.proofs.Names.{if◌then◌else◌, false, true≢false, Bool, ◌-◌, ◌^◌, ⊎_elim, nat_le, same_Some, handler_decides, client_decides, EndOnlyLast}
+use Rattle.scoop_model.proofs.Names.{ends, is_end, same_handler, Block, HandlerId, Entry, CallEntry, QueryEntry, EndOnlyLast-append, asked, is_open, is_open_in}
+use Rattle.scoop_model.proofs.Names.{fresh, ReservationState, at_stage, Stage, GivingBack as AtGivingUp, Locking as AtLocking, Unlocking as AtUnlocking}
+use Rattle.scoop_model.proofs.Names.{ClientState, with_windows, with_reservation, phase_of, phase_at, WindowState, logged, window_of, at_window}
+use Rattle.scoop_model.proofs.Names.{with_entry as with_window_entry, with_end, fresh_window, is_ended, Command, Reserve, End, GiveUp, Running, newest_block}
+use Rattle.scoop_model.proofs.Names.{commanded_world, logs_after, World, Party, is_party, log_of, id_of, HandlerLog, shares_of}
 use Rattle.scoop_model.proofs.Order.{PartyFits, all_more_of, all_set_party, next_is_new}
 use Rattle.scoop_model.proofs.Logging.Facts.{Carries, WindowFits, IsLastQuery, WaitsAt, WindowsFit, PartyLogs, Logging, Grown}
 use Rattle.scoop_model.proofs.Logging.Logs.{HasLine, IsAdded, added, added_last, log_after, log_here, log_other, named_shares, reserved_same, unreserved_empty}
@@ -38,12 +37,7 @@ module _ (w : World) (p : Party) (x : Command) (d : ClientState) (i : Logging w)
   now = commanded_world w p x d
 
   last_again : (b : Block) (h : HandlerId) → EndOnlyLast (log_of b h now)
-  last_again b h =
-      ⊎_elim
-      (λ (same : log_of b h now ≡ log_of b h w). subst EndOnlyLast (sym same) (i.logs b h))
-      (λ (more : IsAdded x (newest_block d) b h w.logs). subst EndOnlyLast (sym more.grows)
-      (EndOnlyLast-append (log_of b h w) (added x h) (i.logs b h) (l.going b h more) (added_last x h)))
-      (log_after x (newest_block d) b h w.logs)
+  last_again b h = grind (arith, EndOnlyLast-append, added_last, log_after)
 
   -- the block of another client isn't this one's
   other_stays : (y : Party) → is_party (id_of (record p { client = d })) y ≡ false → PartyLogs w y → PartyLogs now y
@@ -69,19 +63,11 @@ pub record IsRunning (c : ClientState) : Type 0 where
   pub going : is_ended c.windows ≡ false
 
 running_at : (ended : Bool) (s : Stage) → phase_at s ended ≡ Running → (is_open_in s ≡ true) × (ended ≡ false)
-running_at ended AtUnlocking e =
-    by_test (λ t. (if t then Ending else Running) ≡ Running → (true ≡ true) × (t ≡ false)) ended (λ over f. absurd (cc)) (λ on f. (refl, refl)) e
+running_at ended AtUnlocking e = grind arith
 running_at ended stage e = absurd (cc)
 
 pub running_is : (c : ClientState) → phase_of c ≡ Running → IsRunning c
-running_is c e =
-    by_test (λ t. (if t then phase_of_block c.windows c.reservation else Greeting) ≡ Running → IsRunning c) (is_empty c.unwelcomed)
-    (λ greeted f. from c.reservation refl f)
-    (λ greeting f. absurd (cc)) e
-  where
-    from : (o : Option ReservationState) → c.reservation ≡ o → phase_of_block c.windows o ≡ Running → IsRunning c
-    from None held f = absurd (cc)
-    from (Some r) held f = let is = running_at (is_ended c.windows) r.stage f in record { reservation = r; held = held; opened = is.0; going = is.1 }
+running_is c e = grind (arith, running_at)
 
 -- ---- a client logs
 
@@ -109,9 +95,7 @@ module _ (w : World) (p : Party) (fits : PartyFits w p) (f : PartyLogs w p) wher
       sym ((f.block r run.held).windows h x.0 x.1).ended ∙ not_ended h c.windows x.0 run.going x.1
 
   going_now : (run : IsRunning c) (x : Command) (b : Block) (h : HandlerId) → IsAdded x (newest_block c) b h w.logs → ends (log_of b h w) ≡ false
-  going_now run x b h more =
-      let same : run.reservation.block ≡ b = (f.block run.reservation run.held).block ∙ more.block in
-      subst (λ y. ends (log_of y h w) ≡ false) same (going_on run h (subst (λ y. HasLine y h w.logs) (sym same) more.share))
+  going_now run x b h more = grind (arith, ends, going_on)
 
   is_the_one : (run : IsRunning c) (r : ReservationState) → c.reservation ≡ Some r → run.reservation ≡ r
   is_the_one run r held = let both : Some run.reservation ≡ Some r = sym run.held ∙ held in cc
@@ -236,16 +220,7 @@ module _ (w : World) (p : Party) (hs : List HandlerId) (r : ReservationState) (f
   }
 
   reserve_logs : Logs w p (Reserve hs) begun
-  reserve_logs = record {
-    id = refl;
-    going = λ b h more. ap ends (sym (unlogged_before b h more));
-    windows = λ q held. (let same : r ≡ q = same_Some r q held in subst (WindowsFit first begun) (begins ∙ same) fresh_fits);
-  }
-    where
-      unlogged_before : (b : Block) (h : HandlerId) → IsAdded (Reserve hs) (newest_block begun) b h w.logs → [] ≡ log_of b h w
-      unlogged_before b h more =
-          subst (λ y. [] ≡ log_of y h w) more.block (sym (unreserved_empty (client.next_block p.client) h w.logs
-          (next_is_new w p fits (handlers_of (client.next_block p.client) w) refl)))
+  reserve_logs = grind (arith, ends, same_Some, fresh_fits, unreserved_empty, next_is_new)
 
 give_up_logs : (w : World) (p : Party) (r : ReservationState) → PartyLogs w p → p.client.reservation ≡ Some r → r.stage ≡ AtLocking
     → Logs w p GiveUp (with_reservation p.client (at_stage r AtGivingUp (asked r.handlers r.left)))

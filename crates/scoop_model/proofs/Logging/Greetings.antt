@@ -1,22 +1,20 @@
 -- The invariant about greetings. A client greets in no incarnation above its own, and no handler's mark is above its client's
 -- incarnation. A handler that has welcomed an incarnation has a mark that isn't below it.
 use Rattle.scoop_model.proofs.Names.{◌≡◌, ℕ, ◌<◌, List, [], ◌∷◌, map, Some, None, refl, sym, ap, ◌∙◌, subst, arith, ◌≤◌, Option, find, true, true≢false, nat_lt}
-use Rattle.scoop_model.proofs.Names.{and_parts, nat_tests, AllByRecursion, list_any, option_map_or, ⊤, handler_decides, client_decides, client_of, handler_of}
-use Rattle.scoop_model.proofs.Names.{same_client, same_handler, Message, Hello, Welcome, Block, ClientId, HandlerId, MarksGrow-after, all_found, MarksGrow-refl}
-use Rattle.scoop_model.proofs.Names.{All-mark_of, All-set_mark, All-add_mark, mark_of-set_mark_own, mark_of-client, mark_of-add_mark_own, number-row, grows-row}
-use Rattle.scoop_model.proofs.Names.{row, MarksGrow, Hearing, hear, IsHeardAt, greeting_mark, fresh_mark, opened_mark, with_received, without_hold, set_mark}
-use Rattle.scoop_model.proofs.Names.{mark_of, Row, first_greeting, newer_greeting, lock_granted, is_opened, unlock_of_a_block_never_held, is_freed, is_taken}
-use Rattle.scoop_model.proofs.Names.{repeated_greeting, ran_of, mark_after, HandlerState, Mark, AtHeld, AtShut, Ran, due, heard, block_named, all_made}
-use Rattle.scoop_model.proofs.Names.{all_mapped, by_site, by_party, id_found, commanded_world, with_sent, with_party, heard_party, restarted_party, heard_world}
-use Rattle.scoop_model.proofs.Names.{heard_site, with_site, begun_site, finished_site, reopened_world, Placement, Newcomer, new_site, opening, World, Party}
-use Rattle.scoop_model.proofs.Names.{set_party, Site, number_of, is_site, site_of, set_site, is_party, sent_at, party_of, id_of, is_succeeded, is_newer_welcome}
-use Rattle.scoop_model.proofs.Names.{inc_of}
+use Rattle.scoop_model.proofs.Names.{BlockLog, logs_after, newest_block, and_parts, nat_tests, AllByRecursion, list_any, option_map_or, ⊤, handler_decides}
+use Rattle.scoop_model.proofs.Names.{client_decides, client_of, handler_of, Message, Hello, Welcome, Block, ClientId, HandlerId, MarksGrow-after, all_found}
+use Rattle.scoop_model.proofs.Names.{MarksGrow-refl, All-mark_of, All-set_mark, All-add_mark, mark_of-set_mark_own, mark_of-client, mark_of-add_mark_own}
+use Rattle.scoop_model.proofs.Names.{grows-row, row, MarksGrow, Hearing, hear, IsHeardAt, greeting_mark, fresh_mark, set_mark, mark_of, Row, first_greeting}
+use Rattle.scoop_model.proofs.Names.{newer_greeting, lock_granted, is_opened, unlock_of_a_block_never_held, is_freed, is_taken, repeated_greeting, ran_of}
+use Rattle.scoop_model.proofs.Names.{mark_after, HandlerState, Mark, AtHeld, AtShut, Ran, due, heard, block_named, all_made, all_mapped, by_party, id_found}
+use Rattle.scoop_model.proofs.Names.{with_sent, heard_party, restarted_party, heard_world, heard_site, begun_site, finished_site, reopened_world, Placement}
+use Rattle.scoop_model.proofs.Names.{Newcomer, new_site, opening, World, Party, set_party, Site, number_of, is_site, site_of, set_site, is_party, sent_at}
+use Rattle.scoop_model.proofs.Names.{party_of, id_of, is_succeeded, is_newer_welcome, inc_of, own_site, heard_place, site_put}
 use Rattle.scoop_handler.specs.declared.mark.Stage.{Stage}
 use Rattle.scoop_model.proofs.Events.{Changes}
-use Rattle.scoop_model.proofs.Sites.{own_site}
 use Rattle.scoop_model.proofs.Sound.{sent_all}
-use Rattle.scoop_model.proofs.Order.{IsReachedIn, IsGranted, IsGrantedIn, PartyFits, Ordered, all_more_of, all_pushed, all_set_site, granted_set, granted_anew}
-use Rattle.scoop_model.proofs.Order.{goes_on, keeps_hearing, by_restart, all_anew}
+use Rattle.scoop_model.proofs.Order.{IsReachedIn, IsGranted, PartyFits, Ordered, all_more_of, all_pushed, all_set_site, granted_set, granted_anew, goes_on}
+use Rattle.scoop_model.proofs.Order.{keeps_hearing, by_restart, all_anew}
 use Rattle.scoop_model.proofs.Moves.{Sends, sends_hello, sends}
 
 -- ---- what is true
@@ -57,10 +55,7 @@ module _ (v w : World) (x : Onward v w) where
   marks_more marks all = all_more_of (IsMarkUpto (inc_of v)) (IsMarkUpto (inc_of w)) (λ k u. record { upto = omega (arith, u.upto, x.incs k.client) }) marks all
 
   greetings_more : AllByRecursion (Greets v) w.sent → AllByRecursion (MarksUpto v) w.sites → Greetings w
-  greetings_more messages sites = record {
-    messages = all_more_of (Greets v) (Greets w) greets_more w.sent messages;
-    marks = all_more_of (MarksUpto v) (MarksUpto w) (λ s all. marks_more s.core.state.marks all) w.sites sites;
-  }
+  greetings_more messages sites = grind (arith, all_more_of, greets_more, marks_more)
 
 -- ---- clients
 
@@ -83,16 +78,11 @@ due_greets w c p h at m sends_hello = let is = inc_there w c p at in omega (arit
 due_greets w c p h at m s = tt
 
 -- one client's incarnation grows, or stays, and nothing is sent
-party_greets : (w v : World) (c : ClientId) (p q : Party) → Greetings w → party_of c w ≡ Some p → id_of q ≡ id_of p → p.client.inc ≤ q.client.inc
-    → v.sites ≡ w.sites → v.sent ≡ w.sent → v.parties ≡ set_party q w.parties → Greetings v
-party_greets w v c p q i at same le sites sent parties =
-    greetings_more w v
-    (record {
-      incs = λ d. subst (λ ps. inc_of w d ≤ option_map_or (λ (y : Party). y.client.inc) (find (is_party d) ps) 0) (sym parties) (inc_set w c p q at same le d);
-      granted = λ h b g. subst (λ ss. IsGrantedIn (find (is_site h) ss) b) (sym sites) g;
-    })
-    (subst (λ ms. AllByRecursion (Greets w) ms) (sym sent) i.messages)
-    (subst (λ ss. AllByRecursion (MarksUpto w) ss) (sym sites) i.marks)
+party_greets : (w : World) (c : ClientId) (p q : Party) (ls : List BlockLog) → Greetings w → party_of c w ≡ Some p → id_of q ≡ id_of p
+    → p.client.inc ≤ q.client.inc → Greetings (record w { parties = set_party q w.parties; logs = ls })
+party_greets w c p q ls i at same le =
+    let v : World = record w { parties = set_party q w.parties; logs = ls } in
+    greetings_more w v (record { incs = inc_set w c p q at same le; granted = λ h b g. g }) i.messages i.marks
 
 -- ---- a handler hears
 
@@ -121,14 +111,11 @@ upto-row bound s m h (newer_greeting x c inc k here found newer) hello all =
     set_upto bound (greeting_mark c inc) s.marks (record { upto = hello x c inc refl }) all
 upto-row bound s m h (lock_granted x b k here at new free clear) hello all =
     set_upto bound (fresh_mark b AtHeld) s.marks (block_mark bound s b k AtHeld all at) all
-upto-row bound s m h (is_opened x b k here at same held room) hello all =
-    set_upto bound (opened_mark k) s.marks (record { upto = (heard_mark bound s.marks b.client k all at.found).upto }) all
+upto-row bound s m h (is_opened x b k here at same held room) hello all = grind (arith, set_upto, heard_mark)
 upto-row bound s m h (unlock_of_a_block_never_held x b k here at new clear) hello all =
     set_upto bound (fresh_mark b AtShut) s.marks (block_mark bound s b k AtShut all at) all
-upto-row bound s m h (is_freed x b k here at same holds) hello all =
-    set_upto bound (without_hold k) s.marks (record { upto = (heard_mark bound s.marks b.client k all at.found).upto }) all
-upto-row bound s m h (is_taken x b n es k here at next goes_on room) hello all =
-    set_upto bound (with_received _ _ k) s.marks (record { upto = (heard_mark bound s.marks b.client k all at.heard.found).upto }) all
+upto-row bound s m h (is_freed x b k here at same holds) hello all = grind (arith, set_upto, heard_mark)
+upto-row bound s m h (is_taken x b n es k here at next goes_on room) hello all = grind (arith, set_upto, heard_mark)
 upto-row bound s m h r hello all = all
 
 -- a Welcome is of an incarnation that the handler's mark has reached, and no reply is a Hello
@@ -152,34 +139,22 @@ back-row s m h r = tt
 back_greets :
     (v : World) (s : Site) (o : Option Message) → site_of (number_of s) v ≡ Some s → GreetsBack s.core.state o → (m : Message) → o ≡ Some m → Greets v m
 back_greets v s None here t m e = absurd (cc)
-back_greets v s (Some n) here t m e = let same : n ≡ m = cc in subst (Greets v) same (told n t)
-  where
-    told : (n : Message) → GreetsBack s.core.state (Some n) → Greets v n
-    told (Hello h c inc) t = absurd t
-    told (Welcome h c inc) t = subst (λ j. IsGreeted v j c inc) (sym t.0) (record { site = s; found = here; reached = t.1 })
-    told m t = tt
+back_greets v s (Some n) here t m e = grind arith
 
 hello_upto : (w : World) (m : Message) → Greets w m → HelloUpto (inc_of w) m
 hello_upto w m g h c inc same = subst (Greets w) same g
 
 -- one handler's marks go on
-module _ (w v : World) (i : Greetings w) (s old : Site) (here : site_of (number_of s) w ≡ Some old) (grows : MarksGrow old.core.state.marks s.core.state.marks)
-    (parties : v.parties ≡ w.parties) (sites : v.sites ≡ set_site s w.sites) where
-  site_onward : Onward w v
-  site_onward = record {
-    incs = λ d. subst (λ ps. inc_of w d ≤ option_map_or (λ (y : Party). y.client.inc) (find (is_party d) ps) 0) (sym parties) (omega arith);
-    granted = λ h b g. subst (λ ss. IsGrantedIn (find (is_site h) ss) b) (sym sites) (granted_set w s old here grows h b g);
-  }
+module _ (w : World) (i : Greetings w) (s old : Site) (here : site_of (number_of s) w ≡ Some old) (grows : MarksGrow old.core.state.marks s.core.state.marks)
+    (ms : List Message) (js : List Block) where
+  abbrev after : World
+  after = record w { sites = set_site s w.sites; sent = ms; joint = js }
 
-  site_greets : MarksUpto w s → AllByRecursion (Greets v) v.sent → Greetings v
-  site_greets upto messages = record {
-    messages = messages;
-    marks = all_more_of (MarksUpto w) (MarksUpto v) (λ x all. marks_more w v site_onward x.core.state.marks all) v.sites
-        (subst (λ ss. AllByRecursion (MarksUpto w) ss) (sym sites) (all_set_site (MarksUpto w) (MarksUpto w) s w.sites upto (λ x all. all) i.marks));
-  }
+  site_onward : Onward w after
+  site_onward = record { incs = λ d. omega arith; granted = granted_set w s old here grows }
 
-  old_greets : AllByRecursion (Greets v) w.sent
-  old_greets = all_more_of (Greets w) (Greets v) (greets_more w v site_onward) w.sent i.messages
+  site_greets : MarksUpto w s → (AllByRecursion (Greets after) w.sent → AllByRecursion (Greets after) ms) → Greetings after
+  site_greets upto messages = grind (arith, all_more_of, greets_more, site_onward, marks_more, all_set_site)
 
 hears_greets : (w : World) → Greetings w → (k : ℕ) (m : Message) (s : Site) → sent_at k w ≡ Some m → site_of (handler_of m) w ≡ Some s
     → Greetings (heard_world w s (hear s.core.state m))
@@ -188,14 +163,11 @@ hears_greets w i k m s was found =
     let by = row s.core.state m in
     let t : Site = heard_site s now in
     let v : World = heard_world w s now in
-    let here : site_of (number_of t) w ≡ Some s =
-    subst (λ j. site_of j w ≡ Some s) (sym (number-row s.core.state m now by)) (own_site w (handler_of m) s found) in
-    let grows = grows-row s.core.state m now by in
-    let there : site_of (number_of t) v ≡ Some t = by_site (λ q. q ≡ Some t) w t s (number_of t) here (λ same. refl) (λ apart. absurd (apart refl)) in
-    let was_greeted = sent_all w k m was (Greets w) i.messages in
-    site_greets w v i t s here grows refl refl
-    (upto-row (inc_of w) s.core.state m now by (hello_upto w m was_greeted) (all_found (MarksUpto w) (is_site (handler_of m)) w.sites s i.marks found))
-    (all_pushed (Greets v) w.sent now.1.reply (old_greets w v i t s here grows refl refl) (back_greets v t now.1.reply there (back-row s.core.state m now by)))
+    let here = heard_place w m s found in
+    site_greets w i t s here (grows-row s.core.state m now by) v.sent v.joint
+    (upto-row (inc_of w) s.core.state m now by (hello_upto w m (sent_all w k m was (Greets w) i.messages))
+    (all_found (MarksUpto w) (is_site (handler_of m)) w.sites s i.marks found))
+    (λ all. all_pushed (Greets v) w.sent now.1.reply all (back_greets v t now.1.reply (site_put w t s here) (back-row s.core.state m now by)))
 
 -- ---- an entry runs, and a node restarts
 
@@ -214,21 +186,7 @@ pub record IsPassed (w : World) (h : HandlerId) (b : Block) : Type 0 where
   pub newer : b.inc < mark.inc
 
 welcome_passes : (w : World) (h : HandlerId) (b : Block) (m : Message) → Greets w m → is_newer_welcome h b m ≡ true → IsPassed w h b
-welcome_passes w h b (Welcome x c inc) g e =
-    let one = and_parts (same_handler x h) _ e in
-    let two = and_parts (same_client c b.client) (nat_lt b.inc inc) one.1 in
-    let at : x ≡ h = (handler_decides x h).0 one.0 in
-    let own : c ≡ b.client = (client_decides c b.client).0 two.0 in
-    let r = g.reached in
-    let up = r.upto.inc in
-    let lt : b.inc < inc = grind (arith, nat_tests) in
-    record {
-      site = g.site;
-      found = ap (λ j. site_of j w) (sym at) ∙ g.found;
-      mark = r.mark;
-      marked = ap (λ d. mark_of d g.site.core.state.marks) (sym own) ∙ r.found;
-      newer = omega (arith, up, lt);
-    }
+welcome_passes w h b (Welcome x c inc) g e = grind (arith, and_parts, nat_lt, handler_decides, client_decides, nat_tests)
 welcome_passes w h b m g e = absurd (true≢false (sym e))
 
 any_passes :
@@ -256,32 +214,28 @@ pub greetings_kept : (w : World) → Ordered w → Greetings w → Changes Greet
 greetings_kept w o i = record {
   commands = λ c p x d at is. (
       let g = goes_on w p x d is (all_found (PartyFits w) (is_party c) w.parties p o.parties at) in
-      party_greets w (commanded_world w p x d) c p (record p { client = d }) i at g.id (let e = g.inc in omega (arith, e)) refl refl refl);
-  sends = λ c p h s at here. record {
-    messages = all_pushed (Greets (with_sent w (due p.client h))) w.sent (due p.client h)
-        (all_more_of (Greets w) (Greets (with_sent w (due p.client h)))
-        (greets_more w (with_sent w (due p.client h)) (record { incs = λ d. omega arith; granted = λ j b g. g })) w.sent i.messages)
-        (λ m e.
-        greets_more w (with_sent w (due p.client h)) (record { incs = λ d. omega arith; granted = λ j b g. g }) m
-        (due_greets w c p h at m (sends p.client h m e)));
-    marks = i.marks;
-  };
+      party_greets w c p (record p { client = d }) (logs_after x (newest_block d) w.logs) i at g.id (let e = g.inc in omega (arith, e)));
+  sends = λ c p h s at here. (
+      let v : World = with_sent w (due p.client h) in
+      let more = greets_more w v (record { incs = λ d. omega arith; granted = λ j b g. g }) in
+      record {
+        messages = all_pushed (Greets v) w.sent (due p.client h) (all_more_of (Greets w) (Greets v) more w.sent i.messages)
+            (λ m e. more m (due_greets w c p h at m (sends p.client h m e)));
+        marks = i.marks;
+      });
   hears = λ k m s was goes here. hears_greets w i k m s was here;
   notices = λ k m p was goes at. (
       let kept = keeps_hearing w o k m p was at in
-      party_greets w (with_party w (heard_party p (heard p.client m))) (client_of m) p (heard_party p (heard p.client m)) i at kept.id
-      (let e = kept.inc in omega (arith, e)) refl refl refl);
+      party_greets w (client_of m) p (heard_party p (heard p.client m)) w.logs i at kept.id (let e = kept.inc in omega (arith, e)));
   begins = λ h s t here is.
-      site_greets w (with_site w (begun_site s)) i (begun_site s) s (own_site w h s here) (MarksGrow-refl s.core.state.marks) refl refl
-      (all_found (MarksUpto w) (is_site h) w.sites s i.marks here)
-      (old_greets w (with_site w (begun_site s)) i (begun_site s) s (own_site w h s here) (MarksGrow-refl s.core.state.marks) refl refl);
+      site_greets w i (begun_site s) s (own_site w h s here) (MarksGrow-refl s.core.state.marks) w.sent w.joint
+      (all_found (MarksUpto w) (is_site h) w.sites s i.marks here) (λ all. all);
   finishes = λ h s t here is.
-      site_greets w (with_site w (finished_site s t)) i (finished_site s t) s (own_site w h s here) (MarksGrow-after (ran_of t) s.core.state.marks) refl refl
-      (after_upto (inc_of w) (ran_of t) s.core.state.marks (all_found (MarksUpto w) (is_site h) w.sites s i.marks here))
-      (old_greets w (with_site w (finished_site s t)) i (finished_site s t) s (own_site w h s here) (MarksGrow-after (ran_of t) s.core.state.marks) refl refl);
+      site_greets w i (finished_site s t) s (own_site w h s here) (MarksGrow-after (ran_of t) s.core.state.marks) w.sent w.joint
+      (after_upto (inc_of w) (ran_of t) s.core.state.marks (all_found (MarksUpto w) (is_site h) w.sites s i.marks here)) (λ all. all);
   restarts = λ c p at room. (
       let stored = (all_found (PartyFits w) (is_party c) w.parties p o.parties at).stored in
-      party_greets w (with_party w (restarted_party p)) c p (restarted_party p) i at refl (omega (arith, stored)) refl refl refl);
+      party_greets w c p (restarted_party p) w.logs i at refl (omega (arith, stored)));
   reopens = λ n.
       greetings_more w (reopened_world w n) (record { incs = λ d. omega arith; granted = λ h b. granted_anew w.joint n h b w.sites o.sites }) i.messages
       (all_anew w.joint n (MarksUpto w) (MarksUpto w) (λ s f all. by_restart w.joint n (MarksUpto w) s f all all) w.sites o.sites i.marks);

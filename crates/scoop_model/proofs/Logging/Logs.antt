@@ -1,11 +1,10 @@
 -- The entries that a command adds to the logs: they come after those of its client's block, and other blocks get none. Logs are
 -- looked up by block and by handler. A command changes the shares of one block by a function of each share. So a look-up finds
 -- either the changed share or the one that it found before.
-use Rattle.scoop_model.proofs.Names.{◌≡◌, List, [], ◌∷◌, ◌++◌, map, Some, None, refl, sym, ap, ◌∙◌, subst, arith, append-nil, Option, find, option_map}
-use Rattle.scoop_model.proofs.Names.{if◌then◌else◌, true≢false, ◌⊎◌, inl, inr, unwrap_or, option_map_or, handler_decides, block_decides, EndOnlyLast}
-use Rattle.scoop_model.proofs.Names.{same_block, same_handler, Block, HandlerId, Entry, CallEntry, QueryEntry, EndEntry, by_test, key_found, Command, Reserve}
-use Rattle.scoop_model.proofs.Names.{End, GiveUp, Call, Query, logs_after, fresh_log, with_entry_at, changed_log, BlockLog, HandlerLog, shares_of, is_log_of}
-use Rattle.scoop_model.proofs.Names.{is_share_of, handlers_in}
+use Rattle.scoop_model.proofs.Names.{◌≡◌, List, [], ◌∷◌, ◌++◌, map, Some, None, refl, sym, ap, ◌∙◌, arith, append-nil, Option, find, option_map, if◌then◌else◌}
+use Rattle.scoop_model.proofs.Names.{true≢false, ◌⊎◌, unwrap_or, option_map_or, handler_decides, block_decides, EndOnlyLast, same_handler, Block, HandlerId}
+use Rattle.scoop_model.proofs.Names.{Entry, CallEntry, QueryEntry, EndEntry, by_test, key_found, Command, Reserve, End, GiveUp, Call, Query, logs_after}
+use Rattle.scoop_model.proofs.Names.{fresh_log, with_entry_at, changed_log, BlockLog, HandlerLog, shares_of, is_log_of, is_share_of, handlers_in}
 use Rattle.scoop_model.specs.Step.{with_entry}
 use Rattle.scoop_model.proofs.Order.{LeavesHandler, leaves_at}
 
@@ -93,20 +92,12 @@ reserved_same hs c b h (l ∷ ls) = grind (arith, reserved_same hs c b h ls)
 
 -- a block that was never reserved has no log
 pub unreserved_empty : (b : Block) (h : HandlerId) (logs : List BlockLog) → option_map handlers_in (find (is_log_of b) logs) ≡ None → log_in b h logs ≡ []
-unreserved_empty b h logs none = from (find (is_log_of b) logs) none
-  where
-    from : (o : Option BlockLog) → option_map handlers_in o ≡ None → entries_in (find (is_share_of h) (shares_in o)) ≡ []
-    from None e = refl
-    from (Some l) e = absurd (cc)
+unreserved_empty b h logs none = grind (arith, option_map)
 
 -- a block's shares are of the handlers that its reserve named
 pub named_shares : (b : Block) (logs : List BlockLog) (hs : List HandlerId) → option_map handlers_in (find (is_log_of b) logs) ≡ Some hs
     → map (λ (x : HandlerLog). x.handler) (shares_of b logs) ≡ hs
-named_shares b logs hs named = from (find (is_log_of b) logs) named
-  where
-    from : (o : Option BlockLog) → option_map handlers_in o ≡ Some hs → map (λ (x : HandlerLog). x.handler) (shares_in o) ≡ hs
-    from None e = absurd (cc)
-    from (Some l) e = cc
+named_shares b logs hs named = grind (arith, option_map)
 
 -- ---- a command
 
@@ -121,10 +112,8 @@ log_other GiveUp c b h logs apart = refl
 -- the block's log has the command's entries after its own
 pub log_here : (x : Command) (b : Block) (h : HandlerId) (logs : List BlockLog) → HasLine b h logs → GrowsBy b h logs (logs_after x b logs) (added x h)
 log_here (Reserve hs) b h logs has = reserved_same hs b b h logs ∙ sym (append-nil (log_in b h logs))
-log_here (Call k r) b h logs has =
-    changed_here b h (with_entry_at k (CallEntry r)) (added (Call k r) h) logs (leaves_at k (CallEntry r)) (adds_at k (CallEntry r) h) has
-log_here (Query k r) b h logs has =
-    changed_here b h (with_entry_at k (QueryEntry r)) (added (Query k r) h) logs (leaves_at k (QueryEntry r)) (adds_at k (QueryEntry r) h) has
+log_here (Call k r) b h logs has = grind (arith, changed_here, leaves_at, adds_at)
+log_here (Query k r) b h logs has = grind (arith, changed_here, leaves_at, adds_at)
 log_here End b h logs has = changed_here b h (with_entry EndEntry) (EndEntry ∷ []) logs (λ l. refl) (λ l own. refl) has
 log_here GiveUp b h logs has = sym (append-nil (log_in b h logs))
 
@@ -145,23 +134,10 @@ pub record IsAdded (x : Command) (c b : Block) (h : HandlerId) (logs : List Bloc
 
 -- none of a command's entries but the last is an End
 pub added_last : (x : Command) (h : HandlerId) → EndOnlyLast (added x h)
-added_last (Reserve hs) h = refl
 added_last (Call k r) h = by_test (λ t. EndOnlyLast (if t then CallEntry r ∷ [] else [])) (same_handler h k) (λ here. refl) (λ there. refl)
 added_last (Query k r) h = by_test (λ t. EndOnlyLast (if t then QueryEntry r ∷ [] else [])) (same_handler h k) (λ here. refl) (λ there. refl)
-added_last End h = refl
-added_last GiveUp h = refl
+added_last x h = refl
 
 -- any log stays, or has the command's entries after its own
 pub log_after : (x : Command) (c b : Block) (h : HandlerId) (logs : List BlockLog) → (log_in b h (logs_after x c logs) ≡ log_in b h logs) ⊎ IsAdded x c b h logs
-log_after x c b h logs =
-    by_test (λ t. same_block c b ≡ t → (log_in b h (logs_after x c logs) ≡ log_in b h logs) ⊎ IsAdded x c b h logs) (same_block c b)
-    (λ _ is.
-    let same : c ≡ b = (block_decides c b).0 is in
-    subst (λ d. (log_in b h (logs_after x d logs) ≡ log_in b h logs) ⊎ IsAdded x d b h logs) (sym same) (at_share (find (is_share_of h) (shares_of b logs)) refl))
-    (λ _ is. inl (log_other x c b h logs (λ same. true≢false (sym ((block_decides c b).1 same) ∙ is))))
-    refl
-  where
-    at_share : (o : Option HandlerLog) → find (is_share_of h) (shares_of b logs) ≡ o → (log_in b h (logs_after x b logs) ≡ log_in b h logs) ⊎ IsAdded x b b h logs
-    at_share None none = inl (log_nowhere x b h logs none)
-    at_share (Some l) is =
-        let has : HasLine b h logs = record { share = l; found = is } in inr (record { block = refl; share = has; grows = log_here x b h logs has })
+log_after x c b h logs = grind (arith, block_decides, log_other, true≢false, log_nowhere, log_here)

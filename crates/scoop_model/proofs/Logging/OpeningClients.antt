@@ -2,13 +2,12 @@
 -- stage shows which messages of the block were sent. No Open is sent while it locks or is given up, and an Unlock only after all
 -- handlers have sent Opened. Each case of the client's table leaves the stage or goes on to the next one.
 use Rattle.scoop_model.proofs.Names.{◌≡◌, List, [], ◌∷◌, Some, None, refl, sym, ap, ◌∙◌, subst, arith, append-nil, Ok, find, option_map, true, false}
-use Rattle.scoop_model.proofs.Names.{true≢false, ◌||◌, Bool, ◌⊎◌, inl, inr, ⊎_elim, not, filter, same_Some, none-some, AllByRecursion, list_any, block_decides}
-use Rattle.scoop_model.proofs.Names.{same_block, Message, Open, Block, ClientId, HandlerId, all_found, by_test, StepRow, steps_over, one_is_locked}
-use Rattle.scoop_model.proofs.Names.{all_are_locked, is_busy, one_is_opened, all_are_opened, is_unlocked, is_given_back, asked, has, without, is_lowest}
-use Rattle.scoop_model.proofs.Names.{is_open_in, fresh, ReservationState, at_stage, Stage, GivingBack, Locking, Opening, Unlocking, Step, due, heard}
-use Rattle.scoop_model.proofs.Names.{ClientState, WindowState, Command, of_party, locking_giving, opening_giving, some_same, by_party, id_found, newest_block}
-use Rattle.scoop_model.proofs.Names.{with_sent, logs_after, World, Party, BlockLog, set_party, is_party, log_of, party_of, id_of, handlers_of, HandlerLog}
-use Rattle.scoop_model.proofs.Names.{shares_of, is_log_of, handlers_in}
+use Rattle.scoop_model.proofs.Names.{true≢false, ◌||◌, Bool, ◌⊎◌, inl, inr, filter, same_Some, none-some, AllByRecursion, list_any, block_decides, same_block}
+use Rattle.scoop_model.proofs.Names.{Message, Open, Block, ClientId, HandlerId, all_found, by_test, StepRow, one_is_locked, all_are_locked, one_is_opened}
+use Rattle.scoop_model.proofs.Names.{all_are_opened, is_unlocked, is_given_back, asked, has, without, is_open_in, fresh, ReservationState, Stage, GivingBack}
+use Rattle.scoop_model.proofs.Names.{Locking, Opening, Unlocking, Step, due, heard, ClientState, WindowState, Command, of_party, locking_giving, opening_giving}
+use Rattle.scoop_model.proofs.Names.{some_same, by_party, id_found, newest_block, with_sent, logs_after, World, Party, BlockLog, set_party, is_party, log_of}
+use Rattle.scoop_model.proofs.Names.{party_of, id_of, handlers_of, HandlerLog, shares_of, is_log_of, handlers_in}
 use Rattle.scoop_model.proofs.Order.{IsNamed, PartyFits, Ordered, Tells, all_more_of, all_pushed, has_without, is_gone_one, none_in_empty, next_is_new}
 use Rattle.scoop_model.proofs.Logging.Facts.{PartyLogs, Logging}
 use Rattle.scoop_model.proofs.Logging.Windows.{found_has, window_handler}
@@ -29,21 +28,14 @@ block_own w l c p at r held =
 
 one_owner : (w : World) → Logging w → (c d : ClientId) (p q : Party) → party_of c w ≡ Some p → party_of d w ≡ Some q
     → (r s : ReservationState) → p.client.reservation ≡ Some r → q.client.reservation ≡ Some s → s.block ≡ r.block → s ≡ r
-one_owner w l c d p q at there r s held has same =
-    let own : d ≡ c = sym (block_own w l d q there s has) ∙ ap (λ (b : Block). b.client) same ∙ block_own w l c p at r held in
-    let one : q ≡ p = some_same (party_of d w) q p there (ap (λ j. party_of j w) own ∙ at) in
-    some_same p.client.reservation s r (ap (λ (y : Party). y.client.reservation) (sym one) ∙ has) held
+one_owner w l c d p q at there r s held has same = grind (arith, block_own, some_same)
 
 -- ---- what a client sends
-
-opening_locking : Opening ≡ Locking → ⊥
-opening_locking e = cc
 
 -- no Open of this block is sent, where no reservation of it is opening
 due_quiet : (b : Block) (p : Party) (h : HandlerId) → ((r : ReservationState) → p.client.reservation ≡ Some r → r.block ≡ b → r.stage ≡ Opening → ⊥)
     → (m : Message) → Sends p.client h m → is_open_of b m ≡ false
-due_quiet b p h off m (sends_open r held at is) =
-    by_test (λ t. same_block r.block b ≡ t → t ≡ false) (same_block r.block b) (λ _ e. absurd (off r held ((block_decides r.block b).0 e) at)) (λ _ e. refl) refl
+due_quiet b p h off m (sends_open r held at is) = grind (arith, block_decides)
 due_quiet b p h off m s = refl
 
 pub unlocking_is : (stage : Stage) → is_open_in stage ≡ true → stage ≡ Unlocking
@@ -79,7 +71,7 @@ module _ (w : World) (o : Ordered w) (l : Logging w) (i : Openings w) (c : Clien
   due_shows h m (sends_open r held is left) = named_there r held h ((i.parties c p at r held).within h left)
   due_shows h m (sends_unlock r held is left) = (named_there r held h ((i.parties c p at r held).within h left), inl (opened_at_all r held is))
   due_shows h m (sends_back r held is left) = (named_there r held h ((i.parties c p at r held).within h left), inr (given_back r held is))
-  due_shows h m (sends_log r x held opened window some) =
+  due_shows h m (sends_log r x held free opened window some) =
       let own = window_handler h p.client.windows x window in
       let member : has r.handlers x.handler ≡ true =
       ap (has r.handlers) own ∙ ap (λ hs. has hs h) (sym (logged_party.block r held).handlers)
@@ -115,10 +107,9 @@ module _ (w : World) (o : Ordered w) (l : Logging w) (i : Openings w) (c : Clien
 
     stage_sent : (d : ClientId) (q : Party) → party_of d w ≡ Some q → (s : ReservationState) → q.client.reservation ≡ Some s → (stage : Stage) → s.stage ≡ stage
         → StageOpened w s stage → StageOpened sent_on s stage
-    stage_sent d q there s has Locking is f = still_none s.block (not_opening d q there s has (λ e. opening_locking (e ∙ is))) f
-    stage_sent d q there s has Opening is f = f
-    stage_sent d q there s has Unlocking is f = f
+    stage_sent d q there s has Locking is f = still_none s.block (not_opening d q there s has (λ e. cc)) f
     stage_sent d q there s has GivingBack is f = still_none s.block (not_opening d q there s has (λ e. opening_giving (e ∙ is))) f
+    stage_sent d q there s has stage is f = f
 
     pub sends_openings : Openings sent_on
     sends_openings = record {
@@ -191,36 +182,10 @@ module _ (w : World) (c : ClientState) (fits : (r : ReservationState) → c.rese
       → (now : Stage) (b : Block) → r.block ≡ b → ((q : ReservationState) → c.reservation ≡ Some q → q.block ≡ b → q.stage ≡ GivingBack) → now ≡ GivingBack
   not_given r stage held at off now b same left = absurd (off (sym at ∙ left r held same))
 
-  unlocking_giving : Unlocking ≡ GivingBack → ⊥
-  unlocking_giving e = cc
-
   step_from : (m : Message) → Shows w m → (r : ReservationState) → c.reservation ≡ Some r → (s : ReservationState) (st : Step) → StepRow r m s st → IsFrom w c s
-  step_from m shows r held s st (steps_over n) = stays r held
-  step_from m shows r held s st (one_is_locked h at low rest) =
-      let f = fits r held in
-      record {
-        opened = record { within = λ x e. f.within x (has_without h x r.left e); stage = subst (StageOpened w r) at f.stage };
-        given_up = λ b g same left. not_given r Locking held at locking_giving Locking b same left;
-      }
-  step_from m shows r held s st (all_are_locked h at low all) =
-      record {
-        opened = record { within = λ x e. e; stage = λ x e off. absurd (true≢false (sym e ∙ off)) };
-        given_up = λ b g same left. not_given r Locking held at locking_giving Opening b same left;
-      }
-  step_from m shows r held s st (is_busy h at low) = stays r held
-  step_from m shows r held s st (one_is_opened h at is rest) =
-      let f = fits r held in
-      let before : StageOpened w r Opening = subst (StageOpened w r) at f.stage in
-      record {
-        opened = record {
-          within = λ x e. f.within x (has_without h x r.left e);
-          stage = λ x e off.
-              by_test (λ t. has r.left x ≡ t → IsOpenedAt w x r.block) (has r.left x)
-              (λ _ there. subst (λ j. IsOpenedAt w j r.block) (is_gone_one h x r.left there off) shows)
-              (λ _ gone. before x e gone) refl;
-        };
-        given_up = λ b g same left. not_given r Opening held at opening_giving Opening b same left;
-      }
+  step_from m shows r held s st (one_is_locked h at low rest) = grind (arith, has_without, not_given, locking_giving)
+  step_from m shows r held s st (all_are_locked h at low all) = grind (arith, true≢false, not_given, locking_giving)
+  step_from m shows r held s st (one_is_opened h at is rest) = grind (arith, has_without, is_gone_one, not_given, opening_giving)
   step_from m shows r held s st (all_are_opened h at is all) =
       let f = fits r held in
       let before : StageOpened w r Opening = subst (StageOpened w r) at f.stage in
@@ -228,24 +193,15 @@ module _ (w : World) (c : ClientState) (fits : (r : ReservationState) → c.rese
         opened = record {
           within = λ x e. e;
           stage = λ x e.
-              by_test (λ t. has r.left x ≡ t → IsOpenedAt w x r.block) (has r.left x)
-              (λ _ there. subst (λ j. IsOpenedAt w j r.block) (is_gone_one h x r.left there (none_in_empty (without h r.left) x all)) shows)
-              (λ _ gone. before x e gone) refl;
+              by_test (λ _. IsOpenedAt w x r.block) (has r.left x)
+              (λ there. subst (λ j. IsOpenedAt w j r.block) (is_gone_one h x r.left there (none_in_empty (without h r.left) x all)) shows)
+              (λ gone. before x e gone);
         };
         given_up = λ b g same left. not_given r Opening held at opening_giving Unlocking b same left;
       }
-  step_from m shows r held s st (is_unlocked h at is) =
-      let f = fits r held in
-      record {
-        opened = record { within = λ x e. f.within x (has_without h x r.left e); stage = subst (StageOpened w r) at f.stage };
-        given_up = λ b g same left. not_given r Unlocking held at unlocking_giving Unlocking b same left;
-      }
-  step_from m shows r held s st (is_given_back h at is) =
-      let f = fits r held in
-      record {
-        opened = record { within = λ x e. f.within x (has_without h x r.left e); stage = subst (StageOpened w r) at f.stage };
-        given_up = λ b g same left. refl;
-      }
+  step_from m shows r held s st (is_unlocked h at is) = grind (arith, has_without, not_given)
+  step_from m shows r held s st (is_given_back h at is) = grind (arith, has_without)
+  step_from m shows r held s st row = stays r held
 
   hears_from : (m : Message) (d : ClientState) → Notices c m d → Shows w m → AllFrom d
   hears_from m d (steps_on n r s st held row) shows = λ q e. subst (IsFrom w c) (same_Some s q e) (step_from m shows r held s st row)
@@ -264,11 +220,11 @@ none_before w b none (m ∷ ms) all = ap (λ t. t || list_any (is_open_of b) ms)
   where
     no_open : (m : Message) → Tells w m → is_open_of b m ≡ false
     no_open (Open h y) t =
-        by_test (λ u. same_block y b ≡ u → u ≡ false) (same_block y b)
-        (λ _ e.
+        by_test (λ u. u ≡ false) (same_block y b)
+        (λ e.
         let there : handlers_of b w ≡ Some t.handlers = ap (λ z. handlers_of z w) (sym ((block_decides y b).0 e)) ∙ t.set in
         absurd (cc))
-        (λ _ e. refl) refl
+        (λ e. refl)
     no_open x t = refl
 
 pub has_filtered : (test : HandlerId → Bool) (hs : List HandlerId) (x : HandlerId) → has (filter test hs) x ≡ true → has hs x ≡ true
@@ -289,14 +245,7 @@ module _ (w : World) (o : Ordered w) (p : Party) (f : PartyFits w p) (l : PartyL
 
   from_by : (x : Command) (d : ClientState) → Takes p.client x d → (s : ReservationState) → d.reservation ≡ Some s → IsFrom w p.client s
   from_by x d (takes_reserve hs at_idle begins) s held = subst (IsFrom w p.client) (same_Some (fresh (client.next_block p.client) hs) s held) (fresh_from hs)
-  from_by x d (takes_give_up r own at) s held =
-      subst (IsFrom w p.client) (same_Some (at_stage r GivingBack (asked r.handlers r.left)) s held) (record {
-        opened = record {
-          within = λ h there. has_filtered (λ y. not (has r.left y) || is_lowest y r.left) r.handlers h there;
-          stage = subst (StageOpened w r) at (opened r own).stage;
-        };
-        given_up = λ b g same left. refl;
-      })
+  from_by x d (takes_give_up r own at) s held = grind (arith, same_Some, asked, has_filtered)
   from_by x d t s held = record { opened = opened s held; given_up = λ b g same left. left s held same }
 
   -- the client runs, and its block is its newest
@@ -316,19 +265,14 @@ module _ (w : World) (o : Ordered w) (p : Party) (f : PartyFits w p) (l : PartyL
   -- nothing is logged, or entries of a block that has opened
   added_opened : (x : Command) (d : ClientState) → Takes p.client x d → (b : Block) (h : HandlerId) → IsAdded x (newest_block d) b h w.logs
       → (log_in b h (logs_after x (newest_block d) w.logs) ≡ log_of b h w) ⊎ (IsNamed w h b × IsOpenedAtAll w b)
-  added_opened x d (takes_reserve hs at_idle begins) b h more = inl (more.grows ∙ append-nil (log_of b h w))
   added_opened x d (takes_call k r y running free window room) b h more = inr (logs_running x (running_is p.client running) b h more)
   added_opened x d (takes_query k r y running free window room) b h more = inr (logs_running x (running_is p.client running) b h more)
   added_opened x d (takes_end running free) b h more = inr (logs_running x (running_is p.client running) b h more)
-  added_opened x d (takes_give_up r own at) b h more = inl (more.grows ∙ append-nil (log_of b h w))
+  added_opened x d row b h more = inl (more.grows ∙ append-nil (log_of b h w))
 
   module _ (d : ClientState) (x : Command) (is : client.command p.client x ≡ Ok d) where
     pub command_from : (s : ReservationState) → d.reservation ≡ Some s → IsFrom w p.client s
     command_from = from_by x d (takes p.client d x is)
 
     pub grown_opened : (b : Block) (h : HandlerId) → (log_in b h (logs_after x (newest_block d) w.logs) ≡ log_of b h w) ⊎ (IsNamed w h b × IsOpenedAtAll w b)
-    grown_opened b h =
-        ⊎_elim
-        (λ (same : log_in b h (logs_after x (newest_block d) w.logs) ≡ log_of b h w). inl same)
-        (λ (more : IsAdded x (newest_block d) b h w.logs). added_opened x d (takes p.client d x is) b h more)
-        (log_after x (newest_block d) b h w.logs)
+    grown_opened b h = grind (arith, added_opened, takes, log_after)

@@ -1,21 +1,19 @@
 -- A handler's move keeps the invariant about openings. The one case that opens a block makes its mark open and records the block as
 -- opened in the same event, so an open mark's block has opened. A block that opened stays so, and an Opened is the reply only for
 -- such a block. Running and restarting change no stage.
-use Rattle.scoop_model.proofs.Names.{◌≡◌, ℕ, List, [], ◌∷◌, ◌++◌, map, Some, None, refl, sym, ap, ◌∙◌, subst, arith, append-nil, Option, find, true}
-use Rattle.scoop_model.proofs.Names.{if◌then◌else◌, false, true≢false, ◌==◌, option_to_list, inl, ⊎_elim, IsFalse, AllByRecursion, option_map_or, ⊤, handler_of}
-use Rattle.scoop_model.proofs.Names.{is_for_handler, Message, Open, Log, Unlock, Opened, Block, HandlerId, all_found, by_test, All-mark_of, All-set_mark}
-use Rattle.scoop_model.proofs.Names.{All-add_mark, number-row, block_of-same, replies-row, row, core_of, Hearing, hear, greeting_mark, block_of, fresh_mark}
-use Rattle.scoop_model.proofs.Names.{opened_mark, with_received, without_hold, set_mark, is_held, HasEntries, Row, first_greeting, newer_greeting, lock_granted}
-use Rattle.scoop_model.proofs.Names.{is_opened, unlock_of_a_block_never_held, is_freed, is_taken, repeated_open, Task, ran_of, mark_after, HandlerState, Mark}
-use Rattle.scoop_model.proofs.Names.{AtHeld, AtShut, AtOpen, Note, OpenedNote, all_mapped, by_site, heard_world, heard_site, with_site, begun_site}
-use Rattle.scoop_model.proofs.Names.{finished_site, reopened, reopened_world, newly_opened, World, Site, number_of, is_site, site_of, set_site, sent_at}
-use Rattle.scoop_model.proofs.Names.{has_block, opened_at}
+use Rattle.scoop_model.proofs.Names.{◌≡◌, ℕ, List, [], ◌∷◌, ◌++◌, map, Some, None, refl, sym, ap, ◌∙◌, subst, arith, append-nil, Option, find, true, list_any}
+use Rattle.scoop_model.proofs.Names.{if◌then◌else◌, false, true≢false, inl, ⊎_elim, IsFalse, AllByRecursion, option_map_or, ⊤, handler_of, is_for_handler}
+use Rattle.scoop_model.proofs.Names.{Message, Open, Log, Unlock, Opened, Block, HandlerId, all_found, All-mark_of, All-set_mark, All-add_mark, number-row}
+use Rattle.scoop_model.proofs.Names.{block_of-same, replies-row, row, Hearing, hear, greeting_mark, block_of, opened_mark, with_received, set_mark, is_held}
+use Rattle.scoop_model.proofs.Names.{HasEntries, Row, first_greeting, newer_greeting, lock_granted, is_opened, unlock_of_a_block_never_held, is_freed, is_taken}
+use Rattle.scoop_model.proofs.Names.{repeated_open, Task, ran_of, mark_after, HandlerState, Mark, AtHeld, AtShut, AtOpen, Note, OpenedNote, all_mapped, by_site}
+use Rattle.scoop_model.proofs.Names.{heard_world, heard_site, with_site, begun_site, finished_site, reopened, reopened_world, newly_opened, World, Site}
+use Rattle.scoop_model.proofs.Names.{number_of, is_site, site_of, set_site, sent_at, has_block, own_site, heard_place, site_put}
 use Rattle.scoop_handler.specs.declared.mark.Stage.{Stage}
 use Rattle.scoop_model.proofs.Order.{in_last, in_pushed, hears_row, IsNamed, SiteFits, all_more_of, all_pushed, all_set_site, by_restart, all_anew, found_anew}
 use Rattle.scoop_model.proofs.Sound.{Sound, sent_all}
-use Rattle.scoop_model.proofs.Sites.{own_site}
 use Rattle.scoop_model.proofs.Logging.Openings.{IsOpenedAt, IsMarkOpened, SiteOpened, Shows, Onto, Openings, is_open_of, logs_more, named_more, none_pushed}
-use Rattle.scoop_model.proofs.Logging.Openings.{reservation_more, shows_more, site_more}
+use Rattle.scoop_model.proofs.Logging.Openings.{NoOpen, reservation_more, shows_more, site_more}
 
 -- ---- the marks
 
@@ -34,14 +32,8 @@ module _ (bs new : List Block) (more : (b : Block) → has_block bs b ≡ true �
       (k : Mark) (marks : List Mark) → IsMarkOpened new k → AllByRecursion (IsMarkOpened bs) marks → AllByRecursion (IsMarkOpened new) (set_mark k marks)
   set_opened k marks own all = All-set_mark (IsMarkOpened bs) (IsMarkOpened new) k marks own (λ x apart. others_stay x) all
 
-  shut_not_open : AtShut ≡ AtOpen → ⊥
-  shut_not_open e = cc
-
-  held_not_open : AtHeld ≡ AtOpen → ⊥
-  held_not_open e = cc
-
   was_open : (stage : Stage) → (if is_held stage then AtShut else stage) ≡ AtOpen → stage ≡ AtOpen
-  was_open AtHeld e = absurd (shut_not_open e)
+  was_open AtHeld e = absurd (cc)
   was_open AtOpen e = refl
   was_open AtShut e = e
 
@@ -49,18 +41,13 @@ module _ (bs new : List Block) (more : (b : Block) → has_block bs b ≡ true �
   pub marks-row : (s : HandlerState) (m : Message) (h : Hearing) → Row s m h → ((b : Block) → h.1.note ≡ OpenedNote b → has_block new b ≡ true)
       → AllByRecursion (IsMarkOpened bs) s.marks → AllByRecursion (IsMarkOpened new) h.0.marks
   marks-row s m h (first_greeting x c inc here none room) opens all =
-      All-add_mark (IsMarkOpened bs) (IsMarkOpened new) (greeting_mark c inc) s.marks (not_open (greeting_mark c inc) shut_not_open) others_stay all
-  marks-row s m h (newer_greeting x c inc k here found newer) opens all =
-      set_opened (greeting_mark c inc) s.marks (not_open (greeting_mark c inc) shut_not_open) all
-  marks-row s m h (lock_granted x b k here at newer free clear) opens all =
-      set_opened (fresh_mark b AtHeld) s.marks (not_open (fresh_mark b AtHeld) held_not_open) all
+      All-add_mark (IsMarkOpened bs) (IsMarkOpened new) (greeting_mark c inc) s.marks (not_open (greeting_mark c inc) (λ e. cc)) others_stay all
+  marks-row s m h (newer_greeting x c inc k here found newer) opens all = grind (arith, set_opened, not_open)
+  marks-row s m h (lock_granted x b k here at newer free clear) opens all = grind (arith, set_opened, not_open)
   marks-row s m h (is_opened x b k here at same was room) opens all =
       set_opened (opened_mark k) s.marks (record { opened = λ e. subst (λ y. has_block new y ≡ true) (sym (block_of-same s b k at same)) (opens b refl) }) all
-  marks-row s m h (unlock_of_a_block_never_held x b k here at newer clear) opens all =
-      set_opened (fresh_mark b AtShut) s.marks (not_open (fresh_mark b AtShut) shut_not_open) all
-  marks-row s m h (is_freed x b k here at same holds) opens all =
-      set_opened (without_hold k) s.marks (mark_stays k (without_hold k) refl (was_open k.stage)
-      (All-mark_of (IsMarkOpened bs) b.client s.marks k all at.found)) all
+  marks-row s m h (unlock_of_a_block_never_held x b k here at newer clear) opens all = grind (arith, set_opened, not_open)
+  marks-row s m h (is_freed x b k here at same holds) opens all = grind (arith, set_opened, mark_stays, was_open, All-mark_of)
   marks-row s m h (is_taken x b n es k here at next goes_on room) opens all =
       let old = All-mark_of (IsMarkOpened bs) b.client s.marks k all at.heard.found in
       set_opened (with_received _ _ k) s.marks (mark_stays k (with_received _ _ k) refl (λ e. e) old) all
@@ -89,15 +76,7 @@ module _ (bs new : List Block) (more : (b : Block) → has_block bs b ≡ true �
       (v : World) (s : Site) (o : Option Message) → site_of (number_of s) v ≡ Some s → s.opened ≡ new → ShowsBack s.core.state o → (m : Message) → o ≡ Some m
       → Shows v m
   back_shows v s None here is t m e = absurd (cc)
-  back_shows v s (Some n) here is t m e = let same : n ≡ m = cc in subst (Shows v) same (told n t)
-    where
-      told : (n : Message) → ShowsBack s.core.state (Some n) → Shows v n
-      told (Open h b) t = absurd t
-      told (Opened h b) t =
-          ap (λ j. has_block (opened_at j v) b) t.0 ∙ ap (λ o. has_block (option_map_or (λ x. x.opened) o []) b) here ∙ ap (λ bs. has_block bs b) is ∙ t.1
-      told (Unlock h b) t = absurd t
-      told (Log h b n es) t = absurd t
-      told n t = tt
+  back_shows v s (Some n) here is t m e = grind (arith, has_block, option_map_or)
 
 -- ---- the sites of a world, once one of them goes on
 
@@ -116,26 +95,26 @@ no_open : (b : Block) (m : Message) → IsFalse (is_for_handler m) → is_open_o
 no_open b (Open h y) back = absurd (true≢false back)
 no_open b m back = refl
 
--- one handler goes on, and perhaps replies
+-- one handler goes on, and no Open is among the new messages
 module _
-    (w : World) (i : Openings w) (s old : Site) (here : site_of (number_of s) w ≡ Some old) (more : OpenedMore old s) (o : Option Message) (js : List Block)
-    (quiet : (b : Block) (m : Message) → o ≡ Some m → is_open_of b m ≡ false) where
+    (w : World) (s old : Site) (here : site_of (number_of s) w ≡ Some old) (more : OpenedMore old s) (ms : List Message) (js : List Block)
+    (still : (b : Block) → NoOpen w b → list_any (is_open_of b) ms ≡ false) where
   abbrev after : World
-  after = record w { sites = set_site s w.sites; sent = w.sent ++ option_to_list o; joint = js }
+  after = record w { sites = set_site s w.sites; sent = ms; joint = js }
 
-  site_onto : Onto w after
+  pub site_onto : Onto w after
   site_onto = record {
     sets = λ b hs e. e;
     opened = opened_set w s old here more;
-    given_up = λ b g. record { handlers = g.handlers; set = g.set; none = none_pushed b w.sent o g.none (quiet b); left = g.left };
+    given_up = λ b g. record { handlers = g.handlers; set = g.set; none = still b g.none; left = g.left };
   }
 
-  site_goes_on : SiteOpened after s → ((m : Message) → o ≡ Some m → Shows after m) → Openings after
-  site_goes_on own new = record {
-    messages = all_pushed (Shows after) w.sent o (all_more_of (Shows w) (Shows after) (shows_more w after site_onto) w.sent i.messages) new;
+  site_goes_on : Openings w → SiteOpened after s → (AllByRecursion (Shows after) w.sent → AllByRecursion (Shows after) ms) → Openings after
+  site_goes_on i own shows = record {
+    messages = shows (all_more_of (Shows w) (Shows after) (shows_more w after site_onto) w.sent i.messages);
     logs = logs_more w after site_onto (λ b h. inl refl) i.logs;
     sites = all_set_site (SiteOpened w) (SiteOpened after) s w.sites own (site_more w after site_onto) i.sites;
-    parties = λ c p at r held. reservation_more w after site_onto r (λ none. none_pushed r.block w.sent o none (quiet r.block)) (i.parties c p at r held);
+    parties = λ c p at r held. reservation_more w after site_onto r (still r.block) (i.parties c p at r held);
   }
 
 -- ---- a handler hears
@@ -162,7 +141,7 @@ module _ (w : World) (sound : Sound w) (i : Openings w) (k : ℕ) (m : Message) 
   same_number = number-row s.core.state m now (row s.core.state m)
 
   still_here : site_of (number_of later) w ≡ Some s
-  still_here = subst (λ j. site_of j w ≡ Some s) (sym same_number) (own_site w (handler_of m) s found)
+  still_here = heard_place w m s found
 
   new_block : (b : Block) → now.1.note ≡ OpenedNote b → has_block later.opened b ≡ true
   new_block b e = subst (λ n. has_block (s.opened ++ newly_opened n) b ≡ true) (sym e) (in_last s.opened b)
@@ -186,28 +165,26 @@ module _ (w : World) (sound : Sound w) (i : Openings w) (k : ℕ) (m : Message) 
   more_opened : OpenedMore s later
   more_opened b e = in_front s.opened (newly_opened now.1.note) b e
 
+  still_none : (b : Block) → NoOpen w b → list_any (is_open_of b) heard_after.sent ≡ false
+  still_none b none = none_pushed b w.sent now.1.reply none (reply_quiet b)
+
   pub now_onto : Onto w heard_after
-  now_onto = site_onto w i later s still_here more_opened now.1.reply heard_after.joint reply_quiet
+  now_onto = site_onto w later s still_here more_opened heard_after.sent heard_after.joint still_none
 
   pub hears_openings : Openings heard_after
   hears_openings =
-      site_goes_on w i later s still_here more_opened now.1.reply heard_after.joint reply_quiet
+      site_goes_on w later s still_here more_opened heard_after.sent heard_after.joint still_none i
       (record {
         named = λ b has. named_more w heard_after now_onto (number_of later) b (subst (λ j. IsNamed w j b) (sym same_number) (by_note now.1.note refl b has));
         marks = marks-row s.opened later.opened more_opened s.core.state m now (row s.core.state m) new_block old_site.marks;
       })
-      (back_shows s.opened later.opened more_opened heard_after later now.1.reply there refl
-      (back-row s.opened later.opened more_opened s.core.state m now (row s.core.state m) new_block old_site.marks))
-    where
-      there : site_of (number_of later) heard_after ≡ Some later
-      there = by_site (λ q. q ≡ Some later) w later s (number_of later) still_here (λ same. refl) (λ apart. absurd (apart refl))
+      (λ all. all_pushed (Shows heard_after) w.sent now.1.reply all
+      (back_shows s.opened later.opened more_opened heard_after later now.1.reply (site_put w later s still_here) refl
+      (back-row s.opened later.opened more_opened s.core.state m now (row s.core.state m) new_block old_site.marks)))
 
 -- ---- an entry runs
 
 module _ (w : World) (i : Openings w) (h : HandlerId) (s : Site) (found : site_of h w ≡ Some s) where
-  nothing_sent : (b : Block) (m : Message) → None ≡ Some m → is_open_of b m ≡ false
-  nothing_sent b m e = absurd (cc)
-
   site_opened : SiteOpened w s
   site_opened = all_found (SiteOpened w) (is_site h) w.sites s i.sites found
 
@@ -217,15 +194,14 @@ module _ (w : World) (i : Openings w) (h : HandlerId) (s : Site) (found : site_o
   quiet_site t same opened marks =
       let there : site_of (number_of t) w ≡ Some s = subst (λ j. site_of j w ≡ Some s) (sym same) (own_site w h s found) in
       let more : OpenedMore s t = λ b e. ap (λ bs. has_block bs b) opened ∙ e in
-      subst (λ ms. Openings (record w { sites = set_site t w.sites; sent = ms })) (append-nil w.sent)
-      (site_goes_on w i t s there more None w.joint nothing_sent
+      site_goes_on w t s there more w.sent w.joint (λ b none. none) i
       (record {
         named = λ b has.
-            named_more w (after w i t s there more None w.joint nothing_sent) (site_onto w i t s there more None w.joint nothing_sent) (number_of t) b
+            named_more w (with_site w t) (site_onto w t s there more w.sent w.joint (λ b none. none)) (number_of t) b
             (subst (λ j. IsNamed w j b) (sym same) (site_opened.named b (ap (λ bs. has_block bs b) (sym opened) ∙ has)));
         marks = subst (λ bs. AllByRecursion (IsMarkOpened bs) t.core.state.marks) (sym opened) marks;
       })
-      (λ m e. absurd (cc)))
+      (λ all. all)
 
   pub begins_openings : Openings (with_site w (begun_site s))
   begins_openings = quiet_site (begun_site s) refl refl site_opened.marks
@@ -238,8 +214,7 @@ module _ (w : World) (i : Openings w) (h : HandlerId) (s : Site) (found : site_o
 -- ---- a node restarts
 
 pub same_list : (n : ℕ) (s : Site) → (reopened n s).opened ≡ s.opened
-same_list n s =
-    by_test (λ t. (if t then record s { core = core_of s.core.class s.stored false } else s).opened ≡ s.opened) (s.node == n) (λ here. refl) (λ there. refl)
+same_list n s = grind arith
 
 pub opened_anew : (js : List Block) (n : ℕ) (h : HandlerId) (sites : List Site) → AllByRecursion (SiteFits js) sites
     → option_map_or (λ (s : Site). s.opened) (find (is_site h) (map (reopened n) sites)) [] ≡ option_map_or (λ (s : Site). s.opened) (find (is_site h) sites) []
@@ -249,11 +224,7 @@ opened_anew js n h sites fits =
 
 module _ (w : World) (fits : AllByRecursion (SiteFits w.joint) w.sites) (i : Openings w) (n : ℕ) where
   pub anew_onto : Onto w (reopened_world w n)
-  anew_onto = record {
-    sets = λ b hs e. e;
-    opened = λ h b o. ap (λ bs. has_block bs b) (opened_anew w.joint n h w.sites fits) ∙ o;
-    given_up = λ b g. record { handlers = g.handlers; set = g.set; none = g.none; left = g.left };
-  }
+  anew_onto = grind (arith, has_block, opened_anew)
 
   site_anew : (s : Site) → SiteFits w.joint s → SiteOpened w s → SiteOpened (reopened_world w n) (reopened n s)
   site_anew s f o = grind (arith, by_restart, site_more)

@@ -101,10 +101,9 @@ module _ (w v : World) (x : Onto w v) where
   site_more s o = record { named = λ b e. named_more (number_of s) b (o.named b e); marks = o.marks }
 
   stage_more : (r : ReservationState) → (NoOpen w r.block → NoOpen v r.block) → (stage : Stage) → StageOpened w r stage → StageOpened v r stage
-  stage_more r none Locking o = none o
   stage_more r none Opening o = λ h e f. x.opened h r.block (o h e f)
   stage_more r none Unlocking o = λ h e. x.opened h r.block (o h e)
-  stage_more r none GivingUp o = none o
+  stage_more r none stage o = none o
 
   pub reservation_more : (r : ReservationState) → (NoOpen w r.block → NoOpen v r.block) → ReservationOpened w r → ReservationOpened v r
   reservation_more r none o = record { within = o.within; stage = stage_more r none r.stage o.stage }

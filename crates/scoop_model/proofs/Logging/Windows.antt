@@ -1,11 +1,11 @@
 -- How a client's windows change beside the log: an entry more, an End more, and a count that is acknowledged. A window fits its
 -- log where the acknowledged entries and the window's own, one after the other, are the log. Each change of a window is looked
 -- at alone, and then among the windows of a block, of which one changes.
-use Rattle.scoop_model.proofs.Names.{◌≡◌, ℕ, ◌+◌, ◌<◌, List, [], ◌∷◌, ◌++◌, map, Some, None, refl, sym, ap, ◌∙◌, subst, arith, ◌≤◌, Option, find, option_map}
-use Rattle.scoop_model.proofs.Names.{true, if◌then◌else◌, ◌&&◌, take, false, true≢false, length, ◌-◌, ◌^◌, nat_le, append_assoc, drop, length-append}
-use Rattle.scoop_model.proofs.Names.{length-drop, take-append-drop, length-take-le, nat_tests, handler_decides, is_end, same_handler, HandlerId, Entry}
-use Rattle.scoop_model.proofs.Names.{CallEntry as Call, QueryEntry as Query, EndEntry as End, ends-append, by_test, key_found, has, up_to, WindowState, logged}
-use Rattle.scoop_model.proofs.Names.{acknowledged, window_of, at_window, with_entry, with_end, first_entries, fresh_window, is_ended, newly, up_to_end}
+use Rattle.scoop_model.proofs.Names.{◌≡◌, ℕ, ◌+◌, ◌<◌, List, [], ◌∷◌, ◌++◌, map, Some, refl, sym, ap, ◌∙◌, subst, arith, ◌≤◌, find, option_map, true}
+use Rattle.scoop_model.proofs.Names.{if◌then◌else◌, take, false, true≢false, length, ◌-◌, ◌^◌, nat_le, append_assoc, drop, length-append, length-drop}
+use Rattle.scoop_model.proofs.Names.{take-append-drop, length-take-le, nat_tests, handler_decides, is_end, same_handler, HandlerId, Entry, CallEntry as Call}
+use Rattle.scoop_model.proofs.Names.{QueryEntry as Query, EndEntry as End, ends-append, by_test, key_found, has, up_to, WindowState, logged, acknowledged}
+use Rattle.scoop_model.proofs.Names.{window_of, at_window, with_entry, with_end, first_entries, fresh_window, is_ended, newly, up_to_end}
 use Rattle.scoop_model.proofs.Logging.Facts.{WindowFits, IsLastQuery}
 
 -- ---- which window is found
@@ -39,29 +39,12 @@ window_other k h f stays (l ∷ ls) apart = grind (arith, handler_decides, windo
 pub by_window : (Q : HandlerId → WindowState → Type 0) (k : HandlerId) (f : WindowState → WindowState) → StaysAt f → (ls : List WindowState)
     → ((l : WindowState) → window_of k ls ≡ Some l → Q k (f l)) → ((h : HandlerId) (l : WindowState) → (k ≡ h → ⊥) → window_of h ls ≡ Some l → Q h l)
     → (h : HandlerId) (l : WindowState) → window_of h (at_window k f ls) ≡ Some l → Q h l
-by_window Q k f stays ls own other h l found =
-    by_test (λ t. same_handler k h ≡ t → Q h l) (same_handler k h)
-    (λ _ is.
-    let same : k ≡ h = (handler_decides k h).0 is in
-    subst (λ j. Q j l) same (from (window_of k ls) refl (sym (window_own k f stays ls)
-    ∙ subst (λ j. window_of j (at_window k f ls) ≡ Some l) (sym same) found)))
-    (λ _ is.
-    let apart : k ≡ h → ⊥ = λ e. true≢false (sym ((handler_decides k h).1 e) ∙ is) in
-    other h l apart (sym (window_other k h f stays ls apart) ∙ found))
-    refl
-  where
-    from : (o : Option WindowState) → window_of k ls ≡ o → option_map f o ≡ Some l → Q k l
-    from None none e = absurd (cc)
-    from (Some x) is e = let same : f x ≡ l = cc in subst (Q k) same (own x is)
+by_window Q k f stays ls own other h l found = grind (arith, handler_decides, window_own, true≢false, window_other, option_map)
 
 -- the same, where all of them change
 pub by_all : (Q : HandlerId → WindowState → Type 0) (f : WindowState → WindowState) → StaysAt f → (ls : List WindowState)
     → ((h : HandlerId) (l : WindowState) → window_of h ls ≡ Some l → Q h (f l)) → (h : HandlerId) (l : WindowState) → window_of h (map f ls) ≡ Some l → Q h l
-by_all Q f stays ls each h l found = from (window_of h ls) refl (sym (window_in_all h f stays ls) ∙ found)
-  where
-    from : (o : Option WindowState) → window_of h ls ≡ o → option_map f o ≡ Some l → Q h l
-    from None none e = absurd (cc)
-    from (Some x) is e = let same : f x ≡ l = cc in subst (Q h) same (each h x is)
+by_all Q f stays ls each h l found = grind (arith, window_in_all, option_map)
 
 pub handlers_at_window : (k : HandlerId) (f : WindowState → WindowState) → StaysAt f → (ls : List WindowState) → handlers_at (at_window k f ls) ≡ handlers_at ls
 handlers_at_window k f stays [] = refl
@@ -151,25 +134,11 @@ query_logged log l r = grind (arith, length-append)
 
 -- a count stays below the query that waits
 up_to_below : (h : HandlerId) (n q : ℕ) → 0 < q → up_to h n (Some (h, q)) < q
-up_to_below h n q pos =
-    by_test (λ t. same_handler h h ≡ t → (if t && nat_le q n then q - 1 else n) < q) (same_handler h h)
-    (λ _ is. by_test (λ u. nat_le q n ≡ u → (if u then q - 1 else n) < q) (nat_le q n) (λ _ le. omega arith) (λ _ off. grind (arith, nat_tests)) refl)
-    (λ _ is. absurd (true≢false (sym ((handler_decides h h).1 refl) ∙ is))) refl
+up_to_below h n q pos = grind (arith, nat_le, nat_tests, true≢false, handler_decides)
 
 pub query_acknowledged : (log : List Entry) (h : HandlerId) (n q : ℕ) (l : WindowState) → nat_le (up_to h n (Some (h, q))) l.acked ≡ false → IsLastQuery log l q
     → IsLastQuery log (acknowledged (up_to h n (Some (h, q))) l) q
-query_acknowledged log h n q l new is =
-    let k = up_to h n (Some (h, q)) in
-    let waiting = is.waiting in
-    let below = up_to_below h n q (omega (arith, waiting)) in
-    let past : l.acked < k = grind (arith, nat_tests) in
-    record {
-      before = is.before;
-      request = is.request;
-      last = is.last;
-      number = is.number ∙ sym (acknowledged_logged k l);
-      waiting = omega (arith, below, past);
-    }
+query_acknowledged log h n q l new is = grind (arith, up_to_below, nat_tests, acknowledged_logged)
 
 -- ---- the entries of one Log
 

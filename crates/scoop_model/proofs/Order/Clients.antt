@@ -2,10 +2,10 @@
 -- A Locked that it hears was sent, so the handler has granted the lock, and a granted lock stays granted. An Open is due only once
 -- no handler is left, so its block was granted at each of its handlers.
 use Rattle.scoop_model.proofs.Names.{◌≡◌, ℕ, List, [], ◌∷◌, Some, refl, sym, ◌∙◌, subst, arith, true, ◌&&◌, false, true≢false, length, Bool, eqb-true}
-use Rattle.scoop_model.proofs.Names.{same_Some, handler_decides, client_of, Message, HandlerId, all_found, by_test, StepRow, steps_over, one_is_locked}
-use Rattle.scoop_model.proofs.Names.{all_are_locked, is_busy, one_is_opened, all_are_opened, is_unlocked, is_given_back, has, is_empty, without}
-use Rattle.scoop_model.proofs.Names.{ReservationState, Step, heard_row, due, heard, HeardRow, ClientState, ClientNote, with_sent, with_party, heard_party}
-use Rattle.scoop_model.proofs.Names.{restarted_party, World, Party, is_party, sent_at, party_of}
+use Rattle.scoop_model.proofs.Names.{same_Some, handler_decides, client_of, Message, HandlerId, all_found, by_test, StepRow, one_is_locked, all_are_locked}
+use Rattle.scoop_model.proofs.Names.{one_is_opened, all_are_opened, is_unlocked, is_given_back, has, is_empty, without, ReservationState, Step, heard_row, due}
+use Rattle.scoop_model.proofs.Names.{heard, HeardRow, ClientState, ClientNote, with_sent, with_party, heard_party, restarted_party, World, Party, is_party}
+use Rattle.scoop_model.proofs.Names.{sent_at, party_of}
 use Rattle.scoop_model.proofs.Order.Holding.{Upto}
 use Rattle.scoop_model.proofs.Order.Facts.{IsGranted, Tells, LocksAt, ReservationFits, PartyFits, Ordered, Extends, all_more, tells_more, party_more}
 use Rattle.scoop_model.proofs.Order.Facts.{all_more_of, all_pushed, all_set_party}
@@ -70,32 +70,21 @@ party_moves w p o fits =
 
 step_fits : (w : World) (r : ReservationState) (m : Message) (s : ReservationState) (st : Step) → StepRow r m s st → ReservationFits w r → Tells w m
     → ReservationFits w s
-step_fits w r m s st (steps_over n) f t = f
-step_fits w r m s st (one_is_locked h at low rest) f t =
-    let l = subst (LocksAt w r) at f.locks in
-    record {
-      named = f.named;
-      locks = (
-        (λ x e. l.0 x (has_without h x r.left e)),
-        (λ x e g. by_test (λ u. has r.left x ≡ u → IsGranted w x r.block) (has r.left x)
-            (λ _ is. subst (λ j. IsGranted w j r.block) (is_gone_one h x r.left is g) t)
-            (λ _ is. l.1 x e is) refl),
-      );
-    }
+step_fits w r m s st (one_is_locked h at low rest) f t = grind (arith, has_without, is_gone_one)
 step_fits w r m s st (all_are_locked h at low all) f t =
     let l = subst (LocksAt w r) at f.locks in
     record {
       named = f.named;
       locks = λ x e.
-          by_test (λ u. has r.left x ≡ u → IsGranted w x r.block) (has r.left x)
-          (λ _ is. subst (λ j. IsGranted w j r.block) (is_gone_one h x r.left is (none_in_empty (without h r.left) x all)) t)
-          (λ _ is. l.1 x e is) refl;
+          by_test (λ _. IsGranted w x r.block) (has r.left x)
+          (λ is. subst (λ j. IsGranted w j r.block) (is_gone_one h x r.left is (none_in_empty (without h r.left) x all)) t)
+          (λ is. l.1 x e is);
     }
-step_fits w r m s st (is_busy h at low) f t = f
 step_fits w r m s st (one_is_opened h at is rest) f t = record { named = f.named; locks = subst (LocksAt w r) at f.locks }
 step_fits w r m s st (all_are_opened h at is all) f t = record { named = f.named; locks = tt }
 step_fits w r m s st (is_unlocked h at is) f t = record { named = f.named; locks = tt }
 step_fits w r m s st (is_given_back h at is) f t = record { named = f.named; locks = tt }
+step_fits w r m s st row f t = f
 
 -- the client stays in its incarnation and block
 pub record Keeps (w : World) (c d : ClientState) : Type 0 where
@@ -141,11 +130,4 @@ notices_ordered w o m p tells f =
 -- ---- a client restarts
 
 pub restarts_ordered : (w : World) → Ordered w → (p : Party) → PartyFits w p → Ordered (with_party w (restarted_party p))
-restarts_ordered w o p f = party_moves w (restarted_party p) o (record {
-  stored = refl;
-  newest = λ b hs own e.
-      let u = f.newest b hs own e in
-      let s = f.stored in
-      record { inc = omega (arith, u.inc, s); num = λ same. absurd (omega (arith, u.inc, s, same)) };
-  reservation = λ r e. absurd (cc);
-})
+restarts_ordered w o p f = grind (arith, party_moves)

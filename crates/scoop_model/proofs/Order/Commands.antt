@@ -1,10 +1,10 @@
 -- A command keeps the order. Only a reserve matters. Its block is newer than all that its client has named, so it has no handlers
 -- yet. The reserve sets them once, and all of them are left to lock.
-use Rattle.scoop_model.proofs.Names.{◌≡◌, List, Some, None, refl, sym, ap, ◌∙◌, subst, arith, Ok, ◌≤◌, Option, false, true≢false, ⊎_elim, same_Some}
-use Rattle.scoop_model.proofs.Names.{client_decides, Block, HandlerId, asked, fresh, ReservationState, at_stage, GivingBack, ClientState, Command, newest_block}
-use Rattle.scoop_model.proofs.Names.{commanded_world, World, Party, is_party, id_of, handlers_of}
+use Rattle.scoop_model.proofs.Names.{◌≡◌, List, Some, None, refl, sym, ap, ◌∙◌, arith, Ok, ◌≤◌, Option, false, true≢false, ⊎_elim, same_Some, client_decides}
+use Rattle.scoop_model.proofs.Names.{Block, HandlerId, asked, fresh, ReservationState, ClientState, Command, newest_block, commanded_world, World, Party}
+use Rattle.scoop_model.proofs.Names.{is_party, id_of, handlers_of}
 use Rattle.scoop_model.proofs.Order.Sets.{handlers_after, handlers_before, handlers_fresh}
-use Rattle.scoop_model.proofs.Order.Holding.{Upto, upto_itself, upto_more}
+use Rattle.scoop_model.proofs.Order.Holding.{upto_itself, upto_more}
 use Rattle.scoop_model.proofs.Order.Facts.{Tells, ReservationFits, PartyFits, Ordered, Extends, all_more, tells_more, reservation_more, all_more_of}
 use Rattle.scoop_model.proofs.Order.Facts.{all_set_party}
 use Rattle.scoop_model.proofs.Moves.{Takes, takes_reserve, takes_give_up, takes}
@@ -29,17 +29,7 @@ module _ (w : World) (p : Party) (x : Command) (d : ClientState) where
   same_reservation f same r e = reservation_more w (commanded_world w p x d) extends r (f.reservation r (sym same ∙ e))
 
   party_goes_on : PartyFits w p → GoesOn w p x d → PartyFits (commanded_world w p x d) (record p { client = d })
-  party_goes_on f g = record {
-    stored = g.inc ∙ f.stored;
-    newest = λ b hs own e.
-        ⊎_elim
-        (λ (old : handlers_of b w ≡ Some hs).
-        let u = f.newest b hs (own ∙ g.id) old in
-        upto_more b.inc b.num p.client.inc p.client.last d.inc d.last u (record { inc = omega (arith, g.inc); num = λ same. g.last }))
-        (λ (new : newest_block d ≡ b). subst (λ (y : Block). Upto y.inc y.num d.inc d.last) new (upto_itself d.inc d.last))
-        (handlers_before x (newest_block d) b w.logs hs e);
-    reservation = g.reservation;
-  }
+  party_goes_on f g = grind (arith, upto_more, upto_itself, handlers_before)
 
   other_stays : (y : Party) → is_party (id_of (record p { client = d })) y ≡ false → PartyFits w y → PartyFits (commanded_world w p x d) y
   other_stays y other f = record {
@@ -71,25 +61,8 @@ next_is_new w p f None e = e
 next_is_new w p f (Some hs) e = grind arith
 
 goes_on_by : (w : World) (p : Party) (x : Command) (d : ClientState) → Takes p.client x d → PartyFits w p → GoesOn w p x d
-goes_on_by w p x d (takes_reserve hs at_idle begins) f = record {
-  id = refl;
-  inc = refl;
-  last = omega arith;
-  reservation = λ q is.
-      subst (ReservationFits (commanded_world w p x d)) (same_Some (fresh (client.next_block p.client) hs) q is) (record {
-        named = handlers_fresh (client.next_block p.client) hs w.logs (next_is_new w p f (handlers_of (client.next_block p.client) w) refl);
-        locks = ((λ h there. there), (λ h there gone. absurd (true≢false (sym there ∙ gone))));
-      });
-}
-goes_on_by w p x d (takes_give_up r held at) f = record {
-  id = refl;
-  inc = refl;
-  last = omega arith;
-  reservation = λ q is.
-      let given = at_stage r GivingBack (asked r.handlers r.left) in
-      subst (ReservationFits (commanded_world w p x d)) (same_Some given q is)
-      (reservation_more w (commanded_world w p x d) (extends w p x d) given (record { named = (f.reservation r held).named; locks = tt }));
-}
+goes_on_by w p x d (takes_reserve hs at_idle begins) f = grind (arith, same_Some, fresh, handlers_fresh, next_is_new, true≢false)
+goes_on_by w p x d (takes_give_up r held at) f = grind (arith, asked, same_Some, reservation_more, extends)
 goes_on_by w p x d t f = record { id = refl; inc = refl; last = omega arith; reservation = same_reservation w p x d f refl }
 
 pub goes_on : (w : World) (p : Party) (x : Command) (d : ClientState) → client.command p.client x ≡ Ok d → PartyFits w p → GoesOn w p x d

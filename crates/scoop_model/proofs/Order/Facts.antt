@@ -3,7 +3,7 @@
 use Rattle.scoop_model.proofs.Names.{◌≡◌, List, [], ◌∷◌, ◌++◌, Some, None, refl, sym, subst, arith, Option, find, option_map, true, false, option_to_list}
 use Rattle.scoop_model.proofs.Names.{AllByRecursion, ⊤, Message, Open, Locked, Lock, Block, HandlerId, has, ReservationState, Stage, GivingBack as GivingUp}
 use Rattle.scoop_model.proofs.Names.{Locking, Opening, Unlocking, IsSubsequence, World, Party, set_party, Site, site_of, set_site, is_party, has_block, id_of}
-use Rattle.scoop_model.proofs.Names.{handlers_of, is_log_of, handlers_in}
+use Rattle.scoop_model.proofs.Names.{handlers_of, is_log_of, handlers_in, ℕ, map, core_of, reopened, is_site}
 use Rattle.scoop_model.proofs.Order.Holding.{Upto, IsReachedIn, IsHeldIn, HeldHolds}
 pub use Rattle.scoop_handler.proofs.Basics.{all_at, all_found}
 
@@ -90,8 +90,7 @@ module _ (v w : World) (x : Extends v w) where
   locks_more : (r : ReservationState) (stage : Stage) → LocksAt v r stage → LocksAt w r stage
   locks_more r Locking l = (l.0, λ h e f. x.granted h r.block (l.1 h e f))
   locks_more r Opening l = λ h e. x.granted h r.block (l h e)
-  locks_more r Unlocking l = tt
-  locks_more r GivingUp l = tt
+  locks_more r stage l = tt
 
   pub reservation_more : (r : ReservationState) → ReservationFits v r → ReservationFits w r
   reservation_more r f = record { named = x.sets r.block r.handlers f.named; locks = locks_more r r.stage f.locks }
@@ -126,3 +125,24 @@ pub all_set_party :
     → AllByRecursion Q (set_party p parties)
 all_set_party P Q p [] own others all = tt
 all_set_party P Q p (x ∷ xs) own others all = grind (arith, all_set_party P Q p xs own others)
+
+-- ---- a node restarts: each of its handlers takes the stored state, which is its own, and forgets the job that was out
+
+module _ (js : List Block) (n : ℕ) where
+  -- a handler of the node begins anew from its state, and others stay
+  pub by_restart : (P : Site → Type 0) (x : Site) → SiteFits js x → P (record x { core = core_of x.core.class x.core.state false }) → P x → P (reopened n x)
+  by_restart P x f anew same = grind arith
+
+  pub state_anew : (x : Site) → SiteFits js x → (reopened n x).core.state ≡ x.core.state
+  state_anew x f = by_restart (λ y. y.core.state ≡ x.core.state) x f refl refl
+
+  pub all_anew : (P Q : Site → Type 0) → ((x : Site) → SiteFits js x → P x → Q (reopened n x)) → (xs : List Site) → AllByRecursion (SiteFits js) xs
+      → AllByRecursion P xs → AllByRecursion Q (map (reopened n) xs)
+  all_anew P Q go [] fits all = tt
+  all_anew P Q go (x ∷ xs) fits all = (go x fits.0 all.0, all_anew P Q go xs fits.1 all.1)
+
+  -- the handler that is found is the one that was
+  pub found_anew : (P : Option Site → Type 0) (h : HandlerId) → ((x : Site) → SiteFits js x → P (Some x) → P (Some (reopened n x))) → (xs : List Site)
+      → AllByRecursion (SiteFits js) xs → P (find (is_site h) xs) → P (find (is_site h) (map (reopened n) xs))
+  found_anew P h go [] fits p = p
+  found_anew P h go (x ∷ xs) fits p = grind (arith, state_anew, found_anew P h go xs)

@@ -1,18 +1,15 @@
 -- A handler's move keeps the order. A block that opens was held. If it is in the common list already, all blocks that opened here
 -- stand before it there. If not, it goes to that list's end, after all of them. A lock is granted only if the mark hasn't reached
 -- the block. So it is never granted to a block of the common list, which each of its handlers has granted its lock before.
-use Rattle.scoop_model.proofs.Names.{◌≡◌, ℕ, ◌<◌, List, [], ◌∷◌, ◌++◌, map, Some, None, refl, sym, ap, ◌∙◌, subst, arith, append-nil, ◌≤◌, Option, find, true}
-use Rattle.scoop_model.proofs.Names.{slice_get, ◌-◌, option_to_list, ⊎_elim, same_Some, AllByRecursion, handler_of, Message, Open, Locked, Lock, Block}
-use Rattle.scoop_model.proofs.Names.{HandlerId, MarksGrow-after, all_found, all_at, MarksGrow-refl, number-row, grows-row, row, with_state, MarksGrow, Hearing}
-use Rattle.scoop_model.proofs.Names.{hear, Task, ran_of, HandlerState, Mark, Note, OpenedNote, number_found, by_site, site_put, IsSubsequence, heard_world}
-use Rattle.scoop_model.proofs.Names.{with_site, begun_site, finished_site, reopened, reopened_world, newly_opened, joined, World, Site, number_of, is_site}
-use Rattle.scoop_model.proofs.Names.{site_of, set_site, sent_at, has_block}
+use Rattle.scoop_model.proofs.Names.{◌≡◌, ℕ, List, [], ◌∷◌, ◌++◌, map, Some, None, refl, sym, ap, ◌∙◌, subst, arith, append-nil, Option, find, true, slice_get}
+use Rattle.scoop_model.proofs.Names.{option_to_list, ⊎_elim, same_Some, AllByRecursion, handler_of, Message, Block, HandlerId, MarksGrow-after, all_found}
+use Rattle.scoop_model.proofs.Names.{all_at, MarksGrow-refl, grows-row, row, with_state, MarksGrow, Hearing, hear, Task, ran_of, HandlerState, Note, OpenedNote}
+use Rattle.scoop_model.proofs.Names.{by_site, site_put, IsSubsequence, heard_world, with_site, begun_site, finished_site, reopened, reopened_world}
+use Rattle.scoop_model.proofs.Names.{newly_opened, joined, World, Site, number_of, is_site, site_of, set_site, sent_at, has_block, own_site, heard_place}
 use Rattle.scoop_model.proofs.Order.Lists.{with_block, joined_has, joined_more, joined_last, joined_next}
 use Rattle.scoop_model.proofs.Order.Holding.{IsReachedIn, IsHeldIn, IsNewlyLocked, TellsBack, Hears, hears_row, held_ran, reached_more}
-use Rattle.scoop_model.proofs.Order.Restarts.{by_restart, all_anew, found_anew}
-use Rattle.scoop_model.proofs.Order.Facts.{IsGrantedIn, IsGranted, IsGrantedAtAll, Tells, SiteFits, PartyFits, Ordered, Extends, all_more, tells_more}
-use Rattle.scoop_model.proofs.Order.Facts.{party_more, all_more_of, all_pushed, all_set_site}
-pub use Rattle.scoop_model.proofs.Order.Restarts.{state_anew}
+use Rattle.scoop_model.proofs.Order.Facts.{by_restart, all_anew, found_anew, IsGrantedIn, IsGranted, IsGrantedAtAll, Tells, SiteFits, PartyFits, Ordered}
+use Rattle.scoop_model.proofs.Order.Facts.{Extends, all_more, tells_more, party_more, all_more_of, all_pushed, all_set_site, state_anew}
 
 -- a message that was sent tells the truth
 pub sent_tells : (w : World) (i : ℕ) (m : Message) → sent_at i w ≡ Some m → AllByRecursion (Tells w) w.sent → Tells w m
@@ -56,14 +53,7 @@ module _ (w : World) (s old : Site) (here : site_of (number_of s) w ≡ Some old
 
 -- a block that is newly locked was not reached before
 pub reached_not_new : (s : Site) (m : Message) (now : Hearing) (b : Block) → IsReachedIn s.core.state.marks b → IsNewlyLocked s.core.state m now b → ⊥
-reached_not_new s m now b r new =
-    let marks : Some r.mark ≡ Some new.mark = sym r.found ∙ new.found in
-    let alike : r.mark ≡ new.mark = cc in
-    absurd_place r.mark.inc new.mark.inc r.mark.num new.mark.num b.inc b.num (ap (λ (k : Mark). k.inc) alike)
-    (ap (λ (k : Mark). k.num) alike) r.upto.num new.inc new.num
-  where
-    absurd_place : (i j n k c d : ℕ) → i ≡ j → n ≡ k → (i ≡ c → d ≤ n) → j ≡ c → k < d → ⊥
-    absurd_place i j n k c d ij nk up jc kd = let le = up (ij ∙ jc) in omega (arith, le, nk, kd)
+reached_not_new s m now b r new = grind arith
 
 newly_locked_new : (w : World) (s : Site) (m : Message) (now : Hearing) (b : Block) → Ordered w → site_of (number_of s) w ≡ Some s → Tells w m
     → IsNewlyLocked s.core.state m now b
@@ -73,13 +63,7 @@ newly_locked_new w s m now b i here tells new e = grind (arith, reached_not_new)
 -- the claim of a reply
 reply_tells : (v : World) (s : Site) (o : Option Message) → site_of (number_of s) v ≡ Some s → TellsBack s.core.state o → (m : Message) → o ≡ Some m → Tells v m
 reply_tells v s None here t m e = absurd (cc)
-reply_tells v s (Some n) here t m e = let same : n ≡ m = cc in subst (Tells v) same (told n t)
-  where
-    told : (n : Message) → TellsBack s.core.state (Some n) → Tells v n
-    told (Lock h b) t = absurd t
-    told (Locked h b) t = subst (λ j. IsGranted v j b) (sym t.0) (record { site = s; found = here; reached = t.1 })
-    told (Open h b) t = absurd t
-    told m t = tt
+reply_tells v s (Some n) here t m e = grind arith
 
 -- the site with another state, and what has newly opened
 abbrev site_with : Site → HandlerState → List Block → Site
@@ -96,10 +80,10 @@ module _ (w : World) (s : Site) (m : Message) (i : Ordered w) (found : site_of (
   heard = hears_row s.core.state m now (row s.core.state m)
 
   here : site_of (number_of s) w ≡ Some s
-  here = subst (λ j. site_of j w ≡ Some s) (sym (number_found (handler_of m) w s found)) found
+  here = own_site w (handler_of m) s found
 
   still_here : site_of now.0.number w ≡ Some s
-  still_here = subst (λ j. site_of j w ≡ Some s) (sym (number-row s.core.state m now (row s.core.state m))) here
+  still_here = heard_place w m s found
 
   fits : SiteFits w.joint s
   fits = all_found (SiteFits w.joint) (is_site (handler_of m)) w.sites s i.sites found
@@ -171,7 +155,7 @@ hears_ordered w o i m s was found = by_note w s m o found (sent_tells w i m was 
 
 module _ (w : World) (o : Ordered w) (h : HandlerId) (s : Site) (found : site_of h w ≡ Some s) where
   place : site_of (number_of s) w ≡ Some s
-  place = subst (λ j. site_of j w ≡ Some s) (sym (number_found h w s found)) found
+  place = own_site w h s found
 
   site_fits : SiteFits w.joint s
   site_fits = all_found (SiteFits w.joint) (is_site h) w.sites s o.sites found

@@ -64,12 +64,7 @@ pub record IsOther (k : Mark) (marks : List Mark) (b : Block) : Type 0 where
   pub held : IsHeldIn marks b
 
 own_from : (k : Mark) (b : Block) (marks : List Mark) (h : IsHeldIn marks b) → b.client ≡ k.client → k ≡ h.mark → IsOwn k b
-own_from k b marks h c same = record {
-  client = c;
-  inc = ap (λ (x : Mark). x.inc) same ∙ h.inc;
-  num = ap (λ (x : Mark). x.num) same ∙ h.num;
-  stage = ap (λ (x : Mark). x.stage) same ∙ h.stage;
-}
+own_from k b marks h c same = grind arith
 
 clients_apart : (c d : ClientId) → same_client c d ≡ false → c ≡ d → ⊥
 clients_apart c d e p = true≢false (sym (subst (λ x. same_client x d ≡ true) (sym p) (same_client-refl d)) ∙ e)
@@ -96,19 +91,7 @@ held_added k marks b none off h =
 
 -- running changes no stage
 pub held_ran : (r : Ran) (marks : List Mark) (b : Block) → IsHeldIn (map (mark_after r) marks) b → IsHeldIn marks b
-held_ran r marks b h = go (mark_of b.client marks) refl (sym (mark_of-after r b.client marks) ∙ h.found)
-  where
-    go : (o : Option Mark) → mark_of b.client marks ≡ o → option_map (mark_after r) o ≡ Some h.mark → IsHeldIn marks b
-    go None e f = absurd (cc)
-    go (Some k) e f =
-        let same : mark_after r k ≡ h.mark = cc in
-        record {
-          mark = k;
-          found = e;
-          inc = ap (λ (x : Mark). x.inc) same ∙ h.inc;
-          num = ap (λ (x : Mark). x.num) same ∙ h.num;
-          stage = ap (λ (x : Mark). x.stage) same ∙ h.stage;
-        }
+held_ran r marks b h = grind (arith, mark_of-after, option_map)
 
 -- ---- what hearing does to the lock
 
@@ -230,14 +213,7 @@ tells-row s m h (lock_granted x b k here at new free clear) = (
     upto = upto_itself b.inc b.num;
   },
 )
-tells-row s m h (repeated_lock x b k here at same was) = (
-  refl,
-  record {
-    mark = k;
-    found = at.found;
-    upto = record { inc = omega (arith, at.inc); num = λ e. omega (arith, same) };
-  },
-)
+tells-row s m h (repeated_lock x b k here at same was) = grind arith
 tells-row s m h r = tt
 
 pub record Hears (s : HandlerState) (m : Message) (h : Hearing) : Type 0 where

@@ -1,6 +1,6 @@
 -- Lists of blocks, and lists that are left of others.
-use Rattle.scoop_model.proofs.Names.{◌≡◌, ℕ, List, [], ◌∷◌, ◌++◌, Some, refl, sym, ap, arith, true, if◌then◌else◌, zero, suc, slice_get, false, true≢false}
-use Rattle.scoop_model.proofs.Names.{◌||◌, ◌⊎◌, ⊤, block_decides, NoRepeats, same_block, Block, by_test, IsSubsequence, nothing, left_out, joined, has_block}
+use Rattle.scoop_model.proofs.Names.{◌≡◌, ℕ, List, [], ◌∷◌, ◌++◌, Some, refl, ap, arith, true, if◌then◌else◌, zero, suc, slice_get, false, ◌||◌, ◌⊎◌, ⊤}
+use Rattle.scoop_model.proofs.Names.{block_decides, NoRepeats, same_block, Block, by_test, IsSubsequence, nothing, left_out, joined, has_block}
 use Rattle.scoop_model.specs.Safe.{taken}
 
 pub same_block_is : (a b : Block) → same_block a b ≡ true → a ≡ b
@@ -14,10 +14,6 @@ same_block_itself a = (block_decides a a).1 refl
 pub in_pushed : (bs : List Block) (x b : Block) → has_block (bs ++ x ∷ []) b ≡ true → (x ≡ b) ⊎ (has_block bs b ≡ true)
 in_pushed [] x b e = grind (arith, same_block_is)
 in_pushed (y ∷ ys) x b e = grind (arith, in_pushed ys x b)
-
-pub in_more : (bs : List Block) (x b : Block) → has_block bs b ≡ true → has_block (bs ++ x ∷ []) b ≡ true
-in_more [] x b e = absurd (true≢false (sym e))
-in_more (y ∷ ys) x b e = grind (arith, in_more ys x b)
 
 pub in_last : (bs : List Block) (b : Block) → has_block (bs ++ b ∷ []) b ≡ true
 in_last [] b = ap (λ t. t || false) (same_block_itself b)
@@ -76,12 +72,6 @@ with_block bs b = joined bs (b ∷ [])
 
 pub joined_has : (bs : List Block) (b x : Block) → has_block (with_block bs b) x ≡ true → (b ≡ x) ⊎ (has_block bs x ≡ true)
 joined_has bs b x = grind (arith, in_pushed)
-
-pub joined_keeps : (bs : List Block) (b x : Block) → has_block bs x ≡ true → has_block (with_block bs b) x ≡ true
-joined_keeps bs b x e = by_test (λ t. has_block (if t then bs else bs ++ b ∷ []) x ≡ true) (has_block bs b) (λ old. e) (λ new. in_more bs b x e)
-
-pub joined_there : (bs : List Block) (b : Block) → has_block (with_block bs b) b ≡ true
-joined_there bs b = grind (arith, in_last)
 
 pub joined_apart : (bs : List Block) (b : Block) → AreApart bs → AreApart (with_block bs b)
 joined_apart bs b d = grind (arith, apart_pushed)

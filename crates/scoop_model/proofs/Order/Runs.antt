@@ -1,14 +1,36 @@
 -- Every world that a list of events leads to is in order.
 use Rattle.scoop_model.proofs.Names.{◌≡◌, List, [], map, refl, sym, true, true≢false, AllByRecursion, client_of, Block, all_found, all_made, steps}
 use Rattle.scoop_model.proofs.Names.{IsSubsequence, nothing, InOrder, Placement, Newcomer, new_site, new_party, opening, World, Site, is_party, has_block}
-use Rattle.scoop_model.proofs.Names.{Event}
+use Rattle.scoop_model.proofs.Names.{Event, NoRepeats, hear, Note, OpenedNote as Opened, newly_opened, joined}
 use Rattle.scoop_model.proofs.Events.{Changes, steps_kept}
-use Rattle.scoop_model.proofs.Order.Joint.{joint_once}
 use Rattle.scoop_model.proofs.Order.Facts.{SiteFits, PartyFits, Ordered, all_more_of}
 use Rattle.scoop_model.proofs.Order.Handlers.{sent_tells, hears_ordered, begins_ordered, finishes_ordered, reopens_ordered}
 use Rattle.scoop_model.proofs.Order.Clients.{sends_ordered, notices_ordered, restarts_ordered}
 use Rattle.scoop_model.proofs.Order.Commands.{commands_ordered}
-use Rattle.scoop_model.proofs.Order.Lists.{left_has}
+use Rattle.scoop_model.proofs.Order.Lists.{left_has, AreApart, apart_once, joined_apart}
+
+-- ---- the common list: no block stands there twice
+
+note_apart : (bs : List Block) (told : Note) → AreApart bs → AreApart (joined bs (newly_opened told))
+note_apart bs (Opened b) d = joined_apart bs b d
+note_apart bs told d = d
+
+pub joint_kept : (w : World) → AreApart w.joint → Changes (λ v. AreApart v.joint) w
+joint_kept w d = record {
+  commands = λ c p x e at is. d;
+  sends = λ c p h s at here. d;
+  hears = λ i m s was goes here. note_apart w.joint (hear s.core.state m).1.note d;
+  notices = λ i m p was goes at. d;
+  begins = λ h s t here is. d;
+  finishes = λ h s t here is. d;
+  restarts = λ c p at room. d;
+  reopens = λ n. d;
+}
+
+pub joint_once : (ps : List Placement) (ns : List Newcomer) (es : List Event) → NoRepeats (steps (opening ps ns) es).joint
+joint_once ps ns es = apart_once (steps (opening ps ns) es).joint (steps_kept (λ v. AreApart v.joint) joint_kept (opening ps ns) es tt)
+
+-- ---- the order
 
 pub ordered_kept : (w : World) → Ordered w → Changes Ordered w
 ordered_kept w o = record {

@@ -1,15 +1,15 @@
 -- Whatever happens, a handler tells counts of received entries only of blocks that have opened there.
-use Rattle.scoop_model.proofs.Names.{◌≡◌, List, [], Some, None, refl, sym, ap, ◌∙◌, subst, arith, Option, true, false, list_any-append, AllByRecursion}
-use Rattle.scoop_model.proofs.Names.{option_map_or, ⊤, handler_decides, same_block, handler_of, Message, Logged, Block, HandlerId, all_found, All-mark_of}
-use Rattle.scoop_model.proofs.Names.{number-row, block_of-same, row, Hearing, hear, Row, is_taken, IsLogAt, already_received, HandlerState, Mark, due}
-use Rattle.scoop_model.proofs.Names.{first_false, by_site, heard_world, heard_site, begun_site, finished_site, Placement, Newcomer, opening, newly_opened}
-use Rattle.scoop_model.proofs.Names.{World, Site, number_of, is_site, site_of, has_block, opened_at, received}
+use Rattle.scoop_model.proofs.Names.{◌≡◌, List, [], Some, None, refl, sym, ap, ◌∙◌, arith, Option, true, false, list_any-append, AllByRecursion, option_map_or}
+use Rattle.scoop_model.proofs.Names.{⊤, handler_decides, same_block, handler_of, Message, Logged, Block, HandlerId, all_found, All-mark_of, number-row}
+use Rattle.scoop_model.proofs.Names.{block_of-same, row, Hearing, hear, Row, is_taken, IsLogAt, already_received, HandlerState, Mark, due, first_false, by_site}
+use Rattle.scoop_model.proofs.Names.{heard_world, heard_site, begun_site, finished_site, Placement, Newcomer, opening, newly_opened, World, Site, number_of}
+use Rattle.scoop_model.proofs.Names.{is_site, site_of, has_block, opened_at, received, own_site, heard_place}
 use Rattle.scoop_model.proofs.Events.{Changes}
 use Rattle.scoop_model.proofs.Order.{Ordered, same_block_is}
 use Rattle.scoop_model.proofs.Logging.{same_list, IsMarkOpened, SiteOpened}
 use Rattle.scoop_model.proofs.Logging.Openings.{Openings}
 use Rattle.scoop_model.proofs.Whole.{told_in, greatest_stays, alike_from_client, due_goes}
-use Rattle.scoop_model.proofs.Sites.{own_site, set_same, anew_same, states_anew}
+use Rattle.scoop_model.proofs.Sites.{set_same, anew_same, states_anew}
 
 -- no count was sent of blocks that haven't opened at the handler
 abbrev pub Counts : World → Type 0
@@ -23,11 +23,7 @@ pub record TellsOpened (s : HandlerState) (bs : List Block) (x : HandlerId) (y :
   pub opened : has_block bs y ≡ true
 
 at_log : (s : HandlerState) (bs : List Block) (b : Block) (k : Mark) → AllByRecursion (IsMarkOpened bs) s.marks → IsLogAt s b k → TellsOpened s bs s.number b
-at_log s bs b k all at = record {
-  here = refl;
-  opened = subst (λ y. has_block bs y ≡ true) (block_of-same s b k at.heard at.num)
-      ((All-mark_of (IsMarkOpened bs) b.client s.marks k all at.heard.found).opened at.stage);
-}
+at_log s bs b k all at = grind (arith, has_block, block_of-same, All-mark_of)
 
 -- the claim of the reply
 abbrev CountsBack : HandlerState → List Block → Option Message → Type 0
@@ -63,7 +59,7 @@ module _ (w : World) (i : Openings w) (counts : Counts w) (m : Message) (s : Sit
   still_off : (h : HandlerId) (b : Block) → has_block (opened_at h after) b ≡ false → has_block (opened_at h w) b ≡ false
   still_off h b =
       by_site (λ o. has_block (option_map_or (λ (x : Site). x.opened) o []) b ≡ false → has_block (opened_at h w) b ≡ false) w (heard_site s now) s h
-      (subst (λ j. site_of j w ≡ Some s) (sym (number-row s.core.state m now (row s.core.state m))) place)
+      (heard_place w m s found)
       (λ same off.
       let at : site_of h w ≡ Some s = ap (λ j. site_of j w) (sym same ∙ number-row s.core.state m now (row s.core.state m)) ∙ place in
       ap (λ o. has_block (option_map_or (λ (x : Site). x.opened) o []) b) at

@@ -6,14 +6,14 @@ use Rattle.scoop_model.proofs.Names.{Bool, ◌⊎◌, inl, inr, ⊎_elim, unwrap
 use Rattle.scoop_model.proofs.Names.{is_end, same_block, Hello, Block, HandlerId, Entry, all_found, by_test, All-mark_of, mark_of-client, mark_of, Mark, has}
 use Rattle.scoop_model.proofs.Names.{number_found, IsSubsequence, untold, World, Site, number_of, is_site, site_of, has_block, opened_at, log_of, is_succeeded}
 use Rattle.scoop_model.proofs.Names.{set_of, has_end}
-use Rattle.scoop_model.proofs.Order.{IsNamed, SiteFits, Ordered, all_more_of, IsHeldIn, AreApart, same_block_itself, none_left}
+use Rattle.scoop_model.proofs.Order.{SiteFits, Ordered, all_more_of, IsHeldIn, AreApart, same_block_itself, none_left}
 use Rattle.scoop_model.proofs.Sound.{sent_all}
-use Rattle.scoop_model.proofs.Logging.{Logging, IsPassed, Greets, succeeded_passed, succeeded_inc, SiteOpened, unjoined_empty}
+use Rattle.scoop_model.proofs.Logging.{Logging, IsPassed, Greets, succeeded_passed, succeeded_inc, unjoined_empty}
 use Rattle.scoop_model.proofs.Logging.Greetings.{Greetings}
 use Rattle.scoop_model.proofs.Logging.Openings.{Openings}
 use Rattle.scoop_model.proofs.Answering.{SiteAnswers, Answering}
 use Rattle.scoop_model.proofs.Tape.{Slot, queues_of, blocks_of, IsBegun}
-use Rattle.scoop_model.proofs.Whole.{IsGreeted, MarkTold, SlotWhole, SiteTaped, Taped}
+use Rattle.scoop_model.proofs.Whole.{SlotWhole, SiteTaped, Taped}
 use Rattle.scoop_model.proofs.Ready.Facts.{IsToldAs, IsOverIfGone, IsNamedAt, HandlerReady, MarksReady, Ready}
 use Rattle.scoop_model.proofs.Standing.{IsPastIn, StandsAt, Standing, joint_stands}
 use Rattle.scoop_model.proofs.Ready.Counts.{Counts}
@@ -57,9 +57,7 @@ module _ (w : World) (once : AreApart w.joint) (o : Ordered w) (l : Logging w) (
 
     -- a mark of a newer incarnation of the block's client was welcomed
     mark_greets : (b : Block) (k : Mark) → mark_of b.client s.core.state.marks ≡ Some k → b.inc < k.inc → is_succeeded b h w ≡ true
-    mark_greets b k found newer =
-        let told = All-mark_of (MarkTold w.sent (number_of s)) b.client s.core.state.marks k f.told.each found in
-        subst (λ j. IsGreeted j b w.sent) number (told.greeted b (sym (mark_of-client b.client s.core.state.marks k found)) newer)
+    mark_greets b k found newer = grind (arith, All-mark_of, f, number, mark_of-client)
 
     its_marks : MarksReady w h s
     its_marks = record {
@@ -72,19 +70,10 @@ module _ (w : World) (once : AreApart w.joint) (o : Ordered w) (l : Logging w) (
     }
 
     gone_slot : (t : Slot) → SlotWhole w.sent (number_of s) s.core.state.marks t → IsOverIfGone w h t
-    gone_slot t x = record {
-      rest = λ none. (x.gone none).rest;
-      why = λ none. ⊎_elim
-          (λ (e : IsTrue (ends t.ran)). inl (end_there t.ran e))
-          (λ (p : slot.IsPassed s.core.state.marks t.block). inr (mark_greets t.block p.mark p.found (let le = p.upto.inc in omega (arith, le))))
-          (x.gone none).whole;
-    }
+    gone_slot t x = grind (arith, ends, end_there, mark_greets)
 
     named_slot : (b : Block) → has_block (blocks_of f.slots) b ≡ true → has (set_of b w) h ≡ true
-    named_slot b m =
-        let n : IsNamed w (number_of s) b =
-        (all_found (SiteOpened w) (is_site h) w.sites s openings.sites at).named b (ap (λ bs. has_block bs b) f.tape.opened ∙ m) in
-        ap (λ hs. has hs h) (ap (λ (q : Option (List HandlerId)). unwrap_or q []) n.set) ∙ ap (has n.handlers) (sym number) ∙ n.member
+    named_slot b m = grind (arith, all_found, has_block, f, unwrap_or, number)
 
     stands_here : (b : Block) → has_block w.joint b ≡ true → has (set_of b w) h ≡ true
         → (has_block (opened_at h w) b ≡ true) ⊎ ((is_succeeded b h w ≡ true) ⊎ IsSubsequence (opened_at h w ++ b ∷ []) w.joint)
@@ -122,22 +111,7 @@ module _ (w : World) (once : AreApart w.joint) (o : Ordered w) (l : Logging w) (
 
   -- a handler that isn't in the world has opened nothing
   handler_absent : (h : HandlerId) → site_of h w ≡ None → HandlerReady w h
-  handler_absent h at = record {
-    slots = [];
-    opened = ap opened_in at;
-    ran = ap (λ q. map untold (option_map_or (λ (x : Site). x.ran) q [])) at;
-    queues = λ s e. absurd (none-some _ (sym at ∙ e));
-    begun = tt;
-    told = tt;
-    gone = tt;
-    named = tt;
-    silent = counts h;
-    left = subst (λ bs. IsSubsequence bs w.joint) (sym (ap opened_in at)) (none_left w.joint);
-    placed = λ b m named. (
-        let all = joint_stands w standing b m in
-        let here : StandsAt w h b = all.stands h (subst (λ hs. has hs h ≡ true) (ap (λ (q : Option (List HandlerId)). unwrap_or q []) all.set) named) in
-        absurd (none-some _ (sym at ∙ here.found)));
-  }
+  handler_absent h at = grind (arith, option_map_or, none-some, none_left, joint_stands, unwrap_or)
 
   handler_ready : (h : HandlerId) (q : Option Site) → site_of h w ≡ q → HandlerReady w h
   handler_ready h None at = handler_absent h at

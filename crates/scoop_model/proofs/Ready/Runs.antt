@@ -1,8 +1,8 @@
 -- All that every event keeps, together: it holds of every world that is reached.
-use Rattle.scoop_model.proofs.Names.{List, ap, subst, MayOpen, IsReached, Run, Placement, Newcomer, opening, World}
-use Rattle.scoop_model.proofs.Events.{Changes, steps_kept}
+use Rattle.scoop_model.proofs.Names.{List, ap, subst, MayOpen, steps, IsReached, Run, Placement, Newcomer, opening, World, Event}
+use Rattle.scoop_model.proofs.Events.{Changes, both_kept, steps_kept}
 use Rattle.scoop_model.proofs.Order.{Ordered, joint_kept, AreApart}
-use Rattle.scoop_model.proofs.Sound.{Sound, both_kept}
+use Rattle.scoop_model.proofs.Sound.{Sound}
 use Rattle.scoop_model.proofs.Logging.{Logging, ToldMore, told_more_kept, opens_told_more}
 use Rattle.scoop_model.proofs.Logging.Greetings.{Greetings}
 use Rattle.scoop_model.proofs.Logging.Openings.{Openings}
@@ -67,6 +67,9 @@ pub opens_kept : (ps : List Placement) (ns : List Newcomer) → MayOpen ps ns �
 opens_kept ps ns may = ((opens_told_more ps ns may, (opens_answering ps ns, opens_taped ps ns)), ((opens_standing ps ns, opens_counts ps ns), tt))
 
 -- ---- so it is of every world that is reached
+
+pub always_facts : (ps : List Placement) (ns : List Newcomer) (es : List Event) → MayOpen ps ns → Facts (steps (opening ps ns) es)
+always_facts ps ns es may = facts (steps (opening ps ns) es) (steps_kept Kept all_kept (opening ps ns) es (opens_kept ps ns may))
 
 -- the facts that each event keeps and an opening world has
 pub reached_keeps :

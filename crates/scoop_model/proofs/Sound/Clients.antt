@@ -27,7 +27,7 @@ same_batch c d same has = record { some = omega (arith, same, has.some); limit =
 -- ---- what is due has entries
 
 sends_entries : (c : ClientState) (h : HandlerId) → HasBatch c → (m : Message) → Sends c h m → HasEntries m
-sends_entries c h batch m (sends_log r l held opened window some) =
+sends_entries c h batch m (sends_log r l held free opened window some) =
     let left : 0 < length l.unacked = grind (arith, nat_tests) in
     let one = is_batch c.batch l.unacked batch.some left in
     (one.some, one.end)

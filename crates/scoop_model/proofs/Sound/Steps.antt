@@ -1,11 +1,11 @@
 -- Every event keeps what is true of handlers, messages and clients, and it is true of a world that opens. Hearing, beginning and
 -- finishing keep a handler sound, and a restart gives it its stored state, which is its own. A client's batch stays what it was, so
 -- the Log that it owes carries entries, and a reply carries none.
-use Rattle.scoop_model.proofs.Names.{◌≡◌, ℕ, List, map, Some, refl, sym, arith, slice_get, false, true≢false, ◌-◌, IsFalse, AllByRecursion, client_of}
-use Rattle.scoop_model.proofs.Names.{handler_of, is_for_handler, Message, Log, Block, HandlerId, job-first, IsCore-begun, IsCore-finished, all_found, all_at}
-use Rattle.scoop_model.proofs.Names.{replies-row, IsCore-hear, row, IsCore, hear, HasEntries, AreWords, IsState, new_state, due, heard, all_mapped, MayOpen}
-use Rattle.scoop_model.proofs.Names.{IsPlaced, IsJoining, heard_party, restarted_party, heard_site, begun_site, finished_site, reopened, Placement, Newcomer}
-use Rattle.scoop_model.proofs.Names.{new_site, new_party, opening, World, Party, set_party, Site, is_site, set_site, is_party, sent_at}
+use Rattle.scoop_model.proofs.Names.{◌≡◌, ℕ, List, map, Some, refl, sym, arith, slice_get, true≢false, IsFalse, AllByRecursion, client_of, handler_of}
+use Rattle.scoop_model.proofs.Names.{is_for_handler, Message, Log, Block, HandlerId, job-first, IsCore-begun, IsCore-finished, all_found, all_at, replies-row}
+use Rattle.scoop_model.proofs.Names.{IsCore-hear, row, IsCore, hear, HasEntries, AreWords, IsState, new_state, due, heard, all_mapped, MayOpen, IsPlaced}
+use Rattle.scoop_model.proofs.Names.{IsJoining, heard_party, restarted_party, heard_site, begun_site, finished_site, reopened, Placement, Newcomer, new_site}
+use Rattle.scoop_model.proofs.Names.{new_party, opening, World, Party, set_party, Site, is_site, set_site, is_party, sent_at}
 use Rattle.scoop_model.proofs.Events.{Changes}
 use Rattle.scoop_model.proofs.Order.{SiteFits, Ordered, all_pushed, all_set_party, all_set_site, by_restart, all_anew}
 use Rattle.scoop_model.proofs.Sound.Facts.{HasBatch, Sound}
@@ -94,17 +94,7 @@ sound_kept w o i = sound_changes w o i
 -- ---- the world that opens
 
 new_state_is : (h : HandlerId) (words : List ℕ) → AreWords words → IsState (new_state h words)
-new_state_is h words are = record {
-  room = omega arith;
-  ascending = tt;
-  holder = tt;
-  held = tt;
-  unused = tt;
-  opened = tt;
-  queues = record { limit = omega arith; apart = tt; each = tt };
-  marked = tt;
-  words = are;
-}
+new_state_is h words are = grind arith
 
 pub opens_sound : (ps : List Placement) (ns : List Newcomer) → MayOpen ps ns → Sound (opening ps ns)
 opens_sound ps ns may = record {

@@ -1,10 +1,9 @@
 -- A block that opened somewhere stands at each of its handlers: it has opened there, holds the lock there, or is past there. This
 -- file has the invariant, together with the claims of messages.
 use Rattle.scoop_model.proofs.Names.{◌≡◌, ℕ, ◌<◌, List, [], ◌∷◌, ◌++◌, Some, None, refl, sym, ap, ◌∙◌, subst, arith, Option, true, if◌then◌else◌, zero, suc}
-use Rattle.scoop_model.proofs.Names.{slice_get, false, true≢false, ◌||◌, ◌==◌, ◌-◌, option_to_list, ◌⊎◌, inl, inr, ⊎_elim, AllByRecursion, list_any, Message}
-use Rattle.scoop_model.proofs.Names.{Locked, Block, ClientId, HandlerId, by_test, MarksGrow, mark_of, Mark, has, ReservationState, Stage}
-use Rattle.scoop_model.proofs.Names.{GivingBack as GivingUp, Locking, Opening, Unlocking, locking_giving, opening_giving, World, Party, Site, site_of, sent_at}
-use Rattle.scoop_model.proofs.Names.{has_block, party_of, handlers_of}
+use Rattle.scoop_model.proofs.Names.{slice_get, true≢false, ◌||◌, ◌==◌, ◌-◌, option_to_list, ◌⊎◌, ⊎_elim, AllByRecursion, list_any, Message, Locked, Block}
+use Rattle.scoop_model.proofs.Names.{ClientId, HandlerId, by_test, MarksGrow, mark_of, Mark, has, ReservationState, Stage, Locking, Opening, locking_giving}
+use Rattle.scoop_model.proofs.Names.{opening_giving, World, Party, Site, site_of, sent_at, has_block, party_of, handlers_of}
 use Rattle.scoop_model.proofs.Locking.{Locks, HasLocks, locks_more}
 use Rattle.scoop_model.proofs.Order.{IsHeldIn, reached_more, all_more_of, all_pushed}
 use Rattle.scoop_model.proofs.Logging.{IsGivenUp, Onto, is_open_of}
@@ -105,13 +104,7 @@ open_sent w k m b was opens =
 
 module _ (v w : World) (x : StandsOn v w) (i : Standing v) where
   pub locked_more : (m : Message) → LockedStands v m → LockedStands w m
-  locked_more m f = record {
-    stands = λ h b e.
-        ⊎_elim
-        (λ (there : StandsAt v h b). ⊎_elim (λ (on : StandsAt w h b). inl on) (λ (g : IsGivenUp v b). inr (x.onto.given_up b g)) (x.stands h b there))
-        (λ (g : IsGivenUp v b). inr (x.onto.given_up b g))
-        (f.stands h b e);
-  }
+  locked_more m f = grind arith
 
   -- no block of which an Open was sent was given up
   open_stands : (b : Block) → HasOpen v b → StandsAtAll w b
@@ -133,8 +126,7 @@ module _ (v w : World) (x : StandsOn v w) (i : Standing v) where
       → StageStands v r stage → StageStands w r stage
   stage_more c p at r held Locking is f = λ h member gone. not_given r (λ g. locking_giving (sym is ∙ g.left c p at r held refl)) h (f h member gone)
   stage_more c p at r held Opening is f = λ h member. not_given r (λ g. opening_giving (sym is ∙ g.left c p at r held refl)) h (f h member)
-  stage_more c p at r held Unlocking is f = tt
-  stage_more c p at r held GivingUp is f = tt
+  stage_more c p at r held stage is f = tt
 
   pub reservation_more : (c : ClientId) (p : Party) → party_of c v ≡ Some p → (r : ReservationState) → p.client.reservation ≡ Some r → ReservationStands w r
   reservation_more c p at r held = record { stage = stage_more c p at r held r.stage refl (i.parties c p at r held).stage }

@@ -3,17 +3,93 @@
 -- has opened at all of its handlers or was given up.
 use Rattle.scoop_model.proofs.Names.{◌≡◌, ℕ, List, [], ◌++◌, Some, None, refl, sym, ap, ◌∙◌, subst, append-nil, find, true, true≢false, ◌||◌, ◌⊎◌, inl, inr}
 use Rattle.scoop_model.proofs.Names.{⊎_elim, list_any-append, same_Some, option_map_or, same_block, handler_of, Message, Unlock, Block, HandlerId}
-use Rattle.scoop_model.proofs.Names.{MarksGrow-after, all_found, MarksGrow-refl, number-row, grows-row, row, MarksGrow, Hearing, hear, Task, ran_of, Note}
-use Rattle.scoop_model.proofs.Names.{OpenedNote, has, by_site, heard_world, heard_site, with_site, begun_site, finished_site, reopened, reopened_world}
-use Rattle.scoop_model.proofs.Names.{newly_opened, joined, World, Site, number_of, is_site, site_of, set_site, sent_at, has_block, opened_at}
-use Rattle.scoop_model.proofs.Sites.{own_site}
-use Rattle.scoop_model.proofs.Order.{IsHeldIn, hears_row, SiteFits, Ordered, in_last, joined_has, same_block_itself, by_restart, found_anew}
+use Rattle.scoop_model.proofs.Names.{MarksGrow-after, all_found, MarksGrow-refl, grows-row, row, MarksGrow, Hearing, hear, Task, ran_of, Note, OpenedNote, has}
+use Rattle.scoop_model.proofs.Names.{by_site, heard_world, heard_site, with_site, begun_site, finished_site, reopened, reopened_world, newly_opened, joined}
+use Rattle.scoop_model.proofs.Names.{World, Site, number_of, is_site, site_of, set_site, sent_at, has_block, opened_at, map, arith, ◌&&◌, false, not, none-some}
+use Rattle.scoop_model.proofs.Names.{same_client, Locked, ClientId, found-after, mark_of-set_mark_own, mark_of-client, client_from_same, mark_of-set_mark_other}
+use Rattle.scoop_model.proofs.Names.{mark_of-add_mark_other, greeting_mark, block_of, fresh_mark, with_received, set_mark, mark_of, Row, first_greeting}
+use Rattle.scoop_model.proofs.Names.{newer_greeting, lock_granted, is_opened, unlock_of_a_block_never_held, is_freed, is_taken, repeated_lock, mark_after}
+use Rattle.scoop_model.proofs.Names.{HandlerState, is_holder, Mark, AtHeld, Ran, some_same, own_site, heard_place, site_put}
+use Rattle.scoop_model.proofs.Order.{IsHeldIn, hears_row, SiteFits, Ordered, in_last, joined_has, same_block_itself, by_restart, found_anew, HeldHolds}
+use Rattle.scoop_model.proofs.Order.{open_not_held}
 use Rattle.scoop_model.proofs.Sound.{Sound, sent_all}
-use Rattle.scoop_model.proofs.Logging.{IsGivenUp, IsOpenedAtAll, Onto, Shows, is_open_of, anew_onto, now_onto, reply_quiet}
+use Rattle.scoop_model.proofs.Logging.{IsGivenUp, IsOpenedAtAll, Shows, is_open_of, anew_onto, now_onto, reply_quiet, site_onto}
 use Rattle.scoop_model.proofs.Logging.Openings.{Openings}
 use Rattle.scoop_model.proofs.Standing.Facts.{HasOpen, IsPastIn, LockedStands, Standing, StandsAt, StandsFor, StandsIn, StandsOn, open_sent, past_more}
 use Rattle.scoop_model.proofs.Standing.Facts.{reservation_more, standing_more}
-use Rattle.scoop_model.proofs.Standing.Rows.{HeldGoes, held_after, held_row, locked_row}
+use Rattle.scoop_handler.specs.Marks.{is_open}
+
+-- ---- hearing leaves a block that holds the lock held, past or opened, unless the message is the block's Unlock
+
+-- the fates of a block that is held
+abbrev pub HeldGoes : HandlerState → Message → Hearing → Block → Type 0
+HeldGoes s m h b = IsHeldIn h.0.marks b ⊎ (IsPastIn h.0.marks b ⊎ ((h.1.note ≡ OpenedNote b) ⊎ (m ≡ Unlock s.number b)))
+
+-- a mark of another client is set
+held_beside : (k : Mark) (marks : List Mark) (b : Block) → same_client b.client k.client ≡ false → IsHeldIn marks b → IsHeldIn (set_mark k marks) b
+held_beside k marks b apart h = grind (arith, mark_of-set_mark_other)
+
+held_is : (marks : List Mark) (b : Block) (h : IsHeldIn marks b) → block_of h.mark ≡ b
+held_is marks b h = λ t. record { client = mark_of-client b.client marks h.mark h.found t; inc = h.inc t; num = h.num t }
+
+module _ (s : HandlerState) (b : Block) (holds : HeldHolds s) (held : IsHeldIn s.marks b) where
+  holder : s.holder ≡ Some b
+  holder = holds b held
+
+  -- a mark of one client is set: where it is this block's, it was at this block
+  set_goes : (m : Message) (h : Hearing) (c : ClientId) (k old : Mark) → mark_of c s.marks ≡ Some old → k.client ≡ c → h.0.marks ≡ set_mark k s.marks
+      → (b.client ≡ c → old ≡ held.mark → HeldGoes s m h b) → HeldGoes s m h b
+  set_goes m h c k old found own is goes = grind (arith, client_from_same, held_beside)
+
+  pub held_row : (m : Message) (h : Hearing) → Row s m h → HeldGoes s m h b
+  held_row m h (first_greeting x c inc here none room) = grind (arith, mark_of-add_mark_other, none-some, client_from_same)
+  held_row m h (newer_greeting x c inc k here found newer) =
+      set_goes m h c (greeting_mark c inc) k found refl refl
+      (λ same is.
+      let before = ap (λ (y : Mark). y.inc) is ∙ held.inc in
+      inr (inl (record {
+        mark = greeting_mark c inc;
+        found = ap (λ d. mark_of d (set_mark (greeting_mark c inc) s.marks)) same ∙ mark_of-set_mark_own (greeting_mark c inc) k s.marks found;
+        newer = omega (arith, before, newer);
+      })))
+  held_row m h (lock_granted x y k here at new free clear) = absurd (none-some _ (sym free ∙ holder))
+  held_row m h (is_opened x y k here at same was room) =
+      let one : y ≡ b = some_same s.holder y b (holds y (record { mark = k; found = at.found; inc = at.inc; num = same; stage = was })) holder in
+      inr (inr (inl (ap OpenedNote one)))
+  held_row m h (unlock_of_a_block_never_held x y k here at new clear) =
+      set_goes m h y.client (fresh_mark y _) k at.found refl refl
+      (λ same is.
+      let at_block : block_of k ≡ b = ap block_of is ∙ held_is s.marks b held in
+      let busy : is_holder s.holder (block_of k) ≡ true = ap (is_holder s.holder) at_block ∙ ap (λ o. is_holder o b) holder ∙ same_block_itself b in
+      absurd (true≢false (sym (ap (λ t. t || is_open k.stage && not k.ended) busy) ∙ clear)))
+  held_row m h (is_freed x y k here at same holds_it) = grind (arith, some_same, holder)
+  held_row m h (is_taken x y n es k here at next goes_on room) =
+      set_goes m h y.client (with_received _ _ k) k at.heard.found (mark_of-client y.client s.marks k at.heard.found) refl
+      (λ same is. absurd (open_not_held (sym at.stage ∙ ap (λ (z : Mark). z.stage) is ∙ held.stage)))
+  held_row m h r = inl held
+
+locked_block : {p q : HandlerId} {a b : Block} → Locked p a ≡ Locked q b → a ≡ b
+locked_block e = cc
+
+locked_handler : {p q : HandlerId} {a b : Block} → Locked p a ≡ Locked q b → p ≡ q
+locked_handler e = cc
+
+-- a Locked is of a block that holds the lock
+pub locked_row : (s : HandlerState) (m : Message) (h : Hearing) → Row s m h → (x : HandlerId) (b : Block) → h.1.reply ≡ Some (Locked x b)
+    → (x ≡ h.0.number) × IsHeldIn h.0.marks b
+locked_row s m h (lock_granted y c k here at new free clear) = λ x b e.
+    let same : Locked s.number c ≡ Locked x b = same_Some _ _ e in
+    let block = locked_block same in (
+      sym (locked_handler same),
+      subst (IsHeldIn (set_mark (fresh_mark c AtHeld) s.marks)) block
+          (record { mark = fresh_mark c AtHeld; found = mark_of-set_mark_own (fresh_mark c AtHeld) k s.marks at.found; inc = refl; num = refl; stage = refl }),
+    )
+locked_row s m h (repeated_lock y c k here at same_num was) = grind (arith, same_Some, locked_block, locked_handler)
+locked_row s m h r = λ x b e. absurd (let f = e in cc)
+
+-- running changes neither place nor stage
+pub held_after : (r : Ran) (marks : List Mark) (b : Block) → IsHeldIn marks b → IsHeldIn (map (mark_after r) marks) b
+held_after r marks b h = record { mark = mark_after r h.mark; found = found-after r b.client marks h.mark h.found; inc = h.inc; num = h.num; stage = h.stage }
 
 -- ---- the sites of a world, once one of them goes on
 
@@ -47,10 +123,10 @@ module _ (w : World) (o : Ordered w) (sound : Sound w) (openings : Openings w) (
   here = own_site w (handler_of m) s found
 
   still_here : site_of now.0.number w ≡ Some s
-  still_here = subst (λ j. site_of j w ≡ Some s) (sym (number-row s.core.state m now (row s.core.state m))) here
+  still_here = heard_place w m s found
 
   there : site_of now.0.number after ≡ Some later
-  there = by_site (λ q. q ≡ Some later) w later s now.0.number still_here (λ same. refl) (λ apart. absurd (apart refl))
+  there = site_put w later s still_here
 
   fits : SiteFits w.joint s
   fits = all_found (SiteFits w.joint) (is_site (handler_of m)) w.sites s o.sites found
@@ -75,15 +151,7 @@ module _ (w : World) (o : Ordered w) (sound : Sound w) (openings : Openings w) (
   newly b e = subst (λ n. has_block (s.opened ++ newly_opened n) b ≡ true) (sym e) (in_last s.opened b)
 
   held_goes : (b : Block) → HeldGoes s.core.state m now b → StandsIn later b ⊎ IsGivenUp w b
-  held_goes b goes =
-      ⊎_elim
-      (λ (on : IsHeldIn now.0.marks b). inl (inr (inl on)))
-      (λ (q : IsPastIn now.0.marks b ⊎ ((now.1.note ≡ OpenedNote b) ⊎ (m ≡ Unlock s.core.state.number b))).
-      ⊎_elim
-      (λ (past : IsPastIn now.0.marks b). inl (inr (inr past)))
-      (λ (r : (now.1.note ≡ OpenedNote b) ⊎ (m ≡ Unlock s.core.state.number b)).
-      ⊎_elim (λ (e : now.1.note ≡ OpenedNote b). inl (inl (newly b e))) (λ (e : m ≡ Unlock s.core.state.number b). unlocked b e) r) q)
-      goes
+  held_goes b goes = grind (arith, newly, unlocked)
 
   goes_on : (b : Block) → StandsIn s b → StandsIn later b ⊎ IsGivenUp w b
   goes_on b stands =
@@ -133,14 +201,7 @@ module _ (w : World) (i : Standing w) (h : HandlerId) (s : Site) (found : site_o
   quiet_site t same opened grows held =
       let there : site_of (number_of t) w ≡ Some s = subst (λ j. site_of j w ≡ Some s) (sym same) (own_site w h s found) in
       let more : (b : Block) → has_block s.opened b ≡ true → has_block t.opened b ≡ true = λ b e. ap (λ bs. has_block bs b) opened ∙ e in
-      let onto : Onto w (with_site w t) = record {
-        sets = λ b hs e. e;
-        opened = λ x b e.
-            by_site (λ q. has_block (option_map_or (λ (y : Site). y.opened) q []) b ≡ true) w t s x there
-            (λ is. more b (ap (λ q. has_block (option_map_or (λ (y : Site). y.opened) q []) b) (sym there ∙ ap (λ j. site_of j w) is) ∙ e))
-            (λ apart. e);
-        given_up = λ b g. record { handlers = g.handlers; set = g.set; none = g.none; left = g.left };
-      } in
+      let onto = site_onto w t s there more w.sent w.joint (λ b none. none) in
       let on : StandsOn w (with_site w t) = record {
         onto = onto;
         stands = stands_set w t s there (λ b stands.
@@ -164,9 +225,7 @@ module _ (w : World) (i : Standing w) (h : HandlerId) (s : Site) (found : site_o
 -- ---- a node restarts
 
 stands_anew : (n : ℕ) (js : List Block) (b : Block) (x : Site) → SiteFits js x → StandsFor (Some x) b → StandsFor (Some (reopened n x)) b
-stands_anew n js b x f q =
-    let here = subst (λ (z : Site). StandsIn z b) (sym (same_Some x q.site q.found)) q.stands in
-    record { site = reopened n x; found = refl; stands = by_restart js n (λ y. StandsIn y b) x f here here }
+stands_anew n js b x f q = grind (arith, here, same_Some, by_restart)
 
 pub reopens_standing : (w : World) → Ordered w → Openings w → Standing w → (n : ℕ) → Standing (reopened_world w n)
 reopens_standing w o openings i n =

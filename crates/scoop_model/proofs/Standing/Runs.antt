@@ -1,13 +1,12 @@
 -- Whatever happens, a block of the common list stands at each of its handlers.
-use Rattle.scoop_model.proofs.Names.{◌≡◌, List, map, refl, sym, true, true≢false, inl, client_of, Block, all_found, heard, MayOpen, steps, newest_block}
-use Rattle.scoop_model.proofs.Names.{heard_party, restarted_party, Placement, Newcomer, opening, logs_after, World, is_party, has_block, Event}
-use Rattle.scoop_model.proofs.Events.{Changes, steps_kept}
+use Rattle.scoop_model.proofs.Names.{List, map, refl, sym, true≢false, inl, client_of, all_found, heard, newest_block, heard_party, restarted_party, Placement}
+use Rattle.scoop_model.proofs.Names.{Newcomer, opening, logs_after, World, is_party}
+use Rattle.scoop_model.proofs.Events.{Changes}
 use Rattle.scoop_model.proofs.Order.{handlers_after, PartyFits, Ordered, goes_on, keeps_hearing}
-use Rattle.scoop_model.proofs.Sound.{Sound, both_kept, sent_all}
-use Rattle.scoop_model.proofs.Logging.{PartyLogs, Logging, Shows, command_from, ToldMore, told_more_kept, opens_told_more, none_reserved, grown_opened}
-use Rattle.scoop_model.proofs.Logging.{heard_from}
+use Rattle.scoop_model.proofs.Sound.{Sound, sent_all}
+use Rattle.scoop_model.proofs.Logging.{PartyLogs, Logging, Shows, command_from, none_reserved, grown_opened, heard_from}
 use Rattle.scoop_model.proofs.Logging.Openings.{Openings}
-use Rattle.scoop_model.proofs.Standing.Facts.{LockedStands, Standing, StandsAtAll, joint_stands}
+use Rattle.scoop_model.proofs.Standing.Facts.{LockedStands, Standing}
 use Rattle.scoop_model.proofs.Standing.Handlers.{begins_standing, finishes_standing, hears_standing, reopens_standing}
 use Rattle.scoop_model.proofs.Standing.Clients.{command_stands, heard_stands, party_standing, sends_standing}
 
@@ -42,20 +41,3 @@ opens_standing ps ns = record {
   joint = λ b e. absurd (true≢false (sym e));
   parties = λ c p at r held. absurd (none_reserved c (map (λ y. y.handler) ps) ns p at r held);
 }
-
--- ---- after any list of events
-
-abbrev AllStanding : World → Type 0
-AllStanding w = ToldMore w × Standing w
-
-all_standing_kept : (w : World) → AllStanding w → Changes AllStanding w
-all_standing_kept w i = let told = i.0.0 in both_kept ToldMore Standing w (told_more_kept w i.0) (standing_kept w told.0.0 told.0.1 told.1 i.0.1.1 i.1)
-
-pub always_standing : (ps : List Placement) (ns : List Newcomer) (es : List Event) → MayOpen ps ns → Standing (steps (opening ps ns) es)
-always_standing ps ns es may = (steps_kept AllStanding all_standing_kept (opening ps ns) es (opens_told_more ps ns may, opens_standing ps ns)).1
-
--- a block of the common list stands at each of its handlers
-pub always_stands :
-    (ps : List Placement) (ns : List Newcomer) (es : List Event) → MayOpen ps ns → (b : Block) → has_block (steps (opening ps ns) es).joint b ≡ true
-    → StandsAtAll (steps (opening ps ns) es) b
-always_stands ps ns es may b e = joint_stands (steps (opening ps ns) es) (always_standing ps ns es may) b e

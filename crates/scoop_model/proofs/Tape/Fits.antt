@@ -3,17 +3,17 @@
 -- How to carry this over the events of a world: keep, for each site, some slots with `SiteTape` (in Sites) over the logs
 -- of the site's handler. `heard_tape` gives the slots after a message that the handler hears, from the row that it comes
 -- to; it asks that the state is one and that the entries of a Log stand in its block's log. `finished_tape` gives those
--- after an entry has run. The slots stay the same where a job goes out (`begun_tape`), where the node restarts with the
--- stored state (`reopened_tape`), and where logs grow at their end (`grown_tape`). Then `site_tape_shown` gives what
--- Safe calls the tape. What an open slot tells of its client's mark follows by `live_slots` (in Taking).
+-- after an entry has run. The slots stay the same where a job goes out, where the node restarts with the stored state, and
+-- where logs grow at their end (`grown_tape`). Then `site_tape_shown` gives what Safe calls the tape.
 use Rattle.scoop_model.proofs.Names.{◌≡◌, ℕ, ◌+◌, List, [], ◌∷◌, ◌++◌, Some, refl, sym, ap, ◌∙◌, subst, arith, ◌≤◌, take, length, ◌-◌, append_assoc, drop}
 use Rattle.scoop_model.proofs.Names.{length-append, take-append-drop, length-take-le, AllByRecursion, Block, Entry, PrivateQueue, opened, put_all, cut, front}
 use Rattle.scoop_model.proofs.Names.{advance, AreApart, QueueState, all_mapped}
+use Rattle.scoop_handler.proofs.Basics.{all_append}
 use Rattle.scoop_model.proofs.Stands.{Stands}
 use Rattle.scoop_model.proofs.Order.{all_more_of}
-use Rattle.scoop_model.proofs.Tape.Slots.{Slot, new_slot, slots_new, slots_put, put_in, slots_cut, slots_run, run_rest, queues_of, ran_of, blocks_of, InTurn}
-use Rattle.scoop_model.proofs.Tape.Slots.{queues-new, ran-new, blocks-new, turn-new, queues-put, ran-put, blocks-put, turn-put, cut_in, cut_keeps, cut_rest}
-use Rattle.scoop_model.proofs.Tape.Slots.{queues-cut, ran-cut, blocks-cut, turn-cut, Runs, slots-run, each_run}
+use Rattle.scoop_model.proofs.Tape.Slots.{Slot, slots_new, slots_put, put_in, slots_cut, slots_run, run_rest, queues_of, ran_of, blocks_of, InTurn, queues-new}
+use Rattle.scoop_model.proofs.Tape.Slots.{ran-new, blocks-new, turn-new, queues-put, ran-put, blocks-put, turn-put, cut_in, cut_keeps, cut_rest, queues-cut}
+use Rattle.scoop_model.proofs.Tape.Slots.{ran-cut, blocks-cut, turn-cut, Runs, slots-run, each_run}
 
 -- the first list is a beginning of the second
 pub record IsBeginningOf (es log : List Entry) : Type 0 where
@@ -34,49 +34,25 @@ pub record TapeFits (log : Block → List Entry) (qs : List PrivateQueue) (bs : 
 -- ---- logs grow at their end
 
 begun_more : (log more : Block → List Entry) → ((b : Block) → IsBeginningOf (log b) (more b)) → (s : Slot) → IsBegun log s → IsBegun more s
-begun_more log more grow s i =
-    let g = grow s.block in
-    record {
-      behind = i.behind ++ g.behind;
-      all = sym (append_assoc (s.ran ++ s.rest) i.behind g.behind) ∙ ap (λ es. es ++ g.behind) i.all ∙ g.all;
-    }
+begun_more log more grow s i = grind (arith, append_assoc)
 
 pub tape_more : (log more : Block → List Entry) → ((b : Block) → IsBeginningOf (log b) (more b))
     → (qs : List PrivateQueue) (bs : List Block) (rs : List (Block × ℕ × Entry)) (ss : List Slot)
     → TapeFits log qs bs rs ss → TapeFits more qs bs rs ss
-tape_more log more grow qs bs rs ss f = record {
-  opened = f.opened;
-  queues = f.queues;
-  ran = f.ran;
-  turn = f.turn;
-  begun = all_more_of (IsBegun log) (IsBegun more) (begun_more log more grow) ss f.begun;
-}
+tape_more log more grow qs bs rs ss f = grind (arith, opened, all_more_of, begun_more)
 
 -- ---- the changes of the private queues
-
-all_last : (P : Slot → Type 0) (ss : List Slot) (s : Slot) → AllByRecursion P ss → P s → AllByRecursion P (ss ++ s ∷ [])
-all_last P [] s all last = (last, tt)
-all_last P (x ∷ xs) s all last = (all.0, all_last P xs s all.1 last)
 
 module _ (log : Block → List Entry) (qs : List PrivateQueue) (bs : List Block) (rs : List (Block × ℕ × Entry)) (ss : List Slot)
     (f : TapeFits log qs bs rs ss) where
   pub open_tape : (b : Block) → TapeFits log (opened b qs) (bs ++ b ∷ []) rs (slots_new b ss)
-  open_tape b = record {
-    opened = ap (λ xs. xs ++ b ∷ []) f.opened ∙ sym (blocks-new b ss);
-    queues = ap (opened b) f.queues ∙ sym (queues-new b ss);
-    ran = f.ran ∙ sym (ran-new b ss);
-    turn = turn-new b ss f.turn;
-    begun = all_last (IsBegun log) ss (new_slot b) f.begun (record { behind = log b; all = refl });
-  }
+  open_tape b = grind (arith, opened, blocks-new, queues-new, ran-new, turn-new, all_append)
 
   apart_slots : AreApart qs → AreApart (queues_of ss)
   apart_slots apart = subst AreApart f.queues apart
 
   cut_begun : (b : Block) (s : Slot) → IsBegun log s → IsBegun log (cut_in b s)
-  cut_begun b s i =
-      let k = cut_keeps b s in
-      let same : s.ran ++ s.rest ≡ (cut_in b s).ran ++ (cut_in b s).rest = λ j. sym k.ran j ++ sym (cut_rest b s) j in
-      record { behind = i.behind; all = ap (λ es. es ++ i.behind) (sym same) ∙ i.all ∙ ap log (sym k.block) }
+  cut_begun b s i = grind (arith, cut_keeps, cut_rest)
 
   pub cut_tape : (b : Block) → AreApart qs → TapeFits log (cut b qs) bs rs (slots_cut b ss)
   cut_tape b apart = record {
@@ -99,10 +75,7 @@ module _ (log : Block → List Entry) (qs : List PrivateQueue) (bs : List Block)
 
   run_begun : (s : Slot) (t : QueueState) (es : List Entry) → s.rest ≡ es → IsBegun log s → IsBegun log (run_rest s t es)
   run_begun s t [] is i = i
-  run_begun s t (e ∷ es) is i = record {
-    behind = i.behind;
-    all = ap (λ xs. xs ++ i.behind) (append_assoc s.ran (e ∷ []) es ∙ ap (λ xs. s.ran ++ xs) (sym is)) ∙ i.all;
-  }
+  run_begun s t (e ∷ es) is i = grind (arith, append_assoc)
 
   -- the first entry of the first private queue runs
   pub run_tape : (u : Block × ℕ × Entry) → front qs ≡ Some u → TapeFits log (advance qs) bs (rs ++ u ∷ []) (slots_run ss)
@@ -120,9 +93,8 @@ module _ (log : Block → List Entry) (qs : List PrivateQueue) (bs : List Block)
 
 same_beginning : (xs ys qs rs : List Entry) → xs ++ qs ≡ ys ++ rs → length xs ≡ length ys → qs ≡ rs
 same_beginning [] [] qs rs e l = e
-same_beginning [] (y ∷ ys) qs rs e l = absurd (omega arith)
-same_beginning (x ∷ xs) [] qs rs e l = absurd (omega arith)
 same_beginning (x ∷ xs) (y ∷ ys) qs rs e l = let tail : xs ++ qs ≡ ys ++ rs = cc in same_beginning xs ys qs rs tail (omega arith)
+same_beginning xs ys qs rs e l = absurd (omega arith)
 
 -- so many entries were received, and of those that stand in the log from number n on the others are put behind them
 pub beginning_next :

@@ -3,11 +3,13 @@
 use Rattle.scoop_model.proofs.Names.{◌≡◌, ℕ, ◌+◌, List, [], ◌∷◌, ◌++◌, map, Some, refl, sym, ap, ◌∙◌, subst, arith, append-nil, true, suc, take, slice_get}
 use Rattle.scoop_model.proofs.Names.{false, true≢false, ◌||◌, length, Bool, append_assoc, filter, flat_map, take-append_seam, length-map, filter-append}
 use Rattle.scoop_model.proofs.Names.{AllByRecursion, NoRepeats, same_block, Block, Entry, same_block-sym, PrivateQueue, by_test, Ran, IsSubsequence, nothing}
-use Rattle.scoop_model.proofs.Names.{Tape, left_out, untold, numbered, World, Site, number_of, has_block, log_of}
+use Rattle.scoop_model.proofs.Names.{Tape, left_out, untold, numbered, World, Site, number_of, has_block, log_of, map-append, Message, job-front, row, hear}
+use Rattle.scoop_model.proofs.Names.{Task, ran_of as ran_task, job_out, IsState, heard_site, finished_site, Placement, new_site}
 use Rattle.scoop_model.specs.Safe.{taken}
 use Rattle.scoop_model.proofs.Order.{AreApart, same_block_is, same_block_itself}
-use Rattle.scoop_model.proofs.Tape.Slots.{Slot, ran_in, ran_of, blocks_of}
-use Rattle.scoop_model.proofs.Tape.Fits.{IsBegun, TapeFits}
+use Rattle.scoop_model.proofs.Tape.Slots.{Slot, ran_in, ran_of, blocks_of, slots_run}
+use Rattle.scoop_model.proofs.Tape.Fits.{IsBegun, TapeFits, IsBeginningOf, tape_more, run_tape}
+use Rattle.scoop_model.proofs.Tape.Taking.{StandsIfLog, slots_after, row_tape}
 
 -- ---- blocks that don't repeat
 
@@ -21,9 +23,9 @@ block_at (x ∷ xs) b e =
 pub once_apart : (bs : List Block) → NoRepeats bs → AreApart bs
 once_apart [] once = tt
 once_apart (b ∷ bs) once = (
-  by_test (λ t. has_block bs b ≡ t → t ≡ false) (has_block bs b)
-      (λ there e. let p = block_at bs b e in absurd (not_zero p.0 (once 0 (suc p.0) b refl p.1)))
-      (λ nowhere e. refl) refl,
+  by_test (λ t. t ≡ false) (has_block bs b)
+      (λ e. let p = block_at bs b e in absurd (not_zero p.0 (once 0 (suc p.0) b refl p.1)))
+      (λ e. refl),
   once_apart bs (λ i j x e f. let same = once (suc i) (suc j) x e f in omega (arith, same)),
 )
   where
@@ -111,8 +113,7 @@ parts_later rs qs s (b ∷ bs) e none = grind (arith, filter-append, none_of, sa
 -- the first block's part is the first part
 own_part : (rs qs : List Ran) (s : Slot) (ss : List Slot) → map untold rs ≡ ran_in s → map untold qs ≡ ran_of ss → has_block (blocks_of ss) s.block ≡ false
     → part_of (rs ++ qs) s.block ≡ rs
-own_part rs qs s ss first later apart =
-    filter-append (of_block s.block) rs qs ∙ (λ i. all_of rs s.block 1 s.ran first i ++ none_ran qs ss s.block later apart i) ∙ append-nil rs
+own_part rs qs s ss first later apart = grind (arith, filter-append, all_of, none_ran, append-nil)
 
 in_turn : (rs : List Ran) (ss : List Slot) → map untold rs ≡ ran_of ss → AreApart (blocks_of ss) → rs ≡ flat_map (part_of rs) (blocks_of ss)
 in_turn [] [] e apart = refl
@@ -187,3 +188,38 @@ tape_shown w s qs ss apart f =
       in_turn = in_turn s.ran ss f.ran slots_apart ∙ ap (flat_map (part_of s.ran)) (sym f.opened);
       beginnings = subst (AllByRecursion (IsFirst log s.ran)) (sym f.opened) (all_firsts log s.ran ss (slot_parts s.ran ss f.ran slots_apart) f.begun);
     }
+
+-- ---- the slots of one site, as each kind of event changes it
+
+-- the slots fit what the handler keeps, what opened there, and what has run there
+abbrev pub SiteTape : (Block → List Entry) → Site → List Slot → Type 0
+SiteTape log s ss = TapeFits log s.core.state.queues s.opened (map untold s.ran) ss
+
+-- the log of each block at the site's handler
+abbrev pub logs_at : World → Site → Block → List Entry
+logs_at w s b = log_of b (number_of s) w
+
+pub placed_tape : (log : Block → List Entry) (p : Placement) → SiteTape log (new_site p) []
+placed_tape log p = record { opened = refl; queues = refl; ran = refl; turn = tt; begun = tt }
+
+-- the slots after a message
+abbrev pub slots_heard : Site → Message → List Slot → List Slot
+slots_heard s m ss = slots_after s.core.state m (hear s.core.state m) (row s.core.state m) ss
+
+module _ (log : Block → List Entry) (s : Site) (ss : List Slot) (f : SiteTape log s ss) where
+  pub heard_tape : (m : Message) → IsState s.core.state → StandsIfLog log m → SiteTape log (heard_site s (hear s.core.state m)) (slots_heard s m ss)
+  heard_tape m is stand = row_tape log s.core.state m (hear s.core.state m) (row s.core.state m) s.opened (map untold s.ran) ss is stand f
+
+  pub finished_tape : (t : Task) → job_out s.core ≡ Some t → SiteTape log (finished_site s t) (slots_run ss)
+  finished_tape t out =
+      let u : Block × ℕ × Entry = (t.block, t.number, t.entry) in
+      let runs = run_tape log s.core.state.queues s.opened (map untold s.ran) ss f u (job-front s.core t out) in
+      subst (λ us. TapeFits log (finished_site s t).core.state.queues s.opened us (slots_run ss)) (sym (map-append untold s.ran (ran_task t ∷ []))) runs
+
+  pub grown_tape : (more : Block → List Entry) → ((b : Block) → IsBeginningOf (log b) (more b)) → SiteTape more s ss
+  grown_tape more grow = tape_more log more grow s.core.state.queues s.opened (map untold s.ran) ss f
+
+-- the blocks that opened here are a part of the common list, so no block repeats
+pub site_tape_shown :
+    (w : World) (s : Site) (js : List Block) (ss : List Slot) → NoRepeats js → IsSubsequence s.opened js → SiteTape (logs_at w s) s ss → Tape w s
+site_tape_shown w s js ss once left f = tape_shown w s s.core.state.queues ss (left_apart left (once_apart js once)) f

@@ -1,10 +1,10 @@
 -- The entries that have run at a handler and those that wait there, as a list of slots: one for each block that opened there, in the
 -- order of their opening. The file has the effect of each change of the private queues on the slots.
 use Rattle.scoop_model.proofs.Names.{◌≡◌, ℕ, ◌+◌, List, [], ◌∷◌, ◌++◌, map, Some, None, refl, sym, ap, ◌∙◌, subst, arith, append-nil, Option, true}
-use Rattle.scoop_model.proofs.Names.{if◌then◌else◌, false, length, Bool, append_assoc, length-append, flat_map, map-append, same_Some, none-some}
-use Rattle.scoop_model.proofs.Names.{AllByRecursion, ⊤, ends, same_block, Block, Entry, same_block-true, at_block-absent, PrivateQueue, opened, put_all, cut}
-use Rattle.scoop_model.proofs.Names.{front, advance, at_block, has_queue, with_entries, left_by_cut, first_of, goes_with, AreApart, QueueState}
-use Rattle.scoop_model.proofs.Names.{TakesMore as Open, Ended, Cut, by_test, numbered}
+use Rattle.scoop_model.proofs.Names.{if◌then◌else◌, false, length, append_assoc, length-append, flat_map, map-append, same_Some, none-some, AllByRecursion, ⊤}
+use Rattle.scoop_model.proofs.Names.{ends, same_block, Block, Entry, same_block-true, at_block-absent, PrivateQueue, opened, put_all, cut, front, advance}
+use Rattle.scoop_model.proofs.Names.{at_block, has_queue, with_entries, left_by_cut, first_of, goes_with, AreApart, QueueState, TakesMore as Open, Ended, Cut}
+use Rattle.scoop_model.proofs.Names.{by_test, numbered}
 use Rattle.std.proofs.lemmas.Grind.{flat_map-append}
 use Rattle.scoop_queue.specs.Queue.{is_open}
 
@@ -17,6 +17,15 @@ pub record Slot : Type 0 where
 
 abbrev pub slot_of : Block → List Entry → List Entry → Option QueueState → Slot
 slot_of b ran rest state = record { block = b; ran = ran; rest = rest; state = state }
+
+-- what is so of each slot whose private queue is gone, and of each that has one, is so of every slot
+pub slot_cases : (P : Slot → Type 0) → ((c : Block) (ran rest : List Entry) → P (slot_of c ran rest None))
+    → ((c : Block) (ran rest : List Entry) (t : QueueState) → P (slot_of c ran rest (Some t))) → (s : Slot) → P s
+slot_cases P gone there s = at s.block s.ran s.rest s.state
+  where
+    at : (c : Block) (ran rest : List Entry) (o : Option QueueState) → P (slot_of c ran rest o)
+    at c ran rest None = gone c ran rest
+    at c ran rest (Some t) = there c ran rest t
 
 -- ---- what slots tell: the private queues, what has run, and which blocks opened
 
@@ -140,15 +149,7 @@ abbrev pub slots_put : Block → List Entry → List Slot → List Slot
 slots_put b es ss = map (put_in b es) ss
 
 pub put_keeps : (b : Block) (es : List Entry) (s : Slot) → KeepsRan s (put_in b es s)
-put_keeps b es s = at s.block s.ran s.rest s.state
-  where
-    at : (c : Block) (ran rest : List Entry) (o : Option QueueState) → KeepsRan (slot_of c ran rest o) (put_in b es (slot_of c ran rest o))
-    at c ran rest None = record { block = refl; ran = refl; gone = λ e. e }
-    at c ran rest (Some t) = by (same_block b c)
-      where
-        by : (y : Bool) → KeepsRan (slot_of c ran rest (Some t)) (if y then put_slot es (slot_of c ran rest (Some t)) t else slot_of c ran rest (Some t))
-        by true = record { block = refl; ran = refl; gone = λ e. absurd (cc) }
-        by false = record { block = refl; ran = refl; gone = λ e. e }
+put_keeps b es = grind (arith, slot_cases)
 
 pub ran-put : (b : Block) (es : List Entry) (ss : List Slot) → ran_of (slots_put b es ss) ≡ ran_of ss
 ran-put b es = ran-kept (put_in b es) (put_keeps b es)
@@ -166,21 +167,18 @@ same_behind b change c qs rs same none e = e ∙ at_block-absent b change qs (su
 
 pub queues-put : (b : Block) (es : List Entry) (ss : List Slot) → AreApart (queues_of ss) → queues_of (slots_put b es ss) ≡ put_all b es (queues_of ss)
 queues-put b es [] apart = refl
-queues-put b es (s ∷ ss) apart = at s.block s.ran s.rest s.state apart (queues-put b es ss)
-  where
-    at : (c : Block) (ran rest : List Entry) (o : Option QueueState) → AreApart (queues_of (slot_of c ran rest o ∷ ss))
-        → (AreApart (queues_of ss) → queues_of (slots_put b es ss) ≡ put_all b es (queues_of ss))
-        → queues_of (slots_put b es (slot_of c ran rest o ∷ ss)) ≡ put_all b es (queues_of (slot_of c ran rest o ∷ ss))
-    at c ran rest None a later = later a
-    at c ran rest (Some t) a later = by_test
-        (λ y. queue_in (if y then put_slot es (slot_of c ran rest (Some t)) t else slot_of c ran rest (Some t)) ++ queues_of (slots_put b es ss)
-        ≡ (if y then (with_entries es (slot_queue (slot_of c ran rest (Some t)) t) ∷ []) ++ queues_of ss
-        else slot_queue (slot_of c ran rest (Some t)) t ∷ put_all b es (queues_of ss)))
-        (same_block b c)
-        (λ same.
-        ap (λ qs. with_entries es (slot_queue (slot_of c ran rest (Some t)) t) ∷ qs)
-        (same_behind b (λ q. with_entries es q ∷ []) c (queues_of ss) (queues_of (slots_put b es ss)) same a.0 (later a.1)))
-        (λ other. ap (λ qs. slot_queue (slot_of c ran rest (Some t)) t ∷ qs) (later a.1))
+queues-put b es (s ∷ ss) apart =
+    slot_cases (λ s. AreApart (queues_of (s ∷ ss)) → queues_of (slots_put b es (s ∷ ss)) ≡ put_all b es (queues_of (s ∷ ss)))
+    (λ c ran rest a. queues-put b es ss a)
+    (λ c ran rest t a. by_test
+    (λ y. queue_in (if y then put_slot es (slot_of c ran rest (Some t)) t else slot_of c ran rest (Some t)) ++ queues_of (slots_put b es ss)
+    ≡ (if y then (with_entries es (slot_queue (slot_of c ran rest (Some t)) t) ∷ []) ++ queues_of ss
+    else slot_queue (slot_of c ran rest (Some t)) t ∷ put_all b es (queues_of ss)))
+    (same_block b c)
+    (λ same.
+    ap (λ qs. with_entries es (slot_queue (slot_of c ran rest (Some t)) t) ∷ qs)
+    (same_behind b (λ q. with_entries es q ∷ []) c (queues_of ss) (queues_of (slots_put b es ss)) same a.0 (queues-put b es ss a.1)))
+    (λ other. ap (λ qs. slot_queue (slot_of c ran rest (Some t)) t ∷ qs) (queues-put b es ss a.1))) s apart
 
 -- ---- a block's queue is cut
 
@@ -203,25 +201,11 @@ abbrev pub slots_cut : Block → List Slot → List Slot
 slots_cut b ss = map (cut_in b) ss
 
 pub cut_keeps : (b : Block) (s : Slot) → KeepsRan s (cut_in b s)
-cut_keeps b s = at s.block s.ran s.rest s.state
-  where
-    at : (c : Block) (ran rest : List Entry) (o : Option QueueState) → KeepsRan (slot_of c ran rest o) (cut_in b (slot_of c ran rest o))
-    at c ran rest None = record { block = refl; ran = refl; gone = λ e. e }
-    at c ran rest (Some t) = by (same_block b c)
-      where
-        by : (y : Bool) → KeepsRan (slot_of c ran rest (Some t)) (if y then cut_slot (slot_of c ran rest (Some t)) t else slot_of c ran rest (Some t))
-        by true = record { block = refl; ran = refl; gone = λ e. absurd (cc) }
-        by false = record { block = refl; ran = refl; gone = λ e. e }
+cut_keeps b = grind (arith, slot_cases)
 
 -- a cut leaves the entries
 pub cut_rest : (b : Block) (s : Slot) → (cut_in b s).rest ≡ s.rest
-cut_rest b s = at s.block s.ran s.rest s.state
-  where
-    at : (c : Block) (ran rest : List Entry) (o : Option QueueState) → (cut_in b (slot_of c ran rest o)).rest ≡ rest
-    at c ran rest None = refl
-    at c ran rest (Some t) =
-        by_test (λ y. (if y then cut_slot (slot_of c ran rest (Some t)) t else slot_of c ran rest (Some t)).rest ≡ rest) (same_block b c) (λ same. refl)
-        (λ other. refl)
+cut_rest b = grind (arith, slot_cases)
 
 pub ran-cut : (b : Block) (ss : List Slot) → ran_of (slots_cut b ss) ≡ ran_of ss
 ran-cut b = ran-kept (cut_in b) (cut_keeps b)
@@ -241,19 +225,16 @@ queue-cut c ran rest t = refl
 
 pub queues-cut : (b : Block) (ss : List Slot) → AreApart (queues_of ss) → queues_of (slots_cut b ss) ≡ cut b (queues_of ss)
 queues-cut b [] apart = refl
-queues-cut b (s ∷ ss) apart = at s.block s.ran s.rest s.state apart (queues-cut b ss)
-  where
-    at : (c : Block) (ran rest : List Entry) (o : Option QueueState) → AreApart (queues_of (slot_of c ran rest o ∷ ss))
-        → (AreApart (queues_of ss) → queues_of (slots_cut b ss) ≡ cut b (queues_of ss))
-        → queues_of (slots_cut b (slot_of c ran rest o ∷ ss)) ≡ cut b (queues_of (slot_of c ran rest o ∷ ss))
-    at c ran rest None a later = later a
-    at c ran rest (Some t) a later = by_test
-        (λ y. queue_in (if y then cut_slot (slot_of c ran rest (Some t)) t else slot_of c ran rest (Some t)) ++ queues_of (slots_cut b ss)
-        ≡ (if y then left_by_cut (slot_queue (slot_of c ran rest (Some t)) t) ++ queues_of ss
-        else slot_queue (slot_of c ran rest (Some t)) t ∷ cut b (queues_of ss)))
-        (same_block b c)
-        (λ same i. queue-cut c ran rest t i ++ same_behind b left_by_cut c (queues_of ss) (queues_of (slots_cut b ss)) same a.0 (later a.1) i)
-        (λ other. ap (λ qs. slot_queue (slot_of c ran rest (Some t)) t ∷ qs) (later a.1))
+queues-cut b (s ∷ ss) apart =
+    slot_cases (λ s. AreApart (queues_of (s ∷ ss)) → queues_of (slots_cut b (s ∷ ss)) ≡ cut b (queues_of (s ∷ ss)))
+    (λ c ran rest a. queues-cut b ss a)
+    (λ c ran rest t a. by_test
+    (λ y. queue_in (if y then cut_slot (slot_of c ran rest (Some t)) t else slot_of c ran rest (Some t)) ++ queues_of (slots_cut b ss)
+    ≡ (if y then left_by_cut (slot_queue (slot_of c ran rest (Some t)) t) ++ queues_of ss
+    else slot_queue (slot_of c ran rest (Some t)) t ∷ cut b (queues_of ss)))
+    (same_block b c)
+    (λ same i. queue-cut c ran rest t i ++ same_behind b left_by_cut c (queues_of ss) (queues_of (slots_cut b ss)) same a.0 (queues-cut b ss a.1) i)
+    (λ other. ap (λ qs. slot_queue (slot_of c ran rest (Some t)) t ∷ qs) (queues-cut b ss a.1))) s apart
 
 -- ---- the first entry runs
 
@@ -304,25 +285,11 @@ first-runs : (b : Block) (ran rest : List Entry) (t : QueueState) (ss : List Slo
     → first_of (slot_queue (slot_of b ran rest (Some t)) t) rest ≡ Some f
     → Runs (slot_of b ran rest (Some t) ∷ ss) (run_rest (slot_of b ran rest (Some t)) t rest ∷ ss) f
 first-runs b ran [] t ss f none turn e = absurd (none-some _ e)
-first-runs b ran (x ∷ es) t ss f none turn e = record {
-  queues = by_test
-      (λ y. queue_in (slot_of b (ran ++ x ∷ []) es (if y then None else Some t)) ++ queues_of ss
-      ≡ (if y then [] else record { block = b; first = length ran + 1 + 1; entries = es; state = t } ∷ []) ++ queues_of ss) (goes_with t x es)
-      (λ goes. refl)
-      (λ stays. ap (λ n. record { block = b; first = n; entries = es; state = t } ∷ queues_of ss) (omega (arith, length-append ran (x ∷ []))));
-  ran = ran-next b ran x ss f none (same_Some (b, length ran + 1, x) f e);
-  blocks = refl;
-  turn = (waits_for_none (if goes_with t x es then None else Some t) ss none, turn);
-}
+first-runs b ran (x ∷ es) t ss f none turn e = grind (arith, length-append, ran-next, same_Some, waits_for_none)
 
 gone-runs : (b : Block) (ran rest : List Entry) (ss ts : List Slot) (f : Block × ℕ × Entry) → Runs ss ts f
     → Runs (slot_of b ran rest None ∷ ss) (slot_of b ran rest None ∷ ts) f
-gone-runs b ran rest ss ts f r = record {
-  queues = r.queues;
-  ran = ap (λ us. numbered b 1 ran ++ us) r.ran ∙ sym (append_assoc (numbered b 1 ran) (ran_of ss) (f ∷ []));
-  blocks = ap (λ bs. b ∷ bs) r.blocks;
-  turn = (tt, r.turn);
-}
+gone-runs b ran rest ss ts f r = grind (arith, numbered, append_assoc)
 
 pub slots-run : (ss : List Slot) (f : Block × ℕ × Entry) → InTurn ss → front (queues_of ss) ≡ Some f → Runs ss (slots_run ss) f
 slots-run [] f turn e = absurd (none-some _ e)

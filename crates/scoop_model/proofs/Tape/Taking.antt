@@ -1,14 +1,11 @@
--- The effect of each case of the handler's table on its slots. An open slot also shows its client's mark.
-use Rattle.scoop_model.proofs.Names.{◌≡◌, ℕ, ◌+◌, List, [], ◌∷◌, ◌++◌, Some, None, refl, sym, ap, ◌∙◌, subst, arith, append-nil, Option, true, if◌then◌else◌}
-use Rattle.scoop_model.proofs.Names.{false, true≢false, length, Bool, ◌-◌, append_assoc, not, IsFalse, drop, length-append, IsTrue, same_Some, none-some}
-use Rattle.scoop_model.proofs.Names.{AllByRecursion, same_block, Message, Log, Block, HandlerId, Entry, both, same_block-true, same_block-refl, PrivateQueue}
-use Rattle.scoop_model.proofs.Names.{put_all, QueueState, TakesMore, by_test, all_both, block_of-same, Hearing, new_entries, block_of, mark_of, Row}
-use Rattle.scoop_model.proofs.Names.{newer_greeting, is_opened, is_taken, IsLogAt, IsNext, HandlerState, IsState, FitsMark, FitsNewest, HasMark, Mark}
-use Rattle.scoop_model.proofs.Names.{newly_opened}
-use Rattle.scoop_handler.specs.Marks.{is_open}
+-- The effect of each case of the handler's table on its slots.
+use Rattle.scoop_model.proofs.Names.{◌≡◌, ℕ, ◌+◌, List, [], ◌∷◌, ◌++◌, Some, refl, sym, ap, ◌∙◌, subst, arith, append-nil, if◌then◌else◌, length, ◌-◌}
+use Rattle.scoop_model.proofs.Names.{append_assoc, drop, length-append, same_Some, none-some, AllByRecursion, same_block, Message, Log, Block, HandlerId, Entry}
+use Rattle.scoop_model.proofs.Names.{same_block-true, PrivateQueue, put_all, QueueState, by_test, all_both, block_of-same, Hearing, new_entries, block_of}
+use Rattle.scoop_model.proofs.Names.{mark_of, Row, newer_greeting, is_opened, is_taken, IsLogAt, IsNext, HandlerState, IsState, FitsMark, FitsNewest, HasMark}
+use Rattle.scoop_model.proofs.Names.{Mark, newly_opened}
 use Rattle.scoop_model.proofs.Stands.{Stands}
-use Rattle.scoop_model.proofs.Order.{all_more_of}
-use Rattle.scoop_model.proofs.Tape.Slots.{Slot, slot_of, slot_queue, queues_of, slots_new, slots_put, put_in, put_slot, slots_cut}
+use Rattle.scoop_model.proofs.Tape.Slots.{slot_cases, Slot, slot_of, slot_queue, queues_of, slots_new, slots_put, put_in, put_slot, slots_cut}
 use Rattle.scoop_model.proofs.Tape.Fits.{IsBeginningOf, IsBegun, TapeFits, open_tape, cut_tape, put_tape, beginning_next}
 
 -- the slots after a row
@@ -25,63 +22,17 @@ pub record InQueue (P : PrivateQueue → Type 0) (s : Slot) : Type 0 where
 
 pub each_queue : (P : PrivateQueue → Type 0) (ss : List Slot) → AllByRecursion P (queues_of ss) → AllByRecursion (InQueue P) ss
 each_queue P [] all = tt
-each_queue P (s ∷ ss) all = at s.block s.ran s.rest s.state all (each_queue P ss)
-  where
-    at : (b : Block) (ran rest : List Entry) (o : Option QueueState) → AllByRecursion P (queues_of (slot_of b ran rest o ∷ ss))
-        → (AllByRecursion P (queues_of ss) → AllByRecursion (InQueue P) ss) → AllByRecursion (InQueue P) (slot_of b ran rest o ∷ ss)
-    at b ran rest None all later = (record { has = λ t e. absurd (none-some _ e) }, later all)
-    at b ran rest (Some u) all later =
-        (record { has = λ t e. subst (λ v. P (slot_queue (slot_of b ran rest (Some u)) v)) (same_Some u t e) all.0 }, later all.1)
+each_queue P (s ∷ ss) all =
+    slot_cases (λ s. AllByRecursion P (queues_of (s ∷ ss)) → AllByRecursion (InQueue P) (s ∷ ss))
+    (λ b ran rest all. (record { has = λ t e. absurd (none-some _ e) }, each_queue P ss all))
+    (λ b ran rest u all.
+    (record { has = λ t e. subst (λ v. P (slot_queue (slot_of b ran rest (Some u)) v)) (same_Some u t e) all.0 }, each_queue P ss all.1)) s all
 
--- ---- an open slot
-
--- the slot's block is its client's newest, open and not ended, and all that was received of it is in the slot
-pub record IsLive (marks : List Mark) (s : Slot) : Type 0 where
-  pub mark : Mark
-  pub found : mark_of s.block.client marks ≡ Some mark
-  pub newest : block_of mark ≡ s.block
-  pub stage : IsTrue (is_open mark.stage)
-  pub running : IsFalse mark.ended
-  pub received : mark.received ≡ length (s.ran ++ s.rest)
-
-pub record IsLiveIfOpen (marks : List Mark) (s : Slot) : Type 0 where
-  pub live : s.state ≡ Some TakesMore → IsLive marks s
+-- ---- a Log is taken
 
 -- entries that were received of the client's newest block
 received_in : (s : Slot) (t : QueueState) (k : Mark) → FitsNewest (slot_queue s t) k → k.received ≡ length (s.ran ++ s.rest)
 received_in s t k fits = let next = fits.received in omega (arith, next, length-append s.ran s.rest)
-
-live_slot : (marks : List Mark) (s : Slot) → InQueue (HasMark marks) s → IsLiveIfOpen marks s
-live_slot marks s has = record {
-  live = λ e.
-      let h = has.has TakesMore e in
-      let same : block_of h.mark ≡ s.block =
-      by_test (λ t. same_block (block_of h.mark) s.block ≡ t → block_of h.mark ≡ s.block) (same_block (block_of h.mark) s.block)
-      (λ is _. same_block-true (block_of h.mark) s.block is)
-      (λ other _.
-      absurd (true≢false (h.fits.older (λ is. true≢false (sym (subst (λ b. same_block (block_of h.mark) b ≡ true) is (same_block-refl (block_of h.mark)))
-      ∙ other)))))
-      refl in
-      let fits = h.fits.newest same in
-      let goes_on = both (is_open h.mark.stage) (not h.mark.ended) (fits.unfinished refl) in
-      record {
-        mark = h.mark;
-        found = h.found;
-        newest = same;
-        stage = goes_on.0;
-        running = not_true h.mark.ended goes_on.1;
-        received = received_in s TakesMore h.mark fits;
-      };
-}
-  where
-    not_true : (t : Bool) → IsTrue (not t) → IsFalse t
-    not_true true h = absurd (true≢false (sym h))
-    not_true false h = refl
-
-pub live_slots : (s : HandlerState) (ss : List Slot) → IsState s → s.queues ≡ queues_of ss → AllByRecursion (IsLiveIfOpen s.marks) ss
-live_slots s ss is queues = grind (arith, all_more_of, each_queue, live_slot)
-
--- ---- a Log is taken
 
 module _ (log : Block → List Entry) (s : HandlerState) (b : Block) (n : ℕ) (es : List Entry) (k : Mark) (at : IsLogAt s b k) (next : IsNext k n es)
     (st : Stands (log b) n es) where
@@ -100,15 +51,12 @@ module _ (log : Block → List Entry) (s : HandlerState) (b : Block) (n : ℕ) (
       ∙ ap (λ j. ran ++ (rest ++ drop (j + 1 - n) es)) (sym count)) more
 
   put_begun : (t : Slot) → IsBegun log t → InQueue (HasMark s.marks) t → IsBegun log (put_in b (new_entries n es k) t)
-  put_begun t i has = by t.block t.ran t.rest t.state i has
-    where
-      by : (c : Block) (ran rest : List Entry) (o : Option QueueState) → IsBegun log (slot_of c ran rest o) → InQueue (HasMark s.marks) (slot_of c ran rest o)
-          → IsBegun log (put_in b (new_entries n es k) (slot_of c ran rest o))
-      by c ran rest None i has = i
-      by c ran rest (Some u) i has =
-          by_test (λ y. IsBegun log (if y then put_slot (new_entries n es k) (slot_of c ran rest (Some u)) u else slot_of c ran rest (Some u))) (same_block b c)
-          (λ same. grown c ran rest u (same_block-true b c same) i (has.has u refl))
-          (λ other. i)
+  put_begun =
+      slot_cases (λ t. IsBegun log t → InQueue (HasMark s.marks) t → IsBegun log (put_in b (new_entries n es k) t)) (λ c ran rest i has. i)
+      (λ c ran rest u i has.
+      by_test (λ y. IsBegun log (if y then put_slot (new_entries n es k) (slot_of c ran rest (Some u)) u else slot_of c ran rest (Some u))) (same_block b c)
+      (λ same. grown c ran rest u (same_block-true b c same) i (has.has u refl))
+      (λ other. i))
 
   take_tape : (bs : List Block) (rs : List (Block × ℕ × Entry)) (ss : List Slot) → IsState s → TapeFits log s.queues bs rs ss
       → TapeFits log (put_all b (new_entries n es k) s.queues) bs rs (slots_put b (new_entries n es k) ss)

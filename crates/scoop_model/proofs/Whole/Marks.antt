@@ -1,12 +1,12 @@
 -- The claims that a handler has sent about its marks: each newer incarnation was welcomed, and each count of received entries is the
 -- greatest one that was sent. Every case of the table keeps them.
 use Rattle.scoop_model.proofs.Names.{◌≡◌, ℕ, ◌<◌, List, [], ◌∷◌, ◌++◌, map, Some, None, refl, sym, ap, ◌∙◌, subst, arith, ◌≤◌, true, false, true≢false, Bool}
-use Rattle.scoop_model.proofs.Names.{option_to_list, ⊎_elim, cases_eq, AllByRecursion, last_number, ends, same_block, same_client, Message, Welcome, Logged}
-use Rattle.scoop_model.proofs.Names.{Block, ClientId, HandlerId, MarksGrow-after, by_test, All-mark_of, All-set_mark, All-add_mark, mark_of-client}
-use Rattle.scoop_model.proofs.Names.{same_client-refl, block_of-same, grows-row, MarksGrow, Hearing, greeting_mark, block_of, fresh_mark, opened_mark}
-use Rattle.scoop_model.proofs.Names.{with_received, without_hold, set_mark, mark_of, add_mark, Row, first_greeting, newer_greeting, lock_granted, is_opened}
-use Rattle.scoop_model.proofs.Names.{unlock_of_a_block_never_held, is_freed, is_taken, already_received, mark_after, HandlerState, Mark, AtHeld, AtShut, Took}
-use Rattle.scoop_model.proofs.Names.{Ran, all_mapped, count_in, greatest_count}
+use Rattle.scoop_model.proofs.Names.{option_to_list, cases_eq, AllByRecursion, last_number, ends, same_block, same_client, Message, Welcome, Logged, Block}
+use Rattle.scoop_model.proofs.Names.{ClientId, HandlerId, MarksGrow-after, by_test, All-mark_of, All-set_mark, All-add_mark, mark_of-client, same_client-refl}
+use Rattle.scoop_model.proofs.Names.{block_of-same, grows-row, MarksGrow, Hearing, greeting_mark, block_of, fresh_mark, with_received, set_mark, mark_of}
+use Rattle.scoop_model.proofs.Names.{add_mark, Row, first_greeting, newer_greeting, lock_granted, is_opened, unlock_of_a_block_never_held, is_freed, is_taken}
+use Rattle.scoop_model.proofs.Names.{already_received, mark_after, HandlerState, Mark, AtHeld, AtShut, Took, Ran, all_mapped, count_in, greatest_count}
+use Rattle.scoop_model.proofs.Names.{false_from_ne_true}
 use Rattle.scoop_handler.specs.declared.mark.Stage.{Stage}
 use Rattle.scoop_model.proofs.Order.{IsReachedIn, Upto, upto_itself, reached_more, all_more_of, same_block_is, same_block_itself}
 use Rattle.scoop_model.proofs.Whole.Sent.{IsGreeted, TellsAlike, alike_more, count_itself, count_other, greatest_new, greatest_stays, greeted_last}
@@ -37,23 +37,13 @@ reached_alike ms ns h marks same all b some = all b (let e = same.counted b in o
 
 -- messages that tell nothing new of the handler leave it
 pub marks_alike : (ms ns : List Message) (h : HandlerId) (marks : List Mark) → TellsAlike h ms ns → MarksTold ms h marks → MarksTold ns h marks
-marks_alike ms ns h marks same t = record {
-  each = all_more_of (MarkTold ms h) (MarkTold ns h) (told_alike ms ns h same) marks t.each;
-  reached = reached_alike ms ns h marks same t.reached;
-}
+marks_alike ms ns h marks same t = grind (arith, all_more_of, told_alike, reached_alike)
 
 -- ---- a block that isn't reached has no count
 
 none_counted : (ms : List Message) (h : HandlerId) (marks : List Mark) (b : Block) → ((x : Block) → 0 < greatest_count h x ms → IsReachedIn marks x)
     → (IsReachedIn marks b → ⊥) → greatest_count h b ms ≡ 0
-none_counted ms h marks b all past =
-    ⊎_elim
-    (λ (e : greatest_count h b ms ≡ 0). e)
-    (λ (some : greatest_count h b ms ≡ 0 → ⊥). absurd (past (all b (positive some))))
-    (cases_eq (greatest_count h b ms) 0)
-  where
-    positive : (greatest_count h b ms ≡ 0 → ⊥) → 0 < greatest_count h b ms
-    positive some = omega (arith, some)
+none_counted ms h marks b all past = grind (arith, cases_eq)
 
 -- no mark of the client, or one that is below the block
 pub not_reached : (marks : List Mark) (b : Block) (k : Mark) → mark_of b.client marks ≡ Some k → (Upto b.inc b.num k.inc k.num → ⊥) → IsReachedIn marks b → ⊥
@@ -83,13 +73,7 @@ zero_le n = omega arith
 -- the handler's marks stay at the same blocks and counts
 same_mark : (ms : List Message) (h : HandlerId) (k x : Mark) → x.client ≡ k.client → x.inc ≡ k.inc → x.num ≡ k.num → x.received ≡ k.received → MarkTold ms h k
     → MarkTold ms h x
-same_mark ms h k x client inc num received t = record {
-  greeted = λ b own newer. t.greeted b (own ∙ client) (let e = inc in omega (arith, newer, e));
-  received = ap (λ y. greatest_count h y ms) same ∙ t.received ∙ sym received;
-}
-  where
-    same : block_of x ≡ block_of k
-    same i = record { client = client i; inc = inc i; num = num i }
+same_mark ms h k x client inc num received t = grind arith
 
 -- a mark that comes to a newer block of its incarnation
 next_mark : (ms : List Message) (h : HandlerId) (marks : List Mark) (b : Block) (k : Mark) (stage : Stage) → mark_of b.client marks ≡ Some k → k.inc ≡ b.inc
@@ -114,11 +98,7 @@ greeted_mark ms h marks c inc past t = record {
 -- ---- one more count is sent
 
 pub block_reached : (marks : List Mark) (b : Block) (k : Mark) → mark_of b.client marks ≡ Some k → block_of k ≡ b → IsReachedIn marks b
-block_reached marks b k found same = record {
-  mark = k;
-  found = found;
-  upto = subst (λ (y : Block). Upto y.inc y.num k.inc k.num) same (upto_itself k.inc k.num);
-}
+block_reached marks b k found same = grind (arith, upto_itself)
 
 -- the block's count goes on from what was received to the last, and the others stay
 pub record IsMoreTold (ms ns : List Message) (h : HandlerId) (b : Block) (k : Mark) (last : ℕ) : Type 0 where
@@ -159,17 +139,14 @@ module _ (ms : List Message) (s : HandlerState) (b : Block) (k : Mark) (last : �
     where
       other_block : (x : Mark) → same_client x.client k.client ≡ false → same_block b (block_of x) ≡ false
       other_block x apart =
-          by_test (λ u. same_block b (block_of x) ≡ u → u ≡ false) (same_block b (block_of x))
-          (λ _ is. absurd (clients_apart x.client k.client apart (ap (λ (y : Block). y.client) (same ∙ same_block_is b (block_of x) is))))
-          (λ _ is. refl) refl
+          false_from_ne_true (same_block b (block_of x)) (λ is. clients_apart x.client k.client apart (ap (λ (y : Block). y.client) (same ∙ same_block_is b (block_of x) is)))
 
   taken_reached : (marks : List Mark) → MarksGrow s.marks marks → (x : Block) → 0 < greatest_count s.number x ns → IsReachedIn marks x
   taken_reached marks grows x some =
       reached_more s.marks marks x grows (
-      by_test (λ u. same_block b x ≡ u → IsReachedIn s.marks x) (same_block b x)
-      (λ _ is. subst (IsReachedIn s.marks) (same_block_is b x is) (block_reached s.marks b k found same))
-      (λ _ is. t.reached x (let e = count_more.others x is in omega (arith, e, some)))
-      refl)
+      by_test (λ _. IsReachedIn s.marks x) (same_block b x)
+      (λ is. subst (IsReachedIn s.marks) (same_block_is b x is) (block_reached s.marks b k found same))
+      (λ is. t.reached x (let e = count_more.others x is in omega (arith, e, some))))
 
   taken_told : (ended : Bool) → MarksGrow s.marks (set_mark (with_received last ended k) s.marks)
       → MarksTold ns s.number (set_mark (with_received last ended k) s.marks)
@@ -192,16 +169,15 @@ alike-row ms s m h (already_received x b n es k here at before none) t quiet = a
 
     not_above : (y : Block) → count_in s.number y (Logged s.number b k.received) ≤ greatest_count s.number y ms
     not_above y =
-        by_test (λ u. same_block b y ≡ u → count_in s.number y (Logged s.number b k.received) ≤ greatest_count s.number y ms) (same_block b y)
-        (λ _ is.
+        by_test (λ _. count_in s.number y (Logged s.number b k.received) ≤ greatest_count s.number y ms) (same_block b y)
+        (λ is.
         let one : block_of k ≡ y = same ∙ same_block_is b y is in
         let told : greatest_count s.number y ms ≡ k.received =
         ap (λ z. greatest_count s.number z ms) (sym one) ∙ (All-mark_of (MarkTold ms s.number) b.client s.marks k t.each at.heard.found).received in
         let own : count_in s.number y (Logged s.number b k.received) ≡ k.received =
         ap (λ z. count_in s.number y (Logged s.number z k.received)) (same_block_is b y is) ∙ count_itself s.number y k.received in
         omega (arith, told, own))
-        (λ _ is. let none = count_other s.number s.number b y k.received (λ _ e. blocks_apart b y is e) in omega (arith, none))
-        refl
+        (λ is. let none = count_other s.number s.number b y k.received (λ _ e. blocks_apart b y is e) in omega (arith, none))
 alike-row ms s m h r t quiet = alike_more s.number ms h.1.reply (λ b. zero_le (greatest_count s.number b ms))
 
 -- the marks change and no message says anything new
@@ -215,57 +191,37 @@ module _ (ms ns : List Message) (h : HandlerId) (marks news : List Mark) (alike 
 
   -- one mark changes
   mark_moved : (k : Mark) → news ≡ set_mark k marks → MarkTold ns h k → MarksTold ns h news
-  mark_moved k is one =
-      marks_moved (subst (AllByRecursion (MarkTold ns h)) (sym is) (All-set_mark (MarkTold ns h) (MarkTold ns h) k marks one (λ x apart m. m) now.each))
+  mark_moved k is one = grind (arith, marks_moved, All-set_mark, now)
 
   -- a mark more
   mark_added : (k : Mark) → news ≡ add_mark k marks → MarkTold ns h k → MarksTold ns h news
-  mark_added k is one =
-      marks_moved (subst (AllByRecursion (MarkTold ns h)) (sym is) (All-add_mark (MarkTold ns h) (MarkTold ns h) k marks one (λ x m. m) now.each))
+  mark_added k is one = grind (arith, marks_moved, All-add_mark, now)
 
   found_told : (b : Block) (k : Mark) → mark_of b.client marks ≡ Some k → MarkTold ns h k
   found_told b k found = All-mark_of (MarkTold ns h) b.client marks k now.each found
 
+-- what a row makes of the marks, where its reply tells nothing new unless entries are taken
+told_by :
+    (ms : List Message) (s : HandlerState) (m : Message) (h : Hearing) → Row s m h
+    → (((n : ℕ) → h.1.note ≡ Took n → ⊥) → TellsAlike s.number ms (ms ++ option_to_list h.1.reply)) → MarksGrow s.marks h.0.marks
+    → MarksTold ms s.number s.marks → MarksTold (ms ++ option_to_list h.1.reply) s.number h.0.marks
+told_by ms s m h (first_greeting x c inc here none room) alike grows t = grind (arith, mark_added, greeted_mark, none_reached)
+told_by ms s m h (newer_greeting x c inc k here found newer) alike grows t = grind (arith, mark_moved, greeted_mark, not_reached, newer_inc)
+told_by ms s m h (lock_granted x b k here at new free clear) alike grows t =
+    mark_moved ms _ s.number s.marks _ (alike (λ n e. cc)) grows t (fresh_mark b AtHeld) refl
+    (next_mark _ s.number s.marks b k AtHeld at.found at.inc new (marks_alike ms _ s.number s.marks (alike (λ n e. cc)) t))
+told_by ms s m h (is_opened x b k here at same held room) alike grows t = grind (arith, mark_moved, same_mark, found_told)
+told_by ms s m h (unlock_of_a_block_never_held x b k here at new clear) alike grows t =
+    mark_moved ms _ s.number s.marks _ (alike (λ n e. cc)) grows t (fresh_mark b AtShut) refl
+    (next_mark _ s.number s.marks b k AtShut at.found at.inc new (marks_alike ms _ s.number s.marks (alike (λ n e. cc)) t))
+told_by ms s m h (is_freed x b k here at same holds) alike grows t = grind (arith, mark_moved, same_mark, found_told)
+told_by ms s m h (is_taken x b n es k here at next goes_on room) alike grows t =
+    taken_told ms s b k (last_number n es) at.heard.found (block_of-same s b k at.heard at.num) next.new t (ends es) grows
+told_by ms s m h r alike grows t = marks_alike ms (ms ++ option_to_list h.1.reply) s.number s.marks (alike (λ n e. absurd (let f = e in cc))) t
+
 pub marks_told-row : (ms : List Message) (s : HandlerState) (m : Message) (h : Hearing) → Row s m h → MarksTold ms s.number s.marks
     → MarksTold (ms ++ option_to_list h.1.reply) s.number h.0.marks
-marks_told-row ms s m h (first_greeting x c inc here none room) t =
-    let r = first_greeting x c inc here none room in
-    let k : Mark = greeting_mark c inc in
-    mark_added ms _ s.number s.marks (add_mark k s.marks) (alike-row ms s m _ r t (λ n e. cc)) (grows-row s m _ r) t k refl
-    (greeted_mark ms s.number s.marks c inc (none_reached s.marks (block_of k) none) t)
-marks_told-row ms s m h (newer_greeting x c inc k here found newer) t =
-    let r = newer_greeting x c inc k here found newer in
-    let y : Mark = greeting_mark c inc in
-    mark_moved ms _ s.number s.marks (set_mark y s.marks) (alike-row ms s m _ r t (λ n e. cc)) (grows-row s m _ r) t y refl
-    (greeted_mark ms s.number s.marks c inc (not_reached s.marks (block_of y) k found (newer_inc (block_of y) k newer)) t)
-marks_told-row ms s m h (lock_granted x b k here at new free clear) t =
-    let r = lock_granted x b k here at new free clear in
-    let y : Mark = fresh_mark b AtHeld in
-    let alike = alike-row ms s m _ r t (λ n e. cc) in
-    mark_moved ms _ s.number s.marks (set_mark y s.marks) alike (grows-row s m _ r) t y refl
-    (next_mark _ s.number s.marks b k AtHeld at.found at.inc new (marks_alike ms _ s.number s.marks alike t))
-marks_told-row ms s m h (is_opened x b k here at same held room) t =
-    let r = is_opened x b k here at same held room in
-    let alike = alike-row ms s m _ r t (λ n e. cc) in
-    let grows = grows-row s m _ r in
-    mark_moved ms _ s.number s.marks (set_mark (opened_mark k) s.marks) alike grows t (opened_mark k) refl
-    (same_mark _ s.number k (opened_mark k) refl refl refl refl (found_told ms _ s.number s.marks _ alike grows t b k at.found))
-marks_told-row ms s m h (unlock_of_a_block_never_held x b k here at new clear) t =
-    let r = unlock_of_a_block_never_held x b k here at new clear in
-    let y : Mark = fresh_mark b AtShut in
-    let alike = alike-row ms s m _ r t (λ n e. cc) in
-    mark_moved ms _ s.number s.marks (set_mark y s.marks) alike (grows-row s m _ r) t y refl
-    (next_mark _ s.number s.marks b k AtShut at.found at.inc new (marks_alike ms _ s.number s.marks alike t))
-marks_told-row ms s m h (is_freed x b k here at same holds) t =
-    let r = is_freed x b k here at same holds in
-    let alike = alike-row ms s m _ r t (λ n e. cc) in
-    let grows = grows-row s m _ r in
-    mark_moved ms _ s.number s.marks (set_mark (without_hold k) s.marks) alike grows t (without_hold k) refl
-    (same_mark _ s.number k (without_hold k) refl refl refl refl (found_told ms _ s.number s.marks _ alike grows t b k at.found))
-marks_told-row ms s m h (is_taken x b n es k here at next goes_on room) t =
-    taken_told ms s b k (last_number n es) at.heard.found (block_of-same s b k at.heard at.num) next.new t (ends es)
-    (grows-row s m _ (is_taken x b n es k here at next goes_on room))
-marks_told-row ms s m h r t = marks_alike ms (ms ++ option_to_list h.1.reply) s.number s.marks (alike-row ms s m h r t (λ n e. absurd (let f = e in cc))) t
+marks_told-row ms s m h r t = told_by ms s m h r (alike-row ms s m h r t) (grows-row s m h r) t
 
 -- an entry that runs changes no count
 pub marks_told-after : (ms : List Message) (h : HandlerId) (r : Ran) (marks : List Mark) → MarksTold ms h marks → MarksTold ms h (map (mark_after r) marks)

@@ -1,8 +1,8 @@
 -- The claims of all messages sent so far about one handler, as one more is sent.
 use Rattle.scoop_model.proofs.Names.{◌≡◌, ℕ, ◌<◌, List, [], ◌∷◌, ◌++◌, Some, None, refl, sym, ap, ◌∙◌, arith, append-nil, ◌≤◌, Option, true, if◌then◌else◌}
 use Rattle.scoop_model.proofs.Names.{◌&&◌, false, true≢false, ◌||◌, option_to_list, nat_lt, max, nat_tests, list_any-append, list_any, handler_decides}
-use Rattle.scoop_model.proofs.Names.{client_decides, block_decides, same_block, handler_of, is_for_handler, same_client, same_handler, Message, Welcome, Logged}
-use Rattle.scoop_model.proofs.Names.{Block, ClientId, HandlerId, count_in, greatest_count, is_newer_welcome}
+use Rattle.scoop_model.proofs.Names.{client_decides, block_decides, same_block, handler_of, is_for_handler, same_handler, Message, Welcome, Logged, Block}
+use Rattle.scoop_model.proofs.Names.{ClientId, HandlerId, count_in, greatest_count, is_newer_welcome}
 
 -- ---- one message
 
@@ -29,12 +29,7 @@ count_of_client h b m goes = refl
 
 -- a welcome to a newer incarnation
 newer_welcome : (h : HandlerId) (b : Block) (c : ClientId) (inc : ℕ) → b.client ≡ c → b.inc < inc → is_newer_welcome h b (Welcome h c inc) ≡ true
-newer_welcome h b c inc own newer =
-    ap (λ t. t && (same_client c b.client && nat_lt b.inc inc)) (same_handler_itself h)
-    ∙ (ap (λ t. t && nat_lt b.inc inc) ((client_decides c b.client).1 (sym own)) ∙ below newer)
-  where
-    below : b.inc < inc → nat_lt b.inc inc ≡ true
-    below e = grind (arith, nat_tests)
+newer_welcome h b c inc own newer = grind (arith, nat_lt, same_handler_itself, client_decides, nat_tests)
 
 -- ---- one message more
 

@@ -5,7 +5,7 @@ use Rattle.scoop_model.proofs.Names.{All-mark_of, mark_of-client, Ran, entries_o
 use Rattle.scoop_model.proofs.Names.{number_of, log_of, received, is_succeeded}
 use Rattle.scoop_model.proofs.Order.{AreApart}
 use Rattle.scoop_model.proofs.Tape.{Slot, ran_in, blocks_of, NoneRan, Waits, InTurn, IsBegun, once_apart, left_apart, IsPart, slot_parts, SiteTape, logs_at}
-use Rattle.scoop_model.proofs.Whole.Marks.{MarkTold, MarksTold}
+use Rattle.scoop_model.proofs.Whole.Marks.{MarksTold}
 use Rattle.scoop_model.proofs.Whole.Slots.{IsPassed, SlotWhole}
 use Rattle.scoop_model.proofs.Whole.Rows.{SlotsWhole}
 
@@ -14,9 +14,8 @@ use Rattle.scoop_model.proofs.Whole.Rows.{SlotsWhole}
 -- the entries of what is numbered
 pub told_entries : (rs : List Ran) (b : Block) (n : ℕ) (es : List Entry) → map untold rs ≡ numbered b n es → entries_of rs ≡ es
 told_entries [] b n [] e = refl
-told_entries [] b n (x ∷ xs) e = absurd (cc)
-told_entries (r ∷ rs) b n [] e = absurd (cc)
 told_entries (r ∷ rs) b n (x ∷ xs) e = grind (arith, told_entries rs b)
+told_entries rs b n es e = absurd (cc)
 
 none_told : (rs : List Ran) → map untold rs ≡ [] → rs ≡ []
 none_told [] e = refl
@@ -31,9 +30,7 @@ module _ (w : World) (s : Site) (marks_told : MarksTold w.sent (number_of s) s.c
     pub begun : IsBegun (logs_at w s) t
 
   succeeded : (b : Block) → IsPassed s.core.state.marks b → is_succeeded b (number_of s) w ≡ true
-  succeeded b p =
-      (All-mark_of (MarkTold w.sent (number_of s)) b.client s.core.state.marks p.mark marks_told.each p.found).greeted b
-      (sym (mark_of-client b.client s.core.state.marks p.mark p.found)) (let le = p.upto.inc in omega (arith, le))
+  succeeded b p = grind (arith, All-mark_of, mark_of-client)
 
   gone_whole : (t : Slot) → IsShown t → t.state ≡ None → IsWhole w s t.block
   gone_whole t f gone =
@@ -51,15 +48,13 @@ module _ (w : World) (s : Site) (marks_told : MarksTold w.sent (number_of s) s.c
   -- if nothing has run after a slot, no later block has a part
   none_behind : (ss : List Slot) (between back : List Block) (later : Block) → NoneRan ss → AllByRecursion IsShown ss → blocks_of ss ≡ between ++ later ∷ back
       → part later s ≡ []
-  none_behind [] [] back later none all e = absurd (cc)
-  none_behind [] (x ∷ between) back later none all e = absurd (cc)
   none_behind (t ∷ ts) [] back later none all e = grind (arith, none_told)
   none_behind (t ∷ ts) (x ∷ between) back later none all e = grind (arith, none_behind ts between back later)
+  none_behind [] [] back later none all e = absurd (cc)
+  none_behind [] (x ∷ between) back later none all e = absurd (cc)
 
   before_whole : (ss : List Slot) (front between back : List Block) (b later : Block) → InTurn ss → AllByRecursion IsShown ss
       → blocks_of ss ≡ front ++ b ∷ between ++ later ∷ back → part later s ≢ [] → IsWhole w s b
-  before_whole [] [] between back b later turn all e some = absurd (cc)
-  before_whole [] (x ∷ front) between back b later turn all e some = absurd (cc)
   before_whole (t ∷ ts) [] between back b later turn all e some =
       let one : t.block ≡ b = cc in
       let tail : blocks_of ts ≡ between ++ later ∷ back = cc in
@@ -70,6 +65,8 @@ module _ (w : World) (s : Site) (marks_told : MarksTold w.sent (number_of s) s.c
       by_state one tail (Some q) is waits = absurd (some (none_behind ts between back later waits all.1 tail))
   before_whole (t ∷ ts) (x ∷ front) between back b later turn all e some =
       let tail : blocks_of ts ≡ front ++ b ∷ between ++ later ∷ back = cc in before_whole ts front between back b later turn.1 all.1 tail some
+  before_whole [] [] between back b later turn all e some = absurd (cc)
+  before_whole [] (x ∷ front) between back b later turn all e some = absurd (cc)
 
 -- the blocks that opened here are a part of the common list, so no block repeats
 pub whole_shown : (w : World) (s : Site) (js : List Block) (ss : List Slot) → NoRepeats js → IsSubsequence s.opened js → SiteTape (logs_at w s) s ss

@@ -1,14 +1,14 @@
 -- A block whose private queue is gone has run to its End, or a newer incarnation of its client has greeted. The handler has received
 -- as many entries of each block as the block's slot has.
-use Rattle.scoop_model.proofs.Names.{◌≡◌, ◌+◌, ◌<◌, List, [], ◌∷◌, ◌++◌, map, Some, None, refl, sym, ap, ◌∙◌, subst, arith, Option, true, if◌then◌else◌, ◌&&◌}
-use Rattle.scoop_model.proofs.Names.{false, true≢false, length, Bool, ◌==◌, ◌⊎◌, inl, inr, ⊎_elim, not, length-append, IsTrue, eqb-true, or_cases}
-use Rattle.scoop_model.proofs.Names.{AllByRecursion, EndOnlyLast, ends, is_end, same_block, Message, Block, HandlerId, Entry, ends-append, both, goes_with}
-use Rattle.scoop_model.proofs.Names.{is_cut, IsQueue, QueueState, TakesMore as Open, Ended, Cut, MarksGrow-after, by_test, all_both, mark_of-client, MarksGrow}
-use Rattle.scoop_model.proofs.Names.{IsNewer, IsFurther, Grows, block_of, mark_of, mark_after, HasMark, Mark, Ran, all_mapped, some_same, greatest_count}
+use Rattle.scoop_model.proofs.Names.{◌≡◌, ◌+◌, ◌<◌, List, [], ◌∷◌, ◌++◌, map, Some, None, refl, sym, ap, ◌∙◌, subst, arith, Option, true, if◌then◌else◌, false}
+use Rattle.scoop_model.proofs.Names.{true≢false, length, Bool, ◌==◌, ◌⊎◌, inl, inr, ⊎_elim, not, length-append, IsTrue, eqb-true, or_cases, AllByRecursion}
+use Rattle.scoop_model.proofs.Names.{EndOnlyLast, ends, is_end, same_block, Message, Block, HandlerId, Entry, ends-append, both, goes_with, IsQueue, QueueState}
+use Rattle.scoop_model.proofs.Names.{TakesMore as Open, Ended, MarksGrow-after, by_test, all_both, mark_of-client, MarksGrow, block_of, mark_of, mark_after}
+use Rattle.scoop_model.proofs.Names.{HasMark, Mark, Ran, all_mapped, some_same, greatest_count}
 use Rattle.scoop_queue.specs.Queue.{is_open}
-use Rattle.scoop_model.proofs.Order.{IsReachedIn, Upto, reached_more, same_block_is}
-use Rattle.scoop_model.proofs.Tape.{InQueue, each_queue, Slot, slot_of, new_slot, put_slot, put_in, slots_put, state_cut, cut_slot, cut_in, slots_cut, run_rest}
-use Rattle.scoop_model.proofs.Tape.{slots_run, slot_queue, queues_of, each_run}
+use Rattle.scoop_model.proofs.Order.{IsReachedIn, reached_more, same_block_is}
+use Rattle.scoop_model.proofs.Tape.{slot_cases, InQueue, each_queue, Slot, slot_of, new_slot, put_slot, put_in, slots_put, state_cut, cut_in, slots_cut}
+use Rattle.scoop_model.proofs.Tape.{run_rest, slots_run, slot_queue, queues_of, each_run}
 
 -- ---- what the marks tell of a block
 
@@ -33,23 +33,7 @@ passed_from marks b k found newer = record { mark = k; found = found; upto = rec
 
 -- a block that has ended stays so, however the marks grow
 ended_more : (old new : List Mark) (b : Block) → MarksGrow old new → IsReachedIn old b → HasEnded old b → HasEnded new b
-ended_more old new b grows r has x found own =
-    let k = r.mark in
-    let g = grows b.client k r.found in
-    let same : g.0 ≡ x = some_same (mark_of b.client new) g.0 x g.1 found in
-    ⊎_elim (λ (n : IsNewer k x). absurd (past k n r.upto)) (λ (f : IsFurther k x). f.ended (has k r.found (block_is k f r.found))) (subst (Grows k) same g.2)
-  where
-    inc : x.inc ≡ b.inc
-    inc = ap (λ (y : Block). y.inc) own
-
-    num : x.num ≡ b.num
-    num = ap (λ (y : Block). y.num) own
-
-    past : (k : Mark) → IsNewer k x → Upto b.inc b.num k.inc k.num → ⊥
-    past k n u = grind arith
-
-    block_is : (k : Mark) → IsFurther k x → mark_of b.client old ≡ Some k → block_of k ≡ b
-    block_is k f at i = record { client = mark_of-client b.client old k at i; inc = (f.inc ∙ inc) i; num = (f.num ∙ num) i }
+ended_more old new b grows r has x found own = grind (arith, some_same, mark_of-client)
 
 -- ---- one slot
 
@@ -88,46 +72,23 @@ slot_more ms ns h old new t grows same w = record {
 
 pub new_whole :
     (ms : List Message) (h : HandlerId) (marks : List Mark) (b : Block) → IsReachedIn marks b → greatest_count h b ms ≡ 0 → SlotWhole ms h marks (new_slot b)
-new_whole ms h marks b reached none = record {
-  reached = reached;
-  ended = λ off. absurd (true≢false off);
-  gone = λ none. absurd (cc);
-  received = none;
-}
+new_whole ms h marks b reached none = grind (arith, true≢false)
 
 -- ---- a block's queue is cut
 
-cut_whole : (ms : List Message) (h : HandlerId) (marks : List Mark) (b : Block) (t : Slot) → IsPassed marks b → SlotWhole ms h marks t
+left_empty : (q : QueueState) (es : List Entry) → (if is_open q then state_cut es else Some q) ≡ None → es ≡ []
+left_empty Open [] e = refl
+left_empty q es e = absurd (cc)
+
+cut_whole : (ms : List Message) (h : HandlerId) (marks : List Mark) (b : Block) → IsPassed marks b → (t : Slot) → SlotWhole ms h marks t
     → SlotWhole ms h marks (cut_in b t)
-cut_whole ms h marks b t passed w = at t.block t.ran t.rest t.state w.reached w.ended w.gone w.received
-  where
-    at : (c : Block) (ran rest : List Entry) (o : Option QueueState) → IsReachedIn marks c → (takes_more o ≡ false → HasEnded marks c)
-        → (o ≡ None → IsDone marks (slot_of c ran rest o)) → greatest_count h c ms ≡ length ran + length rest
-        → SlotWhole ms h marks (cut_in b (slot_of c ran rest o))
-    at c ran rest None reached ended gone received = record { reached = reached; ended = ended; gone = gone; received = received }
-    at c ran rest (Some q) reached ended gone received =
-        let s : Slot = slot_of c ran rest (Some q) in
-        by_test (λ y. same_block b c ≡ y → SlotWhole ms h marks (if y then cut_slot s q else s)) (same_block b c)
-        (λ _ is.
-        let over : IsPassed marks c = subst (IsPassed marks) (same_block_is b c is) passed in
-        record {
-          reached = reached;
-          ended = λ off. passed_ended marks c over;
-          gone = λ none. record { rest = left q rest none; whole = inr over };
-          received = received;
-        })
-        (λ _ is. record { reached = reached; ended = ended; gone = gone; received = received })
-        refl
-      where
-        left : (q : QueueState) (es : List Entry) → (if is_open q then state_cut es else Some q) ≡ None → es ≡ []
-        left Open [] e = refl
-        left q es e = absurd (cc)
+cut_whole ms h marks b passed = grind (arith, slot_cases, slot_of, same_block_is, passed_ended, left_empty)
 
 pub slots_cut_whole :
     (ms : List Message) (h : HandlerId) (marks : List Mark) (b : Block) (ss : List Slot) → IsPassed marks b → AllByRecursion (SlotWhole ms h marks) ss
     → AllByRecursion (SlotWhole ms h marks) (slots_cut b ss)
 slots_cut_whole ms h marks b ss passed all =
-    all_mapped (cut_in b) (SlotWhole ms h marks) (SlotWhole ms h marks) (λ t w. cut_whole ms h marks b t passed w) ss all
+    all_mapped (cut_in b) (SlotWhole ms h marks) (SlotWhole ms h marks) (cut_whole ms h marks b passed) ss all
 
 -- ---- entries are put
 
@@ -156,21 +117,17 @@ put_whole ms ns h old new b es k t w = at t.block t.ran t.rest t.state w
         → SlotWhole ns h new (put_in b es (slot_of c ran rest o))
     at c ran rest None w =
         let s : Slot = slot_of c ran rest None in
-        by_test (λ y. same_block b c ≡ y → SlotWhole ns h new s) (same_block b c)
-        (λ _ is. absurd (still_runs c is (w.ended refl)))
-        (λ _ is. slot_more ms ns h old new s k.grows (k.others c is) w)
-        refl
+        by_test (λ _. SlotWhole ns h new s) (same_block b c)
+        (λ is. absurd (still_runs c is (w.ended refl)))
+        (λ is. slot_more ms ns h old new s k.grows (k.others c is) w)
     at c ran rest (Some q) w =
         let s : Slot = slot_of c ran rest (Some q) in
-        by_test (λ y. same_block b c ≡ y → SlotWhole ns h new (if y then put_slot es s q else s)) (same_block b c)
-        (λ _ is. own q is w)
-        (λ _ is. slot_more ms ns h old new s k.grows (k.others c is) w)
-        refl
+        by_test (λ y. SlotWhole ns h new (if y then put_slot es s q else s)) (same_block b c)
+        (λ is. own q is w)
+        (λ is. slot_more ms ns h old new s k.grows (k.others c is) w)
       where
         own : (q : QueueState) → same_block b c ≡ true → SlotWhole ms h old (slot_of c ran rest (Some q))
             → SlotWhole ns h new (put_slot es (slot_of c ran rest (Some q)) q)
-        own Ended is w = absurd (still_runs c is (w.ended refl))
-        own Cut is w = absurd (still_runs c is (w.ended refl))
         own Open is w =
             let one : b ≡ c = same_block_is b c is in
             record {
@@ -187,6 +144,7 @@ put_whole ms ns h old new b es k t w = at t.block t.ran t.rest t.state w
                   let was = w.received in
                   omega (arith, count, was, length-append rest es);
             }
+        own q is w = absurd (still_runs c is (w.ended refl))
 
 pub slots_put_whole : (ms ns : List Message) (h : HandlerId) (old new : List Mark) (b : Block) (es : List Entry) (ss : List Slot) → IsTaken ms ns h old new b es
     → AllByRecursion (SlotWhole ms h old) ss → AllByRecursion (SlotWhole ns h new) (slots_put b es ss)
@@ -218,37 +176,14 @@ module _ (ms : List Message) (h : HandlerId) (old new : List Mark) (grows : Mark
     open_stays is goes = grind (arith, end_last, or_cases)
 
     goes_done : goes_with q e es ≡ true → IsDone new (behind true)
-    goes_done goes =
-        ⊎_elim
-        (λ (p : is_end e ≡ true). record { rest = end_last e es sound.end p; whole = inl (ends-append ran (e ∷ []) (omega arith) ∙ p) })
-        (λ (p : (is_cut q && length es == 0) ≡ true).
-        let b = both (is_cut q) (length es == 0) p in
-        record {
-          rest = none_behind es b.1;
-          whole = inr (reached_more old new (next_incarnation c) grows (passed_from old c has.mark has.found (has.fits.cut b.0)));
-        })
-        (or_cases (is_end e) (is_cut q && length es == 0) goes)
+    goes_done goes = grind (arith, end_last, ends-append, both, none_behind, reached_more, passed_from, or_cases)
 
     has_ended : (y : Bool) → goes_with q e es ≡ y → takes_more (if y then None else Some q) ≡ false → HasEnded old c
-    has_ended true goes off = by_state q refl
-      where
-        by_state : (t : QueueState) → q ≡ t → HasEnded old c
-        by_state Open is = absurd (open_stays is goes)
-        by_state Ended is = w.ended (ap is_open is)
-        by_state Cut is = w.ended (ap is_open is)
+    has_ended true goes off = grind (arith, open_stays)
     has_ended false goes off = w.ended off
 
     runs_whole : (y : Bool) → goes_with q e es ≡ y → SlotWhole ms h new (behind y)
-    runs_whole y goes = record {
-      reached = reached_more old new c grows w.reached;
-      ended = λ off. ended_more old new c grows w.reached (has_ended y goes off);
-      gone = by_gone y goes;
-      received = w.received ∙ omega (arith, length-append ran (e ∷ []));
-    }
-      where
-        by_gone : (y : Bool) → goes_with q e es ≡ y → (behind y).state ≡ None → IsDone new (behind y)
-        by_gone true goes none = goes_done goes
-        by_gone false goes none = absurd (cc)
+    runs_whole y goes = grind (arith, reached_more, ended_more, has_ended, length-append, goes_done)
 
 run_whole :
     (ms : List Message) (h : HandlerId) (old new : List Mark) → MarksGrow old new → (t : Slot) (q : QueueState) → t.state ≡ Some q → IsQueue (slot_queue t q)

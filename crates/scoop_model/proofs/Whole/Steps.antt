@@ -1,12 +1,12 @@
 -- Every event keeps the invariant about the sites, and a world that opens has it. Hearing and running change a site's slots as they
 -- change the private queues (`Tape`), the marks as the table says (`Marks`), and the counts that were sent as the replies say
 -- (`Sent`). Other sites stay, since no other handler speaks for them.
-use Rattle.scoop_model.proofs.Names.{◌≡◌, ℕ, ◌<◌, List, [], ◌∷◌, Some, refl, sym, ap, ◌∙◌, subst, arith, true, if◌then◌else◌, false, true≢false, AllByRecursion}
-use Rattle.scoop_model.proofs.Names.{handler_decides, handler_of, is_for_handler, Message, Block, HandlerId, IsQueue, all_found, number-row, replies-row, row}
-use Rattle.scoop_model.proofs.Names.{IsCore, Hearing, hear, HasEntries, Row, Task, ran_of, job_out, IsState, HasMark, due, heard, ClientState, all_made}
-use Rattle.scoop_model.proofs.Names.{number_found, commanded_world, with_sent, with_party, heard_party, restarted_party, heard_world, heard_site, with_site}
-use Rattle.scoop_model.proofs.Names.{begun_site, finished_site, reopened, reopened_world, Placement, Newcomer, new_site, opening, World, Site, number_of}
-use Rattle.scoop_model.proofs.Names.{is_site, site_of, set_site, sent_at, log_of, greatest_count}
+use Rattle.scoop_model.proofs.Names.{◌≡◌, ℕ, List, [], ◌∷◌, Some, refl, sym, ap, ◌∙◌, subst, arith, true, false, true≢false, AllByRecursion, handler_decides}
+use Rattle.scoop_model.proofs.Names.{handler_of, is_for_handler, Message, HandlerId, IsQueue, all_found, number-row, replies-row, row, IsCore, Hearing, hear}
+use Rattle.scoop_model.proofs.Names.{HasEntries, Row, Task, ran_of, job_out, IsState, HasMark, due, heard, ClientState, all_made, number_found, commanded_world}
+use Rattle.scoop_model.proofs.Names.{with_sent, with_party, heard_party, restarted_party, heard_world, heard_site, with_site, begun_site, finished_site}
+use Rattle.scoop_model.proofs.Names.{reopened, reopened_world, Placement, Newcomer, new_site, opening, World, Site, number_of, is_site, site_of, set_site}
+use Rattle.scoop_model.proofs.Names.{sent_at, log_of}
 use Rattle.scoop_model.proofs.Events.{Changes}
 use Rattle.scoop_model.proofs.Stands.{Stands}
 use Rattle.scoop_model.proofs.Order.{SiteFits, Ordered, all_more_of, by_restart, all_anew}
@@ -161,15 +161,7 @@ taped_kept w o sound logged i = record {
 -- ---- a world that opens
 
 site_opens : (w : World) → w.sent ≡ [] → (p : Placement) → SiteTaped w (new_site p)
-site_opens w none p = record {
-  told = record { each = tt; reached = λ b some. absurd (never (number_of (new_site p)) b some) };
-  slots = [];
-  tape = placed_tape (logs_at w (new_site p)) p;
-  whole = tt;
-}
-  where
-    never : (h : HandlerId) (b : Block) → 0 < greatest_count h b w.sent → ⊥
-    never h b some = let e : greatest_count h b w.sent ≡ 0 = ap (greatest_count h b) none in omega (arith, e, some)
+site_opens w none p = grind (arith, placed_tape)
 
 pub opens_taped : (ps : List Placement) (ns : List Newcomer) → Taped (opening ps ns)
 opens_taped ps ns = all_made new_site (SiteTaped (opening ps ns)) (site_opens (opening ps ns) refl) ps

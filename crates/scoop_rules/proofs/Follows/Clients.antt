@@ -29,15 +29,15 @@ module _ (w : World) (c : ClientId) (p q : Party) (at : party_of c w ≡ Some p)
       by_party (λ o. put_at_client c q.client.inc (inc_of w) d ≡ inc_in o) w q p d own_place
       (λ is. ap (λ t. if t then q.client.inc else inc_of w d) ((client_decides d c).1 (sym is ∙ mine)))
       (λ apart.
-      by_test (λ t. same_client d c ≡ t → (if t then q.client.inc else inc_of w d) ≡ inc_of w d) (same_client d c)
-      (λ _ is. absurd (apart (mine ∙ sym ((client_decides d c).0 is))))
-      (λ _ is. refl) refl)
+      by_test (λ t. (if t then q.client.inc else inc_of w d) ≡ inc_of w d) (same_client d c)
+      (λ is. absurd (apart (mine ∙ sym ((client_decides d c).0 is))))
+      (λ is. refl))
 
   pub inc_same : q.client.inc ≡ p.client.inc → (d : ClientId) → inc_of w d ≡ inc_in (find (is_party d) (set_party q w.parties))
   inc_same same d =
-      by_test (λ t. same_client d c ≡ t → inc_of w d ≡ (if t then q.client.inc else inc_of w d)) (same_client d c)
-      (λ _ is. ap (inc_of w) ((client_decides d c).0 is) ∙ inc_there ∙ sym same)
-      (λ _ is. refl) refl
+      by_test (λ t. inc_of w d ≡ (if t then q.client.inc else inc_of w d)) (same_client d c)
+      (λ is. ap (inc_of w) ((client_decides d c).0 is) ∙ inc_there ∙ sym same)
+      (λ is. refl)
       ∙ inc_set d
 
 -- ---- a notice, and a restart

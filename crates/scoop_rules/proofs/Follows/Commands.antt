@@ -10,6 +10,7 @@ use Rattle.scoop_rules.proofs.Names.{handlers_of, HandlerLog, shares_of, is_succ
 use Rattle.scoop_rules.proofs.Names.{log_after, log_other, HasLine, log_in, log_here, named_shares, Takes, takes_reserve, takes_call, takes_query, takes_end}
 use Rattle.scoop_rules.proofs.Names.{takes_give_up, takes, goes_on, PartyFits, same_block_itself, same_block_is, HandlerReady, same_handler_itself}
 use Rattle.scoop_rules.proofs.Names.{configuration_of, queue_at, queue_of, seen, Seen, waits, MovesLead, LogOne, logged_to, has_open, objects_of, command_moves}
+use Rattle.scoop_rules.proofs.Names.{false_from_ne_true}
 use Rattle.scoop_model.proofs.Logging.Windows.{handlers_at}
 use Rattle.scoop_model.proofs.Logging.Commands.{IsRunning, running_is, commands_logging}
 use Rattle.scoop_model.proofs.Names.{Running}
@@ -76,7 +77,7 @@ module _ (w : World) (f : Following w) (c : ClientId) (p : Party) (at : party_of
 
     -- no newer incarnation of the client has greeted anywhere
     not_newer : (h : HandlerId) → is_succeeded b h w ≡ false
-    not_newer h = by_test (λ t. is_succeeded b h w ≡ t → t ≡ false) (is_succeeded b h w) (λ _ e. absurd (past (f.ready.below b h e) its_inc)) (λ _ e. refl) refl
+    not_newer h = false_from_ne_true (is_succeeded b h w) (λ e. past (f.ready.below b h e) its_inc)
       where
         past : b.inc < inc_of w b.client → inc_of w b.client ≡ b.inc → ⊥
         past lt e = omega (arith, lt, e)
@@ -172,21 +173,21 @@ module _ (w : World) (f : Following w) (c : ClientId) (p : Party) (at : party_of
         logged_over b e (queue_at w h) w.joint
         ∙ queues_same (λ y. map (logged_to b e) (queue_at w h y)) (queue_at after h) w.joint
         (λ y my.
-        by_test (λ t. same_block y b ≡ t → map (logged_to b e) (queue_at w h y) ≡ queue_at after h y) (same_block y b)
-        (λ _ own. subst (λ z. map (logged_to b e) (queue_at w h z) ≡ queue_at after h z) (sym (same_block_is y b own)) (sym (queue_here h m e adds)))
-        (λ _ other.
-        logged_other b y e (queue_at w h y) other (own_queue_at w h y) ∙ sym (queue_stays h y my (inl (log_stays y h (inl (other_than y other)))))) refl)
+        by_test (λ _. map (logged_to b e) (queue_at w h y) ≡ queue_at after h y) (same_block y b)
+        (λ own. subst (λ z. map (logged_to b e) (queue_at w h z) ≡ queue_at after h z) (sym (same_block_is y b own)) (sym (queue_here h m e adds)))
+        (λ other.
+        logged_other b y e (queue_at w h y) other (own_queue_at w h y) ∙ sym (queue_stays h y my (inl (log_stays y h (inl (other_than y other)))))))
 
     queues_stay : (h : HandlerId) → (has (set_of b w) h ≡ false) ⊎ (added x h ≡ []) → flat_map (queue_at w h) w.joint ≡ flat_map (queue_at after h) w.joint
     queues_stay h why =
         queues_same (queue_at w h) (queue_at after h) w.joint
         (λ y my.
-        by_test (λ t. same_block y b ≡ t → queue_at w h y ≡ queue_at after h y) (same_block y b)
-        (λ _ own. sym (queue_stays h y my (⊎_elim
+        by_test (λ _. queue_at w h y ≡ queue_at after h y) (same_block y b)
+        (λ own. sym (queue_stays h y my (⊎_elim
         (λ (off : has (set_of b w) h ≡ false). inr (subst (λ z. has (set_of z w) h ≡ false) (sym (same_block_is y b own)) off))
         (λ (none : added x h ≡ []). inl (log_stays y h (inr none)))
         why)))
-        (λ _ other. sym (queue_stays h y my (inl (log_stays y h (inl (other_than y other)))))) refl)
+        (λ other. sym (queue_stays h y my (inl (log_stays y h (inl (other_than y other)))))))
 
     -- the entry goes to these handlers, and to no others
     pub all_logged : (hs : List HandlerId) (e : Entry) → ((h : HandlerId) → has hs h ≡ true → (has (set_of b w) h ≡ true) × (added x h ≡ e ∷ []))
@@ -195,10 +196,10 @@ module _ (w : World) (f : Following w) (c : ClientId) (p : Party) (at : party_of
     all_logged hs e there off =
         same_configuration (logged_at_all b e hs (configuration_of w)) (configuration_of after)
         (λ h.
-        by_test (λ t. has hs h ≡ t → (if t then map (logged_to b e) (flat_map (queue_at w h) w.joint) else flat_map (queue_at w h) w.joint)
+        by_test (λ t. (if t then map (logged_to b e) (flat_map (queue_at w h) w.joint) else flat_map (queue_at w h) w.joint)
         ≡ flat_map (queue_at after h) w.joint) (has hs h)
-        (λ _ m. queues_logged h (there h m).0 e (there h m).1)
-        (λ _ m. queues_stay h (off h m)) refl)
+        (λ m. queues_logged h (there h m).0 e (there h m).1)
+        (λ m. queues_stay h (off h m)))
         (λ h. refl) refl
         (let g = goes_on w p x d is fits in inc_same w c p (record p { client = d }) at g.id g.inc)
 
@@ -222,15 +223,13 @@ module _ (w : World) (f : Following w) (c : ClientId) (p : Party) (at : party_of
 
         one_of : (h : HandlerId) → has (k ∷ []) h ≡ true → k ≡ h
         one_of h there =
-            by_test (λ t. same_handler k h ≡ t → (t || false) ≡ true → k ≡ h) (same_handler k h)
-            (λ _ so g. (handler_decides k h).0 so)
-            (λ _ so g. absurd (true≢false (sym g))) refl there
+            by_test (λ t. (t || false) ≡ true → k ≡ h) (same_handler k h)
+            (λ so g. (handler_decides k h).0 so)
+            (λ so g. absurd (true≢false (sym g))) there
 
         elsewhere : (h : HandlerId) → has (k ∷ []) h ≡ false → same_handler h k ≡ false
         elsewhere h off =
-            by_test (λ t. same_handler h k ≡ t → t ≡ false) (same_handler h k)
-            (λ _ so. absurd (true≢false (sym (ap (λ y. has (k ∷ []) y) ((handler_decides h k).0 so) ∙ ap (λ t. t || false) (same_handler_itself k)) ∙ off)))
-            (λ _ so. refl) refl
+            false_from_ne_true (same_handler h k) (λ so. true≢false (sym (ap (λ y. has (k ∷ []) y) ((handler_decides h k).0 so) ∙ ap (λ t. t || false) (same_handler_itself k)) ∙ off))
 
     pub end_leads : ((h : HandlerId) → added x h ≡ EndEntry ∷ [])
         → MovesLead (objects_of w) (configuration_of w) (map (λ h. LogOne b h EndEntry) (set_of b w)) (configuration_of after)

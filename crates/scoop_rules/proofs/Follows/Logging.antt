@@ -14,13 +14,7 @@ abbrev pub logged_at_all : Block → Entry → List HandlerId → Configuration 
 logged_at_all b e hs g = record g { queues = λ x. if has hs x then map (logged_to b e) (g.queues x) else g.queues x }
 
 same_turned : (h x : HandlerId) → same_handler h x ≡ same_handler x h
-same_turned h x =
-    by_test (λ t. same_handler x h ≡ t → same_handler h x ≡ t) (same_handler x h)
-    (λ _ is. (handler_decides h x).1 (sym ((handler_decides x h).0 is)))
-    (λ _ is.
-    by_test (λ u. same_handler h x ≡ u → u ≡ false) (same_handler h x)
-    (λ _ also. absurd (true≢false (sym ((handler_decides x h).1 (sym ((handler_decides h x).0 also))) ∙ is)))
-    (λ _ also. refl) refl) refl
+same_turned h x = grind (arith, handler_decides, true≢false)
 
 abbrev with_one_more : Entry → Waiting → Waiting
 with_one_more e q = record { block = q.block; entries = q.entries ++ e ∷ []; state = if is_end e then Ended else q.state }
@@ -56,23 +50,21 @@ module _ (o : Objects) (b : Block) (e : Entry) (no_query : is_query e ≡ false)
     where
       still_there : (x : HandlerId) → has hs x ≡ true → has_open b ((log_one b h e g).queues x) ≡ true
       still_there x m =
-          by_test (λ t. same_handler x h ≡ t → has_open b (if t then map (logged_to b e) (g.queues h) else g.queues x) ≡ true) (same_handler x h)
-          (λ _ is. absurd (true≢false (sym m ∙ ap (has hs) ((handler_decides x h).0 is) ∙ apart.0)))
-          (λ _ is. there x (by_test (λ t. (t || has hs x) ≡ true) (same_handler h x) (λ here. refl) (λ off. m))) refl
+          by_test (λ t. has_open b (if t then map (logged_to b e) (g.queues h) else g.queues x) ≡ true) (same_handler x h)
+          (λ is. absurd (true≢false (sym m ∙ ap (has hs) ((handler_decides x h).0 is) ∙ apart.0)))
+          (λ is. there x (by_test (λ t. (t || has hs x) ≡ true) (same_handler h x) (λ here. refl) (λ off. m)))
 
       at_each : (x : HandlerId) → (logged_at_all b e hs (log_one b h e g)).queues x ≡ (logged_at_all b e (h ∷ hs) g).queues x
       at_each x =
-          by_test
-          (λ t. same_handler x h ≡ t
-          → (if has hs x then map (logged_to b e) (if t then map (logged_to b e) (g.queues h) else g.queues x)
+          by_test (λ t. (if has hs x then map (logged_to b e) (if t then map (logged_to b e) (g.queues h) else g.queues x)
           else (if t then map (logged_to b e) (g.queues h) else g.queues x))
           ≡ (if t || has hs x then map (logged_to b e) (g.queues x) else g.queues x))
           (same_handler x h)
-          (λ _ is.
+          (λ is.
           let same : x ≡ h = (handler_decides x h).0 is in
           ap (λ t. if t then map (logged_to b e) (map (logged_to b e) (g.queues h)) else map (logged_to b e) (g.queues h)) (ap (has hs) same ∙ apart.0)
           ∙ ap (λ y. map (logged_to b e) (g.queues y)) (sym same))
-          (λ _ is. refl) refl
+          (λ is. refl)
           ∙ ap (λ t. if t || has hs x then map (logged_to b e) (g.queues x) else g.queues x) (sym (same_turned h x))
 
       ends : logged_at_all b e hs (log_one b h e g) ≡ logged_at_all b e (h ∷ hs) g
@@ -80,15 +72,7 @@ module _ (o : Objects) (b : Block) (e : Entry) (no_query : is_query e ≡ false)
 
 -- the same at one handler
 pub one_at_all : (b : Block) (e : Entry) (h : HandlerId) (g : Configuration) → log_one b h e g ≡ logged_at_all b e (h ∷ []) g
-one_at_all b e h g =
-    same_configuration (log_one b h e g) (logged_at_all b e (h ∷ []) g)
-    (λ x.
-    by_test (λ t. same_handler x h ≡ t → (if t then map (logged_to b e) (g.queues h) else g.queues x)
-    ≡ (if t || false then map (logged_to b e) (g.queues x) else g.queues x)) (same_handler x h)
-    (λ _ is. ap (λ y. map (logged_to b e) (g.queues y)) (sym ((handler_decides x h).0 is)))
-    (λ _ is. refl) refl
-    ∙ ap (λ t. if t || false then map (logged_to b e) (g.queues x) else g.queues x) (sym (same_turned h x)))
-    (λ x. refl) refl (λ c. refl)
+one_at_all b e h g = grind (arith, same_configuration, handler_decides, same_turned)
 
 -- ---- a block's queue among the others
 
@@ -96,9 +80,9 @@ pub open_among : (b : Block) (f : Block → List Waiting) (js : List Block) → 
 open_among b f [] m there = absurd (true≢false (sym m))
 open_among b f (j ∷ js) m there =
     list_any-append (λ q. is_of b q && is_open q.state) (f j) (flat_map f js)
-    ∙ by_test (λ t. same_block j b ≡ t → (t || has_block js b) ≡ true → (has_open b (f j) || has_open b (flat_map f js)) ≡ true) (same_block j b)
-    (λ _ is _. ap (λ t. t || has_open b (flat_map f js)) (ap (λ y. has_open b (f y)) (same_block_is j b is) ∙ there))
-    (λ _ is n. ap (λ t. has_open b (f j) || t) (open_among b f js n there) ∙ or-true (has_open b (f j))) refl m
+    ∙ by_test (λ t. (t || has_block js b) ≡ true → (has_open b (f j) || has_open b (flat_map f js)) ≡ true) (same_block j b)
+    (λ is _. ap (λ t. t || has_open b (flat_map f js)) (ap (λ y. has_open b (f y)) (same_block_is j b is) ∙ there))
+    (λ is n. ap (λ t. has_open b (f j) || t) (open_among b f js n there) ∙ or-true (has_open b (f j))) m
 
 -- ---- the queue of a block that is open
 
@@ -110,9 +94,7 @@ pub record IsOpen (s : Seen) : Type 0 where
   pub within : s.count ≤ length s.logged
 
 pub open_queue : (b : Block) (s : Seen) → IsOpen s → queue_of b s ≡ record { block = b; entries = drop s.count s.logged; state = Open } ∷ []
-open_queue b s is =
-    (λ i. queue_of b (record { logged = s.logged; count = s.count; over = is.over i; newer = is.newer i; received = s.received }))
-    ∙ (λ i. record { block = b; entries = drop s.count s.logged; state = if is.no_end i then Ended else Open } ∷ [])
+open_queue b s is = grind arith
 
 drop_pushed : (n : ℕ) (xs : List Entry) (e : Entry) → n ≤ length xs → drop n (xs ++ e ∷ []) ≡ drop n xs ++ e ∷ []
 drop_pushed zero xs e le = refl
@@ -124,9 +106,4 @@ end_pushed xs e none = list_any-append is_end xs (e ∷ []) ∙ (λ i. none i ||
 
 -- one entry more is logged
 pub logged_queue : (b : Block) (s : Seen) (e : Entry) → IsOpen s → queue_of b (record s { logged = s.logged ++ e ∷ [] }) ≡ map (logged_to b e) (queue_of b s)
-logged_queue b s e is =
-    (λ i. queue_of b (record { logged = s.logged ++ e ∷ []; count = s.count; over = is.over i; newer = is.newer i; received = s.received }))
-    ∙ (λ i. record { block = b; entries = drop_pushed s.count s.logged e is.within i; state = if end_pushed s.logged e is.no_end i then Ended else Open } ∷ [])
-    ∙ sym (ap (map (logged_to b e)) (open_queue b s is)
-    ∙ ap (λ t. (if t then record { block = b; entries = drop s.count s.logged ++ e ∷ []; state = if is_end e then Ended else Open }
-    else record { block = b; entries = drop s.count s.logged; state = Open }) ∷ []) (same_block_itself b))
+logged_queue b s e is = grind (arith, drop_pushed, end_pushed, open_queue, same_block_itself)

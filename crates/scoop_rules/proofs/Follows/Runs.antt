@@ -1,15 +1,95 @@
 -- Every event in a reached world follows the rules, so a list of events from an opening world is a run of them.
-use Rattle.scoop_rules.proofs.Names.{◌≡◌, ℕ, ◌+◌, List, [], ◌∷◌, ◌++◌, map, Some, refl, sym, ap, ◌∙◌, subst, Ok, find, if◌then◌else◌, false, ◌==◌, Err}
-use Rattle.scoop_rules.proofs.Names.{option_map_or, handler_of, HandlerId, by_test, number-row, row, core_of, hear, MayOpen, steps, IsReached, Run, next}
-use Rattle.scoop_rules.proofs.Names.{run_after, heard_site, begun_site, finished_site, reopened, Placement, Newcomer, new_site, opening, Stepped, step, World}
-use Rattle.scoop_rules.proofs.Names.{Site, number_of, is_site, site_of, set_site, inc_of, Changes, Ordered, own_site, set_same, anew_same, states_anew, Event}
-use Rattle.scoop_rules.proofs.Names.{configuration_of, Objects, MovesLead, objects_of, Follows, FollowsRules, Configuration, Move, moved, no_class}
-use Rattle.scoop_rules.proofs.Names.{empty_configuration, moves_of, moves_in, replayed, RunsByRules, LeadsByRules}
+use Rattle.scoop_rules.proofs.Names.{heard_place, ◌≡◌, ℕ, ◌+◌, List, [], ◌∷◌, ◌++◌, map, Some, refl, sym, ap, ◌∙◌, subst, Ok, find, if◌then◌else◌, false, ◌==◌}
+use Rattle.scoop_rules.proofs.Names.{Err, option_map_or, HandlerId, by_test, core_of, hear, MayOpen, steps, IsReached, Run, next, run_after, heard_site}
+use Rattle.scoop_rules.proofs.Names.{begun_site, finished_site, reopened, Placement, Newcomer, new_site, opening, Stepped, step, World, Site, number_of}
+use Rattle.scoop_rules.proofs.Names.{is_site, site_of, set_site, inc_of, Changes, Ordered, own_site, set_same, anew_same, states_anew, Event, configuration_of}
+use Rattle.scoop_rules.proofs.Names.{Objects, MovesLead, objects_of, Follows, FollowsRules, Configuration, Move, moved, no_class, empty_configuration, moves_of}
+use Rattle.scoop_rules.proofs.Names.{moves_in, replayed, RunsByRules, LeadsByRules, due, heard, commanded_world, with_party, heard_party, Happens}
+use Rattle.scoop_rules.proofs.Names.{event_happens, due_goes, client_moves, message_moves, facts, reached_keeps, both_kept, true, same_Some, all_found, has}
+use Rattle.scoop_rules.proofs.Names.{is_party, handlers_of, PartyFits, facts_ready, Facts}
 use Rattle.scoop_rules.proofs.Lists.{same_configuration}
-use Rattle.scoop_rules.proofs.Follows.Events.{event_follows}
-use Rattle.scoop_rules.proofs.Follows.Kept.{Kept, all_kept, opens_kept, kept_following, reached_kept, reached_following}
 use Rattle.scoop_model.specs.Reach as reach
 use Rattle.scoop_model.proofs.Events as events
+use Rattle.scoop_rules.proofs.Messages.{plain_quiet, request_plain}
+use Rattle.scoop_rules.proofs.Sends.{quiet_same}
+use Rattle.scoop_rules.proofs.Runs.{run_follows}
+use Rattle.scoop_rules.proofs.Hears.{hears_follows}
+use Rattle.scoop_rules.proofs.Follows.Facts.{Following}
+use Rattle.scoop_rules.proofs.Follows.Clients.{notice_same, restart_follows}
+use Rattle.scoop_rules.proofs.Follows.Commands.{command_follows}
+use Rattle.scoop_rules.proofs.Follows.Sites.{begin_same, reopen_same}
+use Rattle.scoop_model.specs.declared.note.WorldNote.TheVariants as note
+use Rattle.scoop_rules.proofs.Asked.{Asked, asked_kept, opens_asked, none_waits}
+use Rattle.scoop_rules.proofs.Follows.Sets.{Sets, sets_kept, opens_sets}
+use Rattle.scoop_model.proofs.Ready.Runs as model
+use Rattle.scoop_model.proofs.Logging.OpeningRuns.{running_opened}
+
+-- ---- the invariants of every event make a world ready to follow the rules
+
+pub following : (w : World) → Facts w → Asked w → Sets w → Following w
+following w f asked sets = record {
+  ready = facts_ready w f;
+  ordered = f.ordered;
+  logging = f.logging;
+  sets = sets;
+  clients = λ c p at. record {
+    opened = λ r held is_there h m. (
+        let all = running_opened w f.ordered f.logging f.openings c p at r held is_there in
+        let named : handlers_of r.block w ≡ Some r.handlers =
+        ((all_found (PartyFits w) (is_party c) w.parties p f.ordered.parties at).reservation r held).named in
+        all.opened h (subst (λ hs. has hs h ≡ true) (same_Some r.handlers all.handlers (sym named ∙ all.set)) m));
+    asked = λ r held free h. none_waits w asked c p r at held free h;
+  };
+}
+
+-- ---- every event keeps a world ready
+
+-- beside what the theorem on safety needs: what is asked, and which handlers a block names
+abbrev pub Kept : World → Type 0
+Kept w = model.Kept w × (Asked w × Sets w)
+
+pub all_kept : (w : World) → Kept w → Changes Kept w
+all_kept w i =
+    let f = facts w i.0 in
+    both_kept model.Kept (λ v. Asked v × Sets v) w (model.all_kept w i.0)
+    (both_kept Asked Sets w (asked_kept w f.ordered f.logging f.answering f.taped i.1.0) (sets_kept w f.ordered i.1.1))
+
+pub opens_kept : (ps : List Placement) (ns : List Newcomer) → MayOpen ps ns → Kept (opening ps ns)
+opens_kept ps ns may = (model.opens_kept ps ns may, (opens_asked ps ns, opens_sets ps ns))
+
+pub kept_following : (w : World) → Kept w → Following w
+kept_following w i = following w (facts w i.0) i.1.0 i.1.1
+
+pub reached_kept : (w : World) → IsReached w → Kept w
+reached_kept w r = reached_keeps Kept all_kept opens_kept w r
+
+pub reached_following : (w : World) → IsReached w → Following w
+reached_following w r = kept_following w (reached_kept w r)
+
+-- ---- each event that isn't refused follows the rules, if the world is ready for it
+
+-- each way in which an event changes the world follows the rules
+follows : (w : World) → Following w → Happens (Follows w) w
+follows w f = record {
+  commands = λ c p x d at is.
+      subst (λ q. MovesLead (objects_of w) (configuration_of w) (client_moves w x q) (configuration_of (commanded_world w p x d))) (sym at)
+      (command_follows w f c p at d x is);
+  -- a client's message goes to a handler
+  sends = λ c p h s at here.
+      quiet_same w w.sites (due p.client h) (λ j. refl) (λ m e. plain_quiet w.sent m (request_plain m (due_goes p.client h m e)));
+  hears = λ i m s was goes here. hears_follows w f.ready i m s was here;
+  notices = λ i m p was goes at.
+      let after : World = with_party w (heard_party p (heard p.client m)) in
+      subst (λ q. MovesLead (objects_of w) (configuration_of w) (message_moves w after q (note.Client (heard p.client m).1)) (configuration_of after)) (sym was)
+      (notice_same w f.ordered i m p was at);
+  begins = λ h s t here is. begin_same w h s here;
+  finishes = λ h s t here is. run_follows w h s t here f.ready is;
+  restarts = λ c p at room. restart_follows w f.ordered (objects_of w) c p at;
+  reopens = λ n. reopen_same w f.ordered n;
+}
+
+pub event_follows : (w : World) → Following w → (e : Event) → FollowsRules w e
+event_follows w f e = event_happens (Follows w) w (follows w f) e
 
 pub follows_rules : (w : World) (e : Event) → IsReached w → FollowsRules w e
 follows_rules w e r = event_follows w (reached_following w r) e
@@ -54,10 +134,7 @@ objects_kept : (o : Objects) (w : World) → Ordered w → HasObjects o w → Ch
 objects_kept o w ordered i = record {
   commands = λ c p x d at is. i;
   sends = λ c p h s at here. i;
-  hears = λ k m s was goes here. (
-      let now = hear s.core.state m in
-      let number = number-row s.core.state m now (row s.core.state m) in
-      site_objects w (heard_site s now) s (subst (λ j. site_of j w ≡ Some s) (sym number) (own_site w (handler_of m) s here)) refl refl ∙ i);
+  hears = λ k m s was goes here. site_objects w (heard_site s (hear s.core.state m)) s (heard_place w m s here) refl refl ∙ i;
   notices = λ k m p was goes at. i;
   begins = λ h s t here is. site_objects w (begun_site s) s (own_site w h s here) refl refl ∙ i;
   finishes = λ h s t here is. site_objects w (finished_site s t) s (own_site w h s here) refl refl ∙ i;

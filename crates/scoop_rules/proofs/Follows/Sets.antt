@@ -28,18 +28,18 @@ module _ (before : List HandlerId) (h : HandlerId) where
 none_repeated : (before hs : List HandlerId) → first_repeated_after before hs ≡ None → AreDistinct hs × AreNew before hs
 none_repeated before [] e = (tt, λ x m. refl)
 none_repeated before (h ∷ hs) e =
-    by_test (λ t. has before h ≡ t → (if t then Some h else first_repeated_after (before ++ h ∷ []) hs) ≡ None → AreDistinct (h ∷ hs) × AreNew before (h ∷ hs))
+    by_test (λ t. (if t then Some h else first_repeated_after (before ++ h ∷ []) hs) ≡ None → AreDistinct (h ∷ hs) × AreNew before (h ∷ hs))
     (has before h)
-    (λ _ is f. absurd (cc))
-    (λ _ is f.
+    (λ is f. absurd (cc))
+    (λ is f.
     let later = none_repeated (before ++ h ∷ []) hs f in
-    ((later.1 h (in_end before h), later.0), λ x m. both_new x m is (later.1 x (in_before before h x m)))) refl e
+    ((later.1 h (in_end before h), later.0), λ x m. both_new x m is (later.1 x (in_before before h x m)))) e
   where
     both_new : (x : HandlerId) → has before x ≡ true → has before h ≡ false → has hs x ≡ false → (same_handler h x || has hs x) ≡ false
     both_new x m is rest =
-        by_test (λ t. same_handler h x ≡ t → (t || has hs x) ≡ false) (same_handler h x)
-        (λ _ so. absurd (true≢false (sym m ∙ ap (has before) (sym ((handler_decides h x).0 so)) ∙ is)))
-        (λ _ so. rest) refl
+        by_test (λ t. (t || has hs x) ≡ false) (same_handler h x)
+        (λ so. absurd (true≢false (sym m ∙ ap (has before) (sym ((handler_decides h x).0 so)) ∙ is)))
+        (λ so. rest)
 
 distinct_unless : (b : Block) (hs known : List HandlerId) (s : ReservationState) (o : Option HandlerId) → first_repeated hs ≡ o
     → unless_repeated (fresh b hs) o (first_unknown known hs) ≡ Ok s → AreDistinct hs

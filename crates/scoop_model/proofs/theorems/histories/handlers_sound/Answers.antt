@@ -1,5 +1,5 @@
-use Rattle.scoop_model.proofs.Logging.Runs.{always_told}
+use Rattle.scoop_model.proofs.Ready.Runs.{always_facts}
 use Rattle.scoop_model.proofs.theorems.histories.handlers_sound.Goals as goal
 
 pub returns : goal.returns
-returns c = λ ps ns es may. (always_told ps ns es may).0.1.sites
+returns c = λ ps ns es may. (always_facts ps ns es may).sound.sites
