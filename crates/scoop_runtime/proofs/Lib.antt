@@ -1,4 +1,6 @@
+mod Cut
 mod Gathered
 mod News
-mod Tries
+mod Inside
+mod Turned
 mod Writing

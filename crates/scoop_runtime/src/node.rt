@@ -2,6 +2,7 @@
 
 ghost use Rattle.std.specs.Prelude.{◌≤◌, IfOk, vec_len};
 
+use crate::ending::{Ending, EndingLink};
 use crate::error::RuntimeError;
 use crate::openings::{require_handlers, store_openings};
 use crate::patient_link::PatientLink;
@@ -133,7 +134,7 @@ fn open_node<K: Keeper<Global>>(
     }
 }
 
-// Serves the node until its history is full, its turns are over or it fails, and closes it. Returns why it ended, and
+// Serves the node until its history is full, its turns are over, it is asked to end or it fails, and closes it. Returns why it ended, and
 // the keeper.
 fn serve_once<K, L, R>(
     rt: &R,
@@ -143,6 +144,7 @@ fn serve_once<K, L, R>(
     keeper: K,
     link: &mut L,
     turns: u64,
+    ending: &Ending,
 ) -> Result<(ServeEnd, K), RuntimeError>
 where
     K: Keeper<Global> + Send,
@@ -151,7 +153,8 @@ where
 {
     let (node, passes) = open_node(alloc, plan, serving, keeper)?;
     let stop = Stop::new();
-    let (end, passes) = serve(rt, alloc, &node, link, passes, &OpenGate, &stop, turns);
+    let mut link = EndingLink::new(link, ending, &stop);
+    let (end, passes) = serve(rt, alloc, &node, &mut link, passes, &OpenGate, &stop, turns);
     match node.close(rt, passes) {
         Ok(closed) => Ok((end, closed.keeper)),
         Err(error) => Err(RuntimeError::from(PartyError::from(error.cause))),
@@ -181,7 +184,7 @@ fn reopen<K: Keeper<Global>, W: Write, R: Wait>(
     Ok(keeper)
 }
 
-// Serves the node, opening by opening, until its turns are over. Borrows the link, so that no early return has to drop
+// Serves the node, opening by opening, until its turns are over or it is asked to end. Borrows the link, so that no early return has to drop
 // it.
 fn serve_on<K, L, E, W, R>(
     rt: &R,
@@ -191,6 +194,7 @@ fn serve_on<K, L, E, W, R>(
     mut keeper: K,
     link: &mut PatientLink<L, E>,
     writer: &mut W,
+    ending: &Ending,
 ) -> Result<K, RuntimeError>
 where
     K: Keeper<Global> + Send,
@@ -201,10 +205,10 @@ where
 {
     for _ in rt.forever() {
         let turns = serving.turns().saturating_sub(link.receives());
-        let (end, kept) = serve_once(rt, alloc, plan, serving, keeper, link, turns)?;
+        let (end, kept) = serve_once(rt, alloc, plan, serving, keeper, link, turns, ending)?;
         match end {
             ServeEnd::HistoryFull => keeper = reopen(rt, alloc, plan, kept, writer)?,
-            ServeEnd::TurnsOver => return Ok(kept),
+            ServeEnd::TurnsOver | ServeEnd::Stopped => return Ok(kept),
             end => return Err(RuntimeError::from(end)),
         }
     }
@@ -244,11 +248,36 @@ where
     W: Write,
     R: Threads + Wait + Clock + Sync,
 {
-    let mut link = PatientLink::new(link, notes);
+    let ending = Ending::new();
+    node_run_until(
+        rt, alloc, plan, serving, keeper, link, notes, writer, &ending,
+    )
+}
+
+/// The same for a node that another thread may ask to end: then it serves no further, and closes.
+pub fn node_run_until<K, L, E, W, R>(
+    rt: &R,
+    alloc: Global,
+    plan: &NodePlan,
+    serving: &Serving,
+    keeper: K,
+    link: L,
+    notes: E,
+    writer: &mut W,
+    ending: &Ending,
+) -> Result<K, RuntimeError>
+where
+    K: Keeper<Global> + Send,
+    L: Link,
+    E: Write + Drop,
+    W: Write,
+    R: Threads + Wait + Clock + Sync,
+{
+    let mut link = PatientLink::new(link, "node", notes);
     let keeper = run_first(rt, alloc, plan, serving, keeper)?;
     let written = print_ready(&plan.place, &plan.numbers, writer);
     told(written, writer)?;
-    let keeper = serve_on(rt, alloc, plan, serving, keeper, &mut link, writer)?;
+    let keeper = serve_on(rt, alloc, plan, serving, keeper, &mut link, writer, ending)?;
     let written = print_closed(plan.place.number, writer);
     told(written, writer)?;
     Ok(keeper)

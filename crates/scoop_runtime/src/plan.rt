@@ -163,6 +163,13 @@ impl NodePlan {
         })
     }
 
+    /// The handlers, in the order of the file.
+    pub fn handlers(&self) -> &[HandlerId]
+        ensures { result.now ≡ self.now.numbers.items }
+    {
+        &self.numbers
+    }
+
     /// The handlers with their classes and new objects.
     pub(crate) fn objects(
         &self,
@@ -246,7 +253,9 @@ impl<'a> ClientPlan<'a> {
     }
 
     /// The system.
-    pub fn system(&self) -> &'a System {
+    pub fn system(&self) -> &'a System
+        ensures { result.now ≡ self.now.system.now }
+    {
         self.system
     }
 

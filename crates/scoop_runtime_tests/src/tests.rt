@@ -1,8 +1,11 @@
 //! Nodes and clients of systems in texts, over UDP of this machine.
 
+mod backoff;
+mod deaf_link;
 mod deals;
 mod ends;
 mod going_on;
+mod leaving;
 mod lossy_link;
 mod moments;
 mod node_and_client;
@@ -13,6 +16,8 @@ mod storm;
 mod systems;
 mod text_lines;
 
+use scoop_driver::NoPause;
+use scoop_journal::Journal;
 use scoop_keeper::{Keeper, MemoryKeeper};
 use scoop_lines::LineSource;
 use scoop_link::{Link, UdpLink};
@@ -115,26 +120,40 @@ fn ask_lines<L: Link, I: LineSource>(
     let place = *system.client(ClientId(number))?;
     // a client of it, whose commands are these lines
     let plan = ClientPlan::new(system, place, TURNS, is_typed).ok()?;
+    Some(ask_planned(alloc, &plan, keeper, link, lines))
+}
+
+/// Runs the client of this plan with the lines of this source, over this link.
+fn ask_planned<L: Link, I: LineSource>(
+    alloc: Global,
+    plan: &ClientPlan<'_>,
+    keeper: &mut MemoryKeeper,
+    link: L,
+    lines: &mut I,
+) -> Told {
     let mut output = Vec::new(alloc);
     let mut notes = Vec::new(alloc);
-    let waits = Vec::new(alloc);
+    let (waits, faults) = (Vec::new(alloc), Vec::new(alloc));
     let ended = client_run(
         alloc,
-        &plan,
+        plan,
         keeper,
         link,
+        None::<Journal<Vec<u8>>>,
         lines,
         waits,
+        faults,
+        &mut NoPause,
         &mut output,
         &mut notes,
     );
     let stop = ended.err();
-    Some(Told {
+    Told {
         ended: stop.map_or(Ok(()), |stop| Err(stop.error)),
         progress: stop.map(|stop| stop.progress),
         output,
         notes,
-    })
+    }
 }
 
 /// Opens the link of a client.

@@ -1,0 +1,5 @@
+//! Journals.
+
+mod files;
+mod keepers;
+mod lines;

@@ -1,0 +1,55 @@
+//! Events at the handlers of a node.
+
+ghost use Rattle.std.specs.Prelude.{◌≡◌, map, IfOk, IfSome};
+ghost use Rattle.scoop_message.specs.Lists.{NoRepeats};
+ghost use Rattle.scoop_message.specs.Message.{handler_of};
+ghost use Rattle.scoop_handler.specs.Local.{is_handler, number_in};
+ghost use Rattle.scoop_keeper.specs.Keyed.{IsFirst};
+ghost use Rattle.scoop_book.specs.declared.event.Event.TheVariants as event;
+ghost use Rattle.scoop_book.specs.declared.event.Reply.TheVariants as reply;
+ghost use Rattle.scoop_book.specs.Moves.{Moves};
+
+use crate::local::Local;
+use scoop_handler::{Heard, Ran};
+use scoop_message::{Block, HandlerId, Message, OutOfMemory};
+
+/// The handler at this place hears the message.
+pub(crate) fn hear(
+    locals: &mut Vec<Local>,
+    place: usize,
+    message: &Message,
+) -> Result<Heard, OutOfMemory>
+    requires first { IsFirst (is_handler (handler_of message.now)) locals.old.items place }
+    requires apart { NoRepeats (map number_in locals.old.items) }
+    ensures moves { IfOk result (λ heard. Moves (event.Hear message.now) (reply.Heard heard) locals.old.items locals.new.items) }
+    ensures numbers { map number_in locals.new.items ≡ map number_in locals.old.items }
+{
+    let local = &mut locals[place];
+    local.hear(message)
+}
+
+/// The next entry of the handler at this place leaves to be run, if there is one and no job is out.
+pub(crate) fn begin(
+    locals: &mut Vec<Local>,
+    place: usize,
+    handler: HandlerId,
+) -> Option<(Block, u32)>
+    requires first { IsFirst (is_handler handler) locals.old.items place }
+    requires apart { NoRepeats (map number_in locals.old.items) }
+    ensures moves { Moves (event.Begin handler) (reply.Began result) locals.old.items locals.new.items }
+    ensures numbers { map number_in locals.new.items ≡ map number_in locals.old.items }
+{
+    let local = &mut locals[place];
+    local.begin()
+}
+
+/// The entry that left the handler at this place has run. `None` if none has left.
+pub(crate) fn finish(locals: &mut Vec<Local>, place: usize, handler: HandlerId) -> Option<Ran>
+    requires first { IsFirst (is_handler handler) locals.old.items place }
+    requires apart { NoRepeats (map number_in locals.old.items) }
+    ensures moves { IfSome result (λ ran. Moves (event.Finish handler) (reply.Finished ran) locals.old.items locals.new.items) }
+    ensures numbers { map number_in locals.new.items ≡ map number_in locals.old.items }
+{
+    let local = &mut locals[place];
+    local.finish()
+}

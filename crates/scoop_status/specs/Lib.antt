@@ -1,0 +1,4 @@
+pub mod Escaped
+pub mod Budget
+pub mod Routes
+pub mod Shown
