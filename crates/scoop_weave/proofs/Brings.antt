@@ -9,20 +9,13 @@ abbrev pub Brings : World → List Event → World → Type 0
 Brings v es w = (n : ℕ) (rest : List Event) → run_after n v (es ++ rest) ≡ run_after (n + length es) w rest
 
 pub brings_none : (v w : World) → v ≡ w → Brings v [] w
-brings_none v w same n rest =
-    let stays : n ≡ n + length {A = Event} [] = omega arith in
-    ap (λ u. run_after n u rest) same ∙ ap (λ k. run_after k w rest) stays
+brings_none v w same n rest = grind arith
 
 pub brings_one : (v w u : World) (e : Event) (told : WorldNote) → step v e ≡ Ok (u, told) → u ≡ w → Brings v (e ∷ []) w
 brings_one v w u e told is same n rest = ap (next n v (λ x. run_after (n + 1) x rest)) is ∙ ap (λ x. run_after (n + 1) x rest) same
 
 pub brings_both : (v u w : World) (es fs : List Event) → Brings v es u → Brings u fs w → Brings v (es ++ fs) w
-brings_both v u w es fs first then_on n rest =
-    let count : n + length es + length fs ≡ n + length (es ++ fs) = omega (arith, length-append es fs) in
-    ap (run_after n v) (append_assoc es fs rest)
-    ∙ first n (fs ++ rest)
-    ∙ then_on (n + length es) rest
-    ∙ ap (λ k. run_after k w rest) count
+brings_both v u w es fs first then_on n rest = grind (arith, length-append, append_assoc)
 
 pub brings_leads : (v w : World) (es : List Event) → Brings v es w → Leads v es w
 brings_leads v w es brings =

@@ -42,9 +42,7 @@ hears_run c None = refl
 hears_run c (Some m) = (after_step (after_message c.client (Some m)) c, record { tells = refl; after = refl }, refl)
 
 step_runs : (c : LocalClient) (s : Step) → Can c.client s → ClientRuns c (moves_at c.client s) (after_step (after c.client s) c)
-step_runs c (Gave x) can =
-    let new = after c.client (Gave x) in
-    (after_step new c, record { new = new; taken = taken c.client can.0 _ can.1; tells = refl; after = refl }, refl)
+step_runs c (Gave x) can = grind (arith, after, taken)
 step_runs c (Turned got) can =
     let hs = c.client.handlers in
     let own = subst (λ xs. AllByRecursion (λ h. has xs h ≡ true) hs) (append-nil hs) (all_in [] hs []) in
@@ -104,8 +102,7 @@ pub record ClientGoes (c : LocalClient) (ms : List LocalMove) (now : LocalClient
 
 pub lives_run : (c : LocalClient) (first : List Step) (more : List (List Step)) (now : LocalClient) → Lives c first more now
     → ClientGoes c (moves_of c first more) now
-lives_run c first [] now life =
-    record { runs = subst (ClientRuns c (moves_by c.client first)) life.1 (steps_run c first life.0); own = steps_own c first life.0 }
+lives_run c first [] now life = grind (arith, steps_run, steps_own)
 lives_run c first (steps ∷ more) now life =
     let d : LocalClient = driven c first in
     let e : LocalClient = after_restart d in

@@ -1,18 +1,18 @@
 -- The example is a run. Its events can happen and its steps can be made, as is computed, and so is that each message that is
 -- heard was sent before. Whatever the parties did, turns are an order of it.
-use Rattle.scoop_weave.proofs.Names.{◌≡◌, ℕ, zero, suc, ◌≤◌, ◌==◌, ◌&&◌, Bool, true, false, true≢false, List, [], ◌∷◌, ◌++◌, map, take, drop, length, Option}
-use Rattle.scoop_weave.proofs.Names.{Some, None, is_some, refl, sym, ap, ◌∙◌, subst, arith, inl, inr, if◌then◌else◌, AllByRecursion, option_map_or, and_parts}
-use Rattle.scoop_weave.proofs.Names.{Message, Welcome, Locked, Opened, Unlocked, Logged, message_decides, Task, job_out, ran_of, LocalHandler, after_finish}
-use Rattle.scoop_weave.proofs.Names.{append-nil, list_any, Hear, Begin, Finish, Replays, handler_at, AllCan, LocalMove, Heard, Began, Finished, NodeReopened}
-use Rattle.scoop_weave.proofs.Names.{Commanded, Sent, NoRepeats, ClientHeard, ClientRestarted, HeardIn, sent_in, sent_by, HeardAfterSent, own, party_at}
-use Rattle.scoop_weave.proofs.Names.{NodeLife, Runs, IsNodeLife, IsClientLife, words_in, Placement, Newcomer, new_client, LocalClient, ⊤}
+use Rattle.scoop_weave.proofs.Names.{◌≡◌, ℕ, zero, suc, ◌≤◌, ◌==◌, ◌&&◌, Bool, true, false, true≢false, List, [], ◌∷◌, ◌++◌, map, take, drop, length, is_some}
+use Rattle.scoop_weave.proofs.Names.{refl, sym, ap, ◌∙◌, subst, arith, inl, inr, AllByRecursion, option_map_or, and_parts, Message, Welcome, Locked, Opened}
+use Rattle.scoop_weave.proofs.Names.{Unlocked, Logged, message_decides, job_out, LocalHandler, append-nil, list_any, Hear, Begin, Finish, Replays, handler_at}
+use Rattle.scoop_weave.proofs.Names.{AllCan, LocalMove, Heard, Began, Finished, NodeReopened, Commanded, Sent, NoRepeats, ClientHeard, ClientRestarted, HeardIn}
+use Rattle.scoop_weave.proofs.Names.{sent_in, sent_by, HeardAfterSent, own, party_at, NodeLife, Runs, IsNodeLife, IsClientLife, words_in, Placement, Newcomer}
+use Rattle.scoop_weave.proofs.Names.{new_client, LocalClient, ⊤}
 use Rattle.std.specs.Prelude.{◌-◌, ◌^◌}
 use Rattle.std.proofs.lemmas.Map.Views.{Contains-from_any}
 use Rattle.std.proofs.lemmas.Grind.{flat_map-append}
 use Rattle.std.proofs.lemmas.List.{take-append-drop}
 use Rattle.scoop_message.specs.Range.{IsClient, IsBlock}
 use Rattle.scoop_message.specs.contracts.message.MessagePartialEq.TheImpl as on_message
-use Rattle.scoop_handler.specs.Local.{handler_in, with_handler}
+use Rattle.scoop_handler.specs.Local.{handler_in}
 use Rattle.scoop_handler.proofs.Once.{once_more}
 use Rattle.scoop_frame.specs.declared.version.Version.TheVariants.{One}
 use Rattle.scoop_frame.specs.Frame.{frame, IsFrame}
@@ -46,21 +46,11 @@ all_happen hs [] = true
 all_happen hs (e ∷ es) = can_happen e hs && all_happen (after_event e hs) es
 
 moves : (e : Event) (s : LocalHandler) → can_at e s ≡ true → HandlerMoves e (told_at e s) s (gone_on e s)
-moves (Finish h) s can = out (job_out s.core) refl can
-  where
-    out : (o : Option Task) → job_out s.core ≡ o → is_some o ≡ true
-        → HandlerMoves (Finish h) (option_map_or (λ t. reply.Finished (ran_of t)) o (reply.Began None)) s (option_map_or (λ t. after_finish t s) o s)
-    out None here some = absurd (true≢false (sym some))
-    out (Some t) here some = record { task = t; out = here; tells = refl; after = refl }
+moves (Finish h) s can = grind (arith, option_map_or, true≢false)
 moves e s can = record { tells = refl; after = refl }
 
 happens : (e : Event) (hs : List LocalHandler) → can_happen e hs ≡ true → Moves e (reply_to e hs) hs (after_event e hs)
-happens e hs can = at (handler_in (handler_at e) hs) refl can
-  where
-    at : (o : Option LocalHandler) → handler_in (handler_at e) hs ≡ o → option_map_or (can_at e) o false ≡ true
-        → Moves e (option_map_or (told_at e) o (reply.Began None)) hs (option_map_or (λ s. with_handler (gone_on e s) hs) o hs)
-    at None here some = absurd (true≢false (sym some))
-    at (Some s) here some = record { handler = s; here = here; new = gone_on e s; moves = moves e s some; after = refl }
+happens e hs can = grind (arith, option_map_or, gone_on, true≢false, moves)
 
 replays : (hs : List LocalHandler) (es : List Event) → all_happen hs es ≡ true → Replays hs (entries_by hs es) (handlers_by hs es)
 replays hs [] can = refl
@@ -113,13 +103,11 @@ module _ {A : Type 0} where
 
   own_in_front : (i : ℕ) (xs : List A) (rest : List (ℕ × A)) → own i (tagged i xs ++ rest) ≡ xs ++ own i rest
   own_in_front i [] rest = refl
-  own_in_front i (x ∷ xs) rest =
-      ap (λ t. if t then x ∷ own i (tagged i xs ++ rest) else own i (tagged i xs ++ rest)) (number_itself i) ∙ ap (λ ys. x ∷ ys) (own_in_front i xs rest)
+  own_in_front i (x ∷ xs) rest = grind (arith, own, number_itself, (own_in_front i xs rest))
 
   past_others : (i k : ℕ) → (i ≡ k → ⊥) → (xs : List A) (rest : List (ℕ × A)) → own k (tagged i xs ++ rest) ≡ own k rest
   past_others i k differ [] rest = refl
-  past_others i k differ (x ∷ xs) rest =
-      ap (λ t. if t then x ∷ own k (tagged i xs ++ rest) else own k (tagged i xs ++ rest)) (number_test i k differ) ∙ past_others i k differ xs rest
+  past_others i k differ (x ∷ xs) rest = grind (arith, own, number_test, (past_others i k differ xs rest))
 
   all_others : (i k : ℕ) → (i ≡ k → ⊥) → (xs : List A) → own k (tagged i xs) ≡ []
   all_others i k differ xs = ap (own k) (sym (append-nil (tagged i xs))) ∙ past_others i k differ xs []
@@ -128,10 +116,7 @@ module _ {A : Type 0} where
   all_own i xs = ap (own i) (sym (append-nil (tagged i xs))) ∙ (own_in_front i xs [] ∙ append-nil xs)
 
   own_by_turns : (ns : List ℕ) (i j : ℕ) → (i ≡ j → ⊥) → (xs ys : List A) → (own i (by_turns ns i j xs ys) ≡ xs) × (own j (by_turns ns i j xs ys) ≡ ys)
-  own_by_turns [] i j differ xs ys = (
-    own_in_front i xs (tagged j ys) ∙ (ap (λ zs. xs ++ zs) (all_others j i (λ e. differ (sym e)) ys) ∙ append-nil xs),
-    past_others i j differ xs (tagged j ys) ∙ all_own j ys,
-  )
+  own_by_turns [] i j differ xs ys = grind (arith, own_in_front, all_others, append-nil, past_others, all_own)
   own_by_turns (n ∷ ns) i j differ xs ys =
       let rest = own_by_turns ns j i (λ e. differ (sym e)) ys (drop n xs) in
       let more = by_turns ns j i ys (drop n xs) in (
@@ -141,8 +126,7 @@ module _ {A : Type 0} where
 
   nobody_else : (ns : List ℕ) (i j k : ℕ) → (i ≡ k → ⊥) → (j ≡ k → ⊥) → (xs ys : List A) → own k (by_turns ns i j xs ys) ≡ []
   nobody_else [] i j k one other xs ys = past_others i k one xs (tagged j ys) ∙ all_others j k other ys
-  nobody_else (n ∷ ns) i j k one other xs ys =
-      past_others i k one (take n xs) (by_turns ns j i ys (drop n xs)) ∙ nobody_else ns j i k other one ys (drop n xs)
+  nobody_else (n ∷ ns) i j k one other xs ys = grind (arith, past_others, take, (nobody_else ns j i k other one ys (drop n xs)))
 
   turns_order : (ns : List ℕ) (xs ys : List A) → IsOrder (xs ∷ ys ∷ []) (by_turns ns 1 0 ys xs)
   turns_order ns xs ys = record { whole = whole }
@@ -171,16 +155,13 @@ welcome : (h inc : ℕ) → Small h inc → IsOne (Welcome (handler h) (client 7
 welcome h inc small = record { carries = tt; fits = small.1; range = is_client h inc small; bytes_are = refl }
 
 locked : (h inc : ℕ) → Small h inc → IsOne (Locked (handler h) (block 7 inc 1))
-locked h inc small =
-    record { carries = tt; fits = record { inc = small.1; num = omega arith }; range = is_block h inc small; bytes_are = refl }
+locked h inc small = grind (arith, is_block)
 
 opened : (h inc : ℕ) → Small h inc → IsOne (Opened (handler h) (block 7 inc 1))
-opened h inc small =
-    record { carries = tt; fits = record { inc = small.1; num = omega arith }; range = is_block h inc small; bytes_are = refl }
+opened h inc small = grind (arith, is_block)
 
 unlocked : (h inc : ℕ) → Small h inc → IsOne (Unlocked (handler h) (block 7 inc 1))
-unlocked h inc small =
-    record { carries = tt; fits = record { inc = small.1; num = omega arith }; range = is_block h inc small; bytes_are = refl }
+unlocked h inc small = grind (arith, is_block)
 
 one_one : Small 1 1
 one_one = (omega arith, omega arith, omega arith)
@@ -195,12 +176,7 @@ two_two : Small 2 2
 two_two = (omega arith, omega arith, omega arith)
 
 logged : IsOne (Logged (handler 1) (block 7 1 1) 1)
-logged = record {
-  carries = tt;
-  fits = record { block = record { inc = omega arith; num = omega arith }; number = omega arith };
-  range = record { block = is_block 1 1 one_one; number = omega arith };
-  bytes_are = refl;
-}
+logged = grind (arith, block, is_block, one_one)
 
 -- ---- the steps can be made
 

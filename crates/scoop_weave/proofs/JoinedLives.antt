@@ -4,10 +4,10 @@
 use Rattle.scoop_weave.proofs.Names.{◌≡◌, ℕ, zero, suc, ◌+◌, ◌≤◌, ◌==◌, ◌||◌, Bool, true, false, true≢false, List, [], ◌∷◌, ◌++◌, map, find, flat_map, filter}
 use Rattle.scoop_weave.proofs.Names.{length, slice_get, Some, refl, sym, ap, ◌∙◌, subst, arith, if◌then◌else◌, inl, inr, Option, None, AllByRecursion, list_any}
 use Rattle.scoop_weave.proofs.Names.{option_map, Decides, Decides-eqb, map-map, ClientId, HandlerId, same_handler, same_client, handler_decides, client_decides}
-use Rattle.scoop_weave.proofs.Names.{has, HandlerState, core_of, LocalHandler, local_handler, opening_handler, Placement, Newcomer, MayOpen, NoRepeats, by_test}
-use Rattle.scoop_weave.proofs.Names.{key_found, all_more_of, PlacedHandler, IsStored, its_number, id_in, is_placed, new_placed, new_client, LocalMove}
-use Rattle.scoop_weave.proofs.Names.{ClientRuns, EachClient, IsMember, is_by, moves_by, has_handler, has_node, has_client, Node, NodeRuns, IsNode}
-use Rattle.scoop_weave.proofs.Names.{IsWovenOfNodes, is_of, IsWorld, local_of, own, party_at, NodeLife, Runs, IsNodeLife, IsClientLife, words_in}
+use Rattle.scoop_weave.proofs.Names.{has, HandlerState, LocalHandler, opening_handler, Placement, Newcomer, MayOpen, NoRepeats, by_test, key_found, all_more_of}
+use Rattle.scoop_weave.proofs.Names.{PlacedHandler, IsStored, its_number, id_in, is_placed, new_placed, new_client, LocalMove, ClientRuns, EachClient, IsMember}
+use Rattle.scoop_weave.proofs.Names.{is_by, moves_by, has_handler, has_node, has_client, Node, IsNode, IsWovenOfNodes, is_of, IsWorld, local_of, own, party_at}
+use Rattle.scoop_weave.proofs.Names.{NodeLife, Runs, IsNodeLife, IsClientLife, words_in}
 use Rattle.std.proofs.lemmas.Bool.{false_from_ne_true}
 use Rattle.std.specs.Prelude.{◌⊎◌, unwrap_or}
 use Rattle.std.proofs.lemmas.List.{map-append}
@@ -33,9 +33,7 @@ use Rattle.scoop_weave.proofs.Lists as Lists
 module _ {A : Type 0} where
   any_at : (test : A → Bool) (xs : List A) (i : ℕ) (x : A) → slice_get xs i ≡ Some x → test x ≡ true → list_any test xs ≡ true
   any_at test [] i x e is = absurd (cc)
-  any_at test (y ∷ ys) zero x e is =
-      let same : y ≡ x = cc in
-      ap (λ t. t || list_any test ys) (ap test same ∙ is)
+  any_at test (y ∷ ys) zero x e is = grind (arith, list_any)
   any_at test (y ∷ ys) (suc i) x e is = by_test (λ t. (t || list_any test ys) ≡ true) (test y) (λ _. refl) (λ _. any_at test ys i x e is)
 
 module _ {A B : Type 0} (f : A → B) where
@@ -54,9 +52,7 @@ module _ {A K : Type 0} (key : A → K) (same : K → K → Bool) (decides : (a 
   -- an item is the one that is found by its key
   found_own : (xs : List A) (i : ℕ) (x : A) → NoRepeats (map key xs) → slice_get xs i ≡ Some x → find (λ a. same (key a) (key x)) xs ≡ Some x
   found_own [] i x once e = absurd (cc)
-  found_own (y ∷ ys) zero x once e =
-      let is : y ≡ x = cc in
-      ap (λ t. if t then Some y else find (λ a. same (key a) (key x)) ys) (ap (λ z. same (key z) (key x)) is ∙ itself same decides (key x)) ∙ ap Some is
+  found_own (y ∷ ys) zero x once e = grind (arith, itself)
   found_own (y ∷ ys) (suc i) x once e =
       let other : key y ≡ key x → ⊥ = λ is. clash (once 0 (suc i) (key x) (ap Some is) (mapped key ys i x e)) in
       ap (λ t. if t then Some y else find (λ a. same (key a) (key x)) ys) (apart same decides (key y) (key x) other)
@@ -100,26 +96,13 @@ module _ (nodes : List NodeLife) (clients : List ClientLife) (opens : MayOpen (p
   -- a handler that opens for the first time counts as a new one, whether its state is stored or not
   opens_as : (n : ℕ) (p : Placement) (o : Option HandlerState) → (o ≡ None) ⊎ (o ≡ Some (new_state p.handler p.words)) → words_in ps p.handler ≡ p.words
       → p.node ≡ n → local_of (words_in ps) n (opening_handler p.handler p.class p.words o) ≡ new_placed p
-  opens_as n p o (inl none) words stand =
-      ap (λ o. local_of (words_in ps) n (opening_handler p.handler p.class p.words o)) none
-      ∙ λ i. record {
-        node = sym stand i;
-        placed = words i;
-        local =
-            local_handler (core_of p.class (new_state p.handler p.words) false) (Some (new_state p.handler (words i)));
-      }
-  opens_as n p o (inr some) words stand =
-      ap (λ o. local_of (words_in ps) n (opening_handler p.handler p.class p.words o)) some
-      ∙ λ i. record { node = sym stand i; placed = words i; local = opening_handler p.handler p.class p.words (Some (new_state p.handler p.words)) }
+  opens_as n p o (inl none) words stand = grind arith
+  opens_as n p o (inr some) words stand = grind arith
 
   open_placed : (n : ℕ) (qs : List Placement) (hs : List LocalHandler) → AllByRecursion (λ (p : Placement). p.node ≡ n) qs → AllOpenFirst qs hs
       → AllByRecursion IsFoundPlaced qs → map (local_of (words_in ps) n) hs ≡ map new_placed qs
   open_placed n [] [] stand first found = refl
-  open_placed n (p ∷ qs) (s ∷ hs) stand first found =
-      let words : words_in ps p.handler ≡ p.words = ap (λ o. unwrap_or (option_map (λ (q : Placement). q.words) o) []) found.0 in
-      let one : local_of (words_in ps) n s ≡ new_placed p = ap (local_of (words_in ps) n) first.0.opens
-      ∙ opens_as n p s.stored first.0.stored words stand.0 in
-      ap (λ x. x ∷ map (local_of (words_in ps) n) hs) one ∙ ap (λ ss. new_placed p ∷ ss) (open_placed n qs hs stand.1 first.1 found.1)
+  open_placed n (p ∷ qs) (s ∷ hs) stand first found = grind (arith, unwrap_or, option_map, opens_as, (open_placed n qs hs stand.1 first.1 found.1))
   open_placed n xs ys stand first found = absurd first
 
   all_open : (xs : List NodeLife) → AllByRecursion Stand xs → AllByRecursion IsFoundPlaced (flat_map (λ (n : NodeLife). n.placed) xs)
@@ -200,9 +183,7 @@ module _ (nodes : List NodeLife) (clients : List ClientLife) (opens : MayOpen (p
         }
 
     same_node : (n k : NodeLife) (h : HandlerId) → IsAt n h → IsAt k h → n.number ≡ k.number
-    same_node n k h a b =
-        let one : a.handler ≡ b.handler = same_Some _ _ (sym a.found ∙ b.found) in
-        sym a.node ∙ (ap (λ (s : PlacedHandler). s.node) one ∙ b.node)
+    same_node n k h a b = grind (arith, same_Some)
 
     not_here : (n k : NodeLife) (h : HandlerId) → Facts n → Facts k → (k.number ≡ n.number → ⊥) → has (names k) h ≡ true → has (names n) h ≡ false
     not_here n k h f g differ e = false_from_ne_true (has (names n) h) (λ here. differ (same_node k n h (is_at k h g e) (is_at n h f here)))
@@ -262,16 +243,7 @@ module _ (nodes : List NodeLife) (clients : List ClientLife) (opens : MayOpen (p
 
     nodes_test : (i j : ℕ) (n k : NodeLife) (m : LocalMove) → slice_get nodes i ≡ Some n → slice_get nodes j ≡ Some k → is_of k.number (names k) m ≡ true
         → is_of n.number (names n) m ≡ (j == i)
-    nodes_test i j n k m e f own =
-        by_test (λ t. is_of n.number (names n) m ≡ t) (j == i)
-        (λ here.
-        let place : j ≡ i = (Decides-eqb j i).0 here in
-        let both : Some k ≡ Some n = sym f ∙ (ap (slice_get nodes) place ∙ e) in
-        let one : k ≡ n = cc in
-        subst (λ (x : NodeLife). is_of x.number (names x) m ≡ true) one own)
-        (λ there.
-        not_its n k m (all_at Facts nodes i n e each_node) (all_at Facts nodes j k f each_node)
-        (λ same. true≢false (sym ((Decides-eqb j i).1 (same_place i j n k e f same)) ∙ there)) own)
+    nodes_test i j n k m e f own = grind (arith, Decides-eqb, slice_get, own, there, not_its, all_at, each_node, true≢false, same_place)
 
     apart_places : (i j k : ℕ) (n : NodeLife) → slice_get nodes i ≡ Some n → j ≡ length nodes + k → j ≡ i → ⊥
     apart_places i j k n e f same = let h = slice_get_within nodes i n e in omega (arith, h)
@@ -305,10 +277,7 @@ module _ (nodes : List NodeLife) (clients : List ClientLife) (opens : MayOpen (p
         (λ same. true≢false (sym ((Decides-eqb l k).1 (opens.clients_apart l k (id c) (ids_at l d f ∙ ap Some same) (ids_at k c e))) ∙ there)))
 
     shifted : (a l k : ℕ) → (l == k) ≡ (a + l == a + k)
-    shifted a l k =
-        by_test (λ t. t ≡ (a + l == a + k)) (l == k)
-        (λ e. let same : l ≡ k = (Decides-eqb l k).0 e in sym ((Decides-eqb (a + l) (a + k)).1 (ap (λ x. a + x) same)))
-        (λ e. sym (number_test (a + l) (a + k) (λ f. true≢false (sym ((Decides-eqb l k).1 (omega arith)) ∙ e))))
+    shifted a l k = grind (arith, Decides-eqb, number_test, true≢false)
 
     client_filtered : (k : ℕ) (c : ClientLife) → slice_get clients k ≡ Some c → moves_by (id_in (newly ps c)) moves ≡ moves_of_client ps c
     client_filtered k c e =
@@ -371,12 +340,7 @@ module _ (nodes : List NodeLife) (clients : List ClientLife) (opens : MayOpen (p
     clients_run (c ∷ xs) all = (all.0, clients_run xs all.1)
 
     node_runs : (i : ℕ) (n : NodeLife) → slice_get nodes i ≡ Some n → IsNode moves (as_node n)
-    node_runs i n e =
-        let f = all_at Facts nodes i n e each_node in
-        record {
-          stand = stand_open n.number n.opening;
-          runs = subst (λ ms. NodeRuns (opening_of n) ms (handlers_of ps n)) (sym (node_filtered i n e)) f.goes.runs;
-        }
+    node_runs i n e = grind (arith, all_at, each_node, stand_open, node_filtered)
 
     client_runs : (k : ℕ) (c : ClientLife) → slice_get clients k ≡ Some c → ClientRuns (newly ps c) (moves_by (id_in (newly ps c)) moves) c.now
     client_runs k c e =

@@ -1,11 +1,10 @@
 -- A node's histories lead its handlers as moves of its own. An entry is one move of the handler that it names, and between two
 -- histories the node restarts, by which each handler takes its stored state. All these moves are the node's: whom they name is
 -- among its handlers, whose numbers stay.
-use Rattle.scoop_weave.proofs.Names.{arith, ◌≡◌, ℕ, ◌==◌, true, false, List, [], ◌∷◌, map, Option, Some, refl, sym, ap, ◌∙◌, subst, if◌then◌else◌}
-use Rattle.scoop_weave.proofs.Names.{AllByRecursion, option_map, Decides-eqb, Block, HandlerId, Message, same_handler, has, Ran, HandlerState, core_of, hear}
-use Rattle.scoop_weave.proofs.Names.{row, number-row, NoRepeats, Hear, Begin, Finish, Replays, handler_at, LocalHandler, local_handler, opening_state}
-use Rattle.scoop_weave.proofs.Names.{opening_handler, PlacedHandler, IsStored, its_number, stored_in, with_local, after_reopening, LocalMove, NodeReopened}
-use Rattle.scoop_weave.proofs.Names.{Goes, HandlerMoves, AtOne, NodeMoves, NodeRuns, is_of, local_of, all_append}
+use Rattle.scoop_weave.proofs.Names.{arith, ◌≡◌, ℕ, ◌==◌, true, List, [], ◌∷◌, map, Option, refl, sym, ap, ◌∙◌, subst, AllByRecursion, option_map, Decides-eqb}
+use Rattle.scoop_weave.proofs.Names.{Block, HandlerId, Message, same_handler, has, Ran, HandlerState, hear, row, number-row, NoRepeats, Hear, Begin, Finish}
+use Rattle.scoop_weave.proofs.Names.{Replays, handler_at, LocalHandler, PlacedHandler, IsStored, its_number, after_reopening, LocalMove, NodeReopened, Goes}
+use Rattle.scoop_weave.proofs.Names.{HandlerMoves, AtOne, NodeMoves, NodeRuns, is_of, local_of, all_append}
 use Rattle.scoop_handler.specs.declared.note.Heard.{Heard as Told}
 use Rattle.scoop_book.specs.declared.event.Event.{Event}
 use Rattle.scoop_book.specs.declared.event.Reply.{Reply}
@@ -45,9 +44,7 @@ module _ (words : HandlerId → List ℕ) (n : ℕ) where
   begins told s t moves = goes (Begins told) s t (ap number_in moves.after) (record { tells = moves.tells; after = ap (λ y. (local y).local) moves.after })
 
   finishes : (ran : Ran) (s t : LocalHandler) → Finishes ran s t → Goes (Finishes ran) (local s) (local t)
-  finishes ran s t moves =
-      goes (Finishes ran) s t (ap number_in moves.after)
-      (record { task = moves.task; out = moves.out; tells = moves.tells; after = ap (λ y. (local y).local) moves.after })
+  finishes ran s t moves = grind (arith, goes, number_in)
 
   -- ---- one entry
 
@@ -94,8 +91,7 @@ module _ (words : HandlerId → List ℕ) (n : ℕ) where
 
   replays_go : (hs : List LocalHandler) (es : List Entry) (ks : List LocalHandler) → AllStored (all hs) → NoRepeats (numbers (all hs)) → Replays hs es ks
       → NodeGoes hs (map move_in es) ks
-  replays_go hs [] ks is once same =
-      record { runs = ap all same; own = tt; names = ap (λ xs. numbers (all xs)) (sym same); stored = subst (λ xs. AllStored (all xs)) same is }
+  replays_go hs [] ks is once same = grind arith
   replays_go hs (e ∷ es) ks is once r =
       let us = r.0 in
       let move = node_moves e.1 e.2 hs us r.1 in
@@ -112,16 +108,7 @@ module _ (words : HandlerId → List ℕ) (n : ℕ) where
   -- ---- all histories
 
   opens_again : (s : LocalHandler) → IsStored (local s) → local (reopened words s) ≡ after_reopening n (local s)
-  opens_again s is =
-      let q : HandlerState = stored_in (local s) in
-      let number : q.number ≡ s.core.state.number = ap (λ (x : HandlerState). x.number) is in
-      let anew : HandlerId → PlacedHandler = λ h. record {
-        node = n;
-        placed = words h;
-        local = local_handler (core_of s.core.class q false) (Some (opening_state h (words h) s.stored));
-      } in
-      let again : PlacedHandler = with_local (opening_handler (number_in s) s.core.class (words (number_in s)) (Some q)) (local s) in
-      ap anew number ∙ ap (λ t. if t then again else local s) (sym (number_itself n))
+  opens_again s is = grind (arith, number_in, number_itself)
 
   all_open_again : (hs : List LocalHandler) → AllStored (all hs) → all (map (reopened words) hs) ≡ map (after_reopening n) (all hs)
   all_open_again [] is = refl

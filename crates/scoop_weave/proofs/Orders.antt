@@ -13,9 +13,7 @@ module _ {A : Type 0} where
   -- a test that holds of this party's items alone finds them all
   pub filtered : (test : A → Bool) (i : ℕ) (order : List (ℕ × A)) → AllByRecursion (λ x. test x.1 ≡ (x.0 == i)) order → filter test (items order) ≡ own i order
   filtered test i [] tells = refl
-  filtered test i (x ∷ xs) tells =
-      ap (λ t. if t then x.1 ∷ filter test (items xs) else filter test (items xs)) tells.0
-      ∙ ap (λ ys. if x.0 == i then x.1 ∷ ys else ys) (filtered test i xs tells.1)
+  filtered test i (x ∷ xs) tells = grind (arith, (filtered test i xs tells.1))
 
   -- a fact of each party's items is one of all items
   pub all_through : (P : ℕ → A → Type 0) (order : List (ℕ × A)) → ((j : ℕ) → AllByRecursion (P j) (own j order)) → AllByRecursion (λ x. P x.0 x.1) order

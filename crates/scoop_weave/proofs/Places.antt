@@ -1,7 +1,7 @@
 -- The first place of a message that was sent is one at which it was sent.
-use Rattle.scoop_weave.proofs.Names.{◌≡◌, ℕ, zero, suc, ◌+◌, ◌<◌, ◌==◌, false, true≢false, List, [], ◌∷◌, length, slice_get, Some, None, refl, sym, ap, ◌∙◌}
-use Rattle.scoop_weave.proofs.Names.{arith, if◌then◌else◌, Contains, Decides-eqb, Message, message_decides, World, sent_at, by_test, place_in}
-use Rattle.std.proofs.Common.{◌-◌, get_or}
+use Rattle.scoop_weave.proofs.Names.{◌≡◌, ℕ, zero, suc, ◌+◌, ◌<◌, false, true≢false, List, [], ◌∷◌, length, slice_get, Some, refl, sym, ap, ◌∙◌, arith}
+use Rattle.scoop_weave.proofs.Names.{if◌then◌else◌, Contains, Decides-eqb, Message, message_decides, World, sent_at, by_test, place_in}
+use Rattle.std.proofs.Common.{get_or}
 use Rattle.scoop_message.specs.contracts.message.MessagePartialEq.TheImpl as on_message
 
 record IsAt (xs : List Message) (m : Message) (p : ℕ) : Type 0 where
@@ -31,11 +31,7 @@ not_zero : (k : ℕ) → suc k ≡ 0 → ⊥
 not_zero k e = omega arith
 
 at_place : (w : World) (k : ℕ) → sent_at (suc k) w ≡ slice_get w.sent k
-at_place w k =
-    let back : suc k - 1 ≡ k = omega arith in
-    by_test (λ t. (if t then None else slice_get w.sent (suc k - 1)) ≡ slice_get w.sent k) (suc k == 0)
-    (λ e. absurd (not_zero k ((Decides-eqb (suc k) 0).0 e)))
-    (λ e. ap (slice_get w.sent) back)
+at_place w k = grind (arith, slice_get, not_zero, Decides-eqb)
 
 pub sent_there : (w : World) (m : Message) → Contains w.sent m → sent_at (place_in w.sent m) w ≡ Some m
 sent_there w m c =

@@ -1,8 +1,8 @@
 -- A safe world is safe in the histories that it is made of.
-use Rattle.scoop_weave.proofs.Names.{arith, ◌<◌, length, ◌≡◌, ℕ, List, [], Option, Some, None, refl, ap, ◌∙◌, subst, option_map, option_map_or, ClientId}
-use Rattle.scoop_weave.proofs.Names.{HandlerId, same_handler, same_client, handler_decides, client_decides, Ran, World, Site, Accepted, number_of, is_site}
-use Rattle.scoop_weave.proofs.Names.{is_party, IsReached, key_found, all_found, all_more_of, reached_safe, PlacedHandler, LocalClient, System, its_number}
-use Rattle.scoop_weave.proofs.Names.{id_in, placed_in, client_in, LocalMove, ran_by, accepted_by, site_by, party_by, world_by}
+use Rattle.scoop_weave.proofs.Names.{arith, ◌≡◌, List, [], Option, Some, None, refl, ap, ◌∙◌, subst, option_map, option_map_or, ClientId, HandlerId}
+use Rattle.scoop_weave.proofs.Names.{same_handler, same_client, handler_decides, client_decides, Ran, World, Site, Accepted, number_of, is_site, is_party}
+use Rattle.scoop_weave.proofs.Names.{IsReached, key_found, all_found, all_more_of, reached_safe, PlacedHandler, LocalClient, System, its_number, id_in}
+use Rattle.scoop_weave.proofs.Names.{placed_in, client_in, LocalMove, ran_by, accepted_by, site_by, party_by, world_by}
 use Rattle.scoop_model.specs.World.{ran_at}
 use Rattle.scoop_model.specs.Safe.{Safe, IsSubsequence, Tape, WholeBeforeNext, RightAnswers, HasRun, IsAnswered, AcceptsRight}
 use Rattle.scoop_model.proofs.Answering.Facts.{SiteAnswers}
@@ -44,10 +44,7 @@ module _ (ms : List LocalMove) (now : System) (reached : IsReached (world_by ms 
 
   has_run : (a : Accepted) (o : Option PlacedHandler) → placed_in a.0 now ≡ o → HasRun (option_map_or (λ s. ran_by (its_number s) ms) o []) a.1 a.2 a.3
       → HasRun (ran_by a.0 ms) a.1 a.2 a.3
-  has_run a None found run = absurd (nowhere run.at.0 run.at.1)
-    where
-      nowhere : (k : ℕ) → k < length {A = Ran} [] → ⊥
-      nowhere k e = omega arith
+  has_run a None found run = grind arith
   has_run a (Some s) found run = subst (λ k. HasRun (ran_by k ms) a.1 a.2 a.3) (key_found its_number same_handler handler_decides a.0 now.handlers s found) run
 
   client_promise : (c : ClientId) (d : LocalClient) → client_in c now ≡ Some d → ClientPromise ms c
