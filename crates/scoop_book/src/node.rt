@@ -247,9 +247,9 @@ impl<B: Behaviour, K: Keeper<A>, A: Allocator + Copy> Node<B, K, A> {
     /// the keeper is honest, it has each handler's state after the last Hear or Finish, or what it had when the node
     /// opened. Takes no memory, and never waits.
     ///
-    /// A refusal returns node and passes. In this order: `MissingPass` exactly if these aren't the passes 0 up to
-    /// their number, each once; `PassDiffers` with a number whose pass differs from the history, or whose entries
-    /// are no pass's.
+    /// A refusal returns node and passes. In this order:
+    /// - `MissingPass` exactly if these aren't the passes 0 up to their number, each once;
+    /// - `PassDiffers` with a number whose pass differs from the history, or whose entries are no pass's.
     pub fn close<R: Wait>(
         self,
         _rt: &R,

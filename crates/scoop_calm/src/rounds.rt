@@ -7,11 +7,10 @@ ghost use Rattle.scoop_calm.specs.Bound.{left};
 ghost use Rattle.scoop_calm.specs.Rounds.{Rounds};
 ghost use Rattle.scoop_calm.specs.Settling.{Calm};
 
-/// Every fair way leads to a calm world, and `left` rounds are enough. A round does all that
-/// was open at its start. Each job that is out is finished, and each entry that can leave is begun. Each client that can
-/// ends its block. Each message that is due is sent and taken, and so is its reply. These come in any order, and other
-/// such events may come between them. Messages may be lost, repeated and delayed. No party restarts, and no client
-/// begins a block or calls.
+/// Every fair way leads to a calm world, and `left` rounds are enough. A round does all that was open at its start. Each
+/// job that is out is finished, and each entry that can leave is begun. Each client that can ends its block. Each message
+/// that is due is sent and taken, and so is its reply. These come in any order, and other such events may come between
+/// them. Messages may be lost, repeated and delayed. No party restarts, and no client begins a block or calls.
 ///
 /// [`left_of`](crate::left_of) computes `left` of a running world.
 ///

@@ -23,9 +23,11 @@ impl<B: Behaviour, K: Keeper<A>, A: Allocator + Copy> Book<B, K, A> {
     /// private queues, and the words of its object. Nothing is stored yet. The history is empty, and may have
     /// 1,000,000 entries.
     ///
-    /// A refusal drops handlers and keeper. In this order: `WrongClass` if an object hasn't its class; `Repeated`;
-    /// then, handler by handler, `Keeper` if its load is refused and `WrongClass` if the stored words don't fit the
-    /// class; `OutOfMemory`.
+    /// A refusal drops handlers and keeper. In this order:
+    /// - `WrongClass` if an object hasn't its class;
+    /// - `Repeated` if two handlers have one number;
+    /// - handler by handler, `Keeper` if its load is refused, and `WrongClass` if the stored words don't fit the class;
+    /// - `OutOfMemory`.
     pub fn open(
         alloc: A,
         handlers: Vec<(HandlerId, Class, B)>,

@@ -1,4 +1,4 @@
--- What the items so far and those that are left are worth is the sum of all.
+-- The sum of all items is the sum so far and what the items left add.
 use Rattle.scoop_calm.specs.Bound.{hold_left}
 use Rattle.scoop_calm.proofs.Sums.{Sums}
 use Rattle.scoop_calm.proofs.counting.holds_left.Given as goal
