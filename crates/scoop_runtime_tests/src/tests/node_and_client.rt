@@ -228,7 +228,7 @@ fn answers<R: Threads + Wait + Clock + Net + Sync + Abort>(
 ) -> Result<(), Fail> {
     let told = run_beside(rt, alloc, system, node, history, LINES, false).ok_or("no client")?;
     assert!(rt; is(&told.output, REPLIES));
-    assert_eq!(rt; told.ended, Err(RuntimeError::SomeRefused(7, 8)));
+    assert_eq!(rt; told.ended, Err(RuntimeError::SomeRefused(7, 7)));
     assert_eq!(rt; told.progress, Some(answered_to(19, Unended::Nothing)));
     Ok(())
 }
@@ -262,7 +262,7 @@ const NOTES: &str = "\
 scoop: client 7 is ready
 hint: type reserve H.., call H OP A.., query H OP A.., end, or reserve H.. when H OP A.. least V tries T; help lists all lines, and quit ends the client
 hint: the client has a block: end it before you reserve the next one
-scoop: line 3: no such operation
+scoop: line 3: no such operation \"balanc\": the class account has deposit, withdraw, balance
 hint: name an operation of the handler's class: scoop check shows those of the file's classes, scoop client --help the others
 ";
 
@@ -402,7 +402,7 @@ fn a_block_waits_for_all_its_conditions(rt: HostRuntime) -> Result<(), Fail> {
     let system = accounts(&rt, alloc)?;
     let told = ended(&rt, alloc, &system, CONDITIONS, false).ok_or("no client")?;
     assert!(rt; is(&told.output, CONDITIONS_TOLD));
-    assert_eq!(rt; told.ended, Ok(()));
+    assert_eq!(rt; told.ended, Err(RuntimeError::SomeRefused(5, 3)));
     Ok(())
 }
 
