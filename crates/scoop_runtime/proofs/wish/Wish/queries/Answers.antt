@@ -1,5 +1,6 @@
-use Rattle.std.proofs.Common.{◌≡◌, ◌+◌, ◌∷◌, List, cond, refl, sym, arith, ◌∙◌}
+use Rattle.std.proofs.Common.{◌≡◌, ◌+◌, ◌∷◌, List, cond, refl, sym, ap, arith, ◌∙◌}
 use Rattle.std.proofs.lemmas.List.Recursion.{is_count_by}
+use Rattle.std.specs.List.{count_by}
 use Rattle.scoop_driver.specs.Wishes.{queries}
 use Rattle.scoop_driver.specs.declared.condition.BodyEntry.{BodyEntry}
 use Rattle.scoop_driver.specs.declared.condition.BodyEntry.TheVariants.{Call, Query}
@@ -11,4 +12,6 @@ one_more (Call h r) xs = refl
 one_more (Query h r) xs = omega arith
 
 pub returns : goal.returns
-returns c = c.count_queries.ensures ∙ sym (is_count_by queries is_query refl one_more c.args.self.now.body.items)
+returns c =
+    c.count_queries.ensures
+    ∙ (ap (count_by is_query) c.body.ensures ∙ sym (is_count_by queries is_query refl one_more c.args.self.now.body.items))
