@@ -1,3 +1,4 @@
 pub mod Numbering
 pub mod Lives
 pub mod Drivers
+pub mod Clients
