@@ -4,7 +4,8 @@ use crate::blocks::Blocks;
 use crate::client::{Joined, replay_client};
 use crate::error::{AuditError, Move, PartyName, Trouble, Wrong};
 use crate::lives::Tale;
-use crate::node::{Pages, replay_node};
+use crate::node::replay_node;
+use crate::pages::Pages;
 use crate::places::move_at;
 use crate::remarks::Remarks;
 use crate::roster::{Member, roster};
@@ -140,10 +141,11 @@ fn tell_node(
     system: &System,
     number: u32,
     bytes: &[u8],
+    post: &mut Post,
     pages: &mut Pages<'_>,
 ) -> Result<Trail, Trouble> {
     let mut node = new_node(alloc, system, number)?;
-    replay_node(alloc, &mut node, bytes, pages)?;
+    replay_node(alloc, bytes, &mut node, post, pages)?;
     Ok(node.into_trail())
 }
 
@@ -154,6 +156,7 @@ fn tell_client(
     id: ClientId,
     known: &[HandlerId],
     bytes: &[u8],
+    post: &mut Post,
     pages: &mut Pages<'_>,
 ) -> Result<Trail, Trouble> {
     let Some(place) = system.client(id) else {
@@ -170,7 +173,7 @@ fn tell_client(
         id,
         batch: place.batch,
     };
-    replay_client(alloc, &joined, &mut replay, bytes, pages)?;
+    replay_client(alloc, &joined, bytes, &mut replay, post, pages)?;
     Ok(replay.into_trail())
 }
 
@@ -188,14 +191,13 @@ fn tell(
     let mut remarks = Remarks::new(alloc, has_chart);
     let mut tale = Tale::new(alloc, member.party, member.journal);
     let mut pages = Pages {
-        post,
         tale: &mut tale,
         blocks,
         remarks: &mut remarks,
     };
     let told = match member.party {
-        PartyName::Node(number) => tell_node(alloc, system, number, bytes, &mut pages),
-        PartyName::Client(id) => tell_client(alloc, system, id, known, bytes, &mut pages),
+        PartyName::Node(number) => tell_node(alloc, system, number, bytes, post, &mut pages),
+        PartyName::Client(id) => tell_client(alloc, system, id, known, bytes, post, &mut pages),
     };
     match told {
         Ok(trail) => Ok((tale, trail, remarks)),

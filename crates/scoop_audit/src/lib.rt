@@ -12,6 +12,7 @@ mod cursor;
 mod error;
 mod lives;
 mod node;
+mod pages;
 mod places;
 mod printing;
 mod remarks;

@@ -87,6 +87,7 @@ impl NodeReplay {
         message: &Message,
         reply: &Option<Message>,
     ) -> Result<Note, ReplayError>
+        ensures number { self.new.number ≡ self.old.number }
         ensures grows { OnOk result (Grows post.old post.new) }
         ensures goes { OnOk result (GoesOn (HeardSo message.now reply.now) self.old self.new post.old post.new) }
     {
@@ -114,6 +115,7 @@ impl NodeReplay {
     ///
     /// Refused: `NoHandler`, `OutOfMemory`.
     pub fn begin(&mut self, post: &mut Post, handler: HandlerId) -> Result<(), ReplayError>
+        ensures number { self.new.number ≡ self.old.number }
         ensures grows { OnOk result (Grows post.old post.new) }
         ensures goes { OnOk result (GoesOn (BeganSo handler) self.old self.new post.old post.new) }
     {
@@ -128,6 +130,7 @@ impl NodeReplay {
     ///
     /// Refused: `NoHandler`, `NothingOut`, `OutOfMemory`.
     pub fn finish(&mut self, post: &mut Post, handler: HandlerId) -> Result<Ran, ReplayError>
+        ensures number { self.new.number ≡ self.old.number }
         ensures grows { OnOk result (Grows post.old post.new) }
         ensures goes { OnOk result (GoesOn (RanSo handler) self.old self.new post.old post.new) }
     {
@@ -145,6 +148,7 @@ impl NodeReplay {
 
     /// The node opens again: each handler with its stored state, and with no job out. `OutOfMemory` is the one refusal.
     pub fn reopen(&mut self, alloc: Global, post: &mut Post) -> Result<(), ReplayError>
+        ensures number { self.new.number ≡ self.old.number }
         ensures grows { OnOk result (Grows post.old post.new) }
         ensures opens { OnOk result (OpensAgain self.old self.new post.old post.new) }
     {
