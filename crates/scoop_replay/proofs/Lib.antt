@@ -2,3 +2,4 @@ pub mod Numbering
 pub mod Lives
 pub mod Drivers
 pub mod Clients
+pub mod Nodes

@@ -17,7 +17,7 @@ use crate::error::ReplayError;
 use crate::handlers::{begin, finish, hear};
 use crate::local::{Last, Local, place_of};
 use scoop_handler::{Note, Ran};
-use scoop_message::{HandlerId, Message, OutOfMemory, Words};
+use scoop_message::{HandlerId, Message, OutOfMemory, Words, same_message};
 use scoop_object::Class;
 use scoop_weaver::{Post, Traffic, Trail};
 use std::alloc::Global;
@@ -52,6 +52,17 @@ fn add(trail: &mut Trail, post: &mut Post, next: &Traffic) -> Result<(), ReplayE
     match trail.add(post, next) {
         Ok(()) => Ok(()),
         Err(_) => Err(ReplayError::OutOfMemory),
+    }
+}
+
+// Whether the two replies are the same.
+fn is_same(left: &Option<Message>, right: &Option<Message>) -> bool
+    ensures { IsTrue result → left.now ≡ right.now }
+{
+    match (left, right) {
+        (Some(left), Some(right)) => same_message(left, right),
+        (None, None) => true,
+        (Some(_), None) | (None, Some(_)) => false,
     }
 }
 
@@ -98,7 +109,7 @@ impl NodeReplay {
             Ok(heard) => heard,
             Err(_) => return Err(ReplayError::OutOfMemory),
         };
-        if heard.reply != *reply {
+        if !is_same(&heard.reply, reply) {
             return Err(ReplayError::Reply(heard.reply));
         }
         let next = Traffic {
