@@ -26,6 +26,3 @@ pub use error::{AuditError, Fault, Move, PartyName, Wrong};
 pub use lives::Tale;
 pub use printing::print_explained;
 pub use text::unexplained_text;
-
-#[cfg(test)]
-mod tests;
