@@ -1,5 +1,7 @@
 -- A node's journal, line by line.
-use Rattle.std.proofs.Common.{◌≡◌, ℕ, List, [], ◌∷◌, ◌++◌, map, Option, Some, None, refl, sym, ap, ◌∙◌, subst, append_assoc, append-nil}
+use Rattle.std.proofs.Common.{◌≡◌, ◌<◌, ◌+◌, ℕ, zero, suc, List, [], ◌∷◌, ◌++◌, length, map, slice_get, Option, Some, None, refl, sym, ap, ◌∙◌, subst, append_assoc, append-nil, arith}
+use Rattle.std.specs.Prelude.{IfSome}
+use Rattle.std.proofs.lemmas.List.{length-append}
 use Rattle.scoop_message.specs.declared.name.HandlerId.{HandlerId}
 use Rattle.scoop_message.specs.declared.message.Message.{Message}
 use Rattle.scoop_handler.specs.Local.{LocalHandler}
@@ -10,7 +12,7 @@ use Rattle.scoop_journal.specs.Journal.{ended}
 use Rattle.scoop_weave.specs.NodeHistories.{reopened}
 use Rattle.scoop_replay.specs.Node.{GoesOn, IsNodeTale, NodeTale, NodeValue, OpensAgain, after_entry, after_reopening}
 use Rattle.scoop_audit.specs.Lines.{HasNoNewline, IsJournalOf, text_of_all}
-use Rattle.scoop_audit.specs.Node.{EntersBy, HoldsEntry, IsEntryOf, NodeRead, NodeUpTo, Opens, OpensFrom, ReadsNode, TellsEntry, TellsNode, ToldNode, held_line}
+use Rattle.scoop_audit.specs.Node.{EntersBy, HoldsEntry, IsEntryOf, NodeRead, NodeUpTo, Opens, OpensAs, OpensFrom, ReadsNode, TellsEntry, TellsNode, ToldNode, held_line}
 use Rattle.scoop_audit.specs.Node.{leaves_out, tells_entry, tells_life, tells_nothing}
 use Rattle.scoop_audit.proofs.Texts.{one_text, text_more, texts_more}
 
@@ -164,5 +166,42 @@ node_read bytes rest old now post more up none =
 
 -- ---- the first lines of a life
 
-pub opens_none : (bytes : List ℕ) (ls : List LocalHandler) → OpensFrom bytes bytes ls
-opens_none bytes ls = record { opens = []; bytes_are = refl; are = tt }
+-- the first of the handlers were opened by lines
+pub record OpenedTo (bytes rest : List ℕ) (ls : List LocalHandler) (n : ℕ) : Type 0 where
+  pub opens : List Line
+  pub bytes_are : bytes ≡ text_of_all opens ++ rest
+  pub count : length opens ≡ n
+  pub are : Opens opens ls
+
+none_there : (ls : List LocalHandler) (n : ℕ) → n < length ls → slice_get ls n ≡ None → ⊥
+none_there [] n less e = omega arith
+none_there (l ∷ ls) zero less e = absurd (cc)
+none_there (l ∷ ls) (suc n) less e = none_there ls n (omega arith) e
+
+opens_more : (xs : List Line) (ls : List LocalHandler) (x : Line) (l : LocalHandler) → Opens xs ls → slice_get ls (length xs) ≡ Some l → OpensAs x l
+    → Opens (xs ++ x ∷ []) ls
+opens_more [] [] x l are at as = absurd (cc)
+opens_more [] (k ∷ ls) x l are at as = let same : k ≡ l = cc in (subst (OpensAs x) (sym same) as, tt)
+opens_more (y ∷ xs) [] x l are at as = absurd are
+opens_more (y ∷ xs) (k ∷ ls) x l are at as = (are.0, opens_more xs ls x l are.1 at as)
+
+pub opened_none : (bytes : List ℕ) (ls : List LocalHandler) → OpenedTo bytes bytes ls 0
+opened_none bytes ls = record { opens = []; bytes_are = refl; count = refl; are = tt }
+
+pub opened_more :
+    (bytes rest : List ℕ) (ls : List LocalHandler) (n : ℕ) (x : Line) → n < length ls → OpenedTo bytes (ended x ++ rest) ls n
+    → IfSome (slice_get ls n) (OpensAs x) → OpenedTo bytes rest ls (n + 1)
+opened_more bytes rest ls n x less o as = there (slice_get ls n) refl as
+  where
+    there : (q : Option LocalHandler) → slice_get ls n ≡ q → IfSome q (OpensAs x) → OpenedTo bytes rest ls (n + 1)
+    there (Some l) e is =
+        record {
+          opens = o.opens ++ x ∷ [];
+          bytes_are = text_more bytes rest o.opens x o.bytes_are;
+          count = length-append o.opens (x ∷ []) ∙ ap (λ k. k + 1) o.count;
+          are = opens_more o.opens ls x l o.are (ap (slice_get ls) o.count ∙ e) is;
+        }
+    there None e is = absurd (none_there ls n less e)
+
+pub opened_from : (bytes rest : List ℕ) (ls : List LocalHandler) (n : ℕ) → OpenedTo bytes rest ls n → OpensFrom bytes rest ls
+opened_from bytes rest ls n o = record { opens = o.opens; bytes_are = o.bytes_are; are = o.are }

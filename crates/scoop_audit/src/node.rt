@@ -1,6 +1,7 @@
 //! The replay of a node's journal.
 
-ghost use Rattle.std.specs.Prelude.{◌≡◌, ◌++◌, ℕ, IfOk, IfSome, List, None, OnOk, slice_get};
+ghost use Rattle.std.specs.Prelude.{◌≡◌, ◌++◌, ℕ, IfOk, IfSome, IsTrue, List, None, OnOk, slice_get};
+ghost use Rattle.scoop_handler.specs.Local.{number_in};
 ghost use Rattle.scoop_journal.specs.declared.line.Line.TheVariants.{NodeLife};
 ghost use Rattle.scoop_journal.specs.Journal.{ended};
 ghost use Rattle.scoop_message.specs.declared.message.Message.{Message as Told};
@@ -210,6 +211,16 @@ fn is_unstored(
     node.is_unstored(alloc, handler, &last, image, pending)
 }
 
+// Whether the handler of this number is the one at this place.
+fn is_at(node: &NodeReplay, place: usize, handler: HandlerId) -> bool
+    ensures { IsTrue result → IfSome (slice_get node.now.handlers place) (λ l. handler ≡ number_in l) }
+{
+    match node.handler(place) {
+        Some(own) => own == handler,
+        None => false,
+    }
+}
+
 // The handler at this place opens with the state that it has.
 fn open_one(
     alloc: Global,
@@ -226,7 +237,7 @@ fn open_one(
     if !node.has(handler) {
         return Err(Trouble::Fault(number, Fault::NoHandler(node.number(), handler)));
     }
-    if node.handler(place) != Some(handler) {
+    if !is_at(node, place, handler) {
         return Err(Trouble::Fault(number, Fault::Misplaced));
     }
     if node.is_stored_as(alloc, place, image, pending)? {
