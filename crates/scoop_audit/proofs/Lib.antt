@@ -1,3 +1,4 @@
 mod Texts
 mod Clients
 mod Nodes
+mod Told

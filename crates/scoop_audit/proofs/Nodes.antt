@@ -180,10 +180,10 @@ none_there (l ∷ ls) (suc n) less e = none_there ls n (omega arith) e
 
 opens_more : (xs : List Line) (ls : List LocalHandler) (x : Line) (l : LocalHandler) → Opens xs ls → slice_get ls (length xs) ≡ Some l → OpensAs x l
     → Opens (xs ++ x ∷ []) ls
-opens_more [] [] x l are at as = absurd (cc)
-opens_more [] (k ∷ ls) x l are at as = let same : k ≡ l = cc in (subst (OpensAs x) (sym same) as, tt)
-opens_more (y ∷ xs) [] x l are at as = absurd are
-opens_more (y ∷ xs) (k ∷ ls) x l are at as = (are.0, opens_more xs ls x l are.1 at as)
+opens_more [] [] x l are at is_open = absurd (cc)
+opens_more [] (k ∷ ls) x l are at is_open = let same : k ≡ l = cc in (subst (OpensAs x) (sym same) is_open, tt)
+opens_more (y ∷ xs) [] x l are at is_open = absurd are
+opens_more (y ∷ xs) (k ∷ ls) x l are at is_open = (are.0, opens_more xs ls x l are.1 at is_open)
 
 pub opened_none : (bytes : List ℕ) (ls : List LocalHandler) → OpenedTo bytes bytes ls 0
 opened_none bytes ls = record { opens = []; bytes_are = refl; count = refl; are = tt }
@@ -191,7 +191,7 @@ opened_none bytes ls = record { opens = []; bytes_are = refl; count = refl; are 
 pub opened_more :
     (bytes rest : List ℕ) (ls : List LocalHandler) (n : ℕ) (x : Line) → n < length ls → OpenedTo bytes (ended x ++ rest) ls n
     → IfSome (slice_get ls n) (OpensAs x) → OpenedTo bytes rest ls (n + 1)
-opened_more bytes rest ls n x less o as = there (slice_get ls n) refl as
+opened_more bytes rest ls n x less o is_open = there (slice_get ls n) refl is_open
   where
     there : (q : Option LocalHandler) → slice_get ls n ≡ q → IfSome q (OpensAs x) → OpenedTo bytes rest ls (n + 1)
     there (Some l) e is =

@@ -1,3 +1,4 @@
 pub mod Lines
 pub mod Node
 pub mod Client
+pub mod Told

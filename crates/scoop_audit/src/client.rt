@@ -189,11 +189,8 @@ fn take(
             let other = PartyName::Node(*node);
             return Err(Trouble::Fault(number, Fault::OtherParty(other)));
         }
-        Line::ClientLife(..)
-        | Line::Open(..)
-        | Line::Hear(..)
-        | Line::Begin(_)
-        | Line::Finish(_) => return Err(Trouble::Fault(number, Fault::Misplaced)),
+        Line::ClientLife(..) | Line::Open(..) | Line::Hear(..) | Line::Begin(_) | Line::Finish(_) =>
+            return Err(Trouble::Fault(number, Fault::Misplaced)),
     };
     match made {
         Ok(()) => Ok(()),

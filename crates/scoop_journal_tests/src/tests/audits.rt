@@ -97,8 +97,12 @@ fn ends(
     let node = joined(alloc, node)?;
     let client = joined(alloc, client)?;
     let journals = [
-        Journal { bytes: node.as_bytes() },
-        Journal { bytes: client.as_bytes() },
+        Journal {
+            bytes: node.as_bytes(),
+        },
+        Journal {
+            bytes: client.as_bytes(),
+        },
     ];
     let text = outcome(alloc, &journals)?;
     assert_eq!(rt; text.as_str(), wanted);
@@ -107,7 +111,12 @@ fn ends(
 
 // The audit of this one journal ends so.
 fn ends_alone(rt: &impl Abort, alloc: Global, journal: &str, wanted: &str) -> Result<(), Fail> {
-    let text = outcome(alloc, &[Journal { bytes: journal.as_bytes() }])?;
+    let text = outcome(
+        alloc,
+        &[Journal {
+            bytes: journal.as_bytes(),
+        }],
+    )?;
     assert_eq!(rt; text.as_str(), wanted);
     Ok(())
 }
@@ -129,12 +138,7 @@ fn a_changed_reply_is_found(rt: HostRuntime) -> Result<(), Fail> {
     let mut node = NODE;
     node[3] =
         "hear 5351020300000001000000070000000100000001000000000000 5351020500000001000000070000000100000001000000000000";
-    ends(
-        &rt,
-        rt.alloc(),
-        &node, &CLIENT,
-        "?",
-    )
+    ends(&rt, rt.alloc(), &node, &CLIENT, "?")
 }
 
 #[test]
@@ -142,38 +146,21 @@ fn a_changed_answer_is_found(rt: HostRuntime) -> Result<(), Fail> {
     let mut node = NODE;
     node[12] =
         "hear 5351020a000000010000000700000001000000010000000200050102000300 5351020c0000000100000007000000010000000100000002000901000000000000006a";
-    ends(
-        &rt,
-        rt.alloc(),
-        &node, &CLIENT,
-        "?",
-    )
+    ends(&rt, rt.alloc(), &node, &CLIENT, "?")
 }
 
 #[test]
 fn a_changed_opening_is_found(rt: HostRuntime) -> Result<(), Fail> {
     let mut node = NODE;
-    node[17] =
-        "open 1 0200000001010000000000000064000000 -";
-    ends(
-        &rt,
-        rt.alloc(),
-        &node, &CLIENT,
-        "?",
-    )
+    node[17] = "open 1 0200000001010000000000000064000000 -";
+    ends(&rt, rt.alloc(), &node, &CLIENT, "?")
 }
 
 #[test]
 fn a_changed_accepted_answer_is_found(rt: HostRuntime) -> Result<(), Fail> {
     let mut client = CLIENT;
-    client[10] =
-        "turn 5351020c0000000100000007000000010000000100000002000901000000000000006a";
-    ends(
-        &rt,
-        rt.alloc(),
-        &NODE, &client,
-        "?",
-    )
+    client[10] = "turn 5351020c0000000100000007000000010000000100000002000901000000000000006a";
+    ends(&rt, rt.alloc(), &NODE, &client, "?")
 }
 
 #[test]
@@ -214,8 +201,12 @@ fn a_run_has_a_chart(rt: HostRuntime) -> Result<(), Fail> {
     let node = joined(alloc, &NODE)?;
     let client = joined(alloc, &CLIENT)?;
     let journals = [
-        Journal { bytes: node.as_bytes() },
-        Journal { bytes: client.as_bytes() },
+        Journal {
+            bytes: node.as_bytes(),
+        },
+        Journal {
+            bytes: client.as_bytes(),
+        },
     ];
     let system = System::read(alloc, SYSTEM).ok().ok_or("system")?;
     let Ok(run) = audit(alloc, &system, &journals, true) else {
@@ -235,24 +226,78 @@ fn a_run_has_a_chart(rt: HostRuntime) -> Result<(), Fail> {
 fn faults_have_their_lines(rt: HostRuntime) -> Result<(), Fail> {
     let alloc = rt.alloc();
     let texts = [
-        ("hello\n", "journal 0: line 1: no journal: it doesn't begin with a life"),
-        ("begin 1\n", "journal 0: line 1: no journal: it doesn't begin with a life"),
-        ("scoop journal 1 node 3\n", "journal 0: line 1: the system's file has no node 3 with handlers"),
-        ("scoop journal 1 client 9 1 1\n", "journal 0: line 1: the system's file has no client 9 with handlers"),
-        ("scoop journal 1 node 1\nopen one - -\n", "journal 0: line 2: not a number"),
-        ("scoop journal 1 node 1\nbegin 1\n", "journal 0: line 2: a line in the wrong place"),
-        ("scoop journal 1 node 1\nturn none\n", "journal 0: line 2: a line in the wrong place"),
-        ("scoop journal 1 node 1\nscoop journal 1 node 2\n", "journal 0: line 2: a life of node 2 in the journal of another party"),
-        ("scoop journal 1 client 7 1 1\nscoop journal 1 client 8 1 1\n", "journal 0: line 2: a life of client 8 in the journal of another party"),
-        ("scoop journal 1 client 7 2 1\nturn none\nscoop journal 1 client 7 2 1\n", "journal 0: line 3: lives out of order: incarnation 2 after incarnation 2"),
-        ("scoop journal 1 client 7 1 2\n", "journal 0: line 1: a life with batch 2, and the system's file says 1"),
-        ("scoop journal 1 client 7 4000000000 1\n", "journal 0: line 1: too many lives are left out: incarnation 4000000000 after incarnation 0"),
-        ("scoop journal 1 client 7 1 1\nbegin 1\n", "journal 0: line 2: a line in the wrong place"),
-        ("scoop journal 1 client 7 1 1\ndo end\n", "client 7, life 1, step 1: the client refuses the command: NotGreeted"),
-        ("scoop journal 1 client 7 1 1\nbroke 9\n", "client 7, life 1, step 1: nothing is due to the handler at place 9"),
-        ("", "node 1: no journal\nclient 7: no journal\nexplained: 0 moves in one order\n"),
-        ("scoop jour", "node 1: no journal\nclient 7: no journal\nexplained: 0 moves in one order\n"),
-        ("scoop journal 1 client 7 1 1\nturn none\nturn no", "node 1: no journal\nclient 7: 1 life, 1 step\nsupposed: 1 last turn of a client\nexplained: 2 moves in one order\n"),
+        (
+            "hello\n",
+            "journal 0: line 1: no journal: it doesn't begin with a life",
+        ),
+        (
+            "begin 1\n",
+            "journal 0: line 1: no journal: it doesn't begin with a life",
+        ),
+        (
+            "scoop journal 1 node 3\n",
+            "journal 0: line 1: the system's file has no node 3 with handlers",
+        ),
+        (
+            "scoop journal 1 client 9 1 1\n",
+            "journal 0: line 1: the system's file has no client 9 with handlers",
+        ),
+        (
+            "scoop journal 1 node 1\nopen one - -\n",
+            "journal 0: line 2: not a number",
+        ),
+        (
+            "scoop journal 1 node 1\nbegin 1\n",
+            "journal 0: line 2: a line in the wrong place",
+        ),
+        (
+            "scoop journal 1 node 1\nturn none\n",
+            "journal 0: line 2: a line in the wrong place",
+        ),
+        (
+            "scoop journal 1 node 1\nscoop journal 1 node 2\n",
+            "journal 0: line 2: a life of node 2 in the journal of another party",
+        ),
+        (
+            "scoop journal 1 client 7 1 1\nscoop journal 1 client 8 1 1\n",
+            "journal 0: line 2: a life of client 8 in the journal of another party",
+        ),
+        (
+            "scoop journal 1 client 7 2 1\nturn none\nscoop journal 1 client 7 2 1\n",
+            "journal 0: line 3: lives out of order: incarnation 2 after incarnation 2",
+        ),
+        (
+            "scoop journal 1 client 7 1 2\n",
+            "journal 0: line 1: a life with batch 2, and the system's file says 1",
+        ),
+        (
+            "scoop journal 1 client 7 4000000000 1\n",
+            "journal 0: line 1: too many lives are left out: incarnation 4000000000 after incarnation 0",
+        ),
+        (
+            "scoop journal 1 client 7 1 1\nbegin 1\n",
+            "journal 0: line 2: a line in the wrong place",
+        ),
+        (
+            "scoop journal 1 client 7 1 1\ndo end\n",
+            "client 7, life 1, step 1: the client refuses the command: NotGreeted",
+        ),
+        (
+            "scoop journal 1 client 7 1 1\nbroke 9\n",
+            "client 7, life 1, step 1: nothing is due to the handler at place 9",
+        ),
+        (
+            "",
+            "node 1: no journal\nclient 7: no journal\nexplained: 0 moves in one order\n",
+        ),
+        (
+            "scoop jour",
+            "node 1: no journal\nclient 7: no journal\nexplained: 0 moves in one order\n",
+        ),
+        (
+            "scoop journal 1 client 7 1 1\nturn none\nturn no",
+            "node 1: no journal\nclient 7: 1 life, 1 step\nsupposed: 1 last turn of a client\nexplained: 2 moves in one order\n",
+        ),
     ];
     for (journal, wanted) in &texts {
         ends_alone(&rt, alloc, journal, wanted)?;
@@ -262,8 +307,13 @@ fn faults_have_their_lines(rt: HostRuntime) -> Result<(), Fail> {
 
 #[test]
 fn a_journal_twice_is_refused(rt: HostRuntime) -> Result<(), Fail> {
-    let journal = Journal { bytes: b"scoop journal 1 client 7 1 1\n" };
+    let journal = Journal {
+        bytes: b"scoop journal 1 client 7 1 1\n",
+    };
     let text = outcome(rt.alloc(), &[journal, journal])?;
-    assert_eq!(rt; text.as_str(), "journal 1: line 1: client 7 has a journal already");
+    assert_eq!(rt;
+        text.as_str(),
+        "journal 1: line 1: client 7 has a journal already"
+    );
     Ok(())
 }
