@@ -255,5 +255,6 @@ pub(crate) fn replay_client(
             Err(trouble) => return Err(trouble),
         }
     }
-    last_turn(alloc, replay, post, pages)
+    last_turn(alloc, replay, post, pages)?;
+    Ok(())
 }

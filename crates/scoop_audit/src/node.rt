@@ -161,7 +161,10 @@ fn release(
         → OnOk result (NodeUpTo held bytes rest first node.old sent post.old → NodeUpTo None bytes rest first node.new sent post.new) }
 {
     match held {
-        Some((number, line)) => enter(number, &line, node, post, pages),
+        Some((number, line)) => {
+            enter(number, &line, node, post, pages)?;
+            Ok(())
+        }
         None => Ok(()),
     }
 }
@@ -333,7 +336,8 @@ fn begin_life<'a>(
     let _lost = end_life(alloc, held, *cursor, node, post, pages)?;
     reopen(alloc, node, post, pages)?;
     pages.tale.begin(node.moves(), cursor.number)?;
-    open(alloc, node, cursor)
+    open(alloc, node, cursor)?;
+    Ok(())
 }
 
 // Takes one line. Returns the entry that it holds back.
@@ -396,5 +400,6 @@ pub(crate) fn replay_node(
             Err(trouble) => return Err(trouble),
         }
     }
-    release(held, node, post, pages)
+    release(held, node, post, pages)?;
+    Ok(())
 }

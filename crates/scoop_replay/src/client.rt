@@ -152,7 +152,8 @@ impl ClientReplay {
     {
         let moves = moves_of(alloc, &self.client, made)?;
         add_all(&mut self.trail, post, &moves)?;
-        make_step(&mut self.client, made)
+        make_step(&mut self.client, made)?;
+        Ok(())
     }
 
     /// It takes the command.
@@ -207,7 +208,8 @@ impl ClientReplay {
         ensures steps { OnOk result (StepsOn (Turned Nothing) self.old self.new post.old post.new) }
     {
         let made = Step::Turned(Received::Nothing);
-        self.step(alloc, post, &made)
+        self.step(alloc, post, &made)?;
+        Ok(())
     }
 
     /// It sends what is due to its handlers up to the one at this place, counted from 0.

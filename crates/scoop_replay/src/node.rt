@@ -134,7 +134,8 @@ impl NodeReplay {
             return Err(ReplayError::NoHandler(handler));
         };
         let _left = begin(&mut self.locals, place, handler);
-        add(&mut self.trail, post, &Traffic::SILENT)
+        add(&mut self.trail, post, &Traffic::SILENT)?;
+        Ok(())
     }
 
     /// The entry that left the handler has run.
@@ -167,7 +168,8 @@ impl NodeReplay {
             Ok(locals) => self.locals = locals,
             Err(_) => return Err(ReplayError::OutOfMemory),
         }
-        add(&mut self.trail, post, &Traffic::SILENT)
+        add(&mut self.trail, post, &Traffic::SILENT)?;
+        Ok(())
     }
 
     /// The node's number.
