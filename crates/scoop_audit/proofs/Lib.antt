@@ -2,3 +2,4 @@ mod Texts
 mod Clients
 mod Nodes
 mod Told
+mod World

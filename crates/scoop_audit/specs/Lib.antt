@@ -2,3 +2,4 @@ pub mod Lines
 pub mod Node
 pub mod Client
 pub mod Told
+pub mod World
