@@ -1,6 +1,6 @@
 //! The replay of a node's journal.
 
-ghost use Rattle.std.specs.Prelude.{◌≡◌, ◌++◌, ℕ, IfOk, IfSome, IsTrue, List, None, OnOk, slice_get};
+ghost use Rattle.std.specs.Prelude.{◌≡◌, ◌≤◌, ◌++◌, ℕ, IfOk, IfSome, IsTrue, List, None, OnOk, length, slice_get};
 ghost use Rattle.scoop_handler.specs.Local.{number_in};
 ghost use Rattle.scoop_journal.specs.declared.line.Line.TheVariants.{NodeLife};
 ghost use Rattle.scoop_journal.specs.Journal.{ended};
@@ -253,13 +253,17 @@ fn open_one(
 // Reads the first lines of a life. Each handler opens with the state that it has. A life that ended before it had written
 // them all has fewer, and nothing else.
 fn open(alloc: Global, node: &NodeReplay, cursor: &mut Cursor<'_>) -> Result<(), Trouble>
-    ensures { OnOk result (OpensFrom cursor.old.rest.now cursor.new.rest.now node.now.handlers) }
+    ensures opens { OnOk result (OpensFrom cursor.old.rest.now cursor.new.rest.now node.now.handlers) }
+    ensures shorter { OnOk result (length cursor.new.rest.now ≤ length cursor.old.rest.now) }
 {
     for place in 0..node.count() {
         let before = *cursor;
         let line = match cursor.next() {
             Ok(Some(line)) => line,
-            Ok(None) => return Ok(()),
+            Ok(None) => {
+                *cursor = before;
+                return Ok(());
+            }
             Err(trouble) => return Err(trouble),
         };
         if let Line::NodeLife(_) = line {
@@ -328,6 +332,7 @@ fn begin_life<'a>(
     ensures told { (bytes : List ℕ) (first : NodeValue) (sent : List Told)
         → OnOk result (NodeUpTo held bytes (ended (NodeLife number) ++ cursor.old.rest.now) first node.old sent post.old
         → NodeUpTo None bytes cursor.new.rest.now first node.new sent post.new) }
+    ensures shorter { OnOk result (length cursor.new.rest.now ≤ length cursor.old.rest.now) }
 {
     if number != node.number() {
         let other = PartyName::Node(number);
@@ -354,6 +359,7 @@ fn take<'a>(
     ensures told { (bytes : List ℕ) (first : NodeValue) (sent : List Told)
         → IfOk result (λ next. NodeUpTo held bytes (ended line ++ cursor.old.rest.now) first node.old sent post.old
         → NodeUpTo next bytes cursor.new.rest.now first node.new sent post.new) }
+    ensures shorter { OnOk result (length cursor.new.rest.now ≤ length cursor.old.rest.now) }
 {
     match line {
         Line::NodeLife(number) => {
