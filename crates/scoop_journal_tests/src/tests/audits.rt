@@ -32,7 +32,7 @@ const NODE: [&str; 19] = [
     "begin 1",
     "finish 1",
     "scoop journal 1 node 1",
-    "open 1 02000000010100000000000000690001000000070000000100000001030000000301010000000201000000000000006900 -",
+    "open 1 02000000010100000000000000690001000000070000000100000001020000000301010000000201000000000000006900 -",
     "hear 5351020100000001000000070000000200000000000000000000 5351020200000001000000070000000200000000000000000000",
 ];
 
@@ -86,16 +86,14 @@ fn joined(alloc: Global, lines: &[&str]) -> Result<String, Fail> {
     Ok(text)
 }
 
-// The audit of the two parties' journals with these lines ends so.
+// The audit of the two parties' journals ends so.
 fn ends(
     rt: &impl Abort,
     alloc: Global,
-    node: &[&str],
-    client: &[&str],
+    node: &str,
+    client: &str,
     wanted: &str,
 ) -> Result<(), Fail> {
-    let node = joined(alloc, node)?;
-    let client = joined(alloc, client)?;
     let journals = [
         Journal {
             bytes: node.as_bytes(),
@@ -107,6 +105,20 @@ fn ends(
     let text = outcome(alloc, &journals)?;
     assert_eq!(rt; text.as_str(), wanted);
     Ok(())
+}
+
+// The audit of the node's journal and the whole one of the client ends so.
+fn node_ends(rt: &impl Abort, alloc: Global, node: &[&str], wanted: &str) -> Result<(), Fail> {
+    let node = joined(alloc, node)?;
+    let client = joined(alloc, &CLIENT)?;
+    ends(rt, alloc, &node, &client, wanted)
+}
+
+// The audit of the client's journal and the whole one of the node ends so.
+fn client_ends(rt: &impl Abort, alloc: Global, client: &[&str], wanted: &str) -> Result<(), Fail> {
+    let node = joined(alloc, &NODE)?;
+    let client = joined(alloc, client)?;
+    ends(rt, alloc, &node, &client, wanted)
 }
 
 // The audit of this one journal ends so.
@@ -123,14 +135,10 @@ fn ends_alone(rt: &impl Abort, alloc: Global, journal: &str, wanted: &str) -> Re
 
 #[test]
 fn a_run_is_explained(rt: HostRuntime) -> Result<(), Fail> {
-    ends(
-        &rt,
-        rt.alloc(),
-        &NODE,
-        &CLIENT,
-        "node 1: 2 lives, 15 entries\nclient 7: 2 lives, 13 steps\nsupposed: 2 last turns of a client\n\
-        explained: 99 moves in one order\nblock 7.1.1 handlers 1: ran 2 of 2 at 1, ended\n",
-    )
+    let wanted = "node 1: 2 lives, 15 entries\nclient 7: 2 lives, 13 steps\n\
+        supposed: 2 last turns of clients\nexplained: 42 moves in one order\n\
+        block 7.1.1 handlers 1: ran 2 of 2 at 1, ended\n";
+    node_ends(&rt, rt.alloc(), &NODE, wanted)
 }
 
 #[test]
@@ -138,7 +146,9 @@ fn a_changed_reply_is_found(rt: HostRuntime) -> Result<(), Fail> {
     let mut node = NODE;
     node[3] =
         "hear 5351020300000001000000070000000100000001000000000000 5351020500000001000000070000000100000001000000000000";
-    ends(&rt, rt.alloc(), &node, &CLIENT, "?")
+    let wanted =
+        "node 1, life 1, entry 2: the reply is Locked 1 7.1.1, and the journal says Busy 1 7.1.1";
+    node_ends(&rt, rt.alloc(), &node, wanted)
 }
 
 #[test]
@@ -146,21 +156,25 @@ fn a_changed_answer_is_found(rt: HostRuntime) -> Result<(), Fail> {
     let mut node = NODE;
     node[12] =
         "hear 5351020a000000010000000700000001000000010000000200050102000300 5351020c0000000100000007000000010000000100000002000901000000000000006a";
-    ends(&rt, rt.alloc(), &node, &CLIENT, "?")
+    let wanted =
+        "node 1, life 1, entry 11: the reply is Answer 1 7.1.1 2 105, and the journal says Answer 1 7.1.1 2 106";
+    node_ends(&rt, rt.alloc(), &node, wanted)
 }
 
 #[test]
 fn a_changed_opening_is_found(rt: HostRuntime) -> Result<(), Fail> {
     let mut node = NODE;
     node[17] = "open 1 0200000001010000000000000064000000 -";
-    ends(&rt, rt.alloc(), &node, &CLIENT, "?")
+    let wanted = "node 1, life 2: handler 1 opens with another state than life 1 left";
+    node_ends(&rt, rt.alloc(), &node, wanted)
 }
 
 #[test]
 fn a_changed_accepted_answer_is_found(rt: HostRuntime) -> Result<(), Fail> {
     let mut client = CLIENT;
     client[10] = "turn 5351020c0000000100000007000000010000000100000002000901000000000000006a";
-    ends(&rt, rt.alloc(), &NODE, &client, "?")
+    let wanted = "client 7, life 1, step 10: heard Answer 1 7.1.1 2 106, which nobody sent";
+    client_ends(&rt, rt.alloc(), &client, wanted)
 }
 
 #[test]
@@ -168,22 +182,30 @@ fn exchanged_lines_are_found(rt: HostRuntime) -> Result<(), Fail> {
     let mut node = NODE;
     node[7] = "finish 1";
     node[8] = "begin 1";
-    ends(&rt, rt.alloc(), &node, &CLIENT, "?")
+    let wanted =
+        "node 1, life 1, entry 6: an entry of handler 1 has run, and none had left to be run";
+    node_ends(&rt, rt.alloc(), &node, wanted)
 }
 
 #[test]
 fn a_line_left_out_is_found(rt: HostRuntime) -> Result<(), Fail> {
-    let mut node = NODE;
-    // the entry that follows stands twice in its place
-    node[6] = "begin 1";
-    ends(&rt, rt.alloc(), &node, &CLIENT, "?")
+    let alloc = rt.alloc();
+    let mut node = joined(alloc, &NODE[..6])?;
+    let rest = joined(alloc, &NODE[7..])?;
+    node.push_str(&rest)?;
+    let client = joined(alloc, &CLIENT)?;
+    let wanted =
+        "node 1, life 1, entry 6: an entry of handler 1 has run, and none had left to be run";
+    ends(&rt, alloc, &node, &client, wanted)
 }
 
 #[test]
 fn a_life_left_out_is_found(rt: HostRuntime) -> Result<(), Fail> {
     let alloc = rt.alloc();
-    ends(&rt, alloc, &NODE[16..], &CLIENT, "?")?;
-    ends(&rt, alloc, &NODE, &CLIENT[13..], "?")
+    let wanted = "node 1, life 1: handler 1 opens with another state than a new one has";
+    node_ends(&rt, alloc, &NODE[16..], wanted)?;
+    let wanted = "node 1, life 1, entry 2: heard Lock 1 7.1.1, which nobody sent";
+    client_ends(&rt, alloc, &CLIENT[13..], wanted)
 }
 
 #[test]
@@ -191,8 +213,10 @@ fn a_party_without_its_journal_is_named(rt: HostRuntime) -> Result<(), Fail> {
     let alloc = rt.alloc();
     let node = joined(alloc, &NODE)?;
     let client = joined(alloc, &CLIENT)?;
-    ends_alone(&rt, alloc, &node, "?")?;
-    ends_alone(&rt, alloc, &client, "?")
+    let wanted = "node 1, life 1, entry 1: heard Hello 1 7 1, and client 7 has no journal";
+    ends_alone(&rt, alloc, &node, wanted)?;
+    let wanted = "client 7, life 1, step 1: heard Welcome 1 7 1, and node 1 has no journal";
+    ends_alone(&rt, alloc, &client, wanted)
 }
 
 #[test]
