@@ -1,5 +1,6 @@
 -- A replayed client goes on by its steps and restarts.
 use Rattle.std.proofs.Common.{◌≡◌, ◌+◌, ◌-◌, ◌^◌, ◌==◌, ◌<◌, ℕ, false, List, [], ◌∷◌, ◌++◌, map, length, slice_get, Option, Some, None, Result, Ok, Err, refl, sym, ap, ◌∙◌, subst, arith}
+use Rattle.std.proofs.lemmas.Bool.Decides.{Decides-eqb}
 use Rattle.std.specs.Prelude.{IfOk, IsOk, nat_lt}
 use Rattle.scoop_message.specs.declared.name.ClientId.{ClientId}
 use Rattle.scoop_message.specs.declared.name.HandlerId.{HandlerId}
@@ -59,7 +60,7 @@ same_party c (Broke place) = same_itself c
 
 -- ---- steps
 
-stored_as : ClientState → ℕ → LocalClient
+abbrev stored_as : ClientState → ℕ → LocalClient
 stored_as c inc = record { client = c; stored = inc }
 
 pub steps_on :
@@ -74,12 +75,16 @@ steps_on s old new post more moves can is moved adds joined t at tale =
           ∙ (ap (stored_as (after old.client s)) (same_party old.client s).inc ∙ ap (λ (c : LocalClient). driven c (s ∷ [])) (sym at)),
     )
 
+differs : (m n : ℕ) → (m ≡ n → ⊥) → (m == n) ≡ false
+differs m n other =
+    by_test (λ b. (m == n) ≡ b → b ≡ false) (m == n) (λ _ e. absurd (other ((Decides-eqb m n).0 e))) (λ _ e. refl) refl
+
 pub restarts_on :
-    (old new : ClientValue) (post more : List Message) → old.client.inc < 2 ^ 32 - 1
+    (old new : ClientValue) (post more : List Message) → (old.client.inc ≡ 2 ^ 32 - 1 → ⊥)
     → new.client ≡ greeting old.client.id (old.client.inc + 1) old.client.handlers 0 old.client.batch
     → ((ts : List Traffic) → HasTraffic post old.trail ts → HasTraffic more new.trail (ts ++ silent ∷ [])) → RestartsOn old new post more
-restarts_on old new post more less is adds joined t at tale =
-    let room : (old.client.inc == 2 ^ 32 - 1) ≡ false = grind (arith, less) in (
+restarts_on old new post more other is adds joined t at tale =
+    let room : (old.client.inc == 2 ^ 32 - 1) ≡ false = differs old.client.inc (2 ^ 32 - 1) other in (
       tale_restarted joined t post more old.trail new.trail tale (subst (λ (c : LocalClient). (c.stored == 2 ^ 32 - 1) ≡ false) (sym at) room) adds,
       ap local_client is ∙ ap after_restart (sym at),
     )
@@ -91,7 +96,7 @@ can_give c x ok = given (client.command c x) refl ok
   where
     given : (o : client.Outcome) → client.command c x ≡ o → IsOk o → Can c (Gave x)
     given (Ok d) e is = (d, e)
-    given (Err error) e is = absurd is
+    given (Err error) e is = absurd (cc)
 
 repeats : (c d : ClientState) (o : Option HandlerId) → unless_repeated c o ≡ Ok d → d ≡ c
 repeats c d None e = cc

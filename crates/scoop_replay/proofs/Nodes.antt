@@ -18,7 +18,7 @@ use Rattle.scoop_replay.specs.Node.{BeganSo, GoesOn, HeardSo, OpensAgain, RanSo,
 use Rattle.scoop_replay.proofs.Lives.{tale_entered, tale_reopened}
 
 module _ (number : ℕ) (hs ks : List LocalHandler) (trail longer : List Passage) (post more : List Message) where
-  Adds : Traffic → Type 0
+  abbrev pub Adds : Traffic → Type 0
   Adds x = (ts : List Traffic) → HasTraffic post trail ts → HasTraffic more longer (ts ++ x ∷ [])
 
   goes_on : (P : Entry → Type 0) (e : Entry) → P e → Moves e.1 e.2 hs ks → Adds (traffic_of (move_in e)) → GoesOn P (node_value number hs trail) (node_value number ks longer) post more

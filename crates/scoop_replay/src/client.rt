@@ -32,18 +32,20 @@ pub struct ClientReplay {
     client: Client,
     // The client's number once more: a client doesn't show its own.
     id: ClientId,
+    // Memory ran out in a step, so the client isn't known any more.
+    has_failed: bool,
     trail: Trail,
 }
 
 impl Model for ClientReplay {
-    ghost use Rattle.std.specs.Prelude.{◌≡◌};
+    ghost use Rattle.std.specs.Prelude.{◌≡◌, false};
     ghost use Rattle.scoop_replay.specs.Client.{ClientValue, client_value};
 
     ghost Value = { ClientValue };
 
     ghost view = { λ r. client_value r.client r.trail };
 
-    ghost invariant = { λ r. r.id ≡ r.client.id };
+    ghost invariant = { λ r. r.has_failed ≡ false → r.id ≡ r.client.id };
 }
 
 // Adds these moves.
@@ -79,15 +81,17 @@ fn is_framed(version: Version, message: &Message) -> bool
 }
 
 // Whether a message is due to the handler at this place.
+#[tactic(auto, using(crate::proofs::Clients::is_due_there))]
 fn is_due_at(client: &Client, place: usize) -> bool
     ensures { IsTrue result → IsDueAt client.now place }
 {
-    let handlers = client.handlers();
-    if place >= handlers.len() {
+    let Some(handler) = client.handlers().get(place) else {
         return false;
+    };
+    match client.due(*handler) {
+        Some(_) => true,
+        None => false,
     }
-    let handler = handlers[place];
-    client.due(handler).is_some()
 }
 
 impl ClientReplay {
@@ -111,6 +115,7 @@ impl ClientReplay {
         Ok(ClientReplay {
             client,
             id,
+            has_failed: false,
             trail: Trail::new(alloc),
         })
     }
@@ -150,9 +155,15 @@ impl ClientReplay {
         ensures grows { OnOk result (Grows post.old post.new) }
         ensures steps { OnOk result (StepsOn made.now self.old self.new post.old post.new) }
     {
+        let has_failed = self.has_failed;
+        if has_failed {
+            return Err(OutOfMemory);
+        }
         let moves = moves_of(alloc, &self.client, made)?;
         add_all(&mut self.trail, post, &moves)?;
+        self.has_failed = true;
         make_step(&mut self.client, made)?;
+        self.has_failed = false;
         Ok(())
     }
 
@@ -241,6 +252,10 @@ impl ClientReplay {
         ensures grows { OnOk result (Grows post.old post.new) }
         ensures restarts { OnOk result (RestartsOn self.old self.new post.old post.new) }
     {
+        let has_failed = self.has_failed;
+        if has_failed {
+            return Err(ReplayError::OutOfMemory);
+        }
         if self.client.inc() == u32::MAX {
             return Err(ReplayError::Spent);
         }
@@ -248,10 +263,8 @@ impl ClientReplay {
             return Err(ReplayError::OutOfMemory);
         };
         self.client = client;
-        match self.trail.add(post, &Traffic::SILENT) {
-            Ok(()) => Ok(()),
-            Err(_) => Err(ReplayError::OutOfMemory),
-        }
+        self.trail.add(post, &Traffic::SILENT)?;
+        Ok(())
     }
 }
 

@@ -8,16 +8,18 @@ ghost use Rattle.scoop_handler.specs.Local.{is_handler, number_in};
 ghost use Rattle.scoop_keeper.specs.Keyed.{IsFirst};
 ghost use Rattle.scoop_weaver.specs.Post.{Grows};
 ghost use Rattle.std.specs.Prelude.{ℕ, length, slice_get};
+ghost use Rattle.std.specs.List.{list_any};
 ghost use Rattle.std.specs.Option.{option_map};
+ghost use Rattle.scoop_message.specs.Message.{same_handler};
 ghost use Rattle.scoop_message.specs.declared.name.HandlerId.{HandlerId as Name};
 ghost use Rattle.scoop_weave.specs.NodeHistories.{reopened};
 ghost use Rattle.scoop_replay.specs.Node.{BeganSo, GoesOn, HeardSo, IsStoredAs, OpensAgain, RanSo, node_value, placed_local};
 
 use crate::error::ReplayError;
-use crate::handlers::{begin, finish, hear};
+use crate::handlers::{begin, finish, hear_so};
 use crate::local::{Last, Local, place_of};
 use scoop_handler::{Note, Ran};
-use scoop_message::{HandlerId, Message, OutOfMemory, Words, same_message};
+use scoop_message::{HandlerId, Message, OutOfMemory, Words};
 use scoop_object::Class;
 use scoop_weaver::{Post, Traffic, Trail};
 use std::alloc::Global;
@@ -52,17 +54,6 @@ fn add(trail: &mut Trail, post: &mut Post, next: &Traffic) -> Result<(), ReplayE
     match trail.add(post, next) {
         Ok(()) => Ok(()),
         Err(_) => Err(ReplayError::OutOfMemory),
-    }
-}
-
-// Whether the two replies are the same.
-fn is_same(left: &Option<Message>, right: &Option<Message>) -> bool
-    ensures { IsTrue result → left.now ≡ right.now }
-{
-    match (left, right) {
-        (Some(left), Some(right)) => same_message(left, right),
-        (None, None) => true,
-        (Some(_), None) | (None, Some(_)) => false,
     }
 }
 
@@ -105,21 +96,13 @@ impl NodeReplay {
         let Some(place) = place_of(&self.locals, message.handler()) else {
             return Err(ReplayError::NoHandler(message.handler()));
         };
-        let heard = match hear(&mut self.locals, place, message) {
-            Ok(heard) => heard,
-            Err(_) => return Err(ReplayError::OutOfMemory),
-        };
-        if !is_same(&heard.reply, reply) {
-            return Err(ReplayError::Reply(heard.reply));
-        }
+        let heard = hear_so(&mut self.locals, place, message, reply)?;
         let next = Traffic {
             heard: Some(*message),
             sent: heard.reply,
         };
-        match add(&mut self.trail, post, &next) {
-            Ok(()) => Ok(heard.note),
-            Err(error) => Err(error),
-        }
+        add(&mut self.trail, post, &next)?;
+        Ok(heard.note)
     }
 
     /// The next entry of the handler leaves to be run, if there is one and no job is out.
@@ -152,10 +135,8 @@ impl NodeReplay {
         let Some(ran) = finish(&mut self.locals, place, handler) else {
             return Err(ReplayError::NothingOut(handler));
         };
-        match add(&mut self.trail, post, &Traffic::SILENT) {
-            Ok(()) => Ok(ran),
-            Err(error) => Err(error),
-        }
+        add(&mut self.trail, post, &Traffic::SILENT)?;
+        Ok(ran)
     }
 
     /// The node opens again: each handler with its stored state, and with no job out. `OutOfMemory` is the one refusal.
@@ -258,7 +239,8 @@ pub struct Placed {
 
 // The handlers as they open again.
 fn reopen_all(alloc: Global, locals: &[Local]) -> Result<Vec<Local>, OutOfMemory>
-    ensures { (words : Name → List ℕ) → IfOk result (λ opened. opened.items ≡ map (reopened words) locals.now) }
+    ensures again { (words : Name → List ℕ) → IfOk result (λ opened. opened.items ≡ map (reopened words) locals.now) }
+    ensures numbers { IfOk result (λ opened. map number_in opened.items ≡ map number_in locals.now) }
 {
     let mut opened = Vec::new(alloc);
     for local in locals {
@@ -283,14 +265,20 @@ fn new_locals(alloc: Global, placed: &[Placed]) -> Result<Option<Vec<Local>>, Ou
     Ok(Some(locals))
 }
 
+// Whether one of the handlers has this number.
+fn is_placed(locals: &[Local], handler: HandlerId) -> bool
+    ensures { result ≡ list_any (λ l. same_handler (number_in l) handler) locals.now }
+{
+    locals.iter().any(|local| local.number() == handler)
+}
+
 // The number of the first handler whose number stands before it too.
 fn is_repeated(locals: &[Local]) -> Option<HandlerId>
     ensures { IfNone result (NoRepeats (map number_in locals.now)) }
 {
     for (i, local) in locals.iter().enumerate() {
-        let number = local.number();
-        if place_of(&locals[..i], number).is_some() {
-            return Some(number);
+        if is_placed(&locals[..i], local.number()) {
+            return Some(local.number());
         }
     }
     None

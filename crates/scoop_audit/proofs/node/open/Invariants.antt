@@ -3,4 +3,4 @@ use Rattle.scoop_audit.proofs.Nodes.{OpenedTo}
 use Rattle.scoop_audit.proofs.node.open.Given as goal
 
 abbrev pub invariant-loop-place : goal.invariant-loop-place
-invariant-loop-place g l = OpenedTo l.fn.cursor.rest.now l.cursor.rest.now l.node.handlers l.place
+invariant-loop-place l = OpenedTo l.fn.cursor.rest.now l.cursor.rest.now l.node.handlers l.place
