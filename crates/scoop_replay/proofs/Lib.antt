@@ -1,3 +1,4 @@
+mod Lists
 pub mod Numbering
 pub mod Lives
 pub mod Drivers
