@@ -75,7 +75,8 @@ impl Event {
     /// How important the event is.
     pub fn level(&self) -> Level {
         match self {
-            Event::StoreRefused(_, _) | Event::SealRefused(_) | Event::UnknownClient(_, _, _) => Level::Warn,
+            Event::StoreRefused(_, _) | Event::SealRefused(_) | Event::UnknownClient(_, _, _) =>
+                Level::Warn,
             Event::Opened
             | Event::Reopened
             | Event::Closed
