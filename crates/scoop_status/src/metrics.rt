@@ -130,7 +130,10 @@ fn print_gauge<W: Write>(
     for handler in handlers {
         if handler.known {
             let (number, value) = (handler.handler, gauge.value_of(handler));
-            writeln!(writer, "scoop_handler_{name}{{handler=\"{number}\"}} {value}")?;
+            writeln!(
+                writer,
+                "scoop_handler_{name}{{handler=\"{number}\"}} {value}"
+            )?;
         }
     }
     Ok(())
