@@ -1,9 +1,8 @@
 //! The thread that shows a node.
 
-use crate::gathering::About;
-use crate::log_lines::Log;
 use crate::pages::Pages;
 use crate::server::Server;
+use scoop_status::{About, Log};
 use scoop_watch::Watch;
 use std::alloc::Global;
 use std::io::Write;

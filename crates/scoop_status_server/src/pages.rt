@@ -1,16 +1,13 @@
 //! The pages of a node's status, and which request gets which.
 
 ghost use Rattle.std.specs.Prelude.{◌≡◌};
-ghost use Rattle.scoop_status.specs.Routes.{page_at};
+ghost use Rattle.scoop_status_server.specs.Routes.{page_at};
 
-use crate::gathering::{About, gather};
 use crate::json::print_json;
-use crate::metrics::print_metrics;
-use crate::page::print_page;
-use crate::view::NodeView;
 use bytes::{BufMut, Bytes};
 use http::{HeaderName, HeaderValue, Method, Request, StatusCode, header};
 use http_server::{Response, Service};
+use scoop_status::{About, NodeView, gather, print_metrics, print_page};
 use scoop_watch::Watch;
 use std::alloc::{AllocError, Global};
 use std::sync::Wait;
@@ -116,7 +113,7 @@ fn fill(
 
 // Whether the node serves, as a status.
 fn health_status(view: &NodeView<'_>) -> StatusCode {
-    if view.open && view.counts.store_refusals == 0 {
+    if view.open && view.counts.tally.refused_puts == 0 {
         StatusCode::OK
     } else {
         StatusCode::SERVICE_UNAVAILABLE
@@ -125,7 +122,7 @@ fn health_status(view: &NodeView<'_>) -> StatusCode {
 
 // Whether the node serves, as a line.
 fn health_text(view: &NodeView<'_>) -> &'static str {
-    if view.counts.store_refusals > 0 {
+    if view.counts.tally.refused_puts > 0 {
         "the store refused a state\n"
     } else if view.open {
         "ok\n"

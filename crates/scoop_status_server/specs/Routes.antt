@@ -1,7 +1,7 @@
 -- Which request gets which page.
 use Rattle.std.specs.Prelude.{ℕ, List, Bool, true, false, bytes_eq, codes, if◌then◌else◌}
-use Rattle.scoop_status.specs.declared.pages.Page.{Page}
-use Rattle.scoop_status.specs.declared.pages.Page.TheVariants.{People, Json, Metrics, Health, Missing, Refused}
+use Rattle.scoop_status_server.specs.declared.pages.Page.{Page}
+use Rattle.scoop_status_server.specs.declared.pages.Page.TheVariants.{People, Json, Metrics, Health, Missing, Refused}
 
 -- the page of a path, for a request that only reads
 abbrev pub page_for : List ℕ → Page

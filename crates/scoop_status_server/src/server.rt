@@ -9,11 +9,14 @@ use std::io;
 use std::io::Write;
 use std::time::{Clock, Duration, Instant};
 
-// So many connections are served side by side.
+// That many connections are served side by side.
 const MAX_PEERS: usize = 32;
 
-// So many connections are taken in one turn.
-const MAX_ACCEPTED: usize = 16;
+// A turn serves each connection whose place leaves the turn's number modulo this. It bounds how many answers one turn makes.
+const ROUNDS: usize = 4;
+
+// That many connections are taken in one turn. Those that find no place are refused at once.
+const MAX_ACCEPTED: usize = 256;
 
 const TOO_MANY: &[u8] =
     b"HTTP/1.1 503 Service Unavailable\r\nconnection: close\r\ncontent-length: 0\r\n\r\n";
@@ -32,6 +35,7 @@ pub struct Server {
     keys: RandomState,
     alloc: Global,
     places: Vec<Option<Place>>,
+    turns: usize,
 }
 
 impl Server {
@@ -50,18 +54,23 @@ impl Server {
             keys,
             alloc,
             places,
+            turns: 0,
         })
     }
 
-    /// Takes the connections that have come, and serves each once. Nothing in it waits.
+    /// Takes the connections that have come, and serves a quarter of those that have a place, each once. Nothing in it waits.
     pub fn turn<S: Service, R: Clock>(&mut self, rt: &R, service: &mut S) {
         let Ok(now) = Instant::now(rt) else {
             return;
         };
         self.accept_all(now);
-        for place in self.places.iter_mut() {
+        self.turns = self.turns.wrapping_add(1);
+        let served = self.turns % ROUNDS;
+        for (index, place) in self.places.iter_mut().enumerate() {
             let goes_on = match place {
-                Some(taken) => taken.step(service, now),
+                Some(taken) => {
+                    taken.is_in_time(now) && (index % ROUNDS != served || taken.peer.step(service))
+                }
                 None => true,
             };
             if !goes_on {
@@ -103,9 +112,8 @@ fn refuse(mut stream: TcpStream) {
 }
 
 impl Place {
-    // Serves the connection once, unless its time is over. Returns whether it goes on.
-    fn step<S: Service>(&mut self, service: &mut S, now: Instant) -> bool {
+    // Whether the connection's time isn't over.
+    fn is_in_time(&self, now: Instant) -> bool {
         now.duration_since(self.since) < Duration::from_millis(TIME_LIMIT_MS)
-            && self.peer.step(service)
     }
 }

@@ -1,6 +1,6 @@
 //! What is shown of a node, as JSON.
 
-use crate::view::NodeView;
+use scoop_status::NodeView;
 use std::alloc::Global;
 
 /// The view as JSON, in the shape of [`NodeView`]. `None` if memory is refused.
