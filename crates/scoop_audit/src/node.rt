@@ -151,18 +151,18 @@ type Held<'a> = Option<(u64, Line<'a>)>;
 
 // Makes the entry that is held.
 fn release(
-    held: Held<'_>,
+    held: &Held<'_>,
     node: &mut NodeReplay,
     post: &mut Post,
     pages: &mut Pages<'_>,
 ) -> Result<(), Trouble>
     ensures grows { OnOk result (Grows post.old post.new) }
     ensures told { (bytes rest : List ℕ) (first : NodeValue) (sent : List Told)
-        → OnOk result (NodeUpTo held bytes rest first node.old sent post.old → NodeUpTo None bytes rest first node.new sent post.new) }
+        → OnOk result (NodeUpTo held.now bytes rest first node.old sent post.old → NodeUpTo None bytes rest first node.new sent post.new) }
 {
     match held {
         Some((number, line)) => {
-            enter(number, &line, node, post, pages)?;
+            enter(*number, line, node, post, pages)?;
             Ok(())
         }
         None => Ok(()),
@@ -199,13 +199,13 @@ fn last_event(line: &Line<'_>) -> Option<(HandlerId, Last)> {
 fn is_unstored(
     alloc: Global,
     node: &NodeReplay,
-    held: Held<'_>,
+    held: &Held<'_>,
     cursor: Cursor<'_>,
 ) -> Result<bool, OutOfMemory> {
     let Some((_, line)) = held else {
         return Ok(false);
     };
-    let Some((handler, last)) = last_event(&line) else {
+    let Some((handler, last)) = last_event(line) else {
         return Ok(false);
     };
     let Some((image, pending)) = opening_of(cursor, node.count(), handler) else {
@@ -300,7 +300,7 @@ fn reopen(
 // what is left out.
 fn end_life<'a>(
     alloc: Global,
-    held: Held<'a>,
+    held: &Held<'a>,
     cursor: Cursor<'_>,
     node: &mut NodeReplay,
     post: &mut Post,
@@ -308,11 +308,11 @@ fn end_life<'a>(
 ) -> Result<Held<'a>, Trouble>
     ensures grows { OnOk result (Grows post.old post.new) }
     ensures told { (bytes rest : List ℕ) (first : NodeValue) (sent : List Told)
-        → IfOk result (λ lost. NodeUpTo held bytes rest first node.old sent post.old → NodeUpTo lost bytes rest first node.new sent post.new) }
+        → IfOk result (λ lost. NodeUpTo held.now bytes rest first node.old sent post.old → NodeUpTo lost bytes rest first node.new sent post.new) }
 {
     if is_unstored(alloc, node, held, cursor)? {
         pages.tale.shorten();
-        return Ok(held);
+        return Ok(*held);
     }
     release(held, node, post, pages)?;
     Ok(None)
@@ -322,7 +322,7 @@ fn end_life<'a>(
 fn begin_life<'a>(
     alloc: Global,
     number: u32,
-    held: Held<'a>,
+    held: &Held<'a>,
     cursor: &mut Cursor<'a>,
     node: &mut NodeReplay,
     post: &mut Post,
@@ -330,7 +330,7 @@ fn begin_life<'a>(
 ) -> Result<(), Trouble>
     ensures grows { OnOk result (Grows post.old post.new) }
     ensures told { (bytes : List ℕ) (first : NodeValue) (sent : List Told)
-        → OnOk result (NodeUpTo held bytes (ended (NodeLife number) ++ cursor.old.rest.now) first node.old sent post.old
+        → OnOk result (NodeUpTo held.now bytes (ended (NodeLife number) ++ cursor.old.rest.now) first node.old sent post.old
         → NodeUpTo None bytes cursor.new.rest.now first node.new sent post.new) }
     ensures shorter { OnOk result (length cursor.new.rest.now ≤ length cursor.old.rest.now) }
 {
@@ -348,8 +348,8 @@ fn begin_life<'a>(
 // Takes one line. Returns the entry that it holds back.
 fn take<'a>(
     alloc: Global,
-    line: Line<'a>,
-    held: Held<'a>,
+    line: &Line<'a>,
+    held: &Held<'a>,
     cursor: &mut Cursor<'a>,
     node: &mut NodeReplay,
     post: &mut Post,
@@ -357,25 +357,25 @@ fn take<'a>(
 ) -> Result<Held<'a>, Trouble>
     ensures grows { OnOk result (Grows post.old post.new) }
     ensures told { (bytes : List ℕ) (first : NodeValue) (sent : List Told)
-        → IfOk result (λ next. NodeUpTo held bytes (ended line ++ cursor.old.rest.now) first node.old sent post.old
+        → IfOk result (λ next. NodeUpTo held.now bytes (ended line.now ++ cursor.old.rest.now) first node.old sent post.old
         → NodeUpTo next bytes cursor.new.rest.now first node.new sent post.new) }
     ensures shorter { OnOk result (length cursor.new.rest.now ≤ length cursor.old.rest.now) }
 {
     match line {
         Line::NodeLife(number) => {
-            match begin_life(alloc, number, held, cursor, node, post, pages) {
+            match begin_life(alloc, *number, held, cursor, node, post, pages) {
                 Ok(()) => Ok(None),
                 Err(trouble) => Err(trouble),
             }
         }
         Line::ClientLife(client, _, _) => Err(Trouble::Fault(
             cursor.number,
-            Fault::OtherParty(PartyName::Client(client)),
+            Fault::OtherParty(PartyName::Client(*client)),
         )),
         Line::Hear(..) | Line::Begin(_) | Line::Finish(_) => {
             release(held, node, post, pages)?;
             pages.tale.count();
-            Ok(Some((cursor.number, line)))
+            Ok(Some((cursor.number, *line)))
         }
         Line::Open(..) | Line::Do(_) | Line::Turn(_) | Line::Broke(_) => {
             Err(Trouble::Fault(cursor.number, Fault::Misplaced))
@@ -401,11 +401,11 @@ pub(crate) fn replay_node(
             Ok(line) => line,
             Err(trouble) => return Err(trouble),
         };
-        match take(alloc, line, held, &mut cursor, node, post, pages) {
+        match take(alloc, &line, &held, &mut cursor, node, post, pages) {
             Ok(next) => held = next,
             Err(trouble) => return Err(trouble),
         }
     }
-    release(held, node, post, pages)?;
+    release(&held, node, post, pages)?;
     Ok(())
 }
