@@ -102,14 +102,14 @@ impl<L: Link, E: Write + Drop> WaitingLink<L, E> {
         self.silences += 1;
         if self.silences == PATIENCE && !self.asked.is_empty() {
             let is_busy = is_busy(self.heard.as_slice());
-            let awaited = awaits(self.is_greeting, self.is_repeated, is_busy);
+            let awaited = awaited_of(self.is_greeting, self.is_repeated, is_busy);
             tell_waiting(awaited, &self.asked, &mut self.notes);
         }
     }
 }
 
 // What the client waits for: by whether it greets, whether the last reply came again, and whether that refuses a lock.
-fn awaits(is_greeting: bool, is_repeated: bool, is_busy: bool) -> Awaited
+fn awaited_of(is_greeting: bool, is_repeated: bool, is_busy: bool) -> Awaited
     ensures { result ≡ awaited_of is_greeting is_repeated is_busy }
 {
     match (is_greeting, is_repeated, is_busy) {
