@@ -12,7 +12,7 @@ use Rattle.scoop_journal.specs.Journal.{ended}
 use Rattle.scoop_weave.specs.NodeHistories.{reopened}
 use Rattle.scoop_replay.specs.Node.{GoesOn, IsNodeTale, NodeTale, NodeValue, OpensAgain, after_entry, after_reopening}
 use Rattle.scoop_audit.specs.Lines.{HasNoNewline, IsJournalOf, text_of_all}
-use Rattle.scoop_audit.specs.Node.{EntersBy, HoldsEntry, IsEntryOf, NodeRead, NodeUpTo, Opens, OpensAs, OpensFrom, ReadsNode, TellsEntry, TellsNode, ToldNode, held_line}
+use Rattle.scoop_audit.specs.Node.{BeginsLife, EntersBy, IsEntryOf, NodeRead, NodeUpTo, Opens, OpensAs, OpensFrom, ReadsNode, TellsEntry, TellsNode, ToldNode}
 use Rattle.scoop_audit.specs.Node.{leaves_out, tells_entry, tells_life, tells_nothing}
 use Rattle.scoop_audit.proofs.Texts.{one_text, text_more, texts_more}
 
@@ -28,12 +28,11 @@ line_entry (Turn a) old new post more by = absurd by
 line_entry (Broke place) old new post more by = absurd by
 
 -- nothing was read
-pub node_nothing : (bytes : List ℕ) (old : NodeValue) (post : List Message) → NodeUpTo None bytes bytes old old post post
+pub node_nothing : (bytes : List ℕ) (old : NodeValue) (post : List Message) → NodeUpTo bytes bytes old old post post
 node_nothing bytes old post =
     record {
       lines = [];
       bytes_are = refl;
-      holds = tt;
       reads = record { number = refl; told = λ words opening t at tale. record { tale = t; handlers_are = at; is_tale = tale; tells = tells_nothing } };
     }
 
@@ -58,15 +57,14 @@ module _ (old between new : NodeValue) (post sent more : List Message) where
             };
       }
 
-  -- the line that is held is made
-  pub released :
-      (n : ℕ) (l : Line) (bytes rest : List ℕ) → NodeUpTo (Some (n, l)) bytes rest old between post sent → new.number ≡ between.number
-      → EntersBy l between new sent more → NodeUpTo None bytes rest old new post more
-  released n l bytes rest up same by =
+  -- the entry of a line is made
+  pub entered :
+      (l : Line) (bytes rest : List ℕ) → NodeUpTo bytes (ended l ++ rest) old between post sent → new.number ≡ between.number
+      → EntersBy l between new sent more → NodeUpTo bytes rest old new post more
+  entered l bytes rest up same by =
       record {
         lines = up.lines ++ l ∷ [];
-        bytes_are = up.bytes_are ∙ ap (λ ls. text_of_all ls ++ rest) (sym (append-nil (up.lines ++ l ∷ [])));
-        holds = tt;
+        bytes_are = text_more bytes rest up.lines l up.bytes_are;
         reads = reads_entry up.lines l up.reads same (line_entry l between new sent more by);
       }
 
@@ -111,58 +109,46 @@ module _ (old between new : NodeValue) (post sent more : List Message) where
               };
         }
 
-    held_life : (held : Option (ℕ × Line)) (lines : List Line) → HoldsEntry held → ReadsNode lines old between post sent
-        → ReadsNode ((lines ++ held_line held) ++ NodeLife number ∷ opens) old new post more
-    held_life None lines holds reads =
-        subst (λ ls. ReadsNode (ls ++ NodeLife number ∷ opens) old new post more) (sym (append-nil lines)) (reads_life lines reads)
-    held_life (Some x) lines holds reads =
-        subst (λ ls. ReadsNode ls old new post more) (sym (append_assoc lines (x.1 ∷ []) (NodeLife number ∷ opens))) (reads_shorter lines x.1 holds reads)
-
-  -- a life begins; the entry that is held is left out
+  -- a life begins
   pub life_begun :
-      (held : Option (ℕ × Line)) (number : ℕ) (bytes after rest : List ℕ) → number ≡ between.number → new.number ≡ between.number
-      → OpensAgain between new sent more → OpensFrom after rest new.handlers
-      → NodeUpTo held bytes (ended (NodeLife number) ++ after) old between post sent → NodeUpTo None bytes rest old new post more
-  life_begun held number bytes after rest numbered same again opened up =
-      let ls : List Line = up.lines ++ held_line held in
-      let first : bytes ≡ text_of_all (ls ++ NodeLife number ∷ []) ++ after = text_more bytes after ls (NodeLife number) up.bytes_are in
-      let all : bytes ≡ text_of_all ((ls ++ NodeLife number ∷ []) ++ opened.opens) ++ rest =
-      texts_more bytes rest (ls ++ NodeLife number ∷ []) opened.opens (first ∙ ap (λ ts. text_of_all (ls ++ NodeLife number ∷ []) ++ ts) opened.bytes_are) in
+      (number : ℕ) (bytes after rest : List ℕ) → BeginsLife number after rest between new sent more
+      → NodeUpTo bytes (ended (NodeLife number) ++ after) old between post sent → NodeUpTo bytes rest old new post more
+  life_begun number bytes after rest b up =
+      let o = b.opened in
+      let ls : List Line = up.lines ++ NodeLife number ∷ [] in
+      let first : bytes ≡ text_of_all ls ++ after = text_more bytes after up.lines (NodeLife number) up.bytes_are in
+      let all : bytes ≡ text_of_all (ls ++ o.opens) ++ rest = texts_more bytes rest ls o.opens (first ∙ ap (λ ts. text_of_all ls ++ ts) o.bytes_are) in
       record {
-        lines = ls ++ NodeLife number ∷ opened.opens;
-        bytes_are =
-            all ∙ ap (λ xs. text_of_all xs ++ rest)
-            (append_assoc ls (NodeLife number ∷ []) opened.opens ∙ sym (append-nil (ls ++ NodeLife number ∷ opened.opens)));
-        holds = tt;
-        reads = held_life number opened.opens numbered same again opened.are held up.lines up.holds up.reads;
+        lines = up.lines ++ NodeLife number ∷ o.opens;
+        bytes_are = all ∙ ap (λ xs. text_of_all xs ++ rest) (append_assoc up.lines (NodeLife number ∷ []) o.opens);
+        reads = reads_life number o.opens b.numbered b.same b.again o.are up.lines up.reads;
       }
 
--- an entry's line is held
-pub line_held :
-    (n : ℕ) (l : Line) (bytes rest : List ℕ) (old now : NodeValue) (post more : List Message) → TellsEntry l
-    → NodeUpTo None bytes (ended l ++ rest) old now post more → NodeUpTo (Some (n, l)) bytes rest old now post more
-line_held n l bytes rest old now post more entry up =
-    record {
-      lines = up.lines;
-      bytes_are =
-          text_more bytes rest up.lines l (up.bytes_are ∙ ap (λ ls. text_of_all ls ++ (ended l ++ rest)) (append-nil up.lines));
-      holds = entry;
-      reads = up.reads;
-    }
+  -- an entry is left out, and a life begins
+  pub life_shortened :
+      (l : Line) (number : ℕ) (bytes between_them after rest : List ℕ) → TellsEntry l → between_them ≡ ended (NodeLife number) ++ after
+      → BeginsLife number after rest between new sent more → NodeUpTo bytes (ended l ++ between_them) old between post sent
+      → NodeUpTo bytes rest old new post more
+  life_shortened l number bytes between_them after rest entry is b up =
+      let o = b.opened in
+      let ls : List Line = (up.lines ++ l ∷ []) ++ NodeLife number ∷ [] in
+      let first : bytes ≡ text_of_all (up.lines ++ l ∷ []) ++ (ended (NodeLife number) ++ after) =
+      text_more bytes between_them up.lines l up.bytes_are ∙ ap (λ ts. text_of_all (up.lines ++ l ∷ []) ++ ts) is in
+      let second : bytes ≡ text_of_all ls ++ after = text_more bytes after (up.lines ++ l ∷ []) (NodeLife number) first in
+      let all : bytes ≡ text_of_all (ls ++ o.opens) ++ rest = texts_more bytes rest ls o.opens (second ∙ ap (λ ts. text_of_all ls ++ ts) o.bytes_are) in
+      record {
+        lines = up.lines ++ l ∷ NodeLife number ∷ o.opens;
+        bytes_are =
+            all ∙ ap (λ xs. text_of_all xs ++ rest)
+            (append_assoc (up.lines ++ l ∷ []) (NodeLife number ∷ []) o.opens ∙ append_assoc up.lines (l ∷ []) (NodeLife number ∷ o.opens));
+        reads = reads_shorter number o.opens b.numbered b.same b.again o.are up.lines l entry up.reads;
+      }
 
 pub node_read :
-    (bytes rest : List ℕ) (old now : NodeValue) (post more : List Message) → NodeUpTo None bytes rest old now post more → HasNoNewline rest
+    (bytes rest : List ℕ) (old now : NodeValue) (post more : List Message) → NodeUpTo bytes rest old now post more → HasNoNewline rest
     → NodeRead bytes old now post more
 node_read bytes rest old now post more up none =
-    record {
-      lines = up.lines;
-      journal = record {
-        half = rest;
-        bytes_are = up.bytes_are ∙ ap (λ ls. text_of_all ls ++ rest) (append-nil up.lines);
-        no_line = none;
-      };
-      reads = up.reads;
-    }
+    record { lines = up.lines; journal = record { half = rest; bytes_are = up.bytes_are; no_line = none }; reads = up.reads }
 
 -- ---- the first lines of a life
 

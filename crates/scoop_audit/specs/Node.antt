@@ -1,5 +1,5 @@
 -- What the journal of a node tells: its lives, entry by entry.
-use Rattle.std.specs.Prelude.{◌≡◌, ⊤, ℕ, List, [], ◌∷◌, ◌++◌, map, Option, Some, None}
+use Rattle.std.specs.Prelude.{◌≡◌, ⊤, ℕ, List, [], ◌∷◌, ◌++◌, map, Option}
 use Rattle.scoop_message.specs.declared.name.HandlerId.{HandlerId}
 use Rattle.scoop_message.specs.declared.message.Message.{Message}
 use Rattle.scoop_handler.specs.Local.{LocalHandler, number_in}
@@ -7,7 +7,7 @@ use Rattle.scoop_book.specs.Moves.{Entry}
 use Rattle.scoop_journal.specs.declared.line.Line.{Line}
 use Rattle.scoop_journal.specs.declared.line.Line.TheVariants.{NodeLife, ClientLife, Open, Hear, Begin, Finish, Do, Turn, Broke}
 use Rattle.scoop_weave.specs.NodeHistories.{reopened}
-use Rattle.scoop_replay.specs.Node.{BeganSo, GoesOn, HeardSo, IsNodeTale, IsStoredAs, NodeTale, NodeValue, RanSo, after_entry, after_reopening}
+use Rattle.scoop_replay.specs.Node.{BeganSo, GoesOn, HeardSo, IsNodeTale, IsStoredAs, NodeTale, NodeValue, OpensAgain, RanSo, after_entry, after_reopening}
 use Rattle.scoop_audit.specs.Lines.{IsJournalOf, text_of_all}
 
 -- what a line says of an entry
@@ -83,15 +83,6 @@ pub record OpensFrom (bytes rest : List ℕ) (ls : List LocalHandler) : Type 0 w
   pub bytes_are : bytes ≡ text_of_all opens ++ rest
   pub are : Opens opens ls
 
--- an entry's line that was read and is not made yet
-abbrev pub held_line : Option (ℕ × Line) → List Line
-held_line None = []
-held_line (Some x) = x.1 ∷ []
-
-abbrev pub HoldsEntry : Option (ℕ × Line) → Type 0
-HoldsEntry None = ⊤
-HoldsEntry (Some x) = TellsEntry x.1
-
 -- a tale of the node, to which these lines led from that one
 pub record ToldNode
     (words : HandlerId → List ℕ) (opening : List LocalHandler) (t : NodeTale) (lines : List Line) (now : NodeValue) (post : List Message) : Type 0 where
@@ -106,12 +97,18 @@ pub record ReadsNode (lines : List Line) (old new : NodeValue) (post more : List
   pub told : (words : HandlerId → List ℕ) (opening : List LocalHandler) (t : NodeTale) → t.handlers ≡ old.handlers
       → IsNodeTale words old.number opening t post old.trail → ToldNode words opening t lines new more
 
--- the lines up to this rest of the journal were read, and this entry is not made yet
-pub record NodeUpTo (held : Option (ℕ × Line)) (bytes rest : List ℕ) (old new : NodeValue) (post more : List Message) : Type 0 where
+-- the lines up to this rest of the journal were read
+pub record NodeUpTo (bytes rest : List ℕ) (old new : NodeValue) (post more : List Message) : Type 0 where
   pub lines : List Line
-  pub bytes_are : bytes ≡ text_of_all (lines ++ held_line held) ++ rest
-  pub holds : HoldsEntry held
+  pub bytes_are : bytes ≡ text_of_all lines ++ rest
   pub reads : ReadsNode lines old new post more
+
+-- the node opens again, with the states that the lines up to this rest show
+pub record BeginsLife (number : ℕ) (bytes rest : List ℕ) (old new : NodeValue) (post more : List Message) : Type 0 where
+  pub numbered : number ≡ old.number
+  pub same : new.number ≡ old.number
+  pub again : OpensAgain old new post more
+  pub opened : OpensFrom bytes rest new.handlers
 
 -- the journal was read to its end
 pub record NodeRead (bytes : List ℕ) (old new : NodeValue) (post more : List Message) : Type 0 where

@@ -1,13 +1,12 @@
 //! The replay of a node's journal.
 
-ghost use Rattle.std.specs.Prelude.{◌≡◌, ◌≤◌, ◌++◌, ℕ, IfOk, IfSome, IsTrue, List, None, OnOk, length, slice_get};
+ghost use Rattle.std.specs.Prelude.{◌≡◌, ◌≤◌, ◌++◌, ℕ, IfSome, IsTrue, List, OnOk, length, slice_get};
 ghost use Rattle.scoop_handler.specs.Local.{number_in};
-ghost use Rattle.scoop_journal.specs.declared.line.Line.TheVariants.{NodeLife};
 ghost use Rattle.scoop_journal.specs.Journal.{ended};
 ghost use Rattle.scoop_message.specs.declared.message.Message.{Message as Told};
 ghost use Rattle.scoop_replay.specs.Node.{BeganSo, GoesOn, HeardSo, NodeValue, OpensAgain, RanSo};
 ghost use Rattle.scoop_weaver.specs.Post.{Grows};
-ghost use Rattle.scoop_audit.specs.Node.{EntersBy, NodeRead, NodeUpTo, OpensAs, OpensFrom};
+ghost use Rattle.scoop_audit.specs.Node.{BeginsLife, EntersBy, NodeRead, NodeUpTo, OpensAs, OpensFrom, TellsEntry};
 
 use crate::cursor::{Cursor, read_line};
 use crate::error::{Fault, PartyName, Trouble, Wrong};
@@ -145,30 +144,6 @@ fn enter(
     }
 }
 
-// An entry that was read and is not made yet, with its line's number. Only the next line says whether it was a life's last
-// one, which may not have been stored.
-type Held<'a> = Option<(u64, Line<'a>)>;
-
-// Makes the entry that is held.
-fn release(
-    held: Held<'_>,
-    node: &mut NodeReplay,
-    post: &mut Post,
-    pages: &mut Pages<'_>,
-) -> Result<(), Trouble>
-    ensures grows { OnOk result (Grows post.old post.new) }
-    ensures told { (bytes rest : List ℕ) (first : NodeValue) (sent : List Told)
-        → OnOk result (NodeUpTo held bytes rest first node.old sent post.old → NodeUpTo None bytes rest first node.new sent post.new) }
-{
-    match held {
-        Some((number, line)) => {
-            enter(number, &line, node, post, pages)?;
-            Ok(())
-        }
-        None => Ok(()),
-    }
-}
-
 // The blobs of this handler among the first lines of a life, if they are there.
 fn opening_of<'a>(
     mut cursor: Cursor<'a>,
@@ -195,20 +170,25 @@ fn last_event(line: &Line<'_>) -> Option<(HandlerId, Last)> {
     }
 }
 
-// Whether the store with which the next life opens lacks the entry that is held.
+// Whether the entry of this line is the last one of its life and was not stored: the next life, which begins at the cursor, opens
+// with the state before it.
 fn is_unstored(
     alloc: Global,
     node: &NodeReplay,
-    held: Held<'_>,
-    cursor: Cursor<'_>,
+    line: &Line<'_>,
+    cursor: &Cursor<'_>,
 ) -> Result<bool, OutOfMemory> {
-    let Some((_, line)) = held else {
+    if !cursor.rest.starts_with(b"scoop") {
+        return Ok(false);
+    }
+    let Some((handler, last)) = last_event(line) else {
         return Ok(false);
     };
-    let Some((handler, last)) = last_event(&line) else {
+    let mut openings = *cursor;
+    let Ok(Some(Line::NodeLife(_))) = openings.next() else {
         return Ok(false);
     };
-    let Some((image, pending)) = opening_of(cursor, node.count(), handler) else {
+    let Some((image, pending)) = opening_of(openings, node.count(), handler) else {
         return Ok(false);
     };
     node.is_unstored(alloc, handler, &last, image, pending)
@@ -296,87 +276,109 @@ fn reopen(
     }
 }
 
-// Ends the life before, if there is one. The entry that is held, its last one, is made, or left out if it was not stored. Returns
-// what is left out.
-fn end_life<'a>(
-    alloc: Global,
-    held: Held<'a>,
-    cursor: Cursor<'_>,
-    node: &mut NodeReplay,
-    post: &mut Post,
-    pages: &mut Pages<'_>,
-) -> Result<Held<'a>, Trouble>
-    ensures grows { OnOk result (Grows post.old post.new) }
-    ensures told { (bytes rest : List ℕ) (first : NodeValue) (sent : List Told)
-        → IfOk result (λ lost. NodeUpTo held bytes rest first node.old sent post.old → NodeUpTo lost bytes rest first node.new sent post.new) }
-{
-    if is_unstored(alloc, node, held, cursor)? {
-        pages.tale.shorten();
-        return Ok(held);
-    }
-    release(held, node, post, pages)?;
-    Ok(None)
-}
-
 // A life of the node begins. The node opens again for each of them, the first one too: before it, nothing has happened.
-fn begin_life<'a>(
+fn begin_life(
     alloc: Global,
     number: u32,
-    held: Held<'a>,
-    cursor: &mut Cursor<'a>,
+    cursor: &mut Cursor<'_>,
     node: &mut NodeReplay,
     post: &mut Post,
     pages: &mut Pages<'_>,
 ) -> Result<(), Trouble>
     ensures grows { OnOk result (Grows post.old post.new) }
-    ensures told { (bytes : List ℕ) (first : NodeValue) (sent : List Told)
-        → OnOk result (NodeUpTo held bytes (ended (NodeLife number) ++ cursor.old.rest.now) first node.old sent post.old
-        → NodeUpTo None bytes cursor.new.rest.now first node.new sent post.new) }
+    ensures begins { OnOk result (BeginsLife number cursor.old.rest.now cursor.new.rest.now node.old node.new post.old post.new) }
     ensures shorter { OnOk result (length cursor.new.rest.now ≤ length cursor.old.rest.now) }
 {
     if number != node.number() {
         let other = PartyName::Node(number);
         return Err(Trouble::Fault(cursor.number, Fault::OtherParty(other)));
     }
-    let _lost = end_life(alloc, held, *cursor, node, post, pages)?;
     reopen(alloc, node, post, pages)?;
     pages.tale.begin(node.moves(), cursor.number)?;
     open(alloc, node, cursor)?;
     Ok(())
 }
 
-// Takes one line. Returns the entry that it holds back.
-fn take<'a>(
+// The entry of this line was not stored, so it is left out, and the next life begins.
+fn leave_out(
     alloc: Global,
-    line: Line<'a>,
-    held: Held<'a>,
-    cursor: &mut Cursor<'a>,
+    line: &Line<'_>,
+    cursor: &mut Cursor<'_>,
     node: &mut NodeReplay,
     post: &mut Post,
     pages: &mut Pages<'_>,
-) -> Result<Held<'a>, Trouble>
+) -> Result<(), Trouble>
+    requires { TellsEntry line.now }
     ensures grows { OnOk result (Grows post.old post.new) }
     ensures told { (bytes : List ℕ) (first : NodeValue) (sent : List Told)
-        → IfOk result (λ next. NodeUpTo held bytes (ended line ++ cursor.old.rest.now) first node.old sent post.old
-        → NodeUpTo next bytes cursor.new.rest.now first node.new sent post.new) }
+        → OnOk result (NodeUpTo bytes (ended line.now ++ cursor.old.rest.now) first node.old sent post.old
+        → NodeUpTo bytes cursor.new.rest.now first node.new sent post.new) }
+    ensures shorter { OnOk result (length cursor.new.rest.now ≤ length cursor.old.rest.now) }
+{
+    pages.tale.shorten();
+    match cursor.next() {
+        Ok(Some(Line::NodeLife(number))) => {
+            begin_life(alloc, number, cursor, node, post, pages)?;
+            Ok(())
+        }
+        Ok(_) => Err(Trouble::Fault(cursor.number, Fault::Misplaced)),
+        Err(trouble) => Err(trouble),
+    }
+}
+
+// Takes the line of an entry.
+fn take_entry(
+    alloc: Global,
+    line: &Line<'_>,
+    cursor: &mut Cursor<'_>,
+    node: &mut NodeReplay,
+    post: &mut Post,
+    pages: &mut Pages<'_>,
+) -> Result<(), Trouble>
+    requires { TellsEntry line.now }
+    ensures grows { OnOk result (Grows post.old post.new) }
+    ensures told { (bytes : List ℕ) (first : NodeValue) (sent : List Told)
+        → OnOk result (NodeUpTo bytes (ended line.now ++ cursor.old.rest.now) first node.old sent post.old
+        → NodeUpTo bytes cursor.new.rest.now first node.new sent post.new) }
+    ensures shorter { OnOk result (length cursor.new.rest.now ≤ length cursor.old.rest.now) }
+{
+    pages.tale.count();
+    if is_unstored(alloc, node, line, cursor)? {
+        leave_out(alloc, line, cursor, node, post, pages)?;
+        return Ok(());
+    }
+    enter(cursor.number, line, node, post, pages)?;
+    Ok(())
+}
+
+// Takes one line.
+fn take(
+    alloc: Global,
+    line: &Line<'_>,
+    cursor: &mut Cursor<'_>,
+    node: &mut NodeReplay,
+    post: &mut Post,
+    pages: &mut Pages<'_>,
+) -> Result<(), Trouble>
+    ensures grows { OnOk result (Grows post.old post.new) }
+    ensures told { (bytes : List ℕ) (first : NodeValue) (sent : List Told)
+        → OnOk result (NodeUpTo bytes (ended line.now ++ cursor.old.rest.now) first node.old sent post.old
+        → NodeUpTo bytes cursor.new.rest.now first node.new sent post.new) }
     ensures shorter { OnOk result (length cursor.new.rest.now ≤ length cursor.old.rest.now) }
 {
     match line {
         Line::NodeLife(number) => {
-            match begin_life(alloc, number, held, cursor, node, post, pages) {
-                Ok(()) => Ok(None),
-                Err(trouble) => Err(trouble),
-            }
+            begin_life(alloc, *number, cursor, node, post, pages)?;
+            Ok(())
+        }
+        Line::Hear(..) | Line::Begin(_) | Line::Finish(_) => {
+            take_entry(alloc, line, cursor, node, post, pages)?;
+            Ok(())
         }
         Line::ClientLife(client, _, _) => Err(Trouble::Fault(
             cursor.number,
-            Fault::OtherParty(PartyName::Client(client)),
+            Fault::OtherParty(PartyName::Client(*client)),
         )),
-        Line::Hear(..) | Line::Begin(_) | Line::Finish(_) => {
-            release(held, node, post, pages)?;
-            pages.tale.count();
-            Ok(Some((cursor.number, line)))
-        }
         Line::Open(..) | Line::Do(_) | Line::Turn(_) | Line::Broke(_) => {
             Err(Trouble::Fault(cursor.number, Fault::Misplaced))
         }
@@ -395,17 +397,15 @@ pub(crate) fn replay_node(
     ensures told { OnOk result (NodeRead bytes.now node.old node.new post.old post.new) }
 {
     let mut cursor = Cursor::new(bytes);
-    let mut held = None;
     while let Some(text) = cursor.next_text() {
         let line = match read_line(cursor.number, text) {
             Ok(line) => line,
             Err(trouble) => return Err(trouble),
         };
-        match take(alloc, line, held, &mut cursor, node, post, pages) {
-            Ok(next) => held = next,
+        match take(alloc, &line, &mut cursor, node, post, pages) {
+            Ok(()) => {}
             Err(trouble) => return Err(trouble),
         }
     }
-    release(held, node, post, pages)?;
     Ok(())
 }
