@@ -1,6 +1,7 @@
 //! A link that loses some datagrams.
 
 ghost use Rattle.std.specs.Prelude.{None};
+ghost use Rattle.scoop_link.specs.Link.{CountsFault};
 
 use scoop_link::{Datagram, Link, LinkFault, Party};
 use scoop_message::HandlerId;
@@ -102,7 +103,9 @@ impl<'l, 'a, L: Link> DeafLink<'l, 'a, L> {
     }
 
     // Counts a failed call.
-    fn fail(&mut self) -> Result<(), LinkFault> {
+    fn fail(&mut self) -> Result<(), LinkFault>
+        ensures { CountsFault result self.old.faults self.new.faults }
+    {
         if self.faults == u64::MAX {
             return Ok(());
         }
