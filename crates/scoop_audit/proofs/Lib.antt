@@ -1,3 +1,4 @@
+mod Cuts
 mod Texts
 mod Clients
 mod Nodes

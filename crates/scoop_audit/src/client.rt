@@ -181,20 +181,25 @@ fn take(
     ensures steps { OnOk result (StepsBy line.now replay.old replay.new post.old post.new) }
 {
     pages.tale.count();
-    let made = match line {
-        Line::Do(command) => give(alloc, command, replay, post, pages),
-        Line::Turn(arrival) => turn(alloc, arrival, replay, post),
-        Line::Broke(place) => replay.break_off(alloc, post, *place),
+    match line {
+        Line::Do(command) => match give(alloc, command, replay, post, pages) {
+            Ok(()) => Ok(()),
+            Err(error) => Err(unmade(number, error)),
+        },
+        Line::Turn(arrival) => match turn(alloc, arrival, replay, post) {
+            Ok(()) => Ok(()),
+            Err(error) => Err(unmade(number, error)),
+        },
+        Line::Broke(place) => match replay.break_off(alloc, post, *place) {
+            Ok(()) => Ok(()),
+            Err(error) => Err(unmade(number, error)),
+        },
         Line::NodeLife(node) => {
             let other = PartyName::Node(*node);
-            return Err(Trouble::Fault(number, Fault::OtherParty(other)));
+            Err(Trouble::Fault(number, Fault::OtherParty(other)))
         }
         Line::ClientLife(..) | Line::Open(..) | Line::Hear(..) | Line::Begin(_) | Line::Finish(_) =>
-            return Err(Trouble::Fault(number, Fault::Misplaced)),
-    };
-    match made {
-        Ok(()) => Ok(()),
-        Err(error) => Err(unmade(number, error)),
+            Err(Trouble::Fault(number, Fault::Misplaced)),
     }
 }
 
