@@ -1,4 +1,3 @@
-mod Cuts
 mod Texts
 mod Clients
 mod Nodes

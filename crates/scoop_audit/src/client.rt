@@ -221,8 +221,9 @@ fn take_line(
         → ClientUpTo joined.now.id joined.now.batch next bytes rest first replay.new sent post.new) }
 {
     if let Line::ClientLife(client, inc, batch) = *line {
-        if let Some(fault) = refuse_life(joined, client, last, inc, batch) {
-            return Err(Trouble::Fault(number, fault));
+        match refuse_life(joined, client, last, inc, batch) {
+            Some(fault) => return Err(Trouble::Fault(number, fault)),
+            None => {}
         }
         begin_life(alloc, joined, inc, replay, post, pages)?;
         pages.tale.begin(replay.moves(), number)?;

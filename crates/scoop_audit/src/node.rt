@@ -332,6 +332,7 @@ fn leave_out(
 }
 
 // Takes the line of an entry.
+#[tactic(auto, using(crate::proofs::Nodes::entered))]
 fn take_entry(
     alloc: Global,
     line: &Line<'_>,
@@ -347,17 +348,17 @@ fn take_entry(
         → NodeUpTo bytes cursor.new.rest.now first node.new sent post.new) }
     ensures shorter { OnOk result (length cursor.new.rest.now ≤ length cursor.old.rest.now) }
 {
-    let _named: Option<Message> = None;
+    let _parts: Option<(Message, Wrong)> = None;
     pages.tale.count();
-    if is_unstored(alloc, node, line, cursor)? {
-        leave_out(alloc, line, cursor, node, post, pages)?;
-        return Ok(());
+    match is_unstored(alloc, node, line, cursor) {
+        Ok(true) => leave_out(alloc, line, cursor, node, post, pages),
+        Ok(false) => enter(cursor.number, line, node, post, pages),
+        Err(_) => Err(Trouble::OutOfMemory),
     }
-    enter(cursor.number, line, node, post, pages)?;
-    Ok(())
 }
 
 // Takes one line.
+#[tactic(auto, using(crate::proofs::Nodes::life_begun))]
 fn take(
     alloc: Global,
     line: &Line<'_>,

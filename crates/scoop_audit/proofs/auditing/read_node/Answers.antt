@@ -13,4 +13,4 @@ returns-in-Ok-clause-told c words =
     let more = c.replay_node.new.post in
     subst (TellsLife words n ps bytes more) (sym c.into_trail.ensures)
     (node_told words n ps bytes new c.args.post.now more c.requires
-    (subst (λ v. NodeRead bytes v new c.args.post.now more) c.in-Ok-Some.ensures c.in-Ok.ensures.told))
+    (subst (λ v. NodeRead bytes v new c.args.post.now more) (rw c.in-Ok-Some.field-0-is at c.in-Ok-Some.ensures) c.in-Ok.ensures.told))
