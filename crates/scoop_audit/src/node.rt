@@ -332,7 +332,6 @@ fn leave_out(
 }
 
 // Takes the line of an entry.
-#[tactic(auto, using(crate::proofs::Nodes::entered))]
 fn take_entry(
     alloc: Global,
     line: &Line<'_>,
