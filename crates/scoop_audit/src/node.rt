@@ -357,7 +357,6 @@ fn take_entry(
 }
 
 // Takes one line.
-#[tactic(auto, using(crate::proofs::Nodes::life_begun))]
 fn take(
     alloc: Global,
     line: &Line<'_>,
