@@ -34,6 +34,9 @@ module _ (id : ClientId) (batch : ℕ) where
   pub reads_nothing : (old : ClientValue) (post : List Message) → ReadsClient id batch 0 [] old old post post
   reads_nothing old post joined t at tale = record { tale = t; now_is = at; is_tale = tale; tells = tells_nothing }
 
+  pub client_nothing : (bytes : List ℕ) (old : ClientValue) (post : List Message) → ClientUpTo id batch 0 bytes bytes old old post post
+  client_nothing bytes old post = record { lines = []; bytes_are = refl; reads = reads_nothing old post }
+
   module _ (last : ℕ) (lines : List Line) (old between new : ClientValue) (post sent more : List Message) where
     reads_step :
         (l : Line) → ReadsClient id batch last lines old between post sent → between.client.inc ≡ last → LineStep l between new sent more

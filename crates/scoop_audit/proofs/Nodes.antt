@@ -1,6 +1,6 @@
 -- A node's journal, line by line.
-use Rattle.std.proofs.Common.{◌≡◌, ◌<◌, ◌+◌, ℕ, zero, suc, List, [], ◌∷◌, ◌++◌, length, map, slice_get, Option, Some, None, refl, sym, ap, ◌∙◌, subst, append_assoc, append-nil, arith}
-use Rattle.std.specs.Prelude.{IfSome}
+use Rattle.std.proofs.Common.{◌≡◌, ◌<◌, ◌+◌, ℕ, zero, suc, List, [], ◌∷◌, ◌++◌, length, map, slice_get, Option, Some, None, Result, Ok, Err, refl, sym, ap, ◌∙◌, subst, append_assoc, append-nil, arith}
+use Rattle.std.specs.Prelude.{IfSome, OnOk}
 use Rattle.std.proofs.lemmas.List.{length-append}
 use Rattle.scoop_message.specs.declared.name.HandlerId.{HandlerId}
 use Rattle.scoop_message.specs.declared.message.Message.{Message}
@@ -67,6 +67,12 @@ module _ (old between new : NodeValue) (post sent more : List Message) where
         bytes_are = text_more bytes rest up.lines l up.bytes_are;
         reads = reads_entry up.lines l up.reads same (line_entry l between new sent more by);
       }
+
+  pub entered_so :
+      {T E : Type 0} (res : Result T E) (l : Line) (bytes rest : List ℕ) → OnOk res (new.number ≡ between.number) → OnOk res (EntersBy l between new sent more)
+      → OnOk res (NodeUpTo bytes (ended l ++ rest) old between post sent → NodeUpTo bytes rest old new post more)
+  entered_so (Ok u) l bytes rest same by = λ up. entered l bytes rest up same by
+  entered_so (Err e) l bytes rest same by = tt
 
   module _ (number : ℕ) (opens : List Line) (numbered : number ≡ between.number) (same : new.number ≡ between.number) (again : OpensAgain between new sent more)
       (opened : Opens opens new.handlers) where

@@ -45,7 +45,7 @@ node_lives ps post (n ∷ nodes) told =
 
 -- ---- clients
 
-silent_life : Newcomer → List Placement → ClientLife
+abbrev silent_life : Newcomer → List Placement → ClientLife
 silent_life n ps = record { joined = n; first = []; more = []; now = new_client (map (λ (p : Placement). p.handler) ps) n }
 
 record OneClient (ps : List Placement) (post : List Message) (c : ClientPages) : Type 0 where

@@ -181,20 +181,25 @@ fn take(
     ensures steps { OnOk result (StepsBy line.now replay.old replay.new post.old post.new) }
 {
     pages.tale.count();
-    let made = match line {
-        Line::Do(command) => give(alloc, command, replay, post, pages),
-        Line::Turn(arrival) => turn(alloc, arrival, replay, post),
-        Line::Broke(place) => replay.break_off(alloc, post, *place),
+    match line {
+        Line::Do(command) => match give(alloc, command, replay, post, pages) {
+            Ok(()) => Ok(()),
+            Err(error) => Err(unmade(number, error)),
+        },
+        Line::Turn(arrival) => match turn(alloc, arrival, replay, post) {
+            Ok(()) => Ok(()),
+            Err(error) => Err(unmade(number, error)),
+        },
+        Line::Broke(place) => match replay.break_off(alloc, post, *place) {
+            Ok(()) => Ok(()),
+            Err(error) => Err(unmade(number, error)),
+        },
         Line::NodeLife(node) => {
             let other = PartyName::Node(*node);
-            return Err(Trouble::Fault(number, Fault::OtherParty(other)));
+            Err(Trouble::Fault(number, Fault::OtherParty(other)))
         }
         Line::ClientLife(..) | Line::Open(..) | Line::Hear(..) | Line::Begin(_) | Line::Finish(_) =>
-            return Err(Trouble::Fault(number, Fault::Misplaced)),
-    };
-    match made {
-        Ok(()) => Ok(()),
-        Err(error) => Err(unmade(number, error)),
+            Err(Trouble::Fault(number, Fault::Misplaced)),
     }
 }
 
@@ -216,8 +221,9 @@ fn take_line(
         → ClientUpTo joined.now.id joined.now.batch next bytes rest first replay.new sent post.new) }
 {
     if let Line::ClientLife(client, inc, batch) = *line {
-        if let Some(fault) = refuse_life(joined, client, last, inc, batch) {
-            return Err(Trouble::Fault(number, fault));
+        match refuse_life(joined, client, last, inc, batch) {
+            Some(fault) => return Err(Trouble::Fault(number, fault)),
+            None => {}
         }
         begin_life(alloc, joined, inc, replay, post, pages)?;
         pages.tale.begin(replay.moves(), number)?;

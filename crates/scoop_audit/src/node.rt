@@ -127,20 +127,25 @@ fn enter(
     ensures enters { OnOk result (EntersBy line.now node.old node.new post.old post.new) }
 {
     let of_node = node.number();
-    let (entered, written) = match line {
-        Line::Hear(message, reply) => (hear(message, reply, node, post, pages), *reply),
-        Line::Begin(handler) => (begin(*handler, node, post, pages), None),
-        Line::Finish(handler) => (finish(*handler, node, post, pages), None),
+    match line {
+        Line::Hear(message, reply) => match hear(message, reply, node, post, pages) {
+            Ok(()) => Ok(()),
+            Err(error) => Err(unmade(of_node, number, error, reply)),
+        },
+        Line::Begin(handler) => match begin(*handler, node, post, pages) {
+            Ok(()) => Ok(()),
+            Err(error) => Err(unmade(of_node, number, error, &None)),
+        },
+        Line::Finish(handler) => match finish(*handler, node, post, pages) {
+            Ok(()) => Ok(()),
+            Err(error) => Err(unmade(of_node, number, error, &None)),
+        },
         Line::NodeLife(_)
         | Line::ClientLife(..)
         | Line::Open(..)
         | Line::Do(_)
         | Line::Turn(_)
-        | Line::Broke(_) => return Err(Trouble::Fault(number, Fault::Misplaced)),
-    };
-    match entered {
-        Ok(()) => Ok(()),
-        Err(error) => Err(unmade(of_node, number, error, &written)),
+        | Line::Broke(_) => Err(Trouble::Fault(number, Fault::Misplaced)),
     }
 }
 
@@ -342,13 +347,13 @@ fn take_entry(
         → NodeUpTo bytes cursor.new.rest.now first node.new sent post.new) }
     ensures shorter { OnOk result (length cursor.new.rest.now ≤ length cursor.old.rest.now) }
 {
+    let _parts: Option<(Message, Wrong)> = None;
     pages.tale.count();
-    if is_unstored(alloc, node, line, cursor)? {
-        leave_out(alloc, line, cursor, node, post, pages)?;
-        return Ok(());
+    match is_unstored(alloc, node, line, cursor) {
+        Ok(true) => leave_out(alloc, line, cursor, node, post, pages),
+        Ok(false) => enter(cursor.number, line, node, post, pages),
+        Err(_) => Err(Trouble::OutOfMemory),
     }
-    enter(cursor.number, line, node, post, pages)?;
-    Ok(())
 }
 
 // Takes one line.

@@ -44,6 +44,7 @@ impl Remarks {
 
     /// The move at this place has done this.
     pub(crate) fn add(&mut self, place: usize, deed: Deed) -> Result<(), OutOfMemory> {
+        let _named: Option<Command> = None;
         if self.is_kept {
             self.remarks.push(Remark { place, deed })?;
         }
