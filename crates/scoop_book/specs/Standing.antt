@@ -65,8 +65,13 @@ IsNodeNotReopened class words has honest ps count stood e =
 
 -- ---- histories, one after another
 
+-- handlers that stood so open again for each history, which replays from them
+abbrev pub Reopens : List LocalHandler → List (List Entry) → List LocalHandler → Type 0
+Reopens stood [] now = stood ≡ now
+Reopens stood (es ∷ more) now = (opening last : List LocalHandler) × AllOpenAgain stood opening × Replays opening es last × Reopens last more now
+
 -- each history replays, the first from these handlers, each further one from those of the last as they open again
-abbrev pub Lives : List LocalHandler → List Entry → List (List Entry) → List LocalHandler → Type 0
-Lives opening first [] now = Replays opening first now
-Lives opening first (es ∷ more) now =
-    (last next : List LocalHandler) × Replays opening first last × AllOpenAgain last next × Lives next es more now
+pub record Lives (opening : List LocalHandler) (first : List Entry) (more : List (List Entry)) (now : List LocalHandler) : Type 0 where
+  pub last : List LocalHandler
+  pub replays : Replays opening first last
+  pub reopens : Reopens last more now
