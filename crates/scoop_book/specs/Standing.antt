@@ -68,7 +68,8 @@ IsNodeNotReopened class words has honest ps count stood e =
 -- handlers that stood so open again for each history, which replays from them
 abbrev pub Reopens : List LocalHandler → List (List Entry) → List LocalHandler → Type 0
 Reopens stood [] now = stood ≡ now
-Reopens stood (es ∷ more) now = (opening last : List LocalHandler) × AllOpenAgain stood opening × Replays opening es last × Reopens last more now
+Reopens stood (es ∷ more) now =
+    (opening : List LocalHandler) × (last : List LocalHandler) × AllOpenAgain stood opening × Replays opening es last × Reopens last more now
 
 -- each history replays, the first from these handlers, each further one from those of the last as they open again
 pub record Lives (opening : List LocalHandler) (first : List Entry) (more : List (List Entry)) (now : List LocalHandler) : Type 0 where

@@ -1,6 +1,6 @@
 -- What a node of a system did: with what its handlers opened, its histories, and what its keeper has at the end.
-use Rattle.std.specs.Prelude.{◌≡◌, ◌⊎◌, ℕ, List, map, slice_get, Some}
-use Rattle.std.specs.List.{AllByRecursion, AllZip, Any}
+use Rattle.std.specs.Prelude.{◌≡◌, ◌⊎◌, ◌≤◌, ℕ, List, length, map, slice_get, Some}
+use Rattle.std.specs.List.{AllByRecursion, AllZip}
 use Rattle.scoop_message.specs.Lists.{NoRepeats}
 use Rattle.scoop_handler.specs.State.{new_state}
 use Rattle.scoop_handler.specs.Local.{LocalHandler, opening_handler}
@@ -25,10 +25,11 @@ pub data Gained (old new : ℕ → Stored → Type 0) (m : Member) : Type 0 wher
   it_stays : Stays old new → Gained old new m
   it_is_new : IsTheOne (old m.handler.0) Missing → Keeps old new (new_state m.handler m.words) → Gained old new m
 
--- at this number, after the members so far
+-- so it has at this number, after some of these members
 pub data GainedAt (old new : ℕ → Stored → Type 0) (members : List Member) (h : ℕ) : Type 0 where
   stays_at : StaysAt old new h → GainedAt old new members h
-  new_at : (m : Member) → Any (λ x. x ≡ m) members → m.handler.0 ≡ h → IsTheOne (old h) Missing → new h (Holds (new_state m.handler m.words)) → GainedAt old new members h
+  new_at : (m : Member) (i : ℕ) → slice_get members i ≡ Some m → m.handler.0 ≡ h → IsTheOne (old h) Missing
+      → new h (Holds (new_state m.handler m.words)) → GainedAt old new members h
 
 -- the handler opens with its stored state, which is what an honest keeper had; if that had nothing, the state of a new one
 pub record OpensFrom (has : ℕ → Stored → Type 0) (honest : Type 0) (m : Member) (s : LocalHandler) : Type 0 where
@@ -61,6 +62,12 @@ pub record GoesOn {K : Type 0} (has : K → ℕ → Stored → Type 0) (is_hones
   pub reopens : Reopens stood histories stand
   pub kept : IsKept has is_honest stood before → IsKept has is_honest stand now
 
+-- and at least once
+pub record GoesFurther {K : Type 0} (has : K → ℕ → Stored → Type 0) (is_honest : K → Type 0) (stood : List LocalHandler) (before : K) (stand : List LocalHandler)
+    (now : K) : Type 0 where
+  pub goes : GoesOn has is_honest stood before stand now
+  pub some : 1 ≤ length goes.histories
+
 -- The members opened with what the keeper had, while it was honest, or as new handlers. Each history replays, each but the first
 -- from what the last one stored. The node was ready with a keeper that is honest only if the given one was.
 pub record RanTo {K : Type 0} (has : K → ℕ → Stored → Type 0) (is_honest : K → Type 0) (members : List Member) (keeper ready : K) (stand : List LocalHandler)
@@ -73,9 +80,11 @@ pub record RanTo {K : Type 0} (has : K → ℕ → Stored → Type 0) (is_honest
   pub more : List (List Entry)
   pub lives : Lives opening first more stand
 
--- A node ran so, and the returned keeper, while it is honest, has what is stored of the handlers at the end.
+-- A node ran so and opened again at least once. The returned keeper, while it is honest, has what is stored of the
+-- handlers at the end.
 pub record NodeRan {K : Type 0} (has : K → ℕ → Stored → Type 0) (is_honest : K → Type 0) (members : List Member) (keeper now : K) : Type 0 where
   pub ready : K
   pub stand : List LocalHandler
   pub ran : RanTo has is_honest members keeper ready stand
+  pub some : 1 ≤ length ran.more
   pub kept : IsKept has is_honest stand now

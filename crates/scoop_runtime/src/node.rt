@@ -1,7 +1,7 @@
 //! A node of a system, served over a record.
 
 ghost use Rattle.std.specs.Prelude.{IfOk};
-ghost use Rattle.scoop_runtime.specs.NodeLives.{GoesOn, NodeRan};
+ghost use Rattle.scoop_runtime.specs.NodeLives.{GoesFurther, GoesOn, NodeRan};
 
 use crate::ending::{Ending, EndingLink};
 use crate::error::RuntimeError;
@@ -36,7 +36,7 @@ where
     K: Keeper<Global> + Send,
     L: Link,
     R: Threads + Wait + Clock + Sync,
-    ensures { IfOk result (λ r. GoesOn K.handlers K.is_honest resting.stood resting.keeper r.1.stood r.1.keeper) }
+    ensures { IfOk result (λ r. GoesFurther K.handlers K.is_honest resting.stood resting.keeper r.1.stood r.1.keeper) }
 {
     let (node, passes) = open_node(alloc, plan, serving, resting)?;
     let stop = Stop::new();
@@ -91,7 +91,7 @@ where
     E: Write + Drop,
     W: Write,
     R: Threads + Wait + Clock + Sync,
-    ensures { IfOk result (λ r. GoesOn K.handlers K.is_honest resting.stood resting.keeper r.stood r.keeper) }
+    ensures { IfOk result (λ r. GoesFurther K.handlers K.is_honest resting.stood resting.keeper r.stood r.keeper) }
 {
     for _ in rt.forever() {
         let turns = serving.turns().saturating_sub(link.receives());
