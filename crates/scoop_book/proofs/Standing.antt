@@ -1,19 +1,24 @@
 -- Classes and numbers of handlers stay while a history replays, and handlers that open are compared with those that stood.
-use Rattle.std.specs.Prelude.{⊥, if◌then◌else◌}
-use Rattle.std.proofs.Common.{◌≡◌, ℕ, zero, suc, ◌+◌, ◌<◌, List, [], ◌∷◌, ◌++◌, map, length, set, get_or, take, slice_get, Some, refl, sym, ap, ◌∙◌, subst, arith}
+use Rattle.std.specs.Prelude.{◌↔◌, Bool, true, false, IsTrue, if◌then◌else◌}
+use Rattle.std.proofs.Common.{◌≡◌, ℕ, zero, suc, ◌+◌, ◌<◌, List, [], ◌∷◌, ◌++◌, map, length, set, get_or, take, slice_get, Some, None, refl, sym, ap, ◌∙◌, subst, arith, true≢false, length-map}
 use Rattle.std.proofs.lemmas.List.Folds.{find_at}
+use Rattle.std.proofs.lemmas.List.{take_more}
+use Rattle.std.proofs.lemmas.List.Elements.{AllZip-get_or, AllZip-push}
 use Rattle.std.specs.List.{All, position_or_len}
 use Rattle.scoop_message.specs.Message.{same_handler}
 use Rattle.scoop_message.specs.Lists.{NoRepeats}
 use Rattle.scoop_message.proofs.Same.{handler_decides}
+use Rattle.scoop_object.specs.Class.{ClassTable}
+use Rattle.scoop_handler.specs.Core.{core_of}
+use Rattle.scoop_handler.specs.State.{HandlerState}
 use Rattle.scoop_handler.proofs.Basics.{by_test}
 use Rattle.scoop_keeper.proofs.Keyed.{key_at, set_newer}
 use Rattle.scoop_book.specs.declared.event.Event.{Event}
 use Rattle.scoop_book.specs.declared.event.Event.TheVariants.{Hear, Begin, Finish}
 use Rattle.scoop_book.specs.declared.event.Reply.{Reply}
 use Rattle.scoop_book.specs.declared.event.Reply.TheVariants.{Heard, Began, Finished}
-use Rattle.scoop_book.specs.Moves.{LocalHandler, Entry, HandlerMoves, Moves, Replays, handler_at, is_handler, newer_handler, number_in, with_handler}
-use Rattle.scoop_book.specs.Standing.{AllOpenAgain, ClosesWith, HasEnded, OpensOtherwise, class_in}
+use Rattle.scoop_book.specs.Moves.{LocalHandler, Entry, HandlerMoves, Moves, Replays, handler_at, is_handler, local_handler, number_in, with_handler}
+use Rattle.scoop_book.specs.Standing.{AllOpenAgain, ClosesWith, HasEnded, OpensAgain, OpensOtherwise, class_in}
 use Rattle.scoop_book.specs.Books.{BookValue, IsBook}
 use Rattle.scoop_book.specs.Closing.{Agrees, IsClosed, IsComplete}
 use Rattle.scoop_book.specs.Opening.{AllOpen, Handed}
@@ -120,3 +125,48 @@ pub otherwise : {B : Type 0} (words : B → List ℕ) (has : ℕ → Stored → 
     (stood opening : List LocalHandler) → AllOpen words has honest ps opening → (AllOpenAgain stood opening → ⊥) → OpensOtherwise words has later ps stood
 otherwise words has honest later back ps stood opening opens other =
     record { opening = opening; opens = all_open_later words has honest later back ps opening opens; other = other }
+
+-- ---- a comparison with what stood, place by place
+
+pub opens_as_stood : (b : Bool) (s t : LocalHandler) (class : ClassTable) (state : HandlerState) → class ≡ class_in s → Some state ≡ s.stored
+    → IsTrue b ↔ (t ≡ local_handler (core_of class state false) (Some state)) → IsTrue b ↔ OpensAgain s t
+opens_as_stood b s t class state is stored decides = (
+  (λ y. record { state = state; was = sym stored; again = decides.0 y ∙ ap (λ c. local_handler (core_of c state false) (Some state)) is }),
+  (λ o.
+  let both : Some o.state ≡ Some state = sym o.was ∙ sym stored in
+  let one : o.state ≡ state = cc in
+  decides.1 (o.again ∙ ap (λ x. local_handler (core_of (class_in s) x false) (Some x)) one
+  ∙ ap (λ c. local_handler (core_of c state false) (Some state)) (sym is))),
+)
+
+pub nothing_stood : (s t : LocalHandler) → None ≡ s.stored → IsTrue false ↔ OpensAgain s t
+nothing_stood s t none = (
+  (λ y. absurd (true≢false (sym y))),
+  (λ o. let both : None ≡ Some o.state = none ∙ o.was in absurd (cc)),
+)
+
+pub class_at : (xs ys : List LocalHandler) (i : ℕ) (x y : LocalHandler) → map class_in xs ≡ map class_in ys → i < length xs → x ≡ get_or xs i x
+    → y ≡ get_or ys i y → class_in x ≡ class_in y
+class_at [] ys i x y e lt is_x is_y = absurd (omega arith)
+class_at (a ∷ xs) [] i x y e lt is_x is_y = absurd (cc)
+class_at (a ∷ xs) (b ∷ ys) zero x y e lt is_x is_y =
+    let one : class_in a ≡ class_in b = cc in
+    ap class_in is_x ∙ one ∙ sym (ap class_in is_y)
+class_at (a ∷ xs) (b ∷ ys) (suc i) x y e lt is_x is_y =
+    let rest : map class_in xs ≡ map class_in ys = cc in
+    class_at xs ys i x y rest (omega (arith, lt)) is_x is_y
+
+pub as_many : (xs ys : List LocalHandler) → map class_in xs ≡ map class_in ys → length xs ≡ length ys
+as_many xs ys e = sym (length-map xs class_in) ∙ ap length e ∙ length-map ys class_in
+
+pub other_at : (xs ys : List LocalHandler) (i : ℕ) (x y : LocalHandler) → i < length xs → x ≡ get_or xs i x → y ≡ get_or ys i y → (OpensAgain x y → ⊥)
+    → AllOpenAgain xs ys → ⊥
+other_at xs ys i x y lt is_x is_y other all =
+    other (subst (λ a. OpensAgain a y) (sym is_x) (subst (λ b. OpensAgain (get_or xs i x) b) (sym is_y) (AllZip-get_or OpensAgain xs ys i x y all lt)))
+
+pub opened_more : (xs ys : List LocalHandler) (i : ℕ) (x y : LocalHandler) → i < length xs → i < length ys → x ≡ get_or xs i x → y ≡ get_or ys i y
+    → OpensAgain x y → AllOpenAgain (take i xs) (take i ys) → AllOpenAgain (take (i + 1) xs) (take (i + 1) ys)
+opened_more xs ys i x y in_xs in_ys is_x is_y opens before =
+    subst (λ as. AllOpenAgain as (take (i + 1) ys)) (sym (take_more xs i x in_xs ∙ ap (λ a. take i xs ++ a ∷ []) (sym is_x)))
+    (subst (λ bs. AllOpenAgain (take i xs ++ x ∷ []) bs) (sym (take_more ys i y in_ys ∙ ap (λ b. take i ys ++ b ∷ []) (sym is_y)))
+    (AllZip-push OpensAgain (take i xs) (take i ys) x y before opens))

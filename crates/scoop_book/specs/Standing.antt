@@ -1,5 +1,5 @@
 -- Handlers as they stand when a book ends, and as they open again with what was stored of them.
-use Rattle.std.specs.Prelude.{◌≡◌, ◌⊎◌, ◌≤◌, ⊥, ℕ, false, List, [], ◌∷◌, Some}
+use Rattle.std.specs.Prelude.{◌≡◌, ◌⊎◌, ◌≤◌, ℕ, false, List, [], ◌∷◌, Some}
 use Rattle.std.specs.List.{AllZip}
 use Rattle.scoop_object.specs.Class.{ClassTable}
 use Rattle.scoop_handler.specs.Core.{core_of}

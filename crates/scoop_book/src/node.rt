@@ -123,7 +123,10 @@ impl<B: Behaviour, K: Keeper<A>, A: Allocator + Copy> Node<B, K, A> {
             Ok(book) => book,
             Err(error) => return Err(error),
         };
-        Node::share(alloc, book, passes)
+        match Node::share(alloc, book, passes) {
+            Ok(shared) => Ok(shared),
+            Err(error) => Err(error),
+        }
     }
 
     /// A handler hears this message, as in [`Book::hear`]. The pass gains the event with its reply. May wait for the

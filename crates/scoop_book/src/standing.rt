@@ -1,6 +1,6 @@
 //! The handlers of a book as they stand at its end, with which they are compared when they open again.
 
-ghost use Rattle.std.specs.Prelude.{◌≡◌, ◌↔◌, ⊥, IsTrue, IfOk, IfNone, IfSome, map};
+ghost use Rattle.std.specs.Prelude.{◌≡◌, ◌↔◌, IsTrue, IfOk, IfNone, IfSome, map};
 ghost use Rattle.scoop_book.specs.Standing.{AllOpenAgain, OpensAgain, class_in};
 
 use crate::local::Local;

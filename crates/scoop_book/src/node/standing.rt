@@ -1,6 +1,6 @@
 //! Nodes that end, and open again with the handlers as they stood.
 
-ghost use Rattle.std.specs.Prelude.{◌≡◌, ◌≢◌, ◌≤◌, ◌<◌, ◌↔◌, ⊥, ℕ, Some, length, slice_get, IfOk, IfErr, OnOk};
+ghost use Rattle.std.specs.Prelude.{◌≡◌, ◌≢◌, ◌≤◌, ◌<◌, ◌↔◌, ℕ, Some, length, slice_get, IfOk, IfErr, OnOk};
 ghost use Rattle.scoop_message.specs.declared.limits.TheConstants.{MAX_HANDLERS, MAX_HISTORY};
 ghost use Rattle.scoop_book.specs.Closing.{Differs, FollowsOpening, IsComplete, WasSo};
 ghost use Rattle.scoop_book.specs.Passes.{fresh_pass};
