@@ -4,4 +4,4 @@ pub mod Opening
 pub mod Books
 pub mod Passes
 pub mod Closing
-pub mod Standing
+pub mod Reopening

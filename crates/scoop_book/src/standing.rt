@@ -1,7 +1,7 @@
 //! The handlers of a book as they stand at its end, with which they are compared when they open again.
 
 ghost use Rattle.std.specs.Prelude.{◌≡◌, ◌↔◌, IsTrue, IfOk, IfNone, IfSome, map};
-ghost use Rattle.scoop_book.specs.Standing.{AllOpenAgain, OpensAgain, class_in};
+ghost use Rattle.scoop_book.specs.Reopening.{AllOpenAgain, OpensAgain, class_in};
 
 use crate::local::Local;
 use crate::opening::Opening;
@@ -21,7 +21,7 @@ pub struct Standing<B: Behaviour, A: Allocator = Global> {
 impl<B: Behaviour, A: Allocator> Model for Standing<B, A> {
     ghost use Rattle.std.specs.Prelude.{◌≡◌, List, map};
     ghost use Rattle.scoop_book.specs.Moves.{LocalHandler};
-    ghost use Rattle.scoop_book.specs.Standing.{class_in};
+    ghost use Rattle.scoop_book.specs.Reopening.{class_in};
 
     ghost Value = { List LocalHandler };
 

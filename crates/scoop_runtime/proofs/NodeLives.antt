@@ -1,8 +1,8 @@
 -- A node's histories, joined opening by opening. The first book opens over the record that was prepared, in which each handler is
 -- as it was or new. Each further opening takes what stood. A node that was served closes with the opening that its first pass kept.
-use Rattle.std.proofs.Common.{◌≡◌, ◌⊎◌, inl, inr, ℕ, zero, suc, ◌<◌, ◌==◌, true, false, List, [], ◌∷◌, ◌++◌, map, length, get_or, slice_get, Option, Some, None}
+use Rattle.std.proofs.Common.{◌≡◌, ◌⊎◌, inl, inr, ℕ, zero, suc, ◌<◌, ◌==◌, true, false, List, [], ◌∷◌, ◌++◌, map, length, get_or, slice_get, Option, Some, None, Result, Ok, Err}
 use Rattle.std.proofs.Common.{refl, sym, ap, ◌∙◌, subst, arith, true≢false, length-append}
-use Rattle.std.specs.Prelude.{◌↔◌, Bool}
+use Rattle.std.specs.Prelude.{◌↔◌, ◌≤◌, Bool, IfOk, OnOk}
 use Rattle.std.specs.List.{All, AllByRecursion, AllZip}
 use Rattle.std.proofs.lemmas.Option.{get_or_from_slice_get, slice_get_within, slice_get-map}
 use Rattle.std.proofs.lemmas.Bool.Decides.{Decides-eqb}
@@ -15,11 +15,12 @@ use Rattle.scoop_handler.proofs.Basics.{by_test}
 use Rattle.scoop_keeper.specs.Keeper.{Stored, Missing, Holds, Damaged, IsTheOne, Keeps, Stays, StaysAt, stored_of}
 use Rattle.scoop_link.specs.Link.{Told}
 use Rattle.scoop_book.specs.Moves.{Entry, Replays}
-use Rattle.scoop_book.specs.Books.{HasStored}
+use Rattle.scoop_book.specs.Books.{BookValue, HasStored, IsBook}
 use Rattle.scoop_book.specs.Closing.{Agrees}
 use Rattle.scoop_book.specs.Opening.{Handed, AllOpen, OpensAs, numbers_of}
 use Rattle.scoop_book.specs.Passes.{PassValue, fresh_pass}
-use Rattle.scoop_book.specs.Standing.{AllOpenAgain, HasEnded, Reopens}
+use Rattle.scoop_book.specs.Reopening.{AllOpenAgain, HasEnded, Reopens}
+use Rattle.scoop_netloop.specs.RunningOut.{Breaks, RunsDry, RunsEntries, RunsSome, none_ran, not_begun, not_finished, then_ran}
 use Rattle.scoop_netloop.specs.Serving.{ServesFirst, with_events}
 use Rattle.scoop_runtime.specs.declared.plan.Member.{Member}
 use Rattle.scoop_runtime.specs.NodeLives.{GainedAt, stays_at, new_at, Gained, it_stays, it_is_new, GoesOn, GoesFurther, IsKept, IsMemberObject, NodeRan, OpenedFrom, OpensFrom, RanTo, RunsFrom}
@@ -186,7 +187,7 @@ module _ (old between new : ℕ → Stored → Type 0) (members : List Member) w
       let same : m.handler.0 ≡ h = (Decides-eqb m.handler.0 h).0 is in
       gains_new h m i at same before (subst (λ k. IsTheOne (between k) Missing) same missing)
       (subst (λ k. new k (Holds (new_state m.handler m.words))) same keeps.there))
-      (λ _ not. stays_then h before (keeps.others h (λ e. true≢false (sym ((Decides-eqb m.handler.0 h).1 (sym e)) ∙ not)))) refl
+      (λ _ off. stays_then h before (keeps.others h (λ e. true≢false (sym ((Decides-eqb m.handler.0 h).1 (sym e)) ∙ off)))) refl
 
 module _ (old new : ℕ → Stored → Type 0) (members : List Member) (apart : NoRepeats (map (λ (m : Member). m.handler) members)) where
   one_member : (m n : Member) (i j : ℕ) → slice_get members i ≡ Some m → slice_get members j ≡ Some n → n.handler.0 ≡ m.handler.0 → n ≡ m
@@ -241,3 +242,53 @@ ran_before has is_honest ms before keeper ready stand gained honest ran = record
   more = ran.more;
   lives = ran.lives;
 }
+
+-- ---- handlers that gain their first state
+
+keeps_back : (old between new : ℕ → Stored → Type 0) (s : HandlerState) → Stays old between → Keeps between new s → Keeps old new s
+keeps_back old between new s stays keeps = record {
+  there = keeps.there;
+  others = λ other apart v. (
+    (λ x. (keeps.others other apart v).0 ((stays.each other v).0 x)),
+    (λ y. (stays.each other v).1 ((keeps.others other apart v).1 y)),
+  );
+}
+
+pub gained_put : {T E : Type 0} (old between new : ℕ → Stored → Type 0) (m : Member) (number : HandlerId) (ws : List ℕ) (r : Result T E) → number ≡ m.handler
+    → ws ≡ m.words → IsTheOne (old m.handler.0) Missing → Stays old between → OnOk r (Keeps between new (new_state number ws)) → OnOk r (Gained old new m)
+gained_put old between new m number ws (Ok x) same words missing stays keeps =
+    it_is_new missing (keeps_back old between new (new_state m.handler m.words) stays
+    (subst (λ vs. Keeps between new (new_state m.handler vs)) words (subst (λ h. Keeps between new (new_state h ws)) same keeps)))
+gained_put old between new m number ws (Err e) same words missing stays keeps = tt
+
+-- ---- a book that runs what is pending
+
+ran_opening : {K : Type 0} (pass : ℕ) (h : HandlerId) (a b : BookValue K) → RunsEntries pass h a b → b.opening ≡ a.opening
+ran_opening pass h a a (none_ran a) = refl
+ran_opening pass h a c (then_ran a b c before runs) = runs.finishes.opening ∙ runs.begins.opening ∙ ran_opening pass h a b before
+
+pub dry_opening : {K : Type 0} (pass : ℕ) (h : HandlerId) (a b : BookValue K) → RunsDry pass h a b → b.opening ≡ a.opening
+dry_opening pass h a b dry = dry.nothing.opening ∙ ran_opening pass h a dry.last dry.ran
+
+broken_opening : {K : Type 0} (pass : ℕ) (h : HandlerId) (a b : BookValue K) → Breaks pass h a b → b.opening ≡ a.opening
+broken_opening pass h a b (not_begun stays) = stays.opening
+broken_opening pass h a b (not_finished left between gains stays) = stays.opening ∙ gains.opening
+
+pub some_opening : {K : Type 0} (pass : ℕ) (h : HandlerId) (a b : BookValue K) → RunsSome pass h a b → b.opening ≡ a.opening
+some_opening pass h a b runs = broken_opening pass h runs.last b runs.breaks ∙ ran_opening pass h a runs.last runs.ran
+
+pub runs_from : {K : Type 0} (has : K → ℕ → Stored → Type 0) (is_honest : K → Type 0) (b : BookValue K) (opening stand : List LocalHandler) (now : K)
+    → IsBook has is_honest b → b.opening ≡ opening → now ≡ b.keeper → stand ≡ b.handlers → RunsFrom has is_honest opening stand now
+runs_from has is_honest b opening stand now book opens keeper stands =
+    subst (λ k. RunsFrom has is_honest opening stand k) (sym keeper)
+    (subst (λ hs. RunsFrom has is_honest opening hs b.keeper) (sym stands)
+    (subst (λ os. RunsFrom has is_honest os b.handlers b.keeper) opens
+    (record { history = b.history; replays = book.replays; kept = book.kept })))
+
+pub if_ok : {T E : Type 0} (P Q : T → Type 0) (r : Result T E) → ((x : T) → P x → Q x) → IfOk r P → IfOk r Q
+if_ok P Q (Ok x) then p = then x p
+if_ok P Q (Err e) then p = tt
+
+pub if_both : {T E : Type 0} (P Q R : T → Type 0) (r : Result T E) → ((x : T) → P x → Q x → R x) → IfOk r P → IfOk r Q → IfOk r R
+if_both P Q R (Ok x) then p q = then x p q
+if_both P Q R (Err e) then p q = tt

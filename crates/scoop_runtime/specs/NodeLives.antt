@@ -9,7 +9,7 @@ use Rattle.scoop_book.specs.Moves.{Entry, Replays}
 use Rattle.scoop_book.specs.Books.{HasStored}
 use Rattle.scoop_book.specs.Opening.{Handed}
 use Rattle.scoop_book.specs.Passes.{PassValue, fresh_pass}
-use Rattle.scoop_book.specs.Standing.{AllOpenAgain, Lives, Reopens}
+use Rattle.scoop_book.specs.Reopening.{AllOpenAgain, Lives, Reopens}
 use Rattle.scoop_runtime.specs.declared.plan.Member.{Member}
 
 -- the object is the member's, with its number, its class and its words

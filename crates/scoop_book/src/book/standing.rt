@@ -5,7 +5,7 @@ ghost use Rattle.scoop_message.specs.declared.limits.TheConstants.{MAX_HANDLERS,
 ghost use Rattle.scoop_book.specs.Books.{IsBook};
 ghost use Rattle.scoop_book.specs.Kept.{book_kept};
 ghost use Rattle.scoop_book.specs.Opening.{AllOpen};
-ghost use Rattle.scoop_book.specs.Standing.{AllOpenAgain, IsNotReopened};
+ghost use Rattle.scoop_book.specs.Reopening.{AllOpenAgain, IsNotReopened};
 
 use crate::book::Book;
 use crate::error::{OpenError, ReopenError};

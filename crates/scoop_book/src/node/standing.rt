@@ -4,7 +4,7 @@ ghost use Rattle.std.specs.Prelude.{◌≡◌, ◌≢◌, ◌≤◌, ◌<◌, �
 ghost use Rattle.scoop_message.specs.declared.limits.TheConstants.{MAX_HANDLERS, MAX_HISTORY};
 ghost use Rattle.scoop_book.specs.Closing.{Differs, FollowsOpening, IsComplete, WasSo};
 ghost use Rattle.scoop_book.specs.Passes.{fresh_pass};
-ghost use Rattle.scoop_book.specs.Standing.{ClosesWith, HasEnded, HasReopened, IsNodeNotReopened};
+ghost use Rattle.scoop_book.specs.Reopening.{ClosesWith, HasEnded, HasReopened, IsNodeNotReopened};
 
 use crate::book::Book;
 use crate::closing::refusal;

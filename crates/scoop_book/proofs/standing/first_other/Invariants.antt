@@ -1,6 +1,6 @@
 -- The handlers so far have opened as they stood.
 use Rattle.std.proofs.Common.{take}
-use Rattle.scoop_book.specs.Standing.{AllOpenAgain}
+use Rattle.scoop_book.specs.Reopening.{AllOpenAgain}
 use Rattle.scoop_book.proofs.standing.first_other.Given as goal
 
 abbrev pub invariant-loop-i : goal.invariant-loop-i

@@ -1,6 +1,6 @@
 use Rattle.scoop_book.specs.Closing.{FollowsOpening}
 use Rattle.std.proofs.Common.{sym, subst}
-use Rattle.scoop_book.proofs.Standing.{closed_with}
+use Rattle.scoop_book.proofs.ReopeningLemmas.{closed_with}
 use Rattle.scoop_book.proofs.node.Node.close.Goals as goal
 
 pub returns-in-Ok-clause-closed : goal.returns-in-Ok-clause-closed

@@ -1,7 +1,7 @@
 use Rattle.scoop_book.specs.Closing.{FollowsOpening}
 use Rattle.std.proofs.Common.{sym, subst}
-use Rattle.scoop_book.proofs.Standing.{ended_with}
-use Rattle.scoop_book.proofs.node.standing.Node.close_standing.Goals as goal
+use Rattle.scoop_book.proofs.ReopeningLemmas.{ended_with}
+use Rattle.scoop_book.proofs.node.Node.close_standing.Goals as goal
 
 pub returns-in-Ok-clause-ended : goal.returns-in-Ok-clause-ended
 returns-in-Ok-clause-ended g c =

@@ -18,7 +18,7 @@ use Rattle.scoop_book.specs.declared.event.Event.TheVariants.{Hear, Begin, Finis
 use Rattle.scoop_book.specs.declared.event.Reply.{Reply}
 use Rattle.scoop_book.specs.declared.event.Reply.TheVariants.{Heard, Began, Finished}
 use Rattle.scoop_book.specs.Moves.{LocalHandler, Entry, HandlerMoves, Moves, Replays, handler_at, is_handler, local_handler, number_in, with_handler}
-use Rattle.scoop_book.specs.Standing.{AllOpenAgain, ClosesWith, HasEnded, OpensAgain, OpensOtherwise, class_in}
+use Rattle.scoop_book.specs.Reopening.{AllOpenAgain, ClosesWith, HasEnded, OpensAgain, OpensOtherwise, class_in}
 use Rattle.scoop_book.specs.Books.{BookValue, IsBook}
 use Rattle.scoop_book.specs.Closing.{Agrees, IsClosed, IsComplete}
 use Rattle.scoop_book.specs.Opening.{AllOpen, Handed}
@@ -60,7 +60,7 @@ record Kept (hs ks : List LocalHandler) : Type 0 where
 
 move_keeps : (event : Event) (reply : Reply) (hs ks : List LocalHandler) → NoRepeats (map number_in ks) → Moves event reply hs ks → Kept hs ks
 move_keeps event reply hs ks apart m =
-    let test = is_handler (handler_at event) in
+    let test : LocalHandler → Bool = is_handler (handler_at event) in
     let i : ℕ = position_or_len test hs in
     let at : slice_get hs i ≡ Some m.handler = sym (find_at test hs) ∙ m.here in
     let numbers : map number_in ks ≡ map number_in hs = ap (λ xs. map number_in xs) m.after ∙ numbers_kept m.new hs in

@@ -3,8 +3,8 @@ use Rattle.scoop_book.specs.declared.error.CloseRefusal.TheVariants.{MissingPass
 use Rattle.scoop_book.specs.Closing.{IsComplete}
 use Rattle.scoop_book.specs.Passes.{NodeValue, PassValue}
 use Rattle.scoop_book.proofs.NodeLemmas.{differs_of, follows_of}
-use Rattle.scoop_book.proofs.Standing.{closes_of}
-use Rattle.scoop_book.proofs.node.standing.Node.into_agreed.Goals as goal
+use Rattle.scoop_book.proofs.ReopeningLemmas.{closes_of}
+use Rattle.scoop_book.proofs.node.Node.into_agreed.Goals as goal
 
 pub returns-in-None-clause-closes : goal.returns-in-None-clause-closes
 returns-in-None-clause-closes g c =
