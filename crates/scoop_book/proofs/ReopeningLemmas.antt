@@ -167,6 +167,6 @@ other_at xs ys i x y lt is_x is_y other all =
 pub opened_more : (xs ys : List LocalHandler) (i : ℕ) (x y : LocalHandler) → i < length xs → i < length ys → x ≡ get_or xs i x → y ≡ get_or ys i y
     → OpensAgain x y → AllOpenAgain (take i xs) (take i ys) → AllOpenAgain (take (i + 1) xs) (take (i + 1) ys)
 opened_more xs ys i x y in_xs in_ys is_x is_y opens before =
-    subst (λ as. AllOpenAgain as (take (i + 1) ys)) (sym (take_more xs i x in_xs ∙ ap (λ a. take i xs ++ a ∷ []) (sym is_x)))
-    (subst (λ bs. AllOpenAgain (take i xs ++ x ∷ []) bs) (sym (take_more ys i y in_ys ∙ ap (λ b. take i ys ++ b ∷ []) (sym is_y)))
+    subst (λ zs. AllOpenAgain zs (take (i + 1) ys)) (sym (take_more xs i x in_xs ∙ ap (λ a. take i xs ++ a ∷ []) (sym is_x)))
+    (subst (λ zs. AllOpenAgain (take i xs ++ x ∷ []) zs) (sym (take_more ys i y in_ys ∙ ap (λ b. take i ys ++ b ∷ []) (sym is_y)))
     (AllZip-push OpensAgain (take i xs) (take i ys) x y before opens))

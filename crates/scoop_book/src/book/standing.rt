@@ -1,10 +1,10 @@
 //! Books that end, and open again with the handlers as they stood.
 
-ghost use Rattle.std.specs.Prelude.{◌≡◌, ◌≤◌, [], false, length, IfOk, IfErr};
+ghost use Rattle.std.specs.Prelude.{◌≡◌, ◌≤◌, [], false, length, IfOk, IfErr, OnOk};
 ghost use Rattle.scoop_message.specs.declared.limits.TheConstants.{MAX_HANDLERS, MAX_HISTORY};
 ghost use Rattle.scoop_book.specs.Books.{IsBook};
 ghost use Rattle.scoop_book.specs.Kept.{book_kept};
-ghost use Rattle.scoop_book.specs.Opening.{AllOpen};
+ghost use Rattle.scoop_book.specs.Opening.{AllOpen, MayOpen};
 ghost use Rattle.scoop_book.specs.Reopening.{AllOpenAgain, IsNotReopened};
 
 use crate::book::Book;
@@ -44,6 +44,7 @@ impl<B: Behaviour, K: Keeper<A>, A: Allocator + Copy> Book<B, K, A> {
         ensures made { IfOk result (λ b. b ≡ book_kept b.opening b.opening [] MAX_HISTORY false b.keeper) }
         ensures opens { IfOk result (λ b. AllOpen B.words (K.handlers keeper) (K.is_honest b.keeper) handlers.items b.opening) }
         ensures again { IfOk result (λ b. AllOpenAgain stood.now b.opening) }
+        ensures may { OnOk result (MayOpen B.class handlers.items) }
         ensures sound { IfOk result (IsBook K.handlers K.is_honest) }
         ensures honest { IfOk result (λ b. K.is_honest b.keeper → K.is_honest keeper) }
         // The keeper is dropped, so the clause speaks of the record only if every such keeper is honest.
@@ -63,6 +64,7 @@ impl<B: Behaviour, K: Keeper<A>, A: Allocator + Copy> Book<B, K, A> {
         ensures made { IfOk result (λ b. b ≡ book_kept b.opening b.opening [] limit false b.keeper) }
         ensures opens { IfOk result (λ b. AllOpen B.words (K.handlers keeper) (K.is_honest b.keeper) handlers.items b.opening) }
         ensures again { IfOk result (λ b. AllOpenAgain stood.now b.opening) }
+        ensures may { OnOk result (MayOpen B.class handlers.items) }
         ensures sound { IfOk result (IsBook K.handlers K.is_honest) }
         ensures honest { IfOk result (λ b. K.is_honest b.keeper → K.is_honest keeper) }
         // The keeper is dropped, so the clause speaks of the record only if every such keeper is honest.
