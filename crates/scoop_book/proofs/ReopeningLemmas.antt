@@ -1,8 +1,8 @@
 -- Classes and numbers of handlers stay while a history replays, and handlers that open are compared with those that stood.
 use Rattle.std.specs.Prelude.{◌↔◌, Bool, true, false, IsTrue, if◌then◌else◌}
-use Rattle.std.proofs.Common.{◌≡◌, ℕ, zero, suc, ◌+◌, ◌<◌, List, [], ◌∷◌, ◌++◌, map, length, set, get_or, take, slice_get, Some, None, refl, sym, ap, ◌∙◌, subst, arith, true≢false, length-map}
+use Rattle.std.proofs.Common.{◌≡◌, ℕ, zero, suc, ◌+◌, ◌<◌, List, [], ◌∷◌, ◌++◌, map, length, set, get_or, take, slice_get, Some, None, refl, sym, ap, ◌∙◌, subst, arith, true≢false}
 use Rattle.std.proofs.lemmas.List.Folds.{find_at}
-use Rattle.std.proofs.lemmas.List.{take_more}
+use Rattle.std.proofs.lemmas.List.{length-map, take_more}
 use Rattle.std.proofs.lemmas.List.Elements.{AllZip-get_or, AllZip-push}
 use Rattle.std.specs.List.{All, position_or_len}
 use Rattle.scoop_message.specs.Message.{same_handler}
@@ -133,10 +133,10 @@ pub opens_as_stood : (b : Bool) (s t : LocalHandler) (class : ClassTable) (state
 opens_as_stood b s t class state is stored decides = (
   (λ y. record { state = state; was = sym stored; again = decides.0 y ∙ ap (λ c. local_handler (core_of c state false) (Some state)) is }),
   (λ o.
-  let both : Some o.state ≡ Some state = sym o.was ∙ sym stored in
-  let one : o.state ≡ state = cc in
-  decides.1 (o.again ∙ ap (λ x. local_handler (core_of (class_in s) x false) (Some x)) one
-  ∙ ap (λ c. local_handler (core_of c state false) (Some state)) (sym is))),
+      let both : Some o.state ≡ Some state = sym o.was ∙ sym stored in
+      let one : o.state ≡ state = cc in
+      decides.1 (o.again ∙ ap (λ x. local_handler (core_of (class_in s) x false) (Some x)) one
+      ∙ ap (λ c. local_handler (core_of c state false) (Some state)) (sym is))),
 )
 
 pub nothing_stood : (s t : LocalHandler) → None ≡ s.stored → IsTrue false ↔ OpensAgain s t

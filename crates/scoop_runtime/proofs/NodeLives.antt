@@ -67,7 +67,9 @@ module _ {K : Type 0} (has : K → ℕ → Stored → Type 0) (is_honest : K →
         goes = record {
           histories = ended.history ∷ [];
           reopens = (
-            opened.opening, stand, opened.again,
+            opened.opening,
+            stand,
+            opened.again,
             subst (λ hs. Replays opened.opening ended.history hs) ended.closes.stand (subst (λ hs. Replays hs ended.history closed.handlers) same closed.replays),
             refl,
           );

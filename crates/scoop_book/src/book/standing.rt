@@ -24,7 +24,9 @@ impl<B: Behaviour, K: Keeper<A>, A: Allocator + Copy> Book<B, K, A> {
         ensures sound { IsBook K.handlers K.is_honest self }
     {
         let Book {
-            opening, handlers, ..
+            opening,
+            handlers,
+            ..
         } = self;
         let (locals, keeper) = handlers.into_parts();
         (keeper, Standing::new(opening, locals))
