@@ -30,12 +30,12 @@ Written i answers o p = (text : List ℕ) × Appends o p text × (answers_text a
 pub written_none : (answers : List Answer) (o : Option (List ℕ)) → Written 0 answers o o
 written_none answers o = ([], appends_nothing o, refl)
 
-pub written_more : (i : ℕ) (answers : List Answer) (x : Answer) (o p q : Option (List ℕ)) → i < length answers → x ≡ get_or answers i x → Written i answers o p
-    → Appends p q (reply_text (Answered x)) → Written (i + 1) answers o q
-written_more i answers x o p q below is (text, so_far, all) next =
+pub written_more : (i : ℕ) (answers : List Answer) (d : Answer) (o p q : Option (List ℕ)) → i < length answers → Written i answers o p
+    → Appends p q (reply_text (Answered (get_or answers i d))) → Written (i + 1) answers o q
+written_more i answers d o p q below (text, so_far, all) next =
+    let x = get_or answers i d in
     let left = answers_text (drop (i + 1) answers) in
-    let more : answers_text (drop i answers) ≡ reply_text (Answered x) ++ left =
-    ap answers_text (drop_more answers i x below) ∙ ap (λ y. reply_text (Answered y) ++ left) (sym is) in (
+    let more : answers_text (drop i answers) ≡ reply_text (Answered x) ++ left = ap answers_text (drop_more answers i d below) in (
       text ++ reply_text (Answered x),
       appends_more o p q text (reply_text (Answered x)) so_far next,
       all ∙ (ap (λ zs. text ++ zs) more ∙ sym (append_assoc text (reply_text (Answered x)) left)),

@@ -1,4 +1,7 @@
--- The conditions of a line, as a driver asks them.
+-- The conditions of a line, as a driver asks them, and the queries of a body.
+use Rattle.std.specs.Prelude.{Bool, true, false}
+use Rattle.scoop_driver.specs.declared.condition.BodyEntry.{BodyEntry}
+use Rattle.scoop_driver.specs.declared.condition.BodyEntry.TheVariants.{Call, Query}
 use Rattle.scoop_driver.specs.declared.condition.ConditionPart.{ConditionPart}
 use Rattle.scoop_driver.specs.declared.condition.Test.{Test}
 use Rattle.scoop_driver.specs.declared.condition.Test.TheVariants.{Least, Most, Is}
@@ -13,3 +16,7 @@ test_of (named.Is n) = Is n
 
 abbrev pub part_of : NamedCondition → ConditionPart
 part_of x = record { handler = x.asked; request = x.request; test = test_of x.test }
+
+abbrev pub is_query : BodyEntry → Bool
+is_query (Call h r) = false
+is_query (Query h r) = true

@@ -1,8 +1,9 @@
 //! A block that waits for its condition.
 
 ghost use Rattle.std.specs.Prelude.{◌≡◌, ◌++◌, ◌∷◌, [], None, IfOk, IsTrue};
+ghost use Rattle.std.specs.List.{count_by};
 ghost use Rattle.scoop_driver.specs.Wishes.{wish_for, first_outside, handler_of, queries};
-ghost use Rattle.scoop_runtime.specs.Conditions.{part_of, test_of};
+ghost use Rattle.scoop_runtime.specs.Conditions.{is_query, part_of, test_of};
 ghost use Rattle.scoop_reserve.specs.Handlers.{has};
 
 use scoop_driver::{BodyEntry, ConditionPart, Test};
@@ -44,15 +45,15 @@ fn test_of(test: NamedTest) -> Test
 
 // The number of queries in a body.
 fn count_queries(body: &[BodyEntry]) -> usize
-    ensures { result ≡ queries body.now }
+    ensures { result ≡ count_by is_query body.now }
 {
-    let mut count = 0;
-    for entry in body {
-        if let BodyEntry::Query(..) = entry {
-            count += 1;
-        }
-    }
-    count
+    body.iter().filter(|entry| is_query(entry)).count()
+}
+
+fn is_query(entry: &BodyEntry) -> bool
+    ensures { result ≡ is_query entry.now }
+{
+    matches!(entry, BodyEntry::Query(..))
 }
 
 impl Wish {
@@ -122,7 +123,7 @@ impl Wish {
     pub(crate) fn queries(&self) -> usize
         ensures { result ≡ queries self.now.body.items }
     {
-        count_queries(&self.body)
+        count_queries(self.body())
     }
 
     /// How many times it is tried at most.

@@ -23,8 +23,8 @@ use scoop_lines::LineSource;
 use scoop_link::{Link, UdpLink};
 use scoop_message::ClientId;
 use scoop_runtime::{
-    ClientPlan, NodePlan, Progress, RuntimeError, Serving, client_run, node_run, open_client_link,
-    open_node_link,
+    ClientPlan, Ending, NodePlan, Progress, RuntimeError, Serving, client_run, node_run_until,
+    open_client_link, open_node_link,
 };
 use scoop_system::System;
 use std::alloc::Global;
@@ -68,7 +68,7 @@ fn node_link<R: Net>(
     Some(open_node_link(rt, alloc, system, place))
 }
 
-/// Serves a node for `turns` over this link. Returns its keeper or its error, and its output.
+/// Serves a node over this link, for `turns` or until it is asked to end. Returns its keeper or its error, and its output.
 fn serve<K, L, R>(
     rt: &R,
     alloc: Global,
@@ -78,6 +78,7 @@ fn serve<K, L, R>(
     turns: u64,
     keeper: K,
     link: L,
+    ending: &Ending,
 ) -> Option<(Result<K, RuntimeError>, Vec<u8>)>
 where
     K: Keeper<Global> + Send,
@@ -89,7 +90,17 @@ where
     let serving = Serving::new(2, history, turns).ok()?;
     let mut output = Vec::new(alloc);
     let notes = Vec::new(alloc);
-    let ended = node_run(rt, alloc, &plan, &serving, keeper, link, notes, &mut output);
+    let ended = node_run_until(
+        rt,
+        alloc,
+        &plan,
+        &serving,
+        keeper,
+        link,
+        notes,
+        &mut output,
+        ending,
+    );
     Some((ended, output))
 }
 

@@ -8,7 +8,7 @@ use scoop_journal::Journal;
 use scoop_keeper::MemoryKeeper;
 use scoop_link::UdpLink;
 use scoop_message::{Block, ClientId, HandlerId};
-use scoop_runtime::{ClientPlan, RuntimeError, Unended, client_cut};
+use scoop_runtime::{ClientPlan, Ending, RuntimeError, Unended, client_cut};
 use scoop_system::{LineFault, ShownWord, System};
 use std::alloc::Global;
 use std::net::Net;
@@ -42,11 +42,11 @@ number = 8
 address = \"127.0.0.1:EIGHT\"
 ";
 
-// The turns of the node.
-const NODE_TURNS: u64 = 600;
+// The turns of a line of the first client: half a second, while it loses all datagrams of a kind.
+const FEW_TURNS: u64 = 50;
 
-// The turns of a line: half a second.
-const TURNS: u64 = 50;
+// The turns of a line of a client that loses few: ten seconds.
+const TURNS: u64 = 1_000;
 
 // The numbers of a greeting, a Lock, an Open and a Log in a frame.
 const HELLO: u8 = 1;
@@ -75,7 +75,7 @@ struct Run {
     gap: Gap,
     // Whether the first client's block is cut by a call of its own.
     is_cut: bool,
-    node_turns: u64,
+    turns: u64,
 }
 
 impl Run {
@@ -86,7 +86,7 @@ impl Run {
             is_strict: false,
             gap: Gap::NONE,
             is_cut: false,
-            node_turns: NODE_TURNS,
+            turns: TURNS,
         }
     }
 
@@ -98,7 +98,11 @@ impl Run {
             lost: 60,
             ..Gap::NONE
         };
-        Run { gap, ..self }
+        Run {
+            gap,
+            turns: FEW_TURNS,
+            ..self
+        }
     }
 }
 
@@ -128,7 +132,7 @@ impl Pair {
 
     // Runs the first client, cuts its block if that is asked, and runs the second one.
     fn live(&mut self, alloc: Global, system: &System, run: &Run) -> Option<()> {
-        let seven = plan_of(system, 7, run.is_strict)?;
+        let seven = plan_of(system, 7, run.turns, run.is_strict)?;
         let keeper = &mut MemoryKeeper::new(alloc);
         let link = DeafLink::new(&mut self.seven, run.gap, &mut self.asked);
         let told = ask_planned(alloc, &seven, keeper, link, &mut TextLines::new(run.lines));
@@ -139,9 +143,20 @@ impl Pair {
             let (waits, faults) = (Vec::new(alloc), Vec::new(alloc));
             let mut notes = Vec::new(alloc);
             let cut = &mut self.cut;
-            client_cut(alloc, &seven, keeper, link, None::<Journal<Vec<u8>>>, waits, faults, cut, &mut notes).ok()?;
+            client_cut(
+                alloc,
+                &seven,
+                keeper,
+                link,
+                None::<Journal<Vec<u8>>>,
+                waits,
+                faults,
+                cut,
+                &mut notes,
+            )
+            .ok()?;
         }
-        let eight = plan_of(system, 8, false)?;
+        let eight = plan_of(system, 8, TURNS, false)?;
         let keeper = &mut MemoryKeeper::new(alloc);
         let mut asked = Asked::new();
         let link = DeafLink::new(&mut self.eight, Gap::NONE, &mut asked);
@@ -152,9 +167,9 @@ impl Pair {
 }
 
 // The plan of a client.
-fn plan_of(system: &System, number: u32, is_strict: bool) -> Option<ClientPlan<'_>> {
+fn plan_of(system: &System, number: u32, turns: u64, is_strict: bool) -> Option<ClientPlan<'_>> {
     let place = *system.client(ClientId(number))?;
-    let plan = ClientPlan::new(system, place, TURNS, false).ok()?;
+    let plan = ClientPlan::new(system, place, turns, false).ok()?;
     Some(if is_strict { plan.strict() } else { plan })
 }
 
@@ -167,13 +182,16 @@ fn live_beside<R: Threads + Wait + Clock + Sync>(
     pair: &mut Pair,
     run: &Run,
 ) -> bool {
-    let turns = run.node_turns;
+    let ending = Ending::new();
+    let ended = &ending;
     thread::scope(thread::scope_env(), rt, move |scope| {
         let spawned = scope.spawn(move || {
             let keeper = MemoryKeeper::new(alloc);
-            let _served = serve(rt, alloc, system, 1, 10_000, turns, keeper, node);
+            let _served = serve(rt, alloc, system, 1, 10_000, u64::MAX, keeper, node, ended);
         });
-        spawned.is_ok() && pair.live(alloc, system, run).is_some()
+        let have_lived = spawned.is_ok() && pair.live(alloc, system, run).is_some();
+        ended.ask();
+        have_lived
     })
 }
 
@@ -219,7 +237,10 @@ const UNTOUCHED: &str = "reserved 8.1.1\nanswer 100\nanswer 0\nended\n";
 fn a_fault_in_a_line_leaves_no_block(rt: HostRuntime) -> Result<(), Fail> {
     let run = Run::of(b"reserve 1 2\nquery 1 withdraw 30\nquery 2 balanc\n");
     let pair = run_pair(&rt, rt.alloc(), &run)?;
-    let fault = Err(RuntimeError::Line(3, LineFault::NoSuchOperation(HandlerId(2), ShownWord::of(b"balanc"))));
+    let fault = Err(RuntimeError::Line(
+        3,
+        LineFault::NoSuchOperation(HandlerId(2), ShownWord::of(b"balanc")),
+    ));
     let text = "reserved 7.1.1\nanswer 70\ncut 7.1.1\n";
     ended(&rt, pair.first.as_ref(), fault, Unended::Cut(BLOCK), text)?;
     goes_on(&rt, &pair, "reserved 8.1.1\nanswer 70\nanswer 0\nended\n")
@@ -334,7 +355,6 @@ fn a_block_that_is_held_is_named_and_cut_later(rt: HostRuntime) -> Result<(), Fa
     run.gap.skipped = 1;
     run.gap.lost = 600;
     run.is_cut = true;
-    run.node_turns = 1_500;
     let pair = run_pair(&rt, rt.alloc(), &run)?;
     let inside = Err(RuntimeError::InsideBlock);
     let text = "reserved 7.1.1\n";

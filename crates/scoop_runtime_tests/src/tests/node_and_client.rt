@@ -6,7 +6,7 @@ use scoop_free_ports::free_ports;
 use scoop_keeper::MemoryKeeper;
 use scoop_link::UdpLink;
 use scoop_message::{Block, ClientId, HandlerId};
-use scoop_runtime::{Progress, RuntimeError, Unended};
+use scoop_runtime::{Ending, Progress, RuntimeError, Unended};
 use scoop_seal::{Key, SealedLink};
 use scoop_system::{LineFault, ShownWord, System};
 use std::alloc::Global;
@@ -17,9 +17,6 @@ use std::test::Fail;
 use std::thread;
 use std::thread::Threads;
 use std::time::Clock;
-
-// The turns of a node: a few seconds.
-const NODE_TURNS: u64 = 600;
 
 const ACCOUNTS: &str = "\
 [[node]]
@@ -112,13 +109,14 @@ impl Beside {
         }
     }
 
-    // Serves node 1 over its link for its turns.
+    // Serves node 1 over its link until it is asked to end.
     fn serve<R: Threads + Wait + Clock + Sync>(
         &mut self,
         rt: &R,
         alloc: Global,
         system: &System,
         history: usize,
+        ending: &Ending,
     ) {
         let Some(link) = self.link.take() else {
             return;
@@ -129,9 +127,29 @@ impl Beside {
         let served = match self.key {
             Some(key) => {
                 let link = SealedLink::new(link, key);
-                serve(rt, alloc, system, 1, history, NODE_TURNS, keeper, link)
+                serve(
+                    rt,
+                    alloc,
+                    system,
+                    1,
+                    history,
+                    u64::MAX,
+                    keeper,
+                    link,
+                    ending,
+                )
             }
-            None => serve(rt, alloc, system, 1, history, NODE_TURNS, keeper, link),
+            None => serve(
+                rt,
+                alloc,
+                system,
+                1,
+                history,
+                u64::MAX,
+                keeper,
+                link,
+                ending,
+            ),
         };
         if let Some((ended, output)) = served {
             self.keeper = ended.ok();
@@ -171,12 +189,16 @@ fn run_both<R: Threads + Wait + Clock + Sync>(
     is_typed: bool,
 ) -> Option<Told> {
     let key = beside.key;
+    let ending = Ending::new();
+    let ended = &ending;
     thread::scope(thread::scope_env(), rt, move |scope| {
-        let spawned = scope.spawn(move || beside.serve(rt, alloc, system, history));
+        let spawned = scope.spawn(move || beside.serve(rt, alloc, system, history, ended));
         if spawned.is_err() {
             return None;
         }
-        ask_over(alloc, system, key, link, lines, is_typed)
+        let told = ask_over(alloc, system, key, link, lines, is_typed);
+        ended.ask();
+        told
     })
 }
 
@@ -228,7 +250,7 @@ fn answers<R: Threads + Wait + Clock + Net + Sync + Abort>(
 ) -> Result<(), Fail> {
     let told = run_beside(rt, alloc, system, node, history, LINES, false).ok_or("no client")?;
     assert!(rt; is(&told.output, REPLIES));
-    assert_eq!(rt; told.ended, Err(RuntimeError::SomeRefused(7, 8)));
+    assert_eq!(rt; told.ended, Err(RuntimeError::SomeRefused(7, 7)));
     assert_eq!(rt; told.progress, Some(answered_to(19, Unended::Nothing)));
     Ok(())
 }
@@ -262,7 +284,7 @@ const NOTES: &str = "\
 scoop: client 7 is ready
 hint: type reserve H.., call H OP A.., query H OP A.., end, or reserve H.. when H OP A.. least V tries T; help lists all lines, and quit ends the client
 hint: the client has a block: end it before you reserve the next one
-scoop: line 3: no such operation
+scoop: line 3: no such operation \"balanc\": the class account has deposit, withdraw, balance
 hint: name an operation of the handler's class: scoop check shows those of the file's classes, scoop client --help the others
 ";
 
@@ -402,7 +424,7 @@ fn a_block_waits_for_all_its_conditions(rt: HostRuntime) -> Result<(), Fail> {
     let system = accounts(&rt, alloc)?;
     let told = ended(&rt, alloc, &system, CONDITIONS, false).ok_or("no client")?;
     assert!(rt; is(&told.output, CONDITIONS_TOLD));
-    assert_eq!(rt; told.ended, Ok(()));
+    assert_eq!(rt; told.ended, Err(RuntimeError::SomeRefused(5, 3)));
     Ok(())
 }
 
