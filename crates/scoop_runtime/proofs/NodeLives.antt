@@ -294,3 +294,11 @@ if_ok P Q (Err e) then p = tt
 pub if_both : {T E : Type 0} (P Q R : T → Type 0) (r : Result T E) → ((x : T) → P x → Q x → R x) → IfOk r P → IfOk r Q → IfOk r R
 if_both P Q R (Ok x) then p q = then x p q
 if_both P Q R (Err e) then p q = tt
+
+pub ran_prepared : {K : Type 0} (has : K → ℕ → Stored → Type 0) (is_honest : K → Type 0) (ms : List Member) (before keeper ready later : K)
+    (stood stand : List LocalHandler) → (is_honest keeper → (h : ℕ) → GainedAt (has before) (has keeper) ms h) → (is_honest keeper → is_honest before)
+    → RanTo has is_honest ms keeper ready stood → GoesOn has is_honest stood ready stand later → (is_honest later → is_honest ready)
+    → RanTo has is_honest ms before later stand
+ran_prepared has is_honest ms before keeper ready later stood stand gained honest ran goes later_honest =
+    ran_before has is_honest ms before keeper later stand gained honest
+    (ran_on has is_honest ms keeper ready later stood stand goes.histories later_honest ran goes.reopens)
