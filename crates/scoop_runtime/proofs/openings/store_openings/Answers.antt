@@ -1,4 +1,4 @@
-use Rattle.std.proofs.Common.{refl}
+use Rattle.std.proofs.Common.{arith}
 use Rattle.scoop_keeper.proofs.Keyed.{item_at}
 use Rattle.scoop_runtime.specs.NodeLives.{stays_at}
 use Rattle.scoop_runtime.proofs.NodeLives.{gains_more}
@@ -14,7 +14,7 @@ loop-member-preserved g c =
     let members = c.args.plan.now.members.items in
     record {
       gained = λ honest h. gains_more old (g.K.Keeper.handlers c.loop-member.keeper) (g.K.Keeper.handlers c.store_opening.new.keeper) members
-          c.member-item.result i (item_at members i c.member-item.result c.loop-member-test.true c.member-item.is) (c.in_ok-store_opening.ensures.gained honest) h
+          c.member-item.result i (item_at members i c.member-item.result (omega (arith, c.loop-member-test.true)) c.member-item.is) (c.in_ok-store_opening.ensures.gained honest) h
           (c.loop-member.invariant.gained (c.store_opening.ensures.honest honest) h);
       honest = λ honest. c.loop-member.invariant.honest (c.store_opening.ensures.honest honest);
     }
